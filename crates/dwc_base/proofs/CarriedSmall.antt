@@ -1,0 +1,137 @@
+-- An output for the small module, and that it carries the small module's lines.
+use Rattle.std.proofs.Common.{◌≡◌, ℕ, ◌<◌, ◌≤◌, pos, List, [], ◌∷◌, Some, None, Ok, true, false, refl, arith, lit≤}
+use Rattle.std.specs.Prelude.{codes, All, Bool, nat_le, if◌then◌else◌, Option}
+use Rattle.std.specs.Option.{option_or, is_some}
+use Rattle.std.proofs.Common.{zero, suc, ap, sym, ◌∙◌, lit<}
+use Rattle.std.proofs.Math.Dec.{leb-zero}
+use Rattle.std.proofs.lemmas.Bool.{false≢true, true≢false}
+use Rattle.dwc_base.proofs.OnLiterals.{lines_on_literals}
+use Rattle.dwc_base.proofs.Readings.{three_sections, sections_small, header_small}
+use Rattle.dwc_base.proofs.Numbers.{at_place}
+use Rattle.dwc_base.proofs.LineTables.{line_in, function_small, segments_small, at_line, line_of_a_c}
+use Rattle.dwc_base.specs.declared.records.Endian.TheVariants.{Little}
+use Rattle.dwc_base.specs.declared.records.Address.TheVariants.{Constant, Symbol}
+use Rattle.dwc_base.specs.declared.faults.Kind.TheVariants.{Format64}
+use Rattle.dwc_base.specs.Sections.{Fault, unsupported}
+use Rattle.dwc_base.specs.Units.{UnitHeader}
+use Rattle.dwc_base.specs.Values.{address, constant, line_reference}
+use Rattle.dwc_base.specs.LineRows.{Segment, row_in_force}
+use Rattle.dwc_base.specs.Images.{row_for_byte, IsImage}
+use Rattle.dwc_base.specs.Outputs.{OutputSection, function, section, output_sections}
+use Rattle.dwc_base.specs.Carried.{Unit, units, Module, Compilation, CarriedUnit, carried_units, AreImages, CarriesUnit, LinesCarried}
+
+abbrev pub output_small : List OutputSection
+output_small =
+    record { name = codes ".debug_abbrev"; body = 0x01 ∷ 0x11 ∷ 0x01 ∷ 0x10 ∷ 0x17 ∷ 0x00 ∷ 0x00 ∷ 0x02 ∷ 0x2E ∷ 0x00 ∷ 0x11 ∷ 0x01 ∷ 0x12 ∷ 0x0F ∷ 0x00 ∷ 0x00 ∷ 0x00 ∷ []; relocations = [] }
+    ∷ record {
+      name = codes ".debug_info";
+      body = 0x17 ∷ 0x00 ∷ 0x00 ∷ 0x00 ∷ 0x04 ∷ 0x00 ∷ 0x00 ∷ 0x00 ∷ 0x00 ∷ 0x00 ∷ 0x08 ∷ 0x01 ∷ 0x00 ∷ 0x00 ∷ 0x00 ∷ 0x00 ∷ 0x02 ∷ 0x00 ∷ 0x00 ∷ 0x00 ∷ 0x00 ∷ 0x00 ∷ 0x00 ∷ 0x00 ∷ 0x00 ∷ 0x1E ∷ 0x00 ∷ [];
+      relocations =
+          record { offset = 6; size = 4; target = section (codes ".debug_abbrev"); addend = pos 0 }
+          ∷ record { offset = 12; size = 4; target = section (codes ".debug_line"); addend = pos 0 }
+          ∷ record { offset = 17; size = 8; target = function 0; addend = pos 0 } ∷ [];
+    }
+    ∷ record {
+      name = codes ".debug_line";
+      body = 0x39 ∷ 0x00 ∷ 0x00 ∷ 0x00 ∷ 0x04 ∷ 0x00 ∷ 0x1B ∷ 0x00 ∷ 0x00 ∷ 0x00 ∷ 0x01 ∷ 0x01 ∷ 0x01 ∷ 0xFB ∷ 0x0E ∷ 0x0D ∷ 0x00 ∷ 0x01 ∷ 0x01 ∷ 0x01 ∷ 0x01 ∷ 0x00 ∷ 0x00 ∷ 0x00 ∷ 0x01 ∷ 0x00 ∷ 0x00 ∷ 0x01 ∷ 0x00 ∷ 0x61 ∷ 0x2E ∷ 0x63 ∷ 0x00 ∷ 0x00 ∷ 0x00 ∷ 0x00 ∷ 0x00 ∷ 0x00 ∷ 0x09 ∷ 0x02 ∷ 0x00 ∷ 0x00 ∷ 0x00 ∷ 0x00 ∷ 0x00 ∷ 0x00 ∷ 0x00 ∷ 0x00 ∷ 0x03 ∷ 0x01 ∷ 0x01 ∷ 0x03 ∷ 0x01 ∷ 0x02 ∷ 0x0F ∷ 0x01 ∷ 0x02 ∷ 0x0F ∷ 0x00 ∷ 0x01 ∷ 0x01 ∷ [];
+      relocations =
+          record { offset = 40; size = 8; target = function 0; addend = pos 0 } ∷ [];
+    } ∷ []
+
+abbrev pub module_small : Module
+module_small = record { sections = sections_small; functions = function_small ∷ []; compressed = None }
+
+abbrev pub compilation_small : Compilation
+compilation_small = record { order = Little; pointer_bytes = 8; modules = module_small ∷ [] }
+
+abbrev pub unit_small : Unit
+unit_small = record { header = header_small; entries = record { offset = 11; depth = 0; tag = 0x11; attributes = (0x10, line_reference 0) ∷ [] } ∷ record { offset = 16; depth = 1; tag = 0x2E; attributes = (0x11, address (Constant 2)) ∷ (0x12, constant 0x06 11) ∷ [] } ∷ [] }
+
+abbrev pub header_out : UnitHeader
+header_out = record { offset = 0; end = 27; version = 4; address_size = 8; unit_type = 1; abbreviations = 0; dwo_id = None; content = at_place 11 (0x01 ∷ 0x00 ∷ 0x00 ∷ 0x00 ∷ 0x00 ∷ 0x02 ∷ 0x00 ∷ 0x00 ∷ 0x00 ∷ 0x00 ∷ 0x00 ∷ 0x00 ∷ 0x00 ∷ 0x00 ∷ 0x1E ∷ 0x00 ∷ []) }
+
+abbrev pub unit_out : Unit
+unit_out = record { header = header_out; entries = record { offset = 11; depth = 0; tag = 0x11; attributes = (0x10, line_reference 0) ∷ [] } ∷ record { offset = 16; depth = 1; tag = 0x2E; attributes = (0x11, address (Symbol 0 (pos 0))) ∷ (0x12, constant 0x0F 30) ∷ [] } ∷ [] }
+
+-- the small module has one unit, and it is carried
+pub carried-small : carried_units compilation_small ≡ record { module_of = module_small; unit = unit_small } ∷ []
+unfolding lines_on_literals
+carried-small = refl
+
+pub output-read : units (output_sections Little output_small) ≡ record { items = unit_out ∷ []; fault = None }
+unfolding lines_on_literals
+output-read = refl
+
+abbrev pub image_small : Segment
+image_small = record { start = Symbol 0 (pos 0); rows = at_line 0 2 ∷ at_line 15 3 ∷ []; end = Some 30 }
+
+pub images-read : Rattle.dwc_base.specs.Carried.segments_of_unit (output_sections Little output_small) unit_out ≡ Ok (image_small ∷ [])
+unfolding lines_on_literals
+images-read = refl
+
+pub input-read : Rattle.dwc_base.specs.Carried.segments_of_unit sections_small unit_small ≡ Ok segments_small
+unfolding lines_on_literals
+input-read = refl
+
+-- whether the test at 15 and the one at 5 hold or not
+same_choice : {A : Type 0} (x y : A) (past_15 past_5 from_0 : Bool) → from_0 ≡ true →
+    option_or (option_or None (if past_15 then Some y else None)) (if from_0 then Some x else None)
+    ≡ option_or (option_or (option_or None (if past_15 then Some y else None)) (if past_5 then Some x else None)) (Some x)
+same_choice x y true past_5 from_0 h = refl
+same_choice x y false true true h = refl
+same_choice x y false false true h = refl
+same_choice x y false true false h = absurd (false≢true h)
+same_choice x y false false false h = absurd (false≢true h)
+
+agrees-small : (byte : ℕ) → byte < 30 → row_in_force image_small.rows byte ≡ row_for_byte (at_line 0 1 ∷ at_line 3 2 ∷ at_line 8 3 ∷ []) 2 function_small byte
+agrees-small byte h = same_choice (line_of_a_c 2) (line_of_a_c 3) (nat_le 15 byte) (nat_le 5 byte) (nat_le 0 byte) (leb-zero byte)
+
+within-small : All (λ r. r.offset ≤ 30) image_small.rows
+within-small zero d h = lit≤ tt
+within-small (suc zero) d h = lit≤ tt
+within-small (suc (suc k)) d h = absurd (omega arith)
+
+pub image-small : IsImage (record { start = Constant 2; rows = at_line 0 1 ∷ at_line 3 2 ∷ at_line 8 3 ∷ []; end = Some 11 }) 2 function_small image_small
+image-small = record { starts = refl; ends = refl; within = within-small; agrees = agrees-small }
+
+pub images-small : AreImages (record { module_of = module_small; unit = unit_small }) (image_small ∷ [])
+images-small = record { input = segments_small; input_read = input-read; each = ((function_small, refl, image-small), tt) }
+
+-- the small module's units are read up to their section's end
+whole-small : All (λ m. (units m.sections).fault ≡ None) compilation_small.modules
+unfolding lines_on_literals
+whole-small zero d h = refl
+whole-small (suc k) d h = absurd (omega arith)
+
+-- the output carries the lines of the small module
+pub lines_carried-small : LinesCarried compilation_small output_small
+unfolding lines_on_literals
+lines_carried-small = record { whole = whole-small; output = unit_out ∷ []; output_read = output-read; each = (record { images = image_small ∷ []; images_read = images-read; carried = images-small }, tt) }
+
+-- with another line at byte 15 it is no image
+not_image-small : IsImage
+    (record { start = Constant 2; rows = at_line 0 1 ∷ at_line 3 2 ∷ at_line 8 3 ∷ []; end = Some 11 })
+    2
+    function_small
+    (record { start = Symbol 0 (pos 0); rows = at_line 0 2 ∷ at_line 15 4 ∷ []; end = Some 30 })
+    → ⊥
+not_image-small h = let same : 4 ≡ 3 = ap line_in (h.agrees 15 (lit< tt)) in omega (arith, same)
+
+-- A module in the 64-bit format has no units, but its lines are not carried by an output without sections.
+abbrev pub compilation_64 : Compilation
+compilation_64 = record { order = Little; pointer_bytes = 8; modules = record { sections = three_sections [] (0xFF ∷ 0xFF ∷ 0xFF ∷ 0xFF ∷ []) []; functions = function_small ∷ []; compressed = None } ∷ [] }
+
+units-64 : carried_units compilation_64 ≡ []
+unfolding lines_on_literals
+units-64 = refl
+
+fault-64 : All (λ m. (units m.sections).fault ≡ Some (unsupported Format64 0)) compilation_64.modules
+unfolding lines_on_literals
+fault-64 zero d h = refl
+fault-64 (suc k) d h = absurd (omega arith)
+
+no_fault-64 : (f : Option Fault) → f ≡ Some (unsupported Format64 0) → f ≡ None → ⊥
+no_fault-64 f is_fault is_none = true≢false (ap (λ o. is_some o) (sym is_fault ∙ is_none))
+
+not_carried-64 : (s : List OutputSection) → LinesCarried compilation_64 s → ⊥
+not_carried-64 s h = no_fault-64 _ (fault-64 0 module_small (lit< tt)) (h.whole 0 module_small (lit< tt))

@@ -1,0 +1,18 @@
+use Rattle.std.proofs.Common.{sym, ap, ◌∙◌}
+use Rattle.std.proofs.lemmas.Result.{err_from_is_err_and}
+use Rattle.dwc_base.proofs.Steps.{number_at-no_bytes, two-little, two-big}
+use Rattle.dwc_base.proofs.cursor.Cursor.u16.Goals as goal
+
+pub returns-in_err-field : goal.returns-in_err-field
+returns-in_err-field c =
+    let p = err_from_is_err_and c.from_residual.result c.from_residual.ensures.1 in
+    let read = c.in_err-field.ensures.read in
+    rw (p.1, p.2) (number_at-no_bytes _ _ _ read.0, read.1, read.2)
+
+pub returns-in-Little : goal.returns-in-Little
+returns-in-Little c =
+    rw c.from_le_bytes.ensures (two-little _ _ _ c.in_ok-field.ensures.read c.in_ok-field.ensures.length (sym (ap (λ u. u.order) c.self.view_is) ∙ c.in-Little.is))
+
+pub returns-in-Big : goal.returns-in-Big
+returns-in-Big c =
+    rw c.from_be_bytes.ensures (two-big _ _ _ c.in_ok-field.ensures.read c.in_ok-field.ensures.length (sym (ap (λ u. u.order) c.self.view_is) ∙ c.in-Big.is))

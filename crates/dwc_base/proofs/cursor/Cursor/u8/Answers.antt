@@ -1,0 +1,15 @@
+use Rattle.std.proofs.Common.{ap, ◌∙◌, Ok}
+use Rattle.std.proofs.lemmas.Result.{err_from_is_err_and}
+use Rattle.dwc_base.proofs.Steps.{number_at-from_bytes, number_at-no_bytes, number-byte}
+use Rattle.dwc_base.proofs.cursor.Cursor.u8.Goals as goal
+
+pub returns-in_err-field : goal.returns-in_err-field
+returns-in_err-field c =
+    let p = err_from_is_err_and c.from_residual.result c.from_residual.ensures.1 in
+    let read = c.in_err-field.ensures.read in
+    rw (p.1, p.2) (number_at-no_bytes _ _ _ read.0, read.1, read.2)
+
+pub returns : goal.returns
+returns c =
+    number_at-from_bytes _ _ _ _ c.in_ok-field.ensures.read
+    ∙ ap (λ n. Ok (n, c.take.new.self)) (number-byte c.args.self.now.order c.in_ok-field.field.now c.in_ok-field.ensures.length)

@@ -1,0 +1,200 @@
+-- Line tables: the header, and the instructions of the program. (DWARF 4, sections 6.2.4 and 6.2.5, of the
+-- versions 2 to 4.)
+use Rattle.std.specs.Prelude.{ℕ, ◌-◌, ◌==◌, ℤ, pos, ◌-ℤ◌, List, [], ◌∷◌, length, Bool, true, false, nat_lt, nat_le, not, ◌||◌, ◌&&◌, if◌then◌else◌, slice_index, Option, Some, None, Result, Ok, Err}
+use Rattle.dwc_base.specs.declared.records.Address.{Address}
+use Rattle.dwc_base.specs.declared.faults.Kind.TheVariants.{Version, Operations, NotBuilt}
+use Rattle.dwc_base.specs.declared.faults.Flaw.{Flaw}
+use Rattle.dwc_base.specs.declared.faults.Flaw.TheVariants.{Malformed, Refused}
+use Rattle.dwc_base.specs.Reading.{Unread, Read, ◌>>=◌, forbid, part_at, number_at, uleb_at, sleb_at, text_at, items_at, counted_at, seen_as, coded}
+use Rattle.dwc_base.specs.Listing.{Listing, Next, at_end, broken, item, walk}
+use Rattle.dwc_base.specs.Sections.{Relocation, address_at}
+use Rattle.dwc_base.specs.Units.{sized_part_at}
+use Rattle.dwc_base.specs.declared.constants.TheConstants.{DW_LNE_define_file, DW_LNE_end_sequence, DW_LNE_set_address, DW_LNE_set_discriminator, DW_LNS_advance_line, DW_LNS_advance_pc, DW_LNS_const_add_pc, DW_LNS_copy, DW_LNS_fixed_advance_pc, DW_LNS_negate_stmt, DW_LNS_set_basic_block, DW_LNS_set_column, DW_LNS_set_epilogue_begin, DW_LNS_set_file, DW_LNS_set_isa, DW_LNS_set_prologue_end}
+
+-- a file of a line table: the number of its directory, and its name
+pub record LineFile : Type 0 where
+  pub directory : ℕ
+  pub name : List ℕ
+
+-- A line table's header. Its directories and files are those of the header; `program` is what is unread behind it.
+pub record LineHeader : Type 0 where
+  pub version : ℕ
+  pub address_size : ℕ
+  pub minimum_instruction_length : ℕ
+  pub default_is_stmt : Bool
+  pub line_base : ℤ
+  pub line_range : ℕ
+  pub opcode_base : ℕ
+  pub standard_opcode_lengths : List ℕ
+  pub directories : List (List ℕ)
+  pub files : List LineFile
+  pub program : Unread
+
+-- the number that a byte spells as a signed one
+abbrev pub signed_byte : ℕ → ℤ
+signed_byte b = if nat_lt b 128 then pos b else pos b -ℤ pos 256
+
+-- a directory's name; an empty one ends the list
+unfoldable pub directory_at : Unread → Read (Option (List ℕ))
+directory_at u = do
+  name ← text_at u
+  Ok (if length name.0 == 0 then None else Some name.0, name.1)
+
+-- a file behind its name: its directory, its time and its length
+unfoldable pub file_behind : List ℕ → Unread → Read LineFile
+file_behind name u = do
+  directory ← uleb_at u
+  time ← uleb_at directory.1
+  size ← uleb_at time.1
+  Ok (record { directory = directory.0; name = name }, size.1)
+
+-- a file; an empty name ends the list
+unfoldable pub file_at : Unread → Read (Option LineFile)
+file_at u = do
+  name ← text_at u
+  elim (length name.0 == 0) [ true ↦ Ok (None, name.1) | false ↦ (file_behind name.0 name.1 >>= λ file. Ok (Some file.0, file.1)) ]
+
+-- the operations in one instruction, from version 4 on: one; several are refused
+unfoldable pub operations_at : ℕ → Unread → Read ℕ
+operations_at version u =
+    if nat_lt version 4
+    then Ok (1, u)
+    else (number_at 1 u >>= λ operations. forbid (operations.0 == 0) Malformed >>= λ some. forbid (nat_lt 1 operations.0) (Refused Operations) >>= λ one. Ok operations)
+
+-- the fields behind the header's length, of the versions 2 to 4
+unfoldable pub line_fields_to_4 : ℕ → ℕ → Unread → Unread → Result LineHeader Flaw
+line_fields_to_4 version address_size program u = do
+  minimum ← number_at 1 u
+  operations ← operations_at version minimum.1
+  is_stmt ← number_at 1 operations.1
+  base ← number_at 1 is_stmt.1
+  range ← number_at 1 base.1
+  given ← forbid (range.0 == 0) Malformed
+  opcodes ← number_at 1 range.1
+  some ← forbid (opcodes.0 == 0) Malformed
+  counts ← counted_at (opcodes.0 - 1) (number_at 1) opcodes.1
+  directories ← items_at directory_at counts.1
+  files ← items_at file_at directories.1
+  Ok (record {
+    version = version;
+    address_size = address_size;
+    minimum_instruction_length = minimum.0;
+    default_is_stmt = not (is_stmt.0 == 0);
+    line_base = signed_byte base.0;
+    line_range = range.0;
+    opcode_base = opcodes.0;
+    standard_opcode_lengths = counts.0;
+    directories = directories.0;
+    files = files.0;
+    program = program;
+  })
+
+-- The header of the table at the front, for a unit of an address size. The program begins behind the header's length.
+unfoldable pub line_header_at : ℕ → Unread → Result LineHeader Flaw
+line_header_at address_size u = do
+  table ← sized_part_at u
+  version ← number_at 2 table.0
+  known ← forbid (nat_lt version.0 2 || nat_lt 5 version.0) (Refused Version)
+  built ← forbid (version.0 == 5) (Refused NotBuilt)
+  size ← number_at 4 version.1
+  fields ← part_at size.0 size.1
+  line_fields_to_4 version.0 address_size fields.1 fields.0
+
+-- An instruction of the program. (DWARF 4, sections 6.2.5.1 to 6.2.5.3.)
+pub data Instruction : Type 0 where
+  special : ℕ → Instruction
+  copy : Instruction
+  advance_pc : ℕ → Instruction
+  advance_line : ℤ → Instruction
+  set_file : ℕ → Instruction
+  set_column : ℕ → Instruction
+  negate_stmt : Instruction
+  set_basic_block : Instruction
+  const_add_pc : Instruction
+  fixed_advance_pc : ℕ → Instruction
+  set_prologue_end : Instruction
+  set_epilogue_begin : Instruction
+  set_isa : ℕ → Instruction
+  end_sequence : Instruction
+  set_address : Address → Instruction
+  define_file : LineFile → Instruction
+  set_discriminator : ℕ → Instruction
+  unknown : Instruction
+
+-- what stands behind a standard opcode
+pub data Operand : Type 0 where
+  no_operand : Instruction → Operand
+  one_uleb : (ℕ → Instruction) → Operand
+  one_sleb : (ℤ → Instruction) → Operand
+  two_bytes : (ℕ → Instruction) → Operand
+
+abbrev pub standard_opcodes : List (ℕ × Operand)
+standard_opcodes =
+    (DW_LNS_copy, no_operand copy) ∷ (DW_LNS_advance_pc, one_uleb advance_pc) ∷ (DW_LNS_advance_line, one_sleb advance_line) ∷ (DW_LNS_set_file, one_uleb set_file) ∷ (DW_LNS_set_column, one_uleb set_column) ∷ (DW_LNS_negate_stmt, no_operand negate_stmt)
+    ∷ (DW_LNS_set_basic_block, no_operand set_basic_block) ∷ (DW_LNS_const_add_pc, no_operand const_add_pc) ∷ (DW_LNS_fixed_advance_pc, two_bytes fixed_advance_pc) ∷ (DW_LNS_set_prologue_end, no_operand set_prologue_end)
+    ∷ (DW_LNS_set_epilogue_begin, no_operand set_epilogue_begin) ∷ (DW_LNS_set_isa, one_uleb set_isa) ∷ []
+
+unfoldable pub operand_at : Operand → Unread → Read Instruction
+operand_at (no_operand i) u = Ok (i, u)
+operand_at (one_uleb make) u = seen_as make (uleb_at u)
+operand_at (one_sleb make) u = seen_as make (sleb_at u)
+operand_at (two_bytes make) u = seen_as make (number_at 2 u)
+
+-- a standard opcode without a meaning: so many numbers are passed
+unfoldable pub passed_operands_at : ℕ → Unread → Read Instruction
+passed_operands_at count u = seen_as (λ ns. unknown) (counted_at count uleb_at u)
+
+-- The operands of an extended opcode; `define_file` ended with version 4.
+unfoldable pub extended_at : List Relocation → LineHeader → ℕ → Unread → Read Instruction
+extended_at relocations h opcode u =
+    elim (opcode == DW_LNE_end_sequence) [
+      | true ↦ Ok (end_sequence, u)
+      | false ↦
+          elim (opcode == DW_LNE_set_address) [
+            | true ↦ seen_as set_address (address_at relocations h.address_size u)
+            | false ↦
+                elim ((opcode == DW_LNE_define_file) && nat_lt h.version 5) [
+                  | true ↦ (text_at u >>= λ name. seen_as define_file (file_behind name.0 name.1))
+                  | false ↦
+                      elim (opcode == DW_LNE_set_discriminator) [ true ↦ seen_as set_discriminator (uleb_at u) | false ↦ Ok (unknown, u) ]
+                ]
+          ]
+    ]
+
+-- An extended instruction behind its 0: a length, and in it an opcode and operands. The rest of the length is passed.
+unfoldable pub extended_instruction_at : List Relocation → LineHeader → Unread → Read Instruction
+extended_instruction_at relocations h u = do
+  size ← uleb_at u
+  inside ← part_at size.0 size.1
+  opcode ← number_at 1 inside.0
+  instruction ← extended_at relocations h opcode.0 opcode.1
+  Ok (instruction.0, inside.1)
+
+-- The instruction at the front. Opcodes from `opcode_base` on are special, and 0 begins an extended one.
+unfoldable pub instruction_at : List Relocation → LineHeader → Unread → Read Instruction
+instruction_at relocations h u = do
+  opcode ← number_at 1 u
+  elim (nat_le h.opcode_base opcode.0) [
+    | true ↦ Ok (special opcode.0, opcode.1)
+    | false ↦
+        elim (opcode.0 == 0) [
+          | true ↦ extended_instruction_at relocations h opcode.1
+          | false ↦
+              elim (coded standard_opcodes opcode.0) [
+                | Some operand ↦ operand_at operand opcode.1
+                | None ↦
+                    passed_operands_at (slice_index h.standard_opcode_lengths (opcode.0 - 1)) opcode.1
+              ]
+        ]
+  ]
+
+unfoldable pub next_instruction : List Relocation → LineHeader → Unread → Next Unread Flaw Instruction
+next_instruction relocations h u =
+    elim (length u.left == 0) [
+      | true ↦ at_end
+      | false ↦ elim (instruction_at relocations h u) [ Ok i ↦ item i.0 i.1 | Err flaw ↦ broken flaw ]
+    ]
+
+-- the instructions from a place on, up to the table's end
+unfoldable pub instructions : List Relocation → LineHeader → Unread → Listing Flaw Instruction
+instructions relocations h u = walk (λ v. length v.left) (next_instruction relocations h) u

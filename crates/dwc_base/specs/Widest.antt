@@ -1,0 +1,83 @@
+-- How long the sections of an output can be at most: each number of variable length has 10 bytes and each address 8,
+-- each entry has an abbreviation of its own, and each row has all its opcodes.
+use Rattle.std.specs.Prelude.{ℕ, ◌+◌, ◌-◌, ◌*◌, ◌==◌, List, length, is_some, sum_by, Option, Some, None, Result, Ok, Err}
+use Rattle.std.specs.List.{filter}
+use Rattle.dwc_base.specs.declared.section_name.SectionName.{SectionName}
+use Rattle.dwc_base.specs.declared.section_name.SectionName.TheVariants.{Abbrev, Info, Line}
+use Rattle.dwc_base.specs.Kept.{kept_entries}
+use Rattle.dwc_base.specs.LineHeaders.{LineFile}
+use Rattle.dwc_base.specs.LineRows.{LineTable, Segment, segments}
+use Rattle.dwc_base.specs.Sections.{Fault}
+use Rattle.dwc_base.specs.Functions.{Function, recorded_sources}
+use Rattle.dwc_base.specs.Images.{row_of_source, start_of_segment, function_of_segment, is_carried_segment}
+use Rattle.dwc_base.specs.Carried.{Compilation, CarriedUnit, carried_units, table_of_unit, placed_entries, units}
+
+-- a number of variable length, and an address
+abbrev pub variable_bytes : ℕ
+variable_bytes = 10
+
+abbrev pub address_bytes : ℕ
+address_bytes = 8
+
+-- a declaration: its code, tag and children byte, so many attributes of a name and a form, and two zeros
+abbrev pub widest_declaration : ℕ → ℕ
+widest_declaration attributes = variable_bytes + variable_bytes + 1 + attributes * (variable_bytes + variable_bytes) + (variable_bytes + variable_bytes)
+
+-- The carried root has so many attributes, its line table or nothing; a kept subprogram has its begin and its length; a
+-- table ends with a zero.
+abbrev pub widest_abbreviations : ℕ → ℕ → ℕ
+widest_abbreviations root_attributes subprograms = widest_declaration root_attributes + subprograms * widest_declaration 2 + variable_bytes
+
+-- a header of version 4, the root, the subprograms, and the end of their list
+abbrev pub widest_info : ℕ → ℕ → ℕ
+widest_info root_attributes subprograms = 11 + (variable_bytes + root_attributes * 4) + subprograms * (variable_bytes + address_bytes + variable_bytes) + variable_bytes
+
+-- a row with all its opcodes: set_discriminator, set_basic_block, set_prologue_end, set_epilogue_begin, negate_stmt,
+-- set_file, set_column, set_isa, advance_line, advance_pc, copy
+abbrev pub widest_row : ℕ
+widest_row = (1 + variable_bytes + 1 + variable_bytes) + 4 + 5 * (1 + variable_bytes) + 1
+
+-- set_address, the rows, advance_pc and end_sequence
+abbrev pub widest_image : ℕ → ℕ
+widest_image rows = (1 + variable_bytes + 1 + address_bytes) + rows * widest_row + (1 + variable_bytes) + (1 + variable_bytes + 1)
+
+-- a header of version 4 with its directories and files
+abbrev pub widest_header : List (List ℕ) → List LineFile → ℕ
+widest_header directories files =
+    (4 + 2 + 4) + (1 + 1 + 1 + 1 + 1 + 1 + 12) + sum_by (λ d. length d + 1) directories + 1 + sum_by (λ f. length f.name + 1 + 3 * variable_bytes) files + 1
+
+-- the rows that an image can have: one for each recorded source that has one
+abbrev pub most_rows : List Function → Segment → ℕ
+most_rows fs q = go (function_of_segment fs q)
+  where
+    go : Option Function → ℕ
+    go None = 0
+    go (Some f) = length (filter (λ e. is_some (row_of_source q.rows (start_of_segment q) e)) (recorded_sources f))
+
+abbrev pub widest_table : List Function → Result (Option LineTable) Fault → ℕ
+widest_table fs (Err fault) = 0
+widest_table fs (Ok None) = 0
+widest_table fs (Ok (Some t)) = widest_header t.header.directories t.files + sum_by (λ q. widest_image (most_rows fs q)) (filter (is_carried_segment fs) (segments t))
+
+abbrev pub widest_lines : Compilation → ℕ
+widest_lines c = sum_by (λ u. widest_table u.module_of.functions (table_of_unit u.module_of.sections u.unit)) (carried_units c)
+
+-- the kept subprograms of a carried unit: its kept entries but for the root
+abbrev pub kept_subprograms : CarriedUnit → ℕ
+kept_subprograms u = length (filter (λ p. p.unit == u.unit.header.offset) (kept_entries u.module_of.functions (placed_entries (units u.module_of.sections).items))) - 1
+
+-- the attributes of a carried root: its line table, where its unit has one
+abbrev pub root_attributes_with : Result (Option LineTable) Fault → ℕ
+root_attributes_with (Err fault) = 0
+root_attributes_with (Ok None) = 0
+root_attributes_with (Ok (Some t)) = 1
+
+abbrev pub root_attributes_of : CarriedUnit → ℕ
+root_attributes_of u = root_attributes_with (table_of_unit u.module_of.sections u.unit)
+
+-- how long a section can be at most
+abbrev pub widest : SectionName → Compilation → ℕ
+widest Abbrev c = sum_by (λ u. widest_abbreviations (root_attributes_of u) (kept_subprograms u)) (carried_units c)
+widest Info c = sum_by (λ u. widest_info (root_attributes_of u) (kept_subprograms u)) (carried_units c)
+widest Line c = widest_lines c
+widest name c = 0

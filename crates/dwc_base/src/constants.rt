@@ -1,0 +1,263 @@
+//! The codes of DWARF by their standard names. (DWARF 5, section 7.)
+#![allow(non_upper_case_globals)]
+
+// Tags. (Table 7.3.)
+pub const DW_TAG_array_type: u16 = 0x01;
+
+pub const DW_TAG_entry_point: u16 = 0x03;
+
+pub const DW_TAG_formal_parameter: u16 = 0x05;
+
+pub const DW_TAG_label: u16 = 0x0a;
+
+pub const DW_TAG_lexical_block: u16 = 0x0b;
+
+pub const DW_TAG_member: u16 = 0x0d;
+
+pub const DW_TAG_pointer_type: u16 = 0x0f;
+
+pub const DW_TAG_reference_type: u16 = 0x10;
+
+pub const DW_TAG_compile_unit: u16 = 0x11;
+
+pub const DW_TAG_structure_type: u16 = 0x13;
+
+pub const DW_TAG_unspecified_parameters: u16 = 0x18;
+
+pub const DW_TAG_variant: u16 = 0x19;
+
+pub const DW_TAG_inheritance: u16 = 0x1c;
+
+pub const DW_TAG_inlined_subroutine: u16 = 0x1d;
+
+pub const DW_TAG_subrange_type: u16 = 0x21;
+
+pub const DW_TAG_with_stmt: u16 = 0x22;
+
+pub const DW_TAG_base_type: u16 = 0x24;
+
+pub const DW_TAG_catch_block: u16 = 0x25;
+
+pub const DW_TAG_const_type: u16 = 0x26;
+
+pub const DW_TAG_constant: u16 = 0x27;
+
+pub const DW_TAG_enumerator: u16 = 0x28;
+
+pub const DW_TAG_subprogram: u16 = 0x2e;
+
+pub const DW_TAG_template_type_parameter: u16 = 0x2f;
+
+pub const DW_TAG_template_value_parameter: u16 = 0x30;
+
+pub const DW_TAG_try_block: u16 = 0x32;
+
+pub const DW_TAG_variant_part: u16 = 0x33;
+
+pub const DW_TAG_variable: u16 = 0x34;
+
+pub const DW_TAG_namespace: u16 = 0x39;
+
+pub const DW_TAG_call_site: u16 = 0x48;
+
+pub const DW_TAG_call_site_parameter: u16 = 0x49;
+
+// Attributes. (Table 7.5.)
+pub const DW_AT_sibling: u16 = 0x01;
+
+pub const DW_AT_location: u16 = 0x02;
+
+pub const DW_AT_name: u16 = 0x03;
+
+pub const DW_AT_byte_size: u16 = 0x0b;
+
+pub const DW_AT_bit_size: u16 = 0x0d;
+
+pub const DW_AT_stmt_list: u16 = 0x10;
+
+pub const DW_AT_low_pc: u16 = 0x11;
+
+pub const DW_AT_high_pc: u16 = 0x12;
+
+pub const DW_AT_string_length: u16 = 0x19;
+
+pub const DW_AT_lower_bound: u16 = 0x22;
+
+pub const DW_AT_return_addr: u16 = 0x2a;
+
+pub const DW_AT_start_scope: u16 = 0x2c;
+
+pub const DW_AT_bit_stride: u16 = 0x2e;
+
+pub const DW_AT_upper_bound: u16 = 0x2f;
+
+pub const DW_AT_count: u16 = 0x37;
+
+pub const DW_AT_data_member_location: u16 = 0x38;
+
+pub const DW_AT_frame_base: u16 = 0x40;
+
+pub const DW_AT_segment: u16 = 0x46;
+
+pub const DW_AT_static_link: u16 = 0x48;
+
+pub const DW_AT_use_location: u16 = 0x4a;
+
+pub const DW_AT_vtable_elem_location: u16 = 0x4d;
+
+pub const DW_AT_allocated: u16 = 0x4e;
+
+pub const DW_AT_associated: u16 = 0x4f;
+
+pub const DW_AT_data_location: u16 = 0x50;
+
+pub const DW_AT_byte_stride: u16 = 0x51;
+
+pub const DW_AT_ranges: u16 = 0x55;
+
+pub const DW_AT_str_offsets_base: u16 = 0x72;
+
+pub const DW_AT_addr_base: u16 = 0x73;
+
+pub const DW_AT_rnglists_base: u16 = 0x74;
+
+pub const DW_AT_loclists_base: u16 = 0x8c;
+
+// Forms. (Table 7.6.)
+pub const DW_FORM_addr: u16 = 0x01;
+
+pub const DW_FORM_block2: u16 = 0x03;
+
+pub const DW_FORM_block4: u16 = 0x04;
+
+pub const DW_FORM_data2: u16 = 0x05;
+
+pub const DW_FORM_data4: u16 = 0x06;
+
+pub const DW_FORM_data8: u16 = 0x07;
+
+pub const DW_FORM_string: u16 = 0x08;
+
+pub const DW_FORM_block: u16 = 0x09;
+
+pub const DW_FORM_block1: u16 = 0x0a;
+
+pub const DW_FORM_data1: u16 = 0x0b;
+
+pub const DW_FORM_flag: u16 = 0x0c;
+
+pub const DW_FORM_sdata: u16 = 0x0d;
+
+pub const DW_FORM_strp: u16 = 0x0e;
+
+pub const DW_FORM_udata: u16 = 0x0f;
+
+pub const DW_FORM_ref_addr: u16 = 0x10;
+
+pub const DW_FORM_ref1: u16 = 0x11;
+
+pub const DW_FORM_ref2: u16 = 0x12;
+
+pub const DW_FORM_ref4: u16 = 0x13;
+
+pub const DW_FORM_ref8: u16 = 0x14;
+
+pub const DW_FORM_ref_udata: u16 = 0x15;
+
+pub const DW_FORM_indirect: u16 = 0x16;
+
+pub const DW_FORM_sec_offset: u16 = 0x17;
+
+pub const DW_FORM_exprloc: u16 = 0x18;
+
+pub const DW_FORM_flag_present: u16 = 0x19;
+
+pub const DW_FORM_strx: u16 = 0x1a;
+
+pub const DW_FORM_addrx: u16 = 0x1b;
+
+pub const DW_FORM_ref_sup4: u16 = 0x1c;
+
+pub const DW_FORM_strp_sup: u16 = 0x1d;
+
+pub const DW_FORM_data16: u16 = 0x1e;
+
+pub const DW_FORM_line_strp: u16 = 0x1f;
+
+pub const DW_FORM_ref_sig8: u16 = 0x20;
+
+pub const DW_FORM_implicit_const: u16 = 0x21;
+
+pub const DW_FORM_loclistx: u16 = 0x22;
+
+pub const DW_FORM_rnglistx: u16 = 0x23;
+
+pub const DW_FORM_ref_sup8: u16 = 0x24;
+
+pub const DW_FORM_strx1: u16 = 0x25;
+
+pub const DW_FORM_strx2: u16 = 0x26;
+
+pub const DW_FORM_strx3: u16 = 0x27;
+
+pub const DW_FORM_strx4: u16 = 0x28;
+
+pub const DW_FORM_addrx1: u16 = 0x29;
+
+pub const DW_FORM_addrx2: u16 = 0x2a;
+
+pub const DW_FORM_addrx3: u16 = 0x2b;
+
+pub const DW_FORM_addrx4: u16 = 0x2c;
+
+// Types of units. (Table 7.2.)
+pub const DW_UT_compile: u8 = 0x01;
+
+pub const DW_UT_type: u8 = 0x02;
+
+pub const DW_UT_partial: u8 = 0x03;
+
+pub const DW_UT_skeleton: u8 = 0x04;
+
+pub const DW_UT_split_compile: u8 = 0x05;
+
+pub const DW_UT_split_type: u8 = 0x06;
+
+// Standard opcodes of line programs. (Table 7.25.)
+pub const DW_LNS_copy: u8 = 0x01;
+
+pub const DW_LNS_advance_pc: u8 = 0x02;
+
+pub const DW_LNS_advance_line: u8 = 0x03;
+
+pub const DW_LNS_set_file: u8 = 0x04;
+
+pub const DW_LNS_set_column: u8 = 0x05;
+
+pub const DW_LNS_negate_stmt: u8 = 0x06;
+
+pub const DW_LNS_set_basic_block: u8 = 0x07;
+
+pub const DW_LNS_const_add_pc: u8 = 0x08;
+
+pub const DW_LNS_fixed_advance_pc: u8 = 0x09;
+
+pub const DW_LNS_set_prologue_end: u8 = 0x0a;
+
+pub const DW_LNS_set_epilogue_begin: u8 = 0x0b;
+
+pub const DW_LNS_set_isa: u8 = 0x0c;
+
+// Extended opcodes of line programs. (Table 7.26.)
+pub const DW_LNE_end_sequence: u8 = 0x01;
+
+pub const DW_LNE_set_address: u8 = 0x02;
+
+pub const DW_LNE_define_file: u8 = 0x03;
+
+pub const DW_LNE_set_discriminator: u8 = 0x04;
+
+// Whether an entry has children. (Table 7.4.)
+pub const DW_CHILDREN_no: u8 = 0x00;
+
+pub const DW_CHILDREN_yes: u8 = 0x01;

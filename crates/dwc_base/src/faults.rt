@@ -1,0 +1,77 @@
+//! Why bytes are not DWARF that is read.
+use std::alloc::AllocFailed;
+
+/// What was read where a fault was met.
+#[derive(Clone, Copy, Debug, PartialEq, Eq)]
+pub enum What {
+    UnitHeader,
+    Abbreviation,
+    Entry,
+    Text,
+    AddressValue,
+    LineTable,
+    RangeList,
+    LocationList,
+    Expression,
+    BaseName,
+}
+
+/// What is refused by name.
+#[derive(Clone, Copy, Debug, PartialEq, Eq)]
+pub enum Kind {
+    /// The 64-bit format of DWARF.
+    Format64,
+    /// A version other than 2 to 5.
+    Version,
+    TypeUnit,
+    /// A form that names a supplementary file.
+    Supplementary,
+    SegmentSelector,
+    /// Several operations in one instruction of a line program.
+    Operations,
+    /// A `.zdebug_` section.
+    Compressed,
+    /// An address size other than 4 and 8.
+    AddressSize,
+    /// A form of input that is not read yet.
+    NotBuilt,
+}
+
+/// Why bytes do not spell what is read: they end too early, a number of variable length does not fit 64 bits, the grammar
+/// has no such thing, or it is of a kind that is refused by name.
+#[derive(Clone, Copy, Debug, PartialEq, Eq)]
+pub enum Flaw {
+    EndsEarly,
+    TooWide,
+    Malformed,
+    Refused(Kind),
+}
+
+/// Why something is not read: for want of memory, or for its bytes.
+#[derive(Clone, Copy, Debug, PartialEq, Eq)]
+pub enum NotRead {
+    OutOfMemory,
+    Flawed(Flaw),
+}
+
+impl From<Flaw> for NotRead {
+    ghost use Rattle.std.specs.Prelude.{◌≡◌};
+    ghost use Rattle.dwc_base.specs.declared.faults.NotRead.TheVariants.{Flawed};
+
+    ghost from_gives = { λ flaw e. e ≡ Flawed flaw };
+
+    fn from(flaw: Flaw) -> NotRead {
+        NotRead::Flawed(flaw)
+    }
+}
+
+impl<T: Drop> From<AllocFailed<T>> for NotRead {
+    ghost use Rattle.std.specs.Prelude.{◌≡◌};
+    ghost use Rattle.dwc_base.specs.declared.faults.NotRead.TheVariants.{OutOfMemory};
+
+    ghost from_gives = { λ _ e. e ≡ OutOfMemory };
+
+    fn from(_: AllocFailed<T>) -> NotRead {
+        NotRead::OutOfMemory
+    }
+}

@@ -1,0 +1,19 @@
+//! What the readers and the writer of DWARF share: a cursor over bytes, the reader of WebAssembly files, the records that
+//! pass between the crates, and (in `specs/`) the definitions of DWARF that every contract above cites.
+#![tactic(auto)]
+
+pub mod constants;
+mod cursor;
+mod faults;
+mod leb128;
+mod output;
+mod records;
+mod relocations;
+mod section_name;
+
+pub use cursor::{Cursor, CursorFault};
+pub use faults::{Flaw, Kind, NotRead, What};
+pub use output::{DwarfSection, DwarfSectionReloc, DwarfSectionRelocTarget};
+pub use records::{Address, Encoding, Endian, FilePos, LineRow, MapFault, SymbolId};
+pub use relocations::Relocations;
+pub use section_name::SectionName;

@@ -1,0 +1,95 @@
+//! The records that pass between the crates.
+ghost use Rattle.std.specs.Prelude.{◌≡◌, ◌<◌, ◌^◌, ◌-◌, Some, None};
+
+/// The order of the bytes of a number.
+#[derive(Clone, Copy, Debug, PartialEq, Eq)]
+pub enum Endian {
+    Little,
+    Big,
+}
+
+/// An address: a number, or a place in a function, which is named by its number among all functions.
+#[derive(Clone, Copy, Debug, PartialEq, Eq)]
+pub enum Address {
+    Constant(u64),
+    Symbol { symbol: usize, addend: i64 },
+}
+
+/// How a unit spells its numbers: its version of DWARF, and the bytes of an address.
+#[derive(Clone, Copy, Debug, PartialEq, Eq)]
+pub struct Encoding {
+    pub version: u16,
+    pub address_size: u8,
+}
+
+/// A row of a line table (DWARF 4, section 6.2.2): its offset from the last `DW_LNE_set_address`, its file by number.
+#[derive(Clone, Copy, Debug, PartialEq, Eq)]
+pub struct LineRow {
+    pub offset: u64,
+    pub file: u64,
+    pub line: u64,
+    pub column: u64,
+    pub is_stmt: bool,
+    pub basic_block: bool,
+    pub prologue_end: bool,
+    pub epilogue_begin: bool,
+    pub isa: u64,
+    pub discriminator: u64,
+}
+
+/// The rule that an address map breaks.
+#[derive(Clone, Copy, Debug, PartialEq, Eq)]
+pub enum MapFault {
+    /// The body does not begin at 0.
+    BodyOffset,
+    /// The function's start or end is missing.
+    NoStart,
+    /// The function starts before the code section.
+    BeforeCodeSection,
+    /// The function starts behind its end.
+    Reversed,
+    /// A code offset is below the one before.
+    CodeFalls,
+    /// A code offset is past the body.
+    CodePastBody,
+    /// A source is outside the function.
+    SourceOutside,
+}
+
+/// The symbol of a compiled function.
+#[derive(Clone, Copy, Debug, PartialEq, Eq)]
+pub struct SymbolId(pub u32);
+
+/// A place in a wasm file, or no place.
+#[derive(Clone, Copy, Debug, PartialEq, Eq)]
+pub struct FilePos {
+    offset: Option<u32>,
+}
+
+impl FilePos {
+    /// The place at an offset of the file; the offset 2^32 - 1 stands for no place, and none is made of it.
+    pub fn new(offset: u32) -> FilePos
+        requires { offset < 2 ^ 32 - 1 }
+        ensures { result.offset ≡ Some offset }
+    {
+        FilePos {
+            offset: Some(offset),
+        }
+    }
+
+    /// The offset in the file; None for no place.
+    pub fn file_offset(self) -> Option<u32>
+        ensures { result ≡ self.offset }
+    {
+        self.offset
+    }
+}
+
+impl Default for FilePos {
+    ghost is_default = { λ p. p.offset ≡ None };
+
+    /// No place.
+    fn default() -> FilePos {
+        FilePos { offset: None }
+    }
+}

@@ -1,0 +1,2 @@
+//! Carries.
+#![tactic(auto)]

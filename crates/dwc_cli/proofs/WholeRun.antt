@@ -1,0 +1,97 @@
+-- The small module from its bytes and its map's bytes to the printed text.
+use Rattle.std.proofs.Common.{◌≡◌, ℕ, zero, suc, arith, List, [], ◌∷◌, map, Some, None, Option, Bool, true, false, refl}
+use Rattle.std.specs.Prelude.{All}
+use Rattle.dwc_base.proofs.OnLiterals.{lines_on_literals, files_on_literals}
+use Rattle.dwc_base.proofs.SmallModule.{file_small}
+use Rattle.dwc_base.proofs.LineTables.{function_small, segments_small}
+use Rattle.dwc_base.proofs.CarriedSmall.{unit_small, unit_out, image_small, output-read, images-read, image-small}
+use Rattle.dwc_base.specs.declared.faults.Kind.TheVariants.{Format64}
+use Rattle.dwc_base.specs.declared.section_name.SectionName.TheVariants.{Abbrev, Info, Line}
+use Rattle.dwc_base.specs.Sections.{Fault, unsupported}
+use Rattle.dwc_base.specs.Functions.{Function}
+use Rattle.dwc_base.specs.Wasm.{module_from_sections}
+use Rattle.dwc_base.specs.Carried.{Unit, units, carried_units, LinesCarried}
+use Rattle.dwc_base.specs.Reached.{reached_faults}
+use Rattle.dwc_base.specs.FirstForm.{is_all_built}
+use Rattle.dwc_base.specs.Widest.{widest}
+use Rattle.dwc_cli.specs.Inputs.{Input, Loaded, loaded, compilation_of}
+use Rattle.dwc_cli.proofs.OnLiterals.{map_on_literals}
+use Rattle.dwc_cli.specs.Printed.{printed}
+use Rattle.dwc_cli.specs.RunStatus.{Carries}
+use Rattle.dwc_cli.proofs.Examples.{map_bytes_small, map_small, output_small}
+
+unfoldable whole_on_literals : ℕ
+unfolding lines_on_literals files_on_literals map_on_literals loaded
+whole_on_literals = 0
+
+abbrev input_small : Input
+input_small = record { map_bytes = map_bytes_small; module_bytes = file_small }
+
+-- facts of an input that are short to write down
+abbrev faults_of : Option Loaded → List Fault
+faults_of None = unsupported Format64 0 ∷ []
+faults_of (Some l) = reached_faults (compilation_of l)
+
+abbrev built_of : Option Loaded → Bool
+built_of None = false
+built_of (Some l) = is_all_built (compilation_of l)
+
+abbrev widths_of : Option Loaded → List ℕ
+widths_of None = []
+widths_of (Some l) = widest Abbrev (compilation_of l) ∷ widest Info (compilation_of l) ∷ widest Line (compilation_of l) ∷ []
+
+abbrev functions_of : Option Loaded → List (List Function)
+functions_of None = []
+functions_of (Some l) = map (λ m. m.functions) (compilation_of l).modules
+
+abbrev carried_of : Option Loaded → List Unit
+carried_of None = []
+carried_of (Some l) = map (λ u. u.unit) (carried_units (compilation_of l))
+
+functions-small : functions_of (loaded input_small) ≡ (function_small ∷ []) ∷ []
+unfolding whole_on_literals
+functions-small = refl
+
+faults-small : faults_of (loaded input_small) ≡ []
+unfolding whole_on_literals
+faults-small = refl
+
+built-small : built_of (loaded input_small) ≡ true
+unfolding whole_on_literals
+built-small = refl
+
+carried-small : carried_of (loaded input_small) ≡ unit_small ∷ []
+unfolding whole_on_literals
+carried-small = refl
+
+-- the small module's sections are 17, 27 and 61 bytes long
+widths-small : widths_of (loaded input_small) ≡ 152 ∷ 63 ∷ 271 ∷ []
+unfolding whole_on_literals
+widths-small = refl
+
+-- what is read of the small input
+abbrev read_in : Option Loaded → Loaded
+read_in None = record { wasm = module_from_sections []; map_file = map_small }
+read_in (Some l) = l
+
+abbrev read_small : Loaded
+read_small = read_in (loaded input_small)
+
+whole-small : All (λ m. (units m.sections).fault ≡ None) (compilation_of read_small).modules
+unfolding whole_on_literals
+whole-small zero d h = refl
+whole-small (suc k) d h = absurd (omega arith)
+
+lines_carried-small : LinesCarried (compilation_of read_small) output_small
+unfolding whole_on_literals
+lines_carried-small = record {
+  whole = whole-small;
+  output = unit_out ∷ [];
+  output_read = output-read;
+  each = (record { images = image_small ∷ []; images_read = images-read; carried = record { input = segments_small; input_read = refl; each = ((function_small, refl, image-small), tt) } }, tt);
+}
+
+-- the text of the wanted output is an answer with status 0
+carries-small : Carries input_small (Some []) (Some (printed output_small))
+unfolding whole_on_literals
+carries-small = record { read = read_small; is_read = refl; readable = refl; built = refl; sections = output_small; plain = refl; carried = lines_carried-small; written = refl }

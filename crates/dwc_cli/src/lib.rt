@@ -1,0 +1,4 @@
+//! The map file and the program.
+#![tactic(auto)]
+
+pub mod top;

@@ -1,0 +1,13 @@
+pub mod ReadNumbers
+pub mod ReadParts
+pub mod ReadBytes
+pub mod ReadTables
+pub mod ReadValues
+pub mod ReadEntries
+pub mod ReadAddresses
+pub mod ReadProgram
+pub mod ReadRows
+pub mod ReadLines
+pub mod ReadWritten
+pub mod ReadSections
+pub mod ReadSmall

@@ -1,0 +1,145 @@
+-- An example: the output of the small module is, byte for byte, what its unit and its line table spell, so it is read as they say.
+-- On literals give `All` by `All-from_recursion P xs (.., (.., tt))`.
+use Rattle.std.proofs.Common.{◌≡◌, ℕ, ◌^◌, ◌<◌, ◌≤◌, refl, lit<, lit≤, List, [], ◌∷◌, None, Ok, true, false, pos, inr}
+use Rattle.std.specs.Prelude.{map, codes}
+use Rattle.dwc_base.specs.Entries.{Entry}
+use Rattle.dwc_base.specs.Values.{line_reference}
+use Rattle.dwc_base.specs.Carried.{segments_of_unit, units}
+use Rattle.dwc_write.specs.SpelledLines.{read_segment, FitsName, FitsFile, FitsRow, FitsSequence}
+use Rattle.dwc_write.specs.SpelledSections.{PlacedTable, read_unit, WrittenUnit, tables_bytes, info_bytes, info_fields, read_units, WrittenTable, lines_bytes, lines_fields, FitsUnit, FitsTable, placed_tables, read_table}
+use Rattle.std.proofs.lemmas.List.Elements.{All-head, All-cons, All-nil, All-from_recursion}
+use Rattle.dwc_write.proofs.ReadSections.{segments-read, units-read, lines-read}
+use Rattle.std.specs.List.{All, AllByRecursion}
+use Rattle.dwc_base.specs.declared.records.Endian.TheVariants.{Little}
+use Rattle.dwc_base.specs.declared.records.Address.TheVariants.{Symbol}
+use Rattle.dwc_base.specs.declared.records.LineRow.{LineRow}
+use Rattle.dwc_base.specs.declared.section_name.SectionName.TheVariants.{Abbrev, Info, Line}
+use Rattle.dwc_base.specs.Abbreviations.{AttributeSpec, Declaration}
+use Rattle.dwc_base.specs.Outputs.{output_sections}
+use Rattle.dwc_write.specs.Spelled.{uleb_bytes, uleb_bytes_within, sleb_bytes, sleb_bytes_from_0}
+use Rattle.dwc_write.specs.SpelledUnits.{as_addr, as_udata, as_sec_offset, WrittenAttribute, WrittenEntry, shaped, FitsEntry, FitsWritten}
+use Rattle.dwc_write.specs.SpelledTables.{FitsSpec, FitsDeclaration}
+use Rattle.dwc_base.specs.LineRows.{line_table}
+use Rattle.dwc_write.specs.SpelledAddresses.{relocations_of}
+use Rattle.dwc_base.proofs.CarriedSmall.{output_small}
+
+abbrev pub root_written : WrittenEntry
+root_written = record { depth = 0; code = 1; tag = 0x11; attributes = record { name = 0x10; value = as_sec_offset 0 } ∷ [] }
+
+abbrev pub function_written : WrittenEntry
+function_written = record { depth = 1; code = 2; tag = 0x2E; attributes = record { name = 0x11; value = as_addr (Symbol 0 (pos 0)) } ∷ record { name = 0x12; value = as_udata 30 } ∷ [] }
+
+abbrev pub table_written : List Declaration
+table_written =
+    record { code = 1; tag = 0x11; has_children = true; attributes = record { name = 0x10; form = 0x17; implicit = pos 0 } ∷ [] }
+    ∷ record { code = 2; tag = 0x2E; has_children = false; attributes = record { name = 0x11; form = 0x01; implicit = pos 0 } ∷ record { name = 0x12; form = 0x0F; implicit = pos 0 } ∷ [] } ∷ []
+
+abbrev pub unit_written : WrittenUnit
+unit_written = record { table_offset = 0; table = table_written; entries = root_written ∷ function_written ∷ [] }
+
+abbrev pub rows_written : List LineRow
+rows_written =
+    record { offset = 0; file = 1; line = 2; column = 0; is_stmt = true; basic_block = false; prologue_end = false; epilogue_begin = false; isa = 0; discriminator = 0 }
+    ∷ record { offset = 15; file = 1; line = 3; column = 0; is_stmt = true; basic_block = false; prologue_end = false; epilogue_begin = false; isa = 0; discriminator = 0 } ∷ []
+
+abbrev pub lines_written : WrittenTable
+lines_written = record {
+  directories = [];
+  files = record { directory = 0; name = codes "a.c" } ∷ [];
+  sequences = record { start_address = Symbol 0 (pos 0); rows = rows_written; end_offset = 30 } ∷ [];
+}
+
+-- The bytes and the relocations are those of the output.
+pub abbrev-bytes : (output_sections Little output_small).bytes Abbrev ≡ tables_bytes (unit_written ∷ [])
+unfolding uleb_bytes uleb_bytes_within
+abbrev-bytes = refl
+
+pub info-bytes : (output_sections Little output_small).bytes Info ≡ info_bytes Little 8 (unit_written ∷ [])
+unfolding uleb_bytes uleb_bytes_within
+info-bytes = refl
+
+pub info-relocations : (output_sections Little output_small).relocations Info ≡ relocations_of (info_fields Little 8 0 (unit_written ∷ []))
+unfolding uleb_bytes uleb_bytes_within
+info-relocations = refl
+
+pub line-bytes : (output_sections Little output_small).bytes Line ≡ lines_bytes Little 8 (lines_written ∷ [])
+unfolding uleb_bytes uleb_bytes_within sleb_bytes sleb_bytes_from_0
+line-bytes = refl
+
+pub line-relocations : (output_sections Little output_small).relocations Line ≡ relocations_of (lines_fields Little 8 0 (lines_written ∷ []))
+unfolding uleb_bytes uleb_bytes_within sleb_bytes sleb_bytes_from_0
+line-relocations = refl
+
+-- What is asked of them holds.
+values-fit : (xs : List WrittenAttribute) → AllByRecursion (λ a. FitsWritten 8 a.value) xs → All (λ a. FitsWritten 8 a.value) xs
+values-fit xs h = All-from_recursion (λ a. FitsWritten 8 a.value) xs h
+
+entries-fit : All (FitsEntry table_written 8) (shaped unit_written.entries)
+entries-fit = All-from_recursion (FitsEntry table_written 8) (shaped unit_written.entries) (
+  record { some = lit< tt; code = lit< tt; declared = refl; values = values-fit root_written.attributes (lit< tt, tt) },
+  (record { some = lit< tt; code = lit< tt; declared = refl; values = values-fit function_written.attributes (tt, (lit< tt, tt)) }, tt),
+)
+
+spec-fits : (name form : ℕ) → 0 < name → name ≤ 65535 → form < 2 ^ 64 → FitsSpec (record { name = name; form = form; implicit = pos 0 })
+spec-fits name form some small fits = record { some = some; name = small; form = fits; implicit = refl; plain = λ e. refl }
+
+abbrev root_declared : List AttributeSpec
+root_declared = record { name = 0x10; form = 0x17; implicit = pos 0 } ∷ []
+
+abbrev function_declared : List AttributeSpec
+function_declared = record { name = 0x11; form = 0x01; implicit = pos 0 } ∷ record { name = 0x12; form = 0x0F; implicit = pos 0 } ∷ []
+
+table-fits : All FitsDeclaration table_written
+table-fits = All-from_recursion FitsDeclaration table_written (
+  record { some = lit< tt; code = lit< tt; tag = lit≤ tt; attributes = All-from_recursion FitsSpec root_declared (spec-fits 0x10 0x17 (lit< tt) (lit≤ tt) (lit< tt), tt) },
+  (record { some = lit< tt; code = lit< tt; tag = lit≤ tt; attributes = All-from_recursion FitsSpec function_declared (spec-fits 0x11 0x01 (lit< tt) (lit≤ tt) (lit< tt), (spec-fits 0x12 0x0F (lit< tt) (lit≤ tt) (lit< tt), tt)) }, tt),
+)
+
+unit-fits : FitsUnit Little 8 unit_written
+unfolding uleb_bytes uleb_bytes_within
+unit-fits = record { offset = lit< tt; short = lit< tt; table = table-fits; entries = entries-fit; tree = (refl, (lit< tt, lit≤ tt, tt)) }
+
+-- So its units are read as they were given.
+pub small-units : units (output_sections Little output_small) ≡ record { items = read_units Little 8 0 (unit_written ∷ []); fault = None }
+small-units =
+    units-read (output_sections Little output_small) 8 (unit_written ∷ []) (inr refl) (All-cons (FitsUnit Little 8) unit_written [] unit-fits (All-nil (FitsUnit Little 8))) (refl, tt) abbrev-bytes info-bytes info-relocations
+
+row-fits : (offset line : ℕ) → offset < 2 ^ 32 → line < 2 ^ 32
+    → FitsRow (record { offset = offset; file = 1; line = line; column = 0; is_stmt = true; basic_block = false; prologue_end = false; epilogue_begin = false; isa = 0; discriminator = 0 })
+row-fits offset line near low = record { offset = near; line = low; file = lit< tt; column = lit< tt; isa = lit< tt; discriminator = lit< tt }
+
+sequences-fit : All (FitsSequence 8) lines_written.sequences
+sequences-fit = All-from_recursion (FitsSequence 8) lines_written.sequences (
+  record {
+    begin = tt;
+    some = lit< tt;
+    rows = All-from_recursion FitsRow rows_written (row-fits 0 2 (lit< tt) (lit< tt), (row-fits 15 3 (lit< tt) (lit< tt), tt));
+    rise = (lit≤ tt, (lit≤ tt, lit≤ tt));
+    last = lit< tt;
+  },
+  tt,
+)
+
+files-fit : All FitsFile lines_written.files
+files-fit = All-from_recursion FitsFile lines_written.files (record { name = record { some = lit< tt; plain = All-from_recursion (λ b. 0 < b) (codes "a.c") (lit< tt, (lit< tt, (lit< tt, tt))) }; directory = lit< tt }, tt)
+
+lines-fit : FitsTable Little 8 lines_written
+unfolding uleb_bytes uleb_bytes_within sleb_bytes sleb_bytes_from_0
+lines-fit = record { directories = All-nil FitsName; files = files-fit; sequences = sequences-fit; short = lit< tt }
+
+-- and so is its line table, with its one segment
+pub small-lines : All (λ p. line_table (output_sections Little output_small) 8 p.offset ≡ Ok (read_table Little 8 p)) (placed_tables Little 8 0 (lines_written ∷ []))
+small-lines =
+    lines-read (output_sections Little output_small) 8 (lines_written ∷ []) (lit< tt) (lit< tt) (All-cons (FitsTable Little 8) lines_written [] lines-fit (All-nil (FitsTable Little 8))) line-bytes line-relocations
+
+abbrev placed_written : PlacedTable
+placed_written = record { offset = 0; table = lines_written }
+
+abbrev root_read : Entry
+root_read = record { offset = 11; depth = 0; tag = 0x11; attributes = (0x10, line_reference 0) ∷ [] }
+
+-- and so are the segments of its unit: one, with two rows
+pub small-segments : segments_of_unit (output_sections Little output_small) (read_unit Little 8 0 unit_written) ≡ Ok (map (read_segment (read_table Little 8 placed_written)) lines_written.sequences)
+small-segments =
+    segments-read (output_sections Little output_small) 8 (read_unit Little 8 0 unit_written) root_read placed_written refl refl refl
+    (All-head (λ p. line_table (output_sections Little output_small) 8 p.offset ≡ Ok (read_table Little 8 p)) placed_written [] small-lines) sequences-fit

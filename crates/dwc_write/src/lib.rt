@@ -1,0 +1,2 @@
+//! Writes sections.
+#![tactic(auto)]
