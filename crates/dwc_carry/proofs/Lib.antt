@@ -1,2 +1,3 @@
 pub mod ImageLaws
 pub mod KeptLaws
+pub mod EmitLaws
