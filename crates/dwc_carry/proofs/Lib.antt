@@ -1,3 +1,4 @@
 pub mod ImageLaws
 pub mod KeptLaws
 pub mod EmitLaws
+pub mod UnitPlaces
