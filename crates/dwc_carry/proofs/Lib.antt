@@ -2,3 +2,4 @@ pub mod ImageLaws
 pub mod KeptLaws
 pub mod EmitLaws
 pub mod UnitPlaces
+pub mod DeclarationLaws
