@@ -14,6 +14,6 @@ mod section_name;
 pub use cursor::{Cursor, CursorFault};
 pub use faults::{Flaw, Kind, NotRead, What};
 pub use output::{DwarfSection, DwarfSectionReloc, DwarfSectionRelocTarget};
-pub use records::{Address, Encoding, Endian, FilePos, LineRow, MapFault, SymbolId};
+pub use records::{Address, DefinedFuncIndex, Encoding, Endian, FilePos, LineRow, MapFault, SymbolId};
 pub use relocations::Relocations;
 pub use section_name::SectionName;
