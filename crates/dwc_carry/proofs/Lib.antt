@@ -3,3 +3,4 @@ pub mod KeptLaws
 pub mod EmitLaws
 pub mod UnitPlaces
 pub mod DeclarationLaws
+pub mod TransferLaws
