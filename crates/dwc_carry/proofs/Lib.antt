@@ -4,3 +4,4 @@ pub mod EmitLaws
 pub mod UnitPlaces
 pub mod DeclarationLaws
 pub mod TransferLaws
+pub mod LineVersions
