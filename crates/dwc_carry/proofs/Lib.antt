@@ -5,3 +5,4 @@ pub mod UnitPlaces
 pub mod DeclarationLaws
 pub mod TransferLaws
 pub mod LineVersions
+pub mod WidestLines
