@@ -18,3 +18,5 @@ pub mod EntryWalk
 pub mod Steps
 pub mod LebLaws
 pub mod SlebLaws
+pub mod FileTakes
+pub mod ImportLaws
