@@ -99,8 +99,8 @@ limits_at-leaves : (u : Unread) → LeavesPart (limits_at u) (length u.left)
 unfolding limits_at
 limits_at-leaves u =
     LeavesPart-bind _ _ _ (byte_field-leaves _ u) (λ flag.
-      LeavesPart-bind _ _ _ (LeavesPart-more _ _ (uleb_field-leaves flag.1)) (λ least.
-        LeavesPart-either (flag.0 % 2 == 1) (field uleb_at least.1 >>= λ most. Ok (tt, most.1)) (Ok (tt, least.1)) _ (last_number-leaves tt least.1) (LeavesPart-same _ _)))
+    LeavesPart-bind _ _ _ (LeavesPart-more _ _ (uleb_field-leaves flag.1)) (λ least.
+    LeavesPart-either (flag.0 % 2 == 1) (field uleb_at least.1 >>= λ most. Ok (tt, most.1)) (Ok (tt, least.1)) _ (last_number-leaves tt least.1) (LeavesPart-same _ _)))
 
 import_of_kind-leaves : (kind : ImportKind) (u : Unread) → LeavesPart (import_of_kind kind u) (length u.left)
 unfolding import_of_kind
@@ -109,16 +109,16 @@ import_of_kind-leaves table u = LeavesPart-bind _ _ _ (byte_field-leaves _ u) (�
 import_of_kind-leaves memory u = limits_at-leaves u
 import_of_kind-leaves global u =
     LeavesPart-bind _ _ _ (byte_field-leaves _ u) (λ type.
-      LeavesPart-bind _ _ _ (LeavesPart-more _ _ (byte_field-leaves _ type.1)) (λ mutability. LeavesPart-same _ _))
+    LeavesPart-bind _ _ _ (LeavesPart-more _ _ (byte_field-leaves _ type.1)) (λ mutability. LeavesPart-same _ _))
 import_of_kind-leaves tag u = LeavesPart-bind _ _ _ (byte_field-leaves _ u) (λ attribute. last_number-leaves tt attribute.1)
 
 pub import_at-leaves : (u : Unread) → LeavesPart (import_at u) (length u.left)
 unfolding import_at
 import_at-leaves u =
     LeavesPart-bind _ _ _ (name_field-leaves u) (λ from.
-      LeavesPart-bind _ _ _ (LeavesPart-more _ _ (name_field-leaves from.1)) (λ name.
-        LeavesPart-bind _ _ _ (LeavesPart-more _ _ (byte_field-leaves _ name.1)) (λ kind.
-          LeavesPart-bind _ _ _ (LeavesPart-more _ _ (import_of_kind-leaves _ kind.1)) (λ rest. LeavesPart-same _ _))))
+    LeavesPart-bind _ _ _ (LeavesPart-more _ _ (name_field-leaves from.1)) (λ name.
+    LeavesPart-bind _ _ _ (LeavesPart-more _ _ (byte_field-leaves _ name.1)) (λ kind.
+    LeavesPart-bind _ _ _ (LeavesPart-more _ _ (import_of_kind-leaves _ kind.1)) (λ rest. LeavesPart-same _ _))))
 
 pub type_number-leaves : (u : Unread) → LeavesPart (field uleb_at u) (length u.left)
 type_number-leaves u = uleb_field-leaves u
@@ -127,8 +127,8 @@ pub wasm_section_at-leaves : (u : Unread) → LeavesPart (wasm_section_at u) (le
 unfolding wasm_section_at
 wasm_section_at-leaves u =
     LeavesPart-bind _ _ _ (byte_field-leaves _ u) (λ id.
-      LeavesPart-bind _ _ _ (LeavesPart-more _ _ (LeavesPart-field section_bytes_at id.1 _ (section_bytes_at-leaves id.1))) (λ bytes.
-        LeavesPart-behind (contents_of id.0 bytes.0) _ _ (λ contents. LeavesPart-same _ _)))
+    LeavesPart-bind _ _ _ (LeavesPart-more _ _ (LeavesPart-field section_bytes_at id.1 _ (section_bytes_at-leaves id.1))) (λ bytes.
+    LeavesPart-behind (contents_of id.0 bytes.0) _ _ (λ contents. LeavesPart-same _ _)))
 
 -- the walk over sections goes forward
 pub next_wasm_section-shrinks : (u v : Unread) → GoesOn (next_wasm_section u) v → length v.left < length u.left

@@ -1,7 +1,8 @@
 -- Imports and type numbers, counted one after another, as a loop does.
 use Rattle.std.proofs.Common.{◌≡◌, ℕ, suc, ◌-◌, ◌+◌, ◌≤◌, ◌<◌, Ok, Err, Bool, true, false, cond, refl, sym, ap, ◌∙◌, arith}
 use Rattle.std.specs.Prelude.{if◌then◌else◌}
-use Rattle.dwc_base.specs.Reading.{Unread, ◌>>=◌, uleb_at}
+use Rattle.dwc_base.specs.declared.faults.Flaw.{Flaw}
+use Rattle.dwc_base.specs.Reading.{Unread, Read, ◌>>=◌, uleb_at}
 use Rattle.dwc_base.specs.Wasm.{FileRead, field, import_at, imports_at, type_numbers_at}
 
 -- what was counted before, and what is still read
@@ -51,3 +52,34 @@ module _ (count i n : ℕ) (u : Unread) (total : FileRead ℕ) where
       let k : count - i ≡ 0 = omega arith in
       let one : with_more n (imports_at (count - i) u) ≡ Ok (n, u) = rw k (ap (λ (m : ℕ). Ok (m, u)) (omega arith)) in
       sym so_far ∙ one
+
+  -- a type number more
+  pub type_numbers-more : (type : ℕ) (v : Unread) → i < count → field uleb_at u ≡ Ok (type, v) → with_more n (type_numbers_at (count - i) u) ≡ total → with_more (n + 1) (type_numbers_at (count - (i + 1)) v) ≡ total
+  unfolding type_numbers_at
+  type_numbers-more type v lt h so_far =
+      let k : count - i ≡ suc (count - (i + 1)) = omega arith in
+      let one : with_more n (type_numbers_at (count - i) u) ≡ with_more (n + 1) (type_numbers_at (count - (i + 1)) v) = rw (k, h) (one_more true n (type_numbers_at (count - (i + 1)) v)) in
+      sym one ∙ so_far
+
+  -- a type number that breaks the grammar
+  pub type_numbers-broken : (place : ℕ) → i < count → field uleb_at u ≡ Err place → with_more n (type_numbers_at (count - i) u) ≡ total → total ≡ Err place
+  unfolding type_numbers_at
+  type_numbers-broken place lt h so_far =
+      let k : count - i ≡ suc (count - (i + 1)) = omega arith in
+      let one : with_more n (type_numbers_at (count - i) u) ≡ Err place = rw (k, h) refl in
+      sym so_far ∙ one
+
+  -- all were read
+  pub type_numbers-done : count ≤ i → with_more n (type_numbers_at (count - i) u) ≡ total → total ≡ Ok (n, u)
+  unfolding type_numbers_at
+  type_numbers-done le so_far =
+      let k : count - i ≡ 0 = omega arith in
+      let one : with_more n (type_numbers_at (count - i) u) ≡ Ok (n, u) = rw k (ap (λ (m : ℕ). Ok (m, u)) (omega arith)) in
+      sym so_far ∙ one
+
+-- a number of variable length is a field
+pub field-read : {A : Type 0} (read : Unread → Read A) (u v : Unread) (x : A) → read u ≡ Ok (x, v) → field read u ≡ Ok (x, v)
+field-read read u v x h = rw h refl
+
+pub field-flaw : {A : Type 0} (read : Unread → Read A) (u : Unread) (flaw : Flaw) → read u ≡ Err flaw → field read u ≡ Err u.place
+field-flaw read u flaw h = rw h refl

@@ -20,3 +20,4 @@ pub mod LebLaws
 pub mod SlebLaws
 pub mod FileTakes
 pub mod ImportLaws
+pub mod Parts

@@ -8,8 +8,11 @@ use crate::wasm_fields::{BrokenField, byte_below, element_type, limits, name_fie
 
 // The kinds of imports.
 const FUNCTION: u8 = 0;
+
 const TABLE: u8 = 1;
+
 const MEMORY: u8 = 2;
+
 const GLOBAL: u8 = 3;
 
 /// How many of the imports at the front, as many as said, are functions.

@@ -14,6 +14,7 @@ mod section_name;
 mod wasm;
 mod wasm_fields;
 mod wasm_sections;
+mod wasm_walk;
 
 pub use cursor::{Cursor, CursorFault};
 pub use faults::{Flaw, Kind, NotRead, What};
