@@ -1,14 +1,13 @@
 -- Each part of a WebAssembly file takes a byte at least.
 use Rattle.std.proofs.Common.{◌≡◌, ℕ, suc, ◌%◌, ◌<◌, refl, arith, length, length-drop, take, List, Result, Ok, Err, Bool, true, false, ltb}
 use Rattle.std.specs.Prelude.{◌==◌, if◌then◌else◌}
-use Rattle.dwc_base.specs.declared.faults.Flaw.{Flaw}
 use Rattle.dwc_base.specs.declared.faults.Flaw.TheVariants.{EndsEarly}
-use Rattle.dwc_base.specs.Reading.{Unread, Read, ◌>>=◌, forbid, passed, bytes_at, uleb_at}
+use Rattle.dwc_base.specs.Reading.{Unread, Read, ◌>>=◌, passed, bytes_at, uleb_at}
 use Rattle.dwc_base.specs.Listing.{at_end, broken, item}
-use Rattle.dwc_base.specs.Wasm.{FileRead, field, name_at, u32_at, byte_at, limits_at, ImportKind, func, table, memory, global, tag, import_of_kind, import_kind, import_at, Contents, contents_of, section_bytes_at, WasmSection, wasm_section_at, next_wasm_section}
+use Rattle.dwc_base.specs.Wasm.{FileRead, field, name_at, u32_at, byte_at, limits_at, ImportKind, func, table, memory, global, tag, import_of_kind, import_at, contents_of, section_bytes_at, WasmSection, wasm_section_at, next_wasm_section}
 use Rattle.dwc_base.proofs.Items.{Leaves, LeavesFewer}
 use Rattle.dwc_base.proofs.Takes.{Leaves-bind, Leaves-behind, Leaves-same, number_at-leaves, part_at-leaves}
-use Rattle.dwc_base.proofs.TakesMore.{Leaves-more, uleb_at-leaves}
+use Rattle.dwc_base.proofs.TakesMore.{uleb_at-leaves}
 use Rattle.dwc_base.proofs.Walks.{GoesOn}
 
 -- what was read of a file leaves fewer bytes than n

@@ -21,3 +21,8 @@ pub mod SlebLaws
 pub mod FileTakes
 pub mod ImportLaws
 pub mod Parts
+pub mod Translated
+pub mod SectionTitles
+pub mod SectionWalk
+pub mod WalkedSections
+pub mod FileStarts

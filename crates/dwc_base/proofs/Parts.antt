@@ -1,5 +1,5 @@
 -- A part of some bytes is no longer than it was said to be.
-use Rattle.std.proofs.Common.{◌≡◌, ℕ, ◌≤◌, arith, ap, length, length-take, take, Ok, Err, Bool, true, false, ltb, cond}
+use Rattle.std.proofs.Common.{◌≡◌, ℕ, ◌≤◌, arith, ap, length, length-take, Ok, Err, Bool, true, false, ltb, cond}
 use Rattle.dwc_base.specs.declared.faults.Flaw.TheVariants.{EndsEarly}
 use Rattle.dwc_base.specs.Reading.{Unread, Read, part_at, front, passed}
 

@@ -1,7 +1,7 @@
 -- What the reader of WebAssembly files answers, and what its parts say.
-use Rattle.std.specs.Prelude.{◌≡◌, ℕ, List, [], ◌∷◌, if◌then◌else◌, Option, Some, None, Result, Ok, Err}
+use Rattle.std.specs.Prelude.{◌≡◌, ℕ, nat_eq, List, [], ◌∷◌, drop, if◌then◌else◌, Option, Some, None, Result, Ok, Err, codes}
 use Rattle.std.specs.Option.{unwrap_or, option_or}
-use Rattle.std.specs.List.{find}
+use Rattle.std.specs.List.{find, starts_with}
 use Rattle.std.specs.Str.{bytes_eq}
 use Rattle.std.specs.Borrow.{Bor}
 use Rattle.dwc_base.specs.declared.records.Endian.TheVariants.{Little}
@@ -19,7 +19,7 @@ use Rattle.dwc_base.specs.Reading.{Unread}
 use Rattle.dwc_base.specs.Sections.{Sections, section_text}
 use Rattle.dwc_base.specs.Listing.{Next, at_end, broken, item}
 use Rattle.dwc_base.specs.Wasm as spec
-use Rattle.dwc_base.specs.Wasm.{FileRead, WasmSection, WasmModule, wasm_module, held, contents_named, imported_functions, defined_functions, code_place, is_compressed}
+use Rattle.dwc_base.specs.Wasm.{FileRead, WasmSection, WasmModule, wasm_module, held, contents_named, imported_functions, defined_functions, code_place, is_compressed, preamble, wasm_sections, module_from_sections}
 
 -- the bytes that are held of a section; of the frames, which are no input, none
 abbrev pub section_bytes : WasmSections → SectionName → List ℕ
@@ -114,15 +114,27 @@ GivesSection step new (Ok (Some s)) = step ≡ item (section_view s) new
 GivesSection step new (Ok None) = step ≡ at_end
 GivesSection step new (Err b) = step ≡ broken b.offset
 
+-- the bytes of a section behind a custom section with a title and contents; the frames are no input
+abbrev pub titled_bytes : SectionName → List ℕ → List ℕ → List ℕ → List ℕ
+titled_bytes Frame title contents before = before
+titled_bytes name title contents before = if bytes_eq title (section_text name) then contents else before
+
 -- the bytes of a section behind a further section of the file
-abbrev pub noted : SectionName → spec.Contents → List ℕ → List ℕ
-noted Frame contents before = []
-noted name contents before = unwrap_or (contents_named (section_text name) contents) before
+abbrev pub noted : spec.Contents → SectionName → List ℕ → List ℕ
+noted (spec.custom title u) name before = titled_bytes name title u.left before
+noted (spec.imports n) name before = before
+noted (spec.functions n) name before = before
+noted (spec.code u) name before = before
+noted (spec.other id u) name before = before
+
+-- the place of the first compressed section behind a custom section at a place with a title
+abbrev pub first_compressed : Option ℕ → ℕ → List ℕ → Option ℕ
+first_compressed before place title = option_or before (if starts_with nat_eq title (codes ".zdebug_") then Some place else None)
 
 -- A translation takes note of a section: what it holds counts where the section holds nothing of a kind, but of
 -- compressed sections the first counts.
 pub record Notes (old new : ModuleTranslation) (s : WasmSection) : Type 0 where
-  pub sections : (name : SectionName) → section_bytes new.sections name ≡ noted name s.contents (section_bytes old.sections name)
+  pub sections : (name : SectionName) → section_bytes new.sections name ≡ noted s.contents name (section_bytes old.sections name)
   pub dwo_sections : new.dwo_sections ≡ old.dwo_sections
   pub compressed : new.compressed ≡ option_or old.compressed (if is_compressed s.contents then Some s.place else None)
   pub code_section_offset : new.code_section_offset ≡ unwrap_or (code_place s.contents) old.code_section_offset
@@ -133,3 +145,13 @@ pub record Notes (old new : ModuleTranslation) (s : WasmSection) : Type 0 where
   pub local_names : new.local_names ≡ old.local_names
   pub funcs : new.funcs ≡ old.funcs
   pub path : new.path ≡ old.path
+
+-- where the sections of a file begin: behind its preamble
+abbrev pub sections_start : List ℕ → Result Unread ℕ
+sections_start bytes = if starts_with nat_eq bytes preamble then Ok (record { order = Little; place = 8; left = drop 8 bytes }) else Err 0
+
+-- What a translation of the sections from a place on is: one of all of them; else the place of the first field that
+-- breaks the grammar.
+abbrev pub TranslatesSections : Unread → Result ModuleTranslation BrokenField → Type 0
+TranslatesSections u (Ok t) = (all : List WasmSection) × (wasm_sections u ≡ record { items = all; fault = None }) × IsTranslation t (module_from_sections all)
+TranslatesSections u (Err b) = (before : List WasmSection) × (wasm_sections u ≡ record { items = before; fault = Some b.offset })

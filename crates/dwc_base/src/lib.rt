@@ -22,5 +22,5 @@ pub use output::{DwarfSection, DwarfSectionReloc, DwarfSectionRelocTarget};
 pub use records::{Address, Encoding, Endian, FilePos, LineRow, MapFault, SymbolId};
 pub use relocations::Relocations;
 pub use section_name::SectionName;
-pub use wasm::{FunctionMeta, ModuleTranslation, ValType, WasmFault};
+pub use wasm::{FunctionMeta, ModuleTranslation, ValType, WasmFault, split_wasm};
 pub use wasm_sections::WasmSections;

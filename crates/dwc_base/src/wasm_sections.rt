@@ -4,7 +4,7 @@ ghost use Rattle.dwc_base.specs.declared.section_name.SectionName.{SectionName};
 ghost use Rattle.std.specs.List.{find};
 ghost use Rattle.std.specs.Str.{bytes_eq};
 ghost use Rattle.dwc_base.specs.Sections.{section_text};
-ghost use Rattle.dwc_base.specs.Translations.{section_bytes, with_section, section_titled};
+ghost use Rattle.dwc_base.specs.Translations.{section_bytes, with_section, titled_bytes, section_titled};
 
 use crate::SectionName;
 
@@ -83,8 +83,17 @@ impl<'d> WasmSections<'d> {
         }
     }
 
-    /// Puts other bytes into a section.
-    pub fn set(&mut self, name: SectionName, bytes: &'d [u8])
+    /// Takes note of a custom section: of two with one title the later counts.
+    pub fn note(&mut self, title: &str, contents: &'d [u8])
+        ensures { (name : SectionName) → section_bytes self.new name ≡ titled_bytes name title.now contents.entry.now (section_bytes self.old name) }
+    {
+        if let Some(name) = section_titled(title) {
+            self.set(name, contents);
+        }
+    }
+
+    // Puts other bytes into a section.
+    fn set(&mut self, name: SectionName, bytes: &'d [u8])
         ensures { self.new ≡ with_section self.old name bytes.entry }
     {
         match name {
@@ -105,8 +114,8 @@ impl<'d> WasmSections<'d> {
     }
 }
 
-/// The section of an input that has a title, if there is one.
-pub fn section_titled(title: &str) -> Option<SectionName>
+// The section of an input that has a title, if there is one.
+fn section_titled(title: &str) -> Option<SectionName>
     ensures { result ≡ section_titled title.now }
 {
     find_titled(&INPUT_SECTIONS, title)

@@ -1,4 +1,4 @@
-use Rattle.std.proofs.Common.{◌≡◌, ◌-◌, ◌+◌, ◌≤◌, ◌<◌, length, Ok, true, false, ap, ◌∙◌, arith}
+use Rattle.std.proofs.Common.{◌≡◌, Ok, true, false, ap, ◌∙◌, arith}
 use Rattle.std.proofs.lemmas.Result.{err_from_is_err_and}
 use Rattle.dwc_base.specs.Wasm.{import_at, imports_at}
 use Rattle.dwc_base.proofs.ImportLaws.{with_more-none, imports-function, imports-other, imports-broken, imports-done}

@@ -1,4 +1,4 @@
-use Rattle.std.proofs.Common.{◌<◌, length, arith}
+use Rattle.std.proofs.Common.{arith}
 use Rattle.dwc_base.proofs.Takes.{Leaves-at}
 use Rattle.dwc_base.proofs.TakesMore.{uleb_at-leaves}
 use Rattle.dwc_base.proofs.wasm_walk.read_contents.Goals as goal
