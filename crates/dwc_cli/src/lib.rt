@@ -1,4 +1,8 @@
 //! The map file and the program.
 #![tactic(auto)]
 
+mod json_fields;
+mod map_file;
 pub mod top;
+
+pub use map_file::{MapFile, MapModule, Names, Target, map_of_counts};
