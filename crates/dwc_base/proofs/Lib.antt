@@ -18,3 +18,6 @@ pub mod EntryWalk
 pub mod Steps
 pub mod LebLaws
 pub mod SlebLaws
+pub mod Limits
+pub mod BrokenMaps
+pub mod BrokenFiles
