@@ -21,3 +21,4 @@ pub mod SlebLaws
 pub mod Limits
 pub mod BrokenMaps
 pub mod BrokenFiles
+pub mod WorkedImages

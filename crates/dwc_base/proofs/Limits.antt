@@ -1,5 +1,5 @@
 -- The limits of numbers: what fits 64 bits and what does not, and where bytes are missing.
-use Rattle.std.proofs.Common.{◌≡◌, ℕ, ◌-◌, ◌^◌, pos, negsuc, [], ◌∷◌, Ok, Err, refl}
+use Rattle.std.proofs.Common.{◌≡◌, ◌-◌, ◌^◌, pos, negsuc, [], ◌∷◌, Ok, Err, refl}
 use Rattle.dwc_base.specs.declared.faults.Flaw.TheVariants.{EndsEarly, TooWide}
 use Rattle.dwc_base.specs.declared.records.Endian.TheVariants.{Little, Big}
 use Rattle.dwc_base.specs.Reading.{uleb_at, sleb_at, number_at, text_at, bytes_at, part_at}
