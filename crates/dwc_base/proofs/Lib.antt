@@ -22,3 +22,5 @@ pub mod Limits
 pub mod BrokenMaps
 pub mod BrokenFiles
 pub mod WorkedImages
+pub mod CodeOffsets
+pub mod KeptCases
