@@ -1,13 +1,11 @@
 -- What the tests of a run's clauses share: statuses, sources that tell two files, and the words that name them.
-use Rattle.std.proofs.Common.{◌≡◌, ◌≢◌, ℕ, zero, suc, ◌<◌, ◌≤◌, List, [], ◌∷◌, length, Some, None, true, false, refl, ap, sym, ◌∙◌, arith, inl, inr}
-use Rattle.std.specs.Prelude.{Bool, Option, codes, ◌==◌, ◌||◌, slice_index_or}
+use Rattle.std.proofs.Common.{◌≡◌, ℕ, zero, suc, ◌<◌, List, [], ◌∷◌, length, Some, true, false, refl, sym, ◌∙◌, arith, inl, inr}
+use Rattle.std.specs.Prelude.{Bool, codes, ◌==◌, ◌||◌, slice_index_or}
 use Rattle.std.specs.List.{list_any}
-use Rattle.std.specs.Ordering.{nat_cmp}
-use Rattle.std.specs.Cmp.Lexicographic.{slice_cmp}
 use Rattle.std.specs.FinMap as map
 use Rattle.std.proofs.lemmas.Cmp.{nat_list_cmp_total}
 use Rattle.std.proofs.lemmas.Bool.{eq-eqb, eqb-true, false≢true}
-use Rattle.dwc_cli.specs.Inputs.{Paths, Input, paths_of}
+use Rattle.dwc_cli.specs.Inputs.{Paths, Input}
 use Rattle.dwc_cli.specs.RunStatus.{Files, IsOneOf, Names, LacksFile}
 
 -- ---- statuses
