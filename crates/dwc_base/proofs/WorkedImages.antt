@@ -60,7 +60,7 @@ pub image-by_table : (start : ℕ) (rows : List Row) (end : Option ℕ) (written
 image-by_table start rows end written same within = record { starts = refl; ends = refl; within = within_30 written within; agrees = agree-below (row_in_force written) (row_for_byte rows start function_small) 30 same }
 
 -- rows that say another line at a byte are none
-not_image-at : (byte : ℕ) (start : ℕ) (rows : List Row) (end : Option ℕ) (written : List Row) → nat_lt byte 30 ≡ true → (line_in (row_in_force written byte) ≡ line_in (row_for_byte rows start function_small byte) → ⊥) → IsImage (segment start rows end) start function_small (image written) → ⊥
+pub not_image-at : (byte : ℕ) (start : ℕ) (rows : List Row) (end : Option ℕ) (written : List Row) → nat_lt byte 30 ≡ true → (line_in (row_in_force written byte) ≡ line_in (row_for_byte rows start function_small byte) → ⊥) → IsImage (segment start rows end) start function_small (image written) → ⊥
 not_image-at byte start rows end written inside differ h = differ (ap line_in (h.agrees byte (ltb-true byte 30 inside)))
 
 -- ---- several rows at one offset: the image has the last of them at byte 0, and from the second source on the third line
@@ -180,7 +180,7 @@ merged : (one : Segment) → AreImages (with_lines line_cut) (one ∷ []) → �
 merged one h = (images_of line_cut segments_cut (one ∷ []) read-cut h).1
 
 -- an image of a segment is one in the function that its start is in
-image_in : (q written : Segment) → function_of_segment (function_small ∷ []) q ≡ Some function_small → IsImageOf (function_small ∷ []) q written → IsImage q (start_of_segment q) function_small written
+pub image_in : (q written : Segment) → function_of_segment (function_small ∷ []) q ≡ Some function_small → IsImageOf (function_small ∷ []) q written → IsImage q (start_of_segment q) function_small written
 image_in q written known h =
     let found : function_of_segment (function_small ∷ []) q ≡ Some h.0 = h.1 in
     let same : h.0 ≡ function_small = cc in

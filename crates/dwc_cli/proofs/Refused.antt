@@ -302,7 +302,7 @@ small-unsupported h = unsupported-only read_small refl refl (loaded_causes input
 -- ---- a section that is too large
 
 -- what is read of the small input
-small-read : loaded input_small ≡ Some read_small
+pub small-read : loaded input_small ≡ Some read_small
 unfolding whole_on_literals
 small-read = refl
 
