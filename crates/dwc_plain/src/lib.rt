@@ -2,6 +2,12 @@
 //! programs are compared with.
 #![tactic(auto)]
 
+mod entries;
+mod kept;
 mod rows;
+#[cfg(test)]
+mod tests;
 
+pub use entries::{PlainEntry, PlainFunction, PlainValue};
+pub use kept::kept_entries;
 pub use rows::{row_for_byte, row_in_force};

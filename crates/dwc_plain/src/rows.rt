@@ -51,12 +51,7 @@ fn row_of_source(rows: &[LineRow], start: u64, source: (u64, u64)) -> Option<Lin
 }
 
 // The row of the last source at or below a byte that has one.
-fn row_of_last(
-    rows: &[LineRow],
-    start: u64,
-    sources: &[(u64, u64)],
-    byte: u64,
-) -> Option<LineRow>
+fn row_of_last(rows: &[LineRow], start: u64, sources: &[(u64, u64)], byte: u64) -> Option<LineRow>
     ensures { (t : LineTable) → option_map (contents_in t) result ≡ row_of_last (map (named_row t) rows.now) start (map source_view sources.now) byte }
 {
     let mut found = None;
