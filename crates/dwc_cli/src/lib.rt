@@ -1,4 +1,12 @@
-//! The map file and the program.
+//! The program: the words, the files that they name, and one run from them to the printed text.
 #![tactic(auto)]
 
-pub mod top;
+mod loading;
+mod sink;
+mod source;
+mod words;
+
+pub use loading::{LoadError, load};
+pub use sink::{Sink, write_all};
+pub use source::{Failed, Source};
+pub use words::{Paths, read_words};
