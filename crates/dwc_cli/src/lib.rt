@@ -2,11 +2,14 @@
 #![tactic(auto)]
 
 mod loading;
+mod mem_source;
+mod opened;
 mod sink;
 mod source;
 mod words;
 
 pub use loading::{LoadError, load};
+pub use mem_source::MemSource;
 pub use sink::{Sink, write_all};
 pub use source::{Failed, Source};
 pub use words::{Paths, read_words};
