@@ -1,5 +1,5 @@
 -- A source and a sink in memory, as values.
-use Rattle.std.specs.Prelude.{◌≡◌, ℕ, ◌+◌, ◌-◌, ◌^◌, ◌==◌, min, Bool, List, take, drop, length, string_bytes, String, Vec, if◌then◌else◌, Option, Some, None, option_map, is_some, slice_get}
+use Rattle.std.specs.Prelude.{◌≡◌, ℕ, ◌+◌, ◌-◌, ◌^◌, ◌==◌, min, nat_lt, Bool, ◌&&◌, List, [], ◌++◌, take, drop, length, string_bytes, String, Vec, if◌then◌else◌, Option, Some, None, option_map, is_some, slice_get}
 use Rattle.std.specs.Global.{Global}
 use Rattle.std.specs.List.{list_any}
 use Rattle.std.specs.Ordering.{nat_cmp}
@@ -74,3 +74,34 @@ after_giving s room (Some rest) =
 -- a read into a buffer with so much room gives as many bytes as are left and fit it
 abbrev pub after_read : MemorySource → ℕ → MemorySource
 after_read s room = after_giving s room (reads_from s)
+
+-- ---- the sink
+
+pub record MemorySink : Type 0 where
+  pub written : List ℕ
+  pub room : ℕ
+  pub most : ℕ
+  pub failing : List ℕ
+  pub calls : ℕ
+  pub faults : ℕ
+
+abbrev pub memory_sink : ℕ → ℕ → List ℕ → MemorySink
+memory_sink room most failing = record { written = []; room = room; most = most; failing = failing; calls = 0; faults = 0 }
+
+-- how many bytes of a piece fit: at most `most`, and `room` in all
+abbrev pub fitting : MemorySink → List ℕ → ℕ
+fitting s piece = min (length piece) (min s.most (s.room - length s.written))
+
+-- how many bytes of a piece the next call takes, none where it fails: it is to fail, or none of some bytes fit
+abbrev pub takes : MemorySink → List ℕ → Option ℕ
+takes s piece =
+    if next_fails s.calls s.failing
+    then None
+    else (if nat_lt 0 (length piece) && (fitting s piece == 0) then None else Some (fitting s piece))
+
+abbrev pub after_taking : MemorySink → List ℕ → Option ℕ → MemorySink
+after_taking s piece None = record s { calls = one_more s.calls; faults = one_more s.faults }
+after_taking s piece (Some n) = record s { written = s.written ++ take n piece; calls = one_more s.calls }
+
+abbrev pub after_write : MemorySink → List ℕ → MemorySink
+after_write s piece = after_taking s piece (takes s piece)

@@ -1,7 +1,9 @@
 //! The program: the words, the files that they name, and one run from them to the printed text.
 #![tactic(auto)]
 
+mod calls;
 mod loading;
+mod mem_sink;
 mod mem_source;
 mod opened;
 mod sink;
@@ -9,6 +11,7 @@ mod source;
 mod words;
 
 pub use loading::{LoadError, load};
+pub use mem_sink::MemSink;
 pub use mem_source::MemSource;
 pub use sink::{Sink, write_all};
 pub use source::{Failed, Source};

@@ -6,8 +6,9 @@ ghost use Rattle.std.specs.Ordering.{nat_cmp};
 ghost use Rattle.std.specs.Cmp.Lexicographic.{slice_cmp};
 ghost use Rattle.std.specs.FinMap as finite;
 ghost use Rattle.dwc_cli.specs.Devices.{HasCause, Takes, Opens, FailsWhileShut};
-ghost use Rattle.dwc_cli.specs.Memory.{one_more, next_fails, file_entry, files_of, left_of, at_front, GivesFront};
+ghost use Rattle.dwc_cli.specs.Memory.{file_entry, files_of, left_of, at_front, GivesFront};
 
+use super::calls::count_call;
 use super::opened::Opened;
 use super::source::{Failed, Source};
 use std::marker::Model;
@@ -103,16 +104,6 @@ impl Source for MemSource {
         self.taken = self.taken.saturating_add(count as u64);
         Ok(count)
     }
-}
-
-/// Counts a call, and tells whether its number is among those that fail.
-pub(crate) fn count_call(calls: &mut u64, failing: &[u64]) -> bool
-    ensures fails { result ≡ next_fails calls.old failing.now }
-    ensures calls { calls.new ≡ one_more calls.old }
-{
-    *calls = calls.saturating_add(1);
-    let number = *calls;
-    failing.iter().any(|failing| *failing == number)
 }
 
 /// The number of the first file with a path.
