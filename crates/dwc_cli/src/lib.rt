@@ -2,6 +2,7 @@
 #![tactic(auto)]
 
 mod calls;
+mod host;
 mod loading;
 mod mem_sink;
 mod mem_source;
@@ -10,6 +11,7 @@ mod sink;
 mod source;
 mod words;
 
+pub use host::{HostSink, HostSource};
 pub use loading::{LoadError, load};
 pub use mem_sink::MemSink;
 pub use mem_source::MemSource;

@@ -36,7 +36,12 @@ impl MemSink {
 
     /// A sink with room for `room` bytes in all, of which a call takes at most `most`. The room is reserved here, and never
     /// grows. The calls with the numbers in `failing`, counted from 1, fail.
-    pub fn new(alloc: Global, room: usize, most: usize, failing: Vec<u64>) -> Result<MemSink, AllocError>
+    pub fn new(
+        alloc: Global,
+        room: usize,
+        most: usize,
+        failing: Vec<u64>,
+    ) -> Result<MemSink, AllocError>
         ensures { IfOk result (λ sink. sink ≡ memory_sink room most failing.items) }
     {
         let taken = Vec::with_capacity(alloc, room)?;
@@ -73,10 +78,7 @@ impl Sink for MemSink {
         ensures takes { result_ok result ≡ takes self.old bytes.now }
     {
         let fails = count_call(&mut self.calls, &self.failing);
-        let count = bytes
-            .len()
-            .min(self.most)
-            .min(self.room - self.taken.len());
+        let count = bytes.len().min(self.most).min(self.room - self.taken.len());
         if fails || (!bytes.is_empty() && count == 0) {
             self.faults = self.faults.saturating_add(1);
             return Err(Failed);
