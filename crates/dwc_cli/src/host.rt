@@ -2,8 +2,8 @@
 ghost use Rattle.std.specs.Prelude.{None};
 ghost use Rattle.std.specs.Io.{ReadsAtMost};
 
-use super::sink::Sink;
-use super::source::{Failed, Source};
+use crate::sink::Sink;
+use crate::source::{Failed, Source};
 use std::fs;
 use std::io::Read;
 use std::rt::Files;

@@ -3,18 +3,23 @@
 
 mod calls;
 mod host;
+mod json_fields;
 mod loading;
+mod map_file;
 mod mem_sink;
 mod mem_source;
 mod opened;
+mod printing;
 mod sink;
 mod source;
 mod words;
 
 pub use host::{HostSink, HostSource};
 pub use loading::{LoadError, load};
+pub use map_file::{MapFile, MapModule, Names, Target, map_of_counts};
 pub use mem_sink::MemSink;
 pub use mem_source::MemSource;
+pub use printing::printed;
 pub use sink::{Sink, write_all};
 pub use source::{Failed, Source};
 pub use words::{Paths, read_words};

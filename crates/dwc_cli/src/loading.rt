@@ -3,7 +3,7 @@ ghost use Rattle.std.specs.Prelude.{◌≡◌, ◌<◌, ◌≤◌, ◌↔◌, le
 ghost use Rattle.dwc_cli.specs.RunStatus.{Rose, most_bytes};
 ghost use Rattle.dwc_cli.specs.Edge.{IsFile, IsLongFile};
 
-use super::source::{Failed, Source};
+use crate::source::{Failed, Source};
 use std::alloc::{AllocError, Global};
 
 /// The most bytes that are read of one file: 2 ^ 28.

@@ -3,9 +3,9 @@ ghost use Rattle.std.specs.Prelude.{◌≡◌, Some, IfOk};
 ghost use Rattle.std.specs.Result.{result_ok};
 ghost use Rattle.dwc_cli.specs.Devices.{HasCause, Accepts};
 
-use super::calls::count_call;
-use super::sink::Sink;
-use super::source::Failed;
+use crate::calls::count_call;
+use crate::sink::Sink;
+use crate::source::Failed;
 use std::alloc::{AllocError, Global};
 use std::marker::Model;
 

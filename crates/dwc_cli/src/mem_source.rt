@@ -8,9 +8,9 @@ ghost use Rattle.std.specs.FinMap as finite;
 ghost use Rattle.dwc_cli.specs.Devices.{HasCause, Takes, Opens, FailsWhileShut};
 ghost use Rattle.dwc_cli.specs.Memory.{file_entry, files_of, left_of, at_front, GivesFront};
 
-use super::calls::count_call;
-use super::opened::Opened;
-use super::source::{Failed, Source};
+use crate::calls::count_call;
+use crate::opened::Opened;
+use crate::source::{Failed, Source};
 use std::marker::Model;
 
 /// A source whose files are in memory, and that fails at calls of one's choice. A read gives as many bytes as there are

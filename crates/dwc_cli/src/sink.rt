@@ -4,7 +4,7 @@ ghost use Rattle.dwc_cli.specs.Devices.{HasCause, Accepts};
 ghost use Rattle.dwc_cli.specs.RunStatus.{Appended};
 ghost use Rattle.dwc_cli.specs.Edge.{AppendsFront};
 
-use super::source::Failed;
+use crate::source::Failed;
 
 /// What takes bytes.
 pub trait Sink {
