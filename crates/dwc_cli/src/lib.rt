@@ -2,6 +2,8 @@
 #![tactic(auto)]
 
 mod calls;
+mod failure;
+mod front;
 mod host;
 mod json_fields;
 mod loading;
@@ -10,8 +12,10 @@ mod mem_sink;
 mod mem_source;
 mod opened;
 mod printing;
+mod refusal;
 mod sink;
 mod source;
+mod status;
 mod words;
 
 pub use host::{HostSink, HostSource};
@@ -22,4 +26,5 @@ pub use mem_source::MemSource;
 pub use printing::printed;
 pub use sink::{Sink, write_all};
 pub use source::{Failed, Source};
+pub use status::Status;
 pub use words::{Paths, read_words};

@@ -9,6 +9,7 @@ ghost use Rattle.dwc_cli.specs.Devices.{HasCause, Takes, Opens, FailsWhileShut};
 ghost use Rattle.dwc_cli.specs.Memory.{file_entry, files_of, left_of, at_front, GivesFront};
 
 use crate::calls::count_call;
+use crate::front::copy_front;
 use crate::opened::Opened;
 use crate::source::{Failed, Source};
 use std::marker::Model;
@@ -169,14 +170,4 @@ fn from_place(bytes: &[u8], place: usize) -> &[u8]
     } else {
         &[]
     }
-}
-
-/// Copies the front of some bytes to the front of a buffer, as far as there is room, and tells how many.
-pub(crate) fn copy_front(bytes: &[u8], buf: &mut [u8]) -> usize
-    ensures count { result ≡ min (length buf.old) (length bytes.now) }
-    ensures bytes { take result buf.new ≡ take result bytes.now }
-{
-    let count = buf.len().min(bytes.len());
-    buf[..count].copy_from_slice(&bytes[..count]);
-    count
 }
