@@ -1,0 +1,4 @@
+pub mod Faults
+pub mod SectionsSeen
+pub mod Views
+pub mod Named
