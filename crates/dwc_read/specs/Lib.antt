@@ -1,4 +1,5 @@
 pub mod Faults
 pub mod SectionsSeen
-pub mod Views
 pub mod Named
+pub mod Headers
+pub mod Views

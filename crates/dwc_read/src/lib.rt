@@ -3,7 +3,12 @@
 #![tactic(auto)]
 
 mod fault;
+mod header;
 mod sections;
+mod unit;
+mod units;
 
 pub use fault::ReadFault;
 pub use sections::Sections;
+pub use unit::Unit;
+pub use units::Units;
