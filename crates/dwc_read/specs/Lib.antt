@@ -1,5 +1,6 @@
 pub mod Faults
 pub mod SectionsSeen
 pub mod Named
+pub mod Sizes
 pub mod Headers
 pub mod Views

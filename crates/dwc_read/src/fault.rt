@@ -20,7 +20,7 @@ pub enum ReadFault {
     /// What stands at `offset` is of a kind that is refused.
     #[error("Unsupported {what:?} {offset}")]
     Unsupported { what: Kind, offset: u64 },
-    #[error("OutOfMemory")]
+    #[error("out of memory")]
     OutOfMemory,
 }
 

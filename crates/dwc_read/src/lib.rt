@@ -4,6 +4,7 @@
 
 mod fault;
 mod header;
+mod number;
 mod sections;
 mod unit;
 mod units;

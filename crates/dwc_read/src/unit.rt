@@ -1,9 +1,11 @@
 //! A unit of `.debug_info`.
-ghost use Rattle.std.specs.Prelude.{◌≡◌, ◌<◌, ◌^◌, length};
+ghost use Rattle.std.specs.Prelude.{◌≡◌, ◌<◌, ◌^◌, length, IsTrue};
+ghost use Rattle.dwc_read.specs.Sizes.{is_field_size};
 
 use crate::Sections;
 use crate::header::Header;
-use dwc_base::{Encoding, Endian, Relocations, SectionName};
+use crate::number::address;
+use dwc_base::{Address, Cursor, Encoding, Endian, Relocations, SectionName};
 use std::marker::Model;
 
 /// A unit of `.debug_info`: its header, and the sections that it stands in.
@@ -26,6 +28,7 @@ impl<'d> Model for Unit<'d> {
 
 impl<'d> Unit<'d> {
     ghost use Rattle.dwc_read.specs.Headers.{header_view};
+    ghost use Rattle.dwc_read.specs.Views.{field_at};
 
     // The unit of a header.
     pub fn new(sections: Sections<'d>, header: Header<'d>) -> Unit<'d>
@@ -103,5 +106,20 @@ impl<'d> Unit<'d> {
         ensures { result ≡ self.now.sections.relocations name }
     {
         self.sections.relocations(name)
+    }
+
+    /// The address that a field of 1, 2, 4 or 8 bytes of a section holds: a function's where a relocation of that size stands
+    /// there, else the number that the bytes spell. None where the field passes the section's end.
+    pub fn field(&self, name: SectionName, offset: u64, size: u8) -> Option<Address>
+        requires { IsTrue (is_field_size size) }
+        ensures { result ≡ field_at self.now.sections name offset size }
+    {
+        let bytes = self.sections.bytes(name);
+        if offset >= bytes.len() as u64 {
+            return None;
+        }
+        let relocations = self.sections.relocations(name);
+        let mut cursor = Cursor::at(bytes, offset as u32, self.sections.order());
+        address(&relocations, size, &mut cursor).ok()
     }
 }
