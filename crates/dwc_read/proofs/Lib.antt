@@ -1,2 +1,3 @@
+pub mod FailsLaws
 pub mod NamedLaws
 pub mod NumberLaws

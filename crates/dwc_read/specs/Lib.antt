@@ -2,5 +2,6 @@ pub mod Faults
 pub mod SectionsSeen
 pub mod Named
 pub mod Sizes
+pub mod Tables
 pub mod Headers
 pub mod Views

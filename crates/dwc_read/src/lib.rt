@@ -2,6 +2,7 @@
 //! entries of a unit with the values of their attributes.
 #![tactic(auto)]
 
+mod abbreviation;
 mod fault;
 mod header;
 mod number;
