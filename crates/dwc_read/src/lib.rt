@@ -5,12 +5,15 @@
 mod abbreviation;
 mod fault;
 mod header;
+mod name;
 mod number;
 mod sections;
 mod unit;
 mod units;
+mod value;
 
 pub use fault::ReadFault;
 pub use sections::Sections;
 pub use unit::Unit;
 pub use units::Units;
+pub use value::AttributeValue;
