@@ -4,5 +4,6 @@ pub mod Named
 pub mod Sizes
 pub mod Tables
 pub mod ValuesSeen
+pub mod Forms
 pub mod Headers
 pub mod Views

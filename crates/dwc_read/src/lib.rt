@@ -4,6 +4,7 @@
 
 mod abbreviation;
 mod fault;
+mod form;
 mod header;
 mod name;
 mod number;
