@@ -8,7 +8,7 @@ use Rattle.dwc_base.specs.declared.section_name.SectionName.{SectionName}
 use Rattle.dwc_base.specs.Reading.{Unread, number, bytes_at, number_at}
 use Rattle.dwc_base.specs.Sections.{Sections, section_from, address_at}
 use Rattle.dwc_base.proofs.Steps.{bytes_at-short, number_at-no_bytes}
-use Rattle.dwc_read.specs.Sizes.{is_field_size}
+use Rattle.dwc_read.specs.FieldSizes.{is_field_size}
 use Rattle.dwc_read.specs.Views.{field_at}
 
 -- the number that three bytes spell is that of their list

@@ -5,7 +5,7 @@ use Rattle.dwc_base.specs.declared.faults.What.TheVariants.{UnitHeader as UnitHe
 use Rattle.dwc_base.specs.Sections.{Fault, fault_of}
 use Rattle.dwc_base.specs.Units.{UnitHeader}
 use Rattle.dwc_read.specs.declared.header.Header.{Header}
-use Rattle.dwc_read.specs.declared.header.HeaderFlaw.{HeaderFlaw}
+use Rattle.dwc_read.specs.declared.headers.HeaderFlaw.{HeaderFlaw}
 
 abbrev pub header_view : Header → UnitHeader
 header_view h = record { offset = h.offset; end = h.end; version = h.version; address_size = h.address_size; unit_type = h.unit_type; abbreviations = h.abbreviations; dwo_id = h.dwo_id; content = h.content }

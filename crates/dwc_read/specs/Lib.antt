@@ -1,6 +1,7 @@
 pub mod Faults
 pub mod SectionsSeen
 pub mod Named
+pub mod FieldSizes
 pub mod Sizes
 pub mod Tables
 pub mod ValuesSeen

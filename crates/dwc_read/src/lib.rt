@@ -6,6 +6,7 @@ mod abbreviation;
 mod fault;
 mod form;
 mod header;
+mod headers;
 mod name;
 mod number;
 mod sections;

@@ -4,7 +4,8 @@ ghost use Rattle.dwc_base.specs.Cursors.{Gives};
 ghost use Rattle.dwc_base.specs.Reading.{number_at, number as spelled};
 ghost use Rattle.dwc_base.specs.Sections.{address_at};
 ghost use Rattle.dwc_base.specs.Values.{sized_number_at};
-ghost use Rattle.dwc_read.specs.Sizes.{is_field_size, size_view};
+ghost use Rattle.dwc_read.specs.FieldSizes.{is_field_size};
+ghost use Rattle.dwc_read.specs.Sizes.{size_view};
 
 use dwc_base::{Address, Cursor, Endian, Flaw, Relocations};
 

@@ -1,6 +1,6 @@
 //! A unit of `.debug_info`.
 ghost use Rattle.std.specs.Prelude.{◌≡◌, ◌<◌, ◌^◌, length, IsTrue};
-ghost use Rattle.dwc_read.specs.Sizes.{is_field_size};
+ghost use Rattle.dwc_read.specs.FieldSizes.{is_field_size};
 
 use crate::Sections;
 use crate::header::Header;
@@ -13,9 +13,12 @@ use std::marker::Model;
 pub struct Unit<'d> {
     sections: Sections<'d>,
     header: Header<'d>,
+    relocations: Relocations<'d>,
 }
 
 impl<'d> Model for Unit<'d> {
+    ghost use Rattle.std.specs.Prelude.{◌≡◌};
+    ghost use Rattle.dwc_base.specs.declared.section_name.SectionName.TheVariants.{Info};
     ghost use Rattle.dwc_read.specs.Views.{UnitView, unit_code};
     ghost use Rattle.dwc_read.specs.Headers.{header_view};
 
@@ -24,6 +27,8 @@ impl<'d> Model for Unit<'d> {
     ghost coded = { unit_code };
 
     ghost view = { λ u. record { sections = u.sections; header = header_view u.header } };
+
+    ghost invariant = { λ u. u.relocations ≡ u.sections.relocations Info };
 }
 
 impl<'d> Unit<'d> {
@@ -34,7 +39,12 @@ impl<'d> Unit<'d> {
     pub fn new(sections: Sections<'d>, header: Header<'d>) -> Unit<'d>
         ensures { result ≡ record { sections = sections.entry; header = header_view header.entry } }
     {
-        Unit { sections, header }
+        let relocations = sections.relocations(SectionName::Info);
+        Unit {
+            sections,
+            header,
+            relocations,
+        }
     }
 
     /// The same unit once more.
@@ -44,6 +54,7 @@ impl<'d> Unit<'d> {
         Unit {
             sections: self.sections.again(),
             header: self.header.again(),
+            relocations: self.relocations.again(),
         }
     }
 

@@ -4,7 +4,7 @@ ghost use Rattle.dwc_base.specs.Units.{unit_headers};
 ghost use Rattle.dwc_read.specs.Faults.{GivesNextOrMemory};
 
 use crate::fault::reported;
-use crate::header::next_header;
+use crate::headers::next_header;
 use crate::{ReadFault, Sections, Unit};
 use dwc_base::{Cursor, SectionName, What};
 use std::alloc::Global;
