@@ -5,6 +5,7 @@
 mod abbreviation;
 mod fault;
 mod form;
+mod formed;
 mod header;
 mod headers;
 mod name;

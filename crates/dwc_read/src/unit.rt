@@ -133,4 +133,26 @@ impl<'d> Unit<'d> {
         let mut cursor = Cursor::at(bytes, offset as u32, self.sections.order());
         address(&relocations, size, &mut cursor).ok()
     }
+
+    // The unit's version of DWARF.
+    pub fn version(&self) -> u16
+        ensures { result ≡ self.now.header.version }
+    {
+        self.header.version
+    }
+
+    // The bytes of an address.
+    pub fn address_size(&self) -> u8
+        ensures value { result ≡ self.now.header.address_size }
+        ensures known { IsTrue (is_field_size result) }
+    {
+        self.header.address_size
+    }
+
+    // The function relocations in `.debug_info`.
+    pub fn info_relocations(&self) -> &Relocations<'d>
+        ensures { result.now ≡ self.now.sections.relocations SectionName.Info }
+    {
+        &self.relocations
+    }
 }
