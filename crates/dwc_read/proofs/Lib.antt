@@ -1,3 +1,4 @@
+pub mod FormLaws
 pub mod FailsLaws
 pub mod NamedLaws
 pub mod NumberLaws

@@ -3,6 +3,7 @@
 #![tactic(auto)]
 
 mod abbreviation;
+mod attribute;
 mod fault;
 mod form;
 mod formed;

@@ -1,0 +1,63 @@
+//! The attributes of an entry. (DWARF 4 and 5, section 7.5.4.)
+ghost use Rattle.std.specs.Prelude.{◌≡◌, length};
+ghost use Rattle.dwc_base.specs.Cursors.{Gives};
+ghost use Rattle.dwc_base.specs.Values.{form_behind as code_behind, form_code_at, value_at};
+ghost use Rattle.dwc_read.specs.Tables.{spec_view};
+ghost use Rattle.dwc_read.specs.ValuesSeen.{value_view};
+
+use crate::abbreviation::AttributeSpec;
+use crate::form::form_named;
+use crate::formed::formed_value;
+use crate::{AttributeValue, Unit};
+use dwc_base::constants::{DW_FORM_implicit_const, DW_FORM_indirect};
+use dwc_base::{Cursor, Flaw};
+
+// The code of the form behind `indirect`, which may stand there again.
+#[tactic(auto, unfolding(dwc_base::specs::Values::form_behind))]
+fn form_behind(cursor: &mut Cursor<'_>) -> Result<u64, Flaw>
+    ensures { Gives (λ x. x) (code_behind (length cursor.old.left) cursor.old) cursor.new result }
+{
+    for _ in 0..cursor.left() {
+        let code = cursor.uleb()?;
+        if code == u64::from(DW_FORM_indirect) {
+            continue;
+        }
+        if code == u64::from(DW_FORM_implicit_const) {
+            return Err(Flaw::Malformed);
+        }
+        return Ok(code);
+    }
+    Err(Flaw::Malformed)
+}
+
+// The code of an attribute's form.
+#[tactic(auto, unfolding(dwc_base::specs::Values::form_code_at))]
+fn form_code(spec: AttributeSpec, cursor: &mut Cursor<'_>) -> Result<u64, Flaw>
+    ensures { Gives (λ x. x) (form_code_at (spec_view spec) cursor.old) cursor.new result }
+{
+    if spec.form == u64::from(DW_FORM_indirect) {
+        Ok(form_behind(cursor)?)
+    } else {
+        Ok(spec.form)
+    }
+}
+
+// The value of an attribute.
+#[tactic(auto, unfolding(dwc_base::specs::Values::value_at), using(crate::proofs::FormLaws::form_of_large))]
+fn value<'d>(
+    unit: &Unit<'d>,
+    spec: AttributeSpec,
+    cursor: &mut Cursor<'d>,
+) -> Result<AttributeValue<'d>, Flaw>
+    ensures { Gives value_view (value_at unit.now.sections unit.now.header (spec_view spec) cursor.old) cursor.new result }
+{
+    let code = form_code(spec, cursor)?;
+    if code > 65535 {
+        return Err(Flaw::Malformed);
+    }
+    let code = code as u16;
+    let Some(form) = form_named(code) else {
+        return Err(Flaw::Malformed);
+    };
+    Ok(formed_value(unit, spec, code, form, cursor)?)
+}
