@@ -2,3 +2,4 @@ pub mod FormLaws
 pub mod FailsLaws
 pub mod NamedLaws
 pub mod NumberLaws
+pub mod CodeLaws

@@ -4,6 +4,7 @@ pub mod Named
 pub mod FieldSizes
 pub mod Sizes
 pub mod Tables
+pub mod Codes
 pub mod ValuesSeen
 pub mod Forms
 pub mod Headers

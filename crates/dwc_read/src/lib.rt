@@ -12,6 +12,7 @@ mod headers;
 mod name;
 mod number;
 mod sections;
+mod table;
 mod unit;
 mod units;
 mod value;
