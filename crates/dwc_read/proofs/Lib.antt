@@ -3,3 +3,5 @@ pub mod FailsLaws
 pub mod NamedLaws
 pub mod NumberLaws
 pub mod CodeLaws
+pub mod TableLaws
+pub mod AttributeLaws

@@ -1,7 +1,11 @@
 -- What a refusal of a reader says.
-use Rattle.std.specs.Prelude.{◌≡◌, Option, Some, None, Result, Ok, Err}
+use Rattle.std.specs.Prelude.{◌≡◌, ℕ, Option, Some, None, Result, Ok, Err}
 use Rattle.dwc_base.specs.Listing.{Listing, no_items, only_fault, with_first}
-use Rattle.dwc_base.specs.Sections.{Fault, unreadable, unsupported}
+use Rattle.dwc_base.specs.Sections.{Fault, fault_of, unreadable, unsupported}
+use Rattle.dwc_base.specs.declared.section_name.SectionName.{SectionName}
+use Rattle.dwc_base.specs.declared.faults.What.{What}
+use Rattle.dwc_base.specs.declared.faults.NotRead.{NotRead}
+use Rattle.dwc_base.specs.declared.faults.NotRead.TheVariants as memory
 use Rattle.dwc_read.specs.declared.fault.ReadFault.{ReadFault}
 use Rattle.dwc_read.specs.declared.fault.ReadFault.TheVariants.{Read, Unsupported, OutOfMemory}
 
@@ -33,3 +37,8 @@ Refuses read (Some fault) = read ≡ Err fault
 abbrev pub GivesOrFault : {X A : Type 0} → (X → A) → Result A Fault → Result X ReadFault → Type 0
 GivesOrFault view read (Ok x) = read ≡ Ok (view x)
 GivesOrFault view read (Err e) = Refuses read (fault_seen e)
+
+-- the fault of what is not read, at the place that it is reported at; want of memory is none
+abbrev pub fault_not_read : What → SectionName → ℕ → NotRead → Option Fault
+fault_not_read what section offset memory.OutOfMemory = None
+fault_not_read what section offset (memory.Flawed flaw) = Some (fault_of what section offset flaw)

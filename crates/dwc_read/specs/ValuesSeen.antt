@@ -1,4 +1,5 @@
 -- What contracts see of the values of attributes.
+use Rattle.std.specs.Prelude.{ℕ}
 use Rattle.dwc_base.specs.Values as value
 use Rattle.dwc_read.specs.declared.value.AttributeValue.{AttributeValue}
 use Rattle.dwc_read.specs.declared.value.AttributeValue.TheVariants.{Addr, AddrIndex, Constant, Flag, Block, Exprloc, Text, TextRef, LineRef, RangeRef, RangeIndex, LocRef, LocIndex, UnitRef, InfoRef, Dropped}
@@ -20,3 +21,7 @@ value_view (LocIndex n) = value.location_index n
 value_view (UnitRef n) = value.unit_reference n
 value_view (InfoRef n) = value.info_reference n
 value_view Dropped = value.dropped
+
+-- an attribute of an entry: its name and its value
+abbrev pub attribute_view : ℕ × AttributeValue → ℕ × value.Value
+attribute_view a = (a.0, value_view a.1)

@@ -1,16 +1,17 @@
 //! The attributes of an entry. (DWARF 4 and 5, section 7.5.4.)
-ghost use Rattle.std.specs.Prelude.{◌≡◌, length};
-ghost use Rattle.dwc_base.specs.Cursors.{Gives};
+ghost use Rattle.std.specs.Prelude.{◌≡◌, map, length};
+ghost use Rattle.dwc_base.specs.Cursors.{Gives, GivesOrMemory};
+ghost use Rattle.dwc_base.specs.Entries.{attributes_at};
 ghost use Rattle.dwc_base.specs.Values.{form_behind as code_behind, form_code_at, value_at};
 ghost use Rattle.dwc_read.specs.Tables.{spec_view};
-ghost use Rattle.dwc_read.specs.ValuesSeen.{value_view};
+ghost use Rattle.dwc_read.specs.ValuesSeen.{value_view, attribute_view};
 
 use crate::abbreviation::AttributeSpec;
 use crate::form::form_named;
 use crate::formed::formed_value;
 use crate::{AttributeValue, Unit};
 use dwc_base::constants::{DW_FORM_implicit_const, DW_FORM_indirect};
-use dwc_base::{Cursor, Flaw};
+use dwc_base::{Cursor, Flaw, NotRead};
 
 // The code of the form behind `indirect`, which may stand there again.
 #[tactic(auto, unfolding(dwc_base::specs::Values::form_behind))]
@@ -60,4 +61,21 @@ fn value<'d>(
         return Err(Flaw::Malformed);
     };
     Ok(formed_value(unit, spec, code, form, cursor)?)
+}
+
+// The values of a declaration's attributes, one after another.
+pub fn attributes<'d>(
+    unit: &Unit<'d>,
+    specs: &[AttributeSpec],
+    cursor: &mut Cursor<'d>,
+    found: &mut Vec<(u16, AttributeValue<'d>)>,
+) -> Result<(), NotRead>
+    ensures { GivesOrMemory (λ _. map attribute_view found.new.items) (attributes_at unit.now.sections unit.now.header (map spec_view specs.now) cursor.old) cursor.new result }
+{
+    found.clear();
+    for spec in specs {
+        let value = value(unit, *spec, cursor)?;
+        found.push((spec.name, value))?;
+    }
+    Ok(())
 }

@@ -1,10 +1,10 @@
 //! Why a reader answers nothing.
 ghost use Rattle.std.specs.Prelude.{◌≡◌, Some};
 ghost use Rattle.dwc_base.specs.Sections.{fault_of};
-ghost use Rattle.dwc_read.specs.Faults.{fault_seen};
+ghost use Rattle.dwc_read.specs.Faults.{fault_seen, fault_not_read};
 
-use dwc_base::{Flaw, Kind, SectionName, What};
-use std::alloc::AllocFailed;
+use dwc_base::{Flaw, Kind, NotRead, SectionName, What};
+use std::alloc::{AllocError, AllocFailed};
 use thiserror::Error;
 
 /// Why a reader answers nothing.
@@ -32,6 +32,27 @@ impl<T: Drop> From<AllocFailed<T>> for ReadFault {
 
     fn from(_: AllocFailed<T>) -> ReadFault {
         ReadFault::OutOfMemory
+    }
+}
+
+impl From<AllocError> for ReadFault {
+    ghost use Rattle.std.specs.Prelude.{◌≡◌};
+    ghost use Rattle.dwc_read.specs.declared.fault.ReadFault.TheVariants.{OutOfMemory};
+
+    ghost from_gives = { λ _ e. e ≡ OutOfMemory };
+
+    fn from(_: AllocError) -> ReadFault {
+        ReadFault::OutOfMemory
+    }
+}
+
+// The refusal of what is not read, at the place that it is reported at.
+pub fn refusal(e: NotRead, what: What, section: SectionName, offset: u64) -> ReadFault
+    ensures { fault_seen result ≡ fault_not_read what section offset e }
+{
+    match e {
+        NotRead::OutOfMemory => ReadFault::OutOfMemory,
+        NotRead::Flawed(flaw) => reported(flaw, what, section, offset),
     }
 }
 

@@ -2,11 +2,15 @@
 ghost use Rattle.std.specs.Prelude.{◌≡◌, ℕ, map, option_map, slice_get, IfOk};
 ghost use Rattle.std.specs.Ordering.{nat_cmp};
 ghost use Rattle.std.specs.BTreeMap.{get};
-ghost use Rattle.dwc_base.specs.Abbreviations.{declaration_of};
+ghost use Rattle.dwc_base.specs.Abbreviations.{declaration_of, abbreviation_table};
+ghost use Rattle.dwc_read.specs.Faults.{GivesOrFault};
 ghost use Rattle.dwc_read.specs.Codes.{counts_from, place_from};
 ghost use Rattle.dwc_read.specs.Tables.{declaration_view};
 
-use crate::abbreviation::Declaration;
+use crate::abbreviation::{Declaration, declarations};
+use crate::fault::refusal;
+use crate::{ReadFault, Sections};
+use dwc_base::{Cursor, SectionName, What};
 use std::alloc::{AllocError, Global};
 use std::collections::BTreeMap;
 use std::marker::Model;
@@ -100,4 +104,19 @@ fn places_of(alloc: Global, declarations: &[Declaration]) -> Result<BTreeMap<u64
         places.insert(declarations[k].code, k)?;
     }
     Ok(places)
+}
+
+// The table at an offset of `.debug_abbrev`.
+pub fn table_at(alloc: Global, sections: &Sections<'_>, offset: u32) -> Result<Table, ReadFault>
+    ensures { GivesOrFault (λ t. t) (abbreviation_table sections.now offset) result }
+{
+    let bytes = sections.bytes(SectionName::Abbrev);
+    let mut cursor = Cursor::at(bytes, offset, sections.order());
+    match declarations(alloc, &mut cursor) {
+        Ok(declarations) => Ok(Table::new(alloc, declarations)?),
+        Err(e) => {
+            let place = u64::from(offset);
+            Err(refusal(e, What::Abbreviation, SectionName::Abbrev, place))
+        }
+    }
 }
