@@ -5,3 +5,4 @@ pub mod NumberLaws
 pub mod CodeLaws
 pub mod TableLaws
 pub mod AttributeLaws
+pub mod HeaderLaws

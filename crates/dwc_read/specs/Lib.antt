@@ -7,5 +7,6 @@ pub mod Tables
 pub mod Codes
 pub mod ValuesSeen
 pub mod Forms
+pub mod EntriesSeen
 pub mod Headers
 pub mod Views

@@ -1,5 +1,6 @@
 -- What contracts see of the values of attributes.
-use Rattle.std.specs.Prelude.{ℕ}
+use Rattle.std.specs.Prelude.{ℕ, ◌==◌, List, Option, option_map}
+use Rattle.std.specs.List.{find}
 use Rattle.dwc_base.specs.Values as value
 use Rattle.dwc_read.specs.declared.value.AttributeValue.{AttributeValue}
 use Rattle.dwc_read.specs.declared.value.AttributeValue.TheVariants.{Addr, AddrIndex, Constant, Flag, Block, Exprloc, Text, TextRef, LineRef, RangeRef, RangeIndex, LocRef, LocIndex, UnitRef, InfoRef, Dropped}
@@ -25,3 +26,7 @@ value_view Dropped = value.dropped
 -- an attribute of an entry: its name and its value
 abbrev pub attribute_view : ℕ × AttributeValue → ℕ × value.Value
 attribute_view a = (a.0, value_view a.1)
+
+-- the first value of a name
+abbrev pub first_value : ℕ → List (ℕ × value.Value) → Option value.Value
+first_value name attributes = option_map (λ a. a.1) (find (λ a. a.0 == name) attributes)

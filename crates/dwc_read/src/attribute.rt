@@ -1,10 +1,10 @@
 //! The attributes of an entry. (DWARF 4 and 5, section 7.5.4.)
-ghost use Rattle.std.specs.Prelude.{◌≡◌, map, length};
+ghost use Rattle.std.specs.Prelude.{◌≡◌, map, option_map, length};
 ghost use Rattle.dwc_base.specs.Cursors.{Gives, GivesOrMemory};
 ghost use Rattle.dwc_base.specs.Entries.{attributes_at};
 ghost use Rattle.dwc_base.specs.Values.{form_behind as code_behind, form_code_at, value_at};
 ghost use Rattle.dwc_read.specs.Tables.{spec_view};
-ghost use Rattle.dwc_read.specs.ValuesSeen.{value_view, attribute_view};
+ghost use Rattle.dwc_read.specs.ValuesSeen.{value_view, attribute_view, first_value};
 
 use crate::abbreviation::AttributeSpec;
 use crate::form::form_named;
@@ -78,4 +78,19 @@ pub fn attributes<'d>(
         found.push((spec.name, value))?;
     }
     Ok(())
+}
+
+// The first value of a name.
+pub fn first_of_name<'d>(
+    attributes: &[(u16, AttributeValue<'d>)],
+    name: u16,
+) -> Option<AttributeValue<'d>>
+    ensures { option_map value_view result ≡ first_value name (map attribute_view attributes.now) }
+{
+    for attribute in attributes {
+        if attribute.0 == name {
+            return Some(attribute.1);
+        }
+    }
+    None
 }

@@ -1,5 +1,5 @@
 //! A unit's header.
-ghost use Rattle.std.specs.Prelude.{◌≡◌, IsTrue};
+ghost use Rattle.std.specs.Prelude.{◌≡◌, ◌<◌, ◌^◌, length, IsTrue};
 ghost use Rattle.dwc_read.specs.FieldSizes.{is_field_size};
 
 use dwc_base::Cursor;
@@ -17,6 +17,7 @@ pub struct Header<'d> {
     pub dwo_id: Option<u64>,
     pub content: Cursor<'d>,
     ghost known_size: { IsTrue (is_field_size address_size) },
+    ghost short: { length content.left < 2 ^ 32 },
 }
 
 impl<'d> Header<'d> {

@@ -1,5 +1,5 @@
 //! Reads unit headers. (DWARF 4 and 5, section 7.5.1; initial lengths, sections 7.2.2 and 7.4.)
-ghost use Rattle.std.specs.Prelude.{◌≡◌};
+ghost use Rattle.std.specs.Prelude.{◌≡◌, ◌<◌, ◌≤◌, ◌^◌, length, IfOk};
 ghost use Rattle.dwc_base.specs.Cursors.{Gives, GivesLast};
 ghost use Rattle.dwc_base.specs.Listing.{GivesNext};
 ghost use Rattle.dwc_base.specs.Units.{sized_part_at, unit_header_at, unit_headers_from, header_to_4, header_of_5, dwo_id_at};
@@ -14,7 +14,8 @@ use dwc_base::{Cursor, Flaw, Kind};
 // What has an initial length.
 #[tactic(auto, unfolding(dwc_base::specs::Units::sized_part_at))]
 fn sized_part<'d>(cursor: &mut Cursor<'d>) -> Result<Cursor<'d>, Flaw>
-    ensures { Gives (λ x. x) (sized_part_at cursor.old) cursor.new result }
+    ensures part { Gives (λ x. x) (sized_part_at cursor.old) cursor.new result }
+    ensures short { IfOk result (λ part. length part.left < 2 ^ 32) }
 {
     let size = cursor.u32()?;
     if size == 0xFFFF_FFFF {
@@ -34,6 +35,7 @@ fn fields_to_4<'d>(
     version: u16,
     mut cursor: Cursor<'d>,
 ) -> Result<Header<'d>, Flaw>
+    requires { length cursor.left < 2 ^ 32 }
     ensures { GivesLast header_view (header_to_4 offset end version cursor.entry) result }
 {
     let abbreviations = cursor.u32()?;
@@ -56,7 +58,8 @@ fn fields_to_4<'d>(
 // The id of a skeleton or of a split compile unit.
 #[tactic(auto, unfolding(dwc_base::specs::Units::dwo_id_at))]
 fn dwo_id(unit_type: u8, cursor: &mut Cursor<'_>) -> Result<Option<u64>, Flaw>
-    ensures { Gives (λ x. x) (dwo_id_at unit_type cursor.old) cursor.new result }
+    ensures id { Gives (λ x. x) (dwo_id_at unit_type cursor.old) cursor.new result }
+    ensures no_longer { length cursor.new.left ≤ length cursor.old.left }
 {
     if unit_type == DW_UT_skeleton || unit_type == DW_UT_split_compile {
         let id = cursor.u64()?;
@@ -69,6 +72,7 @@ fn dwo_id(unit_type: u8, cursor: &mut Cursor<'_>) -> Result<Option<u64>, Flaw>
 // The fields of version 5, behind the version.
 #[tactic(auto, unfolding(dwc_base::specs::Units::header_of_5))]
 fn fields_of_5<'d>(offset: usize, end: usize, mut cursor: Cursor<'d>) -> Result<Header<'d>, Flaw>
+    requires { length cursor.left < 2 ^ 32 }
     ensures { GivesLast header_view (header_of_5 offset end cursor.entry) result }
 {
     let unit_type = cursor.u8()?;

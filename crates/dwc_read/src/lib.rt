@@ -4,6 +4,7 @@
 
 mod abbreviation;
 mod attribute;
+mod entry;
 mod fault;
 mod form;
 mod formed;
@@ -17,6 +18,7 @@ mod unit;
 mod units;
 mod value;
 
+pub use entry::Entry;
 pub use fault::ReadFault;
 pub use sections::Sections;
 pub use unit::Unit;
