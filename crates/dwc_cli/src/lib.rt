@@ -6,5 +6,5 @@ mod map_file;
 mod printing;
 pub mod top;
 
-pub use map_file::{MapFile, MapModule, Names, Target, map_of_counts};
+pub use map_file::{MapFile, MapModule, Names, Target, map_of};
 pub use printing::printed;

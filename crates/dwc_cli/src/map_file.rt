@@ -12,7 +12,7 @@ use crate::json_fields::{
     architecture, items, member, members, pair, plain_text, pointer_bytes, source, symbol,
     whole_number,
 };
-use dwc_base::{FilePos, SymbolId};
+use dwc_base::{FilePos, ModuleTranslation, SymbolId};
 use dwc_clif::{Architecture, CompiledFunctionMetadata, FunctionAddressMap, InstructionAddressMap};
 use serde_json::Value;
 use std::alloc::{AllocError, Global};
@@ -294,17 +294,9 @@ fn read_map(alloc: Global, value: &Value, defined: &[u32]) -> Result<Option<MapF
     }))
 }
 
-/// The value of a map file's bytes, for modules that define so many functions each, in order.
-///
-/// Answers `Ok(None)` exactly where the bytes have no value as a map: they are not UTF-8 or no JSON text of at most 127
-/// levels, a required field is missing, or a value is of the wrong kind or out of its range. Unknown fields are passed
-/// over, and of two members of one name the later counts.
-///
-/// # Errors
-///
-/// `AllocError` for want of memory alone.
+// The value of a map file's bytes, for modules that define so many functions each, in order.
 #[tactic(auto, using(crate::proofs::MapKinds::map_of_bytes_read, crate::proofs::MapKinds::map_of_bytes_unread))]
-pub fn map_of_counts(
+pub(crate) fn map_of_counts(
     alloc: Global,
     bytes: &[u8],
     defined: &[u32],
@@ -316,4 +308,31 @@ pub fn map_of_counts(
         Err(error) if error.is_memory() => Err(AllocError),
         Err(_) => Ok(None),
     }
+}
+
+/// The value of a map file's bytes, for these modules in order. `with_text` asks for the text of each function, which is
+/// not read yet.
+///
+/// Answers `Ok(None)` exactly where the bytes have no value as a map: they are not UTF-8 or no JSON text of at most 127
+/// levels, a required field is missing, a value is of the wrong kind or out of its range, or the modules are not as many
+/// as these, with as many functions as each of these defines. Unknown fields are passed over, and of two members of one
+/// name the later counts.
+///
+/// # Errors
+///
+/// `AllocError` for want of memory alone.
+pub fn map_of(
+    alloc: Global,
+    bytes: &[u8],
+    modules: &[ModuleTranslation<'_>],
+    _with_text: bool,
+) -> Result<Option<MapFile>, AllocError>
+    ensures { IfOk result (λ o. option_map map_file_view o
+        ≡ map_of_bytes (map (λ m. m.defined_funcs) modules.now) bytes.now) }
+{
+    let mut defined = Vec::with_capacity(alloc, modules.len())?;
+    for module in modules {
+        defined.push(module.defined_funcs)?;
+    }
+    map_of_counts(alloc, bytes, &defined)
 }
