@@ -24,21 +24,25 @@ const COUNT_LIMIT: usize = 1 << 32;
 #[derive(Clone, Copy)]
 pub struct Target {
     pub arch: Architecture,
+    /// Whether its numbers begin with their highest byte.
     pub big_endian: bool,
-    /// 4 or 8.
+    /// How many bytes an address has: 4 or 8.
     pub pointer_bytes: u8,
 }
 
 /// The names of the two functions that give access to a module's memory.
 #[derive(Drop)]
 pub struct Names {
+    /// The one that sets the memory.
     pub set: String,
+    /// The one that resolves an address in it.
     pub resolve: String,
 }
 
-/// A module: its functions in the order of its code section, each with its symbol, if it was compiled.
+/// A module.
 #[derive(Drop)]
 pub struct MapModule {
+    /// Its functions in the order of the code section, each with its symbol, if it has one.
     pub functions: Vec<(Option<SymbolId>, CompiledFunctionMetadata)>,
 }
 
@@ -47,6 +51,7 @@ pub struct MapModule {
 pub struct MapFile {
     pub target: Target,
     pub names: Names,
+    /// The modules in the order of the program's words.
     pub modules: Vec<MapModule>,
 }
 
