@@ -9,7 +9,7 @@ encode_with-append t [] ys = refl
 encode_with-append t (x ∷ xs) ys = rw (encode_with-append t xs ys)
 
 -- the digits of two pieces
-pub encode_lower_parts : (xs ys : List ℕ) → encode_lower (xs ++ ys) ≡ encode_lower xs ++ encode_lower ys
+encode_lower_parts : (xs ys : List ℕ) → encode_lower (xs ++ ys) ≡ encode_lower xs ++ encode_lower ys
 encode_lower_parts xs ys = encode_with-append _ xs ys
 
 -- after the digits of a piece

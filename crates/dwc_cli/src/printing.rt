@@ -5,6 +5,9 @@ ghost use Rattle.hex.specs.Hex.{encode_lower};
 ghost use Rattle.dwc_base.specs.Outputs.{target_view, relocation_view, section_view};
 ghost use Rattle.dwc_cli.specs.Printed.{printed, printed_section, printed_relocation, printed_target};
 
+#[cfg(test)]
+mod tests;
+
 use dwc_base::{DwarfSection, DwarfSectionReloc, DwarfSectionRelocTarget};
 use itoa::Integer;
 use std::alloc::{AllocError, Global};
@@ -56,7 +59,6 @@ fn push_relocation(text: &mut Vec<u8>, reloc: &DwarfSectionReloc) -> Result<(), 
 }
 
 // The bytes in lower-case hexadecimal.
-#[tactic(auto, using(crate::proofs::PrintedSteps::encode_lower_parts))]
 fn push_hex(text: &mut Vec<u8>, bytes: &[u8]) -> Result<(), AllocError>
     ensures { OnOk result (text.new.items ≡ text.old.items ++ encode_lower bytes.now) }
 {
