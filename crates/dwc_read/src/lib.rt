@@ -4,6 +4,7 @@
 
 mod abbreviation;
 mod attribute;
+mod entries;
 mod entry;
 mod fault;
 mod form;
@@ -12,6 +13,7 @@ mod header;
 mod headers;
 mod name;
 mod number;
+mod place;
 mod sections;
 mod table;
 mod unit;
