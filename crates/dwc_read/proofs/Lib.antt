@@ -6,3 +6,5 @@ pub mod CodeLaws
 pub mod TableLaws
 pub mod AttributeLaws
 pub mod HeaderLaws
+pub mod StepLaws
+pub mod EntriesLaws

@@ -8,5 +8,6 @@ pub mod Codes
 pub mod ValuesSeen
 pub mod Forms
 pub mod EntriesSeen
+pub mod Places
 pub mod Headers
 pub mod Views

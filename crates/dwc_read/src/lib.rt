@@ -4,6 +4,7 @@
 
 mod abbreviation;
 mod attribute;
+mod entries;
 mod entry;
 mod fault;
 mod form;
@@ -12,12 +13,15 @@ mod header;
 mod headers;
 mod name;
 mod number;
+mod place;
 mod sections;
+mod steps;
 mod table;
 mod unit;
 mod units;
 mod value;
 
+pub use entries::Entries;
 pub use entry::Entry;
 pub use fault::ReadFault;
 pub use sections::Sections;
