@@ -51,7 +51,7 @@ place_from-behind front [] code = refl
 place_from-behind front (d ∷ ds) code = go (eqb d.code code) (place_from-behind (front ++ d ∷ []) ds code)
   where
     go : (b : Bool) → option_and_then (slice_get ((front ++ d ∷ []) ++ ds)) (place_from (length (front ++ d ∷ [])) ds code) ≡ declaration_of code ds
-       → option_and_then (slice_get (front ++ (d ∷ ds))) (cond b (Some (length front)) (place_from (length front + 1) ds code)) ≡ cond b (Some d) (declaration_of code ds)
+        → option_and_then (slice_get (front ++ (d ∷ ds))) (cond b (Some (length front)) (place_from (length front + 1) ds code)) ≡ cond b (Some d) (declaration_of code ds)
     go true rest = slice_get-seam front d ds
     go false rest = rw (← append_assoc front (d ∷ []) ds, ← length-one_more front d) rest
 

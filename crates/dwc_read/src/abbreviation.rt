@@ -9,7 +9,7 @@ use dwc_base::constants::{DW_CHILDREN_yes, DW_FORM_implicit_const};
 use dwc_base::{Cursor, Flaw, NotRead};
 use std::alloc::Global;
 
-// An attribute of a declaration: its name, its form, and the value of an implicit constant.
+/// An attribute of a declaration: its name, its form, and the value of an implicit constant.
 #[derive(Clone, Copy)]
 pub struct AttributeSpec {
     pub name: u16,
@@ -17,7 +17,7 @@ pub struct AttributeSpec {
     pub implicit: i64,
 }
 
-// A declaration: its code, and the tag and the attributes of the entries that name it.
+/// A declaration: its code, and the tag and the attributes of the entries that name it.
 #[derive(Drop)]
 pub struct Declaration {
     pub code: u64,
@@ -73,7 +73,11 @@ fn attribute_specs(alloc: Global, cursor: &mut Cursor<'_>) -> Result<Vec<Attribu
 
 // The rest of a declaration, behind its code.
 #[tactic(auto, unfolding(dwc_base::specs::Abbreviations::declaration_behind))]
-fn declaration_behind(alloc: Global, code: u64, cursor: &mut Cursor<'_>) -> Result<Declaration, NotRead>
+fn declaration_behind(
+    alloc: Global,
+    code: u64,
+    cursor: &mut Cursor<'_>,
+) -> Result<Declaration, NotRead>
     ensures { GivesOrMemory (λ d. Some (declaration_view d)) (behind_code code cursor.old) cursor.new result }
 {
     let tag = cursor.uleb()?;

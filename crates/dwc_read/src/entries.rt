@@ -30,8 +30,8 @@ impl<'d> Model for Entries<'d> {
     ghost coded = { entries_code };
 
     ghost view = { λ e. record {
-        left = entries_from e.unit.sections e.unit.header e.table (option_map place_view e.place);
-        current = entry_view e.entry;
+      left = entries_from e.unit.sections e.unit.header e.table (option_map place_view e.place);
+      current = entry_view e.entry;
     } };
 
     ghost invariant = { λ e. IsShallow (option_map place_view e.place) };

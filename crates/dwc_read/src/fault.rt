@@ -19,7 +19,10 @@ pub enum ReadFault {
     },
     /// What stands at `offset` is of a kind that is refused.
     #[error("Unsupported {what:?} {offset}")]
-    Unsupported { what: Kind, offset: u64 },
+    Unsupported {
+        what: Kind,
+        offset: u64,
+    },
     #[error("out of memory")]
     OutOfMemory,
 }

@@ -21,6 +21,7 @@ mod unit;
 mod units;
 mod value;
 
+pub use abbreviation::{AttributeSpec, Declaration};
 pub use entries::Entries;
 pub use entry::Entry;
 pub use fault::ReadFault;

@@ -42,7 +42,11 @@ pub fn number(size: u8, cursor: &mut Cursor<'_>) -> Result<u64, Flaw>
 
 // An address of one, two, four or eight bytes.
 #[tactic(auto, unfolding(dwc_base::specs::Sections::address_at))]
-pub fn address(relocations: &Relocations<'_>, size: u8, cursor: &mut Cursor<'_>) -> Result<Address, Flaw>
+pub fn address(
+    relocations: &Relocations<'_>,
+    size: u8,
+    cursor: &mut Cursor<'_>,
+) -> Result<Address, Flaw>
     requires { IsTrue (is_field_size size) }
     ensures { Gives (λ x. x) (address_at relocations.now size cursor.old) cursor.new result }
 {

@@ -9,7 +9,7 @@ ghost use Rattle.dwc_read.specs.Tables.{declaration_view};
 
 use crate::abbreviation::{Declaration, declarations};
 use crate::fault::refusal;
-use crate::{ReadFault, Sections};
+use crate::{ReadFault, Sections, Unit};
 use dwc_base::{Cursor, SectionName, What};
 use std::alloc::{AllocError, Global};
 use std::collections::BTreeMap;
@@ -94,7 +94,10 @@ fn is_counted(declarations: &[Declaration]) -> bool
 }
 
 // The first place of each code.
-fn places_of(alloc: Global, declarations: &[Declaration]) -> Result<BTreeMap<u64, usize>, AllocError>
+fn places_of(
+    alloc: Global,
+    declarations: &[Declaration],
+) -> Result<BTreeMap<u64, usize>, AllocError>
     ensures { IfOk result (λ m. (code : ℕ) → get nat_cmp m code ≡ place_from 0 (map declaration_view declarations.now) code) }
 {
     let mut places = BTreeMap::new(alloc);
@@ -106,17 +109,40 @@ fn places_of(alloc: Global, declarations: &[Declaration]) -> Result<BTreeMap<u64
     Ok(places)
 }
 
-// The table at an offset of `.debug_abbrev`.
-pub fn table_at(alloc: Global, sections: &Sections<'_>, offset: u32) -> Result<Table, ReadFault>
-    ensures { GivesOrFault (λ t. t) (abbreviation_table sections.now offset) result }
+// The declarations of the table at an offset of `.debug_abbrev`, in their order.
+fn declarations_at(
+    alloc: Global,
+    sections: &Sections<'_>,
+    offset: u32,
+) -> Result<Vec<Declaration>, ReadFault>
+    ensures { GivesOrFault (λ v. map declaration_view v.items) (abbreviation_table sections.now offset) result }
 {
     let bytes = sections.bytes(SectionName::Abbrev);
     let mut cursor = Cursor::at(bytes, offset, sections.order());
     match declarations(alloc, &mut cursor) {
-        Ok(declarations) => Ok(Table::new(alloc, declarations)?),
+        Ok(declarations) => Ok(declarations),
         Err(e) => {
             let place = u64::from(offset);
             Err(refusal(e, What::Abbreviation, SectionName::Abbrev, place))
         }
+    }
+}
+
+// The table at an offset of `.debug_abbrev`.
+pub fn table_at(alloc: Global, sections: &Sections<'_>, offset: u32) -> Result<Table, ReadFault>
+    ensures { GivesOrFault (λ t. t) (abbreviation_table sections.now offset) result }
+{
+    let declarations = declarations_at(alloc, sections, offset)?;
+    Ok(Table::new(alloc, declarations)?)
+}
+
+impl<'d> Unit<'d> {
+    /// The declarations of the unit's abbreviation table, in their order. (DWARF 4 and 5, section 7.5.3.)
+    ///
+    /// Answers `Read` with the table's offset where the table cannot be read to its end.
+    pub fn declarations(&self, alloc: Global) -> Result<Vec<Declaration>, ReadFault>
+        ensures { GivesOrFault (λ v. map declaration_view v.items) (abbreviation_table self.now.sections self.now.header.abbreviations) result }
+    {
+        declarations_at(alloc, self.sections(), self.abbreviations())
     }
 }

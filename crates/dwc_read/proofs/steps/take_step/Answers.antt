@@ -92,5 +92,8 @@ returns-in-Err-clause-step c =
     let at : option_map place_view c.args.place.now ≡ Some here = ap (option_map place_view) c.in-Some.is in
     let some : 0 < length here.unread.left = omega arith in
     let fails = rw c.fork-ahead.ensures at c.in-Err.ensures in
-    rw (c.refusal.ensures, c.place-offset.ensures) (Stays-at here.unread.place c.in-Err.e (entry_at unit.sections unit.header c.args.table.now here.depth here.unread) (list (option_map place_view c.args.place.now))
-    (λ flaw read. ap list at ∙ entries_from-fault unit.sections unit.header c.args.table.now here flaw some read) fails, sym at)
+    rw (c.refusal.ensures, c.place-offset.ensures) (
+      Stays-at here.unread.place c.in-Err.e (entry_at unit.sections unit.header c.args.table.now here.depth here.unread) (list (option_map place_view c.args.place.now))
+          (λ flaw read. ap list at ∙ entries_from-fault unit.sections unit.header c.args.table.now here flaw some read) fails,
+      sym at,
+    )

@@ -6,13 +6,13 @@ use Rattle.dwc_base.specs.Sections.{section_from}
 use Rattle.dwc_base.specs.Abbreviations.{declaration_at}
 use Rattle.dwc_read.proofs.FailsLaws.{Refuses-whole}
 use Rattle.dwc_read.proofs.TableLaws.{abbreviation_table-read, abbreviation_table-flaw}
-use Rattle.dwc_read.proofs.table.table_at.Goals as goal
+use Rattle.dwc_read.proofs.table.declarations_at.Goals as goal
 
-pub returns-in_ok-new-in-Ok : goal.returns-in_ok-new-in-Ok
-returns-in_ok-new-in-Ok c =
+pub returns-in-Ok : goal.returns-in-Ok
+returns-in-Ok c =
     let s = c.args.sections.now in
     let at : c.at-cursor.result ≡ section_from s Abbrev c.args.offset = rw (← c.bytes-bytes.ensures.bytes, ← c.order.ensures) c.at-cursor.ensures in
-    rw c.in_ok-new-in-Ok.ensures (abbreviation_table-read s c.args.offset _ _ (rw at at c.in-Ok.ensures))
+    abbreviation_table-read s c.args.offset _ _ (rw at at c.in-Ok.ensures)
 
 pub returns-in-Err : goal.returns-in-Err
 returns-in-Err c =
