@@ -2,5 +2,7 @@
 #![tactic(auto)]
 
 mod error;
+mod known_form;
+mod unit_entries;
 
 pub use error::DebugError;
