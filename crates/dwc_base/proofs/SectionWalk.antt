@@ -10,7 +10,7 @@ use Rattle.dwc_base.proofs.Items.{LeavesFewer}
 use Rattle.dwc_base.proofs.FileTakes.{byte_at-leaves, name_at-leaves, next_wasm_section-shrinks}
 use Rattle.dwc_base.proofs.TakesMore.{uleb_at-leaves}
 use Rattle.dwc_base.proofs.Walks.{GoesOn, walk-end, walk-fault, walk-item}
-use Rattle.dwc_base.proofs.Translated.{custom_left}
+use Rattle.dwc_base.specs.Translations.{custom_left}
 
 -- the sections from a place on: none at the end, the first and those behind it, or the place that breaks the grammar
 pub wasm_sections-end : (u : Unread) → next_wasm_section u ≡ at_end → wasm_sections u ≡ no_items

@@ -13,7 +13,7 @@ use Rattle.dwc_base.specs.declared.section_name.SectionName.TheVariants.{Frame}
 use Rattle.dwc_base.specs.declared.wasm.ModuleTranslation.{ModuleTranslation}
 use Rattle.dwc_base.specs.Sections.{section_text}
 use Rattle.dwc_base.specs.Wasm.{Contents, custom, imports, functions, code, other, WasmSection, WasmModule, last_of, last_number, custom_section, contents_named, imported_functions, defined_functions, code_place, is_compressed, module_from_sections, module_sections, held}
-use Rattle.dwc_base.specs.Translations.{IsTranslation, Notes, noted, section_bytes, translation_sections}
+use Rattle.dwc_base.specs.Translations.{custom_left, IsTranslation, Notes, noted, section_bytes, translation_sections}
 
 last_of-push : {A : Type 0} (xs : List A) (x : A) → last_of (xs ++ x ∷ []) ≡ Some x
 last_of-push [] x = refl
@@ -95,14 +95,6 @@ held-none name = go name
 -- the sections of a translation are those of its module
 pub translation_sections-is : (t : ModuleTranslation) (m : WasmModule) → IsTranslation t m → translation_sections t ≡ module_sections m
 translation_sections-is t m h = λ i. record { order = Little; bytes = λ name. h.sections name i; relocations = λ name. [] }
-
--- what of a section's contents may be held
-abbrev pub custom_left : Contents → List ℕ
-custom_left (custom title u) = u.left
-custom_left (imports n) = []
-custom_left (functions n) = []
-custom_left (code u) = []
-custom_left (other id u) = []
 
 -- what is noted is what was there, or of the section
 pub noted-inside : (c : Contents) (at : SectionName) (before : List ℕ) (most : ℕ) → length (custom_left c) ≤ most → length before ≤ most → length (noted c at before) ≤ most
