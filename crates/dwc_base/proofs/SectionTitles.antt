@@ -56,6 +56,7 @@ find-passes {A} p (y ∷ ys) x h = go (p y) refl h (find-passes p ys x)
 bytes_eq-true : (xs ys : List ℕ) → bytes_eq xs ys ≡ true → xs ≡ ys
 bytes_eq-true xs ys h = (bytes_eq-Decides xs ys).0 h
 
+-- a section that is found by a title has it
 titled-text : (title : List ℕ) (name : SectionName) → section_titled title ≡ Some name → section_text name ≡ title
 titled-text title name h = bytes_eq-true _ _ (find-passes (λ n. bytes_eq (section_text n) title) input_sections name h)
 
@@ -71,6 +72,7 @@ other_title title text before contents name found none = go (bytes_eq title text
     go true h = let same = bytes_eq-true title text h in absurd (let e : section_titled title ≡ Some name = rw same found in cc)
     go false h = refl
 
+-- where a title is that of no section, all are as before
 pub noted-untitled : (title contents before : List ℕ) (at : SectionName) → section_titled title ≡ None → before ≡ titled_bytes at title contents before
 noted-untitled title contents before Frame h = refl
 noted-untitled title contents before at h = other_title title (section_text at) before contents at refl h

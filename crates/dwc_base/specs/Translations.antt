@@ -82,9 +82,13 @@ TranslatesFile bytes (Ok t) = (m : WasmModule) × (wasm_module bytes ≡ Ok m) �
 TranslatesFile bytes (Err (Malformed offset)) = wasm_module bytes ≡ Err offset
 TranslatesFile bytes (Err OutOfMemory) = Unit {0}
 
+-- sections that are lent of a file, as input: the numbers are little-endian, and there are no relocations
+abbrev pub lent_sections : WasmSections → Sections
+lent_sections s = record { order = Little; bytes = section_bytes s; relocations = λ name. [] }
+
 -- the sections of a translation, as input
 abbrev pub translation_sections : ModuleTranslation → Sections
-translation_sections t = record { order = Little; bytes = section_bytes t.sections; relocations = λ name. [] }
+translation_sections t = lent_sections t.sections
 
 -- A reader of a part of a file gives what reading gives, its value seen by `view`, and goes on behind it; an error is the
 -- place of the first field that breaks the grammar.
@@ -113,6 +117,7 @@ contents_view (Functions n) = spec.functions n
 contents_view (Code u) = spec.code u
 contents_view (Other id u) = spec.other id u
 
+-- a section: its place, and what it holds
 abbrev pub section_view : Section → WasmSection
 section_view s = record { place = s.place; contents = contents_view s.contents }
 

@@ -127,7 +127,7 @@ impl<'d> ModuleTranslation<'d> {
 /// Reads a WebAssembly file: the sections of DWARF, lent, of equal names the later; how many functions it imports and
 /// defines; where the contents of its code section are; and the first section that is compressed. Import and function
 /// sections and the names of custom sections are read whole, and all else is lent as it is. The numbers of DWARF in it are
-/// little-endian. Malformed comes exactly where the grammar fails.
+/// little-endian. [`WasmFault::Malformed`] comes exactly where the grammar fails. It takes time linear in the file.
 pub fn split_wasm<'d>(alloc: Global, bytes: &'d [u8]) -> Result<ModuleTranslation<'d>, WasmFault>
     ensures translated { TranslatesFile bytes.now result }
     ensures inside { IfOk result (λ t. (name : SectionName) → length (section_bytes t.sections name) ≤ length bytes.now) }
