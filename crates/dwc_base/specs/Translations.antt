@@ -109,7 +109,7 @@ custom_left (spec.functions n) = []
 custom_left (spec.code u) = []
 custom_left (spec.other id u) = []
 
--- what a section holds, and its place
+-- what a section holds
 abbrev pub contents_view : Contents → spec.Contents
 contents_view (Custom name u) = spec.custom name.now u
 contents_view (Imports n) = spec.imports n
