@@ -1,1 +1,4 @@
 pub mod ImageLaws
+pub mod LookupLaws
+pub mod OrderLaws
+pub mod RisingRows
