@@ -4,12 +4,14 @@ ghost use Rattle.std.specs.Option.{unwrap_or};
 ghost use Rattle.std.specs.List.{filter_map};
 ghost use Rattle.dwc_base.specs.Functions.{function_of, owner, function_at, wasm_entry, recorded_entry};
 ghost use Rattle.dwc_clif.specs.AddressMaps.{address_map_view, entry_view};
-ghost use Rattle.dwc_addr.specs.Transforms.{function_view, recorded_view, kept_function, Transforms};
+ghost use Rattle.dwc_addr.specs.Transforms.{function_view, kept_function, Transforms};
+ghost use Rattle.dwc_addr.specs.Runs.{recorded_view, run_starts};
 ghost use Rattle.dwc_addr.specs.Starts.{IsStartTable, IsOwnerPlace};
 
+use crate::address_map::{AddressMap, WasmAddress};
 use crate::by_start::{owner_place, start_table};
 use crate::error::AddrError;
-use crate::function_map::{AddressMap, FunctionMap, WasmAddress};
+use crate::function_map::FunctionMap;
 use crate::maps::map_fault;
 use dwc_base::{DefinedFuncIndex, FilePos, SymbolId};
 use dwc_clif::{CompiledFunctionMetadata, InstructionAddressMap};
@@ -155,13 +157,16 @@ fn function_map(
 ) -> Result<FunctionMap, AllocError>
     ensures { IfOk result (λ f. function_view f ≡ kept_function (function_of code_section_offset number (address_map_view (symbol, metadata.now)))) }
 {
-    let addresses = &metadata.address_map;
+    let map = &metadata.address_map;
+    let addresses = sources(alloc, code_section_offset, &map.instructions)?;
+    let later_runs = later_runs(alloc, &addresses)?;
     Ok(FunctionMap {
         symbol: symbol.map(|_| number),
-        len: addresses.body_len as usize,
-        wasm_start: start_offset(addresses.start_srcloc, code_section_offset),
-        wasm_end: start_offset(addresses.end_srcloc, code_section_offset),
-        addresses: sources(alloc, code_section_offset, &addresses.instructions)?,
+        len: map.body_len as usize,
+        wasm_start: start_offset(map.start_srcloc, code_section_offset),
+        wasm_end: start_offset(map.end_srcloc, code_section_offset),
+        addresses,
+        later_runs,
     })
 }
 
@@ -191,4 +196,20 @@ fn sources(
         }
     }
     Ok(found)
+}
+
+// The places of the sources that lie below the one before.
+fn later_runs(alloc: Global, sources: &[AddressMap]) -> Result<Vec<usize>, AllocError>
+    ensures { IfOk result (λ places. places.items ≡ run_starts 0 0 (map recorded_view sources.now)) }
+{
+    let mut places = Vec::new(alloc);
+    let mut before = 0;
+    for i in 0..sources.len() {
+        let wasm = sources[i].wasm;
+        if wasm < before {
+            places.push(i)?;
+        }
+        before = wasm;
+    }
+    Ok(places)
 }
