@@ -1,12 +1,12 @@
 -- The recorded sources of a function whose map is good rise and lie in it.
-use Rattle.std.proofs.Common.{◌≡◌, ℕ, zero, suc, ◌+◌, ◌-◌, ◌<◌, ◌≤◌, refl, ap, ◌∙◌, sym, arith, List, [], ◌∷◌, ◌++◌, map, length, drop, get_or, Option, Some, None, inl, inr}
+use Rattle.std.proofs.Common.{◌≡◌, ℕ, ◌+◌, ◌≤◌, refl, List, [], ◌∷◌, map, Option, Some, None}
 use Rattle.std.specs.List.{filter_map, cons_option}
-use Rattle.std.specs.Prelude.{nat_le, nat_lt, ◌==◌, if◌then◌else◌, option_map, Bool, true, false, All}
+use Rattle.std.specs.Prelude.{nat_lt, ◌==◌, if◌then◌else◌, option_map, Bool, true, false, All}
 use Rattle.std.proofs.lemmas.Bool.{ltb-false}
 use Rattle.std.proofs.lemmas.List.Elements.{All-nil, All-cons, All-head, All-tail}
 use Rattle.dwc_base.specs.declared.records.MapFault.{MapFault}
 use Rattle.dwc_base.specs.declared.records.MapFault.TheVariants.{BodyOffset, BeforeCodeSection, Reversed, CodeFalls, CodePastBody, SourceOutside}
-use Rattle.dwc_base.specs.Functions.{AddressMap, Function, Recorded, recorded_entry, wasm_entry, map_fault, bounds_fault, entry_fault, is_source_within, function_of, functions_of}
+use Rattle.dwc_base.specs.Functions.{AddressMap, Recorded, recorded_entry, wasm_entry, map_fault, bounds_fault, entry_fault, is_source_within, function_of, functions_of}
 use Rattle.dwc_carry.specs.ImageRows.{RisesFrom, IsOrdered}
 use Rattle.dwc_carry.proofs.LookupLaws.{RisesFrom-weaker}
 

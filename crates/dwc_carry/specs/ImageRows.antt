@@ -1,5 +1,5 @@
 -- The rows of an image, as they are made of the recorded sources of a function.
-use Rattle.std.specs.Prelude.{ℕ, ◌-◌, ◌==◌, ◌<◌, ◌≤◌, pos, nat_le, nat_lt, List, [], ◌∷◌, length, Bool, false, if◌then◌else◌, Option, Some, None, option_and_then, All}
+use Rattle.std.specs.Prelude.{ℕ, ◌-◌, ◌==◌, ◌≤◌, pos, nat_le, nat_lt, List, [], ◌∷◌, length, Bool, false, if◌then◌else◌, Option, Some, None, option_and_then, All}
 use Rattle.std.specs.Option.{option_or}
 use Rattle.dwc_base.specs.declared.records.Address.TheVariants.{Symbol}
 use Rattle.dwc_base.specs.declared.records.LineRow.{LineRow}
