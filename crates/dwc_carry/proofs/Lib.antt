@@ -3,3 +3,10 @@ pub mod LookupLaws
 pub mod OrderLaws
 pub mod RisingRows
 pub mod RunLaws
+pub mod KeptLaws
+pub mod EmitLaws
+pub mod UnitPlaces
+pub mod DeclarationLaws
+pub mod TransferLaws
+pub mod LineVersions
+pub mod WidestLines

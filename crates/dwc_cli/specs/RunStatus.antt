@@ -1,5 +1,5 @@
 -- What each status of a run says. Want of memory, status 9, may come at any time.
-use Rattle.std.specs.Prelude.{length, ◌≡◌, ◌≢◌, ℕ, ◌+◌, ◌-◌, ◌^◌, ◌<◌, ◌≤◌, ◌↔◌, ◌⊎◌, min, List, [], ◌∷◌, ◌++◌, take, true, false, Option, Some, None, IsSome, IsNone, IfSome, IsTrue, Ok, Err, Any}
+use Rattle.std.specs.Prelude.{length, ◌≡◌, ◌≢◌, ℕ, ◌+◌, ◌-◌, ◌^◌, ◌<◌, ◌≤◌, ◌⊎◌, min, List, [], ◌∷◌, ◌++◌, take, true, false, Option, Some, None, IsSome, IsNone, IfSome, IsTrue, Ok, Err, Any}
 use Rattle.std.specs.Ordering.{nat_cmp}
 use Rattle.std.specs.Cmp.Lexicographic.{slice_cmp}
 use Rattle.std.specs.FinMap as map
