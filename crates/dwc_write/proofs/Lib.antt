@@ -11,3 +11,4 @@ pub mod ReadLines
 pub mod ReadWritten
 pub mod ReadSections
 pub mod ReadSmall
+pub mod Appended

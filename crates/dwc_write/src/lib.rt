@@ -1,2 +1,5 @@
-//! Writes sections.
+//! The writer of DWARF: line programs, units with their entries, and the sections that hold them. What is written is read
+//! back by the definitions as it was given.
 #![tactic(auto)]
+
+mod append;
