@@ -12,3 +12,5 @@ pub mod ReadWritten
 pub mod ReadSections
 pub mod ReadSmall
 pub mod Appended
+pub mod SizedBytes
+pub mod Whole

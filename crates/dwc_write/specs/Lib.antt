@@ -4,3 +4,4 @@ pub mod SpelledAddresses
 pub mod SpelledUnits
 pub mod SpelledLines
 pub mod SpelledSections
+pub mod Writers

@@ -1,6 +1,7 @@
 //! The bytes of numbers and texts, behind what a buffer holds.
-ghost use Rattle.std.specs.Prelude.{◌≡◌, ◌++◌, ◌∷◌, [], ◌<◌, ◌^◌, OnOk, pos, negsuc, length, take, drop, ◌+◌, ◌≤◌};
+ghost use Rattle.std.specs.Prelude.{◌≡◌, ◌++◌, ◌∷◌, [], ◌<◌, ◌^◌, OnOk, OnErr, pos, negsuc, length, ◌+◌, ◌≤◌};
 ghost use Rattle.dwc_write.specs.Spelled.{number_bytes, uleb_bytes, sleb_bytes, text_bytes};
+ghost use Rattle.dwc_write.specs.Writers.{IsSize, replaced};
 
 use dwc_base::Endian;
 use std::alloc::AllocError;
@@ -94,4 +95,42 @@ pub fn put_text(out: &mut Vec<u8>, text: &[u8]) -> Result<(), AllocError>
     out.extend_from_slice(text)?;
     out.push(0)?;
     Ok(())
+}
+
+// A number of so many bytes, the low ones of the value.
+#[tactic(auto, using(crate::proofs::SizedBytes::sized_bytes_are))]
+pub fn put_sized(out: &mut Vec<u8>, order: Endian, size: u8, value: u64) -> Result<(), AllocError>
+    requires { IsSize size }
+    ensures ok { OnOk result (out.new.items ≡ out.old.items ++ number_bytes order size value) }
+    ensures err { OnErr result (out.new.items ≡ out.old.items) }
+{
+    match size {
+        1 => out.extend_from_slice(&[(value % 256) as u8]),
+        2 => out.extend_from_slice(&bytes_2(order, (value % 0x1_0000) as u16)),
+        4 => out.extend_from_slice(&bytes_4(order, (value % 0x1_0000_0000) as u32)),
+        _ => out.extend_from_slice(&bytes_8(order, value)),
+    }
+}
+
+// A number of so many bytes in the place of as many from an offset on.
+#[tactic(auto, using(crate::proofs::SizedBytes::sized_bytes_are))]
+pub fn replace_sized(body: &mut [u8], offset: usize, order: Endian, size: u8, value: u64)
+    requires size { IsSize size }
+    requires inside { offset + size ≤ length body.old }
+    ensures { body.new ≡ replaced offset (number_bytes order size value) body.old }
+{
+    match size {
+        1 => replace(body, offset, &[(value % 256) as u8]),
+        2 => replace(body, offset, &bytes_2(order, (value % 0x1_0000) as u16)),
+        4 => replace(body, offset, &bytes_4(order, (value % 0x1_0000_0000) as u32)),
+        _ => replace(body, offset, &bytes_8(order, value)),
+    }
+}
+
+// Bytes in the place of as many from an offset on.
+pub fn replace(body: &mut [u8], offset: usize, bytes: &[u8])
+    requires { offset + length bytes.now ≤ length body.old }
+    ensures { body.new ≡ replaced offset bytes.now body.old }
+{
+    body[offset..offset + bytes.len()].copy_from_slice(bytes);
 }

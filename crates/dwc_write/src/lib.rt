@@ -3,3 +3,8 @@
 #![tactic(auto)]
 
 mod append;
+mod error;
+mod writer;
+
+pub use error::{Limit, WriteError};
+pub use writer::{Writer, WriterRelocate};
