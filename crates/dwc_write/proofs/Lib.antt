@@ -14,3 +14,5 @@ pub mod ReadSmall
 pub mod Appended
 pub mod SizedBytes
 pub mod Whole
+pub mod LineLaws
+pub mod RowLaws

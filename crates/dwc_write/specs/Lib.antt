@@ -5,3 +5,5 @@ pub mod SpelledUnits
 pub mod SpelledLines
 pub mod SpelledSections
 pub mod Writers
+pub mod GivenLines
+pub mod LineViews

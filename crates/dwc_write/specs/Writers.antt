@@ -1,5 +1,5 @@
 -- A section that is being written, and what the calls of a writer do to it.
-use Rattle.std.specs.Prelude.{◌≡◌, ℕ, ◌+◌, ◌^◌, ◌-◌, ◌<◌, ◌≤◌, ◌⊎◌, ℤ, pos, FitsSigned, List, [], ◌∷◌, ◌++◌, length, take, drop, Result, Err}
+use Rattle.std.specs.Prelude.{◌≡◌, ℕ, ◌+◌, ◌^◌, ◌-◌, ◌<◌, ◌≤◌, ◌⊎◌, ℤ, pos, FitsSigned, List, [], ◌∷◌, ◌++◌, length, take, drop, Result, Ok, Err}
 use Rattle.std.specs.List.{All}
 use Rattle.std.specs.Int.{w32, w64, cast_unsigned}
 use Rattle.dwc_base.specs.declared.records.Endian.{Endian}
@@ -9,7 +9,7 @@ use Rattle.dwc_base.specs.declared.section_name.SectionName.{SectionName}
 use Rattle.dwc_base.specs.Sections.{section_text}
 use Rattle.dwc_base.specs.Outputs.{RelocationTarget, function, section, OutputRelocation, OutputSection}
 use Rattle.dwc_write.specs.declared.error.WriteError.{WriteError}
-use Rattle.dwc_write.specs.declared.error.WriteError.TheVariants.{TooLarge}
+use Rattle.dwc_write.specs.declared.error.WriteError.TheVariants.{TooLarge, OutOfMemory}
 use Rattle.dwc_write.specs.declared.error.Limit.TheVariants.{Section}
 use Rattle.dwc_write.specs.Spelled.{number_bytes}
 
@@ -28,6 +28,11 @@ most_bytes = 2 ^ 31 - 1
 abbrev pub IsTooLarge : {A : Type 0} → Result A WriteError → SectionName → Type 0
 IsTooLarge result name = result ≡ Err (TooLarge (Section name))
 
+-- A refusal to append so many bytes: for want of memory, or for what the section's size would be.
+abbrev pub Refuses : WriteError → Writing → ℕ → Type 0
+Refuses OutOfMemory w more = Unit {0}
+Refuses (TooLarge (Section name)) w more = (name ≡ w.name) × (most_bytes < length w.body + more)
+
 -- bytes and relocations behind what is there
 abbrev pub appended : List ℕ → List OutputRelocation → Writing → Writing
 appended bytes relocations w = record { order = w.order; name = w.name; body = w.body ++ bytes; relocations = w.relocations ++ relocations }
@@ -39,6 +44,11 @@ replaced offset bytes body = take offset body ++ (bytes ++ drop (offset + length
 -- the same, with relocations
 abbrev pub overwritten : ℕ → List ℕ → List OutputRelocation → Writing → Writing
 overwritten offset bytes relocations w = record { order = w.order; name = w.name; body = replaced offset bytes w.body; relocations = w.relocations ++ relocations }
+
+-- A call appends bytes and relocations, or refuses.
+abbrev pub Writes : Writing → Writing → Result (Unit {0}) WriteError → List ℕ → List OutputRelocation → Type 0
+Writes old new (Ok done) bytes relocations = new ≡ appended bytes relocations old
+Writes old new (Err e) bytes relocations = Refuses e old (length bytes)
 
 -- the relocation of an address that is written at an offset: none for a number
 abbrev pub address_relocations : ℕ → ℕ → Address → List OutputRelocation

@@ -4,7 +4,10 @@
 
 mod append;
 mod error;
+mod lines;
+mod rows;
 mod writer;
 
 pub use error::{Limit, WriteError};
+pub use lines::LineProgram;
 pub use writer::{Writer, WriterRelocate};

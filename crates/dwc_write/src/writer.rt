@@ -21,8 +21,9 @@ const MOST_BYTES: usize = 0x7FFF_FFFF;
 /// A section that is written. Each call answers `TooLarge` exactly where the body would pass 2^31 - 1 bytes, else
 /// `OutOfMemory` for want of memory, and then changes nothing.
 pub trait Writer {
-    ghost use Rattle.std.specs.Prelude.{◌≡◌, ◌<◌, ◌≤◌, ◌+◌, ◌^◌, ◌↔◌, [], ◌∷◌, OnOk, OnErr, length};
-    ghost use Rattle.dwc_write.specs.Writers.{Writing, appended, overwritten, address_relocations, offset_relocation, IsSize, FitsField, IsClear, IsTooLarge, most_bytes};
+    ghost use Rattle.std.specs.Prelude.{◌≡◌, ◌<◌, ◌≤◌, ◌+◌, ◌^◌, [], ◌∷◌, OnOk, IfErr, length};
+    ghost use Rattle.dwc_write.specs.Writers.{Writing, appended, overwritten, address_relocations, offset_relocation, IsSize, FitsField, IsClear, IsTooLarge, Refuses, most_bytes};
+    ghost use Rattle.dwc_write.specs.declared.error.WriteError.TheVariants.{OutOfMemory};
     ghost use Rattle.dwc_write.specs.Spelled.{number_bytes};
     ghost use Rattle.dwc_write.specs.SpelledAddresses.{address_bytes};
 
@@ -39,23 +40,23 @@ pub trait Writer {
     /// Appends bytes.
     fn write(&mut self, bytes: &[u8]) -> Result<(), WriteError>
         ensures ok { OnOk result (writing self.new ≡ appended bytes.now [] (writing self.old)) }
-        ensures large { IsTooLarge result (writing self.old).name ↔ most_bytes < length (writing self.old).body + length bytes.now }
-        ensures err { OnErr result (writing self.new ≡ writing self.old) };
+        ensures large { most_bytes < length (writing self.old).body + length bytes.now → IsTooLarge result (writing self.old).name }
+        ensures err { IfErr result (λ e. Refuses e (writing self.old) (length bytes.now) × (writing self.new ≡ writing self.old)) };
 
     /// Replaces bytes from an offset on; no relocation is at them.
     fn write_at(&mut self, offset: usize, bytes: &[u8]) -> Result<(), WriteError>
         requires inside { offset + length bytes.now ≤ length (writing self.old).body }
         requires clear { IsClear offset (length bytes.now) (writing self.old).relocations }
         ensures ok { OnOk result (writing self.new ≡ overwritten offset bytes.now [] (writing self.old)) }
-        ensures err { OnErr result (writing self.new ≡ writing self.old) };
+        ensures err { IfErr result (λ e. (e ≡ OutOfMemory) × (writing self.new ≡ writing self.old)) };
 
     /// Appends an address, of a function with a relocation.
     fn write_address(&mut self, address: Address, size: u8) -> Result<(), WriteError>
         requires size { IsSize size }
         requires fits { FitsField size address }
         ensures ok { OnOk result (writing self.new ≡ appended (address_bytes (writing self.old).order size address) (address_relocations (length (writing self.old).body) size address) (writing self.old)) }
-        ensures large { IsTooLarge result (writing self.old).name ↔ most_bytes < length (writing self.old).body + size }
-        ensures err { OnErr result (writing self.new ≡ writing self.old) };
+        ensures large { most_bytes < length (writing self.old).body + size → IsTooLarge result (writing self.old).name }
+        ensures err { IfErr result (λ e. Refuses e (writing self.old) size × (writing self.new ≡ writing self.old)) };
 
     /// Appends an offset in a section, with a relocation.
     fn write_offset(&mut self, val: usize, section: SectionName, size: u8) -> Result<(), WriteError>
@@ -63,8 +64,8 @@ pub trait Writer {
         requires fits { val < 256 ^ size }
         requires addend { val < 2 ^ 31 }
         ensures ok { OnOk result (writing self.new ≡ appended (number_bytes (writing self.old).order size val) (offset_relocation (length (writing self.old).body) size section val ∷ []) (writing self.old)) }
-        ensures large { IsTooLarge result (writing self.old).name ↔ most_bytes < length (writing self.old).body + size }
-        ensures err { OnErr result (writing self.new ≡ writing self.old) };
+        ensures large { most_bytes < length (writing self.old).body + size → IsTooLarge result (writing self.old).name }
+        ensures err { IfErr result (λ e. Refuses e (writing self.old) size × (writing self.new ≡ writing self.old)) };
 
     /// Replaces bytes by an offset in a section, with a relocation; no relocation is at them.
     fn write_offset_at(
@@ -80,7 +81,7 @@ pub trait Writer {
         requires inside { offset + size ≤ length (writing self.old).body }
         requires clear { IsClear offset size (writing self.old).relocations }
         ensures ok { OnOk result (writing self.new ≡ overwritten offset (number_bytes (writing self.old).order size val) (offset_relocation offset size section val ∷ []) (writing self.old)) }
-        ensures err { OnErr result (writing self.new ≡ writing self.old) };
+        ensures err { IfErr result (λ e. (e ≡ OutOfMemory) × (writing self.new ≡ writing self.old)) };
 }
 
 /// A section that is written, with its relocations.
