@@ -16,3 +16,4 @@ pub mod SizedBytes
 pub mod Whole
 pub mod LineLaws
 pub mod RowLaws
+pub mod UnitLaws

@@ -7,3 +7,5 @@ pub mod SpelledSections
 pub mod Writers
 pub mod GivenLines
 pub mod LineViews
+pub mod GivenUnits
+pub mod UnitViews

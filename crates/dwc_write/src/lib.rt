@@ -3,11 +3,15 @@
 #![tactic(auto)]
 
 mod append;
+mod attributes;
 mod error;
 mod lines;
 mod rows;
+mod units;
 mod writer;
 
+pub use attributes::AttributeValue;
 pub use error::{Limit, WriteError};
 pub use lines::LineProgram;
+pub use units::{Dwarf, Unit, UnitEntryId, UnitId, UnitTable};
 pub use writer::{Writer, WriterRelocate};
