@@ -1,0 +1,6 @@
+//! Line tables: a table is read and checked once, and its rows are given one at a time. (DWARF 4, section 6.2.)
+#![tactic(auto)]
+
+mod header;
+
+pub use header::LineFile;
