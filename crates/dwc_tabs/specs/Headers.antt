@@ -1,10 +1,11 @@
 -- The program's own records of a line table's header, seen as those of the definitions.
-use Rattle.std.specs.Prelude.{ℕ, List, map}
+use Rattle.std.specs.Prelude.{ℕ, List, [], map}
+use Rattle.dwc_base.specs.declared.records.Endian.TheVariants.{Little}
 use Rattle.dwc_base.specs.Reading.{Unread}
 use Rattle.dwc_base.specs.LineHeaders as spec
 use Rattle.dwc_base.specs.Cursors.{slice_bytes}
 use Rattle.dwc_tabs.specs.declared.header.LineFile.{LineFile}
-use Rattle.dwc_tabs.specs.declared.header.Parameters.{Parameters}
+use Rattle.dwc_tabs.specs.declared.parameters.Parameters.{Parameters}
 use Rattle.dwc_tabs.specs.declared.header.Header.{Header}
 
 -- a file
@@ -30,3 +31,7 @@ header_of p directories files program = record {
 -- a header that was read
 abbrev pub header_view : Header → spec.LineHeader
 header_view h = header_of h.parameters (map slice_bytes h.directories.items) (map file_view h.files.items) h.program
+
+-- as much of a header as the instructions of a program depend on
+abbrev pub program_header : Parameters → spec.LineHeader
+program_header p = header_of p [] [] (record { order = Little; place = 0; left = [] })

@@ -1,1 +1,3 @@
+pub mod AddressSizes
 pub mod Headers
+pub mod Instructions

@@ -1,11 +1,13 @@
 //! The header of a line table. (DWARF 4, section 6.2.4.)
-ghost use Rattle.std.specs.Prelude.{◌≡◌, ◌+◌, ◌-◌, ◌<◌, map, option_map, length, ℕ};
+ghost use Rattle.std.specs.Prelude.{◌≡◌, ◌+◌, ◌-◌, ◌<◌, IsTrue, IfOk, map, option_map, length, ℕ};
 ghost use Rattle.dwc_base.specs.Reading.{counted_at, items_at, number_at};
 ghost use Rattle.dwc_base.specs.Units.{sized_part_at};
 ghost use Rattle.dwc_base.specs.LineHeaders.{signed_byte, directory_at, file_behind, file_at, operations_at, line_fields_to_4, line_header_at};
 ghost use Rattle.dwc_base.specs.Cursors.{Gives, GivesLast, GivesOrMemory, GivesLastOrMemory, slice_bytes};
+ghost use Rattle.dwc_tabs.specs.AddressSizes.{is_address_size};
 ghost use Rattle.dwc_tabs.specs.Headers.{file_view, header_view};
 
+use crate::parameters::Parameters;
 use dwc_base::{Cursor, Flaw, Kind, NotRead};
 use std::alloc::Global;
 
@@ -16,23 +18,6 @@ pub struct LineFile<'d> {
     pub directory: u64,
     /// Its name, as it stands in the table.
     pub name: &'d [u8],
-}
-
-/// What the instructions of a program depend on.
-#[derive(Clone, Copy)]
-pub struct Parameters<'d> {
-    pub version: u16,
-    /// The bytes of an address: 4 or 8.
-    pub address_size: u8,
-    pub minimum_instruction_length: u8,
-    pub default_is_stmt: bool,
-    pub line_base: i8,
-    /// Not 0.
-    pub line_range: u8,
-    /// Not 0.
-    pub opcode_base: u8,
-    /// How many numbers stand behind each standard opcode, from 1 on.
-    pub standard_opcode_lengths: &'d [u8],
 }
 
 /// A header, and the program behind it.
@@ -146,7 +131,8 @@ fn as_signed(byte: u8) -> i8
 // How many numbers stand behind each standard opcode below the first special one.
 fn opcode_lengths<'d>(opcode_base: u8, cursor: &mut Cursor<'d>) -> Result<&'d [u8], Flaw>
     requires { 0 < opcode_base }
-    ensures { Gives slice_bytes (counted_at (opcode_base - 1) (number_at 1) cursor.old) cursor.new result }
+    ensures read { Gives slice_bytes (counted_at (opcode_base - 1) (number_at 1) cursor.old) cursor.new result }
+    ensures length { IfOk result (λ x. length x.now ≡ opcode_base - 1) }
 {
     Ok(cursor.take(opcode_base as usize - 1)?)
 }
@@ -160,6 +146,7 @@ fn fields_to_4<'d>(
     program: Cursor<'d>,
     mut cursor: Cursor<'d>,
 ) -> Result<Header<'d>, NotRead>
+    requires { IsTrue (is_address_size address_size) }
     ensures { GivesLastOrMemory header_view (line_fields_to_4 version address_size program.entry cursor.entry) result }
 {
     let minimum_instruction_length = cursor.u8()?;
@@ -201,6 +188,7 @@ pub fn line_header<'d>(
     address_size: u8,
     mut cursor: Cursor<'d>,
 ) -> Result<Header<'d>, NotRead>
+    requires { IsTrue (is_address_size address_size) }
     ensures { GivesLastOrMemory header_view (line_header_at address_size cursor.entry) result }
 {
     let mut table = sized_part(&mut cursor)?;

@@ -2,5 +2,7 @@
 #![tactic(auto)]
 
 mod header;
+mod instruction;
+mod parameters;
 
 pub use header::LineFile;
