@@ -1,2 +1,3 @@
 pub mod HeaderLaws
 pub mod InstructionLaws
+pub mod StepLaws

@@ -1,3 +1,4 @@
 pub mod AddressSizes
 pub mod Headers
 pub mod Instructions
+pub mod Steps

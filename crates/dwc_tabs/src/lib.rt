@@ -4,5 +4,8 @@
 mod header;
 mod instruction;
 mod parameters;
+mod registers;
+mod step;
 
 pub use header::LineFile;
+pub use step::LineStep;
