@@ -1,3 +1,4 @@
 pub mod HeaderLaws
 pub mod InstructionLaws
 pub mod StepLaws
+pub mod ProgramLaws

@@ -2,3 +2,4 @@ pub mod AddressSizes
 pub mod Headers
 pub mod Instructions
 pub mod Steps
+pub mod Programs

@@ -32,11 +32,6 @@ shown_view OutOfRange = Some None
 abbrev pub capped : rows.Registers → rows.Registers
 capped r = record r { offset = min r.offset (2 ^ 64 - 1) }
 
--- a line that can be moved by 2 ^ 63 either way within 128 bits
-pub record HasRoom (line : ℤ) : Type 0 where
-  pub above : (line +ℤ pos (2 ^ 63)) ≤ℤ pos (2 ^ 127 - 1)
-  pub below : pos (2 ^ 63) ≤ℤ (line +ℤ pos (2 ^ 127))
-
 -- the row of the registers, where it is in range
 abbrev pub shown_row : rows.Registers → Option LineRow
 shown_row r = if rows.is_in_range (rows.appends r) then Some (rows.row_of r) else None

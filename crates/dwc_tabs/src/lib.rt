@@ -4,6 +4,7 @@
 mod header;
 mod instruction;
 mod parameters;
+mod program;
 mod registers;
 mod step;
 

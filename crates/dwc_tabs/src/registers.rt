@@ -1,9 +1,9 @@
 //! The registers of a line program, and what each instruction does to them. (DWARF 4, sections 6.2.2 and 6.2.5.)
-ghost use Rattle.std.specs.Prelude.{◌≡◌, ◌+◌, ◌-◌, ◌*◌, ◌%◌, ◌^◌, ℤ, pos, ◌+ℤ◌, min, option_map, Some};
+ghost use Rattle.std.specs.Prelude.{◌≡◌, ◌+◌, ◌-◌, ◌*◌, ◌%◌, ◌^◌, ◌<◌, ◌≤◌, ℤ, nat_abs, pos, ◌+ℤ◌, min, option_map, Some};
 ghost use Rattle.dwc_base.specs.LineRows.{at_sequence_start, special_advance, after_row, after, effect, appends, ends};
 ghost use Rattle.dwc_tabs.specs.Headers.{program_header};
 ghost use Rattle.dwc_tabs.specs.Instructions.{instruction_view};
-ghost use Rattle.dwc_tabs.specs.Steps.{capped, HasRoom, registers_view, shown_step, shown_row, shown_view, end_view};
+ghost use Rattle.dwc_tabs.specs.Steps.{capped, registers_view, shown_step, shown_row, shown_view, end_view};
 
 use crate::instruction::Instruction;
 use crate::parameters::Parameters;
@@ -54,7 +54,8 @@ pub fn execute(
     parameters: &Parameters<'_>,
     instruction: Instruction<'_>,
 ) -> Shown
-    requires { HasRoom registers.old.line }
+    requires { nat_abs registers.old.line + 2 ^ 63 < 2 ^ 127 }
+    ensures line { nat_abs registers.new.line ≤ nat_abs registers.old.line + 2 ^ 63 }
     ensures after { registers_view registers.new ≡ capped (after (program_header parameters.now) (instruction_view instruction.entry) (registers_view registers.old)) }
     ensures shown { shown_view result ≡ option_map shown_step (effect (program_header parameters.now) (instruction_view instruction.entry) (registers_view registers.old)) }
 {
@@ -153,14 +154,16 @@ fn advanced(offset: u64, parameters: &Parameters<'_>, count: u64) -> u64
 
 // A line moved by a step.
 fn moved(line: i128, step: i64) -> i128
-    requires { HasRoom line }
-    ensures { result ≡ line +ℤ step }
+    requires { nat_abs line + 2 ^ 63 < 2 ^ 127 }
+    ensures value { result ≡ line +ℤ step }
+    ensures near { nat_abs result ≤ nat_abs line + 2 ^ 63 }
 {
     line + i128::from(step)
 }
 
 // Appends a row, and clears what a row clears.
 fn append(registers: &mut Registers) -> Shown
+    ensures line { registers.new.line ≡ registers.old.line }
     ensures after { registers_view registers.new ≡ after_row (registers_view registers.old) }
     ensures shown { shown_view result ≡ Some (shown_step (appends (registers_view registers.old))) }
 {
