@@ -2,3 +2,4 @@ pub mod HeaderLaws
 pub mod InstructionLaws
 pub mod StepLaws
 pub mod ProgramLaws
+pub mod TableLaws

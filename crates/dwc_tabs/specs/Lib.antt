@@ -3,3 +3,5 @@ pub mod Headers
 pub mod Instructions
 pub mod Steps
 pub mod Programs
+pub mod Faults
+pub mod Tables

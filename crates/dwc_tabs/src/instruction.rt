@@ -1,6 +1,6 @@
 //! The instructions of a line program. (DWARF 4, section 6.2.5.)
 ghost use Rattle.std.specs.Prelude.{◌≡◌, ◌<◌, ◌-◌, IsTrue};
-ghost use Rattle.dwc_base.specs.Reading.{counted_at, uleb_at};
+ghost use Rattle.dwc_base.specs.Reading.{number_at};
 ghost use Rattle.dwc_base.specs.Sections.{address_at};
 ghost use Rattle.dwc_base.specs.LineHeaders.{passed_operands_at, extended_at, extended_instruction_at, instruction_at};
 ghost use Rattle.dwc_base.specs.Cursors.{Gives};
@@ -145,7 +145,7 @@ fn extended_operands<'d>(
     }
 }
 
-// The address that a field of 4 or 8 bytes holds.
+// The address that a field of 1, 2, 4 or 8 bytes holds.
 #[tactic(auto, unfolding(dwc_base::specs::Sections::address_at))]
 fn address(
     size: u8,
@@ -156,10 +156,28 @@ fn address(
     ensures { Gives (λ x. x) (address_at relocations.now size cursor.old) cursor.new result }
 {
     let place = cursor.place();
-    let spelled = if size == 8 {
-        cursor.u64()?
-    } else {
-        u64::from(cursor.u32()?)
-    };
+    let spelled = number(size, cursor)?;
     Ok(relocations.value(place, size, spelled))
+}
+
+// A number of 1, 2, 4 or 8 bytes.
+fn number(size: u8, cursor: &mut Cursor<'_>) -> Result<u64, Flaw>
+    requires { IsTrue (is_address_size size) }
+    ensures { Gives (λ x. x) (number_at size cursor.old) cursor.new result }
+{
+    match size {
+        1 => {
+            let value = cursor.u8()?;
+            Ok(u64::from(value))
+        }
+        2 => {
+            let value = cursor.u16()?;
+            Ok(u64::from(value))
+        }
+        4 => {
+            let value = cursor.u32()?;
+            Ok(u64::from(value))
+        }
+        _ => Ok(cursor.u64()?),
+    }
 }
