@@ -1,0 +1,5 @@
+pub mod HeaderLaws
+pub mod InstructionLaws
+pub mod StepLaws
+pub mod ProgramLaws
+pub mod TableLaws
