@@ -20,6 +20,7 @@ pub struct FunctionMap {
     /// The places of the entries whose source lies below that of the entry before. Between two of them the sources do not
     /// fall.
     pub later_runs: Vec<usize>,
+    ghost short: { len < 2 ^ 32 },
     ghost starts_low: { wasm_start < 2 ^ 32 },
     ghost split: { later_runs.items ≡ run_starts 0 0 (map recorded_view addresses.items) },
 }

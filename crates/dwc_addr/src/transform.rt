@@ -1,5 +1,5 @@
 //! The functions of a module as its DWARF names them: by wasm offsets, which count from the contents of the code section.
-ghost use Rattle.std.specs.Prelude.{◌≡◌, ◌-◌, ◌+◌, ◌<◌, ◌≤◌, ◌^◌, ℕ, length, map, slice_get, option_map, Some, IfOk, IfSome, vec_len};
+ghost use Rattle.std.specs.Prelude.{◌≡◌, ◌-◌, ◌+◌, ◌<◌, ◌≤◌, ◌^◌, ℕ, length, map, slice_get, option_map, Some, IfOk, IfSome, IsSome, vec_len};
 ghost use Rattle.std.specs.Option.{unwrap_or};
 ghost use Rattle.std.specs.List.{filter_map};
 ghost use Rattle.dwc_base.specs.Functions.{function_of, owner, function_at, wasm_entry, recorded_entry};
@@ -86,7 +86,8 @@ impl AddressTransform {
     /// That function where it has a symbol, and the address is neither 0 nor 0xFFFFFFFF, the marks of code that was not
     /// linked.
     pub fn func_at(&self, addr: u64) -> Option<&FunctionMap>
-        ensures { option_map (λ f. function_view f.now) result ≡ function_at self.now addr }
+        ensures symbol { IfSome result (λ f. IsSome f.now.symbol) }
+        ensures found { option_map (λ f. function_view f.now) result ≡ function_at self.now addr }
     {
         function_at(&self.functions, &self.by_start, addr)
     }
@@ -105,7 +106,8 @@ const UNLINKED: u64 = 0xFFFF_FFFF;
 // What `func_at` answers, of the functions and their keys.
 fn function_at<'f>(functions: &'f [FunctionMap], keys: &[u64], addr: u64) -> Option<&'f FunctionMap>
     requires { IsStartTable (map function_view functions.now) keys.now }
-    ensures { option_map (λ f. function_view f.now) result ≡ function_at (map function_view functions.now) addr }
+    ensures symbol { IfSome result (λ f. IsSome f.now.symbol) }
+    ensures found { option_map (λ f. function_view f.now) result ≡ function_at (map function_view functions.now) addr }
 {
     if addr == 0 || addr == UNLINKED {
         return None;
