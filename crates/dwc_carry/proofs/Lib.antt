@@ -3,6 +3,7 @@ pub mod LookupLaws
 pub mod OrderLaws
 pub mod RisingRows
 pub mod RunLaws
+pub mod SequenceLaws
 pub mod KeptLaws
 pub mod EmitLaws
 pub mod UnitPlaces

@@ -1,2 +1,3 @@
 pub mod ImageRows
+pub mod ImageSequences
 pub mod RunRows
