@@ -12,7 +12,8 @@ use Rattle.dwc_base.specs.Images.{row_of_source, row_of_last, row_of_first, IsIm
 use Rattle.dwc_base.specs.LineRows.{Row, RowContents, Segment, row_in_force}
 use Rattle.dwc_addr.proofs.OwnerLaws.{function_at-among}
 use Rattle.dwc_carry.specs.ImageRows.{last_at, RisesFrom, found_at, is_repeated, placed_at, moved_to, with_found, image_from, image_of, image_with_rows, image_if, IsOrdered}
-use Rattle.dwc_carry.proofs.LookupLaws.{last_at-same, last_at-map, row_in_force-last_at, RisesFrom-weaker}
+use Rattle.dwc_carry.proofs.LookupLaws.{last_at-same, row_in_force-last_at}
+use Rattle.dwc_carry.proofs.RowsLaws.{rows_from-within}
 
 -- the row itself that is in force at a recorded source
 abbrev found_row : List Row → ℕ → Recorded → Option Row
@@ -35,13 +36,6 @@ found_row-looked_up rows start e r = go (nat_le start e.wasm)
     go : (b : Bool) → (if b then last_at (λ q. q.offset) rows (e.wasm - start) else None) ≡ Some r → last_at (λ q. q.offset) rows (e.wasm - start) ≡ Some r
     go true h = h
     go false h = absurd (cc)
-
--- the row found among rows that are seen as such
-pub found_row-seen : {Y : Type 0} (f : Y → Row) (ys : List Y) (start : ℕ) (e : Recorded) (o : Option Y) → start ≤ e.wasm → last_at (λ y. (f y).offset) ys (e.wasm - start) ≡ o → found_row (map f ys) start e ≡ option_map f o
-found_row-seen f ys start e o le h = rw (le-leb start e.wasm le, last_at-map (λ r. r.offset) f ys (e.wasm - start), h) refl
-
-pub found_row-below : (rows : List Row) (start : ℕ) (e : Recorded) → e.wasm < start → found_row rows start e ≡ None
-found_row-below rows start e less = rw lt-leb refl
 
 module _ (rows : List Row) (start : ℕ) where
   -- The steps of a loop over the recorded sources: no row is found, the row repeats, the first row, and another one.
@@ -138,46 +132,6 @@ module _ (rows : List Row) (start : ℕ) where
           (image_from-behind es e.native byte (e.wasm - start) r h.1 (found_row-looked_up rows start e r is)
           ∙ the_same (row_of_last rows start es byte) (row_of_first rows start es) (nat_le e.native byte) r.source)
 
-  -- its rows lie in the function, and do not fall in offset
-  pub image_from-within : (es : List Recorded) (found : Option ℕ) (most : ℕ) → All (λ e. e.native ≤ most) es → All (λ r. r.offset ≤ most) (image_from rows start found es)
-  image_from-within [] found most h = All-nil (λ (r : Row). r.offset ≤ most)
-  image_from-within (e ∷ es) found most h = go (found_row rows start e) (λ b. image_from-within es b most (All-tail (λ (z : Recorded). z.native ≤ most) e es h))
-    where
-      P : Row → Type 0
-      P r = r.offset ≤ most
-
-      here : (found : Option ℕ) → placed_at found e.native ≤ most
-      here None = omega arith
-      here (Some b) = All-head (λ (z : Recorded). z.native ≤ most) e es h
-
-      go : (o : Option Row) → ((b : Option ℕ) → All (λ (r : Row). r.offset ≤ most) (image_from rows start b es)) → All (λ (r : Row). r.offset ≤ most) (with_row (λ b. image_from rows start b es) found e.native o)
-      go None more = more found
-      go (Some r) more = inner (is_repeated found r.offset)
-        where
-          inner : (b : Bool) → All (λ (r : Row). r.offset ≤ most) (if b then image_from rows start found es else moved_to (placed_at found e.native) r ∷ image_from rows start (Some r.offset) es)
-          inner true = more found
-          inner false = All-cons (λ (q : Row). q.offset ≤ most) _ _ (here found) (more (Some r.offset))
-
-  image_from-rises_behind : (es : List Recorded) (b low : ℕ) → RisesFrom (λ e. e.native) low es → RisesFrom (λ r. r.offset) low (image_from rows start (Some b) es)
-  image_from-rises_behind [] b low h = tt
-  image_from-rises_behind (e ∷ es) b low h = go (found_row rows start e) (λ c. image_from-rises_behind es c e.native h.1)
-    where
-      go : (o : Option Row) → ((c : ℕ) → RisesFrom (λ r. r.offset) e.native (image_from rows start (Some c) es)) → RisesFrom (λ r. r.offset) low (with_row (λ c. image_from rows start c es) (Some b) e.native o)
-      go None more = RisesFrom-weaker _ _ _ _ h.0 (more b)
-      go (Some r) more = inner (b == r.offset)
-        where
-          inner : (t : Bool) → RisesFrom (λ q. q.offset) low (if t then image_from rows start (Some b) es else moved_to e.native r ∷ image_from rows start (Some r.offset) es)
-          inner true = RisesFrom-weaker _ _ _ _ h.0 (more b)
-          inner false = (h.0, more r.offset)
-
-  pub image_from-rises : (es : List Recorded) (low : ℕ) → RisesFrom (λ e. e.native) low es → RisesFrom (λ r. r.offset) 0 (image_from rows start None es)
-  image_from-rises [] low h = tt
-  image_from-rises (e ∷ es) low h = go (found_row rows start e) (image_from-rises es e.native h.1)
-    where
-      go : (o : Option Row) → RisesFrom (λ r. r.offset) 0 (image_from rows start None es) → RisesFrom (λ r. r.offset) 0 (with_row (λ c. image_from rows start c es) None e.native o)
-      go None more = more
-      go (Some r) more = (omega arith, RisesFrom-weaker _ _ _ _ (omega arith) (image_from-rises_behind es r.offset e.native h.1))
-
   -- it has rows exactly where some recorded source has one
   pub image_from-empty : (es : List Recorded) → nat_lt 0 (length (image_from rows start None es)) ≡ list_any (λ e. is_some (row_of_source rows start e)) es
   image_from-empty [] = refl
@@ -192,7 +146,7 @@ pub image_of-IsImage : (q : Segment) (start : ℕ) (f : Function) → RisesFrom 
 image_of-IsImage q start f rises within = record {
   starts = refl;
   ends = refl;
-  within = image_from-within q.rows start (recorded_sources f) None f.length within;
+  within = rows_from-within (λ r. r.offset) moved_to (λ k r. refl) q.rows start (recorded_sources f) None f.length within;
   agrees = λ byte less. image_from-agrees q.rows start (recorded_sources f) 0 byte rises;
 }
 

@@ -111,11 +111,13 @@ pub(crate) fn image_rows(
     later_runs: &[usize],
 ) -> Result<(), AllocFailed<LineRow>>
     requires order { IsNonDecreasingBy (λ r. r.offset) rows.now }
-    requires some { 0 < length rows.now }
     requires runs { later_runs.now ≡ run_starts 0 0 (map recorded_view sources.now) }
     ensures { OnOk result (image.new.items ≡ image_rows rows.now start None (map recorded_view sources.now)) }
 {
     image.clear();
+    if rows.is_empty() {
+        return Ok(());
+    }
     let mut found = None;
     let mut from = 0;
     for place in later_runs {
