@@ -102,6 +102,13 @@ impl<'d> Cursor<'d> {
         self.place
     }
 
+    /// The order of the bytes of a number.
+    pub fn order(&self) -> Endian
+        ensures { result ≡ self.now.order }
+    {
+        self.order
+    }
+
     pub fn left(&self) -> usize
         ensures { result ≡ length self.now.left }
     {

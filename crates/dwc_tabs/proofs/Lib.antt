@@ -3,3 +3,4 @@ pub mod InstructionLaws
 pub mod StepLaws
 pub mod ProgramLaws
 pub mod TableLaws
+pub mod FileLaws

@@ -1,12 +1,12 @@
 -- A program that is unread, instruction by instruction.
-use Rattle.std.proofs.Common.{◌≡◌, ℕ, ◌+◌, ◌*◌, ◌^◌, ◌<◌, refl, sym, ap, ◌∙◌, arith, List, [], ◌∷◌, ◌++◌, length, Option, Some, None, Ok, Err, Bool, true, false, is_some, nat_abs, ◌≤◌}
+use Rattle.std.proofs.Common.{◌≡◌, ◌+◌, ◌^◌, ◌<◌, refl, sym, ap, ◌∙◌, arith, List, [], ◌∷◌, ◌++◌, length, Option, Some, None, Ok, Err, true, false, is_some, nat_abs, ◌≤◌}
 use Rattle.std.specs.Prelude.{option_map}
 use Rattle.std.specs.List.{filter_map, list_all}
 use Rattle.std.proofs.lemmas.List.Elements.{filter_map-append}
 use Rattle.dwc_base.specs.declared.faults.Flaw.{Flaw}
 use Rattle.dwc_base.specs.Reading.{Unread}
 use Rattle.dwc_base.specs.Sections.{Relocation}
-use Rattle.dwc_base.specs.Listing.{with_first, no_items, only_fault}
+use Rattle.dwc_base.specs.Listing.{with_first, no_items}
 use Rattle.dwc_base.specs.LineHeaders.{Instruction, instruction_at}
 use Rattle.dwc_base.specs.LineRows.{Registers, LineStep, after, effect, file_defined}
 use Rattle.dwc_base.proofs.Takes.{Leaves-at}

@@ -1,11 +1,11 @@
 -- A table that was checked is the table of the definitions.
-use Rattle.std.proofs.Common.{◌≡◌, ℕ, zero, suc, ◌+◌, ◌<◌, ◌≤◌, min, max, refl, sym, ap, ◌∙◌, arith, List, [], ◌∷◌, ◌++◌, map, length, take, drop, Option, Some, None, Ok, Err, Bool, true, false, is_some, leb, not}
+use Rattle.std.proofs.Common.{◌≡◌, ℕ, ◌+◌, ◌<◌, min, max, refl, sym, ap, ◌∙◌, arith, List, [], ◌∷◌, ◌++◌, map, length, take, drop, Option, Some, None, Ok, Err, zero-add, ltb, Bool, true, false, is_some}
 use Rattle.std.specs.Prelude.{◌&&◌, nat_le, if◌then◌else◌}
 use Rattle.std.specs.List.{filter_map, list_all}
 use Rattle.std.proofs.Math.Bool.{and-true, and-false}
 use Rattle.std.proofs.Math.Dec.{leb-zero}
 use Rattle.std.proofs.Math.Seq.{take-append_seam}
-use Rattle.std.proofs.lemmas.Bool.{le-leb, lt-leb, leb-true, leb-false}
+use Rattle.std.proofs.lemmas.Bool.{ltb-true}
 use Rattle.std.proofs.lemmas.Bool.Decides.{nat_tests}
 use Rattle.dwc_base.specs.declared.faults.Flaw.{Flaw}
 use Rattle.dwc_base.specs.declared.faults.Flaw.TheVariants.{Malformed, EndsEarly}
@@ -15,14 +15,17 @@ use Rattle.dwc_base.specs.Cursors.{FailsLast}
 use Rattle.dwc_base.specs.declared.faults.What.TheVariants.{LineTable as LineTableRead}
 use Rattle.dwc_base.specs.declared.section_name.SectionName.TheVariants.{Line}
 use Rattle.dwc_base.specs.declared.records.Endian.{Endian}
-use Rattle.dwc_base.specs.Reading.{Unread, ◌>>=◌, bytes_at, number_at}
+use Rattle.dwc_base.specs.Reading.{Unread, Read as ReadOf, bytes_at, number_at}
 use Rattle.dwc_base.specs.Units.{sized_part_at}
-use Rattle.dwc_base.specs.Sections.{Relocation, reported}
+use Rattle.dwc_base.specs.Sections.{Relocation, reported, fault_of, unreadable, unsupported}
 use Rattle.dwc_base.specs.Listing.{Listing}
 use Rattle.dwc_base.specs.LineHeaders.{LineFile, LineHeader, line_header_at, Instruction, special, copy, advance_pc, advance_line, set_file, set_column, negate_stmt, set_basic_block, const_add_pc, fixed_advance_pc, set_prologue_end, set_epilogue_begin, set_isa, end_sequence, set_address, define_file, set_discriminator, unknown, extended_at, extended_instruction_at, instruction_at, next_instruction, instructions}
-use Rattle.dwc_base.specs.LineRows.{Registers, LineTable, LineStep, start, row, end, after, effect, effects, with_effect, Effect, is_in_range, step_of, at_sequence_start, file_defined, table_of, checked_table, line_table_at, line_table}
+use Rattle.dwc_base.specs.LineRows.{Registers, LineStep, start, row, end, after, effect, effects, with_effect, Effect, is_in_range, step_of, at_sequence_start, file_defined, table_of, checked_table, line_table_at, line_table}
 use Rattle.dwc_tabs.specs.declared.parameters.Parameters.{Parameters}
 use Rattle.dwc_tabs.specs.declared.program.ProgramCheck.{ProgramCheck}
+use Rattle.dwc_tabs.specs.declared.fault.TabFault.{TabFault}
+use Rattle.dwc_tabs.specs.declared.fault.TabFault.TheVariants.{Read, Unsupported, InvalidFileIndex, OutOfMemory as NoMemory}
+use Rattle.dwc_tabs.specs.Faults.{fault_view, AnswersTable}
 use Rattle.dwc_tabs.specs.Headers.{header_of, program_header}
 use Rattle.dwc_tabs.specs.Steps.{shown_step, shown_steps}
 use Rattle.dwc_tabs.specs.Programs.{instructions_from, shown_from, steps_from, CanRun, Checked, Checks, noted_item, noted_all, nothing_noted}
@@ -241,3 +244,41 @@ line_table-at order bytes relocations address_size offset = refl
 pub table_at-end : (relocations : List Relocation) (address_size : ℕ) (order : Endian) (place : ℕ) → table_at relocations address_size (record { order = order; place = place; left = [] }) ≡ Err EndsEarly
 unfolding table_at line_header_at sized_part_at number_at bytes_at
 table_at-end relocations address_size order place = refl
+
+-- what is unread behind what was read
+abbrev unread_behind : {A : Type 0} → ReadOf A → Unread → Unread
+unread_behind (Ok x) u = x.1
+unread_behind (Err flaw) u = u
+
+-- what is unread behind the first bytes of all
+pub passed-start : (order : Endian) (bytes : List ℕ) (offset : ℕ) (x : List ℕ) (v : Unread) → bytes_at offset (record { order = order; place = 0; left = bytes }) ≡ Ok (x, v) → v ≡ record { order = order; place = offset; left = drop offset bytes }
+unfolding bytes_at
+passed-start order bytes offset x v h = go (ltb (length bytes) offset) h
+  where
+    go : (short : Bool) → ◌≡◌ {A = ReadOf (List ℕ)} (if short then Err EndsEarly else Ok (take offset bytes, record { order = order; place = 0 + offset; left = drop offset bytes })) (Ok (x, v)) → v ≡ record { order = order; place = offset; left = drop offset bytes }
+    go true e = absurd (cc)
+    go false e =
+        sym (ap (λ r. unread_behind r v) e) ∙ ap (λ n. record { order = order; place = n; left = drop offset bytes }) (zero-add offset)
+
+-- too few bytes
+pub passed-short : (order : Endian) (bytes : List ℕ) (offset : ℕ) (flaw : Flaw) → bytes_at offset (record { order = order; place = 0; left = bytes }) ≡ Err flaw → length bytes < offset
+unfolding bytes_at
+passed-short order bytes offset flaw h = go (ltb (length bytes) offset) refl h
+  where
+    go : (short : Bool) → ltb (length bytes) offset ≡ short → ◌≡◌ {A = ReadOf (List ℕ)} (if short then Err EndsEarly else Ok (take offset bytes, record { order = order; place = 0 + offset; left = drop offset bytes })) (Err flaw) → length bytes < offset
+    go true is e = ltb-true _ _ is
+    go false is e = absurd (cc)
+
+-- ---- what a call answers
+
+-- a flaw that is met
+module _ (order : Endian) (bytes : List ℕ) (relocations : List Relocation) (address_size offset : ℕ) where
+  reported-flaw : (flaw : Flaw) → table_at relocations address_size (record { order = order; place = offset; left = drop offset bytes }) ≡ Err flaw → line_table (of_line order bytes relocations) address_size offset ≡ Err (fault_of LineTableRead Line offset flaw)
+  reported-flaw flaw h = line_table-at order bytes relocations address_size offset ∙ ap (reported LineTableRead Line offset) h
+
+  pub answers-flaw : (fault : TabFault) (flaw : Flaw) → fault_view fault ≡ Some (fault_of LineTableRead Line offset flaw) → table_at relocations address_size (record { order = order; place = offset; left = drop offset bytes }) ≡ Err flaw
+      → AnswersTable offset (line_table (of_line order bytes relocations) address_size offset) (Err fault)
+  answers-flaw (Read what section at) flaw is h = reported-flaw flaw h ∙ ap Err (let same : fault_of LineTableRead Line offset flaw ≡ unreadable what section at = cc in same)
+  answers-flaw (Unsupported kind at) flaw is h = reported-flaw flaw h ∙ ap Err (let same : fault_of LineTableRead Line offset flaw ≡ unsupported kind at = cc in same)
+  answers-flaw (InvalidFileIndex at) flaw is h = absurd (cc)
+  answers-flaw NoMemory flaw is h = tt

@@ -1,9 +1,6 @@
 -- What the instructions show, one by one, and the program's own registers and steps seen as those of the definitions.
-use Rattle.std.specs.Prelude.{ℕ, ◌-◌, ◌*◌, ◌+◌, ◌^◌, min, ℤ, pos, ◌+ℤ◌, ◌≤ℤ◌, Option, Some, None, nat_lt, if◌then◌else◌, List, map, option_map}
-use Rattle.std.specs.List.{filter_map}
+use Rattle.std.specs.Prelude.{ℕ, ◌-◌, ◌^◌, min, Option, Some, None, nat_lt, if◌then◌else◌, List, map}
 use Rattle.dwc_base.specs.declared.records.LineRow.{LineRow}
-use Rattle.dwc_base.specs.Reading.{Unread}
-use Rattle.dwc_base.specs.Sections.{Relocation}
 use Rattle.dwc_base.specs.LineHeaders as spec
 use Rattle.dwc_base.specs.LineRows as rows
 use Rattle.dwc_tabs.specs.declared.registers.Registers.{Registers}

@@ -1,5 +1,5 @@
 -- A line table as it is read: from what is unread, and from the parts that the program keeps.
-use Rattle.std.specs.Prelude.{◌≡◌, ℕ, zero, suc, List, [], map, take, Bool, nat_lt, nat_le, ◌&&◌, true, Option, Some, None, slice_get, length, Result, Ok, Err}
+use Rattle.std.specs.Prelude.{◌≡◌, ℕ, zero, suc, List, map, take, drop, ◌<◌, Bool, nat_lt, nat_le, ◌&&◌, true, Option, Some, None, slice_get, length, Result, Ok, Err}
 use Rattle.std.specs.List.{list_all}
 use Rattle.dwc_base.specs.declared.records.Endian.{Endian}
 use Rattle.dwc_base.specs.declared.faults.Flaw.{Flaw}
@@ -7,12 +7,11 @@ use Rattle.dwc_base.specs.declared.faults.NotRead.{NotRead}
 use Rattle.dwc_base.specs.declared.faults.NotRead.TheVariants.{OutOfMemory, Flawed}
 use Rattle.dwc_base.specs.Reading.{Unread, ◌>>=◌}
 use Rattle.dwc_base.specs.Sections.{Relocation, Sections}
-use Rattle.dwc_base.specs.LineHeaders.{LineFile, LineHeader, line_header_at, instructions}
+use Rattle.dwc_base.specs.LineHeaders.{LineFile, line_header_at, instructions}
 use Rattle.dwc_base.specs.LineRows.{LineTable, LineStep, start, row, end, checked_table, at_sequence_start}
 use Rattle.dwc_base.specs.Cursors.{slice_bytes}
 use Rattle.dwc_tabs.specs.declared.parameters.Parameters.{Parameters}
 use Rattle.dwc_tabs.specs.declared.program.ProgramCheck.{ProgramCheck}
-use Rattle.dwc_tabs.specs.declared.table.LineTable as own
 use Rattle.dwc_tabs.specs.declared.table.LineTable.TheInside.{Inside}
 use Rattle.dwc_tabs.specs.declared.table.Rows.TheInside as rows
 use Rattle.dwc_tabs.specs.Headers.{file_view, header_of, program_header}
@@ -52,15 +51,10 @@ rows_view r = steps_from r.parameters r.relocations (registers_view r.registers)
 abbrev pub RunsOn : rows.Inside → Type 0
 RunsOn r = CanRun r.parameters r.relocations (registers_view r.registers) r.cursor
 
--- a directory by its number, and none at 0, the compilation directory
-abbrev pub directory_of : LineTable → ℕ → Option (List ℕ)
-directory_of t zero = None
-directory_of t (suc d) = slice_get t.header.directories d
-
--- a file by its number
-abbrev pub file_of : LineTable → ℕ → Option LineFile
-file_of t zero = None
-file_of t (suc n) = slice_get t.files n
+-- what stands at a number, from 1 on
+abbrev pub numbered : {A : Type 0} → ℕ → List A → Option A
+numbered zero xs = None
+numbered (suc n) xs = slice_get xs n
 
 -- whether a row names one of the first files, as many as said
 abbrev pub names_within : ℕ → LineStep → Bool
@@ -81,3 +75,8 @@ abbrev pub ReadsTable : Result LineTable Flaw → Result (LineTable × ProgramCh
 ReadsTable read (Ok t) = (read ≡ Ok t.0) × Bounds t.1 t.0.steps
 ReadsTable read (Err OutOfMemory) = Unit {0}
 ReadsTable read (Err (Flawed flaw)) = read ≡ Err flaw
+
+-- what is unread of some bytes from an offset on; none where the offset is past their end
+abbrev pub UnreadFrom : Endian → List ℕ → ℕ → Option Unread → Type 0
+UnreadFrom order bytes offset (Some u) = u ≡ record { order = order; place = offset; left = drop offset bytes }
+UnreadFrom order bytes offset None = length bytes < offset

@@ -1,5 +1,5 @@
 //! Line tables, and their rows. (DWARF 4, section 6.2.)
-ghost use Rattle.std.specs.Prelude.{◌≡◌, ◌<◌, ◌^◌, IsTrue, length, map, option_map};
+ghost use Rattle.std.specs.Prelude.{◌≡◌, ◌<◌, ◌^◌, IsTrue, length, map, option_map, nat_le, ◌&&◌};
 ghost use Rattle.std.specs.List.{list_all};
 ghost use Rattle.dwc_base.specs.Cursors.{slice_bytes};
 ghost use Rattle.dwc_base.specs.FirstForm.{has_all_files};
@@ -8,7 +8,7 @@ ghost use Rattle.dwc_tabs.specs.AddressSizes.{is_address_size};
 ghost use Rattle.dwc_tabs.specs.Headers.{file_view};
 ghost use Rattle.dwc_tabs.specs.Programs.{GivesStep};
 ghost use Rattle.dwc_tabs.specs.Faults.{AnswersTable};
-ghost use Rattle.dwc_tabs.specs.Tables.{table_at, of_line, directory_of, file_of, Bounds, is_named_within, ReadsTable};
+ghost use Rattle.dwc_tabs.specs.Tables.{table_at, of_line, numbered, Bounds, is_named_within, ReadsTable, UnreadFrom};
 
 use crate::fault::{TabFault, flawed};
 use crate::header::{LineFile, line_header};
@@ -80,10 +80,9 @@ impl<'d> LineTable<'d> {
         requires { IsTrue (is_address_size address_size) }
         ensures { AnswersTable offset (line_table (of_line order line.now relocations.entry) address_size offset) result }
     {
-        let mut cursor = Cursor::new(line, order);
-        if cursor.take(offset as usize).is_err() {
+        let Some(cursor) = unread_from(line, order, offset) else {
             return Err(flawed(Flaw::EndsEarly, offset));
-        }
+        };
         match read_table(alloc, relocations, address_size, cursor) {
             Err(NotRead::OutOfMemory) => Err(TabFault::OutOfMemory),
             Err(NotRead::Flawed(flaw)) => Err(flawed(flaw, offset)),
@@ -113,15 +112,9 @@ impl<'d> LineTable<'d> {
 
     /// The name of a directory; None at 0, the compilation directory, and behind the last one. (DWARF 4, section 6.2.4, 11.)
     pub fn directory(&self, i: u64) -> Option<&'d [u8]>
-        ensures { option_map slice_bytes result ≡ directory_of self.now i }
+        ensures { option_map slice_bytes result ≡ numbered i self.now.header.directories }
     {
-        if i == 0 {
-            return None;
-        }
-        match self.directories.get(i as usize - 1) {
-            Some(name) => Some(*name),
-            None => None,
-        }
+        at_number(&self.directories, i).copied()
     }
 
     /// How many files the table has, those that its program defines among them.
@@ -133,15 +126,9 @@ impl<'d> LineTable<'d> {
 
     /// The file of a number; files count from 1. (DWARF 4, section 6.2.4, 12.)
     pub fn file(&self, i: u64) -> Option<LineFile<'d>>
-        ensures { option_map file_view result ≡ file_of self.now i }
+        ensures { option_map file_view result ≡ numbered i self.now.files }
     {
-        if i == 0 {
-            return None;
-        }
-        match self.files.get(i as usize - 1) {
-            Some(file) => Some(*file),
-            None => None,
-        }
+        at_number(&self.files, i).copied()
     }
 
     /// The steps of the table's program, from its begin on.
@@ -161,9 +148,7 @@ impl<'d> LineTable<'d> {
         requires { Bounds check self.now.steps }
         ensures { result ≡ has_all_files self.now }
     {
-        check.lowest_file >= 1
-            && check.highest_file <= self.files.len() as u64
-            && are_named(&self.files, self.directories.len())
+        are_there(check, &self.files, self.directories.len())
     }
 }
 
@@ -181,11 +166,45 @@ impl<'d> Rows<'d> {
     }
 }
 
-// Whether each file has a name, and one of the directories or the compilation directory.
-fn are_named(files: &[LineFile<'_>], directories: usize) -> bool
-    ensures { result ≡ list_all (is_named_within directories) (map file_view files.now) }
+// What stands at a number, from 1 on.
+fn at_number<T>(list: &[T], number: u64) -> Option<&T>
+    ensures { option_map (λ x. x.now) result ≡ numbered number list.now }
 {
-    files.iter().all(|file| file.directory <= directories as u64 && !file.name.is_empty())
+    if number == 0 {
+        return None;
+    }
+    list.get(number as usize - 1)
+}
+
+// Whether the files are there that rows name, each with a name and a directory that is there.
+fn are_there(check: ProgramCheck, files: &[LineFile<'_>], directories: usize) -> bool
+    ensures { result ≡ (nat_le 1 check.lowest_file && nat_le check.highest_file (length files.now) && list_all (is_named_within directories) (map file_view files.now)) }
+{
+    if check.lowest_file < 1 {
+        return false;
+    }
+    if check.highest_file > files.len() as u64 {
+        return false;
+    }
+    files.iter().all(|file| is_named(*file, directories))
+}
+
+// Whether a file has a name, and one of the directories or the compilation directory.
+fn is_named(file: LineFile<'_>, directories: usize) -> bool
+    ensures { result ≡ is_named_within directories (file_view file.entry) }
+{
+    file.directory <= directories as u64 && !file.name.is_empty()
+}
+
+// What is unread of some bytes from an offset on; None where the offset is past their end.
+fn unread_from<'d>(bytes: &'d [u8], order: Endian, offset: u64) -> Option<Cursor<'d>>
+    ensures { UnreadFrom order bytes.now offset result }
+{
+    let mut cursor = Cursor::new(bytes, order);
+    match cursor.take(offset as usize) {
+        Ok(_) => Some(cursor),
+        Err(_) => None,
+    }
 }
 
 // The table at the front, with what was noted of its rows.

@@ -1,12 +1,12 @@
-use Rattle.std.proofs.Common.{◌≡◌, ◌<◌, ◌+◌, ◌*◌, ◌^◌, ◌++◌, [], ◌∷◌, map, nat_abs, length, sym, ap, ◌∙◌, arith, append_assoc, append-nil}
+use Rattle.std.proofs.Common.{◌≡◌, ◌<◌, ◌++◌, [], ◌∷◌, map, length, sym, ap, ◌∙◌, arith, append_assoc, append-nil}
 use Rattle.std.specs.Prelude.{option_map}
 use Rattle.std.specs.List.{filter_map}
 use Rattle.std.proofs.lemmas.Result.{err_from_is_err_and}
-use Rattle.dwc_base.specs.LineRows.{effect, file_defined, at_sequence_start}
+use Rattle.dwc_base.specs.LineRows.{effect, file_defined}
 use Rattle.dwc_tabs.specs.Headers.{file_view, program_header}
 use Rattle.dwc_tabs.specs.Instructions.{instruction_view}
-use Rattle.dwc_tabs.specs.Steps.{registers_view, shown_step, shown_view}
-use Rattle.dwc_tabs.specs.Programs.{instructions_from, noted, shown_from, noted_all, nothing_noted}
+use Rattle.dwc_tabs.specs.Steps.{registers_view, shown_step}
+use Rattle.dwc_tabs.specs.Programs.{instructions_from, noted, shown_from, noted_all}
 use Rattle.dwc_tabs.proofs.ProgramLaws.{program-fewer, program-first, program-flaw, program-end, shown-behind, noted-shown, defined-first, instructions-none}
 use Rattle.dwc_tabs.proofs.program.check_program.Goals as goal
 

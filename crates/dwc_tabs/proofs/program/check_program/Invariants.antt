@@ -1,8 +1,5 @@
-use Rattle.std.proofs.Common.{◌≡◌, ◌+◌, ◌*◌, ◌^◌, ◌<◌, ◌++◌, map, length, nat_abs, List}
+use Rattle.std.proofs.Common.{◌≡◌, ◌+◌, ◌*◌, ◌^◌, ◌<◌, ◌++◌, map, length, nat_abs}
 use Rattle.std.specs.List.{filter_map}
-use Rattle.dwc_base.specs.declared.faults.Flaw.{Flaw}
-use Rattle.dwc_base.specs.Listing.{Listing}
-use Rattle.dwc_base.specs.LineHeaders as spec
 use Rattle.dwc_base.specs.LineRows.{at_sequence_start, file_defined}
 use Rattle.dwc_tabs.specs.Headers.{file_view, program_header}
 use Rattle.dwc_tabs.specs.Steps.{registers_view}

@@ -1,9 +1,9 @@
-use Rattle.std.proofs.Common.{◌≡◌, ◌<◌, Some, None, length, sym, ◌∙◌, arith}
+use Rattle.std.proofs.Common.{◌≡◌, Some, None, length, sym, ◌∙◌, arith}
 use Rattle.std.specs.Prelude.{option_map}
 use Rattle.dwc_base.specs.LineRows.{effect}
 use Rattle.dwc_tabs.specs.Headers.{program_header}
 use Rattle.dwc_tabs.specs.Instructions.{instruction_view}
-use Rattle.dwc_tabs.specs.Steps.{registers_view, shown_step, shown_view, step_view}
+use Rattle.dwc_tabs.specs.Steps.{registers_view, shown_step, step_view}
 use Rattle.dwc_tabs.proofs.ProgramLaws.{program-fewer, CanRun-behind, steps-step, steps-nothing, no-out_of_range, no-flaw, steps-end}
 use Rattle.dwc_tabs.proofs.program.next_step.Goals as goal
 

@@ -1,10 +1,10 @@
-use Rattle.std.proofs.Common.{◌≡◌, ℕ, min, ◌+◌, ◌*◌, ◌-◌, ◌^◌, ◌+ℤ◌, ◌%◌, pos, ap, ◌∙◌, arith, rules, Some, to_z, of_z}
+use Rattle.std.proofs.Common.{◌≡◌, min, ◌-◌, ◌^◌, ap, ◌∙◌, rules, Some, to_z, of_z}
 use mir.Syntax.{w128}
 use mir.Val.{SFits}
 use Rattle.std.proofs.lemmas.Int.{to_z-of_z}
-use Rattle.dwc_base.specs.LineRows.{Registers, appends, by_special}
+use Rattle.dwc_base.specs.LineRows.{by_special}
 use Rattle.dwc_tabs.specs.Headers.{program_header}
-use Rattle.dwc_tabs.specs.Steps.{registers_view, shown_step, capped}
+use Rattle.dwc_tabs.specs.Steps.{registers_view}
 use Rattle.dwc_tabs.proofs.StepLaws.{shown-capped}
 use Rattle.dwc_tabs.proofs.registers.execute.Goals as goal
 
