@@ -12,3 +12,4 @@ pub mod DeclarationLaws
 pub mod TransferLaws
 pub mod LineVersions
 pub mod WidestLines
+pub mod NameLaws

@@ -1,3 +1,5 @@
 pub mod ImageRows
 pub mod ImageSequences
 pub mod RunRows
+pub mod Emitted
+pub mod Refusals

@@ -1,5 +1,8 @@
-//! What is carried of an input's lines: the image of each segment of a line table for the function that it begins in.
+//! Carries the DWARF of a module over to the native code of its functions.
 #![tactic(auto)]
 
+mod error;
 mod image;
 mod sequence;
+
+pub use error::DebugError;

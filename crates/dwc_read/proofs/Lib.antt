@@ -7,3 +7,4 @@ pub mod TableLaws
 pub mod AttributeLaws
 pub mod HeaderLaws
 pub mod StepLaws
+pub mod EntriesLaws

@@ -7,8 +7,8 @@ use Rattle.dwc_base.specs.Units.{UnitHeader}
 use Rattle.dwc_base.specs.Entries as spec
 use Rattle.dwc_read.specs.declared.fault.ReadFault.{ReadFault}
 use Rattle.dwc_read.specs.declared.place.Place.{Place}
-use Rattle.dwc_read.specs.declared.entries.Step.{Step}
-use Rattle.dwc_read.specs.declared.entries.Step.TheVariants.{End, Siblings, Found}
+use Rattle.dwc_read.specs.declared.steps.Step.{Step}
+use Rattle.dwc_read.specs.declared.steps.Step.TheVariants.{End, Siblings, Found}
 use Rattle.dwc_read.specs.Faults.{RefusesNext, fault_seen}
 
 abbrev pub place_view : Place → spec.EntryPlace

@@ -15,11 +15,13 @@ mod name;
 mod number;
 mod place;
 mod sections;
+mod steps;
 mod table;
 mod unit;
 mod units;
 mod value;
 
+pub use entries::Entries;
 pub use entry::Entry;
 pub use fault::ReadFault;
 pub use sections::Sections;

@@ -155,4 +155,26 @@ impl<'d> Unit<'d> {
     {
         &self.relocations
     }
+
+    // The sections that the unit stands in.
+    pub fn sections(&self) -> &Sections<'d>
+        ensures { result.now ≡ self.now.sections }
+    {
+        &self.sections
+    }
+
+    // The offset of the unit's abbreviation table.
+    pub fn abbreviations(&self) -> u32
+        ensures { result ≡ self.now.header.abbreviations }
+    {
+        self.header.abbreviations
+    }
+
+    // What stands behind the unit's header.
+    pub fn content(&self) -> Cursor<'d>
+        ensures content { result ≡ self.now.header.content }
+        ensures short { length result.left < 2 ^ 32 }
+    {
+        self.header.content.fork()
+    }
 }

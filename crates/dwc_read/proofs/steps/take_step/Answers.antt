@@ -7,7 +7,7 @@ use Rattle.dwc_base.proofs.EntryWalk.{entries_from-none, entries_from-end, entri
 use Rattle.dwc_read.specs.EntriesSeen.{found_view}
 use Rattle.dwc_read.specs.Places.{place_view, IsShallow}
 use Rattle.dwc_read.proofs.StepLaws.{entry_at-shrinks, entry_places_left-place, IsShallow-behind, IsShallow-siblings, Stays-at}
-use Rattle.dwc_read.proofs.entries.take_step.Goals as goal
+use Rattle.dwc_read.proofs.steps.take_step.Goals as goal
 
 pub returns-in_default-clause-step : goal.returns-in_default-clause-step
 returns-in_default-clause-step c =
