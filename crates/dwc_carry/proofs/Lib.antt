@@ -1,4 +1,10 @@
 pub mod ImageLaws
+pub mod LookupLaws
+pub mod OrderLaws
+pub mod RisingRows
+pub mod RowsLaws
+pub mod RunLaws
+pub mod SequenceLaws
 pub mod KeptLaws
 pub mod EmitLaws
 pub mod UnitPlaces

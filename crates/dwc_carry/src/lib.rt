@@ -2,7 +2,9 @@
 #![tactic(auto)]
 
 mod error;
+mod image;
 mod known_form;
+mod sequence;
 mod unit_entries;
 
 pub use error::DebugError;

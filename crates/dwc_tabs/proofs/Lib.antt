@@ -1,0 +1,6 @@
+pub mod HeaderLaws
+pub mod InstructionLaws
+pub mod StepLaws
+pub mod ProgramLaws
+pub mod TableLaws
+pub mod FileLaws

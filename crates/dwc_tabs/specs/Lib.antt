@@ -1,0 +1,7 @@
+pub mod AddressSizes
+pub mod Headers
+pub mod Instructions
+pub mod Steps
+pub mod Programs
+pub mod Faults
+pub mod Tables
