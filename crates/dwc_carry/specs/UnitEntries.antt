@@ -23,13 +23,13 @@ abbrev pub are_subprograms : List Entry → Bool
 are_subprograms es = list_all (λ e. e.tag == DW_TAG_subprogram) es
 
 -- Subprograms from a listing on: all of its entries are such, and some are kept exactly where some are required.
-abbrev pub GivesSubprograms : List Function → Listing Fault Entry → Result (List Subprogram) DebugError → Type 0
-GivesSubprograms fs list (Ok kept) = (list.fault ≡ None) × (are_subprograms list.items ≡ true) × (list_any (is_required fs) list.items ≡ nat_lt 0 (length kept))
+abbrev pub GivesSubprograms : List Function → Listing Fault Entry → Result (Vec Subprogram Global) DebugError → Type 0
+GivesSubprograms fs list (Ok kept) = (list.fault ≡ None) × (are_subprograms list.items ≡ true) × (list_any (is_required fs) list.items ≡ nat_lt 0 (vec_len kept))
 GivesSubprograms fs list (Err e) = RefusesPart list.fault (are_subprograms list.items) e
 
 -- What is read of a unit's entries: they are of the form that is read, the line table is the root's, and some subprograms
 -- are kept exactly where some entries are required.
 abbrev pub GivesEntries : List Function → Listing Fault Entry → Result UnitEntries DebugError → Type 0
 GivesEntries fs list (Ok es) =
-    (list.fault ≡ None) × (has_known_entries list.items ≡ true) × (es.line_table ≡ offset_of_table (first_entry list.items)) × (list_any (is_required fs) list.items ≡ nat_lt 0 (length es.subprograms.items))
+    (list.fault ≡ None) × (has_known_entries list.items ≡ true) × (es.line_table ≡ offset_of_table (first_entry list.items)) × (list_any (is_required fs) list.items ≡ nat_lt 0 (vec_len es.subprograms))
 GivesEntries fs list (Err e) = RefusesPart list.fault (has_known_entries list.items) e

@@ -7,6 +7,7 @@ ghost use Rattle.dwc_base.specs.Kept.{is_required, is_translatable};
 ghost use Rattle.dwc_base.specs.Functions.{function_at};
 ghost use Rattle.dwc_addr.specs.Transforms.{function_view};
 ghost use Rattle.dwc_read.specs.EntriesSeen.{entry_view};
+ghost use Rattle.dwc_carry.specs.UnitEntries.{GivesSubprograms, GivesEntries};
 
 use crate::DebugError;
 use dwc_addr::{AddressTransform, FunctionMap};
@@ -61,4 +62,67 @@ fn function_of<'t>(entry: &Entry<'_>, transform: &'t AddressTransform) -> Option
         AttributeValue::Addr(Address::Constant(address)) => transform.func_at(address),
         _ => None,
     }
+}
+
+// The subprogram of the output that an entry is, if it is kept: it is a subprogram without ranges that begins in a function
+// with a symbol.
+fn kept_subprogram(entry: &Entry<'_>, transform: &AddressTransform) -> Option<Subprogram>
+    ensures { is_some result ≡ is_required transform.now (entry_view entry.now) }
+{
+    if entry.tag != DW_TAG_subprogram || entry.attr(DW_AT_ranges).is_some() {
+        return None;
+    }
+    let function = function_of(entry, transform)?;
+    Some(Subprogram {
+        function: function.symbol.unwrap(),
+        length: function.len as u64,
+    })
+}
+
+// The kept ones of the entries that are still to come, which are all subprograms.
+fn subprograms(
+    alloc: Global,
+    entries: &mut Entries<'_>,
+    transform: &AddressTransform,
+) -> Result<Vec<Subprogram>, DebugError>
+    ensures { GivesSubprograms transform.now entries.old.left result }
+{
+    let mut kept = Vec::new(alloc);
+    while entries.advance()? {
+        let entry = entries.current();
+        if entry.tag != DW_TAG_subprogram {
+            return Err(not_built(entry));
+        }
+        if let Some(subprogram) = kept_subprogram(entry, transform) {
+            kept.push(subprogram)?;
+        }
+    }
+    Ok(kept)
+}
+
+/// What is carried of the entries of a unit, which has the form that is read so far.
+pub(crate) fn unit_entries(
+    alloc: Global,
+    unit: &Unit<'_>,
+    transform: &AddressTransform,
+) -> Result<UnitEntries, DebugError>
+    ensures { GivesEntries transform.now (entries_of unit.now.sections unit.now.header) result }
+{
+    let mut entries = unit.entries(alloc)?;
+    if !entries.advance()? {
+        return Ok(UnitEntries {
+            line_table: None,
+            subprograms: Vec::new(alloc),
+        });
+    }
+    let root = entries.current();
+    if root.tag != DW_TAG_compile_unit {
+        return Err(not_built(root));
+    }
+    let line_table = line_table(root);
+    let subprograms = subprograms(alloc, &mut entries, transform)?;
+    Ok(UnitEntries {
+        line_table,
+        subprograms,
+    })
 }
