@@ -4,3 +4,4 @@ pub mod StepLaws
 pub mod ProgramLaws
 pub mod TableLaws
 pub mod FileLaws
+pub mod RowLaws

@@ -17,7 +17,7 @@ use Rattle.dwc_base.specs.declared.section_name.SectionName.TheVariants.{Line}
 use Rattle.dwc_base.specs.declared.records.Endian.{Endian}
 use Rattle.dwc_base.specs.Reading.{Unread, Read as ReadOf, bytes_at, number_at}
 use Rattle.dwc_base.specs.Units.{sized_part_at}
-use Rattle.dwc_base.specs.Sections.{Relocation, reported, fault_of, unreadable, unsupported}
+use Rattle.dwc_base.specs.Sections.{Sections, Relocation, reported, fault_of, unreadable, unsupported}
 use Rattle.dwc_base.specs.Listing.{Listing}
 use Rattle.dwc_base.specs.LineHeaders.{LineFile, LineHeader, line_header_at, Instruction, special, copy, advance_pc, advance_line, set_file, set_column, negate_stmt, set_basic_block, const_add_pc, fixed_advance_pc, set_prologue_end, set_epilogue_begin, set_isa, end_sequence, set_address, define_file, set_discriminator, unknown, extended_at, extended_instruction_at, instruction_at, next_instruction, instructions}
 use Rattle.dwc_base.specs.LineRows.{Registers, LineStep, start, row, end, after, effect, effects, with_effect, Effect, is_in_range, step_of, at_sequence_start, file_defined, table_of, checked_table, line_table_at, line_table}
@@ -239,6 +239,11 @@ pub line_table-at : (order : Endian) (bytes : List ℕ) (relocations : List Relo
     → line_table (of_line order bytes relocations) address_size offset ≡ reported LineTableRead Line offset (table_at relocations address_size (record { order = order; place = offset; left = drop offset bytes }))
 unfolding line_table line_table_at table_at
 line_table-at order bytes relocations address_size offset = refl
+
+-- the table of some sections is that of their line section
+pub line_table-of : (s : Sections) (address_size offset : ℕ) → line_table (of_line s.order (s.bytes Line) (s.relocations Line)) address_size offset ≡ line_table s address_size offset
+unfolding line_table line_table_at
+line_table-of s address_size offset = refl
 
 -- no table stands behind the section's end
 pub table_at-end : (relocations : List Relocation) (address_size : ℕ) (order : Endian) (place : ℕ) → table_at relocations address_size (record { order = order; place = place; left = [] }) ≡ Err EndsEarly

@@ -1,4 +1,3 @@
-pub mod AddressSizes
 pub mod Headers
 pub mod Instructions
 pub mod Steps

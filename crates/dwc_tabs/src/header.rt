@@ -4,7 +4,7 @@ ghost use Rattle.dwc_base.specs.Reading.{counted_at, items_at, number_at};
 ghost use Rattle.dwc_base.specs.Units.{sized_part_at};
 ghost use Rattle.dwc_base.specs.LineHeaders.{signed_byte, directory_at, file_behind, file_at, operations_at, line_fields_to_4, line_header_at};
 ghost use Rattle.dwc_base.specs.Cursors.{Gives, GivesLast, GivesOrMemory, GivesLastOrMemory, slice_bytes};
-ghost use Rattle.dwc_tabs.specs.AddressSizes.{is_address_size};
+ghost use Rattle.dwc_read.specs.FieldSizes.{is_field_size};
 ghost use Rattle.dwc_tabs.specs.Headers.{file_view, header_view};
 
 use crate::parameters::Parameters;
@@ -146,7 +146,7 @@ fn fields_to_4<'d>(
     program: Cursor<'d>,
     mut cursor: Cursor<'d>,
 ) -> Result<Header<'d>, NotRead>
-    requires { IsTrue (is_address_size address_size) }
+    requires { IsTrue (is_field_size address_size) }
     ensures { GivesLastOrMemory header_view (line_fields_to_4 version address_size program.entry cursor.entry) result }
 {
     let minimum_instruction_length = cursor.u8()?;
@@ -188,7 +188,7 @@ pub fn line_header<'d>(
     address_size: u8,
     mut cursor: Cursor<'d>,
 ) -> Result<Header<'d>, NotRead>
-    requires { IsTrue (is_address_size address_size) }
+    requires { IsTrue (is_field_size address_size) }
     ensures { GivesLastOrMemory header_view (line_header_at address_size cursor.entry) result }
 {
     let mut table = sized_part(&mut cursor)?;

@@ -4,7 +4,7 @@ ghost use Rattle.dwc_base.specs.Reading.{number_at};
 ghost use Rattle.dwc_base.specs.Sections.{address_at};
 ghost use Rattle.dwc_base.specs.LineHeaders.{passed_operands_at, extended_at, extended_instruction_at, instruction_at};
 ghost use Rattle.dwc_base.specs.Cursors.{Gives};
-ghost use Rattle.dwc_tabs.specs.AddressSizes.{is_address_size};
+ghost use Rattle.dwc_read.specs.FieldSizes.{is_field_size};
 ghost use Rattle.dwc_tabs.specs.Headers.{program_header};
 ghost use Rattle.dwc_tabs.specs.Instructions.{instruction_view, standard_at};
 
@@ -152,7 +152,7 @@ fn address(
     relocations: &Relocations<'_>,
     cursor: &mut Cursor<'_>,
 ) -> Result<Address, Flaw>
-    requires { IsTrue (is_address_size size) }
+    requires { IsTrue (is_field_size size) }
     ensures { Gives (λ x. x) (address_at relocations.now size cursor.old) cursor.new result }
 {
     let place = cursor.place();
@@ -162,7 +162,7 @@ fn address(
 
 // A number of 1, 2, 4 or 8 bytes.
 fn number(size: u8, cursor: &mut Cursor<'_>) -> Result<u64, Flaw>
-    requires { IsTrue (is_address_size size) }
+    requires { IsTrue (is_field_size size) }
     ensures { Gives (λ x. x) (number_at size cursor.old) cursor.new result }
 {
     match size {

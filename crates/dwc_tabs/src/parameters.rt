@@ -1,6 +1,6 @@
 //! What the instructions of a line program depend on.
 ghost use Rattle.std.specs.Prelude.{◌≡◌, ◌-◌, ◌<◌, IsTrue, length};
-ghost use Rattle.dwc_tabs.specs.AddressSizes.{is_address_size};
+ghost use Rattle.dwc_read.specs.FieldSizes.{is_field_size};
 
 /// The fields of a header that the instructions depend on.
 #[derive(Clone, Copy)]
@@ -14,7 +14,7 @@ pub struct Parameters<'d> {
     pub opcode_base: u8,
     /// How many numbers stand behind each standard opcode, from 1 on.
     pub standard_opcode_lengths: &'d [u8],
-    ghost sized: { IsTrue (is_address_size address_size) },
+    ghost sized: { IsTrue (is_field_size address_size) },
     ghost divides: { 0 < line_range },
     ghost counted: { length standard_opcode_lengths.now ≡ opcode_base - 1 },
 }

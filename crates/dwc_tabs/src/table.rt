@@ -4,7 +4,7 @@ ghost use Rattle.std.specs.List.{list_all};
 ghost use Rattle.dwc_base.specs.Cursors.{slice_bytes};
 ghost use Rattle.dwc_base.specs.FirstForm.{has_all_files};
 ghost use Rattle.dwc_base.specs.LineRows.{line_table};
-ghost use Rattle.dwc_tabs.specs.AddressSizes.{is_address_size};
+ghost use Rattle.dwc_read.specs.FieldSizes.{is_field_size};
 ghost use Rattle.dwc_tabs.specs.Headers.{file_view};
 ghost use Rattle.dwc_tabs.specs.Programs.{GivesStep};
 ghost use Rattle.dwc_tabs.specs.Faults.{AnswersTable};
@@ -16,7 +16,8 @@ use crate::parameters::Parameters;
 use crate::program::{ProgramCheck, check_program, next_step};
 use crate::registers::{Registers, sequence_start};
 use crate::step::LineStep;
-use dwc_base::{Cursor, Endian, Flaw, NotRead, Relocations};
+use dwc_base::{Cursor, Endian, Flaw, NotRead, Relocations, SectionName};
+use dwc_read::Unit;
 use std::alloc::Global;
 use std::marker::Model;
 
@@ -68,8 +69,27 @@ impl<'d> Model for Rows<'d> {
 }
 
 impl<'d> LineTable<'d> {
-    /// The line table at an offset of a line section, for a unit of an address size.
-    pub fn read_at(
+    /// The line table at an offset of `.debug_line`, read whole. Versions 2 to 4 are read. It answers `Read` where the bytes
+    /// are no line table or a row's offset or line is out of range, `Unsupported` for the 64-bit format, for several operations
+    /// in one instruction and for any other version, and `InvalidFileIndex` where the table names a file or a directory that is
+    /// not there. (DWARF 4, section 6.2.4.)
+    pub fn read(alloc: Global, unit: &Unit<'d>, offset: u64) -> Result<LineTable<'d>, TabFault>
+        ensures { AnswersTable offset (line_table unit.now.sections unit.now.header.address_size offset) result }
+    {
+        let line = unit.section(SectionName::Line);
+        let relocations = unit.relocations(SectionName::Line);
+        LineTable::read_at(
+            alloc,
+            line,
+            relocations,
+            unit.order(),
+            unit.address_size(),
+            offset,
+        )
+    }
+
+    // The line table at an offset of the bytes of a line section, for a unit of an address size.
+    pub(crate) fn read_at(
         alloc: Global,
         line: &'d [u8],
         relocations: Relocations<'d>,
@@ -77,7 +97,7 @@ impl<'d> LineTable<'d> {
         address_size: u8,
         offset: u64,
     ) -> Result<LineTable<'d>, TabFault>
-        requires { IsTrue (is_address_size address_size) }
+        requires { IsTrue (is_field_size address_size) }
         ensures { AnswersTable offset (line_table (of_line order line.now relocations.entry) address_size offset) result }
     {
         let Some(cursor) = unread_from(line, order, offset) else {
@@ -214,7 +234,7 @@ fn read_table<'d>(
     address_size: u8,
     cursor: Cursor<'d>,
 ) -> Result<(LineTable<'d>, ProgramCheck), NotRead>
-    requires { IsTrue (is_address_size address_size) }
+    requires { IsTrue (is_field_size address_size) }
     ensures { ReadsTable (table_at relocations.entry address_size cursor.entry) result }
 {
     let header = line_header(alloc, address_size, cursor)?;
