@@ -1,5 +1,6 @@
 -- What is read of the entries of a unit: its line table, and its kept subprograms.
-use Rattle.std.specs.Prelude.{◌≡◌, ◌⊎◌, ℕ, ◌==◌, ◌||◌, nat_lt, List, [], ◌∷◌, length, Bool, true, false, Option, Some, None, is_some, Result, Ok, Err}
+use Rattle.std.specs.Prelude.{Vec, vec_len, ◌≡◌, ◌⊎◌, ℕ, ◌==◌, ◌||◌, nat_lt, List, [], ◌∷◌, length, Bool, true, false, Option, Some, None, is_some, Result, Ok, Err}
+use Rattle.std.specs.Global.{Global}
 use Rattle.std.specs.List.{list_any, list_all}
 use Rattle.dwc_base.specs.declared.constants.TheConstants.{DW_TAG_subprogram}
 use Rattle.dwc_base.specs.Listing.{Listing}
