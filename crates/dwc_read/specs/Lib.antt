@@ -11,3 +11,4 @@ pub mod EntriesSeen
 pub mod Places
 pub mod Headers
 pub mod Views
+pub mod Lone
