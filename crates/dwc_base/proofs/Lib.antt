@@ -18,3 +18,11 @@ pub mod EntryWalk
 pub mod Steps
 pub mod LebLaws
 pub mod SlebLaws
+pub mod FileTakes
+pub mod ImportLaws
+pub mod Parts
+pub mod Translated
+pub mod SectionTitles
+pub mod SectionWalk
+pub mod WalkedSections
+pub mod FileStarts

@@ -19,3 +19,4 @@ pub mod FirstForm
 pub mod Widest
 pub mod Lebs
 pub mod Cursors
+pub mod Translations

@@ -115,6 +115,13 @@ impl<'d> Cursor<'d> {
         self.left.len()
     }
 
+    /// The bytes that are unread.
+    pub fn unread(&self) -> &'d [u8]
+        ensures { result.now ≡ self.now.left }
+    {
+        self.left
+    }
+
     pub fn take(&mut self, n: usize) -> Result<&'d [u8], CursorFault>
         ensures read { Reads (λ x. x.now) (bytes_at n self.old) self.old self.new result }
         ensures length { IfOk result (λ x. length x.now ≡ n) }
