@@ -12,3 +12,4 @@ pub mod Places
 pub mod Headers
 pub mod Views
 pub mod Lone
+pub mod Lent
