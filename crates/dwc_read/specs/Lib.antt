@@ -11,3 +11,5 @@ pub mod EntriesSeen
 pub mod Places
 pub mod Headers
 pub mod Views
+pub mod Lone
+pub mod Lent

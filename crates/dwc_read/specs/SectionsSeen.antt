@@ -7,12 +7,14 @@ use Rattle.dwc_base.specs.declared.records.Endian.TheVariants.{Little, Big}
 use Rattle.dwc_base.specs.declared.section_name.SectionName.{SectionName}
 use Rattle.dwc_base.specs.declared.section_name.SectionName.TheVariants.{Abbrev, Addr, Info, Line, LineStr, Loc, Loclists, Ranges, Rnglists, Str, StrOffsets, CuIndex, Frame}
 use Rattle.dwc_base.specs.Sections.{Sections, Relocation}
+use Rattle.dwc_base.specs.Translations.{section_bytes}
 use Rattle.dwc_base.specs.Outputs.{section_view, output_sections}
 use Rattle.dwc_read.specs.declared.sections.Held.{Held}
-use Rattle.dwc_read.specs.declared.sections.Held.TheVariants.{Output}
+use Rattle.dwc_read.specs.declared.sections.Held.TheVariants.{Module, Output}
 
 -- the sections that a reader holds
 abbrev pub sections_held : Endian → Held → Sections
+sections_held order (Module sections) = record { order = order; bytes = section_bytes sections; relocations = λ name. [] }
 sections_held order (Output sections) = output_sections order (map section_view sections.now)
 
 -- ---- how proofs tell sections apart: the lists of their names in a fixed order

@@ -38,7 +38,9 @@ impl<'d> Model for Entries<'d> {
 }
 
 impl<'d> Entries<'d> {
+    ghost use Rattle.std.specs.Borrow.{sem};
     ghost use Rattle.dwc_read.specs.EntriesSeen.{StartsAt, entry_view};
+    ghost use Rattle.dwc_read.specs.Lent.{Lends, LeavesOthers, Becomes};
 
     // The entries of a unit.
     pub fn of(unit: Unit<'d>, alloc: Global) -> Result<Entries<'d>, ReadFault>
@@ -68,6 +70,18 @@ impl<'d> Entries<'d> {
         ensures { GoesOn self.old.left self.new.left self.new.current result }
     {
         go_on(&self.unit, &self.table, &mut self.place, &mut self.entry)
+    }
+
+    /// The next entry, lent until the next call. It answers as [`Entries::advance`] does.
+    pub fn next_entry(&mut self) -> Result<Option<&Entry<'d>>, ReadFault>
+        ensures lends { Lends self.old.left result }
+        ensures* leaves { sem 𝓛 (Becomes self.entry (λ v. LeavesOthers self.old.left v.left result)) }
+    {
+        if self.advance()? {
+            Ok(Some(&self.entry))
+        } else {
+            Ok(None)
+        }
     }
 
     /// The entry that was read last.

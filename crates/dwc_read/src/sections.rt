@@ -1,9 +1,12 @@
 //! The sections that hold DWARF, of input and of output alike.
 ghost use Rattle.std.specs.Prelude.{◌≡◌, ◌<◌, ◌^◌, length, map, option_map, All};
+ghost use Rattle.dwc_base.specs.Translations.{translation_sections};
 ghost use Rattle.dwc_base.specs.Outputs.{section_view, section_named, output_sections};
 ghost use Rattle.dwc_read.specs.Named.{bytes_named, relocations_named};
 
-use dwc_base::{DwarfSection, Endian, Relocations, SectionName};
+use dwc_base::{
+    DwarfSection, Endian, ModuleTranslation, Relocations, SectionName, WasmSections,
+};
 use std::marker::Model;
 
 /// The sections that hold DWARF, by their names, with the relocations in them and the order of the bytes of a number.
@@ -17,6 +20,7 @@ pub struct Sections<'d> {
 // Where the bytes of the sections are.
 #[derive(Clone, Copy)]
 enum Held<'d> {
+    Module(WasmSections<'d>),
     Output(&'d [DwarfSection]),
 }
 
@@ -36,6 +40,16 @@ impl<'d> Model for Sections<'d> {
 }
 
 impl<'d> Sections<'d> {
+    /// The sections of a module. They have no relocations, and their numbers are little-endian.
+    pub fn of_module(module: &ModuleTranslation<'d>) -> Sections<'d>
+        ensures { result ≡ translation_sections «module».now }
+    {
+        Sections {
+            order: Endian::Little,
+            held: Held::Module(module.sections),
+        }
+    }
+
     /// The sections of an output. Of two of one name the first counts, and so does the first of two function relocations of
     /// one place and size.
     pub fn of_output(sections: &'d [DwarfSection], order: Endian) -> Sections<'d>
@@ -71,6 +85,7 @@ impl<'d> Sections<'d> {
         ensures length { length result.now < 2 ^ 32 }
     {
         match self.held {
+            Held::Module(sections) => sections.get(name),
             Held::Output(sections) => body_of(sections, name.text()),
         }
     }
@@ -80,6 +95,7 @@ impl<'d> Sections<'d> {
         ensures { result ≡ self.now.relocations name }
     {
         match self.held {
+            Held::Module(_) => Relocations::none(),
             Held::Output(sections) => relocations_of(sections, name.text()),
         }
     }

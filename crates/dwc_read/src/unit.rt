@@ -1,11 +1,14 @@
 //! A unit of `.debug_info`.
-ghost use Rattle.std.specs.Prelude.{◌≡◌, ◌<◌, ◌^◌, length, IsTrue};
+ghost use Rattle.std.specs.Prelude.{◌≡◌, ◌<◌, ◌^◌, length, take, IsTrue};
 ghost use Rattle.dwc_read.specs.FieldSizes.{is_field_size};
 
-use crate::Sections;
 use crate::header::Header;
+use crate::lone::{lone_entry as read_alone, no_entry};
 use crate::number::address;
+use crate::table::table_at;
+use crate::{Entries, Entry, ReadFault, Sections};
 use dwc_base::{Address, Cursor, Encoding, Endian, Relocations, SectionName};
+use std::alloc::Global;
 use std::marker::Model;
 
 /// A unit of `.debug_info`: its header, and the sections that it stands in.
@@ -34,6 +37,10 @@ impl<'d> Model for Unit<'d> {
 impl<'d> Unit<'d> {
     ghost use Rattle.dwc_read.specs.Headers.{header_view};
     ghost use Rattle.dwc_read.specs.Views.{field_at};
+    ghost use Rattle.dwc_base.specs.Entries.{entries as entries_of};
+    ghost use Rattle.dwc_read.specs.Faults.{GivesOrFault};
+    ghost use Rattle.dwc_read.specs.EntriesSeen.{StartsAt, entry_view};
+    ghost use Rattle.dwc_read.specs.Lone.{lone_entry, unread_from};
 
     // The unit of a header.
     pub fn new(sections: Sections<'d>, header: Header<'d>) -> Unit<'d>
@@ -134,6 +141,43 @@ impl<'d> Unit<'d> {
         address(&relocations, size, &mut cursor).ok()
     }
 
+    /// The first entry of the unit.
+    ///
+    /// Answers `Read` with the table's offset where the unit's abbreviation table cannot be read, and `Read` or `Unsupported`
+    /// with the entry's offset where no entry stands behind the header.
+    pub fn root(&self, alloc: Global) -> Result<Entry<'d>, ReadFault>
+        ensures { GivesOrFault entry_view (lone_entry self.now self.now.header.content) result }
+    {
+        let table = table_at(alloc, &self.sections, self.header.abbreviations)?;
+        read_alone(alloc, self, &table, self.content())
+    }
+
+    /// The entry at an offset of `.debug_info`, at depth 0, whether or not the entries that come one after another come
+    /// upon that place.
+    ///
+    /// Answers `Read` with the table's offset where the unit's abbreviation table cannot be read, and `Read` or `Unsupported`
+    /// with the given offset where no entry stands there before the unit's end.
+    pub fn entry_at(&self, alloc: Global, offset: u64) -> Result<Entry<'d>, ReadFault>
+        ensures { GivesOrFault entry_view (lone_entry self.now (unread_from self.now offset)) result }
+    {
+        let table = table_at(alloc, &self.sections, self.header.abbreviations)?;
+        let bytes = front_of(self.sections.bytes(SectionName::Info), self.header.end);
+        if offset >= bytes.len() as u64 {
+            return Err(no_entry(offset));
+        }
+        let cursor = Cursor::at(bytes, offset as u32, self.sections.order());
+        read_alone(alloc, self, &table, cursor)
+    }
+
+    /// The entries of the unit, in file order.
+    ///
+    /// Answers `Read` with the table's offset where the unit's abbreviation table cannot be read.
+    pub fn entries(&self, alloc: Global) -> Result<Entries<'d>, ReadFault>
+        ensures { StartsAt (entries_of self.now.sections self.now.header) result }
+    {
+        Entries::of(self.again(), alloc)
+    }
+
     // The unit's version of DWARF.
     pub fn version(&self) -> u16
         ensures { result ≡ self.now.header.version }
@@ -177,4 +221,15 @@ impl<'d> Unit<'d> {
     {
         self.header.content.fork()
     }
+}
+
+// The bytes before a place, or all.
+fn front_of<'d>(bytes: &'d [u8], end: usize) -> &'d [u8]
+    ensures { result.now ≡ take end bytes.now }
+{
+    if end > bytes.len() {
+        return bytes;
+    }
+    let (front, _) = bytes.split_at(end);
+    front
 }
