@@ -1,5 +1,5 @@
 //! The entries of a unit that are kept: its root, and the subprograms that begin in a function with a symbol.
-ghost use Rattle.std.specs.Prelude.{◌≡◌, option_map, is_some, Result, map};
+ghost use Rattle.std.specs.Prelude.{◌≡◌, option_map, is_some, IfSome, IsSome};
 ghost use Rattle.dwc_base.specs.Entries.{attribute, entries as entries_of};
 ghost use Rattle.dwc_base.specs.FirstForm.{offset_of_table};
 ghost use Rattle.dwc_base.specs.Carried.{line_offset};
@@ -56,7 +56,8 @@ fn line_table(entry: &Entry<'_>) -> Option<u64>
 
 // The function that an entry's low_pc is in.
 fn function_of<'t>(entry: &Entry<'_>, transform: &'t AddressTransform) -> Option<&'t FunctionMap>
-    ensures { is_some (option_map (λ f. function_view f.now) result) ≡ is_translatable transform.now (attribute DW_AT_low_pc (entry_view entry.now)) }
+    ensures symbol { IfSome result (λ f. IsSome f.now.symbol) }
+    ensures found { is_some (option_map (λ f. function_view f.now) result) ≡ is_translatable transform.now (attribute DW_AT_low_pc (entry_view entry.now)) }
 {
     match entry.attr(DW_AT_low_pc)? {
         AttributeValue::Addr(Address::Constant(address)) => transform.func_at(address),
