@@ -13,3 +13,4 @@ pub mod TransferLaws
 pub mod LineVersions
 pub mod WidestLines
 pub mod NameLaws
+pub mod ReadUnitLaws

@@ -4,3 +4,4 @@ pub mod RunRows
 pub mod Emitted
 pub mod Refusals
 pub mod UnitEntries
+pub mod ReadUnits
