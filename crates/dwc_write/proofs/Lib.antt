@@ -17,3 +17,6 @@ pub mod Whole
 pub mod LineLaws
 pub mod RowLaws
 pub mod UnitLaws
+pub mod WritesLaws
+pub mod SequenceLaws
+pub mod ShapeLaws

@@ -2,11 +2,14 @@
 //! back by the definitions as it was given.
 #![tactic(auto)]
 
+mod abbreviations;
 mod append;
 mod attributes;
+mod entries;
 mod error;
 mod lines;
 mod rows;
+mod tables;
 mod units;
 mod writer;
 
