@@ -20,3 +20,5 @@ pub mod UnitLaws
 pub mod WritesLaws
 pub mod SequenceLaws
 pub mod ShapeLaws
+pub mod ReadRelocations
+pub mod TableLaws

@@ -41,3 +41,10 @@ sequence-relocations order size place q small =
 pub size-small : (size : ℕ) → (size ≡ 4) ⊎ (size ≡ 8) → size < 127
 size-small size (inl e) = omega (arith, e)
 size-small size (inr e) = omega (arith, e)
+
+-- the start is no longer than the sequence
+pub sequence-front : (order : Endian) (size : ℕ) (q : WrittenSequence) → size < 127 → length ((0 ∷ (size + 1) ∷ 2 ∷ []) ++ address_bytes order size q.start_address) ≤ length (sequence_bytes order size q)
+sequence-front order size q small =
+    let front = (0 ∷ (size + 1) ∷ 2 ∷ []) ++ address_bytes order size q.start_address in
+    let rows = program_bytes Little 8 (rows_instructions first_row q.rows q.end_offset) in
+    omega (arith, ap length (sequence-bytes order size q small), length-append front rows)

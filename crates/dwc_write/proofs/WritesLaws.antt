@@ -1,8 +1,9 @@
 -- Calls that write one behind another: what they append together, and that a refusal of one is a refusal of all.
-use Rattle.std.proofs.Common.{◌≡◌, ℕ, zero, suc, ◌+◌, ◌<◌, ◌≤◌, refl, sym, ap, subst, ◌∙◌, arith, List, [], ◌∷◌, ◌++◌, append_assoc, append-nil, length, length-append, map, drop, get_or, Ok, Err}
-use Rattle.std.specs.Prelude.{Result}
+use Rattle.std.proofs.Common.{◌≡◌, ℕ, zero, suc, ◌+◌, ◌<◌, ◌≤◌, refl, sym, ap, subst, ◌∙◌, arith, List, [], ◌∷◌, ◌++◌, append_assoc, append-nil, length, length-append, map, take, drop, get_or, replicate, Ok, Err}
+use Rattle.std.specs.Prelude.{Result, ◌-◌}
 use Rattle.std.specs.List.{All, flat_map}
-use Rattle.std.proofs.lemmas.List.{get_or-map, length-map, drop_all}
+use Rattle.std.proofs.lemmas.List.{get_or-map, length-map, drop_all, length-replicate}
+use Rattle.std.proofs.Math.Seq.{drop-append_seam, take-append_seam, drop-append-add}
 use Rattle.dwc_base.specs.declared.records.Endian.{Endian}
 use Rattle.dwc_write.specs.Spelled.{at_places}
 use Rattle.dwc_base.specs.Outputs.{OutputRelocation}
@@ -10,7 +11,7 @@ use Rattle.dwc_write.specs.declared.error.WriteError.{WriteError}
 use Rattle.dwc_write.specs.declared.error.WriteError.TheVariants.{TooLarge, OutOfMemory}
 use Rattle.dwc_write.specs.declared.error.Limit.{Limit}
 use Rattle.dwc_write.specs.declared.error.Limit.TheVariants.{Section}
-use Rattle.dwc_write.specs.Writers.{Writing, Refuses, Writes, appended}
+use Rattle.dwc_write.specs.Writers.{Writing, Refuses, Writes, appended, overwritten, replaced}
 
 -- what refuses less refuses more
 pub refused-longer : (e : WriteError) (w : Writing) (n total : ℕ) → Refuses e w n → n ≤ total → Refuses e w total
@@ -45,6 +46,13 @@ pub exit-refused : (result : Result (Unit {0}) WriteError) (e : WriteError) (a b
     → ((error : WriteError) × (result ≡ Err error) × (error ≡ e)) → b ≡ appended x r a → Refuses e b n → length x + n ≤ length total → Writes a now result total rs
 exit-refused result e a b now x total r rs n p grown refused less =
     let later : Refuses e a (length total) = refused-later e a b x r n (length total) grown refused less in
+    let is : result ≡ Err e = p.1 ∙ ap Err p.2 in
+    rw (is) later
+
+-- the error of a call that comes first
+pub first-refused : (result : Result (Unit {0}) WriteError) (e : WriteError) (a now : Writing) (total : List ℕ) (rs : List OutputRelocation) (n : ℕ) → ((error : WriteError) × (result ≡ Err error) × (error ≡ e)) → Refuses e a n → n ≤ length total → Writes a now result total rs
+first-refused result e a now total rs n p refused less =
+    let later : Refuses e a (length total) = refused-longer e a n (length total) refused less in
     let is : result ≡ Err e = p.1 ∙ ap Err p.2 in
     rw (is) later
 
@@ -113,3 +121,37 @@ pub loop-done : {A B : Type 0} (spell : A → List ℕ) (at : ℕ → A → List
 loop-done spell at f ys i w all past invariant =
     let none : drop i (map f ys) ≡ [] = drop_all i (map f ys) (omega (arith, past, length-map ys f)) in
     whole-done spell at w all (rw (none) at invariant)
+
+-- ---- the ends of lists of siblings
+
+pub ends-more : (k count : ℕ) (w v all : Writing) → k < count → appended (replicate (count - k) 0) [] w ≡ all → v ≡ appended (0 ∷ []) [] w → appended (replicate (count - suc k) 0) [] v ≡ all
+ends-more k count w v all more invariant step =
+    let one : count - k ≡ suc (count - suc k) = omega (arith, more) in
+    appended-twice w v (appended (replicate (count - suc k) 0) [] v) (0 ∷ []) (replicate (count - suc k) 0) [] [] step refl ∙ ap (λ n. appended (replicate n 0) [] w) (sym one) ∙ invariant
+
+pub ends-refused : (k count : ℕ) (w a now : Writing) (result : Result (Unit {0}) WriteError) (e : WriteError) → k < count → appended (replicate (count - k) 0) [] w ≡ appended (replicate count 0) [] a
+    → ((error : WriteError) × (result ≡ Err error) × (error ≡ e)) → Refuses e w 1 → Writes a now result (replicate count 0) []
+ends-refused k count w a now result e more invariant p refused =
+    let is : result ≡ Err e = p.1 ∙ ap Err p.2 in
+    rw (is) (later e refused)
+  where
+    later : (e : WriteError) → Refuses e w 1 → Refuses e a (length {A = ℕ} (replicate count 0))
+    later OutOfMemory refused = tt
+    later (TooLarge (Section name)) refused =
+        let named : w.name ≡ a.name = ap (λ (v : Writing). v.name) invariant in
+        let long = ap (λ (v : Writing). length v.body) invariant in
+        let large = refused.1 in
+        (refused.0 ∙ named, omega (arith, large, more, long, length-append w.body (replicate (count - k) 0), length-append a.body (replicate count 0), length-replicate {A = ℕ} (count - k) 0, length-replicate {A = ℕ} count 0))
+
+-- ---- a length that is put in front of what is written
+
+pub patched : (a b c : Writing) (room size rest : List ℕ) (rs : List OutputRelocation) → length room ≡ 4 → length size ≡ 4 → b ≡ appended (room ++ rest) rs a → c ≡ overwritten (length a.body) size [] b → c ≡ appended (size ++ rest) rs a
+patched a b c room size rest rs long wide grown over =
+    let back : replaced (length a.body) size (a.body ++ (room ++ rest)) ≡ a.body ++ (size ++ rest) = replaced-behind a.body room size rest (long ∙ sym wide) in
+    rw (over, grown, back) (ap (λ qs. record { order = a.order; name = a.name; body = a.body ++ (size ++ rest); relocations = qs }) (append-nil (a.relocations ++ rs)))
+  where
+    replaced-behind : (front room size rest : List ℕ) → length room ≡ length size → replaced (length front) size (front ++ (room ++ rest)) ≡ front ++ (size ++ rest)
+    replaced-behind front room size rest same =
+        let a : take (length front) (front ++ (room ++ rest)) ≡ front = take-append_seam front (room ++ rest) in
+        let b : drop (length front + length size) (front ++ (room ++ rest)) ≡ rest = drop-append-add front (room ++ rest) (length size) ∙ ap (λ n. drop n (room ++ rest)) (sym same) ∙ drop-append_seam room rest in
+        rw (a, b) refl

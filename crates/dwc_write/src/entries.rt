@@ -1,14 +1,18 @@
 //! Units with their entries, as they are written. (DWARF 4, section 7.5.)
-ghost use Rattle.std.specs.Prelude.{◌≡◌, ◌++◌, [], ◌+◌, ◌≤◌, ◌⊎◌, OnOk, map, length, replicate};
+ghost use Rattle.std.specs.Prelude.{◌≡◌, ◌++◌, ◌∷◌, [], ◌+◌, ◌≤◌, ◌⊎◌, OnOk, map, length, replicate};
 ghost use Rattle.std.specs.List.{All, flat_map};
-ghost use Rattle.dwc_write.specs.Spelled.{uleb_bytes};
-ghost use Rattle.dwc_write.specs.SpelledUnits.{attribute_bytes, written_bytes};
-ghost use Rattle.dwc_write.specs.SpelledRelocations.{value_relocations, values_relocations};
-ghost use Rattle.dwc_write.specs.GivenUnits.{FitsAttribute, FitsOperand, constant_of, first_depth, written_attribute, written_of};
+ghost use Rattle.dwc_write.specs.Spelled.{number_bytes, uleb_bytes};
+ghost use Rattle.dwc_write.specs.SpelledUnits.{attribute_bytes, entry_bytes, shaped, written_bytes};
+ghost use Rattle.dwc_write.specs.SpelledRelocations.{entries_relocations, value_relocations, values_relocations};
+ghost use Rattle.dwc_write.specs.GivenUnits.{FitsAttribute, FitsEntry as FitsGivenEntry, FitsOperand, constant_of, first_depth, first_uses, shapes_of, written_attribute, written_entries, written_of};
 ghost use Rattle.dwc_write.specs.UnitViews.{entry_view};
-ghost use Rattle.dwc_write.specs.Writers.{Writes, most_bytes};
+ghost use Rattle.dwc_write.specs.ShapeViews.{shape_view};
+ghost use Rattle.dwc_write.specs.SpelledOutput.{WritesUnit};
+ghost use Rattle.dwc_base.specs.declared.section_name.SectionName.TheVariants.{Abbrev};
+ghost use Rattle.dwc_write.specs.Writers.{Writes, most_bytes, offset_relocation};
 
-use crate::append::{put_sized, put_sleb, put_uleb};
+use crate::abbreviations::{Shape, code_of, put_table};
+use crate::append::{bytes_2, put_sized, put_sleb, put_uleb};
 use crate::attributes::Attribute;
 use crate::units::Entry;
 use crate::{AttributeValue, WriteError, WriterRelocate};
@@ -16,7 +20,7 @@ use dwc_base::constants::{
     DW_FORM_data1, DW_FORM_data2, DW_FORM_data4, DW_FORM_data8, DW_FORM_sdata,
 };
 use dwc_base::{Endian, SectionName};
-use std::alloc::AllocError;
+use std::alloc::{AllocError, Global};
 
 // How the values of a unit are written: the order of bytes, the size of an address, and the offset of its line table.
 #[derive(Clone, Copy)]
@@ -24,6 +28,78 @@ pub struct Spelling {
     pub order: Endian,
     pub size: u8,
     pub line_offset: usize,
+}
+
+// A unit: its entries behind their header, and the abbreviation table that declares them.
+pub fn write_unit(
+    alloc: Global,
+    abbrev: &mut WriterRelocate,
+    info: &mut WriterRelocate,
+    scratch: &mut Vec<u8>,
+    spelling: Spelling,
+    entries: &[Entry],
+) -> Result<(), WriteError>
+    requires order { spelling.order ≡ info.old.order }
+    requires size { (spelling.size ≡ 4) ⊎ (spelling.size ≡ 8) }
+    requires line { spelling.line_offset ≤ most_bytes }
+    requires fits { All (FitsGivenEntry spelling.size) (map entry_view entries.now) }
+    ensures { WritesUnit abbrev.old abbrev.new info.old info.new result spelling.size spelling.line_offset (map entry_view entries.now) }
+{
+    let mut shapes = Vec::new(alloc);
+    let place = info.place();
+    write_header(info, spelling, abbrev.place())?;
+    write_entries(alloc, info, scratch, spelling, entries, &mut shapes)?;
+    info.finish_length(place);
+    scratch.clear();
+    put_table(scratch, &shapes)?;
+    abbrev.put_bytes(scratch)
+}
+
+// A header: room for the length, the version, the offset of the abbreviation table, and the size of an address.
+fn write_header(
+    info: &mut WriterRelocate,
+    spelling: Spelling,
+    table_offset: usize,
+) -> Result<(), WriteError>
+    requires order { spelling.order ≡ info.old.order }
+    requires table { table_offset ≤ most_bytes }
+    ensures { Writes info.old info.new result
+        ((0 ∷ 0 ∷ 0 ∷ 0 ∷ []) ++ (number_bytes info.old.order 2 4 ++ (number_bytes info.old.order 4 table_offset ++ (spelling.size ∷ []))))
+        (offset_relocation (length info.old.body + 6) 4 Abbrev table_offset ∷ []) }
+{
+    let version = bytes_2(spelling.order, 4);
+    info.put_bytes(&[0, 0, 0, 0, version[0], version[1]])?;
+    info.put_offset(table_offset, SectionName::Abbrev)?;
+    info.put_bytes(&[spelling.size])
+}
+
+// Entries, one behind another, with the codes of their shapes.
+fn write_entries(
+    alloc: Global,
+    info: &mut WriterRelocate,
+    scratch: &mut Vec<u8>,
+    spelling: Spelling,
+    entries: &[Entry],
+    shapes: &mut Vec<Shape>,
+) -> Result<(), WriteError>
+    requires order { spelling.order ≡ info.old.order }
+    requires size { (spelling.size ≡ 4) ⊎ (spelling.size ≡ 8) }
+    requires line { spelling.line_offset ≤ most_bytes }
+    requires fits { All (FitsGivenEntry spelling.size) (map entry_view entries.now) }
+    ensures shapes { OnOk result (map shape_view shapes.new.items ≡ first_uses (map shape_view shapes.old.items) (shapes_of (map entry_view entries.now))) }
+    ensures bytes { Writes info.old info.new result
+        (flat_map (entry_bytes info.old.order spelling.size) (shaped (written_entries spelling.line_offset (first_uses (map shape_view shapes.old.items) (shapes_of (map entry_view entries.now))) (map entry_view entries.now))))
+        (entries_relocations info.old.order spelling.size (length info.old.body) (shaped (written_entries spelling.line_offset (first_uses (map shape_view shapes.old.items) (shapes_of (map entry_view entries.now))) (map entry_view entries.now)))) }
+{
+    for i in 0..entries.len() {
+        let entry = &entries[i];
+        let next = depth_of_first(&entries[i + 1..]);
+        let has_children = entry.depth < next;
+        let ends = entry.depth.saturating_sub(next);
+        let code = code_of(alloc, shapes, entry.tag, has_children, &entry.attributes)?;
+        write_entry(info, scratch, spelling, code, &entry.attributes, ends)?;
+    }
+    Ok(())
 }
 
 // An entry: its code, its values, and an end for each list of siblings that ends behind it.

@@ -6,7 +6,7 @@ ghost use Rattle.dwc_write.specs.SpelledAddresses.{address_bytes};
 ghost use Rattle.dwc_write.specs.SpelledLines.{file_bytes, line_fields_bytes};
 ghost use Rattle.dwc_write.specs.SpelledSections.{lines_bytes};
 ghost use Rattle.dwc_write.specs.SpelledRelocations.{lines_relocations, sequence_bytes, sequence_relocations, sequences_relocations};
-ghost use Rattle.dwc_write.specs.GivenLines.{FitsGivenSequence};
+ghost use Rattle.dwc_write.specs.GivenLines.{FitsGivenSequence, FitsLines};
 ghost use Rattle.dwc_write.specs.GivenUnits.{IsOfSize, written_lines};
 ghost use Rattle.dwc_write.specs.LineViews.{file_view, sequence_view};
 ghost use Rattle.dwc_write.specs.Writers.{FitsField, Writes, address_relocations};
@@ -30,11 +30,12 @@ pub fn write_lines(
     requires order { order ≡ line.old.order }
     requires size { (size ≡ 4) ⊎ (size ≡ 8) }
     requires same { IsOfSize size lines.now.address_size }
-    ensures { Writes line.old line.new result (lines_bytes line.old.order size (written_lines lines.now)) (lines_relocations line.old.order size (length line.old.body) (written_lines lines.now)) }
+    ensures bytes { Writes line.old line.new result (lines_bytes line.old.order size (written_lines lines.now)) (lines_relocations line.old.order size (length line.old.body) (written_lines lines.now)) }
+    ensures fits { FitsLines lines.now }
 {
-    if lines.address_size.is_none() {
+    let Some(_) = lines.address_size else {
         return Ok(());
-    }
+    };
     scratch.clear();
     put_fields(scratch, &lines.directories, &lines.files)?;
     let place = line.place();
