@@ -22,3 +22,4 @@ pub mod SequenceLaws
 pub mod ShapeLaws
 pub mod ReadRelocations
 pub mod TableLaws
+pub mod EntriesLaws

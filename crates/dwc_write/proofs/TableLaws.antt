@@ -1,11 +1,14 @@
 -- A line table as code writes it: room for its length, header and sequences, and the length put in.
-use Rattle.std.proofs.Common.{◌≡◌, ℕ, suc, ◌+◌, ◌<◌, ◌≤◌, refl, sym, ap, ◌∙◌, arith, List, [], ◌∷◌, ◌++◌, append_assoc, append-nil, length, length-append}
+use Rattle.std.proofs.Common.{◌≡◌, ℕ, suc, ◌+◌, ◌<◌, ◌≤◌, refl, sym, ap, ◌∙◌, arith, List, [], ◌∷◌, ◌++◌, append_assoc, append-nil, length, length-append, Option, Some}
 use Rattle.std.specs.Prelude.{◌-◌}
 use Rattle.std.specs.List.{All, flat_map}
 use Rattle.dwc_base.specs.declared.records.Endian.{Endian}
 use Rattle.dwc_base.specs.Outputs.{OutputRelocation}
 use Rattle.dwc_write.specs.Spelled.{number_bytes, sized_bytes}
-use Rattle.dwc_write.specs.SpelledLines.{line_fields_bytes, line_body, program_bytes, program_place, sequences_instructions}
+use Rattle.dwc_base.specs.LineHeaders.{LineFile}
+use Rattle.dwc_write.specs.GivenLines.{GivenLines, BegunSequence}
+use Rattle.dwc_write.specs.GivenUnits.{written_lines}
+use Rattle.dwc_write.specs.SpelledLines.{WrittenSequence, line_fields_bytes, line_body, program_bytes, program_place, sequences_instructions}
 use Rattle.dwc_write.specs.SpelledSections.{WrittenTable, one_table_bytes, lines_bytes}
 use Rattle.dwc_write.specs.SpelledRelocations.{sequence_bytes, sequences_relocations, one_table_relocations, lines_relocations}
 use Rattle.dwc_write.specs.Writers.{Writing, appended, overwritten, IsClear}
@@ -36,6 +39,17 @@ grouped order size t =
     let fields = sized_bytes order (line_fields_bytes t.directories t.files) in
     ap (λ bytes. room ++ bytes) (append_assoc (number_bytes order 2 4) fields (flat_map (sequence_bytes order size) t.sequences))
 
+-- how much header and sequences are
+pub table-length : (size : ℕ) (t : WrittenTable) (a b : Writing) → b ≡ appended (front a.order (line_fields_bytes t.directories t.files)) [] a
+    → length (front a.order (line_fields_bytes t.directories t.files)) + length (flat_map (sequence_bytes b.order size) t.sequences) ≤ length (lines_bytes a.order size (t ∷ []))
+table-length size t a b headed =
+    let fields = line_fields_bytes t.directories t.files in
+    let order : b.order ≡ a.order = order-behind a b (front a.order fields) [] headed in
+    let same = ap (λ o. length (flat_map (sequence_bytes o size) t.sequences)) order in
+    let body = line_body a.order size t.directories t.files (sequences_instructions t.sequences) in
+    omega (arith, same, ap length (grouped a.order size t), ap length (rest-body a.order size t), length-append (front a.order fields) (flat_map (sequence_bytes a.order size) t.sequences),
+      length-append (number_bytes a.order 4 (length body)) body, number_bytes-length a.order 4 (length body), ap length (append-nil (one_table_bytes a.order size t)))
+
 module _ (size : ℕ) (t : WrittenTable) (a b c : Writing)
     (headed : b ≡ appended (front a.order (line_fields_bytes t.directories t.files)) [] a)
     (filled : c ≡ appended (flat_map (sequence_bytes b.order size) t.sequences) (sequences_relocations b.order size (length b.body) t.sequences) b) where
@@ -60,16 +74,6 @@ module _ (size : ℕ) (t : WrittenTable) (a b c : Writing)
   pub table-inside : length a.body + 4 ≤ length c.body
   table-inside = omega (arith, length-behind a c (room ++ rest a.order size t) (one_table_relocations a.order size (length a.body) t) written)
 
-  -- how much they are
-  pub table-length : length (front a.order (line_fields_bytes t.directories t.files)) + length (flat_map (sequence_bytes b.order size) t.sequences) ≤ length (lines_bytes a.order size (t ∷ []))
-  table-length =
-      let fields = line_fields_bytes t.directories t.files in
-      let order : b.order ≡ a.order = order-behind a b (front a.order fields) [] headed in
-      let same = ap (λ o. length (flat_map (sequence_bytes o size) t.sequences)) order in
-      let body = line_body a.order size t.directories t.files (sequences_instructions t.sequences) in
-      omega (arith, same, ap length (grouped a.order size t), ap length (rest-body a.order size t), length-append (front a.order fields) (flat_map (sequence_bytes a.order size) t.sequences),
-        length-append (number_bytes a.order 4 (length body)) body, number_bytes-length a.order 4 (length body), ap length (append-nil (one_table_bytes a.order size t)))
-
   -- with the length put in, they are the table
   pub table-appended : (d : Writing) → d ≡ overwritten (length a.body) (number_bytes c.order 4 (length c.body - (length a.body + 4))) [] c → d ≡ appended (lines_bytes a.order size (t ∷ [])) (lines_relocations a.order size (length a.body) (t ∷ [])) a
   table-appended d over =
@@ -83,3 +87,8 @@ module _ (size : ℕ) (t : WrittenTable) (a b c : Writing)
       patched a c d room size_bytes body relocations refl (number_bytes-length c.order 4 _) written over
       ∙ ap (λ bytes. appended bytes relocations a) (table ∙ sym (append-nil (one_table_bytes a.order size t)))
       ∙ ap (λ rs. appended (lines_bytes a.order size (t ∷ [])) rs a) (sym (append-nil relocations))
+
+-- the table that is written of a program that is there
+pub program-table : (g : GivenLines) (address_size : Option ℕ) (size : ℕ) (ds : List (List ℕ)) (fs : List LineFile) (qs : List WrittenSequence) (begun : Option BegunSequence)
+    → g ≡ record { address_size = address_size; directories = ds; files = fs; sequences = qs; begun = begun } → address_size ≡ Some size → written_lines g ≡ record { directories = ds; files = fs; sequences = qs } ∷ []
+program-table g address_size size ds fs qs begun is there = ap written_lines (is ∙ ap (λ n. record { address_size = n; directories = ds; files = fs; sequences = qs; begun = begun }) there)
