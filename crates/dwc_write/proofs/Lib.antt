@@ -23,3 +23,4 @@ pub mod ShapeLaws
 pub mod ReadRelocations
 pub mod TableLaws
 pub mod EntriesLaws
+pub mod UnitBytes
