@@ -24,3 +24,4 @@ pub mod ReadRelocations
 pub mod TableLaws
 pub mod EntriesLaws
 pub mod UnitBytes
+pub mod OutputLaws

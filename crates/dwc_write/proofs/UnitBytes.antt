@@ -65,7 +65,7 @@ module _ (size : ℕ) (u : WrittenUnit) (a b c : Writing)
   unit-clear before =
       let at = length a.body + header_length in
       let inner = entries-rise a.order size at (shaped u.entries) in
-      let rise = (omega arith, rise-from-ten inner) in
+      let rise : RelocationsRise (length a.body + 6) (at + length (entries_bytes a.order size u.entries)) (unit_relocations a.order size (length a.body) u) = (omega arith, rise-from-ten inner) in
       rw written (clear-between (length a.body) 4 (length a.body + 6) (at + length (entries_bytes a.order size u.entries)) a.relocations (unit_relocations a.order size (length a.body) u) before rise (omega arith))
     where
       rise-from-ten : RelocationsRise (length a.body + header_length) ((length a.body + header_length) + length (entries_bytes a.order size u.entries)) (entries_relocations a.order size (length a.body + header_length) (shaped u.entries))

@@ -12,3 +12,4 @@ pub mod UnitViews
 pub mod SpelledRelocations
 pub mod ShapeViews
 pub mod SpelledOutput
+pub mod SectionViews
