@@ -17,3 +17,11 @@ pub mod Whole
 pub mod LineLaws
 pub mod RowLaws
 pub mod UnitLaws
+pub mod WritesLaws
+pub mod SequenceLaws
+pub mod ShapeLaws
+pub mod ReadRelocations
+pub mod TableLaws
+pub mod EntriesLaws
+pub mod UnitBytes
+pub mod OutputLaws

@@ -9,9 +9,10 @@ use Rattle.std.proofs.lemmas.List.{length-map}
 use Rattle.std.proofs.lemmas.List.Elements.{All-append, All-cons, All-nil, All-head, All-tail, All-weaker}
 use Rattle.dwc_write.specs.declared.attributes.Attribute.{Attribute}
 use Rattle.dwc_write.specs.declared.attributes.AttributeValue.{AttributeValue}
+use Rattle.dwc_write.specs.declared.attributes.AttributeValue.TheVariants.{Address, Constant, Flag, LineProgramRef}
 use Rattle.dwc_write.specs.declared.units.Entry.{Entry}
 use Rattle.dwc_write.specs.UnitViews.{entry_view}
-use Rattle.dwc_write.specs.GivenUnits.{GivenEntry, GivenUnit, FitsAttribute, FitsValue, FitsEntry, FitsGivenUnit, set_attribute, set_in_entry, set_in, with_entries, depth_of, tag_of, child_of, IsOpen, AreBelow, IsTree}
+use Rattle.dwc_write.specs.GivenUnits.{GivenEntry, GivenUnit, FitsAttribute, FitsValue, FitsOperand, FitsEntry, FitsGivenUnit, set_attribute, set_in_entry, set_in, with_entries, depth_of, tag_of, child_of, IsOpen, AreBelow, IsTree}
 
 -- ---- attributes
 
@@ -177,3 +178,13 @@ changed-view es id name value d e is within deep tagged set =
 pub unchanged-view : (es : List Entry) (id : ℕ) (d e : Entry) → d ≡ get_or es id d → id < length (map entry_view es) → e.depth ≡ d.depth → e.tag ≡ d.tag → e.attributes.items ≡ d.attributes.items → map entry_view (slice_set es id e) ≡ map entry_view es
 unchanged-view es id d e is within deep tagged same =
     same-viewed id es d e (omega (arith, within, length-map es entry_view)) (rw (deep, tagged, same) (ap entry_view is))
+
+-- what writing asks of a value that fits
+pub operand-fits : (size : ℕ) (a : Attribute) → FitsAttribute size a → FitsOperand size a.value
+operand-fits size a fits = go a.value fits.value
+  where
+    go : (v : AttributeValue) → FitsValue size a.name v → FitsOperand size v
+    go (Address x) h = h
+    go (Constant form bits) h = tt
+    go (Flag b) h = tt
+    go LineProgramRef h = tt

@@ -153,3 +153,11 @@ after-appending order items now rs after r grown pushed short at sound addend ta
 pub fits-wider : (z : ℤ) → FitsSigned w32 z → FitsSigned w64 z
 fits-wider (pos n) fits = omega (arith, fits)
 fits-wider (negsuc n) fits = omega (arith, fits)
+
+-- a length that is put in its place
+pub after-finishing : (order : Endian) (n offset value : ℕ) (bytes lent items now : List ℕ) (rs : List OutputRelocation) → bytes ≡ number_bytes order 4 value → lent ≡ items → length lent ≡ n → now ≡ replaced offset bytes lent → offset + 4 ≤ length items
+    → (length items ≤ most_bytes) × All (IsWhole order items) rs → IsClear offset 4 rs
+    → (length (take n (now ++ drop (length now) items)) ≤ most_bytes) × All (IsWhole order (take n (now ++ drop (length now) items))) rs
+after-finishing order n offset value bytes lent items now rs spelled same long is inside sound clear =
+    let wide : length bytes ≡ 4 = ap length spelled ∙ number_bytes-length order 4 value in
+    after-replacing order n offset bytes lent items now rs same long is (omega (arith, wide, inside)) sound (rw (wide) clear)

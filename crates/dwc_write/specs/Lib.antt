@@ -9,3 +9,7 @@ pub mod GivenLines
 pub mod LineViews
 pub mod GivenUnits
 pub mod UnitViews
+pub mod SpelledRelocations
+pub mod ShapeViews
+pub mod SpelledOutput
+pub mod SectionViews

@@ -1,9 +1,14 @@
 //! Attributes of entries, as they are given. (DWARF 4, section 7.5.4.)
 ghost use Rattle.std.specs.Prelude.{◌≡◌, ◌==◌, OnOk, OnErr};
 ghost use Rattle.std.specs.List.{position};
-ghost use Rattle.dwc_write.specs.GivenUnits.{set_attribute as set_in_list};
+ghost use Rattle.dwc_write.specs.SpelledUnits.{form_number};
+ghost use Rattle.dwc_write.specs.GivenUnits.{constant_of, set_attribute as set_in_list, written_of};
 
 use dwc_base::Address;
+use dwc_base::constants::{
+    DW_FORM_addr, DW_FORM_data1, DW_FORM_data2, DW_FORM_data4, DW_FORM_data8, DW_FORM_flag,
+    DW_FORM_sdata, DW_FORM_sec_offset, DW_FORM_udata,
+};
 use std::alloc::AllocError;
 
 /// The value of an attribute.
@@ -48,4 +53,26 @@ fn place_of(attributes: &[Attribute], name: u16) -> Option<usize>
     ensures { result ≡ position (λ a. a.name == name) attributes.now }
 {
     attributes.iter().position(|a| a.name == name)
+}
+
+// The form of a value.
+pub(crate) fn form_of(value: &AttributeValue) -> u16
+    ensures { result ≡ form_number (written_of 0 value.now) }
+{
+    match value {
+        AttributeValue::Address(_) => DW_FORM_addr,
+        AttributeValue::Constant { form, bits } => constant_form(*form, *bits),
+        AttributeValue::Flag(_) => DW_FORM_flag,
+        AttributeValue::LineProgramRef => DW_FORM_sec_offset,
+    }
+}
+
+// The form of a constant: its own where it is one of a constant, else udata.
+fn constant_form(form: u16, _bits: u64) -> u16
+    ensures { result ≡ form_number (constant_of form _bits) }
+{
+    match form {
+        DW_FORM_data1 | DW_FORM_data2 | DW_FORM_data4 | DW_FORM_data8 | DW_FORM_sdata => form,
+        _ => DW_FORM_udata,
+    }
 }

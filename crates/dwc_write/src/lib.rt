@@ -2,16 +2,21 @@
 //! back by the definitions as it was given.
 #![tactic(auto)]
 
+mod abbreviations;
 mod append;
 mod attributes;
+mod entries;
 mod error;
 mod lines;
 mod rows;
+mod sections;
+mod tables;
 mod units;
 mod writer;
 
 pub use attributes::AttributeValue;
 pub use error::{Limit, WriteError};
 pub use lines::LineProgram;
+pub use sections::write_sections;
 pub use units::{Dwarf, Unit, UnitEntryId, UnitId, UnitTable};
 pub use writer::{Writer, WriterRelocate};

@@ -1,15 +1,16 @@
 //! Sections as they are written: bytes, and the places in them that a linker fills in.
-ghost use Rattle.std.specs.Prelude.{◌≡◌, ◌++◌, ◌∷◌, [], ◌<◌, ◌≤◌, ◌+◌, ◌^◌, ◌↔◌, OnOk, OnErr, IsOkUnless, length, FitsSigned, map};
+ghost use Rattle.std.specs.Prelude.{◌≡◌, ◌++◌, ◌∷◌, [], ◌<◌, ◌≤◌, ◌+◌, ◌^◌, ◌-◌, ◌↔◌, ◌⊎◌, OnOk, OnErr, IsOkUnless, length, FitsSigned, map};
 ghost use Rattle.dwc_base.specs.Sections.{section_text};
 ghost use Rattle.std.specs.Int.{w32, w64, cast_unsigned};
 ghost use Rattle.std.specs.List.{All};
 ghost use Rattle.dwc_base.specs.Outputs.{section_view, relocation_view, function};
-ghost use Rattle.dwc_write.specs.Spelled.{number_bytes};
-ghost use Rattle.dwc_write.specs.Writers.{IsSize, IsSound, IsTooLarge, most_bytes, offset_relocation};
+ghost use Rattle.dwc_write.specs.Spelled.{number_bytes, sized_bytes};
+ghost use Rattle.dwc_write.specs.Writers.{FitsField, IsClear, IsSize, IsSound, IsTooLarge, Writes, address_relocations, most_bytes, offset_relocation, overwritten};
+ghost use Rattle.dwc_write.specs.SpelledAddresses.{address_bytes};
 ghost use Rattle.dwc_write.specs.declared.error.WriteError.TheVariants.{TooLarge};
 ghost use Rattle.dwc_write.specs.declared.error.Limit.TheVariants.{Section};
 
-use crate::append::{put_sized, replace, replace_sized};
+use crate::append::{bytes_4, put_sized, replace, replace_sized};
 use crate::{Limit, WriteError};
 use dwc_base::{Address, DwarfSection, DwarfSectionReloc, DwarfSectionRelocTarget, Endian, SectionName};
 use std::alloc::{AllocError, Global};
@@ -117,6 +118,64 @@ impl WriterRelocate {
             body: Vec::new(alloc),
             relocs: Vec::new(alloc),
         }
+    }
+
+    // Where the next byte will stand; the relocations are before it.
+    pub(crate) fn place(&self) -> usize
+        ensures place { result ≡ length self.now.body }
+        ensures below { All (λ r. r.offset + r.size ≤ length self.now.body) self.now.relocations }
+        ensures short { result ≤ most_bytes }
+    {
+        self.body.len()
+    }
+
+    // Appends bytes.
+    pub(crate) fn put_bytes(&mut self, bytes: &[u8]) -> Result<(), WriteError>
+        ensures { Writes self.old self.new result bytes.now [] }
+    {
+        self.write(bytes)
+    }
+
+    // Appends an address.
+    pub(crate) fn put_address(&mut self, address: Address, size: u8) -> Result<(), WriteError>
+        requires size { (size ≡ 4) ⊎ (size ≡ 8) }
+        requires fits { FitsField size address }
+        ensures { Writes self.old self.new result (address_bytes self.old.order size address) (address_relocations (length self.old.body) size address) }
+    {
+        self.write_address(address, size)
+    }
+
+    // Appends an offset in a section, of four bytes.
+    pub(crate) fn put_offset(&mut self, val: usize, section: SectionName) -> Result<(), WriteError>
+        requires { val ≤ most_bytes }
+        ensures { Writes self.old self.new result (number_bytes self.old.order 4 val) (offset_relocation (length self.old.body) 4 section val ∷ []) }
+    {
+        self.write_offset(val, section, 4)
+    }
+
+    // Appends bytes behind their length.
+    pub(crate) fn put_sized_part(&mut self, bytes: &[u8]) -> Result<(), WriteError>
+        ensures { Writes self.old self.new result (sized_bytes self.old.order bytes.now) [] }
+    {
+        if bytes.len() > MOST_BYTES {
+            return Err(WriteError::TooLarge {
+                what: Limit::Section(self.name),
+            });
+        }
+        let length = bytes_4(self.order, bytes.len() as u32);
+        self.put_bytes(&length)?;
+        self.put_bytes(bytes)
+    }
+
+    // Puts the length of what stands behind it into the four bytes at a place.
+    pub(crate) fn finish_length(&mut self, place: usize)
+        requires inside { place + 4 ≤ length self.old.body }
+        requires clear { IsClear place 4 self.old.relocations }
+        ensures { self.new ≡ overwritten place (number_bytes self.old.order 4 (length self.old.body - (place + 4))) [] self.old }
+    {
+        let length = self.body.len() - (place + 4);
+        let bytes = bytes_4(self.order, length as u32);
+        replace(&mut self.body, place, &bytes);
     }
 
     /// The section, as it was written.

@@ -1,0 +1,199 @@
+-- Entries as code writes them: codes by first use, one entry behind another, and a unit with its header.
+use Rattle.std.proofs.Common.{◌≡◌, ℕ, zero, suc, ◌+◌, ◌<◌, ◌≤◌, refl, sym, ap, ◌∙◌, arith, List, [], ◌∷◌, ◌++◌, append_assoc, append-nil, length, length-append, map, drop, get_or, Bool, true, false, eqb, ltb, Some, Err}
+use Rattle.std.specs.Prelude.{◌-◌, ◌==◌, ◌&&◌, if◌then◌else◌, nat_lt, Result}
+use Rattle.std.specs.List.{All, flat_map}
+use Rattle.std.proofs.lemmas.Bool.{lt-ltb, le-ltb, eq-eqb, ltb-true, ltb-false}
+use Rattle.std.proofs.lemmas.List.Elements.{All-head, All-tail, All-cons, All-nil, All-append}
+use Rattle.dwc_base.specs.declared.records.Endian.{Endian}
+use Rattle.std.specs.Int.{w64, cast_signed}
+use Rattle.dwc_base.specs.declared.constants.TheConstants.{DW_FORM_implicit_const, DW_FORM_data1, DW_FORM_data2, DW_FORM_data4, DW_FORM_data8, DW_FORM_sdata}
+use Rattle.dwc_base.specs.Outputs.{OutputRelocation}
+use Rattle.dwc_write.specs.Spelled.{number_bytes, uleb_bytes, sized_bytes, at_places}
+use Rattle.dwc_write.specs.SpelledUnits.{form_number, as_data1, as_data2, as_data4, as_data8, as_sdata, as_udata, WrittenEntry, Shaped, next_depth, shaped, entry_bytes, entries_bytes, header_length, unit_body}
+use Rattle.dwc_write.specs.SpelledSections.{WrittenUnit, placed_unit_bytes}
+use Rattle.dwc_write.specs.SpelledRelocations.{entry_relocations, entries_relocations, unit_relocations}
+use Rattle.dwc_write.specs.declared.attributes.Attribute.{Attribute}
+use Rattle.dwc_write.specs.declared.attributes.AttributeValue.{AttributeValue}
+use Rattle.dwc_write.specs.declared.attributes.AttributeValue.TheVariants.{Address, Constant, Flag, LineProgramRef}
+use Rattle.dwc_write.specs.declared.abbreviations.AttributeForm.{AttributeForm}
+use Rattle.dwc_write.specs.GivenUnits.{GivenEntry, EntryShape, IsPlainShape, form_of, forms_of, first_depth, shape_of, shapes_of, same_forms, same_flag, same_shape, place_in, with_use, first_uses, code_in, written_attribute, written_entries, written_of}
+use Rattle.dwc_write.specs.declared.error.WriteError.{WriteError}
+use Rattle.dwc_write.specs.declared.units.Entry.{Entry}
+use Rattle.dwc_write.specs.UnitViews.{entry_view}
+use Rattle.dwc_write.specs.Writers.{Writing, Refuses, Writes, appended}
+use Rattle.dwc_write.proofs.ReadNumbers.{number_bytes-length}
+use Rattle.dwc_write.proofs.WritesLaws.{whole, whole-more, whole-refused}
+
+-- ---- a shape is the same as itself, and keeps its place among more
+
+same_forms-self : (xs : List AttributeForm) → same_forms xs xs ≡ true
+same_forms-self [] = refl
+same_forms-self (x ∷ xs) = rw (eq-eqb x.name x.name refl, eq-eqb x.form x.form refl) (same_forms-self xs)
+
+same_flag-self : (b : Bool) → same_flag b b ≡ true
+same_flag-self true = refl
+same_flag-self false = refl
+
+pub same_shape-self : (s : EntryShape) → same_shape s s ≡ true
+same_shape-self s = rw (eq-eqb s.tag s.tag refl, same_flag-self s.has_children) (same_forms-self s.attributes)
+
+place-most : (s : EntryShape) (known : List EntryShape) → place_in s known ≤ length known
+place-most s [] = omega arith
+place-most s (t ∷ ts) = go (same_shape t s) (place-most s ts)
+  where
+    go : (b : Bool) → place_in s ts ≤ length ts → (if b then 0 else suc (place_in s ts)) ≤ suc (length ts)
+    go true h = omega arith
+    go false h = omega (arith, h)
+
+place-more : (s : EntryShape) (known more : List EntryShape) → place_in s known < length known → place_in s (known ++ more) ≡ place_in s known
+place-more s [] more within = absurd (omega arith)
+place-more s (t ∷ ts) more within = go (same_shape t s) within (place-more s ts more)
+  where
+    go : (b : Bool) → (if b then 0 else suc (place_in s ts)) < suc (length ts) → (place_in s ts < length ts → place_in s (ts ++ more) ≡ place_in s ts) → ◌≡◌ {A = ℕ} (if b then 0 else suc (place_in s (ts ++ more))) (if b then 0 else suc (place_in s ts))
+    go true h same = refl
+    go false h same = ap suc (same (omega (arith, h)))
+
+place-new : (s : EntryShape) (known : List EntryShape) → length known ≤ place_in s known → place_in s (known ++ s ∷ []) ≡ length known
+place-new s [] past = rw (same_shape-self s) refl
+place-new s (t ∷ ts) past = go (same_shape t s) past (place-new s ts)
+  where
+    go : (b : Bool) → suc (length ts) ≤ (if b then 0 else suc (place_in s ts)) → (length ts ≤ place_in s ts → place_in s (ts ++ s ∷ []) ≡ length ts) → ◌≡◌ {A = ℕ} (if b then 0 else suc (place_in s (ts ++ s ∷ []))) (suc (length ts))
+    go true h same = absurd (omega (arith, h))
+    go false h same = ap suc (same (omega (arith, h)))
+
+-- behind its use a shape is there, at the place that it had
+use-place : (s : EntryShape) (known : List EntryShape) → (place_in s (with_use s known) ≡ place_in s known) × (place_in s known < length (with_use s known))
+use-place s known = go (ltb (place_in s known) (length known)) refl
+  where
+    go : (b : Bool) → ltb (place_in s known) (length known) ≡ b → (place_in s (if b then known else known ++ s ∷ []) ≡ place_in s known) × (place_in s known < length (if b then known else known ++ s ∷ []))
+    go true e = (refl, ltb-true _ _ e)
+    go false e =
+        let past : length known ≤ place_in s known = ltb-false _ _ e in
+        let at : place_in s known ≡ length known = omega (arith, past, place-most s known) in
+        (place-new s known past ∙ sym at, omega (arith, at, length-append known (s ∷ [])))
+
+use-keeps : (s t : EntryShape) (known : List EntryShape) → place_in s known < length known → (place_in s (with_use t known) ≡ place_in s known) × (place_in s known < length (with_use t known))
+use-keeps s t known within = go (ltb (place_in t known) (length known))
+  where
+    go : (b : Bool) → (place_in s (if b then known else known ++ t ∷ []) ≡ place_in s known) × (place_in s known < length (if b then known else known ++ t ∷ []))
+    go true = (refl, within)
+    go false = (place-more s known (t ∷ []) within, omega (arith, within, length-append known (t ∷ [])))
+
+uses-keep : (s : EntryShape) (known ss : List EntryShape) → place_in s known < length known → (place_in s (first_uses known ss) ≡ place_in s known) × (place_in s known < length (first_uses known ss))
+uses-keep s known [] within = (refl, within)
+uses-keep s known (t ∷ ss) within =
+    let one = use-keeps s t known within in
+    let on = uses-keep s (with_use t known) ss (omega (arith, one.0, one.1)) in
+    (on.0 ∙ one.0, omega (arith, one.0, on.1))
+
+-- the code of a shape at its use is its code in the end, and it is there
+pub code-stays : (s : EntryShape) (known ss : List EntryShape) → code_in (first_uses (with_use s known) ss) s ≡ code_in known s
+code-stays s known ss =
+    let here = use-place s known in
+    let on = uses-keep s (with_use s known) ss (omega (arith, here.0, here.1)) in
+    ap suc (on.0 ∙ here.0)
+
+pub code-there : (s : EntryShape) (known ss : List EntryShape) → place_in s (first_uses (with_use s known) ss) < length (first_uses (with_use s known) ss)
+code-there s known ss =
+    let here = use-place s known in
+    let on = uses-keep s (with_use s known) ss (omega (arith, here.0, here.1)) in
+    omega (arith, on.0, on.1)
+
+-- ---- shapes of entries have plain forms
+
+constant-plain : (a b c d f : Bool) (bits : ℕ) → (form_number (if a then as_data1 bits else (if b then as_data2 bits else (if c then as_data4 bits else (if d then as_data8 bits else (if f then as_sdata (cast_signed w64 bits) else as_udata bits))))) == DW_FORM_implicit_const) ≡ false
+constant-plain true b c d f bits = refl
+constant-plain false true c d f bits = refl
+constant-plain false false true d f bits = refl
+constant-plain false false false true f bits = refl
+constant-plain false false false false true bits = refl
+constant-plain false false false false false bits = refl
+
+value-plain : (v : AttributeValue) → (form_number (written_of 0 v) == DW_FORM_implicit_const) ≡ false
+value-plain (Address x) = refl
+value-plain (Constant form bits) = constant-plain (form == DW_FORM_data1) (form == DW_FORM_data2) (form == DW_FORM_data4) (form == DW_FORM_data8) (form == DW_FORM_sdata) bits
+value-plain (Flag b) = refl
+value-plain LineProgramRef = refl
+
+forms-plain : (xs : List Attribute) → All (λ f. (f.form == DW_FORM_implicit_const) ≡ false) (forms_of xs)
+forms-plain [] = All-nil _
+forms-plain (x ∷ xs) = All-cons (λ (f : AttributeForm). (f.form == DW_FORM_implicit_const) ≡ false) (form_of x) (forms_of xs) (value-plain x.value) (forms-plain xs)
+
+-- those that are used are, where all are
+use-plain : (s : EntryShape) (known : List EntryShape) → IsPlainShape s → All IsPlainShape known → All IsPlainShape (with_use s known)
+use-plain s known plain all = go (ltb (place_in s known) (length known))
+  where
+    go : (b : Bool) → All IsPlainShape (if b then known else known ++ s ∷ [])
+    go true = all
+    go false = All-append IsPlainShape known (s ∷ []) all (All-cons IsPlainShape s [] plain (All-nil IsPlainShape))
+
+pub uses-plain : (known : List EntryShape) (es : List GivenEntry) → All IsPlainShape known → All IsPlainShape (first_uses known (shapes_of es))
+uses-plain known [] all = all
+uses-plain known (e ∷ es) all = uses-plain (with_use (shape_of e es) known) es (use-plain (shape_of e es) known (forms-plain e.attributes) all)
+
+-- ---- one entry behind another
+
+-- the depth that follows
+pub next-first : (line_offset : ℕ) (shapes : List EntryShape) (es : List GivenEntry) → next_depth (written_entries line_offset shapes es) ≡ first_depth es
+next-first line_offset shapes [] = refl
+next-first line_offset shapes (e ∷ es) = refl
+
+-- an entry as it is written, with the depth that follows
+abbrev pub entry_with : ℕ → ℕ → GivenEntry → List GivenEntry → Shaped
+entry_with line_offset code e behind = record { entry = record { depth = e.depth; code = code; tag = e.tag; attributes = map (written_attribute line_offset) e.attributes }; has_children = nat_lt e.depth (first_depth behind); ends = e.depth - first_depth behind }
+
+shaped-more : (line_offset : ℕ) (shapes : List EntryShape) (e : GivenEntry) (es : List GivenEntry) → shaped (written_entries line_offset shapes (e ∷ es)) ≡ entry_with line_offset (code_in shapes (shape_of e es)) e es ∷ shaped (written_entries line_offset shapes es)
+shaped-more line_offset shapes e es = rw (next-first line_offset shapes es) refl
+
+-- an entry more, whose shape is used
+pub entries-more : (order : Endian) (size line_offset : ℕ) (e : GivenEntry) (es : List GivenEntry) (known now uses : List EntryShape) (w v all : Writing) (code : ℕ)
+    → first_uses known (shapes_of (e ∷ es)) ≡ uses → now ≡ with_use (shape_of e es) known → code ≡ code_in known (shape_of e es)
+    → whole (entry_bytes order size) (entry_relocations order size) (shaped (written_entries line_offset uses (e ∷ es))) w ≡ all
+    → v ≡ appended (entry_bytes order size (entry_with line_offset code e es)) (entry_relocations order size (length w.body) (entry_with line_offset code e es)) w
+    → (first_uses now (shapes_of es) ≡ uses) × (whole (entry_bytes order size) (entry_relocations order size) (shaped (written_entries line_offset uses es)) v ≡ all)
+entries-more order size line_offset e es known now uses w v all code used grown is invariant step =
+    let s = shape_of e es in
+    let final : code_in uses s ≡ code = ap (λ us. code_in us s) (sym used) ∙ code-stays s known (shapes_of es) ∙ sym is in
+    let P : List Shaped → Writing = λ xs. whole (entry_bytes order size) (entry_relocations order size) xs w in
+    let here = ap (λ k. P (entry_with line_offset k e es ∷ shaped (written_entries line_offset uses es))) (sym final) ∙ ap P (sym (shaped-more line_offset uses e es)) ∙ invariant in
+    (rw (grown) used, whole-more (entry_bytes order size) (entry_relocations order size) (entry_with line_offset code e es) (shaped (written_entries line_offset uses es)) w v all here step)
+
+-- ---- the same of the entries that a unit keeps, at an index
+
+seen-more : (es : List Entry) (i : ℕ) (d : Entry) → i < length es → map entry_view (drop i es) ≡ entry_view (get_or es i d) ∷ map entry_view (drop (suc i) es)
+seen-more [] i d within = absurd (omega arith)
+seen-more (e ∷ es) zero d within = refl
+seen-more (e ∷ es) (suc i) d within = seen-more es i d (omega arith)
+
+pub loop-entries : (order : Endian) (size line_offset : ℕ) (es : List Entry) (i : ℕ) (d : Entry) (known now uses : List EntryShape) (w v all : Writing) (code : ℕ) → i < length es
+    → first_uses known (shapes_of (map entry_view (drop i es))) ≡ uses
+    → whole (entry_bytes order size) (entry_relocations order size) (shaped (written_entries line_offset uses (map entry_view (drop i es)))) w ≡ all
+    → now ≡ with_use (shape_of (entry_view (get_or es i d)) (map entry_view (drop (suc i) es))) known → code ≡ code_in known (shape_of (entry_view (get_or es i d)) (map entry_view (drop (suc i) es)))
+    → v ≡ appended (entry_bytes order size (entry_with line_offset code (entry_view (get_or es i d)) (map entry_view (drop (suc i) es)))) (entry_relocations order size (length w.body) (entry_with line_offset code (entry_view (get_or es i d)) (map entry_view (drop (suc i) es)))) w
+    → (first_uses now (shapes_of (map entry_view (drop (suc i) es))) ≡ uses) × (whole (entry_bytes order size) (entry_relocations order size) (shaped (written_entries line_offset uses (map entry_view (drop (suc i) es)))) v ≡ all)
+loop-entries order size line_offset es i d known now uses w v all code within used invariant grown is step =
+    let e = entry_view (get_or es i d) in
+    let behind = map entry_view (drop (suc i) es) in
+    let more = seen-more es i d within in
+    entries-more order size line_offset e behind known now uses w v all code (ap (λ xs. first_uses known (shapes_of xs)) (sym more) ∙ used) grown is
+    (ap (λ xs. whole (entry_bytes order size) (entry_relocations order size) (shaped (written_entries line_offset uses xs)) w) (sym more) ∙ invariant) step
+
+-- an entry that is refused
+pub loop-entries-refused : (order : Endian) (size line_offset : ℕ) (es : List Entry) (i : ℕ) (d : Entry) (known uses : List EntryShape) (all : List Shaped) (w a now : Writing) (code : ℕ) (result : Result (Unit {0}) WriteError) (error : WriteError) (rs : List OutputRelocation) → i < length es
+    → first_uses known (shapes_of (map entry_view (drop i es))) ≡ uses
+    → whole (entry_bytes order size) (entry_relocations order size) (shaped (written_entries line_offset uses (map entry_view (drop i es)))) w ≡ whole (entry_bytes order size) (entry_relocations order size) all a
+    → code ≡ code_in known (shape_of (entry_view (get_or es i d)) (map entry_view (drop (suc i) es)))
+    → ((e : WriteError) × (result ≡ Err e) × (e ≡ error)) → Refuses error w (length (entry_bytes order size (entry_with line_offset code (entry_view (get_or es i d)) (map entry_view (drop (suc i) es)))))
+    → Writes a now result (flat_map (entry_bytes order size) all) rs
+loop-entries-refused order size line_offset es i d known uses all w a now code result error rs within used invariant is p refused =
+    let e = entry_view (get_or es i d) in
+    let behind = map entry_view (drop (suc i) es) in
+    let more = seen-more es i d within in
+    let s = shape_of e behind in
+    let used_more : first_uses known (shapes_of (e ∷ behind)) ≡ uses = ap (λ xs. first_uses known (shapes_of xs)) (sym more) ∙ used in
+    let final : code_in uses s ≡ code = ap (λ us. code_in us s) (sym used_more) ∙ code-stays s known (shapes_of behind) ∙ sym is in
+    let P : List Shaped → Writing = λ xs. whole (entry_bytes order size) (entry_relocations order size) xs w in
+    let here = ap (λ k. P (entry_with line_offset k e behind ∷ shaped (written_entries line_offset uses behind))) (sym final) ∙ ap P (sym (shaped-more line_offset uses e behind)) ∙ ap (λ xs. P (shaped (written_entries line_offset uses xs))) (sym more) ∙ invariant in
+    let later = whole-refused (entry_bytes order size) (entry_relocations order size) (entry_with line_offset code e behind) (shaped (written_entries line_offset uses behind)) all w a error here refused in
+    let met : result ≡ Err error = p.1 ∙ ap Err p.2 in
+    rw (met) later

@@ -1,0 +1,219 @@
+-- The relocations of what is spelled rise, lie within what is spelled, and those of functions are the ones of its address fields.
+use Rattle.std.proofs.Common.{◌≡◌, ℕ, suc, ◌+◌, ◌<◌, ◌≤◌, refl, sym, ap, ◌∙◌, arith, List, [], ◌∷◌, ◌++◌, ◌⊎◌, inl, inr, append_assoc, append-nil, length, length-append, replicate, Bool, true, false, Option, Some, None}
+use Rattle.std.specs.Prelude.{◌==◌, not}
+use Rattle.std.specs.List.{All, flat_map, filter_map}
+use Rattle.std.proofs.lemmas.List.Elements.{All-append, All-cons, All-nil, All-weaker, filter_map-append}
+use Rattle.dwc_base.specs.declared.records.Endian.{Endian}
+use Rattle.dwc_base.specs.declared.records.Address.{Address}
+use Rattle.dwc_base.specs.declared.records.Address.TheVariants.{Constant, Symbol}
+use Rattle.dwc_base.specs.declared.records.LineRow.{LineRow}
+use Rattle.dwc_base.specs.LineHeaders.{Instruction, set_address, copy, advance_pc, advance_line, set_file, set_column, negate_stmt, set_basic_block, set_prologue_end, set_epilogue_begin, set_isa, end_sequence, set_discriminator}
+use Rattle.dwc_base.specs.Outputs.{OutputRelocation, function_relocation}
+use Rattle.dwc_write.specs.Spelled.{number_bytes, uleb_bytes, at_places}
+use Rattle.dwc_write.specs.SpelledAddresses.{AddressField, address_bytes, stored, relocation_for, relocations_of}
+use Rattle.dwc_write.specs.SpelledUnits.{Written, as_addr, as_sec_offset, written_bytes, value_fields, WrittenAttribute, attribute_bytes, WrittenEntry, Shaped, shaped, entry_bytes, entry_fields, entries_bytes, entries_fields, header_length, unit_body}
+use Rattle.dwc_write.specs.SpelledLines.{instruction_bytes, instruction_fields, line_fields_bytes, program_bytes, program_fields, program_place, WrittenSequence, first_row, when, differs, row_instructions, rows_instructions, sequence_instructions, sequences_instructions, line_body}
+use Rattle.dwc_write.specs.SpelledSections.{WrittenUnit, placed_unit_bytes, info_bytes, unit_fields, info_fields, WrittenTable, one_table_bytes, lines_bytes, one_table_fields, lines_fields}
+use Rattle.dwc_write.specs.SpelledRelocations.{value_relocations, values_relocations, entry_relocations, entries_relocations, unit_relocations, info_relocations, sequence_bytes, sequence_relocations, sequences_relocations, one_table_relocations, lines_relocations, RelocationsRise}
+use Rattle.dwc_write.specs.Writers.{address_relocations, IsClear}
+use Rattle.dwc_write.proofs.ReadNumbers.{number_bytes-length}
+
+-- ---- lists of relocations that rise
+
+pub rise-below : (lower low high : ℕ) (rs : List OutputRelocation) → lower ≤ low → RelocationsRise low high rs → RelocationsRise lower high rs
+rise-below lower low high [] less rise = omega (arith, rise)
+rise-below lower low high (r ∷ rs) less rise = (omega (arith, rise.0), rise.1)
+
+pub rise-above : (low high higher : ℕ) (rs : List OutputRelocation) → high ≤ higher → RelocationsRise low high rs → RelocationsRise low higher rs
+rise-above low high higher [] less rise = omega (arith, rise)
+rise-above low high higher (r ∷ rs) less rise = (rise.0, rise-above (r.offset + r.size) high higher rs less rise.1)
+
+pub rise-append : (low middle high : ℕ) (rs qs : List OutputRelocation) → RelocationsRise low middle rs → RelocationsRise middle high qs → RelocationsRise low high (rs ++ qs)
+rise-append low middle high [] qs rise on = rise-below low middle high qs rise on
+rise-append low middle high (r ∷ rs) qs rise on = (rise.0, rise-append (r.offset + r.size) middle high rs qs rise.1 on)
+
+into : (lower low high higher : ℕ) (rs : List OutputRelocation) → lower ≤ low → high ≤ higher → RelocationsRise low high rs → RelocationsRise lower higher rs
+into lower low high higher rs before behind rise = rise-below lower low higher rs before (rise-above low high higher rs behind rise)
+
+pub rise-places : {A : Type 0} (spell : A → List ℕ) (at : ℕ → A → List OutputRelocation) (xs : List A) (place : ℕ) → ((p : ℕ) (x : A) → RelocationsRise p (p + length (spell x)) (at p x))
+    → RelocationsRise place (place + length (flat_map spell xs)) (at_places spell at place xs)
+rise-places spell at [] place each = omega arith
+rise-places spell at (x ∷ xs) place each =
+    let on = rise-places spell at xs (place + length (spell x)) each in
+    let end : (place + length (spell x)) + length (flat_map spell xs) ≡ place + length (spell x ++ flat_map spell xs) = omega (arith, length-append (spell x) (flat_map spell xs)) in
+    rise-append place (place + length (spell x)) _ (at place x) _ (each place x) (rw (end) at on)
+
+-- all are at or behind the first place
+rise-from : (low high : ℕ) (rs : List OutputRelocation) → RelocationsRise low high rs → All (λ r. low ≤ r.offset) rs
+rise-from low high [] rise = All-nil _
+rise-from low high (r ∷ rs) rise = All-cons (λ q. low ≤ q.offset) r rs rise.0 (All-weaker (λ q. r.offset + r.size ≤ q.offset) (λ q. low ≤ q.offset) (λ q above. omega (arith, above, rise.0)) rs (rise-from (r.offset + r.size) high rs rise.1))
+
+-- none is at bytes between earlier ones and those behind them
+pub clear-between : (offset size low high : ℕ) (rs qs : List OutputRelocation) → All (λ r. r.offset + r.size ≤ offset) rs → RelocationsRise low high qs → offset + size ≤ low → IsClear offset size (rs ++ qs)
+clear-between offset size low high rs qs before rise behind =
+    let P : OutputRelocation → Type 0 = λ r. (r.offset + r.size ≤ offset) ⊎ (offset + size ≤ r.offset) in
+    All-append P rs qs
+    (All-weaker (λ r. r.offset + r.size ≤ offset) P (λ r h. inl h) rs before)
+    (All-weaker (λ r. low ≤ r.offset) P (λ r h. inr (omega (arith, h, behind))) qs (rise-from low high qs rise))
+
+-- ---- those of what is spelled
+
+lengths : (a b c : List ℕ) → length (a ++ (b ++ c)) ≡ length a + (length b + length c)
+lengths a b c = simp (length-append) (omega arith)
+
+unit-lengths : (a b c : List ℕ) (size : ℕ) (d : List ℕ) → length (a ++ (b ++ (c ++ (size ∷ d)))) ≡ length a + (length b + (length c + (1 + length d)))
+unit-lengths a b c size d = simp (length-append) (omega arith)
+
+address-rise : (place size : ℕ) (a : Address) → RelocationsRise place (place + size) (address_relocations place size a)
+address-rise place size (Constant n) = omega arith
+address-rise place size (Symbol symbol addend) = (omega arith, omega arith)
+
+value-rise : (order : Endian) (size place : ℕ) (a : WrittenAttribute) → RelocationsRise place (place + length (attribute_bytes order size a)) (value_relocations size place a.value)
+value-rise order size place a = go a.value
+  where
+    go : (w : Written) → RelocationsRise place (place + length (written_bytes order size w)) (value_relocations size place w)
+    go (as_addr x) = rw (number_bytes-length order size (stored x)) (address-rise place size x)
+    go (as_sec_offset n) = (omega arith, omega (arith, number_bytes-length order 4 n))
+    go _ = omega arith
+
+entry-rise : (order : Endian) (size place : ℕ) (x : Shaped) → RelocationsRise place (place + length (entry_bytes order size x)) (entry_relocations order size place x)
+entry-rise order size place x =
+    let code = uleb_bytes x.entry.code in
+    let inner = rise-places (attribute_bytes order size) (λ p a. value_relocations size p a.value) x.entry.attributes (place + length code) (value-rise order size) in
+    into place (place + length code) _ _ (entry_relocations order size place x) (omega arith) (omega (arith, lengths code (flat_map (attribute_bytes order size) x.entry.attributes) (replicate x.ends 0))) inner
+
+pub entries-rise : (order : Endian) (size place : ℕ) (xs : List Shaped) → RelocationsRise place (place + length (flat_map (entry_bytes order size) xs)) (entries_relocations order size place xs)
+entries-rise order size place xs = rise-places (entry_bytes order size) (entry_relocations order size) xs place (entry-rise order size)
+
+unit-rise : (order : Endian) (size place : ℕ) (u : WrittenUnit) → RelocationsRise place (place + length (placed_unit_bytes order size u)) (unit_relocations order size place u)
+unit-rise order size place u =
+    let body = unit_body order size u.table_offset u.entries in
+    let inner = entries-rise order size (place + header_length) (shaped u.entries) in
+    let whole = unit-lengths (number_bytes order 4 (length body)) (number_bytes order 2 4) (number_bytes order 4 u.table_offset) size (entries_bytes order size u.entries) in
+    (omega arith, into ((place + 6) + 4) (place + header_length) _ _ (entries_relocations order size (place + header_length) (shaped u.entries)) (omega arith)
+    (omega (arith, whole, number_bytes-length order 4 (length body), number_bytes-length order 2 4, number_bytes-length order 4 u.table_offset)) inner)
+
+pub info-rise : (order : Endian) (size place : ℕ) (us : List WrittenUnit) → RelocationsRise place (place + length (info_bytes order size us)) (info_relocations order size place us)
+info-rise order size place us = rise-places (placed_unit_bytes order size) (unit_relocations order size) us place (unit-rise order size)
+
+sequence-rise : (order : Endian) (size place : ℕ) (q : WrittenSequence) → RelocationsRise place (place + length (sequence_bytes order size q)) (sequence_relocations order size place q)
+sequence-rise order size place q =
+    let address = address_bytes order size q.start_address in
+    let sized = uleb_bytes (length (2 ∷ address)) in
+    let rows = program_bytes order size (rows_instructions first_row q.rows q.end_offset) in
+    let at = ((place + 1) + length sized) + 1 in
+    into place at (at + size) _ (sequence_relocations order size place q) (omega arith)
+    (omega (arith, number_bytes-length order size (stored q.start_address), length-append sized (2 ∷ address), length-append (0 ∷ (sized ++ 2 ∷ address)) rows)) (address-rise at size q.start_address)
+
+pub sequences-rise : (order : Endian) (size place : ℕ) (qs : List WrittenSequence) → RelocationsRise place (place + length (flat_map (sequence_bytes order size) qs)) (sequences_relocations order size place qs)
+sequences-rise order size place qs = rise-places (sequence_bytes order size) (sequence_relocations order size) qs place (sequence-rise order size)
+
+-- the bytes of all sequences are those of their instructions
+pub sequences-bytes : (order : Endian) (size : ℕ) (qs : List WrittenSequence) → flat_map (sequence_bytes order size) qs ≡ program_bytes order size (sequences_instructions qs)
+sequences-bytes order size [] = refl
+sequences-bytes order size (q ∷ qs) = ap (λ bytes. sequence_bytes order size q ++ bytes) (sequences-bytes order size qs) ∙ sym (flat_map-both (instruction_bytes order size) (sequence_instructions q) (sequences_instructions qs))
+  where
+    flat_map-both : {A : Type 0} (f : A → List ℕ) (xs ys : List A) → flat_map f (xs ++ ys) ≡ flat_map f xs ++ flat_map f ys
+    flat_map-both f [] ys = refl
+    flat_map-both f (x ∷ xs) ys = ap (λ bytes. f x ++ bytes) (flat_map-both f xs ys) ∙ sym (append_assoc (f x) (flat_map f xs) (flat_map f ys))
+
+table-rise : (order : Endian) (size place : ℕ) (t : WrittenTable) → RelocationsRise place (place + length (one_table_bytes order size t)) (one_table_relocations order size place t)
+table-rise order size place t =
+    let is = sequences_instructions t.sequences in
+    let fields = line_fields_bytes t.directories t.files in
+    let program = program_bytes order size is in
+    let body = line_body order size t.directories t.files is in
+    let at = place + program_place t.directories t.files in
+    let inner = sequences-rise order size at t.sequences in
+    let whole = table-lengths (number_bytes order 4 (length body)) (number_bytes order 2 4) (number_bytes order 4 (length fields)) fields program in
+    into place at _ _ (one_table_relocations order size place t) (omega arith)
+    (omega (arith, whole, ap length (sequences-bytes order size t.sequences), number_bytes-length order 4 (length body), number_bytes-length order 2 4, number_bytes-length order 4 (length fields))) inner
+  where
+    table-lengths : (a b c d e : List ℕ) → length (a ++ (b ++ ((c ++ d) ++ e))) ≡ length a + (length b + (length c + (length d + length e)))
+    table-lengths a b c d e = simp (length-append) (omega arith)
+
+pub lines-rise : (order : Endian) (size place : ℕ) (ts : List WrittenTable) → RelocationsRise place (place + length (lines_bytes order size ts)) (lines_relocations order size place ts)
+lines-rise order size place ts = rise-places (one_table_bytes order size) (one_table_relocations order size) ts place (table-rise order size)
+
+-- ---- those of functions are the ones of address fields
+
+places-functions : {A : Type 0} (spell : A → List ℕ) (at : ℕ → A → List OutputRelocation) (fields : ℕ → A → List AddressField) → ((p : ℕ) (x : A) → filter_map function_relocation (at p x) ≡ relocations_of (fields p x)) → (xs : List A) (place : ℕ)
+    → filter_map function_relocation (at_places spell at place xs) ≡ relocations_of (at_places spell fields place xs)
+places-functions spell at fields each [] place = refl
+places-functions spell at fields each (x ∷ xs) place =
+    filter_map-append function_relocation (at place x) (at_places spell at (place + length (spell x)) xs)
+    ∙ ap (λ rs. rs ++ filter_map function_relocation (at_places spell at (place + length (spell x)) xs)) (each place x)
+    ∙ ap (λ rs. relocations_of (fields place x) ++ rs) (places-functions spell at fields each xs (place + length (spell x)))
+    ∙ sym (filter_map-append relocation_for (fields place x) (at_places spell fields (place + length (spell x)) xs))
+
+address-functions : (place size : ℕ) (a : Address) → filter_map function_relocation (address_relocations place size a) ≡ relocations_of (record { offset = place; size = size; address = a } ∷ [])
+address-functions place size (Constant n) = refl
+address-functions place size (Symbol symbol addend) = refl
+
+value-functions : (order : Endian) (size place : ℕ) (a : WrittenAttribute) → filter_map function_relocation (value_relocations size place a.value) ≡ relocations_of (value_fields size place a.value)
+value-functions order size place a = go a.value
+  where
+    go : (w : Written) → filter_map function_relocation (value_relocations size place w) ≡ relocations_of (value_fields size place w)
+    go (as_addr x) = address-functions place size x
+    go (as_sec_offset n) = refl
+    go _ = refl
+
+unit-functions : (order : Endian) (size place : ℕ) (u : WrittenUnit) → filter_map function_relocation (unit_relocations order size place u) ≡ relocations_of (unit_fields order size place u)
+unit-functions order size place u =
+    places-functions (entry_bytes order size) (entry_relocations order size) (entry_fields order size)
+    (λ p x. places-functions (attribute_bytes order size) (λ q a. value_relocations size q a.value) (λ q a. value_fields size q a.value) (value-functions order size) x.entry.attributes (p + length (uleb_bytes x.entry.code)))
+    (shaped u.entries) (place + header_length)
+
+pub info-functions : (order : Endian) (size place : ℕ) (us : List WrittenUnit) → filter_map function_relocation (info_relocations order size place us) ≡ relocations_of (info_fields order size place us)
+info-functions order size place us = places-functions (placed_unit_bytes order size) (unit_relocations order size) (unit_fields order size) (unit-functions order size) us place
+
+-- instructions without an address have no field
+at_places-append : {A B : Type 0} (spell : A → List ℕ) (at : ℕ → A → List B) (xs ys : List A) (place : ℕ) → at_places spell at place (xs ++ ys) ≡ at_places spell at place xs ++ at_places spell at (place + length (flat_map spell xs)) ys
+at_places-append spell at [] ys place = ap (λ p. at_places spell at p ys) (omega arith)
+at_places-append spell at (x ∷ xs) ys place =
+    ap (λ bs. at place x ++ bs) (at_places-append spell at xs ys (place + length (spell x)))
+    ∙ sym (append_assoc (at place x) _ _)
+    ∙ ap (λ p. (at place x ++ at_places spell at (place + length (spell x)) xs) ++ at_places spell at p ys) (omega (arith, length-append (spell x) (flat_map spell xs)))
+
+when-none : (order : Endian) (size : ℕ) (b : Bool) (i : Instruction) (is : List Instruction) → ((p : ℕ) → instruction_fields order size p i ≡ []) → ((p : ℕ) → program_fields order size p is ≡ []) → (p : ℕ) → program_fields order size p (when b i ++ is) ≡ []
+when-none order size true i is quiet others p = rw (quiet p) (others (p + length (instruction_bytes order size i)))
+when-none order size false i is quiet others p = others p
+
+row-none : (order : Endian) (size : ℕ) (before r : LineRow) (p : ℕ) → program_fields order size p (row_instructions before r) ≡ []
+row-none order size before r =
+    when-none order size (not (r.discriminator == 0)) (set_discriminator r.discriminator) _ (λ p. refl)
+    (when-none order size r.basic_block set_basic_block _ (λ p. refl)
+    (when-none order size r.prologue_end set_prologue_end _ (λ p. refl)
+    (when-none order size r.epilogue_begin set_epilogue_begin _ (λ p. refl)
+    (when-none order size (differs before.is_stmt r.is_stmt) negate_stmt _ (λ p. refl)
+    (when-none order size (not (before.file == r.file)) (set_file r.file) _ (λ p. refl)
+    (when-none order size (not (before.column == r.column)) (set_column r.column) _ (λ p. refl)
+    (when-none order size (not (before.isa == r.isa)) (set_isa r.isa) _ (λ p. refl)
+    (when-none order size (not (before.line == r.line)) (advance_line _) _ (λ p. refl)
+    (when-none order size (not (before.offset == r.offset)) (advance_pc _) (copy ∷ []) (λ p. refl) (λ p. refl))))))))))
+
+rows-none : (order : Endian) (size : ℕ) (before : LineRow) (rows : List LineRow) (last p : ℕ) → program_fields order size p (rows_instructions before rows last) ≡ []
+rows-none order size before [] last p = when-none order size (not (before.offset == last)) (advance_pc _) (end_sequence ∷ []) (λ q. refl) (λ q. refl) p
+rows-none order size before (r ∷ rows) last p =
+    at_places-append (instruction_bytes order size) (instruction_fields order size) (row_instructions before r) (rows_instructions r rows last) p
+    ∙ rw (row-none order size before r p) (rows-none order size r rows last _)
+
+sequence-functions : (order : Endian) (size place : ℕ) (q : WrittenSequence) → filter_map function_relocation (sequence_relocations order size place q) ≡ relocations_of (program_fields order size place (sequence_instructions q))
+sequence-functions order size place q =
+    let start = instruction_fields order size place (set_address q.start_address) in
+    let none = rows-none order size first_row q.rows q.end_offset (place + length (instruction_bytes order size (set_address q.start_address))) in
+    let alone : program_fields order size place (sequence_instructions q) ≡ start = ap (λ fs. start ++ fs) none ∙ append-nil start in
+    address-functions _ size q.start_address ∙ ap relocations_of (sym alone)
+
+sequences-functions : (order : Endian) (size : ℕ) (qs : List WrittenSequence) (place : ℕ) → filter_map function_relocation (sequences_relocations order size place qs) ≡ relocations_of (program_fields order size place (sequences_instructions qs))
+sequences-functions order size [] place = refl
+sequences-functions order size (q ∷ qs) place =
+    filter_map-append function_relocation (sequence_relocations order size place q) (sequences_relocations order size (place + length (sequence_bytes order size q)) qs)
+    ∙ ap (λ rs. rs ++ filter_map function_relocation (sequences_relocations order size (place + length (sequence_bytes order size q)) qs)) (sequence-functions order size place q)
+    ∙ ap (λ rs. relocations_of (program_fields order size place (sequence_instructions q)) ++ rs) (sequences-functions order size qs (place + length (sequence_bytes order size q)))
+    ∙ sym (filter_map-append relocation_for (program_fields order size place (sequence_instructions q)) (program_fields order size (place + length (sequence_bytes order size q)) (sequences_instructions qs)))
+    ∙ ap relocations_of (sym (at_places-append (instruction_bytes order size) (instruction_fields order size) (sequence_instructions q) (sequences_instructions qs) place))
+
+pub lines-functions : (order : Endian) (size place : ℕ) (ts : List WrittenTable) → filter_map function_relocation (lines_relocations order size place ts) ≡ relocations_of (lines_fields order size place ts)
+lines-functions order size place ts =
+    places-functions (one_table_bytes order size) (one_table_relocations order size) (one_table_fields order size) (λ p t. sequences-functions order size t.sequences (p + program_place t.directories t.files)) ts place

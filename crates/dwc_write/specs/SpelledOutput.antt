@@ -1,0 +1,105 @@
+-- The sections that are written of some units.
+use Rattle.std.specs.Prelude.{◌≡◌, ◌<◌, ◌⊎◌, ℕ, List, [], ◌∷◌, ◌++◌, length, Result, Ok, Err}
+use Rattle.dwc_base.specs.declared.records.Endian.{Endian}
+use Rattle.dwc_base.specs.declared.section_name.SectionName.{SectionName}
+use Rattle.dwc_base.specs.declared.section_name.SectionName.TheVariants.{Abbrev, Info, Line}
+use Rattle.dwc_base.specs.Sections.{section_text}
+use Rattle.dwc_base.specs.Outputs.{OutputRelocation, OutputSection}
+use Rattle.dwc_write.specs.declared.error.WriteError.{WriteError}
+use Rattle.dwc_write.specs.SpelledTables.{table_bytes}
+use Rattle.dwc_write.specs.SpelledSections.{WrittenUnit, placed_unit_bytes, tables_bytes, info_bytes, lines_bytes}
+use Rattle.dwc_write.specs.SpelledRelocations.{unit_relocations, info_relocations, lines_relocations}
+use Rattle.dwc_write.specs.GivenUnits.{GivenEntry, GivenUnit, size_of, first_uses, shapes_of, numbered, written_entries, written_lines, written_unit, written_units, written_tables}
+use Rattle.dwc_write.specs.Writers.{Writing, Refuses, appended, most_bytes}
+use Rattle.dwc_write.specs.declared.error.WriteError.TheVariants.{TooLarge, OutOfMemory}
+use Rattle.dwc_write.specs.declared.error.Limit.TheVariants.{Section}
+
+-- a section, where it is not empty
+abbrev pub section_unless_empty : SectionName → List ℕ → List OutputRelocation → List OutputSection
+section_unless_empty name [] relocations = []
+section_unless_empty name (b ∷ bytes) relocations = record { name = section_text name; body = b ∷ bytes; relocations = relocations } ∷ []
+
+abbrev pub abbrev_bytes : Endian → List GivenUnit → List ℕ
+abbrev_bytes order us = tables_bytes (written_units order (size_of us) 0 0 us)
+
+abbrev pub all_info_bytes : Endian → List GivenUnit → List ℕ
+all_info_bytes order us = info_bytes order (size_of us) (written_units order (size_of us) 0 0 us)
+
+abbrev pub all_lines_bytes : Endian → List GivenUnit → List ℕ
+all_lines_bytes order us = lines_bytes order (size_of us) (written_tables us)
+
+-- how many bytes a section has
+abbrev pub bytes_of : Endian → List GivenUnit → SectionName → List ℕ
+bytes_of order us Abbrev = abbrev_bytes order us
+bytes_of order us Info = all_info_bytes order us
+bytes_of order us Line = all_lines_bytes order us
+bytes_of order us name = []
+
+-- abbreviations, entries and line tables, in this order
+abbrev pub spelled_sections : Endian → List GivenUnit → List OutputSection
+spelled_sections order us =
+    section_unless_empty Abbrev (abbrev_bytes order us) []
+    ++ (section_unless_empty Info (all_info_bytes order us) (info_relocations order (size_of us) 0 (written_units order (size_of us) 0 0 us))
+    ++ section_unless_empty Line (all_lines_bytes order us) (lines_relocations order (size_of us) 0 (written_tables us)))
+
+-- ---- what the calls within a writer say
+
+-- A unit is written into both sections, or one of them refuses it.
+abbrev pub unit_of : ℕ → ℕ → List GivenEntry → WrittenUnit
+unit_of table_offset line_offset es = record { table_offset = table_offset; table = numbered 1 (first_uses [] (shapes_of es)); entries = written_entries line_offset (first_uses [] (shapes_of es)) es }
+
+abbrev pub WritesUnit : Writing → Writing → Writing → Writing → Result (Unit {0}) WriteError → ℕ → ℕ → List GivenEntry → Type 0
+WritesUnit abbrev_old abbrev_new info_old info_new (Ok done) size line_offset es =
+    (abbrev_new ≡ appended (table_bytes (unit_of (length abbrev_old.body) line_offset es).table) [] abbrev_old)
+    × (info_new ≡ appended (placed_unit_bytes info_old.order size (unit_of (length abbrev_old.body) line_offset es)) (unit_relocations info_old.order size (length info_old.body) (unit_of (length abbrev_old.body) line_offset es)) info_old)
+WritesUnit abbrev_old abbrev_new info_old info_new (Err e) size line_offset es =
+    Refuses e abbrev_old (length (table_bytes (unit_of (length abbrev_old.body) line_offset es).table)) ⊎ Refuses e info_old (length (placed_unit_bytes info_old.order size (unit_of (length abbrev_old.body) line_offset es)))
+
+-- the three sections as they are written
+pub record WrittenSections : Type 0 where
+  pub abbrev_section : Writing
+  pub info_section : Writing
+  pub line_section : Writing
+
+-- a unit with its line table behind what is there
+abbrev pub unit_in : WrittenSections → GivenUnit → WrittenUnit
+unit_in w u = written_unit (length w.abbrev_section.body) (length w.line_section.body) u
+
+abbrev pub with_unit : GivenUnit → WrittenSections → WrittenSections
+with_unit u w = record {
+  abbrev_section = appended (table_bytes (unit_in w u).table) [] w.abbrev_section;
+  info_section = appended (placed_unit_bytes w.info_section.order u.address_size (unit_in w u)) (unit_relocations w.info_section.order u.address_size (length w.info_section.body) (unit_in w u)) w.info_section;
+  line_section = appended (lines_bytes w.line_section.order u.address_size (written_lines u.lines)) (lines_relocations w.line_section.order u.address_size (length w.line_section.body) (written_lines u.lines)) w.line_section;
+}
+
+-- one of the sections refuses a unit
+abbrev pub RefusesUnit : WriteError → WrittenSections → GivenUnit → Type 0
+RefusesUnit e w u =
+    Refuses e w.abbrev_section (length (table_bytes (unit_in w u).table))
+    ⊎ (Refuses e w.info_section (length (placed_unit_bytes w.info_section.order u.address_size (unit_in w u)))
+    ⊎ Refuses e w.line_section (length (lines_bytes w.line_section.order u.address_size (written_lines u.lines))))
+
+abbrev pub WritesOne : WrittenSections → WrittenSections → Result (Unit {0}) WriteError → GivenUnit → Type 0
+WritesOne old new (Ok done) u = new ≡ with_unit u old
+WritesOne old new (Err e) u = RefusesUnit e old u
+
+abbrev pub empty_section : Endian → SectionName → Writing
+empty_section order name = record { order = order; name = name; body = []; relocations = [] }
+
+abbrev pub with_units : List GivenUnit → WrittenSections → WrittenSections
+with_units [] w = w
+with_units (u ∷ us) w = with_units us (with_unit u w)
+
+abbrev pub all_units : Endian → List GivenUnit → WrittenSections
+all_units order us = with_units us (record { abbrev_section = empty_section order Abbrev; info_section = empty_section order Info; line_section = empty_section order Line })
+
+-- A refusal of all units: for want of memory, or for a section's size.
+abbrev pub IsRefusal : Endian → List GivenUnit → WriteError → Type 0
+IsRefusal order us OutOfMemory = Unit {0}
+IsRefusal order us (TooLarge (Section name)) = most_bytes < length (bytes_of order us name)
+
+abbrev pub sections_of : WrittenSections → List OutputSection
+sections_of w =
+    section_unless_empty w.abbrev_section.name w.abbrev_section.body w.abbrev_section.relocations
+    ++ (section_unless_empty w.info_section.name w.info_section.body w.info_section.relocations
+    ++ section_unless_empty w.line_section.name w.line_section.body w.line_section.relocations)

@@ -1,0 +1,60 @@
+-- The relocations of what is spelled: one at each address of a function, and one at each offset in a section. The laws are in
+-- `ReadRelocations`.
+use Rattle.std.specs.Prelude.{ℕ, ◌+◌, ◌≤◌, List, [], ◌∷◌, length}
+use Rattle.dwc_base.specs.declared.records.Endian.{Endian}
+use Rattle.dwc_base.specs.declared.section_name.SectionName.TheVariants.{Abbrev, Line}
+use Rattle.dwc_base.specs.Outputs.{OutputRelocation}
+use Rattle.dwc_write.specs.Spelled.{uleb_bytes, at_places}
+use Rattle.dwc_write.specs.SpelledAddresses.{address_bytes}
+use Rattle.dwc_write.specs.SpelledUnits.{Written, as_addr, as_sec_offset, WrittenAttribute, attribute_bytes, Shaped, shaped, WrittenEntry, entry_bytes, header_length}
+use Rattle.dwc_write.specs.SpelledLines.{WrittenSequence, program_bytes, program_place, sequence_instructions}
+use Rattle.dwc_write.specs.SpelledSections.{WrittenUnit, placed_unit_bytes, WrittenTable, one_table_bytes}
+use Rattle.dwc_write.specs.Writers.{address_relocations, offset_relocation}
+
+-- ---- units
+
+abbrev pub value_relocations : ℕ → ℕ → Written → List OutputRelocation
+value_relocations size place (as_addr a) = address_relocations place size a
+value_relocations size place (as_sec_offset n) = offset_relocation place 4 Line n ∷ []
+value_relocations size place _ = []
+
+abbrev pub values_relocations : Endian → ℕ → ℕ → List WrittenAttribute → List OutputRelocation
+values_relocations order size place xs = at_places (attribute_bytes order size) (λ p a. value_relocations size p a.value) place xs
+
+abbrev pub entry_relocations : Endian → ℕ → ℕ → Shaped → List OutputRelocation
+entry_relocations order size place x = values_relocations order size (place + length (uleb_bytes x.entry.code)) x.entry.attributes
+
+abbrev pub entries_relocations : Endian → ℕ → ℕ → List Shaped → List OutputRelocation
+entries_relocations order size place xs = at_places (entry_bytes order size) (entry_relocations order size) place xs
+
+-- that of the abbreviation table, in the header, and those of the entries
+abbrev pub unit_relocations : Endian → ℕ → ℕ → WrittenUnit → List OutputRelocation
+unit_relocations order size place u = offset_relocation (place + 6) 4 Abbrev u.table_offset ∷ entries_relocations order size (place + header_length) (shaped u.entries)
+
+abbrev pub info_relocations : Endian → ℕ → ℕ → List WrittenUnit → List OutputRelocation
+info_relocations order size place us = at_places (placed_unit_bytes order size) (unit_relocations order size) place us
+
+-- ---- line tables
+
+abbrev pub sequence_bytes : Endian → ℕ → WrittenSequence → List ℕ
+sequence_bytes order size q = program_bytes order size (sequence_instructions q)
+
+-- that of its start: behind a zero, the length and the opcode
+abbrev pub sequence_relocations : Endian → ℕ → ℕ → WrittenSequence → List OutputRelocation
+sequence_relocations order size place q = address_relocations (((place + 1) + length (uleb_bytes (length (2 ∷ address_bytes order size q.start_address)))) + 1) size q.start_address
+
+abbrev pub sequences_relocations : Endian → ℕ → ℕ → List WrittenSequence → List OutputRelocation
+sequences_relocations order size place qs = at_places (sequence_bytes order size) (sequence_relocations order size) place qs
+
+abbrev pub one_table_relocations : Endian → ℕ → ℕ → WrittenTable → List OutputRelocation
+one_table_relocations order size place t = sequences_relocations order size (place + program_place t.directories t.files) t.sequences
+
+abbrev pub lines_relocations : Endian → ℕ → ℕ → List WrittenTable → List OutputRelocation
+lines_relocations order size place ts = at_places (one_table_bytes order size) (one_table_relocations order size) place ts
+
+-- ---- their places
+
+-- one behind another between two places
+abbrev pub RelocationsRise : ℕ → ℕ → List OutputRelocation → Type 0
+RelocationsRise low high [] = low ≤ high
+RelocationsRise low high (r ∷ rs) = (low ≤ r.offset) × RelocationsRise (r.offset + r.size) high rs

@@ -1,0 +1,121 @@
+//! The sections of an output.
+ghost use Rattle.std.specs.Prelude.{◌≡◌, ◌++◌, OnOk, IfOk, IfErr, IsOkUnless, map};
+ghost use Rattle.dwc_base.specs.declared.records.Endian.{Endian};
+ghost use Rattle.std.specs.List.{All};
+ghost use Rattle.dwc_base.specs.Outputs.{section_view};
+ghost use Rattle.dwc_write.specs.declared.error.WriteError.TheVariants.{OutOfMemory};
+ghost use Rattle.dwc_write.specs.GivenLines.{FitsLines};
+ghost use Rattle.dwc_write.specs.GivenUnits.{AreWritable, FitsGivenUnit};
+ghost use Rattle.dwc_write.specs.SpelledOutput.{IsRefusal, WritesOne, all_units, section_unless_empty, sections_of, spelled_sections};
+ghost use Rattle.dwc_write.specs.SectionViews.{sections_view};
+ghost use Rattle.dwc_write.specs.Writers.{IsSound};
+
+use crate::entries::{Spelling, write_unit};
+use crate::tables::write_lines;
+use crate::{Dwarf, Unit, WriteError, WriterRelocate};
+use dwc_base::{DwarfSection, Endian, SectionName};
+use std::alloc::Global;
+
+// The sections as they are written.
+#[derive(Drop)]
+pub(crate) struct Sections {
+    pub(crate) abbrev: WriterRelocate,
+    pub(crate) info: WriterRelocate,
+    pub(crate) line: WriterRelocate,
+}
+
+/// The sections `.debug_abbrev`, `.debug_info` and `.debug_line` of some units of version 4, in this order; those that are
+/// empty are left out. `TooLarge` is answered only where a section has more than 2^31 - 1 bytes. (DWARF 4, sections 6.2
+/// and 7.5.)
+pub fn write_sections(
+    alloc: Global,
+    dwarf: Dwarf,
+    order: Endian,
+) -> Result<Vec<DwarfSection>, WriteError>
+    requires { AreWritable dwarf.units.units.items }
+    ensures sections { IfOk result (λ s. map section_view s.items ≡ spelled_sections order dwarf.units.units.items) }
+    ensures sound { IfOk result (λ s. All (IsSound order) (map section_view s.items)) }
+    ensures large { IfErr result (λ e. IsRefusal order dwarf.units.units.items e) }
+{
+    let sections = write_units(alloc, order, &dwarf.units.units)?;
+    gather(alloc, sections)
+}
+
+// Units, one behind another.
+fn write_units(alloc: Global, order: Endian, units: &[Unit]) -> Result<Sections, WriteError>
+    requires { AreWritable units.now }
+    ensures ok { IfOk result (λ s. sections_view s ≡ all_units order units.now) }
+    ensures large { IfErr result (λ e. IsRefusal order units.now e) }
+    ensures fits { OnOk result (All FitsGivenUnit units.now) }
+    ensures lines { OnOk result (All (λ u. FitsLines u.lines) units.now) }
+{
+    let mut sections = Sections {
+        abbrev: WriterRelocate::new(alloc, order, SectionName::Abbrev),
+        info: WriterRelocate::new(alloc, order, SectionName::Info),
+        line: WriterRelocate::new(alloc, order, SectionName::Line),
+    };
+    let mut scratch = Vec::new(alloc);
+    for i in 0..units.len() {
+        write_one(alloc, order, &mut sections, &mut scratch, &units[i])?;
+    }
+    Ok(sections)
+}
+
+// A unit with its line table.
+fn write_one(
+    alloc: Global,
+    order: Endian,
+    sections: &mut Sections,
+    scratch: &mut Vec<u8>,
+    unit: &Unit,
+) -> Result<(), WriteError>
+    requires info { order ≡ sections.old.info.order }
+    requires line { order ≡ sections.old.line.order }
+    ensures bytes { WritesOne (sections_view sections.old) (sections_view sections.new) result unit.now }
+    ensures fits { FitsGivenUnit unit.now }
+    ensures lines { OnOk result (FitsLines unit.now.lines) }
+{
+    let size = unit.address_size;
+    let line_offset = sections.line.place();
+    write_lines(&mut sections.line, scratch, order, size, &unit.lines)?;
+    let spelling = Spelling {
+        order,
+        size,
+        line_offset,
+    };
+    write_unit(
+        alloc,
+        &mut sections.abbrev,
+        &mut sections.info,
+        scratch,
+        spelling,
+        &unit.entries,
+    )
+}
+
+// The sections that are not empty.
+fn gather(alloc: Global, sections: Sections) -> Result<Vec<DwarfSection>, WriteError>
+    ensures sections { IfOk result (λ s. map section_view s.items ≡ sections_of (sections_view sections)) }
+    ensures sound { (order : Endian) → sections.abbrev.order ≡ order → sections.info.order ≡ order → sections.line.order ≡ order → IfOk result (λ s. All (IsSound order) (map section_view s.items)) }
+    ensures memory { IsOkUnless result OutOfMemory }
+{
+    let Sections { abbrev, info, line } = sections;
+    let mut list = Vec::with_capacity(alloc, 3)?;
+    push_section(&mut list, abbrev)?;
+    push_section(&mut list, info)?;
+    push_section(&mut list, line)?;
+    Ok(list)
+}
+
+// A section behind others, where it is not empty.
+fn push_section(list: &mut Vec<DwarfSection>, writer: WriterRelocate) -> Result<(), WriteError>
+    ensures section { OnOk result (map section_view list.new.items ≡ map section_view list.old.items ++ section_unless_empty writer.name writer.body writer.relocations) }
+    ensures sound { OnOk result (All (IsSound writer.order) (map section_view list.old.items) → All (IsSound writer.order) (map section_view list.new.items)) }
+    ensures memory { IsOkUnless result OutOfMemory }
+{
+    if writer.place() == 0 {
+        return Ok(());
+    }
+    list.push(writer.take())?;
+    Ok(())
+}

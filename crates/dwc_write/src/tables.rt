@@ -1,0 +1,162 @@
+//! Line tables, as they are written. (DWARF 4, section 6.2.4.)
+ghost use Rattle.std.specs.Prelude.{◌≡◌, ◌++◌, ◌∷◌, [], ◌+◌, ◌⊎◌, OnOk, map, length};
+ghost use Rattle.std.specs.List.{All, flat_map};
+ghost use Rattle.dwc_write.specs.Spelled.{number_bytes, sized_bytes, text_bytes};
+ghost use Rattle.dwc_write.specs.SpelledAddresses.{address_bytes};
+ghost use Rattle.dwc_write.specs.SpelledLines.{file_bytes, line_fields_bytes};
+ghost use Rattle.dwc_write.specs.SpelledSections.{lines_bytes};
+ghost use Rattle.dwc_write.specs.SpelledRelocations.{lines_relocations, sequence_bytes, sequence_relocations, sequences_relocations};
+ghost use Rattle.dwc_write.specs.GivenLines.{FitsGivenSequence, FitsLines};
+ghost use Rattle.dwc_write.specs.GivenUnits.{IsOfSize, written_lines};
+ghost use Rattle.dwc_write.specs.LineViews.{file_view, sequence_view};
+ghost use Rattle.dwc_write.specs.Writers.{FitsField, Writes, address_relocations};
+
+use crate::append::{bytes_2, put_text, put_uleb};
+use crate::lines::{File, Sequence};
+use crate::rows::put_rows;
+use crate::{LineProgram, WriteError, WriterRelocate};
+use dwc_base::constants::DW_LNE_set_address;
+use dwc_base::{Address, Endian};
+use std::alloc::AllocError;
+
+// The line table of a program, where there is one.
+pub fn write_lines(
+    line: &mut WriterRelocate,
+    scratch: &mut Vec<u8>,
+    order: Endian,
+    size: u8,
+    lines: &LineProgram,
+) -> Result<(), WriteError>
+    requires order { order ≡ line.old.order }
+    requires size { (size ≡ 4) ⊎ (size ≡ 8) }
+    requires same { IsOfSize size lines.now.address_size }
+    ensures bytes { Writes line.old line.new result (lines_bytes line.old.order size (written_lines lines.now)) (lines_relocations line.old.order size (length line.old.body) (written_lines lines.now)) }
+    ensures fits { FitsLines lines.now }
+{
+    let Some(_) = lines.address_size else {
+        return Ok(());
+    };
+    scratch.clear();
+    put_fields(scratch, &lines.directories, &lines.files)?;
+    let place = line.place();
+    write_header(line, order, scratch)?;
+    write_sequences(line, scratch, size, &lines.sequences)?;
+    line.finish_length(place);
+    Ok(())
+}
+
+// Room for the length, the version, and the fields of the header behind their length.
+fn write_header(line: &mut WriterRelocate, order: Endian, fields: &[u8]) -> Result<(), WriteError>
+    requires { order ≡ line.old.order }
+    ensures { Writes line.old line.new result ((0 ∷ 0 ∷ 0 ∷ 0 ∷ []) ++ (number_bytes order 2 4 ++ sized_bytes order fields.now)) [] }
+{
+    let version = bytes_2(order, 4);
+    line.put_bytes(&[0, 0, 0, 0, version[0], version[1]])?;
+    line.put_sized_part(fields)
+}
+
+// Sequences, one behind another.
+fn write_sequences(
+    line: &mut WriterRelocate,
+    scratch: &mut Vec<u8>,
+    size: u8,
+    sequences: &[Sequence],
+) -> Result<(), WriteError>
+    requires size { (size ≡ 4) ⊎ (size ≡ 8) }
+    requires fits { All (FitsGivenSequence size) (map sequence_view sequences.now) }
+    ensures { Writes line.old line.new result (flat_map (sequence_bytes line.old.order size) (map sequence_view sequences.now)) (sequences_relocations line.old.order size (length line.old.body) (map sequence_view sequences.now)) }
+{
+    for i in 0..sequences.len() {
+        write_sequence(line, scratch, size, &sequences[i])?;
+    }
+    Ok(())
+}
+
+// A sequence: its start, its rows and its end.
+fn write_sequence(
+    line: &mut WriterRelocate,
+    scratch: &mut Vec<u8>,
+    size: u8,
+    sequence: &Sequence,
+) -> Result<(), WriteError>
+    requires size { (size ≡ 4) ⊎ (size ≡ 8) }
+    requires fits { FitsGivenSequence size (sequence_view sequence.now) }
+    ensures { Writes line.old line.new result (sequence_bytes line.old.order size (sequence_view sequence.now)) (sequence_relocations line.old.order size (length line.old.body) (sequence_view sequence.now)) }
+{
+    scratch.clear();
+    put_rows(scratch, &sequence.rows, sequence.end_offset)?;
+    write_start(line, size, sequence.start_address)?;
+    line.put_bytes(scratch)
+}
+
+// The instruction that sets the address of a sequence.
+fn write_start(line: &mut WriterRelocate, size: u8, start: Address) -> Result<(), WriteError>
+    requires size { (size ≡ 4) ⊎ (size ≡ 8) }
+    requires fits { FitsField size start }
+    ensures { Writes line.old line.new result ((0 ∷ (size + 1) ∷ 2 ∷ []) ++ address_bytes line.old.order size start) (address_relocations (length line.old.body + 3) size start) }
+{
+    line.put_bytes(&[0, size + 1, DW_LNE_set_address])?;
+    line.put_address(start, size)
+}
+
+// The fields of a header: how instructions are spelled, the directories and the files.
+fn put_fields(
+    out: &mut Vec<u8>,
+    directories: &[Vec<u8>],
+    files: &[File],
+) -> Result<(), AllocError>
+    ensures { OnOk result (out.new.items ≡ out.old.items ++ line_fields_bytes (map (λ d. d.items) directories.now) (map file_view files.now)) }
+{
+    let minimum_length = 1;
+    let operations = 1;
+    let default_is_stmt = 1;
+    let line_base = 251;
+    let line_range = 14;
+    let opcode_base = 13;
+    out.extend_from_slice(&[
+        minimum_length,
+        operations,
+        default_is_stmt,
+        line_base,
+        line_range,
+        opcode_base,
+    ])?;
+    out.extend_from_slice(&STANDARD_OPCODE_LENGTHS)?;
+    put_directories(out, directories)?;
+    put_files(out, files)
+}
+
+// How many operands the standard opcodes have.
+const STANDARD_OPCODE_LENGTHS: [u8; 12] = [0, 1, 1, 1, 1, 0, 0, 0, 1, 0, 0, 1];
+
+// Directories, and the end of their list.
+fn put_directories(out: &mut Vec<u8>, directories: &[Vec<u8>]) -> Result<(), AllocError>
+    ensures { OnOk result (out.new.items ≡ out.old.items ++ (flat_map text_bytes (map (λ d. d.items) directories.now) ++ 0 ∷ [])) }
+{
+    for i in 0..directories.len() {
+        put_text(out, &directories[i])?;
+    }
+    out.push(0)?;
+    Ok(())
+}
+
+// Files, and the end of their list.
+fn put_files(out: &mut Vec<u8>, files: &[File]) -> Result<(), AllocError>
+    ensures { OnOk result (out.new.items ≡ out.old.items ++ (flat_map file_bytes (map file_view files.now) ++ 0 ∷ [])) }
+{
+    for i in 0..files.len() {
+        put_file(out, &files[i])?;
+    }
+    out.push(0)?;
+    Ok(())
+}
+
+// A file: its name and its directory, without time and length.
+fn put_file(out: &mut Vec<u8>, file: &File) -> Result<(), AllocError>
+    ensures { OnOk result (out.new.items ≡ out.old.items ++ file_bytes (file_view file.now)) }
+{
+    put_text(out, &file.name)?;
+    put_uleb(out, file.directory)?;
+    out.extend_from_slice(&[0, 0])?;
+    Ok(())
+}
