@@ -9,6 +9,8 @@ mod program;
 mod registers;
 mod step;
 mod table;
+#[cfg(test)]
+mod tests;
 
 pub use fault::TabFault;
 pub use header::LineFile;
