@@ -18,6 +18,14 @@ pub mod EntryWalk
 pub mod Steps
 pub mod LebLaws
 pub mod SlebLaws
+pub mod FileTakes
+pub mod ImportLaws
+pub mod Parts
+pub mod Translated
+pub mod SectionTitles
+pub mod SectionWalk
+pub mod WalkedSections
+pub mod FileStarts
 pub mod Limits
 pub mod BrokenMaps
 pub mod BrokenFiles

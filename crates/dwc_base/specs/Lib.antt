@@ -19,4 +19,5 @@ pub mod FirstForm
 pub mod Widest
 pub mod Lebs
 pub mod Cursors
+pub mod Translations
 pub mod CodeOffsets

@@ -102,10 +102,24 @@ impl<'d> Cursor<'d> {
         self.place
     }
 
+    /// The order of the bytes of a number.
+    pub fn order(&self) -> Endian
+        ensures { result ≡ self.now.order }
+    {
+        self.order
+    }
+
     pub fn left(&self) -> usize
         ensures { result ≡ length self.now.left }
     {
         self.left.len()
+    }
+
+    /// The bytes that are unread.
+    pub fn unread(&self) -> &'d [u8]
+        ensures { result.now ≡ self.now.left }
+    {
+        self.left
     }
 
     pub fn take(&mut self, n: usize) -> Result<&'d [u8], CursorFault>

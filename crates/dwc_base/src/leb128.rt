@@ -9,6 +9,12 @@ pub fn uleb_front(bytes: &[u8]) -> Option<(Option<u64>, usize)>
     ensures value { MatchOption result (uleb_value bytes.now ≡ None) (λ x. (n : ℕ) × (uleb_value bytes.now ≡ Some (n, x.1)) × SomeIff x.0 (n < 2 ^ 64) n) }
     ensures count { MatchOption result ⊤ (λ x. x.1 ≤ length bytes.now) }
 {
+    // most numbers take one byte
+    if let [first, ..] = bytes
+        && *first < 128
+    {
+        return Some((Some(u64::from(*first)), 1));
+    }
     let count = leb_len(bytes)?;
     Some((leb_value(&bytes[..count]), count))
 }
@@ -18,6 +24,11 @@ pub fn sleb_front(bytes: &[u8]) -> Option<(Option<i64>, usize)>
     ensures value { MatchOption result (sleb_value bytes.now ≡ None) (λ x. (n : ℤ) × (sleb_value bytes.now ≡ Some (n, x.1)) × SomeIff x.0 (FitsSigned w64 n) n) }
     ensures count { MatchOption result ⊤ (λ x. x.1 ≤ length bytes.now) }
 {
+    if let [first, ..] = bytes
+        && *first < 64
+    {
+        return Some((Some(i64::from(*first)), 1));
+    }
     let count = leb_len(bytes)?;
     Some((signed_leb_value(&bytes[..count]), count))
 }

@@ -5,15 +5,27 @@
 pub mod constants;
 mod cursor;
 mod faults;
+mod imports;
 mod leb128;
 mod output;
 mod records;
 mod relocations;
 mod section_name;
+mod wasm;
+mod wasm_fields;
+mod wasm_sections;
+mod wasm_walk;
 
 pub use cursor::{Cursor, CursorFault};
 pub use faults::{Flaw, Kind, NotRead, What};
 pub use output::{DwarfSection, DwarfSectionReloc, DwarfSectionRelocTarget};
-pub use records::{Address, Encoding, Endian, FilePos, LineRow, MapFault, SymbolId};
+pub use records::{
+    Address, DefinedFuncIndex, Encoding, Endian, FilePos, LineRow, MapFault, SymbolId,
+};
 pub use relocations::Relocations;
 pub use section_name::SectionName;
+pub use wasm::{FunctionMeta, ModuleTranslation, ValType, WasmFault, split_wasm};
+pub use wasm_sections::WasmSections;
+
+#[cfg(test)]
+mod tests;

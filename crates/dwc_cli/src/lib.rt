@@ -1,4 +1,35 @@
-//! The map file and the program.
+//! The program: the words, the files that they name, and one run from them to the printed text.
 #![tactic(auto)]
 
-pub mod top;
+mod answer;
+mod calls;
+mod command;
+mod failure;
+mod front;
+mod host;
+mod input_files;
+mod json_fields;
+mod loading;
+mod map_file;
+mod mem_sink;
+mod mem_source;
+mod opened;
+mod printing;
+mod reading;
+mod refusal;
+mod sink;
+mod source;
+mod status;
+mod words;
+
+pub use command::run;
+pub use host::{HostSink, HostSource};
+pub use loading::{LoadError, load};
+pub use map_file::{MapFile, MapModule, Names, Target, map_of};
+pub use mem_sink::MemSink;
+pub use mem_source::MemSource;
+pub use printing::printed;
+pub use sink::{Sink, write_all};
+pub use source::{Failed, Source};
+pub use status::Status;
+pub use words::{Paths, read_words};

@@ -1,0 +1,208 @@
+#!/usr/bin/env python3
+"""Makes WebAssembly modules with DWARF, and the map files of code compiled from them.
+
+    make_modules.py FOLDER [--functions N ...] [--segments N ...]
+
+For each N of --functions: N functions, each with a subprogram, a line sequence of 20 rows and an address map of 20
+entries. For each N of --segments: one function of N sources, and a DW_LNE_set_address before each of its N rows, as
+wasm-opt writes them. The files are FOLDER/functions_N.wasm, FOLDER/functions_N.json and so on.
+"""
+
+import argparse
+import json
+import os
+
+ROWS = 20  # of a function's line sequence, and entries of its address map
+BODY = 42  # bytes of a function: no locals, 40 instructions, the end
+CODE = 110  # bytes of its native code
+
+
+def uleb(n):
+    out = bytearray()
+    while n >= 0x80:
+        out.append(n & 0x7F | 0x80)
+        n >>= 7
+    out.append(n)
+    return bytes(out)
+
+
+def sleb(n):
+    out = bytearray()
+    while not -64 <= n < 64:
+        out.append(n & 0x7F | 0x80)
+        n >>= 7
+    out.append(n & 0x7F)
+    return bytes(out)
+
+
+def u32(n):
+    return n.to_bytes(4, "little")
+
+
+def section(number, content):
+    return bytes([number]) + uleb(len(content)) + content
+
+
+def custom(name, content):
+    return section(0, uleb(len(name)) + name.encode() + content)
+
+
+# A compile unit with a line table, and subprograms with a low_pc and a data4 high_pc.
+ABBREVIATIONS = bytes.fromhex("011101 1017 0000 022E00 1101 1206 0000 00")
+
+# Version 4; from the minimum instruction length on: the opcodes, no directories, the file a.c.
+LINE_PARAMETERS = bytes.fromhex("01 01 01 FB 0E 0D 000101010100000001000001 00 612E6300000000 00")
+
+
+def debug_info(ranges):
+    entries = bytearray(bytes([1]) + u32(0))
+    for start, length in ranges:
+        entries += bytes([2]) + u32(start) + u32(length)
+    entries.append(0)
+    unit = bytes.fromhex("0400") + u32(0) + bytes([4]) + entries
+    return u32(len(unit)) + unit
+
+
+def debug_line(program):
+    header = LINE_PARAMETERS
+    table = bytes.fromhex("0400") + u32(len(header)) + header + program
+    return u32(len(table)) + table
+
+
+def set_address(address):
+    return bytes([0, 5, 2]) + u32(address)
+
+
+COPY = bytes([1])
+END_SEQUENCE = bytes([0, 1, 1])
+
+
+def advance_pc(n):
+    return bytes([2]) + uleb(n)
+
+
+def advance_line(n):
+    return bytes([3]) + sleb(n)
+
+
+def function_sequence(start, line):
+    """Rows at each second instruction, a line further each."""
+    special = 13 + (1 + 5) + 14 * 2
+    rows = COPY + bytes([special]) * (ROWS - 1)
+    rest = BODY - 2 * (ROWS - 1)
+    return set_address(start) + advance_line(line - 1) + rows + advance_pc(rest) + END_SEQUENCE
+
+
+def segment_sequence(start, rows, size):
+    program = bytearray()
+    for row in range(rows):
+        program += set_address(start + 2 * row) + advance_line(1) + COPY
+    program += advance_pc(size - 2 * (rows - 1)) + END_SEQUENCE
+    return bytes(program)
+
+
+def module(bodies, info, line):
+    """The file, and the offset of the code section's contents in it."""
+    count = uleb(len(bodies))
+    code = bytearray(count)
+    for body in bodies:
+        code += uleb(len(body)) + body
+    front = b"\0asm" + u32(1)
+    front += section(1, bytes.fromhex("01 60 00 00"))
+    front += section(3, count + bytes(len(bodies)))
+    offset = len(front) + 1 + len(uleb(len(code)))
+    back = custom(".debug_abbrev", ABBREVIATIONS) + custom(".debug_info", info) + custom(".debug_line", line)
+    return front + section(10, bytes(code)) + back, offset
+
+
+def places(bodies):
+    """The offset of each body in the code section's contents."""
+    at = len(uleb(len(bodies)))
+    for body in bodies:
+        at += len(uleb(len(body)))
+        yield at
+        at += len(body)
+
+
+def body_of(size):
+    return bytes([0]) + bytes([1]) * (size - 2) + bytes([0x0B])
+
+
+def map_of(functions):
+    return {
+        "target": {"arch": "x86_64"},
+        "names": ["set_mem", "resolve_mem"],
+        "modules": [{"path": "/bench/module.wasm", "functions": functions}],
+    }
+
+
+def functions_module(count):
+    bodies = [body_of(BODY)] * count
+    starts = list(places(bodies))
+    info = debug_info((start, BODY) for start in starts)
+    line = debug_line(b"".join(function_sequence(s, ROWS * i + 1) for i, s in enumerate(starts)))
+    wasm, offset = module(bodies, info, line)
+    functions = []
+    for symbol, start in enumerate(starts):
+        entries = [[5 * k, start + offset + 2 * k] for k in range(ROWS - 1)]
+        entries.append([5 * (ROWS - 1), None])
+        functions.append(
+            {
+                "symbol": symbol,
+                "start": start + offset,
+                "end": start + offset + BODY,
+                "body_len": CODE,
+                "map": entries,
+            }
+        )
+    return wasm, map_of(functions)
+
+
+def segments_module(rows):
+    size = 2 * rows + 2
+    bodies = [body_of(size)]
+    [start] = places(bodies)
+    wasm, offset = module(bodies, debug_info([(start, size)]), debug_line(segment_sequence(start, rows, size)))
+    entries = [[3 * k, start + offset + 2 * k] for k in range(rows)]
+    function = {
+        "symbol": 0,
+        "start": start + offset,
+        "end": start + offset + size,
+        "body_len": 3 * rows,
+        "map": entries,
+    }
+    return wasm, map_of([function])
+
+
+def write(folder, name, wasm, value):
+    with open(os.path.join(folder, name + ".wasm"), "wb") as file:
+        file.write(wasm)
+    with open(os.path.join(folder, name + ".json"), "w") as file:
+        json.dump(value, file, separators=(",", ":"))
+
+
+def make(folder, functions, segments):
+    """The names of the modules that were made, by size."""
+    os.makedirs(folder, exist_ok=True)
+    names = []
+    for count in functions:
+        names.append(f"functions_{count}")
+        write(folder, names[-1], *functions_module(count))
+    for rows in segments:
+        names.append(f"segments_{rows}")
+        write(folder, names[-1], *segments_module(rows))
+    return names
+
+
+def main():
+    parser = argparse.ArgumentParser(description=__doc__.splitlines()[0])
+    parser.add_argument("folder")
+    parser.add_argument("--functions", type=int, nargs="*", default=[1000, 10000, 50000])
+    parser.add_argument("--segments", type=int, nargs="*", default=[5000])
+    words = parser.parse_args()
+    for name in make(words.folder, words.functions, words.segments):
+        print(os.path.join(words.folder, name + ".wasm"))
+
+
+if __name__ == "__main__":
+    main()

@@ -1,0 +1,39 @@
+use Rattle.std.proofs.Common.{◌≡◌}
+use Rattle.std.proofs.lemmas.Result.{err_from_is_err_and}
+use Rattle.dwc_base.specs.Listing.{item, at_end}
+use Rattle.dwc_base.specs.Wasm.{next_wasm_section}
+use Rattle.dwc_base.specs.Translations.{section_view}
+use Rattle.dwc_base.proofs.SectionWalk.{next_wasm_section-fewer}
+use Rattle.dwc_base.proofs.WalkedSections.{Walked-none, Walked-more, Walked-done, Walked-broken}
+use Rattle.dwc_base.proofs.wasm.translate.Goals as goal
+
+pub loop-translation-init : goal.loop-translation-init
+loop-translation-init c = Walked-none c.args.cursor c.empty-translation.result c.empty-translation.ensures
+
+pub loop-translation-preserved : goal.loop-translation-preserved
+loop-translation-preserved c =
+    let met : next_wasm_section c.loop-translation.cursor ≡ item (section_view c.in-Some.section) c.next_section.new.cursor = rw c.in-Some.is at c.in_ok-section.ensures in
+    Walked-more c.args.cursor c.loop-translation.cursor c.loop-translation.translation c.loop-translation.invariant c.next_section.new.cursor c.note.new.self _ met c.note.ensures
+
+pub loop-translation-smaller : goal.loop-translation-smaller
+loop-translation-smaller c =
+    let met : next_wasm_section c.loop-translation.cursor ≡ item (section_view c.in-Some.section) c.next_section.new.cursor = rw c.in-Some.is at c.in_ok-section.ensures in
+    next_wasm_section-fewer c.loop-translation.cursor c.next_section.new.cursor _ met
+
+pub returns-in_err-section-clause-translated : goal.returns-in_err-section-clause-translated
+returns-in_err-section-clause-translated c =
+    let p = err_from_is_err_and c.from_residual.result c.from_residual.ensures.1 in
+    let w = c.loop-translation.invariant in
+    rw (p.1, p.2) (w.done, Walked-broken c.args.cursor c.loop-translation.cursor c.loop-translation.translation w _ c.in_err-section.ensures)
+
+pub returns-clause-translated : goal.returns-clause-translated
+returns-clause-translated c =
+    let met : next_wasm_section c.loop-translation.cursor ≡ at_end = rw c.in_default.is at c.in_ok-section.ensures in
+    let w = c.loop-translation.invariant in
+    (w.done, Walked-done c.args.cursor c.loop-translation.cursor c.loop-translation.translation w met, w.noted)
+
+pub returns-clause-small : goal.returns-clause-small
+returns-clause-small c = λ name. (c.loop-translation.invariant.inside name).small
+
+pub returns-clause-inside : goal.returns-clause-inside
+returns-clause-inside c = λ name. (c.loop-translation.invariant.inside name).inside

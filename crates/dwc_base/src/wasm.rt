@@ -1,0 +1,174 @@
+//! The reader of WebAssembly files: the sections of DWARF, lent, and the few facts that DWARF wants besides.
+//! (WebAssembly 1.0, section 5.5.)
+ghost use Rattle.std.specs.Prelude.{◌≡◌, ◌≤◌, ◌<◌, ◌^◌, [], None, length, IfOk};
+ghost use Rattle.dwc_base.specs.declared.section_name.SectionName.{SectionName};
+ghost use Rattle.dwc_base.specs.Wasm.{module_from_sections};
+ghost use Rattle.dwc_base.specs.Translations.{IsTranslation, TranslatesFile, TranslatesSections, GivesLastPart, Notes, sections_start, first_compressed, section_bytes, section_view};
+
+use crate::wasm_fields::BrokenField;
+use crate::wasm_sections::WasmSections;
+use crate::wasm_walk::{Contents, Section, next_section};
+use crate::{Cursor, Endian};
+use std::alloc::Global;
+use thiserror::Error;
+
+// The magic number and version 1.
+const PREAMBLE: [u8; 8] = [0x00, 0x61, 0x73, 0x6D, 0x01, 0x00, 0x00, 0x00];
+
+/// Why a file is no WebAssembly file that is read.
+#[derive(Clone, Copy, Debug, PartialEq, Eq, Drop, Error)]
+pub enum WasmFault {
+    /// The grammar fails; the offset is that of the first byte of the first field that breaks it, or of the first byte
+    /// left over at the end of an import or function section.
+    #[error("Malformed {offset}")]
+    Malformed { offset: u64 },
+    #[error("out of memory")]
+    OutOfMemory,
+}
+
+impl From<BrokenField> for WasmFault {
+    ghost use Rattle.std.specs.Prelude.{◌≡◌};
+    ghost use Rattle.dwc_base.specs.declared.wasm.WasmFault.TheVariants.{Malformed};
+
+    ghost from_gives = { λ broken e. e ≡ Malformed broken.offset };
+
+    fn from(broken: BrokenField) -> WasmFault {
+        WasmFault::Malformed {
+            offset: broken.offset,
+        }
+    }
+}
+
+/// The type of a value. (WebAssembly 1.0, section 5.3.1.)
+#[derive(Clone, Copy, Debug, PartialEq, Eq)]
+pub enum ValType {
+    I32,
+    I64,
+    F32,
+    F64,
+    Other,
+}
+
+/// The parameters of a function, and its locals in groups of one type.
+#[derive(Drop)]
+pub struct FunctionMeta {
+    pub params: Vec<ValType>,
+    pub locals: Vec<(u32, ValType)>,
+}
+
+/// What DWARF wants of a WebAssembly file.
+#[derive(Drop)]
+pub struct ModuleTranslation<'d> {
+    /// The sections of DWARF.
+    pub sections: WasmSections<'d>,
+    /// Those of a package, whose names end in `.dwo`. They are not read yet.
+    pub dwo_sections: WasmSections<'d>,
+    /// The place of the first section whose name begins with `.zdebug_`, in the file.
+    pub compressed: Option<u64>,
+    /// The place of the contents of the code section in the file; 0 where there is none.
+    pub code_section_offset: u64,
+    /// How many functions are imported.
+    pub imported_funcs: u32,
+    /// How many functions the file defines.
+    pub defined_funcs: u32,
+    /// The name of the module. It is not read yet, nor are the three fields behind it.
+    pub module_name: Option<&'d str>,
+    /// The names of functions by number.
+    pub func_names: Vec<(u32, &'d str)>,
+    /// The names of locals by the numbers of the function and the local.
+    pub local_names: Vec<(u32, u32, &'d str)>,
+    /// The defined functions.
+    pub funcs: Vec<FunctionMeta>,
+    /// The path of the file, which the caller sets.
+    pub path: Option<&'d str>,
+}
+
+impl<'d> ModuleTranslation<'d> {
+    // That of a file without sections.
+    fn empty(alloc: Global) -> ModuleTranslation<'d>
+        ensures { IsTranslation result (module_from_sections []) }
+    {
+        ModuleTranslation {
+            sections: WasmSections::none(),
+            dwo_sections: WasmSections::none(),
+            compressed: None,
+            code_section_offset: 0,
+            imported_funcs: 0,
+            defined_funcs: 0,
+            module_name: None,
+            func_names: Vec::new(alloc),
+            local_names: Vec::new(alloc),
+            funcs: Vec::new(alloc),
+            path: None,
+        }
+    }
+
+    // Takes note of a further section.
+    fn note(&mut self, section: Section<'d>)
+        ensures { Notes self.old self.new (section_view section.entry) }
+    {
+        let Section { place, contents } = section;
+        match contents {
+            Contents::Custom { name, rest } => {
+                self.compressed = first_compressed(self.compressed, place, name);
+                self.sections.note(name, rest.unread());
+            }
+            Contents::Imports { functions } => self.imported_funcs = functions,
+            Contents::Functions { functions } => self.defined_funcs = functions,
+            Contents::Code { body } => self.code_section_offset = body.place() as u64,
+            Contents::Other { .. } => {}
+        }
+    }
+}
+
+/// Reads a WebAssembly file: the sections of DWARF, lent, of equal names the later; how many functions it imports and
+/// defines; where the contents of its code section are; and the first section that is compressed. Import and function
+/// sections and the names of custom sections are read whole, and all else is lent as it is. The numbers of DWARF in it are
+/// little-endian. Malformed comes exactly where the grammar fails.
+pub fn split_wasm<'d>(alloc: Global, bytes: &'d [u8]) -> Result<ModuleTranslation<'d>, WasmFault>
+    ensures translated { TranslatesFile bytes.now result }
+    ensures small { IfOk result (λ t. (name : SectionName) → length (section_bytes t.sections name) < 2 ^ 32) }
+    ensures inside { IfOk result (λ t. (name : SectionName) → length (section_bytes t.sections name) ≤ length bytes.now) }
+{
+    let cursor = behind_preamble(bytes)?;
+    Ok(translate(alloc, cursor)?)
+}
+
+// The place of the first compressed section, behind a custom section at a place with a title.
+fn first_compressed(before: Option<u64>, place: u64, title: &str) -> Option<u64>
+    ensures { result ≡ first_compressed before place title.now }
+{
+    if before.is_none() && title.as_bytes().starts_with(b".zdebug_") {
+        Some(place)
+    } else {
+        before
+    }
+}
+
+// Where the sections of a file begin.
+fn behind_preamble<'d>(bytes: &'d [u8]) -> Result<Cursor<'d>, BrokenField>
+    ensures { GivesLastPart (λ u. u) (sections_start bytes.now) result }
+{
+    if !bytes.starts_with(&PREAMBLE) {
+        return Err(BrokenField { offset: 0 });
+    }
+    let mut cursor = Cursor::new(bytes, Endian::Little);
+    cursor.take(PREAMBLE.len())?;
+    Ok(cursor)
+}
+
+// What the sections from a place on hold.
+fn translate<'d>(
+    alloc: Global,
+    mut cursor: Cursor<'d>,
+) -> Result<ModuleTranslation<'d>, BrokenField>
+    ensures translated { TranslatesSections cursor.entry result }
+    ensures small { IfOk result (λ t. (name : SectionName) → length (section_bytes t.sections name) < 2 ^ 32) }
+    ensures inside { IfOk result (λ t. (name : SectionName) → length (section_bytes t.sections name) ≤ length cursor.entry.left) }
+{
+    let mut translation = ModuleTranslation::empty(alloc);
+    while let Some(section) = next_section(&mut cursor)? {
+        translation.note(section);
+    }
+    Ok(translation)
+}

@@ -1,0 +1,45 @@
+-- The numbers of statuses, and what the line of a failure says.
+use Rattle.std.specs.Prelude.{ℕ, List, ◌++◌, codes}
+use Rattle.dwc_cli.specs.declared.status.Status.{Status}
+use Rattle.dwc_cli.specs.declared.status.Status.TheVariants as statuses
+use Rattle.dwc_cli.specs.declared.failure.Failure.{Failure}
+use Rattle.dwc_cli.specs.declared.failure.Failure.TheVariants.{Usage, ReadFault, TooLong, MalformedMap, WriteFault, OutOfMemory, Refused}
+use Rattle.dwc_cli.specs.Printed.{line_feed}
+
+abbrev pub status_code : Status → ℕ
+status_code statuses.Done = 0
+status_code statuses.Usage = 2
+status_code statuses.ReadFault = 3
+status_code statuses.TooLong = 4
+status_code statuses.MalformedWasm = 5
+status_code statuses.MalformedMap = 6
+status_code statuses.WriteFault = 8
+status_code statuses.OutOfMemory = 9
+status_code statuses.Read = 10
+status_code statuses.Unsupported = 11
+status_code statuses.BadAddressMap = 13
+status_code statuses.TooLarge = 20
+
+-- the status of a run that ends with a failure
+abbrev pub failure_status : Failure → ℕ
+failure_status Usage = 2
+failure_status (ReadFault path) = 3
+failure_status (TooLong path) = 4
+failure_status MalformedMap = 6
+failure_status WriteFault = 8
+failure_status OutOfMemory = 9
+failure_status (Refused status refusal) = status_code status
+
+-- a line of the program's own
+abbrev pub line_of : List ℕ → List ℕ
+line_of message = codes "dwarfcarry: " ++ message ++ line_feed
+
+-- the message of a failure
+abbrev pub failure_message : Failure → List ℕ
+failure_message Usage = codes "usage: dwarfcarry [--package P] [--text] MAP MODULE... | --generate N"
+failure_message (ReadFault path) = codes "read fault " ++ path.now
+failure_message (TooLong path) = codes "file too long " ++ path.now
+failure_message MalformedMap = codes "malformed map"
+failure_message WriteFault = codes "write fault"
+failure_message OutOfMemory = codes "out of memory"
+failure_message (Refused status refusal) = refusal

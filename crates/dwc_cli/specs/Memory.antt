@@ -1,0 +1,107 @@
+-- A source and a sink in memory, as values.
+use Rattle.std.specs.Prelude.{◌≡◌, ℕ, ◌+◌, ◌-◌, ◌^◌, ◌==◌, min, nat_lt, Bool, ◌&&◌, List, [], ◌++◌, take, drop, length, string_bytes, String, Vec, if◌then◌else◌, Option, Some, None, option_map, is_some, slice_get}
+use Rattle.std.specs.Global.{Global}
+use Rattle.std.specs.List.{list_any}
+use Rattle.std.specs.Ordering.{nat_cmp}
+use Rattle.std.specs.Cmp.Lexicographic.{slice_cmp}
+use Rattle.std.specs.FinMap as finite
+use Rattle.dwc_cli.specs.declared.opened.Opened.{Opened}
+use Rattle.dwc_cli.specs.RunStatus.{Files}
+
+-- one more, up to the type's end
+abbrev pub one_more : ℕ → ℕ
+one_more n = min (n + 1) (2 ^ 64 - 1)
+
+-- whether the call after so many is to fail
+abbrev pub next_fails : ℕ → List ℕ → Bool
+next_fails calls failing = list_any (λ number. number == one_more calls) failing
+
+-- ---- the source
+
+pub record MemorySource : Type 0 where
+  pub files : List (List ℕ × List ℕ)
+  pub failing : List ℕ
+  pub left : Option (List ℕ)
+  pub taken : ℕ
+  pub calls : ℕ
+  pub faults : ℕ
+
+-- a file's path and its bytes
+abbrev pub file_entry : String Global × Vec ℕ Global → List ℕ × List ℕ
+file_entry file = (string_bytes file.0, file.1.items)
+
+abbrev pub memory_source : List (List ℕ × List ℕ) → List ℕ → MemorySource
+memory_source files failing = record { files = files; failing = failing; left = None; taken = 0; calls = 0; faults = 0 }
+
+-- the files by their paths; of two equal paths the first counts
+abbrev pub files_of : List (List ℕ × List ℕ) → Files
+files_of files = finite.from_entries files
+
+-- a file that was opened, and of which nothing was given
+abbrev pub at_front : ℕ → Opened
+at_front file = record { file = file; place = 0 }
+
+-- what is left of the file that was opened
+abbrev pub left_of : List (String Global × Vec ℕ Global) → Option Opened → Option (List ℕ)
+left_of files None = None
+left_of files (Some opened) = option_map (λ file. drop opened.place file.1.items) (slice_get files opened.file)
+
+-- the bytes of the file that the next call opens, none where it fails
+abbrev pub opens : MemorySource → List ℕ → Option (List ℕ)
+opens s path = if next_fails s.calls s.failing then None else finite.find (slice_cmp nat_cmp) path s.files
+
+abbrev pub after_open : MemorySource → List ℕ → MemorySource
+after_open s path = record s { left = opens s path; taken = 0; calls = one_more s.calls; faults = if is_some (opens s path) then s.faults else one_more s.faults }
+
+-- what a read of the next call goes on from, none where it fails
+abbrev pub reads_from : MemorySource → Option (List ℕ)
+reads_from s = if next_fails s.calls s.failing then None else s.left
+
+-- what is left after a read, how many bytes it gives, and the first of them in the buffer; where it fails, nothing changes
+abbrev pub GivesFront : Option (List ℕ) → Option (List ℕ) → Option (List ℕ) → List ℕ → Option ℕ → Type 0
+GivesFront None old new buffer None = new ≡ old
+GivesFront None old new buffer (Some n) = ⊥
+GivesFront (Some rest) old new buffer None = ⊥
+GivesFront (Some rest) old None buffer (Some n) = ⊥
+GivesFront (Some rest) old (Some now) buffer (Some n) = (n ≡ min (length buffer) (length rest)) × (take n buffer ≡ take n rest) × (now ≡ drop n rest)
+
+abbrev pub after_giving : MemorySource → ℕ → Option (List ℕ) → MemorySource
+after_giving s room None = record s { calls = one_more s.calls; faults = one_more s.faults }
+after_giving s room (Some rest) =
+    let count = min room (length rest) in
+    record s { left = Some (drop count rest); taken = min (s.taken + count) (2 ^ 64 - 1); calls = one_more s.calls }
+
+-- a read into a buffer with so much room gives as many bytes as are left and fit it
+abbrev pub after_read : MemorySource → ℕ → MemorySource
+after_read s room = after_giving s room (reads_from s)
+
+-- ---- the sink
+
+pub record MemorySink : Type 0 where
+  pub written : List ℕ
+  pub room : ℕ
+  pub most : ℕ
+  pub failing : List ℕ
+  pub calls : ℕ
+  pub faults : ℕ
+
+abbrev pub memory_sink : ℕ → ℕ → List ℕ → MemorySink
+memory_sink room most failing = record { written = []; room = room; most = most; failing = failing; calls = 0; faults = 0 }
+
+-- how many bytes of a piece fit: at most `most`, and `room` in all
+abbrev pub fitting : MemorySink → List ℕ → ℕ
+fitting s piece = min (length piece) (min s.most (s.room - length s.written))
+
+-- how many bytes of a piece the next call takes, none where it fails: it is to fail, or none of some bytes fit
+abbrev pub takes : MemorySink → List ℕ → Option ℕ
+takes s piece =
+    if next_fails s.calls s.failing
+    then None
+    else (if nat_lt 0 (length piece) && (fitting s piece == 0) then None else Some (fitting s piece))
+
+abbrev pub after_taking : MemorySink → List ℕ → Option ℕ → MemorySink
+after_taking s piece None = record s { calls = one_more s.calls; faults = one_more s.faults }
+after_taking s piece (Some n) = record s { written = s.written ++ take n piece; calls = one_more s.calls }
+
+abbrev pub after_write : MemorySink → List ℕ → MemorySink
+after_write s piece = after_taking s piece (takes s piece)

@@ -1,0 +1,72 @@
+//! Reading a whole file.
+ghost use Rattle.std.specs.Prelude.{◌≡◌, ◌<◌, ◌≤◌, ◌↔◌, length, Err, IfOk};
+ghost use Rattle.dwc_cli.specs.RunStatus.{Rose, most_bytes};
+ghost use Rattle.dwc_cli.specs.Edge.{IsFile, IsLongFile};
+
+use crate::source::{Failed, Source};
+use std::alloc::{AllocError, Global};
+
+/// The most bytes that are read of one file: 2 ^ 28.
+const MOST: usize = 1 << 28;
+
+/// How many bytes one read asks for.
+const BUFFER: usize = 65_536;
+
+/// Why a file is not loaded.
+#[derive(Clone, Copy, Debug, PartialEq, Eq)]
+pub enum LoadError {
+    /// The source failed.
+    Read,
+    /// More than 2 ^ 28 bytes were taken of the file.
+    TooLong,
+    OutOfMemory,
+}
+
+impl From<Failed> for LoadError {
+    ghost use Rattle.std.specs.Prelude.{◌≡◌};
+    ghost use Rattle.dwc_cli.specs.declared.loading.LoadError.TheVariants.{Read};
+
+    ghost from_gives = { λ _ e. e ≡ Read };
+
+    fn from(_: Failed) -> LoadError {
+        LoadError::Read
+    }
+}
+
+impl From<AllocError> for LoadError {
+    ghost use Rattle.std.specs.Prelude.{◌≡◌};
+    ghost use Rattle.dwc_cli.specs.declared.loading.LoadError.TheVariants.{OutOfMemory};
+
+    ghost from_gives = { λ _ e. e ≡ OutOfMemory };
+
+    fn from(_: AllocError) -> LoadError {
+        LoadError::OutOfMemory
+    }
+}
+
+/// The bytes of the file at a path. It is opened and read to its end, 65,536 bytes at a time; past 2 ^ 28 bytes it is
+/// [`LoadError::TooLong`].
+pub fn load<S: Source>(alloc: Global, source: &mut S, path: &str) -> Result<Vec<u8>, LoadError>
+    ensures file { IfOk result (λ bytes. IsFile (S.files source.old) path.now bytes.items) }
+    ensures short { IfOk result (λ bytes. length bytes.items ≤ most_bytes) }
+    ensures too_long { (result ≡ Err LoadError.TooLong) ↔ (most_bytes < S.taken source.new) }
+    ensures long_file { result ≡ Err LoadError.TooLong → IsLongFile (S.files source.old) path.now }
+    ensures read_fault { result ≡ Err LoadError.Read → Rose (S.faults source.old) (S.faults source.new) }
+    ensures files { S.files source.new ≡ S.files source.old }
+    ensures later { S.faults source.old ≤ S.faults source.new }
+{
+    source.open_file(path)?;
+    let mut bytes = Vec::new(alloc);
+    let mut buffer = [0u8; BUFFER];
+    for _ in 0..MOST + 1 {
+        let count = source.read(&mut buffer)?;
+        if count == 0 {
+            return Ok(bytes);
+        }
+        if bytes.len() + count > MOST {
+            return Err(LoadError::TooLong);
+        }
+        bytes.extend_from_slice(&buffer[..count])?;
+    }
+    unreachable!()
+}

@@ -1,0 +1,343 @@
+//! The map file: what a code generator tells of the functions that it compiled, as a JSON object.
+ghost use Rattle.std.specs.Prelude.{◌≡◌, ◌&&◌, map, option_map, option_and_then, IfOk, Some, None};
+ghost use Rattle.serde_json.specs.View.{view, items_view};
+ghost use Rattle.dwc_clif.specs.AddressMaps.{entry_view, address_map_view};
+ghost use Rattle.dwc_cli.specs.MapFile.{target_of, text_of, u32_of, source_of, pair_of, all_items, list_of, address_map_of, map_module_of, map_value, map_of_bytes, have_counts, is_countable};
+ghost use Rattle.dwc_cli.specs.MapViews.{target_view, names_view, address_map_with, module_view, map_file_view};
+
+#[cfg(test)]
+mod tests;
+
+use crate::json_fields::{
+    architecture, items, member, members, pair, plain_text, pointer_bytes, source, symbol,
+    whole_number,
+};
+use dwc_base::{FilePos, ModuleTranslation, SymbolId};
+use dwc_clif::{Architecture, CompiledFunctionMetadata, FunctionAddressMap, InstructionAddressMap};
+use serde_json::Value;
+use std::alloc::{AllocError, Global};
+
+// Modules, and functions over all modules, are numbered with 32 bits.
+const COUNT_LIMIT: usize = 1 << 32;
+
+/// What the code was compiled for.
+#[derive(Clone, Copy)]
+pub struct Target {
+    pub arch: Architecture,
+    /// Whether its numbers begin with their highest byte.
+    pub big_endian: bool,
+    /// How many bytes an address has: 4 or 8.
+    pub pointer_bytes: u8,
+}
+
+/// The names of the two functions that give access to a module's memory.
+#[derive(Drop)]
+pub struct Names {
+    /// The one that sets the memory.
+    pub set: String,
+    /// The one that resolves an address in it.
+    pub resolve: String,
+}
+
+/// A module.
+#[derive(Drop)]
+pub struct MapModule {
+    /// Its functions in the order of the code section, each with its symbol, if it has one.
+    pub functions: Vec<(Option<SymbolId>, CompiledFunctionMetadata)>,
+}
+
+/// The value of a map file, with the defaults of the fields that it leaves out.
+#[derive(Drop)]
+pub struct MapFile {
+    pub target: Target,
+    pub names: Names,
+    /// The modules in the order of the program's words.
+    pub modules: Vec<MapModule>,
+}
+
+#[tactic(auto, unfolding(crate::specs::MapFile::target_of))]
+fn read_target(value: &Value) -> Option<Target>
+    ensures { option_map target_view result ≡ target_of (view value.now) }
+{
+    let fields = members(value)?;
+    let arch = architecture(member(fields, "arch")?)?;
+    let big_endian = match member(fields, "big_endian") {
+        Some(field) => field.as_bool()?,
+        None => false,
+    };
+    let pointer_bytes = match member(fields, "pointer_bytes") {
+        Some(field) => pointer_bytes(field)?,
+        None => 8,
+    };
+    Some(Target {
+        arch,
+        big_endian,
+        pointer_bytes,
+    })
+}
+
+#[tactic(auto, using(crate::proofs::MapKinds::pair_of_parts))]
+fn read_names(alloc: Global, value: &Value) -> Result<Option<Names>, AllocError>
+    ensures { IfOk result (λ o. option_map names_view o ≡ pair_of text_of text_of (view value.now)) }
+{
+    let Some((set, resolve)) = pair(value) else {
+        return Ok(None);
+    };
+    let Some(set) = plain_text(set) else {
+        return Ok(None);
+    };
+    let Some(resolve) = plain_text(resolve) else {
+        return Ok(None);
+    };
+    let set = String::from_str(alloc, set)?;
+    let resolve = String::from_str(alloc, resolve)?;
+    Ok(Some(Names { set, resolve }))
+}
+
+// The fields of a function, the values of its entries not yet read.
+#[derive(Drop)]
+struct FunctionFields<'v> {
+    symbol: Option<SymbolId>,
+    start: FilePos,
+    end: FilePos,
+    body_offset: u32,
+    body_len: u32,
+    entries: &'v [Value],
+}
+
+#[tactic(auto, using(crate::proofs::MapKinds::list_of_items), unfolding(crate::specs::MapFile::address_map_of))]
+fn function_fields(value: &Value) -> Option<FunctionFields<'_>>
+    ensures { address_map_of (view value.now) ≡ option_and_then address_map_with result }
+{
+    let fields = members(value)?;
+    let symbol = symbol(member(fields, "symbol")?)?;
+    let start = source(member(fields, "start")?)?;
+    let end = source(member(fields, "end")?)?;
+    let body_offset = match member(fields, "body_offset") {
+        Some(field) => whole_number(field)?,
+        None => 0,
+    };
+    let body_len = whole_number(member(fields, "body_len")?)?;
+    let entries = items(member(fields, "map")?)?;
+    Some(FunctionFields {
+        symbol,
+        start,
+        end,
+        body_offset,
+        body_len,
+        entries,
+    })
+}
+
+// A pair of a code offset and the source of the code from there on.
+#[tactic(auto, using(crate::proofs::MapKinds::pair_of_parts))]
+fn read_entry(value: &Value) -> Option<InstructionAddressMap>
+    ensures { option_map entry_view result ≡ pair_of u32_of source_of (view value.now) }
+{
+    let (code_offset, srcloc) = pair(value)?;
+    let code_offset = whole_number(code_offset)?;
+    let srcloc = source(srcloc)?;
+    Some(InstructionAddressMap {
+        srcloc,
+        code_offset,
+    })
+}
+
+fn read_entries(
+    alloc: Global,
+    values: &[Value],
+) -> Result<Option<Vec<InstructionAddressMap>>, AllocError>
+    ensures { IfOk result (λ o. option_map (λ v. map entry_view v.items) o
+        ≡ all_items (pair_of u32_of source_of) (items_view values.now)) }
+{
+    let mut entries = Vec::with_capacity(alloc, values.len())?;
+    for value in values {
+        let Some(entry) = read_entry(value) else {
+            return Ok(None);
+        };
+        entries.push(entry)?;
+    }
+    Ok(Some(entries))
+}
+
+// A function's symbol and address map.
+fn read_function(
+    alloc: Global,
+    value: &Value,
+) -> Result<Option<(Option<SymbolId>, CompiledFunctionMetadata)>, AllocError>
+    ensures { IfOk result (λ o. option_map address_map_view o ≡ address_map_of (view value.now)) }
+{
+    let Some(fields) = function_fields(value) else {
+        return Ok(None);
+    };
+    let Some(instructions) = read_entries(alloc, fields.entries)? else {
+        return Ok(None);
+    };
+    let address_map = FunctionAddressMap {
+        instructions,
+        start_srcloc: fields.start,
+        end_srcloc: fields.end,
+        body_offset: fields.body_offset as usize,
+        body_len: fields.body_len,
+    };
+    let metadata = CompiledFunctionMetadata {
+        address_map,
+        start_srcloc: fields.start,
+        end_srcloc: fields.end,
+    };
+    Ok(Some((fields.symbol, metadata)))
+}
+
+fn read_functions(
+    alloc: Global,
+    values: &[Value],
+) -> Result<Option<Vec<(Option<SymbolId>, CompiledFunctionMetadata)>>, AllocError>
+    ensures { IfOk result (λ o. option_map (λ v. map address_map_view v.items) o
+        ≡ all_items address_map_of (items_view values.now)) }
+{
+    let mut functions = Vec::with_capacity(alloc, values.len())?;
+    for value in values {
+        let Some(function) = read_function(alloc, value)? else {
+            return Ok(None);
+        };
+        functions.push(function)?;
+    }
+    Ok(Some(functions))
+}
+
+#[tactic(auto, using(crate::proofs::MapKinds::list_of_items), unfolding(crate::specs::MapFile::map_module_of))]
+fn read_module(alloc: Global, value: &Value) -> Result<Option<MapModule>, AllocError>
+    ensures { IfOk result (λ o. option_map module_view o ≡ map_module_of (view value.now)) }
+{
+    let Some(fields) = members(value) else {
+        return Ok(None);
+    };
+    let Some(values) = member(fields, "functions").and_then(items) else {
+        return Ok(None);
+    };
+    let Some(functions) = read_functions(alloc, values)? else {
+        return Ok(None);
+    };
+    Ok(Some(MapModule { functions }))
+}
+
+fn read_modules(alloc: Global, values: &[Value]) -> Result<Option<Vec<MapModule>>, AllocError>
+    ensures { IfOk result (λ o. option_map (λ v. map module_view v.items) o
+        ≡ all_items map_module_of (items_view values.now)) }
+{
+    let mut modules = Vec::with_capacity(alloc, values.len())?;
+    for value in values {
+        let Some(module) = read_module(alloc, value)? else {
+            return Ok(None);
+        };
+        modules.push(module)?;
+    }
+    Ok(Some(modules))
+}
+
+// Whether each module has as many functions as are defined in it.
+fn has_counts(modules: &[MapModule], defined: &[u32]) -> bool
+    ensures { result ≡ have_counts defined.now (map module_view modules.now) }
+{
+    if modules.len() != defined.len() {
+        return false;
+    }
+    for i in 0..modules.len() {
+        if modules[i].functions.len() != defined[i] as usize {
+            return false;
+        }
+    }
+    true
+}
+
+// Whether the modules, and the functions of all modules, are fewer than 2^32.
+fn can_be_numbered(modules: &[MapModule]) -> bool
+    ensures { result ≡ is_countable (map module_view modules.now) }
+{
+    if modules.len() >= COUNT_LIMIT {
+        return false;
+    }
+    let mut functions = 0;
+    for module in modules {
+        if module.functions.len() >= COUNT_LIMIT - functions {
+            return false;
+        }
+        functions += module.functions.len();
+    }
+    true
+}
+
+#[tactic(auto, using(crate::proofs::MapKinds::list_of_items), unfolding(crate::specs::MapFile::map_value))]
+fn read_map(alloc: Global, value: &Value, defined: &[u32]) -> Result<Option<MapFile>, AllocError>
+    ensures { IfOk result (λ o. option_map map_file_view o ≡ map_value defined.now (view value.now)) }
+{
+    let Some(fields) = members(value) else {
+        return Ok(None);
+    };
+    let Some(target) = member(fields, "target").and_then(read_target) else {
+        return Ok(None);
+    };
+    let Some(names) = member(fields, "names") else {
+        return Ok(None);
+    };
+    let Some(names) = read_names(alloc, names)? else {
+        return Ok(None);
+    };
+    let Some(values) = member(fields, "modules").and_then(items) else {
+        return Ok(None);
+    };
+    let Some(modules) = read_modules(alloc, values)? else {
+        return Ok(None);
+    };
+    if !has_counts(&modules, defined) || !can_be_numbered(&modules) {
+        return Ok(None);
+    }
+    Ok(Some(MapFile {
+        target,
+        names,
+        modules,
+    }))
+}
+
+// The value of a map file's bytes, for modules that define so many functions each, in order.
+#[tactic(auto, using(crate::proofs::MapKinds::map_of_bytes_read, crate::proofs::MapKinds::map_of_bytes_unread))]
+pub(crate) fn map_of_counts(
+    alloc: Global,
+    bytes: &[u8],
+    defined: &[u32],
+) -> Result<Option<MapFile>, AllocError>
+    ensures { IfOk result (λ o. option_map map_file_view o ≡ map_of_bytes defined.now bytes.now) }
+{
+    match Value::from_slice(alloc, bytes) {
+        Ok(value) => read_map(alloc, &value, defined),
+        Err(error) if error.is_memory() => Err(AllocError),
+        Err(_) => Ok(None),
+    }
+}
+
+/// The value of a map file's bytes, for these modules in order. `with_text` asks for the text of each function, which is
+/// not read yet.
+///
+/// Answers `Ok(None)` exactly where the bytes have no value as a map: they are not UTF-8 or no JSON text of at most 127
+/// levels, a required field is missing, a value is of the wrong kind or out of its range, or the modules are not as many
+/// as these, with as many functions as each of these defines. Unknown fields are passed over, and of two members of one
+/// name the later counts.
+///
+/// # Errors
+///
+/// `AllocError` for want of memory alone.
+pub fn map_of(
+    alloc: Global,
+    bytes: &[u8],
+    modules: &[ModuleTranslation<'_>],
+    _with_text: bool,
+) -> Result<Option<MapFile>, AllocError>
+    ensures { IfOk result (λ o. option_map map_file_view o
+        ≡ map_of_bytes (map (λ m. m.defined_funcs) modules.now) bytes.now) }
+{
+    let mut defined = Vec::with_capacity(alloc, modules.len())?;
+    for module in modules {
+        defined.push(module.defined_funcs)?;
+    }
+    map_of_counts(alloc, bytes, &defined)
+}

@@ -1,0 +1,39 @@
+//! How a run ends.
+ghost use Rattle.std.specs.Prelude.{◌≡◌};
+ghost use Rattle.dwc_cli.specs.Failures.{status_code};
+
+/// The status that the program ends with. Status 1 is `main`'s own, where it cannot get the words.
+#[derive(Clone, Copy, Debug, PartialEq, Eq)]
+pub enum Status {
+    Done = 0,
+    /// The words are not in the grammar.
+    Usage = 2,
+    /// A file cannot be read.
+    ReadFault = 3,
+    /// A file has more than 2 ^ 28 bytes.
+    TooLong = 4,
+    /// The module is no WebAssembly file.
+    MalformedWasm = 5,
+    /// The map has no value.
+    MalformedMap = 6,
+    /// The text cannot be written whole.
+    WriteFault = 8,
+    OutOfMemory = 9,
+    /// A place of the DWARF is outside its grammar.
+    Read = 10,
+    /// A place of the DWARF is of a kind that is refused.
+    Unsupported = 11,
+    /// A function's address map breaks a rule.
+    BadAddressMap = 13,
+    /// A section would be too long.
+    TooLarge = 20,
+}
+
+impl Status {
+    /// The number of the status.
+    pub fn code(self) -> u8
+        ensures { result ≡ status_code self }
+    {
+        self as u8
+    }
+}
