@@ -32,3 +32,5 @@ pub mod BrokenFiles
 pub mod WorkedImages
 pub mod CodeOffsets
 pub mod KeptCases
+pub mod FormCases
+pub mod LineCases

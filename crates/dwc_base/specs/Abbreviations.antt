@@ -14,6 +14,7 @@ pub record AttributeSpec : Type 0 where
   pub form : ℕ
   pub implicit : ℤ
 
+-- a declaration: its code, its tag, whether children follow its entries, and its attributes
 pub record Declaration : Type 0 where
   pub code : ℕ
   pub tag : ℕ

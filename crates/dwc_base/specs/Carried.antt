@@ -32,6 +32,7 @@ units_of_headers s (h ∷ hs) last = with_entries h (entries s h) (units_of_head
 unfoldable pub units : Sections → Listing Fault Unit
 units s = units_of_headers s (unit_headers s).items (unit_headers s).fault
 
+-- a unit's first entry, its root
 abbrev pub root : Unit → Option Entry
 root u = go u.entries
   where
@@ -52,9 +53,11 @@ table_of_root s u (Some e) = elim (line_offset (attribute DW_AT_stmt_list e)) [
   | Some offset ↦ (line_table s u.header.address_size offset >>= λ t. Ok (Some t))
 ]
 
+-- a unit's line table, if its root names one
 unfoldable pub table_of_unit : Sections → Unit → Result (Option LineTable) Fault
 table_of_unit s u = table_of_root s u (root u)
 
+-- the segments of a table, none without one
 abbrev pub segments_of : Option LineTable → List Segment
 segments_of None = []
 segments_of (Some t) = segments t
@@ -79,6 +82,7 @@ pub record Compilation : Type 0 where
 abbrev pub placed_entries : List Unit → List Placed
 placed_entries us = flat_map (λ u. map (λ e. record { unit = u.header.offset; entry = e }) u.entries) us
 
+-- whether a unit's root has a tag
 abbrev pub has_root_tag : ℕ → Unit → Bool
 has_root_tag tag u = go (root u)
   where

@@ -14,6 +14,7 @@ abbrev pub flaw_of : CursorFault → Flaw
 flaw_of (End offset) = EndsEarly
 flaw_of (Wide offset) = TooWide
 
+-- where it was
 abbrev pub place_of : CursorFault → ℕ
 place_of (End offset) = offset
 place_of (Wide offset) = offset
@@ -39,14 +40,17 @@ abbrev pub Fails : {B : Type 0} → NotRead → Read B → Type 0
 Fails OutOfMemory read = Unit {0}
 Fails (Flawed flaw) read = read ≡ Err flaw
 
+-- a reader that takes memory gives what reading gives, or fails so
 abbrev pub GivesOrMemory : {A B : Type 0} → (A → B) → Read B → Unread → Result A NotRead → Type 0
 GivesOrMemory view read new (Ok x) = read ≡ Ok (view x, new)
 GivesOrMemory view read new (Err e) = Fails e read
 
+-- the same error where nothing is read behind
 abbrev pub FailsLast : {B : Type 0} → NotRead → Result B Flaw → Type 0
 FailsLast OutOfMemory read = Unit {0}
 FailsLast (Flawed flaw) read = read ≡ Err flaw
 
+-- the same reader of what is read last
 abbrev pub GivesLastOrMemory : {A B : Type 0} → (A → B) → Result B Flaw → Result A NotRead → Type 0
 GivesLastOrMemory view read (Ok x) = read ≡ Ok (view x)
 GivesLastOrMemory view read (Err e) = FailsLast e read

@@ -31,6 +31,7 @@ pub record Found : Type 0 where
   pub entry : Entry
   pub has_children : Bool
 
+-- an entry of a declaration, behind its code
 unfoldable pub declared_entry_at : Sections → UnitHeader → ℕ → ℕ → Declaration → Unread → Read (Option Found)
 declared_entry_at s h offset depth d u = do
   attributes ← attributes_at s h d.attributes u
@@ -64,6 +65,7 @@ place_behind (Some found) depth u = entry_place (if found.has_children then suc 
 abbrev pub root_place : UnitHeader → Option EntryPlace
 root_place h = Some (record { depth = 0; unread = h.content })
 
+-- how many bytes of the unit are still unread
 abbrev pub entry_places_left : Option EntryPlace → ℕ
 entry_places_left None = 0
 entry_places_left (Some p) = length p.unread.left

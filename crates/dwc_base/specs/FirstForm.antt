@@ -14,6 +14,7 @@ use Rattle.dwc_base.specs.LineRows.{LineTable, LineStep, start, row, end, source
 use Rattle.dwc_base.specs.Carried.{root, line_offset, table_of_unit, Module, Compilation, carried_units_of}
 use Rattle.dwc_base.specs.declared.constants.TheConstants.{DW_AT_high_pc, DW_AT_low_pc, DW_AT_stmt_list, DW_FORM_addr, DW_FORM_data4, DW_FORM_sec_offset, DW_TAG_compile_unit, DW_TAG_subprogram}
 
+-- version 4 and addresses of four bytes
 abbrev pub has_known_header : UnitHeader → Bool
 has_known_header h = (h.version == 4) && (h.address_size == 4)
 
@@ -31,6 +32,7 @@ abbrev pub has_one_header : Sections → List UnitHeader → Bool
 has_one_header s [] = not (has_version (λ v. not (v == 4)) (section_from s Info 0))
 has_one_header s (h ∷ hs) = has_known_header h && (length hs == 0) && not (has_version (λ v. true) (section_from s Info h.end))
 
+-- whether a declaration has these names and forms in order, and no others
 abbrev pub has_specs : List (ℕ × ℕ) → List AttributeSpec → Bool
 has_specs [] [] = true
 has_specs [] (a ∷ as') = false
@@ -45,6 +47,7 @@ is_root_shape d = (d.tag == DW_TAG_compile_unit) && d.has_children && (has_specs
 abbrev pub is_subprogram_shape : Declaration → Bool
 is_subprogram_shape d = (d.tag == DW_TAG_subprogram) && not d.has_children && has_specs ((DW_AT_low_pc, DW_FORM_addr) ∷ (DW_AT_high_pc, DW_FORM_data4) ∷ []) d.attributes
 
+-- the next declaration of a table
 unfoldable pub next_declaration : Unread → Next Unread Flaw Declaration
 next_declaration u = elim (declaration_at u) [ Err flaw ↦ broken flaw | Ok d ↦ elim d.0 [ None ↦ at_end | Some x ↦ item x d.1 ] ]
 
@@ -52,6 +55,7 @@ next_declaration u = elim (declaration_at u) [ Err flaw ↦ broken flaw | Ok d �
 unfoldable pub declarations_from : Sections → ℕ → Listing Flaw Declaration
 declarations_from s offset = walk (λ u. length u.left) next_declaration (section_from s Abbrev offset)
 
+-- whether all declarations of a table have one of the two shapes
 abbrev pub has_known_shapes : List Declaration → Bool
 has_known_shapes table = list_all (λ d. is_root_shape d || is_subprogram_shape d) table
 
@@ -66,9 +70,11 @@ names_file t (start a) = true
 names_file t (row r) = is_some (source_file t r.file)
 names_file t (end e) = true
 
+-- whether no file or directory is missing in a table, and no name is empty
 abbrev pub has_all_files : LineTable → Bool
 has_all_files t = list_all (names_file t) t.steps && list_all (λ f. is_some (in_directory t.header.directories f) && nat_lt 0 (length f.name)) t.files
 
+-- whether a table that was read has version 4 and all its files
 abbrev pub has_known_table : Result (Option LineTable) Fault → Bool
 has_known_table (Err fault) = true
 has_known_table (Ok None) = true
@@ -94,5 +100,6 @@ is_first_form m =
     && list_all (λ h. has_known_entries (entries m.sections h).items) (unit_headers m.sections).items
     && list_all (λ u. has_line_version_4 m.sections (offset_of_table (root u)) && has_known_table (table_of_unit m.sections u)) (carried_units_of m)
 
+-- whether each module has that form
 abbrev pub is_all_built : Compilation → Bool
 is_all_built c = list_all is_first_form c.modules

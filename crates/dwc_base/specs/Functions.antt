@@ -1,4 +1,5 @@
--- Functions, their address maps, and which function an address of the input is in.
+-- Functions, their address maps, and which function an address of the input is in. (No standard has these: a code generator
+-- tells the maps, and DWARF counts code addresses of a wasm file from the contents of its code section.)
 use Rattle.std.specs.Prelude.{ℕ, ◌+◌, ◌-◌, ◌==◌, List, [], ◌∷◌, map, Bool, true, nat_lt, nat_le, ◌||◌, ◌&&◌, if◌then◌else◌, Option, Some, None, option_map, is_some}
 use Rattle.std.specs.Option.{unwrap_or}
 use Rattle.std.specs.List.{filter_map}
@@ -28,6 +29,7 @@ entry_fault start end body_len code (e ∷ es) =
     else (if nat_lt body_len e.0 then Some CodePastBody
     else (if is_source_within start end e.1 then entry_fault start end body_len e.0 es else Some SourceOutside))
 
+-- the first rule that a map's start, end and entries break
 abbrev pub bounds_fault : ℕ → AddressMap → Option ℕ → Option ℕ → Option MapFault
 bounds_fault code_offset m None end = Some NoStart
 bounds_fault code_offset m (Some start) None = Some NoStart
@@ -84,6 +86,7 @@ owner (f ∷ fs) a = owner_with f a (owner fs a)
 abbrev pub is_unlinked : ℕ → Bool
 is_unlinked a = (a == 0) || (a == 0xFFFFFFFF)
 
+-- a function, if it has a symbol
 abbrev pub with_symbol : Option Function → Option Function
 with_symbol None = None
 with_symbol (Some f) = if is_some f.symbol then Some f else None
@@ -97,6 +100,7 @@ pub record Recorded : Type 0 where
   pub native : ℕ
   pub wasm : ℕ
 
+-- an entry that has a source, as one
 abbrev pub recorded_entry : ℕ × Option ℕ → Option Recorded
 recorded_entry e = option_map (λ wasm. record { native = e.0; wasm = wasm }) e.1
 

@@ -1,4 +1,4 @@
--- What a segment of an input line table becomes for a function: its image.
+-- What a segment of an input line table becomes for a function: its image. (This project's own rule.)
 use Rattle.std.specs.Prelude.{◌≡◌, ℕ, ◌-◌, ◌<◌, ◌≤◌, pos, List, [], ◌∷◌, Bool, false, nat_le, if◌then◌else◌, Option, Some, None, is_some, All}
 use Rattle.std.specs.Option.{option_or}
 use Rattle.std.specs.List.{list_any}
@@ -42,6 +42,7 @@ function_of_segment fs q = go q.start
     go (Constant a) = function_at fs a
     go (Symbol n a) = None
 
+-- the wasm offset that a segment of the input begins at
 abbrev pub start_of_segment : Segment → ℕ
 start_of_segment q = go q.start
   where

@@ -1,4 +1,4 @@
--- Which entries of a module are kept.
+-- Which entries of a module are kept. (This project's own rule.)
 use Rattle.std.specs.Prelude.{ℕ, zero, suc, ◌+◌, ◌==◌, List, [], ◌∷◌, length, Bool, false, not, ◌&&◌, ◌||◌, Option, Some, None, is_some, is_none}
 use Rattle.std.specs.List.{filter, list_any, take_while}
 use Rattle.dwc_base.specs.declared.records.Address.TheVariants.{Constant}
@@ -23,16 +23,19 @@ is_translatable fs _ = false
 abbrev pub is_required : List Function → Entry → Bool
 is_required fs e = (e.tag == DW_TAG_subprogram) && is_none (attribute DW_AT_ranges e) && is_translatable fs (attribute DW_AT_low_pc e)
 
+-- whether two entries stand at one offset
 abbrev pub same_place : Placed → Placed → Bool
 same_place e f = e.entry.offset == f.entry.offset
 
+-- whether an entry is among some
 abbrev pub is_among : List Placed → Placed → Bool
 is_among es e = list_any (same_place e) es
 
--- the parent of an entry: the last earlier one of depth one less
+-- the parent of an entry: the last earlier one of depth one less (DWARF 4 and 5, section 2.3)
 abbrev pub parent_of : List Placed → Placed → Option Placed
 parent_of es e = last_of (filter (λ p. suc p.entry.depth == e.entry.depth) (take_while (λ p. not (same_place e p)) es))
 
+-- whether the second entry is the parent of the first
 abbrev pub is_parent : List Placed → Placed → Placed → Bool
 is_parent es e p = is_it (parent_of es e)
   where
@@ -46,6 +49,7 @@ names_entry e f (unit_reference n) = (f.unit == e.unit) && (f.entry.offset == e.
 names_entry e f (info_reference n) = f.entry.offset == n
 names_entry e f _ = false
 
+-- whether an attribute of an entry, other than sibling, names another entry
 abbrev pub refers_to : Placed → Placed → Bool
 refers_to e f = list_any (λ a. not (a.0 == DW_AT_sibling) && names_entry e f a.1) e.entry.attributes
 
@@ -67,6 +71,7 @@ keeps es e f = is_parent es e f || refers_to e f || (is_parent es f e && is_part
 abbrev pub kept_step : List Placed → List Placed → List Placed
 kept_step es kept = filter (λ f. is_among kept f || list_any (λ e. keeps es e f) kept) es
 
+-- so many steps, one after another
 abbrev pub steps_of : ℕ → List Placed → List Placed → List Placed
 steps_of zero es kept = kept
 steps_of (suc n) es kept = kept_step es (steps_of n es kept)

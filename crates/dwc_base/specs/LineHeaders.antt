@@ -128,12 +128,14 @@ pub data Operand : Type 0 where
   one_sleb : (ℤ → Instruction) → Operand
   two_bytes : (ℕ → Instruction) → Operand
 
+-- the standard opcodes, each with its operand (DWARF 4, section 6.2.5.2)
 abbrev pub standard_opcodes : List (ℕ × Operand)
 standard_opcodes =
     (DW_LNS_copy, no_operand copy) ∷ (DW_LNS_advance_pc, one_uleb advance_pc) ∷ (DW_LNS_advance_line, one_sleb advance_line) ∷ (DW_LNS_set_file, one_uleb set_file) ∷ (DW_LNS_set_column, one_uleb set_column) ∷ (DW_LNS_negate_stmt, no_operand negate_stmt)
     ∷ (DW_LNS_set_basic_block, no_operand set_basic_block) ∷ (DW_LNS_const_add_pc, no_operand const_add_pc) ∷ (DW_LNS_fixed_advance_pc, two_bytes fixed_advance_pc) ∷ (DW_LNS_set_prologue_end, no_operand set_prologue_end)
     ∷ (DW_LNS_set_epilogue_begin, no_operand set_epilogue_begin) ∷ (DW_LNS_set_isa, one_uleb set_isa) ∷ []
 
+-- an instruction with its operand
 unfoldable pub operand_at : Operand → Unread → Read Instruction
 operand_at (no_operand i) u = Ok (i, u)
 operand_at (one_uleb make) u = seen_as make (uleb_at u)
@@ -188,6 +190,7 @@ instruction_at relocations h u = do
         ]
   ]
 
+-- the next instruction, up to the table's end
 unfoldable pub next_instruction : List Relocation → LineHeader → Unread → Next Unread Flaw Instruction
 next_instruction relocations h u =
     elim (length u.left == 0) [

@@ -43,6 +43,7 @@ advanced h count r = record r { offset = r.offset + h.minimum_instruction_length
 abbrev pub special_advance : LineHeader → ℕ → ℕ
 special_advance h opcode = (opcode - h.opcode_base) / h.line_range
 
+-- the registers as a special opcode sets them (DWARF 4, section 6.2.5.1)
 abbrev pub by_special : LineHeader → ℕ → Registers → Registers
 by_special h opcode r = record r {
   offset = r.offset + h.minimum_instruction_length * special_advance h opcode;
@@ -84,6 +85,7 @@ effect h end_sequence r = Some (ends r.offset)
 effect h (set_address a) r = Some (starts a)
 effect h _ r = None
 
+-- what an instruction shows, if anything, in front of what follows
 abbrev pub with_effect : Option Effect → List Effect → List Effect
 with_effect None es = es
 with_effect (Some e) es = e ∷ es
@@ -109,6 +111,7 @@ pub data LineStep : Type 0 where
   row : LineRow → LineStep
   end : Option ℕ → LineStep
 
+-- an effect as a step
 abbrev pub step_of : Effect → LineStep
 step_of (starts a) = start a
 step_of (appends r) = row (row_of r)
@@ -120,6 +123,7 @@ pub record LineTable : Type 0 where
   pub files : List LineFile
   pub steps : List LineStep
 
+-- the file that an instruction defines
 abbrev pub file_defined : Instruction → Option LineFile
 file_defined (define_file f) = Some f
 file_defined _ = None
@@ -151,6 +155,7 @@ pub record SourceFile : Type 0 where
   pub directory : Option (List ℕ)
   pub name : List ℕ
 
+-- a file by its names, if its directory is there
 abbrev pub in_directory : List (List ℕ) → LineFile → Option SourceFile
 in_directory directories f = go f.directory
   where
@@ -175,10 +180,12 @@ pub record RowContents : Type 0 where
   pub isa : ℕ
   pub discriminator : ℕ
 
+-- a row by its offset and what it says
 pub record Row : Type 0 where
   pub offset : ℕ
   pub source : RowContents
 
+-- a row with its file by names
 abbrev pub named_row : LineTable → LineRow → Row
 named_row t r = record { offset = r.offset; source = record { file = source_file t r.file; line = r.line; column = r.column; is_stmt = r.is_stmt; basic_block = r.basic_block; prologue_end = r.prologue_end; epilogue_begin = r.epilogue_begin; isa = r.isa; discriminator = r.discriminator } }
 
@@ -208,6 +215,7 @@ segment_if a [] stop = None
 segment_if a (r ∷ rs) None = None
 segment_if a (r ∷ rs) (Some e) = Some (record { start = a; rows = r ∷ rs; end = e })
 
+-- a segment, if there is one, in front of others
 abbrev pub with_segment : Option Segment → List Segment → List Segment
 with_segment None qs = qs
 with_segment (Some q) qs = q ∷ qs
@@ -219,6 +227,7 @@ segments_among t (start a ∷ steps) = with_segment (segment_if a (rows_before t
 segments_among t (row r ∷ steps) = segments_among t steps
 segments_among t (end e ∷ steps) = segments_among t steps
 
+-- the segments of a table, in order
 abbrev pub segments : LineTable → List Segment
 segments t = segments_among t t.steps
 

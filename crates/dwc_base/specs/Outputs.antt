@@ -15,17 +15,20 @@ pub data RelocationTarget : Type 0 where
   function : ℕ → RelocationTarget
   section : List ℕ → RelocationTarget
 
+-- a relocation of an output: its field's offset and size, what it refers to, and the addend
 pub record OutputRelocation : Type 0 where
   pub offset : ℕ
   pub size : ℕ
   pub target : RelocationTarget
   pub addend : ℤ
 
+-- a section of an output
 pub record OutputSection : Type 0 where
   pub name : List ℕ
   pub body : List ℕ
   pub relocations : List OutputRelocation
 
+-- a relocation that refers to a function, as one of a field
 abbrev pub function_relocation : OutputRelocation → Option Relocation
 function_relocation r = elim r.target [ function n ↦ Some (record { offset = r.offset; size = r.size; function = n; addend = r.addend }) | section name ↦ None ]
 
@@ -43,13 +46,16 @@ output_sections order sections = record {
 
 -- ---- the program's own records, seen as these
 
+-- what a relocation refers to
 abbrev pub target_view : DwarfSectionRelocTarget → RelocationTarget
 target_view (Func n) = function n
 target_view (Section name) = section name.now
 
+-- a relocation
 abbrev pub relocation_view : DwarfSectionReloc → OutputRelocation
 relocation_view r = record { offset = r.offset; size = r.size; target = target_view r.target; addend = r.addend }
 
+-- a section
 abbrev pub section_view : DwarfSection → OutputSection
 section_view s = record { name = s.name.now; body = s.body.items; relocations = map relocation_view s.relocs.items }
 
@@ -57,5 +63,6 @@ section_view s = record { name = s.name.now; body = s.body.items; relocations = 
 abbrev pub field_relocation : DwarfSectionReloc → Option Relocation
 field_relocation r = function_relocation (relocation_view r)
 
+-- the function relocations among some
 abbrev pub field_relocations : List DwarfSectionReloc → List Relocation
 field_relocations rs = filter_map field_relocation rs

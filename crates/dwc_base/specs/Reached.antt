@@ -5,6 +5,7 @@ use Rattle.dwc_base.specs.declared.faults.Kind.TheVariants.{Compressed}
 use Rattle.dwc_base.specs.Sections.{Fault, unreadable, unsupported}
 use Rattle.dwc_base.specs.Carried.{units, table_of_unit, Module, Compilation, carried_units_of}
 
+-- the fault of what could not be read
 abbrev pub fault_in : {A : Type 0} → Result A Fault → Option Fault
 fault_in (Ok x) = None
 fault_in (Err fault) = Some fault
@@ -19,6 +20,7 @@ faults_of_module m =
 abbrev pub reached_faults : Compilation → List Fault
 reached_faults c = flat_map faults_of_module c.modules
 
+-- whether a fault is of a place outside the grammar, and not of a refused kind
 abbrev pub is_unreadable : Fault → Bool
 is_unreadable (unreadable what section offset) = true
 is_unreadable (unsupported kind offset) = false

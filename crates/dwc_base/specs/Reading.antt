@@ -24,6 +24,7 @@ front count u = record { order = u.order; place = u.place; left = take count u.l
 abbrev pub Read : Type 0 → Type 0
 Read A = Result (A × Unread) Flaw
 
+-- one reading behind another, which is reached only where the first gives a value
 infixl 10 ◌>>=◌
 abbrev pub ◌>>=◌ : {A B E : Type 0} → Result A E → (A → Result B E) → Result B E
 (Ok x) >>= next = next x
@@ -54,21 +55,24 @@ abbrev pub number : Endian → List ℕ → ℕ
 number Little bytes = number_low_first bytes
 number Big bytes = number_low_first (reverse bytes)
 
--- The value of an unsigned LEB128 number, of any width, and how many bytes it takes: the low seven bits of
--- each byte times 128 to its place, up to the first byte whose top bit is clear. (DWARF 5, section 7.6.)
+-- the low seven bits of a byte in front of what follows it
 abbrev pub uleb_with : ℕ → Option (ℕ × ℕ) → Option (ℕ × ℕ)
 uleb_with low None = None
 uleb_with low (Some high) = Some (low + 128 * high.0, suc high.1)
 
+-- The value of an unsigned LEB128 number, of any width, and how many bytes it takes: the low seven bits of
+-- each byte times 128 to its place, up to the first byte whose top bit is clear; none where no byte is such. (DWARF 4
+-- and 5, section 7.6; WebAssembly 1.0, section 5.2.2.)
 abbrev pub uleb_value : List ℕ → Option (ℕ × ℕ)
 uleb_value [] = None
 uleb_value (b ∷ bs) = if nat_lt b 128 then Some (b, 1) else uleb_with (b % 128) (uleb_value bs)
 
--- The same of a signed one, whose sign is bit 6 of its last byte. (DWARF 5, section 7.6.)
+-- the same of a signed number
 abbrev pub sleb_with : ℕ → Option (ℤ × ℕ) → Option (ℤ × ℕ)
 sleb_with low None = None
 sleb_with low (Some high) = Some (pos low +ℤ pos 128 *ℤ high.0, suc high.1)
 
+-- The value of a signed LEB128 number, whose sign is bit 6 of its last byte. (DWARF 4 and 5, section 7.6.)
 abbrev pub sleb_value : List ℕ → Option (ℤ × ℕ)
 sleb_value [] = None
 sleb_value (b ∷ bs) = if nat_lt b 128 then Some ((if nat_lt b 64 then pos b else pos b -ℤ pos 128), 1) else sleb_with (b % 128) (sleb_value bs)
@@ -94,6 +98,7 @@ abbrev pub uleb_fitting : Unread → Option (ℕ × ℕ) → Read ℕ
 uleb_fitting u None = Err EndsEarly
 uleb_fitting u (Some n) = if nat_lt n.0 (2 ^ 64) then Ok (n.0, passed n.1 u) else Err TooWide
 
+-- the unsigned number at the front
 unfoldable pub uleb_at : Unread → Read ℕ
 uleb_at u = uleb_fitting u (uleb_value u.left)
 
@@ -102,10 +107,11 @@ abbrev pub sleb_fitting : Unread → Option (ℤ × ℕ) → Read ℤ
 sleb_fitting u None = Err EndsEarly
 sleb_fitting u (Some n) = if is_64_bit n.0 then Ok (n.0, passed n.1 u) else Err TooWide
 
+-- the signed number at the front
 unfoldable pub sleb_at : Unread → Read ℤ
 sleb_at u = sleb_fitting u (sleb_value u.left)
 
--- the bytes before the next 0, which is passed
+-- the bytes before the next 0, which is passed (DWARF 4, section 7.5.4; DWARF 5, section 7.5.5)
 unfoldable pub text_at : Unread → Read (List ℕ)
 text_at u = elim (position (λ b. b == 0) u.left) [ None ↦ Err EndsEarly | Some n ↦ Ok (take n u.left, passed (n + 1) u) ]
 
@@ -117,6 +123,7 @@ items_up_to (suc most) item u = do
   first ← item u
   elim first.0 [ None ↦ Ok ([], first.1) | Some x ↦ (items_up_to most item first.1 >>= λ others. Ok (x ∷ others.0, others.1)) ]
 
+-- things up to the mark of their end
 unfoldable pub items_at : {A : Type 0} → (Unread → Read (Option A)) → Unread → Read (List A)
 items_at item u = items_up_to (suc (length u.left)) item u
 

@@ -12,7 +12,7 @@ use Rattle.dwc_base.specs.declared.faults.Flaw.{Flaw}
 use Rattle.dwc_base.specs.declared.faults.Flaw.TheVariants.{EndsEarly, TooWide, Malformed, Refused}
 use Rattle.dwc_base.specs.Reading.{Unread, Read, ◌>>=◌, number_at}
 
--- the name of a section, without suffix
+-- the name of a section, without suffix (DWARF 4 and 5, appendix B)
 abbrev pub section_text : SectionName → List ℕ
 section_text Abbrev = codes ".debug_abbrev"
 section_text Addr = codes ".debug_addr"
@@ -57,6 +57,7 @@ fault_of what section offset TooWide = unreadable what section offset
 fault_of what section offset Malformed = unreadable what section offset
 fault_of what section offset (Refused kind) = unsupported kind offset
 
+-- a reading whose flaw is reported at a place
 abbrev pub reported : {A : Type 0} → What → SectionName → ℕ → Result A Flaw → Result A Fault
 reported what section offset (Ok x) = Ok x
 reported what section offset (Err flaw) = Err (fault_of what section offset flaw)

@@ -79,5 +79,6 @@ next_unit_header u =
 unfoldable pub unit_headers_from : Unread → Listing Fault UnitHeader
 unit_headers_from u = walk (λ v. length v.left) next_unit_header u
 
+-- the headers of .debug_info, the first at 0
 abbrev pub unit_headers : Sections → Listing Fault UnitHeader
 unit_headers s = unit_headers_from (section_from s Info 0)

@@ -70,17 +70,20 @@ forms =
     ∷ (DW_FORM_strx1, string_elsewhere (fixed 1)) ∷ (DW_FORM_strx2, string_elsewhere (fixed 2)) ∷ (DW_FORM_strx3, string_elsewhere (fixed 3)) ∷ (DW_FORM_strx4, string_elsewhere (fixed 4))
     ∷ (DW_FORM_addrx1, indexed_addr (fixed 1)) ∷ (DW_FORM_addrx2, indexed_addr (fixed 2)) ∷ (DW_FORM_addrx3, indexed_addr (fixed 3)) ∷ (DW_FORM_addrx4, indexed_addr (fixed 4)) ∷ []
 
+-- the form of a code
 abbrev pub form_of : ℕ → Option Form
 form_of code = coded forms code
 
+-- whether a code is among some
 abbrev pub is_one_of : List ℕ → ℕ → Bool
 is_one_of codes code = list_any (λ c. c == code) codes
 
--- the attributes whose value may be a location list: location, string_length, return_addr, data_member_location,
--- frame_base, segment, static_link, use_location, vtable_elem_location
+-- the attributes whose value may be a location list (DWARF 4, section 7.5.4; DWARF 5, table 7.5): location,
+-- string_length, return_addr, data_member_location, frame_base, segment, static_link, use_location, vtable_elem_location
 abbrev pub is_location_name : ℕ → Bool
 is_location_name name = is_one_of (DW_AT_location ∷ DW_AT_string_length ∷ DW_AT_return_addr ∷ DW_AT_data_member_location ∷ DW_AT_frame_base ∷ DW_AT_segment ∷ DW_AT_static_link ∷ DW_AT_use_location ∷ DW_AT_vtable_elem_location ∷ []) name
 
+-- the attributes whose value may be a range list
 abbrev pub is_range_name : ℕ → Bool
 is_range_name name = (name == DW_AT_ranges) || (name == DW_AT_start_scope)
 
@@ -106,6 +109,7 @@ constant_value version name code n =
     then section_offset name n
     else constant code n
 
+-- a number of a size
 unfoldable pub sized_number_at : Size → Unread → Read ℕ
 sized_number_at (fixed size) u = number_at size u
 sized_number_at variable u = uleb_at u
@@ -144,6 +148,7 @@ form_behind (suc most) u = do
   code ← uleb_at u
   elim (code.0 == DW_FORM_indirect) [ true ↦ form_behind most code.1 | false ↦ (forbid (code.0 == DW_FORM_implicit_const) Malformed >>= λ given. Ok code) ]
 
+-- the code of a value's form, which may stand in front of the value
 unfoldable pub form_code_at : AttributeSpec → Unread → Read ℕ
 form_code_at spec u = elim (spec.form == DW_FORM_indirect) [ true ↦ form_behind (length u.left) u | false ↦ Ok (spec.form, u) ]
 

@@ -1,5 +1,5 @@
--- A WebAssembly file as a list of sections, and what DWARF wants of it. (WebAssembly 1.0, section 5.5, and the
--- name section, 7.4. The grammar is lenient: of types, code and other sections it asks nothing.)
+-- A WebAssembly file as a list of sections, and what DWARF wants of it. (WebAssembly 1.0, section 5.5. The grammar is
+-- lenient: of types, code and other sections it asks nothing, and imports may have the limits and tags of later versions.)
 use Rattle.std.specs.Prelude.{ℕ, zero, suc, ◌^◌, ◌==◌, List, [], ◌∷◌, length, drop, Bool, true, false, nat_lt, nat_le, nat_eq, not, ◌||◌, ◌%◌, if◌then◌else◌, Option, Some, None, Result, Ok, Err, codes}
 use Rattle.std.specs.Option.{unwrap_or, option_map}
 use Rattle.std.specs.List.{filter_map, starts_with, find}
@@ -24,7 +24,7 @@ field read u = at_its_place (read u)
     at_its_place (Ok x) = Ok x
     at_its_place (Err flaw) = Err u.place
 
--- a length and a name in UTF-8, one field
+-- a length and a name in UTF-8, one field (section 5.2.4)
 unfoldable pub name_at : Unread → Read (List ℕ)
 name_at u = do
   size ← uleb_at u
@@ -46,10 +46,11 @@ byte_at test u = do
   given ← forbid (not (test byte.0)) Malformed
   Ok byte
 
+-- every byte passes
 abbrev pub any_byte : ℕ → Bool
 any_byte b = true
 
--- limits: a flag, the least size, and with an odd flag the greatest
+-- limits: a flag, the least size, and with an odd flag the greatest (section 5.3.4)
 unfoldable pub limits_at : Unread → FileRead (Unit {0})
 limits_at u = do
   flag ← field (byte_at (λ b. nat_lt b 8)) u
@@ -64,6 +65,7 @@ pub data ImportKind : Type 0 where
   global : ImportKind
   tag : ImportKind
 
+-- the kind of a code: from 4 on a tag
 abbrev pub import_kind : ℕ → ImportKind
 import_kind zero = func
 import_kind (suc zero) = table
@@ -71,6 +73,7 @@ import_kind (suc (suc zero)) = memory
 import_kind (suc (suc (suc zero))) = global
 import_kind (suc (suc (suc (suc n)))) = tag
 
+-- what stands behind the kind of an import
 unfoldable pub import_of_kind : ImportKind → Unread → FileRead (Unit {0})
 import_of_kind func u = do
   type ← field uleb_at u
@@ -88,7 +91,7 @@ import_of_kind tag u = do
   type ← field uleb_at attribute.1
   Ok (tt, type.1)
 
--- an import: two names and a kind; whether it is a function
+-- an import: two names and a kind; whether it is a function (section 5.5.5)
 unfoldable pub import_at : Unread → FileRead Bool
 import_at u = do
   from ← field name_at u
@@ -105,6 +108,7 @@ imports_at (suc count) u = do
   others ← imports_at count first.1
   Ok ((if first.0 then suc others.0 else others.0), others.1)
 
+-- how many type numbers stand at the front, as many as said
 unfoldable pub type_numbers_at : ℕ → Unread → FileRead ℕ
 type_numbers_at zero u = Ok (0, u)
 type_numbers_at (suc count) u = do
@@ -117,7 +121,7 @@ abbrev pub exactly : {A : Type 0} → A × Unread → Result A ℕ
 exactly read = elim (length (read.1).left == 0) [ true ↦ Ok read.0 | false ↦ Err (read.1).place ]
 
 -- What a section holds: a custom one its name and contents, the imports how many functions, the functions
--- how many, the code its contents.
+-- how many, the code its contents. (Sections 5.5.3, 5.5.5, 5.5.6 and 5.5.13.)
 pub data Contents : Type 0 where
   custom : List ℕ → Unread → Contents
   imports : ℕ → Contents
@@ -125,6 +129,7 @@ pub data Contents : Type 0 where
   code : Unread → Contents
   other : ℕ → Unread → Contents
 
+-- what a section of an id holds
 unfoldable pub contents_of : ℕ → Unread → Result Contents ℕ
 contents_of id u =
     elim (id == 0) [
@@ -143,12 +148,13 @@ pub record WasmSection : Type 0 where
   pub place : ℕ
   pub contents : Contents
 
--- the bytes of a section: their number is below 2 ^ 32, and they are there
+-- the bytes of a section: their number is below 2 ^ 32, and they are there (section 5.5.2)
 unfoldable pub section_bytes_at : Unread → Read Unread
 section_bytes_at u = do
   size ← u32_at u
   part_at size.0 size.1
 
+-- a section at the front
 unfoldable pub wasm_section_at : Unread → FileRead WasmSection
 wasm_section_at u = do
   id ← field (byte_at any_byte) u
@@ -156,6 +162,7 @@ wasm_section_at u = do
   contents ← contents_of id.0 bytes.0
   Ok (record { place = u.place; contents = contents }, bytes.1)
 
+-- the next section, up to the file's end
 unfoldable pub next_wasm_section : Unread → Next Unread ℕ WasmSection
 next_wasm_section u =
     elim (length u.left == 0) [
@@ -163,10 +170,11 @@ next_wasm_section u =
       | false ↦ elim (wasm_section_at u) [ Ok s ↦ item s.0 s.1 | Err place ↦ broken place ]
     ]
 
+-- the sections of a file behind its preamble
 unfoldable pub wasm_sections : Unread → Listing ℕ WasmSection
 wasm_sections u = walk (λ u. length u.left) next_wasm_section u
 
--- the preamble: the magic number and version 1
+-- the preamble: the magic number and version 1 (section 5.5.15)
 abbrev pub preamble : List ℕ
 preamble = 0x00 ∷ 0x61 ∷ 0x73 ∷ 0x6D ∷ 0x01 ∷ 0x00 ∷ 0x00 ∷ 0x00 ∷ []
 
@@ -197,6 +205,7 @@ contents_named name (other id u) = None
 unfoldable pub custom_section : List ℕ → List WasmSection → List ℕ
 custom_section name sections = unwrap_or (last_of (filter_map (λ s. contents_named name s.contents) sections)) []
 
+-- how many functions an import section imports
 abbrev pub imported_functions : Contents → Option ℕ
 imported_functions (imports n) = Some n
 imported_functions (custom title u) = None
@@ -204,6 +213,7 @@ imported_functions (functions n) = None
 imported_functions (code u) = None
 imported_functions (other id u) = None
 
+-- how many functions a function section defines
 abbrev pub defined_functions : Contents → Option ℕ
 defined_functions (functions n) = Some n
 defined_functions (custom title u) = None
@@ -211,6 +221,7 @@ defined_functions (imports n) = None
 defined_functions (code u) = None
 defined_functions (other id u) = None
 
+-- where the contents of a code section begin
 abbrev pub code_place : Contents → Option ℕ
 code_place (code u) = Some u.place
 code_place (custom title u) = None
@@ -234,9 +245,11 @@ pub record WasmModule : Type 0 where
   pub code_offset : ℕ
   pub compressed : Option ℕ
 
+-- the number that the last section of a kind gives, 0 without one
 abbrev pub last_number : (Contents → Option ℕ) → List WasmSection → ℕ
 last_number pick sections = unwrap_or (last_of (filter_map (λ s. pick s.contents) sections)) 0
 
+-- what DWARF wants, from the sections
 unfoldable pub module_from_sections : List WasmSection → WasmModule
 module_from_sections sections = record {
   sections = sections;

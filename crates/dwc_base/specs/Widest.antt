@@ -16,6 +16,7 @@ use Rattle.dwc_base.specs.Carried.{Compilation, CarriedUnit, carried_units, tabl
 abbrev pub variable_bytes : ℕ
 variable_bytes = 10
 
+-- an address
 abbrev pub address_bytes : ℕ
 address_bytes = 8
 
@@ -54,11 +55,13 @@ most_rows fs q = go (function_of_segment fs q)
     go None = 0
     go (Some f) = length (filter (λ e. is_some (row_of_source q.rows (start_of_segment q) e)) (recorded_sources f))
 
+-- a line table with the images of its carried segments
 abbrev pub widest_table : List Function → Result (Option LineTable) Fault → ℕ
 widest_table fs (Err fault) = 0
 widest_table fs (Ok None) = 0
 widest_table fs (Ok (Some t)) = widest_header t.header.directories t.files + sum_by (λ q. widest_image (most_rows fs q)) (filter (is_carried_segment fs) (segments t))
 
+-- the line tables of all carried units
 abbrev pub widest_lines : Compilation → ℕ
 widest_lines c = sum_by (λ u. widest_table u.module_of.functions (table_of_unit u.module_of.sections u.unit)) (carried_units c)
 
@@ -72,6 +75,7 @@ root_attributes_with (Err fault) = 0
 root_attributes_with (Ok None) = 0
 root_attributes_with (Ok (Some t)) = 1
 
+-- the attributes of a carried unit's root
 abbrev pub root_attributes_of : CarriedUnit → ℕ
 root_attributes_of u = root_attributes_with (table_of_unit u.module_of.sections u.unit)
 

@@ -37,6 +37,7 @@ modules_of number (w ∷ ws) (m ∷ ms) =
     record { sections = module_sections w; functions = functions_of w.code_offset number m.functions; compressed = w.compressed }
     ∷ modules_of (number + length m.functions) ws ms
 
+-- the compilation of a map and modules
 abbrev pub compilation : MapFile → List WasmModule → Compilation
 compilation m ws = record { order = if m.target.big_endian then Big else Little; pointer_bytes = m.target.pointer_bytes; modules = modules_of 0 ws m.modules }
 
@@ -45,12 +46,14 @@ pub record Loaded : Type 0 where
   pub wasm : WasmModule
   pub map_file : MapFile
 
+-- what some files hold, none where the module breaks its grammar or the map has no value
 unfoldable pub loaded : Input → Option Loaded
 loaded input = do
   wasm ← result_ok (wasm_module input.module_bytes)
   m ← map_of_bytes (wasm.defined ∷ []) input.map_bytes
   Some (record { wasm = wasm; map_file = m })
 
+-- the compilation of what was read
 abbrev pub compilation_of : Loaded → Compilation
 compilation_of l = compilation l.map_file (l.wasm ∷ [])
 
@@ -59,10 +62,12 @@ abbrev pub first_map_fault : ℕ → List AddressMap → Option MapFault
 first_map_fault code_offset [] = None
 first_map_fault code_offset (m ∷ ms) = option_or (map_fault code_offset m) (first_map_fault code_offset ms)
 
+-- the first rule that is broken, module by module
 abbrev pub first_fault_in : List WasmModule → List MapModule → Option MapFault
 first_fault_in [] ms = None
 first_fault_in (w ∷ ws) [] = None
 first_fault_in (w ∷ ws) (m ∷ ms) = option_or (first_map_fault w.code_offset m.functions) (first_fault_in ws ms)
 
+-- the first rule that an address map of an input breaks
 abbrev pub bad_map : Loaded → Option MapFault
 bad_map l = first_fault_in (l.wasm ∷ []) l.map_file.modules

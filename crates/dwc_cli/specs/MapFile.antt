@@ -11,6 +11,7 @@ use Rattle.dwc_base.specs.Functions.{AddressMap}
 use Rattle.dwc_clif.specs.declared.Architecture.{Architecture}
 use Rattle.dwc_clif.specs.declared.Architecture.TheVariants.{X86_64, Aarch64, S390x, Riscv64, Pulley}
 
+-- one value behind another, none where the first is none
 infixl 10 ◌>>=◌
 abbrev pub ◌>>=◌ : {A B : Type 0} → Option A → (A → Option B) → Option B
 None >>= next = None
@@ -21,6 +22,7 @@ abbrev pub only_if : {A : Type 0} → Bool → A → Option A
 only_if true x = Some x
 only_if false x = None
 
+-- the target that the code was compiled for
 pub record Target : Type 0 where
   pub architecture : Architecture
   pub big_endian : Bool
@@ -30,6 +32,7 @@ pub record Target : Type 0 where
 pub record MapModule : Type 0 where
   pub functions : List AddressMap
 
+-- the value of a map: the target, the names of two symbols, and the modules
 pub record MapFile : Type 0 where
   pub target : Target
   pub set_memory : List ℕ
@@ -43,6 +46,7 @@ abbrev pub number_below : ℕ → Data → Option ℕ
 number_below limit (number (unsigned n)) = only_if (nat_lt n limit) n
 number_below limit _ = None
 
+-- a number below 2 ^ 32
 abbrev pub u32_of : Data → Option ℕ
 u32_of d = number_below (2 ^ 32) d
 
@@ -55,6 +59,7 @@ nullable kind d = option_map Some (kind d)
 abbrev pub source_of : Data → Option (Option ℕ)
 source_of d = nullable (number_below (2 ^ 32 - 1)) d
 
+-- a truth value
 abbrev pub truth_of : Data → Option Bool
 truth_of (boolean b) = Some b
 truth_of _ = None
@@ -64,6 +69,7 @@ abbrev pub text_of : Data → Option (List ℕ)
 text_of (string text) = only_if (not (list_any (λ c. c == 0) text)) text
 text_of _ = None
 
+-- all items of a list, each of a kind
 abbrev pub all_items : {A : Type 0} → (Data → Option A) → Items → Option (List A)
 all_items kind no_items = Some []
 all_items kind (item d ds) = do
@@ -71,10 +77,12 @@ all_items kind (item d ds) = do
   xs ← all_items kind ds
   Some (x ∷ xs)
 
+-- a list of items of a kind
 abbrev pub list_of : {A : Type 0} → (Data → Option A) → Data → Option (List A)
 list_of kind (array ds) = all_items kind ds
 list_of kind _ = None
 
+-- a list of two items, each of its kind
 abbrev pub pair_of : {A B : Type 0} → (Data → Option A) → (Data → Option B) → Data → Option (A × B)
 pair_of first second (array (item d (item e no_items))) = do
   x ← first d
@@ -82,6 +90,7 @@ pair_of first second (array (item d (item e no_items))) = do
   Some (x, y)
 pair_of first second _ = None
 
+-- the members of an object
 abbrev pub members_of : Data → Option Members
 members_of (object ms) = Some ms
 members_of _ = None
@@ -90,6 +99,7 @@ members_of _ = None
 abbrev pub required : {A : Type 0} → List ℕ → (Data → Option A) → Members → Option A
 required name kind ms = get_member name ms >>= kind
 
+-- a field that may be missing
 abbrev pub with_default : {A : Type 0} → List ℕ → A → (Data → Option A) → Members → Option A
 with_default {A} name default kind ms = go (get_member name ms)
   where
@@ -99,13 +109,16 @@ with_default {A} name default kind ms = go (get_member name ms)
 
 -- ---- objects
 
+-- the architectures by their names
 abbrev pub architectures : List (List ℕ × Architecture)
 architectures = (codes "x86_64", X86_64) ∷ (codes "aarch64", Aarch64) ∷ (codes "s390x", S390x) ∷ (codes "riscv64", Riscv64) ∷ (codes "pulley", Pulley) ∷ []
 
+-- what stands in a table of names at a name
 abbrev pub named_in : {A : Type 0} → List (List ℕ × A) → List ℕ → Option A
 named_in [] name = None
 named_in (row ∷ rows) name = if bytes_eq row.0 name then Some row.1 else named_in rows name
 
+-- an architecture by its name
 abbrev pub architecture_of : Data → Option Architecture
 architecture_of d = text_of d >>= named_in architectures
 
@@ -113,6 +126,7 @@ architecture_of d = text_of d >>= named_in architectures
 abbrev pub pointer_bytes_of : Data → Option ℕ
 pointer_bytes_of d = number_below 9 d >>= λ n. coded ((4, 4) ∷ (8, 8) ∷ []) n
 
+-- the target
 unfoldable pub target_of : Data → Option Target
 target_of d = do
   ms ← members_of d
@@ -121,6 +135,7 @@ target_of d = do
   pointer_bytes ← with_default (codes "pointer_bytes") 8 pointer_bytes_of ms
   Some (record { architecture = architecture; big_endian = big_endian; pointer_bytes = pointer_bytes })
 
+-- a function with its address map
 unfoldable pub address_map_of : Data → Option AddressMap
 address_map_of d = do
   ms ← members_of d
@@ -132,6 +147,7 @@ address_map_of d = do
   entries ← required (codes "map") (list_of (pair_of u32_of source_of)) ms
   Some (record { symbol = symbol; start = start; end = end; body_offset = body_offset; body_len = body_len; entries = entries })
 
+-- a module with its functions
 unfoldable pub map_module_of : Data → Option MapModule
 map_module_of d = do
   ms ← members_of d

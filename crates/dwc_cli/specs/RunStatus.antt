@@ -36,7 +36,7 @@ pub record Names (files : Option Files) (words : List (List ℕ)) (input : Input
 abbrev pub Appended : Option (List ℕ) → Option (List ℕ) → List ℕ → Type 0
 Appended before now text = IfSome before (λ w. now ≡ Some (w ++ text))
 
--- 0: All that is reached was read, and the printed sections carry the lines of the input that the words name.
+-- 0: All that is reached was read and is built, and the printed sections carry the lines of the input that the words name.
 pub record Carries (input : Input) (before now : Option (List ℕ)) : Type 0 where
   pub read : Loaded
   pub is_read : loaded input ≡ Some read
@@ -47,14 +47,15 @@ pub record Carries (input : Input) (before now : Option (List ℕ)) : Type 0 whe
   pub carried : LinesCarried (compilation_of read) sections
   pub written : Appended before now (printed sections)
 
+-- a run that answers 0, of whatever input the words name
 abbrev pub Succeeds : Option Files → List (List ℕ) → Option (List ℕ) → Option (List ℕ) → Type 0
 Succeeds files words before now = (input : Input) → Names files words input → Carries input before now
 
--- 4: only where more than 2 ^ 28 bytes of one file were taken, and always then but for want of memory
+-- the most bytes that are taken of one file
 abbrev pub most_bytes : ℕ
 most_bytes = 2 ^ 28
 
--- an earlier answer, by the order of work
+-- a status is one of some
 abbrev pub IsOneOf : List ℕ → ℕ → Type 0
 IsOneOf statuses status = Any (λ s. s ≡ status) statuses
 
@@ -79,6 +80,7 @@ MissingCause files words status = LacksFile files words → IsOneOf (3 ∷ 4 ∷
 abbrev pub IsTooLong : Input → Type 0
 IsTooLong input = (most_bytes < length input.map_bytes) ⊎ (most_bytes < length input.module_bytes)
 
+-- 4 is exact, but for a failed read and want of memory
 pub record LengthCause (input : Input) (status : ℕ) : Type 0 where
   pub only : status ≡ 4 → IsTooLong input
   pub always : IsTooLong input → IsOneOf (3 ∷ 4 ∷ 9 ∷ []) status
@@ -92,11 +94,13 @@ pub record WasmCause (input : Input) (status : ℕ) : Type 0 where
 abbrev pub HasNoMap : Input → Type 0
 HasNoMap input = (w : WasmModule) × (wasm_module input.module_bytes ≡ Ok w) × (map_of_bytes (w.defined ∷ []) input.map_bytes ≡ None)
 
+-- 6 is exact, but for what comes earlier
 pub record MapCause (input : Input) (status : ℕ) : Type 0 where
   pub only : status ≡ 6 → HasNoMap input
   pub always : HasNoMap input → IsOneOf (3 ∷ 4 ∷ 6 ∷ 9 ∷ []) status
 
--- 8: All that is reached was read, and what was taken is a front of the printed text, all of which would carry the lines.
+-- 8: All that is reached was read and is built, and what was taken is a front of the printed text, all of which would carry
+-- the lines.
 pub record FrontCarries (input : Input) (before now : Option (List ℕ)) : Type 0 where
   pub read : Loaded
   pub is_read : loaded input ≡ Some read
@@ -108,6 +112,7 @@ pub record FrontCarries (input : Input) (before now : Option (List ℕ)) : Type 
   pub count : ℕ
   pub written : Appended before now (take count (printed sections))
 
+-- a run that answers 8, of whatever input the words name
 abbrev pub PrefixWritten : Option Files → List (List ℕ) → Option (List ℕ) → Option (List ℕ) → Type 0
 PrefixWritten files words before now = (input : Input) → Names files words input → FrontCarries input before now
 
@@ -142,12 +147,14 @@ pub record LoadedCauses (read : Loaded) (status : ℕ) : Type 0 where
   pub unread : UnreadCause read status
   pub too_large : TooLargeCause read status
 
+-- what is said of an input that the words name
 pub record NamedCauses (input : Input) (status : ℕ) : Type 0 where
   pub too_long : LengthCause input status
   pub wasm : WasmCause input status
   pub map_file : MapCause input status
   pub is_loaded : (read : Loaded) → loaded input ≡ Some read → LoadedCauses read status
 
+-- what is said of whatever input the words name
 abbrev pub InputCauses : Option Files → List (List ℕ) → ℕ → Type 0
 InputCauses files words status = (input : Input) → Names files words input → NamedCauses input status
 

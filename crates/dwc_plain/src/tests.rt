@@ -1,6 +1,8 @@
 use super::*;
 use dwc_base::LineRow;
 use dwc_base::constants::*;
+use std::alloc::Global;
+use std::process::Abort;
 
 const DW_AT_TYPE: u16 = 0x49;
 
@@ -88,7 +90,7 @@ fn entry<'d>(
     }
 }
 
-fn offsets(rt: &HostRuntime, entries: &[PlainEntry]) -> Vec<u64> {
+fn offsets(rt: &impl Abort, alloc: Global, entries: &[PlainEntry]) -> Vec<u64> {
     let functions = [
         PlainFunction {
             start: 2,
@@ -103,10 +105,10 @@ fn offsets(rt: &HostRuntime, entries: &[PlainEntry]) -> Vec<u64> {
             has_symbol: false,
         },
     ];
-    let kept = kept_entries(rt.alloc(), &functions, entries).unwrap();
-    let mut offsets = Vec::new(rt.alloc());
+    let kept = kept_entries(alloc, &functions, entries).expect(rt, "memory");
+    let mut offsets = Vec::new(alloc);
     for entry in &kept {
-        offsets.push(entry.offset).unwrap();
+        offsets.push(entry.offset).expect(rt, "memory");
     }
     offsets
 }
@@ -125,7 +127,10 @@ fn kept_variables(rt: HostRuntime) {
         entry(80, 4, DW_TAG_variable, &[]),
         entry(90, 1, DW_TAG_namespace, &[]),
     ];
-    assert_eq!(rt; offsets(&rt, &entries).as_slice(), [11, 30, 50, 60, 70, 80]);
+    assert_eq!(rt;
+        offsets(&rt, rt.alloc(), &entries).as_slice(),
+        [11, 30, 50, 60, 70, 80].as_slice()
+    );
 }
 
 #[test]
@@ -153,7 +158,7 @@ fn kept_across_units(rt: HostRuntime) {
         entry(150, 1, DW_TAG_base_type, &[]),
     ];
     assert_eq!(rt;
-        offsets(&rt, &entries).as_slice(),
-        [11, 20, 111, 120, 130, 150]
+        offsets(&rt, rt.alloc(), &entries).as_slice(),
+        [11, 20, 111, 120, 130, 150].as_slice()
     );
 }

@@ -1,0 +1,170 @@
+-- Map files: which have a value, and the values of fields that may be missing.
+use Rattle.std.proofs.Common.{◌≡◌, ℕ, List, [], ◌∷◌, Some, None, true, false, refl}
+use Rattle.std.specs.Prelude.{Bool, Option, codes, is_some, map}
+use Rattle.dwc_base.specs.Functions.{AddressMap}
+use Rattle.dwc_clif.specs.declared.Architecture.TheVariants.{Aarch64, Pulley}
+use Rattle.dwc_cli.specs.MapFile.{MapFile, Target, map_of_bytes}
+use Rattle.dwc_cli.proofs.OnLiterals.{map_on_literals}
+
+-- whether a text is a map for a module of one function
+abbrev pub HasValue : List ℕ → Bool → Type 0
+HasValue text there = is_some (map_of_bytes (1 ∷ []) text) ≡ there
+
+-- the target, and the first function, of a map
+abbrev pub target_in : Option MapFile → Option Target
+target_in None = None
+target_in (Some m) = Some m.target
+
+abbrev pub functions_in : Option MapFile → List (List AddressMap)
+functions_in None = []
+functions_in (Some m) = map (λ x. x.functions) m.modules
+
+-- the smallest map
+plain : HasValue (codes "{\"target\":{\"arch\":\"pulley\"},\"names\":[\"a\",\"b\"],\"modules\":[{\"functions\":[{\"symbol\":7,\"start\":22,\"end\":33,\"body_len\":30,\"map\":[[5,25]]}]}]}") true
+unfolding map_on_literals
+plain = refl
+
+-- the byte order is little and pointers have 8 bytes where nothing is said
+target_defaults : target_in (map_of_bytes (1 ∷ []) (codes "{\"target\":{\"arch\":\"pulley\"},\"names\":[\"a\",\"b\"],\"modules\":[{\"functions\":[{\"symbol\":7,\"start\":22,\"end\":33,\"body_len\":30,\"map\":[[5,25]]}]}]}")) ≡ Some (record { architecture = Pulley; big_endian = false; pointer_bytes = 8 })
+unfolding map_on_literals
+target_defaults = refl
+
+-- a target that tells both
+target_told : target_in (map_of_bytes (1 ∷ []) (codes "{\"target\":{\"arch\":\"aarch64\",\"big_endian\":true,\"pointer_bytes\":4},\"names\":[\"a\",\"b\"],\"modules\":[{\"functions\":[{\"symbol\":7,\"start\":22,\"end\":33,\"body_len\":30,\"map\":[[5,25]]}]}]}")) ≡ Some (record { architecture = Aarch64; big_endian = true; pointer_bytes = 4 })
+unfolding map_on_literals
+target_told = refl
+
+-- no symbol, no start and end, and a body offset of 0 where nothing is said
+function_nulls : functions_in (map_of_bytes (1 ∷ []) (codes "{\"target\":{\"arch\":\"pulley\"},\"names\":[\"a\",\"b\"],\"modules\":[{\"functions\":[{\"symbol\":null,\"start\":null,\"end\":null,\"body_len\":0,\"map\":[]}]}]}")) ≡ (record { symbol = None; start = None; end = None; body_offset = 0; body_len = 0; entries = [] } ∷ []) ∷ []
+unfolding map_on_literals
+function_nulls = refl
+
+-- of two equal keys the later counts
+last_key : functions_in (map_of_bytes (1 ∷ []) (codes "{\"target\":{\"arch\":\"pulley\"},\"names\":[\"a\",\"b\"],\"modules\":[{\"functions\":[{\"symbol\":7,\"symbol\":8,\"start\":22,\"end\":33,\"body_len\":30,\"map\":[[5,25]]}]}]}")) ≡ (record { symbol = Some 8; start = Some 22; end = Some 33; body_offset = 0; body_len = 30; entries = (5, Some 25) ∷ [] } ∷ []) ∷ []
+unfolding map_on_literals
+last_key = refl
+
+-- unknown fields are passed over
+unknown_fields : HasValue (codes "{\"comment\":[1.5,{\"a\":null}],\"target\":{\"arch\":\"pulley\"},\"names\":[\"a\",\"b\"],\"modules\":[{\"functions\":[{\"symbol\":7,\"start\":22,\"end\":33,\"body_len\":30,\"map\":[[5,25]]}]}]}") true
+unfolding map_on_literals
+unknown_fields = refl
+
+-- a required field is missing
+no_target : HasValue (codes "{\"names\":[\"a\",\"b\"],\"modules\":[{\"functions\":[{\"symbol\":7,\"start\":22,\"end\":33,\"body_len\":30,\"map\":[[5,25]]}]}]}") false
+unfolding map_on_literals
+no_target = refl
+
+-- a function without its map
+no_entries : HasValue (codes "{\"target\":{\"arch\":\"pulley\"},\"names\":[\"a\",\"b\"],\"modules\":[{\"functions\":[{\"symbol\":7,\"start\":22,\"end\":33,\"body_len\":30}]}]}") false
+unfolding map_on_literals
+no_entries = refl
+
+-- an architecture that is none
+arch_unknown : HasValue (codes "{\"target\":{\"arch\":\"vax\"},\"names\":[\"a\",\"b\"],\"modules\":[{\"functions\":[{\"symbol\":7,\"start\":22,\"end\":33,\"body_len\":30,\"map\":[[5,25]]}]}]}") false
+unfolding map_on_literals
+arch_unknown = refl
+
+-- null is no text
+arch_null : HasValue (codes "{\"target\":{\"arch\":null},\"names\":[\"a\",\"b\"],\"modules\":[{\"functions\":[{\"symbol\":7,\"start\":22,\"end\":33,\"body_len\":30,\"map\":[[5,25]]}]}]}") false
+unfolding map_on_literals
+arch_null = refl
+
+-- pointers of 5 bytes
+pointer_5 : HasValue (codes "{\"target\":{\"arch\":\"pulley\",\"pointer_bytes\":5},\"names\":[\"a\",\"b\"],\"modules\":[{\"functions\":[{\"symbol\":7,\"start\":22,\"end\":33,\"body_len\":30,\"map\":[[5,25]]}]}]}") false
+unfolding map_on_literals
+pointer_5 = refl
+
+-- null is no number where a field does not list it
+pointer_null : HasValue (codes "{\"target\":{\"arch\":\"pulley\",\"pointer_bytes\":null},\"names\":[\"a\",\"b\"],\"modules\":[{\"functions\":[{\"symbol\":7,\"start\":22,\"end\":33,\"body_len\":30,\"map\":[[5,25]]}]}]}") false
+unfolding map_on_literals
+pointer_null = refl
+
+-- 1 is no truth value
+big_endian_1 : HasValue (codes "{\"target\":{\"arch\":\"pulley\",\"big_endian\":1},\"names\":[\"a\",\"b\"],\"modules\":[{\"functions\":[{\"symbol\":7,\"start\":22,\"end\":33,\"body_len\":30,\"map\":[[5,25]]}]}]}") false
+unfolding map_on_literals
+big_endian_1 = refl
+
+-- three names
+names_three : HasValue (codes "{\"target\":{\"arch\":\"pulley\"},\"names\":[\"a\",\"b\",\"c\"],\"modules\":[{\"functions\":[{\"symbol\":7,\"start\":22,\"end\":33,\"body_len\":30,\"map\":[[5,25]]}]}]}") false
+unfolding map_on_literals
+names_three = refl
+
+-- a name with a zero character
+names_zero : HasValue (codes "{\"target\":{\"arch\":\"pulley\"},\"names\":[\"a\",\"b\\u0000\"],\"modules\":[{\"functions\":[{\"symbol\":7,\"start\":22,\"end\":33,\"body_len\":30,\"map\":[[5,25]]}]}]}") false
+unfolding map_on_literals
+names_zero = refl
+
+-- two functions for one
+function_more : HasValue (codes "{\"target\":{\"arch\":\"pulley\"},\"names\":[\"a\",\"b\"],\"modules\":[{\"functions\":[{\"symbol\":7,\"start\":22,\"end\":33,\"body_len\":30,\"map\":[[5,25]]},{\"symbol\":7,\"start\":22,\"end\":33,\"body_len\":30,\"map\":[[5,25]]}]}]}") false
+unfolding map_on_literals
+function_more = refl
+
+-- two modules for one
+modules_two : HasValue (codes "{\"target\":{\"arch\":\"pulley\"},\"names\":[\"a\",\"b\"],\"modules\":[{\"functions\":[{\"symbol\":7,\"start\":22,\"end\":33,\"body_len\":30,\"map\":[[5,25]]}]},{\"functions\":[]}]}") false
+unfolding map_on_literals
+modules_two = refl
+
+-- a float
+symbol_float : HasValue (codes "{\"target\":{\"arch\":\"pulley\"},\"names\":[\"a\",\"b\"],\"modules\":[{\"functions\":[{\"symbol\":7.0,\"start\":22,\"end\":33,\"body_len\":30,\"map\":[[5,25]]}]}]}") false
+unfolding map_on_literals
+symbol_float = refl
+
+-- a negative number
+symbol_negative : HasValue (codes "{\"target\":{\"arch\":\"pulley\"},\"names\":[\"a\",\"b\"],\"modules\":[{\"functions\":[{\"symbol\":-7,\"start\":22,\"end\":33,\"body_len\":30,\"map\":[[5,25]]}]}]}") false
+unfolding map_on_literals
+symbol_negative = refl
+
+-- -0 is a float
+symbol_minus_0 : HasValue (codes "{\"target\":{\"arch\":\"pulley\"},\"names\":[\"a\",\"b\"],\"modules\":[{\"functions\":[{\"symbol\":-0,\"start\":22,\"end\":33,\"body_len\":30,\"map\":[[5,25]]}]}]}") false
+unfolding map_on_literals
+symbol_minus_0 = refl
+
+-- the greatest number of 32 bits
+symbol_last : HasValue (codes "{\"target\":{\"arch\":\"pulley\"},\"names\":[\"a\",\"b\"],\"modules\":[{\"functions\":[{\"symbol\":4294967295,\"start\":22,\"end\":33,\"body_len\":30,\"map\":[[5,25]]}]}]}") true
+unfolding map_on_literals
+symbol_last = refl
+
+-- and one more
+symbol_past : HasValue (codes "{\"target\":{\"arch\":\"pulley\"},\"names\":[\"a\",\"b\"],\"modules\":[{\"functions\":[{\"symbol\":4294967296,\"start\":22,\"end\":33,\"body_len\":30,\"map\":[[5,25]]}]}]}") false
+unfolding map_on_literals
+symbol_past = refl
+
+-- the greatest place in a file
+start_last : HasValue (codes "{\"target\":{\"arch\":\"pulley\"},\"names\":[\"a\",\"b\"],\"modules\":[{\"functions\":[{\"symbol\":7,\"start\":4294967294,\"end\":33,\"body_len\":30,\"map\":[[5,25]]}]}]}") true
+unfolding map_on_literals
+start_last = refl
+
+-- 2^32 - 1 is no place
+start_past : HasValue (codes "{\"target\":{\"arch\":\"pulley\"},\"names\":[\"a\",\"b\"],\"modules\":[{\"functions\":[{\"symbol\":7,\"start\":4294967295,\"end\":33,\"body_len\":30,\"map\":[[5,25]]}]}]}") false
+unfolding map_on_literals
+start_past = refl
+
+-- an entry of one number
+entry_one : HasValue (codes "{\"target\":{\"arch\":\"pulley\"},\"names\":[\"a\",\"b\"],\"modules\":[{\"functions\":[{\"symbol\":7,\"start\":22,\"end\":33,\"body_len\":30,\"map\":[[5]]}]}]}") false
+unfolding map_on_literals
+entry_one = refl
+
+-- an entry with a text
+entry_text : HasValue (codes "{\"target\":{\"arch\":\"pulley\"},\"names\":[\"a\",\"b\"],\"modules\":[{\"functions\":[{\"symbol\":7,\"start\":22,\"end\":33,\"body_len\":30,\"map\":[[5,\"25\"]]}]}]}") false
+unfolding map_on_literals
+entry_text = refl
+
+-- something behind the object
+trailing : HasValue (codes "{\"target\":{\"arch\":\"pulley\"},\"names\":[\"a\",\"b\"],\"modules\":[{\"functions\":[{\"symbol\":7,\"start\":22,\"end\":33,\"body_len\":30,\"map\":[[5,25]]}]}]}x") false
+unfolding map_on_literals
+trailing = refl
+
+-- spaces around it
+spaces : HasValue (codes " {\"target\":{\"arch\":\"pulley\"},\"names\":[\"a\",\"b\"],\"modules\":[{\"functions\":[{\"symbol\":7,\"start\":22,\"end\":33,\"body_len\":30,\"map\":[[5,25]]}]}]} ") true
+unfolding map_on_literals
+spaces = refl
+
+-- a list is no map
+list : HasValue (codes "[{\"target\":{\"arch\":\"pulley\"},\"names\":[\"a\",\"b\"],\"modules\":[{\"functions\":[{\"symbol\":7,\"start\":22,\"end\":33,\"body_len\":30,\"map\":[[5,25]]}]}]}]") false
+unfolding map_on_literals
+list = refl
+
+-- bytes that are no UTF-8 are no map
+no_utf8 : map_of_bytes (1 ∷ []) (0xFF ∷ []) ≡ None
+unfolding map_on_literals
+no_utf8 = refl
