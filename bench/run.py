@@ -5,11 +5,12 @@
 
 PROGRAM is crates/dwarfcarry/out/dwarfcarry unless it is given. A row shows the best of the rounds: seconds, MB of wasm and
 of map a second, the peak memory, and the time beside that of the row above of the same kind; linear work gives there the
-ratio of the sizes. The files are made in a temporary folder, which is removed.
+ratio of the sizes. The files are made in a temporary folder, which is removed. It asks for GNU time at /usr/bin/time.
 """
 
 import argparse
 import os
+import subprocess
 import sys
 import tempfile
 import time
@@ -22,15 +23,14 @@ MB = 1_000_000
 
 def run(program, map_path, module_path, out_path):
     """The seconds, the peak memory in bytes and the status of one run."""
-    begin = time.perf_counter()
-    child = os.fork()
-    if child == 0:
-        out = os.open(out_path, os.O_WRONLY | os.O_CREAT | os.O_TRUNC)
-        os.dup2(out, 1)
-        os.execv(program, [program, map_path, module_path])
-    _, status, usage = os.wait4(child, 0)
-    seconds = time.perf_counter() - begin
-    return seconds, usage.ru_maxrss * 1024, os.waitstatus_to_exitcode(status)
+    peak_path = out_path + ".peak"
+    timed = ["/usr/bin/time", "--quiet", "-f", "%M", "-o", peak_path, program, map_path, module_path]
+    with open(out_path, "wb") as out:
+        begin = time.perf_counter()
+        status = subprocess.run(timed, stdout=out).returncode
+        seconds = time.perf_counter() - begin
+    with open(peak_path) as file:
+        return seconds, int(file.read()) * 1024, status
 
 
 def measure(program, folder, name, rounds):
@@ -53,7 +53,8 @@ def main():
     parser.add_argument("--functions", type=int, nargs="*", default=[1000, 10000, 50000])
     parser.add_argument("--segments", type=int, nargs="*", default=[5000])
     words = parser.parse_args()
-    print(f"{'module':<18}{'wasm MB':>9}{'map MB':>9}{'out MB':>9}{'seconds':>10}{'wasm MB/s':>11}{'map MB/s':>10}{'peak MB':>9}{'times':>8}")
+    titles = ["wasm MB", "map MB", "out MB", "seconds", "wasm MB/s", "map MB/s", "peak MB", "times"]
+    print(f"{'module':<18}" + "".join(f"{title:>11}" for title in titles))
     with tempfile.TemporaryDirectory() as folder:
         before = {}
         for name in make_modules.make(folder, words.functions, words.segments):
@@ -61,11 +62,10 @@ def main():
             kind = name.split("_")[0]
             times = f"{seconds / before[kind]:.1f}" if kind in before else ""
             before[kind] = seconds
-            print(
-                f"{name:<18}{wasm_size / MB:>9.2f}{map_size / MB:>9.2f}{out_size / MB:>9.2f}{seconds:>10.3f}"
-                f"{wasm_size / MB / seconds:>11.1f}{map_size / MB / seconds:>10.1f}{peak / MB:>9.1f}{times:>8}",
-                flush=True,
-            )
+            sizes = [wasm_size / MB, map_size / MB, out_size / MB]
+            cells = [f"{size:.2f}" for size in sizes] + [f"{seconds:.3f}"]
+            cells += [f"{size / seconds:.1f}" for size in sizes[:2]] + [f"{peak / MB:.1f}", times]
+            print(f"{name:<18}" + "".join(f"{cell:>11}" for cell in cells), flush=True)
 
 
 if __name__ == "__main__":

@@ -26,3 +26,9 @@ pub mod SectionTitles
 pub mod SectionWalk
 pub mod WalkedSections
 pub mod FileStarts
+pub mod Limits
+pub mod BrokenMaps
+pub mod BrokenFiles
+pub mod WorkedImages
+pub mod CodeOffsets
+pub mod KeptCases

@@ -1,5 +1,5 @@
 -- Functions, their address maps, and which function an address of the input is in.
-use Rattle.std.specs.Prelude.{ℕ, ◌+◌, ◌-◌, ◌==◌, List, [], ◌∷◌, Bool, true, nat_lt, nat_le, ◌||◌, ◌&&◌, if◌then◌else◌, Option, Some, None, option_map, is_some}
+use Rattle.std.specs.Prelude.{ℕ, ◌+◌, ◌-◌, ◌==◌, List, [], ◌∷◌, map, Bool, true, nat_lt, nat_le, ◌||◌, ◌&&◌, if◌then◌else◌, Option, Some, None, option_map, is_some}
 use Rattle.std.specs.Option.{unwrap_or}
 use Rattle.std.specs.List.{filter_map}
 use Rattle.dwc_base.specs.declared.records.MapFault.{MapFault}
@@ -50,6 +50,10 @@ pub record Function : Type 0 where
   pub length : ℕ
   pub entries : List (ℕ × Option ℕ)
 
+-- an entry with its source counted from the contents of the code section
+abbrev pub wasm_entry : ℕ → ℕ × Option ℕ → ℕ × Option ℕ
+wasm_entry code_offset e = (e.0, option_map (λ source. source - code_offset) e.1)
+
 -- the function of a map that is good
 abbrev pub function_of : ℕ → ℕ → AddressMap → Function
 function_of code_offset number m = record {
@@ -58,12 +62,8 @@ function_of code_offset number m = record {
   start = unwrap_or m.start 0 - code_offset;
   end = unwrap_or m.end 0 - code_offset;
   length = m.body_len;
-  entries = go m.entries;
+  entries = map (wasm_entry code_offset) m.entries;
 }
-  where
-    go : List (ℕ × Option ℕ) → List (ℕ × Option ℕ)
-    go [] = []
-    go (e ∷ es) = (e.0, option_map (λ source. source - code_offset) e.1) ∷ go es
 
 -- the functions of a module, of whose functions the first has a number
 abbrev pub functions_of : ℕ → ℕ → List AddressMap → List Function

@@ -20,3 +20,4 @@ pub mod Widest
 pub mod Lebs
 pub mod Cursors
 pub mod Translations
+pub mod CodeOffsets

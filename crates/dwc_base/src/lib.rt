@@ -19,7 +19,7 @@ mod wasm_walk;
 pub use cursor::{Cursor, CursorFault};
 pub use faults::{Flaw, Kind, NotRead, What};
 pub use output::{DwarfSection, DwarfSectionReloc, DwarfSectionRelocTarget};
-pub use records::{Address, Encoding, Endian, FilePos, LineRow, MapFault, SymbolId};
+pub use records::{Address, DefinedFuncIndex, Encoding, Endian, FilePos, LineRow, MapFault, SymbolId};
 pub use relocations::Relocations;
 pub use section_name::SectionName;
 pub use wasm::{FunctionMeta, ModuleTranslation, ValType, WasmFault, split_wasm};

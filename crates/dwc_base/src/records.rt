@@ -60,6 +60,10 @@ pub enum MapFault {
 #[derive(Clone, Copy, Debug, PartialEq, Eq)]
 pub struct SymbolId(pub u32);
 
+/// A defined function of a module, by its place among them.
+#[derive(Clone, Copy, Debug, PartialEq, Eq)]
+pub struct DefinedFuncIndex(pub u32);
+
 /// A place in a wasm file, or no place.
 #[derive(Clone, Copy, Debug, PartialEq, Eq)]
 pub struct FilePos {

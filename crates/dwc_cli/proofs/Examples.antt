@@ -19,7 +19,7 @@ map_small = record {
   modules = record { functions = record { symbol = Some 0; start = Some 22; end = Some 33; body_offset = 0; body_len = 30; entries = (5, Some 25) ∷ (8, None) ∷ (15, Some 30) ∷ (23, None) ∷ [] } ∷ [] } ∷ [];
 }
 
-map-small : map_of_bytes (1 ∷ []) map_bytes_small ≡ Some map_small
+pub map-small : map_of_bytes (1 ∷ []) map_bytes_small ≡ Some map_small
 unfolding map_on_literals
 map-small = refl
 

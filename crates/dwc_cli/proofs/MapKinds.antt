@@ -11,6 +11,7 @@ use Rattle.serde_json.specs.View.{items_view}
 use Rattle.serde_json.specs.declared.value.Value.{Value}
 use Rattle.dwc_cli.specs.MapFile.{MapModule, named_in, architectures, pair_of, list_of, all_items, have_counts, map_value, map_of_bytes, ◌>>=◌}
 
+-- a test that cannot hold is false
 false_from_not : (b : Bool) → (b ≡ true → ⊥) → b ≡ false
 false_from_not true h = absurd (h refl)
 false_from_not false h = refl
@@ -37,6 +38,7 @@ pair_of_parts f g (array (item d (item e no_items))) = refl
 pair_of_parts f g (array (item d (item e (item h ds)))) = refl
 pair_of_parts f g (object ms) = refl
 
+-- the items of a list of another length than two are no pair
 items_of_another_length : (vs : List Value) → length vs ≢ 2 → None ≡ pair_of Some Some (array (items_view vs))
 items_of_another_length [] h = refl
 items_of_another_length (v ∷ []) h = refl

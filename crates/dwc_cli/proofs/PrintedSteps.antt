@@ -3,12 +3,13 @@ use Rattle.std.proofs.Common.{◌≡◌, ◌==◌, true, List, ℕ, [], ◌∷�
 use Rattle.std.proofs.lemmas.Bool.Decides.{Decides-eqb}
 use Rattle.hex.specs.Hex.{encode_with, encode_lower}
 
+-- the digits of two pieces, in any table
 encode_with-append : (t xs ys : List ℕ) → encode_with t (xs ++ ys) ≡ encode_with t xs ++ encode_with t ys
 unfolding encode_with
 encode_with-append t [] ys = refl
 encode_with-append t (x ∷ xs) ys = rw (encode_with-append t xs ys)
 
--- the digits of two pieces
+-- the lower-case digits of two pieces
 encode_lower_parts : (xs ys : List ℕ) → encode_lower (xs ++ ys) ≡ encode_lower xs ++ encode_lower ys
 encode_lower_parts xs ys = encode_with-append _ xs ys
 

@@ -20,19 +20,19 @@ use Rattle.dwc_cli.specs.Printed.{printed}
 use Rattle.dwc_cli.specs.RunStatus.{Carries}
 use Rattle.dwc_cli.proofs.Examples.{map_bytes_small, map_small, output_small}
 
-unfoldable whole_on_literals : ℕ
+unfoldable pub whole_on_literals : ℕ
 unfolding lines_on_literals files_on_literals map_on_literals loaded
 whole_on_literals = 0
 
-abbrev input_small : Input
+abbrev pub input_small : Input
 input_small = record { map_bytes = map_bytes_small; module_bytes = file_small }
 
 -- facts of an input that are short to write down
-abbrev faults_of : Option Loaded → List Fault
+abbrev pub faults_of : Option Loaded → List Fault
 faults_of None = unsupported Format64 0 ∷ []
 faults_of (Some l) = reached_faults (compilation_of l)
 
-abbrev built_of : Option Loaded → Bool
+abbrev pub built_of : Option Loaded → Bool
 built_of None = false
 built_of (Some l) = is_all_built (compilation_of l)
 
@@ -70,11 +70,11 @@ unfolding whole_on_literals
 widths-small = refl
 
 -- what is read of the small input
-abbrev read_in : Option Loaded → Loaded
+abbrev pub read_in : Option Loaded → Loaded
 read_in None = record { wasm = module_from_sections []; map_file = map_small }
 read_in (Some l) = l
 
-abbrev read_small : Loaded
+abbrev pub read_small : Loaded
 read_small = read_in (loaded input_small)
 
 whole-small : All (λ m. (units m.sections).fault ≡ None) (compilation_of read_small).modules
@@ -82,7 +82,7 @@ unfolding whole_on_literals
 whole-small zero d h = refl
 whole-small (suc k) d h = absurd (omega arith)
 
-lines_carried-small : LinesCarried (compilation_of read_small) output_small
+pub lines_carried-small : LinesCarried (compilation_of read_small) output_small
 unfolding whole_on_literals
 lines_carried-small = record {
   whole = whole-small;
@@ -92,6 +92,6 @@ lines_carried-small = record {
 }
 
 -- the text of the wanted output is an answer with status 0
-carries-small : Carries input_small (Some []) (Some (printed output_small))
+pub carries-small : Carries input_small (Some []) (Some (printed output_small))
 unfolding whole_on_literals
 carries-small = record { read = read_small; is_read = refl; readable = refl; built = refl; sections = output_small; plain = refl; carried = lines_carried-small; written = refl }

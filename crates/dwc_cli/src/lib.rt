@@ -25,7 +25,7 @@ mod words;
 pub use command::run;
 pub use host::{HostSink, HostSource};
 pub use loading::{LoadError, load};
-pub use map_file::{MapFile, MapModule, Names, Target, map_of_counts};
+pub use map_file::{MapFile, MapModule, Names, Target, map_of};
 pub use mem_sink::MemSink;
 pub use mem_source::MemSource;
 pub use printing::printed;

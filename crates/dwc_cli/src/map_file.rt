@@ -12,7 +12,7 @@ use crate::json_fields::{
     architecture, items, member, members, pair, plain_text, pointer_bytes, source, symbol,
     whole_number,
 };
-use dwc_base::{FilePos, SymbolId};
+use dwc_base::{FilePos, ModuleTranslation, SymbolId};
 use dwc_clif::{Architecture, CompiledFunctionMetadata, FunctionAddressMap, InstructionAddressMap};
 use serde_json::Value;
 use std::alloc::{AllocError, Global};
@@ -24,21 +24,25 @@ const COUNT_LIMIT: usize = 1 << 32;
 #[derive(Clone, Copy)]
 pub struct Target {
     pub arch: Architecture,
+    /// Whether its numbers begin with their highest byte.
     pub big_endian: bool,
-    /// 4 or 8.
+    /// How many bytes an address has: 4 or 8.
     pub pointer_bytes: u8,
 }
 
 /// The names of the two functions that give access to a module's memory.
 #[derive(Drop)]
 pub struct Names {
+    /// The one that sets the memory.
     pub set: String,
+    /// The one that resolves an address in it.
     pub resolve: String,
 }
 
-/// A module: its functions in the order of its code section, each with its symbol, if it was compiled.
+/// A module.
 #[derive(Drop)]
 pub struct MapModule {
+    /// Its functions in the order of the code section, each with its symbol, if it has one.
     pub functions: Vec<(Option<SymbolId>, CompiledFunctionMetadata)>,
 }
 
@@ -47,6 +51,7 @@ pub struct MapModule {
 pub struct MapFile {
     pub target: Target,
     pub names: Names,
+    /// The modules in the order of the program's words.
     pub modules: Vec<MapModule>,
 }
 
@@ -294,17 +299,9 @@ fn read_map(alloc: Global, value: &Value, defined: &[u32]) -> Result<Option<MapF
     }))
 }
 
-/// The value of a map file's bytes, for modules that define so many functions each, in order.
-///
-/// Answers `Ok(None)` exactly where the bytes have no value as a map: they are not UTF-8 or no JSON text of at most 127
-/// levels, a required field is missing, or a value is of the wrong kind or out of its range. Unknown fields are passed
-/// over, and of two members of one name the later counts.
-///
-/// # Errors
-///
-/// `AllocError` for want of memory alone.
+// The value of a map file's bytes, for modules that define so many functions each, in order.
 #[tactic(auto, using(crate::proofs::MapKinds::map_of_bytes_read, crate::proofs::MapKinds::map_of_bytes_unread))]
-pub fn map_of_counts(
+pub(crate) fn map_of_counts(
     alloc: Global,
     bytes: &[u8],
     defined: &[u32],
@@ -316,4 +313,31 @@ pub fn map_of_counts(
         Err(error) if error.is_memory() => Err(AllocError),
         Err(_) => Ok(None),
     }
+}
+
+/// The value of a map file's bytes, for these modules in order. `with_text` asks for the text of each function, which is
+/// not read yet.
+///
+/// Answers `Ok(None)` exactly where the bytes have no value as a map: they are not UTF-8 or no JSON text of at most 127
+/// levels, a required field is missing, a value is of the wrong kind or out of its range, or the modules are not as many
+/// as these, with as many functions as each of these defines. Unknown fields are passed over, and of two members of one
+/// name the later counts.
+///
+/// # Errors
+///
+/// `AllocError` for want of memory alone.
+pub fn map_of(
+    alloc: Global,
+    bytes: &[u8],
+    modules: &[ModuleTranslation<'_>],
+    _with_text: bool,
+) -> Result<Option<MapFile>, AllocError>
+    ensures { IfOk result (λ o. option_map map_file_view o
+        ≡ map_of_bytes (map (λ m. m.defined_funcs) modules.now) bytes.now) }
+{
+    let mut defined = Vec::with_capacity(alloc, modules.len())?;
+    for module in modules {
+        defined.push(module.defined_funcs)?;
+    }
+    map_of_counts(alloc, bytes, &defined)
 }

@@ -97,7 +97,7 @@ fn push_section(text: &mut Vec<u8>, section: &DwarfSection) -> Result<(), AllocE
     push_relocations(text, &section.relocs)
 }
 
-// A size that the printed text seldom passes.
+// A size that the printed text seldom passes, so that the buffer is made once.
 fn likely_size(sections: &[DwarfSection]) -> usize {
     let mut size: usize = 0;
     for section in sections {

@@ -1,0 +1,194 @@
+//! The functions of a module as its DWARF names them: by wasm offsets, which count from the contents of the code section.
+ghost use Rattle.std.specs.Prelude.{◌≡◌, ◌-◌, ◌+◌, ◌<◌, ◌≤◌, ◌^◌, ℕ, length, map, slice_get, option_map, Some, IfOk, IfSome, vec_len};
+ghost use Rattle.std.specs.Option.{unwrap_or};
+ghost use Rattle.std.specs.List.{filter_map};
+ghost use Rattle.dwc_base.specs.Functions.{function_of, owner, function_at, wasm_entry, recorded_entry};
+ghost use Rattle.dwc_clif.specs.AddressMaps.{address_map_view, entry_view};
+ghost use Rattle.dwc_addr.specs.Transforms.{function_view, recorded_view, kept_function, Transforms};
+ghost use Rattle.dwc_addr.specs.Starts.{IsStartTable, IsOwnerPlace};
+
+use crate::by_start::{owner_place, start_table};
+use crate::error::AddrError;
+use crate::function_map::{AddressMap, FunctionMap, WasmAddress};
+use crate::maps::map_fault;
+use dwc_base::{DefinedFuncIndex, FilePos, SymbolId};
+use dwc_clif::{CompiledFunctionMetadata, InstructionAddressMap};
+use std::alloc::{AllocError, Global};
+use std::marker::Model;
+
+/// The defined functions of a module, found by wasm offset. A contract sees the list of them, each without the entries that
+/// have no source.
+#[derive(Drop)]
+pub struct AddressTransform {
+    functions: Vec<FunctionMap>,
+    // Their keys in rising order.
+    by_start: Vec<u64>,
+}
+
+impl Model for AddressTransform {
+    ghost use Rattle.std.specs.Prelude.{List, map};
+    ghost use Rattle.dwc_base.specs.Functions.{Function};
+    ghost use Rattle.dwc_addr.specs.Transforms.{function_view};
+    ghost use Rattle.dwc_addr.specs.Starts.{IsStartTable};
+
+    ghost Value = { List Function };
+
+    ghost view = { λ t. map function_view t.functions.items };
+
+    ghost invariant = { λ t. IsStartTable (map function_view t.functions.items) t.by_start.items };
+}
+
+impl AddressTransform {
+    /// The transform of a module by its number, whose code section's contents begin at `code_section_offset` of its file, and
+    /// whose defined functions, of which the first has the number `first_number` among those of all modules, are given in
+    /// order, each with its symbol if it has one.
+    ///
+    /// # Errors
+    /// `BadAddressMap` exactly where some function's map breaks a rule: the first such function, and the first rule.
+    /// `OutOfMemory` for want of memory.
+    pub fn new(
+        alloc: Global,
+        module_index: u32,
+        code_section_offset: u64,
+        first_number: usize,
+        functions: &[(Option<SymbolId>, CompiledFunctionMetadata)],
+    ) -> Result<AddressTransform, AddrError>
+        requires count { length functions.now < 2 ^ 32 }
+        requires numbers { first_number + length functions.now < 2 ^ 64 }
+        ensures { Transforms (λ t. t) module_index code_section_offset first_number (map address_map_view functions.now) result }
+    {
+        let functions = function_maps(
+            alloc,
+            module_index,
+            code_section_offset,
+            first_number,
+            functions,
+        )?;
+        let by_start = start_table(alloc, &functions)?;
+        Ok(AddressTransform {
+            functions,
+            by_start,
+        })
+    }
+
+    /// The defined function, by its place, with the greatest start at or below an address, of several with that start the
+    /// last; None where all begin above it.
+    pub fn find_func_index(&self, addr: u64) -> Option<DefinedFuncIndex>
+        ensures owner { option_map (λ k. slice_get self.now k.0) result ≡ option_map Some (owner self.now addr) }
+        ensures place { IfSome result (λ k. IsOwnerPlace self.now addr k.0) }
+    {
+        let place = owner_place(&self.by_start, addr)?;
+        Some(DefinedFuncIndex(place))
+    }
+
+    /// That function where it has a symbol, and the address is neither 0 nor 0xFFFFFFFF, the marks of code that was not
+    /// linked.
+    pub fn func_at(&self, addr: u64) -> Option<&FunctionMap>
+        ensures { option_map (λ f. function_view f.now) result ≡ function_at self.now addr }
+    {
+        function_at(&self.functions, &self.by_start, addr)
+    }
+
+    /// The defined functions, in order.
+    pub fn map(&self) -> &[FunctionMap]
+        ensures { map function_view result.now ≡ self.now }
+    {
+        &self.functions
+    }
+}
+
+// The mark of code that was not linked, beside 0.
+const UNLINKED: u64 = 0xFFFF_FFFF;
+
+// What `func_at` answers, of the functions and their keys.
+fn function_at<'f>(functions: &'f [FunctionMap], keys: &[u64], addr: u64) -> Option<&'f FunctionMap>
+    requires { IsStartTable (map function_view functions.now) keys.now }
+    ensures { option_map (λ f. function_view f.now) result ≡ function_at (map function_view functions.now) addr }
+{
+    if addr == 0 || addr == UNLINKED {
+        return None;
+    }
+    let place = owner_place(keys, addr)?;
+    let function = &functions[place as usize];
+    if function.symbol.is_none() {
+        return None;
+    }
+    Some(function)
+}
+
+// What is kept of some functions, of which the first has a number; or the first whose map is not good.
+fn function_maps(
+    alloc: Global,
+    module_index: u32,
+    code_section_offset: u64,
+    first_number: usize,
+    functions: &[(Option<SymbolId>, CompiledFunctionMetadata)],
+) -> Result<Vec<FunctionMap>, AddrError>
+    requires count { length functions.now < 2 ^ 32 }
+    requires numbers { first_number + length functions.now < 2 ^ 64 }
+    ensures count { IfOk result (λ maps. vec_len maps ≡ length functions.now) }
+    ensures functions { Transforms (λ maps. map function_view maps.items) module_index code_section_offset first_number (map address_map_view functions.now) result }
+{
+    let mut maps = Vec::with_capacity(alloc, functions.len())?;
+    for i in 0..functions.len() {
+        let (symbol, metadata) = &functions[i];
+        if let Some(why) = map_fault(code_section_offset, metadata) {
+            return Err(AddrError::BadAddressMap {
+                module: module_index,
+                func: i as u32,
+                why,
+            });
+        }
+        let number = first_number + i;
+        maps.push(function_map(alloc, code_section_offset, number, *symbol, metadata)?)?;
+    }
+    Ok(maps)
+}
+
+// What is kept of a function by its number.
+fn function_map(
+    alloc: Global,
+    code_section_offset: u64,
+    number: usize,
+    symbol: Option<SymbolId>,
+    metadata: &CompiledFunctionMetadata,
+) -> Result<FunctionMap, AllocError>
+    ensures { IfOk result (λ f. function_view f ≡ kept_function (function_of code_section_offset number (address_map_view (symbol, metadata.now)))) }
+{
+    let addresses = &metadata.address_map;
+    Ok(FunctionMap {
+        symbol: symbol.map(|_| number),
+        len: addresses.body_len as usize,
+        wasm_start: start_offset(addresses.start_srcloc, code_section_offset),
+        wasm_end: start_offset(addresses.end_srcloc, code_section_offset),
+        addresses: sources(alloc, code_section_offset, &addresses.instructions)?,
+    })
+}
+
+// The wasm offset of a place in the file; 0 for no place, and in front of the code section.
+fn start_offset(place: FilePos, code_section_offset: u64) -> WasmAddress
+    ensures value { result ≡ unwrap_or place.offset 0 - code_section_offset }
+    ensures low { result < 2 ^ 32 }
+{
+    let offset = place.file_offset().unwrap_or(0);
+    u64::from(offset).saturating_sub(code_section_offset)
+}
+
+// The entries that have a source.
+fn sources(
+    alloc: Global,
+    code_section_offset: u64,
+    entries: &[InstructionAddressMap],
+) -> Result<Vec<AddressMap>, AllocError>
+    ensures { IfOk result (λ found. map recorded_view found.items ≡ filter_map recorded_entry (map (wasm_entry code_section_offset) (map entry_view entries.now))) }
+{
+    let mut found = Vec::with_capacity(alloc, entries.len())?;
+    for entry in entries {
+        if let Some(source) = entry.srcloc.file_offset() {
+            let wasm = u64::from(source).saturating_sub(code_section_offset);
+            let generated = entry.code_offset as usize;
+            found.push(AddressMap { generated, wasm })?;
+        }
+    }
+    Ok(found)
+}

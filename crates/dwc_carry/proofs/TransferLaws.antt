@@ -1,0 +1,121 @@
+-- What is kept of functions is enough for images, for carried segments and for required entries.
+use Rattle.std.proofs.Common.{◌≡◌, List, [], ◌∷◌, map, refl, ap, sym, ◌∙◌, Bool, true, false, Option, Some, None}
+use Rattle.std.specs.Prelude.{ℕ, option_map, is_some, ◌&&◌, if◌then◌else◌}
+use Rattle.std.specs.List.{filter, list_any, AllZip}
+use Rattle.dwc_base.specs.declared.records.Address.{Address}
+use Rattle.dwc_base.specs.declared.records.Address.TheVariants.{Constant, Symbol}
+use Rattle.dwc_base.specs.Functions.{Function, recorded_sources, function_at, owner, with_symbol, is_unlinked}
+use Rattle.std.proofs.Common.{subst, pos}
+use Rattle.std.specs.Option.{option_or, unwrap_or}
+use Rattle.dwc_base.specs.LineRows.{Segment}
+use Rattle.dwc_base.specs.Images.{IsImage, IsImageOf, is_carried_segment, function_of_segment, start_of_segment, row_of_source, row_of_last, row_of_first, row_for_byte}
+use Rattle.dwc_base.specs.Entries.{Entry, attribute}
+use Rattle.dwc_base.specs.Values.{Value, address}
+use Rattle.dwc_base.specs.Kept.{is_translatable, is_required}
+use Rattle.dwc_base.specs.declared.constants.TheConstants.{DW_AT_low_pc}
+use Rattle.dwc_addr.specs.Transforms.{kept_function}
+use Rattle.dwc_addr.proofs.KeptLaws.{recorded_sources-kept, function_at-kept}
+
+module _ (fs : List Function) where
+  kept : List Function
+  kept = map kept_function fs
+
+  -- the function of a segment is that which is kept of it
+  segment-kept : (q : Segment) → function_of_segment (map kept_function fs) q ≡ option_map kept_function (function_of_segment fs q)
+  segment-kept q = go q.start
+    where
+      go : (a : Address) → function_of_segment (map kept_function fs) (record q { start = a }) ≡ option_map kept_function (function_of_segment fs (record q { start = a }))
+      go (Constant a) = function_at-kept fs a
+      go (Symbol n a) = refl
+
+  judged : Segment → Option Function → Bool
+  judged q None = false
+  judged q (Some f) = list_any (λ e. is_some (row_of_source q.rows (start_of_segment q) e)) (recorded_sources f)
+
+  judged-kept : (q : Segment) (o : Option Function) → judged q (option_map kept_function o) ≡ judged q o
+  unfolding judged
+  judged-kept q None = refl
+  judged-kept q (Some f) = ap (list_any (λ e. is_some (row_of_source q.rows (start_of_segment q) e))) (recorded_sources-kept f)
+
+  is_judged : (gs : List Function) (q : Segment) → is_carried_segment gs q ≡ judged q (function_of_segment gs q)
+  unfolding judged
+  is_judged gs q = go (function_of_segment gs q)
+    where
+      go : (o : Option Function) → (elim o [ None ↦ false | Some f ↦ list_any (λ e. is_some (row_of_source q.rows (start_of_segment q) e)) (recorded_sources f) ]) ≡ judged q o
+      go None = refl
+      go (Some f) = refl
+
+  -- so the same segments are carried
+  pub carried_segment-kept : (q : Segment) → is_carried_segment (map kept_function fs) q ≡ is_carried_segment fs q
+  carried_segment-kept q = is_judged (map kept_function fs) q ∙ ap (judged q) (segment-kept q) ∙ judged-kept q (function_of_segment fs q) ∙ sym (is_judged fs q)
+
+  pub carried_segments-kept : (qs : List Segment) → filter (is_carried_segment (map kept_function fs)) qs ≡ filter (is_carried_segment fs) qs
+  carried_segments-kept [] = refl
+  carried_segments-kept (q ∷ qs) = rw (carried_segment-kept q, carried_segments-kept qs) refl
+
+  some-kept : (o : Option Function) → is_some (option_map kept_function o) ≡ is_some o
+  some-kept None = refl
+  some-kept (Some f) = refl
+
+  translatable-kept : (o : Option Value) → is_translatable (map kept_function fs) o ≡ is_translatable fs o
+  translatable-kept (Some (address (Constant a))) = ap (λ o. is_some o) (function_at-kept fs a) ∙ some-kept (function_at fs a)
+  translatable-kept _ = refl
+
+  -- and the same entries are required
+  pub required-kept : (e : Entry) → is_required (map kept_function fs) e ≡ is_required fs e
+  required-kept e = rw (translatable-kept (attribute DW_AT_low_pc e)) refl
+
+  pub some_required-kept : (es : List Entry) → list_any (is_required (map kept_function fs)) es ≡ list_any (is_required fs) es
+  some_required-kept [] = refl
+  some_required-kept (e ∷ es) = rw (required-kept e, some_required-kept es) refl
+
+  -- a function that an address is in has a symbol
+  at-symbol : (a : ℕ) (f : Function) → function_at fs a ≡ Some f → is_some f.symbol ≡ true
+  at-symbol a f h = go (is_unlinked a) (owner fs a) h
+    where
+      one : (g : Function) (b : Bool) → is_some g.symbol ≡ b → ◌≡◌ {A = Option Function} (if b then Some g else None) (Some f) → is_some f.symbol ≡ true
+      one g true is e =
+          let same : g ≡ f = cc in
+          ap (λ k. is_some k.symbol) (sym same) ∙ is
+      one g false is e = absurd (cc)
+      go : (b : Bool) (o : Option Function) → ◌≡◌ {A = Option Function} (if b then None else with_symbol o) (Some f) → is_some f.symbol ≡ true
+      go true o e = absurd (cc)
+      go false None e = absurd (cc)
+      go false (Some g) e = one g (is_some g.symbol) refl e
+
+  -- the number of a function that has a symbol is kept
+  number-kept : (f : Function) (symbol : Option ℕ) → is_some symbol ≡ true → unwrap_or (option_map (λ s. f.number) symbol) 0 ≡ f.number
+  number-kept f None h = absurd (cc)
+  number-kept f (Some s) h = refl
+
+  -- An image of a segment in what is kept of a function is one in the function.
+  image-kept : (q : Segment) (start : ℕ) (f : Function) (image : Segment) → is_some f.symbol ≡ true → IsImage q start (kept_function f) image → IsImage q start f image
+  image-kept q start f image symbol h = record {
+    starts = h.starts ∙ ap (λ n. Symbol n (pos 0)) (number-kept f f.symbol symbol);
+    ends = h.ends;
+    within = h.within;
+    agrees = λ byte below. h.agrees byte below ∙ ap (λ es. option_or (row_of_last q.rows start es byte) (row_of_first q.rows start es)) (recorded_sources-kept f);
+  }
+
+  from-kept : (q image : Segment) (o : Option Function) → function_of_segment fs q ≡ o → ((f : Function) → o ≡ Some f → is_some f.symbol ≡ true) → (g : Function) → option_map kept_function o ≡ Some g → IsImage q (start_of_segment q) g image → IsImageOf fs q image
+  from-kept q image None is symbol g e h = absurd (cc)
+  from-kept q image (Some f) is symbol g e h =
+      let same : kept_function f ≡ g = cc in
+      (f, is, image-kept q (start_of_segment q) f image (symbol f refl) (subst (λ k. IsImage q (start_of_segment q) k image) (sym same) h))
+
+  segment-symbol : (q : Segment) (f : Function) → function_of_segment fs q ≡ Some f → is_some f.symbol ≡ true
+  segment-symbol q f h = go q.start h
+    where
+      go : (a : Address) → function_of_segment fs (record q { start = a }) ≡ Some f → is_some f.symbol ≡ true
+      go (Constant a) e = at-symbol a f e
+      go (Symbol n a) e = absurd (cc)
+
+  pub image_of-kept : (q image : Segment) → IsImageOf (map kept_function fs) q image → IsImageOf fs q image
+  image_of-kept q image h =
+      from-kept q image (function_of_segment fs q) refl (λ f e. segment-symbol q f e) h.0 (sym (segment-kept q) ∙ h.1) h.2
+
+  pub images-kept : (qs images : List Segment) → AllZip (IsImageOf (map kept_function fs)) qs images → AllZip (IsImageOf fs) qs images
+  images-kept [] [] h = h
+  images-kept [] (i ∷ is) h = h
+  images-kept (q ∷ qs) [] h = h
+  images-kept (q ∷ qs) (i ∷ is) h = (image_of-kept q i h.0, images-kept qs is h.1)

@@ -1,0 +1,248 @@
+-- Wrong texts that the clauses on statuses 0 and 8 refuse, and two right answers.
+use Rattle.std.proofs.Common.{◌≡◌, ℕ, zero, suc, pos, List, [], ◌∷◌, ◌++◌, take, get_or, Some, None, Ok, true, refl, ap, subst, sym, ◌∙◌, arith}
+use Rattle.std.specs.Prelude.{All, Option, is_some, codes}
+use Rattle.std.specs.List.{list_all, filter, AllZip}
+use Rattle.std.proofs.lemmas.Bool.{true≢false}
+use Rattle.dwc_base.specs.declared.records.Endian.TheVariants.{Little}
+use Rattle.dwc_base.specs.declared.faults.Kind.TheVariants.{Format64}
+use Rattle.dwc_base.specs.Sections.{unsupported}
+use Rattle.dwc_base.specs.LineRows.{Segment}
+use Rattle.dwc_base.specs.Images.{IsImageOf, is_carried_segment}
+use Rattle.dwc_base.specs.Outputs.{OutputSection, output_sections, function}
+use Rattle.dwc_base.specs.Carried.{Module, units, segments_of_unit, carried_units, CarriesUnit, LinesCarried}
+use Rattle.dwc_base.specs.Reached.{reached_faults}
+use Rattle.dwc_base.specs.FirstForm.{is_all_built}
+use Rattle.dwc_base.proofs.LineTables.{at_line, function_small, segments_small}
+use Rattle.dwc_base.proofs.CarriedSmall.{module_small, unit_small, unit_out, image_small, image-small}
+use Rattle.dwc_base.proofs.WorkedImages.{Zipped, segment, image, image_in, not_image-at}
+use Rattle.dwc_cli.specs.Inputs.{Loaded, loaded, compilation_of}
+use Rattle.dwc_cli.specs.Printed.{printed, is_plain, line_feed}
+use Rattle.dwc_cli.specs.RunStatus.{Carries, Succeeds, FrontCarries, PrefixWritten}
+use Rattle.dwc_cli.proofs.Examples.{output_small}
+use Rattle.dwc_cli.proofs.PrintedLaws.{printed_injective}
+use Rattle.dwc_cli.proofs.OnLiterals.{printed_on_literals}
+use Rattle.dwc_cli.proofs.WholeRun.{whole_on_literals, input_small, read_in, read_small, lines_carried-small}
+use Rattle.dwc_cli.proofs.BrokenInputs.{file_bare, file_64, file_5, with_small_map}
+use Rattle.dwc_cli.proofs.Answers.{two_files, right_words, names}
+use Rattle.dwc_cli.proofs.Refused.{small-read}
+
+-- ---- the sections that a text stands for
+
+-- an answer 0 over the small input whose text is printed of plain sections says that these carry its lines
+sections_of : (known : List OutputSection) → list_all is_plain known ≡ true → Carries input_small (Some []) (Some (printed known)) → LinesCarried (compilation_of read_small) known
+sections_of known plain h =
+    let text : ◌≡◌ {A = Option (List ℕ)} (Some (printed known)) (Some (printed h.sections)) = h.written in
+    let texts : printed known ≡ printed h.sections = cc in
+    let same : h.sections ≡ known = sym (printed_injective known h.sections plain h.plain texts) in
+    let found : loaded input_small ≡ Some h.read = h.is_read in
+    let reads : h.read ≡ read_small = cc (found, small-read) in
+    subst (λ s. LinesCarried (compilation_of read_small) s) same (subst (λ r. LinesCarried (compilation_of r) h.sections) reads h.carried)
+
+-- so a text of other sections is no answer 0
+refused-text : (known : List OutputSection) → list_all is_plain known ≡ true → (LinesCarried (compilation_of read_small) known → ⊥) → Succeeds (Some (two_files input_small)) right_words (Some []) (Some (printed known)) → ⊥
+refused-text known plain wrong h = wrong (sections_of known plain (h input_small (names input_small)))
+
+-- ---- no text at all
+
+no_units : units (output_sections Little []) ≡ record { items = []; fault = None }
+unfolding whole_on_literals
+no_units = refl
+
+-- the small unit is carried, so an output without units carries nothing
+nothing_carried : LinesCarried (compilation_of read_small) [] → ⊥
+unfolding whole_on_literals
+nothing_carried h =
+    let items : h.output ≡ [] = ap (λ l. l.items) (sym h.output_read ∙ no_units) in
+    subst (λ us. AllZip (CarriesUnit (output_sections Little [])) (carried_units (compilation_of read_small)) us) items h.each
+
+empty_text : Succeeds (Some (two_files input_small)) right_words (Some []) (Some []) → ⊥
+unfolding printed
+empty_text h = refused-text [] refl nothing_carried h
+
+-- ---- a wrong line
+
+-- the wanted output with its last line advanced by two
+abbrev pub output_wrong : List OutputSection
+output_wrong =
+    record { name = codes ".debug_abbrev"; body = 0x01 ∷ 0x11 ∷ 0x01 ∷ 0x10 ∷ 0x17 ∷ 0x00 ∷ 0x00 ∷ 0x02 ∷ 0x2E ∷ 0x00 ∷ 0x11 ∷ 0x01 ∷ 0x12 ∷ 0x0F ∷ 0x00 ∷ 0x00 ∷ 0x00 ∷ []; relocations = [] }
+    ∷ record {
+      name = codes ".debug_info";
+      body = 0x17 ∷ 0x00 ∷ 0x00 ∷ 0x00 ∷ 0x04 ∷ 0x00 ∷ 0x00 ∷ 0x00 ∷ 0x00 ∷ 0x00 ∷ 0x08 ∷ 0x01 ∷ 0x00 ∷ 0x00 ∷ 0x00 ∷ 0x00 ∷ 0x02 ∷ 0x00 ∷ 0x00 ∷ 0x00 ∷ 0x00 ∷ 0x00 ∷ 0x00 ∷ 0x00 ∷ 0x00 ∷ 0x1E ∷ 0x00 ∷ [];
+      relocations = record { offset = 17; size = 8; target = function 0; addend = pos 0 } ∷ [];
+    }
+    ∷ record {
+      name = codes ".debug_line";
+      body = 0x39 ∷ 0x00 ∷ 0x00 ∷ 0x00 ∷ 0x04 ∷ 0x00 ∷ 0x1B ∷ 0x00 ∷ 0x00 ∷ 0x00 ∷ 0x01 ∷ 0x01 ∷ 0x01 ∷ 0xFB ∷ 0x0E ∷ 0x0D ∷ 0x00 ∷ 0x01 ∷ 0x01 ∷ 0x01 ∷ 0x01 ∷ 0x00 ∷ 0x00 ∷ 0x00 ∷ 0x01 ∷ 0x00 ∷ 0x00 ∷ 0x01 ∷ 0x00 ∷ 0x61 ∷ 0x2E ∷ 0x63 ∷ 0x00 ∷ 0x00 ∷ 0x00 ∷ 0x00 ∷ 0x00 ∷ 0x00 ∷ 0x09 ∷ 0x02 ∷ 0x00 ∷ 0x00 ∷ 0x00 ∷ 0x00 ∷ 0x00 ∷ 0x00 ∷ 0x00 ∷ 0x00 ∷ 0x03 ∷ 0x01 ∷ 0x01 ∷ 0x03 ∷ 0x02 ∷ 0x02 ∷ 0x0F ∷ 0x01 ∷ 0x02 ∷ 0x0F ∷ 0x00 ∷ 0x01 ∷ 0x01 ∷ [];
+      relocations = record { offset = 40; size = 8; target = function 0; addend = pos 0 } ∷ [];
+    } ∷ []
+
+-- it is read as one unit, whose one segment has line 4 from byte 15 on
+wrong-units : units (output_sections Little output_wrong) ≡ record { items = unit_out ∷ []; fault = None }
+unfolding whole_on_literals
+wrong-units = refl
+
+wrong-segments : segments_of_unit (output_sections Little output_wrong) unit_out ≡ Ok (image (at_line 0 2 ∷ at_line 15 4 ∷ []) ∷ [])
+unfolding whole_on_literals
+wrong-segments = refl
+
+-- the small input's module
+abbrev pub first_module : List Module → Module
+first_module [] = module_small
+first_module (m ∷ ms) = m
+
+abbrev pub module_read : Module
+module_read = first_module (compilation_of read_small).modules
+
+-- the unit of an output that is read as one unit carries the small unit
+carries_unit : LinesCarried (compilation_of read_small) output_wrong → CarriesUnit (output_sections Little output_wrong) (record { module_of = module_read; unit = unit_small }) unit_out
+unfolding whole_on_literals
+carries_unit h =
+    let items : h.output ≡ unit_out ∷ [] = ap (λ l. l.items) (sym h.output_read ∙ wrong-units) in
+    (subst (λ us. AllZip (CarriesUnit (output_sections Little output_wrong)) (carried_units (compilation_of read_small)) us) items h.each).0
+
+-- and its segments are images of the small segments
+small_segments : segments_of_unit module_read.sections unit_small ≡ Ok segments_small
+unfolding whole_on_literals
+small_segments = refl
+
+-- the small input's function is the one that the images are of
+zipped_small : (input images : List Segment) → AllZip (IsImageOf module_read.functions) (filter (is_carried_segment module_read.functions) input) images → Zipped input images
+unfolding whole_on_literals
+zipped_small input images h = h
+
+-- line 4 at byte 15 is no input row there
+wrong_line_carried : LinesCarried (compilation_of read_small) output_wrong → ⊥
+wrong_line_carried h =
+    let u = carries_unit h in
+    let written : segments_of_unit (output_sections Little output_wrong) unit_out ≡ Ok u.images = u.images_read in
+    let images : u.images ≡ image (at_line 0 2 ∷ at_line 15 4 ∷ []) ∷ [] = cc (written, wrong-segments) in
+    let read : segments_of_unit module_read.sections unit_small ≡ Ok u.carried.input = u.carried.input_read in
+    let input : u.carried.input ≡ segments_small = cc (read, small_segments) in
+    let each = zipped_small u.carried.input u.images u.carried.each in
+    let zipped : Zipped segments_small (image (at_line 0 2 ∷ at_line 15 4 ∷ []) ∷ []) = subst (λ q. Zipped q (image (at_line 0 2 ∷ at_line 15 4 ∷ []) ∷ [])) input (subst (λ q. Zipped u.carried.input q) images each) in
+    let is_image = image_in (segment 2 (at_line 0 1 ∷ at_line 3 2 ∷ at_line 8 3 ∷ []) (Some 11)) (image (at_line 0 2 ∷ at_line 15 4 ∷ [])) refl zipped.0 in
+    not_image-at 15 2 (at_line 0 1 ∷ at_line 3 2 ∷ at_line 8 3 ∷ []) (Some 11) (at_line 0 2 ∷ at_line 15 4 ∷ []) refl (λ e. omega (arith, e)) is_image
+
+wrong_line : Succeeds (Some (two_files input_small)) right_words (Some []) (Some (printed output_wrong)) → ⊥
+wrong_line h = refused-text output_wrong refl wrong_line_carried h
+
+-- ---- a name with a line feed
+
+-- A section of the 64-bit format stands first, and a list of sections that has the same text has it in a name: a reader of
+-- the text meets it, and the other list would carry the lines.
+abbrev pub output_hidden : List OutputSection
+output_hidden = record { name = codes ".debug_info 4" ++ line_feed ++ codes "ffffffff" ++ line_feed ++ codes "section x"; body = []; relocations = [] } ∷ output_small
+
+abbrev pub output_in_sight : List OutputSection
+output_in_sight = record { name = codes ".debug_info"; body = 0xFF ∷ 0xFF ∷ 0xFF ∷ 0xFF ∷ []; relocations = [] } ∷ record { name = codes "x"; body = []; relocations = [] } ∷ output_small
+
+same_text-hidden : printed output_hidden ≡ printed output_in_sight
+unfolding printed_on_literals
+same_text-hidden = refl
+
+carried-hidden : LinesCarried (compilation_of read_small) output_hidden
+unfolding whole_on_literals
+carried-hidden = record {
+  whole = lines_carried-small.whole;
+  output = unit_out ∷ [];
+  output_read = refl;
+  each = (record { images = image_small ∷ []; images_read = refl; carried = record { input = segments_small; input_read = refl; each = ((function_small, refl, image-small), tt) } }, tt);
+}
+
+-- the list without hidden names is unreadable
+fault-in_sight : (units (output_sections Little output_in_sight)).fault ≡ Some (unsupported Format64 0)
+unfolding whole_on_literals
+fault-in_sight = refl
+
+in_sight_carried : LinesCarried (compilation_of read_small) output_in_sight → ⊥
+unfolding whole_on_literals
+in_sight_carried h = let none : (units (output_sections Little output_in_sight)).fault ≡ None = ap (λ l. l.fault) h.output_read in true≢false (ap is_some (sym fault-in_sight ∙ none))
+
+hidden_name : Succeeds (Some (two_files input_small)) right_words (Some []) (Some (printed output_hidden)) → ⊥
+hidden_name h = refused-text output_in_sight refl in_sight_carried (subst (λ text. Succeeds (Some (two_files input_small)) right_words (Some []) (Some text)) same_text-hidden h)
+
+-- ---- what was written before
+
+-- a printed text does not begin with the byte 1
+first_byte : (sections : List OutputSection) → get_or (printed sections) 0 0 ≡ 1 → ⊥
+unfolding printed
+first_byte [] e = omega (arith, e)
+first_byte (s ∷ ss) e = omega (arith, e)
+
+-- so an answer that drops what was written before is refused
+earlier_dropped : Succeeds (Some (two_files input_small)) right_words (Some (1 ∷ [])) (Some (printed output_small)) → ⊥
+earlier_dropped h =
+    let carries = h input_small (names input_small) in
+    let text : ◌≡◌ {A = Option (List ℕ)} (Some (printed output_small)) (Some (1 ∷ printed carries.sections)) = carries.written in
+    let texts : printed output_small ≡ 1 ∷ printed carries.sections = cc in
+    first_byte output_small (ap (λ t. get_or t 0 0) texts)
+
+-- ---- status 8: what was written is the front of a text
+
+-- no text that is printed begins with an `x`
+front_of_text : (sections : List OutputSection) (count : ℕ) → take count (printed sections) ≡ 120 ∷ [] → ⊥
+unfolding printed
+front_of_text sections zero e = omega (arith, ap (λ t. get_or t 0 0) e)
+front_of_text [] (suc count) e = omega (arith, ap (λ t. get_or t 0 0) e)
+front_of_text (s ∷ ss) (suc count) e = omega (arith, ap (λ t. get_or t 0 0) e)
+
+no_front : PrefixWritten (Some (two_files input_small)) right_words (Some []) (Some (120 ∷ [])) → ⊥
+no_front h =
+    let carries = h input_small (names input_small) in
+    let text : ◌≡◌ {A = Option (List ℕ)} (Some (120 ∷ [])) (Some (take carries.count (printed carries.sections))) = carries.written in
+    let texts : take carries.count (printed carries.sections) ≡ 120 ∷ [] = cc in
+    front_of_text carries.sections carries.count texts
+
+-- the first ten bytes of the wanted text are one
+front-small : FrontCarries input_small (Some []) (Some (codes "section .d"))
+unfolding whole_on_literals printed_on_literals
+front-small = record { read = read_small; is_read = refl; readable = refl; built = refl; sections = output_small; plain = refl; carried = lines_carried-small; count = 10; written = refl }
+
+-- ---- inputs that are not read to their end: no text, nor a front of one
+
+abbrev pub read_of : List ℕ → Loaded
+read_of file = read_in (loaded (with_small_map file))
+
+-- an answer that says of an input that all that is reached was read
+readable-of : (file : List ℕ) (read : Loaded) → loaded (with_small_map file) ≡ Some (read_of file) → loaded (with_small_map file) ≡ Some read → reached_faults (compilation_of read) ≡ [] → reached_faults (compilation_of (read_of file)) ≡ []
+readable-of file read known is_read readable = let same : read ≡ read_of file = cc in subst (λ r. reached_faults (compilation_of r) ≡ []) same readable
+
+faults-64 : reached_faults (compilation_of (read_of file_64)) ≡ [] → ⊥
+unfolding whole_on_literals
+faults-64 e = cc
+
+read-64 : loaded (with_small_map file_64) ≡ Some (read_of file_64)
+unfolding whole_on_literals
+read-64 = refl
+
+format_64-text : (before now : Option (List ℕ)) → Succeeds (Some (two_files (with_small_map file_64))) right_words before now → ⊥
+format_64-text before now h = let carries = h _ (names (with_small_map file_64)) in faults-64 (readable-of file_64 carries.read read-64 carries.is_read carries.readable)
+
+format_64-front : (before now : Option (List ℕ)) → PrefixWritten (Some (two_files (with_small_map file_64))) right_words before now → ⊥
+format_64-front before now h = let carries = h _ (names (with_small_map file_64)) in faults-64 (readable-of file_64 carries.read read-64 carries.is_read carries.readable)
+
+-- an answer that says of an input that it is built
+built-of : (file : List ℕ) (read : Loaded) → loaded (with_small_map file) ≡ Some (read_of file) → loaded (with_small_map file) ≡ Some read → is_all_built (compilation_of read) ≡ true → is_all_built (compilation_of (read_of file)) ≡ true
+built-of file read known is_read built = let same : read ≡ read_of file = cc in subst (λ r. is_all_built (compilation_of r) ≡ true) same built
+
+built-5 : is_all_built (compilation_of (read_of file_5)) ≡ true → ⊥
+unfolding whole_on_literals
+built-5 e = true≢false (sym e)
+
+read-5 : loaded (with_small_map file_5) ≡ Some (read_of file_5)
+unfolding whole_on_literals
+read-5 = refl
+
+version_5-text : (before now : Option (List ℕ)) → Succeeds (Some (two_files (with_small_map file_5))) right_words before now → ⊥
+version_5-text before now h = let carries = h _ (names (with_small_map file_5)) in built-5 (built-of file_5 carries.read read-5 carries.is_read carries.built)
+
+-- ---- a module without sections of DWARF: the empty text is an answer 0
+
+whole-bare : All (λ m. (units m.sections).fault ≡ None) (compilation_of (read_of file_bare)).modules
+unfolding whole_on_literals
+whole-bare zero d h = refl
+whole-bare (suc k) d h = absurd (omega arith)
+
+carries-bare : Carries (with_small_map file_bare) (Some []) (Some [])
+unfolding whole_on_literals printed_on_literals
+carries-bare = record { read = read_of file_bare; is_read = refl; readable = refl; built = refl; sections = []; plain = refl; carried = record { whole = whole-bare; output = []; output_read = refl; each = tt }; written = refl }
