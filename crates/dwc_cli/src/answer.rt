@@ -7,9 +7,10 @@ ghost use Rattle.dwc_cli.specs.Answers.{status_of, input_view, IsReadAs, Carries
 
 use crate::failure::Failure;
 use crate::input_files::InputFiles;
-use crate::map_file::{MapFile, map_of_counts};
+use crate::map_file::{MapFile, map_of};
 use dwc_base::{ModuleTranslation, split_wasm};
 use std::alloc::Global;
+use std::slice;
 
 /// The printed text of an input: of the sections of DWARF of its module, rewritten for the code that its map tells of.
 pub(crate) fn text_of(alloc: Global, input: &InputFiles) -> Result<Vec<u8>, Failure<'static>>
@@ -19,8 +20,8 @@ pub(crate) fn text_of(alloc: Global, input: &InputFiles) -> Result<Vec<u8>, Fail
     ensures complete { GivesText (input_view input.now) (status_of result) }
 {
     let translation = split_wasm(alloc, &input.module)?;
-    let defined = [translation.defined_funcs];
-    let Some(map_file) = map_of_counts(alloc, &input.map, &defined)? else {
+    let modules = slice::from_ref(&translation);
+    let Some(map_file) = map_of(alloc, &input.map, modules, false)? else {
         return Err(Failure::MalformedMap);
     };
     carried_text(alloc, &translation, &map_file)

@@ -45,7 +45,7 @@ map_refused c =
     let read = subst (λ b. TranslatesFile b (Ok c.in_ok-translation.translation)) c.deref.ensures.value c.in_ok-translation.ensures.translated in
     let none = none_from c.in_ok-map_file.field-0 c.in_default.not-Some in
     let seen = ap (option_map map_file_view) (sym none) ∙ c.in_ok-map_file.ensures in
-    let said = rw (c.deref-2.ensures.value, read.2.defined_funcs) at seen in
+    let said = rw (c.from_ref-modules.ensures.value, c.deref-2.ensures.value, read.2.defined_funcs) at seen in
     Refuses-map input read.0 read.1 (sym said)
 
 pub returns-in_default-clause-causes : goal.returns-in_default-clause-causes
@@ -65,7 +65,7 @@ is_read : (c : goal.After-drop-translation-4) → IsRead c
 is_read c =
     let read = subst (λ b. TranslatesFile b (Ok c.in_ok-translation.translation)) c.deref.ensures.value c.in_ok-translation.ensures.translated in
     let seen = ap (option_map map_file_view) (sym c.in-Some.is) ∙ c.in_ok-map_file.ensures in
-    let said = rw (c.deref-2.ensures.value, read.2.defined_funcs) at seen in
+    let said = rw (c.from_ref-modules.ensures.value, c.deref-2.ensures.value, read.2.defined_funcs) at seen in
     record { w = read.0; is_wasm = read.1; is_map = sym said; read_as = record { wasm = read.2; map_is = refl } }
 
 pub returns-clause-carried : goal.returns-clause-carried
