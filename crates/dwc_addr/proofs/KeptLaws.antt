@@ -9,7 +9,7 @@ use Rattle.dwc_base.specs.Functions.{AddressMap, Function, Recorded, recorded_en
 use Rattle.dwc_addr.specs.Transforms.{entry_of_source, kept_function, first_bad_map}
 
 -- the sources among entries that are made of sources
-sources-of_sources : (es : List Recorded) → filter_map recorded_entry (map entry_of_source es) ≡ es
+pub sources-of_sources : (es : List Recorded) → filter_map recorded_entry (map entry_of_source es) ≡ es
 sources-of_sources [] = refl
 sources-of_sources (e ∷ es) = ap (λ rest. e ∷ rest) (sources-of_sources es)
 

@@ -1,2 +1,3 @@
-pub mod Transforms
+pub mod Runs
 pub mod Starts
+pub mod Transforms

@@ -3,8 +3,8 @@ use Rattle.std.specs.Prelude.{◌≡◌, ℕ, suc, ◌+◌, ◌-◌, ◌%◌, �
 use Rattle.std.specs.Option.{unwrap_or, option_or}
 use Rattle.dwc_base.specs.declared.records.MapFault.{MapFault}
 use Rattle.dwc_base.specs.Functions.{AddressMap, Function, Recorded, map_fault, functions_of, recorded_sources}
-use Rattle.dwc_addr.specs.declared.function_map.AddressMap.{AddressMap as RecordedAddress}
 use Rattle.dwc_addr.specs.declared.function_map.FunctionMap.{FunctionMap}
+use Rattle.dwc_addr.specs.Runs.{recorded_view}
 use Rattle.dwc_addr.specs.declared.error.AddrError.{AddrError}
 use Rattle.dwc_addr.specs.declared.error.AddrError.TheVariants.{BadAddressMap, OutOfMemory}
 
@@ -16,10 +16,6 @@ wasm_code_offset source code_offset = (source + 2 ^ 32 - code_offset % 2 ^ 32) %
 abbrev pub first_bad_map : ℕ → ℕ → List AddressMap → Option (ℕ × MapFault)
 first_bad_map code_offset place [] = None
 first_bad_map code_offset place (m ∷ ms) = option_or (option_map (λ why. (place, why)) (map_fault code_offset m)) (first_bad_map code_offset (suc place) ms)
-
--- a recorded source
-abbrev pub recorded_view : RecordedAddress → Recorded
-recorded_view e = record { native = e.generated; wasm = e.wasm }
 
 -- a recorded source as an entry of an address map
 abbrev pub entry_of_source : Recorded → ℕ × Option ℕ

@@ -1,18 +1,8 @@
 //! A defined function as an address transform keeps it.
-ghost use Rattle.std.specs.Prelude.{◌<◌, ◌^◌};
+ghost use Rattle.std.specs.Prelude.{◌≡◌, ◌<◌, ◌^◌, map};
+ghost use Rattle.dwc_addr.specs.Runs.{recorded_view, run_starts};
 
-/// An offset of a function's code from its start.
-pub type GeneratedAddress = usize;
-
-/// An offset of a wasm file from the contents of its code section.
-pub type WasmAddress = u64;
-
-/// An entry of an address map that has a source: where its code begins, and the source.
-#[derive(Clone, Copy, Debug, PartialEq, Eq)]
-pub struct AddressMap {
-    pub generated: GeneratedAddress,
-    pub wasm: WasmAddress,
-}
+use crate::address_map::{AddressMap, GeneratedAddress, WasmAddress};
 
 /// A defined function.
 #[derive(Drop)]
@@ -27,5 +17,10 @@ pub struct FunctionMap {
     pub wasm_end: WasmAddress,
     /// The entries of its address map that have a source, in order.
     pub addresses: Vec<AddressMap>,
+    /// The places of the entries whose source lies below that of the entry before. Between two of them the sources do not
+    /// fall.
+    pub later_runs: Vec<usize>,
+    ghost short: { len < 2 ^ 32 },
     ghost starts_low: { wasm_start < 2 ^ 32 },
+    ghost split: { later_runs.items ≡ run_starts 0 0 (map recorded_view addresses.items) },
 }

@@ -1,15 +1,17 @@
 //! The functions of a module as its DWARF names them: by wasm offsets, which count from the contents of the code section.
-ghost use Rattle.std.specs.Prelude.{◌≡◌, ◌-◌, ◌+◌, ◌<◌, ◌≤◌, ◌^◌, ℕ, length, map, slice_get, option_map, Some, IfOk, IfSome, vec_len};
+ghost use Rattle.std.specs.Prelude.{◌≡◌, ◌-◌, ◌+◌, ◌<◌, ◌≤◌, ◌^◌, ℕ, length, map, slice_get, option_map, Some, IfOk, IfSome, IsSome, vec_len};
 ghost use Rattle.std.specs.Option.{unwrap_or};
 ghost use Rattle.std.specs.List.{filter_map};
 ghost use Rattle.dwc_base.specs.Functions.{function_of, owner, function_at, wasm_entry, recorded_entry};
 ghost use Rattle.dwc_clif.specs.AddressMaps.{address_map_view, entry_view};
-ghost use Rattle.dwc_addr.specs.Transforms.{function_view, recorded_view, kept_function, Transforms};
+ghost use Rattle.dwc_addr.specs.Transforms.{function_view, kept_function, Transforms};
+ghost use Rattle.dwc_addr.specs.Runs.{recorded_view, run_starts};
 ghost use Rattle.dwc_addr.specs.Starts.{IsStartTable, IsOwnerPlace};
 
+use crate::address_map::{AddressMap, WasmAddress};
 use crate::by_start::{owner_place, start_table};
 use crate::error::AddrError;
-use crate::function_map::{AddressMap, FunctionMap, WasmAddress};
+use crate::function_map::FunctionMap;
 use crate::maps::map_fault;
 use dwc_base::{DefinedFuncIndex, FilePos, SymbolId};
 use dwc_clif::{CompiledFunctionMetadata, InstructionAddressMap};
@@ -84,7 +86,8 @@ impl AddressTransform {
     /// That function where it has a symbol, and the address is neither 0 nor 0xFFFFFFFF, the marks of code that was not
     /// linked.
     pub fn func_at(&self, addr: u64) -> Option<&FunctionMap>
-        ensures { option_map (λ f. function_view f.now) result ≡ function_at self.now addr }
+        ensures symbol { IfSome result (λ f. IsSome f.now.symbol) }
+        ensures found { option_map (λ f. function_view f.now) result ≡ function_at self.now addr }
     {
         function_at(&self.functions, &self.by_start, addr)
     }
@@ -103,7 +106,8 @@ const UNLINKED: u64 = 0xFFFF_FFFF;
 // What `func_at` answers, of the functions and their keys.
 fn function_at<'f>(functions: &'f [FunctionMap], keys: &[u64], addr: u64) -> Option<&'f FunctionMap>
     requires { IsStartTable (map function_view functions.now) keys.now }
-    ensures { option_map (λ f. function_view f.now) result ≡ function_at (map function_view functions.now) addr }
+    ensures symbol { IfSome result (λ f. IsSome f.now.symbol) }
+    ensures found { option_map (λ f. function_view f.now) result ≡ function_at (map function_view functions.now) addr }
 {
     if addr == 0 || addr == UNLINKED {
         return None;
@@ -155,13 +159,16 @@ fn function_map(
 ) -> Result<FunctionMap, AllocError>
     ensures { IfOk result (λ f. function_view f ≡ kept_function (function_of code_section_offset number (address_map_view (symbol, metadata.now)))) }
 {
-    let addresses = &metadata.address_map;
+    let map = &metadata.address_map;
+    let addresses = sources(alloc, code_section_offset, &map.instructions)?;
+    let later_runs = later_runs(alloc, &addresses)?;
     Ok(FunctionMap {
         symbol: symbol.map(|_| number),
-        len: addresses.body_len as usize,
-        wasm_start: start_offset(addresses.start_srcloc, code_section_offset),
-        wasm_end: start_offset(addresses.end_srcloc, code_section_offset),
-        addresses: sources(alloc, code_section_offset, &addresses.instructions)?,
+        len: map.body_len as usize,
+        wasm_start: start_offset(map.start_srcloc, code_section_offset),
+        wasm_end: start_offset(map.end_srcloc, code_section_offset),
+        addresses,
+        later_runs,
     })
 }
 
@@ -191,4 +198,20 @@ fn sources(
         }
     }
     Ok(found)
+}
+
+// The places of the sources that lie below the one before.
+fn later_runs(alloc: Global, sources: &[AddressMap]) -> Result<Vec<usize>, AllocError>
+    ensures { IfOk result (λ places. places.items ≡ run_starts 0 0 (map recorded_view sources.now)) }
+{
+    let mut places = Vec::new(alloc);
+    let mut before = 0;
+    for i in 0..sources.len() {
+        let wasm = sources[i].wasm;
+        if wasm < before {
+            places.push(i)?;
+        }
+        before = wasm;
+    }
+    Ok(places)
 }

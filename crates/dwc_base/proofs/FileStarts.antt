@@ -14,6 +14,7 @@ abbrev all_of : Option ℕ → List WasmSection → Result (List WasmSection) �
 all_of None items = Ok items
 all_of (Some place) items = Err place
 
+-- the sections of a file are those of the walk from its start
 sections_of_file-is : (bytes : List ℕ) → sections_of_file bytes ≡ (sections_start bytes >>= λ u. all_of (wasm_sections u).fault (wasm_sections u).items)
 unfolding sections_of_file
 sections_of_file-is bytes = go (starts_with nat_eq bytes preamble)
@@ -32,6 +33,7 @@ sections_of_file-is bytes = go (starts_with nat_eq bytes preamble)
     go true = inner (wasm_sections (record { order = Little; place = 8; left = drop 8 bytes }))
     go false = refl
 
+-- a module is made from the sections of its file
 wasm_module-is : (bytes : List ℕ) (r : Result (List WasmSection) ℕ) → sections_of_file bytes ≡ r → wasm_module bytes ≡ (r >>= λ sections. Ok (module_from_sections sections))
 unfolding wasm_module
 wasm_module-is bytes r h = rw h refl

@@ -48,10 +48,12 @@ LeavesPart-behind (Ok x) f n h = h x
 pub LeavesPart-same : {A : Type 0} (x : A) (u : Unread) → LeavesPart (Ok (x, u)) (suc (length u.left))
 LeavesPart-same x u = record { fewer = omega arith }
 
+-- fewer than n is fewer than what is above
 pub LeavesPart-more : {A : Type 0} (r : FileRead A) (n : ℕ) → LeavesPart r n → LeavesPart r (suc n)
 LeavesPart-more (Err place) n h = record { fewer = tt }
 LeavesPart-more (Ok x) n h = record { fewer = omega (arith, h.fewer) }
 
+-- some bytes, or none, leave no more than there were
 bytes_at-keeps : (size : ℕ) (u : Unread) → Leaves (bytes_at size u) (suc (length u.left))
 unfolding bytes_at
 bytes_at-keeps size u = record { fewer = go (ltb (length u.left) size) }
@@ -60,6 +62,7 @@ bytes_at-keeps size u = record { fewer = go (ltb (length u.left) size) }
     go true = tt
     go false = omega (arith, length-drop size u.left)
 
+-- a name, a number below 2 ^ 32, a byte and a part with its size take a byte at least
 pub name_at-leaves : (u : Unread) → Leaves (name_at u) (length u.left)
 unfolding name_at
 name_at-leaves u = search (arith, Leaves-bind, Leaves-behind, Leaves-same, uleb_at-leaves, bytes_at-keeps)
@@ -81,6 +84,7 @@ pub LeavesPart-either : {A : Type 0} (b : Bool) (r s : FileRead A) (n : ℕ) →
 LeavesPart-either true r s n h k = h
 LeavesPart-either false r s n h k = k
 
+-- so do fields
 uleb_field-leaves : (u : Unread) → LeavesPart (field uleb_at u) (length u.left)
 uleb_field-leaves u = LeavesPart-field uleb_at u _ (uleb_at-leaves u)
 
@@ -94,6 +98,7 @@ byte_field-leaves test u = LeavesPart-field (byte_at test) u _ (byte_at-leaves t
 last_number-leaves : {A : Type 0} (x : A) (u : Unread) → LeavesPart (field uleb_at u >>= λ n. Ok (x, n.1)) (suc (length u.left))
 last_number-leaves x u = LeavesPart-bind _ _ _ (LeavesPart-more _ _ (uleb_field-leaves u)) (λ n. LeavesPart-same _ _)
 
+-- so do limits, what is behind the kind of an import, and an import
 limits_at-leaves : (u : Unread) → LeavesPart (limits_at u) (length u.left)
 unfolding limits_at
 limits_at-leaves u =
@@ -119,9 +124,7 @@ import_at-leaves u =
     LeavesPart-bind _ _ _ (LeavesPart-more _ _ (byte_field-leaves _ name.1)) (λ kind.
     LeavesPart-bind _ _ _ (LeavesPart-more _ _ (import_of_kind-leaves _ kind.1)) (λ rest. LeavesPart-same _ _))))
 
-pub type_number-leaves : (u : Unread) → LeavesPart (field uleb_at u) (length u.left)
-type_number-leaves u = uleb_field-leaves u
-
+-- so does a section
 pub wasm_section_at-leaves : (u : Unread) → LeavesPart (wasm_section_at u) (length u.left)
 unfolding wasm_section_at
 wasm_section_at-leaves u =

@@ -9,6 +9,7 @@ use Rattle.dwc_base.specs.Wasm.{FileRead, field, import_at, imports_at, type_num
 abbrev pub with_more : ℕ → FileRead ℕ → FileRead ℕ
 with_more n read = read >>= λ k. Ok (n + k.0, k.1)
 
+-- one more in front is one more before
 one_more : (b : Bool) (n : ℕ) (read : FileRead ℕ) → with_more n (read >>= λ others. Ok ((if b then suc others.0 else others.0), others.1)) ≡ with_more (n + (if b then 1 else 0)) read
 one_more true n (Ok k) = ap (λ (m : ℕ). Ok (m, (k.1))) (omega arith)
 one_more false n (Ok k) = ap (λ (m : ℕ). Ok (m, (k.1))) (omega arith)
@@ -20,6 +21,7 @@ with_more-none (Ok k) = ap (λ (m : ℕ). Ok (m, (k.1))) (omega arith)
 with_more-none (Err place) = refl
 
 module _ (count i n : ℕ) (u : Unread) (total : FileRead ℕ) where
+  -- an import more, a function or another
   imports-more : (b : Bool) (v : Unread) → i < count → import_at u ≡ Ok (b, v) → with_more n (imports_at (count - i) u) ≡ total → with_more (n + (if b then 1 else 0)) (imports_at (count - (i + 1)) v) ≡ total
   unfolding imports_at
   imports-more b v lt h so_far =
@@ -81,5 +83,6 @@ module _ (count i n : ℕ) (u : Unread) (total : FileRead ℕ) where
 pub field-read : {A : Type 0} (read : Unread → Read A) (u v : Unread) (x : A) → read u ≡ Ok (x, v) → field read u ≡ Ok (x, v)
 field-read read u v x h = rw h refl
 
+-- and where it cannot be read, its place is the broken one
 pub field-flaw : {A : Type 0} (read : Unread → Read A) (u : Unread) (flaw : Flaw) → read u ≡ Err flaw → field read u ≡ Err u.place
 field-flaw read u flaw h = rw h refl

@@ -8,6 +8,7 @@ abbrev size_of : Read Unread → ℕ
 size_of (Ok part) = length (part.0).left
 size_of (Err flaw) = 0
 
+-- a part is no longer than its size
 pub part_at_short : (n : ℕ) (u part v : Unread) → part_at n u ≡ Ok (part, v) → length part.left ≤ n
 unfolding part_at
 part_at_short n u part v h = rw (ap size_of h) at (go (ltb (length u.left) n))

@@ -1,17 +1,33 @@
--- Sections by their titles.
-use Rattle.std.proofs.Common.{◌≡◌, List, [], ◌∷◌, ℕ, Bool, true, false, cond, refl, ap, ◌∙◌, Option, Some, None}
+-- Sections by their names and titles.
+use Rattle.std.proofs.Common.{◌≡◌, List, [], ◌∷◌, ℕ, ◌<◌, ◌^◌, length, arith, Bool, true, false, cond, refl, ap, ◌∙◌, Option, Some, None}
 use Rattle.std.specs.List.{find}
-use Rattle.std.specs.Borrow.{Bor}
 use Rattle.std.specs.Str.{bytes_eq}
 use Rattle.std.proofs.lemmas.Slice.Eq.{bytes_eq-Decides}
 use Rattle.dwc_base.specs.declared.section_name.SectionName.{SectionName}
 use Rattle.dwc_base.specs.declared.section_name.SectionName.TheVariants.{Abbrev, Addr, Info, Line, LineStr, Loc, Loclists, Ranges, Rnglists, Str, StrOffsets, CuIndex, Frame}
+use Rattle.dwc_base.specs.declared.section_bytes.SectionBytes.{SectionBytes}
 use Rattle.dwc_base.specs.declared.wasm_sections.WasmSections.{WasmSections}
 use Rattle.dwc_base.specs.Sections.{section_text}
 use Rattle.dwc_base.specs.Translations.{section_bytes, with_section, titled_bytes, input_sections, section_titled}
 
+-- no section is longer than 2 ^ 32 - 1 bytes
+pub section_bytes-short : (s : WasmSections) (name : SectionName) → length (section_bytes s name) < 2 ^ 32
+section_bytes-short s Abbrev = s.abbrev.short
+section_bytes-short s Addr = s.addr.short
+section_bytes-short s Info = s.info.short
+section_bytes-short s Line = s.line.short
+section_bytes-short s LineStr = s.line_str.short
+section_bytes-short s Loc = s.loc.short
+section_bytes-short s Loclists = s.loclists.short
+section_bytes-short s Ranges = s.ranges.short
+section_bytes-short s Rnglists = s.rnglists.short
+section_bytes-short s Str = s.str.short
+section_bytes-short s StrOffsets = s.str_offsets.short
+section_bytes-short s CuIndex = s.cu_index.short
+section_bytes-short s Frame = omega arith
+
 -- other bytes in one section are seen in it alone
-set-at : (s : WasmSections) (bytes : Bor (List ℕ)) (set at : SectionName) → section_bytes (with_section s set bytes) at ≡ titled_bytes at (section_text set) bytes.now (section_bytes s at)
+set-at : (s : WasmSections) (bytes : SectionBytes) (set at : SectionName) → section_bytes (with_section s set bytes) at ≡ titled_bytes at (section_text set) bytes.bytes.now (section_bytes s at)
 set-at s bytes Abbrev Abbrev = refl
 set-at s bytes Addr Addr = refl
 set-at s bytes Info Info = refl
@@ -40,12 +56,13 @@ find-passes {A} p (y ∷ ys) x h = go (p y) refl h (find-passes p ys x)
 bytes_eq-true : (xs ys : List ℕ) → bytes_eq xs ys ≡ true → xs ≡ ys
 bytes_eq-true xs ys h = (bytes_eq-Decides xs ys).0 h
 
+-- a section that is found by a title has it
 titled-text : (title : List ℕ) (name : SectionName) → section_titled title ≡ Some name → section_text name ≡ title
 titled-text title name h = bytes_eq-true _ _ (find-passes (λ n. bytes_eq (section_text n) title) input_sections name h)
 
 -- a section of an input is found by its title
-pub noted-titled : (s : WasmSections) (title : List ℕ) (contents : Bor (List ℕ)) (set at : SectionName) → section_titled title ≡ Some set → section_bytes (with_section s set contents) at ≡ titled_bytes at title contents.now (section_bytes s at)
-noted-titled s title contents set at h = set-at s contents set at ∙ ap (λ t. titled_bytes at t contents.now (section_bytes s at)) (titled-text title set h)
+pub noted-titled : (s : WasmSections) (title : List ℕ) (contents : SectionBytes) (set at : SectionName) → section_titled title ≡ Some set → section_bytes (with_section s set contents) at ≡ titled_bytes at title contents.bytes.now (section_bytes s at)
+noted-titled s title contents set at h = set-at s contents set at ∙ ap (λ t. titled_bytes at t contents.bytes.now (section_bytes s at)) (titled-text title set h)
 
 -- a section that has no such title is as before
 other_title : (title text : List ℕ) (before contents : List ℕ) (name : SectionName) → section_titled text ≡ Some name → section_titled title ≡ None → before ≡ cond (bytes_eq title text) contents before
@@ -55,6 +72,7 @@ other_title title text before contents name found none = go (bytes_eq title text
     go true h = let same = bytes_eq-true title text h in absurd (let e : section_titled title ≡ Some name = rw same found in cc)
     go false h = refl
 
+-- where a title is that of no section, all are as before
 pub noted-untitled : (title contents before : List ℕ) (at : SectionName) → section_titled title ≡ None → before ≡ titled_bytes at title contents before
 noted-untitled title contents before Frame h = refl
 noted-untitled title contents before at h = other_title title (section_text at) before contents at refl h

@@ -10,7 +10,7 @@ use Rattle.dwc_base.proofs.Items.{LeavesFewer}
 use Rattle.dwc_base.proofs.FileTakes.{byte_at-leaves, name_at-leaves, next_wasm_section-shrinks}
 use Rattle.dwc_base.proofs.TakesMore.{uleb_at-leaves}
 use Rattle.dwc_base.proofs.Walks.{GoesOn, walk-end, walk-fault, walk-item}
-use Rattle.dwc_base.proofs.Translated.{custom_left}
+use Rattle.dwc_base.specs.Translations.{custom_left}
 
 -- the sections from a place on: none at the end, the first and those behind it, or the place that breaks the grammar
 pub wasm_sections-end : (u : Unread) → next_wasm_section u ≡ at_end → wasm_sections u ≡ no_items
@@ -30,21 +30,22 @@ abbrev pub Holds : {A E : Type 0} → (A → Type 0) → Result A E → Type 0
 Holds P (Ok x) = P x
 Holds P (Err e) = Unit {0}
 
-pub Holds-at : {A E : Type 0} (P : A → Type 0) (r : Result A E) (x : A) → r ≡ Ok x → Holds P r → P x
-Holds-at P r x e h = rw e at h
-
+-- nothing is asked of it
 Holds-any : {A E : Type 0} (r : Result A E) → Holds (λ x. Unit {0}) r
 Holds-any (Ok x) = tt
 Holds-any (Err e) = tt
 
+-- what holds of what comes next
 Holds-bind : {A B E : Type 0} (P : A → Type 0) (Q : B → Type 0) (r : Result A E) (f : A → Result B E) → Holds P r → ((x : A) → P x → Holds Q (f x)) → Holds Q (r >>= f)
 Holds-bind P Q (Ok x) f h go = go x h
 Holds-bind P Q (Err e) f h go = tt
 
+-- what holds of either
 Holds-either : {A E : Type 0} (P : A → Type 0) (b : Bool) (r s : Result A E) → Holds P r → Holds P s → Holds P (elim b [ true ↦ r | false ↦ s ])
 Holds-either P true r s h k = h
 Holds-either P false r s h k = k
 
+-- what holds of a field holds of its reader
 Holds-field : {A : Type 0} (P : A × Unread → Type 0) (read : Unread → Read A) (u : Unread) → Holds P (read u) → Holds P (field read u)
 Holds-field {A} P read u h = go (read u) h
   where
@@ -52,10 +53,12 @@ Holds-field {A} P read u h = go (read u) h
     go (Ok x) h = h
     go (Err flaw) h = tt
 
+-- fewer bytes are left
 Holds-fewer : {A : Type 0} (r : Read A) (n : ℕ) → LeavesFewer r n → Holds (λ x. length (x.1).left < n) r
 Holds-fewer (Ok x) n h = h
 Holds-fewer (Err flaw) n h = tt
 
+-- behind a test, what is forbidden is not so
 Holds-forbid : {E : Type 0} (b : Bool) (flaw : E) → Holds (λ x. b ≡ false) (forbid b flaw)
 Holds-forbid true flaw = tt
 Holds-forbid false flaw = refl
@@ -65,6 +68,7 @@ record IsSize (size : ℕ × Unread) (u : Unread) : Type 0 where
   pub small : size.0 < 2 ^ 32
   pub behind : length (size.1).left < length u.left
 
+-- a number below 2 ^ 32 is a size
 u32_at-size : (u : Unread) → Holds (λ n. IsSize n u) (u32_at u)
 unfolding u32_at
 u32_at-size u =
@@ -77,6 +81,7 @@ pub record IsInside (most : ℕ) (bytes : List ℕ) : Type 0 where
   pub small : length bytes < 2 ^ 32
   pub inside : length bytes ≤ most
 
+-- as many bytes as a size are inside what was left
 part_at-inside : (size : ℕ × Unread) (u : Unread) → IsSize size u → Holds (λ part. IsInside (length u.left) (part.0).left) (part_at size.0 size.1)
 unfolding part_at
 part_at-inside size u h = go (ltb (length (size.1).left) size.0) refl
@@ -85,6 +90,7 @@ part_at-inside size u h = go (ltb (length (size.1).left) size.0) refl
     go true e = tt
     go false e = record { small = omega (arith, length-take size.0 (size.1).left, h.small); inside = omega (arith, length-take size.0 (size.1).left, h.behind) }
 
+-- and so is a part behind its size
 section_bytes_at-inside : (u : Unread) → Holds (λ part. IsInside (length u.left) (part.0).left) (section_bytes_at u)
 unfolding section_bytes_at
 section_bytes_at-inside u = Holds-bind (λ n. IsSize n u) (λ part. IsInside (length u.left) (part.0).left) (u32_at u) _ (u32_at-size u) (λ size h. part_at-inside size u h)
@@ -93,6 +99,7 @@ section_bytes_at-inside u = Holds-bind (λ n. IsSize n u) (λ part. IsInside (le
 IsInside-more : (bytes more : List ℕ) (n m : ℕ) → IsInside n more → length bytes ≤ length more → n ≤ m → IsInside m bytes
 IsInside-more bytes more n m h le some = record { small = omega (arith, h.small); inside = omega (arith, h.inside) }
 
+-- what a section holds is no longer than the section
 contents_of-shorter : (id : ℕ) (u : Unread) → Holds (λ c. length (custom_left c) ≤ length u.left) (contents_of id u)
 unfolding contents_of
 contents_of-shorter id u =
@@ -131,10 +138,11 @@ wasm_section_at-inside u =
     Holds-bind (λ c. length (custom_left c) ≤ length (part.0).left) P (contents_of id.0 part.0) _ (contents_of-shorter id.0 part.0) (λ c shorter.
     IsInside-more (custom_left c) (part.0).left (length (id.1).left) (length u.left) inside shorter (omega (arith, behind)))))
 
--- a section that was met leaves fewer bytes behind it, and its contents are inside
+-- a section that was met leaves fewer bytes behind it
 pub next_wasm_section-fewer : (u v : Unread) (s : WasmSection) → next_wasm_section u ≡ item s v → length v.left < length u.left
 next_wasm_section-fewer u v s h = next_wasm_section-shrinks u v (let goes : GoesOn {F = ℕ} (item s v) v = refl in rw h goes)
 
+-- its contents are inside what was left
 pub next_wasm_section-inside : (u v : Unread) (s : WasmSection) → next_wasm_section u ≡ item s v → IsInside (length u.left) (custom_left s.contents)
 unfolding next_wasm_section
 next_wasm_section-inside u v s h = go (length u.left == 0) (wasm_section_at u) (wasm_section_at-inside u) h

@@ -13,12 +13,14 @@ use Rattle.dwc_base.specs.declared.section_name.SectionName.TheVariants.{Frame}
 use Rattle.dwc_base.specs.declared.wasm.ModuleTranslation.{ModuleTranslation}
 use Rattle.dwc_base.specs.Sections.{section_text}
 use Rattle.dwc_base.specs.Wasm.{Contents, custom, imports, functions, code, other, WasmSection, WasmModule, last_of, last_number, custom_section, contents_named, imported_functions, defined_functions, code_place, is_compressed, module_from_sections, module_sections, held}
-use Rattle.dwc_base.specs.Translations.{IsTranslation, Notes, noted, section_bytes, translation_sections}
+use Rattle.dwc_base.specs.Translations.{custom_left, IsTranslation, Notes, noted, section_bytes, translation_sections}
 
+-- the last of some things and one more is that one
 last_of-push : {A : Type 0} (xs : List A) (x : A) → last_of (xs ++ x ∷ []) ≡ Some x
 last_of-push [] x = refl
 last_of-push (y ∷ ys) x = ap (λ o. Some (unwrap_or o y)) (last_of-push ys x)
 
+-- or one before it, where there is no more
 last_of-option : {A : Type 0} (xs : List A) (o : Option A) (d : A) → unwrap_or (last_of (xs ++ cons_option o [])) d ≡ unwrap_or o (unwrap_or (last_of xs) d)
 last_of-option xs None d = ap (λ ys. unwrap_or (last_of ys) d) (append-nil xs)
 last_of-option xs (Some x) d = ap (λ o. unwrap_or o d) (last_of-push xs x)
@@ -28,13 +30,16 @@ last_of-more : {A B : Type 0} (f : A → Option B) (xs : List A) (x : A) (d : B)
 last_of-more f xs x d = ap (λ ys. unwrap_or (last_of ys) d) (filter_map-append f xs (x ∷ [])) ∙ last_of-option (filter_map f xs) (f x) d
 
 module _ (done : List WasmSection) (s : WasmSection) where
+  -- the number of one kind of sections, of one section more
   number-more : (pick : Contents → Option ℕ) → last_number pick (done ++ s ∷ []) ≡ unwrap_or (pick s.contents) (last_number pick done)
   number-more pick = last_of-more (λ x. pick x.contents) done s 0
 
+  -- the contents of a custom section, of one section more
   custom-more : (title : List ℕ) → custom_section title (done ++ s ∷ []) ≡ unwrap_or (contents_named title s.contents) (custom_section title done)
   unfolding custom_section
   custom-more title = last_of-more (λ x. contents_named title x.contents) done s []
 
+  -- the first compressed section, of one section more
   compressed-more : option_map (λ x. x.place) (find (λ x. is_compressed x.contents) (done ++ s ∷ [])) ≡ option_or (option_map (λ x. x.place) (find (λ x. is_compressed x.contents) done)) (if is_compressed s.contents then Some s.place else None)
   compressed-more =
       ap (option_map (λ x. x.place)) (find-append (λ x. is_compressed x.contents) done (s ∷ []))
@@ -49,6 +54,7 @@ module _ (done : List WasmSection) (s : WasmSection) where
       one true = refl
       one false = refl
 
+-- the contents of a section that has a title, or else others
 named_or : (b : Bool) (x y : List ℕ) → unwrap_or (cond {A = Option (List ℕ)} b (Some x) None) y ≡ cond b x y
 named_or true x y = refl
 named_or false x y = refl
@@ -95,14 +101,6 @@ held-none name = go name
 -- the sections of a translation are those of its module
 pub translation_sections-is : (t : ModuleTranslation) (m : WasmModule) → IsTranslation t m → translation_sections t ≡ module_sections m
 translation_sections-is t m h = λ i. record { order = Little; bytes = λ name. h.sections name i; relocations = λ name. [] }
-
--- what of a section's contents may be held
-abbrev pub custom_left : Contents → List ℕ
-custom_left (custom title u) = u.left
-custom_left (imports n) = []
-custom_left (functions n) = []
-custom_left (code u) = []
-custom_left (other id u) = []
 
 -- what is noted is what was there, or of the section
 pub noted-inside : (c : Contents) (at : SectionName) (before : List ℕ) (most : ℕ) → length (custom_left c) ≤ most → length before ≤ most → length (noted c at before) ≤ most

@@ -1,14 +1,14 @@
 -- A walk over the sections of a file that takes note of each, as a loop does.
-use Rattle.std.proofs.Common.{◌≡◌, ℕ, ◌-◌, ◌≤◌, ◌<◌, ◌^◌, List, [], ◌∷◌, ◌++◌, append_assoc, length, refl, sym, ap, ◌∙◌, arith, Some, None}
+use Rattle.std.proofs.Common.{◌≡◌, ℕ, ◌≤◌, ◌<◌, List, [], ◌∷◌, ◌++◌, append_assoc, length, refl, sym, ap, ◌∙◌, arith, Some, None}
 use Rattle.std.proofs.lemmas.List.{append-nil}
 use Rattle.dwc_base.specs.declared.section_name.SectionName.{SectionName}
 use Rattle.dwc_base.specs.declared.wasm.ModuleTranslation.{ModuleTranslation}
 use Rattle.dwc_base.specs.Reading.{Unread}
 use Rattle.dwc_base.specs.Listing.{Listing, at_end, broken, item}
 use Rattle.dwc_base.specs.Wasm.{WasmSection, next_wasm_section, wasm_sections, module_from_sections}
-use Rattle.dwc_base.specs.Translations.{IsTranslation, Notes, section_bytes}
+use Rattle.dwc_base.specs.Translations.{custom_left, IsTranslation, Notes, section_bytes}
 use Rattle.dwc_base.proofs.SectionWalk.{IsInside, next_wasm_section-fewer, next_wasm_section-inside, wasm_sections-end, wasm_sections-item, wasm_sections-broken}
-use Rattle.dwc_base.proofs.Translated.{custom_left, IsTranslation-more, held-none, noted-inside}
+use Rattle.dwc_base.proofs.Translated.{IsTranslation-more, held-none, noted-inside}
 
 -- what was met before a place, and what is met from it on
 abbrev pub in_front : List WasmSection → Listing ℕ WasmSection → Listing ℕ WasmSection
@@ -20,7 +20,7 @@ pub record Walked (start now : Unread) (t : ModuleTranslation) : Type 0 where
   pub walked : in_front done (wasm_sections now) ≡ wasm_sections start
   pub noted : IsTranslation t (module_from_sections done)
   pub room : length now.left ≤ length start.left
-  pub inside : (name : SectionName) → IsInside (length start.left) (section_bytes t.sections name)
+  pub inside : (name : SectionName) → length (section_bytes t.sections name) ≤ length start.left
 
 -- none was met
 pub Walked-none : (u : Unread) (t : ModuleTranslation) → IsTranslation t (module_from_sections []) → Walked u u t
@@ -29,7 +29,7 @@ Walked-none u t h = record {
   walked = refl;
   noted = h;
   room = omega arith;
-  inside = λ name. let empty : section_bytes t.sections name ≡ [] = h.sections name ∙ held-none name in rw empty (record { small = omega arith; inside = omega arith });
+  inside = λ name. let empty : section_bytes t.sections name ≡ [] = h.sections name ∙ held-none name in rw empty (omega arith);
 }
 
 module _ (start now : Unread) (t : ModuleTranslation) (w : Walked start now t) where
@@ -40,10 +40,7 @@ module _ (start now : Unread) (t : ModuleTranslation) (w : Walked start now t) w
     walked = ap (λ xs. record { items = xs; fault = (wasm_sections next).fault }) (append_assoc w.done (s ∷ []) (wasm_sections next).items) ∙ ap (in_front w.done) (sym (wasm_sections-item now next s met)) ∙ w.walked;
     noted = IsTranslation-more t new w.done s notes w.noted;
     room = omega (arith, w.room, shrinks);
-    inside = λ name. rw (notes.sections name) (record {
-      small = let bound = noted-inside s.contents name (section_bytes t.sections name) (2 ^ 32 - 1) (omega (arith, here.small)) (omega (arith, (w.inside name).small)) in omega (arith, bound);
-      inside = noted-inside s.contents name (section_bytes t.sections name) (length start.left) (omega (arith, here.inside, w.room)) (w.inside name).inside;
-    });
+    inside = λ name. rw (notes.sections name) (noted-inside s.contents name (section_bytes t.sections name) (length start.left) (omega (arith, here.inside, w.room)) (w.inside name));
   }
     where
       shrinks : length next.left < length now.left

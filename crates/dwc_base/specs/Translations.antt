@@ -3,13 +3,13 @@ use Rattle.std.specs.Prelude.{◌≡◌, ℕ, nat_eq, List, [], ◌∷◌, drop,
 use Rattle.std.specs.Option.{unwrap_or, option_or}
 use Rattle.std.specs.List.{find, starts_with}
 use Rattle.std.specs.Str.{bytes_eq}
-use Rattle.std.specs.Borrow.{Bor}
 use Rattle.dwc_base.specs.declared.records.Endian.TheVariants.{Little}
 use Rattle.dwc_base.specs.declared.section_name.SectionName.{SectionName}
 use Rattle.dwc_base.specs.declared.section_name.SectionName.TheVariants.{Abbrev, Addr, Info, Line, LineStr, Loc, Loclists, Ranges, Rnglists, Str, StrOffsets, CuIndex, Frame}
 use Rattle.dwc_base.specs.declared.wasm.WasmFault.{WasmFault}
 use Rattle.dwc_base.specs.declared.wasm.WasmFault.TheVariants.{Malformed, OutOfMemory}
 use Rattle.dwc_base.specs.declared.wasm.ModuleTranslation.{ModuleTranslation}
+use Rattle.dwc_base.specs.declared.section_bytes.SectionBytes.{SectionBytes}
 use Rattle.dwc_base.specs.declared.wasm_sections.WasmSections.{WasmSections}
 use Rattle.dwc_base.specs.declared.wasm_fields.BrokenField.{BrokenField}
 use Rattle.dwc_base.specs.declared.wasm_walk.Contents.{Contents}
@@ -23,22 +23,22 @@ use Rattle.dwc_base.specs.Wasm.{FileRead, WasmSection, WasmModule, wasm_module, 
 
 -- the bytes that are held of a section; of the frames, which are no input, none
 abbrev pub section_bytes : WasmSections → SectionName → List ℕ
-section_bytes s Abbrev = s.abbrev.now
-section_bytes s Addr = s.addr.now
-section_bytes s Info = s.info.now
-section_bytes s Line = s.line.now
-section_bytes s LineStr = s.line_str.now
-section_bytes s Loc = s.loc.now
-section_bytes s Loclists = s.loclists.now
-section_bytes s Ranges = s.ranges.now
-section_bytes s Rnglists = s.rnglists.now
-section_bytes s Str = s.str.now
-section_bytes s StrOffsets = s.str_offsets.now
-section_bytes s CuIndex = s.cu_index.now
+section_bytes s Abbrev = s.abbrev.bytes.now
+section_bytes s Addr = s.addr.bytes.now
+section_bytes s Info = s.info.bytes.now
+section_bytes s Line = s.line.bytes.now
+section_bytes s LineStr = s.line_str.bytes.now
+section_bytes s Loc = s.loc.bytes.now
+section_bytes s Loclists = s.loclists.bytes.now
+section_bytes s Ranges = s.ranges.bytes.now
+section_bytes s Rnglists = s.rnglists.bytes.now
+section_bytes s Str = s.str.bytes.now
+section_bytes s StrOffsets = s.str_offsets.bytes.now
+section_bytes s CuIndex = s.cu_index.bytes.now
 section_bytes s Frame = []
 
 -- the sections with other bytes of one
-abbrev pub with_section : WasmSections → SectionName → Bor (List ℕ) → WasmSections
+abbrev pub with_section : WasmSections → SectionName → SectionBytes → WasmSections
 with_section s Abbrev bytes = record s { «abbrev» = bytes }
 with_section s Addr bytes = record s { addr = bytes }
 with_section s Info bytes = record s { info = bytes }
@@ -82,9 +82,13 @@ TranslatesFile bytes (Ok t) = (m : WasmModule) × (wasm_module bytes ≡ Ok m) �
 TranslatesFile bytes (Err (Malformed offset)) = wasm_module bytes ≡ Err offset
 TranslatesFile bytes (Err OutOfMemory) = Unit {0}
 
+-- sections that are lent of a file, as input: the numbers are little-endian, and there are no relocations
+abbrev pub lent_sections : WasmSections → Sections
+lent_sections s = record { order = Little; bytes = section_bytes s; relocations = λ name. [] }
+
 -- the sections of a translation, as input
 abbrev pub translation_sections : ModuleTranslation → Sections
-translation_sections t = record { order = Little; bytes = section_bytes t.sections; relocations = λ name. [] }
+translation_sections t = lent_sections t.sections
 
 -- A reader of a part of a file gives what reading gives, its value seen by `view`, and goes on behind it; an error is the
 -- place of the first field that breaks the grammar.
@@ -97,7 +101,15 @@ abbrev pub GivesLastPart : {A B : Type 0} → (A → B) → Result B ℕ → Res
 GivesLastPart view read (Ok x) = read ≡ Ok (view x)
 GivesLastPart view read (Err b) = read ≡ Err b.offset
 
--- what a section holds, and its place
+-- what of a section's contents may be held: those of a custom section
+abbrev pub custom_left : spec.Contents → List ℕ
+custom_left (spec.custom title u) = u.left
+custom_left (spec.imports n) = []
+custom_left (spec.functions n) = []
+custom_left (spec.code u) = []
+custom_left (spec.other id u) = []
+
+-- what a section holds
 abbrev pub contents_view : Contents → spec.Contents
 contents_view (Custom name u) = spec.custom name.now u
 contents_view (Imports n) = spec.imports n
@@ -105,6 +117,7 @@ contents_view (Functions n) = spec.functions n
 contents_view (Code u) = spec.code u
 contents_view (Other id u) = spec.other id u
 
+-- a section: its place, and what it holds
 abbrev pub section_view : Section → WasmSection
 section_view s = record { place = s.place; contents = contents_view s.contents }
 

@@ -8,10 +8,12 @@ use crate::leb128::{sleb_front, uleb_front};
 use crate::{Endian, Flaw, NotRead};
 use std::marker::Model;
 
-/// Why a cursor cannot read: the bytes end, or a number is too wide.
+/// Why a cursor cannot read. The offset is the cursor's place.
 #[derive(Clone, Copy)]
 pub enum CursorFault {
+    /// Bytes are missing.
     End { offset: usize },
+    /// A number of variable length does not fit 64 bits.
     Wide { offset: usize },
 }
 
@@ -44,7 +46,8 @@ impl From<CursorFault> for NotRead {
     }
 }
 
-/// Reads numbers and texts from the front of what is unread.
+/// Reads numbers, texts and parts from the front of what is unread. Each call that reads moves behind what it answers; after
+/// a fault the cursor is as before. `End` comes exactly where bytes are missing.
 #[derive(Drop)]
 pub struct Cursor<'d> {
     left: &'d [u8],
@@ -64,6 +67,7 @@ impl<'d> Model for Cursor<'d> {
 }
 
 impl<'d> Cursor<'d> {
+    /// A cursor over some bytes, from place 0 on, with the order of the bytes of a number.
     pub fn new(bytes: &'d [u8], order: Endian) -> Cursor<'d>
         ensures { result ≡ record { order = order; place = 0; left = bytes.now } }
     {
@@ -96,12 +100,21 @@ impl<'d> Cursor<'d> {
         }
     }
 
+    /// How far behind the first byte it is.
     pub fn place(&self) -> usize
         ensures { result ≡ self.now.place }
     {
         self.place
     }
 
+    /// The order of the bytes of a number.
+    pub fn order(&self) -> Endian
+        ensures { result ≡ self.now.order }
+    {
+        self.order
+    }
+
+    /// How many bytes are unread.
     pub fn left(&self) -> usize
         ensures { result ≡ length self.now.left }
     {
@@ -115,6 +128,7 @@ impl<'d> Cursor<'d> {
         self.left
     }
 
+    /// The next bytes, as many as said.
     pub fn take(&mut self, n: usize) -> Result<&'d [u8], CursorFault>
         ensures read { Reads (λ x. x.now) (bytes_at n self.old) self.old self.new result }
         ensures length { IfOk result (λ x. length x.now ≡ n) }
@@ -128,6 +142,7 @@ impl<'d> Cursor<'d> {
         Ok(front)
     }
 
+    /// The next byte.
     pub fn u8(&mut self) -> Result<u8, CursorFault>
         ensures { Reads (λ x. x) (number_at 1 self.old) self.old self.new result }
     {
@@ -135,7 +150,7 @@ impl<'d> Cursor<'d> {
         Ok(field[0])
     }
 
-    /// The next bytes, to be read on their own.
+    /// The next bytes, as many as said, to be read on their own; their places are the same.
     pub fn part(&mut self, n: usize) -> Result<Cursor<'d>, CursorFault>
         ensures { Reads (λ x. x) (part_at n self.old) self.old self.new result }
     {
@@ -153,6 +168,7 @@ impl<'d> Cursor<'d> {
         Ok(part)
     }
 
+    /// A number of 2 bytes in the cursor's order.
     pub fn u16(&mut self) -> Result<u16, CursorFault>
         ensures { Reads (λ x. x) (number_at 2 self.old) self.old self.new result }
     {
@@ -165,6 +181,7 @@ impl<'d> Cursor<'d> {
         })
     }
 
+    /// A number of 4 bytes in the cursor's order.
     pub fn u32(&mut self) -> Result<u32, CursorFault>
         ensures { Reads (λ x. x) (number_at 4 self.old) self.old self.new result }
     {
@@ -177,6 +194,7 @@ impl<'d> Cursor<'d> {
         })
     }
 
+    /// A number of 8 bytes in the cursor's order.
     pub fn u64(&mut self) -> Result<u64, CursorFault>
         ensures { Reads (λ x. x) (number_at 8 self.old) self.old self.new result }
     {
@@ -191,6 +209,7 @@ impl<'d> Cursor<'d> {
         })
     }
 
+    /// The bytes before the next 0, which is passed.
     pub fn text(&mut self) -> Result<&'d [u8], CursorFault>
         ensures { Reads (λ x. x.now) (text_at self.old) self.old self.new result }
     {
@@ -204,6 +223,7 @@ impl<'d> Cursor<'d> {
         Ok(front)
     }
 
+    /// A signed LEB128 number; `Wide` exactly where it does not fit 64 bits. (DWARF 4 and 5, section 7.6.)
     pub fn sleb(&mut self) -> Result<i64, CursorFault>
         ensures { Reads (λ x. x) (sleb_at self.old) self.old self.new result }
     {
@@ -219,6 +239,7 @@ impl<'d> Cursor<'d> {
         Ok(value)
     }
 
+    /// An unsigned LEB128 number; `Wide` exactly where it does not fit 64 bits. (DWARF 4 and 5, section 7.6.)
     pub fn uleb(&mut self) -> Result<u64, CursorFault>
         ensures { Reads (λ x. x) (uleb_at self.old) self.old self.new result }
     {

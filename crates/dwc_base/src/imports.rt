@@ -6,7 +6,7 @@ ghost use Rattle.dwc_base.specs.Translations.{GivesPart};
 use crate::Cursor;
 use crate::wasm_fields::{BrokenField, byte_below, element_type, limits, name_field};
 
-// The kinds of imports.
+// The kinds of imports, and how many there are; the last is a tag.
 const FUNCTION: u8 = 0;
 
 const TABLE: u8 = 1;
@@ -14,6 +14,8 @@ const TABLE: u8 = 1;
 const MEMORY: u8 = 2;
 
 const GLOBAL: u8 = 3;
+
+const KINDS: u8 = 5;
 
 /// How many of the imports at the front, as many as said, are functions.
 pub fn imported_functions(count: u64, cursor: &mut Cursor<'_>) -> Result<u32, BrokenField>
@@ -36,7 +38,7 @@ fn is_function_import(cursor: &mut Cursor<'_>) -> Result<bool, BrokenField>
 {
     name_field(cursor)?;
     name_field(cursor)?;
-    let kind = byte_below(cursor, 5)?;
+    let kind = byte_below(cursor, KINDS)?;
     import_of_kind(kind, cursor)?;
     Ok(kind == FUNCTION)
 }

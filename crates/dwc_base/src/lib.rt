@@ -10,6 +10,7 @@ mod leb128;
 mod output;
 mod records;
 mod relocations;
+mod section_bytes;
 mod section_name;
 mod wasm;
 mod wasm_fields;

@@ -3,8 +3,9 @@
 ghost use Rattle.std.specs.Prelude.{◌≡◌, ◌≤◌, ◌<◌, ◌^◌, [], None, length, IfOk};
 ghost use Rattle.dwc_base.specs.declared.section_name.SectionName.{SectionName};
 ghost use Rattle.dwc_base.specs.Wasm.{module_from_sections};
-ghost use Rattle.dwc_base.specs.Translations.{IsTranslation, TranslatesFile, TranslatesSections, GivesLastPart, Notes, sections_start, first_compressed, section_bytes, section_view};
+ghost use Rattle.dwc_base.specs.Translations.{IsTranslation, TranslatesFile, TranslatesSections, GivesLastPart, Notes, sections_start, first_compressed, section_bytes, section_view, custom_left};
 
+use crate::section_bytes::SectionBytes;
 use crate::wasm_fields::BrokenField;
 use crate::wasm_sections::WasmSections;
 use crate::wasm_walk::{Contents, Section, next_section};
@@ -105,13 +106,15 @@ impl<'d> ModuleTranslation<'d> {
 
     // Takes note of a further section.
     fn note(&mut self, section: Section<'d>)
+        requires { length (custom_left (section_view section).contents) < 2 ^ 32 }
         ensures { Notes self.old self.new (section_view section.entry) }
     {
         let Section { place, contents } = section;
         match contents {
             Contents::Custom { name, rest } => {
                 self.compressed = first_compressed(self.compressed, place, name);
-                self.sections.note(name, rest.unread());
+                let bytes = rest.unread();
+                self.sections.note(name, SectionBytes { bytes });
             }
             Contents::Imports { functions } => self.imported_funcs = functions,
             Contents::Functions { functions } => self.defined_funcs = functions,
@@ -124,10 +127,9 @@ impl<'d> ModuleTranslation<'d> {
 /// Reads a WebAssembly file: the sections of DWARF, lent, of equal names the later; how many functions it imports and
 /// defines; where the contents of its code section are; and the first section that is compressed. Import and function
 /// sections and the names of custom sections are read whole, and all else is lent as it is. The numbers of DWARF in it are
-/// little-endian. Malformed comes exactly where the grammar fails.
+/// little-endian. [`WasmFault::Malformed`] comes exactly where the grammar fails. It takes time linear in the file.
 pub fn split_wasm<'d>(alloc: Global, bytes: &'d [u8]) -> Result<ModuleTranslation<'d>, WasmFault>
     ensures translated { TranslatesFile bytes.now result }
-    ensures small { IfOk result (λ t. (name : SectionName) → length (section_bytes t.sections name) < 2 ^ 32) }
     ensures inside { IfOk result (λ t. (name : SectionName) → length (section_bytes t.sections name) ≤ length bytes.now) }
 {
     let cursor = behind_preamble(bytes)?;
@@ -163,7 +165,6 @@ fn translate<'d>(
     mut cursor: Cursor<'d>,
 ) -> Result<ModuleTranslation<'d>, BrokenField>
     ensures translated { TranslatesSections cursor.entry result }
-    ensures small { IfOk result (λ t. (name : SectionName) → length (section_bytes t.sections name) < 2 ^ 32) }
     ensures inside { IfOk result (λ t. (name : SectionName) → length (section_bytes t.sections name) ≤ length cursor.entry.left) }
 {
     let mut translation = ModuleTranslation::empty(alloc);

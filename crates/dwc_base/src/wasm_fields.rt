@@ -1,10 +1,18 @@
-//! The fields of a WebAssembly file.
+//! The fields of a WebAssembly file: names, bytes and limits. (WebAssembly 1.0, sections 5.2 and 5.3.)
 ghost use Rattle.std.specs.Prelude.{◌≡◌, nat_lt, ◌==◌, ◌||◌};
 ghost use Rattle.dwc_base.specs.Cursors.{Gives};
 ghost use Rattle.dwc_base.specs.Wasm.{field, name_at, byte_at, limits_at, section_bytes_at};
 ghost use Rattle.dwc_base.specs.Translations.{GivesPart};
 
 use crate::{Cursor, CursorFault, Flaw};
+
+// What the elements of a table refer to: values of the host, or functions.
+const EXTERN_REF: u8 = 0x6F;
+
+const FUNC_REF: u8 = 0x70;
+
+// The flags of limits are below this, and an odd one says that there is a greatest size.
+const LIMIT_FLAGS: u8 = 8;
 
 /// A file breaks the grammar: the place of the first byte of the first field that does.
 #[derive(Clone, Copy)]
@@ -27,7 +35,7 @@ impl From<CursorFault> for BrokenField {
     }
 }
 
-/// A length and a name in UTF-8, one field.
+/// A length and a name in UTF-8, one field: where any of it is missing or is no UTF-8, the length is the broken place.
 pub fn name_field<'d>(cursor: &mut Cursor<'d>) -> Result<&'d str, BrokenField>
     ensures { GivesPart (λ x. x.now) (field name_at cursor.old) cursor.new result }
 {
@@ -48,7 +56,7 @@ fn name<'d>(cursor: &mut Cursor<'d>) -> Result<&'d str, Flaw>
     Ok(text)
 }
 
-/// A byte below a limit.
+/// A byte below a limit, one field.
 #[tactic(auto, unfolding(crate::specs::Wasm::byte_at))]
 pub fn byte_below(cursor: &mut Cursor<'_>, limit: u8) -> Result<u8, BrokenField>
     ensures { GivesPart (λ x. x) (field (byte_at (λ b. nat_lt b limit)) cursor.old) cursor.new result }
@@ -62,14 +70,14 @@ pub fn byte_below(cursor: &mut Cursor<'_>, limit: u8) -> Result<u8, BrokenField>
     }
 }
 
-/// The type of a table's elements: of functions, or of references to the host.
+/// The type of a table's elements, one field.
 #[tactic(auto, unfolding(crate::specs::Wasm::byte_at))]
 pub fn element_type(cursor: &mut Cursor<'_>) -> Result<u8, BrokenField>
     ensures { GivesPart (λ x. x) (field (byte_at (λ b. (b == 0x6F) || (b == 0x70))) cursor.old) cursor.new result }
 {
     let offset = cursor.place() as u64;
     let byte = cursor.u8()?;
-    if byte == 0x6F || byte == 0x70 {
+    if byte == EXTERN_REF || byte == FUNC_REF {
         Ok(byte)
     } else {
         Err(BrokenField { offset })
@@ -81,7 +89,7 @@ pub fn element_type(cursor: &mut Cursor<'_>) -> Result<u8, BrokenField>
 pub fn limits(cursor: &mut Cursor<'_>) -> Result<(), BrokenField>
     ensures { GivesPart (λ _. tt) (limits_at cursor.old) cursor.new result }
 {
-    let flag = byte_below(cursor, 8)?;
+    let flag = byte_below(cursor, LIMIT_FLAGS)?;
     cursor.uleb()?;
     if flag % 2 == 1 {
         cursor.uleb()?;

@@ -1,5 +1,5 @@
 //! The sections of DWARF in a WebAssembly file, by name.
-ghost use Rattle.std.specs.Prelude.{◌≡◌, []};
+ghost use Rattle.std.specs.Prelude.{◌≡◌, ◌<◌, ◌^◌, [], length};
 ghost use Rattle.dwc_base.specs.declared.section_name.SectionName.{SectionName};
 ghost use Rattle.std.specs.List.{find};
 ghost use Rattle.std.specs.Str.{bytes_eq};
@@ -7,6 +7,7 @@ ghost use Rattle.dwc_base.specs.Sections.{section_text};
 ghost use Rattle.dwc_base.specs.Translations.{section_bytes, with_section, titled_bytes, section_titled};
 
 use crate::SectionName;
+use crate::section_bytes::SectionBytes;
 
 // The sections of an input: all but the frames.
 const INPUT_SECTIONS: [SectionName; 12] = [
@@ -24,21 +25,21 @@ const INPUT_SECTIONS: [SectionName; 12] = [
     SectionName::CuIndex,
 ];
 
-/// The bytes of each section of DWARF, lent; empty where there is none.
+/// The bytes of each section of DWARF, lent; empty where there is none. No section is longer than 2^32 - 1 bytes.
 #[derive(Clone, Copy, Drop)]
 pub struct WasmSections<'d> {
-    abbrev: &'d [u8],
-    addr: &'d [u8],
-    info: &'d [u8],
-    line: &'d [u8],
-    line_str: &'d [u8],
-    loc: &'d [u8],
-    loclists: &'d [u8],
-    ranges: &'d [u8],
-    rnglists: &'d [u8],
-    str: &'d [u8],
-    str_offsets: &'d [u8],
-    cu_index: &'d [u8],
+    abbrev: SectionBytes<'d>,
+    addr: SectionBytes<'d>,
+    info: SectionBytes<'d>,
+    line: SectionBytes<'d>,
+    line_str: SectionBytes<'d>,
+    loc: SectionBytes<'d>,
+    loclists: SectionBytes<'d>,
+    ranges: SectionBytes<'d>,
+    rnglists: SectionBytes<'d>,
+    str: SectionBytes<'d>,
+    str_offsets: SectionBytes<'d>,
+    cu_index: SectionBytes<'d>,
 }
 
 impl<'d> WasmSections<'d> {
@@ -46,46 +47,48 @@ impl<'d> WasmSections<'d> {
     pub fn none() -> WasmSections<'d>
         ensures { (name : SectionName) → section_bytes result name ≡ [] }
     {
+        let none = SectionBytes { bytes: &[] };
         WasmSections {
-            abbrev: &[],
-            addr: &[],
-            info: &[],
-            line: &[],
-            line_str: &[],
-            loc: &[],
-            loclists: &[],
-            ranges: &[],
-            rnglists: &[],
-            str: &[],
-            str_offsets: &[],
-            cu_index: &[],
+            abbrev: none,
+            addr: none,
+            info: none,
+            line: none,
+            line_str: none,
+            loc: none,
+            loclists: none,
+            ranges: none,
+            rnglists: none,
+            str: none,
+            str_offsets: none,
+            cu_index: none,
         }
     }
 
     /// The bytes of a section; empty where there is none, and for `SectionName::Frame`, which is no input.
     pub fn get(&self, name: SectionName) -> &'d [u8]
-        ensures { result.now ≡ section_bytes self.now name }
+        ensures bytes { result.now ≡ section_bytes self.now name }
+        ensures short { length result.now < 2 ^ 32 }
     {
         match name {
-            SectionName::Abbrev => self.abbrev,
-            SectionName::Addr => self.addr,
-            SectionName::Info => self.info,
-            SectionName::Line => self.line,
-            SectionName::LineStr => self.line_str,
-            SectionName::Loc => self.loc,
-            SectionName::Loclists => self.loclists,
-            SectionName::Ranges => self.ranges,
-            SectionName::Rnglists => self.rnglists,
-            SectionName::Str => self.str,
-            SectionName::StrOffsets => self.str_offsets,
-            SectionName::CuIndex => self.cu_index,
+            SectionName::Abbrev => self.abbrev.bytes,
+            SectionName::Addr => self.addr.bytes,
+            SectionName::Info => self.info.bytes,
+            SectionName::Line => self.line.bytes,
+            SectionName::LineStr => self.line_str.bytes,
+            SectionName::Loc => self.loc.bytes,
+            SectionName::Loclists => self.loclists.bytes,
+            SectionName::Ranges => self.ranges.bytes,
+            SectionName::Rnglists => self.rnglists.bytes,
+            SectionName::Str => self.str.bytes,
+            SectionName::StrOffsets => self.str_offsets.bytes,
+            SectionName::CuIndex => self.cu_index.bytes,
             SectionName::Frame => &[],
         }
     }
 
     /// Takes note of a custom section: of two with one title the later counts.
-    pub fn note(&mut self, title: &str, contents: &'d [u8])
-        ensures { (name : SectionName) → section_bytes self.new name ≡ titled_bytes name title.now contents.entry.now (section_bytes self.old name) }
+    pub fn note(&mut self, title: &str, contents: SectionBytes<'d>)
+        ensures { (name : SectionName) → section_bytes self.new name ≡ titled_bytes name title.now contents.entry.bytes.now (section_bytes self.old name) }
     {
         if let Some(name) = section_titled(title) {
             self.set(name, contents);
@@ -93,7 +96,7 @@ impl<'d> WasmSections<'d> {
     }
 
     // Puts other bytes into a section.
-    fn set(&mut self, name: SectionName, bytes: &'d [u8])
+    fn set(&mut self, name: SectionName, bytes: SectionBytes<'d>)
         ensures { self.new ≡ with_section self.old name bytes.entry }
     {
         match name {

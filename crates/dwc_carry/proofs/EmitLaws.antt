@@ -18,6 +18,7 @@ use Rattle.dwc_base.specs.Carried.{Unit, root, units, placed_entries, has_root_t
 use Rattle.dwc_base.specs.Reached.{fault_in, faults_of_module, reached_faults}
 use Rattle.dwc_base.specs.FirstForm.{is_first_form, is_all_built, has_one_header, has_known_header, has_version, has_known_shapes, has_known_entries, declarations_from, has_line_version_4, has_known_table, offset_of_table}
 use Rattle.dwc_base.specs.declared.constants.TheConstants.{DW_TAG_compile_unit}
+use Rattle.dwc_carry.specs.Emitted.{of_one}
 use Rattle.dwc_carry.proofs.KeptLaws.{kept-in-unit}
 
 -- sections without a unit
@@ -50,10 +51,6 @@ module _ (m : Module) where
 
   pub carried-not : (u : Unit) → IsOneUnit m.sections u → carries u ≡ false → carried_units_of m ≡ []
   carried-not u h c = rw (carried-of-one u h, kept-in-unit m.functions u, c) refl
-
--- an input of one module
-abbrev pub of_one : Endian → ℕ → Module → Compilation
-of_one order pointer_bytes m = record { order = order; pointer_bytes = pointer_bytes; modules = m ∷ [] }
 
 module _ (order : Endian) (pointer_bytes : ℕ) (m : Module) where
   pub whole-of-one : (units m.sections).fault ≡ None → All (λ n. (units n.sections).fault ≡ None) (of_one order pointer_bytes m).modules

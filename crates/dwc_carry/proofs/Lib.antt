@@ -1,4 +1,10 @@
 pub mod ImageLaws
+pub mod LookupLaws
+pub mod OrderLaws
+pub mod RisingRows
+pub mod RowsLaws
+pub mod RunLaws
+pub mod SequenceLaws
 pub mod KeptLaws
 pub mod EmitLaws
 pub mod UnitPlaces
@@ -6,3 +12,4 @@ pub mod DeclarationLaws
 pub mod TransferLaws
 pub mod LineVersions
 pub mod WidestLines
+pub mod NameLaws

@@ -1,2 +1,10 @@
-//! Carries.
+//! Carries the DWARF of a module over to the native code of its functions.
 #![tactic(auto)]
+
+mod error;
+mod image;
+mod known_form;
+mod sequence;
+mod unit_entries;
+
+pub use error::DebugError;

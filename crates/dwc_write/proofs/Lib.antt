@@ -11,3 +11,9 @@ pub mod ReadLines
 pub mod ReadWritten
 pub mod ReadSections
 pub mod ReadSmall
+pub mod Appended
+pub mod SizedBytes
+pub mod Whole
+pub mod LineLaws
+pub mod RowLaws
+pub mod UnitLaws

@@ -4,3 +4,8 @@ pub mod SpelledAddresses
 pub mod SpelledUnits
 pub mod SpelledLines
 pub mod SpelledSections
+pub mod Writers
+pub mod GivenLines
+pub mod LineViews
+pub mod GivenUnits
+pub mod UnitViews

@@ -1,2 +1,17 @@
-//! Writes sections.
+//! The writer of DWARF: line programs, units with their entries, and the sections that hold them. What is written is read
+//! back by the definitions as it was given.
 #![tactic(auto)]
+
+mod append;
+mod attributes;
+mod error;
+mod lines;
+mod rows;
+mod units;
+mod writer;
+
+pub use attributes::AttributeValue;
+pub use error::{Limit, WriteError};
+pub use lines::LineProgram;
+pub use units::{Dwarf, Unit, UnitEntryId, UnitId, UnitTable};
+pub use writer::{Writer, WriterRelocate};

@@ -2,7 +2,7 @@ use Rattle.std.proofs.Common.{◌≡◌, ◌++◌, map, drop}
 use Rattle.std.specs.List.{filter_map}
 use Rattle.dwc_base.specs.Functions.{wasm_entry, recorded_entry}
 use Rattle.dwc_clif.specs.AddressMaps.{entry_view}
-use Rattle.dwc_addr.specs.Transforms.{recorded_view}
+use Rattle.dwc_addr.specs.Runs.{recorded_view}
 use Rattle.dwc_addr.proofs.transform.sources.Given as goal
 
 -- the sources so far, and those of the entries that are left, are all

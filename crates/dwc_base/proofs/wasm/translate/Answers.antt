@@ -3,7 +3,7 @@ use Rattle.std.proofs.lemmas.Result.{err_from_is_err_and}
 use Rattle.dwc_base.specs.Listing.{item, at_end}
 use Rattle.dwc_base.specs.Wasm.{next_wasm_section}
 use Rattle.dwc_base.specs.Translations.{section_view}
-use Rattle.dwc_base.proofs.SectionWalk.{next_wasm_section-fewer}
+use Rattle.dwc_base.proofs.SectionWalk.{next_wasm_section-fewer, next_wasm_section-inside}
 use Rattle.dwc_base.proofs.WalkedSections.{Walked-none, Walked-more, Walked-done, Walked-broken}
 use Rattle.dwc_base.proofs.wasm.translate.Goals as goal
 
@@ -32,8 +32,10 @@ returns-clause-translated c =
     let w = c.loop-translation.invariant in
     (w.done, Walked-done c.args.cursor c.loop-translation.cursor c.loop-translation.translation w met, w.noted)
 
-pub returns-clause-small : goal.returns-clause-small
-returns-clause-small c = λ name. (c.loop-translation.invariant.inside name).small
-
 pub returns-clause-inside : goal.returns-clause-inside
-returns-clause-inside c = λ name. (c.loop-translation.invariant.inside name).inside
+returns-clause-inside c = c.loop-translation.invariant.inside
+
+pub note-requires : goal.note-requires
+note-requires c =
+    let met : next_wasm_section c.loop-translation.cursor ≡ item (section_view c.in-Some.section) c.next_section.new.cursor = rw c.in-Some.is at c.in_ok-section.ensures in
+    (next_wasm_section-inside c.loop-translation.cursor c.next_section.new.cursor _ met).small

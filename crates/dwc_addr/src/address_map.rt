@@ -1,0 +1,14 @@
+//! An entry of an address map that has a source.
+
+/// An offset of a function's code from its start.
+pub type GeneratedAddress = usize;
+
+/// An offset of a wasm file from the contents of its code section.
+pub type WasmAddress = u64;
+
+/// Where the code of a source begins, and the source.
+#[derive(Clone, Copy, Debug, PartialEq, Eq)]
+pub struct AddressMap {
+    pub generated: GeneratedAddress,
+    pub wasm: WasmAddress,
+}

@@ -1,0 +1,6 @@
+pub mod ImageRows
+pub mod ImageSequences
+pub mod RunRows
+pub mod Emitted
+pub mod Refusals
+pub mod UnitEntries

@@ -1,0 +1,29 @@
+-- The refusals of emitting DWARF, and the faults that they tell.
+use Rattle.std.specs.Prelude.{◌≡◌, ◌⊎◌, ℕ, Bool, false, Option, Some, None, Result, Ok, Err}
+use Rattle.dwc_base.specs.declared.faults.Kind.TheVariants.{NotBuilt}
+use Rattle.dwc_base.specs.Listing.{Listing}
+use Rattle.dwc_base.specs.Sections.{Fault, unreadable, unsupported}
+use Rattle.dwc_read.specs.declared.fault.ReadFault.{ReadFault}
+use Rattle.dwc_read.specs.declared.fault.ReadFault.TheVariants as read
+use Rattle.dwc_addr.specs.declared.error.AddrError.{AddrError}
+use Rattle.dwc_addr.specs.declared.error.AddrError.TheVariants as addr
+use Rattle.dwc_carry.specs.declared.error.DebugError.{DebugError}
+use Rattle.dwc_carry.specs.declared.error.DebugError.TheVariants.{Read, Unsupported, BadAddressMap, OutOfMemory}
+
+-- a reader's refusal, and that of address maps
+abbrev pub of_reading : ReadFault → DebugError
+of_reading (read.Read what section offset) = Read what section offset
+of_reading (read.Unsupported kind offset) = Unsupported kind offset
+of_reading read.OutOfMemory = OutOfMemory
+
+abbrev pub of_maps : AddrError → DebugError
+of_maps (addr.BadAddressMap m func why) = BadAddressMap m func why
+of_maps addr.OutOfMemory = OutOfMemory
+
+-- A part of the input is refused: for want of memory, for the fault that it has, or because it has not the form that is
+-- read so far.
+abbrev pub RefusesPart : Option Fault → Bool → DebugError → Type 0
+RefusesPart fault built (Read what section offset) = fault ≡ Some (unreadable what section offset)
+RefusesPart fault built (Unsupported kind offset) = (fault ≡ Some (unsupported kind offset)) ⊎ ((kind ≡ NotBuilt) × (built ≡ false))
+RefusesPart fault built (BadAddressMap m func why) = ⊥
+RefusesPart fault built OutOfMemory = Unit {0}

@@ -1,0 +1,89 @@
+//! Why no DWARF is emitted.
+use dwc_addr::AddrError;
+use dwc_base::{Kind, MapFault, SectionName, What};
+use dwc_read::ReadFault;
+use std::alloc::{AllocError, AllocFailed};
+use thiserror::Error;
+
+/// Why no DWARF is emitted for an input.
+#[derive(Debug, Drop, Error)]
+pub enum DebugError {
+    /// The bytes at `offset` of a section are no such thing of DWARF.
+    #[error("Read {what:?} {name} {offset}", name = section.text())]
+    Read {
+        what: What,
+        section: SectionName,
+        offset: u64,
+    },
+    /// What stands at `offset` is of a kind that is refused, or not read yet.
+    #[error("Unsupported {what:?} {offset}")]
+    Unsupported { what: Kind, offset: u64 },
+    /// The address map of a function, by its place among the defined ones of its module, breaks a rule.
+    #[error("BadAddressMap {module} {func} {why:?}")]
+    BadAddressMap {
+        module: u32,
+        func: u32,
+        why: MapFault,
+    },
+    #[error("out of memory")]
+    OutOfMemory,
+}
+
+impl From<ReadFault> for DebugError {
+    ghost use Rattle.std.specs.Prelude.{◌≡◌};
+    ghost use Rattle.dwc_carry.specs.Refusals.{of_reading};
+
+    ghost from_gives = { λ fault e. e ≡ of_reading fault };
+
+    fn from(fault: ReadFault) -> DebugError {
+        match fault {
+            ReadFault::Read {
+                what,
+                section,
+                offset,
+            } => DebugError::Read {
+                what,
+                section,
+                offset,
+            },
+            ReadFault::Unsupported { what, offset } => DebugError::Unsupported { what, offset },
+            ReadFault::OutOfMemory => DebugError::OutOfMemory,
+        }
+    }
+}
+
+impl From<AddrError> for DebugError {
+    ghost use Rattle.std.specs.Prelude.{◌≡◌};
+    ghost use Rattle.dwc_carry.specs.Refusals.{of_maps};
+
+    ghost from_gives = { λ error e. e ≡ of_maps error };
+
+    fn from(error: AddrError) -> DebugError {
+        match error {
+            AddrError::BadAddressMap { module, func, why } => DebugError::BadAddressMap { module, func, why },
+            AddrError::OutOfMemory => DebugError::OutOfMemory,
+        }
+    }
+}
+
+impl From<AllocError> for DebugError {
+    ghost use Rattle.std.specs.Prelude.{◌≡◌};
+    ghost use Rattle.dwc_carry.specs.declared.error.DebugError.TheVariants.{OutOfMemory};
+
+    ghost from_gives = { λ _ e. e ≡ OutOfMemory };
+
+    fn from(_: AllocError) -> DebugError {
+        DebugError::OutOfMemory
+    }
+}
+
+impl<T: Drop> From<AllocFailed<T>> for DebugError {
+    ghost use Rattle.std.specs.Prelude.{◌≡◌};
+    ghost use Rattle.dwc_carry.specs.declared.error.DebugError.TheVariants.{OutOfMemory};
+
+    ghost from_gives = { λ _ e. e ≡ OutOfMemory };
+
+    fn from(_: AllocFailed<T>) -> DebugError {
+        DebugError::OutOfMemory
+    }
+}

@@ -1,0 +1,11 @@
+pub mod FormLaws
+pub mod FailsLaws
+pub mod NamedLaws
+pub mod NumberLaws
+pub mod CodeLaws
+pub mod TableLaws
+pub mod AttributeLaws
+pub mod HeaderLaws
+pub mod StepLaws
+pub mod EntriesLaws
+pub mod LoneLaws

@@ -1,0 +1,25 @@
+-- The first section of a name.
+use Rattle.std.proofs.Common.{◌≡◌, ℕ, ◌<◌, ◌^◌, List, [], ◌∷◌, length, map, refl, ap, ◌∙◌, lit<, arith, All, Bool, true, false, cond}
+use Rattle.std.specs.Prelude.{option_map, Option, Some, None}
+use Rattle.std.specs.Option.{unwrap_or}
+use Rattle.std.specs.List.{filter_map, cons_option}
+use Rattle.std.specs.Str.{bytes_eq}
+use Rattle.std.proofs.lemmas.List.Elements.{All-tail}
+use Rattle.dwc_base.specs.declared.output.DwarfSection.{DwarfSection}
+use Rattle.dwc_base.specs.declared.output.DwarfSectionReloc.{DwarfSectionReloc}
+use Rattle.dwc_base.specs.Outputs.{OutputSection, section_view, section_named, relocation_view, function_relocation, field_relocations}
+use Rattle.dwc_read.specs.Named.{bytes_named}
+
+-- Where no section is too long, the one of a name is not.
+pub length-bytes_named : (name : List ℕ) (sections : List DwarfSection) → All (λ s. length s.body.items < 2 ^ 32) sections → length (bytes_named name (map section_view sections)) < 2 ^ 32
+length-bytes_named name [] short = lit< tt
+length-bytes_named name (s ∷ ss) short = go (bytes_eq s.name.now name) (length-bytes_named name ss (All-tail (λ s. length s.body.items < 2 ^ 32) s ss short))
+  where
+    go : (b : Bool) → length (bytes_named name (map section_view ss)) < 2 ^ 32 → length (unwrap_or (option_map (λ s. s.body) (cond b (Some (section_view s)) (section_named name (map section_view ss)))) []) < 2 ^ 32
+    go true rest = short 0 s (omega arith)
+    go false rest = rest
+
+-- the relocations of a section, seen as the function relocations of its list
+pub filter_map-relocation_view : (rs : List DwarfSectionReloc) → filter_map function_relocation (map relocation_view rs) ≡ field_relocations rs
+filter_map-relocation_view [] = refl
+filter_map-relocation_view (r ∷ rs) = ap (cons_option (function_relocation (relocation_view r))) (filter_map-relocation_view rs)

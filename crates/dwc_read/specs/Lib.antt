@@ -1,0 +1,15 @@
+pub mod Faults
+pub mod SectionsSeen
+pub mod Named
+pub mod FieldSizes
+pub mod Sizes
+pub mod Tables
+pub mod Codes
+pub mod ValuesSeen
+pub mod Forms
+pub mod EntriesSeen
+pub mod Places
+pub mod Headers
+pub mod Views
+pub mod Lone
+pub mod Lent

@@ -1,0 +1,32 @@
+//! Reads units and entries of DWARF: the sections of a module or of an output, the units of `.debug_info`, and the
+//! entries of a unit with the values of their attributes.
+#![tactic(auto)]
+
+mod abbreviation;
+mod attribute;
+mod entries;
+mod entry;
+mod fault;
+mod form;
+mod formed;
+mod header;
+mod headers;
+mod lone;
+mod name;
+mod number;
+mod place;
+mod sections;
+mod steps;
+mod table;
+mod unit;
+mod units;
+mod value;
+
+pub use abbreviation::{AttributeSpec, Declaration};
+pub use entries::Entries;
+pub use entry::Entry;
+pub use fault::ReadFault;
+pub use sections::Sections;
+pub use unit::Unit;
+pub use units::Units;
+pub use value::AttributeValue;

@@ -1,0 +1,148 @@
+//! An abbreviation table, its declarations found by their codes.
+ghost use Rattle.std.specs.Prelude.{◌≡◌, ℕ, map, option_map, slice_get, IfOk};
+ghost use Rattle.std.specs.Ordering.{nat_cmp};
+ghost use Rattle.std.specs.BTreeMap.{get};
+ghost use Rattle.dwc_base.specs.Abbreviations.{declaration_of, abbreviation_table};
+ghost use Rattle.dwc_read.specs.Faults.{GivesOrFault};
+ghost use Rattle.dwc_read.specs.Codes.{counts_from, place_from};
+ghost use Rattle.dwc_read.specs.Tables.{declaration_view};
+
+use crate::abbreviation::{Declaration, declarations};
+use crate::fault::refusal;
+use crate::{ReadFault, Sections, Unit};
+use dwc_base::{Cursor, SectionName, What};
+use std::alloc::{AllocError, Global};
+use std::collections::BTreeMap;
+use std::marker::Model;
+
+// An abbreviation table. Where the codes count from 1, as compilers give them, a code is a place; else `places` has the
+// first place of each code.
+#[derive(Drop)]
+pub struct Table {
+    declarations: Vec<Declaration>,
+    counted: bool,
+    places: BTreeMap<u64, usize>,
+}
+
+impl Model for Table {
+    ghost use Rattle.std.specs.Prelude.{List, map};
+    ghost use Rattle.std.specs.Ordering.{nat_cmp};
+    ghost use Rattle.std.specs.BTreeMap.{get};
+    ghost use Rattle.dwc_base.specs.Abbreviations as table;
+    ghost use Rattle.dwc_read.specs.Tables.{declaration_view};
+    ghost use Rattle.dwc_read.specs.Codes.{table_code, IsIndexed};
+
+    ghost Value = { List table.Declaration };
+
+    ghost coded = { table_code };
+
+    ghost view = { λ t. map declaration_view t.declarations.items };
+
+    ghost invariant = { λ t. IsIndexed t.counted (map declaration_view t.declarations.items) (get nat_cmp t.places) };
+}
+
+impl Table {
+    // The table of some declarations.
+    pub fn new(alloc: Global, declarations: Vec<Declaration>) -> Result<Table, AllocError>
+        ensures { IfOk result (λ t. t ≡ map declaration_view declarations.items) }
+    {
+        let counted = is_counted(&declarations);
+        let places = if counted {
+            BTreeMap::new(alloc)
+        } else {
+            places_of(alloc, &declarations)?
+        };
+        Ok(Table {
+            declarations,
+            counted,
+            places,
+        })
+    }
+
+    // The declaration of a code: of two, the first.
+    pub fn declaration(&self, code: u64) -> Option<&Declaration>
+        ensures { option_map (λ d. declaration_view d.now) result ≡ declaration_of code self.now }
+    {
+        if !self.counted {
+            let place = self.places.get(&code)?;
+            return item(&self.declarations, *place);
+        }
+        if code == 0 {
+            return None;
+        }
+        item(&self.declarations, code as usize - 1)
+    }
+}
+
+// The declaration at a place.
+fn item(declarations: &[Declaration], place: usize) -> Option<&Declaration>
+    ensures { option_map (λ d. declaration_view d.now) result ≡ slice_get (map declaration_view declarations.now) place }
+{
+    declarations.get(place)
+}
+
+// Whether the codes count from 1.
+fn is_counted(declarations: &[Declaration]) -> bool
+    ensures { result ≡ counts_from 1 (map declaration_view declarations.now) }
+{
+    for (i, declaration) in declarations.iter().enumerate() {
+        if declaration.code != i as u64 + 1 {
+            return false;
+        }
+    }
+    true
+}
+
+// The first place of each code.
+fn places_of(
+    alloc: Global,
+    declarations: &[Declaration],
+) -> Result<BTreeMap<u64, usize>, AllocError>
+    ensures { IfOk result (λ m. (code : ℕ) → get nat_cmp m code ≡ place_from 0 (map declaration_view declarations.now) code) }
+{
+    let mut places = BTreeMap::new(alloc);
+    let mut k = declarations.len();
+    while k > 0 {
+        k -= 1;
+        places.insert(declarations[k].code, k)?;
+    }
+    Ok(places)
+}
+
+// The declarations of the table at an offset of `.debug_abbrev`, in their order.
+fn declarations_at(
+    alloc: Global,
+    sections: &Sections<'_>,
+    offset: u32,
+) -> Result<Vec<Declaration>, ReadFault>
+    ensures { GivesOrFault (λ v. map declaration_view v.items) (abbreviation_table sections.now offset) result }
+{
+    let bytes = sections.bytes(SectionName::Abbrev);
+    let mut cursor = Cursor::at(bytes, offset, sections.order());
+    match declarations(alloc, &mut cursor) {
+        Ok(declarations) => Ok(declarations),
+        Err(e) => {
+            let place = u64::from(offset);
+            Err(refusal(e, What::Abbreviation, SectionName::Abbrev, place))
+        }
+    }
+}
+
+// The table at an offset of `.debug_abbrev`.
+pub fn table_at(alloc: Global, sections: &Sections<'_>, offset: u32) -> Result<Table, ReadFault>
+    ensures { GivesOrFault (λ t. t) (abbreviation_table sections.now offset) result }
+{
+    let declarations = declarations_at(alloc, sections, offset)?;
+    Ok(Table::new(alloc, declarations)?)
+}
+
+impl<'d> Unit<'d> {
+    /// The declarations of the unit's abbreviation table, in their order. (DWARF 4 and 5, section 7.5.3.)
+    ///
+    /// Answers `Read` with the table's offset where the table cannot be read to its end.
+    pub fn declarations(&self, alloc: Global) -> Result<Vec<Declaration>, ReadFault>
+        ensures { GivesOrFault (λ v. map declaration_view v.items) (abbreviation_table self.now.sections self.now.header.abbreviations) result }
+    {
+        declarations_at(alloc, self.sections(), self.abbreviations())
+    }
+}

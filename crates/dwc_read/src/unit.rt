@@ -1,0 +1,235 @@
+//! A unit of `.debug_info`.
+ghost use Rattle.std.specs.Prelude.{◌≡◌, ◌<◌, ◌^◌, length, take, IsTrue};
+ghost use Rattle.dwc_read.specs.FieldSizes.{is_field_size};
+
+use crate::header::Header;
+use crate::lone::{lone_entry as read_alone, no_entry};
+use crate::number::address;
+use crate::table::table_at;
+use crate::{Entries, Entry, ReadFault, Sections};
+use dwc_base::{Address, Cursor, Encoding, Endian, Relocations, SectionName};
+use std::alloc::Global;
+use std::marker::Model;
+
+/// A unit of `.debug_info`: its header, and the sections that it stands in.
+#[derive(Drop)]
+pub struct Unit<'d> {
+    sections: Sections<'d>,
+    header: Header<'d>,
+    relocations: Relocations<'d>,
+}
+
+impl<'d> Model for Unit<'d> {
+    ghost use Rattle.std.specs.Prelude.{◌≡◌};
+    ghost use Rattle.dwc_base.specs.declared.section_name.SectionName.TheVariants.{Info};
+    ghost use Rattle.dwc_read.specs.Views.{UnitView, unit_code};
+    ghost use Rattle.dwc_read.specs.Headers.{header_view};
+
+    ghost Value = { UnitView };
+
+    ghost coded = { unit_code };
+
+    ghost view = { λ u. record { sections = u.sections; header = header_view u.header } };
+
+    ghost invariant = { λ u. u.relocations ≡ u.sections.relocations Info };
+}
+
+impl<'d> Unit<'d> {
+    ghost use Rattle.dwc_read.specs.Headers.{header_view};
+    ghost use Rattle.dwc_read.specs.Views.{field_at};
+    ghost use Rattle.dwc_base.specs.Entries.{entries as entries_of};
+    ghost use Rattle.dwc_read.specs.Faults.{GivesOrFault};
+    ghost use Rattle.dwc_read.specs.EntriesSeen.{StartsAt, entry_view};
+    ghost use Rattle.dwc_read.specs.Lone.{lone_entry, unread_from};
+
+    // The unit of a header.
+    pub fn new(sections: Sections<'d>, header: Header<'d>) -> Unit<'d>
+        ensures { result ≡ record { sections = sections.entry; header = header_view header.entry } }
+    {
+        let relocations = sections.relocations(SectionName::Info);
+        Unit {
+            sections,
+            header,
+            relocations,
+        }
+    }
+
+    /// The same unit once more.
+    pub fn again(&self) -> Unit<'d>
+        ensures { result ≡ self.now }
+    {
+        Unit {
+            sections: self.sections.again(),
+            header: self.header.again(),
+            relocations: self.relocations.again(),
+        }
+    }
+
+    /// The offset of the unit in `.debug_info`.
+    pub fn offset(&self) -> u64
+        ensures { result ≡ self.now.header.offset }
+    {
+        self.header.offset as u64
+    }
+
+    /// The offset of what stands behind the unit in `.debug_info`.
+    pub fn end(&self) -> u64
+        ensures { result ≡ self.now.header.end }
+    {
+        self.header.end as u64
+    }
+
+    /// The unit's version of DWARF, and the bytes of an address.
+    pub fn encoding(&self) -> Encoding
+        ensures version { result.version ≡ self.now.header.version }
+        ensures address_size { result.address_size ≡ self.now.header.address_size }
+    {
+        Encoding {
+            version: self.header.version,
+            address_size: self.header.address_size,
+        }
+    }
+
+    /// The unit's type, `DW_UT_compile` below version 5. (DWARF 5, section 7.5.1.)
+    pub fn unit_type(&self) -> u8
+        ensures { result ≡ self.now.header.unit_type }
+    {
+        self.header.unit_type
+    }
+
+    /// The id that ties a skeleton unit and its split unit together. (DWARF 5, section 7.5.1.2.)
+    pub fn dwo_id(&self) -> Option<u64>
+        ensures { result ≡ self.now.header.dwo_id }
+    {
+        self.header.dwo_id
+    }
+
+    /// The order of the bytes of a number.
+    pub fn order(&self) -> Endian
+        ensures { result ≡ self.now.sections.order }
+    {
+        self.sections.order()
+    }
+
+    /// The bytes that the unit reads under a section's name.
+    pub fn section(&self, name: SectionName) -> &'d [u8]
+        ensures bytes { result.now ≡ self.now.sections.bytes name }
+        ensures length { length result.now < 2 ^ 32 }
+    {
+        self.sections.bytes(name)
+    }
+
+    /// The function relocations in a section. Input has none.
+    pub fn relocations(&self, name: SectionName) -> Relocations<'d>
+        ensures { result ≡ self.now.sections.relocations name }
+    {
+        self.sections.relocations(name)
+    }
+
+    /// The address that a field of 1, 2, 4 or 8 bytes of a section holds: a function's where a relocation of that size stands
+    /// there, else the number that the bytes spell. None where the field passes the section's end.
+    pub fn field(&self, name: SectionName, offset: u64, size: u8) -> Option<Address>
+        requires { IsTrue (is_field_size size) }
+        ensures { result ≡ field_at self.now.sections name offset size }
+    {
+        let bytes = self.sections.bytes(name);
+        if offset >= bytes.len() as u64 {
+            return None;
+        }
+        let relocations = self.sections.relocations(name);
+        let mut cursor = Cursor::at(bytes, offset as u32, self.sections.order());
+        address(&relocations, size, &mut cursor).ok()
+    }
+
+    /// The first entry of the unit.
+    ///
+    /// Answers `Read` with the table's offset where the unit's abbreviation table cannot be read, and `Read` or `Unsupported`
+    /// with the entry's offset where no entry stands behind the header.
+    pub fn root(&self, alloc: Global) -> Result<Entry<'d>, ReadFault>
+        ensures { GivesOrFault entry_view (lone_entry self.now self.now.header.content) result }
+    {
+        let table = table_at(alloc, &self.sections, self.header.abbreviations)?;
+        read_alone(alloc, self, &table, self.content())
+    }
+
+    /// The entry at an offset of `.debug_info`, at depth 0, whether or not the entries that come one after another come
+    /// upon that place.
+    ///
+    /// Answers `Read` with the table's offset where the unit's abbreviation table cannot be read, and `Read` or `Unsupported`
+    /// with the given offset where no entry stands there before the unit's end.
+    pub fn entry_at(&self, alloc: Global, offset: u64) -> Result<Entry<'d>, ReadFault>
+        ensures { GivesOrFault entry_view (lone_entry self.now (unread_from self.now offset)) result }
+    {
+        let table = table_at(alloc, &self.sections, self.header.abbreviations)?;
+        let bytes = front_of(self.sections.bytes(SectionName::Info), self.header.end);
+        if offset >= bytes.len() as u64 {
+            return Err(no_entry(offset));
+        }
+        let cursor = Cursor::at(bytes, offset as u32, self.sections.order());
+        read_alone(alloc, self, &table, cursor)
+    }
+
+    /// The entries of the unit, in file order.
+    ///
+    /// Answers `Read` with the table's offset where the unit's abbreviation table cannot be read.
+    pub fn entries(&self, alloc: Global) -> Result<Entries<'d>, ReadFault>
+        ensures { StartsAt (entries_of self.now.sections self.now.header) result }
+    {
+        Entries::of(self.again(), alloc)
+    }
+
+    // The unit's version of DWARF.
+    pub fn version(&self) -> u16
+        ensures { result ≡ self.now.header.version }
+    {
+        self.header.version
+    }
+
+    // The bytes of an address.
+    pub fn address_size(&self) -> u8
+        ensures value { result ≡ self.now.header.address_size }
+        ensures known { IsTrue (is_field_size result) }
+    {
+        self.header.address_size
+    }
+
+    // The function relocations in `.debug_info`.
+    pub fn info_relocations(&self) -> &Relocations<'d>
+        ensures { result.now ≡ self.now.sections.relocations SectionName.Info }
+    {
+        &self.relocations
+    }
+
+    // The sections that the unit stands in.
+    pub fn sections(&self) -> &Sections<'d>
+        ensures { result.now ≡ self.now.sections }
+    {
+        &self.sections
+    }
+
+    // The offset of the unit's abbreviation table.
+    pub fn abbreviations(&self) -> u32
+        ensures { result ≡ self.now.header.abbreviations }
+    {
+        self.header.abbreviations
+    }
+
+    // What stands behind the unit's header.
+    pub fn content(&self) -> Cursor<'d>
+        ensures content { result ≡ self.now.header.content }
+        ensures short { length result.left < 2 ^ 32 }
+    {
+        self.header.content.fork()
+    }
+}
+
+// The bytes before a place, or all.
+fn front_of<'d>(bytes: &'d [u8], end: usize) -> &'d [u8]
+    ensures { result.now ≡ take end bytes.now }
+{
+    if end > bytes.len() {
+        return bytes;
+    }
+    let (front, _) = bytes.split_at(end);
+    front
+}

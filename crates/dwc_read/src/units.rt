@@ -1,0 +1,62 @@
+//! The units of `.debug_info`, one after another.
+ghost use Rattle.std.specs.Prelude.{◌≡◌, IfOk, IfSome};
+ghost use Rattle.dwc_base.specs.Units.{unit_headers};
+ghost use Rattle.dwc_read.specs.Faults.{GivesNextOrMemory};
+
+use crate::fault::reported;
+use crate::headers::next_header;
+use crate::{ReadFault, Sections, Unit};
+use dwc_base::{Cursor, SectionName, What};
+use std::alloc::Global;
+use std::marker::Model;
+
+/// The units of `.debug_info` that are still to come, each beginning where the one before ends.
+#[derive(Drop)]
+pub struct Units<'d> {
+    sections: Sections<'d>,
+    headers: Cursor<'d>,
+}
+
+impl<'d> Model for Units<'d> {
+    ghost use Rattle.dwc_base.specs.Units.{unit_headers_from};
+    ghost use Rattle.dwc_read.specs.Views.{UnitsView, units_code};
+
+    ghost Value = { UnitsView };
+
+    ghost coded = { units_code };
+
+    ghost view = { λ u. record { sections = u.sections; headers = unit_headers_from u.headers } };
+}
+
+impl<'d> Units<'d> {
+    /// All units of `.debug_info`.
+    pub fn new(sections: Sections<'d>) -> Units<'d>
+        ensures { result ≡ record { sections = sections.entry; headers = unit_headers sections.entry } }
+    {
+        let info = sections.bytes(SectionName::Info);
+        let headers = Cursor::new(info, sections.order());
+        Units { sections, headers }
+    }
+
+    /// The next unit, if there is one. (DWARF 4 and 5, section 7.5.1.)
+    ///
+    /// Answers `Read` with the unit's offset where no unit header stands there, and `Unsupported` with it where the unit is of
+    /// the 64-bit format, of a version other than 2 to 5, a type unit, or of an address size other than 4 and 8. At the
+    /// end, and after one of these, each later call answers the same. After `OutOfMemory` the call can be made again.
+    pub fn next_unit(&mut self, alloc: Global) -> Result<Option<Unit<'d>>, ReadFault>
+        ensures unit { GivesNextOrMemory (λ u. u.header) self.old.headers self.new.headers result }
+        ensures sections { self.new.sections ≡ self.old.sections }
+        ensures stands_in { IfOk result (λ o. IfSome o (λ u. u.sections ≡ self.old.sections)) }
+    {
+        match next_header(&mut self.headers) {
+            Ok(Some(header)) => Ok(Some(Unit::new(self.sections.again(), header))),
+            Ok(None) => Ok(None),
+            Err(fault) => Err(reported(
+                fault.flaw,
+                What::UnitHeader,
+                SectionName::Info,
+                fault.offset as u64,
+            )),
+        }
+    }
+}

@@ -1,0 +1,6 @@
+pub mod Headers
+pub mod Instructions
+pub mod Steps
+pub mod Programs
+pub mod Faults
+pub mod Tables

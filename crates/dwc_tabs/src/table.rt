@@ -1,0 +1,257 @@
+//! Line tables, and their rows. (DWARF 4, section 6.2.)
+ghost use Rattle.std.specs.Prelude.{◌≡◌, ◌<◌, ◌^◌, IsTrue, length, map, option_map, nat_le, ◌&&◌};
+ghost use Rattle.std.specs.List.{list_all};
+ghost use Rattle.dwc_base.specs.Cursors.{slice_bytes};
+ghost use Rattle.dwc_base.specs.FirstForm.{has_all_files};
+ghost use Rattle.dwc_base.specs.LineRows.{line_table};
+ghost use Rattle.dwc_read.specs.FieldSizes.{is_field_size};
+ghost use Rattle.dwc_tabs.specs.Headers.{file_view};
+ghost use Rattle.dwc_tabs.specs.Programs.{GivesStep};
+ghost use Rattle.dwc_tabs.specs.Faults.{AnswersTable};
+ghost use Rattle.dwc_tabs.specs.Tables.{table_at, of_line, numbered, Bounds, is_named_within, ReadsTable, UnreadFrom};
+
+use crate::fault::{TabFault, flawed};
+use crate::header::{LineFile, line_header};
+use crate::parameters::Parameters;
+use crate::program::{ProgramCheck, check_program, next_step};
+use crate::registers::{Registers, sequence_start};
+use crate::step::LineStep;
+use dwc_base::{Cursor, Endian, Flaw, NotRead, Relocations, SectionName};
+use dwc_read::Unit;
+use std::alloc::Global;
+use std::marker::Model;
+
+/// A line table that was read whole: all its instructions can be read, all its rows are in range, and all the files and
+/// directories that it names are there.
+#[derive(Drop)]
+pub struct LineTable<'d> {
+    parameters: Parameters<'d>,
+    directories: Vec<&'d [u8]>,
+    // Those of the header, and behind them those that the program defines.
+    files: Vec<LineFile<'d>>,
+    header_files: usize,
+    relocations: Relocations<'d>,
+    program: Cursor<'d>,
+}
+
+impl<'d> Model for LineTable<'d> {
+    ghost use Rattle.dwc_base.specs.LineRows as spec;
+
+    ghost Value = { spec.LineTable };
+
+    ghost use Rattle.dwc_tabs.specs.Tables.{table_view, IsWhole};
+
+    ghost view = { table_view };
+
+    ghost invariant = { IsWhole };
+}
+
+/// The steps of a line table, one at a time and in order. They take no memory.
+#[derive(Drop)]
+pub struct Rows<'d> {
+    parameters: Parameters<'d>,
+    relocations: Relocations<'d>,
+    registers: Registers,
+    cursor: Cursor<'d>,
+}
+
+impl<'d> Model for Rows<'d> {
+    ghost use Rattle.std.specs.Prelude.{List};
+    ghost use Rattle.dwc_base.specs.LineRows as spec;
+
+    ghost Value = { List spec.LineStep };
+
+    ghost use Rattle.dwc_tabs.specs.Tables.{rows_view, RunsOn};
+
+    ghost view = { rows_view };
+
+    ghost invariant = { RunsOn };
+}
+
+impl<'d> LineTable<'d> {
+    /// The line table at an offset of `.debug_line`, read whole. Versions 2 to 4 are read. It answers `Read` where the bytes
+    /// are no line table or a row's offset or line is out of range, `Unsupported` for the 64-bit format, for several operations
+    /// in one instruction and for any other version, and `InvalidFileIndex` where the table names a file or a directory that is
+    /// not there. (DWARF 4, section 6.2.4.)
+    pub fn read(alloc: Global, unit: &Unit<'d>, offset: u64) -> Result<LineTable<'d>, TabFault>
+        ensures { AnswersTable offset (line_table unit.now.sections unit.now.header.address_size offset) result }
+    {
+        let line = unit.section(SectionName::Line);
+        let relocations = unit.relocations(SectionName::Line);
+        LineTable::read_at(
+            alloc,
+            line,
+            relocations,
+            unit.order(),
+            unit.address_size(),
+            offset,
+        )
+    }
+
+    // The line table at an offset of the bytes of a line section, for a unit of an address size.
+    pub(crate) fn read_at(
+        alloc: Global,
+        line: &'d [u8],
+        relocations: Relocations<'d>,
+        order: Endian,
+        address_size: u8,
+        offset: u64,
+    ) -> Result<LineTable<'d>, TabFault>
+        requires { IsTrue (is_field_size address_size) }
+        ensures { AnswersTable offset (line_table (of_line order line.now relocations.entry) address_size offset) result }
+    {
+        let Some(cursor) = unread_from(line, order, offset) else {
+            return Err(flawed(Flaw::EndsEarly, offset));
+        };
+        match read_table(alloc, relocations, address_size, cursor) {
+            Err(NotRead::OutOfMemory) => Err(TabFault::OutOfMemory),
+            Err(NotRead::Flawed(flaw)) => Err(flawed(flaw, offset)),
+            Ok((table, check)) => {
+                if table.has_all_files(check) {
+                    Ok(table)
+                } else {
+                    Err(TabFault::InvalidFileIndex { offset })
+                }
+            }
+        }
+    }
+
+    /// The version of the table.
+    pub fn version(&self) -> u16
+        ensures { result ≡ self.now.header.version }
+    {
+        self.parameters.version
+    }
+
+    /// How many directories the table has, without the compilation directory.
+    pub fn directory_count(&self) -> u64
+        ensures { result ≡ length self.now.header.directories }
+    {
+        self.directories.len() as u64
+    }
+
+    /// The name of a directory; None at 0, the compilation directory, and behind the last one. (DWARF 4, section 6.2.4, 11.)
+    pub fn directory(&self, i: u64) -> Option<&'d [u8]>
+        ensures { option_map slice_bytes result ≡ numbered i self.now.header.directories }
+    {
+        at_number(&self.directories, i).copied()
+    }
+
+    /// How many files the table has, those that its program defines among them.
+    pub fn file_count(&self) -> u64
+        ensures { result ≡ length self.now.files }
+    {
+        self.files.len() as u64
+    }
+
+    /// The file of a number; files count from 1. (DWARF 4, section 6.2.4, 12.)
+    pub fn file(&self, i: u64) -> Option<LineFile<'d>>
+        ensures { option_map file_view result ≡ numbered i self.now.files }
+    {
+        at_number(&self.files, i).copied()
+    }
+
+    /// The steps of the table's program, from its begin on.
+    pub fn rows(&self) -> Rows<'d>
+        ensures { result ≡ self.now.steps }
+    {
+        Rows {
+            parameters: self.parameters,
+            relocations: self.relocations.again(),
+            registers: sequence_start(&self.parameters),
+            cursor: self.program.fork(),
+        }
+    }
+
+    // Whether all files and directories are there that the table names, by what was noted of its rows.
+    fn has_all_files(&self, check: ProgramCheck) -> bool
+        requires { Bounds check self.now.steps }
+        ensures { result ≡ has_all_files self.now }
+    {
+        are_there(check, &self.files, self.directories.len())
+    }
+}
+
+impl<'d> Rows<'d> {
+    /// The next step; None at the end.
+    pub fn next(&mut self) -> Option<LineStep>
+        ensures { GivesStep result self.old self.new }
+    {
+        next_step(
+            &self.parameters,
+            &self.relocations,
+            &mut self.registers,
+            &mut self.cursor,
+        )
+    }
+}
+
+// What stands at a number, from 1 on.
+fn at_number<T>(list: &[T], number: u64) -> Option<&T>
+    ensures { option_map (λ x. x.now) result ≡ numbered number list.now }
+{
+    if number == 0 {
+        return None;
+    }
+    list.get(number as usize - 1)
+}
+
+// Whether the files are there that rows name, each with a name and a directory that is there.
+fn are_there(check: ProgramCheck, files: &[LineFile<'_>], directories: usize) -> bool
+    ensures { result ≡ (nat_le 1 check.lowest_file && nat_le check.highest_file (length files.now) && list_all (is_named_within directories) (map file_view files.now)) }
+{
+    if check.lowest_file < 1 {
+        return false;
+    }
+    if check.highest_file > files.len() as u64 {
+        return false;
+    }
+    files.iter().all(|file| is_named(*file, directories))
+}
+
+// Whether a file has a name, and one of the directories or the compilation directory.
+fn is_named(file: LineFile<'_>, directories: usize) -> bool
+    ensures { result ≡ is_named_within directories (file_view file.entry) }
+{
+    file.directory <= directories as u64 && !file.name.is_empty()
+}
+
+// What is unread of some bytes from an offset on; None where the offset is past their end.
+fn unread_from<'d>(bytes: &'d [u8], order: Endian, offset: u64) -> Option<Cursor<'d>>
+    ensures { UnreadFrom order bytes.now offset result }
+{
+    let mut cursor = Cursor::new(bytes, order);
+    match cursor.take(offset as usize) {
+        Ok(_) => Some(cursor),
+        Err(_) => None,
+    }
+}
+
+// The table at the front, with what was noted of its rows.
+fn read_table<'d>(
+    alloc: Global,
+    relocations: Relocations<'d>,
+    address_size: u8,
+    cursor: Cursor<'d>,
+) -> Result<(LineTable<'d>, ProgramCheck), NotRead>
+    requires { IsTrue (is_field_size address_size) }
+    ensures { ReadsTable (table_at relocations.entry address_size cursor.entry) result }
+{
+    let header = line_header(alloc, address_size, cursor)?;
+    let parameters = header.parameters;
+    let mut files = header.files;
+    let header_files = files.len();
+    let check = check_program(&parameters, &relocations, header.program.fork(), &mut files)?;
+    if !check.in_range {
+        return Err(NotRead::Flawed(Flaw::Malformed));
+    }
+    let table = LineTable {
+        parameters,
+        directories: header.directories,
+        files,
+        header_files,
+        relocations,
+        program: header.program,
+    };
+    Ok((table, check))
+}

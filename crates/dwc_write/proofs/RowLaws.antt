@@ -1,0 +1,25 @@
+-- What code goes by that appends the instructions of rows.
+use Rattle.std.proofs.Common.{◌≡◌, ℕ, zero, suc, ◌+◌, ◌<◌, ◌≤◌, refl, sym, ap, ◌∙◌, arith, List, [], ◌∷◌, ◌++◌, append_assoc, length, drop}
+use Rattle.std.proofs.lemmas.List.{drop_all}
+use Rattle.dwc_base.specs.declared.records.Endian.{Endian}
+use Rattle.dwc_base.specs.declared.records.LineRow.{LineRow}
+use Rattle.dwc_write.specs.Spelled.{uleb_bytes}
+use Rattle.dwc_write.specs.SpelledLines.{extended_bytes, program_bytes, rows_instructions, bytes_when}
+use Rattle.std.specs.Prelude.{not, ◌==◌, ◌-◌}
+use Rattle.dwc_write.proofs.ReadNumbers.{uleb_bytes-small, uleb_bytes-length}
+use Rattle.dwc_write.proofs.ReadWritten.{rows-bytes-end}
+
+-- an extended instruction whose length is written as one byte
+pub extended-appended : (before now after : List ℕ) (opcode : ℕ) (operands : List ℕ) (n : ℕ) → now ≡ before ++ 0 ∷ n ∷ opcode ∷ [] → after ≡ now ++ operands → n ≡ 1 + length operands → n < 128
+    → after ≡ before ++ extended_bytes opcode operands
+extended-appended before now after opcode operands n first second long small =
+    let one : uleb_bytes (length (opcode ∷ operands)) ≡ n ∷ [] = ap uleb_bytes (omega (arith, long)) ∙ uleb_bytes-small n small in
+    rw (one, second, first) (append_assoc before (0 ∷ n ∷ opcode ∷ []) operands)
+
+-- the end of a sequence, behind its last row
+pub end-appended : (order : Endian) (size : ℕ) (before : LineRow) (rows : List LineRow) (i last : ℕ) (out advanced ended whole : List ℕ) → length rows ≤ i → out ++ program_bytes order size (rows_instructions before (drop i rows) last) ≡ whole
+    → advanced ≡ out ++ bytes_when (not (before.offset == last)) (2 ∷ uleb_bytes (last - before.offset)) → ended ≡ advanced ++ 0 ∷ 1 ∷ 1 ∷ [] → ended ≡ whole
+end-appended order size before rows i last out advanced ended whole past invariant first second =
+    let none = drop_all i rows past in
+    let is : out ++ program_bytes order size (rows_instructions before [] last) ≡ whole = rw (none) at invariant in
+    rw (second, first) (append_assoc out _ (0 ∷ 1 ∷ 1 ∷ []) ∙ ap (λ bs. out ++ bs) (sym (rows-bytes-end order size before last)) ∙ is)

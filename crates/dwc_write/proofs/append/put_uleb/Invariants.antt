@@ -1,0 +1,11 @@
+use Rattle.std.proofs.Common.{◌≡◌, ◌++◌, pos}
+use Rattle.std.specs.Prelude.{negsuc}
+use Rattle.dwc_write.specs.Spelled.{uleb_bytes}
+use Rattle.dwc_write.proofs.append.put_uleb.Given as goal
+
+-- what stands in the buffer, and the number that is left
+abbrev pub invariant-loop-rest : goal.invariant-loop-rest
+invariant-loop-rest l = l.out.items ++ uleb_bytes l.rest ≡ l.initial.out.items ++ uleb_bytes l.initial.rest
+
+abbrev pub decreases-loop-rest : goal.decreases-loop-rest
+decreases-loop-rest l = l.rest

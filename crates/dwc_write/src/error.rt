@@ -1,0 +1,42 @@
+//! Why something is not written.
+use dwc_base::SectionName;
+use std::alloc::{AllocError, AllocFailed};
+use thiserror::Error;
+
+/// What can grow too large.
+#[derive(Clone, Copy, Debug, PartialEq, Eq)]
+pub enum Limit {
+    /// A section of more than 2^31 - 1 bytes.
+    Section(SectionName),
+}
+
+/// Why something is not written.
+#[derive(Debug, Drop, Error)]
+pub enum WriteError {
+    #[error("too large: {what:?}")]
+    TooLarge { what: Limit },
+    #[error("out of memory")]
+    OutOfMemory,
+}
+
+impl<T: Drop> From<AllocFailed<T>> for WriteError {
+    ghost use Rattle.std.specs.Prelude.{◌≡◌};
+    ghost use Rattle.dwc_write.specs.declared.error.WriteError.TheVariants.{OutOfMemory};
+
+    ghost from_gives = { λ _ e. e ≡ OutOfMemory };
+
+    fn from(_: AllocFailed<T>) -> WriteError {
+        WriteError::OutOfMemory
+    }
+}
+
+impl From<AllocError> for WriteError {
+    ghost use Rattle.std.specs.Prelude.{◌≡◌};
+    ghost use Rattle.dwc_write.specs.declared.error.WriteError.TheVariants.{OutOfMemory};
+
+    ghost from_gives = { λ _ e. e ≡ OutOfMemory };
+
+    fn from(_: AllocError) -> WriteError {
+        WriteError::OutOfMemory
+    }
+}

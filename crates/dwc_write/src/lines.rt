@@ -1,0 +1,180 @@
+//! Line programs as they are given: directories, files, and sequences of rows. (DWARF 4, section 6.2.)
+ghost use Rattle.std.specs.Prelude.{◌≡◌, ◌+◌, ◌≤◌, ◌<◌, ◌^◌, [], OnOk, OnErr, IfOk, Some, None, length};
+ghost use Rattle.dwc_write.specs.SpelledLines.{FitsName};
+ghost use Rattle.dwc_write.specs.GivenLines.{no_lines, with_directory, with_file, with_begun, with_row, with_end, CanBegin, CanAppend, CanEnd};
+
+use crate::WriteError;
+use dwc_base::{Address, Encoding, LineRow};
+use std::alloc::Global;
+use std::marker::Model;
+use std::mem;
+
+/// A file of a line program: its name and the number of its directory.
+#[derive(Drop)]
+pub(crate) struct File {
+    pub(crate) name: Vec<u8>,
+    pub(crate) directory: u64,
+}
+
+/// A sequence that is ended.
+#[derive(Drop)]
+pub(crate) struct Sequence {
+    pub(crate) start_address: Address,
+    pub(crate) rows: Vec<LineRow>,
+    pub(crate) end_offset: u64,
+}
+
+/// The line program of a unit: directories and files by their numbers, and sequences of rows.
+#[derive(Drop)]
+pub struct LineProgram {
+    pub(crate) address_size: Option<u8>,
+    pub(crate) directories: Vec<Vec<u8>>,
+    pub(crate) files: Vec<File>,
+    pub(crate) sequences: Vec<Sequence>,
+    start_address: Option<Address>,
+    rows: Vec<LineRow>,
+}
+
+impl Model for LineProgram {
+    ghost use Rattle.std.specs.Prelude.{map, option_map};
+    ghost use Rattle.dwc_write.specs.GivenLines.{GivenLines, FitsLines};
+    ghost use Rattle.dwc_write.specs.LineViews.{file_view, sequence_view};
+
+    ghost Value = { GivenLines };
+
+    ghost view = { λ p. record {
+        address_size = p.address_size;
+        directories = map (λ d. d.items) p.directories.items;
+        files = map file_view p.files.items;
+        sequences = map sequence_view p.sequences.items;
+        begun = option_map (λ a. record { start_address = a; rows = p.rows.items }) p.start_address;
+    } };
+
+    ghost invariant = { λ p. FitsLines (record {
+        address_size = p.address_size;
+        directories = map (λ d. d.items) p.directories.items;
+        files = map file_view p.files.items;
+        sequences = map sequence_view p.sequences.items;
+        begun = option_map (λ a. record { start_address = a; rows = p.rows.items }) p.start_address;
+    }) };
+}
+
+impl LineProgram {
+    /// No line program.
+    pub fn none(alloc: Global) -> LineProgram
+        ensures { result ≡ no_lines None }
+    {
+        LineProgram {
+            address_size: None,
+            directories: Vec::new(alloc),
+            files: Vec::new(alloc),
+            sequences: Vec::new(alloc),
+            start_address: None,
+            rows: Vec::new(alloc),
+        }
+    }
+
+    /// An empty line program for a unit of version 4 and this encoding.
+    pub fn new(alloc: Global, encoding: Encoding) -> Result<LineProgram, WriteError>
+        ensures { IfOk result (λ p. p ≡ no_lines (Some encoding.address_size)) }
+    {
+        Ok(LineProgram {
+            address_size: Some(encoding.address_size),
+            directories: Vec::new(alloc),
+            files: Vec::new(alloc),
+            sequences: Vec::new(alloc),
+            start_address: None,
+            rows: Vec::new(alloc),
+        })
+    }
+
+    /// Adds a directory; its number, from 1.
+    pub fn add_directory(&mut self, name: &[u8]) -> Result<u64, WriteError>
+        requires { FitsName name.now }
+        ensures ok { OnOk result (self.new ≡ with_directory name.now self.old) }
+        ensures number { IfOk result (λ n. n ≡ length self.old.directories + 1) }
+        ensures err { OnErr result (self.new ≡ self.old) }
+    {
+        let name = name.to_vec(*self.directories.allocator())?;
+        self.directories.push(name)?;
+        Ok(self.directories.len() as u64)
+    }
+
+    /// Adds a file in a directory that was added, or in directory 0; its number, from 1.
+    pub fn add_file(&mut self, directory: u64, name: &[u8]) -> Result<u64, WriteError>
+        requires name { FitsName name.now }
+        requires directory { directory ≤ length self.old.directories }
+        ensures ok { OnOk result (self.new ≡ with_file (record { directory = directory; name = name.now }) self.old) }
+        ensures number { IfOk result (λ n. n ≡ length self.old.files + 1) }
+        ensures err { OnErr result (self.new ≡ self.old) }
+    {
+        let name = name.to_vec(*self.directories.allocator())?;
+        self.files.push(File { name, directory })?;
+        Ok(self.files.len() as u64)
+    }
+
+    /// Begins a sequence at an address.
+    pub fn begin_sequence(&mut self, start: Address) -> Result<(), WriteError>
+        requires { CanBegin self.old start }
+        ensures ok { OnOk result (self.new ≡ with_begun (Some (record { start_address = start; rows = [] })) self.old) }
+        ensures err { OnErr result (self.new ≡ self.old) }
+    {
+        self.start_address = Some(start);
+        self.rows.clear();
+        Ok(())
+    }
+
+    /// Appends a row to the sequence that is begun.
+    pub fn generate_row(&mut self, row: LineRow) -> Result<(), WriteError>
+        requires { CanAppend self.old row }
+        ensures ok { OnOk result (self.new ≡ with_row row self.old) }
+        ensures err { OnErr result (self.new ≡ self.old) }
+    {
+        self.rows.push(with_numbers(row))?;
+        Ok(())
+    }
+
+    /// Ends the sequence that is begun at an offset from its start.
+    pub fn end_sequence(&mut self, offset: u64) -> Result<(), WriteError>
+        requires { CanEnd self.old offset }
+        ensures ok { OnOk result (self.new ≡ with_end offset self.old) }
+        ensures err { OnErr result (self.new ≡ self.old) }
+    {
+        let Some(start_address) = self.start_address else {
+            unreachable!();
+        };
+        self.sequences.reserve(1)?;
+        let empty = Vec::new(*self.rows.allocator());
+        let rows = mem::replace(&mut self.rows, empty);
+        let sequence = Sequence {
+            start_address,
+            rows,
+            end_offset: offset,
+        };
+        self.sequences.push(sequence).unwrap();
+        self.start_address = None;
+        Ok(())
+    }
+}
+
+// The same row; its numbers have 64 bits.
+fn with_numbers(row: LineRow) -> LineRow
+    ensures same { result ≡ row }
+    ensures file { row.file < 2 ^ 64 }
+    ensures column { row.column < 2 ^ 64 }
+    ensures isa { row.isa < 2 ^ 64 }
+    ensures discriminator { row.discriminator < 2 ^ 64 }
+{
+    LineRow {
+        offset: row.offset,
+        file: row.file,
+        line: row.line,
+        column: row.column,
+        is_stmt: row.is_stmt,
+        basic_block: row.basic_block,
+        prologue_end: row.prologue_end,
+        epilogue_begin: row.epilogue_begin,
+        isa: row.isa,
+        discriminator: row.discriminator,
+    }
+}

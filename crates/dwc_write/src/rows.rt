@@ -1,0 +1,155 @@
+//! The instructions of line programs, behind what a buffer holds. (DWARF 4, section 6.2.5.)
+ghost use Rattle.std.specs.Prelude.{◌≡◌, ◌++◌, ◌∷◌, [], ◌==◌, ◌+◌, ◌-◌, ◌-ℤ◌, ◌<◌, ◌≤◌, ◌^◌, OnOk, not, pos, length};
+ghost use Rattle.std.specs.List.{All};
+ghost use Rattle.dwc_base.specs.declared.records.Endian.TheVariants.{Little};
+ghost use Rattle.dwc_write.specs.Spelled.{uleb_bytes, sleb_bytes};
+ghost use Rattle.dwc_write.specs.SpelledLines.{FitsRow, RowsRise, bytes_when, differs as differ, extended_bytes, first_row, program_bytes, row_instructions, rows_instructions};
+
+use crate::append::{put_sleb, put_uleb};
+use dwc_base::LineRow;
+use dwc_base::constants::{
+    DW_LNE_end_sequence, DW_LNE_set_discriminator, DW_LNS_advance_line, DW_LNS_advance_pc,
+    DW_LNS_copy, DW_LNS_negate_stmt, DW_LNS_set_basic_block, DW_LNS_set_column,
+    DW_LNS_set_epilogue_begin, DW_LNS_set_file, DW_LNS_set_isa, DW_LNS_set_prologue_end,
+};
+use std::alloc::AllocError;
+
+// The registers before the first row of a sequence.
+const FIRST_ROW: LineRow = LineRow {
+    offset: 0,
+    file: 1,
+    line: 1,
+    column: 0,
+    is_stmt: true,
+    basic_block: false,
+    prologue_end: false,
+    epilogue_begin: false,
+    isa: 0,
+    discriminator: 0,
+};
+
+// The rows of a sequence, and its end.
+pub fn put_rows(out: &mut Vec<u8>, rows: &[LineRow], end_offset: u64) -> Result<(), AllocError>
+    requires fits { All FitsRow rows.now }
+    requires rise { RowsRise 0 rows.now end_offset }
+    ensures { OnOk result (out.new.items ≡ out.old.items ++ program_bytes Little 8 (rows_instructions first_row rows.now end_offset)) }
+{
+    let mut before = FIRST_ROW;
+    for i in 0..rows.len() {
+        let row = rows[i];
+        put_row(out, &before, &row)?;
+        before = row;
+    }
+    put_advance(out, before.offset, end_offset)?;
+    out.extend_from_slice(&[0, 1, DW_LNE_end_sequence])?;
+    Ok(())
+}
+
+// A row behind another: what differs from the registers, and the row itself.
+fn put_row(out: &mut Vec<u8>, before: &LineRow, row: &LineRow) -> Result<(), AllocError>
+    requires before { before.now.line < 2 ^ 32 }
+    requires line { row.now.line < 2 ^ 32 }
+    requires offset { before.now.offset ≤ row.now.offset }
+    ensures { OnOk result (out.new.items ≡ out.old.items ++ program_bytes Little 8 (row_instructions before.now row.now)) }
+{
+    put_discriminator(out, row.discriminator)?;
+    put_flag(out, DW_LNS_set_basic_block, row.basic_block)?;
+    put_flag(out, DW_LNS_set_prologue_end, row.prologue_end)?;
+    put_flag(out, DW_LNS_set_epilogue_begin, row.epilogue_begin)?;
+    put_flag(out, DW_LNS_negate_stmt, differs(before.is_stmt, row.is_stmt))?;
+    put_number(out, DW_LNS_set_file, before.file, row.file)?;
+    put_number(out, DW_LNS_set_column, before.column, row.column)?;
+    put_number(out, DW_LNS_set_isa, before.isa, row.isa)?;
+    put_line(out, before.line, row.line)?;
+    put_advance(out, before.offset, row.offset)?;
+    out.push(DW_LNS_copy)?;
+    Ok(())
+}
+
+// An opcode, where it is wanted.
+fn put_flag(out: &mut Vec<u8>, opcode: u8, wanted: bool) -> Result<(), AllocError>
+    ensures { OnOk result (out.new.items ≡ out.old.items ++ bytes_when wanted (opcode ∷ [])) }
+{
+    if wanted {
+        out.push(opcode)?;
+    }
+    Ok(())
+}
+
+// An opcode and a number, where the register has another.
+fn put_number(out: &mut Vec<u8>, opcode: u8, before: u64, value: u64) -> Result<(), AllocError>
+    ensures { OnOk result (out.new.items ≡ out.old.items ++ bytes_when (not (before == value)) (opcode ∷ uleb_bytes value)) }
+{
+    if before != value {
+        out.push(opcode)?;
+        put_uleb(out, value)?;
+    }
+    Ok(())
+}
+
+// The step to an offset, where it is another.
+fn put_advance(out: &mut Vec<u8>, before: u64, offset: u64) -> Result<(), AllocError>
+    requires { before ≤ offset }
+    ensures { OnOk result (out.new.items ≡ out.old.items ++ bytes_when (not (before == offset)) (2 ∷ uleb_bytes (offset - before))) }
+{
+    if before != offset {
+        out.push(DW_LNS_advance_pc)?;
+        put_uleb(out, offset - before)?;
+    }
+    Ok(())
+}
+
+// The step to a line, where it is another.
+fn put_line(out: &mut Vec<u8>, before: u64, line: u64) -> Result<(), AllocError>
+    requires before { before < 2 ^ 32 }
+    requires line { line < 2 ^ 32 }
+    ensures { OnOk result (out.new.items ≡ out.old.items ++ bytes_when (not (before == line)) (3 ∷ sleb_bytes (pos line -ℤ pos before))) }
+{
+    if before != line {
+        out.push(DW_LNS_advance_line)?;
+        put_sleb(out, line_step(before, line))?;
+    }
+    Ok(())
+}
+
+// The discriminator, where there is one.
+fn put_discriminator(out: &mut Vec<u8>, discriminator: u64) -> Result<(), AllocError>
+    ensures { OnOk result (out.new.items ≡ out.old.items ++ bytes_when (not (discriminator == 0)) (extended_bytes 4 (uleb_bytes discriminator))) }
+{
+    if discriminator != 0 {
+        let length = 1 + uleb_length(discriminator);
+        out.extend_from_slice(&[0, length, DW_LNE_set_discriminator])?;
+        put_uleb(out, discriminator)?;
+    }
+    Ok(())
+}
+
+// How many bytes an unsigned LEB128 number has.
+fn uleb_length(value: u64) -> u8
+    ensures length { result ≡ length (uleb_bytes value) }
+    ensures most { result ≤ 10 }
+{
+    let mut rest = value;
+    let mut count: u8 = 1;
+    while rest >= 128 {
+        rest /= 128;
+        count += 1;
+    }
+    count
+}
+
+// How far a line is from the one before.
+fn line_step(before: u64, line: u64) -> i64
+    requires before { before < 2 ^ 32 }
+    requires line { line < 2 ^ 32 }
+    ensures { result ≡ pos line -ℤ pos before }
+{
+    line as i64 - before as i64
+}
+
+// Whether a flag changes.
+fn differs(before: bool, now: bool) -> bool
+    ensures { result ≡ differ before now }
+{
+    before != now
+}
