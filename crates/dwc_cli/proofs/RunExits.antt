@@ -96,20 +96,6 @@ TextCauses-write input causes =
       };
     }
 
--- want of memory says nothing of the input
-pub TextCauses-memory : (input : Input) → TextCauses input 9
-TextCauses-memory input = record {
-  wasm = record { only = λ e. absurd (omega (arith, e)); always = λ _ _. IsOneOf-from (3 ∷ 4 ∷ 5 ∷ 9 ∷ []) 9 refl };
-  map_file = record { only = λ e. absurd (omega (arith, e)); always = λ _. IsOneOf-from (3 ∷ 4 ∷ 6 ∷ 9 ∷ []) 9 refl };
-  is_loaded = λ read is_read. record {
-    address_map = record { only = λ e. absurd (omega (arith, e)); always = λ _. IsOneOf-from (3 ∷ 4 ∷ 9 ∷ 13 ∷ []) 9 refl };
-    unreadable = λ e. absurd (omega (arith, e));
-    unsupported = λ e. absurd (omega (arith, e));
-    unread = λ _. IsOneOf-from (3 ∷ 4 ∷ 9 ∷ 10 ∷ 11 ∷ 13 ∷ []) 9 refl;
-    too_large = λ e. absurd (omega (arith, e));
-  };
-}
-
 -- a status of reading that is neither 3 nor 4 is 9
 nine : (status : ℕ) → IsReadingStatus status → (status ≡ 3 → ⊥) → (status ≡ 4 → ⊥) → 9 ≡ status
 nine status (zero, x, within, is, same) not_three not_four = absurd (not_three (sym (is ∙ same)))

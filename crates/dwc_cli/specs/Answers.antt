@@ -6,6 +6,10 @@ use Rattle.dwc_base.specs.Carried.{LinesCarried}
 use Rattle.dwc_base.specs.Reached.{reached_faults}
 use Rattle.dwc_base.specs.FirstForm.{is_all_built}
 use Rattle.dwc_cli.specs.declared.failure.Failure.{Failure}
+use Rattle.dwc_base.specs.declared.wasm.ModuleTranslation.{ModuleTranslation}
+use Rattle.dwc_base.specs.Translations.{IsTranslation}
+use Rattle.dwc_cli.specs.declared.map_file.MapFile.{MapFile}
+use Rattle.dwc_cli.specs.MapViews.{map_file_view}
 use Rattle.dwc_cli.specs.declared.input_files.InputFiles.{InputFiles}
 use Rattle.dwc_cli.specs.Inputs.{Paths, Input, Loaded, loaded, compilation_of}
 use Rattle.dwc_cli.specs.Printed.{printed, is_plain}
@@ -28,16 +32,25 @@ pub record IsInput (files : Option Files) (paths : Paths) (input : Input) : Type
   pub short_map : length input.map_bytes ≤ most_bytes
   pub short_module : length input.module_bytes ≤ most_bytes
 
--- the text of an input: the printed sections carry the lines of all that was read
-pub record CarriesText (input : Input) (text : List ℕ) : Type 0 where
-  pub read : Loaded
-  pub is_read : loaded input ≡ Some read
+-- what was read of the module and of the map
+pub record IsReadAs (translation : ModuleTranslation) (map_file : MapFile) (read : Loaded) : Type 0 where
+  pub wasm : IsTranslation translation read.wasm
+  pub map_is : map_file_view map_file ≡ read.map_file
+
+-- the text of what was read: the printed sections carry all its lines
+pub record CarriesRead (read : Loaded) (text : List ℕ) : Type 0 where
   pub readable : reached_faults (compilation_of read) ≡ []
   pub built : is_all_built (compilation_of read) ≡ true
   pub sections : List OutputSection
   pub plain : list_all is_plain sections ≡ true
   pub carried : LinesCarried (compilation_of read) sections
   pub text_is : text ≡ printed sections
+
+-- the text of an input
+pub record CarriesText (input : Input) (text : List ℕ) : Type 0 where
+  pub read : Loaded
+  pub is_read : loaded input ≡ Some read
+  pub carries : CarriesRead read text
 
 -- the statuses of a run whose files cannot be read
 abbrev pub IsReadingStatus : ℕ → Type 0
@@ -47,15 +60,23 @@ IsReadingStatus status = IsOneOf (3 ∷ 4 ∷ 9 ∷ []) status
 abbrev pub IsTextStatus : ℕ → Type 0
 IsTextStatus status = IsOneOf (5 ∷ 6 ∷ 9 ∷ 10 ∷ 11 ∷ 13 ∷ 20 ∷ []) status
 
+-- the statuses of a run whose lines are not carried
+abbrev pub IsCarryingStatus : ℕ → Type 0
+IsCarryingStatus status = IsOneOf (9 ∷ 10 ∷ 11 ∷ 13 ∷ 20 ∷ []) status
+
 -- what is said of an input by the status of its text
 pub record TextCauses (input : Input) (status : ℕ) : Type 0 where
   pub wasm : WasmCause input status
   pub map_file : MapCause input status
   pub is_loaded : (read : Loaded) → loaded input ≡ Some read → LoadedCauses read status
 
+-- where all is well with what was read, its text is made, but for want of memory
+abbrev pub GivesReadText : Loaded → ℕ → Type 0
+GivesReadText read status = IsValid read → IsOneOf (0 ∷ 9 ∷ []) status
+
 -- where all is well with an input, its text is made, but for want of memory
 abbrev pub GivesText : Input → ℕ → Type 0
-GivesText input status = (read : Loaded) → loaded input ≡ Some read → IsValid read → IsOneOf (0 ∷ 9 ∷ []) status
+GivesText input status = (read : Loaded) → loaded input ≡ Some read → GivesReadText read status
 
 -- a line of the program's own was appended, unless the sink failed
 abbrev pub Complains : ℕ → ℕ → Option (List ℕ) → Option (List ℕ) → Type 0

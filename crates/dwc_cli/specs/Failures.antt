@@ -1,5 +1,8 @@
 -- The numbers of statuses, and what the line of a failure says.
 use Rattle.std.specs.Prelude.{ℕ, List, ◌++◌, codes}
+use Rattle.dwc_base.specs.declared.wasm.WasmFault.{WasmFault}
+use Rattle.dwc_base.specs.declared.wasm.WasmFault.TheVariants as wasm
+use Rattle.dwc_base.specs.declared.wasm.WasmFault.TheVariants.{Malformed}
 use Rattle.dwc_cli.specs.declared.status.Status.{Status}
 use Rattle.dwc_cli.specs.declared.status.Status.TheVariants as statuses
 use Rattle.dwc_cli.specs.declared.failure.Failure.{Failure}
@@ -29,6 +32,11 @@ failure_status MalformedMap = 6
 failure_status WriteFault = 8
 failure_status OutOfMemory = 9
 failure_status (Refused status refusal) = status_code status
+
+-- the status of a run whose module is refused
+abbrev pub wasm_status : WasmFault → ℕ
+wasm_status (Malformed offset) = 5
+wasm_status wasm.OutOfMemory = 9
 
 -- a line of the program's own
 abbrev pub line_of : List ℕ → List ℕ

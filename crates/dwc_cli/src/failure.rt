@@ -8,6 +8,7 @@ use crate::refusal::Refusal;
 use crate::sink::{Sink, write_all};
 use crate::source::Failed;
 use crate::status::Status;
+use dwc_base::WasmFault;
 use std::alloc::AllocError;
 
 const USAGE: &str = "usage: dwarfcarry [--package P] [--text] MAP MODULE... | --generate N";
@@ -33,6 +34,23 @@ impl From<AllocError> for Failure<'_> {
 
     fn from(_: AllocError) -> Self {
         Failure::OutOfMemory
+    }
+}
+
+impl From<WasmFault> for Failure<'_> {
+    ghost use Rattle.std.specs.Prelude.{◌≡◌};
+    ghost use Rattle.dwc_cli.specs.Failures.{failure_status, wasm_status};
+
+    ghost from_gives = { λ fault failure. failure_status failure ≡ wasm_status fault };
+
+    fn from(fault: WasmFault) -> Self {
+        match fault {
+            WasmFault::Malformed { .. } => Failure::Refused {
+                status: Status::MalformedWasm,
+                refusal: Refusal::of(&fault),
+            },
+            WasmFault::OutOfMemory => Failure::OutOfMemory,
+        }
     }
 }
 
