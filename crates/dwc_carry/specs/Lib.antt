@@ -5,3 +5,4 @@ pub mod Emitted
 pub mod Refusals
 pub mod UnitEntries
 pub mod ReadUnits
+pub mod OutputUnits

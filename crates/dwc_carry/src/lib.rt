@@ -4,6 +4,7 @@
 mod error;
 mod image;
 mod known_form;
+mod output_unit;
 mod read_unit;
 mod sequence;
 mod unit_entries;
