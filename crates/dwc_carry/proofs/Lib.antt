@@ -14,3 +14,4 @@ pub mod LineVersions
 pub mod WidestLines
 pub mod NameLaws
 pub mod ReadUnitLaws
+pub mod OutputUnitLaws

@@ -1,6 +1,6 @@
 //! The unit of the output: its root names the line table, and below it stand the kept subprograms.
 ghost use Rattle.std.specs.Prelude.{◌≡◌, ◌⊎◌, ◌<◌, ◌^◌, ◌∷◌, ◌++◌, [], OnOk, IfOk, length, map, true};
-ghost use Rattle.dwc_write.specs.GivenUnits.{IsOfSize, with_entries};
+ghost use Rattle.dwc_write.specs.GivenUnits.{IsOfSize, depth_of, with_entries};
 ghost use Rattle.dwc_carry.specs.OutputUnits.{output_unit, root_entry, subprogram_entry};
 
 use crate::unit_entries::Subprogram;
@@ -13,7 +13,8 @@ use std::alloc::Global;
 
 // Adds a subprogram below the root.
 fn add_subprogram(unit: &mut Unit, subprogram: Subprogram) -> Result<(), WriteError>
-    requires { 0 < length unit.old.entries }
+    requires some { 0 < length unit.old.entries }
+    requires root { depth_of 0 unit.old.entries ≡ 0 }
     ensures { OnOk result (unit.new ≡ with_entries (unit.old.entries ++ subprogram_entry subprogram ∷ []) unit.old) }
 {
     let Subprogram { function, length } = subprogram;

@@ -1,0 +1,19 @@
+-- Entries that are added one behind the other.
+use Rattle.std.proofs.Common.{◌≡◌, ℕ, zero, suc, ◌+◌, ◌<◌, ◌≤◌, List, [], ◌∷◌, ◌++◌, map, length, take, refl, ap, sym, ◌∙◌, arith, Bool, true, false, append_assoc}
+use Rattle.dwc_write.specs.declared.attributes.AttributeValue.{AttributeValue}
+use Rattle.dwc_write.specs.GivenUnits.{GivenEntry, set_in, set_in_entry, depth_of}
+use Rattle.dwc_carry.specs.OutputUnits.{root_entry, subprogram_entry}
+
+-- a value is given to the last entry
+pub set_in-last : (es : List GivenEntry) (e : GivenEntry) (name : ℕ) (value : AttributeValue) → set_in (length es) name value (es ++ e ∷ []) ≡ es ++ set_in_entry name value e ∷ []
+set_in-last [] e name value = refl
+set_in-last (x ∷ es) e name value = ap (λ xs. x ∷ xs) (set_in-last es e name value)
+
+pub set_in-length : (id name : ℕ) (value : AttributeValue) (es : List GivenEntry) → length (set_in id name value es) ≡ length es
+set_in-length id name value [] = refl
+set_in-length zero name value (e ∷ es) = refl
+set_in-length (suc id) name value (e ∷ es) = ap suc (set_in-length id name value es)
+
+pub root-depth : (has_table : Bool) (es : List GivenEntry) → depth_of 0 (root_entry has_table ∷ es) ≡ 0
+root-depth true es = refl
+root-depth false es = refl
