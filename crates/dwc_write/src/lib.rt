@@ -11,6 +11,8 @@ mod lines;
 mod rows;
 mod sections;
 mod tables;
+#[cfg(test)]
+mod tests;
 mod units;
 mod writer;
 
