@@ -25,3 +25,4 @@ pub mod TableLaws
 pub mod EntriesLaws
 pub mod UnitBytes
 pub mod OutputLaws
+pub mod ReadBackLaws

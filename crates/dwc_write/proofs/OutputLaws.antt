@@ -109,7 +109,7 @@ module _ (order : Endian) (size : ℕ) where
       let at_lines : length (l.body ++ lines_bytes l.order u.address_size (written_lines u.lines)) ≡ length l.body + length (lines_bytes order size (written_lines u.lines)) = length-append l.body _ ∙ ap (λ bytes. length l.body + length bytes) lines in
       let rest = written_units order size (length a.body + length table) (length l.body + length (lines_bytes order size (written_lines u.lines))) us in
       let rest_is : written_units order size (length (a.body ++ table)) (length (l.body ++ lines_bytes l.order u.address_size (written_lines u.lines))) us ≡ rest =
-            ap (λ p. written_units order size p (length (l.body ++ lines_bytes l.order u.address_size (written_lines u.lines))) us) at_table ∙ ap (λ q. written_units order size (length a.body + length table) q us) at_lines in
+      ap (λ p. written_units order size p (length (l.body ++ lines_bytes l.order u.address_size (written_lines u.lines))) us) at_table ∙ ap (λ q. written_units order size (length a.body + length table) q us) at_lines in
       others ∙ three-equal
       (ap (λ ws. appended (tables_bytes ws) [] (appended table [] a)) rest_is ∙ step-section a table (tables_bytes rest) [] (λ p. []))
       (ap (λ ws. appended (info_bytes order size ws) (info_relocations order size (length (i.body ++ placed_unit_bytes i.order u.address_size unit)) ws) (appended (placed_unit_bytes i.order u.address_size unit) (unit_relocations i.order u.address_size (length i.body) unit) i)) rest_is
@@ -175,7 +175,7 @@ pub units-refused : (order : Endian) (us : List GivenUnit) (i : ℕ) (d : GivenU
 units-refused order us i d w e within fits invariant refused =
     let u = get_or us i d in
     let final : with_units (drop (suc i) us) (with_unit u w) ≡ all_of order us =
-          units-more order us us i d w (with_unit u w) within invariant refl ∙ all-appended order us fits in
+    units-more order us us i d w (with_unit u w) within invariant refl ∙ all-appended order us fits in
     let grown = grown-units (drop (suc i) us) (with_unit u w) in
     let P : WrittenSections → Type 0 = λ v. Grown (with_unit u w) v in
     go refused (subst P final grown)
@@ -223,3 +223,7 @@ output-sections order us fits = ap sections_of (all-appended order us fits)
 pub if-ok-weaker : {A E : Type 0} (result : Result A E) (P Q : A → Type 0) → ((x : A) → P x → Q x) → IfOk result P → IfOk result Q
 if-ok-weaker (Ok x) P Q weaker h = weaker x h
 if-ok-weaker (Err e) P Q weaker h = h
+
+pub if-ok-both : {A E : Type 0} (result : Result A E) (P Q R : A → Type 0) → ((x : A) → P x → Q x → R x) → IfOk result P → IfOk result Q → IfOk result R
+if-ok-both (Ok x) P Q R both h k = both x h k
+if-ok-both (Err e) P Q R both h k = h

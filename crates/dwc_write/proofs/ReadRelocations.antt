@@ -89,9 +89,11 @@ unit-rise : (order : Endian) (size place : ℕ) (u : WrittenUnit) → Relocation
 unit-rise order size place u =
     let body = unit_body order size u.table_offset u.entries in
     let inner = entries-rise order size (place + header_length) (shaped u.entries) in
-    let whole = unit-lengths (number_bytes order 4 (length body)) (number_bytes order 2 4) (number_bytes order 4 u.table_offset) size (entries_bytes order size u.entries) in
-    (omega arith, into ((place + 6) + 4) (place + header_length) _ _ (entries_relocations order size (place + header_length) (shaped u.entries)) (omega arith)
-    (omega (arith, whole, number_bytes-length order 4 (length body), number_bytes-length order 2 4, number_bytes-length order 4 u.table_offset)) inner)
+    let whole = unit-lengths (number_bytes order 4 (length body)) (number_bytes order 2 4) (number_bytes order 4 u.table_offset) size (entries_bytes order size u.entries) in (
+      omega arith,
+      into ((place + 6) + 4) (place + header_length) _ _ (entries_relocations order size (place + header_length) (shaped u.entries)) (omega arith)
+          (omega (arith, whole, number_bytes-length order 4 (length body), number_bytes-length order 2 4, number_bytes-length order 4 u.table_offset)) inner,
+    )
 
 pub info-rise : (order : Endian) (size place : ℕ) (us : List WrittenUnit) → RelocationsRise place (place + length (info_bytes order size us)) (info_relocations order size place us)
 info-rise order size place us = rise-places (placed_unit_bytes order size) (unit_relocations order size) us place (unit-rise order size)
@@ -168,7 +170,7 @@ pub info-functions : (order : Endian) (size place : ℕ) (us : List WrittenUnit)
 info-functions order size place us = places-functions (placed_unit_bytes order size) (unit_relocations order size) (unit_fields order size) (unit-functions order size) us place
 
 -- instructions without an address have no field
-at_places-append : {A B : Type 0} (spell : A → List ℕ) (at : ℕ → A → List B) (xs ys : List A) (place : ℕ) → at_places spell at place (xs ++ ys) ≡ at_places spell at place xs ++ at_places spell at (place + length (flat_map spell xs)) ys
+pub at_places-append : {A B : Type 0} (spell : A → List ℕ) (at : ℕ → A → List B) (xs ys : List A) (place : ℕ) → at_places spell at place (xs ++ ys) ≡ at_places spell at place xs ++ at_places spell at (place + length (flat_map spell xs)) ys
 at_places-append spell at [] ys place = ap (λ p. at_places spell at p ys) (omega arith)
 at_places-append spell at (x ∷ xs) ys place =
     ap (λ bs. at place x ++ bs) (at_places-append spell at xs ys (place + length (spell x)))

@@ -47,8 +47,16 @@ table-length size t a b headed =
     let order : b.order ≡ a.order = order-behind a b (front a.order fields) [] headed in
     let same = ap (λ o. length (flat_map (sequence_bytes o size) t.sequences)) order in
     let body = line_body a.order size t.directories t.files (sequences_instructions t.sequences) in
-    omega (arith, same, ap length (grouped a.order size t), ap length (rest-body a.order size t), length-append (front a.order fields) (flat_map (sequence_bytes a.order size) t.sequences),
-      length-append (number_bytes a.order 4 (length body)) body, number_bytes-length a.order 4 (length body), ap length (append-nil (one_table_bytes a.order size t)))
+    omega (
+      arith,
+      same,
+      ap length (grouped a.order size t),
+      ap length (rest-body a.order size t),
+      length-append (front a.order fields) (flat_map (sequence_bytes a.order size) t.sequences),
+      length-append (number_bytes a.order 4 (length body)) body,
+      number_bytes-length a.order 4 (length body),
+      ap length (append-nil (one_table_bytes a.order size t)),
+    )
 
 module _ (size : ℕ) (t : WrittenTable) (a b c : Writing)
     (headed : b ≡ appended (front a.order (line_fields_bytes t.directories t.files)) [] a)
@@ -60,8 +68,8 @@ module _ (size : ℕ) (t : WrittenTable) (a b c : Writing)
       let order : b.order ≡ a.order = order-behind a b (front a.order fields) [] headed in
       let place : length b.body ≡ length a.body + program_place t.directories t.files = omega (arith, length-behind a b (front a.order fields) [] headed, front-length a.order fields) in
       let step : c ≡ appended (flat_map (sequence_bytes a.order size) t.sequences) (sequences_relocations a.order size (length a.body + program_place t.directories t.files) t.sequences) b =
-            filled ∙ ap (λ o. appended (flat_map (sequence_bytes o size) t.sequences) (sequences_relocations o size (length b.body) t.sequences) b) order
-            ∙ ap (λ p. appended (flat_map (sequence_bytes a.order size) t.sequences) (sequences_relocations a.order size p t.sequences) b) place in
+      filled ∙ ap (λ o. appended (flat_map (sequence_bytes o size) t.sequences) (sequences_relocations o size (length b.body) t.sequences) b) order
+      ∙ ap (λ p. appended (flat_map (sequence_bytes a.order size) t.sequences) (sequences_relocations a.order size p t.sequences) b) place in
       appended-twice a b c (front a.order fields) (flat_map (sequence_bytes a.order size) t.sequences) [] (one_table_relocations a.order size (length a.body) t) headed step
       ∙ ap (λ bytes. appended bytes (one_table_relocations a.order size (length a.body) t) a) (grouped a.order size t)
 

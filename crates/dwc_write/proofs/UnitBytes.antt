@@ -55,8 +55,8 @@ module _ (size : ℕ) (u : WrittenUnit) (a b c : Writing)
       let order : b.order ≡ a.order = order-behind a b (front a.order size u.table_offset) table headed in
       let place : length b.body ≡ length a.body + header_length = omega (arith, length-behind a b (front a.order size u.table_offset) table headed, front-length a.order size u.table_offset) in
       let step : c ≡ appended (entries_bytes a.order size u.entries) (entries_relocations a.order size (length a.body + header_length) (shaped u.entries)) b =
-            filled ∙ ap (λ o. appended (entries_bytes o size u.entries) (entries_relocations o size (length b.body) (shaped u.entries)) b) order
-            ∙ ap (λ p. appended (entries_bytes a.order size u.entries) (entries_relocations a.order size p (shaped u.entries)) b) place in
+      filled ∙ ap (λ o. appended (entries_bytes o size u.entries) (entries_relocations o size (length b.body) (shaped u.entries)) b) order
+      ∙ ap (λ p. appended (entries_bytes a.order size u.entries) (entries_relocations a.order size p (shaped u.entries)) b) place in
       appended-twice a b c (front a.order size u.table_offset) (entries_bytes a.order size u.entries) table (entries_relocations a.order size (length a.body + header_length) (shaped u.entries)) headed step
       ∙ ap (λ bytes. appended bytes (unit_relocations a.order size (length a.body) u) a) (grouped a.order size u)
 

@@ -1,5 +1,5 @@
 -- What a unit owes when an entry is added to it, or an attribute is set.
-use Rattle.std.proofs.Common.{◌≡◌, ℕ, zero, suc, ◌+◌, ◌<◌, ◌≤◌, refl, sym, ap, ◌∙◌, arith, List, [], ◌∷◌, ◌++◌, length, length-append, get_or, drop, map, Option, Some, None, Bool, true, false, eqb, ltb, cond}
+use Rattle.std.proofs.Common.{◌≡◌, ℕ, zero, suc, ◌+◌, ◌^◌, ◌<◌, ◌≤◌, refl, sym, ap, ◌∙◌, arith, List, [], ◌∷◌, ◌++◌, length, length-append, get_or, drop, map, Option, Some, None, Bool, true, false, eqb, ltb, cond}
 use Rattle.std.specs.Prelude.{◌==◌, slice_set, if◌then◌else◌}
 use Rattle.std.specs.List.{All, position, position_or_len}
 use Rattle.std.proofs.lemmas.Bool.{ltb-false}
@@ -104,6 +104,7 @@ set-kept u id name value fits some small fit = record {
   tree = set-tree id name value u.entries fits.tree;
   low = let same = length-set_in id name value u.entries in All-weaker (λ e. e.depth < length u.entries) (λ e. e.depth < length (set_in id name value u.entries)) (λ e h. omega (arith, h, same)) (set_in id name value u.entries) (set-all (λ e. e.depth < length u.entries) id name value (λ e h. h) u.entries fits.low);
   entries = set-all (FitsEntry u.address_size) id name value (λ e h. record { tag = h.tag; attributes = set-fits u.address_size name value e.attributes (record { some = some; name = small; value = fit }) h.attributes }) u.entries fits.entries;
+  few = let few = fits.few in omega (arith, few, length-set_in id name value u.entries);
 }
 
 -- ---- a further entry
@@ -143,8 +144,8 @@ pub depth-low : (u : GivenUnit) (id : ℕ) → FitsGivenUnit u → id < length u
 depth-low u id fits within = low-at (length u.entries) id u.entries within fits.low
 
 -- A further entry leaves the unit as it is to be.
-pub child-kept : (u : GivenUnit) (id tag : ℕ) → FitsGivenUnit u → id < length u.entries → IsOpen id u.entries → tag ≤ 65535 → FitsGivenUnit (with_entries (u.entries ++ child_of id tag u.entries ∷ []) u)
-child-kept u id tag fits within free small =
+pub child-kept : (u : GivenUnit) (id tag : ℕ) → FitsGivenUnit u → id < length u.entries → IsOpen id u.entries → tag ≤ 65535 → suc (length u.entries) < 2 ^ 64 → FitsGivenUnit (with_entries (u.entries ++ child_of id tag u.entries ∷ []) u)
+child-kept u id tag fits within free small few =
     let child = child_of id tag u.entries in
     let longer : length (u.entries ++ child ∷ []) ≡ suc (length u.entries) = omega (arith, length-append u.entries (child ∷ [])) in
     let low = depth-low u id fits within in
@@ -153,8 +154,9 @@ child-kept u id tag fits within free small =
       lines = fits.lines;
       tree = tree-push u.entries id tag fits.tree within free;
       low = All-append (λ e. e.depth < length (u.entries ++ child ∷ [])) u.entries (child ∷ []) (All-weaker (λ e. e.depth < length u.entries) (λ e. e.depth < length (u.entries ++ child ∷ [])) (λ e h. omega (arith, h, longer)) u.entries fits.low)
-        (All-cons (λ e. e.depth < length (u.entries ++ child ∷ [])) child [] (omega (arith, low, longer)) (All-nil (λ e. e.depth < length (u.entries ++ child ∷ []))));
+          (All-cons (λ e. e.depth < length (u.entries ++ child ∷ [])) child [] (omega (arith, low, longer)) (All-nil (λ e. e.depth < length (u.entries ++ child ∷ []))));
       entries = All-append (FitsEntry u.address_size) u.entries (child ∷ []) fits.entries (All-cons (FitsEntry u.address_size) child [] (record { tag = small; attributes = All-nil (FitsAttribute u.address_size) }) (All-nil (FitsEntry u.address_size)));
+      few = omega (arith, longer, few);
     }
 
 -- ---- the same of the entries that a unit keeps

@@ -136,7 +136,7 @@ after-placing order n lent items now rs r same long is inside sound clear addend
     let wide : length bytes ≡ r.size = number_bytes-length order r.size (cast_unsigned w64 r.addend) in
     let fits : r.offset + length bytes ≤ length items = omega (arith, wide, inside) in
     let others : (length (take n (now ++ drop (length now) items)) ≤ most_bytes) × All (IsWhole order (take n (now ++ drop (length now) items))) rs =
-        after-replacing order n r.offset bytes lent items now rs same long is fits sound (rw (wide) clear) in
+    after-replacing order n r.offset bytes lent items now rs same long is fits sound (rw (wide) clear) in
     let back = overwritten-back n r.offset bytes lent items now same long is fits in
     (others.0, whole-pushed order _ rs r others.1 (rw (back) (whole-placed order items r inside addend target)))
 

@@ -135,6 +135,7 @@ pub record FitsGivenUnit (u : GivenUnit) : Type 0 where
   pub tree : IsTree u.entries
   pub low : All (λ e. e.depth < length u.entries) u.entries
   pub entries : All (FitsEntry u.address_size) u.entries
+  pub few : length u.entries < 2 ^ 64
 
 -- ---- what a writer asks of all units
 

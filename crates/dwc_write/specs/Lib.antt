@@ -13,3 +13,4 @@ pub mod SpelledRelocations
 pub mod ShapeViews
 pub mod SpelledOutput
 pub mod SectionViews
+pub mod ReadBack

@@ -122,7 +122,11 @@ pub fn replace_sized(body: &mut [u8], offset: usize, order: Endian, size: u8, va
     match size {
         1 => replace(body, offset, &[(value % 256) as u8]),
         2 => replace(body, offset, &bytes_2(order, (value % 0x1_0000) as u16)),
-        4 => replace(body, offset, &bytes_4(order, (value % 0x1_0000_0000) as u32)),
+        4 => replace(
+            body,
+            offset,
+            &bytes_4(order, (value % 0x1_0000_0000) as u32),
+        ),
         _ => replace(body, offset, &bytes_8(order, value)),
     }
 }

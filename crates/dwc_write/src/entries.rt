@@ -33,7 +33,7 @@ pub struct Spelling {
 // A unit: its entries behind their header, and the abbreviation table that declares them.
 pub fn write_unit(
     alloc: Global,
-    abbrev: &mut WriterRelocate,
+    tables: &mut WriterRelocate,
     info: &mut WriterRelocate,
     scratch: &mut Vec<u8>,
     spelling: Spelling,
@@ -43,16 +43,16 @@ pub fn write_unit(
     requires size { (spelling.size ≡ 4) ⊎ (spelling.size ≡ 8) }
     requires line { spelling.line_offset ≤ most_bytes }
     requires fits { All (FitsGivenEntry spelling.size) (map entry_view entries.now) }
-    ensures { WritesUnit abbrev.old abbrev.new info.old info.new result spelling.size spelling.line_offset (map entry_view entries.now) }
+    ensures { WritesUnit tables.old tables.new info.old info.new result spelling.size spelling.line_offset (map entry_view entries.now) }
 {
     let mut shapes = Vec::new(alloc);
     let place = info.place();
-    write_header(info, spelling, abbrev.place())?;
+    write_header(info, spelling, tables.place())?;
     write_entries(alloc, info, scratch, spelling, entries, &mut shapes)?;
     info.finish_length(place);
     scratch.clear();
     put_table(scratch, &shapes)?;
-    abbrev.put_bytes(scratch)
+    tables.put_bytes(scratch)
 }
 
 // A header: room for the length, the version, the offset of the abbreviation table, and the size of an address.

@@ -43,19 +43,19 @@ impl Model for LineProgram {
     ghost Value = { GivenLines };
 
     ghost view = { λ p. record {
-        address_size = p.address_size;
-        directories = map (λ d. d.items) p.directories.items;
-        files = map file_view p.files.items;
-        sequences = map sequence_view p.sequences.items;
-        begun = option_map (λ a. record { start_address = a; rows = p.rows.items }) p.start_address;
+      address_size = p.address_size;
+      directories = map (λ d. d.items) p.directories.items;
+      files = map file_view p.files.items;
+      sequences = map sequence_view p.sequences.items;
+      begun = option_map (λ a. record { start_address = a; rows = p.rows.items }) p.start_address;
     } };
 
     ghost invariant = { λ p. FitsLines (record {
-        address_size = p.address_size;
-        directories = map (λ d. d.items) p.directories.items;
-        files = map file_view p.files.items;
-        sequences = map sequence_view p.sequences.items;
-        begun = option_map (λ a. record { start_address = a; rows = p.rows.items }) p.start_address;
+      address_size = p.address_size;
+      directories = map (λ d. d.items) p.directories.items;
+      files = map file_view p.files.items;
+      sequences = map sequence_view p.sequences.items;
+      begun = option_map (λ a. record { start_address = a; rows = p.rows.items }) p.start_address;
     }) };
 }
 

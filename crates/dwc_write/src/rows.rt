@@ -56,7 +56,11 @@ fn put_row(out: &mut Vec<u8>, before: &LineRow, row: &LineRow) -> Result<(), All
     put_flag(out, DW_LNS_set_basic_block, row.basic_block)?;
     put_flag(out, DW_LNS_set_prologue_end, row.prologue_end)?;
     put_flag(out, DW_LNS_set_epilogue_begin, row.epilogue_begin)?;
-    put_flag(out, DW_LNS_negate_stmt, differs(before.is_stmt, row.is_stmt))?;
+    put_flag(
+        out,
+        DW_LNS_negate_stmt,
+        differs(before.is_stmt, row.is_stmt),
+    )?;
     put_number(out, DW_LNS_set_file, before.file, row.file)?;
     put_number(out, DW_LNS_set_column, before.column, row.column)?;
     put_number(out, DW_LNS_set_isa, before.isa, row.isa)?;

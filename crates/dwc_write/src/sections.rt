@@ -7,6 +7,7 @@ ghost use Rattle.dwc_write.specs.declared.error.WriteError.TheVariants.{OutOfMem
 ghost use Rattle.dwc_write.specs.GivenLines.{FitsLines};
 ghost use Rattle.dwc_write.specs.GivenUnits.{AreWritable, FitsGivenUnit};
 ghost use Rattle.dwc_write.specs.SpelledOutput.{IsRefusal, WritesOne, all_units, section_unless_empty, sections_of, spelled_sections};
+ghost use Rattle.dwc_write.specs.ReadBack.{ReadsBack};
 ghost use Rattle.dwc_write.specs.SectionViews.{sections_view};
 ghost use Rattle.dwc_write.specs.Writers.{IsSound};
 
@@ -35,6 +36,7 @@ pub fn write_sections(
     requires { AreWritable dwarf.units.units.items }
     ensures sections { IfOk result (λ s. map section_view s.items ≡ spelled_sections order dwarf.units.units.items) }
     ensures sound { IfOk result (λ s. All (IsSound order) (map section_view s.items)) }
+    ensures read { IfOk result (λ s. ReadsBack order dwarf.units.units.items (map section_view s.items)) }
     ensures large { IfErr result (λ e. IsRefusal order dwarf.units.units.items e) }
 {
     let sections = write_units(alloc, order, &dwarf.units.units)?;

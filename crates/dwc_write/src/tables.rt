@@ -100,11 +100,7 @@ fn write_start(line: &mut WriterRelocate, size: u8, start: Address) -> Result<()
 }
 
 // The fields of a header: how instructions are spelled, the directories and the files.
-fn put_fields(
-    out: &mut Vec<u8>,
-    directories: &[Vec<u8>],
-    files: &[File],
-) -> Result<(), AllocError>
+fn put_fields(out: &mut Vec<u8>, directories: &[Vec<u8>], files: &[File]) -> Result<(), AllocError>
     ensures { OnOk result (out.new.items ≡ out.old.items ++ line_fields_bytes (map (λ d. d.items) directories.now) (map file_view files.now)) }
 {
     let minimum_length = 1;

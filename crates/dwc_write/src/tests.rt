@@ -1,4 +1,8 @@
-//! The bytes of a small module: one unit with a function and two rows.
+//! The bytes of a small module: one unit with a function of two rows.
+ghost use Rattle.std.specs.Prelude.{◌≡◌, ◌∷◌, [], IfOk, Some, None, codes, pos};
+ghost use Rattle.dwc_base.specs.declared.records.Address.TheVariants as address;
+ghost use Rattle.dwc_write.specs.declared.attributes.AttributeValue.TheVariants as value;
+
 use crate::{AttributeValue, Dwarf, LineProgram, Unit, UnitTable, WriteError, write_sections};
 use dwc_base::constants::{
     DW_AT_high_pc, DW_AT_low_pc, DW_AT_stmt_list, DW_FORM_udata, DW_TAG_subprogram,
@@ -19,21 +23,118 @@ const START: Address = Address::Symbol {
     addend: 0,
 };
 
-fn row(offset: u64, line: u64) -> LineRow
-    requires offset { offset < 2 ^ 32 }
-    requires line { line < 2 ^ 32 }
-    ensures { result ≡ record { offset = offset; file = 1; line = line; column = 0; is_stmt = true; basic_block = false; prologue_end = false; epilogue_begin = false; isa = 0; discriminator = 0 } }
-{
-    LineRow {
+const FIRST: LineRow = LineRow {
+    offset: 0,
+    file: 1,
+    line: 2,
+    column: 0,
+    is_stmt: true,
+    basic_block: false,
+    prologue_end: false,
+    epilogue_begin: false,
+    isa: 0,
+    discriminator: 0,
+};
+
+const SECOND: LineRow = LineRow {
+    offset: 15,
+    file: 1,
+    line: 3,
+    column: 0,
+    is_stmt: true,
+    basic_block: false,
+    prologue_end: false,
+    epilogue_begin: false,
+    isa: 0,
+    discriminator: 0,
+};
+
+fn small_program(alloc: Global) -> Result<LineProgram, WriteError> {
+    let mut program = LineProgram::new(alloc, ENCODING)?;
+    let _ = program.add_file(0, b"a.c")?;
+    program.begin_sequence(START)?;
+    program.generate_row(FIRST)?;
+    program.generate_row(SECOND)?;
+    program.end_sequence(30)?;
+    Ok(program)
+}
+
+fn small_unit(alloc: Global) -> Result<Unit, WriteError> {
+    let program = small_program(alloc)?;
+    let mut unit = Unit::new(alloc, ENCODING, program)?;
+    let root = unit.root();
+    unit.set(root, DW_AT_stmt_list, AttributeValue::LineProgramRef)?;
+    let function = unit.add(root, DW_TAG_subprogram)?;
+    unit.set(function, DW_AT_low_pc, AttributeValue::Address(START))?;
+    let length = AttributeValue::Constant {
+        form: DW_FORM_udata,
+        bits: 30,
+    };
+    unit.set(function, DW_AT_high_pc, length)?;
+    Ok(unit)
+}
+
+fn check(
+    rt: &impl Abort,
+    section: &DwarfSection,
+    name: &str,
+    body: &[u8],
+    relocs: &[DwarfSectionReloc],
+) {
+    assert_eq!(rt; section.name, name);
+    assert_eq!(rt; section.body.as_slice(), body);
+    assert_eq!(rt; section.relocs.as_slice(), relocs);
+}
+
+fn to_section(offset: u32, name: &'static str) -> DwarfSectionReloc {
+    DwarfSectionReloc {
+        target: DwarfSectionRelocTarget::Section(name),
         offset,
-        file: 1,
-        line,
-        column: 0,
-        is_stmt: true,
-        basic_block: false,
-        prologue_end: false,
-        epilogue_begin: false,
-        isa: 0,
-        discriminator: 0,
+        addend: 0,
+        size: 4,
     }
+}
+
+fn to_function(offset: u32) -> DwarfSectionReloc {
+    DwarfSectionReloc {
+        target: DwarfSectionRelocTarget::Func(0),
+        offset,
+        addend: 0,
+        size: 8,
+    }
+}
+
+#[test]
+fn small_module(rt: HostRuntime) -> Result<(), Fail> {
+    let alloc = rt.alloc();
+    let mut units = UnitTable::new(alloc);
+    let _ = units.add(small_unit(alloc)?)?;
+    let sections = write_sections(alloc, Dwarf { units }, Endian::Little)?;
+    assert_eq!(rt; sections.len(), 3);
+    check(
+        &rt,
+        &sections[0],
+        ".debug_abbrev",
+        b"\x01\x11\x01\x10\x17\x00\x00\x02\x2e\x00\x11\x01\x12\x0f\x00\x00\x00",
+        &[],
+    );
+    check(
+        &rt,
+        &sections[1],
+        ".debug_info",
+        b"\x17\x00\x00\x00\x04\x00\x00\x00\x00\x00\x08\x01\x00\x00\x00\x00\x02\x00\x00\x00\x00\x00\x00\x00\x00\x1e\x00",
+        &[
+            to_section(6, ".debug_abbrev"),
+            to_section(12, ".debug_line"),
+            to_function(17),
+        ],
+    );
+    check(
+        &rt,
+        &sections[2],
+        ".debug_line",
+        b"\x39\x00\x00\x00\x04\x00\x1b\x00\x00\x00\x01\x01\x01\xfb\x0e\x0d\x00\x01\x01\x01\x01\x00\x00\x00\x01\x00\x00\x01\x00\x61\x2e\x63\x00\x00\x00\x00\x00\x00\x09\x02\x00\x00\x00\x00\x00\x00\x00\x00\x03\x01\x01\x03\x01\x02\x0f\x01\x02\x0f\x00\x01\x01",
+        &[to_function(40)],
+    );
+    Ok(())
 }

@@ -94,7 +94,12 @@ impl Unit {
     }
 
     /// Gives an entry a value under a name: in the place of the value of that name, else behind the others.
-    pub fn set(&mut self, id: UnitEntryId, name: u16, value: AttributeValue) -> Result<(), WriteError>
+    pub fn set(
+        &mut self,
+        id: UnitEntryId,
+        name: u16,
+        value: AttributeValue,
+    ) -> Result<(), WriteError>
         requires known { id.index < length self.old.entries }
         requires name { 0 < name }
         requires fits { FitsValue self.old.address_size name value }

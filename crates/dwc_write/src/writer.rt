@@ -12,7 +12,9 @@ ghost use Rattle.dwc_write.specs.declared.error.Limit.TheVariants.{Section};
 
 use crate::append::{bytes_4, put_sized, replace, replace_sized};
 use crate::{Limit, WriteError};
-use dwc_base::{Address, DwarfSection, DwarfSectionReloc, DwarfSectionRelocTarget, Endian, SectionName};
+use dwc_base::{
+    Address, DwarfSection, DwarfSectionReloc, DwarfSectionRelocTarget, Endian, SectionName,
+};
 use std::alloc::{AllocError, Global};
 use std::marker::Model;
 
@@ -241,17 +243,34 @@ impl Writer for WriterRelocate {
             Address::Constant(value) => put_sized(&mut self.body, self.order, size, value)?,
             Address::Symbol { symbol, addend } => {
                 let reloc = function_reloc(symbol, offset, addend, size);
-                put_field(&mut self.body, &mut self.relocs, self.order, reloc, addend_bits(addend))?;
+                put_field(
+                    &mut self.body,
+                    &mut self.relocs,
+                    self.order,
+                    reloc,
+                    addend_bits(addend),
+                )?;
             }
         }
         Ok(())
     }
 
-    fn write_offset(&mut self, val: usize, section: SectionName, size: u8) -> Result<(), WriteError> {
+    fn write_offset(
+        &mut self,
+        val: usize,
+        section: SectionName,
+        size: u8,
+    ) -> Result<(), WriteError> {
         let offset = self.body.len();
         check_room(offset, usize::from(size), self.name)?;
         let reloc = section_reloc(section, offset, val, size);
-        put_field(&mut self.body, &mut self.relocs, self.order, reloc, val as u64)?;
+        put_field(
+            &mut self.body,
+            &mut self.relocs,
+            self.order,
+            reloc,
+            val as u64,
+        )?;
         Ok(())
     }
 

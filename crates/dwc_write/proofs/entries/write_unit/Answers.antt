@@ -13,7 +13,7 @@ use Rattle.dwc_write.proofs.entries.write_unit.Goals as goal
 
 pub finish_length-requires-clause-clear : goal.finish_length-requires-clause-clear
 finish_length-requires-clause-clear c =
-    let u = unit_of (length c.args.abbrev.now.body) c.args.spelling.line_offset (map entry_view c.args.entries.now) in
+    let u = unit_of (length c.args.tables.now.body) c.args.spelling.line_offset (map entry_view c.args.entries.now) in
     let headed = rw (c.place.ensures.place) at c.in_ok-write_header.ensures in
     let filled = rw (c.new-shapes.ensures.items) at c.in_ok-write_entries.ensures.bytes in
     rw (c.place-place.ensures.place) (unit-clear c.args.spelling.size u c.args.info.now c.write_header.new.info c.write_entries.new.info headed filled c.place-place.ensures.below)
@@ -23,14 +23,14 @@ put_table-requires c = rw (c.deref.ensures.value, c.in_ok-write_entries.ensures.
 
 pub returns-in_err-write_header : goal.returns-in_err-write_header
 returns-in_err-write_header c =
-    let u = unit_of (length c.args.abbrev.now.body) c.args.spelling.line_offset (map entry_view c.args.entries.now) in
+    let u = unit_of (length c.args.tables.now.body) c.args.spelling.line_offset (map entry_view c.args.entries.now) in
     let p = err_from_is_err_and c.from_residual.result c.from_residual.ensures.1 in
     let refused = rw (c.place.ensures.place) at c.in_err-write_header.ensures in
     info-refused _ _ _ _ _ _ c.args.spelling.size c.args.spelling.line_offset (map entry_view c.args.entries.now) _ p refused (header-length c.args.spelling.size u c.args.info.now.order)
 
 pub returns-in_err-write_entries : goal.returns-in_err-write_entries
 returns-in_err-write_entries c =
-    let u = unit_of (length c.args.abbrev.now.body) c.args.spelling.line_offset (map entry_view c.args.entries.now) in
+    let u = unit_of (length c.args.tables.now.body) c.args.spelling.line_offset (map entry_view c.args.entries.now) in
     let p = err_from_is_err_and c.from_residual-in_err-write_entries.result c.from_residual-in_err-write_entries.ensures.1 in
     let headed = rw (c.place.ensures.place) at c.in_ok-write_header.ensures in
     let refused = rw (c.new-shapes.ensures.items) at c.in_err-write_entries.ensures.bytes in
@@ -39,7 +39,7 @@ returns-in_err-write_entries c =
 
 pub returns : goal.returns
 returns c =
-    let u = unit_of (length c.args.abbrev.now.body) c.args.spelling.line_offset (map entry_view c.args.entries.now) in
+    let u = unit_of (length c.args.tables.now.body) c.args.spelling.line_offset (map entry_view c.args.entries.now) in
     let headed = rw (c.place.ensures.place) at c.in_ok-write_header.ensures in
     let filled = rw (c.new-shapes.ensures.items) at c.in_ok-write_entries.ensures.bytes in
     let table = c.deref-2.ensures.value ∙ rw (c.clear.ensures.items, c.deref.ensures.value, c.in_ok-write_entries.ensures.shapes, c.new-shapes.ensures.items) at c.in_ok-put_table.ensures in

@@ -1,6 +1,11 @@
-use Rattle.std.proofs.Common.{ap, ◌∙◌}
+use Rattle.std.proofs.Common.{ap, sym, subst, ◌∙◌, List}
+use Rattle.std.specs.List.{All}
+use Rattle.dwc_base.specs.Outputs.{OutputSection}
+use Rattle.dwc_write.specs.ReadBack.{ReadsBack}
 use Rattle.dwc_write.specs.SpelledOutput.{WrittenSections, sections_of}
-use Rattle.dwc_write.proofs.OutputLaws.{all-appended, if-ok-weaker, output-sections}
+use Rattle.dwc_write.specs.Writers.{IsSound}
+use Rattle.dwc_write.proofs.OutputLaws.{all-appended, if-ok-both, if-ok-weaker, output-sections}
+use Rattle.dwc_write.proofs.ReadBackLaws.{reads-back}
 use Rattle.dwc_write.proofs.sections.write_sections.Goals as goal
 
 pub returns-clause-sections : goal.returns-clause-sections
@@ -12,3 +17,19 @@ pub returns-clause-sound : goal.returns-clause-sound
 returns-clause-sound c =
     let all = (rw (c.deref.ensures.value) at c.in_ok-sections.ensures.ok) ∙ all-appended c.args.order _ c.requires in
     c.gather.ensures.sound c.args.order (ap (λ (w : WrittenSections). w.abbrev_section.order) all) (ap (λ (w : WrittenSections). w.info_section.order) all) (ap (λ (w : WrittenSections). w.line_section.order) all)
+
+pub returns-clause-read : goal.returns-clause-read
+returns-clause-read c =
+    let us = c.args.dwarf.units.units.items in
+    let read = rw (c.deref.ensures.value) at c.in_ok-sections.ensures.ok in
+    let all = read ∙ all-appended c.args.order us c.requires in
+    let fits = rw (c.deref.ensures.value) at c.in_ok-sections.ensures.fits in
+    let lines = rw (c.deref.ensures.value) at c.in_ok-sections.ensures.lines in
+    let P : List OutputSection → Type 0 = λ ss. ReadsBack c.args.order us ss in
+    let Q : List OutputSection → Type 0 = λ ss. All (IsSound c.args.order) ss in
+    if-ok-both c.gather.result _ _ _
+    (λ s is sound.
+    let same = is ∙ ap sections_of read ∙ output-sections c.args.order us c.requires in
+    subst P (sym same) (reads-back c.args.order us c.requires fits lines (subst Q same sound)))
+    c.gather.ensures.sections
+    (c.gather.ensures.sound c.args.order (ap (λ (w : WrittenSections). w.abbrev_section.order) all) (ap (λ (w : WrittenSections). w.info_section.order) all) (ap (λ (w : WrittenSections). w.line_section.order) all))

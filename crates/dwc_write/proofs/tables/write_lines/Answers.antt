@@ -20,7 +20,7 @@ returns-in_err-write_sequences-clause-bytes c =
     let p = err_from_is_err_and c.from_residual-in_err-write_sequences.result c.from_residual-in_err-write_sequences.ensures.1 in
     let fields : c.deref-3.result.now ≡ line_fields_bytes t.directories t.files = c.deref-3.ensures.value ∙ rw (c.clear.ensures.items, c.deref.ensures.value, c.deref-2.ensures.value) at c.in_ok-put_fields.ensures in
     let headed : c.write_header.new.line ≡ appended (front a.order (line_fields_bytes t.directories t.files)) [] a =
-          c.in_ok-write_header.ensures ∙ ap (λ o. appended (front o c.deref-3.result.now) [] a) c.requires.order ∙ ap (λ f. appended (front a.order f) [] a) fields in
+    c.in_ok-write_header.ensures ∙ ap (λ o. appended (front o c.deref-3.result.now) [] a) c.requires.order ∙ ap (λ f. appended (front a.order f) [] a) fields in
     let same = program-table c.args.lines.now c.lines.inside.address_size c.in-Some.field-0 t.directories t.files t.sequences _ (sym c.lines.view_is) c.in-Some.is in
     let long = table-length c.args.size t a c.write_header.new.line headed in
     let all = ap (λ ts. length (lines_bytes a.order c.args.size ts)) same in
@@ -33,7 +33,7 @@ finish_length-requires-clause-clear c =
     let a = c.args.line.now in
     let fields : c.deref-3.result.now ≡ line_fields_bytes t.directories t.files = c.deref-3.ensures.value ∙ rw (c.clear.ensures.items, c.deref.ensures.value, c.deref-2.ensures.value) at c.in_ok-put_fields.ensures in
     let headed : c.write_header.new.line ≡ appended (front a.order (line_fields_bytes t.directories t.files)) [] a =
-          c.in_ok-write_header.ensures ∙ ap (λ o. appended (front o c.deref-3.result.now) [] a) c.requires.order ∙ ap (λ f. appended (front a.order f) [] a) fields in
+    c.in_ok-write_header.ensures ∙ ap (λ o. appended (front o c.deref-3.result.now) [] a) c.requires.order ∙ ap (λ f. appended (front a.order f) [] a) fields in
     let filled = rw (c.deref-4.ensures.value) at c.in_ok-write_sequences.ensures in
     rw (c.place-place.ensures.place) (table-clear c.args.size t a c.write_header.new.line c.write_sequences.new.line headed filled c.place-place.ensures.below)
 
@@ -43,7 +43,7 @@ returns-clause-bytes c =
     let a = c.args.line.now in
     let fields : c.deref-3.result.now ≡ line_fields_bytes t.directories t.files = c.deref-3.ensures.value ∙ rw (c.clear.ensures.items, c.deref.ensures.value, c.deref-2.ensures.value) at c.in_ok-put_fields.ensures in
     let headed : c.write_header.new.line ≡ appended (front a.order (line_fields_bytes t.directories t.files)) [] a =
-          c.in_ok-write_header.ensures ∙ ap (λ o. appended (front o c.deref-3.result.now) [] a) c.requires.order ∙ ap (λ f. appended (front a.order f) [] a) fields in
+    c.in_ok-write_header.ensures ∙ ap (λ o. appended (front o c.deref-3.result.now) [] a) c.requires.order ∙ ap (λ f. appended (front a.order f) [] a) fields in
     let filled = rw (c.deref-4.ensures.value) at c.in_ok-write_sequences.ensures in
     let same = program-table c.args.lines.now c.lines.inside.address_size c.in-Some.field-0 t.directories t.files t.sequences _ (sym c.lines.view_is) c.in-Some.is in
     table-appended c.args.size t a c.write_header.new.line c.write_sequences.new.line headed filled c.finish_length.new.self (rw (c.place-place.ensures.place) at c.finish_length.ensures)

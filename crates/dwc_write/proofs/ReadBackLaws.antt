@@ -1,0 +1,522 @@
+-- The sections that are spelled of given units are read back as those units: `reads-back`.
+use Rattle.std.proofs.Common.{◌≡◌, ℕ, zero, suc, ◌+◌, ◌-◌, ◌*◌, ◌^◌, ◌<◌, ◌≤◌, ◌⊎◌, inl, inr, refl, sym, ap, subst, ◌∙◌, arith, List, [], ◌∷◌, ◌++◌, append_assoc, append-nil, length, length-append, map, get_or, lit<, lit≤, Option, Some, None, Ok, Bool, true, false, cond, eqb, ltb}
+use Rattle.std.proofs.Math.Facts.{sfits_to_z}
+use Rattle.std.proofs.lemmas.Int.{ints}
+use Rattle.dwc_base.specs.Reading.{is_64_bit}
+use Rattle.std.specs.Prelude.{ℤ, pos, ◌-ℤ◌, int_lt, int_le, FitsSigned, ◌==◌, ◌&&◌, if◌then◌else◌, is_some, option_map, option_and_then, slice_get, nat_lt}
+use Rattle.std.specs.List.{All, AllZip, flat_map, filter_map, find}
+use Rattle.std.specs.Int.{w64, cast_signed}
+use Rattle.std.proofs.lemmas.Bool.{lt-ltb, eqb-true, eq-eqb}
+use Rattle.std.proofs.lemmas.List.Elements.{All-head, All-tail, All-cons, All-nil, All-append, All-weaker, All-map}
+use Rattle.dwc_base.specs.declared.records.Endian.{Endian}
+use Rattle.dwc_base.specs.declared.section_name.SectionName.{SectionName}
+use Rattle.dwc_base.specs.declared.section_name.SectionName.TheVariants.{Abbrev, Info, Line}
+use Rattle.dwc_base.specs.declared.constants.TheConstants.{DW_AT_stmt_list, DW_FORM_data1, DW_FORM_data2, DW_FORM_data4, DW_FORM_data8, DW_FORM_sdata}
+use Rattle.dwc_base.specs.Abbreviations.{AttributeSpec, Declaration, declaration_of}
+use Rattle.dwc_base.specs.declared.records.LineRow.{LineRow}
+use Rattle.dwc_base.specs.LineRows.{line_table, source_file, in_directory, named_row}
+use Rattle.dwc_base.specs.Sections.{Sections}
+use Rattle.dwc_base.specs.Values.{Value, line_reference}
+use Rattle.dwc_base.specs.Entries.{Entry, attribute}
+use Rattle.dwc_base.specs.Carried.{Unit, units, root, line_offset, table_of_root, table_of_unit, segments_of_unit}
+use Rattle.dwc_base.specs.Outputs.{OutputRelocation, OutputSection, function_relocation, output_sections}
+use Rattle.dwc_write.specs.Spelled.{uleb_bytes, at_places, number_bytes}
+use Rattle.dwc_write.specs.SpelledTables.{FitsSpec, FitsDeclaration, AreNumbered, table_bytes}
+use Rattle.dwc_write.specs.SpelledAddresses.{relocations_of}
+use Rattle.dwc_write.specs.SpelledUnits as spelled
+use Rattle.dwc_write.specs.SpelledUnits.{Written, as_addr, as_data1, as_data2, as_data4, as_data8, as_udata, as_sdata, form_number, FitsWritten, written_value, WrittenAttribute, spec_of, WrittenEntry, Shaped, next_depth, shaped, declaration_for, entry_bytes, entries_bytes, read_entry, read_entries, header_length, unit_body}
+use Rattle.dwc_write.specs.SpelledLines.{FitsSequence, WrittenSequence, line_body, sequences_instructions, read_segment}
+use Rattle.dwc_write.specs.SpelledSections.{WrittenUnit, placed_unit_bytes, tables_bytes, info_bytes, info_fields, read_unit, read_units, FitsUnit, AreTablesFrom, WrittenTable, one_table_bytes, lines_bytes, lines_fields, PlacedTable, placed_tables, read_table, FitsTable}
+use Rattle.dwc_write.specs.SpelledRelocations.{info_relocations, lines_relocations}
+use Rattle.dwc_write.specs.declared.attributes.Attribute.{Attribute}
+use Rattle.dwc_write.specs.declared.attributes.AttributeValue.{AttributeValue}
+use Rattle.dwc_write.specs.declared.attributes.AttributeValue.TheVariants.{Address, Constant, Flag, LineProgramRef}
+use Rattle.dwc_write.specs.declared.abbreviations.AttributeForm.{AttributeForm}
+use Rattle.dwc_write.specs.GivenLines.{GivenLines, FitsLines, FitsSequences, FitsGivenSequence, BegunSequence}
+use Rattle.dwc_write.specs.GivenUnits.{GivenEntry, GivenUnit, IsOfSize, constant_of, written_of, is_constant_form, constant_bound, FitsValue, FitsAttribute, AreBelow, IsTree, FitsEntry, FitsGivenUnit, is_lines, names_lines_in, names_lines, IsWritable, size_of, AreWritable, EntryShape, form_of, forms_of, first_depth, shape_of, shapes_of, same_forms, same_flag, same_shape, place_in, with_use, first_uses, code_in, spec_of_form, numbered, shapes_in, written_attribute, written_entries, written_unit, written_lines, written_units, written_tables}
+use Rattle.dwc_write.specs.SpelledOutput.{section_unless_empty, abbrev_bytes, all_info_bytes, all_lines_bytes, spelled_sections}
+use Rattle.dwc_write.specs.ReadBack.{given_file, given_row, given_segments, given_segment, Contents, read_contents, given_contents, given_value, IsReadUnit, ReadsBack}
+use Rattle.dwc_write.specs.Writers.{IsSound, most_bytes}
+use Rattle.dwc_write.proofs.ReadNumbers.{number_bytes-length}
+use Rattle.dwc_write.proofs.ReadTables.{numbered-found}
+use Rattle.dwc_write.proofs.ReadRelocations.{info-functions, lines-functions, at_places-append}
+use Rattle.dwc_write.proofs.ReadValues.{All-back}
+use Rattle.dwc_write.proofs.ReadSections.{units-read, lines-read, segments-read}
+use Rattle.dwc_write.proofs.LineLaws.{field-address}
+use Rattle.dwc_write.proofs.EntriesLaws.{code-stays, code-there, next-first}
+
+-- ---- values
+
+-- a form does not hang on where the line table stands
+form-same : (l : ℕ) (v : AttributeValue) → form_number (written_of l v) ≡ form_number (written_of 0 v)
+form-same l (Address a) = refl
+form-same l (Constant form bits) = refl
+form-same l (Flag b) = refl
+form-same l LineProgramRef = refl
+
+forms-same : (l : ℕ) (xs : List Attribute) → map spec_of (map (written_attribute l) xs) ≡ map spec_of_form (forms_of xs)
+forms-same l [] = refl
+forms-same l (x ∷ xs) = ap (λ (f : ℕ). record { name = x.name; form = f; implicit = pos 0 } ∷ map spec_of (map (written_attribute l) xs)) (form-same l x.value) ∙ ap (λ ys. spec_of_form (form_of x) ∷ ys) (forms-same l xs)
+
+signed-64 : (z : ℤ) → FitsSigned w64 z → is_64_bit z ≡ true
+signed-64 z fits =
+    let above : int_lt z (pos 0 -ℤ pos (2 ^ 63)) ≡ false = grind (arith, ints) in
+    let below : int_le (pos (2 ^ 63)) z ≡ false = grind (arith, ints) in
+    rw (above, below) refl
+
+signed-fits : (size bits : ℕ) → bits < 2 ^ 64 → FitsWritten size (as_sdata (cast_signed w64 bits))
+signed-fits size bits small = signed-64 (cast_signed w64 bits) (sfits_to_z (record { fits = small }))
+
+constant-fits : (size : ℕ) (a b c d f : Bool) (bits : ℕ) → bits < (if a then 256 ^ 1 else (if b then 256 ^ 2 else (if c then 256 ^ 4 else 2 ^ 64)))
+    → FitsWritten size (if a then as_data1 bits else (if b then as_data2 bits else (if c then as_data4 bits else (if d then as_data8 bits else (if f then as_sdata (cast_signed w64 bits) else as_udata bits)))))
+constant-fits size true b c d f bits small = small
+constant-fits size false true c d f bits small = small
+constant-fits size false false true d f bits small = small
+constant-fits size false false false true f bits small = omega (arith, small)
+constant-fits size false false false false true bits small = signed-fits size bits small
+constant-fits size false false false false false bits small = small
+
+value-fits : (size l : ℕ) (a : Attribute) → l < 256 ^ 4 → FitsAttribute size a → FitsWritten size (written_of l a.value)
+value-fits size l a near fits = go a.value fits.value
+  where
+    go : (v : AttributeValue) → FitsValue size a.name v → FitsWritten size (written_of l v)
+    go (Address x) h = field-address size x h
+    go (Constant form bits) h = constant-fits size (form == DW_FORM_data1) (form == DW_FORM_data2) (form == DW_FORM_data4) (form == DW_FORM_data8) (form == DW_FORM_sdata) bits h.1
+    go (Flag b) h = tt
+    go LineProgramRef h = near
+
+values-fit : (size l : ℕ) (xs : List Attribute) → l < 256 ^ 4 → All (FitsAttribute size) xs → All (λ a. FitsWritten size a.value) (map (written_attribute l) xs)
+values-fit size l [] near fits = All-nil _
+values-fit size l (x ∷ xs) near fits =
+    All-cons (λ (a : WrittenAttribute). FitsWritten size a.value) (written_attribute l x) (map (written_attribute l) xs) (value-fits size l x near (All-head (FitsAttribute size) x xs fits)) (values-fit size l xs near (All-tail (FitsAttribute size) x xs fits))
+
+-- ---- codes
+
+same_forms-equal : (xs ys : List AttributeForm) → same_forms xs ys ≡ true → xs ≡ ys
+same_forms-equal [] [] h = refl
+same_forms-equal [] (y ∷ ys) h = absurd (cc)
+same_forms-equal (x ∷ xs) [] h = absurd (cc)
+same_forms-equal (x ∷ xs) (y ∷ ys) h = go (x.name == y.name) refl (x.form == y.form) refl (same_forms xs ys) refl h (same_forms-equal xs ys)
+  where
+    go : (a : Bool) → (x.name == y.name) ≡ a → (b : Bool) → (x.form == y.form) ≡ b → (c : Bool) → same_forms xs ys ≡ c → (a && (b && c)) ≡ true → (same_forms xs ys ≡ true → xs ≡ ys) → x ∷ xs ≡ y ∷ ys
+    go true n true f true s h others =
+        let name : x.name ≡ y.name = eqb-true _ _ n in
+        let form : x.form ≡ y.form = eqb-true _ _ f in
+        let both : x ≡ y = rw (name, form) refl in
+        rw (both) (ap (λ zs. y ∷ zs) (others s))
+    go true n true f false s h others = absurd (cc)
+    go true n false f c s h others = absurd (cc)
+    go false n b f c s h others = absurd (cc)
+
+same_flag-equal : (a b : Bool) → same_flag a b ≡ true → a ≡ b
+same_flag-equal true true h = refl
+same_flag-equal true false h = absurd (cc)
+same_flag-equal false true h = absurd (cc)
+same_flag-equal false false h = refl
+
+same_shape-equal : (s t : EntryShape) → same_shape s t ≡ true → s ≡ t
+same_shape-equal s t h = go (s.tag == t.tag) refl (same_flag s.has_children t.has_children) refl (same_forms s.attributes t.attributes) refl h
+  where
+    go : (a : Bool) → (s.tag == t.tag) ≡ a → (b : Bool) → same_flag s.has_children t.has_children ≡ b → (c : Bool) → same_forms s.attributes t.attributes ≡ c → (a && (b && c)) ≡ true → s ≡ t
+    go true n true f true m h =
+        let tag : s.tag ≡ t.tag = eqb-true _ _ n in
+        let flag : s.has_children ≡ t.has_children = same_flag-equal s.has_children t.has_children f in
+        let forms : s.attributes ≡ t.attributes = same_forms-equal s.attributes t.attributes m in
+        rw (tag, flag, forms) refl
+    go true n true f false m h = absurd (cc)
+    go true n false f c m h = absurd (cc)
+    go false n b f c m h = absurd (cc)
+
+-- at a shape's place stands the shape
+place-found : (s d : EntryShape) (known : List EntryShape) → place_in s known < length known → get_or known (place_in s known) d ≡ s
+place-found s d [] within = absurd (omega arith)
+place-found s d (t ∷ ts) within = go (same_shape t s) refl within (place-found s d ts)
+  where
+    go : (b : Bool) → same_shape t s ≡ b → (if b then 0 else suc (place_in s ts)) < suc (length ts) → (place_in s ts < length ts → get_or ts (place_in s ts) d ≡ s) → get_or (t ∷ ts) (if b then 0 else suc (place_in s ts)) d ≡ s
+    go true e h others = same_shape-equal t s e
+    go false e h others = others (omega (arith, h))
+
+numbered-numbers : (code : ℕ) (ss : List EntryShape) → AreNumbered code (numbered code ss)
+numbered-numbers code [] = tt
+numbered-numbers code (s ∷ ss) = (refl, numbered-numbers (suc code) ss)
+
+numbered-length : (code : ℕ) (ss : List EntryShape) → length (numbered code ss) ≡ length ss
+numbered-length code [] = refl
+numbered-length code (s ∷ ss) = ap suc (numbered-length (suc code) ss)
+
+-- a declaration with a code
+abbrev declared : ℕ → EntryShape → Declaration
+declared code s = record { code = code; tag = s.tag; has_children = s.has_children; attributes = map spec_of_form s.attributes }
+
+numbered-at : (code : ℕ) (ss : List EntryShape) (k : ℕ) (d : EntryShape) (e : Declaration) → k < length ss → get_or (numbered code ss) k e ≡ declared (code + k) (get_or ss k d)
+numbered-at code [] k d e within = absurd (omega arith)
+numbered-at code (s ∷ ss) zero d e within = ap (λ n. declared n s) (omega arith)
+numbered-at code (s ∷ ss) (suc k) d e within = numbered-at (suc code) ss k d e (omega arith) ∙ ap (λ n. declared n (get_or ss k d)) (omega arith)
+
+code-declared : (s : EntryShape) (shapes : List EntryShape) → place_in s shapes < length shapes → declaration_of (code_in shapes s) (numbered 1 shapes) ≡ Some (declared (code_in shapes s) s)
+code-declared s shapes within =
+    let k = place_in s shapes in
+    let found = numbered-found 1 (numbered 1 shapes) k (declared 0 s) (numbered-numbers 1 shapes) (omega (arith, within, numbered-length 1 shapes)) in
+    let code : 1 + k ≡ code_in shapes s = omega arith in
+    ap (λ c. declaration_of c (numbered 1 shapes)) (sym code) ∙ found ∙ ap Some (numbered-at 1 shapes k s (declared 0 s) within ∙ ap (λ t. declared (1 + k) t) (place-found s s shapes within) ∙ ap (λ c. declared c s) code)
+
+-- ---- entries
+
+entries-fit : (size l : ℕ) (known uses : List EntryShape) (es : List GivenEntry) → l < 256 ^ 4 → length uses < 2 ^ 64 → first_uses known (shapes_of es) ≡ uses → All (FitsEntry size) es → All (spelled.FitsEntry (numbered 1 uses) size) (shaped (written_entries l uses es))
+entries-fit size l known uses [] near few used fits = All-nil _
+entries-fit size l known uses (e ∷ es) near few used fits =
+    let s = shape_of e es in
+    let there : place_in s uses < length uses = rw (used) at (code-there s known (shapes_of es)) in
+    let found = code-declared s uses there in
+    let others = entries-fit size l (with_use s known) uses es near few used (All-tail (FitsEntry size) e es fits) in
+    let here = All-head (FitsEntry size) e es fits in
+    All-cons (spelled.FitsEntry (numbered 1 uses) size) _ (shaped (written_entries l uses es))
+    (record {
+      some = omega arith;
+      code = omega (arith, there, few);
+      declared = found ∙ ap Some (ap (λ d. record { code = code_in uses s; tag = e.tag; has_children = nat_lt e.depth d; attributes = map spec_of_form (forms_of e.attributes) }) (sym (next-first l uses es)) ∙ ap (λ xs. record { code = code_in uses s; tag = e.tag; has_children = nat_lt e.depth (next_depth (written_entries l uses es)); attributes = xs }) (sym (forms-same l e.attributes)));
+      values = values-fit size l e.attributes near here.attributes;
+    })
+    others
+
+below-written : (l depth : ℕ) (uses : List EntryShape) (es : List GivenEntry) → AreBelow depth es → spelled.AreBelow depth (written_entries l uses es)
+below-written l depth uses [] below = tt
+below-written l depth uses (e ∷ es) below = (below.0, below.1, below-written l e.depth uses es below.2)
+
+tree-written : (l : ℕ) (uses : List EntryShape) (es : List GivenEntry) → IsTree es → spelled.IsTree (written_entries l uses es)
+tree-written l uses [] tree = absurd tree
+tree-written l uses (e ∷ es) tree = (tree.0, below-written l 0 uses es tree.1)
+
+-- ---- declarations
+
+use-length : (s : EntryShape) (known : List EntryShape) → length (with_use s known) ≤ suc (length known)
+use-length s known = go (ltb (place_in s known) (length known))
+  where
+    go : (b : Bool) → length (if b then known else known ++ s ∷ []) ≤ suc (length known)
+    go true = omega arith
+    go false = omega (arith, length-append known (s ∷ []))
+
+uses-length : (known : List EntryShape) (es : List GivenEntry) → length (first_uses known (shapes_of es)) ≤ length known + length es
+uses-length known [] = omega arith
+uses-length known (e ∷ es) = omega (arith, uses-length (with_use (shape_of e es) known) es, use-length (shape_of e es) known)
+
+-- a shape that can be declared
+record FitsShape (s : EntryShape) : Type 0 where
+  tag : s.tag ≤ 65535
+  attributes : All (λ f. FitsSpec (spec_of_form f)) s.attributes
+
+constant-small : (a b c d f : Bool) (bits : ℕ) → form_number (if a then as_data1 bits else (if b then as_data2 bits else (if c then as_data4 bits else (if d then as_data8 bits else (if f then as_sdata (cast_signed w64 bits) else as_udata bits))))) < 2 ^ 64
+constant-small true b c d f bits = lit< tt
+constant-small false true c d f bits = lit< tt
+constant-small false false true d f bits = lit< tt
+constant-small false false false true f bits = lit< tt
+constant-small false false false false true bits = lit< tt
+constant-small false false false false false bits = lit< tt
+
+form-small : (v : AttributeValue) → form_number (written_of 0 v) < 2 ^ 64
+form-small (Address a) = lit< tt
+form-small (Constant form bits) = constant-small (form == DW_FORM_data1) (form == DW_FORM_data2) (form == DW_FORM_data4) (form == DW_FORM_data8) (form == DW_FORM_sdata) bits
+form-small (Flag b) = lit< tt
+form-small LineProgramRef = lit< tt
+
+forms-fit : (size : ℕ) (xs : List Attribute) → All (FitsAttribute size) xs → All (λ f. FitsSpec (spec_of_form f)) (forms_of xs)
+forms-fit size [] fits = All-nil _
+forms-fit size (x ∷ xs) fits =
+    let here = All-head (FitsAttribute size) x xs fits in
+    All-cons (λ (f : AttributeForm). FitsSpec (spec_of_form f)) (form_of x) (forms_of xs) (record { some = here.some; name = here.name; form = form-small x.value; implicit = refl; plain = λ e. refl })
+    (forms-fit size xs (All-tail (FitsAttribute size) x xs fits))
+
+use-fits : (s : EntryShape) (known : List EntryShape) → FitsShape s → All FitsShape known → All FitsShape (with_use s known)
+use-fits s known fits all = go (ltb (place_in s known) (length known))
+  where
+    go : (b : Bool) → All FitsShape (if b then known else known ++ s ∷ [])
+    go true = all
+    go false = All-append FitsShape known (s ∷ []) all (All-cons FitsShape s [] fits (All-nil FitsShape))
+
+uses-fit : (size : ℕ) (known : List EntryShape) (es : List GivenEntry) → All (FitsEntry size) es → All FitsShape known → All FitsShape (first_uses known (shapes_of es))
+uses-fit size known [] fits all = all
+uses-fit size known (e ∷ es) fits all =
+    let here = All-head (FitsEntry size) e es fits in
+    uses-fit size (with_use (shape_of e es) known) es (All-tail (FitsEntry size) e es fits) (use-fits (shape_of e es) known (record { tag = here.tag; attributes = forms-fit size e.attributes here.attributes }) all)
+
+numbered-fit : (code : ℕ) (ss : List EntryShape) → 0 < code → code + length ss ≤ 2 ^ 64 → All FitsShape ss → All FitsDeclaration (numbered code ss)
+numbered-fit code [] some small fits = All-nil _
+numbered-fit code (s ∷ ss) some small fits =
+    let here = All-head FitsShape s ss fits in
+    All-cons FitsDeclaration (declared code s) (numbered (suc code) ss)
+    (record { some = some; code = omega (arith, small); tag = here.tag; attributes = All-map FitsSpec spec_of_form s.attributes here.attributes })
+    (numbered-fit (suc code) ss (omega arith) (omega (arith, small)) (All-tail FitsShape s ss fits))
+
+-- ---- all units
+
+lengths-both : {A : Type 0} (f : A → List ℕ) (xs ys : List A) → length (flat_map f (xs ++ ys)) ≡ length (flat_map f xs) + length (flat_map f ys)
+lengths-both f [] ys = omega arith
+lengths-both f (x ∷ xs) ys = omega (arith, lengths-both f xs ys, length-append (f x) (flat_map f (xs ++ ys)), length-append (f x) (flat_map f xs))
+
+body-shorter : (order : Endian) (size : ℕ) (u : WrittenUnit) → length (unit_body order size u.table_offset u.entries) ≤ length (placed_unit_bytes order size u)
+body-shorter order size u =
+    let body = unit_body order size u.table_offset u.entries in
+    omega (arith, length-append (number_bytes order 4 (length body)) body)
+
+units-fit : (order : Endian) (size a l : ℕ) (us : List GivenUnit) → All (λ u. u.address_size ≡ size) us → All FitsGivenUnit us
+    → a + length (tables_bytes (written_units order size a l us)) ≤ most_bytes → l + length (lines_bytes order size (written_tables us)) ≤ most_bytes → length (info_bytes order size (written_units order size a l us)) ≤ most_bytes
+    → All (FitsUnit order size) (written_units order size a l us)
+units-fit order size a l [] sized fits tables lines info = All-nil _
+units-fit order size a l (u ∷ us) sized fits tables lines info =
+    let here = All-head FitsGivenUnit u us fits in
+    let same : u.address_size ≡ size = All-head (λ (v : GivenUnit). v.address_size ≡ size) u us sized in
+    let P : ℕ → Type 0 = λ n. All (FitsEntry n) u.entries in
+    let entries : All (FitsEntry size) u.entries = subst P same here.entries in
+    let unit = written_unit a l u in
+    let few = here.few in
+    let rest = written_units order size (a + length (table_bytes unit.table)) (l + length (lines_bytes order size (written_lines u.lines))) us in
+    let long = uses-length [] u.entries in
+    All-cons (FitsUnit order size) unit rest
+    (record {
+      offset = omega (arith, tables);
+      short = omega (arith, info, body-shorter order size unit, length-append (placed_unit_bytes order size unit) (info_bytes order size rest));
+      table = numbered-fit 1 (shapes_in u) (lit< tt) (omega (arith, long, few)) (uses-fit size [] u.entries entries (All-nil FitsShape));
+      entries = entries-fit size l [] (shapes_in u) u.entries (omega (arith, lines)) (omega (arith, long, few)) refl entries;
+      tree = tree-written l (shapes_in u) u.entries here.tree;
+    })
+    (units-fit order size (a + length (table_bytes unit.table)) (l + length (lines_bytes order size (written_lines u.lines))) us (All-tail (λ (v : GivenUnit). v.address_size ≡ size) u us sized) (All-tail FitsGivenUnit u us fits)
+    (omega (arith, tables, length-append (table_bytes unit.table) (tables_bytes rest))) (omega (arith, lines, lengths-both (one_table_bytes order size) (written_lines u.lines) (written_tables us))) (omega (arith, info, length-append (placed_unit_bytes order size unit) (info_bytes order size rest))))
+
+tables-from : (order : Endian) (size : ℕ) (us : List GivenUnit) (a l : ℕ) → AreTablesFrom a (written_units order size a l us)
+tables-from order size [] a l = tt
+tables-from order size (u ∷ us) a l = (refl, tables-from order size us (a + length (table_bytes (numbered 1 (shapes_in u)))) (l + length (lines_bytes order size (written_lines u.lines))))
+
+-- ---- all line tables
+
+abbrev lines_for : Option ℕ → GivenLines → List WrittenTable
+lines_for None g = []
+lines_for (Some n) g = record { directories = g.directories; files = g.files; sequences = g.sequences } ∷ []
+
+lines-are : (g : GivenLines) → written_lines g ≡ lines_for g.address_size g
+lines-are g = go g.address_size
+  where
+    go : (n : Option ℕ) → ◌≡◌ {A = List WrittenTable} (elim n [ None ↦ [] | Some size ↦ record { directories = g.directories; files = g.files; sequences = g.sequences } ∷ [] ]) (lines_for n g)
+    go None = refl
+    go (Some n) = refl
+
+line-body-shorter : (order : Endian) (size : ℕ) (t : WrittenTable) → length (line_body order size t.directories t.files (sequences_instructions t.sequences)) ≤ length (one_table_bytes order size t)
+line-body-shorter order size t =
+    let body = line_body order size t.directories t.files (sequences_instructions t.sequences) in
+    omega (arith, length-append (number_bytes order 4 (length body)) body)
+
+table-fits : (order : Endian) (size : ℕ) (g : GivenLines) → FitsLines g → (n : ℕ) → n ≡ size → FitsSequences (Some n) g.sequences g.begun → length (line_body order size g.directories g.files (sequences_instructions g.sequences)) < 0xFFFFFFF0
+    → FitsTable order size (record { directories = g.directories; files = g.files; sequences = g.sequences })
+table-fits order size g fits n same sequences short =
+    let P : ℕ → Type 0 = λ m. All (FitsGivenSequence m) g.sequences in
+    record { directories = fits.directories; files = fits.files; sequences = All-weaker (FitsGivenSequence size) (FitsSequence size) (λ q h. h.sequence) g.sequences (subst P same sequences.0); short = short }
+
+tables-fit : (order : Endian) (size : ℕ) (us : List GivenUnit) → All (λ u. u.address_size ≡ size) us → All FitsGivenUnit us → All (λ u. FitsLines u.lines) us → length (lines_bytes order size (written_tables us)) ≤ most_bytes → All (FitsTable order size) (written_tables us)
+tables-fit order size [] sized fits lines short = All-nil _
+tables-fit order size (u ∷ us) sized fits lines short =
+    let g = u.lines in
+    let same : u.address_size ≡ size = All-head (λ (v : GivenUnit). v.address_size ≡ size) u us sized in
+    let total = lengths-both (one_table_bytes order size) (written_lines g) (written_tables us) in
+    let here = All-head (λ (v : GivenUnit). FitsLines v.lines) u us lines in
+    let unit = All-head FitsGivenUnit u us fits in
+    let others = tables-fit order size us (All-tail (λ (v : GivenUnit). v.address_size ≡ size) u us sized) (All-tail FitsGivenUnit u us fits) (All-tail (λ (v : GivenUnit). FitsLines v.lines) u us lines) (omega (arith, short, total)) in
+    let own : length (lines_bytes order size (lines_for g.address_size g)) ≤ most_bytes = rw (← lines-are g) (omega (arith, short, total)) in
+    All-append (FitsTable order size) (written_lines g) (written_tables us) (rw (lines-are g) (go g.address_size unit.lines here.sequences same own here)) others
+  where
+    go : (n : Option ℕ) → IsOfSize u.address_size n → FitsSequences n u.lines.sequences u.lines.begun → u.address_size ≡ size → length (lines_bytes order size (lines_for n u.lines)) ≤ most_bytes → FitsLines u.lines → All (FitsTable order size) (lines_for n u.lines)
+    go None sized sequences same own fits = All-nil _
+    go (Some n) sized sequences same own fits =
+        let t : WrittenTable = record { directories = u.lines.directories; files = u.lines.files; sequences = u.lines.sequences } in
+        All-cons (FitsTable order size) t [] (table-fits order size u.lines fits n (sized ∙ same) sequences (omega (arith, own, line-body-shorter order size t, length-append (one_table_bytes order size t) []))) (All-nil (FitsTable order size))
+
+-- ---- what is read of each unit
+
+attributes-read : (l : ℕ) (xs : List Attribute) → map (λ (a : WrittenAttribute). (a.name, written_value a.name a.value)) (map (written_attribute l) xs) ≡ map (given_value l) xs
+attributes-read l [] = refl
+attributes-read l (x ∷ xs) = ap (λ ys. given_value l x ∷ ys) (attributes-read l xs)
+
+abbrev shaped_contents : Shaped → Contents
+shaped_contents x = record { depth = x.entry.depth; tag = x.entry.tag; attributes = map (λ (a : WrittenAttribute). (a.name, written_value a.name a.value)) x.entry.attributes }
+
+places-contents : (order : Endian) (size : ℕ) (xs : List Shaped) (place : ℕ) → map read_contents (at_places (entry_bytes order size) (λ p x. read_entry p x ∷ []) place xs) ≡ map shaped_contents xs
+places-contents order size [] place = refl
+places-contents order size (x ∷ xs) place = ap (λ ys. shaped_contents x ∷ ys) (places-contents order size xs (place + length (entry_bytes order size x)))
+
+contents-given : (l : ℕ) (uses : List EntryShape) (es : List GivenEntry) → map shaped_contents (shaped (written_entries l uses es)) ≡ map (given_contents l) es
+contents-given l uses [] = refl
+contents-given l uses (e ∷ es) =
+    ap (λ xs. record { depth = e.depth; tag = e.tag; attributes = xs } ∷ map shaped_contents (shaped (written_entries l uses es))) (attributes-read l e.attributes)
+    ∙ ap (λ ys. given_contents l e ∷ ys) (contents-given l uses es)
+
+-- whether the root names the line table
+abbrev named_offset : ℕ → Bool → Option ℕ
+named_offset l true = Some l
+named_offset l false = None
+
+constant-unnamed : (name : ℕ) (a b c d f : Bool) (bits : ℕ) → line_offset (Some (written_value name (if a then as_data1 bits else (if b then as_data2 bits else (if c then as_data4 bits else (if d then as_data8 bits else (if f then as_sdata (cast_signed w64 bits) else as_udata bits))))))) ≡ None
+constant-unnamed name true b c d f bits = refl
+constant-unnamed name false true c d f bits = refl
+constant-unnamed name false false true d f bits = refl
+constant-unnamed name false false false true f bits = refl
+constant-unnamed name false false false false true bits = refl
+constant-unnamed name false false false false false bits = refl
+
+value-named : (l : ℕ) (v : AttributeValue) → line_offset (Some (written_value DW_AT_stmt_list (written_of l v))) ≡ named_offset l (is_lines v)
+value-named l (Address a) = refl
+value-named l (Constant form bits) = constant-unnamed DW_AT_stmt_list (form == DW_FORM_data1) (form == DW_FORM_data2) (form == DW_FORM_data4) (form == DW_FORM_data8) (form == DW_FORM_sdata) bits
+value-named l (Flag b) = refl
+value-named l LineProgramRef = refl
+
+abbrev found_in : List (ℕ × Value) → Option Value
+found_in xs = option_map (λ a. a.1) (find (λ a. a.0 == DW_AT_stmt_list) xs)
+
+lines-named : (l : ℕ) (xs : List Attribute) → line_offset (found_in (map (given_value l) xs)) ≡ named_offset l (names_lines_in xs)
+lines-named l [] = refl
+lines-named l (x ∷ xs) = go (x.name == DW_AT_stmt_list) refl (lines-named l xs)
+  where
+    go : (b : Bool) → (x.name == DW_AT_stmt_list) ≡ b → line_offset (found_in (map (given_value l) xs)) ≡ named_offset l (names_lines_in xs)
+        → line_offset (option_map (λ (a : ℕ × Value). a.1) (cond b (Some (given_value l x)) (find (λ a. a.0 == DW_AT_stmt_list) (map (given_value l) xs)))) ≡ named_offset l (if b then is_lines x.value else names_lines_in xs)
+    go true e others = let name : x.name ≡ DW_AT_stmt_list = eqb-true _ _ e in ap (λ n. line_offset (Some (written_value n (written_of l x.value)))) name ∙ value-named l x.value
+    go false e others = others
+
+-- the files, rows and sequences of a table that is read are those that were given
+file-same : (order : Endian) (size : ℕ) (g : GivenLines) (p : PlacedTable) → p.table ≡ record { directories = g.directories; files = g.files; sequences = g.sequences } → (n : ℕ) → source_file (read_table order size p) n ≡ given_file g n
+file-same order size g p is zero = refl
+file-same order size g p is (suc n) = ap (λ (t : WrittenTable). option_and_then (in_directory t.directories) (slice_get t.files n)) is
+
+rows-same : (order : Endian) (size : ℕ) (g : GivenLines) (p : PlacedTable) → p.table ≡ record { directories = g.directories; files = g.files; sequences = g.sequences } → (rs : List LineRow) → map (named_row (read_table order size p)) rs ≡ map (given_row g) rs
+rows-same order size g p is [] = refl
+rows-same order size g p is (r ∷ rs) =
+    ap (λ f. record { offset = r.offset; source = record { file = f; line = r.line; column = r.column; is_stmt = r.is_stmt; basic_block = r.basic_block; prologue_end = r.prologue_end; epilogue_begin = r.epilogue_begin; isa = r.isa; discriminator = r.discriminator } } ∷ map (named_row (read_table order size p)) rs) (file-same order size g p is r.file)
+    ∙ ap (λ xs. given_row g r ∷ xs) (rows-same order size g p is rs)
+
+segments-same : (order : Endian) (size : ℕ) (g : GivenLines) (p : PlacedTable) → p.table ≡ record { directories = g.directories; files = g.files; sequences = g.sequences } → (qs : List WrittenSequence) → map (read_segment (read_table order size p)) qs ≡ map (given_segment g) qs
+segments-same order size g p is [] = refl
+segments-same order size g p is (q ∷ qs) =
+    ap (λ rs. record { start = q.start_address; rows = rs; end = Some q.end_offset } ∷ map (read_segment (read_table order size p)) qs) (rows-same order size g p is q.rows)
+    ∙ ap (λ xs. given_segment g q ∷ xs) (segments-same order size g p is qs)
+
+module _ (s : Sections) (size : ℕ) where
+  -- a unit whose root names no line table
+  segments-without : (v : Unit) (e : Entry) → root v ≡ Some e → line_offset (attribute DW_AT_stmt_list e) ≡ None → segments_of_unit s v ≡ Ok []
+  unfolding segments_of_unit table_of_unit
+  segments-without v e is_root none =
+      let table : table_of_root s v (Some e) ≡ Ok None = rw (table_of_root, none) refl in
+      rw (segments_of_unit, table_of_unit, is_root, table) refl
+
+  -- the segments of a unit, from its root's entry
+  root-lines : (v : Unit) (e : Entry) (l : ℕ) (g : GivenLines) (rest : List WrittenTable) (n : Option ℕ) → v.header.address_size ≡ size → root v ≡ Some e → line_offset (attribute DW_AT_stmt_list e) ≡ named_offset l (is_some n) → FitsLines g → IsOfSize size n → FitsSequences n g.sequences g.begun
+      → All (λ p. line_table s size p.offset ≡ Ok (read_table s.order size p)) (placed_tables s.order size l (lines_for n g ++ rest))
+      → segments_of_unit s v ≡ Ok (given_segments g)
+  root-lines v e l g rest None sized is_root names fits same sequences read =
+      segments-without v e is_root names ∙ ap (λ qs. Ok (map (given_segment g) qs)) (sym sequences.0)
+  root-lines v e l g rest (Some n) sized is_root names fits same sequences read =
+      let t : WrittenTable = record { directories = g.directories; files = g.files; sequences = g.sequences } in
+      let p : PlacedTable = record { offset = l; table = t } in
+      let here : line_table s size l ≡ Ok (read_table s.order size p) = All-head (λ q. line_table s size q.offset ≡ Ok (read_table s.order size q)) p _ read in
+      let P : ℕ → Type 0 = λ m. All (FitsGivenSequence m) g.sequences in
+      let fit = All-weaker (FitsGivenSequence size) (FitsSequence size) (λ q h. h.sequence) g.sequences (subst P same sequences.0) in
+      segments-read s size v e p sized is_root names here fit ∙ ap Ok (segments-same s.order size g p refl g.sequences)
+
+  unit-lines : (place a l : ℕ) (u : GivenUnit) (rest : List WrittenTable) → u.address_size ≡ size → FitsGivenUnit u → FitsLines u.lines → IsWritable size u
+      → All (λ p. line_table s size p.offset ≡ Ok (read_table s.order size p)) (placed_tables s.order size l (written_lines u.lines ++ rest))
+      → segments_of_unit s (read_unit s.order size place (written_unit a l u)) ≡ Ok (given_segments u.lines)
+  unit-lines place a l u rest same fits lines writable read = at-root u.entries fits.tree writable.named
+    where
+      at-root : (es : List GivenEntry) → IsTree es → names_lines es ≡ is_some u.lines.address_size
+          → segments_of_unit s (record { header = (read_unit s.order size place (written_unit a l u)).header; entries = read_entries s.order size (place + header_length) (written_entries l (shapes_in u) es) }) ≡ Ok (given_segments u.lines)
+      at-root [] tree named = absurd tree
+      at-root (e ∷ es) tree named =
+          let names = ap (λ xs. line_offset (found_in xs)) (attributes-read l e.attributes) ∙ lines-named l e.attributes ∙ ap (named_offset l) named in
+          let P : List WrittenTable → Type 0 = λ ts. All (λ p. line_table s size p.offset ≡ Ok (read_table s.order size p)) (placed_tables s.order size l (ts ++ rest)) in
+          let Q : ℕ → Type 0 = λ n. IsOfSize n u.lines.address_size in
+          root-lines _ _ l u.lines rest u.lines.address_size refl refl names lines (subst Q same fits.lines) lines.sequences (subst P (lines-are u.lines) read)
+
+  units-each : (place a l : ℕ) (us : List GivenUnit) → All (IsWritable size) us → All FitsGivenUnit us → All (λ u. FitsLines u.lines) us
+      → All (λ p. line_table s size p.offset ≡ Ok (read_table s.order size p)) (placed_tables s.order size l (written_tables us))
+      → AllZip (IsReadUnit s) us (read_units s.order size place (written_units s.order size a l us))
+  units-each place a l [] writable fits lines read = tt
+  units-each place a l (u ∷ us) writable fits lines read =
+      let here = All-head (IsWritable size) u us writable in
+      let unit = written_unit a l u in
+      let split = at_places-append (one_table_bytes s.order size) (λ p t. record { offset = p; table = t } ∷ []) (written_lines u.lines) (written_tables us) l in
+      let P : List PlacedTable → Type 0 = λ ps. All (λ p. line_table s size p.offset ≡ Ok (read_table s.order size p)) ps in
+      let others = All-back (λ p. line_table s size p.offset ≡ Ok (read_table s.order size p)) (placed_tables s.order size l (written_lines u.lines)) _ (subst P split read) in (
+        record {
+          line_offset = l;
+          address_size = sym here.size;
+          entries = places-contents s.order size (shaped unit.entries) (place + header_length) ∙ contents-given l (shapes_in u) u.entries;
+          lines = unit-lines place a l u (written_tables us) here.size (All-head FitsGivenUnit u us fits) (All-head (λ (v : GivenUnit). FitsLines v.lines) u us lines) here read;
+        },
+        units-each (place + length (placed_unit_bytes s.order size unit)) (a + length (table_bytes unit.table)) (l + length (lines_bytes s.order size (written_lines u.lines))) us (All-tail (IsWritable size) u us writable) (All-tail FitsGivenUnit u us fits) (All-tail (λ (v : GivenUnit). FitsLines v.lines) u us lines) others,
+      )
+
+-- ---- the sections
+
+-- what three sections hold
+record Holds (order : Endian) (x y z : List ℕ) (q r : List OutputRelocation) (s : Sections) : Type 0 where
+  abbrev_is : s.bytes Abbrev ≡ x
+  info_is : s.bytes Info ≡ y
+  line_is : s.bytes Line ≡ z
+  info_relocations_are : s.relocations Info ≡ filter_map function_relocation q
+  line_relocations_are : s.relocations Line ≡ filter_map function_relocation r
+
+sections-hold : (order : Endian) (x y z : List ℕ) (q r : List OutputRelocation) → (y ≡ [] → q ≡ []) → (z ≡ [] → r ≡ [])
+    → Holds order x y z q r (output_sections order (section_unless_empty Abbrev x [] ++ (section_unless_empty Info y q ++ section_unless_empty Line z r)))
+sections-hold order [] [] [] q r info line = let a = info refl in let b = line refl in rw (a, b) (record { abbrev_is = refl; info_is = refl; line_is = refl; info_relocations_are = refl; line_relocations_are = refl })
+sections-hold order [] [] (c ∷ z) q r info line = let a = info refl in rw (a) (record { abbrev_is = refl; info_is = refl; line_is = refl; info_relocations_are = refl; line_relocations_are = refl })
+sections-hold order [] (b ∷ y) [] q r info line = let e = line refl in rw (e) (record { abbrev_is = refl; info_is = refl; line_is = refl; info_relocations_are = refl; line_relocations_are = refl })
+sections-hold order [] (b ∷ y) (c ∷ z) q r info line = record { abbrev_is = refl; info_is = refl; line_is = refl; info_relocations_are = refl; line_relocations_are = refl }
+sections-hold order (a ∷ x) [] [] q r info line = let e = info refl in let b = line refl in rw (e, b) (record { abbrev_is = refl; info_is = refl; line_is = refl; info_relocations_are = refl; line_relocations_are = refl })
+sections-hold order (a ∷ x) [] (c ∷ z) q r info line = let e = info refl in rw (e) (record { abbrev_is = refl; info_is = refl; line_is = refl; info_relocations_are = refl; line_relocations_are = refl })
+sections-hold order (a ∷ x) (b ∷ y) [] q r info line = let e = line refl in rw (e) (record { abbrev_is = refl; info_is = refl; line_is = refl; info_relocations_are = refl; line_relocations_are = refl })
+sections-hold order (a ∷ x) (b ∷ y) (c ∷ z) q r info line = record { abbrev_is = refl; info_is = refl; line_is = refl; info_relocations_are = refl; line_relocations_are = refl }
+
+info-none : (order : Endian) (size : ℕ) (ws : List WrittenUnit) → info_bytes order size ws ≡ [] → info_relocations order size 0 ws ≡ []
+info-none order size [] e = refl
+info-none order size (w ∷ ws) e =
+    let body = unit_body order size w.table_offset w.entries in
+    absurd (omega (arith, ap length e, length-append (placed_unit_bytes order size w) (info_bytes order size ws), length-append (number_bytes order 4 (length body)) body, number_bytes-length order 4 (length body)))
+
+lines-none : (order : Endian) (size : ℕ) (ts : List WrittenTable) → lines_bytes order size ts ≡ [] → lines_relocations order size 0 ts ≡ []
+lines-none order size [] e = refl
+lines-none order size (t ∷ ts) e =
+    let body = line_body order size t.directories t.files (sequences_instructions t.sequences) in
+    absurd (omega (arith, ap length e, length-append (one_table_bytes order size t) (lines_bytes order size ts), length-append (number_bytes order 4 (length body)) body, number_bytes-length order 4 (length body)))
+
+-- how long they are
+part-short : (order : Endian) (name : SectionName) (x : List ℕ) (q : List OutputRelocation) (rest : List OutputSection) → All (IsSound order) (section_unless_empty name x q ++ rest) → (length x ≤ most_bytes) × All (IsSound order) rest
+part-short order name [] q rest sound = (lit≤ tt, sound)
+part-short order name (b ∷ x) q rest sound = ((All-head (IsSound order) _ rest sound).short, All-tail (IsSound order) _ rest sound)
+
+size-known : (us : List GivenUnit) → All FitsGivenUnit us → (size_of us ≡ 4) ⊎ (size_of us ≡ 8)
+size-known [] fits = inr refl
+size-known (u ∷ us) fits = (All-head FitsGivenUnit u us fits).size
+
+positive : (size : ℕ) → (size ≡ 4) ⊎ (size ≡ 8) → (0 < size) × (size < 2 ^ 63)
+positive size (inl e) = (omega (arith, e), omega (arith, e))
+positive size (inr e) = (omega (arith, e), omega (arith, e))
+
+-- Given units that are spelled within the size of sections are read back.
+pub reads-back : (order : Endian) (us : List GivenUnit) → AreWritable us → All FitsGivenUnit us → All (λ u. FitsLines u.lines) us → All (IsSound order) (spelled_sections order us) → ReadsBack order us (spelled_sections order us)
+reads-back order us writable fits lines sound =
+    let size = size_of us in
+    let ws = written_units order size 0 0 us in
+    let ts = written_tables us in
+    let s = output_sections order (spelled_sections order us) in
+    let sized : All (λ u. u.address_size ≡ size) us = All-weaker (IsWritable size) (λ u. u.address_size ≡ size) (λ u h. h.size) us writable in
+    let known = size-known us fits in
+    let some = positive size known in
+    let holds = sections-hold order (abbrev_bytes order us) (all_info_bytes order us) (all_lines_bytes order us) (info_relocations order size 0 ws) (lines_relocations order size 0 ts) (info-none order size ws) (lines-none order size ts) in
+    let tables_short = part-short order Abbrev (abbrev_bytes order us) [] _ sound in
+    let info_short = part-short order Info (all_info_bytes order us) (info_relocations order size 0 ws) _ tables_short.1 in
+    let P : List OutputSection → Type 0 = λ xs. All (IsSound order) xs in
+    let lines_short = part-short order Line (all_lines_bytes order us) (lines_relocations order size 0 ts) [] (subst P (sym (append-nil _)) info_short.1) in
+    let a = tables_short.0 in
+    let i = info_short.0 in
+    let l = lines_short.0 in
+    let table_facts = lines-read s size ts some.0 some.1 (tables-fit order size us sized fits lines l) holds.line_is (holds.line_relocations_are ∙ lines-functions order size 0 ts) in
+    record {
+      read = read_units order size 0 ws;
+      units_read = units-read s size ws known (units-fit order size 0 0 us sized fits (omega (arith, a)) (omega (arith, l)) i) (tables-from order size us 0 0) holds.abbrev_is holds.info_is (holds.info_relocations_are ∙ info-functions order size 0 ws);
+      each = units-each s size 0 0 0 us writable fits lines table_facts;
+    }

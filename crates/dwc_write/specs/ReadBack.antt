@@ -1,0 +1,67 @@
+-- What is written is read back as it was given.
+use Rattle.std.specs.Prelude.{◌≡◌, ℕ, zero, suc, List, [], ◌∷◌, map, slice_get, Option, Some, None, option_and_then, Ok}
+use Rattle.std.specs.List.{AllZip}
+use Rattle.dwc_base.specs.declared.records.Endian.{Endian}
+use Rattle.dwc_base.specs.declared.records.LineRow.{LineRow}
+use Rattle.dwc_base.specs.LineHeaders.{LineFile}
+use Rattle.dwc_base.specs.LineRows.{SourceFile, in_directory, Row, Segment}
+use Rattle.dwc_base.specs.Sections.{Sections}
+use Rattle.dwc_base.specs.Values.{Value}
+use Rattle.dwc_base.specs.Entries.{Entry}
+use Rattle.dwc_base.specs.Carried.{Unit, units, segments_of_unit}
+use Rattle.dwc_base.specs.Outputs.{OutputSection, output_sections}
+use Rattle.dwc_write.specs.declared.attributes.Attribute.{Attribute}
+use Rattle.dwc_write.specs.SpelledUnits.{written_value}
+use Rattle.dwc_write.specs.SpelledLines.{WrittenSequence}
+use Rattle.dwc_write.specs.GivenLines.{GivenLines}
+use Rattle.dwc_write.specs.GivenUnits.{GivenEntry, GivenUnit, written_of}
+
+-- ---- line tables
+
+-- the file of a number, by its names
+abbrev pub given_file : GivenLines → ℕ → Option SourceFile
+given_file g zero = None
+given_file g (suc n) = option_and_then (in_directory g.directories) (slice_get g.files n)
+
+abbrev pub given_row : GivenLines → LineRow → Row
+given_row g r = record { offset = r.offset; source = record { file = given_file g r.file; line = r.line; column = r.column; is_stmt = r.is_stmt; basic_block = r.basic_block; prologue_end = r.prologue_end; epilogue_begin = r.epilogue_begin; isa = r.isa; discriminator = r.discriminator } }
+
+abbrev pub given_segment : GivenLines → WrittenSequence → Segment
+given_segment g q = record { start = q.start_address; rows = map (given_row g) q.rows; end = Some q.end_offset }
+
+-- the sequences of a line program, as segments
+abbrev pub given_segments : GivenLines → List Segment
+given_segments g = map (given_segment g) g.sequences
+
+-- ---- entries
+
+-- an entry beside its offset: its depth, its tag, and its attributes by name
+pub record Contents : Type 0 where
+  pub depth : ℕ
+  pub tag : ℕ
+  pub attributes : List (ℕ × Value)
+
+abbrev pub read_contents : Entry → Contents
+read_contents e = record { depth = e.depth; tag = e.tag; attributes = e.attributes }
+
+-- the value of an attribute, in a unit whose line table stands at an offset
+abbrev pub given_value : ℕ → Attribute → ℕ × Value
+given_value line_offset a = (a.name, written_value a.name (written_of line_offset a.value))
+
+abbrev pub given_contents : ℕ → GivenEntry → Contents
+given_contents line_offset e = record { depth = e.depth; tag = e.tag; attributes = map (given_value line_offset) e.attributes }
+
+-- ---- units
+
+-- A unit that is read is the one that was given: its entries, and the sequences of its line program.
+pub record IsReadUnit (s : Sections) (u : GivenUnit) (v : Unit) : Type 0 where
+  pub line_offset : ℕ
+  pub address_size : v.header.address_size ≡ u.address_size
+  pub entries : map read_contents v.entries ≡ map (given_contents line_offset) u.entries
+  pub lines : segments_of_unit s v ≡ Ok (given_segments u.lines)
+
+-- Some sections hold, one to one and in order, the given units, and no others.
+pub record ReadsBack (order : Endian) (us : List GivenUnit) (s : List OutputSection) : Type 0 where
+  pub read : List Unit
+  pub units_read : units (output_sections order s) ≡ record { items = read; fault = None }
+  pub each : AllZip (IsReadUnit (output_sections order s)) us read
