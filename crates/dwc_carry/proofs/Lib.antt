@@ -15,3 +15,4 @@ pub mod WidestLines
 pub mod NameLaws
 pub mod ReadUnitLaws
 pub mod OutputUnitLaws
+pub mod CanCarryLaws

@@ -6,3 +6,4 @@ pub mod Refusals
 pub mod UnitEntries
 pub mod ReadUnits
 pub mod OutputUnits
+pub mod CarriedLines
