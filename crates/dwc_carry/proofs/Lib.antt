@@ -16,3 +16,6 @@ pub mod NameLaws
 pub mod ReadUnitLaws
 pub mod OutputUnitLaws
 pub mod CanCarryLaws
+pub mod LinesLaws
+pub mod SegmentLaws
+pub mod OutcomeLaws

@@ -19,17 +19,18 @@ use Rattle.dwc_carry.specs.Refusals.{of_reading, RefusesPart}
 use Rattle.dwc_carry.specs.ReadUnits.{has_known_info}
 
 -- a reader's refusal is one of a part that has its fault
-refuses-reading : (fault : Option Fault) (built : Bool) (e : ReadFault) → ((f : Fault) → fault_seen e ≡ Some f → fault ≡ Some f) → RefusesPart fault built (of_reading e)
+pub refuses-reading : (fault : Option Fault) (built : Bool) (e : ReadFault) → ((f : Fault) → fault_seen e ≡ Some f → fault ≡ Some f) → RefusesPart fault built (of_reading e)
 refuses-reading fault built (Read what section offset) h = h (unreadable what section offset) refl
 refuses-reading fault built (Unsupported kind offset) h = inl (h (unsupported kind offset) refl)
 refuses-reading fault built OutOfMemory h = tt
 
 -- a refusal of a part is one of the whole that has its fault, and is not of the form where the part is not
-refuses-more : (part whole : Option Fault) (built all : Bool) (e : DebugError) → ((f : Fault) → part ≡ Some f → whole ≡ Some f) → (built ≡ false → all ≡ false) → RefusesPart part built e → RefusesPart whole all e
+pub refuses-more : (part whole : Option Fault) (built all : Bool) (e : DebugError) → ((f : Fault) → part ≡ Some f → whole ≡ Some f) → (built ≡ false → all ≡ false) → RefusesPart part built e → RefusesPart whole all e
 refuses-more part whole built all (debug.Read what section offset) h k r = h (unreadable what section offset) r
 refuses-more part whole built all (debug.Unsupported kind offset) h k (inl r) = inl (h (unsupported kind offset) r)
 refuses-more part whole built all (debug.Unsupported kind offset) h k (inr r) = inr (r.0, k r.1)
 refuses-more part whole built all (debug.BadAddressMap m func why) h k r = r
+refuses-more part whole built all (debug.TooLarge what) h k r = r
 refuses-more part whole built all debug.OutOfMemory h k r = r
 
 next-fault : (old new : Listing Fault UnitHeader) (o : Option Fault) (f : Fault) → RefusesNext old new o → o ≡ Some f → old ≡ only_fault f

@@ -7,3 +7,5 @@ pub mod UnitEntries
 pub mod ReadUnits
 pub mod OutputUnits
 pub mod CarriedLines
+pub mod UnitLines
+pub mod Outcomes

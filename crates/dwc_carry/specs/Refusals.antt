@@ -7,8 +7,12 @@ use Rattle.dwc_read.specs.declared.fault.ReadFault.{ReadFault}
 use Rattle.dwc_read.specs.declared.fault.ReadFault.TheVariants as read
 use Rattle.dwc_addr.specs.declared.error.AddrError.{AddrError}
 use Rattle.dwc_addr.specs.declared.error.AddrError.TheVariants as addr
+use Rattle.dwc_tabs.specs.declared.fault.TabFault.{TabFault}
+use Rattle.dwc_tabs.specs.declared.fault.TabFault.TheVariants as tab
+use Rattle.dwc_write.specs.declared.error.WriteError.{WriteError}
+use Rattle.dwc_write.specs.declared.error.WriteError.TheVariants as write
 use Rattle.dwc_carry.specs.declared.error.DebugError.{DebugError}
-use Rattle.dwc_carry.specs.declared.error.DebugError.TheVariants.{Read, Unsupported, BadAddressMap, OutOfMemory}
+use Rattle.dwc_carry.specs.declared.error.DebugError.TheVariants.{Read, Unsupported, BadAddressMap, TooLarge, OutOfMemory}
 
 -- a reader's refusal, and that of address maps
 abbrev pub of_reading : ReadFault → DebugError
@@ -20,10 +24,23 @@ abbrev pub of_maps : AddrError → DebugError
 of_maps (addr.BadAddressMap m func why) = BadAddressMap m func why
 of_maps addr.OutOfMemory = OutOfMemory
 
+-- that of a line table, where a file or a directory that is not there is not read so far
+abbrev pub of_table : TabFault → DebugError
+of_table (tab.Read what section offset) = Read what section offset
+of_table (tab.Unsupported kind offset) = Unsupported kind offset
+of_table (tab.InvalidFileIndex offset) = Unsupported NotBuilt offset
+of_table tab.OutOfMemory = OutOfMemory
+
+-- and that of the writer
+abbrev pub of_writing : WriteError → DebugError
+of_writing (write.TooLarge what) = TooLarge what
+of_writing write.OutOfMemory = OutOfMemory
+
 -- A part of the input is refused: for want of memory, for the fault that it has, or because it has not the form that is
 -- read so far.
 abbrev pub RefusesPart : Option Fault → Bool → DebugError → Type 0
 RefusesPart fault built (Read what section offset) = fault ≡ Some (unreadable what section offset)
 RefusesPart fault built (Unsupported kind offset) = (fault ≡ Some (unsupported kind offset)) ⊎ ((kind ≡ NotBuilt) × (built ≡ false))
 RefusesPart fault built (BadAddressMap m func why) = ⊥
+RefusesPart fault built (TooLarge what) = ⊥
 RefusesPart fault built OutOfMemory = Unit {0}

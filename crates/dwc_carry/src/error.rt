@@ -2,6 +2,8 @@
 use dwc_addr::AddrError;
 use dwc_base::{Kind, MapFault, SectionName, What};
 use dwc_read::ReadFault;
+use dwc_tabs::TabFault;
+use dwc_write::{Limit, WriteError};
 use std::alloc::{AllocError, AllocFailed};
 use thiserror::Error;
 
@@ -25,8 +27,17 @@ pub enum DebugError {
         func: u32,
         why: MapFault,
     },
+    /// A section would be longer than it can be.
+    #[error("TooLarge Section {name}", name = limited(*what).text())]
+    TooLarge { what: Limit },
     #[error("out of memory")]
     OutOfMemory,
+}
+
+// The section that is too large.
+fn limited(what: Limit) -> SectionName {
+    let Limit::Section(name) = what;
+    name
 }
 
 impl From<ReadFault> for DebugError {
@@ -62,6 +73,47 @@ impl From<AddrError> for DebugError {
         match error {
             AddrError::BadAddressMap { module, func, why } => DebugError::BadAddressMap { module, func, why },
             AddrError::OutOfMemory => DebugError::OutOfMemory,
+        }
+    }
+}
+
+impl From<TabFault> for DebugError {
+    ghost use Rattle.std.specs.Prelude.{◌≡◌};
+    ghost use Rattle.dwc_carry.specs.Refusals.{of_table};
+
+    ghost from_gives = { λ fault e. e ≡ of_table fault };
+
+    fn from(fault: TabFault) -> DebugError {
+        match fault {
+            TabFault::Read {
+                what,
+                section,
+                offset,
+            } => DebugError::Read {
+                what,
+                section,
+                offset,
+            },
+            TabFault::Unsupported { what, offset } => DebugError::Unsupported { what, offset },
+            TabFault::InvalidFileIndex { offset } => DebugError::Unsupported {
+                what: Kind::NotBuilt,
+                offset,
+            },
+            TabFault::OutOfMemory => DebugError::OutOfMemory,
+        }
+    }
+}
+
+impl From<WriteError> for DebugError {
+    ghost use Rattle.std.specs.Prelude.{◌≡◌};
+    ghost use Rattle.dwc_carry.specs.Refusals.{of_writing};
+
+    ghost from_gives = { λ error e. e ≡ of_writing error };
+
+    fn from(error: WriteError) -> DebugError {
+        match error {
+            WriteError::TooLarge { what } => DebugError::TooLarge { what },
+            WriteError::OutOfMemory => DebugError::OutOfMemory,
         }
     }
 }

@@ -1,0 +1,55 @@
+-- What is made of the unit of a module: a unit of the output where it is carried, or nothing, or the cause of a refusal.
+use Rattle.std.specs.Prelude.{◌≡◌, ◌⊎◌, ℕ, List, [], ◌∷◌, true, false, Option, Some, None, Result, Ok, Err, Any}
+use Rattle.std.specs.List.{filter, AllZip}
+use Rattle.dwc_base.specs.declared.records.Endian.{Endian}
+use Rattle.dwc_base.specs.declared.faults.Kind.TheVariants.{NotBuilt}
+use Rattle.dwc_base.specs.Sections.{Sections, unreadable, unsupported}
+use Rattle.dwc_base.specs.Functions.{Function}
+use Rattle.dwc_base.specs.LineRows.{Segment}
+use Rattle.dwc_base.specs.Images.{is_carried_segment, IsImageOf}
+use Rattle.dwc_base.specs.Carried.{Unit, units, Module, Compilation, carried_units_of, segments_of_unit}
+use Rattle.dwc_base.specs.Reached.{reached_faults}
+use Rattle.dwc_base.specs.FirstForm.{is_all_built}
+use Rattle.dwc_write.specs.GivenUnits.{GivenUnit, IsOfSize}
+use Rattle.dwc_write.specs.ReadBack.{given_segments}
+use Rattle.dwc_carry.specs.declared.error.DebugError.{DebugError}
+use Rattle.dwc_carry.specs.declared.error.DebugError.TheVariants.{Read, Unsupported, BadAddressMap, TooLarge, OutOfMemory}
+use Rattle.dwc_carry.specs.Emitted.{of_one, IsReached, IsRefused}
+
+-- a module without compressed sections
+abbrev pub plain_module : Sections → List Function → Module
+plain_module s fs = record { sections = s; functions = fs; compressed = None }
+
+-- All that is reached was read, and is of the form that is read so far.
+pub record IsReadWhole (c : Compilation) : Type 0 where
+  pub readable : reached_faults c ≡ []
+  pub built : is_all_built c ≡ true
+
+-- a module carries nothing
+pub record CarriesNothing (order : Endian) (size : ℕ) (m : Module) : Type 0 where
+  pub read : IsReadWhole (of_one order size m)
+  pub whole : (units m.sections).fault ≡ None
+  pub none : carried_units_of m ≡ []
+
+-- A module carries one unit, and the line program of a unit of the output has the images of its carried segments.
+pub record CarriesUnit (order : Endian) (size : ℕ) (m : Module) (u : GivenUnit) : Type 0 where
+  pub read : IsReadWhole (of_one order size m)
+  pub whole : (units m.sections).fault ≡ None
+  pub unit : Unit
+  pub one : carried_units_of m ≡ unit ∷ []
+  pub input : List Segment
+  pub input_read : segments_of_unit m.sections unit ≡ Ok input
+  pub images : AllZip (IsImageOf m.functions) (filter (is_carried_segment m.functions) input) (given_segments u.lines)
+
+-- the cause of a refusal of a module
+abbrev pub RefusesModule : Compilation → DebugError → Type 0
+RefusesModule c (Read what section offset) = IsReached c (unreadable what section offset)
+RefusesModule c (Unsupported kind offset) = IsRefused c kind offset
+RefusesModule c (BadAddressMap m func why) = ⊥
+RefusesModule c (TooLarge what) = ⊥
+RefusesModule c OutOfMemory = Prim.Unit {0}
+
+abbrev pub GivesOutput : Endian → ℕ → Module → Result (Option GivenUnit) DebugError → Type 0
+GivesOutput order size m (Ok None) = CarriesNothing order size m
+GivesOutput order size m (Ok (Some u)) = CarriesUnit order size m u
+GivesOutput order size m (Err e) = RefusesModule (of_one order size m) e
