@@ -19,3 +19,4 @@ pub mod CanCarryLaws
 pub mod LinesLaws
 pub mod SegmentLaws
 pub mod OutcomeLaws
+pub mod RefusalLaws

@@ -3,6 +3,7 @@ use Rattle.std.proofs.Common.{◌≡◌, ℕ, zero, suc, ◌+◌, List, [], ◌�
 use Rattle.std.specs.Prelude.{◌&&◌, ◌==◌, Any, slice_get}
 use Rattle.std.specs.List.{filter, list_any, list_all, AllZip}
 use Rattle.std.specs.Option.{option_and_then}
+use Rattle.std.proofs.lemmas.Bool.{le-ltb, lt-ltb, eqb-true, eqb-false}
 use Rattle.dwc_base.specs.declared.records.Endian.{Endian}
 use Rattle.dwc_base.specs.declared.records.LineRow.{LineRow}
 use Rattle.dwc_base.specs.declared.constants.TheConstants.{DW_AT_stmt_list, DW_TAG_compile_unit, DW_TAG_subprogram}
@@ -51,6 +52,12 @@ same-segments t g [] ds fs = refl
 same-segments t g (q ∷ qs) ds fs = rw (same-rows t g q.rows ds fs, same-segments t g qs ds fs) refl
 
 -- ---- the unit that was read
+
+pub none-left : (n : ℕ) → (n == 0) ≡ true → nat_lt 0 n ≡ false
+none-left n h = le-ltb 0 n (omega (arith, eqb-true n 0 h))
+
+pub some-left : (n : ℕ) → (n == 0) ≡ false → nat_lt 0 n ≡ true
+some-left n h = lt-ltb 0 n (omega (arith, eqb-false n 0 h))
 
 front : (b c : Bool) → (b && c) ≡ true → b ≡ true
 front true c h = refl
@@ -106,7 +113,7 @@ module _ (order : Endian) (size : ℕ) (fs : List Function) (s : Sections) where
     is-known : IsKnownUnit order size (plain_module s fs) (record { header = r.unit.header; entries = (entries s r.unit.header).items })
     is-known = record { header = read.known; alone = one-has_version _ s r.unit.header read.headers; shapes = read.shapes; tags = read.tags }
 
-    is-whole : (units s).fault ≡ None
+    pub is-whole : (units s).fault ≡ None
     is-whole = ap (λ l. l.fault) (units-one s _ is-one)
 
     -- a unit of which nothing is kept
@@ -121,13 +128,13 @@ module _ (order : Endian) (size : ℕ) (fs : List Function) (s : Sections) where
           none = empty;
         }
 
-    is-carried : nat_lt 0 (vec_len r.entries.subprograms) ≡ true → carried_units_of (plain_module s fs) ≡ record { header = r.unit.header; entries = (entries s r.unit.header).items } ∷ []
+    pub is-carried : nat_lt 0 (vec_len r.entries.subprograms) ≡ true → carried_units_of (plain_module s fs) ≡ record { header = r.unit.header; entries = (entries s r.unit.header).items } ∷ []
     is-carried some =
         let any : list_any (is_required fs) (entries s r.unit.header).items ≡ true = read.kept ∙ some in
         carried-one (plain_module s fs) _ is-one (rw (root-tag r.unit.header (entries s r.unit.header).items fs read.tags any, any) refl)
 
     -- the table that the root names
-    table-named : table_of_unit s (record { header = r.unit.header; entries = (entries s r.unit.header).items }) ≡ named_table s r.unit.header.address_size r.entries.line_table
+    pub table-named : table_of_unit s (record { header = r.unit.header; entries = (entries s r.unit.header).items }) ≡ named_table s r.unit.header.address_size r.entries.line_table
     table-named = unit-table s (record { header = r.unit.header; entries = (entries s r.unit.header).items }) ∙ ap (λ o. named_table s r.unit.header.address_size o) (sym read.line_table)
 
     segments-named : segments_of_unit s (record { header = r.unit.header; entries = (entries s r.unit.header).items }) ≡ (named_table s r.unit.header.address_size r.entries.line_table >>= λ t. Ok (segments_of t))

@@ -1,6 +1,7 @@
 //! Carries the DWARF of a module over to the native code of its functions.
 #![tactic(auto)]
 
+mod emit;
 mod error;
 mod image;
 mod known_form;
