@@ -20,3 +20,4 @@ pub mod LinesLaws
 pub mod SegmentLaws
 pub mod OutcomeLaws
 pub mod RefusalLaws
+pub mod EmittedLaws

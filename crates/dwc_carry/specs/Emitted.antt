@@ -1,5 +1,5 @@
 -- What emitting DWARF for a module says: the sections that carry its lines, or the cause of a refusal.
-use Rattle.std.specs.Prelude.{◌≡◌, ◌⊎◌, ℕ, ◌^◌, ◌≤◌, List, [], ◌∷◌, map, Bool, true, false, Option, Some, None, Result, Ok, Err, Any}
+use Rattle.std.specs.Prelude.{◌≡◌, ◌⊎◌, ℕ, ◌^◌, ◌≤◌, List, [], ◌∷◌, map, Bool, true, false, Option, Some, None, Result, Ok, Err, Any, All}
 use Rattle.std.specs.List.{list_all}
 use Rattle.dwc_base.specs.declared.records.Endian.{Endian}
 use Rattle.dwc_base.specs.declared.records.SymbolId.{SymbolId}
@@ -16,6 +16,8 @@ use Rattle.dwc_base.specs.Reached.{reached_faults}
 use Rattle.dwc_base.specs.FirstForm.{is_all_built}
 use Rattle.dwc_clif.specs.declared.CompiledFunctionMetadata.{CompiledFunctionMetadata}
 use Rattle.dwc_clif.specs.AddressMaps.{address_map_view}
+use Rattle.dwc_addr.specs.Transforms.{first_bad_map}
+use Rattle.dwc_write.specs.Writers.{IsSound}
 
 -- the module of a translation and of the functions compiled from it, of which the first has the number 0
 abbrev pub module_view : ModuleTranslation → List (Option SymbolId × CompiledFunctionMetadata) → Module
@@ -38,3 +40,12 @@ IsReached c fault = Any (λ f. f ≡ fault) (reached_faults c)
 -- What is of a refused kind is reached, or, where it is said to be not built, the input has not the form that is read so far.
 abbrev pub IsRefused : Compilation → Kind → ℕ → Type 0
 IsRefused c kind offset = IsReached c (unsupported kind offset) ⊎ ((kind ≡ NotBuilt) × (is_all_built c ≡ false))
+
+-- what is said of the address maps of all answers but one: none is bad
+abbrev pub HasGoodMaps : ModuleTranslation → List (Option SymbolId × CompiledFunctionMetadata) → Type 0
+HasGoodMaps t fs = first_bad_map t.code_section_offset 0 (map address_map_view fs) ≡ None
+
+-- what is emitted: sound sections that carry the lines of an input of which all that is reached was read
+pub record IsEmitted (order : Endian) (c : Compilation) (sections : List OutputSection) : Type 0 where
+  pub carries : Carries c sections
+  pub sound : All (IsSound order) sections

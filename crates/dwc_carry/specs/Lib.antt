@@ -9,3 +9,4 @@ pub mod OutputUnits
 pub mod CarriedLines
 pub mod UnitLines
 pub mod Outcomes
+pub mod Emits
