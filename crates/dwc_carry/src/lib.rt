@@ -3,6 +3,8 @@
 
 mod error;
 mod image;
+mod lines;
 mod sequence;
 
 pub use error::DebugError;
+pub use lines::carried_lines;

@@ -1,9 +1,8 @@
 //! The image of a segment as a sequence of a line program.
 ghost use Rattle.std.specs.Prelude.{◌≡◌, ◌∷◌, [], None, IsSome, OnOk, pos, length, All};
-ghost use Rattle.std.specs.List.Sorted.{IsNonDecreasingBy};
 ghost use Rattle.dwc_base.specs.declared.records.Address.TheVariants.{Symbol};
 ghost use Rattle.dwc_carry.specs.ImageRows.{IsOrdered};
-ghost use Rattle.dwc_carry.specs.ImageSequences.{FitsFiles, FitsImage, with_sequences, sequence_at};
+ghost use Rattle.dwc_carry.specs.ImageSequences.{FitsFiles, FitsImage, RiseIf, with_sequences, sequence_if};
 
 use crate::image::image_rows;
 use dwc_addr::AddressTransform;
@@ -32,21 +31,25 @@ fn add_sequence(
     program.end_sequence(end)
 }
 
-/// Adds the image of a segment of a line table by its start and its rows, where it has one. `image` is a buffer.
+/// Adds the image of a segment of a line table by its start and its rows, where it has one; rows without a start are of no
+/// segment. `image` is a buffer.
 pub(crate) fn add_image(
     program: &mut LineProgram,
     transform: &AddressTransform,
-    start: Address,
+    start: Option<Address>,
     rows: &[LineRow],
     image: &mut Vec<LineRow>,
 ) -> Result<(), WriteError>
     requires sized { IsSome program.old.address_size }
     requires ended { program.old.begun ≡ None }
-    requires order { IsNonDecreasingBy (λ r. r.offset) rows.now }
+    requires order { RiseIf start rows.now }
     requires each { All (FitsFiles (length program.old.files)) rows.now }
     requires functions { All IsOrdered transform.now }
-    ensures { OnOk result (program.new ≡ with_sequences (sequence_at transform.now start rows.now) program.old) }
+    ensures { OnOk result (program.new ≡ with_sequences (sequence_if transform.now start rows.now) program.old) }
 {
+    let Some(start) = start else {
+        return Ok(());
+    };
     let Address::Constant(start) = start else {
         return Ok(());
     };

@@ -11,25 +11,25 @@ use Rattle.dwc_carry.proofs.sequence.add_image.Goals as goal
 pub returns-then-is_empty : goal.returns-then-is_empty
 returns-then-is_empty c =
     let rows = c.args.rows.now in
-    let m = c.in-Some.function.now in
+    let m = c.in-Some-func_at.function.now in
     let image = c.in_ok-image_rows.ensures ∙ ap (λ xs. image_rows rows c.in-Constant.start None (map recorded_view xs)) c.deref.ensures.value in
     let none = sequence-none _ (omega (arith, eqb-true (vec_len c.image_rows.new.image) 0 (sym c.if-is_empty.ensures), c.image_rows.new.image.ok)) in
-    let written = sequence-found c.args.transform.now c.in-Constant.start rows c.image_rows.new.image.items m (sym c.in-Some.ensures.found) image in
-    rw (c.in-Constant.is, written ∙ none) (no_sequences c.args.program.now c.requires.ended)
+    let written = sequence-found c.args.transform.now c.in-Constant.start rows c.image_rows.new.image.items m (sym c.in-Some-func_at.ensures.found) image in
+    rw (c.in-Some.is, c.in-Constant.is, written ∙ none) (no_sequences c.args.program.now c.requires.ended)
 
 pub add_sequence-requires-clause-fits : goal.add_sequence-requires-clause-fits
 add_sequence-requires-clause-fits c =
     let rows = c.args.rows.now in
-    let m = c.in-Some.function.now in
+    let m = c.in-Some-func_at.function.now in
     let image = c.in_ok-image_rows.ensures ∙ ap (λ xs. image_rows rows c.in-Constant.start None (map recorded_view xs)) c.deref.ensures.value in
-    let order = function_at-among IsOrdered c.args.transform.now c.in-Constant.start _ c.requires.functions (sym c.in-Some.ensures.found) in
+    let order = function_at-among IsOrdered c.args.transform.now c.in-Constant.start _ c.requires.functions (sym c.in-Some-func_at.ensures.found) in
     rw c.deref-3.ensures.value (image-fits (length c.args.program.now.files) c.in-Constant.start rows c.image_rows.new.image.items m c.requires.each order m.short image (omega (arith, eqb-false (vec_len c.image_rows.new.image) 0 (sym c.if-is_empty.ensures), c.image_rows.new.image.ok)))
 
 pub returns : goal.returns
 returns c =
     let rows = c.args.rows.now in
-    let m = c.in-Some.function.now in
+    let m = c.in-Some-func_at.function.now in
     let image = c.in_ok-image_rows.ensures ∙ ap (λ xs. image_rows rows c.in-Constant.start None (map recorded_view xs)) c.deref.ensures.value in
-    let written = sequence-found c.args.transform.now c.in-Constant.start rows c.image_rows.new.image.items m (sym c.in-Some.ensures.found) image in
+    let written = sequence-found c.args.transform.now c.in-Constant.start rows c.image_rows.new.image.items m (sym c.in-Some-func_at.ensures.found) image in
     let some = sequence-some _ (omega (arith, eqb-false (vec_len c.image_rows.new.image) 0 (sym c.if-is_empty.ensures), c.image_rows.new.image.ok)) in
-    rw (c.in-Constant.is, written ∙ some, number-view m c.unwrap-symbol.result c.unwrap-symbol.ensures, ← c.deref-3.ensures.value) c.add_sequence.ensures
+    rw (c.in-Some.is, c.in-Constant.is, written ∙ some, number-view m c.unwrap-symbol.result c.unwrap-symbol.ensures, ← c.deref-3.ensures.value) c.add_sequence.ensures

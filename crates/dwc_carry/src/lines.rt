@@ -1,0 +1,92 @@
+//! The line program that carries a line table.
+ghost use Rattle.std.specs.Prelude.{◌≡◌, None, [], IsSome, OnOk, IfOk, length, All};
+ghost use Rattle.dwc_write.specs.SpelledLines.{FitsName};
+ghost use Rattle.dwc_carry.specs.ImageRows.{IsOrdered};
+ghost use Rattle.dwc_carry.specs.ImageSequences.{FitsStep, AllRise, sequences_from, with_sequences};
+ghost use Rattle.dwc_carry.specs.CarriedLines.{FitsDirectories, CanCarry, CarriesTable, with_directories, with_files};
+
+use crate::sequence::add_image;
+use dwc_addr::AddressTransform;
+use dwc_base::Encoding;
+use dwc_tabs::{LineStep, LineTable};
+use dwc_write::{LineProgram, WriteError};
+use std::alloc::Global;
+
+/// The line program that carries a line table for the functions of a module: the table's directories and files by their
+/// numbers, and one sequence for each segment that has an image.
+pub fn carried_lines(
+    alloc: Global,
+    table: &LineTable<'_>,
+    transform: &AddressTransform,
+    encoding: Encoding,
+) -> Result<LineProgram, WriteError>
+    requires table { CanCarry table.now }
+    requires functions { All IsOrdered transform.now }
+    ensures { IfOk result (λ p. CarriesTable table.now transform.now encoding.address_size p) }
+{
+    let mut program = LineProgram::new(alloc, encoding)?;
+    add_directories(&mut program, table)?;
+    add_files(&mut program, table)?;
+    add_images(alloc, &mut program, table, transform)?;
+    Ok(program)
+}
+
+// Adds the directories of a table.
+fn add_directories(program: &mut LineProgram, table: &LineTable<'_>) -> Result<(), WriteError>
+    requires { All FitsName table.now.header.directories }
+    ensures { OnOk result (program.new ≡ with_directories table.now.header.directories program.old) }
+{
+    for i in 0..table.directory_count() {
+        let name = table.directory(i + 1).unwrap();
+        program.add_directory(name)?;
+    }
+    Ok(())
+}
+
+// Adds the files of a table, whose directories are added.
+fn add_files(program: &mut LineProgram, table: &LineTable<'_>) -> Result<(), WriteError>
+    requires { All (FitsDirectories (length program.old.directories)) table.now.files }
+    ensures { OnOk result (program.new ≡ with_files table.now.files program.old) }
+{
+    for i in 0..table.file_count() {
+        let file = table.file(i + 1).unwrap();
+        program.add_file(file.directory, file.name)?;
+    }
+    Ok(())
+}
+
+// Adds the images of the segments of a table, whose files are added.
+fn add_images(
+    alloc: Global,
+    program: &mut LineProgram,
+    table: &LineTable<'_>,
+    transform: &AddressTransform,
+) -> Result<(), WriteError>
+    requires sized { IsSome program.old.address_size }
+    requires ended { program.old.begun ≡ None }
+    requires steps { All (FitsStep (length program.old.files)) table.now.steps }
+    requires rise { AllRise None [] table.now.steps }
+    requires functions { All IsOrdered transform.now }
+    ensures { OnOk result (program.new ≡ with_sequences (sequences_from transform.now None [] table.now.steps) program.old) }
+{
+    let mut steps = table.rows();
+    let mut start = None;
+    let mut rows = Vec::new(alloc);
+    let mut image = Vec::new(alloc);
+    while let Some(step) = steps.next() {
+        match step {
+            LineStep::Start(address) => {
+                add_image(program, transform, start, &rows, &mut image)?;
+                start = Some(address);
+                rows.clear();
+            }
+            LineStep::End(_) => {
+                add_image(program, transform, start, &rows, &mut image)?;
+                start = None;
+                rows.clear();
+            }
+            LineStep::Row(row) => rows.push(row)?,
+        }
+    }
+    Ok(())
+}
