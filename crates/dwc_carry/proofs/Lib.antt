@@ -1,9 +1,11 @@
 pub mod ImageLaws
+pub mod LinesLaws
 pub mod LookupLaws
 pub mod OrderLaws
 pub mod RisingRows
 pub mod RowsLaws
 pub mod RunLaws
+pub mod SegmentLaws
 pub mod SequenceLaws
 pub mod KeptLaws
 pub mod EmitLaws
