@@ -35,3 +35,34 @@ module _ (s : Sections) (fs : List Function) where
 
   same-built : (order : Endian) (size : ℕ) → is_all_built (of_one order size (plain_module s (map kept_function fs))) ≡ is_all_built (of_one order size (plain_module s fs))
   same-built order size = rw same-carried refl
+
+  -- Nothing is emitted of a module that carries nothing.
+  pub nothing-emitted : (order : Endian) (size : ℕ) → CarriesNothing order size (plain_module s (map kept_function fs)) → Carries (of_one order size (plain_module s fs)) []
+  nothing-emitted order size h = record {
+    readable = sym (same-faults order size) ∙ h.read.readable;
+    built = sym (same-built order size) ∙ h.read.built;
+    carried = carries-nothing order size (plain_module s fs) h.whole (sym same-carried ∙ h.none);
+  }
+
+  -- Of a module that carries a unit the sections are emitted from which that unit is read back.
+  pub unit-emitted : (order : Endian) (size : ℕ) (u : GivenUnit) (out : List OutputSection) → CarriesUnit order size (plain_module s (map kept_function fs)) u → ReadsBack order (u ∷ []) out → Carries (of_one order size (plain_module s fs)) out
+  unit-emitted order size u out h back = go back.read back.units_read back.each
+    where
+      go : (read : List Unit) → units (output_sections order out) ≡ record { items = read; fault = None } → AllZip (IsReadUnit (output_sections order out)) (u ∷ []) read → Carries (of_one order size (plain_module s fs)) out
+      go [] is each = absurd each
+      go (v ∷ w ∷ others) is each = absurd each.1
+      go (v ∷ []) is each = record {
+        readable = sym (same-faults order size) ∙ h.read.readable;
+        built = sym (same-built order size) ∙ h.read.built;
+        carried = carries-one order size (plain_module s fs) out h.unit v h.input (given_segments u.lines) h.whole (sym same-carried ∙ h.one) is h.input_read each.0.lines
+            (images-kept fs _ _ (subst (λ qs. AllZip (IsImageOf (map kept_function fs)) qs (given_segments u.lines)) (carried_segments-kept fs h.input) h.images));
+      }
+
+  -- a module whose unit is refused
+  pub module-refused : (order : Endian) (size : ℕ) (e : DebugError) → RefusesModule (of_one order size (plain_module s (map kept_function fs))) e → RefusesModule (of_one order size (plain_module s fs)) e
+  module-refused order size (Read what section offset) h = rw (same-faults order size) at h
+  module-refused order size (Unsupported kind offset) (inl h) = inl (rw (same-faults order size) at h)
+  module-refused order size (Unsupported kind offset) (inr h) = inr (h.0, sym (same-built order size) ∙ h.1)
+  module-refused order size (BadAddressMap m func why) h = h
+  module-refused order size (TooLarge what) h = h
+  module-refused order size OutOfMemory h = h

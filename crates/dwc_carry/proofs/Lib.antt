@@ -18,8 +18,6 @@ pub mod NameLaws
 pub mod ReadUnitLaws
 pub mod OutputUnitLaws
 pub mod CanCarryLaws
-pub mod LinesLaws
-pub mod SegmentLaws
 pub mod OutcomeLaws
 pub mod RefusalLaws
 pub mod EmittedLaws

@@ -7,7 +7,6 @@ pub mod Refusals
 pub mod UnitEntries
 pub mod ReadUnits
 pub mod OutputUnits
-pub mod CarriedLines
 pub mod UnitLines
 pub mod Outcomes
 pub mod Emits

@@ -4,7 +4,10 @@
 mod emit;
 mod error;
 mod image;
+mod known_form;
 mod lines;
+mod output_unit;
+mod read_unit;
 mod sequence;
 mod unit_entries;
 mod unit_lines;
