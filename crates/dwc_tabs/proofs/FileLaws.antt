@@ -32,11 +32,12 @@ files-there directories (f ∷ fs) =
     ap (λ b. (b && nat_lt 0 (length f.name)) && list_all (is_named_within (length directories)) fs) (sym (in_directory-there directories f))
     ∙ ap (λ b. (is_some (in_directory directories f) && nat_lt 0 (length f.name)) && b) (files-there directories fs)
 
--- and-facts, one by one
+-- the first of two facts that both hold
 first-true : (a b : Bool) → (a && b) ≡ true → a ≡ true
 first-true true b h = refl
 first-true false b h = absurd (cc)
 
+-- and the second one
 last-true : (a b : Bool) → (a && b) ≡ true → b ≡ true
 last-true true b h = h
 last-true false b h = absurd (cc)
@@ -49,6 +50,7 @@ source-there directories (f ∷ fs) zero h =
     first-true (is_some (in_directory directories f)) (nat_lt 0 (length f.name)) (first-true (is_some (in_directory directories f) && nat_lt 0 (length f.name)) _ h) ∙ grind (arith, nat_tests)
 source-there directories (f ∷ fs) (suc n) h = source-there directories fs n (last-true (is_some (in_directory directories f) && nat_lt 0 (length f.name)) _ h) ∙ grind (arith, nat_tests)
 
+-- whether all files of a table have names and directories that are there
 abbrev all_named : LineTable → Bool
 all_named t = list_all (λ f. is_some (in_directory t.header.directories f) && nat_lt 0 (length f.name)) t.files
 

@@ -30,15 +30,17 @@ number-one : (order : Endian) (b : ℕ) → number order (b ∷ []) ≡ b
 number-one Little b = omega arith
 number-one Big b = omega arith
 
+-- the first byte of some, read as a number
 first-byte : (order : Endian) (place b : ℕ) (bs : List ℕ) → number_at 1 (record { order = order; place = place; left = b ∷ bs }) ≡ Ok (b, record { order = order; place = place + 1; left = bs })
 unfolding number_at bytes_at
 first-byte order place b bs = let some : ltb (suc (length bs)) 1 ≡ false = le-ltb _ _ (omega arith) in rw (some, number-one order b) refl
 
+-- no number is read of no bytes
 no-byte : (order : Endian) (place : ℕ) → number_at 1 (record { order = order; place = place; left = [] }) ≡ Err EndsEarly
 unfolding number_at bytes_at
 no-byte order place = refl
 
--- so many numbers of one byte are so many bytes
+-- so many numbers of one byte are so many bytes, by the parts of what is unread
 counted-bytes : (count : ℕ) (order : Endian) (place : ℕ) (left : List ℕ) → counted_at count (number_at 1) (record { order = order; place = place; left = left }) ≡ bytes_at count (record { order = order; place = place; left = left })
 unfolding counted_at
 counted-bytes zero order place left = sym (bytes_at-whole 0 (record { order = order; place = place; left = left }) (omega arith) ∙ ap (λ n. Ok ([], record { order = order; place = n; left = left })) (add-zero place))
@@ -57,5 +59,6 @@ counted-bytes (suc count) order place (b ∷ bs) = rw (first-byte order place b 
         (ap (λ n. Ok (b ∷ take count bs, record { order = order; place = n; left = drop count bs })) (omega arith)
         ∙ sym (bytes_at-whole (suc count) (record { order = order; place = place; left = b ∷ bs }) (omega arith)))
 
+-- so many numbers of one byte are so many bytes
 pub counted_at-bytes : (count : ℕ) (u : Unread) → counted_at count (number_at 1) u ≡ bytes_at count u
 counted_at-bytes count u = counted-bytes count u.order u.place u.left

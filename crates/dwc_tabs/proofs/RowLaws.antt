@@ -1,9 +1,8 @@
 -- What the steps of a table say of its segments: nothing of a table counts but its directories, its files and its steps.
-use Rattle.std.proofs.Common.{◌≡◌, ℕ, zero, suc, refl, ap, ◌∙◌, List, [], ◌∷◌, Option}
+use Rattle.std.proofs.Common.{◌≡◌, ℕ, zero, suc, refl, ap, ◌∙◌, List, [], ◌∷◌}
 use Rattle.std.specs.Prelude.{option_and_then, slice_get}
 use Rattle.dwc_base.specs.declared.records.LineRow.{LineRow}
-use Rattle.dwc_base.specs.LineHeaders.{LineFile}
-use Rattle.dwc_base.specs.LineRows.{LineTable, LineStep, start, row, end, in_directory, source_file, SourceFile, Row, named_row, rows_before, stop_behind, segment_if, with_segment, segments_among, segments}
+use Rattle.dwc_base.specs.LineRows.{LineTable, LineStep, start, row, end, in_directory, source_file, named_row, rows_before, stop_behind, segment_if, with_segment, segments_among, segments}
 
 module _ (t u : LineTable) (directories : t.header.directories ≡ u.header.directories) (files : t.files ≡ u.files) where
   -- they name the same files
@@ -15,12 +14,14 @@ module _ (t u : LineTable) (directories : t.header.directories ≡ u.header.dire
   named_row-same : (r : LineRow) → named_row t r ≡ named_row u r
   named_row-same r = ap (λ file. record { offset = r.offset; source = record { file = file; line = r.line; column = r.column; is_stmt = r.is_stmt; basic_block = r.basic_block; prologue_end = r.prologue_end; epilogue_begin = r.epilogue_begin; isa = r.isa; discriminator = r.discriminator } }) (source_file-same r.file)
 
+  -- and the same rows before a step of another kind
   rows_before-same : (steps : List LineStep) → rows_before t steps ≡ rows_before u steps
   rows_before-same [] = refl
   rows_before-same (row r ∷ steps) = ap (λ q. q ∷ rows_before t steps) (named_row-same r) ∙ ap (λ qs. named_row u r ∷ qs) (rows_before-same steps)
   rows_before-same (start a ∷ steps) = refl
   rows_before-same (end e ∷ steps) = refl
 
+  -- and the same segments among the same steps
   segments_among-same : (steps : List LineStep) → segments_among t steps ≡ segments_among u steps
   segments_among-same [] = refl
   segments_among-same (start a ∷ steps) = ap (λ rows. with_segment (segment_if a rows (stop_behind steps)) (segments_among t steps)) (rows_before-same steps) ∙ ap (with_segment (segment_if a (rows_before u steps) (stop_behind steps))) (segments_among-same steps)

@@ -25,6 +25,7 @@ shown-capped r = go (leb r.offset (2 ^ 64 - 1)) refl
 min-sum : (a d : ℕ) → min (min a (2 ^ 64 - 1) + d) (2 ^ 64 - 1) ≡ min (a + d) (2 ^ 64 - 1)
 min-sum a d = omega arith
 
+-- a number that stays at 2 ^ 64 - 1, and stays there again
 min-once : (a : ℕ) → min (min a (2 ^ 64 - 1)) (2 ^ 64 - 1) ≡ min a (2 ^ 64 - 1)
 min-once a = omega arith
 

@@ -39,6 +39,7 @@ module _ (p : Parameters) (directories : List (List ℕ)) (files : List LineFile
   unfolding instructions next_instruction instruction_at extended_instruction_at extended_at
   instructions-of relocations u = refl
 
+  -- nor the registers behind one
   after-of : (i : Instruction) (r : Registers) → after (header_of p directories files program) i r ≡ after (program_header p) i r
   after-of (special opcode) r = refl
   after-of copy r = refl
@@ -59,6 +60,7 @@ module _ (p : Parameters) (directories : List (List ℕ)) (files : List LineFile
   after-of (set_discriminator n) r = refl
   after-of unknown r = refl
 
+  -- nor what one does that shows
   effect-of : (i : Instruction) (r : Registers) → effect (header_of p directories files program) i r ≡ effect (program_header p) i r
   effect-of (special opcode) r = refl
   effect-of copy r = refl
@@ -125,10 +127,11 @@ in_order true true false d e = refl
 in_order true false true d e = refl
 in_order true false false d e = refl
 
--- the lower of two numbers, and the higher
+-- a lower number is at least 1 where both are
 least-min : (a b : ℕ) → nat_le 1 (min a b) ≡ (nat_le 1 a && nat_le 1 b)
 least-min a b = grind (arith, nat_tests)
 
+-- a higher number is at most n where both are
 most-max : (a b n : ℕ) → nat_le (max a b) n ≡ (nat_le a n && nat_le b n)
 most-max a b n = grind (arith, nat_tests)
 
@@ -146,12 +149,15 @@ noted-bounds (Some (end e) ∷ ss) c count = noted-bounds ss c count
 
 -- ---- the table of what was checked
 
+-- what cannot be read is no table
 checked-flaw : (h : LineHeader) (l : Listing Flaw Instruction) (flaw : Flaw) → l.fault ≡ Some flaw → checked_table h l ≡ Err flaw
 checked-flaw h l flaw fault = rw (fault, checked_table) refl
 
+-- nor is what has a row out of range
 checked-malformed : (h : LineHeader) (l : Listing Flaw Instruction) → l.fault ≡ None → list_all is_in_range (effects h (at_sequence_start h) l.items) ≡ false → checked_table h l ≡ Err Malformed
 checked-malformed h l fault out = rw (fault, out, checked_table) refl
 
+-- all else is one
 checked-whole : (h : LineHeader) (l : Listing Flaw Instruction) → l.fault ≡ None → list_all is_in_range (effects h (at_sequence_start h) l.items) ≡ true → checked_table h l ≡ Ok (table_of h l.items)
 checked-whole h l fault all = rw (fault, all, checked_table) refl
 
@@ -167,6 +173,7 @@ module _ (p : Parameters) (directories : List (List ℕ)) (header_files files : 
     in_range-noted : list_all is_some (shown_from p relocations (at_sequence_start (program_header p)) program) ≡ check.in_range
     in_range-noted = sym (ap (λ c. c.in_range) checked.noted ∙ noted-in_range (shown_from p relocations (at_sequence_start (program_header p)) program) nothing_noted)
 
+    -- and so whether all effects are
     in_range-checked : list_all is_in_range (effects (header_of p directories header_files program) (at_sequence_start (header_of p directories header_files program)) (instructions_from p relocations program).items) ≡ check.in_range
     unfolding shown_steps
     in_range-checked =
@@ -276,11 +283,12 @@ passed-short order bytes offset flaw h = go (ltb (length bytes) offset) refl h
 
 -- ---- what a call answers
 
--- a flaw that is met
 module _ (order : Endian) (bytes : List ℕ) (relocations : List Relocation) (address_size offset : ℕ) where
+  -- a flaw, as a fault of the table
   reported-flaw : (flaw : Flaw) → table_at relocations address_size (record { order = order; place = offset; left = drop offset bytes }) ≡ Err flaw → line_table (of_line order bytes relocations) address_size offset ≡ Err (fault_of LineTableRead Line offset flaw)
   reported-flaw flaw h = line_table-at order bytes relocations address_size offset ∙ ap (reported LineTableRead Line offset) h
 
+  -- a flaw that is met is answered as its fault
   pub answers-flaw : (fault : TabFault) (flaw : Flaw) → fault_view fault ≡ Some (fault_of LineTableRead Line offset flaw) → table_at relocations address_size (record { order = order; place = offset; left = drop offset bytes }) ≡ Err flaw
       → AnswersTable offset (line_table (of_line order bytes relocations) address_size offset) (Err fault)
   answers-flaw (Read what section at) flaw is h = reported-flaw flaw h ∙ ap Err (let same : fault_of LineTableRead Line offset flaw ≡ unreadable what section at = cc in same)

@@ -47,6 +47,7 @@ pub enum Instruction<'d> {
 const EXTENDED: u8 = 0;
 
 /// The instruction at the front. Opcodes from `opcode_base` on are special.
+#[inline(always)]
 #[tactic(auto, unfolding(dwc_base::specs::LineHeaders::instruction_at))]
 pub fn read_instruction<'d>(
     parameters: &Parameters<'d>,
@@ -66,6 +67,7 @@ pub fn read_instruction<'d>(
 }
 
 // The operands of a standard opcode; those of one without a meaning are passed.
+#[inline(always)]
 fn standard_instruction<'d>(
     parameters: &Parameters<'d>,
     opcode: u8,

@@ -48,7 +48,8 @@ pub fn sequence_start(parameters: &Parameters<'_>) -> Registers
     }
 }
 
-/// Runs one instruction.
+/// Runs one instruction. It is inlined into the loops that decode one, so that none is stored.
+#[inline(always)]
 pub fn execute(
     registers: &mut Registers,
     parameters: &Parameters<'_>,
@@ -65,68 +66,37 @@ pub fn execute(
             let count = operation_advance(parameters, opcode);
             registers.offset = advanced(offset, parameters, u64::from(count));
             registers.line = moved(registers.line, line_advance(parameters, opcode));
-            append(registers)
+            return append(registers);
         }
-        Instruction::Copy => append(registers),
-        Instruction::AdvancePc(count) => {
-            registers.offset = advanced(offset, parameters, count);
-            Shown::Nothing
-        }
-        Instruction::AdvanceLine(step) => {
-            registers.line = moved(registers.line, step);
-            Shown::Nothing
-        }
-        Instruction::SetFile(file) => {
-            registers.file = file;
-            Shown::Nothing
-        }
-        Instruction::SetColumn(column) => {
-            registers.column = column;
-            Shown::Nothing
-        }
-        Instruction::NegateStmt => {
-            registers.is_stmt = !registers.is_stmt;
-            Shown::Nothing
-        }
-        Instruction::SetBasicBlock => {
-            registers.basic_block = true;
-            Shown::Nothing
-        }
-        Instruction::ConstAddPc => {
-            let count = operation_advance(parameters, u8::MAX);
-            registers.offset = advanced(offset, parameters, u64::from(count));
-            Shown::Nothing
-        }
-        Instruction::FixedAdvancePc(count) => {
-            registers.offset = offset.saturating_add(u64::from(count));
-            Shown::Nothing
-        }
-        Instruction::SetPrologueEnd => {
-            registers.prologue_end = true;
-            Shown::Nothing
-        }
-        Instruction::SetEpilogueBegin => {
-            registers.epilogue_begin = true;
-            Shown::Nothing
-        }
-        Instruction::SetIsa(isa) => {
-            registers.isa = isa;
-            Shown::Nothing
-        }
+        Instruction::Copy => return append(registers),
         Instruction::EndSequence => {
             *registers = sequence_start(parameters);
-            Shown::Step(LineStep::End(end_offset(offset)))
+            return Shown::Step(LineStep::End(end_offset(offset)));
         }
         Instruction::SetAddress(address) => {
             registers.offset = 0;
-            Shown::Step(LineStep::Start(address))
+            return Shown::Step(LineStep::Start(address));
         }
-        Instruction::SetDiscriminator(discriminator) => {
-            registers.discriminator = discriminator;
-            Shown::Nothing
+        Instruction::AdvancePc(count) => registers.offset = advanced(offset, parameters, count),
+        Instruction::AdvanceLine(step) => registers.line = moved(registers.line, step),
+        Instruction::SetFile(file) => registers.file = file,
+        Instruction::SetColumn(column) => registers.column = column,
+        Instruction::NegateStmt => registers.is_stmt = !registers.is_stmt,
+        Instruction::SetBasicBlock => registers.basic_block = true,
+        Instruction::ConstAddPc => {
+            let count = operation_advance(parameters, u8::MAX);
+            registers.offset = advanced(offset, parameters, u64::from(count));
         }
-        Instruction::DefineFile(_) | Instruction::Unknown => Shown::Nothing,
+        Instruction::FixedAdvancePc(count) => {
+            registers.offset = offset.saturating_add(u64::from(count));
+        }
+        Instruction::SetPrologueEnd => registers.prologue_end = true,
+        Instruction::SetEpilogueBegin => registers.epilogue_begin = true,
+        Instruction::SetIsa(isa) => registers.isa = isa,
+        Instruction::SetDiscriminator(number) => registers.discriminator = number,
+        Instruction::DefineFile(_) | Instruction::Unknown => {}
     }
+    Shown::Nothing
 }
 
 // How many instructions a special opcode advances the address by.
