@@ -14,3 +14,4 @@ pub mod ShapeViews
 pub mod SpelledOutput
 pub mod SectionViews
 pub mod ReadBack
+pub mod SmallGiven

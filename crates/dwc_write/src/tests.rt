@@ -1,7 +1,7 @@
 //! The bytes of a small module: one unit with a function of two rows.
-ghost use Rattle.std.specs.Prelude.{◌≡◌, ◌∷◌, [], IfOk, Some, None, codes, pos};
-ghost use Rattle.dwc_base.specs.declared.records.Address.TheVariants as address;
-ghost use Rattle.dwc_write.specs.declared.attributes.AttributeValue.TheVariants as value;
+ghost use Rattle.std.specs.Prelude.{◌≡◌, ◌∷◌, [], IfOk};
+ghost use Rattle.dwc_write.specs.GivenUnits.{AreWritable};
+ghost use Rattle.dwc_write.specs.SmallGiven.{small_lines};
 
 use crate::{AttributeValue, Dwarf, LineProgram, Unit, UnitTable, WriteError, write_sections};
 use dwc_base::constants::{
@@ -11,6 +11,7 @@ use dwc_base::{
     Address, DwarfSection, DwarfSectionReloc, DwarfSectionRelocTarget, Encoding, Endian, LineRow,
 };
 use std::alloc::Global;
+use std::process::Abort;
 use std::test::Fail;
 
 const ENCODING: Encoding = Encoding {
@@ -49,7 +50,9 @@ const SECOND: LineRow = LineRow {
     discriminator: 0,
 };
 
-fn small_program(alloc: Global) -> Result<LineProgram, WriteError> {
+fn small_program(alloc: Global) -> Result<LineProgram, WriteError>
+    ensures { IfOk result (λ p. p ≡ small_lines) }
+{
     let mut program = LineProgram::new(alloc, ENCODING)?;
     let _ = program.add_file(0, b"a.c")?;
     program.begin_sequence(START)?;
@@ -59,7 +62,9 @@ fn small_program(alloc: Global) -> Result<LineProgram, WriteError> {
     Ok(program)
 }
 
-fn small_unit(alloc: Global) -> Result<Unit, WriteError> {
+fn small_unit(alloc: Global) -> Result<Unit, WriteError>
+    ensures { IfOk result (λ u. AreWritable (u ∷ [])) }
+{
     let program = small_program(alloc)?;
     let mut unit = Unit::new(alloc, ENCODING, program)?;
     let root = unit.root();
