@@ -2,7 +2,7 @@
 use Rattle.std.proofs.Common.{◌≡◌, ℕ, List, ◌++◌, Option, Ok, Err, OnOk, subst, inl, inr}
 use Rattle.std.specs.Prelude.{codes, Result}
 use Rattle.dwc_cli.specs.Devices.{HasCause}
-use Rattle.dwc_cli.specs.Answers.{Complains}
+use Rattle.dwc_cli.specs.Answers.{Tells}
 use Rattle.dwc_cli.specs.RunStatus.{Appended}
 use Rattle.dwc_cli.specs.Printed.{line_feed}
 use Rattle.dwc_cli.specs.Failures.{line_of}
@@ -15,6 +15,6 @@ Appended-line before first second third now message detail whole a b c d same =
     subst (λ m. Appended before now ((codes "dwarfcarry: " ++ m) ++ line_feed)) same parts
 
 -- a line was written, or the sink failed
-pub Complains-written : {T E : Type 0} (result : Result T E) (faults_before faults_now : ℕ) (before now : Option (List ℕ)) (message : List ℕ) → OnOk result (Appended before now (line_of message)) → HasCause faults_before faults_now result → Complains faults_before faults_now before now
-Complains-written (Ok x) faults_before faults_now before now message line cause = inr (message, line)
-Complains-written (Err e) faults_before faults_now before now message line cause = inl cause.failed
+pub Tells-written : {T E : Type 0} (result : Result T E) (faults_before faults_now : ℕ) (before now : Option (List ℕ)) (message : List ℕ) → OnOk result (Appended before now (line_of message)) → HasCause faults_before faults_now result → Tells faults_before faults_now before now message
+Tells-written (Ok x) faults_before faults_now before now message line cause = inr line
+Tells-written (Err e) faults_before faults_now before now message line cause = inl cause.failed

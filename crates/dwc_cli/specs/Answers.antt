@@ -78,6 +78,10 @@ GivesReadText read status = IsValid read → IsOneOf (0 ∷ 9 ∷ []) status
 abbrev pub GivesText : Input → ℕ → Type 0
 GivesText input status = (read : Loaded) → loaded input ≡ Some read → GivesReadText read status
 
--- a line of the program's own was appended, unless the sink failed
+-- a line of the program's own, with this message, was appended, unless the sink failed
+abbrev pub Tells : ℕ → ℕ → Option (List ℕ) → Option (List ℕ) → List ℕ → Type 0
+Tells faults_before faults_now before now message = Rose faults_before faults_now ⊎ Appended before now (line_of message)
+
+-- the same with some message
 abbrev pub Complains : ℕ → ℕ → Option (List ℕ) → Option (List ℕ) → Type 0
-Complains faults_before faults_now before now = Rose faults_before faults_now ⊎ ((message : List ℕ) × Appended before now (line_of message))
+Complains faults_before faults_now before now = (message : List ℕ) × Tells faults_before faults_now before now message

@@ -12,7 +12,7 @@ use dwc_base::{ModuleTranslation, split_wasm};
 use std::alloc::Global;
 use std::slice;
 
-/// The printed text of an input: of the sections of DWARF of its module, rewritten for the code that its map tells of.
+// The printed text of an input: of the sections of DWARF of its module, rewritten for the code that its map tells of.
 pub(crate) fn text_of(alloc: Global, input: &InputFiles) -> Result<Vec<u8>, Failure<'static>>
     ensures carried { IfOk result (λ text. CarriesText (input_view input.now) text.items) }
     ensures causes { TextCauses (input_view input.now) (status_of result) }

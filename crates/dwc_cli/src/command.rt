@@ -1,8 +1,8 @@
 //! The top call.
 ghost use Rattle.std.specs.Prelude.{◌≡◌, ◌≢◌, ◌<◌, ◌∷◌, [], map, string_bytes};
 ghost use Rattle.dwc_cli.specs.RunStatus.{Rose, Succeeds, UsageCause, MissingCause, InputCauses, PrefixWritten, IsStatus, IsOneOf, RunsWell, most_bytes};
-ghost use Rattle.dwc_cli.specs.Failures.{failure_status};
-ghost use Rattle.dwc_cli.specs.Answers.{Complains};
+ghost use Rattle.dwc_cli.specs.Failures.{failure_status, failure_message};
+ghost use Rattle.dwc_cli.specs.Answers.{Tells, Complains};
 
 use crate::answer::text_of;
 use crate::failure::{Failure, complain};
@@ -66,7 +66,7 @@ pub fn run<S: Source, K: Sink, E: Sink>(
 // Says why a run does not end well, and answers its status. A fault of `err` changes nothing.
 fn refuse<E: Sink>(err: &mut E, failure: &Failure<'_>) -> u8
     ensures status { result ≡ failure_status failure.now }
-    ensures said { Complains (E.faults err.old) (E.faults err.new) (E.written err.old) (E.written err.new) }
+    ensures said { Tells (E.faults err.old) (E.faults err.new) (E.written err.old) (E.written err.new) (failure_message failure.now) }
 {
     match complain(err, failure) {
         Ok(()) | Err(Failed) => failure.status().code(),

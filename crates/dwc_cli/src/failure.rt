@@ -13,7 +13,7 @@ use std::alloc::AllocError;
 
 const USAGE: &str = "usage: dwarfcarry [--package P] [--text] MAP MODULE... | --generate N";
 
-/// Why a run does not end with [`Status::Done`].
+// Why a run does not end with [`Status::Done`].
 #[derive(Drop)]
 pub(crate) enum Failure<'w> {
     Usage,
@@ -55,7 +55,7 @@ impl From<WasmFault> for Failure<'_> {
 }
 
 impl Failure<'_> {
-    /// The status of a run that ends so.
+    // The status of a run that ends so.
     pub(crate) fn status(&self) -> Status
         ensures { status_code result ≡ failure_status self.now }
     {
@@ -86,7 +86,7 @@ impl Failure<'_> {
     }
 }
 
-/// Writes the line of a failure: `dwarfcarry: `, the message and a line feed.
+// Writes the line of a failure: `dwarfcarry: `, the message and a line feed.
 pub(crate) fn complain<E: Sink>(err: &mut E, failure: &Failure<'_>) -> Result<(), Failed>
     ensures line { OnOk result (Appended (E.written err.old) (E.written err.new) (line_of (failure_message failure.now))) }
     ensures cause { HasCause (E.faults err.old) (E.faults err.new) result }

@@ -62,7 +62,7 @@ impl<R: Files + Drop> Source for HostSource<R> {
     }
 }
 
-/// Reads on in a file, if one is open.
+// Reads on in a file, if one is open.
 fn read_from<F: Read>(file: &mut Option<F>, buf: &mut [u8]) -> Result<usize, Failed>
     ensures { ReadsAtMost result buf.new }
 {

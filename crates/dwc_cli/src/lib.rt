@@ -26,12 +26,10 @@ mod words;
 
 pub use command::run;
 pub use host::{HostSink, HostSource};
-pub use loading::{LoadError, load};
 pub use map_file::{MapFile, MapModule, Names, Target, map_of};
 pub use mem_sink::MemSink;
 pub use mem_source::MemSource;
 pub use printing::printed;
-pub use sink::{Sink, write_all};
+pub use sink::Sink;
 pub use source::{Failed, Source};
 pub use status::Status;
-pub use words::{Paths, read_words};

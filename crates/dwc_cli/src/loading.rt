@@ -14,7 +14,7 @@ const BUFFER: usize = 65_536;
 
 /// Why a file is not loaded.
 #[derive(Clone, Copy, Debug, PartialEq, Eq)]
-pub enum LoadError {
+pub(crate) enum LoadError {
     /// The source failed.
     Read,
     /// More than 2 ^ 28 bytes were taken of the file.
@@ -46,7 +46,11 @@ impl From<AllocError> for LoadError {
 
 /// The bytes of the file at a path. It is opened and read to its end, 65,536 bytes at a time; past 2 ^ 28 bytes it is
 /// [`LoadError::TooLong`].
-pub fn load<S: Source>(alloc: Global, source: &mut S, path: &str) -> Result<Vec<u8>, LoadError>
+pub(crate) fn load<S: Source>(
+    alloc: Global,
+    source: &mut S,
+    path: &str,
+) -> Result<Vec<u8>, LoadError>
     ensures file { IfOk result (λ bytes. IsFile (S.files source.old) path.now bytes.items) }
     ensures short { IfOk result (λ bytes. length bytes.items ≤ most_bytes) }
     ensures too_long { (result ≡ Err LoadError.TooLong) ↔ (most_bytes < S.taken source.new) }

@@ -66,8 +66,8 @@ impl Source for MemSource {
 
     ghost faults = { λ s. s.faults };
 
-    #[tactic(auto, using(crate::proofs::MemoryFiles::found))]
     /// Opens the first file with the path. It fails where the call is one that is to fail, or no file has the path.
+    #[tactic(auto, using(crate::proofs::MemoryFiles::found))]
     fn open_file(&mut self, path: &str) -> Result<(), Failed>
         ensures files { Some (files_of self.new.files) ≡ Some (files_of self.old.files) }
         ensures opened { Opens (Some (files_of self.old.files)) path.now self.new.left result }
@@ -107,7 +107,7 @@ impl Source for MemSource {
     }
 }
 
-/// The number of the first file with a path.
+// The number of the first file with a path.
 fn file_at(files: &[(String, Vec<u8>)], path: &str) -> Option<usize>
     ensures left { left_of files.now (option_map at_front result) ≡ finite.find (slice_cmp nat_cmp) path.now (map file_entry files.now) }
     ensures inside { IfSome result (λ file. file < length files.now) }
@@ -126,7 +126,7 @@ fn has_path(file: &(String, Vec<u8>), path: &str) -> bool
     file.0.as_str() == path
 }
 
-/// The file that a call opens: none where it is to fail.
+// The file that a call opens: none where it is to fail.
 fn opening(fails: bool, files: &[(String, Vec<u8>)], path: &str) -> Option<Opened>
     ensures left { left_of files.now result ≡ (if fails then None else finite.find (slice_cmp nat_cmp) path.now (map file_entry files.now)) }
     ensures none { IsNone result ↔ IsNone (left_of files.now result) }
@@ -138,8 +138,8 @@ fn opening(fails: bool, files: &[(String, Vec<u8>)], path: &str) -> Option<Opene
     Some(Opened { file, place: 0 })
 }
 
-/// What a read gives: it copies what is left of the opened file to the front of the buffer, as far as there is room, and
-/// goes on behind it. None where the call is to fail or no file is open.
+// What a read gives: it copies what is left of the opened file to the front of the buffer, as far as there is room, and
+// goes on behind it. None where the call is to fail or no file is open.
 fn give(
     fails: bool,
     files: &[(String, Vec<u8>)],
@@ -161,7 +161,7 @@ fn give(
     Some(count)
 }
 
-/// The bytes from a place on, none past the end.
+// The bytes from a place on, none past the end.
 fn from_place(bytes: &[u8], place: usize) -> &[u8]
     ensures { result.now ≡ drop place bytes.now }
 {

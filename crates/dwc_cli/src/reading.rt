@@ -12,7 +12,7 @@ use crate::source::Source;
 use crate::words::Paths;
 use std::alloc::Global;
 
-/// Reads the map, and then the module.
+// Reads the map, and then the module.
 pub(crate) fn read_input<'w, S: Source>(
     alloc: Global,
     source: &mut S,

@@ -9,7 +9,7 @@ use std::marker::Model;
 // No refusal has a longer text: its name, kinds and names of sections, and numbers.
 const ROOM: usize = 128;
 
-/// The text of a refusal: its name and its fields, with a space between.
+// The text of a refusal: its name and its fields, with a space between.
 #[derive(Drop)]
 pub(crate) struct Refusal {
     bytes: [u8; ROOM],
@@ -27,7 +27,7 @@ impl Model for Refusal {
 }
 
 impl Refusal {
-    /// The text that a refusal displays; what is past the room is left out.
+    // The text that a refusal displays; what is past the room is left out.
     pub(crate) fn of<D: Display>(refusal: &D) -> Refusal {
         let mut text = Refusal {
             bytes: [0; ROOM],

@@ -22,7 +22,7 @@ pub trait Sink {
 }
 
 /// Writes all of some bytes. Where the sink fails, a front of them was taken.
-pub fn write_all<K: Sink>(sink: &mut K, bytes: &[u8]) -> Result<(), Failed>
+pub(crate) fn write_all<K: Sink>(sink: &mut K, bytes: &[u8]) -> Result<(), Failed>
     ensures whole { OnOk result (Appended (K.written sink.old) (K.written sink.new) bytes.now) }
     ensures front { OnErr result (AppendsFront (K.written sink.old) (K.written sink.new) bytes.now) }
     ensures cause { HasCause (K.faults sink.old) (K.faults sink.new) result }

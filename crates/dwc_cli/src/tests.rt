@@ -1,6 +1,8 @@
 ghost use Rattle.std.specs.Prelude.{None};
 
 use super::*;
+use crate::sink::write_all;
+use crate::words::read_words;
 use std::alloc::{AllocError, Global};
 use std::test::Fail;
 

@@ -6,15 +6,15 @@ ghost use Rattle.dwc_cli.specs.Edge.{paths_view};
 
 /// The files that the words of a run name.
 #[derive(Clone, Copy)]
-pub struct Paths<'w> {
+pub(crate) struct Paths<'w> {
     /// The map of the functions, a JSON file.
-    pub map_path: &'w str,
+    pub(crate) map_path: &'w str,
     /// The WebAssembly module.
-    pub module_path: &'w str,
+    pub(crate) module_path: &'w str,
 }
 
 /// The two paths that the words are, or none: there are two words, neither is empty or begins with `-`.
-pub fn read_words(words: &[String]) -> Option<Paths<'_>>
+pub(crate) fn read_words(words: &[String]) -> Option<Paths<'_>>
     ensures { option_map paths_view result ≡ paths_of (map string_bytes words.now) }
 {
     let [map_path, module_path] = words else {
