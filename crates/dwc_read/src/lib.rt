@@ -18,6 +18,8 @@ mod place;
 mod sections;
 mod steps;
 mod table;
+#[cfg(test)]
+mod tests;
 mod unit;
 mod units;
 mod value;

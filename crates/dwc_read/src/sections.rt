@@ -4,9 +4,7 @@ ghost use Rattle.dwc_base.specs.Translations.{translation_sections};
 ghost use Rattle.dwc_base.specs.Outputs.{section_view, section_named, output_sections};
 ghost use Rattle.dwc_read.specs.Named.{bytes_named, relocations_named};
 
-use dwc_base::{
-    DwarfSection, Endian, ModuleTranslation, Relocations, SectionName, WasmSections,
-};
+use dwc_base::{DwarfSection, Endian, ModuleTranslation, Relocations, SectionName, WasmSections};
 use std::marker::Model;
 
 /// The sections that hold DWARF, by their names, with the relocations in them and the order of the bytes of a number.
