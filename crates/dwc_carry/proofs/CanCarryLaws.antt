@@ -38,6 +38,7 @@ known-directory directories f h = go f.directory h
     some : (name : List ℕ) (o : Option (List ℕ)) → is_some (option_map (λ d. let s : SourceFile = record { directory = Some d; name = name } in s) o) ≡ is_some o
     some name None = refl
     some name (Some d) = refl
+
     go : (n : ℕ) → is_some (in_directory directories (record { directory = n; name = f.name })) ≡ true → n ≤ length directories
     go zero e = omega arith
     go (suc n) e = omega (arith, inside directories n (sym (some f.name (slice_get directories n)) ∙ e))

@@ -21,6 +21,7 @@ module _ {X : Type 0} (q g : X → Bool) where
       more : (c : Bool) → (list_any q (filter g xs) ≡ true → list_any q xs ≡ true) → (c || list_any q (filter g xs)) ≡ true → (c || list_any q xs) ≡ true
       more true others e = refl
       more false others e = others e
+
       go : (b : Bool) → list_any q (cond {A = List X} b (x ∷ filter g xs) (filter g xs)) ≡ true → (list_any q (filter g xs) ≡ true → list_any q xs ≡ true) → (q x || list_any q xs) ≡ true
       go true e others = more (q x) others e
       go false e others = rw (others e) (or-true (q x))
@@ -33,9 +34,11 @@ module _ {X : Type 0} (q g : X → Bool) where
       here : (c : Bool) → (c && list_all q xs) ≡ true → (c || list_any q (filter g xs)) ≡ true
       here true e = refl
       here false e = absurd (cc)
+
       behind : (c : Bool) → (c && list_all q xs) ≡ true → list_all q xs ≡ true
       behind true e = e
       behind false e = absurd (cc)
+
       go : (b : Bool) → (q x && list_all q xs) ≡ true → (list_all q xs ≡ true → list_any q (filter g xs) ≡ list_any g xs)
           → list_any q (cond {A = List X} b (x ∷ filter g xs) (filter g xs)) ≡ (b || list_any g xs)
       go true e others = here (q x) e

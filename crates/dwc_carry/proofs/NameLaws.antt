@@ -60,6 +60,7 @@ uleb-small u v n h = go (uleb_value u.left) h
         let same : m.0 ≡ n = ap (λ p. p.0) both in
         omega (arith, same, ltb-true m.0 (2 ^ 64) is)
     fits m false is e = absurd (cc)
+
     go : (o : Option (ℕ × ℕ)) → uleb_fitting u o ≡ Ok (n, v) → n < 2 ^ 64
     go None e = absurd (cc)
     go (Some m) e = fits m (nat_lt m.0 (2 ^ 64)) refl e
@@ -106,6 +107,7 @@ directory-name u v name h = go (text_at u) refl h
         let same : Some read.0 ≡ Some name = ap (λ p. p.0) (ok-same (Some read.0, read.1) (Some name, v) e) in
         let equal : read.0 ≡ name = cc in
         rw (← equal) (record { some = omega (arith, eqb-false (length read.0) 0 is); plain = plain.plain })
+
     go : (r : Read (List ℕ)) → text_at u ≡ r → (let s : Read (Option (List ℕ)) = r >>= λ name. Ok (if length name.0 == 0 then None else Some name.0, name.1) in s) ≡ Ok (Some name, v) → FitsName name
     go (Err flaw) is e = absurd (cc)
     go (Ok read) is e = some read (text-plain u read.1 read.0 is) (length read.0 == 0) refl e
@@ -120,9 +122,11 @@ behind-name name u v f plain h = go (uleb_at u) refl h
     sized d small (Ok s) e =
         let same : record { directory = d.0; name = name } ≡ f = ap (λ p. p.0) (ok-same (record { directory = d.0; name = name }, s.1) (f, v) e) in
         rw (← same) (record { name = plain; directory = small })
+
     timed : (d : ℕ × Unread) → d.0 < 2 ^ 64 → (r : Read ℕ) → (let t : Read LineFile = r >>= λ time. uleb_at time.1 >>= λ size. Ok (record { directory = d.0; name = name }, size.1) in t) ≡ Ok (f, v) → IsPlainFile f
     timed d small (Err flaw) e = absurd (cc)
     timed d small (Ok r) e = sized d small (uleb_at r.1) e
+
     go : (r : Read ℕ) → uleb_at u ≡ r → (let t : Read LineFile = r >>= λ directory. uleb_at directory.1 >>= λ time. uleb_at time.1 >>= λ size. Ok (record { directory = directory.0; name = name }, size.1) in t) ≡ Ok (f, v) → IsPlainFile f
     go (Err flaw) is e = absurd (cc)
     go (Ok d) is e = timed d (uleb-small u d.1 d.0 is) (uleb_at d.1) e
@@ -137,10 +141,12 @@ file-plain u v f h = go (text_at u) refl h
         let some : Some x.0 ≡ Some f = ap (λ p. p.0) (ok-same (Some x.0, x.1) (Some f, v) e) in
         let same : x.0 ≡ f = cc in
         rw (← same) (behind-name name.0 name.1 x.1 x.0 plain is)
+
     named : (name : List ℕ × Unread) → IsPlain name.0 → (b : Bool)
         → (let s : Read (Option LineFile) = elim b [ true ↦ Ok (None, name.1) | false ↦ (file_behind name.0 name.1 >>= λ file. Ok (Some file.0, file.1)) ] in s) ≡ Ok (Some f, v) → IsPlainFile f
     named name plain true e = absurd (cc (ap (λ p. p.0) (ok-same (None, name.1) (Some f, v) e)))
     named name plain false e = found name plain (file_behind name.0 name.1) refl e
+
     go : (r : Read (List ℕ)) → text_at u ≡ r
         → (let s : Read (Option LineFile) = r >>= λ name. elim (length name.0 == 0) [ true ↦ Ok (None, name.1) | false ↦ (file_behind name.0 name.1 >>= λ file. Ok (Some file.0, file.1)) ] in s) ≡ Ok (Some f, v) → IsPlainFile f
     go (Err flaw) is e = absurd (cc)
@@ -266,6 +272,7 @@ extended-plain relocations h opcode u = one (opcode == DW_LNE_end_sequence) (opc
         found : (s : Read LineFile) → file_behind name.0 name.1 ≡ s → IsInstructionPlain (seen_as define_file s)
         found (Err flaw) e = record { of = tt }
         found (Ok x) e = record { of = behind-name name.0 name.1 x.1 x.0 (text-plain u name.1 name.0 is) e }
+
     one : (a b c d : Bool) → IsInstructionPlain (elim a [
       | true ↦ Ok (end_sequence, u)
       | false ↦ elim b [

@@ -78,6 +78,7 @@ module _ (fs : List Function) where
           let same : g ≡ f = cc in
           ap (λ k. is_some k.symbol) (sym same) ∙ is
       one g false is e = absurd (cc)
+
       go : (b : Bool) (o : Option Function) → ◌≡◌ {A = Option Function} (if b then None else with_symbol o) (Some f) → is_some f.symbol ≡ true
       go true o e = absurd (cc)
       go false None e = absurd (cc)

@@ -94,7 +94,7 @@ rows-widest order size before (r ∷ rs) last line small fit =
 sequence-widest : (order : Endian) (size : ℕ) (q : WrittenSequence) → size ≤ 8 → FitsSequence size q → length (program_bytes order size (sequence_instructions q)) ≤ widest_image (length q.rows)
 sequence-widest order size q small fits =
     let start : length (program_bytes order size (set_address q.start_address ∷ [])) ≤ 20 =
-        omega (arith, extended-widest 2 (address_bytes order size q.start_address) 8 (omega (arith, number_bytes-length order size (stored q.start_address))) (omega arith), length-append (extended_bytes 2 (address_bytes order size q.start_address)) []) in
+    omega (arith, extended-widest 2 (address_bytes order size q.start_address) 8 (omega (arith, number_bytes-length order size (stored q.start_address))) (omega arith), length-append (extended_bytes 2 (address_bytes order size q.start_address)) []) in
     let both = pieces order size 20 (length q.rows * widest_row + 23) (set_address q.start_address ∷ []) (rows_instructions first_row q.rows q.end_offset) start (rows-widest order size first_row q.rows q.end_offset (omega arith) fits.last fits.rows) in
     omega (arith, both)
 

@@ -19,7 +19,10 @@ pub enum DebugError {
     },
     /// What stands at `offset` is of a kind that is refused, or not read yet.
     #[error("Unsupported {what:?} {offset}")]
-    Unsupported { what: Kind, offset: u64 },
+    Unsupported {
+        what: Kind,
+        offset: u64,
+    },
     /// The address map of a function, by its place among the defined ones of its module, breaks a rule.
     #[error("BadAddressMap {module} {func} {why:?}")]
     BadAddressMap {
@@ -29,7 +32,9 @@ pub enum DebugError {
     },
     /// A section would be longer than it can be.
     #[error("TooLarge Section {name}", name = limited(*what).text())]
-    TooLarge { what: Limit },
+    TooLarge {
+        what: Limit,
+    },
     #[error("out of memory")]
     OutOfMemory,
 }
@@ -71,7 +76,11 @@ impl From<AddrError> for DebugError {
 
     fn from(error: AddrError) -> DebugError {
         match error {
-            AddrError::BadAddressMap { module, func, why } => DebugError::BadAddressMap { module, func, why },
+            AddrError::BadAddressMap { module, func, why } => DebugError::BadAddressMap {
+                module,
+                func,
+                why,
+            },
             AddrError::OutOfMemory => DebugError::OutOfMemory,
         }
     }
