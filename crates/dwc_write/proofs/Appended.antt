@@ -1,5 +1,5 @@
 -- What stands in a buffer that grows by parts: for loops that append, whose invariant says what is there and what is still to come.
-use Rattle.std.proofs.Common.{◌≡◌, ℕ, List, [], ◌∷◌, ◌++◌, append_assoc, append-nil, sym, ap, ◌∙◌}
+use Rattle.std.proofs.Common.{◌≡◌, ℕ, List, ◌++◌, append_assoc, sym, ap, ◌∙◌}
 
 -- a part more, of what was still to come
 pub appended-more : (before now part rest coming whole : List ℕ) → now ≡ before ++ part → coming ≡ part ++ rest → before ++ coming ≡ whole → now ++ rest ≡ whole

@@ -1,17 +1,15 @@
 -- Entries as code writes them: codes by first use, one entry behind another, and a unit with its header.
-use Rattle.std.proofs.Common.{◌≡◌, ℕ, zero, suc, ◌+◌, ◌<◌, ◌≤◌, refl, sym, ap, ◌∙◌, arith, List, [], ◌∷◌, ◌++◌, append_assoc, append-nil, length, length-append, map, drop, get_or, Bool, true, false, eqb, ltb, Some, Err}
-use Rattle.std.specs.Prelude.{◌-◌, ◌==◌, ◌&&◌, if◌then◌else◌, nat_lt, Result}
+use Rattle.std.proofs.Common.{◌≡◌, ℕ, zero, suc, ◌<◌, ◌≤◌, refl, sym, ap, ◌∙◌, arith, List, [], ◌∷◌, ◌++◌, length, length-append, map, drop, get_or, Bool, true, false, ltb, Err}
+use Rattle.std.specs.Prelude.{◌-◌, ◌==◌, if◌then◌else◌, nat_lt, Result}
 use Rattle.std.specs.List.{All, flat_map}
-use Rattle.std.proofs.lemmas.Bool.{lt-ltb, le-ltb, eq-eqb, ltb-true, ltb-false}
-use Rattle.std.proofs.lemmas.List.Elements.{All-head, All-tail, All-cons, All-nil, All-append}
+use Rattle.std.proofs.lemmas.Bool.{eq-eqb, ltb-true, ltb-false}
+use Rattle.std.proofs.lemmas.List.Elements.{All-cons, All-nil, All-append}
 use Rattle.dwc_base.specs.declared.records.Endian.{Endian}
 use Rattle.std.specs.Int.{w64, cast_signed}
 use Rattle.dwc_base.specs.declared.constants.TheConstants.{DW_FORM_implicit_const, DW_FORM_data1, DW_FORM_data2, DW_FORM_data4, DW_FORM_data8, DW_FORM_sdata}
 use Rattle.dwc_base.specs.Outputs.{OutputRelocation}
-use Rattle.dwc_write.specs.Spelled.{number_bytes, uleb_bytes, sized_bytes, at_places}
-use Rattle.dwc_write.specs.SpelledUnits.{form_number, as_data1, as_data2, as_data4, as_data8, as_sdata, as_udata, WrittenEntry, Shaped, next_depth, shaped, entry_bytes, entries_bytes, header_length, unit_body}
-use Rattle.dwc_write.specs.SpelledSections.{WrittenUnit, placed_unit_bytes}
-use Rattle.dwc_write.specs.SpelledRelocations.{entry_relocations, entries_relocations, unit_relocations}
+use Rattle.dwc_write.specs.SpelledUnits.{form_number, as_data1, as_data2, as_data4, as_data8, as_sdata, as_udata, Shaped, next_depth, shaped, entry_bytes}
+use Rattle.dwc_write.specs.SpelledRelocations.{entry_relocations}
 use Rattle.dwc_write.specs.declared.attributes.Attribute.{Attribute}
 use Rattle.dwc_write.specs.declared.attributes.AttributeValue.{AttributeValue}
 use Rattle.dwc_write.specs.declared.attributes.AttributeValue.TheVariants.{Address, Constant, Flag, LineProgramRef}
@@ -21,7 +19,6 @@ use Rattle.dwc_write.specs.declared.error.WriteError.{WriteError}
 use Rattle.dwc_write.specs.declared.units.Entry.{Entry}
 use Rattle.dwc_write.specs.UnitViews.{entry_view}
 use Rattle.dwc_write.specs.Writers.{Writing, Refuses, Writes, appended}
-use Rattle.dwc_write.proofs.ReadNumbers.{number_bytes-length}
 use Rattle.dwc_write.proofs.WritesLaws.{whole, whole-more, whole-refused}
 
 -- ---- a shape is the same as itself, and keeps its place among more

@@ -26,3 +26,5 @@ pub mod EntriesLaws
 pub mod UnitBytes
 pub mod OutputLaws
 pub mod ReadBackLaws
+pub mod WidestLaws
+pub mod WideLaws

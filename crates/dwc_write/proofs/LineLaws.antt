@@ -1,15 +1,14 @@
 -- What a line program owes when a row is appended or a sequence is ended.
-use Rattle.std.proofs.Common.{◌≡◌, ℕ, suc, ◌+◌, ◌^◌, ◌<◌, ◌≤◌, refl, arith, List, [], ◌∷◌, ◌++◌, length, Option, Some, None, option_map}
-use Rattle.std.specs.List.{All}
+use Rattle.std.proofs.Common.{◌≡◌, ℕ, ◌≤◌, refl, arith, List, [], ◌∷◌, ◌++◌, Option, Some, None, option_map}
 use Rattle.std.proofs.lemmas.List.Elements.{All-append, All-cons, All-nil}
 use Rattle.dwc_base.specs.declared.records.Address.{Address}
 use Rattle.dwc_base.specs.declared.records.Address.TheVariants.{Constant, Symbol}
 use Rattle.dwc_base.specs.declared.records.LineRow.{LineRow}
 use Rattle.dwc_base.specs.LineHeaders.{LineFile}
 use Rattle.dwc_write.specs.SpelledAddresses.{FitsAddress}
-use Rattle.dwc_write.specs.SpelledLines.{WrittenSequence, FitsName, FitsFile, FitsRow, RowsRise}
+use Rattle.dwc_write.specs.SpelledLines.{WrittenSequence, FitsRow, RowsRise}
 use Rattle.dwc_write.specs.Writers.{FitsField}
-use Rattle.dwc_write.specs.GivenLines.{BegunSequence, GivenLines, last_offset, row_behind, ended_at, IsAtOrBehind, CanAppend, HasRow, CanEnd, FitsBegun, FitsGivenSequence, FitsSequences, FitsLines, with_row, with_end}
+use Rattle.dwc_write.specs.GivenLines.{BegunSequence, GivenLines, last_offset, row_behind, ended_at, IsAtOrBehind, CanAppend, HasRow, CanEnd, FitsGivenSequence, FitsSequences, FitsLines, with_row, with_end}
 
 -- what fits a field fits as an address
 pub field-address : (size : ℕ) (a : Address) → FitsField size a → FitsAddress size a

@@ -1,5 +1,5 @@
 -- Units behind one another in three sections: what all of them are, and that a refusal of one is a refusal of all.
-use Rattle.std.proofs.Common.{◌≡◌, ℕ, zero, suc, ◌+◌, ◌<◌, ◌≤◌, ◌⊎◌, inl, inr, refl, sym, ap, subst, ◌∙◌, arith, List, [], ◌∷◌, ◌++◌, append_assoc, append-nil, length, length-append, map, take, drop, get_or, Ok, Err}
+use Rattle.std.proofs.Common.{◌≡◌, ℕ, zero, suc, ◌+◌, ◌<◌, ◌≤◌, inl, inr, refl, sym, ap, subst, ◌∙◌, arith, List, [], ◌∷◌, ◌++◌, append_assoc, append-nil, length, length-append, take, drop, get_or, Ok, Err}
 use Rattle.std.specs.Prelude.{Result, IfErr, IfOk}
 use Rattle.std.proofs.lemmas.List.{drop_all}
 use Rattle.std.specs.List.{All, flat_map}
@@ -13,12 +13,13 @@ use Rattle.dwc_write.specs.declared.error.WriteError.TheVariants.{TooLarge, OutO
 use Rattle.dwc_write.specs.declared.error.Limit.TheVariants.{Section}
 use Rattle.dwc_write.specs.Spelled.{at_places}
 use Rattle.dwc_write.specs.SpelledTables.{table_bytes}
-use Rattle.dwc_write.specs.SpelledSections.{WrittenUnit, WrittenTable, placed_unit_bytes, tables_bytes, info_bytes, one_table_bytes, lines_bytes}
-use Rattle.dwc_write.specs.SpelledRelocations.{unit_relocations, info_relocations, one_table_relocations, lines_relocations}
+use Rattle.dwc_write.specs.SpelledSections.{placed_unit_bytes, tables_bytes, info_bytes, one_table_bytes, lines_bytes}
+use Rattle.dwc_write.specs.SpelledRelocations.{unit_relocations, info_relocations, one_table_relocations, lines_relocations, RelocationsRise, DoRelocationsRise}
+use Rattle.dwc_write.proofs.ReadRelocations.{info-rise, lines-rise, rise-above}
 use Rattle.dwc_write.specs.GivenUnits.{GivenEntry, GivenUnit, IsWritable, size_of, written_lines, written_units, written_tables, AreWritable}
 use Rattle.dwc_write.specs.Writers.{Writing, Refuses, Writes, IsSound, appended, most_bytes}
-use Rattle.dwc_write.specs.SpelledOutput.{sections_of, spelled_sections, unit_of, WritesUnit, WrittenSections, unit_in, with_unit, RefusesUnit, WritesOne, empty_section, with_units, all_units, IsRefusal, bytes_of, abbrev_bytes, all_info_bytes, all_lines_bytes}
-use Rattle.dwc_write.proofs.WritesLaws.{refused-longer, refused-later, appended-twice, appended-nothing, length-behind}
+use Rattle.dwc_write.specs.SpelledOutput.{section_unless_empty, sections_of, spelled_sections, unit_of, WritesUnit, WrittenSections, unit_in, with_unit, RefusesUnit, WritesOne, empty_section, with_units, all_units, IsRefusal, bytes_of, abbrev_bytes, all_info_bytes, all_lines_bytes}
+use Rattle.dwc_write.proofs.WritesLaws.{refused-longer, refused-later, appended-twice, appended-nothing}
 
 -- ---- one unit
 
@@ -161,7 +162,7 @@ grown-units (u ∷ us) w =
       line_more = let h = on.line_more in omega (arith, h, length-append w.line_section.body (lines_bytes w.line_section.order u.address_size (written_lines u.lines)));
     }
 
-section-refused : (order : Endian) (us : List GivenUnit) (e : WriteError) (a b : Writing) (name : SectionName) (x : List ℕ) → Refuses e a (length x) → a.name ≡ b.name → length (a.body ++ x) ≤ length b.body → b.name ≡ name → b.body ≡ bytes_of order us name → IsRefusal order us e
+pub section-refused : (order : Endian) (us : List GivenUnit) (e : WriteError) (a b : Writing) (name : SectionName) (x : List ℕ) → Refuses e a (length x) → a.name ≡ b.name → length (a.body ++ x) ≤ length b.body → b.name ≡ name → b.body ≡ bytes_of order us name → IsRefusal order us e
 section-refused order us OutOfMemory a b name x refused named more final is = tt
 section-refused order us (TooLarge (Section n)) a b name x refused named more final is =
     let same : n ≡ name = refused.0 ∙ named ∙ final in
@@ -227,3 +228,22 @@ if-ok-weaker (Err e) P Q weaker h = h
 pub if-ok-both : {A E : Type 0} (result : Result A E) (P Q R : A → Type 0) → ((x : A) → P x → Q x → R x) → IfOk result P → IfOk result Q → IfOk result R
 if-ok-both (Ok x) P Q R both h k = both x h k
 if-ok-both (Err e) P Q R both h k = h
+
+-- ---- relocations rise
+
+part-rises : (name : SectionName) (x : List ℕ) (rs : List OutputRelocation) (rest : List OutputSection) → RelocationsRise 0 (length x) rs → All DoRelocationsRise rest → All DoRelocationsRise (section_unless_empty name x rs ++ rest)
+part-rises name [] rs rest rise others = others
+part-rises name (b ∷ x) rs rest rise others = All-cons DoRelocationsRise _ rest rise others
+
+pub sections-rise : (order : Endian) (us : List GivenUnit) → All DoRelocationsRise (spelled_sections order us)
+sections-rise order us =
+    let size = size_of us in
+    let ws = written_units order size 0 0 us in
+    let info : RelocationsRise 0 (length (all_info_bytes order us)) (info_relocations order size 0 ws) = from-0 (length (all_info_bytes order us)) _ (info-rise order size 0 ws) in
+    let lines : RelocationsRise 0 (length (all_lines_bytes order us)) (lines_relocations order size 0 (written_tables us)) = from-0 (length (all_lines_bytes order us)) _ (lines-rise order size 0 (written_tables us)) in
+    let P : List OutputSection → Type 0 = λ ss. All DoRelocationsRise ss in
+    let last = subst P (append-nil _) (part-rises Line (all_lines_bytes order us) (lines_relocations order size 0 (written_tables us)) [] lines (All-nil DoRelocationsRise)) in
+    part-rises Abbrev (abbrev_bytes order us) [] _ (omega arith) (part-rises Info (all_info_bytes order us) (info_relocations order size 0 ws) _ info last)
+  where
+    from-0 : (n : ℕ) (rs : List OutputRelocation) → RelocationsRise 0 (0 + n) rs → RelocationsRise 0 n rs
+    from-0 n rs rise = rise-above 0 (0 + n) n rs (omega arith) rise

@@ -1,39 +1,38 @@
 -- The sections that are spelled of given units are read back as those units: `reads-back`.
-use Rattle.std.proofs.Common.{◌≡◌, ℕ, zero, suc, ◌+◌, ◌-◌, ◌*◌, ◌^◌, ◌<◌, ◌≤◌, ◌⊎◌, inl, inr, refl, sym, ap, subst, ◌∙◌, arith, List, [], ◌∷◌, ◌++◌, append_assoc, append-nil, length, length-append, map, get_or, lit<, lit≤, Option, Some, None, Ok, Bool, true, false, cond, eqb, ltb}
+use Rattle.std.proofs.Common.{◌≡◌, ℕ, zero, suc, ◌+◌, ◌^◌, ◌<◌, ◌≤◌, ◌⊎◌, inl, inr, refl, sym, ap, subst, ◌∙◌, arith, List, [], ◌∷◌, ◌++◌, append-nil, length, length-append, map, get_or, lit<, lit≤, Option, Some, None, Ok, Bool, true, false, cond, ltb}
 use Rattle.std.proofs.Math.Facts.{sfits_to_z}
 use Rattle.std.proofs.lemmas.Int.{ints}
 use Rattle.dwc_base.specs.Reading.{is_64_bit}
 use Rattle.std.specs.Prelude.{ℤ, pos, ◌-ℤ◌, int_lt, int_le, FitsSigned, ◌==◌, ◌&&◌, if◌then◌else◌, is_some, option_map, option_and_then, slice_get, nat_lt}
 use Rattle.std.specs.List.{All, AllZip, flat_map, filter_map, find}
 use Rattle.std.specs.Int.{w64, cast_signed}
-use Rattle.std.proofs.lemmas.Bool.{lt-ltb, eqb-true, eq-eqb}
+use Rattle.std.proofs.lemmas.Bool.{eqb-true}
 use Rattle.std.proofs.lemmas.List.Elements.{All-head, All-tail, All-cons, All-nil, All-append, All-weaker, All-map}
 use Rattle.dwc_base.specs.declared.records.Endian.{Endian}
 use Rattle.dwc_base.specs.declared.section_name.SectionName.{SectionName}
 use Rattle.dwc_base.specs.declared.section_name.SectionName.TheVariants.{Abbrev, Info, Line}
 use Rattle.dwc_base.specs.declared.constants.TheConstants.{DW_AT_stmt_list, DW_FORM_data1, DW_FORM_data2, DW_FORM_data4, DW_FORM_data8, DW_FORM_sdata}
-use Rattle.dwc_base.specs.Abbreviations.{AttributeSpec, Declaration, declaration_of}
+use Rattle.dwc_base.specs.Abbreviations.{Declaration, declaration_of}
 use Rattle.dwc_base.specs.declared.records.LineRow.{LineRow}
 use Rattle.dwc_base.specs.LineRows.{line_table, source_file, in_directory, named_row}
 use Rattle.dwc_base.specs.Sections.{Sections}
-use Rattle.dwc_base.specs.Values.{Value, line_reference}
+use Rattle.dwc_base.specs.Values.{Value}
 use Rattle.dwc_base.specs.Entries.{Entry, attribute}
-use Rattle.dwc_base.specs.Carried.{Unit, units, root, line_offset, table_of_root, table_of_unit, segments_of_unit}
+use Rattle.dwc_base.specs.Carried.{Unit, root, line_offset, table_of_root, table_of_unit, segments_of_unit}
 use Rattle.dwc_base.specs.Outputs.{OutputRelocation, OutputSection, function_relocation, output_sections}
-use Rattle.dwc_write.specs.Spelled.{uleb_bytes, at_places, number_bytes}
+use Rattle.dwc_write.specs.Spelled.{at_places, number_bytes}
 use Rattle.dwc_write.specs.SpelledTables.{FitsSpec, FitsDeclaration, AreNumbered, table_bytes}
-use Rattle.dwc_write.specs.SpelledAddresses.{relocations_of}
 use Rattle.dwc_write.specs.SpelledUnits as spelled
 use Rattle.dwc_write.specs.SpelledUnits.{Written, as_addr, as_data1, as_data2, as_data4, as_data8, as_udata, as_sdata, form_number, FitsWritten, written_value, WrittenAttribute, spec_of, WrittenEntry, Shaped, next_depth, shaped, declaration_for, entry_bytes, entries_bytes, read_entry, read_entries, header_length, unit_body}
 use Rattle.dwc_write.specs.SpelledLines.{FitsSequence, WrittenSequence, line_body, sequences_instructions, read_segment}
-use Rattle.dwc_write.specs.SpelledSections.{WrittenUnit, placed_unit_bytes, tables_bytes, info_bytes, info_fields, read_unit, read_units, FitsUnit, AreTablesFrom, WrittenTable, one_table_bytes, lines_bytes, lines_fields, PlacedTable, placed_tables, read_table, FitsTable}
+use Rattle.dwc_write.specs.SpelledSections.{WrittenUnit, placed_unit_bytes, tables_bytes, info_bytes, read_unit, read_units, FitsUnit, AreTablesFrom, WrittenTable, one_table_bytes, lines_bytes, PlacedTable, placed_tables, read_table, FitsTable}
 use Rattle.dwc_write.specs.SpelledRelocations.{info_relocations, lines_relocations}
 use Rattle.dwc_write.specs.declared.attributes.Attribute.{Attribute}
 use Rattle.dwc_write.specs.declared.attributes.AttributeValue.{AttributeValue}
 use Rattle.dwc_write.specs.declared.attributes.AttributeValue.TheVariants.{Address, Constant, Flag, LineProgramRef}
 use Rattle.dwc_write.specs.declared.abbreviations.AttributeForm.{AttributeForm}
-use Rattle.dwc_write.specs.GivenLines.{GivenLines, FitsLines, FitsSequences, FitsGivenSequence, BegunSequence}
-use Rattle.dwc_write.specs.GivenUnits.{GivenEntry, GivenUnit, IsOfSize, constant_of, written_of, is_constant_form, constant_bound, FitsValue, FitsAttribute, AreBelow, IsTree, FitsEntry, FitsGivenUnit, is_lines, names_lines_in, names_lines, IsWritable, size_of, AreWritable, EntryShape, form_of, forms_of, first_depth, shape_of, shapes_of, same_forms, same_flag, same_shape, place_in, with_use, first_uses, code_in, spec_of_form, numbered, shapes_in, written_attribute, written_entries, written_unit, written_lines, written_units, written_tables}
+use Rattle.dwc_write.specs.GivenLines.{GivenLines, FitsLines, FitsSequences, FitsGivenSequence}
+use Rattle.dwc_write.specs.GivenUnits.{GivenEntry, GivenUnit, IsOfSize, written_of, FitsValue, FitsAttribute, AreBelow, IsTree, FitsEntry, FitsGivenUnit, is_lines, names_lines_in, names_lines, IsWritable, size_of, AreWritable, EntryShape, form_of, forms_of, shape_of, shapes_of, same_forms, same_flag, same_shape, place_in, with_use, first_uses, code_in, spec_of_form, numbered, shapes_in, written_attribute, written_entries, written_unit, written_lines, written_units, written_tables}
 use Rattle.dwc_write.specs.SpelledOutput.{section_unless_empty, abbrev_bytes, all_info_bytes, all_lines_bytes, spelled_sections}
 use Rattle.dwc_write.specs.ReadBack.{given_file, given_row, given_segments, given_segment, Contents, read_contents, given_contents, given_value, IsReadUnit, ReadsBack}
 use Rattle.dwc_write.specs.Writers.{IsSound, most_bytes}
@@ -43,7 +42,7 @@ use Rattle.dwc_write.proofs.ReadRelocations.{info-functions, lines-functions, at
 use Rattle.dwc_write.proofs.ReadValues.{All-back}
 use Rattle.dwc_write.proofs.ReadSections.{units-read, lines-read, segments-read}
 use Rattle.dwc_write.proofs.LineLaws.{field-address}
-use Rattle.dwc_write.proofs.EntriesLaws.{code-stays, code-there, next-first}
+use Rattle.dwc_write.proofs.EntriesLaws.{code-there, next-first}
 
 -- ---- values
 
@@ -196,14 +195,14 @@ use-length s known = go (ltb (place_in s known) (length known))
     go true = omega arith
     go false = omega (arith, length-append known (s ∷ []))
 
-uses-length : (known : List EntryShape) (es : List GivenEntry) → length (first_uses known (shapes_of es)) ≤ length known + length es
+pub uses-length : (known : List EntryShape) (es : List GivenEntry) → length (first_uses known (shapes_of es)) ≤ length known + length es
 uses-length known [] = omega arith
 uses-length known (e ∷ es) = omega (arith, uses-length (with_use (shape_of e es) known) es, use-length (shape_of e es) known)
 
 -- a shape that can be declared
-record FitsShape (s : EntryShape) : Type 0 where
-  tag : s.tag ≤ 65535
-  attributes : All (λ f. FitsSpec (spec_of_form f)) s.attributes
+pub record FitsShape (s : EntryShape) : Type 0 where
+  pub tag : s.tag ≤ 65535
+  pub attributes : All (λ f. FitsSpec (spec_of_form f)) s.attributes
 
 constant-small : (a b c d f : Bool) (bits : ℕ) → form_number (if a then as_data1 bits else (if b then as_data2 bits else (if c then as_data4 bits else (if d then as_data8 bits else (if f then as_sdata (cast_signed w64 bits) else as_udata bits))))) < 2 ^ 64
 constant-small true b c d f bits = lit< tt
@@ -233,7 +232,7 @@ use-fits s known fits all = go (ltb (place_in s known) (length known))
     go true = all
     go false = All-append FitsShape known (s ∷ []) all (All-cons FitsShape s [] fits (All-nil FitsShape))
 
-uses-fit : (size : ℕ) (known : List EntryShape) (es : List GivenEntry) → All (FitsEntry size) es → All FitsShape known → All FitsShape (first_uses known (shapes_of es))
+pub uses-fit : (size : ℕ) (known : List EntryShape) (es : List GivenEntry) → All (FitsEntry size) es → All FitsShape known → All FitsShape (first_uses known (shapes_of es))
 uses-fit size known [] fits all = all
 uses-fit size known (e ∷ es) fits all =
     let here = All-head (FitsEntry size) e es fits in
@@ -249,7 +248,7 @@ numbered-fit code (s ∷ ss) some small fits =
 
 -- ---- all units
 
-lengths-both : {A : Type 0} (f : A → List ℕ) (xs ys : List A) → length (flat_map f (xs ++ ys)) ≡ length (flat_map f xs) + length (flat_map f ys)
+pub lengths-both : {A : Type 0} (f : A → List ℕ) (xs ys : List A) → length (flat_map f (xs ++ ys)) ≡ length (flat_map f xs) + length (flat_map f ys)
 lengths-both f [] ys = omega arith
 lengths-both f (x ∷ xs) ys = omega (arith, lengths-both f xs ys, length-append (f x) (flat_map f (xs ++ ys)), length-append (f x) (flat_map f xs))
 
@@ -288,11 +287,11 @@ tables-from order size (u ∷ us) a l = (refl, tables-from order size us (a + le
 
 -- ---- all line tables
 
-abbrev lines_for : Option ℕ → GivenLines → List WrittenTable
+abbrev pub lines_for : Option ℕ → GivenLines → List WrittenTable
 lines_for None g = []
 lines_for (Some n) g = record { directories = g.directories; files = g.files; sequences = g.sequences } ∷ []
 
-lines-are : (g : GivenLines) → written_lines g ≡ lines_for g.address_size g
+pub lines-are : (g : GivenLines) → written_lines g ≡ lines_for g.address_size g
 lines-are g = go g.address_size
   where
     go : (n : Option ℕ) → ◌≡◌ {A = List WrittenTable} (elim n [ None ↦ [] | Some size ↦ record { directories = g.directories; files = g.files; sequences = g.sequences } ∷ [] ]) (lines_for n g)

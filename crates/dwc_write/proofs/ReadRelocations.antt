@@ -1,5 +1,5 @@
 -- The relocations of what is spelled rise, lie within what is spelled, and those of functions are the ones of its address fields.
-use Rattle.std.proofs.Common.{◌≡◌, ℕ, suc, ◌+◌, ◌<◌, ◌≤◌, refl, sym, ap, ◌∙◌, arith, List, [], ◌∷◌, ◌++◌, ◌⊎◌, inl, inr, append_assoc, append-nil, length, length-append, replicate, Bool, true, false, Option, Some, None}
+use Rattle.std.proofs.Common.{◌≡◌, ℕ, ◌+◌, ◌≤◌, refl, sym, ap, ◌∙◌, arith, List, [], ◌∷◌, ◌++◌, ◌⊎◌, inl, inr, append_assoc, append-nil, length, length-append, replicate, Bool, true, false}
 use Rattle.std.specs.Prelude.{◌==◌, not}
 use Rattle.std.specs.List.{All, flat_map, filter_map}
 use Rattle.std.proofs.lemmas.List.Elements.{All-append, All-cons, All-nil, All-weaker, filter_map-append}
@@ -11,10 +11,10 @@ use Rattle.dwc_base.specs.LineHeaders.{Instruction, set_address, copy, advance_p
 use Rattle.dwc_base.specs.Outputs.{OutputRelocation, function_relocation}
 use Rattle.dwc_write.specs.Spelled.{number_bytes, uleb_bytes, at_places}
 use Rattle.dwc_write.specs.SpelledAddresses.{AddressField, address_bytes, stored, relocation_for, relocations_of}
-use Rattle.dwc_write.specs.SpelledUnits.{Written, as_addr, as_sec_offset, written_bytes, value_fields, WrittenAttribute, attribute_bytes, WrittenEntry, Shaped, shaped, entry_bytes, entry_fields, entries_bytes, entries_fields, header_length, unit_body}
+use Rattle.dwc_write.specs.SpelledUnits.{Written, as_addr, as_sec_offset, written_bytes, value_fields, WrittenAttribute, attribute_bytes, Shaped, shaped, entry_bytes, entry_fields, entries_bytes, header_length, unit_body}
 use Rattle.dwc_write.specs.SpelledLines.{instruction_bytes, instruction_fields, line_fields_bytes, program_bytes, program_fields, program_place, WrittenSequence, first_row, when, differs, row_instructions, rows_instructions, sequence_instructions, sequences_instructions, line_body}
 use Rattle.dwc_write.specs.SpelledSections.{WrittenUnit, placed_unit_bytes, info_bytes, unit_fields, info_fields, WrittenTable, one_table_bytes, lines_bytes, one_table_fields, lines_fields}
-use Rattle.dwc_write.specs.SpelledRelocations.{value_relocations, values_relocations, entry_relocations, entries_relocations, unit_relocations, info_relocations, sequence_bytes, sequence_relocations, sequences_relocations, one_table_relocations, lines_relocations, RelocationsRise}
+use Rattle.dwc_write.specs.SpelledRelocations.{value_relocations, entry_relocations, entries_relocations, unit_relocations, info_relocations, sequence_bytes, sequence_relocations, sequences_relocations, one_table_relocations, lines_relocations, RelocationsRise}
 use Rattle.dwc_write.specs.Writers.{address_relocations, IsClear}
 use Rattle.dwc_write.proofs.ReadNumbers.{number_bytes-length}
 

@@ -1,12 +1,12 @@
 -- What code goes by that appends the instructions of rows.
-use Rattle.std.proofs.Common.{◌≡◌, ℕ, zero, suc, ◌+◌, ◌<◌, ◌≤◌, refl, sym, ap, ◌∙◌, arith, List, [], ◌∷◌, ◌++◌, append_assoc, length, drop}
+use Rattle.std.proofs.Common.{◌≡◌, ℕ, ◌+◌, ◌<◌, ◌≤◌, sym, ap, ◌∙◌, arith, List, [], ◌∷◌, ◌++◌, append_assoc, length, drop}
 use Rattle.std.proofs.lemmas.List.{drop_all}
 use Rattle.dwc_base.specs.declared.records.Endian.{Endian}
 use Rattle.dwc_base.specs.declared.records.LineRow.{LineRow}
 use Rattle.dwc_write.specs.Spelled.{uleb_bytes}
 use Rattle.dwc_write.specs.SpelledLines.{extended_bytes, program_bytes, rows_instructions, bytes_when}
 use Rattle.std.specs.Prelude.{not, ◌==◌, ◌-◌}
-use Rattle.dwc_write.proofs.ReadNumbers.{uleb_bytes-small, uleb_bytes-length}
+use Rattle.dwc_write.proofs.ReadNumbers.{uleb_bytes-small}
 use Rattle.dwc_write.proofs.ReadWritten.{rows-bytes-end}
 
 -- an extended instruction whose length is written as one byte

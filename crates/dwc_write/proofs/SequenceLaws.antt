@@ -1,10 +1,9 @@
 -- The bytes of a sequence as code appends them: its start, and rows that hang on no order and no size.
-use Rattle.std.proofs.Common.{◌≡◌, ℕ, zero, suc, ◌+◌, ◌<◌, ◌≤◌, ◌⊎◌, inl, inr, refl, sym, ap, ◌∙◌, arith, List, [], ◌∷◌, ◌++◌, append_assoc, append-nil, length, length-append}
+use Rattle.std.proofs.Common.{◌≡◌, ℕ, ◌+◌, ◌<◌, ◌≤◌, ◌⊎◌, inl, inr, refl, sym, ap, ◌∙◌, arith, List, [], ◌∷◌, ◌++◌, length, length-append}
 use Rattle.dwc_base.specs.declared.records.Endian.{Endian}
 use Rattle.dwc_base.specs.declared.records.Endian.TheVariants.{Little}
 use Rattle.dwc_base.specs.declared.records.Address.{Address}
 use Rattle.dwc_base.specs.declared.records.LineRow.{LineRow}
-use Rattle.dwc_base.specs.Outputs.{OutputRelocation}
 use Rattle.dwc_write.specs.Spelled.{uleb_bytes}
 use Rattle.dwc_write.specs.SpelledAddresses.{address_bytes, stored}
 use Rattle.dwc_write.specs.SpelledLines.{WrittenSequence, first_row, program_bytes, row_instructions, rows_instructions}

@@ -1,17 +1,17 @@
 -- Shapes of entries as code keeps them, and the tables that declare them.
-use Rattle.std.proofs.Common.{◌≡◌, ℕ, zero, suc, ◌+◌, ◌<◌, ◌≤◌, refl, sym, ap, ◌∙◌, arith, List, [], ◌∷◌, ◌++◌, append_assoc, length, map, drop, get_or, Bool, true, false, eqb, ltb}
-use Rattle.std.specs.Prelude.{◌==◌, ◌≢◌, ◌&&◌, if◌then◌else◌}
+use Rattle.std.proofs.Common.{◌≡◌, ℕ, zero, suc, ◌<◌, ◌≤◌, refl, sym, ap, ◌∙◌, arith, List, [], ◌∷◌, ◌++◌, append_assoc, length, map, drop, get_or, Bool, true, false, eqb, ltb}
+use Rattle.std.specs.Prelude.{◌==◌, ◌≢◌, ◌&&◌}
 use Rattle.std.specs.List.{All, flat_map}
 use Rattle.std.proofs.lemmas.Bool.{lt-ltb, le-ltb}
 use Rattle.std.proofs.lemmas.List.Elements.{All-head, All-tail}
 use Rattle.dwc_base.specs.declared.constants.TheConstants.{DW_FORM_implicit_const}
 use Rattle.dwc_write.specs.Spelled.{uleb_bytes}
-use Rattle.dwc_write.specs.SpelledTables.{spec_bytes, declaration_bytes, flag_of}
+use Rattle.dwc_write.specs.SpelledTables.{spec_bytes, declaration_bytes}
 use Rattle.dwc_write.specs.declared.abbreviations.AttributeForm.{AttributeForm}
 use Rattle.dwc_write.specs.declared.abbreviations.Shape.{Shape}
 use Rattle.dwc_write.specs.ShapeViews.{shape_view}
 use Rattle.dwc_write.specs.GivenUnits.{EntryShape, IsPlainShape, same_forms, place_in, with_use, form_bytes, shape_bytes, spec_of_form, numbered}
-use Rattle.dwc_write.proofs.WritesLaws.{drop-seen, all-seen}
+use Rattle.dwc_write.proofs.WritesLaws.{all-seen}
 
 -- lists of different lengths are not the same
 pub same_forms-length : (xs ys : List AttributeForm) → length xs ≢ length ys → same_forms xs ys ≡ false

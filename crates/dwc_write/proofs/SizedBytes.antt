@@ -1,5 +1,5 @@
 -- The low bytes of a number are those of its remainder: for `using`, where a number is cut to as many bytes as are written.
-use Rattle.std.proofs.Common.{◌≡◌, ℕ, ◌/◌, ◌%◌, refl, ap, ap, ◌∙◌, arith, List, [], ◌∷◌}
+use Rattle.std.proofs.Common.{◌≡◌, ℕ, ◌/◌, ◌%◌, refl, ap, ap, arith, [], ◌∷◌}
 use Rattle.std.specs.Prelude.{reverse}
 use Rattle.dwc_base.specs.declared.records.Endian.{Endian}
 use Rattle.dwc_base.specs.declared.records.Endian.TheVariants.{Little, Big}

@@ -1,14 +1,13 @@
 -- A line table as code writes it: room for its length, header and sequences, and the length put in.
-use Rattle.std.proofs.Common.{◌≡◌, ℕ, suc, ◌+◌, ◌<◌, ◌≤◌, refl, sym, ap, ◌∙◌, arith, List, [], ◌∷◌, ◌++◌, append_assoc, append-nil, length, length-append, Option, Some}
+use Rattle.std.proofs.Common.{◌≡◌, ℕ, ◌+◌, ◌≤◌, refl, sym, ap, ◌∙◌, arith, List, [], ◌∷◌, ◌++◌, append_assoc, append-nil, length, length-append, Option, Some}
 use Rattle.std.specs.Prelude.{◌-◌}
 use Rattle.std.specs.List.{All, flat_map}
 use Rattle.dwc_base.specs.declared.records.Endian.{Endian}
-use Rattle.dwc_base.specs.Outputs.{OutputRelocation}
 use Rattle.dwc_write.specs.Spelled.{number_bytes, sized_bytes}
 use Rattle.dwc_base.specs.LineHeaders.{LineFile}
 use Rattle.dwc_write.specs.GivenLines.{GivenLines, BegunSequence}
 use Rattle.dwc_write.specs.GivenUnits.{written_lines}
-use Rattle.dwc_write.specs.SpelledLines.{WrittenSequence, line_fields_bytes, line_body, program_bytes, program_place, sequences_instructions}
+use Rattle.dwc_write.specs.SpelledLines.{WrittenSequence, line_fields_bytes, line_body, program_place, sequences_instructions}
 use Rattle.dwc_write.specs.SpelledSections.{WrittenTable, one_table_bytes, lines_bytes}
 use Rattle.dwc_write.specs.SpelledRelocations.{sequence_bytes, sequences_relocations, one_table_relocations, lines_relocations}
 use Rattle.dwc_write.specs.Writers.{Writing, appended, overwritten, IsClear}

@@ -1,12 +1,12 @@
 -- A unit as code writes it: room for its length, header and entries, and the length put in.
-use Rattle.std.proofs.Common.{◌≡◌, ℕ, suc, ◌+◌, ◌<◌, ◌≤◌, refl, sym, ap, ◌∙◌, arith, List, [], ◌∷◌, ◌++◌, append_assoc, length, length-append}
+use Rattle.std.proofs.Common.{◌≡◌, ℕ, ◌+◌, ◌≤◌, refl, ap, ◌∙◌, arith, List, [], ◌∷◌, ◌++◌, append_assoc, length, length-append}
 use Rattle.std.specs.Prelude.{◌-◌}
-use Rattle.std.specs.List.{All, flat_map}
+use Rattle.std.specs.List.{All}
 use Rattle.dwc_base.specs.declared.records.Endian.{Endian}
 use Rattle.dwc_base.specs.declared.section_name.SectionName.TheVariants.{Abbrev}
 use Rattle.dwc_base.specs.Outputs.{OutputRelocation}
-use Rattle.dwc_write.specs.Spelled.{number_bytes, sized_bytes}
-use Rattle.dwc_write.specs.SpelledUnits.{shaped, entry_bytes, entries_bytes, header_length, unit_body}
+use Rattle.dwc_write.specs.Spelled.{number_bytes}
+use Rattle.dwc_write.specs.SpelledUnits.{shaped, entries_bytes, header_length, unit_body}
 use Rattle.dwc_write.specs.SpelledSections.{WrittenUnit, placed_unit_bytes}
 use Rattle.dwc_write.specs.SpelledRelocations.{RelocationsRise, entries_relocations, unit_relocations}
 use Rattle.dwc_write.specs.Writers.{Writing, appended, overwritten, offset_relocation, IsClear}

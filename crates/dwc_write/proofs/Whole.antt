@@ -1,15 +1,15 @@
 -- Relocations stay whole while their section grows, and where bytes are replaced that they are not at.
-use Rattle.std.proofs.Common.{◌≡◌, ℕ, ◌+◌, ◌-◌, ◌<◌, ◌≤◌, refl, sym, ap, ◌∙◌, arith, List, [], ◌∷◌, ◌++◌, ◌⊎◌, inl, inr, append_assoc, length, length-append, length-drop, take, drop}
+use Rattle.std.proofs.Common.{◌≡◌, ℕ, ◌+◌, ◌-◌, ◌≤◌, refl, sym, ap, ◌∙◌, arith, List, [], ◌∷◌, ◌++◌, ◌⊎◌, inl, inr, append_assoc, length, length-append, length-drop, take, drop}
 use Rattle.std.specs.Prelude.{FitsSigned, ℤ, pos, negsuc}
 use Rattle.std.specs.List.{All}
 use Rattle.std.specs.Int.{w32, w64, cast_unsigned}
 use Rattle.std.proofs.lemmas.List.{take-append-le, drop-append-le, drop-drop, take-take, drop-take, length-take-le}
-use Rattle.std.proofs.lemmas.List.Elements.{All-append, All-weaker, All-cons, All-nil, All-head, All-tail}
+use Rattle.std.proofs.lemmas.List.Elements.{All-append, All-weaker, All-cons, All-nil}
 use Rattle.std.proofs.Math.Seq.{drop-append_seam, take-append_seam, drop-append-add}
 use Rattle.dwc_base.specs.declared.records.Endian.{Endian}
-use Rattle.dwc_base.specs.Outputs.{OutputRelocation, OutputSection}
+use Rattle.dwc_base.specs.Outputs.{OutputRelocation}
 use Rattle.dwc_write.specs.Spelled.{number_bytes}
-use Rattle.dwc_write.specs.Writers.{IsWhole, IsClear, FitsTarget, replaced, most_bytes, IsSound}
+use Rattle.dwc_write.specs.Writers.{IsWhole, IsClear, FitsTarget, replaced, most_bytes}
 use Rattle.dwc_write.proofs.ReadNumbers.{number_bytes-length}
 
 -- ---- parts of lists, at lengths that are known

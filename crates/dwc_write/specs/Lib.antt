@@ -15,3 +15,4 @@ pub mod SpelledOutput
 pub mod SectionViews
 pub mod ReadBack
 pub mod SmallGiven
+pub mod WidestGiven

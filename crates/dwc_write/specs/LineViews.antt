@@ -1,9 +1,7 @@
 -- The parts of a line program, as a writer keeps them.
-use Rattle.std.specs.Prelude.{ℕ, List}
 use Rattle.dwc_base.specs.LineHeaders.{LineFile}
 use Rattle.dwc_write.specs.declared.lines.File.{File}
 use Rattle.dwc_write.specs.declared.lines.Sequence.{Sequence}
-use Rattle.std.specs.declared.vec.Vec.{Vec}
 use Rattle.dwc_write.specs.SpelledLines.{WrittenSequence}
 
 abbrev pub file_view : File → LineFile

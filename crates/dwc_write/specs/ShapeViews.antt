@@ -1,6 +1,5 @@
 -- The shapes of entries, as a writer keeps them.
 use Rattle.dwc_write.specs.declared.abbreviations.Shape.{Shape}
-use Rattle.std.specs.declared.vec.Vec.{Vec}
 use Rattle.dwc_write.specs.GivenUnits.{EntryShape}
 
 abbrev pub shape_view : Shape → EntryShape

@@ -3,10 +3,10 @@
 use Rattle.std.specs.Prelude.{ℕ, ◌+◌, ◌≤◌, List, [], ◌∷◌, length}
 use Rattle.dwc_base.specs.declared.records.Endian.{Endian}
 use Rattle.dwc_base.specs.declared.section_name.SectionName.TheVariants.{Abbrev, Line}
-use Rattle.dwc_base.specs.Outputs.{OutputRelocation}
+use Rattle.dwc_base.specs.Outputs.{OutputRelocation, OutputSection}
 use Rattle.dwc_write.specs.Spelled.{uleb_bytes, at_places}
 use Rattle.dwc_write.specs.SpelledAddresses.{address_bytes}
-use Rattle.dwc_write.specs.SpelledUnits.{Written, as_addr, as_sec_offset, WrittenAttribute, attribute_bytes, Shaped, shaped, WrittenEntry, entry_bytes, header_length}
+use Rattle.dwc_write.specs.SpelledUnits.{Written, as_addr, as_sec_offset, WrittenAttribute, attribute_bytes, Shaped, shaped, entry_bytes, header_length}
 use Rattle.dwc_write.specs.SpelledLines.{WrittenSequence, program_bytes, program_place, sequence_instructions}
 use Rattle.dwc_write.specs.SpelledSections.{WrittenUnit, placed_unit_bytes, WrittenTable, one_table_bytes}
 use Rattle.dwc_write.specs.Writers.{address_relocations, offset_relocation}
@@ -58,3 +58,7 @@ lines_relocations order size place ts = at_places (one_table_bytes order size) (
 abbrev pub RelocationsRise : ℕ → ℕ → List OutputRelocation → Type 0
 RelocationsRise low high [] = low ≤ high
 RelocationsRise low high (r ∷ rs) = (low ≤ r.offset) × RelocationsRise (r.offset + r.size) high rs
+
+-- those of a section, within its body
+abbrev pub DoRelocationsRise : OutputSection → Type 0
+DoRelocationsRise s = RelocationsRise 0 (length s.body) s.relocations

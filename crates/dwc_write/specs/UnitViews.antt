@@ -1,6 +1,5 @@
 -- The parts of a unit, as a writer keeps them.
 use Rattle.dwc_write.specs.declared.units.Entry.{Entry}
-use Rattle.std.specs.declared.vec.Vec.{Vec}
 use Rattle.dwc_write.specs.GivenUnits.{GivenEntry}
 
 abbrev pub entry_view : Entry → GivenEntry

@@ -1,5 +1,5 @@
 -- A section that is being written, and what the calls of a writer do to it.
-use Rattle.std.specs.Prelude.{◌≡◌, ℕ, ◌+◌, ◌^◌, ◌-◌, ◌<◌, ◌≤◌, ◌⊎◌, ℤ, pos, FitsSigned, List, [], ◌∷◌, ◌++◌, length, take, drop, Result, Ok, Err}
+use Rattle.std.specs.Prelude.{◌≡◌, ℕ, ◌+◌, ◌^◌, ◌-◌, ◌<◌, ◌≤◌, ◌⊎◌, pos, FitsSigned, List, [], ◌∷◌, ◌++◌, length, take, drop, Result, Ok, Err}
 use Rattle.std.specs.List.{All}
 use Rattle.std.specs.Int.{w32, w64, cast_unsigned}
 use Rattle.dwc_base.specs.declared.records.Endian.{Endian}
@@ -84,8 +84,10 @@ pub record IsWhole (order : Endian) (body : List ℕ) (r : OutputRelocation) : T
 abbrev pub IsClear : ℕ → ℕ → List OutputRelocation → Type 0
 IsClear offset size relocations = All (λ r. (r.offset + r.size ≤ offset) ⊎ (offset + size ≤ r.offset)) relocations
 
--- A section as it is given away: no longer than it can be, its relocations whole, its body of bytes.
+-- A section as it is given away: of a known name, no longer than it can be, its body of bytes, its relocations whole.
 pub record IsSound (order : Endian) (s : OutputSection) : Type 0 where
+  pub name : SectionName
+  pub named : s.name ≡ section_text name
   pub short : length s.body ≤ most_bytes
   pub bytes : All (λ b. b < 256) s.body
   pub relocations : All (IsWhole order s.body) s.relocations

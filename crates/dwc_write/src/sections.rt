@@ -7,8 +7,10 @@ ghost use Rattle.dwc_write.specs.declared.error.WriteError.TheVariants.{OutOfMem
 ghost use Rattle.dwc_write.specs.GivenLines.{FitsLines};
 ghost use Rattle.dwc_write.specs.GivenUnits.{AreWritable, FitsGivenUnit};
 ghost use Rattle.dwc_write.specs.SpelledOutput.{IsRefusal, WritesOne, all_units, section_unless_empty, sections_of, spelled_sections};
+ghost use Rattle.dwc_write.specs.SpelledRelocations.{DoRelocationsRise};
 ghost use Rattle.dwc_write.specs.ReadBack.{ReadsBack};
 ghost use Rattle.dwc_write.specs.SectionViews.{sections_view};
+ghost use Rattle.dwc_write.specs.WidestGiven.{IsWideRefusal};
 ghost use Rattle.dwc_write.specs.Writers.{IsSound};
 
 use crate::entries::{Spelling, write_unit};
@@ -26,8 +28,8 @@ pub(crate) struct Sections {
 }
 
 /// The sections `.debug_abbrev`, `.debug_info` and `.debug_line` of some units of version 4, in this order; those that are
-/// empty are left out. `TooLarge` is answered only where a section has more than 2^31 - 1 bytes. (DWARF 4, sections 6.2
-/// and 7.5.)
+/// empty are left out. `TooLarge` is answered only where a section would have more than 2^31 - 1 bytes, and
+/// `OutOfMemory` for want of memory. (DWARF 4, sections 6.2 and 7.5.)
 pub fn write_sections(
     alloc: Global,
     dwarf: Dwarf,
@@ -36,8 +38,10 @@ pub fn write_sections(
     requires { AreWritable dwarf.units.units.items }
     ensures sections { IfOk result (λ s. map section_view s.items ≡ spelled_sections order dwarf.units.units.items) }
     ensures sound { IfOk result (λ s. All (IsSound order) (map section_view s.items)) }
+    ensures rise { IfOk result (λ s. All DoRelocationsRise (map section_view s.items)) }
     ensures read { IfOk result (λ s. ReadsBack order dwarf.units.units.items (map section_view s.items)) }
     ensures large { IfErr result (λ e. IsRefusal order dwarf.units.units.items e) }
+    ensures widest { IfErr result (λ e. IsWideRefusal dwarf.units.units.items e) }
 {
     let sections = write_units(alloc, order, &dwarf.units.units)?;
     gather(alloc, sections)
@@ -48,13 +52,14 @@ fn write_units(alloc: Global, order: Endian, units: &[Unit]) -> Result<Sections,
     requires { AreWritable units.now }
     ensures ok { IfOk result (λ s. sections_view s ≡ all_units order units.now) }
     ensures large { IfErr result (λ e. IsRefusal order units.now e) }
+    ensures widest { IfErr result (λ e. IsWideRefusal units.now e) }
     ensures fits { OnOk result (All FitsGivenUnit units.now) }
     ensures lines { OnOk result (All (λ u. FitsLines u.lines) units.now) }
 {
     let mut sections = Sections {
-        abbrev: WriterRelocate::new(alloc, order, SectionName::Abbrev),
-        info: WriterRelocate::new(alloc, order, SectionName::Info),
-        line: WriterRelocate::new(alloc, order, SectionName::Line),
+        abbrev: WriterRelocate::new(alloc, order, SectionName::Abbrev)?,
+        info: WriterRelocate::new(alloc, order, SectionName::Info)?,
+        line: WriterRelocate::new(alloc, order, SectionName::Line)?,
     };
     let mut scratch = Vec::new(alloc);
     for i in 0..units.len() {
@@ -75,7 +80,7 @@ fn write_one(
     requires line { order ≡ sections.old.line.order }
     ensures bytes { WritesOne (sections_view sections.old) (sections_view sections.new) result unit.now }
     ensures fits { FitsGivenUnit unit.now }
-    ensures lines { OnOk result (FitsLines unit.now.lines) }
+    ensures lines { FitsLines unit.now.lines }
 {
     let size = unit.address_size;
     let line_offset = sections.line.place();

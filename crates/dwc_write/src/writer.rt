@@ -1,5 +1,5 @@
 //! Sections as they are written: bytes, and the places in them that a linker fills in.
-ghost use Rattle.std.specs.Prelude.{◌≡◌, ◌++◌, ◌∷◌, [], ◌<◌, ◌≤◌, ◌+◌, ◌^◌, ◌-◌, ◌↔◌, ◌⊎◌, OnOk, OnErr, IsOkUnless, length, FitsSigned, map};
+ghost use Rattle.std.specs.Prelude.{◌≡◌, ◌++◌, ◌∷◌, [], ◌<◌, ◌≤◌, ◌+◌, ◌^◌, ◌-◌, ◌↔◌, ◌⊎◌, OnOk, OnErr, IfOk, IsOkUnless, length, FitsSigned, map};
 ghost use Rattle.dwc_base.specs.Sections.{section_text};
 ghost use Rattle.std.specs.Int.{w32, w64, cast_unsigned};
 ghost use Rattle.std.specs.List.{All};
@@ -7,7 +7,7 @@ ghost use Rattle.dwc_base.specs.Outputs.{section_view, relocation_view, function
 ghost use Rattle.dwc_write.specs.Spelled.{number_bytes, sized_bytes};
 ghost use Rattle.dwc_write.specs.Writers.{FitsField, IsClear, IsSize, IsSound, IsTooLarge, Writes, address_relocations, most_bytes, offset_relocation, overwritten};
 ghost use Rattle.dwc_write.specs.SpelledAddresses.{address_bytes};
-ghost use Rattle.dwc_write.specs.declared.error.WriteError.TheVariants.{TooLarge};
+ghost use Rattle.dwc_write.specs.declared.error.WriteError.TheVariants.{TooLarge, OutOfMemory};
 ghost use Rattle.dwc_write.specs.declared.error.Limit.TheVariants.{Section};
 
 use crate::append::{bytes_4, put_sized, replace, replace_sized};
@@ -111,15 +111,20 @@ impl Model for WriterRelocate {
 
 impl WriterRelocate {
     /// An empty section.
-    pub fn new(alloc: Global, order: Endian, name: SectionName) -> WriterRelocate
-        ensures { result ≡ record { order = order; name = name; body = []; relocations = [] } }
+    pub fn new(
+        alloc: Global,
+        order: Endian,
+        name: SectionName,
+    ) -> Result<WriterRelocate, WriteError>
+        ensures ok { IfOk result (λ w. w ≡ record { order = order; name = name; body = []; relocations = [] }) }
+        ensures memory { IsOkUnless result OutOfMemory }
     {
-        WriterRelocate {
+        Ok(WriterRelocate {
             order,
             name,
             body: Vec::new(alloc),
             relocs: Vec::new(alloc),
-        }
+        })
     }
 
     // Where the next byte will stand; the relocations are before it.

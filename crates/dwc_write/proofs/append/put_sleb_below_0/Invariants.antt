@@ -1,4 +1,4 @@
-use Rattle.std.proofs.Common.{◌≡◌, ◌++◌, pos}
+use Rattle.std.proofs.Common.{◌≡◌, ◌++◌}
 use Rattle.std.specs.Prelude.{negsuc}
 use Rattle.dwc_write.specs.Spelled.{sleb_bytes}
 use Rattle.dwc_write.proofs.append.put_sleb_below_0.Given as goal

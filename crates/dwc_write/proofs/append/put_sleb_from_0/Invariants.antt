@@ -1,5 +1,4 @@
 use Rattle.std.proofs.Common.{◌≡◌, ◌++◌, pos}
-use Rattle.std.specs.Prelude.{negsuc}
 use Rattle.dwc_write.specs.Spelled.{sleb_bytes}
 use Rattle.dwc_write.proofs.append.put_sleb_from_0.Given as goal
 

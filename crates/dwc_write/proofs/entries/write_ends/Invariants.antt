@@ -1,4 +1,4 @@
-use Rattle.std.proofs.Common.{◌≡◌, ◌++◌, [], replicate, ℕ, length}
+use Rattle.std.proofs.Common.{◌≡◌, [], replicate}
 use Rattle.std.specs.Prelude.{◌-◌}
 use Rattle.dwc_write.specs.Writers.{appended}
 use Rattle.dwc_write.proofs.entries.write_ends.Given as goal

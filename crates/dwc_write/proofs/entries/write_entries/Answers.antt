@@ -1,7 +1,6 @@
-use Rattle.std.proofs.Common.{◌≡◌, ap, sym, ◌∙◌, suc, add-one, drop, map, get_or}
+use Rattle.std.proofs.Common.{◌≡◌, suc, add-one, drop, map}
 use Rattle.std.proofs.lemmas.List.{take_rest}
 use Rattle.std.proofs.lemmas.Result.{err_from_is_err_and}
-use Rattle.dwc_base.specs.declared.records.Endian.{Endian}
 use Rattle.dwc_write.specs.SpelledUnits.{entry_bytes, shaped}
 use Rattle.dwc_write.specs.SpelledRelocations.{entry_relocations}
 use Rattle.dwc_write.specs.GivenUnits.{FitsEntry, first_depth, first_uses, shapes_of, written_entries}

@@ -1,10 +1,8 @@
-use Rattle.std.proofs.Common.{◌≡◌, ap, sym, ◌∙◌, arith, [], ◌∷◌, map, length}
+use Rattle.std.proofs.Common.{◌∙◌, [], map, length}
 use Rattle.std.proofs.lemmas.Result.{err_from_is_err_and}
 use Rattle.std.proofs.lemmas.List.Elements.{All-nil}
-use Rattle.dwc_base.specs.declared.section_name.SectionName.TheVariants.{Abbrev}
 use Rattle.dwc_write.specs.UnitViews.{entry_view}
 use Rattle.dwc_write.specs.GivenUnits.{IsPlainShape}
-use Rattle.dwc_write.specs.Writers.{appended, offset_relocation}
 use Rattle.dwc_write.specs.SpelledOutput.{unit_of}
 use Rattle.dwc_write.proofs.EntriesLaws.{uses-plain}
 use Rattle.dwc_write.proofs.UnitBytes.{front, header-length, unit-length, unit-clear, unit-appended}

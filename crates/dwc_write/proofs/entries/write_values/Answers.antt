@@ -1,8 +1,8 @@
-use Rattle.std.proofs.Common.{refl, ap, add-one, ◌∙◌, sym}
+use Rattle.std.proofs.Common.{add-one, ◌∙◌, sym}
 use Rattle.std.proofs.lemmas.Result.{err_from_is_err_and}
 use Rattle.dwc_write.specs.SpelledUnits.{attribute_bytes}
 use Rattle.dwc_write.specs.SpelledRelocations.{value_relocations}
-use Rattle.dwc_write.specs.GivenUnits.{FitsAttribute, written_attribute}
+use Rattle.dwc_write.specs.GivenUnits.{written_attribute}
 use Rattle.dwc_base.specs.declared.records.Address.TheVariants.{Constant}
 use Rattle.dwc_write.specs.declared.attributes.AttributeValue.TheVariants.{Address}
 use Rattle.dwc_write.proofs.UnitLaws.{operand-fits}

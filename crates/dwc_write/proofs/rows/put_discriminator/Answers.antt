@@ -1,5 +1,5 @@
-use Rattle.std.proofs.Common.{◌≡◌, arith, ap, sym, ◌∙◌, append_assoc, ◌++◌, ◌<◌, ◌+◌, length}
-use Rattle.std.specs.Prelude.{not, ◌==◌, eqb, false}
+use Rattle.std.proofs.Common.{◌≡◌, arith, ap, ◌+◌}
+use Rattle.std.specs.Prelude.{eqb, false}
 use Rattle.std.proofs.lemmas.Bool.{ne_eqb}
 use Rattle.dwc_write.specs.Spelled.{uleb_bytes}
 use Rattle.dwc_write.proofs.RowLaws.{extended-appended}

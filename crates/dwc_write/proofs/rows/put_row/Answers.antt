@@ -1,6 +1,4 @@
-use Rattle.std.proofs.Common.{ap, ◌∙◌, ◌++◌}
 use Rattle.dwc_base.specs.declared.records.Endian.TheVariants.{Little}
-use Rattle.dwc_write.specs.SpelledLines.{bytes_when}
 use Rattle.dwc_write.proofs.ReadWritten.{row-appended}
 use Rattle.dwc_write.proofs.rows.put_row.Goals as goal
 

@@ -3,8 +3,9 @@ use Rattle.std.specs.List.{All}
 use Rattle.dwc_base.specs.Outputs.{OutputSection}
 use Rattle.dwc_write.specs.ReadBack.{ReadsBack}
 use Rattle.dwc_write.specs.SpelledOutput.{WrittenSections, sections_of}
+use Rattle.dwc_write.specs.SpelledRelocations.{DoRelocationsRise}
 use Rattle.dwc_write.specs.Writers.{IsSound}
-use Rattle.dwc_write.proofs.OutputLaws.{all-appended, if-ok-both, if-ok-weaker, output-sections}
+use Rattle.dwc_write.proofs.OutputLaws.{all-appended, if-ok-both, if-ok-weaker, output-sections, sections-rise}
 use Rattle.dwc_write.proofs.ReadBackLaws.{reads-back}
 use Rattle.dwc_write.proofs.sections.write_sections.Goals as goal
 
@@ -33,3 +34,11 @@ returns-clause-read c =
     subst P (sym same) (reads-back c.args.order us c.requires fits lines (subst Q same sound)))
     c.gather.ensures.sections
     (c.gather.ensures.sound c.args.order (ap (λ (w : WrittenSections). w.abbrev_section.order) all) (ap (λ (w : WrittenSections). w.info_section.order) all) (ap (λ (w : WrittenSections). w.line_section.order) all))
+
+pub returns-clause-rise : goal.returns-clause-rise
+returns-clause-rise c =
+    let read = rw (c.deref.ensures.value) at c.in_ok-sections.ensures.ok in
+    let P : List OutputSection → Type 0 = λ ss. All DoRelocationsRise ss in
+    if-ok-weaker c.gather.result _ _
+    (λ s is. subst P (sym (is ∙ ap sections_of read ∙ output-sections c.args.order _ c.requires)) (sections-rise c.args.order c.args.dwarf.units.units.items))
+    c.gather.ensures.sections

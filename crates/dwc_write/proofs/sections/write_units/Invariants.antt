@@ -10,6 +10,7 @@ use Rattle.dwc_write.proofs.sections.write_units.Given as goal
 abbrev pub invariant-loop-i : goal.invariant-loop-i
 invariant-loop-i l = record {
   units : with_units (drop l.i l.units) (sections_view l.sections) ≡ all_units l.order l.units;
+  done : sections_view l.sections ≡ all_units l.order (take l.i l.units);
   info : l.sections.info.order ≡ l.order;
   line : l.sections.line.order ≡ l.order;
   fits : All FitsGivenUnit (take l.i l.units);

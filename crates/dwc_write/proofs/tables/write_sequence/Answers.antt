@@ -1,4 +1,4 @@
-use Rattle.std.proofs.Common.{refl, ap, sym, ◌∙◌, ◌+◌, arith, append-nil, [], ◌∷◌, ◌++◌, length}
+use Rattle.std.proofs.Common.{ap, sym, ◌∙◌, ◌+◌, append-nil, [], ◌∷◌, ◌++◌, length}
 use Rattle.dwc_write.specs.SpelledAddresses.{address_bytes}
 use Rattle.std.proofs.lemmas.Result.{err_from_is_err_and}
 use Rattle.dwc_write.specs.LineViews.{sequence_view}

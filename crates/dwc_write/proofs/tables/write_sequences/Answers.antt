@@ -1,4 +1,4 @@
-use Rattle.std.proofs.Common.{refl, ap, add-one}
+use Rattle.std.proofs.Common.{add-one}
 use Rattle.std.proofs.lemmas.Result.{err_from_is_err_and}
 use Rattle.dwc_write.specs.SpelledRelocations.{sequence_bytes, sequence_relocations}
 use Rattle.dwc_write.specs.GivenLines.{FitsGivenSequence}

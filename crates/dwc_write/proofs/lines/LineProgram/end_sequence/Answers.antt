@@ -1,6 +1,5 @@
-use Rattle.std.proofs.Common.{refl, ap, ◌∙◌}
+use Rattle.std.proofs.Common.{refl}
 use Rattle.std.proofs.lemmas.List.{map-append}
-use Rattle.dwc_write.specs.LineViews.{sequence_view}
 use Rattle.dwc_write.proofs.LineLaws.{end-kept}
 use Rattle.dwc_write.proofs.lines.LineProgram.end_sequence.Goals as goal
 

@@ -1,4 +1,4 @@
-use Rattle.std.proofs.Common.{ap, refl, arith, [], ◌∷◌, ◌++◌, ◌+◌}
+use Rattle.std.proofs.Common.{refl, arith, ◌+◌}
 use Rattle.std.proofs.lemmas.List.{map-append, length-map}
 use Rattle.dwc_write.specs.UnitViews.{entry_view}
 use Rattle.dwc_write.proofs.UnitLaws.{looked-up, added-view, depth-low, child-kept}

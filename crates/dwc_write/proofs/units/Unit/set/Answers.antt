@@ -1,4 +1,4 @@
-use Rattle.std.proofs.Common.{refl, arith, ap, get_or}
+use Rattle.std.proofs.Common.{refl, arith}
 use Rattle.std.proofs.lemmas.Result.{err_from_is_err_and}
 use Rattle.dwc_write.proofs.UnitLaws.{changed-view, unchanged-view, set-kept}
 use Rattle.dwc_write.proofs.units.Unit.set.Goals as goal

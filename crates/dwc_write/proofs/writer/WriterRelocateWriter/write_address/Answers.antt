@@ -1,4 +1,4 @@
-use Rattle.std.proofs.Common.{rules, ap, refl, arith, ◌++◌}
+use Rattle.std.proofs.Common.{rules, ap, refl}
 use Rattle.std.specs.Prelude.{map, FitsSigned}
 use Rattle.std.specs.Int.{w32, w64}
 use Rattle.std.proofs.lemmas.List.{map-append}

@@ -1,4 +1,4 @@
-use Rattle.std.proofs.Common.{rules, refl, [], ◌∷◌, ◌++◌}
+use Rattle.std.proofs.Common.{rules, refl}
 use Rattle.std.specs.Prelude.{map}
 use Rattle.std.proofs.lemmas.List.{map-append}
 use Rattle.dwc_base.specs.Outputs.{relocation_view}

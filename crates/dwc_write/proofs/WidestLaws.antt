@@ -1,0 +1,356 @@
+-- The sections of given units are no longer than their widest sizes: `within-widest`.
+use Rattle.std.proofs.Common.{◌≡◌, ℕ, zero, suc, ◌+◌, ◌-◌, ◌*◌, ◌/◌, ◌%◌, ◌^◌, ◌<◌, ◌≤◌, ◌⊎◌, inl, inr, sym, ap, subst, ◌∙◌, arith, lit<, List, [], ◌∷◌, ◌++◌, length, length-append, map, replicate, Option, Some, None, Bool, true, false, ltb, refl}
+use Rattle.std.specs.Prelude.{ℤ, pos, negsuc, nat_abs, ◌-ℤ◌, ◌==◌, not, nat_lt, if◌then◌else◌, sum_by, FitsSigned}
+use Rattle.std.specs.List.{All, flat_map}
+use Rattle.std.specs.Int.{w64, cast_signed}
+use Rattle.std.proofs.Math.Facts.{sfits_to_z}
+use Rattle.std.proofs.lemmas.Bool.{lt-ltb, ltb-true, ltb-false}
+use Rattle.std.proofs.lemmas.Int.{ints}
+use Rattle.std.proofs.lemmas.List.{length-replicate, length-map}
+use Rattle.std.proofs.lemmas.List.Elements.{All-head, All-tail, All-nil, All-weaker}
+use Rattle.std.proofs.lemmas.List.Sums.{sum_by-cons, sum_by-append}
+use Rattle.dwc_base.specs.declared.records.Endian.{Endian}
+use Rattle.dwc_base.specs.declared.records.Endian.TheVariants.{Little}
+use Rattle.dwc_base.specs.declared.records.LineRow.{LineRow}
+use Rattle.dwc_base.specs.declared.section_name.SectionName.{SectionName}
+use Rattle.dwc_base.specs.declared.section_name.SectionName.TheVariants.{Abbrev, Info, Line}
+use Rattle.dwc_base.specs.declared.constants.TheConstants.{DW_FORM_implicit_const, DW_FORM_data1, DW_FORM_data2, DW_FORM_data4, DW_FORM_data8, DW_FORM_sdata}
+use Rattle.dwc_base.specs.Abbreviations.{Declaration}
+use Rattle.dwc_base.specs.LineHeaders.{LineFile}
+use Rattle.dwc_base.specs.Widest.{variable_bytes, widest_declaration, widest_header, widest_image, widest_row}
+use Rattle.dwc_write.specs.Spelled.{uleb_bytes, sleb_bytes, sleb_bytes_from_0, sleb_bytes_below_0, number_bytes, text_bytes}
+use Rattle.dwc_write.specs.SpelledAddresses.{address_bytes, stored}
+use Rattle.dwc_write.specs.SpelledTables.{FitsSpec, implicit_bytes, spec_bytes, declaration_bytes, flag_of, table_bytes}
+use Rattle.dwc_write.specs.SpelledUnits.{as_data1, as_data2, as_data4, as_data8, as_sdata, as_udata, written_bytes, attribute_bytes, next_depth, shaped, entry_bytes, entries_bytes, unit_body}
+use Rattle.dwc_write.specs.SpelledLines.{FitsFile, FitsRow, WrittenSequence, first_row, differs, bytes_when, extended_bytes, file_bytes, line_fields_bytes, line_body, program_bytes, row_instructions, rows_instructions, sequences_instructions}
+use Rattle.dwc_write.specs.SpelledSections.{WrittenTable, placed_unit_bytes, tables_bytes, info_bytes, one_table_bytes, lines_bytes}
+use Rattle.dwc_write.specs.SpelledRelocations.{sequence_bytes}
+use Rattle.dwc_write.specs.declared.attributes.Attribute.{Attribute}
+use Rattle.dwc_write.specs.declared.attributes.AttributeValue.{AttributeValue}
+use Rattle.dwc_write.specs.declared.attributes.AttributeValue.TheVariants.{Address, Constant, Flag, LineProgramRef}
+use Rattle.dwc_write.specs.declared.abbreviations.AttributeForm.{AttributeForm}
+use Rattle.dwc_write.specs.GivenLines.{FitsLines, FitsSequences, FitsGivenSequence}
+use Rattle.dwc_write.specs.GivenUnits.{GivenEntry, GivenUnit, EntryShape, AreBelow, IsTree, IsOfSize, IsWritable, AreWritable, FitsAttribute, FitsValue, FitsEntry, FitsGivenUnit, size_of, written_of, form_of, first_depth, shape_of, shapes_of, place_in, with_use, first_uses, code_in, spec_of_form, numbered, shapes_in, written_attribute, written_entries, written_unit, written_lines, written_units, written_tables}
+use Rattle.dwc_write.specs.SpelledOutput.{abbrev_bytes, all_info_bytes, all_lines_bytes, bytes_of}
+use Rattle.dwc_write.specs.WidestGiven.{widest_value, widest_entry, lists_of, widest_table_for, widest_unit, widest_given}
+use Rattle.dwc_write.proofs.ReadNumbers.{number_bytes-length, uleb_bytes-length, sleb_bytes-small}
+use Rattle.dwc_write.proofs.ReadWritten.{row-bytes, rows-bytes-end, rows-bytes-more}
+use Rattle.dwc_write.proofs.ReadRelocations.{sequences-bytes}
+use Rattle.dwc_write.proofs.SequenceLaws.{sequence-bytes}
+use Rattle.dwc_write.proofs.EntriesLaws.{code-there, next-first}
+use Rattle.dwc_write.proofs.ReadBackLaws.{FitsShape, uses-fit, uses-length, lines_for, lines-are, lengths-both}
+
+uleb-10 : (n : ℕ) → n < 2 ^ 64 → length (uleb_bytes n) ≤ 10
+uleb-10 n small = uleb_bytes-length 9 n (omega arith)
+
+-- ---- signed numbers
+
+from_0-length : (m k n : ℕ) → n < 64 * 128 ^ k → length (sleb_bytes_from_0 m n) ≤ suc k
+unfolding sleb_bytes_from_0
+from_0-length zero k n small = omega arith
+from_0-length (suc m) zero n small = let is : ltb n 64 ≡ true = lt-ltb n 64 (omega arith) in rw (is, sleb_bytes_from_0) (omega arith)
+from_0-length (suc m) (suc k) n small = go (ltb n 64) (from_0-length m k (n / 128) (omega arith))
+  where
+    go : (b : Bool) → length (sleb_bytes_from_0 m (n / 128)) ≤ suc k → length {A = ℕ} (elim b [ true ↦ n ∷ [] | false ↦ (128 + n % 128) ∷ sleb_bytes_from_0 m (n / 128) ]) ≤ suc (suc k)
+    go true h = omega arith
+    go false h = omega (arith, h)
+
+below_0-length : (m k n : ℕ) → n < 64 * 128 ^ k → length (sleb_bytes_below_0 m n) ≤ suc k
+unfolding sleb_bytes_below_0
+below_0-length zero k n small = omega arith
+below_0-length (suc m) zero n small = let is : ltb n 64 ≡ true = lt-ltb n 64 (omega arith) in rw (is, sleb_bytes_below_0) (omega arith)
+below_0-length (suc m) (suc k) n small = go (ltb n 64) (below_0-length m k (n / 128) (omega arith))
+  where
+    go : (b : Bool) → length (sleb_bytes_below_0 m (n / 128)) ≤ suc k → length {A = ℕ} (elim b [ true ↦ (127 - n) ∷ [] | false ↦ (255 - n % 128) ∷ sleb_bytes_below_0 m (n / 128) ]) ≤ suc (suc k)
+    go true h = omega arith
+    go false h = omega (arith, h)
+
+sleb-10 : (z : ℤ) → nat_abs z ≤ 2 ^ 64 → length (sleb_bytes z) ≤ 10
+unfolding sleb_bytes
+sleb-10 (pos n) small = from_0-length n 9 n (omega (arith, small))
+sleb-10 (negsuc n) small = below_0-length n 9 n (omega (arith, small))
+
+sleb-fits : (z : ℤ) → FitsSigned w64 z → length (sleb_bytes z) ≤ 10
+sleb-fits z fits = sleb-10 z (grind (arith, ints))
+
+step-widest : (before line : ℕ) → before < 2 ^ 32 → line < 2 ^ 32 → length (sleb_bytes (pos line -ℤ pos before)) ≤ 10
+step-widest before line low small = sleb-10 (pos line -ℤ pos before) (grind (arith, ints))
+
+-- ---- lists
+
+flat-widest : {A : Type 0} (f : A → List ℕ) (w : A → ℕ) (P : A → Type 0) → ((x : A) → P x → length (f x) ≤ w x) → (xs : List A) → All P xs → length (flat_map f xs) ≤ sum_by w xs
+flat-widest f w P each [] all = omega arith
+flat-widest f w P each (x ∷ xs) all =
+    let here = each x (All-head P x xs all) in
+    let others = flat-widest f w P each xs (All-tail P x xs all) in
+    omega (arith, here, others, length-append (f x) (flat_map f xs), sum_by-cons w x xs)
+
+-- ---- .debug_abbrev
+
+implicit-short : (b : Bool) → length (if b then sleb_bytes (pos 0) else []) ≤ 1
+implicit-short true = omega (arith, ap length (sleb_bytes-small 0 (lit< tt)))
+implicit-short false = omega arith
+
+spec-widest : (f : AttributeForm) → FitsSpec (spec_of_form f) → length (spec_bytes (spec_of_form f)) ≤ 20
+spec-widest f fits =
+    let name = uleb_bytes-length 2 f.name (let small = fits.name in omega (arith, small)) in
+    let form = uleb-10 f.form fits.form in
+    let last = implicit-short (f.form == DW_FORM_implicit_const) in
+    omega (arith, name, form, last, length-append (uleb_bytes f.name) (uleb_bytes f.form ++ implicit_bytes f.form (pos 0)), length-append (uleb_bytes f.form) (implicit_bytes f.form (pos 0)))
+
+specs-widest : (fs : List AttributeForm) → All (λ f. FitsSpec (spec_of_form f)) fs → length (flat_map spec_bytes (map spec_of_form fs)) ≤ length fs * 20
+specs-widest [] fits = omega arith
+specs-widest (f ∷ fs) fits =
+    let here = spec-widest f (All-head (λ (g : AttributeForm). FitsSpec (spec_of_form g)) f fs fits) in
+    let others = specs-widest fs (All-tail (λ (g : AttributeForm). FitsSpec (spec_of_form g)) f fs fits) in
+    omega (arith, here, others, length-append (spec_bytes (spec_of_form f)) (flat_map spec_bytes (map spec_of_form fs)))
+
+declaration-widest : (code : ℕ) (s : EntryShape) → code < 2 ^ 64 → FitsShape s → length (declaration_bytes (record { code = code; tag = s.tag; has_children = s.has_children; attributes = map spec_of_form s.attributes })) ≤ widest_declaration (length s.attributes)
+declaration-widest code s small fits =
+    let first = uleb-10 code small in
+    let tag = uleb_bytes-length 2 s.tag (let low = fits.tag in omega (arith, low)) in
+    let specs = specs-widest s.attributes fits.attributes in
+    let bytes = flat_map spec_bytes (map spec_of_form s.attributes) in
+    omega (arith, first, tag, specs, length-append (uleb_bytes code) (uleb_bytes s.tag ++ ((flag_of s.has_children ∷ []) ++ (bytes ++ 0 ∷ 0 ∷ []))), length-append (uleb_bytes s.tag) ((flag_of s.has_children ∷ []) ++ (bytes ++ 0 ∷ 0 ∷ [])), length-append bytes (0 ∷ 0 ∷ []))
+
+abbrev shape_width : EntryShape → ℕ
+shape_width s = widest_declaration (length s.attributes)
+
+abbrev entry_width : GivenEntry → ℕ
+entry_width e = widest_declaration (length e.attributes)
+
+numbered-widest : (code : ℕ) (ss : List EntryShape) → code + length ss ≤ 2 ^ 64 → All FitsShape ss → length (flat_map declaration_bytes (numbered code ss)) ≤ sum_by shape_width ss
+numbered-widest code [] few fits = omega arith
+numbered-widest code (s ∷ ss) few fits =
+    let d : Declaration = record { code = code; tag = s.tag; has_children = s.has_children; attributes = map spec_of_form s.attributes } in
+    let here = declaration-widest code s (omega (arith, few)) (All-head FitsShape s ss fits) in
+    let others = numbered-widest (suc code) ss (omega (arith, few)) (All-tail FitsShape s ss fits) in
+    omega (arith, here, others, length-append (declaration_bytes d) (flat_map declaration_bytes (numbered (suc code) ss)), sum_by-cons shape_width s ss)
+
+use-widest : (s : EntryShape) (known : List EntryShape) → sum_by shape_width (with_use s known) ≤ sum_by shape_width known + shape_width s
+use-widest s known = go (ltb (place_in s known) (length known))
+  where
+    go : (b : Bool) → sum_by shape_width (if b then known else known ++ s ∷ []) ≤ sum_by shape_width known + shape_width s
+    go true = omega arith
+    go false = omega (arith, sum_by-append shape_width known (s ∷ []), sum_by-cons shape_width s [])
+
+uses-widest : (known : List EntryShape) (es : List GivenEntry) → sum_by shape_width (first_uses known (shapes_of es)) ≤ sum_by shape_width known + sum_by entry_width es
+uses-widest known [] = omega arith
+uses-widest known (e ∷ es) =
+    let s = shape_of e es in
+    let same : shape_width s ≡ entry_width e = ap widest_declaration (length-map e.attributes form_of) in
+    omega (arith, same, uses-widest (with_use s known) es, use-widest s known, sum_by-cons entry_width e es)
+
+table-widest : (u : GivenUnit) → FitsGivenUnit u → length (table_bytes (numbered 1 (shapes_in u))) ≤ widest_unit Abbrev u
+table-widest u fits =
+    let few = fits.few in
+    let long = uses-length [] u.entries in
+    let shapes = uses-fit u.address_size [] u.entries fits.entries (All-nil FitsShape) in
+    let table = numbered-widest 1 (shapes_in u) (omega (arith, few, long)) shapes in
+    omega (arith, table, uses-widest [] u.entries, length-append (flat_map declaration_bytes (numbered 1 (shapes_in u))) (0 ∷ []))
+
+-- ---- .debug_info
+
+constant-widest : (order : Endian) (size : ℕ) (a b c d f : Bool) (bits : ℕ) → bits < (if a then 256 ^ 1 else (if b then 256 ^ 2 else (if c then 256 ^ 4 else 2 ^ 64)))
+    → length (written_bytes order size (if a then as_data1 bits else (if b then as_data2 bits else (if c then as_data4 bits else (if d then as_data8 bits else (if f then as_sdata (cast_signed w64 bits) else as_udata bits)))))) ≤ 10
+constant-widest order size true b c d f bits small = omega (arith, number_bytes-length order 1 bits)
+constant-widest order size false true c d f bits small = omega (arith, number_bytes-length order 2 bits)
+constant-widest order size false false true d f bits small = omega (arith, number_bytes-length order 4 bits)
+constant-widest order size false false false true f bits small = omega (arith, number_bytes-length order 8 bits)
+constant-widest order size false false false false true bits small = sleb-fits (cast_signed w64 bits) (sfits_to_z (record { fits = small }))
+constant-widest order size false false false false false bits small = uleb-10 bits small
+
+value-widest : (order : Endian) (size l : ℕ) (x : Attribute) → size ≤ 8 → FitsAttribute size x → length (written_bytes order size (written_of l x.value)) ≤ widest_value x.value
+value-widest order size l x short fits = go x.value fits.value
+  where
+    go : (v : AttributeValue) → FitsValue size x.name v → length (written_bytes order size (written_of l v)) ≤ widest_value v
+    go (Address a) h = omega (arith, short, number_bytes-length order size (stored a))
+    go (Constant form bits) h = constant-widest order size (form == DW_FORM_data1) (form == DW_FORM_data2) (form == DW_FORM_data4) (form == DW_FORM_data8) (form == DW_FORM_sdata) bits h.1
+    go (Flag b) h = omega arith
+    go LineProgramRef h = omega (arith, number_bytes-length order 4 l)
+
+values-widest : (order : Endian) (size l : ℕ) (xs : List Attribute) → size ≤ 8 → All (FitsAttribute size) xs → length (flat_map (attribute_bytes order size) (map (written_attribute l) xs)) ≤ sum_by (λ a. widest_value a.value) xs
+values-widest order size l [] short fits = omega arith
+values-widest order size l (x ∷ xs) short fits =
+    let here = value-widest order size l x short (All-head (FitsAttribute size) x xs fits) in
+    let others = values-widest order size l xs short (All-tail (FitsAttribute size) x xs fits) in
+    omega (arith, here, others, length-append (attribute_bytes order size (written_attribute l x)) (flat_map (attribute_bytes order size) (map (written_attribute l) xs)), sum_by-cons (λ (a : Attribute). widest_value a.value) x xs)
+
+-- what one list of siblings more or less makes
+ends-widest : (depth : ℕ) (es : List GivenEntry) → first_depth es ≤ suc depth → (depth - first_depth es) + first_depth es ≤ depth + (if nat_lt depth (first_depth es) then 1 else 0)
+ends-widest depth es near = go (ltb depth (first_depth es)) refl
+  where
+    go : (b : Bool) → ltb depth (first_depth es) ≡ b → (depth - first_depth es) + first_depth es ≤ depth + (if b then 1 else 0)
+    go true e = omega (arith, near, ltb-true _ _ e)
+    go false e = omega (arith, ltb-false _ _ e)
+
+first-near : (depth : ℕ) (es : List GivenEntry) → AreBelow depth es → first_depth es ≤ suc depth
+first-near depth [] below = omega arith
+first-near depth (e ∷ es) below = below.1
+
+one-step : (order : Endian) (size l : ℕ) (uses : List EntryShape) (e : GivenEntry) (es : List GivenEntry) → size ≤ 8 → length uses < 2 ^ 64 → AreBelow e.depth es → FitsEntry size e → place_in (shape_of e es) uses < length uses
+    → length (flat_map (entry_bytes order size) (shaped (written_entries l uses es))) ≤ sum_by widest_entry es + (first_depth es + lists_of es)
+    → length (flat_map (entry_bytes order size) (shaped (written_entries l uses (e ∷ es)))) ≤ sum_by widest_entry (e ∷ es) + (e.depth + lists_of (e ∷ es))
+one-step order size l uses e es short few below fits there others =
+    let s = shape_of e es in
+    let code = uleb-10 (code_in uses s) (omega (arith, there, few)) in
+    let values = values-widest order size l e.attributes short fits.attributes in
+    let next = next-first l uses es in
+    let zeros : length {A = ℕ} (replicate (e.depth - next_depth (written_entries l uses es)) 0) ≡ e.depth - first_depth es = length-replicate {A = ℕ} (e.depth - next_depth (written_entries l uses es)) 0 ∙ ap (λ n. e.depth - n) next in
+    let ends = ends-widest e.depth es (first-near e.depth es below) in
+    let bytes = flat_map (attribute_bytes order size) (map (written_attribute l) e.attributes) in
+    let last = replicate {A = ℕ} (e.depth - next_depth (written_entries l uses es)) 0 in
+    omega (arith, code, values, others, zeros, ends, length-append (uleb_bytes (code_in uses s) ++ (bytes ++ last)) (flat_map (entry_bytes order size) (shaped (written_entries l uses es))), length-append (uleb_bytes (code_in uses s)) (bytes ++ last), length-append bytes last, sum_by-cons widest_entry e es)
+
+-- an entry and those behind it: as many lists end as begin, and as stand open above it
+one-widest : (order : Endian) (size l : ℕ) (uses : List EntryShape) (e : GivenEntry) (es : List GivenEntry) → size ≤ 8 → length uses < 2 ^ 64 → AreBelow e.depth es → All (FitsEntry size) (e ∷ es) → (known : List EntryShape) → first_uses known (shapes_of (e ∷ es)) ≡ uses
+    → length (flat_map (entry_bytes order size) (shaped (written_entries l uses (e ∷ es)))) ≤ sum_by widest_entry (e ∷ es) + (e.depth + lists_of (e ∷ es))
+one-widest order size l uses e [] short few below fits known used =
+    let there : place_in (shape_of e []) uses < length uses = rw (used) at (code-there (shape_of e []) known []) in
+    one-step order size l uses e [] short few below (All-head (FitsEntry size) e [] fits) there (omega arith)
+one-widest order size l uses e (f ∷ fs) short few below fits known used =
+    let there : place_in (shape_of e (f ∷ fs)) uses < length uses = rw (used) at (code-there (shape_of e (f ∷ fs)) known (shapes_of (f ∷ fs))) in
+    one-step order size l uses e (f ∷ fs) short few below (All-head (FitsEntry size) e (f ∷ fs) fits) there
+    (one-widest order size l uses f fs short few below.2 (All-tail (FitsEntry size) e (f ∷ fs) fits) (with_use (shape_of e (f ∷ fs)) known) used)
+
+size-short : (u : GivenUnit) (size : ℕ) → u.address_size ≡ size → (u.address_size ≡ 4) ⊎ (u.address_size ≡ 8) → size ≤ 8
+size-short u size same (inl e) = omega (arith, e, same)
+size-short u size same (inr e) = omega (arith, e, same)
+
+-- entries of a tree: below a depth that is never above the root's, as many lists end as begin
+tree-widest : (order : Endian) (size l : ℕ) (es : List GivenEntry) → size ≤ 8 → length (first_uses [] (shapes_of es)) < 2 ^ 64 → IsTree es → All (FitsEntry size) es
+    → length (flat_map (entry_bytes order size) (shaped (written_entries l (first_uses [] (shapes_of es)) es))) ≤ sum_by widest_entry es + lists_of es
+tree-widest order size l [] short few tree fits = absurd tree
+tree-widest order size l (e ∷ es) short few tree fits =
+    let root = tree.0 in
+    let all = one-widest order size l (first_uses [] (shapes_of (e ∷ es))) e es short few (below-root e.depth es root tree.1) fits [] refl in
+    omega (arith, all, root)
+  where
+    below-root : (depth : ℕ) (es : List GivenEntry) → depth ≡ 0 → AreBelow 0 es → AreBelow depth es
+    below-root depth es is below = let P : ℕ → Type 0 = λ n. AreBelow n es in subst P (sym is) below
+
+info-widest : (order : Endian) (size a l : ℕ) (u : GivenUnit) → u.address_size ≡ size → FitsGivenUnit u → length (placed_unit_bytes order size (written_unit a l u)) ≤ widest_unit Info u
+info-widest order size a l u same fits =
+    let few_entries = fits.few in
+    let few : length (shapes_in u) < 2 ^ 64 = omega (arith, few_entries, uses-length [] u.entries) in
+    let P : ℕ → Type 0 = λ n. All (FitsEntry n) u.entries in
+    let entries = tree-widest order size l u.entries (size-short u size same fits.size) few fits.tree (subst P same fits.entries) in
+    let bytes = entries_bytes order size (written_entries l (shapes_in u) u.entries) in
+    let body = unit_body order size a (written_entries l (shapes_in u) u.entries) in
+    omega (arith, entries, number_bytes-length order 4 (length body), number_bytes-length order 2 4, number_bytes-length order 4 a, length-append (number_bytes order 4 (length body)) body, length-append (number_bytes order 2 4) (number_bytes order 4 a ++ ((size ∷ []) ++ bytes)), length-append (number_bytes order 4 a) ((size ∷ []) ++ bytes))
+
+-- ---- .debug_line
+
+when-widest : (b : Bool) (bytes : List ℕ) (n : ℕ) → length bytes ≤ n → length (bytes_when b bytes) ≤ n
+when-widest true bytes n short = short
+when-widest false bytes n short = omega arith
+
+eleven : (a b c d e f g h i j k : List ℕ) → length (a ++ (b ++ (c ++ (d ++ (e ++ (f ++ (g ++ (h ++ (i ++ (j ++ k)))))))))) ≡ length a + (length b + (length c + (length d + (length e + (length f + (length g + (length h + (length i + (length j + length k)))))))))
+eleven a b c d e f g h i j k = simp (length-append) (omega arith)
+
+row-widest : (before r : LineRow) → before.line < 2 ^ 32 → FitsRow r → length (program_bytes Little 8 (row_instructions before r)) ≤ widest_row
+row-widest before r low fits =
+    let near = fits.offset in
+    let line = fits.line in
+    let discriminator = uleb-10 r.discriminator fits.discriminator in
+    let one = uleb-10 (length (4 ∷ uleb_bytes r.discriminator)) (omega (arith, discriminator)) in
+    let a = when-widest (not (r.discriminator == 0)) (extended_bytes 4 (uleb_bytes r.discriminator)) 22 (omega (arith, discriminator, one, length-append (uleb_bytes (length (4 ∷ uleb_bytes r.discriminator))) (4 ∷ uleb_bytes r.discriminator))) in
+    let b = when-widest r.basic_block (7 ∷ []) 1 (omega arith) in
+    let c = when-widest r.prologue_end (10 ∷ []) 1 (omega arith) in
+    let d = when-widest r.epilogue_begin (11 ∷ []) 1 (omega arith) in
+    let e = when-widest (differs before.is_stmt r.is_stmt) (6 ∷ []) 1 (omega arith) in
+    let f = when-widest (not (before.file == r.file)) (4 ∷ uleb_bytes r.file) 11 (omega (arith, uleb-10 r.file fits.file)) in
+    let g = when-widest (not (before.column == r.column)) (5 ∷ uleb_bytes r.column) 11 (omega (arith, uleb-10 r.column fits.column)) in
+    let h = when-widest (not (before.isa == r.isa)) (12 ∷ uleb_bytes r.isa) 11 (omega (arith, uleb-10 r.isa fits.isa)) in
+    let i = when-widest (not (before.line == r.line)) (3 ∷ sleb_bytes (pos r.line -ℤ pos before.line)) 11 (omega (arith, step-widest before.line r.line low line)) in
+    let j = when-widest (not (before.offset == r.offset)) (2 ∷ uleb_bytes (r.offset - before.offset)) 11 (omega (arith, uleb-10 (r.offset - before.offset) (omega (arith, near)))) in
+    rw (row-bytes Little 8 before r, eleven) (omega (arith, a, b, c, d, e, f, g, h, i, j))
+
+rows-widest : (before : LineRow) (rows : List LineRow) (last : ℕ) → before.line < 2 ^ 32 → last < 2 ^ 32 → All FitsRow rows → length (program_bytes Little 8 (rows_instructions before rows last)) ≤ length rows * widest_row + 14
+rows-widest before [] last low near fits =
+    let end = when-widest (not (before.offset == last)) (2 ∷ uleb_bytes (last - before.offset)) 11 (omega (arith, uleb-10 (last - before.offset) (omega (arith, near)))) in
+    rw (rows-bytes-end Little 8 before last) (omega (arith, end, length-append (bytes_when (not (before.offset == last)) (2 ∷ uleb_bytes (last - before.offset))) (0 ∷ 1 ∷ 1 ∷ [])))
+rows-widest before (r ∷ rows) last low near fits =
+    let here = All-head FitsRow r rows fits in
+    let first = row-widest before r low here in
+    let others = rows-widest r rows last here.line near (All-tail FitsRow r rows fits) in
+    rw (rows-bytes-more Little 8 before r rows last) (omega (arith, first, others, length-append (program_bytes Little 8 (row_instructions before r)) (program_bytes Little 8 (rows_instructions r rows last))))
+
+sequence-widest : (order : Endian) (size : ℕ) (q : WrittenSequence) → size ≤ 8 → FitsGivenSequence size q → length (sequence_bytes order size q) ≤ widest_image (length q.rows)
+sequence-widest order size q short fits =
+    let rows = rows-widest first_row q.rows q.end_offset (lit< tt) fits.sequence.last fits.sequence.rows in
+    let front = (0 ∷ (size + 1) ∷ 2 ∷ []) ++ address_bytes order size q.start_address in
+    omega (arith, rows, ap length (sequence-bytes order size q (omega (arith, short))), number_bytes-length order size (stored q.start_address), length-append front (program_bytes Little 8 (rows_instructions first_row q.rows q.end_offset)))
+
+directory-widest : (ds : List (List ℕ)) → length (flat_map text_bytes ds) ≤ sum_by (λ d. length d + 1) ds
+directory-widest [] = omega arith
+directory-widest (d ∷ ds) = omega (arith, directory-widest ds, length-append (text_bytes d) (flat_map text_bytes ds), length-append d (0 ∷ []), sum_by-cons (λ (x : List ℕ). length x + 1) d ds)
+
+file-widest : (f : LineFile) → FitsFile f → length (file_bytes f) ≤ length f.name + 1 + 3 * variable_bytes
+file-widest f fits = omega (arith, uleb-10 f.directory fits.directory, length-append (text_bytes f.name) (uleb_bytes f.directory ++ 0 ∷ 0 ∷ []), length-append f.name (0 ∷ []), length-append (uleb_bytes f.directory) (0 ∷ 0 ∷ []))
+
+fields-widest : (ds : List (List ℕ)) (fs : List LineFile) → All FitsFile fs → length (line_fields_bytes ds fs) + 10 ≤ widest_header ds fs
+fields-widest ds fs fits =
+    let directories = directory-widest ds in
+    let files = flat-widest file_bytes (λ f. length f.name + 1 + 3 * variable_bytes) FitsFile file-widest fs fits in
+    let a = flat_map text_bytes ds ++ 0 ∷ [] in
+    let b = flat_map file_bytes fs ++ 0 ∷ [] in
+    omega (arith, directories, files, length-append a b, length-append (flat_map text_bytes ds) (0 ∷ []), length-append (flat_map file_bytes fs) (0 ∷ []))
+
+table-lengths : (a b c d e : List ℕ) → length (a ++ (b ++ ((c ++ d) ++ e))) ≡ length a + (length b + (length c + (length d + length e)))
+table-lengths a b c d e = simp (length-append) (omega arith)
+
+lines-widest : (order : Endian) (size : ℕ) (u : GivenUnit) → u.address_size ≡ size → FitsGivenUnit u → FitsLines u.lines → length (lines_bytes order size (written_lines u.lines)) ≤ widest_unit Line u
+lines-widest order size u same fits lines =
+    let P : ℕ → Type 0 = λ n. IsOfSize n u.lines.address_size in
+    rw (lines-are u.lines) (go u.lines.address_size (subst P same fits.lines) lines.sequences)
+  where
+    go : (n : Option ℕ) → IsOfSize size n → FitsSequences n u.lines.sequences u.lines.begun → length (lines_bytes order size (lines_for n u.lines)) ≤ widest_table_for n u.lines
+    go None sized sequences = omega arith
+    go (Some n) sized sequences =
+        let P : ℕ → Type 0 = λ m. All (FitsGivenSequence m) u.lines.sequences in
+        let short = size-short u size same fits.size in
+        let t : WrittenTable = record { directories = u.lines.directories; files = u.lines.files; sequences = u.lines.sequences } in
+        let qs = flat-widest (sequence_bytes order size) (λ q. widest_image (length q.rows)) (FitsGivenSequence size) (λ q h. sequence-widest order size q short h) u.lines.sequences (subst P sized sequences.0) in
+        let header = fields-widest t.directories t.files lines.files in
+        let is = sequences_instructions t.sequences in
+        let fields = line_fields_bytes t.directories t.files in
+        let body = line_body order size t.directories t.files is in
+        omega (arith, qs, header, ap length (sequences-bytes order size t.sequences), table-lengths (number_bytes order 4 (length body)) (number_bytes order 2 4) (number_bytes order 4 (length fields)) fields (program_bytes order size is), number_bytes-length order 4 (length body), number_bytes-length order 2 4, number_bytes-length order 4 (length fields), length-append (one_table_bytes order size t) [])
+
+-- ---- all units
+
+tables-within : (order : Endian) (size a l : ℕ) (us : List GivenUnit) → All FitsGivenUnit us → length (tables_bytes (written_units order size a l us)) ≤ widest_given Abbrev us
+tables-within order size a l [] fits = omega arith
+tables-within order size a l (u ∷ us) fits =
+    let here = table-widest u (All-head FitsGivenUnit u us fits) in
+    let table = table_bytes (numbered 1 (shapes_in u)) in
+    let rest = written_units order size (a + length table) (l + length (lines_bytes order size (written_lines u.lines))) us in
+    omega (arith, here, tables-within order size (a + length table) (l + length (lines_bytes order size (written_lines u.lines))) us (All-tail FitsGivenUnit u us fits), length-append table (tables_bytes rest), sum_by-cons (widest_unit Abbrev) u us)
+
+info-within : (order : Endian) (size a l : ℕ) (us : List GivenUnit) → All (λ u. u.address_size ≡ size) us → All FitsGivenUnit us → length (info_bytes order size (written_units order size a l us)) ≤ widest_given Info us
+info-within order size a l [] sized fits = omega arith
+info-within order size a l (u ∷ us) sized fits =
+    let here = info-widest order size a l u (All-head (λ (v : GivenUnit). v.address_size ≡ size) u us sized) (All-head FitsGivenUnit u us fits) in
+    let at = a + length (table_bytes (numbered 1 (shapes_in u))) in
+    let lines_at = l + length (lines_bytes order size (written_lines u.lines)) in
+    omega (arith, here, info-within order size at lines_at us (All-tail (λ (v : GivenUnit). v.address_size ≡ size) u us sized) (All-tail FitsGivenUnit u us fits), length-append (placed_unit_bytes order size (written_unit a l u)) (info_bytes order size (written_units order size at lines_at us)), sum_by-cons (widest_unit Info) u us)
+
+lines-within : (order : Endian) (size : ℕ) (us : List GivenUnit) → All (λ u. u.address_size ≡ size) us → All FitsGivenUnit us → All (λ u. FitsLines u.lines) us → length (lines_bytes order size (written_tables us)) ≤ widest_given Line us
+lines-within order size [] sized fits lines = omega arith
+lines-within order size (u ∷ us) sized fits lines =
+    let here = lines-widest order size u (All-head (λ (v : GivenUnit). v.address_size ≡ size) u us sized) (All-head FitsGivenUnit u us fits) (All-head (λ (v : GivenUnit). FitsLines v.lines) u us lines) in
+    let others = lines-within order size us (All-tail (λ (v : GivenUnit). v.address_size ≡ size) u us sized) (All-tail FitsGivenUnit u us fits) (All-tail (λ (v : GivenUnit). FitsLines v.lines) u us lines) in
+    omega (arith, here, others, lengths-both (one_table_bytes order size) (written_lines u.lines) (written_tables us), sum_by-cons (widest_unit Line) u us)
+
+-- A section of given units is no longer than its widest size.
+pub within-widest : (order : Endian) (us : List GivenUnit) (name : SectionName) → AreWritable us → All FitsGivenUnit us → All (λ u. FitsLines u.lines) us → length (bytes_of order us name) ≤ widest_given name us
+within-widest order us name writable fits lines =
+    let sized : All (λ u. u.address_size ≡ size_of us) us = All-weaker (IsWritable (size_of us)) (λ u. u.address_size ≡ size_of us) (λ u h. h.size) us writable in
+    go name (tables-within order (size_of us) 0 0 us fits) (info-within order (size_of us) 0 0 us sized fits) (lines-within order (size_of us) us sized fits lines)
+  where
+    go : (n : SectionName) → length (abbrev_bytes order us) ≤ widest_given Abbrev us → length (all_info_bytes order us) ≤ widest_given Info us → length (all_lines_bytes order us) ≤ widest_given Line us → length (bytes_of order us n) ≤ widest_given n us
+    go Abbrev a i l = a
+    go Info a i l = i
+    go Line a i l = l
+    go _ a i l = omega arith

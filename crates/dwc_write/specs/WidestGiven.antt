@@ -1,0 +1,49 @@
+-- How long the sections of given units can be at most, counted as `Widest` counts them: numbers of variable length have 10
+-- bytes and addresses 8, each entry has a declaration of its own, and each row all its instructions.
+use Rattle.std.specs.Prelude.{ℕ, ◌+◌, ◌*◌, ◌<◌, List, [], ◌∷◌, length, sum_by, nat_lt, if◌then◌else◌, Option, Some, None}
+use Rattle.dwc_base.specs.declared.section_name.SectionName.{SectionName}
+use Rattle.dwc_base.specs.declared.section_name.SectionName.TheVariants.{Abbrev, Info, Line}
+use Rattle.dwc_base.specs.Widest.{variable_bytes, address_bytes, widest_declaration, widest_header, widest_image}
+use Rattle.dwc_write.specs.declared.attributes.AttributeValue.{AttributeValue}
+use Rattle.dwc_write.specs.declared.attributes.AttributeValue.TheVariants.{Address, Constant, Flag, LineProgramRef}
+use Rattle.dwc_write.specs.declared.error.WriteError.{WriteError}
+use Rattle.dwc_write.specs.declared.error.WriteError.TheVariants.{TooLarge, OutOfMemory}
+use Rattle.dwc_write.specs.declared.error.Limit.TheVariants.{Section}
+use Rattle.dwc_write.specs.Writers.{most_bytes}
+use Rattle.dwc_write.specs.GivenLines.{GivenLines}
+use Rattle.dwc_write.specs.GivenUnits.{GivenEntry, GivenUnit, first_depth}
+
+abbrev pub widest_value : AttributeValue → ℕ
+widest_value (Address a) = address_bytes
+widest_value (Constant form bits) = variable_bytes
+widest_value (Flag b) = 1
+widest_value LineProgramRef = 4
+
+-- a code and the values
+abbrev pub widest_entry : GivenEntry → ℕ
+widest_entry e = variable_bytes + sum_by (λ a. widest_value a.value) e.attributes
+
+-- how many lists of children end
+abbrev pub lists_of : List GivenEntry → ℕ
+lists_of [] = 0
+lists_of (e ∷ es) = (if nat_lt e.depth (first_depth es) then 1 else 0) + lists_of es
+
+-- a line table, where there is one
+abbrev pub widest_table_for : Option ℕ → GivenLines → ℕ
+widest_table_for None g = 0
+widest_table_for (Some size) g = widest_header g.directories g.files + sum_by (λ q. widest_image (length q.rows)) g.sequences
+
+abbrev pub widest_unit : SectionName → GivenUnit → ℕ
+widest_unit Abbrev u = sum_by (λ e. widest_declaration (length e.attributes)) u.entries + variable_bytes
+widest_unit Info u = 11 + (sum_by widest_entry u.entries + lists_of u.entries * variable_bytes)
+widest_unit Line u = widest_table_for u.lines.address_size u.lines
+widest_unit name u = 0
+
+-- how long a section can be at most
+abbrev pub widest_given : SectionName → List GivenUnit → ℕ
+widest_given name us = sum_by (widest_unit name) us
+
+-- A refusal of all units for want of memory, or for a section's widest size.
+abbrev pub IsWideRefusal : List GivenUnit → WriteError → Type 0
+IsWideRefusal us OutOfMemory = Unit {0}
+IsWideRefusal us (TooLarge (Section name)) = most_bytes < widest_given name us
