@@ -58,6 +58,10 @@ module _ (s : Sections) (fs : List Function) where
             (images-kept fs _ _ (subst (λ qs. AllZip (IsImageOf (map kept_function fs)) qs (given_segments u.lines)) (carried_segments-kept fs h.input) h.images));
       }
 
+  -- what was read of a module with its kept functions was read of the module
+  pub read-whole : (order : Endian) (size : ℕ) → IsReadWhole (of_one order size (plain_module s (map kept_function fs))) → IsReadWhole (of_one order size (plain_module s fs))
+  read-whole order size h = record { readable = sym (same-faults order size) ∙ h.readable; built = sym (same-built order size) ∙ h.built }
+
   -- a module whose unit is refused
   pub module-refused : (order : Endian) (size : ℕ) (e : DebugError) → RefusesModule (of_one order size (plain_module s (map kept_function fs))) e → RefusesModule (of_one order size (plain_module s fs)) e
   module-refused order size (Read what section offset) h = rw (same-faults order size) at h

@@ -21,3 +21,4 @@ pub mod CanCarryLaws
 pub mod OutcomeLaws
 pub mod RefusalLaws
 pub mod EmittedLaws
+pub mod EmitDwarfLaws

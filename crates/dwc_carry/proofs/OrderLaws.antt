@@ -6,7 +6,9 @@ use Rattle.std.proofs.lemmas.Bool.{ltb-false}
 use Rattle.std.proofs.lemmas.List.Elements.{All-nil, All-cons, All-head, All-tail}
 use Rattle.dwc_base.specs.declared.records.MapFault.{MapFault}
 use Rattle.dwc_base.specs.declared.records.MapFault.TheVariants.{BodyOffset, BeforeCodeSection, Reversed, CodeFalls, CodePastBody, SourceOutside}
-use Rattle.dwc_base.specs.Functions.{AddressMap, Recorded, recorded_entry, wasm_entry, map_fault, bounds_fault, entry_fault, is_source_within, function_of, functions_of}
+use Rattle.dwc_base.specs.Functions.{AddressMap, Function, Recorded, recorded_entry, wasm_entry, map_fault, bounds_fault, entry_fault, is_source_within, function_of, functions_of}
+use Rattle.dwc_addr.specs.Transforms.{kept_function, first_bad_map}
+use Rattle.dwc_addr.proofs.KeptLaws.{recorded_sources-kept, all-good}
 use Rattle.dwc_carry.specs.ImageRows.{RisesFrom, IsOrdered}
 use Rattle.dwc_carry.proofs.LookupLaws.{RisesFrom-weaker}
 
@@ -74,3 +76,15 @@ function_of-ordered code_offset number m h =
 pub functions_of-ordered : (code_offset number : ℕ) (ms : List AddressMap) → All (λ m. map_fault code_offset m ≡ None) ms → All IsOrdered (functions_of code_offset number ms)
 functions_of-ordered code_offset number [] h = All-nil IsOrdered
 functions_of-ordered code_offset number (m ∷ ms) h = All-cons IsOrdered _ _ (function_of-ordered code_offset number m (All-head (λ (a : AddressMap). map_fault code_offset a ≡ None) m ms h)) (functions_of-ordered code_offset (number + 1) ms (All-tail (λ (a : AddressMap). map_fault code_offset a ≡ None) m ms h))
+
+-- what is kept of a function is ordered too
+pub ordered-kept : (f : Function) → IsOrdered f → IsOrdered (kept_function f)
+ordered-kept f h = record { rises = rw (recorded_sources-kept f) h.rises; within = rw (recorded_sources-kept f) h.within }
+
+pub all_ordered-kept : (fs : List Function) → All IsOrdered fs → All IsOrdered (map kept_function fs)
+all_ordered-kept [] h = All-nil IsOrdered
+all_ordered-kept (f ∷ fs) h = All-cons IsOrdered _ _ (ordered-kept f (All-head IsOrdered f fs h)) (all_ordered-kept fs (All-tail IsOrdered f fs h))
+
+-- The functions of a transform whose maps are good are ordered.
+pub transform-ordered : (code_offset first : ℕ) (maps : List AddressMap) → first_bad_map code_offset 0 maps ≡ None → All IsOrdered (map kept_function (functions_of code_offset first maps))
+transform-ordered code_offset first maps good = all_ordered-kept (functions_of code_offset first maps) (functions_of-ordered code_offset first maps (all-good code_offset 0 maps good))

@@ -53,3 +53,9 @@ abbrev pub GivesOutput : Endian → ℕ → Module → Result (Option GivenUnit)
 GivesOutput order size m (Ok None) = CarriesNothing order size m
 GivesOutput order size m (Ok (Some u)) = CarriesUnit order size m u
 GivesOutput order size m (Err e) = RefusesModule (of_one order size m) e
+
+-- the refusals of writing
+abbrev pub IsOfWriting : DebugError → Type 0
+IsOfWriting (TooLarge what) = Prim.Unit {0}
+IsOfWriting OutOfMemory = Prim.Unit {0}
+IsOfWriting _ = ⊥

@@ -1,9 +1,14 @@
 //! Emits the DWARF of a module for the native code of its functions.
-ghost use Rattle.std.specs.Prelude.{◌≡◌, ◌⊎◌, ◌<◌, ◌^◌, ◌∷◌, [], IfOk, IfSome, All, length, map};
+ghost use Rattle.std.specs.Prelude.{◌≡◌, ◌⊎◌, ◌<◌, ◌^◌, ◌∷◌, [], IfErr, IfOk, IfSome, All, length, map};
 ghost use Rattle.dwc_base.specs.declared.records.Endian.{Endian};
 ghost use Rattle.dwc_write.specs.GivenUnits.{IsOfSize};
 ghost use Rattle.dwc_carry.specs.ImageRows.{IsOrdered};
-ghost use Rattle.dwc_carry.specs.Outcomes.{plain_module, GivesOutput};
+ghost use Rattle.dwc_base.specs.Outputs.{section_view};
+ghost use Rattle.dwc_write.specs.GivenUnits.{IsWritable};
+ghost use Rattle.dwc_write.specs.ReadBack.{ReadsBack};
+ghost use Rattle.dwc_write.specs.Writers.{IsSound};
+ghost use Rattle.dwc_carry.specs.Emits.{Emits};
+ghost use Rattle.dwc_carry.specs.Outcomes.{plain_module, GivesOutput, IsOfWriting};
 
 use crate::DebugError;
 use crate::output_unit::output_unit;
@@ -26,7 +31,8 @@ fn carried_unit(
     requires version { encoding.version ≡ 4 }
     requires size { (encoding.address_size ≡ 4) ⊎ (encoding.address_size ≡ 8) }
     requires functions { All IsOrdered transform.now }
-    ensures { (order : Endian) → GivesOutput order encoding.address_size (plain_module sections.entry transform.now) result }
+    ensures output { (order : Endian) → GivesOutput order encoding.address_size (plain_module sections.entry transform.now) result }
+    ensures writable { IfOk result (λ o. IfSome o (λ u. IsWritable encoding.address_size u)) }
 {
     let Some(read) = read_unit(alloc, sections, transform)? else {
         return Ok(None);
@@ -41,5 +47,55 @@ fn carried_unit(
         Ok(unit) => Ok(Some(unit)),
         // A unit takes memory, and asks for nothing else.
         Err(_) => Err(DebugError::OutOfMemory),
+    }
+}
+
+// The sections of one unit.
+fn unit_sections(alloc: Global, unit: Unit, order: Endian) -> Result<Vec<DwarfSection>, DebugError>
+    requires { IsWritable unit.address_size unit }
+    ensures sound { IfOk result (λ s. All (IsSound order) (map section_view s.items)) }
+    ensures read { IfOk result (λ s. ReadsBack order (unit ∷ []) (map section_view s.items)) }
+    ensures refused { IfErr result IsOfWriting }
+{
+    let mut units = UnitTable::new(alloc);
+    units.add(unit)?;
+    Ok(write_sections(alloc, Dwarf { units }, order)?)
+}
+
+/// The sections of DWARF that a module's carry over to, in a byte order and with addresses of `pointer_bytes` bytes, for the
+/// functions that the module defines, in order, each with its symbol if it has one.
+///
+/// # Errors
+/// `BadAddressMap` exactly where a function's address map breaks a rule: the first such function, and the first rule.
+/// `Read` only where a place that is reached is no DWARF. `Unsupported` only where what is reached is of a kind that is
+/// refused, or not read yet. `TooLarge` only where all was read, for a section that would be too long. `OutOfMemory` for want
+/// of memory.
+pub fn emit_dwarf(
+    alloc: Global,
+    order: Endian,
+    pointer_bytes: u8,
+    translation: &ModuleTranslation<'_>,
+    functions: &[(Option<SymbolId>, CompiledFunctionMetadata)],
+) -> Result<Vec<DwarfSection>, DebugError>
+    requires size { (pointer_bytes ≡ 4) ⊎ (pointer_bytes ≡ 8) }
+    requires count { length functions.now < 2 ^ 32 }
+    ensures { Emits order pointer_bytes translation.now functions.now result }
+{
+    let code_offset = translation.code_section_offset;
+    let transform = AddressTransform::new(alloc, 0, code_offset, 0, functions)?;
+    if let Some(offset) = translation.compressed {
+        return Err(DebugError::Unsupported {
+            what: Kind::Compressed,
+            offset,
+        });
+    }
+    let encoding = Encoding {
+        version: 4,
+        address_size: pointer_bytes,
+    };
+    let sections = Sections::of_module(translation);
+    match carried_unit(alloc, sections, &transform, encoding)? {
+        Some(unit) => unit_sections(alloc, unit, order),
+        None => Ok(Vec::new(alloc)),
     }
 }

@@ -12,5 +12,6 @@ mod sequence;
 mod unit_entries;
 mod unit_lines;
 
+pub use emit::emit_dwarf;
 pub use error::DebugError;
 pub use lines::carried_lines;
