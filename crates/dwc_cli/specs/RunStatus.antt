@@ -145,7 +145,6 @@ pub record LoadedCauses (read : Loaded) (status : ℕ) : Type 0 where
   pub unreadable : ReadCause read status
   pub unsupported : UnsupportedCause read status
   pub unread : UnreadCause read status
-  pub too_large : TooLargeCause read status
 
 -- what is said of an input that the words name
 pub record NamedCauses (input : Input) (status : ℕ) : Type 0 where

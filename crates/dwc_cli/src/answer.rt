@@ -1,5 +1,6 @@
 //! The text that a run prints.
-ghost use Rattle.std.specs.Prelude.{IfOk, IfErr};
+ghost use Rattle.std.specs.Prelude.{◌≡◌, if◌then◌else◌, IfOk, IfErr};
+ghost use Rattle.dwc_base.specs.declared.records.Endian.TheVariants.{Big, Little};
 ghost use Rattle.dwc_cli.specs.Inputs.{Loaded};
 ghost use Rattle.dwc_cli.specs.RunStatus.{LoadedCauses, IsValid, IsOneOf};
 ghost use Rattle.dwc_cli.specs.Failures.{failure_status};
@@ -7,8 +8,10 @@ ghost use Rattle.dwc_cli.specs.Answers.{status_of, input_view, IsReadAs, Carries
 
 use crate::failure::Failure;
 use crate::input_files::InputFiles;
-use crate::map_file::{MapFile, map_of};
-use dwc_base::{ModuleTranslation, split_wasm};
+use crate::map_file::{COUNT_LIMIT, MapFile, map_of};
+use crate::printing::printed;
+use dwc_base::{Endian, ModuleTranslation, split_wasm};
+use dwc_carry::emit_dwarf;
 use std::alloc::Global;
 use std::slice;
 
@@ -27,6 +30,17 @@ pub(crate) fn text_of(alloc: Global, input: &InputFiles) -> Result<Vec<u8>, Fail
     carried_text(alloc, &translation, &map_file)
 }
 
+// The order of the bytes of a number.
+fn byte_order(big_endian: bool) -> Endian
+    ensures { result ≡ (if big_endian then Big else Little) }
+{
+    if big_endian {
+        Endian::Big
+    } else {
+        Endian::Little
+    }
+}
+
 // The printed text of the sections that are made of a module and its map.
 fn carried_text(
     alloc: Global,
@@ -38,5 +52,14 @@ fn carried_text(
     ensures status { IfErr result (λ failure. IsCarryingStatus (failure_status failure)) }
     ensures complete { (read : Loaded) → IsReadAs translation.now map_file.now read → GivesReadText read (status_of result) }
 {
-    Err(Failure::OutOfMemory)
+    let Some(module) = map_file.modules.first() else {
+        return Err(Failure::OutOfMemory);
+    };
+    let pointer_bytes = map_file.target.pointer_bytes;
+    if (pointer_bytes != 4 && pointer_bytes != 8) || module.functions.len() >= COUNT_LIMIT {
+        return Err(Failure::OutOfMemory);
+    }
+    let order = byte_order(map_file.target.big_endian);
+    let sections = emit_dwarf(alloc, order, pointer_bytes, translation, &module.functions)?;
+    Ok(printed(alloc, &sections)?)
 }

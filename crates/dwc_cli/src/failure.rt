@@ -9,6 +9,7 @@ use crate::sink::{Sink, write_all};
 use crate::source::Failed;
 use crate::status::Status;
 use dwc_base::WasmFault;
+use dwc_carry::DebugError;
 use std::alloc::AllocError;
 
 const USAGE: &str = "usage: dwarfcarry [--package P] [--text] MAP MODULE... | --generate N";
@@ -50,6 +51,27 @@ impl From<WasmFault> for Failure<'_> {
                 refusal: Refusal::of(&fault),
             },
             WasmFault::OutOfMemory => Failure::OutOfMemory,
+        }
+    }
+}
+
+impl From<DebugError> for Failure<'_> {
+    ghost use Rattle.std.specs.Prelude.{◌≡◌};
+    ghost use Rattle.dwc_cli.specs.Failures.{failure_status, carrying_status};
+
+    ghost from_gives = { λ error failure. failure_status failure ≡ carrying_status error };
+
+    fn from(error: DebugError) -> Self {
+        let status = match error {
+            DebugError::Read { .. } => Status::Read,
+            DebugError::Unsupported { .. } => Status::Unsupported,
+            DebugError::BadAddressMap { .. } => Status::BadAddressMap,
+            DebugError::TooLarge { .. } => Status::TooLarge,
+            DebugError::OutOfMemory => return Failure::OutOfMemory,
+        };
+        Failure::Refused {
+            status,
+            refusal: Refusal::of(&error),
         }
     }
 }

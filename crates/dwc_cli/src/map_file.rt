@@ -18,7 +18,7 @@ use serde_json::Value;
 use std::alloc::{AllocError, Global};
 
 // Modules, and functions over all modules, are numbered with 32 bits.
-const COUNT_LIMIT: usize = 1 << 32;
+pub(crate) const COUNT_LIMIT: usize = 1 << 32;
 
 /// What the code was compiled for.
 #[derive(Clone, Copy)]
