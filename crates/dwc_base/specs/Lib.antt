@@ -15,6 +15,8 @@ pub mod Kept
 pub mod Outputs
 pub mod Carried
 pub mod Reached
+pub mod Refusals
+pub mod BuiltForm
 pub mod FirstForm
 pub mod Widest
 pub mod Lebs
