@@ -1,15 +1,15 @@
 -- Line tables: the header, and the instructions of the program. (DWARF 4 and 5, sections 6.2.4 and 6.2.5.)
-use Rattle.std.specs.Prelude.{ℕ, ◌-◌, ◌==◌, ℤ, pos, ◌-ℤ◌, List, [], ◌∷◌, map, length, Bool, true, false, nat_lt, nat_le, not, ◌||◌, ◌&&◌, if◌then◌else◌, slice_index, Option, Some, None, Result, Ok, Err}
+use Rattle.std.specs.Prelude.{ℕ, ◌-◌, ◌==◌, ℤ, pos, ◌-ℤ◌, List, [], ◌∷◌, map, length, drop, Bool, true, false, nat_lt, nat_le, not, ◌||◌, ◌&&◌, if◌then◌else◌, slice_index, Option, Some, None, Result, Ok, Err}
 use Rattle.std.specs.List.{list_any}
 use Rattle.dwc_base.specs.declared.records.Address.{Address}
+use Rattle.dwc_base.specs.declared.records.Endian.{Endian}
 use Rattle.dwc_base.specs.declared.faults.Kind.TheVariants.{AddressSize, NotBuilt, Operations, SegmentSelector, Version}
 use Rattle.dwc_base.specs.declared.faults.Flaw.{Flaw}
 use Rattle.dwc_base.specs.declared.faults.Flaw.TheVariants.{Malformed, Refused}
 use Rattle.dwc_base.specs.Reading.{Unread, Read, ◌>>=◌, forbid, part_at, number_at, uleb_at, sleb_at, text_at, items_at, counted_at, seen_as, coded}
 use Rattle.dwc_base.specs.Listing.{Listing, Next, at_end, broken, item, walk}
-use Rattle.dwc_base.specs.declared.section_name.SectionName.{SectionName}
 use Rattle.dwc_base.specs.declared.section_name.SectionName.TheVariants.{Line, LineStr, Str}
-use Rattle.dwc_base.specs.Sections.{Relocation, Sections, address_at, section_from}
+use Rattle.dwc_base.specs.Sections.{Relocation, Sections, address_at}
 use Rattle.dwc_base.specs.Abbreviations.{AttributeSpec}
 use Rattle.dwc_base.specs.Values.{Form, string, string_elsewhere, supplementary, form_of, Value, constant, text, text_reference, encoded_value_at}
 use Rattle.dwc_base.specs.Units.{sized_part_at}
@@ -110,20 +110,30 @@ entry_count_at formats u = do
   named ← forbid (nat_lt 0 count.0 && not (has_one_path formats)) Malformed
   Ok count
 
--- The sections that the texts of the forms stand in. Those by an index are not built yet.
-abbrev pub text_section : ℕ → Option SectionName
-text_section form = coded ((DW_FORM_strp, Str) ∷ (DW_FORM_line_strp, LineStr) ∷ []) form
+-- What else a header is read from: the texts of `.debug_str` and `.debug_line_str`, and the relocations of its section.
+pub record LineSource : Type 0 where
+  pub order : Endian
+  pub strings : List ℕ
+  pub line_strings : List ℕ
+  pub relocations : List Relocation
+
+abbrev pub line_source : Sections → LineSource
+line_source s = record { order = s.order; strings = s.bytes Str; line_strings = s.bytes LineStr; relocations = s.relocations Line }
+
+-- the section that the texts of a form stand in; those by an index are not built yet
+abbrev pub texts_of_form : LineSource → ℕ → Option (List ℕ)
+texts_of_form s form = coded ((DW_FORM_strp, s.strings) ∷ (DW_FORM_line_strp, s.line_strings) ∷ []) form
 
 -- the text at an offset of a section
-abbrev pub text_in : Sections → SectionName → ℕ → Result (List ℕ) Flaw
-text_in s name offset = text_at (section_from s name offset) >>= λ name. Ok name.0
+abbrev pub text_in : Endian → List ℕ → ℕ → Result (List ℕ) Flaw
+text_in order section offset = text_at (record { order = order; place = offset; left = drop offset section }) >>= λ found. Ok found.0
 
 -- the text elsewhere that a form names; it is empty where it is not looked up
-abbrev pub text_elsewhere : Sections → Bool → ℕ → ℕ → Result (List ℕ) Flaw
-text_elsewhere s looked_up form offset = elim (text_section form) [ None ↦ Err (Refused NotBuilt) | Some name ↦ elim looked_up [ true ↦ text_in s name offset | false ↦ Ok [] ] ]
+abbrev pub text_elsewhere : LineSource → Bool → ℕ → ℕ → Result (List ℕ) Flaw
+text_elsewhere s looked_up form offset = elim (texts_of_form s form) [ None ↦ Err (Refused NotBuilt) | Some section ↦ elim looked_up [ true ↦ text_in s.order section offset | false ↦ Ok [] ] ]
 
 -- the text of a path
-abbrev pub path_text : Sections → Bool → Value → Result (List ℕ) Flaw
+abbrev pub path_text : LineSource → Bool → Value → Result (List ℕ) Flaw
 path_text s looked_up (text bytes) = Ok bytes
 path_text s looked_up (text_reference form offset) = text_elsewhere s looked_up form offset
 path_text s looked_up _ = Err Malformed
@@ -134,7 +144,7 @@ directory_or before (constant form n) = n
 directory_or before _ = before
 
 -- an entry with what a further field says; other content is passed over
-abbrev pub with_field : Sections → Bool → ℕ → Value → LineFile → Result LineFile Flaw
+abbrev pub with_field : LineSource → Bool → ℕ → Value → LineFile → Result LineFile Flaw
 with_field s looked_up content value f =
     elim (content == DW_LNCT_path) [
       | true ↦ (path_text s looked_up value >>= λ name. Ok (record { directory = f.directory; name = name }))
@@ -146,14 +156,14 @@ abbrev pub field_spec : EntryFormat → AttributeSpec
 field_spec f = record { name = 0; form = f.form; implicit = pos 0 }
 
 -- a field of an entry
-unfoldable pub entry_field_at : Sections → ℕ → Bool → EntryFormat → LineFile → Unread → Read LineFile
+unfoldable pub entry_field_at : LineSource → ℕ → Bool → EntryFormat → LineFile → Unread → Read LineFile
 entry_field_at s address_size looked_up format f u = do
-  value ← encoded_value_at (s.relocations Line) (record { version = 5; address_size = address_size }) (field_spec format) u
+  value ← encoded_value_at s.relocations (record { version = 5; address_size = address_size }) (field_spec format) u
   field ← with_field s looked_up format.content value.0 f
   Ok (field, value.1)
 
 -- the fields of an entry, one behind another
-unfoldable pub entry_fields_at : Sections → ℕ → Bool → List EntryFormat → LineFile → Unread → Read LineFile
+unfoldable pub entry_fields_at : LineSource → ℕ → Bool → List EntryFormat → LineFile → Unread → Read LineFile
 entry_fields_at s address_size looked_up [] f u = Ok (f, u)
 entry_fields_at s address_size looked_up (format ∷ formats) f u = do
   first ← entry_field_at s address_size looked_up format f u
@@ -164,11 +174,11 @@ abbrev pub no_fields : LineFile
 no_fields = record { directory = 0; name = [] }
 
 -- a directory or a file
-abbrev pub line_entry_at : Sections → ℕ → List EntryFormat → Unread → Read LineFile
+abbrev pub line_entry_at : LineSource → ℕ → List EntryFormat → Unread → Read LineFile
 line_entry_at s address_size formats u = entry_fields_at s address_size true formats no_fields u
 
 -- The directories from number 1 on. Number 0 is the compilation directory, whose text elsewhere is not looked up.
-unfoldable pub directories_of_5_at : Sections → ℕ → Unread → Read (List (List ℕ))
+unfoldable pub directories_of_5_at : LineSource → ℕ → Unread → Read (List (List ℕ))
 directories_of_5_at s address_size u = do
   formats ← entry_formats_at u
   count ← entry_count_at formats.0 formats.1
@@ -180,7 +190,7 @@ directories_of_5_at s address_size u = do
   ]
 
 -- the files, from number 0 on
-unfoldable pub files_of_5_at : Sections → ℕ → Unread → Read (List LineFile)
+unfoldable pub files_of_5_at : LineSource → ℕ → Unread → Read (List LineFile)
 files_of_5_at s address_size u = do
   formats ← entry_formats_at u
   count ← entry_count_at formats.0 formats.1
@@ -189,14 +199,14 @@ files_of_5_at s address_size u = do
 -- ---- the header
 
 -- the directories and the files of a version
-unfoldable pub line_names_at : Sections → ℕ → ℕ → Unread → Read (List (List ℕ) × List LineFile)
+unfoldable pub line_names_at : LineSource → ℕ → ℕ → Unread → Read (List (List ℕ) × List LineFile)
 line_names_at s version address_size u = do
   directories ← elim (version == 5) [ true ↦ directories_of_5_at s address_size u | false ↦ items_at directory_at u ]
   files ← elim (version == 5) [ true ↦ files_of_5_at s address_size directories.1 | false ↦ items_at file_at directories.1 ]
   Ok ((directories.0, files.0), files.1)
 
 -- the fields behind the header's length
-unfoldable pub line_fields_at : Sections → ℕ → ℕ → Unread → Unread → Result LineHeader Flaw
+unfoldable pub line_fields_at : LineSource → ℕ → ℕ → Unread → Unread → Result LineHeader Flaw
 line_fields_at s version address_size program u = do
   minimum ← number_at 1 u
   operations ← operations_at version minimum.1
@@ -236,7 +246,7 @@ line_address_size_at version unit_size u =
     ]
 
 -- The header of the table at the front, for a unit of an address size. The program begins behind the header's length.
-unfoldable pub line_header_at : Sections → ℕ → Unread → Result LineHeader Flaw
+unfoldable pub line_header_at : LineSource → ℕ → Unread → Result LineHeader Flaw
 line_header_at s unit_size u = do
   table ← sized_part_at u
   version ← number_at 2 table.0

@@ -11,7 +11,7 @@ use Rattle.dwc_base.specs.declared.faults.Flaw.TheVariants.{Malformed}
 use Rattle.dwc_base.specs.Reading.{Unread, ◌>>=◌}
 use Rattle.dwc_base.specs.Listing.{Listing}
 use Rattle.dwc_base.specs.Sections.{Sections, section_from, Fault, reported}
-use Rattle.dwc_base.specs.LineHeaders.{LineFile, LineHeader, line_header_at, Instruction, special, copy, advance_pc, advance_line, set_file, set_column, negate_stmt, set_basic_block, const_add_pc, fixed_advance_pc, set_prologue_end, set_epilogue_begin, set_isa, end_sequence, set_address, define_file, set_discriminator, unknown, instructions}
+use Rattle.dwc_base.specs.LineHeaders.{LineFile, LineHeader, line_source, line_header_at, Instruction, special, copy, advance_pc, advance_line, set_file, set_column, negate_stmt, set_basic_block, const_add_pc, fixed_advance_pc, set_prologue_end, set_epilogue_begin, set_isa, end_sequence, set_address, define_file, set_discriminator, unknown, instructions}
 
 -- The registers of the state machine, as exact whole numbers. The address is the offset from the last
 -- `set_address` of the sequence, or from 0 before any.
@@ -143,7 +143,7 @@ checked_table h program =
 -- The table at the front: its header, and the instructions behind it.
 unfoldable pub line_table_at : Sections → ℕ → Unread → Result LineTable Flaw
 line_table_at s address_size u = do
-  h ← line_header_at s address_size u
+  h ← line_header_at (line_source s) address_size u
   checked_table h (instructions (s.relocations Line) h h.program)
 
 -- the table at an offset of .debug_line, for a unit of an address size
