@@ -2,11 +2,13 @@
 use Rattle.std.proofs.Common.{ℕ, zero, suc, arith, lit<, List, [], ◌∷◌, length, take, length-drop, Option, Some, None, Ok, Err, Bool, true, false, ltb}
 use Rattle.std.specs.Prelude.{◌==◌, nat_le, slice_index, ◌-◌, if◌then◌else◌}
 use Rattle.dwc_base.specs.declared.faults.Flaw.TheVariants.{EndsEarly, Malformed}
+use Rattle.dwc_base.specs.declared.records.Encoding.{Encoding}
+use Rattle.dwc_base.specs.declared.section_name.SectionName.TheVariants.{Info}
 use Rattle.dwc_base.specs.Reading.{Unread, Read, ◌>>=◌, forbid, coded, bytes_at, number_at, uleb_at, counted_at, passed}
 use Rattle.dwc_base.specs.Sections.{Sections, Relocation, address_at}
 use Rattle.dwc_base.specs.Abbreviations.{AttributeSpec, Declaration, declaration_of}
 use Rattle.dwc_base.specs.Units.{UnitHeader}
-use Rattle.dwc_base.specs.Values.{Value, Size, fixed, variable, Form, addr, indexed_addr, blocks, exprloc, data_of, sdata, implicit, flag_byte, flag_present, string, string_elsewhere, reference, ref_addr, sec_offset, indexed_location, indexed_range, passed_over, supplementary, form_of, sized_number_at, block_at, formed_value_at, form_behind, form_code_at, value_at}
+use Rattle.dwc_base.specs.Values.{Value, Size, fixed, variable, Form, addr, indexed_addr, blocks, exprloc, data_of, sdata, implicit, flag_byte, flag_present, string, string_elsewhere, reference, ref_addr, sec_offset, indexed_location, indexed_range, passed_over, supplementary, form_of, sized_number_at, block_at, formed_value_at, form_behind, form_code_at, encoded_value_at, encoding_of, value_at}
 use Rattle.dwc_base.specs.Entries.{Found, attributes_at, declared_entry_at, entry_at}
 use Rattle.dwc_base.specs.LineHeaders.{LineHeader, Instruction, special, Operand, no_operand, one_uleb, one_sleb, two_bytes, operand_at, standard_opcodes, passed_operands_at, extended_at, extended_instruction_at, instruction_at}
 use Rattle.dwc_base.proofs.Items.{Leaves, LeavesFewer}
@@ -84,26 +86,26 @@ address_at-leaves : (relocations : List Relocation) (size : ℕ) (u : Unread) �
 unfolding address_at
 address_at-leaves relocations size u = Leaves-bind _ _ _ (number_at-back size u) (λ spelled. Leaves-same _ _)
 
-formed_value_at-leaves : (s : Sections) (h : UnitHeader) (spec : AttributeSpec) (code : ℕ) (form : Form) (u : Unread) → Leaves (formed_value_at s h spec code form u) (suc (length u.left))
+formed_value_at-leaves : (relocations : List Relocation) (e : Encoding) (spec : AttributeSpec) (code : ℕ) (form : Form) (u : Unread) → Leaves (formed_value_at relocations e spec code form u) (suc (length u.left))
 unfolding formed_value_at
-formed_value_at-leaves s h spec code addr u = Leaves-seen _ _ _ (address_at-leaves _ _ u)
-formed_value_at-leaves s h spec code (indexed_addr size) u = Leaves-seen _ _ _ (sized_number_at-leaves size u)
-formed_value_at-leaves s h spec code (blocks size) u = Leaves-seen _ _ _ (block_at-leaves size u)
-formed_value_at-leaves s h spec code exprloc u = Leaves-seen _ _ _ (block_at-leaves variable u)
-formed_value_at-leaves s h spec code (data_of size) u = Leaves-seen _ _ _ (sized_number_at-leaves size u)
-formed_value_at-leaves s h spec code sdata u = Leaves-seen _ _ _ (Leaves-more _ _ (sleb_at-leaves u))
-formed_value_at-leaves s h spec code implicit u = Leaves-same _ _
-formed_value_at-leaves s h spec code flag_byte u = Leaves-seen _ _ _ (number_at-back 1 u)
-formed_value_at-leaves s h spec code flag_present u = Leaves-same _ _
-formed_value_at-leaves s h spec code string u = Leaves-seen _ _ _ (Leaves-more _ _ (text_at-leaves u))
-formed_value_at-leaves s h spec code (string_elsewhere size) u = Leaves-seen _ _ _ (sized_number_at-leaves size u)
-formed_value_at-leaves s h spec code (reference size) u = Leaves-seen _ _ _ (sized_number_at-leaves size u)
-formed_value_at-leaves s h spec code ref_addr u = Leaves-seen _ _ _ (number_at-back _ u)
-formed_value_at-leaves s h spec code sec_offset u = Leaves-seen _ _ _ (number_at-back 4 u)
-formed_value_at-leaves s h spec code indexed_location u = Leaves-seen _ _ _ (Leaves-more _ _ (uleb_at-leaves u))
-formed_value_at-leaves s h spec code indexed_range u = Leaves-seen _ _ _ (Leaves-more _ _ (uleb_at-leaves u))
-formed_value_at-leaves s h spec code (passed_over size) u = Leaves-seen _ _ _ (bytes_at-back size u)
-formed_value_at-leaves s h spec code supplementary u = record { fewer = tt }
+formed_value_at-leaves relocations e spec code addr u = Leaves-seen _ _ _ (address_at-leaves _ _ u)
+formed_value_at-leaves relocations e spec code (indexed_addr size) u = Leaves-seen _ _ _ (sized_number_at-leaves size u)
+formed_value_at-leaves relocations e spec code (blocks size) u = Leaves-seen _ _ _ (block_at-leaves size u)
+formed_value_at-leaves relocations e spec code exprloc u = Leaves-seen _ _ _ (block_at-leaves variable u)
+formed_value_at-leaves relocations e spec code (data_of size) u = Leaves-seen _ _ _ (sized_number_at-leaves size u)
+formed_value_at-leaves relocations e spec code sdata u = Leaves-seen _ _ _ (Leaves-more _ _ (sleb_at-leaves u))
+formed_value_at-leaves relocations e spec code implicit u = Leaves-same _ _
+formed_value_at-leaves relocations e spec code flag_byte u = Leaves-seen _ _ _ (number_at-back 1 u)
+formed_value_at-leaves relocations e spec code flag_present u = Leaves-same _ _
+formed_value_at-leaves relocations e spec code string u = Leaves-seen _ _ _ (Leaves-more _ _ (text_at-leaves u))
+formed_value_at-leaves relocations e spec code (string_elsewhere size) u = Leaves-seen _ _ _ (sized_number_at-leaves size u)
+formed_value_at-leaves relocations e spec code (reference size) u = Leaves-seen _ _ _ (sized_number_at-leaves size u)
+formed_value_at-leaves relocations e spec code ref_addr u = Leaves-seen _ _ _ (number_at-back _ u)
+formed_value_at-leaves relocations e spec code sec_offset u = Leaves-seen _ _ _ (number_at-back 4 u)
+formed_value_at-leaves relocations e spec code indexed_location u = Leaves-seen _ _ _ (Leaves-more _ _ (uleb_at-leaves u))
+formed_value_at-leaves relocations e spec code indexed_range u = Leaves-seen _ _ _ (Leaves-more _ _ (uleb_at-leaves u))
+formed_value_at-leaves relocations e spec code (passed_over size) u = Leaves-seen _ _ _ (bytes_at-back size u)
+formed_value_at-leaves relocations e spec code supplementary u = record { fewer = tt }
 
 form_behind-leaves : (most : ℕ) (u : Unread) → Leaves (form_behind most u) (suc (length u.left))
 unfolding form_behind
@@ -123,13 +125,17 @@ form_code_at-leaves spec u = go (spec.form == DW_FORM_indirect)
     go true = form_behind-leaves (length u.left) u
     go false = Leaves-same _ _
 
+encoded_value_at-leaves : (relocations : List Relocation) (e : Encoding) (spec : AttributeSpec) (u : Unread) → Leaves (encoded_value_at relocations e spec u) (suc (length u.left))
+unfolding encoded_value_at
+encoded_value_at-leaves relocations e spec u = Leaves-bind (form_code_at spec u) _ _ (form_code_at-leaves spec u) (λ code. go (form_of code.0) code)
+  where
+    go : (o : Option Form) (code : ℕ × Unread) → Leaves {A = Value} (elim o [ None ↦ Err Malformed | Some form ↦ formed_value_at relocations e spec code.0 form code.1 ]) (suc (length (code.1).left))
+    go None code = record { fewer = tt }
+    go (Some form) code = formed_value_at-leaves relocations e spec code.0 form code.1
+
 value_at-leaves : (s : Sections) (h : UnitHeader) (spec : AttributeSpec) (u : Unread) → Leaves (value_at s h spec u) (suc (length u.left))
 unfolding value_at
-value_at-leaves s h spec u = Leaves-bind (form_code_at spec u) _ _ (form_code_at-leaves spec u) (λ code. go (form_of code.0) code)
-  where
-    go : (o : Option Form) (code : ℕ × Unread) → Leaves {A = Value} (elim o [ None ↦ Err Malformed | Some form ↦ formed_value_at s h spec code.0 form code.1 ]) (suc (length (code.1).left))
-    go None code = record { fewer = tt }
-    go (Some form) code = formed_value_at-leaves s h spec code.0 form code.1
+value_at-leaves s h spec u = encoded_value_at-leaves (s.relocations Info) (encoding_of h) spec u
 
 attributes_at-leaves : (s : Sections) (h : UnitHeader) (specs : List AttributeSpec) (u : Unread) → Leaves (attributes_at s h specs u) (suc (length u.left))
 unfolding attributes_at

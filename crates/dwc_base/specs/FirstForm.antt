@@ -1,6 +1,6 @@
 -- The form of input that the program reads so far. What is outside it is refused as not built. This module goes when
 -- every form is read.
-use Rattle.std.specs.Prelude.{ℕ, ◌==◌, List, [], ◌∷◌, length, Bool, true, false, not, ◌&&◌, ◌||◌, nat_lt, Option, Some, None, is_some, Result, Ok, Err}
+use Rattle.std.specs.Prelude.{ℕ, ◌==◌, List, [], ◌∷◌, length, Bool, true, false, not, ◌&&◌, ◌||◌, nat_lt, Option, Some, None, Result, Ok, Err}
 use Rattle.std.specs.List.{list_all}
 use Rattle.dwc_base.specs.declared.section_name.SectionName.TheVariants.{Abbrev, Info, Line}
 use Rattle.dwc_base.specs.declared.faults.Flaw.{Flaw}
@@ -10,7 +10,8 @@ use Rattle.dwc_base.specs.Sections.{Sections, section_from, Fault}
 use Rattle.dwc_base.specs.Abbreviations.{AttributeSpec, Declaration, declaration_at}
 use Rattle.dwc_base.specs.Units.{UnitHeader, sized_part_at, unit_headers}
 use Rattle.dwc_base.specs.Entries.{Entry, entries, attribute}
-use Rattle.dwc_base.specs.LineRows.{LineTable, LineStep, start, row, end, source_file, in_directory}
+use Rattle.dwc_base.specs.LineRows.{LineTable}
+use Rattle.dwc_base.specs.LineFiles.{has_all_files}
 use Rattle.dwc_base.specs.Carried.{root, line_offset, table_of_unit, Module, Compilation, carried_units_of}
 use Rattle.dwc_base.specs.declared.constants.TheConstants.{DW_AT_high_pc, DW_AT_low_pc, DW_AT_stmt_list, DW_FORM_addr, DW_FORM_data4, DW_FORM_sec_offset, DW_TAG_compile_unit, DW_TAG_subprogram}
 
@@ -63,16 +64,6 @@ has_known_shapes table = list_all (λ d. is_root_shape d || is_subprogram_shape 
 abbrev pub has_known_entries : List Entry → Bool
 has_known_entries [] = true
 has_known_entries (e ∷ es) = (e.tag == DW_TAG_compile_unit) && list_all (λ f. f.tag == DW_TAG_subprogram) es
-
--- each row's file is there, each file's directory is there, and no name is empty
-abbrev pub names_file : LineTable → LineStep → Bool
-names_file t (start a) = true
-names_file t (row r) = is_some (source_file t r.file)
-names_file t (end e) = true
-
--- whether no file or directory is missing in a table, and no name is empty
-abbrev pub has_all_files : LineTable → Bool
-has_all_files t = list_all (names_file t) t.steps && list_all (λ f. is_some (in_directory t.header.directories f) && nat_lt 0 (length f.name)) t.files
 
 -- whether a table that was read has version 4 and all its files
 abbrev pub has_known_table : Result (Option LineTable) Fault → Bool

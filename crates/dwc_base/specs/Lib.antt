@@ -9,6 +9,7 @@ pub mod Entries
 pub mod Wasm
 pub mod LineHeaders
 pub mod LineRows
+pub mod LineFiles
 pub mod Functions
 pub mod SharedSymbols
 pub mod Images

@@ -1,22 +1,27 @@
--- Line tables: the header, and the instructions of the program. (DWARF 4, sections 6.2.4 and 6.2.5, of the
--- versions 2 to 4.)
-use Rattle.std.specs.Prelude.{ℕ, ◌-◌, ◌==◌, ℤ, pos, ◌-ℤ◌, List, [], ◌∷◌, length, Bool, true, false, nat_lt, nat_le, not, ◌||◌, ◌&&◌, if◌then◌else◌, slice_index, Option, Some, None, Result, Ok, Err}
+-- Line tables: the header, and the instructions of the program. (DWARF 4 and 5, sections 6.2.4 and 6.2.5.)
+use Rattle.std.specs.Prelude.{ℕ, ◌-◌, ◌==◌, ℤ, pos, ◌-ℤ◌, List, [], ◌∷◌, map, length, drop, Bool, true, false, nat_lt, nat_le, not, ◌||◌, ◌&&◌, if◌then◌else◌, slice_index, Option, Some, None, Result, Ok, Err}
+use Rattle.std.specs.List.{list_any}
 use Rattle.dwc_base.specs.declared.records.Address.{Address}
-use Rattle.dwc_base.specs.declared.faults.Kind.TheVariants.{Version, Operations, NotBuilt}
+use Rattle.dwc_base.specs.declared.records.Endian.{Endian}
+use Rattle.dwc_base.specs.declared.faults.Kind.TheVariants.{AddressSize, NotBuilt, Operations, SegmentSelector, Version}
 use Rattle.dwc_base.specs.declared.faults.Flaw.{Flaw}
 use Rattle.dwc_base.specs.declared.faults.Flaw.TheVariants.{Malformed, Refused}
 use Rattle.dwc_base.specs.Reading.{Unread, Read, ◌>>=◌, forbid, part_at, number_at, uleb_at, sleb_at, text_at, items_at, counted_at, seen_as, coded}
 use Rattle.dwc_base.specs.Listing.{Listing, Next, at_end, broken, item, walk}
-use Rattle.dwc_base.specs.Sections.{Relocation, address_at}
+use Rattle.dwc_base.specs.declared.section_name.SectionName.TheVariants.{Line, LineStr, Str}
+use Rattle.dwc_base.specs.Sections.{Relocation, Sections, address_at}
+use Rattle.dwc_base.specs.Abbreviations.{AttributeSpec}
+use Rattle.dwc_base.specs.Values.{Form, string, string_elsewhere, supplementary, form_of, Value, constant, text, text_reference, encoded_value_at}
 use Rattle.dwc_base.specs.Units.{sized_part_at}
-use Rattle.dwc_base.specs.declared.constants.TheConstants.{DW_LNE_define_file, DW_LNE_end_sequence, DW_LNE_set_address, DW_LNE_set_discriminator, DW_LNS_advance_line, DW_LNS_advance_pc, DW_LNS_const_add_pc, DW_LNS_copy, DW_LNS_fixed_advance_pc, DW_LNS_negate_stmt, DW_LNS_set_basic_block, DW_LNS_set_column, DW_LNS_set_epilogue_begin, DW_LNS_set_file, DW_LNS_set_isa, DW_LNS_set_prologue_end}
+use Rattle.dwc_base.specs.declared.constants.TheConstants.{DW_FORM_implicit_const, DW_FORM_line_strp, DW_FORM_strp, DW_LNCT_directory_index, DW_LNCT_path, DW_LNE_define_file, DW_LNE_end_sequence, DW_LNE_set_address, DW_LNE_set_discriminator, DW_LNS_advance_line, DW_LNS_advance_pc, DW_LNS_const_add_pc, DW_LNS_copy, DW_LNS_fixed_advance_pc, DW_LNS_negate_stmt, DW_LNS_set_basic_block, DW_LNS_set_column, DW_LNS_set_epilogue_begin, DW_LNS_set_file, DW_LNS_set_isa, DW_LNS_set_prologue_end}
 
 -- a file of a line table: the number of its directory, and its name
 pub record LineFile : Type 0 where
   pub directory : ℕ
   pub name : List ℕ
 
--- A line table's header. Its directories and files are those of the header; `program` is what is unread behind it.
+-- A line table's header. Its directories and files are those of the header, the directories from number 1 on; `program`
+-- is what is unread behind it.
 pub record LineHeader : Type 0 where
   pub version : ℕ
   pub address_size : ℕ
@@ -61,9 +66,148 @@ operations_at version u =
     then Ok (1, u)
     else (number_at 1 u >>= λ operations. forbid (operations.0 == 0) Malformed >>= λ some. forbid (nat_lt 1 operations.0) (Refused Operations) >>= λ one. Ok operations)
 
--- the fields behind the header's length, of the versions 2 to 4
-unfoldable pub line_fields_to_4 : ℕ → ℕ → Unread → Unread → Result LineHeader Flaw
-line_fields_to_4 version address_size program u = do
+-- ---- directories and files of version 5 (DWARF 5, sections 6.2.4, 10 to 17, and 6.2.4.1)
+
+-- a field of an entry: what it says, and its form
+pub record EntryFormat : Type 0 where
+  pub content : ℕ
+  pub form : ℕ
+
+-- a field's format; a constant that stands in it is none of the grammar
+unfoldable pub entry_format_at : Unread → Read EntryFormat
+entry_format_at u = do
+  content ← uleb_at u
+  form ← uleb_at content.1
+  given ← forbid (form.0 == DW_FORM_implicit_const) Malformed
+  Ok (record { content = content.0; form = form.0 }, form.1)
+
+-- the formats of the fields of an entry
+unfoldable pub entry_formats_at : Unread → Read (List EntryFormat)
+entry_formats_at u = do
+  count ← number_at 1 u
+  counted_at count.0 entry_format_at count.1
+
+-- whether a form is of a text; one of a supplementary file is refused where it is read
+abbrev pub is_text_form : Option Form → Bool
+is_text_form (Some string) = true
+is_text_form (Some (string_elsewhere size)) = true
+is_text_form (Some supplementary) = true
+is_text_form _ = false
+
+-- whether a field says the path
+abbrev pub is_path : EntryFormat → Bool
+is_path f = f.content == DW_LNCT_path
+
+-- whether one field says the path, and by a text
+abbrev pub has_one_path : List EntryFormat → Bool
+has_one_path [] = false
+has_one_path (f ∷ fs) = if is_path f then is_text_form (form_of f.form) && not (list_any is_path fs) else has_one_path fs
+
+-- how many entries there are; where there are some, they have a path
+unfoldable pub entry_count_at : List EntryFormat → Unread → Read ℕ
+entry_count_at formats u = do
+  count ← uleb_at u
+  named ← forbid (nat_lt 0 count.0 && not (has_one_path formats)) Malformed
+  Ok count
+
+-- What else a header is read from: the texts of `.debug_str` and `.debug_line_str`, and the relocations of its section.
+pub record LineSource : Type 0 where
+  pub order : Endian
+  pub strings : List ℕ
+  pub line_strings : List ℕ
+  pub relocations : List Relocation
+
+abbrev pub line_source : Sections → LineSource
+line_source s = record { order = s.order; strings = s.bytes Str; line_strings = s.bytes LineStr; relocations = s.relocations Line }
+
+-- the section that the texts of a form stand in; those by an index are not built yet
+abbrev pub texts_of_form : LineSource → ℕ → Option (List ℕ)
+texts_of_form s form = coded ((DW_FORM_strp, s.strings) ∷ (DW_FORM_line_strp, s.line_strings) ∷ []) form
+
+-- the text at an offset of a section
+abbrev pub text_in : Endian → List ℕ → ℕ → Result (List ℕ) Flaw
+text_in order section offset = text_at (record { order = order; place = offset; left = drop offset section }) >>= λ found. Ok found.0
+
+-- the text elsewhere that a form names; it is empty where it is not looked up
+abbrev pub text_elsewhere : LineSource → Bool → ℕ → ℕ → Result (List ℕ) Flaw
+text_elsewhere s looked_up form offset = elim (texts_of_form s form) [ None ↦ Err (Refused NotBuilt) | Some section ↦ elim looked_up [ true ↦ text_in s.order section offset | false ↦ Ok [] ] ]
+
+-- the text of a path
+abbrev pub path_text : LineSource → Bool → Value → Result (List ℕ) Flaw
+path_text s looked_up (text bytes) = Ok bytes
+path_text s looked_up (text_reference form offset) = text_elsewhere s looked_up form offset
+path_text s looked_up _ = Err Malformed
+
+-- the number of a directory, which a constant says
+abbrev pub directory_or : ℕ → Value → ℕ
+directory_or before (constant form n) = n
+directory_or before _ = before
+
+-- an entry with what a further field says; other content is passed over
+abbrev pub with_field : LineSource → Bool → ℕ → Value → LineFile → Result LineFile Flaw
+with_field s looked_up content value f =
+    elim (content == DW_LNCT_path) [
+      | true ↦ (path_text s looked_up value >>= λ name. Ok (record { directory = f.directory; name = name }))
+      | false ↦ Ok (if content == DW_LNCT_directory_index then record { directory = directory_or f.directory value; name = f.name } else f)
+    ]
+
+-- a field's value has no attribute that would say more of it
+abbrev pub field_spec : EntryFormat → AttributeSpec
+field_spec f = record { name = 0; form = f.form; implicit = pos 0 }
+
+-- a field of an entry
+unfoldable pub entry_field_at : LineSource → ℕ → Bool → EntryFormat → LineFile → Unread → Read LineFile
+entry_field_at s address_size looked_up format f u = do
+  value ← encoded_value_at s.relocations (record { version = 5; address_size = address_size }) (field_spec format) u
+  field ← with_field s looked_up format.content value.0 f
+  Ok (field, value.1)
+
+-- the fields of an entry, one behind another
+unfoldable pub entry_fields_at : LineSource → ℕ → Bool → List EntryFormat → LineFile → Unread → Read LineFile
+entry_fields_at s address_size looked_up [] f u = Ok (f, u)
+entry_fields_at s address_size looked_up (format ∷ formats) f u = do
+  first ← entry_field_at s address_size looked_up format f u
+  entry_fields_at s address_size looked_up formats first.0 first.1
+
+-- an entry before its fields: in the compilation directory, and without a name
+abbrev pub no_fields : LineFile
+no_fields = record { directory = 0; name = [] }
+
+-- a directory or a file
+abbrev pub line_entry_at : LineSource → ℕ → List EntryFormat → Unread → Read LineFile
+line_entry_at s address_size formats u = entry_fields_at s address_size true formats no_fields u
+
+-- The directories from number 1 on. Number 0 is the compilation directory, whose text elsewhere is not looked up.
+unfoldable pub directories_of_5_at : LineSource → ℕ → Unread → Read (List (List ℕ))
+directories_of_5_at s address_size u = do
+  formats ← entry_formats_at u
+  count ← entry_count_at formats.0 formats.1
+  elim (count.0 == 0) [
+    | true ↦ Ok ([], count.1)
+    | false ↦ do
+      own ← entry_fields_at s address_size false formats.0 no_fields count.1
+      seen_as (map (λ d. d.name)) (counted_at (count.0 - 1) (line_entry_at s address_size formats.0) own.1)
+  ]
+
+-- the files, from number 0 on
+unfoldable pub files_of_5_at : LineSource → ℕ → Unread → Read (List LineFile)
+files_of_5_at s address_size u = do
+  formats ← entry_formats_at u
+  count ← entry_count_at formats.0 formats.1
+  counted_at count.0 (line_entry_at s address_size formats.0) count.1
+
+-- ---- the header
+
+-- the directories and the files of a version
+unfoldable pub line_names_at : LineSource → ℕ → ℕ → Unread → Read (List (List ℕ) × List LineFile)
+line_names_at s version address_size u = do
+  directories ← elim (version == 5) [ true ↦ directories_of_5_at s address_size u | false ↦ items_at directory_at u ]
+  files ← elim (version == 5) [ true ↦ files_of_5_at s address_size directories.1 | false ↦ items_at file_at directories.1 ]
+  Ok ((directories.0, files.0), files.1)
+
+-- the fields behind the header's length
+unfoldable pub line_fields_at : LineSource → ℕ → ℕ → Unread → Unread → Result LineHeader Flaw
+line_fields_at s version address_size program u = do
   minimum ← number_at 1 u
   operations ← operations_at version minimum.1
   is_stmt ← number_at 1 operations.1
@@ -73,8 +217,7 @@ line_fields_to_4 version address_size program u = do
   opcodes ← number_at 1 range.1
   some ← forbid (opcodes.0 == 0) Malformed
   counts ← counted_at (opcodes.0 - 1) (number_at 1) opcodes.1
-  directories ← items_at directory_at counts.1
-  files ← items_at file_at directories.1
+  names ← line_names_at s version address_size counts.1
   Ok (record {
     version = version;
     address_size = address_size;
@@ -84,21 +227,34 @@ line_fields_to_4 version address_size program u = do
     line_range = range.0;
     opcode_base = opcodes.0;
     standard_opcode_lengths = counts.0;
-    directories = directories.0;
-    files = files.0;
+    directories = (names.0).0;
+    files = (names.0).1;
     program = program;
   })
 
+-- the size of an address: that of the unit, from version 5 on the table's own, with no segment selectors
+unfoldable pub line_address_size_at : ℕ → ℕ → Unread → Read ℕ
+line_address_size_at version unit_size u =
+    elim (version == 5) [
+      | false ↦ Ok (unit_size, u)
+      | true ↦ do
+        size ← number_at 1 u
+        known ← forbid (not ((size.0 == 4) || (size.0 == 8))) (Refused AddressSize)
+        selector ← number_at 1 size.1
+        plain ← forbid (not (selector.0 == 0)) (Refused SegmentSelector)
+        Ok (size.0, selector.1)
+    ]
+
 -- The header of the table at the front, for a unit of an address size. The program begins behind the header's length.
-unfoldable pub line_header_at : ℕ → Unread → Result LineHeader Flaw
-line_header_at address_size u = do
+unfoldable pub line_header_at : LineSource → ℕ → Unread → Result LineHeader Flaw
+line_header_at s unit_size u = do
   table ← sized_part_at u
   version ← number_at 2 table.0
   known ← forbid (nat_lt version.0 2 || nat_lt 5 version.0) (Refused Version)
-  built ← forbid (version.0 == 5) (Refused NotBuilt)
-  size ← number_at 4 version.1
+  address_size ← line_address_size_at version.0 unit_size version.1
+  size ← number_at 4 address_size.1
   fields ← part_at size.0 size.1
-  line_fields_to_4 version.0 address_size fields.1 fields.0
+  line_fields_at s version.0 address_size.0 fields.1 fields.0
 
 -- An instruction of the program. (DWARF 4, sections 6.2.5.1 to 6.2.5.3.)
 pub data Instruction : Type 0 where

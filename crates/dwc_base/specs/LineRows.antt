@@ -11,7 +11,7 @@ use Rattle.dwc_base.specs.declared.faults.Flaw.TheVariants.{Malformed}
 use Rattle.dwc_base.specs.Reading.{Unread, ◌>>=◌}
 use Rattle.dwc_base.specs.Listing.{Listing}
 use Rattle.dwc_base.specs.Sections.{Sections, section_from, Fault, reported}
-use Rattle.dwc_base.specs.LineHeaders.{LineFile, LineHeader, line_header_at, Instruction, special, copy, advance_pc, advance_line, set_file, set_column, negate_stmt, set_basic_block, const_add_pc, fixed_advance_pc, set_prologue_end, set_epilogue_begin, set_isa, end_sequence, set_address, define_file, set_discriminator, unknown, instructions}
+use Rattle.dwc_base.specs.LineHeaders.{LineFile, LineHeader, line_source, line_header_at, Instruction, special, copy, advance_pc, advance_line, set_file, set_column, negate_stmt, set_basic_block, const_add_pc, fixed_advance_pc, set_prologue_end, set_epilogue_begin, set_isa, end_sequence, set_address, define_file, set_discriminator, unknown, instructions}
 
 -- The registers of the state machine, as exact whole numbers. The address is the offset from the last
 -- `set_address` of the sequence, or from 0 before any.
@@ -143,7 +143,7 @@ checked_table h program =
 -- The table at the front: its header, and the instructions behind it.
 unfoldable pub line_table_at : Sections → ℕ → Unread → Result LineTable Flaw
 line_table_at s address_size u = do
-  h ← line_header_at address_size u
+  h ← line_header_at (line_source s) address_size u
   checked_table h (instructions (s.relocations Line) h h.program)
 
 -- the table at an offset of .debug_line, for a unit of an address size
@@ -163,10 +163,18 @@ in_directory directories f = go f.directory
     go zero = Some (record { directory = None; name = f.name })
     go (suc d) = option_map (λ directory. record { directory = Some directory; name = f.name }) (slice_get directories d)
 
--- The file of a number, none where the table lacks it or its directory. Files and directories count from 1 (to version 4).
+-- what stands at a number, from 1 on
+abbrev pub numbered : {A : Type 0} → ℕ → List A → Option A
+numbered zero xs = None
+numbered (suc n) xs = slice_get xs n
+
+-- the file of a number: they count from 1, from version 5 on from 0
+abbrev pub file_numbered : LineTable → ℕ → Option LineFile
+file_numbered t n = if nat_lt t.header.version 5 then numbered n t.files else slice_get t.files n
+
+-- The file of a number by its names, none where the table lacks it or its directory.
 abbrev pub source_file : LineTable → ℕ → Option SourceFile
-source_file t zero = None
-source_file t (suc n) = option_and_then (in_directory t.header.directories) (slice_get t.files n)
+source_file t n = option_and_then (in_directory t.header.directories) (file_numbered t n)
 
 -- What a row says of the code from its offset on. (DWARF 4, section 6.2.2.)
 pub record RowContents : Type 0 where

@@ -3,12 +3,13 @@ use Rattle.std.specs.Prelude.{ℕ, zero, suc, ◌==◌, List, [], ◌∷◌, len
 use Rattle.std.specs.List.{list_any}
 use Rattle.std.specs.Int.{w64, cast_unsigned}
 use Rattle.dwc_base.specs.declared.records.Address.{Address}
+use Rattle.dwc_base.specs.declared.records.Encoding.{Encoding}
 use Rattle.dwc_base.specs.declared.section_name.SectionName.TheVariants.{Info}
 use Rattle.dwc_base.specs.declared.faults.Kind.TheVariants.{Supplementary}
 use Rattle.dwc_base.specs.declared.faults.Flaw.TheVariants.{Malformed, Refused}
 use Rattle.dwc_base.specs.Reading.{Unread, Read, ◌>>=◌, forbid, bytes_at, number_at, uleb_at, sleb_at, text_at, seen_as, coded}
 use Rattle.dwc_base.specs.Abbreviations.{AttributeSpec}
-use Rattle.dwc_base.specs.Sections.{Sections, address_at}
+use Rattle.dwc_base.specs.Sections.{Sections, Relocation, address_at}
 use Rattle.dwc_base.specs.Units.{UnitHeader}
 use Rattle.dwc_base.specs.declared.constants.TheConstants.{DW_AT_allocated, DW_AT_associated, DW_AT_bit_size, DW_AT_bit_stride, DW_AT_byte_size, DW_AT_byte_stride, DW_AT_count, DW_AT_data_location, DW_AT_data_member_location, DW_AT_frame_base, DW_AT_location, DW_AT_lower_bound, DW_AT_ranges, DW_AT_return_addr, DW_AT_segment, DW_AT_start_scope, DW_AT_static_link, DW_AT_stmt_list, DW_AT_string_length, DW_AT_upper_bound, DW_AT_use_location, DW_AT_vtable_elem_location, DW_FORM_addr, DW_FORM_addrx, DW_FORM_addrx1, DW_FORM_addrx2, DW_FORM_addrx3, DW_FORM_addrx4, DW_FORM_block, DW_FORM_block1, DW_FORM_block2, DW_FORM_block4, DW_FORM_data1, DW_FORM_data16, DW_FORM_data2, DW_FORM_data4, DW_FORM_data8, DW_FORM_exprloc, DW_FORM_flag, DW_FORM_flag_present, DW_FORM_implicit_const, DW_FORM_indirect, DW_FORM_line_strp, DW_FORM_loclistx, DW_FORM_ref1, DW_FORM_ref2, DW_FORM_ref4, DW_FORM_ref8, DW_FORM_ref_addr, DW_FORM_ref_sig8, DW_FORM_ref_sup4, DW_FORM_ref_sup8, DW_FORM_ref_udata, DW_FORM_rnglistx, DW_FORM_sdata, DW_FORM_sec_offset, DW_FORM_string, DW_FORM_strp, DW_FORM_strp_sup, DW_FORM_strx, DW_FORM_strx1, DW_FORM_strx2, DW_FORM_strx3, DW_FORM_strx4, DW_FORM_udata}
 
@@ -120,26 +121,26 @@ block_at size u = do
   length_of ← sized_number_at size u
   bytes_at length_of.0 length_of.1
 
--- The value of a form in an entry of a unit. A reference to another unit has an address's size in version 2.
-unfoldable pub formed_value_at : Sections → UnitHeader → AttributeSpec → ℕ → Form → Unread → Read Value
-formed_value_at s h spec code addr u = seen_as address (address_at (s.relocations Info) h.address_size u)
-formed_value_at s h spec code (indexed_addr size) u = seen_as address_index (sized_number_at size u)
-formed_value_at s h spec code (blocks size) u = seen_as (block_value spec.name) (block_at size u)
-formed_value_at s h spec code exprloc u = seen_as expression (block_at variable u)
-formed_value_at s h spec code (data_of size) u = seen_as (constant_value h.version spec.name code) (sized_number_at size u)
-formed_value_at s h spec code sdata u = seen_as (λ z. constant code (cast_unsigned w64 z)) (sleb_at u)
-formed_value_at s h spec code implicit u = Ok (constant code (cast_unsigned w64 spec.implicit), u)
-formed_value_at s h spec code flag_byte u = seen_as (λ n. flag (not (n == 0))) (number_at 1 u)
-formed_value_at s h spec code flag_present u = Ok (flag true, u)
-formed_value_at s h spec code string u = seen_as text (text_at u)
-formed_value_at s h spec code (string_elsewhere size) u = seen_as (text_reference code) (sized_number_at size u)
-formed_value_at s h spec code (reference size) u = seen_as unit_reference (sized_number_at size u)
-formed_value_at s h spec code ref_addr u = seen_as info_reference (number_at (if h.version == 2 then h.address_size else 4) u)
-formed_value_at s h spec code sec_offset u = seen_as (section_offset spec.name) (number_at 4 u)
-formed_value_at s h spec code indexed_location u = seen_as (λ n. if is_location_name spec.name then location_index n else dropped) (uleb_at u)
-formed_value_at s h spec code indexed_range u = seen_as (λ n. if is_range_name spec.name then range_index n else dropped) (uleb_at u)
-formed_value_at s h spec code (passed_over size) u = seen_as (λ bytes. dropped) (bytes_at size u)
-formed_value_at s h spec code supplementary u = Err (Refused Supplementary)
+-- The value of a form, in a section with some relocations. A reference to another unit has an address's size in version 2.
+unfoldable pub formed_value_at : List Relocation → Encoding → AttributeSpec → ℕ → Form → Unread → Read Value
+formed_value_at relocations e spec code addr u = seen_as address (address_at relocations e.address_size u)
+formed_value_at relocations e spec code (indexed_addr size) u = seen_as address_index (sized_number_at size u)
+formed_value_at relocations e spec code (blocks size) u = seen_as (block_value spec.name) (block_at size u)
+formed_value_at relocations e spec code exprloc u = seen_as expression (block_at variable u)
+formed_value_at relocations e spec code (data_of size) u = seen_as (constant_value e.version spec.name code) (sized_number_at size u)
+formed_value_at relocations e spec code sdata u = seen_as (λ z. constant code (cast_unsigned w64 z)) (sleb_at u)
+formed_value_at relocations e spec code implicit u = Ok (constant code (cast_unsigned w64 spec.implicit), u)
+formed_value_at relocations e spec code flag_byte u = seen_as (λ n. flag (not (n == 0))) (number_at 1 u)
+formed_value_at relocations e spec code flag_present u = Ok (flag true, u)
+formed_value_at relocations e spec code string u = seen_as text (text_at u)
+formed_value_at relocations e spec code (string_elsewhere size) u = seen_as (text_reference code) (sized_number_at size u)
+formed_value_at relocations e spec code (reference size) u = seen_as unit_reference (sized_number_at size u)
+formed_value_at relocations e spec code ref_addr u = seen_as info_reference (number_at (if e.version == 2 then e.address_size else 4) u)
+formed_value_at relocations e spec code sec_offset u = seen_as (section_offset spec.name) (number_at 4 u)
+formed_value_at relocations e spec code indexed_location u = seen_as (λ n. if is_location_name spec.name then location_index n else dropped) (uleb_at u)
+formed_value_at relocations e spec code indexed_range u = seen_as (λ n. if is_range_name spec.name then range_index n else dropped) (uleb_at u)
+formed_value_at relocations e spec code (passed_over size) u = seen_as (λ bytes. dropped) (bytes_at size u)
+formed_value_at relocations e spec code supplementary u = Err (Refused Supplementary)
 
 -- The form that stands behind `indirect`, which may stand there again. An implicit constant has no value there.
 unfoldable pub form_behind : ℕ → Unread → Read ℕ
@@ -152,8 +153,16 @@ form_behind (suc most) u = do
 unfoldable pub form_code_at : AttributeSpec → Unread → Read ℕ
 form_code_at spec u = elim (spec.form == DW_FORM_indirect) [ true ↦ form_behind (length u.left) u | false ↦ Ok (spec.form, u) ]
 
--- the value of an attribute; a code that names no form is no entry's
-unfoldable pub value_at : Sections → UnitHeader → AttributeSpec → Unread → Read Value
-value_at s h spec u = do
+-- the value of a form by its code; a code that names no form spells none
+unfoldable pub encoded_value_at : List Relocation → Encoding → AttributeSpec → Unread → Read Value
+encoded_value_at relocations e spec u = do
   code ← form_code_at spec u
-  elim (form_of code.0) [ None ↦ Err Malformed | Some form ↦ formed_value_at s h spec code.0 form code.1 ]
+  elim (form_of code.0) [ None ↦ Err Malformed | Some form ↦ formed_value_at relocations e spec code.0 form code.1 ]
+
+-- how a unit spells its values
+abbrev pub encoding_of : UnitHeader → Encoding
+encoding_of h = record { version = h.version; address_size = h.address_size }
+
+-- the value of an attribute of an entry of a unit
+unfoldable pub value_at : Sections → UnitHeader → AttributeSpec → Unread → Read Value
+value_at s h spec u = encoded_value_at (s.relocations Info) (encoding_of h) spec u

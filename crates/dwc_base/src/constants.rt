@@ -257,6 +257,11 @@ pub const DW_LNE_define_file: u8 = 0x03;
 
 pub const DW_LNE_set_discriminator: u8 = 0x04;
 
+// Content types of the entries in a line table's header. (Table 7.27.)
+pub const DW_LNCT_path: u16 = 0x01;
+
+pub const DW_LNCT_directory_index: u16 = 0x02;
+
 // Whether an entry has children. (Table 7.4.)
 pub const DW_CHILDREN_no: u8 = 0x00;
 

@@ -1,8 +1,9 @@
 //! The attributes of an entry. (DWARF 4 and 5, section 7.5.4.)
-ghost use Rattle.std.specs.Prelude.{◌≡◌, map, option_map, length};
+ghost use Rattle.std.specs.Prelude.{◌≡◌, map, option_map, length, IsTrue};
 ghost use Rattle.dwc_base.specs.Cursors.{Gives, GivesOrMemory};
 ghost use Rattle.dwc_base.specs.Entries.{attributes_at};
-ghost use Rattle.dwc_base.specs.Values.{form_behind as code_behind, form_code_at, value_at};
+ghost use Rattle.dwc_base.specs.Values.{form_behind as code_behind, form_code_at, encoded_value_at, value_at};
+ghost use Rattle.dwc_read.specs.FieldSizes.{is_field_size};
 ghost use Rattle.dwc_read.specs.Tables.{spec_view};
 ghost use Rattle.dwc_read.specs.ValuesSeen.{value_view, attribute_view, first_value};
 
@@ -11,7 +12,7 @@ use crate::form::form_named;
 use crate::formed::formed_value;
 use crate::{AttributeValue, Unit};
 use dwc_base::constants::{DW_FORM_implicit_const, DW_FORM_indirect};
-use dwc_base::{Cursor, Flaw, NotRead};
+use dwc_base::{Cursor, Encoding, Flaw, NotRead, Relocations};
 
 // The code of the form behind `indirect`, which may stand there again.
 #[tactic(auto, unfolding(dwc_base::specs::Values::form_behind))]
@@ -43,14 +44,17 @@ fn form_code(spec: AttributeSpec, cursor: &mut Cursor<'_>) -> Result<u64, Flaw>
     }
 }
 
-// The value of an attribute.
-#[tactic(auto, unfolding(dwc_base::specs::Values::value_at), using(crate::proofs::FormLaws::form_of_large))]
-fn value<'d>(
-    unit: &Unit<'d>,
+/// The value at the front, by its form, in a section with some relocations. It is `Malformed` where the form's code names no
+/// form, and `Refused` for a form of a supplementary file. (DWARF 5, section 7.5.6.)
+#[tactic(auto, unfolding(dwc_base::specs::Values::encoded_value_at), using(crate::proofs::FormLaws::form_of_large))]
+pub fn encoded_value<'d>(
+    relocations: &Relocations<'_>,
+    encoding: Encoding,
     spec: AttributeSpec,
     cursor: &mut Cursor<'d>,
 ) -> Result<AttributeValue<'d>, Flaw>
-    ensures { Gives value_view (value_at unit.now.sections unit.now.header (spec_view spec) cursor.old) cursor.new result }
+    requires { IsTrue (is_field_size encoding.address_size) }
+    ensures { Gives value_view (encoded_value_at relocations.now encoding (spec_view spec) cursor.old) cursor.new result }
 {
     let code = form_code(spec, cursor)?;
     if code > 65535 {
@@ -60,7 +64,23 @@ fn value<'d>(
     let Some(form) = form_named(code) else {
         return Err(Flaw::Malformed);
     };
-    Ok(formed_value(unit, spec, code, form, cursor)?)
+    Ok(formed_value(relocations, encoding, spec, code, form, cursor)?)
+}
+
+// The value of an attribute of an entry of a unit.
+#[tactic(auto, unfolding(dwc_base::specs::Values::value_at))]
+fn value<'d>(
+    unit: &Unit<'d>,
+    spec: AttributeSpec,
+    cursor: &mut Cursor<'d>,
+) -> Result<AttributeValue<'d>, Flaw>
+    ensures { Gives value_view (value_at unit.now.sections unit.now.header (spec_view spec) cursor.old) cursor.new result }
+{
+    let encoding = Encoding {
+        version: unit.version(),
+        address_size: unit.address_size(),
+    };
+    encoded_value(unit.info_relocations(), encoding, spec, cursor)
 }
 
 // The values of a declaration's attributes, one after another.

@@ -1,6 +1,7 @@
 //! The forms by their codes. (DWARF 5, table 7.6.)
 ghost use Rattle.std.specs.Prelude.{◌≡◌, option_map};
 ghost use Rattle.dwc_base.specs.Values.{form_of};
+ghost use Rattle.dwc_base.specs.LineHeaders.{is_text_form as is_of_text};
 ghost use Rattle.dwc_read.specs.Forms.{form_view};
 
 use crate::number::Size;
@@ -87,4 +88,18 @@ pub fn form_named(code: u16) -> Option<Form>
         DW_FORM_addrx4 => Form::IndexedAddr(Size::Four),
         _ => return None,
     })
+}
+
+/// Whether a code names a form of a text: in place, elsewhere, or in a supplementary file.
+#[tactic(auto, using(crate::proofs::FormLaws::form_of_large))]
+pub fn is_text_form(code: u64) -> bool
+    ensures { result ≡ is_of_text (form_of code) }
+{
+    if code > 65535 {
+        return false;
+    }
+    matches!(
+        form_named(code as u16),
+        Some(Form::Text | Form::TextElsewhere(_) | Form::Supplementary)
+    )
 }

@@ -1,18 +1,19 @@
 //! The values of the forms. (DWARF 4, section 7.5.4; DWARF 5, sections 7.5.4 to 7.5.6.)
-ghost use Rattle.std.specs.Prelude.{◌≡◌};
+ghost use Rattle.std.specs.Prelude.{◌≡◌, IsTrue};
 ghost use Rattle.dwc_base.specs.Cursors.{Gives, slice_bytes};
 ghost use Rattle.dwc_base.specs.Values.{block_at, formed_value_at};
+ghost use Rattle.dwc_read.specs.FieldSizes.{is_field_size};
 ghost use Rattle.dwc_read.specs.Sizes.{size_view};
 ghost use Rattle.dwc_read.specs.Forms.{form_view};
 ghost use Rattle.dwc_read.specs.Tables.{spec_view};
 ghost use Rattle.dwc_read.specs.ValuesSeen.{value_view};
 
+use crate::AttributeValue;
 use crate::abbreviation::AttributeSpec;
 use crate::form::Form;
 use crate::name::{block_value, constant_value, is_location_name, is_range_name, section_offset};
 use crate::number::{Size, address, number, sized_number};
-use crate::{AttributeValue, Unit};
-use dwc_base::{Cursor, Flaw, Kind};
+use dwc_base::{Cursor, Encoding, Flaw, Kind, Relocations};
 
 // A length, and that many bytes.
 #[tactic(auto, unfolding(dwc_base::specs::Values::block_at))]
@@ -23,20 +24,22 @@ fn block<'d>(size: Size, cursor: &mut Cursor<'d>) -> Result<&'d [u8], Flaw>
     Ok(cursor.take(length as usize)?)
 }
 
-// The value of a form, as an attribute of an entry of a unit.
+// The value of a form, in a section with some relocations.
 #[tactic(auto, unfolding(dwc_base::specs::Values::formed_value_at))]
 pub fn formed_value<'d>(
-    unit: &Unit<'d>,
+    relocations: &Relocations<'_>,
+    encoding: Encoding,
     spec: AttributeSpec,
     code: u16,
     form: Form,
     cursor: &mut Cursor<'d>,
 ) -> Result<AttributeValue<'d>, Flaw>
-    ensures { Gives value_view (formed_value_at unit.now.sections unit.now.header (spec_view spec) code (form_view form) cursor.old) cursor.new result }
+    requires { IsTrue (is_field_size encoding.address_size) }
+    ensures { Gives value_view (formed_value_at relocations.now encoding (spec_view spec) code (form_view form) cursor.old) cursor.new result }
 {
     match form {
         Form::Addr => {
-            let value = address(unit.info_relocations(), unit.address_size(), cursor)?;
+            let value = address(relocations, encoding.address_size, cursor)?;
             Ok(AttributeValue::Addr(value))
         }
         Form::IndexedAddr(size) => {
@@ -53,7 +56,7 @@ pub fn formed_value<'d>(
         }
         Form::DataOf(size) => {
             let bits = sized_number(size, cursor)?;
-            Ok(constant_value(unit.version(), spec.name, code, bits))
+            Ok(constant_value(encoding.version, spec.name, code, bits))
         }
         Form::Sdata => {
             let value = cursor.sleb()?;
@@ -82,8 +85,8 @@ pub fn formed_value<'d>(
             Ok(AttributeValue::UnitRef(offset))
         }
         Form::RefAddr => {
-            let size = if unit.version() == 2 {
-                unit.address_size()
+            let size = if encoding.version == 2 {
+                encoding.address_size
             } else {
                 4
             };

@@ -25,9 +25,11 @@ mod units;
 mod value;
 
 pub use abbreviation::{AttributeSpec, Declaration};
+pub use attribute::encoded_value;
 pub use entries::Entries;
 pub use entry::Entry;
 pub use fault::ReadFault;
+pub use form::is_text_form;
 pub use sections::Sections;
 pub use unit::Unit;
 pub use units::Units;
