@@ -8,6 +8,8 @@ pub mod RunLaws
 pub mod SegmentLaws
 pub mod SequenceLaws
 pub mod KeptLaws
+pub mod KeptUnits
+pub mod UnitTrees
 pub mod EmitLaws
 pub mod UnitPlaces
 pub mod DeclarationLaws
