@@ -11,6 +11,8 @@ pub mod KeptLaws
 pub mod KeptCounts
 pub mod WidestImages
 pub mod WidestUnits
+pub mod KeptUnits
+pub mod UnitTrees
 pub mod EmitLaws
 pub mod UnitPlaces
 pub mod DeclarationLaws
