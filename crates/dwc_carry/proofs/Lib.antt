@@ -10,6 +10,9 @@ pub mod SequenceLaws
 pub mod KeptLaws
 pub mod KeptUnits
 pub mod UnitTrees
+pub mod ReadEnds
+pub mod KnownEntries
+pub mod KnownUnits
 pub mod EmitLaws
 pub mod UnitPlaces
 pub mod DeclarationLaws
