@@ -205,7 +205,7 @@ or-false true = refl
 or-false false = refl
 
 -- a root is not required
-root-required : (fs : List Function) (e : Entry) → IsRoot e → is_required fs e ≡ false
+pub root-required : (fs : List Function) (e : Entry) → IsRoot e → is_required fs e ≡ false
 root-required fs e h = rw h.begin (and_right _ false refl)
 
 none-required : (fs : List Function) (es : List Entry) → list_any (is_required fs) es ≡ false → filter (is_required fs) es ≡ []
