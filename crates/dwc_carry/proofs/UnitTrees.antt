@@ -48,10 +48,16 @@ abbrev pub AreEntries : ℕ → ℕ → List Entry → Type 0
 AreEntries from end [] = from ≤ end
 AreEntries from end (e ∷ es) = IsRoot e × (from ≤ e.offset) × AreSubprograms (suc e.offset) end es
 
+-- a unit, its entries behind its header and before its end
+pub record IsUnit (u : Unit) : Type 0 where
+  pub some : u.header.offset < u.header.end
+  pub content : u.header.offset ≤ (u.header.content).place
+  pub entries : AreEntries (u.header.content).place u.header.end u.entries
+
 -- units one behind another, the first not before a place
 abbrev pub AreUnits : ℕ → List Unit → Type 0
 AreUnits from [] = Prim.Unit {0}
-AreUnits from (u ∷ us) = (from ≤ u.header.offset) × (u.header.offset < u.header.end) × AreEntries u.header.offset u.header.end u.entries × AreUnits u.header.end us
+AreUnits from (u ∷ us) = (from ≤ u.header.offset) × IsUnit u × AreUnits u.header.end us
 
 -- the root and the required entries, where some entry below the root is required
 abbrev pub kept_of : List Function → List Entry → List Entry
@@ -67,8 +73,8 @@ abbrev pub placed_at : ℕ → List Entry → List Placed
 placed_at n es = map (λ e. record { unit = n; entry = e }) es
 
 -- an entry with the offset of its unit
-abbrev pub at : ℕ → Entry → Placed
-at n e = record { unit = n; entry = e }
+abbrev pub placed_entry : ℕ → Entry → Placed
+placed_entry n e = record { unit = n; entry = e }
 
 -- ---- they make a tree
 
@@ -83,13 +89,14 @@ values-name p f (a ∷ values) h =
     let k = both (is_no_reference a.1) (list_all (λ a. is_no_reference a.1) values) h in
     or_from _ _ (and_right (not (a.0 == DW_AT_sibling)) _ (value-names p f a.1 k.0)) (values-name p f values k.1)
 
-names-none : (n : ℕ) (e : Entry) → has_no_references e ≡ true → NamesNone (at n e)
-names-none n e h f = values-name (at n e) f e.attributes h
+-- an entry without references refers to none
+pub names-none : (n : ℕ) (e : Entry) → has_no_references e ≡ true → NamesNone (placed_entry n e)
+names-none n e h f = values-name (placed_entry n e) f e.attributes h
 
-top : (n : ℕ) (e : Entry) → IsRoot e → IsTop (at n e)
+top : (n : ℕ) (e : Entry) → IsRoot e → IsTop (placed_entry n e)
 top n e h = record { depth = h.depth; names = names-none n e h.references }
 
-sub : (n : ℕ) (e : Entry) → IsSubprogram e → IsSub (at n e)
+sub : (n : ℕ) (e : Entry) → IsSubprogram e → IsSub (placed_entry n e)
 sub n e h = record { depth = h.depth; tag = h.tag; names = names-none n e h.references }
 
 rising-less : (m n : ℕ) (ps : List Placed) → m ≤ n → Rising n ps → Rising m ps
@@ -104,9 +111,10 @@ entries-rise : (n from end : ℕ) (es : List Entry) (rest : List Placed) → Are
 entries-rise n from end [] rest h rise = rising-less from end rest h rise
 entries-rise n from end (e ∷ es) rest h rise = (h.1, subs-rise n (suc e.offset) end es rest h.2 rise)
 
-units-rise : (from : ℕ) (us : List Unit) → AreUnits from us → Rising from (placed_entries us)
+-- the entries of units have rising offsets
+pub units-rise : (from : ℕ) (us : List Unit) → AreUnits from us → Rising from (placed_entries us)
 units-rise from [] h = tt
-units-rise from (u ∷ us) h = rising-less from u.header.offset _ h.0 (entries-rise u.header.offset u.header.offset u.header.end u.entries (placed_entries us) h.2 (units-rise u.header.end us h.3))
+units-rise from (u ∷ us) h = rising-less from u.header.offset _ h.0 (rising-less u.header.offset (u.header.content).place _ (h.1).content (entries-rise u.header.offset (u.header.content).place u.header.end u.entries (placed_entries us) (h.1).entries (units-rise u.header.end us h.2)))
 
 subs-chain : (n : ℕ) (r : Placed) (from end : ℕ) (es : List Entry) (rest : List Placed) → n ≡ r.unit → AreSubprograms from end es → Chain r rest → Chain r (placed_at n es ++ rest)
 subs-chain n r from end [] rest is h chain = chain
@@ -114,12 +122,12 @@ subs-chain n r from end (e ∷ es) rest is h chain = inr (sub n e h.0, is, subs-
 
 units-chain : (from : ℕ) (us : List Unit) (r : Placed) → r.unit < from → AreUnits from us → Chain r (placed_entries us)
 units-chain from [] r less h = tt
-units-chain from (u ∷ us) r less h = go u.entries h.2 (λ q before. units-chain u.header.end us q before h.3)
+units-chain from (u ∷ us) r less h = go u.entries (h.1).entries (λ q before. units-chain u.header.end us q before h.2)
   where
-    go : (es : List Entry) → AreEntries u.header.offset u.header.end es → ((q : Placed) → q.unit < u.header.end → Chain q (placed_entries us)) → Chain r (placed_at u.header.offset es ++ placed_entries us)
+    go : (es : List Entry) → AreEntries (u.header.content).place u.header.end es → ((q : Placed) → q.unit < u.header.end → Chain q (placed_entries us)) → Chain r (placed_at u.header.offset es ++ placed_entries us)
     go [] k behind = behind r (omega (arith, less, h.0, h.1))
     go (e ∷ es) k behind =
-        inl (top u.header.offset e k.0, omega (arith, less, h.0), subs-chain u.header.offset (at u.header.offset e) (suc e.offset) u.header.end es (placed_entries us) refl k.2 (behind (at u.header.offset e) h.1))
+        inl (top u.header.offset e k.0, omega (arith, less, h.0), subs-chain u.header.offset (placed_entry u.header.offset e) (suc e.offset) u.header.end es (placed_entries us) refl k.2 (behind (placed_entry u.header.offset e) (h.1).some))
 
 -- the entries of some units are none, or begin with a root
 abbrev pub IsForest : List Placed → Type 0
@@ -128,15 +136,15 @@ IsForest (r ∷ ps) = IsTree r ps
 
 units-forest : (from : ℕ) (us : List Unit) → AreUnits from us → IsForest (placed_entries us)
 units-forest from [] h = tt
-units-forest from (u ∷ us) h = go u.entries h.2 (units-forest u.header.end us h.3)
+units-forest from (u ∷ us) h = go u.entries (h.1).entries (units-forest u.header.end us h.2)
   where
-    go : (es : List Entry) → AreEntries u.header.offset u.header.end es → IsForest (placed_entries us) → IsForest (placed_at u.header.offset es ++ placed_entries us)
+    go : (es : List Entry) → AreEntries (u.header.content).place u.header.end es → IsForest (placed_entries us) → IsForest (placed_at u.header.offset es ++ placed_entries us)
     go [] k behind = behind
     go (e ∷ es) k behind =
         record {
           top = top u.header.offset e k.0;
-          chain = subs-chain u.header.offset (at u.header.offset e) (suc e.offset) u.header.end es (placed_entries us) refl k.2 (units-chain u.header.end us (at u.header.offset e) h.1 h.3);
-          rising = (omega arith, subs-rise u.header.offset (suc e.offset) u.header.end es (placed_entries us) k.2 (units-rise u.header.end us h.3));
+          chain = subs-chain u.header.offset (placed_entry u.header.offset e) (suc e.offset) u.header.end es (placed_entries us) refl k.2 (units-chain u.header.end us (placed_entry u.header.offset e) (h.1).some h.2);
+          rising = (omega arith, subs-rise u.header.offset (suc e.offset) u.header.end es (placed_entries us) k.2 (units-rise u.header.end us h.2));
         }
 
 -- ---- of each unit
@@ -153,26 +161,27 @@ kept-forest fs (r ∷ ps) h = kept fs r ps h
 all-of-unit : (n : ℕ) (es : List Entry) → filter (λ p. p.unit == n) (placed_at n es) ≡ placed_at n es
 all-of-unit n [] = refl
 all-of-unit n (e ∷ es) =
-    ap (λ b. cond {A = List Placed} b (at n e ∷ filter (λ p. p.unit == n) (placed_at n es)) (filter (λ p. p.unit == n) (placed_at n es))) (eq-eqb n n refl)
-    ∙ ap (λ ps. at n e ∷ ps) (all-of-unit n es)
+    ap (λ b. cond {A = List Placed} b (placed_entry n e ∷ filter (λ p. p.unit == n) (placed_at n es)) (filter (λ p. p.unit == n) (placed_at n es))) (eq-eqb n n refl)
+    ∙ ap (λ ps. placed_entry n e ∷ ps) (all-of-unit n es)
 
 none-of-unit : (k n : ℕ) (es : List Entry) → n ≢ k → filter (λ p. p.unit == k) (placed_at n es) ≡ []
 none-of-unit k n [] h = refl
 none-of-unit k n (e ∷ es) h =
-    ap (λ b. cond {A = List Placed} b (at n e ∷ filter (λ p. p.unit == k) (placed_at n es)) (filter (λ p. p.unit == k) (placed_at n es))) (ne_eqb n k h)
+    ap (λ b. cond {A = List Placed} b (placed_entry n e ∷ filter (λ p. p.unit == k) (placed_at n es)) (filter (λ p. p.unit == k) (placed_at n es))) (ne_eqb n k h)
     ∙ none-of-unit k n es h
 
-unit-from : (from : ℕ) (us : List Unit) (u : Unit) → AreUnits from us → IsIn u us → from ≤ u.header.offset
+-- units rise
+pub unit-from : (from : ℕ) (us : List Unit) (u : Unit) → AreUnits from us → IsIn u us → from ≤ u.header.offset
 unit-from from [] u h i = absurd i
 unit-from from (v ∷ vs) u h (inl e) = let same : u.header.offset ≡ v.header.offset = ap (λ w. w.header.offset) e in omega (arith, same, h.0)
-unit-from from (v ∷ vs) u h (inr i) = omega (arith, h.0, h.1, unit-from v.header.end vs u h.3 i)
+unit-from from (v ∷ vs) u h (inr i) = omega (arith, h.0, (h.1).some, unit-from v.header.end vs u h.2 i)
 
 module _ (some : Unit → List Entry) where
   none-behind : (k from : ℕ) (us : List Unit) → k < from → AreUnits from us → filter (λ p. p.unit == k) (placed some us) ≡ []
   none-behind k from [] less h = refl
   none-behind k from (u ∷ us) less h =
       filter-append (λ p. p.unit == k) (placed_at u.header.offset (some u)) (placed some us)
-      ∙ ap₂ (λ xs ys. xs ++ ys) (none-of-unit k u.header.offset (some u) (λ e. absurd (omega (arith, e, less, h.0)))) (none-behind k u.header.end us (omega (arith, less, h.0, h.1)) h.3)
+      ∙ ap₂ (λ xs ys. xs ++ ys) (none-of-unit k u.header.offset (some u) (λ e. absurd (omega (arith, e, less, h.0)))) (none-behind k u.header.end us (omega (arith, less, h.0, h.1)) h.2)
 
   pub of-unit : (from : ℕ) (us : List Unit) (u : Unit) → AreUnits from us → IsIn u us → filter (λ p. p.unit == u.header.offset) (placed some us) ≡ placed_at u.header.offset (some u)
   of-unit from [] u h i = absurd i
@@ -181,11 +190,11 @@ module _ (some : Unit → List Entry) where
       here : filter (λ p. p.unit == v.header.offset) (placed some (v ∷ vs)) ≡ placed_at v.header.offset (some v)
       here =
           filter-append (λ p. p.unit == v.header.offset) (placed_at v.header.offset (some v)) (placed some vs)
-          ∙ ap₂ (λ xs ys. xs ++ ys) (all-of-unit v.header.offset (some v)) (none-behind v.header.offset v.header.end vs h.1 h.3)
+          ∙ ap₂ (λ xs ys. xs ++ ys) (all-of-unit v.header.offset (some v)) (none-behind v.header.offset v.header.end vs (h.1).some h.2)
           ∙ append-nil _
   of-unit from (v ∷ vs) u h (inr i) =
       filter-append (λ p. p.unit == u.header.offset) (placed_at v.header.offset (some v)) (placed some vs)
-      ∙ ap₂ (λ xs ys. xs ++ ys) (none-of-unit u.header.offset v.header.offset (some v) (λ e. absurd (omega (arith, e, h.1, unit-from v.header.end vs u h.3 i)))) (of-unit v.header.end vs u h.3 i)
+      ∙ ap₂ (λ xs ys. xs ++ ys) (none-of-unit u.header.offset v.header.offset (some v) (λ e. absurd (omega (arith, e, (h.1).some, unit-from v.header.end vs u h.2 i)))) (of-unit v.header.end vs u h.2 i)
 
 required-at : (fs : List Function) (n : ℕ) (es : List Entry) → list_any (λ q. is_required fs q.entry) (placed_at n es) ≡ list_any (is_required fs) es
 required-at fs n [] = refl
@@ -196,7 +205,7 @@ or-false true = refl
 or-false false = refl
 
 -- a root is not required
-root-required : (fs : List Function) (e : Entry) → IsRoot e → is_required fs e ≡ false
+pub root-required : (fs : List Function) (e : Entry) → IsRoot e → is_required fs e ≡ false
 root-required fs e h = rw h.begin (and_right _ false refl)
 
 none-required : (fs : List Function) (es : List Entry) → list_any (is_required fs) es ≡ false → filter (is_required fs) es ≡ []
@@ -211,13 +220,13 @@ module _ (fs : List Function) (ps : List Placed) (n : ℕ) where
   subs-kept from end [] h = refl
   subs-kept from end (e ∷ es) h =
       let zero : (e.depth == 0) ≡ false = ne_eqb e.depth 0 (λ k. absurd (omega (arith, k, (h.0).depth))) in
-      let here : is_kept_among fs ps (at n e) ≡ is_required fs e =
+      let here : is_kept_among fs ps (placed_entry n e) ≡ is_required fs e =
       ap (λ b. is_required fs e || (b && list_any (λ q. is_required fs q.entry) (filter (λ q. q.unit == n) ps))) zero ∙ or-false (is_required fs e) in
-      ap (λ b. cond {A = List Placed} b (at n e ∷ filter (is_kept_among fs ps) (placed_at n es)) (filter (is_kept_among fs ps) (placed_at n es))) here
-      ∙ ap (λ xs. cond {A = List Placed} (is_required fs e) (at n e ∷ xs) xs) (subs-kept (suc e.offset) end es h.2)
+      ap (λ b. cond {A = List Placed} b (placed_entry n e ∷ filter (is_kept_among fs ps) (placed_at n es)) (filter (is_kept_among fs ps) (placed_at n es))) here
+      ∙ ap (λ xs. cond {A = List Placed} (is_required fs e) (placed_entry n e ∷ xs) xs) (subs-kept (suc e.offset) end es h.2)
       ∙ arms (is_required fs e)
     where
-      arms : (b : Bool) → cond {A = List Placed} b (at n e ∷ placed_at n (filter (is_required fs) es)) (placed_at n (filter (is_required fs) es)) ≡ placed_at n (cond {A = List Entry} b (e ∷ filter (is_required fs) es) (filter (is_required fs) es))
+      arms : (b : Bool) → cond {A = List Placed} b (placed_entry n e ∷ placed_at n (filter (is_required fs) es)) (placed_at n (filter (is_required fs) es)) ≡ placed_at n (cond {A = List Entry} b (e ∷ filter (is_required fs) es) (filter (is_required fs) es))
       arms true = refl
       arms false = refl
 
@@ -226,15 +235,15 @@ module _ (fs : List Function) (ps : List Placed) (n : ℕ) where
   unit-kept from end (e ∷ es) h has =
       let not_it : is_required fs e ≡ false = root-required fs e h.0 in
       let below : list_any (λ q. is_required fs q.entry) (filter (λ q. q.unit == n) ps) ≡ list_any (is_required fs) es = has ∙ ap (λ b. b || list_any (is_required fs) es) not_it in
-      let root : is_kept_among fs ps (at n e) ≡ list_any (is_required fs) es =
+      let root : is_kept_among fs ps (placed_entry n e) ≡ list_any (is_required fs) es =
       ap (λ b. b || ((e.depth == 0) && list_any (λ q. is_required fs q.entry) (filter (λ q. q.unit == n) ps))) not_it
       ∙ ap (λ b. b && list_any (λ q. is_required fs q.entry) (filter (λ q. q.unit == n) ps)) (eq-eqb e.depth 0 (h.0).depth)
       ∙ below in
-      ap (λ b. cond {A = List Placed} b (at n e ∷ filter (is_kept_among fs ps) (placed_at n es)) (filter (is_kept_among fs ps) (placed_at n es))) root
-      ∙ ap (λ xs. cond {A = List Placed} (list_any (is_required fs) es) (at n e ∷ xs) xs) (subs-kept (suc e.offset) end es h.2)
+      ap (λ b. cond {A = List Placed} b (placed_entry n e ∷ filter (is_kept_among fs ps) (placed_at n es)) (filter (is_kept_among fs ps) (placed_at n es))) root
+      ∙ ap (λ xs. cond {A = List Placed} (list_any (is_required fs) es) (placed_entry n e ∷ xs) xs) (subs-kept (suc e.offset) end es h.2)
       ∙ arms (list_any (is_required fs) es) refl
     where
-      arms : (b : Bool) → list_any (is_required fs) es ≡ b → cond {A = List Placed} b (at n e ∷ placed_at n (filter (is_required fs) es)) (placed_at n (filter (is_required fs) es)) ≡ placed_at n (cond {A = List Entry} b (e ∷ filter (is_required fs) es) [])
+      arms : (b : Bool) → list_any (is_required fs) es ≡ b → cond {A = List Placed} b (placed_entry n e ∷ placed_at n (filter (is_required fs) es)) (placed_at n (filter (is_required fs) es)) ≡ placed_at n (cond {A = List Entry} b (e ∷ filter (is_required fs) es) [])
       arms true is = refl
       arms false is = ap (placed_at n) (none-required fs es is)
 
@@ -245,7 +254,7 @@ module _ (fs : List Function) (all : List Unit) where
   units-kept from [] h has = refl
   units-kept from (u ∷ us) h has =
       filter-append (is_kept_among fs (placed_entries all)) (placed_at u.header.offset u.entries) (placed_entries us)
-      ∙ ap₂ (λ xs ys. xs ++ ys) (unit-kept fs (placed_entries all) u.header.offset u.header.offset u.header.end u.entries h.2 (has u (inl refl))) (units-kept u.header.end us h.3 (λ v i. has v (inr i)))
+      ∙ ap₂ (λ xs ys. xs ++ ys) (unit-kept fs (placed_entries all) u.header.offset (u.header.content).place u.header.end u.entries (h.1).entries (has u (inl refl))) (units-kept u.header.end us h.2 (λ v i. has v (inr i)))
 
 -- The kept entries are, unit by unit and in order, the root and the required entries of each unit that has one.
 pub kept-of-units : (fs : List Function) (from : ℕ) (us : List Unit) → AreUnits from us → kept_entries fs (placed_entries us) ≡ placed (λ u. kept_of fs u.entries) us
@@ -283,13 +292,22 @@ kept-count fs n from end (e ∷ es) h =
     ∙ sym (ap (λ b. length (cond {A = List Entry} b (e ∷ filter (is_required fs) es) (filter (is_required fs) es))) (root-required fs e h.0))
   where
     go : (b : Bool) → list_any (is_required fs) es ≡ b → length (placed_at n (cond {A = List Entry} b (e ∷ filter (is_required fs) es) [])) - 1 ≡ length (filter (is_required fs) es)
-    go true is = let same : length (placed_at n (filter (is_required fs) es)) ≡ length (filter (is_required fs) es) = length-map (filter (is_required fs) es) (at n) in omega (arith, same)
+    go true is = let same : length (placed_at n (filter (is_required fs) es)) ≡ length (filter (is_required fs) es) = length-map (filter (is_required fs) es) (placed_entry n) in omega (arith, same)
     go false is = sym (ap length (none-required fs es is))
 
-unit-entries : (from : ℕ) (us : List Unit) (u : Unit) → AreUnits from us → IsIn u us → AreEntries u.header.offset u.header.end u.entries
-unit-entries from [] u h i = absurd i
-unit-entries from (v ∷ vs) u h (inl e) = subst (λ w. AreEntries w.header.offset w.header.end w.entries) (sym e) h.2
-unit-entries from (v ∷ vs) u h (inr i) = unit-entries v.header.end vs u h.3 i
+-- each unit of some is one
+pub unit-is : (from : ℕ) (us : List Unit) (u : Unit) → AreUnits from us → IsIn u us → IsUnit u
+unit-is from [] u h i = absurd i
+unit-is from (v ∷ vs) u h (inl e) = subst (λ w. IsUnit w) (sym e) h.1
+unit-is from (v ∷ vs) u h (inr i) = unit-is v.header.end vs u h.2 i
+
+-- units at one offset are one unit
+pub one-unit : (from : ℕ) (us : List Unit) (u v : Unit) → AreUnits from us → IsIn u us → IsIn v us → u.header.offset ≡ v.header.offset → u ≡ v
+one-unit from [] u v h i j e = absurd i
+one-unit from (w ∷ ws) u v h (inl a) (inl b) e = a ∙ sym b
+one-unit from (w ∷ ws) u v h (inl a) (inr j) e = let same : u.header.offset ≡ w.header.offset = ap (λ x. x.header.offset) a in absurd (omega (arith, same, e, (h.1).some, unit-from w.header.end ws v h.2 j))
+one-unit from (w ∷ ws) u v h (inr i) (inl b) e = let same : v.header.offset ≡ w.header.offset = ap (λ x. x.header.offset) b in absurd (omega (arith, same, e, (h.1).some, unit-from w.header.end ws u h.2 i))
+one-unit from (w ∷ ws) u v h (inr i) (inr j) e = one-unit w.header.end ws u v h.2 i j e
 
 all-from-in : {A : Type 0} (P : A → Type 0) (xs : List A) → ((x : A) → IsIn x xs → P x) → All P xs
 all-from-in P [] h = All-nil P
@@ -300,7 +318,7 @@ module _ (m : Module) (h : AreUnits 0 (units m.sections).items) where
   kept-in u i =
       any-passes (λ p. p.unit == u.header.offset) (kept_entries m.functions (placed_entries (units m.sections).items))
       ∙ ap (list_any (λ p. true)) (kept-of-unit m.functions 0 (units m.sections).items u h i)
-      ∙ kept-any m.functions u.header.offset u.header.offset u.header.end u.entries (unit-entries 0 (units m.sections).items u h i)
+      ∙ kept-any m.functions u.header.offset (u.header.content).place u.header.end u.entries (unit-is 0 (units m.sections).items u h i).entries
 
   -- The carried units are those of which the root is a compile unit and an entry is required.
   pub carried-units : carried_units_of m ≡ filter (λ u. has_root_tag DW_TAG_compile_unit u && list_any (is_required m.functions) u.entries) (units m.sections).items
@@ -310,7 +328,7 @@ module _ (m : Module) (h : AreUnits 0 (units m.sections).items) where
   pub unit-subprograms : (u : Unit) → IsIn u (units m.sections).items → kept_subprograms (record { module_of = m; unit = u }) ≡ length (filter (is_required m.functions) u.entries)
   unit-subprograms u i =
       ap (λ ps. length ps - 1) (kept-of-unit m.functions 0 (units m.sections).items u h i)
-      ∙ kept-count m.functions u.header.offset u.header.offset u.header.end u.entries (unit-entries 0 (units m.sections).items u h i)
+      ∙ kept-count m.functions u.header.offset (u.header.content).place u.header.end u.entries (unit-is 0 (units m.sections).items u h i).entries
 
   pub carried-subprograms : All (λ u. kept_subprograms (record { module_of = m; unit = u }) ≡ length (filter (is_required m.functions) u.entries)) (carried_units_of m)
   carried-subprograms = all-from-in _ (carried_units_of m) (λ u i. unit-subprograms u (in-filter (is_carried_unit (kept_entries m.functions (placed_entries (units m.sections).items))) (units m.sections).items u i).0)
