@@ -1,15 +1,15 @@
 -- Registers as a finite map, as a table and as an ordered map.
-use Rattle.std.proofs.Common.{◌≡◌, ℕ, ◌-◌, ◌+◌, ◌<◌, ◌≤◌, refl, sym, ap, ◌∙◌, arith, rules, List, [], ◌∷◌, map, length, drop, get_or, Option, Some, None, nat_cmp}
+use Rattle.std.proofs.Common.{◌≡◌, ℕ, ◌-◌, ◌+◌, ◌<◌, ◌≤◌, refl, sym, ◌∙◌, arith, rules, List, [], ◌∷◌, length, drop, get_or, Some, nat_cmp}
 use Rattle.std.specs.Prelude.{cond}
 use Rattle.std.specs.Ordering.{is_eq}
 use Rattle.std.proofs.lemmas.List.{at_drop_more}
-use Rattle.std.specs.BTreeMap.{BTreeMap, get, is_at}
+use Rattle.std.specs.BTreeMap.{is_at}
 use Rattle.std.specs.Map.{lookup}
 use Rattle.std.specs.Cmp.{nat_cmp_total}
 use Rattle.std.specs.FinMap as finite
 use Rattle.std.specs.FinMap.{get-empty, get-insert, nat_cmp-IsAntisymmetric, same_map}
 use Rattle.dwc_clif.specs.declared.reg.Reg.{Reg}
-use Rattle.dwc_clif.specs.Registers.{Registers, numbers, registers_of, number_in}
+use Rattle.dwc_clif.specs.Registers.{registers_of, number_in}
 
 -- the finite map of entries finds what a scan finds
 pub get-entries : (es : List (ℕ × ℕ)) (q : ℕ) → finite.get (finite.from_entries {R = nat_cmp} es) q ≡ lookup (is_at (nat_cmp q)) es

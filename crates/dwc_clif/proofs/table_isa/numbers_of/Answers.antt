@@ -1,4 +1,4 @@
-use Rattle.std.proofs.Common.{arith, ◌∙◌}
+use Rattle.std.proofs.Common.{arith}
 use Rattle.dwc_clif.proofs.RegisterLaws.{number_in-before}
 use Rattle.dwc_clif.proofs.table_isa.numbers_of.Goals as goal
 
