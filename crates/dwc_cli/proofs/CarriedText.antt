@@ -25,9 +25,11 @@ use Rattle.dwc_base.specs.Functions.{functions_of}
 use Rattle.dwc_base.specs.Carried.{Compilation}
 use Rattle.dwc_base.specs.Reached.{reached_faults, is_unreadable}
 use Rattle.dwc_base.specs.FirstForm.{is_all_built}
+use Rattle.dwc_base.specs.Widest.{widest}
 use Rattle.dwc_base.proofs.Translated.{translation_sections-is}
 use Rattle.dwc_clif.specs.declared.metadata.CompiledFunctionMetadata.{CompiledFunctionMetadata}
 use Rattle.dwc_clif.specs.AddressMaps.{address_map_view}
+use Rattle.dwc_write.specs.declared.error.Limit.TheVariants.{Section}
 use Rattle.dwc_write.specs.Writers.{FitsTarget, IsWhole, IsSound, most_bytes}
 use Rattle.dwc_carry.specs.declared.error.DebugError.{DebugError}
 use Rattle.dwc_carry.specs.declared.error.DebugError.TheVariants.{Read, Unsupported, BadAddressMap, TooLarge, OutOfMemory}
@@ -109,7 +111,7 @@ pub record Said (read : Loaded) (status : ℕ) : Type 0 where
   pub complete : GivesReadText read status
 
 pub said-memory : (read : Loaded) → Said read 9
-said-memory read = record { causes = LoadedCauses-memory read; complete = λ _. IsOneOf-from (0 ∷ 9 ∷ 20 ∷ []) 9 refl }
+said-memory read = record { causes = LoadedCauses-memory read; complete = λ _. IsOneOf-from (0 ∷ 9 ∷ []) 9 refl }
 
 -- ---- what was read, as it is given to the emitter
 
@@ -183,8 +185,9 @@ module _ (t : ModuleTranslation) (f : MapFile) (m : MapModule) (rest : List MapM
       unreadable = λ e. absurd (omega (arith, e));
       unsupported = λ e. absurd (omega (arith, e));
       unread = λ unread. absurd (all-read h.carries.readable h.carries.built unread);
+      too_large = λ e. absurd (omega (arith, e));
     };
-    complete = λ _. IsOneOf-from (0 ∷ 9 ∷ 20 ∷ []) 0 refl;
+    complete = λ _. IsOneOf-from (0 ∷ 9 ∷ []) 0 refl;
   }
 
   reached-read : (fault : Fault) → IsReached emitted fault → IsReached (compilation_of read) fault
@@ -201,6 +204,7 @@ module _ (t : ModuleTranslation) (f : MapFile) (m : MapModule) (rest : List MapM
       unreadable = λ _. let r = reached-read (unreadable what name offset) h.1 in (r.0, r.1, r.2, r.3, ap is_unreadable r.4);
       unsupported = λ e. absurd (omega (arith, e));
       unread = λ _. IsOneOf-from (3 ∷ 4 ∷ 9 ∷ 10 ∷ 11 ∷ 13 ∷ []) 10 refl;
+      too_large = λ e. absurd (omega (arith, e));
     };
     complete = λ valid. absurd (none-reached _ h.1 valid.readable);
   }
@@ -210,6 +214,7 @@ module _ (t : ModuleTranslation) (f : MapFile) (m : MapModule) (rest : List MapM
       unreadable = λ e. absurd (omega (arith, e));
       unsupported = λ _. ⊎_elim (λ reached. let r = reached-read (unsupported kind offset) reached in inl (r.0, r.1, r.2, r.3, ap is_unreadable r.4)) (λ form. inr (ap is_all_built compilation-same ∙ form.1)) h.1;
       unread = λ _. IsOneOf-from (3 ∷ 4 ∷ 9 ∷ 10 ∷ 11 ∷ 13 ∷ []) 11 refl;
+      too_large = λ e. absurd (omega (arith, e));
     };
     complete = λ valid. absurd (⊎_elim (λ reached. none-reached _ reached valid.readable) (λ form. true≢false _ valid.built (ap is_all_built compilation-same ∙ form.1)) h.1);
   }
@@ -221,18 +226,23 @@ module _ (t : ModuleTranslation) (f : MapFile) (m : MapModule) (rest : List MapM
           unreadable = λ e. absurd (omega (arith, e));
           unsupported = λ e. absurd (omega (arith, e));
           unread = λ _. IsOneOf-from (3 ∷ 4 ∷ 9 ∷ 10 ∷ 11 ∷ 13 ∷ []) 13 refl;
+          too_large = λ e. absurd (omega (arith, e));
         };
         complete = λ valid. absurd (some≢none (bad_map read) (rw bad refl) valid.maps);
       }
-  said-refused (TooLarge what) h = record {
+  said-refused (TooLarge (Section name)) h = record {
     causes = record {
       address_map = record { only = λ e. absurd (omega (arith, e)); always = λ bad. absurd (no-bad h.0 bad) };
       unreadable = λ e. absurd (omega (arith, e));
       unsupported = λ e. absurd (omega (arith, e));
-      unread = λ unread. absurd (all-read h.1.readable h.1.built unread);
+      unread = λ unread. absurd (all-read h.1.read.readable h.1.read.built unread);
+      too_large = λ _. (name, could-be);
     };
-    complete = λ _. IsOneOf-from (0 ∷ 9 ∷ 20 ∷ []) 20 refl;
+    complete = λ valid. absurd (omega (arith, could-be, valid.small name));
   }
+    where
+      could-be : 2 ^ 31 ≤ widest name (compilation_of read)
+      could-be = subst (λ c. 2 ^ 31 ≤ widest name c) (sym compilation-same) h.1.long
   said-refused OutOfMemory h = said-memory read
 
 -- the status of a refusal is one of carrying

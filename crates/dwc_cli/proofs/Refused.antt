@@ -19,7 +19,7 @@ use Rattle.dwc_base.specs.Reached.{is_unreadable, reached_faults}
 use Rattle.dwc_base.specs.Wasm.{WasmModule, wasm_module, module_from_sections}
 use Rattle.dwc_cli.specs.MapFile.{map_of_bytes}
 use Rattle.dwc_cli.specs.Inputs.{Input, Loaded, loaded, paths_of, compilation_of}
-use Rattle.dwc_cli.specs.RunStatus.{Rose, most_bytes, IsOneOf, IsStatus, UsageCause, MissingCause, InputCauses, NamedCauses, LoadedCauses, TooLargeCause, RunsWell, IsValid}
+use Rattle.dwc_cli.specs.RunStatus.{Rose, most_bytes, IsOneOf, IsStatus, UsageCause, MissingCause, InputCauses, NamedCauses, LoadedCauses, RunsWell, IsValid}
 use Rattle.dwc_cli.proofs.Examples.{map_bytes_small, map-small}
 use Rattle.dwc_cli.proofs.WholeRun.{whole_on_literals, faults_of, input_small, read_in, read_small}
 use Rattle.dwc_cli.proofs.BrokenInputs.{file_64, file_5, file_undeclared, file_compressed, with_small_map, map_bytes_falls, map_bytes_missing}
@@ -323,9 +323,9 @@ small-widest StrOffsets = lit< tt
 small-widest CuIndex = lit< tt
 small-widest Frame = lit< tt
 
-small-too_large : TooLargeCause read_small 20 → ⊥
+small-too_large : Causes input_small 20 → ⊥
 small-too_large h =
-    let found = h refl in
+    let found = (loaded_causes input_small 20 read_small small-read h).too_large refl in
     let small = small-widest found.0 in
     omega (arith, small, found.1)
 
@@ -361,11 +361,14 @@ well-small reads writes few fewer = record {
 }
 
 -- each refusal of it is refused, whatever its cause
-well-refused : (status : ℕ) → is_status_among (0 ∷ 9 ∷ 20 ∷ []) status ≡ false → (RunsWell (Some (two_files input_small)) right_words 0 0 0 0 → IsOneOf (0 ∷ 9 ∷ 20 ∷ []) status) → ⊥
-well-refused status none clause = refused (0 ∷ 9 ∷ 20 ∷ []) status none (clause (well-small 0 0 (lit< tt) (lit< tt)))
+well-refused : (status : ℕ) → is_status_among (0 ∷ 9 ∷ []) status ≡ false → (RunsWell (Some (two_files input_small)) right_words 0 0 0 0 → IsOneOf (0 ∷ 9 ∷ []) status) → ⊥
+well-refused status none clause = refused (0 ∷ 9 ∷ []) status none (clause (well-small 0 0 (lit< tt) (lit< tt)))
 
-well-read_fault : (RunsWell (Some (two_files input_small)) right_words 0 0 0 0 → IsOneOf (0 ∷ 9 ∷ 20 ∷ []) 3) → ⊥
+well-read_fault : (RunsWell (Some (two_files input_small)) right_words 0 0 0 0 → IsOneOf (0 ∷ 9 ∷ []) 3) → ⊥
 well-read_fault clause = well-refused 3 refl clause
+
+well-too_large : (RunsWell (Some (two_files input_small)) right_words 0 0 0 0 → IsOneOf (0 ∷ 9 ∷ []) 20) → ⊥
+well-too_large clause = well-refused 20 refl clause
 
 -- ---- nothing is written but with 0 and 8
 

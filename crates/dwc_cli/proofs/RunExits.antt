@@ -58,6 +58,7 @@ InputCauses-reading files words p status is_p one long =
         unreadable = λ e. absurd (other 10 refl e);
         unsupported = λ e. absurd (other 11 refl e);
         unread = λ _. among (3 ∷ 4 ∷ 9 ∷ 10 ∷ 11 ∷ 13 ∷ []) refl;
+        too_large = λ e. absurd (other 20 refl e);
       };
     }
 
@@ -91,6 +92,7 @@ TextCauses-write input causes =
         unreadable = λ e. absurd (omega (arith, e));
         unsupported = λ e. absurd (omega (arith, e));
         unread = λ faults. absurd (not_done (3 ∷ 4 ∷ 9 ∷ 10 ∷ 11 ∷ 13 ∷ []) refl (said.unread faults));
+        too_large = λ e. absurd (omega (arith, e));
       };
     }
 
@@ -102,8 +104,8 @@ nine status (suc (suc zero), x, within, is, same) not_three not_four = is ∙ sa
 nine status (suc (suc (suc k)), x, within, is, same) not_three not_four = absurd (omega (arith, within))
 
 -- where the source did not fail and no file is too long, a file is not read for want of memory alone
-pub only_memory : (files : Option Files) (words : List (List ℕ)) (p : Paths) (read_before read_now write_before write_now status : ℕ) → paths_of words ≡ Some p → IsReadingStatus status → (status ≡ 4 → IsLongFile files p.map_path ⊎ IsLongFile files p.module_path) → (status ≡ 3 → Rose read_before read_now) → RunsWell files words read_before read_now write_before write_now → IsOneOf (0 ∷ 9 ∷ 20 ∷ []) status
+pub only_memory : (files : Option Files) (words : List (List ℕ)) (p : Paths) (read_before read_now write_before write_now status : ℕ) → paths_of words ≡ Some p → IsReadingStatus status → (status ≡ 4 → IsLongFile files p.map_path ⊎ IsLongFile files p.module_path) → (status ≡ 3 → Rose read_before read_now) → RunsWell files words read_before read_now write_before write_now → IsOneOf (0 ∷ 9 ∷ []) status
 only_memory files words p read_before read_now write_before write_now status is_p one long rose well =
     let not_long : status ≡ 4 → ⊥ = λ e. ⊎_elim (λ l. omega (arith, l, well.short_map)) (λ l. omega (arith, l, well.short_module)) (too_long_named files words p well.input is_p well.named (long e)) in
     let not_read : status ≡ 3 → ⊥ = λ e. well.reads (rose e) in
-    subst (IsOneOf (0 ∷ 9 ∷ 20 ∷ [])) (nine status one not_read not_long) (IsOneOf-from (0 ∷ 9 ∷ 20 ∷ []) 9 refl)
+    subst (IsOneOf (0 ∷ 9 ∷ [])) (nine status one not_read not_long) (IsOneOf-from (0 ∷ 9 ∷ []) 9 refl)

@@ -43,6 +43,7 @@ LoadedCauses-memory read = record {
   unreadable = λ e. absurd (omega (arith, e));
   unsupported = λ e. absurd (omega (arith, e));
   unread = λ _. IsOneOf-from (3 ∷ 4 ∷ 9 ∷ 10 ∷ 11 ∷ 13 ∷ []) 9 refl;
+  too_large = λ e. absurd (omega (arith, e));
 }
 
 pub Refuses-memory : (input : Input) → Refuses input 9
@@ -53,7 +54,7 @@ Refuses-memory input = record {
     is_loaded = λ read is_read. LoadedCauses-memory read;
   };
   one_of = IsOneOf-from (5 ∷ 6 ∷ 9 ∷ 10 ∷ 11 ∷ 13 ∷ 20 ∷ []) 9 refl;
-  complete = λ read is_read valid. IsOneOf-from (0 ∷ 9 ∷ 20 ∷ []) 9 refl;
+  complete = λ read is_read valid. IsOneOf-from (0 ∷ 9 ∷ []) 9 refl;
 }
 
 -- the module is no wasm file

@@ -72,7 +72,7 @@ pub record TextCauses (input : Input) (status : ℕ) : Type 0 where
 
 -- where all is well with what was read, its text is made, but for want of memory
 abbrev pub GivesReadText : Loaded → ℕ → Type 0
-GivesReadText read status = IsValid read → IsOneOf (0 ∷ 9 ∷ 20 ∷ []) status
+GivesReadText read status = IsValid read → IsOneOf (0 ∷ 9 ∷ []) status
 
 -- where all is well with an input, its text is made, but for want of memory
 abbrev pub GivesText : Input → ℕ → Type 0

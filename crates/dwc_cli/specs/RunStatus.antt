@@ -145,6 +145,7 @@ pub record LoadedCauses (read : Loaded) (status : ℕ) : Type 0 where
   pub unreadable : ReadCause read status
   pub unsupported : UnsupportedCause read status
   pub unread : UnreadCause read status
+  pub too_large : TooLargeCause read status
 
 -- what is said of an input that the words name
 pub record NamedCauses (input : Input) (status : ℕ) : Type 0 where
@@ -161,7 +162,7 @@ InputCauses files words status = (input : Input) → Names files words input →
 abbrev pub IsStatus : ℕ → Type 0
 IsStatus status = IsOneOf (0 ∷ 2 ∷ 3 ∷ 4 ∷ 5 ∷ 6 ∷ 8 ∷ 9 ∷ 10 ∷ 11 ∷ 13 ∷ 20 ∷ []) status
 
--- Where all is well, a run answers 0, or 9 for want of memory; 20 is not ruled out yet.
+-- Where all is well, a run answers 0, or 9 for want of memory.
 pub record IsValid (read : Loaded) : Type 0 where
   pub maps : bad_map read ≡ None
   pub readable : reached_faults (compilation_of read) ≡ []

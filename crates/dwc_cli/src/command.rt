@@ -39,7 +39,7 @@ pub fn run<S: Source, K: Sink, E: Sink>(
     ensures write_fault { result ≡ 8 → Rose (K.faults out.old) (K.faults out.new) }
     ensures front { result ≡ 8 → PrefixWritten (S.files source.old) (map string_bytes words.now) (K.written out.old) (K.written out.new) }
     ensures status { IsStatus result }
-    ensures complete { RunsWell (S.files source.old) (map string_bytes words.now) (S.faults source.old) (S.faults source.new) (K.faults out.old) (K.faults out.new) → IsOneOf (0 ∷ 9 ∷ 20 ∷ []) result }
+    ensures complete { RunsWell (S.files source.old) (map string_bytes words.now) (S.faults source.old) (S.faults source.new) (K.faults out.old) (K.faults out.new) → IsOneOf (0 ∷ 9 ∷ []) result }
 
     // What is written besides.
     ensures silent { result ≢ 0 → result ≢ 8 → K.written out.new ≡ K.written out.old }

@@ -23,7 +23,7 @@ returns-in-Err-clause-complete g c = λ well.
     let files = g.S.Source.files c.args.source.now in
     let words = map string_bytes c.args.words.now in
     let said = only_memory files words (paths_view c.in-Some.paths) _ _ _ _ (failure_status c.in-Err.failure) (sym c.in-Some.ensures) c.in-Err.ensures.status c.in-Err.ensures.long_file c.in-Err.ensures.read_fault well in
-    subst (IsOneOf (0 ∷ 9 ∷ 20 ∷ [])) (sym c.refuse-in-Err.ensures.status) said
+    subst (IsOneOf (0 ∷ 9 ∷ [])) (sym c.refuse-in-Err.ensures.status) said
 
 pub returns-in-Err-text_of-clause-input : goal.returns-in-Err-text_of-clause-input
 returns-in-Err-text_of-clause-input g c =
