@@ -13,12 +13,14 @@ pub mod UnitTrees
 pub mod ReadEnds
 pub mod KnownEntries
 pub mod KnownUnits
+pub mod KeptCounts
+pub mod WidestImages
+pub mod WidestUnits
 pub mod EmitLaws
 pub mod UnitPlaces
 pub mod DeclarationLaws
 pub mod TransferLaws
 pub mod LineVersions
-pub mod WidestLines
 pub mod NameLaws
 pub mod ReadUnitLaws
 pub mod OutputUnitLaws
