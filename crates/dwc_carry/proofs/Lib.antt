@@ -16,6 +16,9 @@ pub mod UnitTrees
 pub mod ReadEnds
 pub mod KnownEntries
 pub mod KnownUnits
+pub mod KeptCounts
+pub mod WidestImages
+pub mod WidestUnits
 pub mod EmitLaws
 pub mod UnitPlaces
 pub mod DeclarationLaws
