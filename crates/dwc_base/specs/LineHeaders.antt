@@ -1,5 +1,5 @@
 -- Line tables: the header, and the instructions of the program. (DWARF 4 and 5, sections 6.2.4 and 6.2.5.)
-use Rattle.std.specs.Prelude.{ℕ, ◌-◌, ◌==◌, ℤ, pos, ◌-ℤ◌, List, [], ◌∷◌, map, length, drop, Bool, true, false, nat_lt, nat_le, not, ◌||◌, ◌&&◌, if◌then◌else◌, slice_index, Option, Some, None, Result, Ok, Err}
+use Rattle.std.specs.Prelude.{ℕ, ◌-◌, ◌==◌, ℤ, pos, ◌-ℤ◌, List, [], ◌∷◌, length, drop, Bool, true, false, nat_lt, nat_le, not, ◌||◌, ◌&&◌, if◌then◌else◌, slice_index, Option, Some, None, Result, Ok, Err}
 use Rattle.std.specs.List.{list_any}
 use Rattle.dwc_base.specs.declared.records.Address.{Address}
 use Rattle.dwc_base.specs.declared.records.Endian.{Endian}
@@ -173,9 +173,13 @@ entry_fields_at s address_size looked_up (format ∷ formats) f u = do
 abbrev pub no_fields : LineFile
 no_fields = record { directory = 0; name = [] }
 
--- a directory or a file
-abbrev pub line_entry_at : LineSource → ℕ → List EntryFormat → Unread → Read LineFile
-line_entry_at s address_size formats u = entry_fields_at s address_size true formats no_fields u
+-- a file
+abbrev pub file_entry_at : LineSource → ℕ → List EntryFormat → Unread → Read LineFile
+file_entry_at s address_size formats u = entry_fields_at s address_size true formats no_fields u
+
+-- a directory above 0, by its name
+abbrev pub directory_entry_at : LineSource → ℕ → List EntryFormat → Unread → Read (List ℕ)
+directory_entry_at s address_size formats u = seen_as (λ d. d.name) (file_entry_at s address_size formats u)
 
 -- The directories from number 1 on. Number 0 is the compilation directory, whose text elsewhere is not looked up.
 unfoldable pub directories_of_5_at : LineSource → ℕ → Unread → Read (List (List ℕ))
@@ -186,7 +190,7 @@ directories_of_5_at s address_size u = do
     | true ↦ Ok ([], count.1)
     | false ↦ do
       own ← entry_fields_at s address_size false formats.0 no_fields count.1
-      seen_as (map (λ d. d.name)) (counted_at (count.0 - 1) (line_entry_at s address_size formats.0) own.1)
+      counted_at (count.0 - 1) (directory_entry_at s address_size formats.0) own.1
   ]
 
 -- the files, from number 0 on
@@ -194,7 +198,7 @@ unfoldable pub files_of_5_at : LineSource → ℕ → Unread → Read (List Line
 files_of_5_at s address_size u = do
   formats ← entry_formats_at u
   count ← entry_count_at formats.0 formats.1
-  counted_at count.0 (line_entry_at s address_size formats.0) count.1
+  counted_at count.0 (file_entry_at s address_size formats.0) count.1
 
 -- ---- the header
 

@@ -1,6 +1,6 @@
 -- A table that was checked is the table of the definitions.
 use Rattle.std.proofs.Common.{◌≡◌, ℕ, ◌+◌, ◌<◌, min, max, refl, sym, ap, ◌∙◌, arith, List, [], ◌∷◌, ◌++◌, map, length, take, drop, Option, Some, None, Ok, Err, zero-add, ltb, Bool, true, false, is_some}
-use Rattle.std.specs.Prelude.{◌&&◌, nat_le, if◌then◌else◌}
+use Rattle.std.specs.Prelude.{◌&&◌, nat_le, nat_lt, if◌then◌else◌}
 use Rattle.std.specs.List.{filter_map, list_all}
 use Rattle.std.proofs.Math.Bool.{and-true, and-false}
 use Rattle.std.proofs.Math.Dec.{leb-zero}
@@ -19,17 +19,18 @@ use Rattle.dwc_base.specs.Reading.{Unread, Read as ReadOf, bytes_at, number_at}
 use Rattle.dwc_base.specs.Units.{sized_part_at}
 use Rattle.dwc_base.specs.Sections.{Sections, Relocation, reported, fault_of, unreadable, unsupported}
 use Rattle.dwc_base.specs.Listing.{Listing}
-use Rattle.dwc_base.specs.LineHeaders.{LineFile, LineHeader, line_header_at, Instruction, special, copy, advance_pc, advance_line, set_file, set_column, negate_stmt, set_basic_block, const_add_pc, fixed_advance_pc, set_prologue_end, set_epilogue_begin, set_isa, end_sequence, set_address, define_file, set_discriminator, unknown, extended_at, extended_instruction_at, instruction_at, next_instruction, instructions}
+use Rattle.dwc_base.specs.LineHeaders.{LineFile, LineHeader, LineSource, line_source, line_header_at, Instruction, special, copy, advance_pc, advance_line, set_file, set_column, negate_stmt, set_basic_block, const_add_pc, fixed_advance_pc, set_prologue_end, set_epilogue_begin, set_isa, end_sequence, set_address, define_file, set_discriminator, unknown, extended_at, extended_instruction_at, instruction_at, next_instruction, instructions}
 use Rattle.dwc_base.specs.LineRows.{Registers, LineStep, start, row, end, after, effect, effects, with_effect, Effect, is_in_range, step_of, at_sequence_start, file_defined, table_of, checked_table, line_table_at, line_table}
 use Rattle.dwc_tabs.specs.declared.parameters.Parameters.{Parameters}
+use Rattle.dwc_tabs.specs.declared.program.FileNumbers.{FileNumbers}
 use Rattle.dwc_tabs.specs.declared.program.ProgramCheck.{ProgramCheck}
 use Rattle.dwc_tabs.specs.declared.fault.TabFault.{TabFault}
 use Rattle.dwc_tabs.specs.declared.fault.TabFault.TheVariants.{Read, Unsupported, InvalidFileIndex, OutOfMemory as NoMemory}
 use Rattle.dwc_tabs.specs.Faults.{fault_view, AnswersTable}
 use Rattle.dwc_tabs.specs.Headers.{header_of, program_header}
 use Rattle.dwc_tabs.specs.Steps.{shown_step, shown_steps}
-use Rattle.dwc_tabs.specs.Programs.{instructions_from, shown_from, steps_from, CanRun, Checked, Checks, noted_item, noted_all, nothing_noted}
-use Rattle.dwc_tabs.specs.Tables.{table_at, of_line, table_of_parts, names_within, Bounds, ReadsTable}
+use Rattle.dwc_tabs.specs.Programs.{instructions_from, shown_from, steps_from, CanRun, Checked, Checks, numbers_with, is_number, are_within, noted_item, noted_all, nothing_noted}
+use Rattle.dwc_tabs.specs.Tables.{table_at, table_in, table_of_parts, names_within, Bounds, ReadsTable}
 
 -- ---- the parts of a header that no instruction reads
 
@@ -119,14 +120,6 @@ noted-in_range (Some (row r) ∷ ss) c = noted-in_range ss (noted_item (Some (ro
 noted-in_range (Some (start a) ∷ ss) c = noted-in_range ss c
 noted-in_range (Some (end e) ∷ ss) c = noted-in_range ss c
 
--- facts of four and a fifth, told in another order
-in_order : (a b c d e : Bool) → (((a && b) && (c && d)) && e) ≡ ((a && c) && ((b && d) && e))
-in_order false b c d e = refl
-in_order true true true d e = refl
-in_order true true false d e = refl
-in_order true false true d e = refl
-in_order true false false d e = refl
-
 -- a lower number is at least 1 where both are
 least-min : (a b : ℕ) → nat_le 1 (min a b) ≡ (nat_le 1 a && nat_le 1 b)
 least-min a b = grind (arith, nat_tests)
@@ -135,17 +128,47 @@ least-min a b = grind (arith, nat_tests)
 most-max : (a b n : ℕ) → nat_le (max a b) n ≡ (nat_le a n && nat_le b n)
 most-max a b n = grind (arith, nat_tests)
 
+-- and below n where both are
+below-max : (a b n : ℕ) → nat_lt (max a b) n ≡ (nat_lt a n && nat_lt b n)
+below-max a b n = grind (arith, nat_tests)
+
+-- four facts, told in another order
+crosswise : (a b c d : Bool) → ((a && b) && (c && d)) ≡ ((a && c) && (b && d))
+crosswise false b c d = refl
+crosswise true true c d = refl
+crosswise true false true d = refl
+crosswise true false false d = refl
+
+-- three facts, told in another order
+regrouped : (a b c : Bool) → ((a && b) && c) ≡ (a && (b && c))
+regrouped false b c = refl
+regrouped true b c = refl
+
+-- a further number is one of a file where it and those before are
+within-more : (version count : ℕ) (o : Option FileNumbers) (file : ℕ) → are_within version count (Some (numbers_with o file)) ≡ (are_within version count o && is_number version count file)
+within-more version count o file = go (nat_lt version 5) o
+  where
+    go : (early : Bool) (o : Option FileNumbers)
+        → (let n = numbers_with o file in if early then nat_le 1 n.lowest && nat_le n.highest count else nat_lt n.highest count)
+        ≡ ((elim o [ None ↦ true | Some n ↦ (if early then nat_le 1 n.lowest && nat_le n.highest count else nat_lt n.highest count) ]) && (if early then nat_le 1 file && nat_le file count else nat_lt file count))
+    go true None = refl
+    go false None = refl
+    go true (Some n) =
+        ap (λ b. b && nat_le (max n.highest file) count) (least-min n.lowest file) ∙ ap (λ b. (nat_le 1 n.lowest && nat_le 1 file) && b) (most-max n.highest file count)
+        ∙ crosswise (nat_le 1 n.lowest) (nat_le 1 file) (nat_le n.highest count) (nat_le file count)
+    go false (Some n) = below-max n.highest file count
+
 -- between which numbers those of files lie
-pub noted-bounds : (ss : List (Option LineStep)) (c : ProgramCheck) (count : ℕ)
-    → (nat_le 1 (noted_all ss c).lowest_file && nat_le (noted_all ss c).highest_file count) ≡ ((nat_le 1 c.lowest_file && nat_le c.highest_file count) && list_all (names_within count) (filter_map (λ s. s) ss))
-noted-bounds [] c count = sym (and-true _)
-noted-bounds (None ∷ ss) c count = noted-bounds ss (noted_item None c) count
-noted-bounds (Some (row r) ∷ ss) c count =
-    noted-bounds ss (noted_item (Some (row r)) c) count
-    ∙ ap (λ b. b && list_all (names_within count) (filter_map (λ s. s) ss)) (ap (λ b. b && nat_le (max c.highest_file r.file) count) (least-min c.lowest_file r.file) ∙ ap (λ b. (nat_le 1 c.lowest_file && nat_le 1 r.file) && b) (most-max c.highest_file r.file count))
-    ∙ in_order (nat_le 1 c.lowest_file) (nat_le 1 r.file) (nat_le c.highest_file count) (nat_le r.file count) (list_all (names_within count) (filter_map (λ s. s) ss))
-noted-bounds (Some (start a) ∷ ss) c count = noted-bounds ss c count
-noted-bounds (Some (end e) ∷ ss) c count = noted-bounds ss c count
+pub noted-bounds : (ss : List (Option LineStep)) (c : ProgramCheck) (version count : ℕ)
+    → are_within version count (noted_all ss c).files ≡ (are_within version count c.files && list_all (names_within version count) (filter_map (λ s. s) ss))
+noted-bounds [] c version count = sym (and-true _)
+noted-bounds (None ∷ ss) c version count = noted-bounds ss (noted_item None c) version count
+noted-bounds (Some (row r) ∷ ss) c version count =
+    noted-bounds ss (noted_item (Some (row r)) c) version count
+    ∙ ap (λ b. b && list_all (names_within version count) (filter_map (λ s. s) ss)) (within-more version count c.files r.file)
+    ∙ regrouped (are_within version count c.files) (is_number version count r.file) (list_all (names_within version count) (filter_map (λ s. s) ss))
+noted-bounds (Some (start a) ∷ ss) c version count = noted-bounds ss c version count
+noted-bounds (Some (end e) ∷ ss) c version count = noted-bounds ss c version count
 
 -- ---- the table of what was checked
 
@@ -212,50 +235,42 @@ module _ (p : Parameters) (directories : List (List ℕ)) (header_files files : 
 
     -- the check knows the bounds of the files that rows name
     pub table-bounds : Bounds check (steps_from p relocations (at_sequence_start (program_header p)) program)
-    table-bounds = λ count.
+    table-bounds = λ version count.
         let ss = shown_from p relocations (at_sequence_start (program_header p)) program in
-        sym (ap (λ c. nat_le 1 c.lowest_file && nat_le c.highest_file count) checked.noted
-        ∙ noted-bounds ss nothing_noted count
-        ∙ ap (λ b. b && list_all (names_within count) (filter_map (λ s. s) ss)) (leb-zero count))
+        sym (ap (λ c. are_within version count c.files) checked.noted ∙ noted-bounds ss nothing_noted version count)
 
 -- ---- the reader of a table
 
-module _ (relocations : List Relocation) (address_size : ℕ) (u : Unread) where
+module _ (source : LineSource) (address_size : ℕ) (u : Unread) where
   -- the table of a header that was read
-  pub table-behind : (h : LineHeader) → line_header_at address_size u ≡ Ok h → table_at relocations address_size u ≡ checked_table h (instructions relocations h h.program)
+  pub table-behind : (h : LineHeader) → line_header_at source address_size u ≡ Ok h → table_at source address_size u ≡ checked_table h (instructions source.relocations h h.program)
   unfolding table_at
   table-behind h read = rw (read, table_at) refl
 
   -- no header
-  pub table-no_header : (e : NotRead) → FailsLast e (line_header_at address_size u) → ReadsTable (table_at relocations address_size u) (Err e)
+  pub table-no_header : (e : NotRead) → FailsLast e (line_header_at source address_size u) → ReadsTable (table_at source address_size u) (Err e)
   unfolding table_at
   table-no_header OutOfMemory fails = tt
   table-no_header (Flawed flaw) fails = rw (fails, table_at) refl
 
   -- a header, and no program
   pub table-no_program : (p : Parameters) (directories : List (List ℕ)) (header_files files : List LineFile) (program : Unread) (e : NotRead)
-      → line_header_at address_size u ≡ Ok (header_of p directories header_files program) → Checks p relocations program header_files files (Err e) → ReadsTable (table_at relocations address_size u) (Err e)
+      → line_header_at source address_size u ≡ Ok (header_of p directories header_files program) → Checks p source.relocations program header_files files (Err e) → ReadsTable (table_at source address_size u) (Err e)
   table-no_program p directories header_files files program OutOfMemory read fails = tt
   table-no_program p directories header_files files program (Flawed flaw) read fails =
-      table-behind (header_of p directories header_files program) read ∙ table-flaw p directories header_files files relocations program flaw fails
+      table-behind (header_of p directories header_files program) read ∙ table-flaw p directories header_files files source.relocations program flaw fails
 
 -- ---- where a table stands
 
--- a table of a line section
-pub line_table-at : (order : Endian) (bytes : List ℕ) (relocations : List Relocation) (address_size offset : ℕ)
-    → line_table (of_line order bytes relocations) address_size offset ≡ reported LineTableRead Line offset (table_at relocations address_size (record { order = order; place = offset; left = drop offset bytes }))
-unfolding line_table line_table_at table_at
-line_table-at order bytes relocations address_size offset = refl
-
 -- the table of some sections is that of their line section
-pub line_table-of : (s : Sections) (address_size offset : ℕ) → line_table (of_line s.order (s.bytes Line) (s.relocations Line)) address_size offset ≡ line_table s address_size offset
-unfolding line_table line_table_at
-line_table-of s address_size offset = refl
+pub line_table-in : (s : Sections) (address_size offset : ℕ) → table_in (line_source s) (s.bytes Line) address_size offset ≡ line_table s address_size offset
+unfolding line_table line_table_at table_at
+line_table-in s address_size offset = refl
 
 -- no table stands behind the section's end
-pub table_at-end : (relocations : List Relocation) (address_size : ℕ) (order : Endian) (place : ℕ) → table_at relocations address_size (record { order = order; place = place; left = [] }) ≡ Err EndsEarly
+pub table_at-end : (source : LineSource) (address_size place : ℕ) → table_at source address_size (record { order = source.order; place = place; left = [] }) ≡ Err EndsEarly
 unfolding table_at line_header_at sized_part_at number_at bytes_at
-table_at-end relocations address_size order place = refl
+table_at-end source address_size place = refl
 
 -- what is unread behind what was read
 abbrev unread_behind : {A : Type 0} → ReadOf A → Unread → Unread
@@ -283,15 +298,11 @@ passed-short order bytes offset flaw h = go (ltb (length bytes) offset) refl h
 
 -- ---- what a call answers
 
-module _ (order : Endian) (bytes : List ℕ) (relocations : List Relocation) (address_size offset : ℕ) where
-  -- a flaw, as a fault of the table
-  reported-flaw : (flaw : Flaw) → table_at relocations address_size (record { order = order; place = offset; left = drop offset bytes }) ≡ Err flaw → line_table (of_line order bytes relocations) address_size offset ≡ Err (fault_of LineTableRead Line offset flaw)
-  reported-flaw flaw h = line_table-at order bytes relocations address_size offset ∙ ap (reported LineTableRead Line offset) h
-
+module _ (source : LineSource) (line : List ℕ) (address_size offset : ℕ) where
   -- a flaw that is met is answered as its fault
-  pub answers-flaw : (fault : TabFault) (flaw : Flaw) → fault_view fault ≡ Some (fault_of LineTableRead Line offset flaw) → table_at relocations address_size (record { order = order; place = offset; left = drop offset bytes }) ≡ Err flaw
-      → AnswersTable offset (line_table (of_line order bytes relocations) address_size offset) (Err fault)
-  answers-flaw (Read what section at) flaw is h = reported-flaw flaw h ∙ ap Err (let same : fault_of LineTableRead Line offset flaw ≡ unreadable what section at = cc in same)
-  answers-flaw (Unsupported kind at) flaw is h = reported-flaw flaw h ∙ ap Err (let same : fault_of LineTableRead Line offset flaw ≡ unsupported kind at = cc in same)
+  pub answers-flaw : (fault : TabFault) (flaw : Flaw) → fault_view fault ≡ Some (fault_of LineTableRead Line offset flaw) → table_at source address_size (record { order = source.order; place = offset; left = drop offset line }) ≡ Err flaw
+      → AnswersTable offset (table_in source line address_size offset) (Err fault)
+  answers-flaw (Read what section at) flaw is h = ap (reported LineTableRead Line offset) h ∙ ap Err (let same : fault_of LineTableRead Line offset flaw ≡ unreadable what section at = cc in same)
+  answers-flaw (Unsupported kind at) flaw is h = ap (reported LineTableRead Line offset) h ∙ ap Err (let same : fault_of LineTableRead Line offset flaw ≡ unsupported kind at = cc in same)
   answers-flaw (InvalidFileIndex at) flaw is h = absurd (cc)
   answers-flaw NoMemory flaw is h = tt

@@ -6,11 +6,26 @@ use Rattle.dwc_base.specs.LineHeaders as spec
 use Rattle.dwc_base.specs.Cursors.{slice_bytes}
 use Rattle.dwc_tabs.specs.declared.header.LineFile.{LineFile}
 use Rattle.dwc_tabs.specs.declared.parameters.Parameters.{Parameters}
+use Rattle.dwc_tabs.specs.declared.header.Names.{Names}
 use Rattle.dwc_tabs.specs.declared.header.Header.{Header}
+use Rattle.dwc_tabs.specs.declared.entries.EntryFormat.{EntryFormat}
+use Rattle.dwc_tabs.specs.declared.source.Source.{Source}
 
 -- a file
 abbrev pub file_view : LineFile → spec.LineFile
 file_view f = record { directory = f.directory; name = f.name.now }
+
+-- the format of a field of an entry
+abbrev pub format_view : EntryFormat → spec.EntryFormat
+format_view f = record { content = f.content; form = f.form }
+
+-- what a table is read from beside its own section
+abbrev pub source_view : Source → spec.LineSource
+source_view s = record { order = s.order; strings = s.strings.now; line_strings = s.line_strings.now; relocations = s.relocations }
+
+-- directories and files
+abbrev pub names_view : Names → List (List ℕ) × List spec.LineFile
+names_view n = (map slice_bytes n.directories.items, map file_view n.files.items)
 
 -- a header of parameters, directories, files and the program behind it
 abbrev pub header_of : Parameters → List (List ℕ) → List spec.LineFile → Unread → spec.LineHeader

@@ -1,5 +1,5 @@
 -- What a program that is unread shows, and what a check of it notes.
-use Rattle.std.specs.Prelude.{◌≡◌, ◌+◌, ◌*◌, ◌^◌, ◌<◌, min, max, nat_abs, List, [], ◌∷◌, ◌++◌, length, true, false, Option, Some, None, is_some, Result, Ok, Err}
+use Rattle.std.specs.Prelude.{◌≡◌, ℕ, ◌+◌, ◌*◌, ◌^◌, ◌<◌, min, max, nat_abs, nat_le, nat_lt, List, [], ◌∷◌, ◌++◌, length, Bool, true, false, ◌&&◌, if◌then◌else◌, Option, Some, None, is_some, Result, Ok, Err}
 use Rattle.std.specs.List.{filter_map, list_all}
 use Rattle.dwc_base.specs.declared.faults.NotRead.{NotRead}
 use Rattle.dwc_base.specs.declared.faults.NotRead.TheVariants.{OutOfMemory, Flawed}
@@ -11,6 +11,7 @@ use Rattle.dwc_base.specs.LineHeaders as spec
 use Rattle.dwc_base.specs.LineRows.{Registers, LineStep, start, row, end, at_sequence_start, file_defined}
 use Rattle.dwc_tabs.specs.declared.parameters.Parameters.{Parameters}
 use Rattle.dwc_tabs.specs.declared.instruction.Instruction.{Instruction}
+use Rattle.dwc_tabs.specs.declared.program.FileNumbers.{FileNumbers}
 use Rattle.dwc_tabs.specs.declared.program.ProgramCheck.{ProgramCheck}
 use Rattle.dwc_tabs.specs.declared.step.LineStep as own
 use Rattle.dwc_tabs.specs.Headers.{program_header}
@@ -41,10 +42,24 @@ abbrev pub GivesStep : Option own.LineStep → List LineStep → List LineStep �
 GivesStep (Some s) old new = old ≡ step_view s ∷ new
 GivesStep None old new = (old ≡ []) × (new ≡ [])
 
+-- the numbers of some files with a further one
+abbrev pub numbers_with : Option FileNumbers → ℕ → FileNumbers
+numbers_with None file = record { lowest = file; highest = file }
+numbers_with (Some n) file = record { lowest = min n.lowest file; highest = max n.highest file }
+
+-- whether a number is one of so many files: they count from 1, from version 5 on from 0
+abbrev pub is_number : ℕ → ℕ → ℕ → Bool
+is_number version count file = if nat_lt version 5 then nat_le 1 file && nat_le file count else nat_lt file count
+
+-- the same of numbers by their bounds
+abbrev pub are_within : ℕ → ℕ → Option FileNumbers → Bool
+are_within version count None = true
+are_within version count (Some n) = if nat_lt version 5 then nat_le 1 n.lowest && nat_le n.highest count else nat_lt n.highest count
+
 -- what was noted, with a further row or step
 abbrev pub noted_item : Option LineStep → ProgramCheck → ProgramCheck
 noted_item None c = record c { in_range = false }
-noted_item (Some (row r)) c = record c { lowest_file = min c.lowest_file r.file; highest_file = max c.highest_file r.file }
+noted_item (Some (row r)) c = record c { files = Some (numbers_with c.files r.file) }
 noted_item (Some (start a)) c = c
 noted_item (Some (end e)) c = c
 
@@ -59,7 +74,7 @@ noted_all [] c = c
 noted_all (s ∷ ss) c = noted_all ss (noted_item s c)
 
 abbrev pub nothing_noted : ProgramCheck
-nothing_noted = record { in_range = true; lowest_file = 1; highest_file = 0 }
+nothing_noted = record { in_range = true; files = None }
 
 -- A program that was read: the check notes all that it shows, and the files that it defines stand behind the given ones.
 pub record Checked (p : Parameters) (relocations : List Relocation) (u : Unread) (old new : List spec.LineFile) (check : ProgramCheck) : Type 0 where

@@ -1,13 +1,15 @@
 -- A line table as it is read: from what is unread, and from the parts that the program keeps.
-use Rattle.std.specs.Prelude.{◌≡◌, ℕ, zero, suc, List, map, take, drop, ◌<◌, Bool, nat_lt, nat_le, ◌&&◌, true, Option, Some, None, slice_get, length, Result, Ok, Err}
+use Rattle.std.specs.Prelude.{◌≡◌, ℕ, List, map, take, drop, ◌<◌, Bool, nat_lt, nat_le, ◌&&◌, true, Option, Some, None, length, Result, Ok, Err}
 use Rattle.std.specs.List.{list_all}
 use Rattle.dwc_base.specs.declared.records.Endian.{Endian}
 use Rattle.dwc_base.specs.declared.faults.Flaw.{Flaw}
 use Rattle.dwc_base.specs.declared.faults.NotRead.{NotRead}
 use Rattle.dwc_base.specs.declared.faults.NotRead.TheVariants.{OutOfMemory, Flawed}
 use Rattle.dwc_base.specs.Reading.{Unread, ◌>>=◌}
-use Rattle.dwc_base.specs.Sections.{Relocation, Sections}
-use Rattle.dwc_base.specs.LineHeaders.{LineFile, line_header_at, instructions}
+use Rattle.dwc_base.specs.declared.faults.What.TheVariants.{LineTable as LineTableRead}
+use Rattle.dwc_base.specs.declared.section_name.SectionName.TheVariants.{Line}
+use Rattle.dwc_base.specs.Sections.{Relocation, Fault, reported}
+use Rattle.dwc_base.specs.LineHeaders.{LineFile, LineSource, line_header_at, instructions}
 use Rattle.dwc_base.specs.LineRows.{LineTable, LineStep, start, row, end, checked_table, at_sequence_start}
 use Rattle.dwc_base.specs.Cursors.{slice_bytes}
 use Rattle.dwc_tabs.specs.declared.parameters.Parameters.{Parameters}
@@ -16,17 +18,17 @@ use Rattle.dwc_tabs.specs.declared.table.LineTable.TheInside.{Inside}
 use Rattle.dwc_tabs.specs.declared.table.Rows.TheInside as rows
 use Rattle.dwc_tabs.specs.Headers.{file_view, header_of, program_header}
 use Rattle.dwc_tabs.specs.Steps.{registers_view}
-use Rattle.dwc_tabs.specs.Programs.{CanRun, steps_from}
+use Rattle.dwc_tabs.specs.Programs.{CanRun, steps_from, is_number, are_within}
 
 -- the table at the front of what is unread, for a unit of an address size
-unfoldable pub table_at : List Relocation → ℕ → Unread → Result LineTable Flaw
-table_at relocations address_size u = do
-  h ← line_header_at address_size u
-  checked_table h (instructions relocations h h.program)
+unfoldable pub table_at : LineSource → ℕ → Unread → Result LineTable Flaw
+table_at source address_size u = do
+  h ← line_header_at source address_size u
+  checked_table h (instructions source.relocations h h.program)
 
--- sections of which each is a line section
-abbrev pub of_line : Endian → List ℕ → List Relocation → Sections
-of_line order bytes relocations = record { order = order; bytes = λ name. bytes; relocations = λ name. relocations }
+-- the table at an offset of the bytes of a line section
+abbrev pub table_in : LineSource → List ℕ → ℕ → ℕ → Result LineTable Fault
+table_in source line address_size offset = reported LineTableRead Line offset (table_at source address_size (record { order = source.order; place = offset; left = drop offset line }))
 
 -- a table by its parts; the first files are those of the header
 abbrev pub table_of_parts : Parameters → List (List ℕ) → ℕ → List LineFile → List Relocation → Unread → LineTable
@@ -51,20 +53,15 @@ rows_view r = steps_from r.parameters r.relocations (registers_view r.registers)
 abbrev pub RunsOn : rows.Inside → Type 0
 RunsOn r = CanRun r.parameters r.relocations (registers_view r.registers) r.cursor
 
--- what stands at a number, from 1 on
-abbrev pub numbered : {A : Type 0} → ℕ → List A → Option A
-numbered zero xs = None
-numbered (suc n) xs = slice_get xs n
-
--- whether a row names one of the first files, as many as said
-abbrev pub names_within : ℕ → LineStep → Bool
-names_within count (start a) = true
-names_within count (row r) = nat_le 1 r.file && nat_le r.file count
-names_within count (end e) = true
+-- whether a row names one of so many files
+abbrev pub names_within : ℕ → ℕ → LineStep → Bool
+names_within version count (start a) = true
+names_within version count (row r) = is_number version count r.file
+names_within version count (end e) = true
 
 -- a check knows between which numbers those lie that rows name
 abbrev pub Bounds : ProgramCheck → List LineStep → Type 0
-Bounds check steps = (count : ℕ) → list_all (names_within count) steps ≡ (nat_le 1 check.lowest_file && nat_le check.highest_file count)
+Bounds check steps = (version count : ℕ) → list_all (names_within version count) steps ≡ are_within version count check.files
 
 -- whether a file's directory is one of the first, as many as said, or 0, and its name is not empty
 abbrev pub is_named_within : ℕ → LineFile → Bool

@@ -24,8 +24,8 @@ pub enum TabFault {
         what: Kind,
         offset: u64,
     },
-    /// In the table at `offset` a row names a file that is not there, a file names a directory that is not there, or a file's
-    /// name is empty.
+    /// In the table at `offset` a row names a file that is not there, a file names a directory that is not there, or the name
+    /// of a file, or of a directory above 0, is empty.
     #[error("InvalidFileIndex {offset}")]
     InvalidFileIndex {
         offset: u64,

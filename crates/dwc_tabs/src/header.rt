@@ -1,13 +1,15 @@
-//! The header of a line table. (DWARF 4, section 6.2.4.)
+//! The header of a line table. (DWARF 4 and 5, section 6.2.4.)
 ghost use Rattle.std.specs.Prelude.{◌≡◌, ◌+◌, ◌-◌, ◌<◌, IsTrue, IfOk, map, option_map, length, ℕ};
 ghost use Rattle.dwc_base.specs.Reading.{counted_at, items_at, number_at};
 ghost use Rattle.dwc_base.specs.Units.{sized_part_at};
-ghost use Rattle.dwc_base.specs.LineHeaders.{signed_byte, directory_at, file_behind, file_at, operations_at, line_fields_to_4, line_header_at};
+ghost use Rattle.dwc_base.specs.LineHeaders.{signed_byte, directory_at, file_behind, file_at, operations_at, line_names_at, line_fields_at, line_address_size_at, line_header_at};
 ghost use Rattle.dwc_base.specs.Cursors.{Gives, GivesLast, GivesOrMemory, GivesLastOrMemory, slice_bytes};
 ghost use Rattle.dwc_read.specs.FieldSizes.{is_field_size};
-ghost use Rattle.dwc_tabs.specs.Headers.{file_view, header_view};
+ghost use Rattle.dwc_tabs.specs.Headers.{file_view, names_view, header_view, source_view};
 
+use crate::entries::{directories_of_5, files_of_5};
 use crate::parameters::Parameters;
+use crate::source::Source;
 use dwc_base::{Cursor, Flaw, Kind, NotRead};
 use std::alloc::Global;
 
@@ -20,10 +22,18 @@ pub struct LineFile<'d> {
     pub name: &'d [u8],
 }
 
+// The directories and the files of a header.
+#[derive(Drop)]
+struct Names<'d> {
+    directories: Vec<&'d [u8]>,
+    files: Vec<LineFile<'d>>,
+}
+
 /// A header, and the program behind it.
 #[derive(Drop)]
 pub struct Header<'d> {
     pub parameters: Parameters<'d>,
+    /// The directories, from number 1 on.
     pub directories: Vec<&'d [u8]>,
     pub files: Vec<LineFile<'d>>,
     pub program: Cursor<'d>,
@@ -137,17 +147,43 @@ fn opcode_lengths<'d>(opcode_base: u8, cursor: &mut Cursor<'d>) -> Result<&'d [u
     Ok(cursor.take(opcode_base as usize - 1)?)
 }
 
-// The fields behind the header's length, of the versions 2 to 4.
-#[tactic(auto, unfolding(dwc_base::specs::LineHeaders::line_fields_to_4))]
-fn fields_to_4<'d>(
+// The directories and the files of a version.
+#[tactic(auto, unfolding(dwc_base::specs::LineHeaders::line_names_at))]
+fn directories_and_files<'d>(
     alloc: Global,
+    source: &Source<'d>,
+    version: u16,
+    address_size: u8,
+    cursor: &mut Cursor<'d>,
+) -> Result<Names<'d>, NotRead>
+    requires { IsTrue (is_field_size address_size) }
+    ensures { GivesOrMemory names_view (line_names_at (source_view source.now) version address_size cursor.old) cursor.new result }
+{
+    let directories = if version == 5 {
+        directories_of_5(alloc, source, address_size, cursor)?
+    } else {
+        directories(alloc, cursor)?
+    };
+    let files = if version == 5 {
+        files_of_5(alloc, source, address_size, cursor)?
+    } else {
+        files(alloc, cursor)?
+    };
+    Ok(Names { directories, files })
+}
+
+// The fields behind the header's length.
+#[tactic(auto, unfolding(dwc_base::specs::LineHeaders::line_fields_at))]
+fn fields<'d>(
+    alloc: Global,
+    source: &Source<'d>,
     version: u16,
     address_size: u8,
     program: Cursor<'d>,
     mut cursor: Cursor<'d>,
 ) -> Result<Header<'d>, NotRead>
     requires { IsTrue (is_field_size address_size) }
-    ensures { GivesLastOrMemory header_view (line_fields_to_4 version address_size program.entry cursor.entry) result }
+    ensures { GivesLastOrMemory header_view (line_fields_at (source_view source.now) version address_size program.entry cursor.entry) result }
 {
     let minimum_instruction_length = cursor.u8()?;
     operations(version, &mut cursor)?;
@@ -162,8 +198,7 @@ fn fields_to_4<'d>(
         return Err(NotRead::Flawed(Flaw::Malformed));
     }
     let standard_opcode_lengths = opcode_lengths(opcode_base, &mut cursor)?;
-    let directories = directories(alloc, &mut cursor)?;
-    let files = files(alloc, &mut cursor)?;
+    let names = directories_and_files(alloc, source, version, address_size, &mut cursor)?;
     Ok(Header {
         parameters: Parameters {
             version,
@@ -175,31 +210,51 @@ fn fields_to_4<'d>(
             opcode_base,
             standard_opcode_lengths,
         },
-        directories,
-        files,
+        directories: names.directories,
+        files: names.files,
         program,
     })
+}
+
+// The size of an address: that of the unit, from version 5 on the table's own, with no segment selectors.
+#[tactic(auto, unfolding(dwc_base::specs::LineHeaders::line_address_size_at))]
+fn address_size(version: u16, unit_size: u8, cursor: &mut Cursor<'_>) -> Result<u8, Flaw>
+    requires { IsTrue (is_field_size unit_size) }
+    ensures read { Gives (λ x. x) (line_address_size_at version unit_size cursor.old) cursor.new result }
+    ensures known { IfOk result (λ size. IsTrue (is_field_size size)) }
+{
+    if version != 5 {
+        return Ok(unit_size);
+    }
+    let size = cursor.u8()?;
+    if size != 4 && size != 8 {
+        return Err(Flaw::Refused(Kind::AddressSize));
+    }
+    let selector_size = cursor.u8()?;
+    if selector_size != 0 {
+        return Err(Flaw::Refused(Kind::SegmentSelector));
+    }
+    Ok(size)
 }
 
 /// The header of the table at the front, for a unit of an address size.
 #[tactic(auto, unfolding(dwc_base::specs::LineHeaders::line_header_at))]
 pub fn line_header<'d>(
     alloc: Global,
-    address_size: u8,
+    source: &Source<'d>,
+    unit_size: u8,
     mut cursor: Cursor<'d>,
 ) -> Result<Header<'d>, NotRead>
-    requires { IsTrue (is_field_size address_size) }
-    ensures { GivesLastOrMemory header_view (line_header_at address_size cursor.entry) result }
+    requires { IsTrue (is_field_size unit_size) }
+    ensures { GivesLastOrMemory header_view (line_header_at (source_view source.now) unit_size cursor.entry) result }
 {
     let mut table = sized_part(&mut cursor)?;
     let version = table.u16()?;
     if version < 2 || version > 5 {
         return Err(NotRead::Flawed(Flaw::Refused(Kind::Version)));
     }
-    if version == 5 {
-        return Err(NotRead::Flawed(Flaw::Refused(Kind::NotBuilt)));
-    }
+    let address_size = address_size(version, unit_size, &mut table)?;
     let size = table.u32()?;
-    let fields = table.part(size as usize)?;
-    fields_to_4(alloc, version, address_size, table, fields)
+    let parts = table.part(size as usize)?;
+    fields(alloc, source, version, address_size, table, parts)
 }

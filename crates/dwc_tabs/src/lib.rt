@@ -1,16 +1,20 @@
-//! Line tables: a table is read and checked once, and its rows are given one at a time. (DWARF 4, section 6.2.)
+//! Line tables: a table is read and checked once, and its rows are given one at a time. (DWARF 4 and 5, section 6.2.)
 #![tactic(auto)]
 
+mod entries;
 mod fault;
 mod header;
 mod instruction;
 mod parameters;
+mod path;
 mod program;
 mod registers;
+mod source;
 mod step;
 mod table;
 #[cfg(test)]
 mod tests;
+mod unread;
 
 pub use fault::TabFault;
 pub use header::LineFile;

@@ -2,7 +2,7 @@
 ghost use Rattle.std.specs.Prelude.{◌≡◌, map};
 ghost use Rattle.dwc_tabs.specs.Headers.{file_view};
 ghost use Rattle.dwc_tabs.specs.Steps.{registers_view, shown_view};
-ghost use Rattle.dwc_tabs.specs.Programs.{noted, Checks, CanRun, steps_from, GivesStep, DefinesFile};
+ghost use Rattle.dwc_tabs.specs.Programs.{numbers_with, noted, Checks, CanRun, steps_from, GivesStep, DefinesFile};
 
 use crate::header::LineFile;
 use crate::instruction::{Instruction, read_instruction};
@@ -11,15 +11,20 @@ use crate::registers::{Registers, execute, sequence_start};
 use crate::step::{LineStep, Shown};
 use dwc_base::{Cursor, NotRead, Relocations};
 
+/// Between which numbers those of some files lie.
+#[derive(Clone, Copy)]
+pub struct FileNumbers {
+    pub lowest: u64,
+    pub highest: u64,
+}
+
 /// What a check of a program noted of its rows.
 #[derive(Clone, Copy)]
 pub struct ProgramCheck {
     /// Whether all are in range.
     pub in_range: bool,
-    /// The lowest number of a file that one names, where it is below 1.
-    pub lowest_file: u64,
-    /// The highest number of a file that one names.
-    pub highest_file: u64,
+    /// The files that they name, if there are rows.
+    pub files: Option<FileNumbers>,
 }
 
 /// Reads and runs a whole program. The files that it defines go behind the given ones.
@@ -34,8 +39,7 @@ pub fn check_program<'d>(
     let mut registers = sequence_start(parameters);
     let mut check = ProgramCheck {
         in_range: true,
-        lowest_file: 1,
-        highest_file: 0,
+        files: None,
     };
     let mut left = cursor.left();
     while left > 0 {
@@ -61,6 +65,22 @@ fn define_file<'d>(
     Ok(())
 }
 
+// The numbers of some files with a further one.
+fn with_number(files: Option<FileNumbers>, file: u64) -> FileNumbers
+    ensures { result ≡ numbers_with files file }
+{
+    match files {
+        None => FileNumbers {
+            lowest: file,
+            highest: file,
+        },
+        Some(numbers) => FileNumbers {
+            lowest: numbers.lowest.min(file),
+            highest: numbers.highest.max(file),
+        },
+    }
+}
+
 // What was noted, with what one instruction shows.
 fn note(check: ProgramCheck, shown: Shown) -> ProgramCheck
     ensures { result ≡ noted (shown_view shown) check }
@@ -68,13 +88,11 @@ fn note(check: ProgramCheck, shown: Shown) -> ProgramCheck
     match shown {
         Shown::Step(LineStep::Row(row)) => ProgramCheck {
             in_range: check.in_range,
-            lowest_file: check.lowest_file.min(row.file),
-            highest_file: check.highest_file.max(row.file),
+            files: Some(with_number(check.files, row.file)),
         },
         Shown::OutOfRange => ProgramCheck {
             in_range: false,
-            lowest_file: check.lowest_file,
-            highest_file: check.highest_file,
+            files: check.files,
         },
         Shown::Nothing | Shown::Step(_) => check,
     }

@@ -1,22 +1,24 @@
-//! Line tables, and their rows. (DWARF 4, section 6.2.)
-ghost use Rattle.std.specs.Prelude.{◌≡◌, ◌<◌, ◌^◌, IsTrue, length, map, option_map, nat_le, ◌&&◌};
+//! Line tables, and their rows. (DWARF 4 and 5, section 6.2.)
+ghost use Rattle.std.specs.Prelude.{◌≡◌, ◌&&◌, IsTrue, length, map, option_map, slice_get};
 ghost use Rattle.std.specs.List.{list_all};
 ghost use Rattle.dwc_base.specs.Cursors.{slice_bytes};
-ghost use Rattle.dwc_base.specs.FirstForm.{has_all_files};
-ghost use Rattle.dwc_base.specs.LineRows.{line_table};
+ghost use Rattle.dwc_base.specs.LineFiles.{has_all_files, is_named as is_named_directory};
+ghost use Rattle.dwc_base.specs.LineRows.{line_table, numbered, file_numbered};
 ghost use Rattle.dwc_read.specs.FieldSizes.{is_field_size};
-ghost use Rattle.dwc_tabs.specs.Headers.{file_view};
-ghost use Rattle.dwc_tabs.specs.Programs.{GivesStep};
+ghost use Rattle.dwc_tabs.specs.Headers.{file_view, source_view};
+ghost use Rattle.dwc_tabs.specs.Programs.{GivesStep, are_within};
 ghost use Rattle.dwc_tabs.specs.Faults.{AnswersTable};
-ghost use Rattle.dwc_tabs.specs.Tables.{table_at, of_line, numbered, Bounds, is_named_within, ReadsTable, UnreadFrom};
+ghost use Rattle.dwc_tabs.specs.Tables.{table_at, table_in, Bounds, is_named_within, ReadsTable};
 
 use crate::fault::{TabFault, flawed};
 use crate::header::{LineFile, line_header};
 use crate::parameters::Parameters;
 use crate::program::{ProgramCheck, check_program, next_step};
 use crate::registers::{Registers, sequence_start};
+use crate::source::Source;
 use crate::step::LineStep;
-use dwc_base::{Cursor, Endian, Flaw, NotRead, Relocations, SectionName};
+use crate::unread::unread_from;
+use dwc_base::{Cursor, Flaw, NotRead, Relocations, SectionName};
 use dwc_read::Unit;
 use std::alloc::Global;
 use std::marker::Model;
@@ -26,6 +28,7 @@ use std::marker::Model;
 #[derive(Drop)]
 pub struct LineTable<'d> {
     parameters: Parameters<'d>,
+    // From number 1 on.
     directories: Vec<&'d [u8]>,
     // Those of the header, and behind them those that the program defines.
     files: Vec<LineFile<'d>>,
@@ -69,41 +72,40 @@ impl<'d> Model for Rows<'d> {
 }
 
 impl<'d> LineTable<'d> {
-    /// The line table at an offset of `.debug_line`, read whole. Versions 2 to 4 are read. It answers `Read` where the bytes
-    /// are no line table or a row's offset or line is out of range, `Unsupported` for the 64-bit format, for several operations
-    /// in one instruction and for any other version, and `InvalidFileIndex` where the table names a file or a directory that is
-    /// not there. (DWARF 4, section 6.2.4.)
+    /// The line table at an offset of `.debug_line`, read whole. Versions 2 to 5 are read. It answers `Read` where the bytes
+    /// are no line table, a row's offset or line is out of range, or the text that a path names elsewhere cannot be read;
+    /// `Unsupported` for the 64-bit format, for several operations in one instruction, for any other version, and in version 5
+    /// for an address size other than 4 and 8, for segment selectors, for forms of supplementary files and, so far, for paths
+    /// by the index of a text; and `InvalidFileIndex` where the table names a file or a directory that is not there, or has
+    /// one without a name. (DWARF 4 and 5, section 6.2.4.)
     pub fn read(alloc: Global, unit: &Unit<'d>, offset: u64) -> Result<LineTable<'d>, TabFault>
         ensures { AnswersTable offset (line_table unit.now.sections unit.now.header.address_size offset) result }
     {
+        let source = Source {
+            order: unit.order(),
+            strings: unit.section(SectionName::Str),
+            line_strings: unit.section(SectionName::LineStr),
+            relocations: unit.relocations(SectionName::Line),
+        };
         let line = unit.section(SectionName::Line);
-        let relocations = unit.relocations(SectionName::Line);
-        LineTable::read_at(
-            alloc,
-            line,
-            relocations,
-            unit.order(),
-            unit.address_size(),
-            offset,
-        )
+        LineTable::read_at(alloc, source, line, unit.address_size(), offset)
     }
 
     // The line table at an offset of the bytes of a line section, for a unit of an address size.
     pub(crate) fn read_at(
         alloc: Global,
+        source: Source<'d>,
         line: &'d [u8],
-        relocations: Relocations<'d>,
-        order: Endian,
         address_size: u8,
         offset: u64,
     ) -> Result<LineTable<'d>, TabFault>
         requires { IsTrue (is_field_size address_size) }
-        ensures { AnswersTable offset (line_table (of_line order line.now relocations.entry) address_size offset) result }
+        ensures { AnswersTable offset (table_in (source_view source.entry) line.now address_size offset) result }
     {
-        let Some(cursor) = unread_from(line, order, offset) else {
+        let Some(cursor) = unread_from(line, source.order, offset) else {
             return Err(flawed(Flaw::EndsEarly, offset));
         };
-        match read_table(alloc, relocations, address_size, cursor) {
+        match read_table(alloc, source, address_size, cursor) {
             Err(NotRead::OutOfMemory) => Err(TabFault::OutOfMemory),
             Err(NotRead::Flawed(flaw)) => Err(flawed(flaw, offset)),
             Ok((table, check)) => {
@@ -130,7 +132,8 @@ impl<'d> LineTable<'d> {
         self.directories.len() as u64
     }
 
-    /// The name of a directory; None at 0, the compilation directory, and behind the last one. (DWARF 4, section 6.2.4, 11.)
+    /// The name of a directory; None at 0, the compilation directory, and behind the last one. (DWARF 4, section 6.2.4, 11;
+    /// DWARF 5, section 6.2.4, 12.)
     pub fn directory(&self, i: u64) -> Option<&'d [u8]>
         ensures { option_map slice_bytes result ≡ numbered i self.now.header.directories }
     {
@@ -144,11 +147,16 @@ impl<'d> LineTable<'d> {
         self.files.len() as u64
     }
 
-    /// The file of a number; files count from 1. (DWARF 4, section 6.2.4, 12.)
+    /// The file of a number; files count from 1, from version 5 on from 0. (DWARF 4, section 6.2.4, 12; DWARF 5, section 6.2.4,
+    /// 17.)
     pub fn file(&self, i: u64) -> Option<LineFile<'d>>
-        ensures { option_map file_view result ≡ numbered i self.now.files }
+        ensures { option_map file_view result ≡ file_numbered self.now i }
     {
-        at_number(&self.files, i).copied()
+        if self.parameters.version < 5 {
+            at_number(&self.files, i).copied()
+        } else {
+            at_place(&self.files, i).copied()
+        }
     }
 
     /// The steps of the table's program, from its begin on.
@@ -168,7 +176,12 @@ impl<'d> LineTable<'d> {
         requires { Bounds check self.now.steps }
         ensures { result ≡ has_all_files self.now }
     {
-        are_there(check, &self.files, self.directories.len())
+        are_there(
+            check,
+            self.parameters.version,
+            &self.files,
+            &self.directories,
+        )
     }
 }
 
@@ -196,17 +209,57 @@ fn at_number<T>(list: &[T], number: u64) -> Option<&T>
     list.get(number as usize - 1)
 }
 
-// Whether the files are there that rows name, each with a name and a directory that is there.
-fn are_there(check: ProgramCheck, files: &[LineFile<'_>], directories: usize) -> bool
-    ensures { result ≡ (nat_le 1 check.lowest_file && nat_le check.highest_file (length files.now) && list_all (is_named_within directories) (map file_view files.now)) }
+// What stands at a place, from 0 on.
+fn at_place<T>(list: &[T], place: u64) -> Option<&T>
+    ensures { option_map (λ x. x.now) result ≡ slice_get list.now place }
 {
-    if check.lowest_file < 1 {
-        return false;
+    list.get(place as usize)
+}
+
+// Whether the files are there that rows name, and the directories that files name, and none is without a name.
+fn are_there(
+    check: ProgramCheck,
+    version: u16,
+    files: &[LineFile<'_>],
+    directories: &[&[u8]],
+) -> bool
+    ensures { result ≡ (are_within version (length files.now) check.files && list_all (is_named_within (length directories.now)) (map file_view files.now) && list_all is_named_directory (map slice_bytes directories.now)) }
+{
+    have_files(check, version, files.len())
+        && are_named(files, directories.len())
+        && have_names(directories)
+}
+
+// Whether rows name only files that are there, of as many as said.
+fn have_files(check: ProgramCheck, version: u16, files: usize) -> bool
+    ensures { result ≡ are_within version files check.files }
+{
+    match check.files {
+        None => true,
+        Some(numbers) if version < 5 => numbers.lowest >= 1 && numbers.highest <= files as u64,
+        Some(numbers) => numbers.highest < files as u64,
     }
-    if check.highest_file > files.len() as u64 {
-        return false;
-    }
+}
+
+// Whether files have names, and directories that are there.
+fn are_named(files: &[LineFile<'_>], directories: usize) -> bool
+    ensures { result ≡ list_all (is_named_within directories) (map file_view files.now) }
+{
     files.iter().all(|file| is_named(*file, directories))
+}
+
+// Whether a directory has a name.
+fn has_name(name: &[u8]) -> bool
+    ensures { result ≡ is_named_directory name.now }
+{
+    !name.is_empty()
+}
+
+// Whether directories have names.
+fn have_names(directories: &[&[u8]]) -> bool
+    ensures { result ≡ list_all is_named_directory (map slice_bytes directories.now) }
+{
+    directories.iter().all(|name| has_name(name))
 }
 
 // Whether a file has a name, and one of the directories or the compilation directory.
@@ -216,28 +269,18 @@ fn is_named(file: LineFile<'_>, directories: usize) -> bool
     file.directory <= directories as u64 && !file.name.is_empty()
 }
 
-// What is unread of some bytes from an offset on; None where the offset is past their end.
-fn unread_from<'d>(bytes: &'d [u8], order: Endian, offset: u64) -> Option<Cursor<'d>>
-    ensures { UnreadFrom order bytes.now offset result }
-{
-    let mut cursor = Cursor::new(bytes, order);
-    match cursor.take(offset as usize) {
-        Ok(_) => Some(cursor),
-        Err(_) => None,
-    }
-}
-
 // The table at the front, with what was noted of its rows.
 fn read_table<'d>(
     alloc: Global,
-    relocations: Relocations<'d>,
+    source: Source<'d>,
     address_size: u8,
     cursor: Cursor<'d>,
 ) -> Result<(LineTable<'d>, ProgramCheck), NotRead>
     requires { IsTrue (is_field_size address_size) }
-    ensures { ReadsTable (table_at relocations.entry address_size cursor.entry) result }
+    ensures { ReadsTable (table_at (source_view source.entry) address_size cursor.entry) result }
 {
-    let header = line_header(alloc, address_size, cursor)?;
+    let header = line_header(alloc, &source, address_size, cursor)?;
+    let relocations = source.relocations;
     let parameters = header.parameters;
     let mut files = header.files;
     let header_files = files.len();

@@ -1,7 +1,9 @@
 //! Line tables with their rows worked out by hand, and one of a compiler with the rows that another program prints.
 mod compiled;
+mod version_5;
 
 use self::compiled::{LINE, PRINTED};
+use crate::source::Source;
 use crate::{LineFile, LineStep, LineTable, TabFault};
 use dwc_base::{Address, Endian, Kind, LineRow, Relocations, SectionName, What};
 use std::alloc::{AllocError, Global};
@@ -50,6 +52,28 @@ fn section(
 
 fn length(bytes: &[u8]) -> u32 {
     u32::try_from(bytes.len()).unwrap_or(u32::MAX)
+}
+
+// The table of a section, without texts elsewhere.
+fn read<'d>(alloc: Global, line: &'d [u8], size: u8) -> Result<LineTable<'d>, TabFault> {
+    read_with(alloc, line, size, b"", b"")
+}
+
+// The same with texts in `.debug_str` and `.debug_line_str`.
+fn read_with<'d>(
+    alloc: Global,
+    line: &'d [u8],
+    size: u8,
+    strings: &'d [u8],
+    line_strings: &'d [u8],
+) -> Result<LineTable<'d>, TabFault> {
+    let source = Source {
+        order: Endian::Little,
+        strings,
+        line_strings,
+        relocations: Relocations::none(),
+    };
+    LineTable::read_at(alloc, source, line, size, 0)
 }
 
 // The last row of a table of few steps, and the last end.
@@ -166,14 +190,7 @@ fn opcodes(rt: HostRuntime) -> Result<(), Fail> {
         let mut program = opcodes.to_vec(rt.alloc())?;
         program.extend_from_slice(b"\x01\x00\x01\x01")?;
         let bytes = section(rt.alloc(), 4, &RICH, &program)?;
-        let table = LineTable::read_at(
-            rt.alloc(),
-            &bytes,
-            Relocations::none(),
-            Endian::Little,
-            4,
-            0,
-        )?;
+        let table = read(rt.alloc(), &bytes, 4)?;
         let (row, end) = last_row(&table);
         assert_eq!(rt; row, Some(expected), "after {opcodes:?}");
         assert_eq!(rt; end, Some(expected.offset), "after {opcodes:?}");
@@ -207,34 +224,13 @@ fn refusals(rt: HostRuntime) -> Result<(), Fail> {
     ];
     for (version, program, expected) in cases {
         let bytes = section(rt.alloc(), version, &RICH, program)?;
-        let read = LineTable::read_at(
-            rt.alloc(),
-            &bytes,
-            Relocations::none(),
-            Endian::Little,
-            4,
-            0,
-        );
+        let read = read(rt.alloc(), &bytes, 4);
         assert_eq!(rt; read.err(), Some(expected), "at {program:?}");
     }
     let bytes = section(rt.alloc(), 4, b"\x01\x02\x01\x00\x01\x01\x00\x00", b"")?;
-    let read = LineTable::read_at(
-        rt.alloc(),
-        &bytes,
-        Relocations::none(),
-        Endian::Little,
-        4,
-        0,
-    );
+    let read = read(rt.alloc(), &bytes, 4);
     assert_eq!(rt; read.err(), Some(unsupported(Kind::Operations)));
-    let read = LineTable::read_at(
-        rt.alloc(),
-        b"\xff\xff\xff\xff",
-        Relocations::none(),
-        Endian::Little,
-        4,
-        0,
-    );
+    let read = read(rt.alloc(), b"\xff\xff\xff\xff", 4);
     assert_eq!(rt; read.err(), Some(unsupported(Kind::Format64)));
     Ok(())
 }
@@ -284,14 +280,7 @@ fn sequences(rt: HostRuntime) -> Result<(), Fail> {
     ];
     for (program, expected) in cases {
         let bytes = section(rt.alloc(), 4, &PLAIN, program)?;
-        let table = LineTable::read_at(
-            rt.alloc(),
-            &bytes,
-            Relocations::none(),
-            Endian::Little,
-            4,
-            0,
-        )?;
+        let table = read(rt.alloc(), &bytes, 4)?;
         assert!(rt; gives(&table, expected), "in {program:?}");
     }
     Ok(())
@@ -318,23 +307,14 @@ fn gives(table: &LineTable<'_>, expected: &[(u8, u64, u64)]) -> bool {
     rows.next().is_none()
 }
 
-// The rows that a compiler wrote are those that another program prints.
-#[test]
-fn compiled_table(rt: HostRuntime) -> Result<(), Fail> {
-    let table = LineTable::read_at(rt.alloc(), &LINE, Relocations::none(), Endian::Little, 8, 0)?;
-    assert_eq!(rt; table.version(), 4);
-    assert_eq!(rt; (table.directory_count(), table.file_count()), (1, 2));
-    assert!(rt; table.directory(0).is_none() && table.directory(2).is_none());
-    assert!(rt; table.directory(1) == Some(b"inc".as_slice()));
-    assert!(rt; named(table.file(1), 0, b"sample.c"));
-    assert!(rt; named(table.file(2), 1, b"mix.h"));
-    assert!(rt; table.file(0).is_none() && table.file(3).is_none());
+// Whether a table's steps are those that are printed.
+fn is_printed(table: &LineTable<'_>, printed: &[(u64, u64, u64, u64, u64, u8)]) -> bool {
     let mut rows = table.rows();
     let mut start = 0;
-    for (address, file, line, column, discriminator, flags) in PRINTED {
+    for (address, file, line, column, discriminator, flags) in printed.iter().copied() {
         let mut step = rows.next();
-        if let Some(LineStep::Start(Address::Constant(address))) = step {
-            start = address;
+        if let Some(LineStep::Start(Address::Constant(at))) = step {
+            start = at;
             step = rows.next();
         }
         let offset = address.wrapping_sub(start);
@@ -352,9 +332,25 @@ fn compiled_table(rt: HostRuntime) -> Result<(), Fail> {
                 ..FIRST
             })
         };
-        assert_eq!(rt; step, Some(expected), "at {address}");
+        if step != Some(expected) {
+            return false;
+        }
     }
-    assert_eq!(rt; rows.next(), None);
+    rows.next().is_none()
+}
+
+// The rows that a compiler wrote are those that another program prints.
+#[test]
+fn compiled_table(rt: HostRuntime) -> Result<(), Fail> {
+    let table = read(rt.alloc(), &LINE, 8)?;
+    assert_eq!(rt; table.version(), 4);
+    assert_eq!(rt; (table.directory_count(), table.file_count()), (1, 2));
+    assert!(rt; table.directory(0).is_none() && table.directory(2).is_none());
+    assert!(rt; table.directory(1) == Some(b"inc".as_slice()));
+    assert!(rt; named(table.file(1), 0, b"sample.c"));
+    assert!(rt; named(table.file(2), 1, b"mix.h"));
+    assert!(rt; table.file(0).is_none() && table.file(3).is_none());
+    assert!(rt; is_printed(&table, &PRINTED));
     Ok(())
 }
 

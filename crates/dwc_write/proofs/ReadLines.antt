@@ -14,10 +14,10 @@ use Rattle.dwc_base.specs.declared.records.LineRow.{LineRow}
 use Rattle.dwc_base.specs.declared.section_name.SectionName.TheVariants.{Line}
 use Rattle.dwc_base.specs.Reading.{Unread, ◌>>=◌, is_64_bit, text_at}
 use Rattle.dwc_base.specs.Sections.{Sections}
-use Rattle.dwc_base.specs.LineHeaders.{LineFile, LineHeader, directory_at, file_behind, file_at, operations_at, line_fields_to_4, line_header_at, Instruction, copy, advance_pc, advance_line, set_file, set_column, negate_stmt, set_basic_block, set_prologue_end, set_epilogue_begin, set_isa, end_sequence, set_address, set_discriminator}
+use Rattle.dwc_base.specs.LineHeaders.{LineFile, LineHeader, directory_at, file_behind, file_at, operations_at, LineSource, line_source, line_names_at, line_fields_at, line_address_size_at, line_header_at, Instruction, copy, advance_pc, advance_line, set_file, set_column, negate_stmt, set_basic_block, set_prologue_end, set_epilogue_begin, set_isa, end_sequence, set_address, set_discriminator}
 use Rattle.dwc_base.specs.LineRows.{at_sequence_start, appends, ends, effects, is_in_range, LineStep, start, row, end, step_of, LineTable, file_defined, checked_table, table_of, line_table_at, line_table, named_row, rows_before, stop_behind, segment_if, segments_among, segments}
 use Rattle.dwc_base.specs.Spelling.{Spells, unread_at}
-use Rattle.dwc_write.specs.Spelled.{number_bytes, text_bytes}
+use Rattle.dwc_write.specs.Spelled.{SpellsAt, number_bytes, text_bytes}
 use Rattle.dwc_write.specs.SpelledAddresses.{IsHeld}
 use Rattle.dwc_write.specs.SpelledLines.{standard_counts, file_bytes, line_fields_bytes, FitsName, FitsFile, FitsInstruction, program_bytes, program_fields, line_body, line_table_bytes, program_place, read_line_header, WrittenSequence, first_row, registers_at, when, differs, row_instructions, rows_instructions, sequences_instructions, FitsRow, FitsSequence, sequence_steps, read_segment, read_line_table}
 use Rattle.dwc_base.proofs.Items.{Leaves}
@@ -122,13 +122,19 @@ module _ (order : Endian) where
   unfolding operations_at
   operations-read = anywhere (λ place. last _ (here place (Spells-byte order 1)) (λ u. refl))
 
-  fields-read : (place size : ℕ) (directories : List (List ℕ)) (files : List LineFile) (program : Unread) → All FitsName directories → All FitsFile files
-      → line_fields_to_4 4 size program (unread_at order place (line_fields_bytes directories files))
-      ≡ Ok (record { version = 4; address_size = size; minimum_instruction_length = 1; default_is_stmt = true; line_base = pos 251 -ℤ pos 256; line_range = 14; opcode_base = 13; standard_opcode_lengths = standard_counts; directories = directories; files = files; program = program })
-  unfolding line_fields_to_4
-  fields-read place size directories files program named given =
+  names-read : (source : LineSource) (place size : ℕ) (directories : List (List ℕ)) (files : List LineFile) → All FitsName directories → All FitsFile files
+      → SpellsAt order place (line_names_at source 4 size) ((flat_map text_bytes directories ++ 0 ∷ []) ++ (flat_map file_bytes files ++ 0 ∷ [])) (directories, files)
+  unfolding line_names_at
+  names-read source place size directories files named given =
       let inner = Spells-items order directory_at text_bytes (0 ∷ []) directories directory_at-leaves (All-weaker FitsName _ Spells-directory directories named) directories-end in
       let others = Spells-items order file_at file_bytes (0 ∷ []) files file_at-leaves (All-weaker FitsFile _ Spells-file files given) files-end in
+      behind _ (here place inner) (last _ (here _ others) (λ u. refl))
+
+  fields-read : (source : LineSource) (place size : ℕ) (directories : List (List ℕ)) (files : List LineFile) (program : Unread) → All FitsName directories → All FitsFile files
+      → line_fields_at source 4 size program (unread_at order place (line_fields_bytes directories files))
+      ≡ Ok (record { version = 4; address_size = size; minimum_instruction_length = 1; default_is_stmt = true; line_base = pos 251 -ℤ pos 256; line_range = 14; opcode_base = 13; standard_opcode_lengths = standard_counts; directories = directories; files = files; program = program })
+  unfolding line_fields_at
+  fields-read source place size directories files program named given =
       then_read _ {bs = 1 ∷ []} (here _ (Spells-byte order 1))
       (then_read _ {bs = 1 ∷ []} (here _ operations-read)
       (then_read _ {bs = 1 ∷ []} (here _ (Spells-byte order 1))
@@ -136,15 +142,14 @@ module _ (order : Endian) where
       (then_read _ {bs = 14 ∷ []} (here _ (Spells-byte order 14))
       (then_read _ {bs = 13 ∷ []} (here _ (Spells-byte order 13))
       (then_read _ {bs = standard_counts} (here _ (Spells-counted order standard_counts))
-      (then_read _ (here _ inner)
-      (end_read _ (here _ others) refl))))))))
+      (end_read _ (names-read source _ size directories files named given) refl)))))))
 
   -- A header that is spelled is read as it was given, and its program begins behind it.
-  pub header-read : (place size : ℕ) (directories : List (List ℕ)) (files : List LineFile) (is : List Instruction) (rest : List ℕ) → All FitsName directories → All FitsFile files
+  pub header-read : (source : LineSource) (place size : ℕ) (directories : List (List ℕ)) (files : List LineFile) (is : List Instruction) (rest : List ℕ) → All FitsName directories → All FitsFile files
       → length (line_body order size directories files is) < 0xFFFFFFF0
-      → line_header_at size (unread_at order place (line_table_bytes order size directories files is ++ rest)) ≡ Ok (read_line_header order size place directories files is)
-  unfolding line_header_at
-  header-read place size directories files is rest named given small =
+      → line_header_at source size (unread_at order place (line_table_bytes order size directories files is ++ rest)) ≡ Ok (read_line_header order size place directories files is)
+  unfolding line_header_at line_address_size_at
+  header-read source place size directories files is rest named given small =
       let fields = line_fields_bytes directories files in
       let program = program_bytes order size is in
       let fits : length fields < 256 ^ 4 = omega (arith, small, lengths (number_bytes order 2 4) (number_bytes order 4 (length fields)) fields program) in
@@ -154,7 +159,7 @@ module _ (order : Endian) where
       (rw (append_assoc (number_bytes order 4 (length fields)) fields program)
       (then_read _ (here _ (Spells-number_bytes order 4 (length fields) fits))
       (then_read _ (part-reads order _ fields)
-      (fields-read _ size directories files _ named given
+      (fields-read source _ size directories files _ named given
       ∙ ap (λ p. Ok (with_program (unread_at order p program))) (omega (arith, number_bytes-length order 2 4, long)))))))
     where
       lengths : (a b c d : List ℕ) → length (a ++ ((b ++ c) ++ d)) ≡ length a + (length b + (length c + length d))
@@ -238,7 +243,7 @@ line-table-read s size offset directories files qs rest named given short fits s
     let h = read_line_header s.order size offset directories files is in
     let fit = sequences-fit size qs short fits in
     let none = fit.plain in
-    let header = header-read s.order offset size directories files is rest named given small in
+    let header = header-read s.order (line_source s) offset size directories files is rest named given small in
     let program = program-read (s.relocations Line) h refl refl s.order is (offset + program_place directories files) fit.all held in
     let shown = sequences-show h refl refl size qs fits in
     let steps : map step_of (effects h (at_sequence_start h) is) ≡ flat_map sequence_steps qs = ap (map step_of) shown ∙ sequences-steps size qs fits in

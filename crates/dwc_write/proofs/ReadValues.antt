@@ -9,7 +9,7 @@ use Rattle.dwc_base.specs.declared.section_name.SectionName.TheVariants.{Info}
 use Rattle.dwc_base.specs.Reading.{number, number_at}
 use Rattle.dwc_base.specs.Sections.{Sections, Relocation, address_at, field_value}
 use Rattle.dwc_base.specs.Units.{UnitHeader}
-use Rattle.dwc_base.specs.Values.{variable, address, sized_number_at, block_at, formed_value_at, form_code_at, value_at}
+use Rattle.dwc_base.specs.Values.{variable, address, sized_number_at, block_at, formed_value_at, form_code_at, encoded_value_at, value_at}
 use Rattle.dwc_base.specs.Entries.{attributes_at}
 use Rattle.dwc_base.specs.Spelling.{Spells, unread_at}
 use Rattle.dwc_write.specs.Spelled.{SpellsAt, number_bytes, block_bytes, at_places}
@@ -64,7 +64,7 @@ module _ (s : Sections) (h : UnitHeader) (version : h.version ≡ 4) where
   -- a value is read as what its form means
   pub value-reads : (order : Endian) (place : ℕ) (a : WrittenAttribute) → FitsWritten h.address_size a.value → All (IsHeld (s.relocations Info)) (value_fields h.address_size place a.value)
       → SpellsAt order place (value_at s h (spec_of a)) (attribute_bytes order h.address_size a) (written_value a.name a.value)
-  unfolding value_at form_code_at formed_value_at sized_number_at
+  unfolding value_at encoded_value_at form_code_at formed_value_at sized_number_at
   value-reads order place a fits held = go a.value fits held
     where
       go : (w : Written) → FitsWritten h.address_size w → All (IsHeld (s.relocations Info)) (value_fields h.address_size place w)
