@@ -5,7 +5,7 @@ use Rattle.dwc_base.specs.declared.faults.Kind.TheVariants.{Compressed}
 use Rattle.dwc_base.specs.Sections.{Sections, Fault, unsupported}
 use Rattle.dwc_base.specs.Entries.{Entry, attribute}
 use Rattle.dwc_base.specs.LineRows.{LineTable, line_table}
-use Rattle.dwc_base.specs.FirstForm.{has_all_files}
+use Rattle.dwc_base.specs.LineFiles.{has_all_files}
 use Rattle.dwc_base.specs.Carried.{Unit, root, line_offset, Module, Compilation, carried_units_of}
 use Rattle.dwc_base.specs.BuiltForm.{info_fault}
 use Rattle.dwc_base.specs.declared.constants.TheConstants.{DW_AT_stmt_list}
