@@ -17,6 +17,7 @@ pub mod WidestLines
 pub mod NameLaws
 pub mod ReadUnitLaws
 pub mod OutputUnitLaws
+pub mod InfoUnitLaws
 pub mod CanCarryLaws
 pub mod OutcomeLaws
 pub mod RefusalLaws
