@@ -1,5 +1,5 @@
 -- What is read of the entries of a unit, and the fault that a refusal tells.
-use Rattle.std.specs.Prelude.{Vec, ◌≡◌, ◌==◌, List, ◌++◌, Bool, false, Option, Some, None, Result, Ok, Err}
+use Rattle.std.specs.Prelude.{◌≡◌, ◌==◌, List, ◌++◌, Bool, false, Option, Some, None, Result, Ok, Err}
 use Rattle.std.specs.List.{filter_map}
 use Rattle.dwc_base.specs.declared.constants.TheConstants.{DW_TAG_compile_unit}
 use Rattle.dwc_base.specs.Listing.{Listing}

@@ -1,4 +1,4 @@
-use Rattle.std.proofs.Common.{◌≡◌, [], sym, append-nil}
+use Rattle.std.proofs.Common.{[], sym, append-nil}
 use Rattle.dwc_carry.proofs.read_units.read_units.Goals as goal
 
 pub returns : goal.returns
