@@ -27,6 +27,7 @@ pub mod LineVersions
 pub mod NameLaws
 pub mod ReadUnitLaws
 pub mod OutputUnitLaws
+pub mod InfoUnitLaws
 pub mod CanCarryLaws
 pub mod OutcomeLaws
 pub mod RefusalLaws

@@ -5,7 +5,7 @@ use Rattle.dwc_base.specs.Functions.{Function}
 use Rattle.dwc_write.specs.declared.attributes.AttributeValue.{AttributeValue}
 use Rattle.dwc_write.specs.GivenUnits.{IsWritable, GivenEntry, set_in, set_in_entry, depth_of}
 use Rattle.dwc_write.specs.GivenLines.{GivenLines}
-use Rattle.dwc_carry.specs.declared.unit_entries.Subprogram.{Subprogram}
+use Rattle.dwc_carry.specs.declared.subprogram.Subprogram.{Subprogram}
 use Rattle.dwc_carry.specs.UnitLines.{CarriesLines}
 use Rattle.dwc_carry.specs.OutputUnits.{output_unit, root_entry, subprogram_entry}
 

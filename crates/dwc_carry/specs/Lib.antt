@@ -4,8 +4,11 @@ pub mod ImageSequences
 pub mod RunRows
 pub mod Emitted
 pub mod Refusals
+pub mod Subprograms
 pub mod UnitEntries
 pub mod ReadUnits
+pub mod InfoEntries
+pub mod InfoUnits
 pub mod OutputUnits
 pub mod UnitLines
 pub mod Outcomes

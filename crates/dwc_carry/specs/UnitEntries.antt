@@ -11,7 +11,7 @@ use Rattle.dwc_base.specs.Kept.{is_required}
 use Rattle.dwc_base.specs.FirstForm.{has_known_entries, offset_of_table}
 use Rattle.dwc_carry.specs.declared.error.DebugError.{DebugError}
 use Rattle.dwc_carry.specs.declared.unit_entries.UnitEntries.{UnitEntries}
-use Rattle.dwc_carry.specs.declared.unit_entries.Subprogram.{Subprogram}
+use Rattle.dwc_carry.specs.declared.subprogram.Subprogram.{Subprogram}
 use Rattle.dwc_carry.specs.Refusals.{RefusesPart}
 
 -- the first of some entries

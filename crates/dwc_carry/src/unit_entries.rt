@@ -1,29 +1,18 @@
 //! The entries of a unit that are kept: its root, and the subprograms that begin in a function with a symbol.
-ghost use Rattle.std.specs.Prelude.{◌≡◌, option_map, is_some, IfSome, IsSome};
+ghost use Rattle.std.specs.Prelude.{◌≡◌};
 ghost use Rattle.dwc_base.specs.Entries.{attribute, entries as entries_of};
 ghost use Rattle.dwc_base.specs.FirstForm.{offset_of_table};
 ghost use Rattle.dwc_base.specs.Carried.{line_offset};
-ghost use Rattle.dwc_base.specs.Kept.{is_required, is_translatable};
-ghost use Rattle.dwc_base.specs.Functions.{function_at};
-ghost use Rattle.dwc_addr.specs.Transforms.{function_view};
 ghost use Rattle.dwc_read.specs.EntriesSeen.{entry_view};
 ghost use Rattle.dwc_carry.specs.UnitEntries.{GivesSubprograms, GivesEntries};
 
 use crate::DebugError;
-use dwc_addr::{AddressTransform, FunctionMap};
-use dwc_base::constants::{
-    DW_AT_low_pc, DW_AT_ranges, DW_AT_stmt_list, DW_TAG_compile_unit, DW_TAG_subprogram,
-};
-use dwc_base::{Address, Kind};
+use crate::subprogram::{Subprogram, kept_subprogram};
+use dwc_addr::AddressTransform;
+use dwc_base::Kind;
+use dwc_base::constants::{DW_AT_stmt_list, DW_TAG_compile_unit, DW_TAG_subprogram};
 use dwc_read::{AttributeValue, Entries, Entry, Unit};
 use std::alloc::Global;
-
-/// A subprogram of the output: the function that it is, and how many bytes of code it has.
-#[derive(Clone, Copy)]
-pub(crate) struct Subprogram {
-    pub function: usize,
-    pub length: u64,
-}
 
 /// What is carried of the entries of a unit.
 #[derive(Drop)]
@@ -52,32 +41,6 @@ fn line_table(entry: &Entry<'_>) -> Option<u64>
         AttributeValue::LineRef(offset) => Some(offset),
         _ => None,
     }
-}
-
-// The function that an entry's low_pc is in.
-fn function_of<'t>(entry: &Entry<'_>, transform: &'t AddressTransform) -> Option<&'t FunctionMap>
-    ensures symbol { IfSome result (λ f. IsSome f.now.symbol) }
-    ensures found { is_some (option_map (λ f. function_view f.now) result) ≡ is_translatable transform.now (attribute DW_AT_low_pc (entry_view entry.now)) }
-{
-    match entry.attr(DW_AT_low_pc)? {
-        AttributeValue::Addr(Address::Constant(address)) => transform.func_at(address),
-        _ => None,
-    }
-}
-
-// The subprogram of the output that an entry is, if it is kept: it is a subprogram without ranges that begins in a function
-// with a symbol.
-fn kept_subprogram(entry: &Entry<'_>, transform: &AddressTransform) -> Option<Subprogram>
-    ensures { is_some result ≡ is_required transform.now (entry_view entry.now) }
-{
-    if entry.tag != DW_TAG_subprogram || entry.attr(DW_AT_ranges).is_some() {
-        return None;
-    }
-    let function = function_of(entry, transform)?;
-    Some(Subprogram {
-        function: function.symbol.unwrap(),
-        length: function.len as u64,
-    })
 }
 
 // The kept ones of the entries that are still to come, which are all subprograms.
