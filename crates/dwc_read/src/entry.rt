@@ -1,5 +1,5 @@
 //! Debugging information entries. (DWARF 4 and 5, sections 2.3 and 7.5.2.)
-ghost use Rattle.std.specs.Prelude.{◌≡◌, pos, ◌≤ℤ◌};
+ghost use Rattle.std.specs.Prelude.{◌≡◌, pos, ◌≤ℤ◌, []};
 
 use crate::attribute::{attributes, first_of_name};
 use crate::table::Table;
@@ -28,7 +28,9 @@ impl<'d> Entry<'d> {
     ghost use Rattle.dwc_read.specs.ValuesSeen.{value_view, attribute_view};
 
     // An entry without attributes.
-    pub fn empty(alloc: Global) -> Entry<'d> {
+    pub fn empty(alloc: Global) -> Entry<'d>
+        ensures { entry_view result ≡ record { offset = 0; depth = 0; tag = 0; attributes = [] } }
+    {
         Entry {
             offset: 0,
             depth: 0,

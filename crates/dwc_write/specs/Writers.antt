@@ -28,6 +28,11 @@ most_bytes = 2 ^ 31 - 1
 abbrev pub IsTooLarge : {A : Type 0} → Result A WriteError → SectionName → Type 0
 IsTooLarge result name = result ≡ Err (TooLarge (Section name))
 
+-- A call answers so, or is refused for want of memory.
+abbrev pub OkUnlessMemory : {A : Type 0} → Result A WriteError → (A → Type 0) → Type 0
+OkUnlessMemory (Ok x) P = P x
+OkUnlessMemory (Err e) P = e ≡ OutOfMemory
+
 -- A refusal to append so many bytes: for want of memory, or for what the section's size would be.
 abbrev pub Refuses : WriteError → Writing → ℕ → Type 0
 Refuses OutOfMemory w more = Unit {0}

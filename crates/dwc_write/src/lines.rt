@@ -1,6 +1,8 @@
 //! Line programs as they are given: directories, files, and sequences of rows. (DWARF 4, section 6.2.)
-ghost use Rattle.std.specs.Prelude.{◌≡◌, ◌+◌, ◌≤◌, ◌<◌, ◌^◌, [], OnOk, OnErr, IfOk, Some, None, length};
+ghost use Rattle.std.specs.Prelude.{◌≡◌, ◌+◌, ◌≤◌, ◌<◌, ◌^◌, [], OnOk, OnErr, IfOk, IsOkUnless, Some, None, length};
 ghost use Rattle.dwc_write.specs.SpelledLines.{FitsName};
+ghost use Rattle.dwc_write.specs.declared.error.WriteError.TheVariants.{OutOfMemory};
+ghost use Rattle.dwc_write.specs.Writers.{OkUnlessMemory};
 ghost use Rattle.dwc_write.specs.GivenLines.{no_lines, with_directory, with_file, with_begun, with_row, with_end, CanBegin, CanAppend, CanEnd};
 
 use crate::WriteError;
@@ -76,7 +78,7 @@ impl LineProgram {
 
     /// An empty line program for a unit of version 4 and this encoding.
     pub fn new(alloc: Global, encoding: Encoding) -> Result<LineProgram, WriteError>
-        ensures { IfOk result (λ p. p ≡ no_lines (Some encoding.address_size)) }
+        ensures { OkUnlessMemory result (λ p. p ≡ no_lines (Some encoding.address_size)) }
     {
         Ok(LineProgram {
             address_size: Some(encoding.address_size),
@@ -94,6 +96,7 @@ impl LineProgram {
         ensures ok { OnOk result (self.new ≡ with_directory name.now self.old) }
         ensures number { IfOk result (λ n. n ≡ length self.old.directories + 1) }
         ensures err { OnErr result (self.new ≡ self.old) }
+        ensures memory { IsOkUnless result OutOfMemory }
     {
         let name = name.to_vec(*self.directories.allocator())?;
         self.directories.push(name)?;
@@ -107,6 +110,7 @@ impl LineProgram {
         ensures ok { OnOk result (self.new ≡ with_file (record { directory = directory; name = name.now }) self.old) }
         ensures number { IfOk result (λ n. n ≡ length self.old.files + 1) }
         ensures err { OnErr result (self.new ≡ self.old) }
+        ensures memory { IsOkUnless result OutOfMemory }
     {
         let name = name.to_vec(*self.directories.allocator())?;
         self.files.push(File { name, directory })?;
@@ -118,6 +122,7 @@ impl LineProgram {
         requires { CanBegin self.old start }
         ensures ok { OnOk result (self.new ≡ with_begun (Some (record { start_address = start; rows = [] })) self.old) }
         ensures err { OnErr result (self.new ≡ self.old) }
+        ensures memory { IsOkUnless result OutOfMemory }
     {
         self.start_address = Some(start);
         self.rows.clear();
@@ -129,6 +134,7 @@ impl LineProgram {
         requires { CanAppend self.old row }
         ensures ok { OnOk result (self.new ≡ with_row row self.old) }
         ensures err { OnErr result (self.new ≡ self.old) }
+        ensures memory { IsOkUnless result OutOfMemory }
     {
         self.rows.push(with_numbers(row))?;
         Ok(())
@@ -139,6 +145,7 @@ impl LineProgram {
         requires { CanEnd self.old offset }
         ensures ok { OnOk result (self.new ≡ with_end offset self.old) }
         ensures err { OnErr result (self.new ≡ self.old) }
+        ensures memory { IsOkUnless result OutOfMemory }
     {
         let Some(start_address) = self.start_address else {
             unreachable!();

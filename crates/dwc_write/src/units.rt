@@ -1,5 +1,7 @@
 //! Units as they are given: a line program and a tree of entries. (DWARF 4, section 7.5.)
-ghost use Rattle.std.specs.Prelude.{◌≡◌, ◌⊎◌, ◌<◌, ◌∷◌, ◌++◌, [], OnOk, OnErr, IfOk, length, slice_index_or};
+ghost use Rattle.std.specs.Prelude.{◌≡◌, ◌⊎◌, ◌<◌, ◌∷◌, ◌++◌, [], OnOk, OnErr, IfOk, IsOkUnless, length, slice_index_or};
+ghost use Rattle.dwc_write.specs.declared.error.WriteError.TheVariants.{OutOfMemory};
+ghost use Rattle.dwc_write.specs.Writers.{OkUnlessMemory};
 
 use crate::attributes::{Attribute, set_attribute};
 use crate::{AttributeValue, LineProgram, WriteError};
@@ -43,7 +45,7 @@ impl Model for Unit {
 }
 
 impl Unit {
-    ghost use Rattle.std.specs.Prelude.{◌≡◌, ◌⊎◌, ◌<◌, ◌∷◌, ◌++◌, [], OnOk, OnErr, IfOk, length};
+    ghost use Rattle.std.specs.Prelude.{◌≡◌, ◌⊎◌, ◌<◌, ◌∷◌, ◌++◌, [], OnOk, OnErr, IfOk, IsOkUnless, length};
     ghost use Rattle.dwc_base.specs.declared.constants.TheConstants.{DW_TAG_compile_unit};
     ghost use Rattle.dwc_write.specs.GivenUnits.{FitsValue, IsOfSize, IsOpen, child_of, set_in, tag_of, with_entries};
 
@@ -52,7 +54,7 @@ impl Unit {
         requires version { encoding.version ≡ 4 }
         requires size { (encoding.address_size ≡ 4) ⊎ (encoding.address_size ≡ 8) }
         requires lines { IsOfSize encoding.address_size program.address_size }
-        ensures { IfOk result (λ u. u ≡ record { address_size = encoding.address_size; lines = program; entries = record { depth = 0; tag = DW_TAG_compile_unit; attributes = [] } ∷ [] }) }
+        ensures { OkUnlessMemory result (λ u. u ≡ record { address_size = encoding.address_size; lines = program; entries = record { depth = 0; tag = DW_TAG_compile_unit; attributes = [] } ∷ [] }) }
     {
         let root = Entry {
             depth: 0,
@@ -82,6 +84,7 @@ impl Unit {
         ensures ok { OnOk result (self.new ≡ with_entries (self.old.entries ++ child_of parent.index tag self.old.entries ∷ []) self.old) }
         ensures id { IfOk result (λ id. id ≡ record { index = length self.old.entries }) }
         ensures err { OnErr result (self.new ≡ self.old) }
+        ensures memory { IsOkUnless result OutOfMemory }
     {
         let entry = Entry {
             depth: self.entries[parent.index].depth + 1,
@@ -105,6 +108,7 @@ impl Unit {
         requires fits { FitsValue self.old.address_size name value }
         ensures ok { OnOk result (self.new ≡ with_entries (set_in id.index name value self.old.entries) self.old) }
         ensures err { OnErr result (self.new ≡ self.old) }
+        ensures memory { IsOkUnless result OutOfMemory }
     {
         let entry = &mut self.entries[id.index];
         set_attribute(&mut entry.attributes, name, value)?;
@@ -147,6 +151,7 @@ impl UnitTable {
         ensures ok { OnOk result (self.new.units.items ≡ self.old.units.items ++ unit ∷ []) }
         ensures id { IfOk result (λ id. id ≡ record { index = length self.old.units.items }) }
         ensures err { OnErr result (self.new.units.items ≡ self.old.units.items) }
+        ensures memory { IsOkUnless result OutOfMemory }
     {
         let index = self.units.len();
         self.units.push(unit)?;
