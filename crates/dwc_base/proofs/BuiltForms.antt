@@ -3,7 +3,7 @@ use Rattle.std.proofs.Common.{◌≡◌, ℕ, List, [], ◌∷◌, ◌++◌, Opt
 use Rattle.dwc_base.proofs.OnLiterals.{lines_on_literals}
 use Rattle.dwc_base.proofs.SmallModule.{abbreviations_small, info_small, line_small}
 use Rattle.dwc_base.proofs.Readings.{three_sections}
-use Rattle.dwc_base.proofs.Forms.{module_with, info_0, line_9, info_second_root, abbreviations_variable}
+use Rattle.dwc_base.proofs.Variants.{module_with, info_0, line_9, info_second_root, abbreviations_variable}
 use Rattle.dwc_base.specs.declared.records.Endian.TheVariants.{Little}
 use Rattle.dwc_base.specs.declared.faults.What.TheVariants.{LineTable as LineTableRead, Abbreviation, UnitHeader as UnitHeaderRead, Entry as EntryRead}
 use Rattle.dwc_base.specs.declared.faults.Kind.TheVariants.{Compressed, NotBuilt}

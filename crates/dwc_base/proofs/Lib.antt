@@ -5,7 +5,7 @@ pub mod Readings
 pub mod LineTables
 pub mod CarriedSmall
 pub mod Cases
-pub mod Forms
+pub mod Variants
 pub mod BuiltForms
 pub mod Walks
 pub mod Items

@@ -16,10 +16,8 @@ pub mod Images
 pub mod Kept
 pub mod Outputs
 pub mod Carried
-pub mod Reached
 pub mod Refusals
 pub mod BuiltForm
-pub mod FirstForm
 pub mod Widest
 pub mod Lebs
 pub mod Cursors
