@@ -1,6 +1,6 @@
 -- What is made of a module, from what was read of its unit and of its line table.
 use Rattle.std.proofs.Common.{◌≡◌, ℕ, zero, suc, ◌+◌, List, [], ◌∷◌, ◌++◌, map, refl, ap, sym, ◌∙◌, subst, inl, inr, arith, Bool, true, false, Option, Some, None, Result, Ok, Err, nat_lt, vec_len}
-use Rattle.std.specs.Prelude.{◌&&◌, ◌==◌, Any, slice_get}
+use Rattle.std.specs.Prelude.{◌&&◌, ◌==◌, if◌then◌else◌, Any, slice_get}
 use Rattle.std.specs.List.{filter, list_any, list_all, AllZip}
 use Rattle.std.specs.Option.{option_and_then}
 use Rattle.std.proofs.lemmas.Bool.{le-ltb, lt-ltb, eqb-true, eqb-false}
@@ -13,12 +13,12 @@ use Rattle.dwc_base.specs.Sections.{Sections, Fault, section_from}
 use Rattle.dwc_base.specs.Units.{UnitHeader, unit_headers}
 use Rattle.dwc_base.specs.Entries.{Entry, entries, attribute}
 use Rattle.dwc_base.specs.Functions.{Function}
-use Rattle.dwc_base.specs.LineRows.{LineTable, line_table, named_row, source_file, SourceFile, Row, Segment, segments, in_directory}
+use Rattle.dwc_base.specs.LineRows.{LineTable, line_table, named_row, source_file, numbered, SourceFile, Row, Segment, segments, in_directory}
 use Rattle.dwc_base.specs.Images.{is_carried_segment, IsImageOf}
 use Rattle.dwc_base.specs.Kept.{is_required}
 use Rattle.dwc_base.specs.Carried.{Unit, root, units, Module, has_root_tag, carried_units_of, table_of_unit, table_of_root, segments_of, segments_of_unit, line_offset}
 use Rattle.dwc_base.specs.Reached.{fault_in, faults_of_module, reached_faults}
-use Rattle.dwc_base.specs.FirstForm.{has_known_header, has_known_shapes, has_known_entries, has_known_table, has_all_files, has_line_version_4, offset_of_table, declarations_from, is_first_form, is_all_built}
+use Rattle.dwc_base.specs.FirstForm.{has_known_header, has_known_shapes, has_known_entries, has_known_table, has_line_version_4, offset_of_table, declarations_from, is_first_form, is_all_built}
 use Rattle.dwc_write.specs.SpelledLines.{WrittenSequence, read_segment}
 use Rattle.dwc_write.specs.GivenLines.{GivenLines, no_lines}
 use Rattle.dwc_write.specs.GivenUnits.{GivenUnit}
@@ -36,20 +36,24 @@ use Rattle.dwc_carry.proofs.LineVersions.{line_version_4}
 
 -- ---- rows whose files are those of the table
 
-same-file : (t : LineTable) (g : GivenLines) (n : ℕ) → g.directories ≡ t.header.directories → g.files ≡ t.files → source_file t n ≡ given_file g n
-same-file t g zero ds fs = refl
-same-file t g (suc n) ds fs = rw (ds, fs) refl
+same-file : (t : LineTable) (g : GivenLines) (n : ℕ) → t.header.version ≡ 4 → g.directories ≡ t.header.directories → g.files ≡ t.files → source_file t n ≡ given_file g n
+same-file t g n version ds fs =
+    ap (λ v. option_and_then (in_directory t.header.directories) (if nat_lt v 5 then numbered n t.files else slice_get t.files n)) version ∙ go n
+  where
+    go : (n : ℕ) → option_and_then (in_directory t.header.directories) (numbered n t.files) ≡ given_file g n
+    go zero = refl
+    go (suc n) = rw (ds, fs) refl
 
-same-row : (t : LineTable) (g : GivenLines) (r : LineRow) → g.directories ≡ t.header.directories → g.files ≡ t.files → named_row t r ≡ given_row g r
-same-row t g r ds fs = rw (same-file t g r.file ds fs) refl
+same-row : (t : LineTable) (g : GivenLines) (r : LineRow) → t.header.version ≡ 4 → g.directories ≡ t.header.directories → g.files ≡ t.files → named_row t r ≡ given_row g r
+same-row t g r version ds fs = rw (same-file t g r.file version ds fs) refl
 
-same-rows : (t : LineTable) (g : GivenLines) (rs : List LineRow) → g.directories ≡ t.header.directories → g.files ≡ t.files → map (named_row t) rs ≡ map (given_row g) rs
-same-rows t g [] ds fs = refl
-same-rows t g (r ∷ rs) ds fs = rw (same-row t g r ds fs, same-rows t g rs ds fs) refl
+same-rows : (t : LineTable) (g : GivenLines) (rs : List LineRow) → t.header.version ≡ 4 → g.directories ≡ t.header.directories → g.files ≡ t.files → map (named_row t) rs ≡ map (given_row g) rs
+same-rows t g [] version ds fs = refl
+same-rows t g (r ∷ rs) version ds fs = rw (same-row t g r version ds fs, same-rows t g rs version ds fs) refl
 
-same-segments : (t : LineTable) (g : GivenLines) (qs : List WrittenSequence) → g.directories ≡ t.header.directories → g.files ≡ t.files → map (read_segment t) qs ≡ map (given_segment g) qs
-same-segments t g [] ds fs = refl
-same-segments t g (q ∷ qs) ds fs = rw (same-rows t g q.rows ds fs, same-segments t g qs ds fs) refl
+same-segments : (t : LineTable) (g : GivenLines) (qs : List WrittenSequence) → t.header.version ≡ 4 → g.directories ≡ t.header.directories → g.files ≡ t.files → map (read_segment t) qs ≡ map (given_segment g) qs
+same-segments t g [] version ds fs = refl
+same-segments t g (q ∷ qs) version ds fs = rw (same-rows t g q.rows version ds fs, same-segments t g qs version ds fs) refl
 
 -- ---- the unit that was read
 
@@ -172,7 +176,7 @@ module _ (order : Endian) (size : ℕ) (fs : List Function) (s : Sections) where
             let t = h.table in
             let named : named_table s r.unit.header.address_size (Some offset) ≡ Ok (Some t) = ap (λ l. l >>= λ x. Ok (Some x)) h.is_read in
             let table : table_of_unit s (record { header = r.unit.header; entries = (entries s r.unit.header).items }) ≡ Ok (Some t) = table-named ∙ ap (named_table s r.unit.header.address_size) is ∙ named in
-            let known : has_known_table (Ok (Some t)) ≡ true = rw (h.version, h.files) refl in
-            let images = subst (λ qs. AllZip (IsImageOf fs) (filter (is_carried_segment fs) (segments t)) qs) (same-segments t u.lines u.lines.sequences h.carries.directories h.carries.files) h.carries.images in
+            let known : has_known_table (Ok (Some t)) ≡ true = ap (λ b. (t.header.version == 4) && b) h.files ∙ ap (λ v. (v == 4) && true) h.version in
+            let images = subst (λ qs. AllZip (IsImageOf fs) (filter (is_carried_segment fs) (segments t)) qs) (same-segments t u.lines u.lines.sequences h.version h.carries.directories h.carries.files) h.carries.images in
             with-known u some (Some t) (segments t) table (line_version_4 s r.unit.header.address_size offset t h.is_read h.version) is known
             (segments-named ∙ ap (λ o. named_table s r.unit.header.address_size o >>= λ t. Ok (segments_of t)) is ∙ ap (λ l. l >>= λ t. Ok (segments_of t)) named) images
