@@ -1,6 +1,6 @@
 -- A line table that was read, with all its files and directories, can be carried.
 use Rattle.std.proofs.Common.{◌≡◌, ℕ, zero, suc, ◌+◌, ◌^◌, ◌<◌, ◌≤◌, refl, ap, sym, ◌∙◌, arith, List, [], ◌∷◌, ◌++◌, map, length, get_or, Bool, true, false, Option, Some, None, Result, Ok, Err, All}
-use Rattle.std.specs.Prelude.{◌&&◌, nat_lt, not, int_lt, nat_abs, ℤ, pos, negsuc, slice_get, option_map, is_some}
+use Rattle.std.specs.Prelude.{◌&&◌, ◌==◌, if◌then◌else◌, nat_lt, not, int_lt, nat_abs, ℤ, pos, negsuc, slice_get, option_map, is_some}
 use Rattle.std.specs.List.{list_all}
 use Rattle.std.specs.Option.{option_and_then}
 use Rattle.std.proofs.lemmas.List.Elements.{All-nil, All-cons}
@@ -13,10 +13,10 @@ use Rattle.dwc_base.specs.declared.faults.Flaw.TheVariants.{Malformed}
 use Rattle.dwc_base.specs.declared.faults.What.TheVariants.{LineTable as LineTableRead}
 use Rattle.dwc_base.specs.declared.section_name.SectionName.TheVariants.{Line}
 use Rattle.dwc_base.specs.Reading.{◌>>=◌}
-use Rattle.dwc_base.specs.LineHeaders.{LineFile, LineHeader, line_header_at, Instruction, instructions}
-use Rattle.dwc_base.specs.LineRows.{LineTable, LineStep, start, row, end, line_table, line_table_at, checked_table, table_of, Effect, starts, appends, ends, effects, is_in_range, step_of, at_sequence_start, source_file, in_directory, SourceFile}
+use Rattle.dwc_base.specs.LineHeaders.{LineFile, LineHeader, line_source, line_header_at, Instruction, instructions}
+use Rattle.dwc_base.specs.LineRows.{LineTable, LineStep, start, row, end, line_table, line_table_at, checked_table, table_of, Effect, starts, appends, ends, effects, is_in_range, step_of, at_sequence_start, source_file, numbered, in_directory, SourceFile}
 use Rattle.dwc_base.specs.Sections.{Sections, Fault, section_from, reported}
-use Rattle.dwc_base.specs.FirstForm.{names_file, has_all_files}
+use Rattle.dwc_base.specs.LineFiles.{names_file, has_names, is_named, has_all_files}
 use Rattle.dwc_write.specs.SpelledLines.{FitsName}
 use Rattle.dwc_carry.specs.ImageSequences.{FitsFiles, FitsStep}
 use Rattle.dwc_carry.specs.ImageRows.{RowsRise}
@@ -43,13 +43,16 @@ known-directory directories f h = go f.directory h
     go zero e = omega arith
     go (suc n) e = omega (arith, inside directories n (sym (some f.name (slice_get directories n)) ∙ e))
 
-known-file : (t : LineTable) (n : ℕ) → is_some (source_file t n) ≡ true → (0 < n) × (n ≤ length t.files)
-known-file t zero h = absurd (cc)
-known-file t (suc n) h = (omega arith, omega (arith, inside t.files n (found (slice_get t.files n) h)))
+known-file : (t : LineTable) (n : ℕ) → t.header.version ≡ 4 → is_some (source_file t n) ≡ true → (0 < n) × (n ≤ length t.files)
+known-file t n version h = go n (ap (λ v. is_some (option_and_then (in_directory t.header.directories) (if nat_lt v 5 then numbered n t.files else slice_get t.files n))) (sym version) ∙ h)
   where
     found : (o : Option LineFile) → is_some (option_and_then (in_directory t.header.directories) o) ≡ true → is_some o ≡ true
     found None e = e
     found (Some f) e = refl
+
+    go : (n : ℕ) → is_some (option_and_then (in_directory t.header.directories) (numbered n t.files)) ≡ true → (0 < n) × (n ≤ length t.files)
+    go zero e = absurd (cc)
+    go (suc n) e = (omega arith, omega (arith, inside t.files n (found (slice_get t.files n) e)))
 
 both : (a b : Bool) → (a && b) ≡ true → (a ≡ true) × (b ≡ true)
 both true b h = (refl, h)
@@ -85,7 +88,7 @@ steps-short (e ∷ es) h = let p = both (is_in_range e) (list_all is_in_range es
 
 table-short : (s : Sections) (address_size offset : ℕ) (t : LineTable) → line_table s address_size offset ≡ Ok t → All HasShortLine t.steps
 unfolding line_table line_table_at
-table-short s address_size offset t read = go (line_header_at address_size (section_from s Line offset)) read
+table-short s address_size offset t read = go (line_header_at (line_source s) address_size (section_from s Line offset)) read
   where
     ranged : (h : LineHeader) (is : List Instruction) (b : Bool) → list_all is_in_range (effects h (at_sequence_start h) is) ≡ b
         → (let r : Result LineTable Fault = reported LineTableRead Line offset (elim b [ true ↦ Ok (table_of h is) | false ↦ Err Malformed ]) in r) ≡ Ok t → All HasShortLine t.steps
@@ -104,33 +107,34 @@ table-short s address_size offset t read = go (line_header_at address_size (sect
 
 -- ---- all of it
 
-step-fits : (t : LineTable) (x : LineStep) → HasShortLine x → names_file t x ≡ true → FitsStep (length t.files) x
-step-fits t (row r) short named = let p = known-file t r.file named in record { line = short; some = p.0; known = p.1 }
-step-fits t (start a) short named = tt
-step-fits t (end e) short named = tt
+step-fits : (t : LineTable) (x : LineStep) → t.header.version ≡ 4 → HasShortLine x → names_file t x ≡ true → FitsStep (length t.files) x
+step-fits t (row r) version short named = let p = known-file t r.file version named in record { line = short; some = p.0; known = p.1 }
+step-fits t (start a) version short named = tt
+step-fits t (end e) version short named = tt
 
-steps-fit : (t : LineTable) (xs : List LineStep) → All HasShortLine xs → list_all (names_file t) xs ≡ true → All (FitsStep (length t.files)) xs
-steps-fit t [] short named = All-nil (FitsStep (length t.files))
-steps-fit t (x ∷ xs) short named =
+steps-fit : (t : LineTable) (xs : List LineStep) → t.header.version ≡ 4 → All HasShortLine xs → list_all (names_file t) xs ≡ true → All (FitsStep (length t.files)) xs
+steps-fit t [] version short named = All-nil (FitsStep (length t.files))
+steps-fit t (x ∷ xs) version short named =
     let p = both (names_file t x) (list_all (names_file t) xs) named in
-    All-cons (FitsStep (length t.files)) x xs (step-fits t x (short 0 x (omega arith)) p.0) (steps-fit t xs (λ k d h. short (suc k) d (omega arith)) p.1)
+    All-cons (FitsStep (length t.files)) x xs (step-fits t x version (short 0 x (omega arith)) p.0) (steps-fit t xs version (λ k d h. short (suc k) d (omega arith)) p.1)
 
-files-fit : (directories : List (List ℕ)) (fs : List LineFile) → All IsPlainFile fs → list_all (λ f. is_some (in_directory directories f) && nat_lt 0 (length f.name)) fs ≡ true → All (FitsDirectories (length directories)) fs
+files-fit : (directories : List (List ℕ)) (fs : List LineFile) → All IsPlainFile fs → list_all (has_names directories) fs ≡ true → All (FitsDirectories (length directories)) fs
 files-fit directories [] plain named = All-nil (FitsDirectories (length directories))
 files-fit directories (f ∷ fs) plain named =
-    let p = both (is_some (in_directory directories f) && nat_lt 0 (length f.name)) (list_all (λ f. is_some (in_directory directories f) && nat_lt 0 (length f.name)) fs) named in
+    let p = both (has_names directories f) (list_all (has_names directories) fs) named in
     let q = both (is_some (in_directory directories f)) (nat_lt 0 (length f.name)) p.0 in
     let here = plain 0 f (omega arith) in
     let fits : FitsDirectories (length directories) f = record { name = record { some = ltb-true 0 (length f.name) q.1; plain = here.name.plain }; known = known-directory directories f q.0 } in
     All-cons (FitsDirectories (length directories)) f fs fits (files-fit directories fs (λ k d h. plain (suc k) d (omega arith)) p.1)
 
-pub can-carry : (s : Sections) (address_size offset : ℕ) (t : LineTable) → line_table s address_size offset ≡ Ok t → has_all_files t ≡ true → CanCarry t
-can-carry s address_size offset t read named =
-    let names = table-names s address_size offset t read in
-    let p = both (list_all (names_file t) t.steps) (list_all (λ f. is_some (in_directory t.header.directories f) && nat_lt 0 (length f.name)) t.files) named in
+pub can-carry : (s : Sections) (address_size offset : ℕ) (t : LineTable) → line_table s address_size offset ≡ Ok t → t.header.version ≡ 4 → has_all_files t ≡ true → CanCarry t
+can-carry s address_size offset t read version named =
+    let names = table-names s address_size offset t read (ap (λ v. v == 5) version) in
+    let whole = both (list_all (names_file t) t.steps && list_all (has_names t.header.directories) t.files) (list_all is_named t.header.directories) named in
+    let p = both (list_all (names_file t) t.steps) (list_all (has_names t.header.directories) t.files) whole.0 in
     record {
       directories = names.0;
       files = files-fit t.header.directories t.files names.1 p.1;
-      steps = steps-fit t t.steps (table-short s address_size offset t read) p.0;
+      steps = steps-fit t t.steps version (table-short s address_size offset t read) p.0;
       rise = line_table-rise s address_size offset t read;
     }

@@ -1,17 +1,16 @@
 -- What the loops over a line table add to a line program.
 use Rattle.std.proofs.Common.{◌≡◌, ℕ, suc, ◌+◌, add-one, ◌<◌, ◌≤◌, refl, ap, ◌∙◌, sym, arith, List, [], ◌∷◌, ◌++◌, map, length, take, get_or, slice_get, Option, Some, None, inl, inr}
-use Rattle.std.specs.Prelude.{All, ◌⊎◌}
-use Rattle.std.proofs.lemmas.Bool.{cases_lt}
+use Rattle.std.specs.Prelude.{All, ◌⊎◌, Bool, true, false, nat_lt}
+use Rattle.std.proofs.lemmas.Bool.{cases_lt, lt-ltb, le-ltb}
 use Rattle.std.proofs.lemmas.List.{append-nil, append_assoc, take_more}
 use Rattle.std.proofs.lemmas.List.Elements.{All-head, All-tail, All-push, All-nil}
 use Rattle.std.proofs.lemmas.Option.{slice_get-get_or, slice_get_past}
 use Rattle.dwc_base.specs.declared.records.Address.{Address}
 use Rattle.dwc_base.specs.declared.records.LineRow.{LineRow}
 use Rattle.dwc_base.specs.LineHeaders.{LineFile}
-use Rattle.dwc_base.specs.LineRows.{LineStep, start as begin, row, end}
+use Rattle.dwc_base.specs.LineRows.{LineTable, LineStep, start as begin, row, end, numbered, file_numbered}
 use Rattle.dwc_base.specs.Functions.{Function}
 use Rattle.dwc_write.specs.GivenLines.{GivenLines, with_directory, with_file}
-use Rattle.dwc_tabs.specs.Tables.{numbered}
 use Rattle.dwc_carry.specs.ImageSequences.{FitsStep, FitsFiles, AllRise, sequence_if, sequences_from, with_sequences}
 use Rattle.dwc_carry.specs.CarriedLines.{with_directories, with_files}
 
@@ -29,6 +28,13 @@ take_next {X} (y ∷ ys) i x h = go (cases_lt i (length (y ∷ ys)))
 -- what stands at the next number
 pub numbered-next : {X : Type 0} (xs : List X) (i : ℕ) → numbered (i + 1) xs ≡ slice_get xs i
 numbered-next xs i = rw add-one refl
+
+-- the file at a place, by its number
+pub file-early : (t : LineTable) (i : ℕ) → t.header.version < 5 → file_numbered t (i + 1) ≡ slice_get t.files i
+file-early t i early = let test : nat_lt t.header.version 5 ≡ true = lt-ltb _ _ early in rw test (numbered-next t.files i)
+
+pub file-late : (t : LineTable) (i : ℕ) → 5 ≤ t.header.version → file_numbered t i ≡ slice_get t.files i
+file-late t i late = let test : nat_lt t.header.version 5 ≡ false = le-ltb _ _ late in rw test refl
 
 -- one directory more
 pub more_directories : (names : List (List ℕ)) (i : ℕ) (name : List ℕ) (g p : GivenLines) → slice_get names i ≡ Some name → p ≡ with_directories (take i names) g → with_directory name p ≡ with_directories (take (i + 1) names) g

@@ -5,7 +5,7 @@ use Rattle.std.specs.List.{position, filter_map, cons_option, list_all}
 use Rattle.std.proofs.lemmas.List.Elements.{All-nil, All-cons, All-append}
 use Rattle.std.proofs.lemmas.List.{get_or-take}
 use Rattle.std.proofs.lemmas.List.Quantifiers.{position-Some}
-use Rattle.std.proofs.lemmas.Bool.{ltb-true, ltb-false, eqb-true, eqb-false}
+use Rattle.std.proofs.lemmas.Bool.{ltb-true, ltb-false, eqb-true, eqb-false, true≢false}
 use Rattle.dwc_base.specs.declared.faults.Flaw.{Flaw}
 use Rattle.dwc_base.specs.declared.faults.Flaw.TheVariants.{EndsEarly, TooWide, Malformed}
 use Rattle.dwc_base.specs.Reading.{coded, counted_at, part_at, sleb_at, Unread, Read, ◌>>=◌, passed, text_at, uleb_at, uleb_value, uleb_fitting, items_at, number_at, seen_as}
@@ -15,7 +15,7 @@ use Rattle.dwc_base.specs.declared.faults.What.TheVariants.{LineTable as LineTab
 use Rattle.dwc_base.specs.Listing.{Listing, Next, at_end, broken, passes, item, walk, walk_up_to, no_items, only_fault, with_first}
 use Rattle.dwc_base.specs.LineRows.{LineTable, line_table, line_table_at, checked_table, table_of, file_defined, effects, is_in_range, at_sequence_start}
 use Rattle.dwc_base.specs.declared.constants.TheConstants.{DW_LNE_end_sequence, DW_LNE_set_address, DW_LNE_define_file, DW_LNE_set_discriminator}
-use Rattle.dwc_base.specs.LineHeaders.{Instruction, special, end_sequence, set_address, define_file, set_discriminator, unknown, Operand, no_operand, one_uleb, one_sleb, two_bytes, standard_opcodes, operand_at, passed_operands_at, extended_at, extended_instruction_at, instruction_at, next_instruction, instructions, LineFile, LineHeader, directory_at, file_at, file_behind, line_fields_to_4, line_header_at}
+use Rattle.dwc_base.specs.LineHeaders.{Instruction, special, end_sequence, set_address, define_file, set_discriminator, unknown, Operand, no_operand, one_uleb, one_sleb, two_bytes, standard_opcodes, operand_at, passed_operands_at, extended_at, extended_instruction_at, instruction_at, next_instruction, instructions, LineFile, LineHeader, directory_at, file_at, file_behind, LineSource, line_source, directories_of_5_at, files_of_5_at, line_names_at, line_fields_at, line_header_at}
 use Rattle.dwc_base.proofs.Items.{Leaves, LeavesFewer, items-more, items-end, items-flaw}
 use Rattle.dwc_base.proofs.Takes.{directory_at-leaves}
 use Rattle.dwc_base.proofs.Takes.{Leaves-bind, Leaves-same, text_at-leaves}
@@ -165,10 +165,10 @@ file_at-leaves u = Leaves-bind (text_at u) _ _ (text_at-leaves u) (λ name. go (
     go true name v = Leaves-same _ _
     go false name v = Leaves-bind (file_behind name v) _ _ (file_behind-leaves name v) (λ file. Leaves-same _ _)
 
--- the header that was read, if it was, has such names
+-- the header that was read, if it was, has such names, but for version 5
 abbrev pub NamesOf : Result LineHeader Flaw → Type 0
 NamesOf (Err flaw) = Unit {0}
-NamesOf (Ok h) = All FitsName h.directories × All IsPlainFile h.files
+NamesOf (Ok h) = (h.version == 5) ≡ false → All FitsName h.directories × All IsPlainFile h.files
 
 pub record HasNames (r : Result LineHeader Flaw) : Type 0 where
   pub of : NamesOf r
@@ -177,31 +177,37 @@ names-behind : {A : Type 0} (r : Result A Flaw) (f : A → Result LineHeader Fla
 names-behind (Err flaw) f h = record { of = tt }
 names-behind (Ok x) f h = h x
 
--- behind the directories, and behind the files
-directories-behind : (u : Unread) (f : List (List ℕ) × Unread → Result LineHeader Flaw) → ((x : List (List ℕ) × Unread) → All FitsName x.0 → HasNames (f x)) → HasNames (items_at directory_at u >>= f)
-directories-behind u f h = go (items_at directory_at u) refl
+-- behind the directories and the files
+names-read : (s : LineSource) (version address_size : ℕ) (u : Unread) (f : (List (List ℕ) × List LineFile) × Unread → Result LineHeader Flaw)
+    → ((x : (List (List ℕ) × List LineFile) × Unread) → ((version == 5) ≡ false → All FitsName (x.0).0 × All IsPlainFile (x.0).1) → HasNames (f x)) → HasNames (line_names_at s version address_size u >>= f)
+unfolding line_names_at
+names-read s version address_size u f h = go (version == 5) refl
   where
-    go : (r : Read (List (List ℕ))) → items_at directory_at u ≡ r → HasNames (r >>= f)
-    go (Err flaw) is = record { of = tt }
-    go (Ok x) is = h x (items-each FitsName directory_at directory_at-leaves directory-name u x.1 x.0 is)
+    files : (ds : List (List ℕ) × Unread) → All FitsName ds.0 → (r : Read (List LineFile)) → items_at file_at ds.1 ≡ r
+        → HasNames ((let k : Read (List (List ℕ) × List LineFile) = r >>= λ fs. Ok ((ds.0, fs.0), fs.1) in k) >>= f)
+    files ds named (Err flaw) is = record { of = tt }
+    files ds named (Ok fs) is = h ((ds.0, fs.0), fs.1) (λ early. (named, items-each IsPlainFile file_at file_at-leaves file-plain ds.1 fs.1 fs.0 is))
 
-files-behind : (u : Unread) (f : List LineFile × Unread → Result LineHeader Flaw) → ((x : List LineFile × Unread) → All IsPlainFile x.0 → HasNames (f x)) → HasNames (items_at file_at u >>= f)
-files-behind u f h = go (items_at file_at u) refl
-  where
-    go : (r : Read (List LineFile)) → items_at file_at u ≡ r → HasNames (r >>= f)
-    go (Err flaw) is = record { of = tt }
-    go (Ok x) is = h x (items-each IsPlainFile file_at file_at-leaves file-plain u x.1 x.0 is)
+    directories : (r : Read (List (List ℕ))) → items_at directory_at u ≡ r
+        → HasNames ((let k : Read (List (List ℕ) × List LineFile) = r >>= λ ds. items_at file_at ds.1 >>= λ fs. Ok ((ds.0, fs.0), fs.1) in k) >>= f)
+    directories (Err flaw) is = record { of = tt }
+    directories (Ok ds) is = files ds (items-each FitsName directory_at directory_at-leaves directory-name u ds.1 ds.0 is) (items_at file_at ds.1) refl
 
-names-last : (h : LineHeader) → All FitsName h.directories → All IsPlainFile h.files → HasNames (Ok h)
-names-last h ds fs = record { of = (ds, fs) }
+    go : (late : Bool) → (version == 5) ≡ late
+        → HasNames ((let k : Read (List (List ℕ) × List LineFile) = (elim late [ true ↦ directories_of_5_at s address_size u | false ↦ items_at directory_at u ]) >>= λ ds. (elim late [ true ↦ files_of_5_at s address_size ds.1 | false ↦ items_at file_at ds.1 ]) >>= λ fs. Ok ((ds.0, fs.0), fs.1) in k) >>= f)
+    go true is = names-behind _ f (λ x. h x (λ early. absurd (true≢false (sym is ∙ early))))
+    go false is = directories (items_at directory_at u) refl
 
-fields-names : (version address_size : ℕ) (program u : Unread) → HasNames (line_fields_to_4 version address_size program u)
-unfolding line_fields_to_4
-fields-names version address_size program u = search (directories-behind, files-behind, names-last, names-behind) depth 16
+names-last : (h : LineHeader) → ((h.version == 5) ≡ false → All FitsName h.directories × All IsPlainFile h.files) → HasNames (Ok h)
+names-last h named = record { of = named }
 
-header-names : (address_size : ℕ) (u : Unread) → HasNames (line_header_at address_size u)
+fields-names : (s : LineSource) (version address_size : ℕ) (program u : Unread) → HasNames (line_fields_at s version address_size program u)
+unfolding line_fields_at
+fields-names s version address_size program u = search (names-read, names-last, names-behind) depth 16
+
+header-names : (s : LineSource) (address_size : ℕ) (u : Unread) → HasNames (line_header_at s address_size u)
 unfolding line_header_at
-header-names address_size u = search (names-behind, fields-names) depth 10
+header-names s address_size u = search (names-behind, fields-names) depth 10
 
 -- ---- files that the program defines
 
@@ -355,18 +361,20 @@ defined-plain (i ∷ is) h = go i (h 0 i (omega arith)) (defined-plain is (λ k 
 -- ---- the table
 
 -- The directories and the files of a table that was read.
-pub table-names : (s : Sections) (address_size offset : ℕ) (t : LineTable) → line_table s address_size offset ≡ Ok t → All FitsName t.header.directories × All IsPlainFile t.files
+pub table-names : (s : Sections) (address_size offset : ℕ) (t : LineTable) → line_table s address_size offset ≡ Ok t → (t.header.version == 5) ≡ false → All FitsName t.header.directories × All IsPlainFile t.files
 unfolding line_table line_table_at
-table-names s address_size offset t read = reported-names (line_header_at address_size (section_from s Line offset)) (header-names address_size (section_from s Line offset)) read
+table-names s address_size offset t read early =
+    reported-names (line_header_at (line_source s) address_size (section_from s Line offset)) (header-names (line_source s) address_size (section_from s Line offset)) read
   where
-    ranged : (h : LineHeader) (is : List Instruction) (b : Bool) → All FitsName h.directories × All IsPlainFile h.files → All DefinesPlain is
+    ranged : (h : LineHeader) (is : List Instruction) (b : Bool) → ((h.version == 5) ≡ false → All FitsName h.directories × All IsPlainFile h.files) → All DefinesPlain is
         → (let r : Result LineTable Fault = reported LineTableRead Line offset (elim b [ true ↦ Ok (table_of h is) | false ↦ Err Malformed ]) in r) ≡ Ok t → All FitsName t.header.directories × All IsPlainFile t.files
     ranged h is true names defined e =
         let same : table_of h is ≡ t = cc in
-        rw (← same) (names.0, All-append IsPlainFile h.files (filter_map file_defined is) names.1 (defined-plain is defined))
+        let named = names (ap (λ x. x.header.version == 5) same ∙ early) in
+        rw (← same) (named.0, All-append IsPlainFile h.files (filter_map file_defined is) named.1 (defined-plain is defined))
     ranged h is false names defined e = absurd (cc)
 
-    checked : (h : LineHeader) (items : List Instruction) (fault : Option Flaw) → All FitsName h.directories × All IsPlainFile h.files → All DefinesPlain items
+    checked : (h : LineHeader) (items : List Instruction) (fault : Option Flaw) → ((h.version == 5) ≡ false → All FitsName h.directories × All IsPlainFile h.files) → All DefinesPlain items
         → reported LineTableRead Line offset (checked_table h (record { items = items; fault = fault })) ≡ Ok t → All FitsName t.header.directories × All IsPlainFile t.files
     checked h items None names defined e = ranged h items (list_all is_in_range (effects h (at_sequence_start h) items)) names defined e
     checked h items (Some flaw) names defined e = absurd (cc)

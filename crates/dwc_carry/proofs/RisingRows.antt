@@ -9,7 +9,7 @@ use Rattle.dwc_base.specs.declared.faults.Flaw.{Flaw}
 use Rattle.dwc_base.specs.declared.faults.Flaw.TheVariants.{Malformed}
 use Rattle.dwc_base.specs.declared.section_name.SectionName.TheVariants.{Line}
 use Rattle.dwc_base.specs.declared.faults.What.TheVariants.{LineTable as LineTableRead}
-use Rattle.dwc_base.specs.LineHeaders.{LineHeader, line_header_at, Instruction, special, copy, advance_pc, advance_line, set_file, set_column, negate_stmt, set_basic_block, const_add_pc, fixed_advance_pc, set_prologue_end, set_epilogue_begin, set_isa, end_sequence, set_address, define_file, set_discriminator, unknown, instructions}
+use Rattle.dwc_base.specs.LineHeaders.{LineHeader, line_source, line_header_at, Instruction, special, copy, advance_pc, advance_line, set_file, set_column, negate_stmt, set_basic_block, const_add_pc, fixed_advance_pc, set_prologue_end, set_epilogue_begin, set_isa, end_sequence, set_address, define_file, set_discriminator, unknown, instructions}
 use Rattle.dwc_base.specs.LineRows.{Row, Segment, Registers, LineTable, at_sequence_start, after_row, by_special, after, effects, is_in_range, step_of, rows_before, segment_if, with_segment, segments_among, segments, table_of, checked_table, line_table_at, line_table}
 use Rattle.dwc_base.specs.Listing.{Listing}
 use Rattle.dwc_base.specs.Reading.{Unread, ◌>>=◌}
@@ -82,7 +82,7 @@ checked_table-rise h program t = go program.fault (list_all is_in_range (effects
 
 line_table_at-rise : (s : Sections) (size : ℕ) (u : Unread) (t : LineTable) → line_table_at s size u ≡ Ok t → All RowsRise (segments t)
 unfolding line_table_at
-line_table_at-rise s size u t = go (line_header_at size u)
+line_table_at-rise s size u t = go (line_header_at (line_source s) size u)
   where
     go : (r : Result LineHeader Flaw) → (r >>= λ h. checked_table h (instructions (s.relocations Line) h h.program)) ≡ Ok t → All RowsRise (segments t)
     go (Err flaw) e = absurd (cc)

@@ -5,7 +5,8 @@ use Rattle.dwc_base.specs.Sections.{Sections, Fault}
 use Rattle.dwc_base.specs.Functions.{Function}
 use Rattle.dwc_base.specs.LineRows.{LineTable, line_table}
 use Rattle.dwc_base.specs.Reached.{fault_in}
-use Rattle.dwc_base.specs.FirstForm.{has_known_table, has_all_files}
+use Rattle.dwc_base.specs.LineFiles.{has_all_files}
+use Rattle.dwc_base.specs.FirstForm.{has_known_table}
 use Rattle.dwc_write.specs.GivenLines.{GivenLines, no_lines}
 use Rattle.dwc_carry.specs.declared.error.DebugError.{DebugError}
 use Rattle.dwc_carry.specs.Refusals.{RefusesPart}

@@ -1,5 +1,6 @@
 //! The line program that carries a line table.
-ghost use Rattle.std.specs.Prelude.{◌≡◌, None, [], IsSome, OnOk, IfOk, length, All};
+ghost use Rattle.std.specs.Prelude.{◌≡◌, ◌+◌, ◌<◌, ◌^◌, None, [], IsSome, OnOk, IfOk, length, All, option_map, slice_get};
+ghost use Rattle.dwc_tabs.specs.Headers.{file_view};
 ghost use Rattle.dwc_write.specs.SpelledLines.{FitsName};
 ghost use Rattle.dwc_carry.specs.ImageRows.{IsOrdered};
 ghost use Rattle.dwc_carry.specs.ImageSequences.{FitsStep, AllRise, sequences_from, with_sequences};
@@ -8,7 +9,7 @@ ghost use Rattle.dwc_carry.specs.CarriedLines.{FitsDirectories, CanCarry, Carrie
 use crate::sequence::add_image;
 use dwc_addr::AddressTransform;
 use dwc_base::Encoding;
-use dwc_tabs::{LineStep, LineTable};
+use dwc_tabs::{LineFile, LineStep, LineTable};
 use dwc_write::{LineProgram, WriteError};
 use std::alloc::Global;
 
@@ -43,13 +44,25 @@ fn add_directories(program: &mut LineProgram, table: &LineTable<'_>) -> Result<(
     Ok(())
 }
 
+// The file at a place; files count from 1, from version 5 on from 0.
+fn file_at<'d>(table: &LineTable<'d>, place: u64) -> Option<LineFile<'d>>
+    requires { place + 1 < 2 ^ 64 }
+    ensures { option_map file_view result ≡ slice_get table.now.files place }
+{
+    if table.version() < 5 {
+        table.file(place + 1)
+    } else {
+        table.file(place)
+    }
+}
+
 // Adds the files of a table, whose directories are added.
 fn add_files(program: &mut LineProgram, table: &LineTable<'_>) -> Result<(), WriteError>
     requires { All (FitsDirectories (length program.old.directories)) table.now.files }
     ensures { OnOk result (program.new ≡ with_files table.now.files program.old) }
 {
     for i in 0..table.file_count() {
-        let file = table.file(i + 1).unwrap();
+        let file = file_at(table, i).unwrap();
         program.add_file(file.directory, file.name)?;
     }
     Ok(())

@@ -55,7 +55,7 @@ fn length(bytes: &[u8]) -> u32 {
 }
 
 // The table of a section, without texts elsewhere.
-fn read<'d>(alloc: Global, line: &'d [u8], size: u8) -> Result<LineTable<'d>, TabFault> {
+fn read_plain<'d>(alloc: Global, line: &'d [u8], size: u8) -> Result<LineTable<'d>, TabFault> {
     read_with(alloc, line, size, b"", b"")
 }
 
@@ -190,7 +190,7 @@ fn opcodes(rt: HostRuntime) -> Result<(), Fail> {
         let mut program = opcodes.to_vec(rt.alloc())?;
         program.extend_from_slice(b"\x01\x00\x01\x01")?;
         let bytes = section(rt.alloc(), 4, &RICH, &program)?;
-        let table = read(rt.alloc(), &bytes, 4)?;
+        let table = read_plain(rt.alloc(), &bytes, 4)?;
         let (row, end) = last_row(&table);
         assert_eq!(rt; row, Some(expected), "after {opcodes:?}");
         assert_eq!(rt; end, Some(expected.offset), "after {opcodes:?}");
@@ -207,7 +207,7 @@ fn refusals(rt: HostRuntime) -> Result<(), Fail> {
         offset: 0,
     };
     let missing = TabFault::InvalidFileIndex { offset: 0 };
-    let cases: [(u16, &[u8], TabFault); 13] = [
+    let cases: [(u16, &[u8], TabFault); 12] = [
         (4, b"\x03\x7e\x01", read),
         (4, b"\x03\xff\xff\xff\xff\x0f\x01", read),
         (4, b"\x02\x80\x80\x80\x80\x10\x01", read),
@@ -220,17 +220,16 @@ fn refusals(rt: HostRuntime) -> Result<(), Fail> {
         (4, b"\x00\x06\x03c\x00\x02\x00\x00", missing),
         (4, b"\x00\x05\x03\x00\x01\x00\x00", missing),
         (1, b"", unsupported(Kind::Version)),
-        (5, b"", unsupported(Kind::NotBuilt)),
     ];
     for (version, program, expected) in cases {
         let bytes = section(rt.alloc(), version, &RICH, program)?;
-        let read = read(rt.alloc(), &bytes, 4);
+        let read = read_plain(rt.alloc(), &bytes, 4);
         assert_eq!(rt; read.err(), Some(expected), "at {program:?}");
     }
     let bytes = section(rt.alloc(), 4, b"\x01\x02\x01\x00\x01\x01\x00\x00", b"")?;
-    let read = read(rt.alloc(), &bytes, 4);
+    let read = read_plain(rt.alloc(), &bytes, 4);
     assert_eq!(rt; read.err(), Some(unsupported(Kind::Operations)));
-    let read = read(rt.alloc(), b"\xff\xff\xff\xff", 4);
+    let read = read_plain(rt.alloc(), b"\xff\xff\xff\xff", 4);
     assert_eq!(rt; read.err(), Some(unsupported(Kind::Format64)));
     Ok(())
 }
@@ -280,7 +279,7 @@ fn sequences(rt: HostRuntime) -> Result<(), Fail> {
     ];
     for (program, expected) in cases {
         let bytes = section(rt.alloc(), 4, &PLAIN, program)?;
-        let table = read(rt.alloc(), &bytes, 4)?;
+        let table = read_plain(rt.alloc(), &bytes, 4)?;
         assert!(rt; gives(&table, expected), "in {program:?}");
     }
     Ok(())
@@ -342,7 +341,7 @@ fn is_printed(table: &LineTable<'_>, printed: &[(u64, u64, u64, u64, u64, u8)]) 
 // The rows that a compiler wrote are those that another program prints.
 #[test]
 fn compiled_table(rt: HostRuntime) -> Result<(), Fail> {
-    let table = read(rt.alloc(), &LINE, 8)?;
+    let table = read_plain(rt.alloc(), &LINE, 8)?;
     assert_eq!(rt; table.version(), 4);
     assert_eq!(rt; (table.directory_count(), table.file_count()), (1, 2));
     assert!(rt; table.directory(0).is_none() && table.directory(2).is_none());
