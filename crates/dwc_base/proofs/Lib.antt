@@ -34,3 +34,4 @@ pub mod CodeOffsets
 pub mod KeptCases
 pub mod FormCases
 pub mod LineCases
+pub mod StandardCodes
