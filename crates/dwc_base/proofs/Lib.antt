@@ -36,3 +36,4 @@ pub mod KeptCases
 pub mod FormCases
 pub mod LineCases
 pub mod LineVersion5
+pub mod StandardCodes

@@ -1,0 +1,70 @@
+-- The codes are those of the standard. The definitions name a code by its constant, so that a wrong number would be wrong in
+-- the program and in the definitions alike; here each stands beside the number that its table gives. (DWARF 5, section 7.)
+use Rattle.std.proofs.Common.{◌≡◌, ℕ, List, [], ◌∷◌, map, refl}
+use Rattle.dwc_base.specs.declared.constants.TheConstants.{DW_AT_addr_base, DW_AT_allocated, DW_AT_associated, DW_AT_bit_size, DW_AT_bit_stride, DW_AT_byte_size, DW_AT_byte_stride, DW_AT_count, DW_AT_data_location, DW_AT_data_member_location, DW_AT_frame_base, DW_AT_high_pc, DW_AT_location, DW_AT_loclists_base, DW_AT_low_pc, DW_AT_lower_bound, DW_AT_name, DW_AT_ranges, DW_AT_return_addr, DW_AT_rnglists_base, DW_AT_segment, DW_AT_sibling, DW_AT_start_scope, DW_AT_static_link, DW_AT_stmt_list, DW_AT_str_offsets_base, DW_AT_string_length, DW_AT_upper_bound, DW_AT_use_location, DW_AT_vtable_elem_location, DW_CHILDREN_no, DW_CHILDREN_yes, DW_FORM_addr, DW_FORM_addrx, DW_FORM_addrx1, DW_FORM_addrx2, DW_FORM_addrx3, DW_FORM_addrx4, DW_FORM_block, DW_FORM_block1, DW_FORM_block2, DW_FORM_block4, DW_FORM_data1, DW_FORM_data16, DW_FORM_data2, DW_FORM_data4, DW_FORM_data8, DW_FORM_exprloc, DW_FORM_flag, DW_FORM_flag_present, DW_FORM_implicit_const, DW_FORM_indirect, DW_FORM_line_strp, DW_FORM_loclistx, DW_FORM_ref1, DW_FORM_ref2, DW_FORM_ref4, DW_FORM_ref8, DW_FORM_ref_addr, DW_FORM_ref_sig8, DW_FORM_ref_sup4, DW_FORM_ref_sup8, DW_FORM_ref_udata, DW_FORM_rnglistx, DW_FORM_sdata, DW_FORM_sec_offset, DW_FORM_string, DW_FORM_strp, DW_FORM_strp_sup, DW_FORM_strx, DW_FORM_strx1, DW_FORM_strx2, DW_FORM_strx3, DW_FORM_strx4, DW_FORM_udata, DW_LNE_define_file, DW_LNE_end_sequence, DW_LNE_set_address, DW_LNE_set_discriminator, DW_LNS_advance_line, DW_LNS_advance_pc, DW_LNS_const_add_pc, DW_LNS_copy, DW_LNS_fixed_advance_pc, DW_LNS_negate_stmt, DW_LNS_set_basic_block, DW_LNS_set_column, DW_LNS_set_epilogue_begin, DW_LNS_set_file, DW_LNS_set_isa, DW_LNS_set_prologue_end, DW_TAG_array_type, DW_TAG_base_type, DW_TAG_call_site, DW_TAG_call_site_parameter, DW_TAG_catch_block, DW_TAG_compile_unit, DW_TAG_const_type, DW_TAG_constant, DW_TAG_entry_point, DW_TAG_enumerator, DW_TAG_formal_parameter, DW_TAG_inheritance, DW_TAG_inlined_subroutine, DW_TAG_label, DW_TAG_lexical_block, DW_TAG_member, DW_TAG_namespace, DW_TAG_pointer_type, DW_TAG_reference_type, DW_TAG_structure_type, DW_TAG_subprogram, DW_TAG_subrange_type, DW_TAG_template_type_parameter, DW_TAG_template_value_parameter, DW_TAG_try_block, DW_TAG_unspecified_parameters, DW_TAG_variable, DW_TAG_variant, DW_TAG_variant_part, DW_TAG_with_stmt, DW_UT_compile, DW_UT_partial, DW_UT_skeleton, DW_UT_split_compile, DW_UT_split_type, DW_UT_type}
+
+-- the numbers on the left are those on the right
+abbrev AreStandard : List (ℕ × ℕ) → Type 0
+AreStandard codes = map (λ c. c.0) codes ≡ map (λ c. c.1) codes
+
+-- tags (table 7.3)
+tags : AreStandard (
+    (DW_TAG_array_type, 0x01) ∷ (DW_TAG_entry_point, 0x03) ∷ (DW_TAG_formal_parameter, 0x05) ∷ (DW_TAG_label, 0x0A)
+    ∷ (DW_TAG_lexical_block, 0x0B) ∷ (DW_TAG_member, 0x0D) ∷ (DW_TAG_pointer_type, 0x0F) ∷ (DW_TAG_reference_type, 0x10)
+    ∷ (DW_TAG_compile_unit, 0x11) ∷ (DW_TAG_structure_type, 0x13) ∷ (DW_TAG_unspecified_parameters, 0x18) ∷ (DW_TAG_variant, 0x19)
+    ∷ (DW_TAG_inheritance, 0x1C) ∷ (DW_TAG_inlined_subroutine, 0x1D) ∷ (DW_TAG_subrange_type, 0x21) ∷ (DW_TAG_with_stmt, 0x22)
+    ∷ (DW_TAG_base_type, 0x24) ∷ (DW_TAG_catch_block, 0x25) ∷ (DW_TAG_const_type, 0x26) ∷ (DW_TAG_constant, 0x27)
+    ∷ (DW_TAG_enumerator, 0x28) ∷ (DW_TAG_subprogram, 0x2E) ∷ (DW_TAG_template_type_parameter, 0x2F) ∷ (DW_TAG_template_value_parameter, 0x30)
+    ∷ (DW_TAG_try_block, 0x32) ∷ (DW_TAG_variant_part, 0x33) ∷ (DW_TAG_variable, 0x34) ∷ (DW_TAG_namespace, 0x39)
+    ∷ (DW_TAG_call_site, 0x48) ∷ (DW_TAG_call_site_parameter, 0x49) ∷ [])
+tags = refl
+
+-- attributes (table 7.5)
+attribute_names : AreStandard (
+    (DW_AT_sibling, 0x01) ∷ (DW_AT_location, 0x02) ∷ (DW_AT_name, 0x03) ∷ (DW_AT_byte_size, 0x0B)
+    ∷ (DW_AT_bit_size, 0x0D) ∷ (DW_AT_stmt_list, 0x10) ∷ (DW_AT_low_pc, 0x11) ∷ (DW_AT_high_pc, 0x12)
+    ∷ (DW_AT_string_length, 0x19) ∷ (DW_AT_lower_bound, 0x22) ∷ (DW_AT_return_addr, 0x2A) ∷ (DW_AT_start_scope, 0x2C)
+    ∷ (DW_AT_bit_stride, 0x2E) ∷ (DW_AT_upper_bound, 0x2F) ∷ (DW_AT_count, 0x37) ∷ (DW_AT_data_member_location, 0x38)
+    ∷ (DW_AT_frame_base, 0x40) ∷ (DW_AT_segment, 0x46) ∷ (DW_AT_static_link, 0x48) ∷ (DW_AT_use_location, 0x4A)
+    ∷ (DW_AT_vtable_elem_location, 0x4D) ∷ (DW_AT_allocated, 0x4E) ∷ (DW_AT_associated, 0x4F) ∷ (DW_AT_data_location, 0x50)
+    ∷ (DW_AT_byte_stride, 0x51) ∷ (DW_AT_ranges, 0x55) ∷ (DW_AT_str_offsets_base, 0x72) ∷ (DW_AT_addr_base, 0x73)
+    ∷ (DW_AT_rnglists_base, 0x74) ∷ (DW_AT_loclists_base, 0x8C) ∷ [])
+attribute_names = refl
+
+-- forms (table 7.6)
+form_codes : AreStandard (
+    (DW_FORM_addr, 0x01) ∷ (DW_FORM_block2, 0x03) ∷ (DW_FORM_block4, 0x04) ∷ (DW_FORM_data2, 0x05)
+    ∷ (DW_FORM_data4, 0x06) ∷ (DW_FORM_data8, 0x07) ∷ (DW_FORM_string, 0x08) ∷ (DW_FORM_block, 0x09)
+    ∷ (DW_FORM_block1, 0x0A) ∷ (DW_FORM_data1, 0x0B) ∷ (DW_FORM_flag, 0x0C) ∷ (DW_FORM_sdata, 0x0D)
+    ∷ (DW_FORM_strp, 0x0E) ∷ (DW_FORM_udata, 0x0F) ∷ (DW_FORM_ref_addr, 0x10) ∷ (DW_FORM_ref1, 0x11)
+    ∷ (DW_FORM_ref2, 0x12) ∷ (DW_FORM_ref4, 0x13) ∷ (DW_FORM_ref8, 0x14) ∷ (DW_FORM_ref_udata, 0x15)
+    ∷ (DW_FORM_indirect, 0x16) ∷ (DW_FORM_sec_offset, 0x17) ∷ (DW_FORM_exprloc, 0x18) ∷ (DW_FORM_flag_present, 0x19)
+    ∷ (DW_FORM_strx, 0x1A) ∷ (DW_FORM_addrx, 0x1B) ∷ (DW_FORM_ref_sup4, 0x1C) ∷ (DW_FORM_strp_sup, 0x1D)
+    ∷ (DW_FORM_data16, 0x1E) ∷ (DW_FORM_line_strp, 0x1F) ∷ (DW_FORM_ref_sig8, 0x20) ∷ (DW_FORM_implicit_const, 0x21)
+    ∷ (DW_FORM_loclistx, 0x22) ∷ (DW_FORM_rnglistx, 0x23) ∷ (DW_FORM_ref_sup8, 0x24) ∷ (DW_FORM_strx1, 0x25)
+    ∷ (DW_FORM_strx2, 0x26) ∷ (DW_FORM_strx3, 0x27) ∷ (DW_FORM_strx4, 0x28) ∷ (DW_FORM_addrx1, 0x29)
+    ∷ (DW_FORM_addrx2, 0x2A) ∷ (DW_FORM_addrx3, 0x2B) ∷ (DW_FORM_addrx4, 0x2C) ∷ [])
+form_codes = refl
+
+-- types of units (table 7.2)
+unit_types : AreStandard (
+    (DW_UT_compile, 0x01) ∷ (DW_UT_type, 0x02) ∷ (DW_UT_partial, 0x03) ∷ (DW_UT_skeleton, 0x04)
+    ∷ (DW_UT_split_compile, 0x05) ∷ (DW_UT_split_type, 0x06) ∷ [])
+unit_types = refl
+
+-- standard opcodes of line programs (table 7.25)
+standard_opcodes : AreStandard (
+    (DW_LNS_copy, 0x01) ∷ (DW_LNS_advance_pc, 0x02) ∷ (DW_LNS_advance_line, 0x03) ∷ (DW_LNS_set_file, 0x04)
+    ∷ (DW_LNS_set_column, 0x05) ∷ (DW_LNS_negate_stmt, 0x06) ∷ (DW_LNS_set_basic_block, 0x07) ∷ (DW_LNS_const_add_pc, 0x08)
+    ∷ (DW_LNS_fixed_advance_pc, 0x09) ∷ (DW_LNS_set_prologue_end, 0x0A) ∷ (DW_LNS_set_epilogue_begin, 0x0B) ∷ (DW_LNS_set_isa, 0x0C) ∷ [])
+standard_opcodes = refl
+
+-- extended opcodes of line programs (table 7.26)
+extended_opcodes : AreStandard (
+    (DW_LNE_end_sequence, 0x01) ∷ (DW_LNE_set_address, 0x02) ∷ (DW_LNE_define_file, 0x03) ∷ (DW_LNE_set_discriminator, 0x04) ∷ [])
+extended_opcodes = refl
+
+-- whether an entry has children (table 7.4)
+children_bytes : AreStandard (
+    (DW_CHILDREN_no, 0x00) ∷ (DW_CHILDREN_yes, 0x01) ∷ [])
+children_bytes = refl
