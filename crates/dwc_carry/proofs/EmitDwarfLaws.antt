@@ -18,7 +18,7 @@ use Rattle.dwc_write.specs.GivenUnits.{GivenUnit}
 use Rattle.dwc_write.specs.ReadBack.{ReadsBack}
 use Rattle.dwc_write.specs.Writers.{IsSound}
 use Rattle.dwc_carry.specs.declared.error.DebugError.{DebugError}
-use Rattle.dwc_carry.specs.declared.error.DebugError.TheVariants.{Read, Unsupported, BadAddressMap, TooLarge, OutOfMemory}
+use Rattle.dwc_carry.specs.declared.error.DebugError.TheVariants.{Read, Unsupported, InvalidFileIndex, BadAddressMap, TooLarge, OutOfMemory}
 use Rattle.dwc_carry.specs.Emitted.{module_view, of_one, Carries, IsEmitted, HasGoodMaps}
 use Rattle.dwc_carry.specs.Emits.{Emits}
 use Rattle.dwc_carry.specs.Outcomes.{plain_module, IsReadWhole, CarriesNothing, CarriesUnit, RefusesModule, IsOfWriting}
@@ -43,6 +43,7 @@ module _ (order : Endian) (size : ℕ) (t : ModuleTranslation) (fs : List (Optio
       go : (e : DebugError) → RefusesModule (of_one order size (module_view t fs)) e → Emits order size t fs (Err e)
       go (Read what section offset) h = (good, h)
       go (Unsupported kind offset) h = (good, h)
+      go (InvalidFileIndex offset) h = (good, h)
       go (BadAddressMap m func why) h = absurd h
       go (TooLarge what) h = absurd h
       go OutOfMemory h = tt
@@ -54,6 +55,7 @@ module _ (order : Endian) (size : ℕ) (t : ModuleTranslation) (fs : List (Optio
       (good, record { carries = subst (λ m. Carries (of_one order size m) (map section_view s.items)) same (unit-emitted (translation_sections t) native order size u (map section_view s.items) h back); sound = sound })
   emits-unit u h (Err (Read what section offset)) sound back refused = absurd refused
   emits-unit u h (Err (Unsupported kind offset)) sound back refused = absurd refused
+  emits-unit u h (Err (InvalidFileIndex offset)) sound back refused = absurd refused
   emits-unit u h (Err (BadAddressMap m func why)) sound back refused = absurd refused
   emits-unit u h (Err (TooLarge what)) sound back refused =
       (good, subst (λ m. IsReadWhole (of_one order size m)) same (read-whole (translation_sections t) native order size h.read))

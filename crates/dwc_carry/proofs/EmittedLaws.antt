@@ -16,7 +16,7 @@ use Rattle.dwc_addr.specs.Transforms.{kept_function}
 use Rattle.dwc_write.specs.GivenUnits.{GivenUnit}
 use Rattle.dwc_write.specs.ReadBack.{IsReadUnit, ReadsBack, given_segments}
 use Rattle.dwc_carry.specs.declared.error.DebugError.{DebugError}
-use Rattle.dwc_carry.specs.declared.error.DebugError.TheVariants.{Read, Unsupported, BadAddressMap, TooLarge, OutOfMemory}
+use Rattle.dwc_carry.specs.declared.error.DebugError.TheVariants.{Read, Unsupported, InvalidFileIndex, BadAddressMap, TooLarge, OutOfMemory}
 use Rattle.dwc_carry.specs.Emitted.{of_one, Carries, IsReached, IsRefused}
 use Rattle.dwc_carry.specs.Outcomes.{plain_module, IsReadWhole, CarriesNothing, CarriesUnit, RefusesModule}
 use Rattle.dwc_carry.proofs.EmitLaws.{carries-nothing, carries-one}
@@ -67,6 +67,7 @@ module _ (s : Sections) (fs : List Function) where
   module-refused order size (Read what section offset) h = rw (same-faults order size) at h
   module-refused order size (Unsupported kind offset) (inl h) = inl (rw (same-faults order size) at h)
   module-refused order size (Unsupported kind offset) (inr h) = inr (h.0, sym (same-built order size) ∙ h.1)
+  module-refused order size (InvalidFileIndex offset) h = sym (same-built order size) ∙ h
   module-refused order size (BadAddressMap m func why) h = h
   module-refused order size (TooLarge what) h = h
   module-refused order size OutOfMemory h = h

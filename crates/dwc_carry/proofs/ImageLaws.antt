@@ -16,7 +16,7 @@ use Rattle.dwc_carry.proofs.LookupLaws.{last_at-same, row_in_force-last_at}
 use Rattle.dwc_carry.proofs.RowsLaws.{rows_from-within}
 
 -- the row itself that is in force at a recorded source
-abbrev found_row : List Row → ℕ → Recorded → Option Row
+abbrev pub found_row : List Row → ℕ → Recorded → Option Row
 found_row rows start e = found_at (λ r. r.offset) rows start e
 
 -- what a recorded source adds to an image

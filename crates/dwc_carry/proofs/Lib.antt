@@ -13,7 +13,13 @@ pub mod UnitPlaces
 pub mod DeclarationLaws
 pub mod TransferLaws
 pub mod LineVersions
-pub mod WidestLines
+pub mod WidestImages
+pub mod WidestUnits
+pub mod CompositionLaws
+pub mod CarriedReadLaws
+pub mod ReadModuleLaws
+pub mod UnitsRead
+pub mod ModuleLoopLaws
 pub mod NameLaws
 pub mod ReadUnitLaws
 pub mod OutputUnitLaws

@@ -47,7 +47,7 @@ same-rows : (t : LineTable) (g : GivenLines) (rs : List LineRow) → g.directori
 same-rows t g [] ds fs = refl
 same-rows t g (r ∷ rs) ds fs = rw (same-row t g r ds fs, same-rows t g rs ds fs) refl
 
-same-segments : (t : LineTable) (g : GivenLines) (qs : List WrittenSequence) → g.directories ≡ t.header.directories → g.files ≡ t.files → map (read_segment t) qs ≡ map (given_segment g) qs
+pub same-segments : (t : LineTable) (g : GivenLines) (qs : List WrittenSequence) → g.directories ≡ t.header.directories → g.files ≡ t.files → map (read_segment t) qs ≡ map (given_segment g) qs
 same-segments t g [] ds fs = refl
 same-segments t g (q ∷ qs) ds fs = rw (same-rows t g q.rows ds fs, same-segments t g qs ds fs) refl
 

@@ -29,6 +29,7 @@ pub refuses-more : (part whole : Option Fault) (built all : Bool) (e : DebugErro
 refuses-more part whole built all (debug.Read what section offset) h k r = h (unreadable what section offset) r
 refuses-more part whole built all (debug.Unsupported kind offset) h k (inl r) = inl (h (unsupported kind offset) r)
 refuses-more part whole built all (debug.Unsupported kind offset) h k (inr r) = inr (r.0, k r.1)
+refuses-more part whole built all (debug.InvalidFileIndex offset) h k r = k r
 refuses-more part whole built all (debug.BadAddressMap m func why) h k r = r
 refuses-more part whole built all (debug.TooLarge what) h k r = r
 refuses-more part whole built all debug.OutOfMemory h k r = r

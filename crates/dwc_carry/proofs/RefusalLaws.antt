@@ -10,7 +10,7 @@ use Rattle.dwc_base.specs.Carried.{Unit, root, units, Module, carried_units_of, 
 use Rattle.dwc_base.specs.Reached.{fault_in, faults_of_module, reached_faults}
 use Rattle.dwc_base.specs.FirstForm.{is_first_form, is_all_built, has_known_table, has_line_version_4, offset_of_table}
 use Rattle.dwc_carry.specs.declared.error.DebugError.{DebugError}
-use Rattle.dwc_carry.specs.declared.error.DebugError.TheVariants.{Read, Unsupported, BadAddressMap, TooLarge, OutOfMemory}
+use Rattle.dwc_carry.specs.declared.error.DebugError.TheVariants.{Read, Unsupported, InvalidFileIndex, BadAddressMap, TooLarge, OutOfMemory}
 use Rattle.dwc_carry.specs.Refusals.{RefusesPart}
 use Rattle.dwc_carry.specs.Emitted.{of_one, IsReached, IsRefused}
 use Rattle.dwc_carry.specs.ReadUnits.{has_known_info}
@@ -23,6 +23,7 @@ refuses-part : (order : Endian) (size : ℕ) (m : Module) (fault : Option Fault)
 refuses-part order size m fault built (Read what section offset) reached form h = reached (unreadable what section offset) h
 refuses-part order size m fault built (Unsupported kind offset) reached form (inl h) = inl (reached (unsupported kind offset) h)
 refuses-part order size m fault built (Unsupported kind offset) reached form (inr h) = inr (h.0, form h.1)
+refuses-part order size m fault built (InvalidFileIndex offset) reached form h = form h
 refuses-part order size m fault built (BadAddressMap n func why) reached form h = h
 refuses-part order size m fault built (TooLarge what) reached form h = h
 refuses-part order size m fault built OutOfMemory reached form h = h

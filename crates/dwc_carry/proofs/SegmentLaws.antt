@@ -1,6 +1,6 @@
 -- What is written of the steps of a line table are the images of its segments.
 use Rattle.std.proofs.Common.{◌≡◌, ℕ, suc, ◌+◌, ◌<◌, ◌≤◌, refl, ap, ◌∙◌, sym, arith, List, [], ◌∷◌, ◌++◌, map, length, pos, Option, Some, None}
-use Rattle.std.specs.Prelude.{nat_lt, if◌then◌else◌, option_and_then, Bool, true, false, All}
+use Rattle.std.specs.Prelude.{nat_lt, if◌then◌else◌, option_and_then, sum_by, Bool, true, false, All}
 use Rattle.std.specs.List.{filter, filter_map, cons_option, AllZip}
 use Rattle.std.specs.List.Sorted.{IsNonDecreasingBy}
 use Rattle.std.proofs.lemmas.Bool.{lt-ltb}
@@ -12,12 +12,14 @@ use Rattle.dwc_base.specs.declared.records.LineRow.{LineRow}
 use Rattle.dwc_base.specs.LineRows.{LineStep, start as begin, row, end, LineTable, Row, Segment, named_row, rows_before, stop_behind, segment_if, with_segment, segments_among, segments}
 use Rattle.dwc_base.specs.Functions.{Function, function_at, recorded_sources}
 use Rattle.dwc_base.specs.Images.{is_carried_segment, IsImageOf}
+use Rattle.dwc_base.specs.Widest.{widest_image, most_rows}
 use Rattle.dwc_write.specs.SpelledLines.{read_segment}
 use Rattle.dwc_write.specs.GivenLines.{GivenLines, no_lines}
 use Rattle.dwc_carry.specs.ImageRows.{image_rows, image_from, image_of, image_with_rows, image_if, move_row, moved_to, IsOrdered, RowsRise}
 use Rattle.dwc_carry.specs.ImageSequences.{RiseIf, AllRise, image_sequence, sequence_with_rows, sequence_in, sequence_at, sequence_if, sequences_from, with_sequences}
 use Rattle.dwc_carry.specs.CarriedLines.{CarriesTable, with_directories, with_files}
 use Rattle.dwc_carry.proofs.ImageLaws.{images-AllZip}
+use Rattle.dwc_carry.proofs.WidestImages.{images-widest, sequences-seen}
 use Rattle.dwc_carry.proofs.RisingRows.{RowsRise-seen}
 use Rattle.dwc_carry.proofs.RowsLaws.{rows_from-map, rows_from-none}
 
@@ -112,6 +114,10 @@ steps-rise t all = all-rise t t.steps None [] all
 pub sequences-AllZip : (t : LineTable) (fs : List Function) → All IsOrdered fs → AllZip (IsImageOf fs) (filter (is_carried_segment fs) (segments t)) (map (read_segment t) (sequences_from fs None [] t.steps))
 sequences-AllZip t fs all = rw (written t fs t.steps None []) (images-AllZip fs (segments t) all)
 
+-- and they are no longer at their widest than those
+pub sequences-widest : (t : LineTable) (fs : List Function) → sum_by (λ q. widest_image (length q.rows)) (sequences_from fs None [] t.steps) ≤ sum_by (λ q. widest_image (most_rows fs q)) (filter (is_carried_segment fs) (segments t))
+sequences-widest t fs = rw (sequences-seen t (sequences_from fs None [] t.steps), written t fs t.steps None []) (images-widest fs (segments t))
+
 -- What is made of a table is what carries it.
 pub carries-table : (t : LineTable) (fs : List Function) (size : ℕ) (a b c d : GivenLines) → All IsOrdered fs → a ≡ no_lines (Some size) → b ≡ with_directories t.header.directories a → c ≡ with_files t.files b → d ≡ with_sequences (sequences_from fs None [] t.steps) c → CarriesTable t fs size d
-carries-table t fs size a b c d all new directories files images = rw (images, files, directories, new) (record { address_size = refl; directories = refl; files = refl; ended = refl; images = sequences-AllZip t fs all })
+carries-table t fs size a b c d all new directories files images = rw (images, files, directories, new) (record { address_size = refl; directories = refl; files = refl; ended = refl; images = sequences-AllZip t fs all; widest = omega (arith, sequences-widest t fs) })

@@ -1,13 +1,15 @@
 -- What is kept of functions is enough for images, for carried segments and for required entries.
-use Rattle.std.proofs.Common.{◌≡◌, List, [], ◌∷◌, map, refl, ap, sym, ◌∙◌, Bool, true, false, Option, Some, None}
-use Rattle.std.specs.Prelude.{ℕ, option_map, is_some, ◌&&◌, if◌then◌else◌}
+use Rattle.std.proofs.Common.{◌≡◌, List, [], ◌∷◌, map, refl, ap, sym, ◌∙◌, ◌+◌, length, Bool, true, false, Option, Some, None, Result, Ok, Err}
+use Rattle.std.specs.Prelude.{ℕ, sum_by, option_map, is_some, ◌&&◌, if◌then◌else◌}
 use Rattle.std.specs.List.{filter, list_any, AllZip}
 use Rattle.dwc_base.specs.declared.records.Address.{Address}
 use Rattle.dwc_base.specs.declared.records.Address.TheVariants.{Constant, Symbol}
 use Rattle.dwc_base.specs.Functions.{Function, recorded_sources, function_at, owner, with_symbol, is_unlinked}
 use Rattle.std.proofs.Common.{subst, pos}
 use Rattle.std.specs.Option.{option_or, unwrap_or}
-use Rattle.dwc_base.specs.LineRows.{Segment}
+use Rattle.dwc_base.specs.Sections.{Fault}
+use Rattle.dwc_base.specs.LineRows.{LineTable, Segment, segments}
+use Rattle.dwc_base.specs.Widest.{widest_header, widest_image, most_rows, widest_table}
 use Rattle.dwc_base.specs.Images.{IsImage, IsImageOf, is_carried_segment, function_of_segment, start_of_segment, row_of_source, row_of_last, row_of_first, row_for_byte}
 use Rattle.dwc_base.specs.Entries.{Entry, attribute}
 use Rattle.dwc_base.specs.Values.{Value, address}
@@ -52,6 +54,35 @@ module _ (fs : List Function) where
   pub carried_segments-kept : (qs : List Segment) → filter (is_carried_segment (map kept_function fs)) qs ≡ filter (is_carried_segment fs) qs
   carried_segments-kept [] = refl
   carried_segments-kept (q ∷ qs) = rw (carried_segment-kept q, carried_segments-kept qs) refl
+
+  -- the rows that an image of a segment can have
+  counted : Segment → Option Function → ℕ
+  counted q None = 0
+  counted q (Some f) = length (filter (λ e. is_some (row_of_source q.rows (start_of_segment q) e)) (recorded_sources f))
+
+  counted-kept : (q : Segment) (o : Option Function) → counted q (option_map kept_function o) ≡ counted q o
+  unfolding counted
+  counted-kept q None = refl
+  counted-kept q (Some f) = ap (λ es. length (filter (λ e. is_some (row_of_source q.rows (start_of_segment q) e)) es)) (recorded_sources-kept f)
+
+  is_counted : (gs : List Function) (q : Segment) → most_rows gs q ≡ counted q (function_of_segment gs q)
+  unfolding counted
+  is_counted gs q = go (function_of_segment gs q)
+    where
+      go : (o : Option Function) → (elim o [ None ↦ 0 | Some f ↦ length (filter (λ e. is_some (row_of_source q.rows (start_of_segment q) e)) (recorded_sources f)) ]) ≡ counted q o
+      go None = refl
+      go (Some f) = refl
+
+  most_rows-kept : (q : Segment) → most_rows (map kept_function fs) q ≡ most_rows fs q
+  most_rows-kept q = is_counted (map kept_function fs) q ∙ ap (counted q) (segment-kept q) ∙ counted-kept q (function_of_segment fs q) ∙ sym (is_counted fs q)
+
+  -- so a table has the same widest size
+  pub widest_table-kept : (t : Result (Option LineTable) Fault) → widest_table (map kept_function fs) t ≡ widest_table fs t
+  widest_table-kept (Err fault) = refl
+  widest_table-kept (Ok None) = refl
+  widest_table-kept (Ok (Some t)) =
+      rw (carried_segments-kept (segments t))
+      (ap (λ (n : Segment → ℕ). widest_header t.header.directories t.files + sum_by (λ q. widest_image (n q)) (filter (is_carried_segment fs) (segments t))) (λ i. λ q. most_rows-kept q i))
 
   some-kept : (o : Option Function) → is_some (option_map kept_function o) ≡ is_some o
   some-kept None = refl

@@ -1,17 +1,18 @@
 -- The answers of emitting DWARF.
-use Rattle.std.specs.Prelude.{◌≡◌, ℕ, List, map, Option, Some, Result, Ok, Err, Vec}
+use Rattle.std.specs.Prelude.{◌≡◌, ℕ, List, map, false, Option, Some, Result, Ok, Err, Vec}
 use Rattle.std.specs.Global.{Global}
 use Rattle.dwc_base.specs.declared.records.Endian.{Endian}
 use Rattle.dwc_base.specs.declared.records.SymbolId.{SymbolId}
 use Rattle.dwc_base.specs.declared.output.DwarfSection.{DwarfSection}
 use Rattle.dwc_base.specs.declared.wasm.ModuleTranslation.{ModuleTranslation}
 use Rattle.dwc_base.specs.Sections.{unreadable}
+use Rattle.dwc_base.specs.FirstForm.{is_all_built}
 use Rattle.dwc_base.specs.Outputs.{section_view}
 use Rattle.dwc_clif.specs.declared.CompiledFunctionMetadata.{CompiledFunctionMetadata}
 use Rattle.dwc_clif.specs.AddressMaps.{address_map_view}
 use Rattle.dwc_addr.specs.Transforms.{first_bad_map}
 use Rattle.dwc_carry.specs.declared.error.DebugError.{DebugError}
-use Rattle.dwc_carry.specs.declared.error.DebugError.TheVariants.{Read, Unsupported, BadAddressMap, TooLarge, OutOfMemory}
+use Rattle.dwc_carry.specs.declared.error.DebugError.TheVariants.{Read, Unsupported, InvalidFileIndex, BadAddressMap, TooLarge, OutOfMemory}
 use Rattle.dwc_carry.specs.Emitted.{module_view, of_one, IsEmitted, IsReached, IsRefused, HasGoodMaps}
 use Rattle.dwc_carry.specs.Outcomes.{IsReadWhole}
 
@@ -21,6 +22,7 @@ abbrev pub Emits : Endian → ℕ → ModuleTranslation → List (Option SymbolI
 Emits order size t fs (Ok s) = HasGoodMaps t fs × IsEmitted order (of_one order size (module_view t fs)) (map section_view s.items)
 Emits order size t fs (Err (Read what section offset)) = HasGoodMaps t fs × IsReached (of_one order size (module_view t fs)) (unreadable what section offset)
 Emits order size t fs (Err (Unsupported kind offset)) = HasGoodMaps t fs × IsRefused (of_one order size (module_view t fs)) kind offset
+Emits order size t fs (Err (InvalidFileIndex offset)) = HasGoodMaps t fs × (is_all_built (of_one order size (module_view t fs)) ≡ false)
 Emits order size t fs (Err (BadAddressMap m func why)) = (m ≡ 0) × (first_bad_map t.code_section_offset 0 (map address_map_view fs) ≡ Some (func, why))
 Emits order size t fs (Err (TooLarge what)) = HasGoodMaps t fs × IsReadWhole (of_one order size (module_view t fs))
 Emits order size t fs (Err OutOfMemory) = Unit {0}

@@ -13,7 +13,7 @@ use Rattle.dwc_base.specs.FirstForm.{is_all_built}
 use Rattle.dwc_write.specs.GivenUnits.{GivenUnit, IsOfSize}
 use Rattle.dwc_write.specs.ReadBack.{given_segments}
 use Rattle.dwc_carry.specs.declared.error.DebugError.{DebugError}
-use Rattle.dwc_carry.specs.declared.error.DebugError.TheVariants.{Read, Unsupported, BadAddressMap, TooLarge, OutOfMemory}
+use Rattle.dwc_carry.specs.declared.error.DebugError.TheVariants.{Read, Unsupported, InvalidFileIndex, BadAddressMap, TooLarge, OutOfMemory}
 use Rattle.dwc_carry.specs.Emitted.{of_one, IsReached, IsRefused}
 
 -- a module without compressed sections
@@ -45,6 +45,7 @@ pub record CarriesUnit (order : Endian) (size : ℕ) (m : Module) (u : GivenUnit
 abbrev pub RefusesModule : Compilation → DebugError → Type 0
 RefusesModule c (Read what section offset) = IsReached c (unreadable what section offset)
 RefusesModule c (Unsupported kind offset) = IsRefused c kind offset
+RefusesModule c (InvalidFileIndex offset) = is_all_built c ≡ false
 RefusesModule c (BadAddressMap m func why) = ⊥
 RefusesModule c (TooLarge what) = ⊥
 RefusesModule c OutOfMemory = Prim.Unit {0}
