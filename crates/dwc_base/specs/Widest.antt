@@ -1,6 +1,6 @@
 -- How long the sections of an output can be at most: each number of variable length has 10 bytes and each address 8,
 -- each entry has an abbreviation of its own, and each row has all its opcodes.
-use Rattle.std.specs.Prelude.{ℕ, ◌+◌, ◌-◌, ◌*◌, ◌==◌, List, length, is_some, sum_by, Option, Some, None, Result, Ok, Err}
+use Rattle.std.specs.Prelude.{ℕ, ◌+◌, ◌*◌, ◌==◌, ◌&&◌, List, length, is_some, sum_by, Option, Some, None, Result, Ok, Err}
 use Rattle.std.specs.List.{filter}
 use Rattle.dwc_base.specs.declared.section_name.SectionName.{SectionName}
 use Rattle.dwc_base.specs.declared.section_name.SectionName.TheVariants.{Abbrev, Info, Line}
@@ -10,6 +10,7 @@ use Rattle.dwc_base.specs.LineRows.{LineTable, Segment, segments}
 use Rattle.dwc_base.specs.Sections.{Fault}
 use Rattle.dwc_base.specs.Functions.{Function, recorded_sources}
 use Rattle.dwc_base.specs.Images.{row_of_source, start_of_segment, function_of_segment, is_carried_segment}
+use Rattle.dwc_base.specs.declared.constants.TheConstants.{DW_TAG_subprogram}
 use Rattle.dwc_base.specs.Carried.{Compilation, CarriedUnit, carried_units, table_of_unit, placed_entries, units}
 
 -- a number of variable length, and an address
@@ -61,13 +62,10 @@ widest_table fs (Err fault) = 0
 widest_table fs (Ok None) = 0
 widest_table fs (Ok (Some t)) = widest_header t.header.directories t.files + sum_by (λ q. widest_image (most_rows fs q)) (filter (is_carried_segment fs) (segments t))
 
--- the line tables of all carried units
-abbrev pub widest_lines : Compilation → ℕ
-widest_lines c = sum_by (λ u. widest_table u.module_of.functions (table_of_unit u.module_of.sections u.unit)) (carried_units c)
-
--- the kept subprograms of a carried unit: its kept entries but for the root
+-- the kept subprograms of a carried unit
 abbrev pub kept_subprograms : CarriedUnit → ℕ
-kept_subprograms u = length (filter (λ p. p.unit == u.unit.header.offset) (kept_entries u.module_of.functions (placed_entries (units u.module_of.sections).items))) - 1
+kept_subprograms u =
+    length (filter (λ p. (p.unit == u.unit.header.offset) && (p.entry.tag == DW_TAG_subprogram)) (kept_entries u.module_of.functions (placed_entries (units u.module_of.sections).items)))
 
 -- the attributes of a carried root: its line table, where its unit has one
 abbrev pub root_attributes_with : Result (Option LineTable) Fault → ℕ
@@ -79,9 +77,13 @@ root_attributes_with (Ok (Some t)) = 1
 abbrev pub root_attributes_of : CarriedUnit → ℕ
 root_attributes_of u = root_attributes_with (table_of_unit u.module_of.sections u.unit)
 
+-- how long what a carried unit gives to a section can be at most
+abbrev pub widest_of_unit : SectionName → CarriedUnit → ℕ
+widest_of_unit Abbrev u = widest_abbreviations (root_attributes_of u) (kept_subprograms u)
+widest_of_unit Info u = widest_info (root_attributes_of u) (kept_subprograms u)
+widest_of_unit Line u = widest_table u.module_of.functions (table_of_unit u.module_of.sections u.unit)
+widest_of_unit name u = 0
+
 -- how long a section can be at most
 abbrev pub widest : SectionName → Compilation → ℕ
-widest Abbrev c = sum_by (λ u. widest_abbreviations (root_attributes_of u) (kept_subprograms u)) (carried_units c)
-widest Info c = sum_by (λ u. widest_info (root_attributes_of u) (kept_subprograms u)) (carried_units c)
-widest Line c = widest_lines c
-widest name c = 0
+widest name c = sum_by (widest_of_unit name) (carried_units c)

@@ -8,7 +8,7 @@ use Rattle.dwc_base.specs.declared.section_name.SectionName.{SectionName}
 use Rattle.dwc_base.specs.Sections.{Sections}
 use Rattle.dwc_base.specs.Outputs.{OutputSection, output_sections}
 use Rattle.dwc_base.specs.Carried.{Unit, units, CarriedUnit, CarriesUnit, Compilation, carried_units, LinesCarried}
-use Rattle.dwc_carry.specs.WidestStub.{widest_of_unit, widest}
+use Rattle.dwc_base.specs.Widest.{widest_of_unit, widest}
 use Rattle.dwc_write.specs.GivenUnits.{GivenUnit, IsWritable, AreWritable, size_of}
 use Rattle.dwc_write.specs.ReadBack.{IsReadUnit, ReadsBack, given_segments}
 use Rattle.dwc_write.specs.WidestGiven.{widest_unit, widest_given}

@@ -4,14 +4,13 @@ use Rattle.std.specs.List.{filter_map, list_any, cons_option, filter, AllZip}
 use Rattle.std.specs.Option.{option_or}
 use Rattle.std.specs.Prelude.{nat_le, nat_lt, ◌==◌, if◌then◌else◌, option_map, option_and_then, Bool, true, false, is_some, All, pos, ◌||◌}
 use Rattle.std.proofs.lemmas.Bool.{eq-eqb, ne_eqb, eqb-true, lt-leb, le-leb, leb-false, lt-ltb}
-use Rattle.std.proofs.lemmas.List.Elements.{All-nil, All-cons, All-head, All-tail}
 use Rattle.dwc_base.specs.declared.records.Address.{Address}
 use Rattle.dwc_base.specs.declared.records.Address.TheVariants.{Constant, Symbol}
 use Rattle.dwc_base.specs.Functions.{Function, Recorded, recorded_sources}
 use Rattle.dwc_base.specs.Images.{row_of_source, row_of_last, row_of_first, IsImage, IsImageOf, function_of_segment, start_of_segment, is_carried_segment}
 use Rattle.dwc_base.specs.LineRows.{Row, RowContents, Segment, row_in_force}
 use Rattle.dwc_addr.proofs.OwnerLaws.{function_at-among}
-use Rattle.dwc_carry.specs.ImageRows.{last_at, RisesFrom, found_at, is_repeated, placed_at, moved_to, with_found, image_from, image_of, image_with_rows, image_if, IsOrdered}
+use Rattle.dwc_carry.specs.ImageRows.{last_at, RisesFrom, found_at, moved_to, with_found, image_from, image_of, image_with_rows, image_if, IsOrdered}
 use Rattle.dwc_carry.proofs.LookupLaws.{last_at-same, row_in_force-last_at}
 use Rattle.dwc_carry.proofs.RowsLaws.{rows_from-within}
 

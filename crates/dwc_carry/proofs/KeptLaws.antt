@@ -1,14 +1,14 @@
 -- Which units have a kept entry: of a list of entries of one unit, exactly those with a required one.
-use Rattle.std.proofs.Common.{◌≡◌, ℕ, zero, suc, List, [], ◌∷◌, ◌++◌, map, length, refl, ap, sym, ◌∙◌, arith, Bool, true, false, cond, Option, Some, None}
+use Rattle.std.proofs.Common.{◌≡◌, ℕ, zero, suc, List, [], ◌∷◌, ◌++◌, map, length, refl, ap, ◌∙◌, Bool, true, false, cond}
 use Rattle.std.specs.Prelude.{◌==◌, ◌||◌, ◌&&◌}
 use Rattle.std.specs.List.{filter, list_any, list_all}
 use Rattle.std.proofs.lemmas.Bool.{eq-eqb}
 use Rattle.dwc_base.specs.Functions.{Function}
 use Rattle.dwc_base.specs.Entries.{Entry}
 use Rattle.dwc_base.specs.Carried.{Unit, placed_entries}
-use Rattle.dwc_base.specs.Kept.{Placed, is_required, same_place, is_among, keeps, kept_step, steps_of, kept_entries}
+use Rattle.dwc_base.specs.Kept.{Placed, is_required, is_among, keeps, kept_step, steps_of, kept_entries}
 
-or-true : (b : Bool) → (b || true) ≡ true
+pub or-true : (b : Bool) → (b || true) ≡ true
 or-true true = refl
 or-true false = refl
 
@@ -58,7 +58,7 @@ all-true [] = refl
 all-true (x ∷ xs) = all-true xs
 
 -- the first of some entries is among them
-first-among : (k : Placed) (ks : List Placed) → is_among (k ∷ ks) k ≡ true
+pub first-among : (k : Placed) (ks : List Placed) → is_among (k ∷ ks) k ≡ true
 first-among k ks = rw (eq-eqb k.entry.offset k.entry.offset refl) refl
 
 some-among : (ks : List Placed) → list_any (λ x. true) ks ≡ true → list_any (is_among ks) ks ≡ true

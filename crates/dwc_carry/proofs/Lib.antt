@@ -8,13 +8,14 @@ pub mod RunLaws
 pub mod SegmentLaws
 pub mod SequenceLaws
 pub mod KeptLaws
+pub mod KeptCounts
+pub mod WidestImages
+pub mod WidestUnits
 pub mod EmitLaws
 pub mod UnitPlaces
 pub mod DeclarationLaws
 pub mod TransferLaws
 pub mod LineVersions
-pub mod WidestImages
-pub mod WidestUnits
 pub mod CompositionLaws
 pub mod CarriedReadLaws
 pub mod ReadModuleLaws

@@ -1,36 +1,37 @@
 -- What is made of a module, from what was read of its unit and of its line table.
-use Rattle.std.proofs.Common.{◌≡◌, ℕ, zero, suc, ◌+◌, List, [], ◌∷◌, ◌++◌, map, refl, ap, sym, ◌∙◌, subst, inl, inr, arith, Bool, true, false, Option, Some, None, Result, Ok, Err, nat_lt, vec_len}
-use Rattle.std.specs.Prelude.{◌&&◌, ◌==◌, Any, slice_get}
+use Rattle.std.proofs.Common.{◌≡◌, ℕ, zero, suc, List, [], ◌∷◌, map, refl, ap, sym, ◌∙◌, subst, arith, cond, length, ◌≤◌, Bool, true, false, Option, Some, None, Result, Ok, nat_lt, vec_len}
+use Rattle.std.specs.Prelude.{◌&&◌, ◌==◌, is_some}
 use Rattle.std.specs.List.{filter, list_any, list_all, AllZip}
-use Rattle.std.specs.Option.{option_and_then}
 use Rattle.std.proofs.lemmas.Bool.{le-ltb, lt-ltb, eqb-true, eqb-false}
 use Rattle.dwc_base.specs.declared.records.Endian.{Endian}
 use Rattle.dwc_base.specs.declared.records.LineRow.{LineRow}
 use Rattle.dwc_base.specs.declared.constants.TheConstants.{DW_AT_stmt_list, DW_TAG_compile_unit, DW_TAG_subprogram}
 use Rattle.dwc_base.specs.Reading.{◌>>=◌}
 use Rattle.dwc_base.specs.Listing.{Listing, no_items}
-use Rattle.dwc_base.specs.Sections.{Sections, Fault, section_from}
+use Rattle.dwc_base.specs.Sections.{Sections, Fault}
 use Rattle.dwc_base.specs.Units.{UnitHeader, unit_headers}
 use Rattle.dwc_base.specs.Entries.{Entry, entries, attribute}
 use Rattle.dwc_base.specs.Functions.{Function}
-use Rattle.dwc_base.specs.LineRows.{LineTable, line_table, named_row, source_file, SourceFile, Row, Segment, segments, in_directory}
+use Rattle.dwc_base.specs.LineRows.{LineTable, line_table, named_row, source_file, Segment, segments}
 use Rattle.dwc_base.specs.Images.{is_carried_segment, IsImageOf}
 use Rattle.dwc_base.specs.Kept.{is_required}
-use Rattle.dwc_base.specs.Carried.{Unit, root, units, Module, has_root_tag, carried_units_of, table_of_unit, table_of_root, segments_of, segments_of_unit, line_offset}
-use Rattle.dwc_base.specs.Reached.{fault_in, faults_of_module, reached_faults}
-use Rattle.dwc_base.specs.FirstForm.{has_known_header, has_known_shapes, has_known_entries, has_known_table, has_all_files, has_line_version_4, offset_of_table, declarations_from, is_first_form, is_all_built}
+use Rattle.dwc_base.specs.Carried.{Unit, root, units, has_root_tag, carried_units_of, table_of_unit, table_of_root, segments_of, segments_of_unit, line_offset}
+use Rattle.dwc_base.specs.FirstForm.{has_known_entries, has_known_table, has_line_version_4, offset_of_table}
+use Rattle.dwc_base.specs.Widest.{widest_table, kept_subprograms, root_attributes_with}
+use Rattle.dwc_write.specs.WidestGiven.{widest_table_for}
 use Rattle.dwc_write.specs.SpelledLines.{WrittenSequence, read_segment}
-use Rattle.dwc_write.specs.GivenLines.{GivenLines, no_lines}
+use Rattle.dwc_write.specs.GivenLines.{GivenLines}
 use Rattle.dwc_write.specs.GivenUnits.{GivenUnit}
 use Rattle.dwc_write.specs.ReadBack.{given_file, given_row, given_segment, given_segments}
-use Rattle.dwc_carry.specs.Emitted.{of_one}
 use Rattle.dwc_carry.specs.UnitEntries.{first_entry}
+use Rattle.dwc_carry.specs.OutputUnits.{output_unit}
 use Rattle.dwc_carry.specs.ReadUnits.{IsRead}
-use Rattle.dwc_carry.specs.UnitLines.{named_table, IsCarried, CarriesLines}
-use Rattle.dwc_carry.specs.CarriedLines.{CarriesTable}
-use Rattle.dwc_carry.specs.Outcomes.{plain_module, IsReadWhole, CarriesNothing, CarriesUnit}
+use Rattle.dwc_carry.specs.UnitLines.{named_table, CarriesLines}
+use Rattle.dwc_carry.specs.Outcomes.{plain_module, CarriesNothing, CarriesUnit}
 use Rattle.dwc_carry.specs.declared.read_unit.ReadUnit.{ReadUnit}
 use Rattle.dwc_carry.proofs.EmitLaws.{IsOneUnit, IsKnownUnit, carries, units-none, units-one, carried-none, carried-one, carried-not, reached-none, reached-one, built-none, built-not, built-one}
+use Rattle.dwc_carry.proofs.KeptCounts.{any-count, kept-count}
+use Rattle.dwc_carry.proofs.WidestUnits.{unit-widest}
 use Rattle.dwc_carry.proofs.UnitPlaces.{none-has_version, one-has_version}
 use Rattle.dwc_carry.proofs.LineVersions.{line_version_4}
 
@@ -116,11 +117,19 @@ module _ (order : Endian) (size : ℕ) (fs : List Function) (s : Sections) where
     pub is-whole : (units s).fault ≡ None
     is-whole = ap (λ l. l.fault) (units-one s _ is-one)
 
+    -- some entries are required exactly where subprograms are kept
+    some-kept : list_any (is_required fs) (entries s r.unit.header).items ≡ nat_lt 0 (vec_len r.entries.subprograms)
+    some-kept = any-count (is_required fs) (entries s r.unit.header).items ∙ ap (nat_lt 0) read.kept
+
+    -- and no fewer are kept in the input
+    few-kept : length r.entries.subprograms.items ≤ kept_subprograms (record { module_of = plain_module s fs; unit = record { header = r.unit.header; entries = (entries s r.unit.header).items } })
+    few-kept = rw (units-one s _ is-one) (omega (arith, read.kept, kept-count fs (record { header = r.unit.header; entries = (entries s r.unit.header).items })))
+
     -- a unit of which nothing is kept
     pub nothing-kept : nat_lt 0 (vec_len r.entries.subprograms) ≡ false → CarriesNothing order size (plain_module s fs)
     nothing-kept none =
         let m = plain_module s fs in
-        let not : carries m (record { header = r.unit.header; entries = (entries s r.unit.header).items }) ≡ false = rw (read.kept ∙ none) (and-false _) in
+        let not : carries m (record { header = r.unit.header; entries = (entries s r.unit.header).items }) ≡ false = rw (some-kept ∙ none) (and-false _) in
         let empty : carried_units_of m ≡ [] = carried-not m _ is-one not in
         record {
           read = record { readable = reached-none order size m refl is-whole empty; built = built-not order size m _ is-one is-known empty };
@@ -130,7 +139,7 @@ module _ (order : Endian) (size : ℕ) (fs : List Function) (s : Sections) where
 
     pub is-carried : nat_lt 0 (vec_len r.entries.subprograms) ≡ true → carried_units_of (plain_module s fs) ≡ record { header = r.unit.header; entries = (entries s r.unit.header).items } ∷ []
     is-carried some =
-        let any : list_any (is_required fs) (entries s r.unit.header).items ≡ true = read.kept ∙ some in
+        let any : list_any (is_required fs) (entries s r.unit.header).items ≡ true = some-kept ∙ some in
         carried-one (plain_module s fs) _ is-one (rw (root-tag r.unit.header (entries s r.unit.header).items fs read.tags any, any) refl)
 
     -- the table that the root names
@@ -145,10 +154,14 @@ module _ (order : Endian) (size : ℕ) (fs : List Function) (s : Sections) where
     version-of o is =
         ap (λ e. has_line_version_4 s (offset_of_table e)) (root-first (record { header = r.unit.header; entries = (entries s r.unit.header).items })) ∙ ap (has_line_version_4 s) (sym read.line_table ∙ is)
 
-    module _ (u : GivenUnit) (some : nat_lt 0 (vec_len r.entries.subprograms) ≡ true) where
+    module _ (lines : GivenLines) (some : nat_lt 0 (vec_len r.entries.subprograms) ≡ true) where
+      abbrev carrying : GivenUnit
+      carrying = output_unit size lines (is_some r.entries.line_table) r.entries.subprograms.items
+
       with-known : {o : Option ℕ} (t : Option LineTable) (qs : List Segment) → table_of_unit s (record { header = r.unit.header; entries = (entries s r.unit.header).items }) ≡ Ok t → has_line_version_4 s o ≡ true → r.entries.line_table ≡ o → has_known_table (Ok t) ≡ true
-          → segments_of_unit s (record { header = r.unit.header; entries = (entries s r.unit.header).items }) ≡ Ok qs → AllZip (IsImageOf fs) (filter (is_carried_segment fs) qs) (given_segments u.lines) → CarriesUnit order size (plain_module s fs) u
-      with-known {o} t qs table version is known segments images =
+          → segments_of_unit s (record { header = r.unit.header; entries = (entries s r.unit.header).items }) ≡ Ok qs → AllZip (IsImageOf fs) (filter (is_carried_segment fs) qs) (given_segments lines)
+          → root_attributes_with (Ok t) ≡ cond {A = ℕ} (is_some o) 1 0 → widest_table_for lines.address_size lines ≤ widest_table fs (Ok t) → CarriesUnit order size (plain_module s fs) carrying
+      with-known {o} t qs table version is known segments images root narrow =
           let m = plain_module s fs in
           record {
             read = record { readable = reached-one order size m _ t refl is-whole (is-carried some) table; built = built-one order size m _ is-one is-known (is-carried some) (version-of o is ∙ version) (ap has_known_table table ∙ known) };
@@ -158,21 +171,23 @@ module _ (order : Endian) (size : ℕ) (fs : List Function) (s : Sections) where
             input = qs;
             input_read = segments;
             images = images;
+            widest = unit-widest _ size lines (is_some r.entries.line_table) r.entries.subprograms.items
+                (record { root = ap root_attributes_with table ∙ root ∙ ap (λ x. cond {A = ℕ} (is_some x) 1 0) (sym is); few = few-kept; table = rw table narrow });
           }
 
-    -- A unit that is carried, whose line program carries its line table.
-    pub unit-carried : (u : GivenUnit) → nat_lt 0 (vec_len r.entries.subprograms) ≡ true → CarriesLines fs s r.unit.header.address_size size r.entries.line_table u.lines → CarriesUnit order size (plain_module s fs) u
-    unit-carried u some lines = go r.entries.line_table refl lines
-      where
-        go : (o : Option ℕ) → r.entries.line_table ≡ o → CarriesLines fs s r.unit.header.address_size size o u.lines → CarriesUnit order size (plain_module s fs) u
-        go None is h =
-            let table : table_of_unit s (record { header = r.unit.header; entries = (entries s r.unit.header).items }) ≡ Ok None = table-named ∙ ap (named_table s r.unit.header.address_size) is in
-            with-known u some None [] table refl is refl (segments-named ∙ ap (λ o. named_table s r.unit.header.address_size o >>= λ t. Ok (segments_of t)) is) (rw h tt)
-        go (Some offset) is h =
-            let t = h.table in
-            let named : named_table s r.unit.header.address_size (Some offset) ≡ Ok (Some t) = ap (λ l. l >>= λ x. Ok (Some x)) h.is_read in
-            let table : table_of_unit s (record { header = r.unit.header; entries = (entries s r.unit.header).items }) ≡ Ok (Some t) = table-named ∙ ap (named_table s r.unit.header.address_size) is ∙ named in
-            let known : has_known_table (Ok (Some t)) ≡ true = rw (h.version, h.files) refl in
-            let images = subst (λ qs. AllZip (IsImageOf fs) (filter (is_carried_segment fs) (segments t)) qs) (same-segments t u.lines u.lines.sequences h.carries.directories h.carries.files) h.carries.images in
-            with-known u some (Some t) (segments t) table (line_version_4 s r.unit.header.address_size offset t h.is_read h.version) is known
-            (segments-named ∙ ap (λ o. named_table s r.unit.header.address_size o >>= λ t. Ok (segments_of t)) is ∙ ap (λ l. l >>= λ t. Ok (segments_of t)) named) images
+      -- A unit that is carried, whose line program carries its line table.
+      pub unit-carried : CarriesLines fs s r.unit.header.address_size size r.entries.line_table lines → CarriesUnit order size (plain_module s fs) carrying
+      unit-carried carries = go r.entries.line_table refl carries
+        where
+          go : (o : Option ℕ) → r.entries.line_table ≡ o → CarriesLines fs s r.unit.header.address_size size o lines → CarriesUnit order size (plain_module s fs) carrying
+          go None is h =
+              let table : table_of_unit s (record { header = r.unit.header; entries = (entries s r.unit.header).items }) ≡ Ok None = table-named ∙ ap (named_table s r.unit.header.address_size) is in
+              with-known None [] table refl is refl (segments-named ∙ ap (λ o. named_table s r.unit.header.address_size o >>= λ t. Ok (segments_of t)) is) (rw h tt) refl (rw h (omega arith))
+          go (Some offset) is h =
+              let t = h.table in
+              let named : named_table s r.unit.header.address_size (Some offset) ≡ Ok (Some t) = ap (λ l. l >>= λ x. Ok (Some x)) h.is_read in
+              let table : table_of_unit s (record { header = r.unit.header; entries = (entries s r.unit.header).items }) ≡ Ok (Some t) = table-named ∙ ap (named_table s r.unit.header.address_size) is ∙ named in
+              let known : has_known_table (Ok (Some t)) ≡ true = rw (h.version, h.files) refl in
+              let images = subst (λ qs. AllZip (IsImageOf fs) (filter (is_carried_segment fs) (segments t)) qs) (same-segments t lines lines.sequences h.carries.directories h.carries.files) h.carries.images in
+              with-known (Some t) (segments t) table (line_version_4 s r.unit.header.address_size offset t h.is_read h.version) is known
+              (segments-named ∙ ap (λ o. named_table s r.unit.header.address_size o >>= λ t. Ok (segments_of t)) is ∙ ap (λ l. l >>= λ t. Ok (segments_of t)) named) images refl h.carries.widest

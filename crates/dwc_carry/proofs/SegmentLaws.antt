@@ -1,8 +1,7 @@
 -- What is written of the steps of a line table are the images of its segments.
-use Rattle.std.proofs.Common.{◌≡◌, ℕ, suc, ◌+◌, ◌<◌, ◌≤◌, refl, ap, ◌∙◌, sym, arith, List, [], ◌∷◌, ◌++◌, map, length, pos, Option, Some, None}
-use Rattle.std.specs.Prelude.{nat_lt, if◌then◌else◌, option_and_then, sum_by, Bool, true, false, All}
+use Rattle.std.proofs.Common.{◌≡◌, ℕ, suc, ◌≤◌, refl, ap, ◌∙◌, sym, arith, List, [], ◌∷◌, ◌++◌, map, length, pos, Option, Some, None}
+use Rattle.std.specs.Prelude.{option_and_then, sum_by, All}
 use Rattle.std.specs.List.{filter, filter_map, cons_option, AllZip}
-use Rattle.std.specs.List.Sorted.{IsNonDecreasingBy}
 use Rattle.std.proofs.lemmas.Bool.{lt-ltb}
 use Rattle.std.proofs.lemmas.List.{append-nil, append_assoc, map-append}
 use Rattle.std.proofs.lemmas.List.Elements.{All-head, All-tail}
@@ -16,7 +15,7 @@ use Rattle.dwc_base.specs.Widest.{widest_image, most_rows}
 use Rattle.dwc_write.specs.SpelledLines.{read_segment}
 use Rattle.dwc_write.specs.GivenLines.{GivenLines, no_lines}
 use Rattle.dwc_carry.specs.ImageRows.{image_rows, image_from, image_of, image_with_rows, image_if, move_row, moved_to, IsOrdered, RowsRise}
-use Rattle.dwc_carry.specs.ImageSequences.{RiseIf, AllRise, image_sequence, sequence_with_rows, sequence_in, sequence_at, sequence_if, sequences_from, with_sequences}
+use Rattle.dwc_carry.specs.ImageSequences.{RiseIf, AllRise, sequence_with_rows, sequence_in, sequence_at, sequence_if, sequences_from, with_sequences}
 use Rattle.dwc_carry.specs.CarriedLines.{CarriesTable, with_directories, with_files}
 use Rattle.dwc_carry.proofs.ImageLaws.{images-AllZip}
 use Rattle.dwc_carry.proofs.WidestImages.{images-widest, sequences-seen}

@@ -1,6 +1,6 @@
 -- What is kept of functions is enough for images, for carried segments and for required entries.
 use Rattle.std.proofs.Common.{◌≡◌, List, [], ◌∷◌, map, refl, ap, sym, ◌∙◌, ◌+◌, length, Bool, true, false, Option, Some, None, Result, Ok, Err}
-use Rattle.std.specs.Prelude.{ℕ, sum_by, option_map, is_some, ◌&&◌, if◌then◌else◌}
+use Rattle.std.specs.Prelude.{ℕ, sum_by, option_map, is_some, if◌then◌else◌}
 use Rattle.std.specs.List.{filter, list_any, AllZip}
 use Rattle.dwc_base.specs.declared.records.Address.{Address}
 use Rattle.dwc_base.specs.declared.records.Address.TheVariants.{Constant, Symbol}
@@ -10,7 +10,7 @@ use Rattle.std.specs.Option.{option_or, unwrap_or}
 use Rattle.dwc_base.specs.Sections.{Fault}
 use Rattle.dwc_base.specs.LineRows.{LineTable, Segment, segments}
 use Rattle.dwc_base.specs.Widest.{widest_header, widest_image, most_rows, widest_table}
-use Rattle.dwc_base.specs.Images.{IsImage, IsImageOf, is_carried_segment, function_of_segment, start_of_segment, row_of_source, row_of_last, row_of_first, row_for_byte}
+use Rattle.dwc_base.specs.Images.{IsImage, IsImageOf, is_carried_segment, function_of_segment, start_of_segment, row_of_source, row_of_last, row_of_first}
 use Rattle.dwc_base.specs.Entries.{Entry, attribute}
 use Rattle.dwc_base.specs.Values.{Value, address}
 use Rattle.dwc_base.specs.Kept.{is_translatable, is_required}

@@ -1,5 +1,5 @@
 -- The images of a line table are no longer at their widest than those of its carried segments.
-use Rattle.std.proofs.Common.{◌≡◌, ℕ, suc, ◌+◌, ◌*◌, ◌≤◌, ◌<◌, refl, ap, sym, ◌∙◌, arith, List, [], ◌∷◌, map, length, Bool, true, false, cond, Option, Some, None, nat_lt}
+use Rattle.std.proofs.Common.{◌≡◌, ℕ, suc, ◌≤◌, refl, ap, sym, ◌∙◌, arith, List, [], ◌∷◌, map, length, Bool, true, false, cond, Option, Some, None, nat_lt}
 use Rattle.std.specs.Prelude.{sum_by, is_some, option_map, if◌then◌else◌}
 use Rattle.std.specs.Option.{option_and_then}
 use Rattle.std.specs.List.{filter, filter_map, list_any, cons_option}
@@ -8,7 +8,7 @@ use Rattle.std.proofs.lemmas.List.Sums.{sum_by-cons}
 use Rattle.dwc_base.specs.Functions.{Function, Recorded, recorded_sources}
 use Rattle.dwc_base.specs.LineRows.{LineTable, Row, Segment, named_row}
 use Rattle.dwc_base.specs.Images.{row_of_source, function_of_segment, start_of_segment, is_carried_segment}
-use Rattle.dwc_base.specs.Widest.{widest_row, widest_image, most_rows}
+use Rattle.dwc_base.specs.Widest.{widest_image, most_rows}
 use Rattle.dwc_write.specs.SpelledLines.{WrittenSequence, read_segment}
 use Rattle.dwc_carry.specs.ImageRows.{found_at, is_repeated, placed_at, with_found, rows_from, moved_to, image_from, image_of, image_with_rows, image_if}
 use Rattle.dwc_carry.proofs.ImageLaws.{found_row, row_of_source-found, image_from-empty}

@@ -1,12 +1,11 @@
 -- A unit of the output is no longer in any section than the widest size of the unit that it carries.
-use Rattle.std.proofs.Common.{◌≡◌, ℕ, suc, ◌+◌, ◌*◌, ◌≤◌, ◌<◌, refl, ap, sym, ◌∙◌, arith, List, [], ◌∷◌, map, length, Bool, true, false, cond}
-use Rattle.std.specs.Prelude.{sum_by, nat_lt, if◌then◌else◌}
+use Rattle.std.proofs.Common.{◌≡◌, ℕ, ◌*◌, ◌≤◌, refl, arith, List, [], ◌∷◌, map, length, Bool, true, false, cond}
+use Rattle.std.specs.Prelude.{sum_by}
 use Rattle.std.proofs.lemmas.List.Sums.{sum_by-cons}
 use Rattle.dwc_base.specs.declared.section_name.SectionName.{SectionName}
 use Rattle.dwc_base.specs.declared.section_name.SectionName.TheVariants.{Abbrev, Addr, Info, Line, LineStr, Loc, Loclists, Ranges, Rnglists, Str, StrOffsets, CuIndex, Frame}
 use Rattle.dwc_base.specs.Carried.{CarriedUnit, table_of_unit}
-use Rattle.dwc_base.specs.Widest.{widest_declaration, widest_table, root_attributes_of, kept_subprograms}
-use Rattle.dwc_carry.specs.WidestStub.{widest_of_unit}
+use Rattle.dwc_base.specs.Widest.{widest_declaration, widest_table, root_attributes_of, kept_subprograms, widest_of_unit}
 use Rattle.dwc_write.specs.GivenLines.{GivenLines}
 use Rattle.dwc_write.specs.GivenUnits.{GivenEntry}
 use Rattle.dwc_write.specs.WidestGiven.{widest_entry, lists_of, widest_table_for, widest_unit}

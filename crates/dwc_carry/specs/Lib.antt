@@ -10,7 +10,6 @@ pub mod OutputUnits
 pub mod UnitLines
 pub mod Outcomes
 pub mod Emits
-pub mod WidestStub
 pub mod MadeUnits
 pub mod UnitPrograms
 pub mod CarriedReads

@@ -5,7 +5,7 @@ use Rattle.dwc_base.specs.declared.section_name.SectionName.{SectionName}
 use Rattle.dwc_base.specs.LineRows.{Segment}
 use Rattle.dwc_base.specs.Images.{is_carried_segment, IsImageOf}
 use Rattle.dwc_base.specs.Carried.{CarriedUnit, segments_of_unit}
-use Rattle.dwc_carry.specs.WidestStub.{widest_of_unit}
+use Rattle.dwc_base.specs.Widest.{widest_of_unit}
 use Rattle.dwc_write.specs.GivenUnits.{GivenUnit, IsWritable}
 use Rattle.dwc_write.specs.ReadBack.{given_segments}
 use Rattle.dwc_write.specs.WidestGiven.{widest_unit}

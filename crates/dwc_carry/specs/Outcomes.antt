@@ -1,16 +1,20 @@
 -- What is made of the unit of a module: a unit of the output where it is carried, or nothing, or the cause of a refusal.
-use Rattle.std.specs.Prelude.{◌≡◌, ◌⊎◌, ℕ, List, [], ◌∷◌, true, false, Option, Some, None, Result, Ok, Err, Any}
+use Rattle.std.specs.Prelude.{◌≡◌, ℕ, ◌^◌, ◌<◌, ◌≤◌, List, [], ◌∷◌, true, Option, Some, None, Result, Ok, Err}
 use Rattle.std.specs.List.{filter, AllZip}
 use Rattle.dwc_base.specs.declared.records.Endian.{Endian}
-use Rattle.dwc_base.specs.declared.faults.Kind.TheVariants.{NotBuilt}
-use Rattle.dwc_base.specs.Sections.{Sections, unreadable, unsupported}
+use Rattle.dwc_base.specs.declared.section_name.SectionName.{SectionName}
+use Rattle.dwc_base.specs.Sections.{Sections, unreadable}
 use Rattle.dwc_base.specs.Functions.{Function}
 use Rattle.dwc_base.specs.LineRows.{Segment}
 use Rattle.dwc_base.specs.Images.{is_carried_segment, IsImageOf}
 use Rattle.dwc_base.specs.Carried.{Unit, units, Module, Compilation, carried_units_of, segments_of_unit}
 use Rattle.dwc_base.specs.Reached.{reached_faults}
 use Rattle.dwc_base.specs.FirstForm.{is_all_built}
-use Rattle.dwc_write.specs.GivenUnits.{GivenUnit, IsOfSize}
+use Rattle.dwc_base.specs.Widest.{widest_of_unit, widest}
+use Rattle.dwc_write.specs.declared.error.Limit.TheVariants.{Section}
+use Rattle.dwc_write.specs.Writers.{most_bytes}
+use Rattle.dwc_write.specs.WidestGiven.{widest_unit, widest_given}
+use Rattle.dwc_write.specs.GivenUnits.{GivenUnit}
 use Rattle.dwc_write.specs.ReadBack.{given_segments}
 use Rattle.dwc_carry.specs.declared.error.DebugError.{DebugError}
 use Rattle.dwc_carry.specs.declared.error.DebugError.TheVariants.{Read, Unsupported, InvalidFileIndex, BadAddressMap, TooLarge, OutOfMemory}
@@ -25,13 +29,19 @@ pub record IsReadWhole (c : Compilation) : Type 0 where
   pub readable : reached_faults c ≡ []
   pub built : is_all_built c ≡ true
 
+-- All that is reached was read, and a section of the output could be longer than it can be.
+pub record IsTooLong (c : Compilation) (name : SectionName) : Type 0 where
+  pub read : IsReadWhole c
+  pub long : 2 ^ 31 ≤ widest name c
+
 -- a module carries nothing
 pub record CarriesNothing (order : Endian) (size : ℕ) (m : Module) : Type 0 where
   pub read : IsReadWhole (of_one order size m)
   pub whole : (units m.sections).fault ≡ None
   pub none : carried_units_of m ≡ []
 
--- A module carries one unit, and the line program of a unit of the output has the images of its carried segments.
+-- A module carries one unit, the line program of a unit of the output has the images of its carried segments, and in no
+-- section that unit is longer at its widest than the one that it carries.
 pub record CarriesUnit (order : Endian) (size : ℕ) (m : Module) (u : GivenUnit) : Type 0 where
   pub read : IsReadWhole (of_one order size m)
   pub whole : (units m.sections).fault ≡ None
@@ -40,6 +50,7 @@ pub record CarriesUnit (order : Endian) (size : ℕ) (m : Module) (u : GivenUnit
   pub input : List Segment
   pub input_read : segments_of_unit m.sections unit ≡ Ok input
   pub images : AllZip (IsImageOf m.functions) (filter (is_carried_segment m.functions) input) (given_segments u.lines)
+  pub widest : (name : SectionName) → widest_unit name u ≤ widest_of_unit name (record { module_of = m; unit = unit })
 
 -- the cause of a refusal of a module
 abbrev pub RefusesModule : Compilation → DebugError → Type 0
@@ -55,8 +66,8 @@ GivesOutput order size m (Ok None) = CarriesNothing order size m
 GivesOutput order size m (Ok (Some u)) = CarriesUnit order size m u
 GivesOutput order size m (Err e) = RefusesModule (of_one order size m) e
 
--- the refusals of writing
-abbrev pub IsOfWriting : DebugError → Type 0
-IsOfWriting (TooLarge what) = Prim.Unit {0}
-IsOfWriting OutOfMemory = Prim.Unit {0}
-IsOfWriting _ = ⊥
+-- the refusals of writing units: for a section's widest size, or for want of memory
+abbrev pub IsOfWriting : List GivenUnit → DebugError → Type 0
+IsOfWriting us (TooLarge (Section name)) = most_bytes < widest_given name us
+IsOfWriting us OutOfMemory = Prim.Unit {0}
+IsOfWriting us _ = ⊥

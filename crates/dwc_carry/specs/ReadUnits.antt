@@ -1,10 +1,10 @@
 -- What is read of .debug_info: at most one unit, of the form that is read so far.
-use Rattle.std.specs.Prelude.{◌≡◌, ◌&&◌, nat_lt, vec_len, List, [], ◌∷◌, Bool, true, false, Option, Some, None, Result, Ok, Err}
-use Rattle.std.specs.List.{list_all, list_any}
-use Rattle.dwc_base.specs.Listing.{Listing, no_items}
-use Rattle.dwc_base.specs.Sections.{Sections, Fault}
-use Rattle.dwc_base.specs.Units.{UnitHeader, unit_headers}
-use Rattle.dwc_base.specs.Entries.{Entry, entries}
+use Rattle.std.specs.Prelude.{◌≡◌, ◌&&◌, length, vec_len, List, [], ◌∷◌, Bool, true, Option, Some, None, Result, Ok, Err}
+use Rattle.std.specs.List.{filter, list_all}
+use Rattle.dwc_base.specs.Listing.{no_items}
+use Rattle.dwc_base.specs.Sections.{Sections}
+use Rattle.dwc_base.specs.Units.{unit_headers}
+use Rattle.dwc_base.specs.Entries.{entries}
 use Rattle.dwc_base.specs.Functions.{Function}
 use Rattle.dwc_base.specs.Kept.{is_required}
 use Rattle.dwc_base.specs.Carried.{units}
@@ -21,7 +21,7 @@ has_known_info s =
     && list_all (λ h. has_known_shapes (declarations_from s h.abbreviations).items) (unit_headers s).items
     && list_all (λ h. has_known_entries (entries s h).items) (unit_headers s).items
 
--- The one unit: its header, its entries, their line table, and whether some are kept.
+-- The one unit: its header, its entries, their line table, and how many are kept.
 pub record IsRead (fs : List Function) (s : Sections) (r : ReadUnit) : Type 0 where
   pub sections : r.unit.sections ≡ s
   pub headers : unit_headers s ≡ record { items = r.unit.header ∷ []; fault = None }
@@ -30,7 +30,7 @@ pub record IsRead (fs : List Function) (s : Sections) (r : ReadUnit) : Type 0 wh
   pub whole : (entries s r.unit.header).fault ≡ None
   pub tags : has_known_entries (entries s r.unit.header).items ≡ true
   pub line_table : r.entries.line_table ≡ offset_of_table (first_entry (entries s r.unit.header).items)
-  pub kept : list_any (is_required fs) (entries s r.unit.header).items ≡ nat_lt 0 (vec_len r.entries.subprograms)
+  pub kept : length (filter (is_required fs) (entries s r.unit.header).items) ≡ vec_len r.entries.subprograms
 
 abbrev pub GivesUnit : List Function → Sections → Result (Option ReadUnit) DebugError → Type 0
 GivesUnit fs s (Ok None) = unit_headers s ≡ no_items

@@ -1,7 +1,7 @@
 -- What is read of the entries of a unit: its line table, and its kept subprograms.
-use Rattle.std.specs.Prelude.{Vec, vec_len, ◌≡◌, ◌⊎◌, ℕ, ◌==◌, ◌||◌, nat_lt, List, [], ◌∷◌, length, Bool, true, false, Option, Some, None, is_some, Result, Ok, Err}
+use Rattle.std.specs.Prelude.{Vec, vec_len, ◌≡◌, ◌==◌, List, [], ◌∷◌, length, Bool, true, Option, Some, None, Result, Ok, Err}
 use Rattle.std.specs.Global.{Global}
-use Rattle.std.specs.List.{list_any, list_all}
+use Rattle.std.specs.List.{filter, list_all}
 use Rattle.dwc_base.specs.declared.constants.TheConstants.{DW_TAG_subprogram}
 use Rattle.dwc_base.specs.Listing.{Listing}
 use Rattle.dwc_base.specs.Sections.{Fault}
@@ -23,14 +23,14 @@ first_entry (e ∷ es) = Some e
 abbrev pub are_subprograms : List Entry → Bool
 are_subprograms es = list_all (λ e. e.tag == DW_TAG_subprogram) es
 
--- Subprograms from a listing on: all of its entries are such, and some are kept exactly where some are required.
+-- Subprograms from a listing on: all of its entries are such, and as many are kept as are required.
 abbrev pub GivesSubprograms : List Function → Listing Fault Entry → Result (Vec Subprogram Global) DebugError → Type 0
-GivesSubprograms fs list (Ok kept) = (list.fault ≡ None) × (are_subprograms list.items ≡ true) × (list_any (is_required fs) list.items ≡ nat_lt 0 (vec_len kept))
+GivesSubprograms fs list (Ok kept) = (list.fault ≡ None) × (are_subprograms list.items ≡ true) × (length (filter (is_required fs) list.items) ≡ vec_len kept)
 GivesSubprograms fs list (Err e) = RefusesPart list.fault (are_subprograms list.items) e
 
--- What is read of a unit's entries: they are of the form that is read, the line table is the root's, and some subprograms
--- are kept exactly where some entries are required.
+-- What is read of a unit's entries: they are of the form that is read, the line table is the root's, and as many
+-- subprograms are kept as entries are required.
 abbrev pub GivesEntries : List Function → Listing Fault Entry → Result UnitEntries DebugError → Type 0
 GivesEntries fs list (Ok es) =
-    (list.fault ≡ None) × (has_known_entries list.items ≡ true) × (es.line_table ≡ offset_of_table (first_entry list.items)) × (list_any (is_required fs) list.items ≡ nat_lt 0 (vec_len es.subprograms))
+    (list.fault ≡ None) × (has_known_entries list.items ≡ true) × (es.line_table ≡ offset_of_table (first_entry list.items)) × (length (filter (is_required fs) list.items) ≡ vec_len es.subprograms)
 GivesEntries fs list (Err e) = RefusesPart list.fault (has_known_entries list.items) e

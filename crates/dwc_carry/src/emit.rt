@@ -55,11 +55,14 @@ fn unit_sections(alloc: Global, unit: Unit, order: Endian) -> Result<Vec<DwarfSe
     requires { IsWritable unit.address_size unit }
     ensures sound { IfOk result (λ s. All (IsSound order) (map section_view s.items)) }
     ensures read { IfOk result (λ s. ReadsBack order (unit ∷ []) (map section_view s.items)) }
-    ensures refused { IfErr result IsOfWriting }
+    ensures refused { IfErr result (IsOfWriting (unit ∷ [])) }
 {
     let mut units = UnitTable::new(alloc);
-    units.add(unit)?;
-    Ok(write_sections(alloc, Dwarf { units }, order)?)
+    match units.add(unit) {
+        Ok(_) => Ok(write_sections(alloc, Dwarf { units }, order)?),
+        // A table of units takes memory, and asks for nothing else.
+        Err(_) => Err(DebugError::OutOfMemory),
+    }
 }
 
 /// The sections of DWARF that a module's carry over to, in a byte order and with addresses of `pointer_bytes` bytes, for the
@@ -68,7 +71,8 @@ fn unit_sections(alloc: Global, unit: Unit, order: Endian) -> Result<Vec<DwarfSe
 /// # Errors
 /// `BadAddressMap` exactly where a function's address map breaks a rule: the first such function, and the first rule.
 /// `Read` only where a place that is reached is no DWARF. `Unsupported` only where what is reached is of a kind that is
-/// refused, or not read yet. `TooLarge` only where all was read, for a section that would be too long. `OutOfMemory` for want
+/// refused, or not read yet. `TooLarge` only where all was read, for a section that could be longer
+/// than 2^31 - 1 bytes, each of its numbers at its widest. `OutOfMemory` for want
 /// of memory.
 pub fn emit_dwarf(
     alloc: Global,

@@ -1,9 +1,8 @@
-use Rattle.std.proofs.Common.{◌≡◌, sym, ap, ◌∙◌, Some, None, true, false, nat_lt, vec_len}
+use Rattle.std.proofs.Common.{sym, ◌∙◌, vec_len}
 use Rattle.std.proofs.lemmas.Result.{err_from_is_err_and}
-use Rattle.dwc_base.specs.Entries.{entries}
 use Rattle.dwc_carry.specs.ReadUnits.{IsRead}
 use Rattle.dwc_carry.proofs.OutcomeLaws.{no-unit, nothing-kept, is-whole, is-carried, table-named, unit-carried, none-left, some-left}
-use Rattle.dwc_carry.proofs.RefusalLaws.{refuses-unit, refuses-lines}
+use Rattle.dwc_carry.proofs.RefusalLaws.{refuses-lines}
 use Rattle.dwc_carry.proofs.emit.carried_unit.Goals as goal
 
 pub returns-in_default-clause-output : goal.returns-in_default-clause-output
@@ -28,4 +27,4 @@ pub returns-in-Ok-clause-output : goal.returns-in-Ok-clause-output
 returns-in-Ok-clause-output c = λ order.
     let read : IsRead c.args.transform.now c.args.sections c.in-Some.read = rw c.in-Some.is at c.in_ok-read.ensures in
     let some = some-left (vec_len c.in-Some.read.entries.subprograms) (sym c.is_empty.ensures ∙ c.if-is_empty.false) in
-    unit-carried order c.args.encoding.address_size c.args.transform.now c.args.sections c.in-Some.read read c.in-Ok.unit some (rw c.in-Ok.ensures (rw read.sections at c.in_ok-lines.ensures))
+    rw (c.in-Ok.ensures, c.is_some-has_table.ensures, c.deref.ensures.value) (unit-carried order c.args.encoding.address_size c.args.transform.now c.args.sections c.in-Some.read read _ some (rw read.sections at c.in_ok-lines.ensures))
