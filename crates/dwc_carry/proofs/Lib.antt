@@ -11,6 +11,11 @@ pub mod KeptLaws
 pub mod KeptCounts
 pub mod WidestImages
 pub mod WidestUnits
+pub mod KeptUnits
+pub mod UnitTrees
+pub mod ReadEnds
+pub mod KnownEntries
+pub mod KnownUnits
 pub mod EmitLaws
 pub mod UnitPlaces
 pub mod DeclarationLaws
