@@ -1,3 +1,7 @@
+pub mod CompilationTexts
+pub mod Compilations
+pub mod Numbers
 pub mod Runs
 pub mod Starts
+pub mod SymbolIndexes
 pub mod Transforms

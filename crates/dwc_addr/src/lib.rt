@@ -1,17 +1,28 @@
-//! Which function of a module an address of its DWARF is in, and where in the wasm file the code of a function comes from.
+//! What is compiled together; which function of a module an address of its DWARF is in; and where in the wasm file the code
+//! of a function comes from.
 #![tactic(auto)]
 
 mod address_map;
 mod by_start;
+mod compilation;
+mod compilation_error;
+mod compilation_text;
 mod error;
 mod function_map;
+mod linkage_names;
 mod maps;
+mod memory_offset;
+mod symbols;
 #[cfg(test)]
 mod tests;
 mod transform;
 
 pub use address_map::{AddressMap, GeneratedAddress, WasmAddress};
+pub use compilation::Compilation;
+pub use compilation_error::CompilationError;
 pub use error::AddrError;
 pub use function_map::FunctionMap;
+pub use linkage_names::LinkageNames;
 pub use maps::{get_wasm_code_offset, map_fault};
+pub use memory_offset::ModuleMemoryOffset;
 pub use transform::AddressTransform;

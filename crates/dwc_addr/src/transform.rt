@@ -5,15 +5,18 @@ ghost use Rattle.std.specs.List.{filter_map};
 ghost use Rattle.dwc_base.specs.Functions.{function_of, owner, function_at, wasm_entry, recorded_entry};
 ghost use Rattle.dwc_clif.specs.AddressMaps.{address_map_view, entry_view};
 ghost use Rattle.dwc_addr.specs.Transforms.{function_view, kept_function, Transforms};
+ghost use Rattle.dwc_addr.specs.Numbers.{first_number};
+ghost use Rattle.dwc_addr.specs.Compilations.{functions_at, code_offset_at};
 ghost use Rattle.dwc_addr.specs.Runs.{recorded_view, run_starts};
 ghost use Rattle.dwc_addr.specs.Starts.{IsStartTable, IsOwnerPlace};
 
+use crate::Compilation;
 use crate::address_map::{AddressMap, WasmAddress};
 use crate::by_start::{owner_place, start_table};
 use crate::error::AddrError;
 use crate::function_map::FunctionMap;
 use crate::maps::map_fault;
-use dwc_base::{DefinedFuncIndex, FilePos, SymbolId};
+use dwc_base::{DefinedFuncIndex, FilePos, StaticModuleIndex, SymbolId};
 use dwc_clif::{CompiledFunctionMetadata, InstructionAddressMap};
 use std::alloc::{AllocError, Global};
 use std::marker::Model;
@@ -41,6 +44,25 @@ impl Model for AddressTransform {
 }
 
 impl AddressTransform {
+    /// The transform of a module of a compilation.
+    ///
+    /// # Errors
+    /// `BadAddressMap` exactly where some function's map breaks a rule: the first such function, and the first rule.
+    /// `OutOfMemory` for want of memory.
+    pub fn new(
+        alloc: Global,
+        compilation: &Compilation<'_>,
+        module: StaticModuleIndex,
+    ) -> Result<AddressTransform, AddrError>
+        requires { «module».0 < length compilation.now.translations }
+        ensures { Transforms (λ t. t) «module».0 (code_offset_at compilation.now «module».0) (first_number compilation.now.functions «module».0) (map address_map_view (functions_at compilation.now «module».0)) result }
+    {
+        let code_offset = compilation.translations()[module.0 as usize].code_section_offset;
+        let functions = compilation.functions_of(module);
+        let first_number = compilation.first_number(module);
+        AddressTransform::of_functions(alloc, module.0, code_offset, first_number, functions)
+    }
+
     /// The transform of a module by its number, whose code section's contents begin at `code_section_offset` of its file, and
     /// whose defined functions, of which the first has the number `first_number` among those of all modules, are given in
     /// order, each with its symbol if it has one.
@@ -48,7 +70,7 @@ impl AddressTransform {
     /// # Errors
     /// `BadAddressMap` exactly where some function's map breaks a rule: the first such function, and the first rule.
     /// `OutOfMemory` for want of memory.
-    pub fn new(
+    pub fn of_functions(
         alloc: Global,
         module_index: u32,
         code_section_offset: u64,
@@ -90,6 +112,23 @@ impl AddressTransform {
         ensures found { option_map (λ f. function_view f.now) result ≡ function_at self.now addr }
     {
         function_at(&self.functions, &self.by_start, addr)
+    }
+
+    /// Where the code of a defined function begins, counted from itself, and how many bytes it has: 0 and its length.
+    pub fn func_range(&self, index: DefinedFuncIndex) -> (usize, usize)
+        requires { index.0 < length self.now }
+        ensures { slice_get (map (λ f. (0, f.length)) self.now) index.0 ≡ Some result }
+    {
+        (0, self.functions[index.0 as usize].len)
+    }
+
+    /// Where a defined function begins and ends in the wasm file, counted from the contents of the code section.
+    pub fn func_source_range(&self, index: DefinedFuncIndex) -> (u64, u64)
+        requires { index.0 < length self.now }
+        ensures { slice_get (map (λ f. (f.start, f.end)) self.now) index.0 ≡ Some result }
+    {
+        let function = &self.functions[index.0 as usize];
+        (function.wasm_start, function.wasm_end)
     }
 
     /// The defined functions, in order.

@@ -10,6 +10,7 @@ pub mod Wasm
 pub mod LineHeaders
 pub mod LineRows
 pub mod Functions
+pub mod SharedSymbols
 pub mod Images
 pub mod Kept
 pub mod Outputs

@@ -64,6 +64,21 @@ pub struct SymbolId(pub u32);
 #[derive(Clone, Copy, Debug, PartialEq, Eq)]
 pub struct DefinedFuncIndex(pub u32);
 
+/// A module, by its place among those that are compiled together.
+#[derive(Clone, Copy, Debug, PartialEq, Eq)]
+pub struct StaticModuleIndex(pub u32);
+
+/// How code is generated and laid out.
+#[derive(Clone, Copy, Debug, PartialEq, Eq)]
+pub struct Tunables {
+    /// Whether functions have symbols of their own in an object file.
+    pub debug_symbols: bool,
+    /// The multiple that the text of an object file is filled to, in bytes: a power of two.
+    pub page_align: u64,
+    /// Whether traps that a program cannot cause are told too.
+    pub internal_traps: bool,
+}
+
 /// A place in a wasm file, or no place.
 #[derive(Clone, Copy, Debug, PartialEq, Eq)]
 pub struct FilePos {

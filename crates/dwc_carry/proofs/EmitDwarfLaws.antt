@@ -10,7 +10,7 @@ use Rattle.dwc_base.specs.declared.wasm.ModuleTranslation.{ModuleTranslation}
 use Rattle.dwc_base.specs.Translations.{translation_sections}
 use Rattle.dwc_base.specs.Functions.{Function, functions_of}
 use Rattle.dwc_base.specs.Outputs.{section_view}
-use Rattle.dwc_clif.specs.declared.CompiledFunctionMetadata.{CompiledFunctionMetadata}
+use Rattle.dwc_clif.specs.declared.metadata.CompiledFunctionMetadata.{CompiledFunctionMetadata}
 use Rattle.dwc_clif.specs.AddressMaps.{address_map_view}
 use Rattle.dwc_addr.specs.Transforms.{kept_function}
 use Rattle.dwc_write.specs.declared.error.Limit.TheVariants.{Section}

@@ -8,7 +8,7 @@ use Rattle.dwc_base.specs.declared.wasm.ModuleTranslation.{ModuleTranslation}
 use Rattle.dwc_base.specs.Sections.{unreadable}
 use Rattle.dwc_base.specs.FirstForm.{is_all_built}
 use Rattle.dwc_base.specs.Outputs.{section_view}
-use Rattle.dwc_clif.specs.declared.CompiledFunctionMetadata.{CompiledFunctionMetadata}
+use Rattle.dwc_clif.specs.declared.metadata.CompiledFunctionMetadata.{CompiledFunctionMetadata}
 use Rattle.dwc_clif.specs.AddressMaps.{address_map_view}
 use Rattle.dwc_addr.specs.Transforms.{first_bad_map}
 use Rattle.dwc_carry.specs.declared.error.DebugError.{DebugError}

@@ -14,7 +14,7 @@ use Rattle.dwc_base.specs.Outputs.{OutputSection}
 use Rattle.dwc_base.specs.Carried.{Module, Compilation, LinesCarried}
 use Rattle.dwc_base.specs.Reached.{reached_faults}
 use Rattle.dwc_base.specs.FirstForm.{is_all_built}
-use Rattle.dwc_clif.specs.declared.CompiledFunctionMetadata.{CompiledFunctionMetadata}
+use Rattle.dwc_clif.specs.declared.metadata.CompiledFunctionMetadata.{CompiledFunctionMetadata}
 use Rattle.dwc_clif.specs.AddressMaps.{address_map_view}
 use Rattle.dwc_addr.specs.Transforms.{first_bad_map}
 use Rattle.dwc_write.specs.Writers.{IsSound}

@@ -86,7 +86,7 @@ pub fn emit_dwarf(
     ensures { Emits order pointer_bytes translation.now functions.now result }
 {
     let code_offset = translation.code_section_offset;
-    let transform = AddressTransform::new(alloc, 0, code_offset, 0, functions)?;
+    let transform = AddressTransform::of_functions(alloc, 0, code_offset, 0, functions)?;
     if let Some(offset) = translation.compressed {
         return Err(DebugError::Unsupported {
             what: Kind::Compressed,

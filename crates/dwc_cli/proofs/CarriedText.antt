@@ -26,7 +26,7 @@ use Rattle.dwc_base.specs.Carried.{Compilation}
 use Rattle.dwc_base.specs.Reached.{reached_faults, is_unreadable}
 use Rattle.dwc_base.specs.FirstForm.{is_all_built}
 use Rattle.dwc_base.proofs.Translated.{translation_sections-is}
-use Rattle.dwc_clif.specs.declared.CompiledFunctionMetadata.{CompiledFunctionMetadata}
+use Rattle.dwc_clif.specs.declared.metadata.CompiledFunctionMetadata.{CompiledFunctionMetadata}
 use Rattle.dwc_clif.specs.AddressMaps.{address_map_view}
 use Rattle.dwc_write.specs.Writers.{FitsTarget, IsWhole, IsSound, most_bytes}
 use Rattle.dwc_carry.specs.declared.error.DebugError.{DebugError}

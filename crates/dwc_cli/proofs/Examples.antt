@@ -3,7 +3,7 @@ use Rattle.std.proofs.Common.{◌≡◌, ℕ, ◌+◌, ◌*◌, ◌^◌, pos, Li
 use Rattle.std.specs.Prelude.{codes}
 use Rattle.std.specs.List.{list_all}
 use Rattle.dwc_base.specs.Outputs.{OutputSection, function, section}
-use Rattle.dwc_clif.specs.declared.Architecture.TheVariants.{X86_64}
+use Rattle.dwc_clif.specs.declared.architecture.Architecture.TheVariants.{X86_64}
 use Rattle.dwc_cli.specs.MapFile.{MapFile, map_of_bytes}
 use Rattle.dwc_cli.specs.Printed.{printed, line_feed, is_plain}
 use Rattle.dwc_cli.proofs.OnLiterals.{map_on_literals, printed_on_literals}

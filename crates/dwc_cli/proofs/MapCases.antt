@@ -2,7 +2,7 @@
 use Rattle.std.proofs.Common.{◌≡◌, ℕ, List, [], ◌∷◌, Some, None, true, false, refl}
 use Rattle.std.specs.Prelude.{Bool, Option, codes, is_some, map}
 use Rattle.dwc_base.specs.Functions.{AddressMap}
-use Rattle.dwc_clif.specs.declared.Architecture.TheVariants.{Aarch64, Pulley}
+use Rattle.dwc_clif.specs.declared.architecture.Architecture.TheVariants.{Aarch64, Pulley}
 use Rattle.dwc_cli.specs.MapFile.{MapFile, Target, map_of_bytes}
 use Rattle.dwc_cli.proofs.OnLiterals.{map_on_literals}
 

@@ -8,8 +8,8 @@ use Rattle.serde_json.specs.Find.{get_member}
 use Rattle.serde_json.specs.Read.{read}
 use Rattle.dwc_base.specs.Reading.{coded}
 use Rattle.dwc_base.specs.Functions.{AddressMap}
-use Rattle.dwc_clif.specs.declared.Architecture.{Architecture}
-use Rattle.dwc_clif.specs.declared.Architecture.TheVariants.{X86_64, Aarch64, S390x, Riscv64, Pulley}
+use Rattle.dwc_clif.specs.declared.architecture.Architecture.{Architecture}
+use Rattle.dwc_clif.specs.declared.architecture.Architecture.TheVariants.{X86_64, Aarch64, S390x, Riscv64, Pulley}
 
 -- one value behind another, none where the first is none
 infixl 10 ◌>>=◌

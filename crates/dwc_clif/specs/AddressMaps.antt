@@ -1,10 +1,9 @@
 -- The records of a compiled function, seen as an address map.
-use Rattle.std.specs.Prelude.{ℕ, List, map, Option, option_map}
+use Rattle.std.specs.Prelude.{ℕ, map, Option, option_map}
 use Rattle.dwc_base.specs.declared.records.SymbolId.{SymbolId}
 use Rattle.dwc_base.specs.Functions.{AddressMap}
-use Rattle.dwc_clif.specs.declared.InstructionAddressMap.{InstructionAddressMap}
-use Rattle.dwc_clif.specs.declared.FunctionAddressMap.{FunctionAddressMap}
-use Rattle.dwc_clif.specs.declared.CompiledFunctionMetadata.{CompiledFunctionMetadata}
+use Rattle.dwc_clif.specs.declared.address_map.InstructionAddressMap.{InstructionAddressMap}
+use Rattle.dwc_clif.specs.declared.metadata.CompiledFunctionMetadata.{CompiledFunctionMetadata}
 
 -- an entry: its native offset, and the file offset of its source
 abbrev pub entry_view : InstructionAddressMap → ℕ × Option ℕ

@@ -1,1 +1,5 @@
 pub mod AddressMaps
+pub mod CallFrames
+pub mod EmptyRecords
+pub mod Registers
+pub mod Targets

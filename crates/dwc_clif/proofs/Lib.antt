@@ -1,0 +1,2 @@
+pub mod FrameCases
+pub mod RegisterLaws

@@ -1,0 +1,18 @@
+-- The records of a function of which nothing is known.
+use Rattle.std.specs.Prelude.{◌≡◌, [], None}
+use Rattle.dwc_clif.specs.declared.address_map.FunctionAddressMap.{FunctionAddressMap}
+use Rattle.dwc_clif.specs.declared.metadata.CompiledFunctionMetadata.{CompiledFunctionMetadata}
+
+-- a map without entries and places, of a body of no bytes at 0
+pub record IsEmptyMap (m : FunctionAddressMap) : Type 0 where
+  pub entries : m.instructions.items ≡ []
+  pub start : m.start_srcloc.offset ≡ None
+  pub end : m.end_srcloc.offset ≡ None
+  pub body_offset : m.body_offset ≡ 0
+  pub body_len : m.body_len ≡ 0
+
+-- an empty map, and no places
+pub record IsEmptyMetadata (m : CompiledFunctionMetadata) : Type 0 where
+  pub address_map : IsEmptyMap m.address_map
+  pub start : m.start_srcloc.offset ≡ None
+  pub end : m.end_srcloc.offset ≡ None

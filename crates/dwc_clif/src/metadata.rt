@@ -1,0 +1,30 @@
+//! What is known of a compiled function.
+ghost use Rattle.dwc_clif.specs.EmptyRecords.{IsEmptyMetadata};
+
+use crate::FunctionAddressMap;
+use dwc_base::FilePos;
+use std::alloc::Global;
+
+/// What is known of a compiled function.
+#[derive(Drop)]
+pub struct CompiledFunctionMetadata {
+    /// Where its instructions come from.
+    pub address_map: FunctionAddressMap,
+    /// Where it begins in the wasm file.
+    pub start_srcloc: FilePos,
+    /// Where it ends there.
+    pub end_srcloc: FilePos,
+}
+
+impl CompiledFunctionMetadata {
+    /// That of a function of which nothing is known: an empty address map, and no places. It takes no memory.
+    pub fn empty(alloc: Global) -> CompiledFunctionMetadata
+        ensures { IsEmptyMetadata result }
+    {
+        CompiledFunctionMetadata {
+            address_map: FunctionAddressMap::empty(alloc),
+            start_srcloc: FilePos::default(),
+            end_srcloc: FilePos::default(),
+        }
+    }
+}
