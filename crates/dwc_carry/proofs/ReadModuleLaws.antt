@@ -23,16 +23,15 @@ use Rattle.dwc_write.specs.GivenUnits.{GivenUnit}
 use Rattle.dwc_write.specs.ReadBack.{given_segments}
 use Rattle.dwc_write.specs.WidestGiven.{widest_table_for}
 use Rattle.dwc_carry.specs.declared.read_units.ReadUnit.{ReadUnit}
-use Rattle.dwc_carry.specs.UnitEntries.{first_entry}
 use Rattle.dwc_carry.specs.OutputUnits.{output_unit}
-use Rattle.dwc_carry.specs.UnitReads.{is_compile_unit, IsReadUnit}
+use Rattle.dwc_carry.specs.UnitReads.{first_entry, is_compile_unit, IsReadUnit}
 use Rattle.dwc_carry.specs.UnitPrograms.{CarriesNamed}
 use Rattle.dwc_carry.specs.CarriedReads.{is_carried, refusal_if, refusal_if_carried, refusals_of, CarriesRead}
 use Rattle.dwc_carry.specs.MadeUnits.{IsMadeOf, AreMadeOf}
 use Rattle.dwc_carry.proofs.CarriedReadLaws.{filter-in, filter-out}
 use Rattle.dwc_carry.proofs.OutputUnitLaws.{named-writable}
 use Rattle.dwc_carry.proofs.WidestUnits.{unit-widest}
-use Rattle.dwc_carry.proofs.OutcomeLaws.{same-segments}
+use Rattle.dwc_carry.proofs.GivenSegments.{same-segments}
 
 -- a unit by its header
 abbrev pub unit_of : Sections → UnitHeader → Unit

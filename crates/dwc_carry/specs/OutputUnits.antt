@@ -5,7 +5,7 @@ use Rattle.dwc_base.specs.declared.records.Address.TheVariants.{Symbol}
 use Rattle.dwc_write.specs.declared.attributes.AttributeValue.TheVariants.{Address, Constant, LineProgramRef}
 use Rattle.dwc_write.specs.GivenLines.{GivenLines}
 use Rattle.dwc_write.specs.GivenUnits.{GivenEntry, GivenUnit}
-use Rattle.dwc_carry.specs.declared.unit_entries.Subprogram.{Subprogram}
+use Rattle.dwc_carry.specs.declared.subprogram.Subprogram.{Subprogram}
 
 -- the root, which names the line table where there is one
 abbrev pub root_entry : Bool → GivenEntry

@@ -1,8 +1,6 @@
 -- The refusals of emitting DWARF, and the faults that they tell.
-use Rattle.std.specs.Prelude.{◌≡◌, ◌⊎◌, ℕ, Bool, false, Option, Some, None, Result, Ok, Err}
-use Rattle.dwc_base.specs.declared.faults.Kind.TheVariants.{NotBuilt}
-use Rattle.dwc_base.specs.Listing.{Listing}
-use Rattle.dwc_base.specs.Sections.{Fault, unreadable, unsupported}
+use Rattle.std.specs.Prelude.{◌≡◌, Option, Some}
+use Rattle.dwc_base.specs.Sections.{unreadable, unsupported}
 use Rattle.dwc_base.specs.Refusals.{Refusal, of_place, missing_file}
 use Rattle.dwc_read.specs.declared.fault.ReadFault.{ReadFault}
 use Rattle.dwc_read.specs.declared.fault.ReadFault.TheVariants as read
@@ -36,16 +34,6 @@ of_table tab.OutOfMemory = OutOfMemory
 abbrev pub of_writing : WriteError → DebugError
 of_writing (write.TooLarge what) = TooLarge what
 of_writing write.OutOfMemory = OutOfMemory
-
--- A part of the input is refused: for want of memory, for the fault that it has, or because it has not the form that is
--- read so far.
-abbrev pub RefusesPart : Option Fault → Bool → DebugError → Type 0
-RefusesPart fault built (Read what section offset) = fault ≡ Some (unreadable what section offset)
-RefusesPart fault built (Unsupported kind offset) = (fault ≡ Some (unsupported kind offset)) ⊎ ((kind ≡ NotBuilt) × (built ≡ false))
-RefusesPart fault built (InvalidFileIndex offset) = built ≡ false
-RefusesPart fault built (BadAddressMap m func why) = ⊥
-RefusesPart fault built (TooLarge what) = ⊥
-RefusesPart fault built OutOfMemory = Unit {0}
 
 -- An error is the refusal of an input, if there is one; want of memory may be answered at any time.
 abbrev pub Refuses : Option Refusal → DebugError → Type 0

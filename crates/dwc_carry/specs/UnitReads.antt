@@ -13,7 +13,11 @@ use Rattle.dwc_base.specs.BuiltForm.{entries_fault, info_fault}
 use Rattle.dwc_carry.specs.declared.error.DebugError.{DebugError}
 use Rattle.dwc_carry.specs.declared.error.DebugError.TheVariants.{Read, Unsupported, InvalidFileIndex, BadAddressMap, TooLarge, OutOfMemory}
 use Rattle.dwc_carry.specs.declared.read_units.ReadUnit.{ReadUnit}
-use Rattle.dwc_carry.specs.UnitEntries.{first_entry}
+
+-- the first of some entries
+abbrev pub first_entry : List Entry → Option Entry
+first_entry [] = None
+first_entry (e ∷ es) = Some e
 
 -- whether an entry is a compile unit
 abbrev pub is_compile_unit : Option Entry → Bool

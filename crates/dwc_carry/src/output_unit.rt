@@ -3,7 +3,7 @@ ghost use Rattle.std.specs.Prelude.{◌≡◌, ◌⊎◌, ◌<◌, ◌^◌, ◌�
 ghost use Rattle.dwc_write.specs.GivenUnits.{IsOfSize, depth_of, with_entries};
 ghost use Rattle.dwc_carry.specs.OutputUnits.{output_unit, root_entry, subprogram_entry};
 
-use crate::unit_entries::Subprogram;
+use crate::subprogram::Subprogram;
 use dwc_base::constants::{
     DW_AT_high_pc, DW_AT_low_pc, DW_AT_stmt_list, DW_FORM_udata, DW_TAG_subprogram,
 };

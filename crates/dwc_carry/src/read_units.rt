@@ -2,7 +2,7 @@
 ghost use Rattle.dwc_carry.specs.UnitReads.{GivesUnits};
 
 use crate::DebugError;
-use crate::unit_entries::Subprogram;
+use crate::subprogram::Subprogram;
 use dwc_addr::AddressTransform;
 use dwc_read::{Sections, Unit};
 use std::alloc::Global;
