@@ -212,8 +212,8 @@ module _ (m : Module) (h : info_fault m.sections ≡ None) where
   subprograms-of-module = carried-subprograms m (known-units m.sections h).units_are
 
   -- the same of a unit that need not be carried
-  pub subprograms-of-unit : (u : Unit) → IsIn u (units m.sections).items → kept_subprograms (record { module_of = m; unit = u }) ≡ length (filter (is_required m.functions) u.entries)
-  subprograms-of-unit u i = unit-subprograms m (known-units m.sections h).units_are u i
+  pub subprograms-of-unit : (u : Unit) → IsIn u (units m.sections).items → has_root_tag DW_TAG_compile_unit u ≡ true → kept_subprograms (record { module_of = m; unit = u }) ≡ length (filter (is_required m.functions) u.entries)
+  subprograms-of-unit u i tag = unit-subprograms m (known-units m.sections h).units_are u i tag
 
   -- the entries of a unit: a root at depth 0 and subprograms at depth 1, which name no entry, their offsets rising behind the header
   pub unit-of-module : (u : Unit) → IsIn u (units m.sections).items → IsUnit u

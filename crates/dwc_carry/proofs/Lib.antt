@@ -14,6 +14,7 @@ pub mod UnitTrees
 pub mod ReadEnds
 pub mod KnownEntries
 pub mod KnownUnits
+pub mod EmitLaws
 pub mod TransferLaws
 pub mod CompositionLaws
 pub mod CarriedReadLaws
@@ -26,4 +27,3 @@ pub mod CanCarryLaws
 pub mod GivenSegments
 pub mod KeptModules
 pub mod TransformLaws
-pub mod EmitLaws

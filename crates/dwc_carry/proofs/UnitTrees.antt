@@ -1,8 +1,8 @@
 -- Units of the known form, and which of their entries are kept.
-use Rattle.std.proofs.Common.{◌≡◌, ◌≢◌, ℕ, suc, ◌-◌, ◌<◌, ◌≤◌, List, [], ◌∷◌, ◌++◌, map, length, refl, ap, ap₂, sym, subst, ◌∙◌, inl, inr, arith, Bool, true, false, cond, None, append-nil, All}
+use Rattle.std.proofs.Common.{◌≡◌, ◌≢◌, ℕ, suc, ◌<◌, ◌≤◌, List, [], ◌∷◌, ◌++◌, map, length, refl, ap, ap₂, sym, subst, ◌∙◌, inl, inr, arith, Bool, true, false, cond, None, append-nil, All}
 use Rattle.std.specs.Prelude.{◌==◌, ◌||◌, ◌&&◌, not}
 use Rattle.std.specs.List.{filter, list_any, list_all, flat_map}
-use Rattle.std.proofs.lemmas.Bool.{eq-eqb, ne_eqb, or_from, and_right, true≢false}
+use Rattle.std.proofs.lemmas.Bool.{eq-eqb, eqb-true, ne_eqb, or_from, and_right, true≢false}
 use Rattle.std.proofs.lemmas.List.Elements.{filter-append, All-nil, All-cons}
 use Rattle.std.proofs.lemmas.List.{length-map}
 use Rattle.dwc_base.specs.Functions.{Function}
@@ -285,15 +285,53 @@ kept-any fs n from end (e ∷ es) h = go (list_any (is_required fs) es) ∙ sym 
     go true = refl
     go false = refl
 
-kept-count : (fs : List Function) (n from end : ℕ) (es : List Entry) → AreEntries from end es → length (placed_at n (kept_of fs es)) - 1 ≡ length (filter (is_required fs) es)
-kept-count fs n from end [] h = refl
-kept-count fs n from end (e ∷ es) h =
-    go (list_any (is_required fs) es) refl
-    ∙ sym (ap (λ b. length (cond {A = List Entry} b (e ∷ filter (is_required fs) es) (filter (is_required fs) es))) (root-required fs e h.0))
+module _ {X : Type 0} (p q : X → Bool) where
+  -- two tests, one behind the other
+  filter-both : (xs : List X) → filter q (filter p xs) ≡ filter (λ x. p x && q x) xs
+  filter-both [] = refl
+  filter-both (x ∷ xs) = go (p x) (filter-both xs)
+    where
+      pick : (b : Bool) → filter q (filter p xs) ≡ filter (λ y. p y && q y) xs → cond {A = List X} b (x ∷ filter q (filter p xs)) (filter q (filter p xs)) ≡ cond {A = List X} b (x ∷ filter (λ y. p y && q y) xs) (filter (λ y. p y && q y) xs)
+      pick true more = ap (λ ys. x ∷ ys) more
+      pick false more = more
+
+      go : (b : Bool) → filter q (filter p xs) ≡ filter (λ y. p y && q y) xs → filter q (cond {A = List X} b (x ∷ filter p xs) (filter p xs)) ≡ cond {A = List X} (b && q x) (x ∷ filter (λ y. p y && q y) xs) (filter (λ y. p y && q y) xs)
+      go true more = pick (q x) more
+      go false more = more
+
+-- the required entries of a unit are subprograms
+below-root : (fs : List Function) (n from end : ℕ) (es : List Entry) → AreSubprograms from end es → filter (λ p. p.entry.tag == DW_TAG_subprogram) (placed_at n (filter (is_required fs) es)) ≡ placed_at n (filter (is_required fs) es)
+below-root fs n from end [] h = refl
+below-root fs n from end (e ∷ es) h = go (is_required fs e) (below-root fs n (suc e.offset) end es h.2)
   where
-    go : (b : Bool) → list_any (is_required fs) es ≡ b → length (placed_at n (cond {A = List Entry} b (e ∷ filter (is_required fs) es) [])) - 1 ≡ length (filter (is_required fs) es)
-    go true is = let same : length (placed_at n (filter (is_required fs) es)) ≡ length (filter (is_required fs) es) = length-map (filter (is_required fs) es) (placed_entry n) in omega (arith, same)
-    go false is = sym (ap length (none-required fs es is))
+    go : (b : Bool) → filter (λ p. p.entry.tag == DW_TAG_subprogram) (placed_at n (filter (is_required fs) es)) ≡ placed_at n (filter (is_required fs) es)
+        → filter (λ p. p.entry.tag == DW_TAG_subprogram) (placed_at n (cond {A = List Entry} b (e ∷ filter (is_required fs) es) (filter (is_required fs) es))) ≡ placed_at n (cond {A = List Entry} b (e ∷ filter (is_required fs) es) (filter (is_required fs) es))
+    go true more =
+        ap (λ b. cond {A = List Placed} b (placed_entry n e ∷ filter (λ p. p.entry.tag == DW_TAG_subprogram) (placed_at n (filter (is_required fs) es))) (filter (λ p. p.entry.tag == DW_TAG_subprogram) (placed_at n (filter (is_required fs) es)))) (eq-eqb e.tag DW_TAG_subprogram (h.0).tag)
+        ∙ ap (λ ps. placed_entry n e ∷ ps) more
+    go false more = more
+
+-- Of the kept entries of a unit whose root is no subprogram, the subprograms are the required ones.
+kept-subs : (fs : List Function) (n from end : ℕ) (e : Entry) (es : List Entry) → AreEntries from end (e ∷ es) → (e.tag == DW_TAG_subprogram) ≡ false
+    → filter (λ p. p.entry.tag == DW_TAG_subprogram) (placed_at n (kept_of fs (e ∷ es))) ≡ placed_at n (filter (is_required fs) es)
+kept-subs fs n from end e es h root = go (list_any (is_required fs) es) refl
+  where
+    go : (b : Bool) → list_any (is_required fs) es ≡ b → filter (λ p. p.entry.tag == DW_TAG_subprogram) (placed_at n (cond {A = List Entry} b (e ∷ filter (is_required fs) es) [])) ≡ placed_at n (filter (is_required fs) es)
+    go true is =
+        ap (λ b. cond {A = List Placed} b (placed_entry n e ∷ filter (λ p. p.entry.tag == DW_TAG_subprogram) (placed_at n (filter (is_required fs) es))) (filter (λ p. p.entry.tag == DW_TAG_subprogram) (placed_at n (filter (is_required fs) es)))) root
+        ∙ below-root fs n (suc e.offset) end es h.2
+    go false is = sym (ap (placed_at n) (none-required fs es is))
+
+kept-count : (fs : List Function) (n : ℕ) (u : Unit) (from end : ℕ) → AreEntries from end u.entries → has_root_tag DW_TAG_compile_unit u ≡ true
+    → length (filter (λ p. p.entry.tag == DW_TAG_subprogram) (placed_at n (kept_of fs u.entries))) ≡ length (filter (is_required fs) u.entries)
+kept-count fs n u from end h tag = go u.entries h tag
+  where
+    go : (es : List Entry) → AreEntries from end es → has_root_tag DW_TAG_compile_unit (record { header = u.header; entries = es }) ≡ true → length (filter (λ p. p.entry.tag == DW_TAG_subprogram) (placed_at n (kept_of fs es))) ≡ length (filter (is_required fs) es)
+    go [] k t = refl
+    go (e ∷ es) k t =
+        ap length (kept-subs fs n from end e es k (ap (λ x. x == DW_TAG_subprogram) (eqb-true e.tag DW_TAG_compile_unit t)))
+        ∙ length-map (filter (is_required fs) es) (placed_entry n)
+        ∙ sym (ap (λ b. length (cond {A = List Entry} b (e ∷ filter (is_required fs) es) (filter (is_required fs) es))) (root-required fs e k.0))
 
 -- each unit of some is one
 pub unit-is : (from : ℕ) (us : List Unit) (u : Unit) → AreUnits from us → IsIn u us → IsUnit u
@@ -324,11 +362,14 @@ module _ (m : Module) (h : AreUnits 0 (units m.sections).items) where
   pub carried-units : carried_units_of m ≡ filter (λ u. has_root_tag DW_TAG_compile_unit u && list_any (is_required m.functions) u.entries) (units m.sections).items
   carried-units = filter-same _ _ (units m.sections).items (λ u i. ap (λ b. has_root_tag DW_TAG_compile_unit u && b) (kept-in u i))
 
-  -- The kept subprograms of a unit are its required entries.
-  pub unit-subprograms : (u : Unit) → IsIn u (units m.sections).items → kept_subprograms (record { module_of = m; unit = u }) ≡ length (filter (is_required m.functions) u.entries)
-  unit-subprograms u i =
-      ap (λ ps. length ps - 1) (kept-of-unit m.functions 0 (units m.sections).items u h i)
-      ∙ kept-count m.functions u.header.offset (u.header.content).place u.header.end u.entries (unit-is 0 (units m.sections).items u h i).entries
+  -- The kept subprograms of a unit whose root is a compile unit are its required entries.
+  pub unit-subprograms : (u : Unit) → IsIn u (units m.sections).items → has_root_tag DW_TAG_compile_unit u ≡ true → kept_subprograms (record { module_of = m; unit = u }) ≡ length (filter (is_required m.functions) u.entries)
+  unit-subprograms u i tag =
+      ap length (sym (filter-both (λ p. p.unit == u.header.offset) (λ p. p.entry.tag == DW_TAG_subprogram) (kept_entries m.functions (placed_entries (units m.sections).items))))
+      ∙ ap (λ ps. length (filter (λ p. p.entry.tag == DW_TAG_subprogram) ps)) (kept-of-unit m.functions 0 (units m.sections).items u h i)
+      ∙ kept-count m.functions u.header.offset u (u.header.content).place u.header.end (unit-is 0 (units m.sections).items u h i).entries tag
 
   pub carried-subprograms : All (λ u. kept_subprograms (record { module_of = m; unit = u }) ≡ length (filter (is_required m.functions) u.entries)) (carried_units_of m)
-  carried-subprograms = all-from-in _ (carried_units_of m) (λ u i. unit-subprograms u (in-filter (is_carried_unit (kept_entries m.functions (placed_entries (units m.sections).items))) (units m.sections).items u i).0)
+  carried-subprograms = all-from-in _ (carried_units_of m) (λ u i.
+      let f = in-filter (is_carried_unit (kept_entries m.functions (placed_entries (units m.sections).items))) (units m.sections).items u i in
+      unit-subprograms u f.0 (both _ _ f.1).0)
