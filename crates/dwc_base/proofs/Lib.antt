@@ -6,6 +6,7 @@ pub mod LineTables
 pub mod CarriedSmall
 pub mod Cases
 pub mod Forms
+pub mod BuiltForms
 pub mod Walks
 pub mod Items
 pub mod Widths

@@ -23,6 +23,7 @@ pub mod UnitsRead
 pub mod ModuleLoopLaws
 pub mod NameLaws
 pub mod OutputUnitLaws
+pub mod InfoUnitLaws
 pub mod CanCarryLaws
 pub mod GivenSegments
 pub mod KeptModules

@@ -20,12 +20,13 @@ use Rattle.dwc_carry.specs.declared.error.DebugError.{DebugError}
 use Rattle.dwc_carry.specs.declared.error.DebugError.TheVariants.{Read, Unsupported, InvalidFileIndex, BadAddressMap, TooLarge, OutOfMemory}
 use Rattle.dwc_carry.specs.declared.read_units.ReadUnit.{ReadUnit}
 use Rattle.dwc_carry.specs.Refusals.{Refuses}
-use Rattle.dwc_carry.specs.UnitReads.{IsReadUnit, RefusesInfo}
+use Rattle.dwc_carry.specs.InfoEntries.{Tells}
+use Rattle.dwc_carry.specs.InfoUnits.{unit_of, IsReadUnit}
 use Rattle.dwc_carry.specs.CarriedReads.{refusals_of, AddsCarried, GivesAdded}
 use Rattle.dwc_carry.specs.MadeUnits.{IsMadeOf, AreMadeOf}
 use Rattle.dwc_carry.specs.CarriedModules.{transformed_module, transformed_modules, carried_in, AddsModule, GivesModule, AddsModules}
 use Rattle.dwc_carry.proofs.CarriedReadLaws.{refuses-more}
-use Rattle.dwc_carry.proofs.ReadModuleLaws.{unit_of, is_compiled, refusals-same, made-same}
+use Rattle.dwc_carry.proofs.ReadModuleLaws.{is_compiled, refusals-same, made-same}
 use Rattle.dwc_carry.proofs.UnitsRead.{IsReadWhole, read-whole}
 
 -- ---- one module
@@ -36,7 +37,7 @@ module _ (size : ℕ) (m : Module) (plain : m.compressed ≡ None) where
   refusals-plain = rw plain refl
 
   -- where .debug_info is refused
-  pub info-refused : (e : DebugError) → RefusesInfo (info_fault m.sections) e → Refuses (first_of (module_refusals m)) e
+  pub info-refused : (e : DebugError) → Tells (info_fault m.sections) e → Refuses (first_of (module_refusals m)) e
   info-refused (Read what section offset) h = rw (plain, h) refl
   info-refused (Unsupported kind offset) h = rw (plain, h) refl
   info-refused (InvalidFileIndex offset) h = absurd h

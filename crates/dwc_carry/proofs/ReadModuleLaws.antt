@@ -15,7 +15,7 @@ use Rattle.dwc_base.specs.LineRows.{LineTable, line_table, Segment, segments}
 use Rattle.dwc_base.specs.Images.{is_carried_segment, IsImageOf}
 use Rattle.dwc_base.specs.Carried.{Unit, root, units, Module, CarriedUnit, has_root_tag, carried_units_of, table_of_unit, table_of_root, segments_of, segments_of_unit, line_offset}
 use Rattle.dwc_base.specs.BuiltForm.{info_fault}
-use Rattle.dwc_base.specs.Refusals.{Refusal, table_offset, lines_refusal, unit_refusal}
+use Rattle.dwc_base.specs.Refusals.{Refusal, table_offset, lines_refusal, unit_refusal, first_of}
 use Rattle.dwc_base.specs.Widest.{widest_table, kept_subprograms, root_attributes_with}
 use Rattle.dwc_base.specs.declared.constants.TheConstants.{DW_AT_stmt_list, DW_TAG_compile_unit}
 use Rattle.dwc_write.specs.GivenLines.{GivenLines}
@@ -24,18 +24,16 @@ use Rattle.dwc_write.specs.ReadBack.{given_segments}
 use Rattle.dwc_write.specs.WidestGiven.{widest_table_for}
 use Rattle.dwc_carry.specs.declared.read_units.ReadUnit.{ReadUnit}
 use Rattle.dwc_carry.specs.OutputUnits.{output_unit}
-use Rattle.dwc_carry.specs.UnitReads.{first_entry, is_compile_unit, IsReadUnit}
+use Rattle.dwc_carry.specs.InfoEntries.{is_compile_unit}
+use Rattle.dwc_carry.specs.InfoUnits.{unit_of, IsReadUnit}
 use Rattle.dwc_carry.specs.UnitPrograms.{CarriesNamed}
 use Rattle.dwc_carry.specs.CarriedReads.{is_carried, refusal_if, refusal_if_carried, refusals_of, CarriesRead}
 use Rattle.dwc_carry.specs.MadeUnits.{IsMadeOf, AreMadeOf}
 use Rattle.dwc_carry.proofs.CarriedReadLaws.{filter-in, filter-out}
 use Rattle.dwc_carry.proofs.OutputUnitLaws.{named-writable}
 use Rattle.dwc_carry.proofs.WidestUnits.{unit-widest}
+use Rattle.dwc_carry.proofs.InfoUnitLaws.{subprograms-count}
 use Rattle.dwc_carry.proofs.GivenSegments.{same-segments}
-
--- a unit by its header
-abbrev pub unit_of : Sections → UnitHeader → Unit
-unit_of s h = record { header = h; entries = (entries s h).items }
 
 -- a unit that is a compile unit, and of which an entry is required
 abbrev pub is_compiled : List Function → Unit → Bool
@@ -43,17 +41,17 @@ is_compiled fs u = has_root_tag DW_TAG_compile_unit u && list_any (is_required f
 
 -- ---- a unit's root, its tag and its line table
 
-root-first : (u : Unit) → root u ≡ first_entry u.entries
+root-first : (u : Unit) → root u ≡ first_of u.entries
 root-first u = go u.entries
   where
-    go : (es : List Entry) → root (record { header = u.header; entries = es }) ≡ first_entry es
+    go : (es : List Entry) → root (record { header = u.header; entries = es }) ≡ first_of es
     go [] = refl
     go (e ∷ es) = refl
 
-root-tag : (u : Unit) → has_root_tag DW_TAG_compile_unit u ≡ is_compile_unit (first_entry u.entries)
+root-tag : (u : Unit) → has_root_tag DW_TAG_compile_unit u ≡ is_compile_unit (first_of u.entries)
 root-tag u = go u.entries
   where
-    go : (es : List Entry) → has_root_tag DW_TAG_compile_unit (record { header = u.header; entries = es }) ≡ is_compile_unit (first_entry es)
+    go : (es : List Entry) → has_root_tag DW_TAG_compile_unit (record { header = u.header; entries = es }) ≡ is_compile_unit (first_of es)
     go [] = refl
     go (e ∷ es) = refl
 
@@ -71,7 +69,7 @@ abbrev named : Sections → ℕ → Option ℕ → Result (Option LineTable) Fau
 named s address_size None = Ok None
 named s address_size (Some offset) = line_table s address_size offset >>= λ t. Ok (Some t)
 
-table-named : (s : Sections) (u : Unit) → table_of_unit s u ≡ named s u.header.address_size (table_offset (first_entry u.entries))
+table-named : (s : Sections) (u : Unit) → table_of_unit s u ≡ named s u.header.address_size (table_offset (first_of u.entries))
 unfolding table_of_unit
 table-named s u = go (root u) ∙ ap (λ o. named s u.header.address_size (table_offset o)) (root-first u)
   where
@@ -87,21 +85,21 @@ module _ (m : Module) where
   module _ (h : UnitHeader) (r : ReadUnit) (read : IsReadUnit m.functions m.sections h r) where
     carried-same : is_compiled m.functions (unit_of m.sections h) ≡ is_carried r
     carried-same =
-        let tag : has_root_tag DW_TAG_compile_unit (unit_of m.sections h) ≡ r.entries.is_compile_unit = root-tag (unit_of m.sections h) ∙ sym read.is_compile_unit in
-        let some : list_any (is_required m.functions) (entries m.sections h).items ≡ nat_lt 0 (vec_len r.entries.subprograms) = any-some (is_required m.functions) (entries m.sections h).items ∙ ap (nat_lt 0) (sym read.count) in
+        let tag : has_root_tag DW_TAG_compile_unit (unit_of m.sections h) ≡ r.entries.is_compile_unit = root-tag (unit_of m.sections h) ∙ sym (read.entries).is_compile_unit in
+        let some : list_any (is_required m.functions) (entries m.sections h).items ≡ nat_lt 0 (vec_len r.entries.subprograms) = any-some (is_required m.functions) (entries m.sections h).items ∙ ap (nat_lt 0) (sym (subprograms-count m.functions (entries m.sections h).items r.entries read.entries)) in
         ap (λ b. b && list_any (is_required m.functions) (entries m.sections h).items) tag ∙ ap (λ b. r.entries.is_compile_unit && b) some
 
     refusal-same : unit_refusal m.sections (unit_of m.sections h) ≡ lines_refusal r.unit.sections r.unit.header.address_size r.entries.line_table
     refusal-same =
         ap (λ o. lines_refusal m.sections h.address_size (table_offset o)) (root-first (unit_of m.sections h))
-        ∙ ap (lines_refusal m.sections h.address_size) (sym read.line_table)
+        ∙ ap (lines_refusal m.sections h.address_size) (sym (read.entries).line_table)
         ∙ ap (λ k. lines_refusal m.sections k.address_size r.entries.line_table) (sym read.header)
         ∙ ap (λ s. lines_refusal s r.unit.header.address_size r.entries.line_table) (sym read.sections)
 
     table-same : table_of_unit m.sections (unit_of m.sections h) ≡ named r.unit.sections r.unit.header.address_size r.entries.line_table
     table-same =
         table-named m.sections (unit_of m.sections h)
-        ∙ ap (named m.sections h.address_size) (sym read.line_table)
+        ∙ ap (named m.sections h.address_size) (sym (read.entries).line_table)
         ∙ ap (λ k. named m.sections k.address_size r.entries.line_table) (sym read.header)
         ∙ ap (λ s. named s r.unit.header.address_size r.entries.line_table) (sym read.sections)
 
@@ -119,7 +117,7 @@ module _ (m : Module) where
         images = images;
         writable = named-writable m.functions r.unit.sections r.unit.header.address_size size r.entries.line_table lines r.entries.subprograms.items carries;
         widest = unit-widest (record { module_of = m; unit = unit_of m.sections h }) size lines (is_some r.entries.line_table) r.entries.subprograms.items
-            (record { root = ap root_attributes_with table ∙ attributes; few = omega (arith, few, read.count); table = rw table narrow });
+            (record { root = ap root_attributes_with table ∙ attributes; few = omega (arith, few, subprograms-count m.functions (entries m.sections h).items r.entries read.entries); table = rw table narrow });
       }
 
       from-lines : (lines : GivenLines) (o : Option ℕ) → r.entries.line_table ≡ o → CarriesNamed m.functions r.unit.sections r.unit.header.address_size size o lines

@@ -7,7 +7,8 @@ use Rattle.dwc_base.specs.Kept.{is_required}
 use Rattle.dwc_base.specs.Carried.{Unit, units, Module, carried_units_of}
 use Rattle.dwc_base.specs.BuiltForm.{info_fault}
 use Rattle.dwc_base.specs.Widest.{kept_subprograms}
-use Rattle.dwc_carry.proofs.ReadModuleLaws.{unit_of, is_compiled}
+use Rattle.dwc_carry.specs.InfoUnits.{unit_of}
+use Rattle.dwc_carry.proofs.ReadModuleLaws.{is_compiled}
 use Rattle.dwc_carry.proofs.KnownUnits.{known-units, units-of-headers, carried-of-module, subprograms-of-module}
 
 -- Its units are read to their end; those are carried that are compile units and of which an entry is required; and no fewer

@@ -8,7 +8,9 @@ pub mod Emits
 pub mod MadeUnits
 pub mod UnitPrograms
 pub mod CarriedReads
-pub mod UnitReads
 pub mod CarriedModules
 pub mod Inputs
 pub mod Transformed
+pub mod Subprograms
+pub mod InfoEntries
+pub mod InfoUnits

@@ -1,6 +1,7 @@
 //! Carries the DWARF of a compilation over to the native code of its functions.
 #![tactic(auto)]
 
+mod built_form;
 mod carry_modules;
 mod carry_units;
 mod emit;
@@ -8,6 +9,7 @@ mod error;
 mod image;
 mod lines;
 mod output_unit;
+mod read_entries;
 mod read_units;
 mod sequence;
 mod subprogram;

@@ -1,30 +1,24 @@
-//! The units of `.debug_info`, read to their end.
-ghost use Rattle.dwc_carry.specs.UnitReads.{GivesUnits};
+//! The units of `.debug_info`, read to the end of the section.
+ghost use Rattle.std.specs.Prelude.{◌≡◌};
+ghost use Rattle.dwc_carry.specs.InfoUnits.{GivesUnits};
 
 use crate::DebugError;
-use crate::subprogram::Subprogram;
+use crate::read_entries::{UnitEntries, read_entries};
 use dwc_addr::AddressTransform;
-use dwc_read::{Sections, Unit};
+use dwc_read::{Sections, Unit, Units};
 use std::alloc::Global;
 
-/// What is carried of the entries of a unit.
-#[derive(Drop)]
-pub(crate) struct UnitEntries {
-    /// The offset of the root's line table.
-    pub line_table: Option<u64>,
-    pub is_compile_unit: bool,
-    /// The kept subprograms, in order.
-    pub subprograms: Vec<Subprogram>,
-}
-
-/// A unit, and what is carried of its entries.
+/// A unit, and what is read of its entries.
 #[derive(Drop)]
 pub(crate) struct ReadUnit<'d> {
     pub unit: Unit<'d>,
     pub entries: UnitEntries,
 }
 
-/// The units of `.debug_info`, in order.
+/// All units of `.debug_info`, in file order, each with what is read of its entries.
+///
+/// Answers the first fault in the order of reading: of each unit its header, its abbreviation table and then its entries, with
+/// `Read` where they cannot be read, and `Unsupported` where they are of a kind that is refused or not read yet.
 pub(crate) fn read_units<'d>(
     alloc: Global,
     sections: Sections<'d>,
@@ -32,5 +26,11 @@ pub(crate) fn read_units<'d>(
 ) -> Result<Vec<ReadUnit<'d>>, DebugError>
     ensures { GivesUnits transform.now sections.entry result }
 {
-    Err(DebugError::OutOfMemory)
+    let mut units = Units::new(sections);
+    let mut read = Vec::new(alloc);
+    while let Some(unit) = units.next_unit(alloc)? {
+        let entries = read_entries(alloc, &unit, transform)?;
+        read.push(ReadUnit { unit, entries })?;
+    }
+    Ok(read)
 }

@@ -1,10 +1,10 @@
 -- What contracts see of entries.
-use Rattle.std.specs.Prelude.{◌≡◌, ℕ, ℤ, pos, negsuc, map, Bool, Option, Some, None, Result, Ok, Err}
+use Rattle.std.specs.Prelude.{◌≡◌, ℕ, ℤ, pos, negsuc, map, List, Bool, Option, Some, None, Result, Ok, Err}
 use Rattle.std.specs.Coded.{Coded, codes}
 use Rattle.dwc_base.specs.Listing.{Listing, only_fault}
 use Rattle.dwc_base.specs.Sections.{Fault}
+use Rattle.dwc_base.specs.Abbreviations.{Declaration}
 use Rattle.dwc_base.specs.Entries as spec
-use Rattle.dwc_base.specs.Values.{Value}
 use Rattle.dwc_read.specs.ValuesSeen.{attribute_view}
 use Rattle.dwc_read.specs.Faults.{fault_seen}
 use Rattle.dwc_read.specs.declared.entry.Entry.{Entry}
@@ -22,10 +22,11 @@ entry_view e = record { offset = e.offset; depth = natural e.depth; tag = e.tag;
 abbrev pub found_view : Entry → Bool → spec.Found
 found_view e children = record { entry = entry_view e; has_children = children }
 
--- the entries that are still to come, and the one that was read last
+-- the entries that are still to come, the one that was read last, and the declarations of the unit's table
 pub record EntriesView : Type 0 where
   pub left : Listing Fault spec.Entry
   pub current : spec.Entry
+  pub table : List Declaration
 
 pub entries_code : Coded EntriesView
 entries_code = hlevel codes

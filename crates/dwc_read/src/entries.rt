@@ -6,7 +6,7 @@ ghost use Rattle.dwc_read.specs.Places.{GoesOn};
 use crate::place::Place;
 use crate::steps::go_on;
 use crate::table::{Table, table_at};
-use crate::{Entry, ReadFault, Unit};
+use crate::{Declaration, Entry, ReadFault, Unit};
 use std::alloc::Global;
 use std::marker::Model;
 
@@ -32,19 +32,25 @@ impl<'d> Model for Entries<'d> {
     ghost view = { λ e. record {
       left = entries_from e.unit.sections e.unit.header e.table (option_map place_view e.place);
       current = entry_view e.entry;
+      table = e.table;
     } };
 
     ghost invariant = { λ e. IsShallow (option_map place_view e.place) };
 }
 
 impl<'d> Entries<'d> {
+    ghost use Rattle.std.specs.Prelude.{map};
+    ghost use Rattle.dwc_read.specs.Faults.{GivesOrFault};
     ghost use Rattle.std.specs.Borrow.{sem};
+    ghost use Rattle.dwc_base.specs.Abbreviations.{abbreviation_table};
+    ghost use Rattle.dwc_read.specs.Tables.{declaration_view};
     ghost use Rattle.dwc_read.specs.EntriesSeen.{StartsAt, entry_view};
     ghost use Rattle.dwc_read.specs.Lent.{Lends, LeavesOthers, Becomes};
 
     // The entries of a unit.
     pub fn of(unit: Unit<'d>, alloc: Global) -> Result<Entries<'d>, ReadFault>
-        ensures { StartsAt (entries_of unit.entry.sections unit.entry.header) result }
+        ensures start { StartsAt (entries_of unit.entry.sections unit.entry.header) result }
+        ensures table { GivesOrFault (λ es. es.table) (abbreviation_table unit.entry.sections unit.entry.header.abbreviations) result }
     {
         let table = table_at(alloc, unit.sections(), unit.abbreviations())?;
         let place = Some(Place {
@@ -67,7 +73,8 @@ impl<'d> Entries<'d> {
     /// that names a supplementary file. At the end, and after one of these, each later call answers the same. After
     /// `OutOfMemory` the call can be made again; which entry is current is then open.
     pub fn advance(&mut self) -> Result<bool, ReadFault>
-        ensures { GoesOn self.old.left self.new.left self.new.current result }
+        ensures next { GoesOn self.old.left self.new.left self.new.current result }
+        ensures table { self.new.table ≡ self.old.table }
     {
         go_on(&self.unit, &self.table, &mut self.place, &mut self.entry)
     }
@@ -89,5 +96,12 @@ impl<'d> Entries<'d> {
         ensures { entry_view result.now ≡ self.now.current }
     {
         &self.entry
+    }
+
+    /// The declarations of the unit's abbreviation table, in their order. (DWARF 4 and 5, section 7.5.3.)
+    pub fn declarations(&self) -> &[Declaration]
+        ensures { map declaration_view result.now ≡ self.now.table }
+    {
+        self.table.declarations()
     }
 }

@@ -72,6 +72,13 @@ impl Table {
         }
         item(&self.declarations, code as usize - 1)
     }
+
+    // The declarations in their order.
+    pub fn declarations(&self) -> &[Declaration]
+        ensures { map declaration_view result.now ≡ self.now }
+    {
+        self.declarations.as_slice()
+    }
 }
 
 // The declaration at a place.

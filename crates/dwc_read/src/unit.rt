@@ -35,6 +35,7 @@ impl<'d> Model for Unit<'d> {
 }
 
 impl<'d> Unit<'d> {
+    ghost use Rattle.dwc_base.specs.Abbreviations.{abbreviation_table};
     ghost use Rattle.dwc_read.specs.Headers.{header_view};
     ghost use Rattle.dwc_read.specs.Views.{field_at};
     ghost use Rattle.dwc_base.specs.Entries.{entries as entries_of};
@@ -173,7 +174,8 @@ impl<'d> Unit<'d> {
     ///
     /// Answers `Read` with the table's offset where the unit's abbreviation table cannot be read.
     pub fn entries(&self, alloc: Global) -> Result<Entries<'d>, ReadFault>
-        ensures { StartsAt (entries_of self.now.sections self.now.header) result }
+        ensures start { StartsAt (entries_of self.now.sections self.now.header) result }
+        ensures table { GivesOrFault (λ es. es.table) (abbreviation_table self.now.sections self.now.header.abbreviations) result }
     {
         Entries::of(self.again(), alloc)
     }
@@ -207,7 +209,7 @@ impl<'d> Unit<'d> {
         &self.sections
     }
 
-    // The offset of the unit's abbreviation table.
+    /// The offset of the unit's abbreviation table in `.debug_abbrev`.
     pub fn abbreviations(&self) -> u32
         ensures { result ≡ self.now.header.abbreviations }
     {
