@@ -6,7 +6,7 @@ use Rattle.dwc_write.specs.declared.attributes.AttributeValue.{AttributeValue}
 use Rattle.dwc_write.specs.GivenUnits.{IsWritable, GivenEntry, set_in, set_in_entry, depth_of}
 use Rattle.dwc_write.specs.GivenLines.{GivenLines}
 use Rattle.dwc_carry.specs.declared.subprogram.Subprogram.{Subprogram}
-use Rattle.dwc_carry.specs.UnitLines.{CarriesLines}
+use Rattle.dwc_carry.specs.UnitPrograms.{CarriesNamed}
 use Rattle.dwc_carry.specs.OutputUnits.{output_unit, root_entry, subprogram_entry}
 
 -- a value is given to the last entry
@@ -24,6 +24,6 @@ root-depth true es = refl
 root-depth false es = refl
 
 -- The unit that carries a line table can be written.
-pub unit-writable : (fs : List Function) (s : Sections) (address_size size : ℕ) (offset : Option ℕ) (lines : GivenLines) (subprograms : List Subprogram) → CarriesLines fs s address_size size offset lines → IsWritable size (output_unit size lines (is_some offset) subprograms)
-unit-writable fs s address_size size None lines subprograms h = record { size = refl; ended = ap (λ (g : GivenLines). g.begun) h; named = sym (ap (λ (g : GivenLines). is_some g.address_size) h) }
-unit-writable fs s address_size size (Some offset) lines subprograms h = record { size = refl; ended = h.carries.ended; named = sym (ap is_some h.carries.address_size) }
+pub named-writable : (fs : List Function) (s : Sections) (address_size size : ℕ) (offset : Option ℕ) (lines : GivenLines) (subprograms : List Subprogram) → CarriesNamed fs s address_size size offset lines → IsWritable size (output_unit size lines (is_some offset) subprograms)
+named-writable fs s address_size size None lines subprograms h = record { size = refl; ended = ap (λ (g : GivenLines). g.begun) h; named = sym (ap (λ (g : GivenLines). is_some g.address_size) h) }
+named-writable fs s address_size size (Some offset) lines subprograms h = record { size = refl; ended = h.carries.ended; named = sym (ap is_some h.carries.address_size) }

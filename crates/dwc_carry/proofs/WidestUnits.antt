@@ -9,7 +9,7 @@ use Rattle.dwc_base.specs.Widest.{widest_declaration, widest_table, root_attribu
 use Rattle.dwc_write.specs.GivenLines.{GivenLines}
 use Rattle.dwc_write.specs.GivenUnits.{GivenEntry}
 use Rattle.dwc_write.specs.WidestGiven.{widest_entry, lists_of, widest_table_for, widest_unit}
-use Rattle.dwc_carry.specs.declared.unit_entries.Subprogram.{Subprogram}
+use Rattle.dwc_carry.specs.declared.subprogram.Subprogram.{Subprogram}
 use Rattle.dwc_carry.specs.OutputUnits.{output_unit, root_entry, subprogram_entry}
 
 declarations : (subprograms : List Subprogram) → sum_by (λ e. widest_declaration (length e.attributes)) (map subprogram_entry subprograms) ≡ length subprograms * widest_declaration 2

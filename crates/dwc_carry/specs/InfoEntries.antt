@@ -10,7 +10,7 @@ use Rattle.dwc_base.specs.Entries.{Entry, entries}
 use Rattle.dwc_base.specs.BuiltForm.{subprograms_fault, listing_fault, unit_fault}
 use Rattle.dwc_base.specs.Refusals.{table_offset, first_of}
 use Rattle.dwc_carry.specs.declared.error.DebugError.{DebugError}
-use Rattle.dwc_carry.specs.declared.error.DebugError.TheVariants.{Read, Unsupported, BadAddressMap, TooLarge, OutOfMemory}
+use Rattle.dwc_carry.specs.declared.error.DebugError.TheVariants.{Read, Unsupported, InvalidFileIndex, BadAddressMap, TooLarge, OutOfMemory}
 use Rattle.dwc_carry.specs.declared.read_entries.UnitEntries.{UnitEntries}
 use Rattle.dwc_carry.specs.declared.subprogram.Subprogram.{Subprogram}
 use Rattle.dwc_carry.specs.Subprograms.{required_subprogram}
@@ -19,6 +19,7 @@ use Rattle.dwc_carry.specs.Subprograms.{required_subprogram}
 abbrev pub Tells : Option Fault → DebugError → Type 0
 Tells fault (Read what section offset) = fault ≡ Some (unreadable what section offset)
 Tells fault (Unsupported kind offset) = fault ≡ Some (unsupported kind offset)
+Tells fault (InvalidFileIndex offset) = ⊥
 Tells fault (BadAddressMap m func why) = ⊥
 Tells fault (TooLarge what) = ⊥
 Tells fault OutOfMemory = Unit {0}

@@ -23,6 +23,12 @@ pub enum DebugError {
         what: Kind,
         offset: u64,
     },
+    /// In the line table at `offset` a row names a file that is not there, a file names a directory that is not there, or a
+    /// file's name is empty.
+    #[error("InvalidFileIndex {offset}")]
+    InvalidFileIndex {
+        offset: u64,
+    },
     /// The address map of a function, by its place among the defined ones of its module, breaks a rule.
     #[error("BadAddressMap {module} {func} {why:?}")]
     BadAddressMap {
@@ -104,10 +110,7 @@ impl From<TabFault> for DebugError {
                 offset,
             },
             TabFault::Unsupported { what, offset } => DebugError::Unsupported { what, offset },
-            TabFault::InvalidFileIndex { offset } => DebugError::Unsupported {
-                what: Kind::NotBuilt,
-                offset,
-            },
+            TabFault::InvalidFileIndex { offset } => DebugError::InvalidFileIndex { offset },
             TabFault::OutOfMemory => DebugError::OutOfMemory,
         }
     }

@@ -1,21 +1,22 @@
-//! Carries the DWARF of a module over to the native code of its functions.
+//! Carries the DWARF of a compilation over to the native code of its functions.
 #![tactic(auto)]
 
 mod built_form;
+mod carry_modules;
+mod carry_units;
 mod emit;
 mod error;
 mod image;
-mod known_form;
 mod lines;
 mod output_unit;
 mod read_entries;
-mod read_unit;
 mod read_units;
 mod sequence;
 mod subprogram;
-mod unit_entries;
-mod unit_lines;
+mod transform;
+mod unit_program;
 
 pub use emit::emit_dwarf;
 pub use error::DebugError;
 pub use lines::carried_lines;
+pub use transform::transform_dwarf;

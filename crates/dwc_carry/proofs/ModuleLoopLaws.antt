@@ -1,0 +1,147 @@
+-- What is added for one module, and what the loop over modules adds.
+use Rattle.std.proofs.Common.{◌≡◌, ℕ, zero, suc, ◌+◌, add-one, ◌<◌, ◌≤◌, arith, List, [], ◌∷◌, ◌++◌, map, drop, length, get_or, refl, ap, sym, ◌∙◌, subst, Bool, true, false, Option, Some, None, Result, Ok, Err, All}
+use Rattle.std.specs.Prelude.{option_map}
+use Rattle.std.specs.List.{filter, filter_map, cons_option, flat_map, AllZip}
+use Rattle.std.proofs.lemmas.List.{append-nil, append_assoc}
+use Rattle.std.proofs.lemmas.List.Elements.{All-nil, All-cons}
+use Rattle.dwc_base.specs.Listing.{Listing}
+use Rattle.dwc_base.specs.Sections.{Sections, Fault, unsupported}
+use Rattle.dwc_base.specs.declared.wasm.ModuleTranslation.{ModuleTranslation}
+use Rattle.dwc_base.specs.declared.faults.Kind.TheVariants.{Compressed}
+use Rattle.dwc_base.specs.Units.{UnitHeader, unit_headers}
+use Rattle.dwc_base.specs.Functions.{Function}
+use Rattle.dwc_base.specs.Kept.{is_required}
+use Rattle.dwc_base.specs.Carried.{Unit, units, Module, CarriedUnit, carried_units_of}
+use Rattle.dwc_base.specs.BuiltForm.{info_fault}
+use Rattle.dwc_base.specs.Refusals.{Refusal, of_place, unit_refusal, module_refusals, first_of}
+use Rattle.dwc_base.specs.Widest.{kept_subprograms}
+use Rattle.dwc_write.specs.GivenUnits.{GivenUnit}
+use Rattle.dwc_carry.specs.declared.error.DebugError.{DebugError}
+use Rattle.dwc_carry.specs.declared.error.DebugError.TheVariants.{Read, Unsupported, InvalidFileIndex, BadAddressMap, TooLarge, OutOfMemory}
+use Rattle.dwc_carry.specs.declared.read_units.ReadUnit.{ReadUnit}
+use Rattle.dwc_carry.specs.Refusals.{Refuses}
+use Rattle.dwc_carry.specs.InfoEntries.{Tells}
+use Rattle.dwc_carry.specs.InfoUnits.{unit_of, IsReadUnit}
+use Rattle.dwc_carry.specs.CarriedReads.{refusals_of, AddsCarried, GivesAdded}
+use Rattle.dwc_carry.specs.MadeUnits.{IsMadeOf, AreMadeOf}
+use Rattle.dwc_carry.specs.CarriedModules.{transformed_module, transformed_modules, carried_in, AddsModule, GivesModule, AddsModules}
+use Rattle.dwc_carry.proofs.CarriedReadLaws.{refuses-more}
+use Rattle.dwc_carry.proofs.ReadModuleLaws.{is_compiled, refusals-same, made-same}
+use Rattle.dwc_carry.proofs.UnitsRead.{IsReadWhole, read-whole}
+
+-- ---- one module
+
+module _ (size : ℕ) (m : Module) (plain : m.compressed ≡ None) where
+  -- without compressed sections what is refused is what is met first in .debug_info, and of each carried unit its line table
+  refusals-plain : module_refusals m ≡ filter_map (λ r. r) (option_map of_place (info_fault m.sections) ∷ map (unit_refusal m.sections) (carried_units_of m))
+  refusals-plain = rw plain refl
+
+  -- where .debug_info is refused
+  pub info-refused : (e : DebugError) → Tells (info_fault m.sections) e → Refuses (first_of (module_refusals m)) e
+  info-refused (Read what section offset) h = rw (plain, h) refl
+  info-refused (Unsupported kind offset) h = rw (plain, h) refl
+  info-refused (InvalidFileIndex offset) h = absurd h
+  info-refused (BadAddressMap n func why) h = h
+  info-refused (TooLarge what) h = h
+  info-refused OutOfMemory h = h
+
+  module _ (whole : info_fault m.sections ≡ None) (rs : List ReadUnit) (read : AllZip (IsReadUnit m.functions m.sections) (unit_headers m.sections).items rs) where
+    all : IsReadWhole m
+    all = read-whole m whole
+
+    refusals-read : module_refusals m ≡ refusals_of rs
+    refusals-read = refusals-plain
+        ∙ ap (λ o. filter_map (λ r. r) (option_map of_place o ∷ map (unit_refusal m.sections) (carried_units_of m))) whole
+        ∙ ap (λ us. filter_map (λ r. r) (map (unit_refusal m.sections) us)) all.carried
+        ∙ refusals-same m (unit_headers m.sections).items rs read
+
+    -- a line table is refused
+    pub tables-refused : (e : DebugError) → Refuses (first_of (refusals_of rs)) e → Refuses (first_of (module_refusals m)) e
+    tables-refused e h = subst (λ xs. Refuses (first_of xs) e) (sym refusals-read) h
+
+    -- the units are added
+    pub module-added : (old new : List GivenUnit) → AddsCarried m.functions size rs old new → AddsModule size m old new
+    module-added old new h = record {
+      made = h.made;
+      added = h.added;
+      each = subst (λ us. AreMadeOf size (map (λ u. record { module_of = m; unit = u }) us) h.made) (sym all.carried) (made-same m size (unit_headers m.sections).items rs h.made read all.kept h.each);
+      whole = all.whole;
+      accepted = refusals-read ∙ h.accepted;
+    }
+
+-- what is answered for a module, from what is answered for the units that were read of it
+pub module-gives : (size : ℕ) (m : Module) → m.compressed ≡ None → (rs : List ReadUnit) → (info_fault m.sections ≡ None) × AllZip (IsReadUnit m.functions m.sections) (unit_headers m.sections).items rs
+    → (old new : List GivenUnit) (result : Result (Prim.Unit {0}) DebugError) → GivesAdded m.functions size rs old new result → GivesModule size m old new result
+module-gives size m plain rs read old new (Ok done) h = module-added size m plain read.0 rs read.1 old new h
+module-gives size m plain rs read old new (Err e) h = tables-refused size m plain read.0 rs read.1 e h
+
+-- a compressed section is refused
+pub compressed-refused : (m : Module) (offset : ℕ) → m.compressed ≡ Some offset → Refuses (first_of (module_refusals m)) (Unsupported Compressed offset)
+compressed-refused m offset h = rw h refl
+
+-- ---- modules in order
+
+zip-append : {A B : Type 0} (P : A → B → Type 0) (xs vs : List A) (ys ws : List B) → AllZip P xs ys → AllZip P vs ws → AllZip P (xs ++ vs) (ys ++ ws)
+zip-append P [] vs [] ws h k = k
+zip-append P [] vs (y ∷ ys) ws h k = absurd h
+zip-append P (x ∷ xs) vs [] ws h k = absurd h
+zip-append P (x ∷ xs) vs (y ∷ ys) ws h k = (h.0, zip-append P xs vs ys ws h.1 k)
+
+modules-from : (ts : List ModuleTranslation) (fss : List (List Function)) (i : ℕ) (t : ModuleTranslation) (fs : List Function) → length fss ≡ length ts → i < length ts
+    → drop i (transformed_modules ts fss) ≡ transformed_module (get_or ts i t) (get_or fss i fs) ∷ drop (suc i) (transformed_modules ts fss)
+modules-from [] fss i t fs same less = absurd (omega arith)
+modules-from (x ∷ ts) [] i t fs same less = absurd (omega (arith, same))
+modules-from (x ∷ ts) (y ∷ fss) zero t fs same less = refl
+modules-from (x ∷ ts) (y ∷ fss) (suc i) t fs same less = modules-from ts fss i t fs (omega (arith, same)) (omega (arith, less))
+
+-- the modules from a place on
+pub modules-more : (ts : List ModuleTranslation) (fss : List (List Function)) (i : ℕ) (t : ModuleTranslation) (fs : List Function) → length fss ≡ length ts → i < length ts
+    → drop i (transformed_modules ts fss) ≡ transformed_module (get_or ts i t) (get_or fss i fs) ∷ drop (i + 1) (transformed_modules ts fss)
+modules-more ts fss i t fs same less = rw add-one (modules-from ts fss i t fs same less)
+
+pub modules-length : (ts : List ModuleTranslation) (fss : List (List Function)) → length fss ≡ length ts → length (transformed_modules ts fss) ≡ length ts
+modules-length [] fss same = refl
+modules-length (x ∷ ts) [] same = absurd (omega (arith, same))
+modules-length (x ∷ ts) (y ∷ fss) same = ap suc (modules-length ts fss (omega (arith, same)))
+
+module _ (size : ℕ) (ms : List Module) (old : List GivenUnit) where
+  -- What is added so far, and what is to be added for the modules that are left, is all.
+  pub record ModulesSoFar (new : List GivenUnit) (rest : List Module) : Type 0 where
+    pub made : List GivenUnit
+    pub added : new ≡ old ++ made
+    pub each : (more : List GivenUnit) → AreMadeOf size (flat_map carried_in rest) more → AreMadeOf size (flat_map carried_in ms) (made ++ more)
+    pub whole : All (λ m. (units m.sections).fault ≡ None) rest → All (λ m. (units m.sections).fault ≡ None) ms
+    pub accepted : flat_map module_refusals rest ≡ flat_map module_refusals ms
+
+  pub modules-begin : ModulesSoFar old ms
+  modules-begin = record { made = []; added = sym (append-nil old); each = λ more h. h; whole = λ h. h; accepted = refl }
+
+  -- a module more
+  pub modules-one : (new next : List GivenUnit) (m : Module) (rest : List Module) → ModulesSoFar new (m ∷ rest) → AddsModule size m new next → ModulesSoFar next rest
+  modules-one new next m rest h a = record {
+    made = h.made ++ a.made;
+    added = a.added ∙ ap (λ us. us ++ a.made) h.added ∙ append_assoc old h.made a.made;
+    each = λ more k. subst (λ us. AreMadeOf size (flat_map carried_in ms) us) (sym (append_assoc h.made a.made more))
+        (h.each (a.made ++ more) (zip-append (IsMadeOf size) (carried_in m) (flat_map carried_in rest) a.made more a.each k));
+    whole = λ k. h.whole (All-cons (λ (n : Module). (units n.sections).fault ≡ None) m rest a.whole k);
+    accepted = sym (ap (λ xs. xs ++ flat_map module_refusals rest) a.accepted) ∙ h.accepted;
+  }
+
+  -- behind the last one
+  pub modules-done : (new : List GivenUnit) → ModulesSoFar new [] → AddsModules size ms old new
+  modules-done new h = record {
+    made = h.made;
+    added = h.added;
+    each = subst (λ us. AreMadeOf size (flat_map carried_in ms) us) (append-nil h.made) (h.each [] tt);
+    whole = h.whole (All-nil (λ (m : Module). (units m.sections).fault ≡ None));
+    accepted = sym h.accepted;
+  }
+
+  first-behind : (xs ys : List Refusal) (r : Refusal) → first_of xs ≡ Some r → first_of (xs ++ ys) ≡ Some r
+  first-behind [] ys r h = absurd (cc)
+  first-behind (x ∷ xs) ys r h = h
+
+  -- a module that is refused
+  pub modules-refused : (new : List GivenUnit) (m : Module) (rest : List Module) (e : DebugError) → ModulesSoFar new (m ∷ rest) → Refuses (first_of (module_refusals m)) e → Refuses (first_of (flat_map module_refusals ms)) e
+  modules-refused new m rest e h refused =
+      refuses-more (first_of (module_refusals m)) (first_of (flat_map module_refusals ms)) e (λ r is. sym (ap first_of h.accepted) ∙ first-behind (module_refusals m) (flat_map module_refusals rest) r is) refused

@@ -1,0 +1,169 @@
+-- The transforms of the modules of a compilation, and what is made of the modules with them.
+use Rattle.std.proofs.Common.{◌≡◌, ℕ, zero, suc, ◌+◌, add-one, ◌<◌, ◌≤◌, List, [], ◌∷◌, ◌++◌, map, take, drop, length, get_or, slice_get, refl, ap, sym, ◌∙◌, subst, arith, Option, Some, None, Result, Ok, Err, Vec, All}
+use Rattle.std.specs.Prelude.{option_map}
+use Rattle.std.specs.Option.{option_or, unwrap_or}
+use Rattle.std.specs.List.{flat_map}
+use Rattle.std.proofs.lemmas.List.{append-nil, append_assoc, drop_more, drop_all, length-map}
+use Rattle.std.proofs.lemmas.List.Elements.{All-nil, All-cons}
+use Rattle.std.proofs.lemmas.Option.{slice_get-get_or}
+use Rattle.dwc_base.specs.declared.records.Endian.{Endian}
+use Rattle.dwc_base.specs.declared.records.MapFault.{MapFault}
+use Rattle.dwc_base.specs.declared.wasm.ModuleTranslation.{ModuleTranslation}
+use Rattle.dwc_base.specs.Functions.{Function, functions_of}
+use Rattle.dwc_base.specs.Carried.{units, Module, Compilation, carried_units}
+use Rattle.dwc_base.specs.Refusals.{Refusal, module_refusals, first_of, first_refusal}
+use Rattle.dwc_clif.specs.AddressMaps.{address_map_view}
+use Rattle.dwc_addr.specs.declared.error.AddrError.{AddrError}
+use Rattle.dwc_addr.specs.declared.error.AddrError.TheVariants as addr
+use Rattle.dwc_addr.specs.Numbers.{Compiled, function_count, first_number}
+use Rattle.dwc_addr.specs.Compilations.{CompilationValue, functions_at, code_offset_at, IsCounted}
+use Rattle.dwc_addr.specs.Transforms.{kept_function, first_bad_map, Transforms}
+use Rattle.dwc_write.specs.GivenUnits.{GivenUnit}
+use Rattle.dwc_carry.specs.declared.error.DebugError.{DebugError}
+use Rattle.dwc_carry.specs.declared.error.DebugError.TheVariants.{Read, Unsupported, InvalidFileIndex, BadAddressMap, TooLarge, OutOfMemory}
+use Rattle.dwc_carry.specs.ImageRows.{IsOrdered}
+use Rattle.dwc_carry.specs.Refusals.{of_maps, Refuses}
+use Rattle.dwc_carry.specs.MadeUnits.{AreMadeOf}
+use Rattle.dwc_carry.specs.CarriedModules.{transformed_module, transformed_modules, carried_in, AddsModules}
+use Rattle.dwc_carry.specs.Inputs.{module_view, modules_from, input_of, bad_map_from, bad_map}
+use Rattle.dwc_carry.specs.Transformed.{all_kept, RefusesMaps, IsTransformed, RefusesInput}
+use Rattle.dwc_carry.proofs.OrderLaws.{transform-ordered}
+use Rattle.dwc_carry.proofs.KeptModules.{kept_module, all-refusals, all-made, all-whole}
+
+-- ---- the loop
+
+code-at : (ts : List ModuleTranslation) (i : ℕ) (t : ModuleTranslation) → i < length ts → unwrap_or (option_map (λ x. x.code_section_offset) (slice_get ts i)) 0 ≡ (get_or ts i t).code_section_offset
+code-at ts i t less = ap (λ o. unwrap_or (option_map (λ (x : ModuleTranslation). x.code_section_offset) o) 0) (slice_get-get_or ts i t less)
+
+-- a module's first number is behind those of the module before it
+count-more : (fss : List (List Compiled)) (i : ℕ) → i < length fss → function_count (take (suc i) fss) ≡ function_count (take i fss) + length (get_or fss i [])
+count-more [] i less = absurd (omega arith)
+count-more (fs ∷ fss) zero less = omega arith
+count-more (fs ∷ fss) (suc i) less = omega (arith, count-more fss i (omega (arith, less)))
+
+-- The transforms so far, and those of the modules that are left, are all; and no map so far is bad.
+pub record TransformsSoFar (ts : List ModuleTranslation) (fss : List (List Compiled)) (i : ℕ) (done : List (List Function)) : Type 0 where
+  pub functions : done ++ all_kept (modules_from (first_number fss i) (drop i ts) (drop i fss)) ≡ all_kept (modules_from 0 ts fss)
+  pub bad : bad_map_from i (drop i ts) (drop i fss) ≡ bad_map_from 0 ts fss
+
+-- the same with the next module in front
+record AtNext (ts : List ModuleTranslation) (fss : List (List Compiled)) (i code : ℕ) (done : List (List Function)) : Type 0 where
+  functions : done ++ (map kept_function (functions_of code (first_number fss i) (map address_map_view (get_or fss i []))) ∷ all_kept (modules_from (first_number fss (i + 1)) (drop (i + 1) ts) (drop (i + 1) fss))) ≡ all_kept (modules_from 0 ts fss)
+  bad : option_or (option_map (λ bad. (i, bad)) (first_bad_map code 0 (map address_map_view (get_or fss i [])))) (bad_map_from (i + 1) (drop (i + 1) ts) (drop (i + 1) fss)) ≡ bad_map_from 0 ts fss
+
+with-first : (ts : List ModuleTranslation) (fss : List (List Compiled)) (i : ℕ) (t : ModuleTranslation) (done : List (List Function)) → i < length ts → length fss ≡ length ts
+    → TransformsSoFar ts fss i done → AtNext ts fss i (unwrap_or (option_map (λ x. x.code_section_offset) (slice_get ts i)) 0) done
+with-first ts fss i t done less same h =
+    let a : drop i ts ≡ get_or ts i t ∷ drop (i + 1) ts = drop_more ts i t less in
+    let b : drop i fss ≡ get_or fss i [] ∷ drop (i + 1) fss = drop_more fss i [] (omega (arith, less, same)) in
+    let n : first_number fss (i + 1) ≡ first_number fss i + length (get_or fss i []) = rw add-one (count-more fss i (omega (arith, less, same))) in
+    rw (code-at ts i t less) (record {
+      functions = rw n (rw (a, b) at h.functions);
+      bad = rw add-one (rw (a, b, add-one) at h.bad);
+    })
+
+at-next : (ts : List ModuleTranslation) (fss : List (List Compiled)) (i : ℕ) (done : List (List Function)) → i < length ts → length fss ≡ length ts
+    → TransformsSoFar ts fss i done → AtNext ts fss i (unwrap_or (option_map (λ x. x.code_section_offset) (slice_get ts i)) 0) done
+at-next [] fss i done less same h = absurd (omega arith)
+at-next (t ∷ ts) fss i done less same h = with-first (t ∷ ts) fss i t done less same h
+
+module _ (c : CompilationValue) (same : length c.functions ≡ length c.translations) where
+  -- a transform more
+  pub transforms-more : (i : ℕ) (done : List (List Function)) (f : List Function) → i < length c.translations → TransformsSoFar c.translations c.functions i done
+      → (first_bad_map (code_offset_at c i) 0 (map address_map_view (functions_at c i)) ≡ None) × (f ≡ map kept_function (functions_of (code_offset_at c i) (first_number c.functions i) (map address_map_view (functions_at c i))))
+      → TransformsSoFar c.translations c.functions (i + 1) (done ++ f ∷ [])
+  transforms-more i done f less h made =
+      let next = at-next c.translations c.functions i done less same h in
+      record {
+        functions = append_assoc done (f ∷ []) _ ∙ ap (λ g. done ++ (g ∷ all_kept (modules_from (first_number c.functions (i + 1)) (drop (i + 1) c.translations) (drop (i + 1) c.functions)))) made.1 ∙ next.functions;
+        bad = sym (ap (λ o. option_or (option_map (λ (bad : ℕ × MapFault). (i, bad)) o) (bad_map_from (i + 1) (drop (i + 1) c.translations) (drop (i + 1) c.functions))) made.0) ∙ next.bad;
+      }
+
+  -- a transform that is refused
+  pub transforms-refused : (i : ℕ) (done : List (List Function)) (e : AddrError) → i < length c.translations → TransformsSoFar c.translations c.functions i done
+      → Transforms (λ t. t) i (code_offset_at c i) (first_number c.functions i) (map address_map_view (functions_at c i)) (Err e) → RefusesMaps (bad_map c) (of_maps e)
+  transforms-refused i done (addr.BadAddressMap m func why) less h refused =
+      let next = at-next c.translations c.functions i done less same h in
+      sym next.bad ∙ ap (λ o. option_or (option_map (λ (bad : ℕ × MapFault). (i, bad)) o) (bad_map_from (i + 1) (drop (i + 1) c.translations) (drop (i + 1) c.functions))) refused.1 ∙ ap (λ n. Some (n, (func, why))) (sym refused.0)
+  transforms-refused i done addr.OutOfMemory less h refused = tt
+
+  -- behind the last one
+  pub transforms-done : (i : ℕ) (done : List (List Function)) → length c.translations ≤ i → TransformsSoFar c.translations c.functions i done → (bad_map c ≡ None) × (done ≡ all_kept (modules_from 0 c.translations c.functions))
+  transforms-done i done past h =
+      let a = drop_all i c.translations past in
+      let bad = rw a at h.bad in
+      let functions = rw a at h.functions in
+      (sym bad, sym (append-nil done) ∙ functions)
+
+pub transforms-begin : (ts : List ModuleTranslation) (fss : List (List Compiled)) → TransformsSoFar ts fss 0 []
+transforms-begin ts fss = record { functions = refl; bad = refl }
+
+pub counted-same : (c : CompilationValue) → IsCounted c.translations c.functions c.memory_offsets → length c.functions ≡ length c.translations
+counted-same c h = sym (length-map length c.functions) ∙ ap length h.defined ∙ length-map (λ (t : ModuleTranslation). t.defined_funcs) c.translations
+
+-- ---- with all transforms
+
+kept-length : (number : ℕ) (ts : List ModuleTranslation) (fss : List (List Compiled)) → length fss ≡ length ts → length (all_kept (modules_from number ts fss)) ≡ length ts
+kept-length number [] fss same = refl
+kept-length number (t ∷ ts) [] same = absurd (omega (arith, same))
+kept-length number (t ∷ ts) (fs ∷ fss) same = ap suc (kept-length (number + length fs) ts fss (omega (arith, same)))
+
+pub all-length : (c : CompilationValue) → length c.functions ≡ length c.translations → length (all_kept (modules_from 0 c.translations c.functions)) ≡ length c.translations
+all-length c same = kept-length 0 c.translations c.functions same
+
+neither : {A : Type 0} (o p : Option A) → option_or o p ≡ None → (o ≡ None) × (p ≡ None)
+neither None p h = (refl, h)
+neither (Some x) p h = absurd (cc)
+
+unmapped : {A B : Type 0} (f : A → B) (o : Option A) → option_map f o ≡ None → o ≡ None
+unmapped f None h = refl
+unmapped f (Some x) h = absurd (cc)
+
+kept-ordered : (number place : ℕ) (ts : List ModuleTranslation) (fss : List (List Compiled)) → bad_map_from place ts fss ≡ None → All (All IsOrdered) (all_kept (modules_from number ts fss))
+kept-ordered number place [] fss good = All-nil (All IsOrdered)
+kept-ordered number place (t ∷ ts) [] good = All-nil (All IsOrdered)
+kept-ordered number place (t ∷ ts) (fs ∷ fss) good =
+    let two = neither (option_map (λ (bad : ℕ × MapFault). (place, bad)) (first_bad_map t.code_section_offset 0 (map address_map_view fs))) (bad_map_from (suc place) ts fss) good in
+    All-cons (All IsOrdered) _ _ (transform-ordered t.code_section_offset number (map address_map_view fs) (unmapped (λ (bad : ℕ × MapFault). (place, bad)) (first_bad_map t.code_section_offset 0 (map address_map_view fs)) two.0)) (kept-ordered (number + length fs) (suc place) ts fss two.1)
+
+-- the functions of all transforms are ordered
+pub all-ordered : (c : CompilationValue) → bad_map c ≡ None → All (All IsOrdered) (all_kept (modules_from 0 c.translations c.functions))
+all-ordered c good = kept-ordered 0 0 c.translations c.functions good
+
+transformed-kept : (number : ℕ) (ts : List ModuleTranslation) (fss : List (List Compiled)) → transformed_modules ts (all_kept (modules_from number ts fss)) ≡ map kept_module (modules_from number ts fss)
+transformed-kept number [] fss = refl
+transformed-kept number (t ∷ ts) [] = refl
+transformed-kept number (t ∷ ts) (fs ∷ fss) = ap (λ ms. kept_module (module_view number t fs) ∷ ms) (transformed-kept (number + length fs) ts fss)
+
+module _ (order : Endian) (size : ℕ) (c : CompilationValue) where
+  -- the units that are added are those of the input
+  pub input-made : (us : List GivenUnit) → AddsModules size (transformed_modules c.translations (all_kept (modules_from 0 c.translations c.functions))) [] us → IsTransformed size (input_of order size c) us
+  input-made us h =
+      let ms = modules_from 0 c.translations c.functions in
+      let k : AddsModules size (map kept_module ms) [] us = subst (λ xs. AddsModules size xs [] us) (transformed-kept 0 c.translations c.functions) h in
+      record {
+        made = subst (AreMadeOf size (flat_map carried_in ms)) (sym k.added) (all-made size ms k.made k.each);
+        whole = all-whole ms k.whole;
+        accepted = ap first_of (sym (all-refusals ms) ∙ k.accepted);
+      }
+
+  -- what is refused is what is refused of the input
+  pub input-refused : (e : DebugError) → bad_map c ≡ None → Refuses (first_of (flat_map module_refusals (transformed_modules c.translations (all_kept (modules_from 0 c.translations c.functions))))) e → RefusesInput (bad_map c) (first_refusal (input_of order size c)) e
+  input-refused e good h = go e (subst (λ xs. Refuses (first_of xs) e) (ap (flat_map module_refusals) (transformed-kept 0 c.translations c.functions) ∙ all-refusals (modules_from 0 c.translations c.functions)) h)
+    where
+      go : (e : DebugError) → Refuses (first_refusal (input_of order size c)) e → RefusesInput (bad_map c) (first_refusal (input_of order size c)) e
+      go (Read what section offset) k = (good, k)
+      go (Unsupported kind offset) k = (good, k)
+      go (InvalidFileIndex offset) k = (good, k)
+      go (BadAddressMap m func why) k = absurd k
+      go (TooLarge what) k = absurd k
+      go OutOfMemory k = tt
+
+  -- a bad map refuses the input
+  pub maps-refused : (refusal : Option Refusal) (e : DebugError) → RefusesMaps (bad_map c) e → RefusesInput (bad_map c) refusal e
+  maps-refused refusal (Read what section offset) h = absurd h
+  maps-refused refusal (Unsupported kind offset) h = absurd h
+  maps-refused refusal (InvalidFileIndex offset) h = absurd h
+  maps-refused refusal (BadAddressMap m func why) h = h
+  maps-refused refusal (TooLarge what) h = h
+  maps-refused refusal OutOfMemory h = h

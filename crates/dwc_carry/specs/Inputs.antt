@@ -1,0 +1,36 @@
+-- The input that a compilation is: its modules, whose functions are numbered over all of them, and the first bad address map.
+use Rattle.std.specs.Prelude.{ℕ, suc, ◌+◌, List, [], ◌∷◌, map, length, Option, None, option_map}
+use Rattle.std.specs.Option.{option_or}
+use Rattle.dwc_base.specs.declared.records.Endian.{Endian}
+use Rattle.dwc_base.specs.declared.records.MapFault.{MapFault}
+use Rattle.dwc_base.specs.declared.wasm.ModuleTranslation.{ModuleTranslation}
+use Rattle.dwc_base.specs.Translations.{translation_sections}
+use Rattle.dwc_base.specs.Functions.{functions_of}
+use Rattle.dwc_base.specs.Carried.{Module, Compilation}
+use Rattle.dwc_clif.specs.AddressMaps.{address_map_view}
+use Rattle.dwc_addr.specs.Numbers.{Compiled}
+use Rattle.dwc_addr.specs.Compilations.{CompilationValue}
+use Rattle.dwc_addr.specs.Transforms.{first_bad_map}
+
+-- a module of a translation and of the functions compiled from it, of which the first has a number
+abbrev pub module_view : ℕ → ModuleTranslation → List Compiled → Module
+module_view number t fs = record { sections = translation_sections t; functions = functions_of t.code_section_offset number (map address_map_view fs); compressed = t.compressed }
+
+-- modules in order, whose functions are numbered over all of them from a number on
+abbrev pub modules_from : ℕ → List ModuleTranslation → List (List Compiled) → List Module
+modules_from number [] fss = []
+modules_from number (t ∷ ts) [] = []
+modules_from number (t ∷ ts) (fs ∷ fss) = module_view number t fs ∷ modules_from (number + length fs) ts fss
+
+-- the input of a compilation for a target of a byte order and an address size
+abbrev pub input_of : Endian → ℕ → CompilationValue → Compilation
+input_of order pointer_bytes c = record { order = order; pointer_bytes = pointer_bytes; modules = modules_from 0 c.translations c.functions }
+
+-- the first bad map of modules from a place on: the place of its module, that of its function, and the first rule it breaks
+abbrev pub bad_map_from : ℕ → List ModuleTranslation → List (List Compiled) → Option (ℕ × (ℕ × MapFault))
+bad_map_from place [] fss = None
+bad_map_from place (t ∷ ts) [] = None
+bad_map_from place (t ∷ ts) (fs ∷ fss) = option_or (option_map (λ bad. (place, bad)) (first_bad_map t.code_section_offset 0 (map address_map_view fs))) (bad_map_from (suc place) ts fss)
+
+abbrev pub bad_map : CompilationValue → Option (ℕ × (ℕ × MapFault))
+bad_map c = bad_map_from 0 c.translations c.functions

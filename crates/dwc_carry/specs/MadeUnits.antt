@@ -1,0 +1,24 @@
+-- The unit of the output that carries the lines of a unit of the input.
+use Rattle.std.specs.Prelude.{◌≡◌, ℕ, ◌≤◌, List, Ok}
+use Rattle.std.specs.List.{filter, AllZip}
+use Rattle.dwc_base.specs.declared.section_name.SectionName.{SectionName}
+use Rattle.dwc_base.specs.LineRows.{Segment}
+use Rattle.dwc_base.specs.Images.{is_carried_segment, IsImageOf}
+use Rattle.dwc_base.specs.Carried.{CarriedUnit, segments_of_unit}
+use Rattle.dwc_base.specs.Widest.{widest_of_unit}
+use Rattle.dwc_write.specs.GivenUnits.{GivenUnit, IsWritable}
+use Rattle.dwc_write.specs.ReadBack.{given_segments}
+use Rattle.dwc_write.specs.WidestGiven.{widest_unit}
+
+-- A unit to be written, with addresses of a size, is made of a carried unit: its segments are, one to one and in order, images
+-- of the carried segments of that unit; and in no section it is longer, at its widest, than what is allowed for that unit.
+pub record IsMadeOf (size : ℕ) (c : CarriedUnit) (u : GivenUnit) : Type 0 where
+  pub input : List Segment
+  pub input_read : segments_of_unit c.module_of.sections c.unit ≡ Ok input
+  pub images : AllZip (IsImageOf c.module_of.functions) (filter (is_carried_segment c.module_of.functions) input) (given_segments u.lines)
+  pub writable : IsWritable size u
+  pub widest : (name : SectionName) → widest_unit name u ≤ widest_of_unit name c
+
+-- units that are made of some carried units, one to one and in order
+abbrev pub AreMadeOf : ℕ → List CarriedUnit → List GivenUnit → Type 0
+AreMadeOf size cs us = AllZip (IsMadeOf size) cs us

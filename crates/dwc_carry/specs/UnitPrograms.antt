@@ -1,0 +1,28 @@
+-- What the line program of a carried unit carries.
+use Rattle.std.specs.Prelude.{◌≡◌, ℕ, List, true, Option, Some, None, Result, Ok, Err}
+use Rattle.dwc_base.specs.Sections.{Sections}
+use Rattle.dwc_base.specs.Functions.{Function}
+use Rattle.dwc_base.specs.LineRows.{LineTable, line_table}
+use Rattle.dwc_base.specs.LineFiles.{has_all_files}
+use Rattle.dwc_base.specs.Refusals.{lines_refusal}
+use Rattle.dwc_write.specs.GivenLines.{GivenLines, no_lines}
+use Rattle.dwc_carry.specs.declared.error.DebugError.{DebugError}
+use Rattle.dwc_carry.specs.Refusals.{Refuses}
+use Rattle.dwc_carry.specs.CarriedLines.{CarriesTable}
+
+-- A line program carries the line table at an offset, all of whose files and directories are there.
+pub record CarriesTableAt (fs : List Function) (s : Sections) (address_size size offset : ℕ) (lines : GivenLines) : Type 0 where
+  pub table : LineTable
+  pub is_read : line_table s address_size offset ≡ Ok table
+  pub files : has_all_files table ≡ true
+  pub carries : CarriesTable table fs size lines
+
+-- A line program carries the line table that a root names; there is none where it names none.
+abbrev pub CarriesNamed : List Function → Sections → ℕ → ℕ → Option ℕ → GivenLines → Type 0
+CarriesNamed fs s address_size size None lines = lines ≡ no_lines None
+CarriesNamed fs s address_size size (Some offset) lines = CarriesTableAt fs s address_size size offset lines
+
+-- A line program, or the refusal of the line table.
+abbrev pub GivesProgram : List Function → Sections → ℕ → ℕ → Option ℕ → Result GivenLines DebugError → Type 0
+GivesProgram fs s address_size size offset (Ok lines) = CarriesNamed fs s address_size size offset lines
+GivesProgram fs s address_size size offset (Err e) = Refuses (lines_refusal s address_size offset) e

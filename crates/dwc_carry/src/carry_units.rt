@@ -1,0 +1,80 @@
+//! The units of the output, from those that were read of a module.
+ghost use Rattle.std.specs.Prelude.{◌≡◌, ◌⊎◌, ◌∷◌, ◌++◌, [], OnOk, IsOkUnless, All};
+ghost use Rattle.dwc_carry.specs.ImageRows.{IsOrdered};
+ghost use Rattle.dwc_carry.specs.CarriedReads.{is_carried, GivesCarried, GivesAdded};
+
+use crate::DebugError;
+use crate::output_unit::output_unit;
+use crate::read_units::ReadUnit;
+use crate::unit_program::unit_program;
+use dwc_addr::AddressTransform;
+use dwc_base::Encoding;
+use dwc_write::{Unit, UnitTable};
+use std::alloc::Global;
+
+// Whether a unit is carried: its root is a compile unit, and some subprograms are kept.
+fn is_carried(read: &ReadUnit<'_>) -> bool
+    ensures { result ≡ is_carried read.now }
+{
+    read.entries.is_compile_unit && read.entries.subprograms.len() > 0
+}
+
+// The unit of the output that carries a unit, if that is carried.
+fn carry_unit(
+    alloc: Global,
+    read: &ReadUnit<'_>,
+    transform: &AddressTransform,
+    encoding: Encoding,
+) -> Result<Option<Unit>, DebugError>
+    requires version { encoding.version ≡ 4 }
+    requires size { (encoding.address_size ≡ 4) ⊎ (encoding.address_size ≡ 8) }
+    requires functions { All IsOrdered transform.now }
+    ensures { GivesCarried transform.now encoding.address_size read.now result }
+{
+    if !is_carried(read) {
+        return Ok(None);
+    }
+    let line_table = read.entries.line_table;
+    let lines = unit_program(alloc, &read.unit, line_table, transform, encoding)?;
+    let has_table = line_table.is_some();
+    match output_unit(alloc, encoding, lines, has_table, &read.entries.subprograms) {
+        Ok(unit) => Ok(Some(unit)),
+        // A unit takes memory, and asks for nothing else.
+        Err(_) => Err(DebugError::OutOfMemory),
+    }
+}
+
+/// Adds the units of the output that carry units, in order; those that are not carried have none.
+///
+/// # Errors
+/// The refusal of the first line table of a carried unit that is refused. `OutOfMemory` for want of memory.
+pub(crate) fn carry_units(
+    alloc: Global,
+    read: &[ReadUnit<'_>],
+    transform: &AddressTransform,
+    encoding: Encoding,
+    units: &mut UnitTable,
+) -> Result<(), DebugError>
+    requires version { encoding.version ≡ 4 }
+    requires size { (encoding.address_size ≡ 4) ⊎ (encoding.address_size ≡ 8) }
+    requires functions { All IsOrdered transform.now }
+    ensures { GivesAdded transform.now encoding.address_size read.now units.old.units.items units.new.units.items result }
+{
+    for i in 0..read.len() {
+        if let Some(unit) = carry_unit(alloc, &read[i], transform, encoding)? {
+            add_unit(units, unit)?;
+        }
+    }
+    Ok(())
+}
+
+// Adds a unit, which takes memory, and asks for nothing else.
+fn add_unit(units: &mut UnitTable, unit: Unit) -> Result<(), DebugError>
+    ensures added { OnOk result (units.new.units.items ≡ units.old.units.items ++ unit ∷ []) }
+    ensures memory { IsOkUnless result DebugError.OutOfMemory }
+{
+    match units.add(unit) {
+        Ok(_) => Ok(()),
+        Err(_) => Err(DebugError::OutOfMemory),
+    }
+}

@@ -1,0 +1,52 @@
+//! The DWARF of a compilation, before it is written.
+ghost use Rattle.std.specs.Prelude.{◌≡◌};
+ghost use Rattle.dwc_carry.specs.Transformed.{GivesTransforms, GivesDwarf};
+
+use crate::DebugError;
+use crate::carry_modules::carry_modules;
+use dwc_addr::{AddressTransform, Compilation};
+use dwc_base::{Encoding, StaticModuleIndex};
+use dwc_clif::TargetIsa;
+use dwc_write::{Dwarf, UnitTable};
+use std::alloc::Global;
+
+/// The units of DWARF that carry those of a compilation, for a target: module by module and in order, one for each compile unit
+/// of which an entry is kept. The compilation is left as it is.
+///
+/// # Errors
+/// `BadAddressMap` exactly where a function's address map breaks a rule: the first module, its first such function, and the
+/// first rule. Where no map does: `Read`, `Unsupported` or `InvalidFileIndex` exactly where something is refused, for the first
+/// place in the order of reading. `OutOfMemory` for want of memory.
+pub fn transform_dwarf(
+    alloc: Global,
+    isa: &dyn TargetIsa,
+    compilation: &mut Compilation<'_>,
+) -> Result<Dwarf, DebugError>
+    ensures units { GivesDwarf (byte_order isa.now) (pointer_size isa.now) compilation.old result }
+    ensures unchanged { compilation.new ≡ compilation.old }
+{
+    let transforms = transforms(alloc, compilation)?;
+    let encoding = Encoding {
+        version: 4,
+        address_size: isa.pointer_bytes(),
+    };
+    let mut units = UnitTable::new(alloc);
+    let translations = compilation.translations();
+    carry_modules(alloc, translations, &transforms, encoding, &mut units)?;
+    Ok(Dwarf { units })
+}
+
+// The transforms of the modules of a compilation, in order.
+fn transforms(
+    alloc: Global,
+    compilation: &Compilation<'_>,
+) -> Result<Vec<AddressTransform>, DebugError>
+    ensures { GivesTransforms compilation.now result }
+{
+    let mut transforms = Vec::new(alloc);
+    for i in 0..compilation.translations().len() {
+        let module = StaticModuleIndex(i as u32);
+        transforms.push(AddressTransform::new(alloc, compilation, module)?)?;
+    }
+    Ok(transforms)
+}

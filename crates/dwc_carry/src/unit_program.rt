@@ -1,0 +1,35 @@
+//! The line program of a carried unit.
+ghost use Rattle.std.specs.Prelude.{All};
+ghost use Rattle.dwc_carry.specs.ImageRows.{IsOrdered};
+ghost use Rattle.dwc_carry.specs.UnitPrograms.{GivesProgram};
+
+use crate::DebugError;
+use crate::lines::carried_lines;
+use dwc_addr::AddressTransform;
+use dwc_base::Encoding;
+use dwc_read::Unit;
+use dwc_tabs::LineTable;
+use dwc_write::LineProgram;
+use std::alloc::Global;
+
+/// The line program that carries the line table at an offset; no program where the unit's root names no table.
+pub(crate) fn unit_program(
+    alloc: Global,
+    unit: &Unit<'_>,
+    line_table: Option<u64>,
+    transform: &AddressTransform,
+    encoding: Encoding,
+) -> Result<LineProgram, DebugError>
+    requires { All IsOrdered transform.now }
+    ensures { GivesProgram transform.now unit.now.sections unit.now.header.address_size encoding.address_size line_table result }
+{
+    let Some(offset) = line_table else {
+        return Ok(LineProgram::none(alloc));
+    };
+    let table = LineTable::read(alloc, unit, offset)?;
+    match carried_lines(alloc, &table, transform, encoding) {
+        Ok(lines) => Ok(lines),
+        // A line program takes memory, and asks for nothing else.
+        Err(_) => Err(DebugError::OutOfMemory),
+    }
+}
