@@ -86,7 +86,8 @@ module _ (m : Module) where
     carried-same : is_compiled m.functions (unit_of m.sections h) ≡ is_carried r
     carried-same =
         let tag : has_root_tag DW_TAG_compile_unit (unit_of m.sections h) ≡ r.entries.is_compile_unit = root-tag (unit_of m.sections h) ∙ sym (read.entries).is_compile_unit in
-        let some : list_any (is_required m.functions) (entries m.sections h).items ≡ nat_lt 0 (vec_len r.entries.subprograms) = any-some (is_required m.functions) (entries m.sections h).items ∙ ap (nat_lt 0) (sym (subprograms-count m.functions (entries m.sections h).items r.entries read.entries)) in
+        let count : vec_len r.entries.subprograms ≡ length (filter (is_required m.functions) (entries m.sections h).items) = omega (arith, subprograms-count m.functions (entries m.sections h).items r.entries read.entries) in
+        let some : list_any (is_required m.functions) (entries m.sections h).items ≡ nat_lt 0 (vec_len r.entries.subprograms) = any-some (is_required m.functions) (entries m.sections h).items ∙ ap (nat_lt 0) (sym count) in
         ap (λ b. b && list_any (is_required m.functions) (entries m.sections h).items) tag ∙ ap (λ b. r.entries.is_compile_unit && b) some
 
     refusal-same : unit_refusal m.sections (unit_of m.sections h) ≡ lines_refusal r.unit.sections r.unit.header.address_size r.entries.line_table
