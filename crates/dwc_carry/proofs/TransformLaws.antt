@@ -1,5 +1,5 @@
 -- The transforms of the modules of a compilation, and what is made of the modules with them.
-use Rattle.std.proofs.Common.{◌≡◌, ℕ, zero, suc, ◌+◌, add-one, ◌<◌, ◌≤◌, List, [], ◌∷◌, ◌++◌, map, take, drop, length, get_or, slice_get, refl, ap, sym, ◌∙◌, subst, arith, Option, Some, None, Result, Ok, Err, Vec, All}
+use Rattle.std.proofs.Common.{◌≡◌, ℕ, zero, suc, ◌+◌, add-one, ◌<◌, ◌≤◌, List, [], ◌∷◌, ◌++◌, map, take, drop, length, get_or, slice_get, refl, ap, sym, ◌∙◌, subst, arith, Option, Some, None, Err, All}
 use Rattle.std.specs.Prelude.{option_map}
 use Rattle.std.specs.Option.{option_or, unwrap_or}
 use Rattle.std.specs.List.{flat_map}
@@ -10,8 +10,7 @@ use Rattle.dwc_base.specs.declared.records.Endian.{Endian}
 use Rattle.dwc_base.specs.declared.records.MapFault.{MapFault}
 use Rattle.dwc_base.specs.declared.wasm.ModuleTranslation.{ModuleTranslation}
 use Rattle.dwc_base.specs.Functions.{Function, functions_of}
-use Rattle.dwc_base.specs.Carried.{units, Module, Compilation, carried_units}
-use Rattle.dwc_base.specs.Refusals.{Refusal, module_refusals, first_of, first_refusal}
+use Rattle.dwc_base.specs.Refusals.{Refusal, module_refusals, first_of}
 use Rattle.dwc_clif.specs.AddressMaps.{address_map_view}
 use Rattle.dwc_addr.specs.declared.error.AddrError.{AddrError}
 use Rattle.dwc_addr.specs.declared.error.AddrError.TheVariants as addr
@@ -24,7 +23,7 @@ use Rattle.dwc_carry.specs.declared.error.DebugError.TheVariants.{Read, Unsuppor
 use Rattle.dwc_carry.specs.ImageRows.{IsOrdered}
 use Rattle.dwc_carry.specs.Refusals.{of_maps, Refuses}
 use Rattle.dwc_carry.specs.MadeUnits.{AreMadeOf}
-use Rattle.dwc_carry.specs.CarriedModules.{transformed_module, transformed_modules, carried_in, AddsModules}
+use Rattle.dwc_carry.specs.CarriedModules.{transformed_modules, carried_in, AddsModules}
 use Rattle.dwc_carry.specs.Inputs.{module_view, modules_from, input_of, bad_map_from, bad_map}
 use Rattle.dwc_carry.specs.Transformed.{all_kept, RefusesMaps, IsTransformed, RefusesInput}
 use Rattle.dwc_carry.proofs.OrderLaws.{transform-ordered}

@@ -1,4 +1,3 @@
-use Rattle.std.proofs.Common.{◌≡◌, sym, ◌∙◌, ap, subst}
 use Rattle.std.proofs.lemmas.Result.{err_from_is_err_and}
 use Rattle.dwc_carry.proofs.EmitLaws.{transformed-writable, emits-sections, emits-large}
 use Rattle.dwc_carry.proofs.emit.emit_dwarf.Goals as goal
@@ -14,4 +13,4 @@ returns-in_err-write_sections-clause-sections g c =
 pub returns-clause-sections : goal.returns-clause-sections
 returns-clause-sections g c =
     emits-sections _ _ c.args.compilation.now c.in_ok-dwarf.dwarf.units.units.items c.in_ok-dwarf.ensures.units.1 c.in_ok-write_sections.field-0 c.in_ok-dwarf.ensures.units.0
-        (rw c.endianness.ensures at c.in_ok-write_sections.ensures.read) (rw c.endianness.ensures at c.in_ok-write_sections.ensures.sound)
+    (rw c.endianness.ensures at c.in_ok-write_sections.ensures.read) (rw c.endianness.ensures at c.in_ok-write_sections.ensures.sound)

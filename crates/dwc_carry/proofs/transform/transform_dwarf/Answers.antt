@@ -1,4 +1,4 @@
-use Rattle.std.proofs.Common.{◌≡◌, sym, ◌∙◌, ap, length, subst, All}
+use Rattle.std.proofs.Common.{sym, ◌∙◌, subst, All}
 use Rattle.std.proofs.lemmas.Result.{err_from_is_err_and}
 use Rattle.dwc_carry.specs.ImageRows.{IsOrdered}
 use Rattle.dwc_carry.proofs.TransformLaws.{counted-same, all-length, all-ordered, input-made, input-refused}

@@ -1,5 +1,5 @@
 use Rattle.std.proofs.lemmas.Result.{err_from_is_err_and}
-use Rattle.dwc_carry.proofs.TransformLaws.{counted-same, transforms-more, transforms-refused, transforms-done}
+use Rattle.dwc_carry.proofs.TransformLaws.{counted-same, transforms-more, transforms-refused}
 use Rattle.dwc_carry.proofs.transform.transforms.Goals as goal
 
 pub returns-in_err-new : goal.returns-in_err-new
@@ -12,4 +12,3 @@ pub loop-i-preserved : goal.loop-i-preserved
 loop-i-preserved c =
     let same = counted-same c.args.compilation.now c.translations-i-end.ensures.counted in
     rw c.in_ok-push.ensures.items (transforms-more c.args.compilation.now same c.loop-i.i c.loop-i.transforms.items c.in_ok-new.field-0 (rw c.translations-i-end.ensures.translations at c.loop-i-test.true) c.loop-i.invariant c.in_ok-new.ensures)
-
