@@ -1,5 +1,4 @@
-use Rattle.std.proofs.Common.{◌≡◌, ◌∷◌, sym, ap, ◌∙◌}
-use Rattle.dwc_base.specs.LineRows.{start as begin, row, end}
+use Rattle.std.proofs.Common.{◌∷◌, ap, ◌∙◌}
 use Rattle.dwc_tabs.specs.Steps.{step_view}
 use Rattle.dwc_carry.proofs.LinesLaws.{images-row, images-start, images-end}
 use Rattle.dwc_carry.proofs.lines.add_images.Goals as goal
