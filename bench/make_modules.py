@@ -1,11 +1,12 @@
 #!/usr/bin/env python3
 """Makes WebAssembly modules with DWARF, and the map files of code compiled from them.
 
-    make_modules.py FOLDER [--functions N ...] [--segments N ...]
+    make_modules.py FOLDER [--functions N ...] [--segments N ...] [--modules N ...]
 
 For each N of --functions: N functions, each with a subprogram, a line sequence of 20 rows and an address map of 20
 entries. For each N of --segments: one function of N sources, and a DW_LNE_set_address before each of its N rows, as
-wasm-opt writes them. The files are FOLDER/functions_N.wasm, FOLDER/functions_N.json and so on.
+wasm-opt writes them. For each N of --modules: three modules of N functions each under one map. The files are
+FOLDER/functions_N.json with FOLDER/functions_N.0.wasm, and so on; of --modules there are three wasm files.
 """
 
 import argparse
@@ -128,22 +129,24 @@ def body_of(size):
     return bytes([0]) + bytes([1]) * (size - 2) + bytes([0x0B])
 
 
-def map_of(functions):
+def map_of(modules):
+    """The map of some modules by their functions."""
     return {
         "target": {"arch": "x86_64"},
         "names": ["set_mem", "resolve_mem"],
-        "modules": [{"path": "/bench/module.wasm", "functions": functions}],
+        "modules": [{"path": f"/bench/module{i}.wasm", "functions": fs} for i, fs in enumerate(modules)],
     }
 
 
-def functions_module(count):
+def functions_module(count, first_symbol=0):
+    """A module of so many functions, and what the map tells of them; the first has a symbol of its own."""
     bodies = [body_of(BODY)] * count
     starts = list(places(bodies))
     info = debug_info((start, BODY) for start in starts)
     line = debug_line(b"".join(function_sequence(s, ROWS * i + 1) for i, s in enumerate(starts)))
     wasm, offset = module(bodies, info, line)
     functions = []
-    for symbol, start in enumerate(starts):
+    for symbol, start in enumerate(starts, first_symbol):
         entries = [[5 * k, start + offset + 2 * k] for k in range(ROWS - 1)]
         entries.append([5 * (ROWS - 1), None])
         functions.append(
@@ -155,7 +158,7 @@ def functions_module(count):
                 "map": entries,
             }
         )
-    return wasm, map_of(functions)
+    return wasm, functions
 
 
 def segments_module(rows):
@@ -171,27 +174,34 @@ def segments_module(rows):
         "body_len": 3 * rows,
         "map": entries,
     }
-    return wasm, map_of([function])
+    return wasm, [function]
 
 
-def write(folder, name, wasm, value):
-    with open(os.path.join(folder, name + ".wasm"), "wb") as file:
-        file.write(wasm)
-    with open(os.path.join(folder, name + ".json"), "w") as file:
-        json.dump(value, file, separators=(",", ":"))
+def write(folder, name, modules):
+    """Writes modules with their map, and answers the paths of the map and of the modules."""
+    map_path = os.path.join(folder, name + ".json")
+    with open(map_path, "w") as file:
+        json.dump(map_of([functions for _, functions in modules]), file, separators=(",", ":"))
+    paths = [map_path]
+    for i, (wasm, _) in enumerate(modules):
+        paths.append(os.path.join(folder, f"{name}.{i}.wasm"))
+        with open(paths[-1], "wb") as file:
+            file.write(wasm)
+    return paths
 
 
-def make(folder, functions, segments):
-    """The names of the modules that were made, by size."""
+def make(folder, functions, segments, modules):
+    """The names of what was made, each with the paths of its map and of its modules, by size."""
     os.makedirs(folder, exist_ok=True)
-    names = []
     for count in functions:
-        names.append(f"functions_{count}")
-        write(folder, names[-1], *functions_module(count))
+        name = f"functions_{count}"
+        yield name, write(folder, name, [functions_module(count)])
     for rows in segments:
-        names.append(f"segments_{rows}")
-        write(folder, names[-1], *segments_module(rows))
-    return names
+        name = f"segments_{rows}"
+        yield name, write(folder, name, [segments_module(rows)])
+    for count in modules:
+        name = f"modules_{count}"
+        yield name, write(folder, name, [functions_module(count, i * count) for i in range(3)])
 
 
 def main():
@@ -199,9 +209,10 @@ def main():
     parser.add_argument("folder")
     parser.add_argument("--functions", type=int, nargs="*", default=[1000, 10000, 50000])
     parser.add_argument("--segments", type=int, nargs="*", default=[5000])
+    parser.add_argument("--modules", type=int, nargs="*", default=[10000])
     words = parser.parse_args()
-    for name in make(words.folder, words.functions, words.segments):
-        print(os.path.join(words.folder, name + ".wasm"))
+    for _, paths in make(words.folder, words.functions, words.segments, words.modules):
+        print(*paths)
 
 
 if __name__ == "__main__":

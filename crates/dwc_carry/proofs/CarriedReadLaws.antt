@@ -1,7 +1,7 @@
 -- What the loop over the units that were read adds.
-use Rattle.std.proofs.Common.{◌≡◌, ℕ, ◌+◌, ◌<◌, List, [], ◌∷◌, ◌++◌, drop, length, get_or, refl, ap, sym, ◌∙◌, subst, Bool, true, false, cond, Option, Some, None, Ok, Err}
-use Rattle.std.specs.List.{filter, filter_map, cons_option, AllZip}
-use Rattle.std.proofs.lemmas.List.{append-nil, append_assoc, drop_more}
+use Rattle.std.proofs.Common.{◌≡◌, ℕ, List, [], ◌∷◌, ◌++◌, refl, ap, sym, ◌∙◌, subst, Bool, true, false, cond, Option, Some, None}
+use Rattle.std.specs.List.{filter, cons_option, AllZip}
+use Rattle.std.proofs.lemmas.List.{append-nil, append_assoc}
 use Rattle.dwc_base.specs.Functions.{Function}
 use Rattle.dwc_base.specs.Refusals.{Refusal, lines_refusal, table_refusal, first_of}
 use Rattle.dwc_base.specs.Sections.{Sections, unreadable, unsupported}

@@ -1,5 +1,5 @@
 -- What is written of the units that are made of an input's carried units carries the lines of the input.
-use Rattle.std.proofs.Common.{◌≡◌, ℕ, suc, ◌+◌, ◌<◌, ◌≤◌, List, [], ◌∷◌, refl, ap, sym, ◌∙◌, subst, arith, Option, None, Ok, All}
+use Rattle.std.proofs.Common.{◌≡◌, ℕ, ◌≤◌, List, [], ◌∷◌, sym, subst, arith, None, All}
 use Rattle.std.specs.List.{AllZip}
 use Rattle.std.specs.Prelude.{sum_by}
 use Rattle.std.proofs.lemmas.List.Elements.{All-nil, All-cons}
@@ -9,7 +9,7 @@ use Rattle.dwc_base.specs.Sections.{Sections}
 use Rattle.dwc_base.specs.Outputs.{OutputSection, output_sections}
 use Rattle.dwc_base.specs.Carried.{Unit, units, CarriedUnit, CarriesUnit, Compilation, carried_units, LinesCarried}
 use Rattle.dwc_base.specs.Widest.{widest_of_unit, widest}
-use Rattle.dwc_write.specs.GivenUnits.{GivenUnit, IsWritable, AreWritable, size_of}
+use Rattle.dwc_write.specs.GivenUnits.{GivenUnit, IsWritable, AreWritable}
 use Rattle.dwc_write.specs.ReadBack.{IsReadUnit, ReadsBack, given_segments}
 use Rattle.dwc_write.specs.WidestGiven.{widest_unit, widest_given}
 use Rattle.dwc_carry.specs.MadeUnits.{IsMadeOf, AreMadeOf}

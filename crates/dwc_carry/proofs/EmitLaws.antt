@@ -1,5 +1,5 @@
 -- What is emitted of a compilation, from what is transformed and what is written.
-use Rattle.std.proofs.Common.{◌≡◌, ℕ, ◌^◌, ◌<◌, ◌≤◌, List, map, arith, None, Result, Ok, Err, Vec, All}
+use Rattle.std.proofs.Common.{◌≡◌, ℕ, List, map, arith, None, Ok, Err, Vec, All}
 use Rattle.std.specs.Global.{Global}
 use Rattle.dwc_base.specs.declared.records.Endian.{Endian}
 use Rattle.dwc_base.specs.declared.output.DwarfSection.{DwarfSection}
@@ -19,7 +19,7 @@ use Rattle.dwc_carry.specs.declared.error.DebugError.TheVariants.{Read, Unsuppor
 use Rattle.dwc_carry.specs.Refusals.{of_writing}
 use Rattle.dwc_carry.specs.Inputs.{input_of, bad_map}
 use Rattle.dwc_carry.specs.Transformed.{IsTransformed, RefusesInput}
-use Rattle.dwc_carry.specs.Emits.{IsEmitted, Emits}
+use Rattle.dwc_carry.specs.Emits.{Emits}
 use Rattle.dwc_carry.proofs.CompositionLaws.{lines-carried, widest-given, made-writable}
 
 module _ (order : Endian) (size : ℕ) (c : CompilationValue) where

@@ -1,12 +1,11 @@
 -- What transforms keep of the functions of modules is enough: the same is refused and carried.
-use Rattle.std.proofs.Common.{◌≡◌, ℕ, suc, ◌≤◌, List, [], ◌∷◌, ◌++◌, map, length, refl, ap, sym, ◌∙◌, subst, Bool, None, All}
+use Rattle.std.proofs.Common.{◌≡◌, ℕ, ◌≤◌, List, [], ◌∷◌, ◌++◌, map, length, refl, ap, ◌∙◌, subst, Bool, None, All}
 use Rattle.std.specs.List.{filter, flat_map, AllZip}
 use Rattle.std.proofs.lemmas.List.Elements.{All-nil, All-cons, All-head, All-tail}
 use Rattle.dwc_base.specs.declared.section_name.SectionName.{SectionName}
 use Rattle.dwc_base.specs.declared.section_name.SectionName.TheVariants.{Abbrev, Addr, Info, Line, LineStr, Loc, Loclists, Ranges, Rnglists, Str, StrOffsets, CuIndex, Frame}
-use Rattle.dwc_base.specs.Functions.{Function}
 use Rattle.dwc_base.specs.Images.{IsImageOf}
-use Rattle.dwc_base.specs.Kept.{Placed, is_required, kept_entries, steps_of}
+use Rattle.dwc_base.specs.Kept.{Placed, kept_entries, steps_of}
 use Rattle.dwc_base.specs.Carried.{Unit, units, Module, CarriedUnit, placed_entries, is_carried_unit, carried_units_of, table_of_unit}
 use Rattle.dwc_base.specs.Refusals.{module_refusals}
 use Rattle.dwc_base.specs.Widest.{widest_of_unit}

@@ -1,32 +1,28 @@
 -- What is added for one module, and what the loop over modules adds.
-use Rattle.std.proofs.Common.{◌≡◌, ℕ, zero, suc, ◌+◌, add-one, ◌<◌, ◌≤◌, arith, List, [], ◌∷◌, ◌++◌, map, drop, length, get_or, refl, ap, sym, ◌∙◌, subst, Bool, true, false, Option, Some, None, Result, Ok, Err, All}
+use Rattle.std.proofs.Common.{◌≡◌, ℕ, zero, suc, ◌+◌, add-one, ◌<◌, arith, List, [], ◌∷◌, ◌++◌, map, drop, length, get_or, refl, ap, sym, ◌∙◌, subst, Some, None, Result, Ok, Err, All}
 use Rattle.std.specs.Prelude.{option_map}
-use Rattle.std.specs.List.{filter, filter_map, cons_option, flat_map, AllZip}
+use Rattle.std.specs.List.{filter_map, flat_map, AllZip}
 use Rattle.std.proofs.lemmas.List.{append-nil, append_assoc}
 use Rattle.std.proofs.lemmas.List.Elements.{All-nil, All-cons}
-use Rattle.dwc_base.specs.Listing.{Listing}
-use Rattle.dwc_base.specs.Sections.{Sections, Fault, unsupported}
 use Rattle.dwc_base.specs.declared.wasm.ModuleTranslation.{ModuleTranslation}
 use Rattle.dwc_base.specs.declared.faults.Kind.TheVariants.{Compressed}
-use Rattle.dwc_base.specs.Units.{UnitHeader, unit_headers}
+use Rattle.dwc_base.specs.Units.{unit_headers}
 use Rattle.dwc_base.specs.Functions.{Function}
-use Rattle.dwc_base.specs.Kept.{is_required}
-use Rattle.dwc_base.specs.Carried.{Unit, units, Module, CarriedUnit, carried_units_of}
+use Rattle.dwc_base.specs.Carried.{units, Module, carried_units_of}
 use Rattle.dwc_base.specs.BuiltForm.{info_fault}
 use Rattle.dwc_base.specs.Refusals.{Refusal, of_place, unit_refusal, module_refusals, first_of}
-use Rattle.dwc_base.specs.Widest.{kept_subprograms}
 use Rattle.dwc_write.specs.GivenUnits.{GivenUnit}
 use Rattle.dwc_carry.specs.declared.error.DebugError.{DebugError}
 use Rattle.dwc_carry.specs.declared.error.DebugError.TheVariants.{Read, Unsupported, InvalidFileIndex, BadAddressMap, TooLarge, OutOfMemory}
 use Rattle.dwc_carry.specs.declared.read_units.ReadUnit.{ReadUnit}
 use Rattle.dwc_carry.specs.Refusals.{Refuses}
 use Rattle.dwc_carry.specs.InfoEntries.{Tells}
-use Rattle.dwc_carry.specs.InfoUnits.{unit_of, IsReadUnit}
+use Rattle.dwc_carry.specs.InfoUnits.{IsReadUnit}
 use Rattle.dwc_carry.specs.CarriedReads.{refusals_of, AddsCarried, GivesAdded}
 use Rattle.dwc_carry.specs.MadeUnits.{IsMadeOf, AreMadeOf}
 use Rattle.dwc_carry.specs.CarriedModules.{transformed_module, transformed_modules, carried_in, AddsModule, GivesModule, AddsModules}
 use Rattle.dwc_carry.proofs.CarriedReadLaws.{refuses-more}
-use Rattle.dwc_carry.proofs.ReadModuleLaws.{is_compiled, refusals-same, made-same}
+use Rattle.dwc_carry.proofs.ReadModuleLaws.{refusals-same, made-same}
 use Rattle.dwc_carry.proofs.UnitsRead.{IsReadWhole, read-whole}
 
 -- ---- one module

@@ -1,5 +1,5 @@
 -- Entries that are added one behind the other.
-use Rattle.std.proofs.Common.{◌≡◌, ℕ, zero, suc, ◌+◌, ◌<◌, ◌≤◌, List, [], ◌∷◌, ◌++◌, map, length, take, refl, ap, sym, ◌∙◌, arith, Bool, true, false, append_assoc, Option, Some, None, is_some}
+use Rattle.std.proofs.Common.{◌≡◌, ℕ, zero, suc, List, [], ◌∷◌, ◌++◌, length, refl, ap, sym, Bool, true, false, Option, Some, None, is_some}
 use Rattle.dwc_base.specs.Sections.{Sections}
 use Rattle.dwc_base.specs.Functions.{Function}
 use Rattle.dwc_write.specs.declared.attributes.AttributeValue.{AttributeValue}
@@ -7,7 +7,7 @@ use Rattle.dwc_write.specs.GivenUnits.{IsWritable, GivenEntry, set_in, set_in_en
 use Rattle.dwc_write.specs.GivenLines.{GivenLines}
 use Rattle.dwc_carry.specs.declared.subprogram.Subprogram.{Subprogram}
 use Rattle.dwc_carry.specs.UnitPrograms.{CarriesNamed}
-use Rattle.dwc_carry.specs.OutputUnits.{output_unit, root_entry, subprogram_entry}
+use Rattle.dwc_carry.specs.OutputUnits.{output_unit, root_entry}
 
 -- a value is given to the last entry
 pub set_in-last : (es : List GivenEntry) (e : GivenEntry) (name : ℕ) (value : AttributeValue) → set_in (length es) name value (es ++ e ∷ []) ≡ es ++ set_in_entry name value e ∷ []

@@ -1,21 +1,19 @@
 -- What is made of a module, from what was read of its units.
-use Rattle.std.proofs.Common.{◌≡◌, ℕ, suc, ◌+◌, ◌<◌, ◌≤◌, arith, List, [], ◌∷◌, ◌++◌, map, length, refl, ap, sym, ◌∙◌, subst, Bool, true, false, cond, Option, Some, None, Ok, Err, nat_lt, vec_len, All}
-use Rattle.std.specs.Prelude.{◌==◌, ◌&&◌, ◌||◌, is_some, Result}
+use Rattle.std.proofs.Common.{◌≡◌, ℕ, suc, ◌≤◌, arith, List, [], ◌∷◌, map, length, refl, ap, sym, ◌∙◌, subst, Bool, true, false, cond, Option, Some, None, Ok, nat_lt, vec_len, All}
+use Rattle.std.specs.Prelude.{◌&&◌, ◌||◌, is_some, Result}
 use Rattle.std.specs.List.{filter, filter_map, cons_option, list_any, AllZip}
 use Rattle.std.proofs.lemmas.Bool.{lt-ltb}
 use Rattle.std.proofs.lemmas.List.Elements.{All-head, All-tail}
 use Rattle.dwc_base.specs.Reading.{◌>>=◌}
-use Rattle.dwc_base.specs.Listing.{Listing}
 use Rattle.dwc_base.specs.Sections.{Sections, Fault}
-use Rattle.dwc_base.specs.Units.{UnitHeader, unit_headers}
+use Rattle.dwc_base.specs.Units.{UnitHeader}
 use Rattle.dwc_base.specs.Entries.{Entry, entries, attribute}
 use Rattle.dwc_base.specs.Functions.{Function}
 use Rattle.dwc_base.specs.Kept.{is_required}
-use Rattle.dwc_base.specs.LineRows.{LineTable, line_table, Segment, segments}
+use Rattle.dwc_base.specs.LineRows.{LineTable, line_table, segments}
 use Rattle.dwc_base.specs.Images.{is_carried_segment, IsImageOf}
-use Rattle.dwc_base.specs.Carried.{Unit, root, units, Module, CarriedUnit, has_root_tag, carried_units_of, table_of_unit, table_of_root, segments_of, segments_of_unit, line_offset}
-use Rattle.dwc_base.specs.BuiltForm.{info_fault}
-use Rattle.dwc_base.specs.Refusals.{Refusal, table_offset, lines_refusal, unit_refusal, first_of}
+use Rattle.dwc_base.specs.Carried.{Unit, root, Module, has_root_tag, table_of_unit, table_of_root, segments_of, segments_of_unit, line_offset}
+use Rattle.dwc_base.specs.Refusals.{table_offset, lines_refusal, unit_refusal, first_of}
 use Rattle.dwc_base.specs.Widest.{widest_table, kept_subprograms, root_attributes_with}
 use Rattle.dwc_base.specs.declared.constants.TheConstants.{DW_AT_stmt_list, DW_TAG_compile_unit}
 use Rattle.dwc_write.specs.GivenLines.{GivenLines}
@@ -85,7 +83,8 @@ module _ (m : Module) where
     carried-same : is_compiled m.functions (unit_of m.sections h) ≡ is_carried r
     carried-same =
         let tag : has_root_tag DW_TAG_compile_unit (unit_of m.sections h) ≡ r.entries.is_compile_unit = root-tag (unit_of m.sections h) ∙ sym (read.entries).is_compile_unit in
-        let some : list_any (is_required m.functions) (entries m.sections h).items ≡ nat_lt 0 (vec_len r.entries.subprograms) = any-some (is_required m.functions) (entries m.sections h).items ∙ ap (nat_lt 0) (sym (subprograms-count m.functions (entries m.sections h).items r.entries read.entries)) in
+        let count : vec_len r.entries.subprograms ≡ length (filter (is_required m.functions) (entries m.sections h).items) = omega (arith, subprograms-count m.functions (entries m.sections h).items r.entries read.entries) in
+        let some : list_any (is_required m.functions) (entries m.sections h).items ≡ nat_lt 0 (vec_len r.entries.subprograms) = any-some (is_required m.functions) (entries m.sections h).items ∙ ap (nat_lt 0) (sym count) in
         ap (λ b. b && list_any (is_required m.functions) (entries m.sections h).items) tag ∙ ap (λ b. r.entries.is_compile_unit && b) some
 
     refusal-same : unit_refusal m.sections (unit_of m.sections h) ≡ lines_refusal r.unit.sections r.unit.header.address_size r.entries.line_table

@@ -1,6 +1,6 @@
 -- What is written of a segment: the rows of its image may be appended to a sequence one by one, and the sequence may be ended
 -- behind them.
-use Rattle.std.proofs.Common.{◌≡◌, ℕ, zero, suc, ◌+◌, ◌^◌, ◌<◌, ◌≤◌, ap, ◌∙◌, arith, refl, sym, List, [], ◌∷◌, map, length, take, get_or, Some, None, pos}
+use Rattle.std.proofs.Common.{◌≡◌, ℕ, zero, suc, ◌^◌, ◌<◌, ◌≤◌, arith, refl, sym, List, [], ◌∷◌, map, length, take, get_or, Some, None, pos}
 use Rattle.std.specs.Prelude.{All}
 use Rattle.std.proofs.lemmas.Bool.{lt-ltb}
 use Rattle.std.proofs.lemmas.List.{take_all, append-nil}

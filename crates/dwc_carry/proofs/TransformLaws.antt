@@ -1,5 +1,5 @@
 -- The transforms of the modules of a compilation, and what is made of the modules with them.
-use Rattle.std.proofs.Common.{◌≡◌, ℕ, zero, suc, ◌+◌, add-one, ◌<◌, ◌≤◌, List, [], ◌∷◌, ◌++◌, map, take, drop, length, get_or, slice_get, refl, ap, sym, ◌∙◌, subst, arith, Option, Some, None, Result, Ok, Err, Vec, All}
+use Rattle.std.proofs.Common.{◌≡◌, ℕ, zero, suc, ◌+◌, add-one, ◌<◌, ◌≤◌, List, [], ◌∷◌, ◌++◌, map, take, drop, length, get_or, slice_get, refl, ap, sym, ◌∙◌, subst, arith, Option, Some, None, Err, All}
 use Rattle.std.specs.Prelude.{option_map}
 use Rattle.std.specs.Option.{option_or, unwrap_or}
 use Rattle.std.specs.List.{flat_map}
@@ -10,8 +10,7 @@ use Rattle.dwc_base.specs.declared.records.Endian.{Endian}
 use Rattle.dwc_base.specs.declared.records.MapFault.{MapFault}
 use Rattle.dwc_base.specs.declared.wasm.ModuleTranslation.{ModuleTranslation}
 use Rattle.dwc_base.specs.Functions.{Function, functions_of}
-use Rattle.dwc_base.specs.Carried.{units, Module, Compilation, carried_units}
-use Rattle.dwc_base.specs.Refusals.{Refusal, module_refusals, first_of, first_refusal}
+use Rattle.dwc_base.specs.Refusals.{Refusal, module_refusals, first_of}
 use Rattle.dwc_clif.specs.AddressMaps.{address_map_view}
 use Rattle.dwc_addr.specs.declared.error.AddrError.{AddrError}
 use Rattle.dwc_addr.specs.declared.error.AddrError.TheVariants as addr
@@ -24,7 +23,7 @@ use Rattle.dwc_carry.specs.declared.error.DebugError.TheVariants.{Read, Unsuppor
 use Rattle.dwc_carry.specs.ImageRows.{IsOrdered}
 use Rattle.dwc_carry.specs.Refusals.{of_maps, Refuses}
 use Rattle.dwc_carry.specs.MadeUnits.{AreMadeOf}
-use Rattle.dwc_carry.specs.CarriedModules.{transformed_module, transformed_modules, carried_in, AddsModules}
+use Rattle.dwc_carry.specs.CarriedModules.{transformed_modules, carried_in, AddsModules}
 use Rattle.dwc_carry.specs.Inputs.{module_view, modules_from, input_of, bad_map_from, bad_map}
 use Rattle.dwc_carry.specs.Transformed.{all_kept, RefusesMaps, IsTransformed, RefusesInput}
 use Rattle.dwc_carry.proofs.OrderLaws.{transform-ordered}
@@ -99,7 +98,7 @@ pub transforms-begin : (ts : List ModuleTranslation) (fss : List (List Compiled)
 transforms-begin ts fss = record { functions = refl; bad = refl }
 
 pub counted-same : (c : CompilationValue) → IsCounted c.translations c.functions c.memory_offsets → length c.functions ≡ length c.translations
-counted-same c h = sym (length-map length c.functions) ∙ ap length h.defined ∙ length-map (λ (t : ModuleTranslation). t.defined_funcs) c.translations
+counted-same c h = sym (length-map c.functions length) ∙ ap length h.defined ∙ length-map c.translations (λ (t : ModuleTranslation). t.defined_funcs)
 
 -- ---- with all transforms
 
@@ -147,23 +146,24 @@ module _ (order : Endian) (size : ℕ) (c : CompilationValue) where
         accepted = ap first_of (sym (all-refusals ms) ∙ k.accepted);
       }
 
-  -- what is refused is what is refused of the input
-  pub input-refused : (e : DebugError) → bad_map c ≡ None → Refuses (first_of (flat_map module_refusals (transformed_modules c.translations (all_kept (modules_from 0 c.translations c.functions))))) e → RefusesInput (bad_map c) (first_refusal (input_of order size c)) e
-  input-refused e good h = go e (subst (λ xs. Refuses (first_of xs) e) (ap (flat_map module_refusals) (transformed-kept 0 c.translations c.functions) ∙ all-refusals (modules_from 0 c.translations c.functions)) h)
-    where
-      go : (e : DebugError) → Refuses (first_refusal (input_of order size c)) e → RefusesInput (bad_map c) (first_refusal (input_of order size c)) e
-      go (Read what section offset) k = (good, k)
-      go (Unsupported kind offset) k = (good, k)
-      go (InvalidFileIndex offset) k = (good, k)
-      go (BadAddressMap m func why) k = absurd k
-      go (TooLarge what) k = absurd k
-      go OutOfMemory k = tt
+-- What is refused is what is refused of the input.
+pub input-refused : (c : CompilationValue) (e : DebugError) → bad_map c ≡ None → Refuses (first_of (flat_map module_refusals (transformed_modules c.translations (all_kept (modules_from 0 c.translations c.functions))))) e
+    → RefusesInput (bad_map c) (first_of (flat_map module_refusals (modules_from 0 c.translations c.functions))) e
+input-refused c e good h = go e (subst (λ xs. Refuses (first_of xs) e) (ap (flat_map module_refusals) (transformed-kept 0 c.translations c.functions) ∙ all-refusals (modules_from 0 c.translations c.functions)) h)
+  where
+    go : (e : DebugError) → Refuses (first_of (flat_map module_refusals (modules_from 0 c.translations c.functions))) e → RefusesInput (bad_map c) (first_of (flat_map module_refusals (modules_from 0 c.translations c.functions))) e
+    go (Read what section offset) k = (good, k)
+    go (Unsupported kind offset) k = (good, k)
+    go (InvalidFileIndex offset) k = (good, k)
+    go (BadAddressMap m func why) k = absurd k
+    go (TooLarge what) k = absurd k
+    go OutOfMemory k = tt
 
-  -- a bad map refuses the input
-  pub maps-refused : (refusal : Option Refusal) (e : DebugError) → RefusesMaps (bad_map c) e → RefusesInput (bad_map c) refusal e
-  maps-refused refusal (Read what section offset) h = absurd h
-  maps-refused refusal (Unsupported kind offset) h = absurd h
-  maps-refused refusal (InvalidFileIndex offset) h = absurd h
-  maps-refused refusal (BadAddressMap m func why) h = h
-  maps-refused refusal (TooLarge what) h = h
-  maps-refused refusal OutOfMemory h = h
+-- A bad map refuses the input.
+pub maps-refused : (c : CompilationValue) (refusal : Option Refusal) (e : DebugError) → RefusesMaps (bad_map c) e → RefusesInput (bad_map c) refusal e
+maps-refused c refusal (Read what section offset) h = absurd h
+maps-refused c refusal (Unsupported kind offset) h = absurd h
+maps-refused c refusal (InvalidFileIndex offset) h = absurd h
+maps-refused c refusal (BadAddressMap m func why) h = h
+maps-refused c refusal (TooLarge what) h = h
+maps-refused c refusal OutOfMemory h = h

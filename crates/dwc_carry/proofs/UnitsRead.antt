@@ -1,10 +1,10 @@
 -- What is known of a module whose .debug_info is read without a fault.
-use Rattle.std.proofs.Common.{◌≡◌, ℕ, ◌≤◌, arith, List, map, length, ap, sym, ◌∙◌, subst, None, All}
+use Rattle.std.proofs.Common.{◌≡◌, ◌≤◌, arith, map, length, ap, ◌∙◌, subst, None, All}
 use Rattle.std.specs.List.{filter}
 use Rattle.std.proofs.lemmas.List.Elements.{All-weaker}
 use Rattle.dwc_base.specs.Units.{unit_headers}
 use Rattle.dwc_base.specs.Kept.{is_required}
-use Rattle.dwc_base.specs.Carried.{Unit, units, Module, carried_units_of}
+use Rattle.dwc_base.specs.Carried.{units, Module, carried_units_of}
 use Rattle.dwc_base.specs.BuiltForm.{info_fault}
 use Rattle.dwc_base.specs.Widest.{kept_subprograms}
 use Rattle.dwc_carry.specs.InfoUnits.{unit_of}

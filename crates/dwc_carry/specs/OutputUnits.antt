@@ -1,5 +1,5 @@
 -- The unit of the output: a root, and below it the kept subprograms.
-use Rattle.std.specs.Prelude.{ℕ, List, [], ◌∷◌, ◌++◌, map, pos, Bool, true, false}
+use Rattle.std.specs.Prelude.{ℕ, List, [], ◌∷◌, map, pos, Bool, true, false}
 use Rattle.dwc_base.specs.declared.constants.TheConstants.{DW_TAG_compile_unit, DW_TAG_subprogram, DW_AT_stmt_list, DW_AT_low_pc, DW_AT_high_pc, DW_FORM_udata}
 use Rattle.dwc_base.specs.declared.records.Address.TheVariants.{Symbol}
 use Rattle.dwc_write.specs.declared.attributes.AttributeValue.TheVariants.{Address, Constant, LineProgramRef}

@@ -1,7 +1,9 @@
--- What the tests of a run's clauses share: statuses, sources that tell two files, and the words that name them.
-use Rattle.std.proofs.Common.{◌≡◌, ℕ, zero, suc, ◌<◌, List, [], ◌∷◌, length, Some, true, false, refl, sym, ◌∙◌, arith, inl, inr}
+-- What the tests of a run's clauses share: statuses, sources that tell some files, and the words that name them.
+use Rattle.std.proofs.Common.{◌≡◌, ℕ, zero, suc, ◌<◌, List, [], ◌∷◌, length, Some, true, false, refl, sym, ◌∙◌, arith}
 use Rattle.std.specs.Prelude.{Bool, codes, ◌==◌, ◌||◌, slice_index_or}
 use Rattle.std.specs.List.{list_any}
+use Rattle.std.specs.Ordering.{nat_cmp}
+use Rattle.std.specs.Cmp.Lexicographic.{slice_cmp}
 use Rattle.std.specs.FinMap as map
 use Rattle.std.proofs.lemmas.Cmp.{nat_list_cmp_total}
 use Rattle.std.proofs.lemmas.Bool.{eq-eqb, eqb-true, false≢true}
@@ -45,35 +47,66 @@ allowed (s ∷ statuses) status h = go (s == status) refl (λ found. allowed sta
 
 -- ---- sources and words
 
--- a source that tells two files, `m` and `w`
-abbrev pub two_files : Input → Files
-two_files input = map.from_entries ((codes "m", input.map_bytes) ∷ (codes "w", input.module_bytes) ∷ [])
+-- a source that tells a map `m` and two modules, `w` and `x`
+abbrev pub three_files : List ℕ → List ℕ → List ℕ → Files
+three_files m w x = map.from_entries ((codes "m", m) ∷ (codes "w", w) ∷ (codes "x", x) ∷ [])
 
--- the words that name them
+-- the words that name the map and the first module, and those that name all
 abbrev pub right_words : List (List ℕ)
 right_words = codes "m" ∷ codes "w" ∷ []
 
-abbrev pub right_paths : Paths
-right_paths = record { map_path = codes "m"; module_path = codes "w" }
+abbrev pub three_words : List (List ℕ)
+three_words = codes "m" ∷ codes "w" ∷ codes "x" ∷ []
 
--- the words name the two files
-pub names : (input : Input) → Names (Some (two_files input)) right_words input
-names input = record {
-  told = two_files input;
+abbrev pub right_paths : Paths
+right_paths = record { map_path = codes "m"; module_paths = codes "w" ∷ [] }
+
+abbrev pub three_paths : Paths
+three_paths = record { map_path = codes "m"; module_paths = codes "w" ∷ codes "x" ∷ [] }
+
+-- an input of one module, and of two
+abbrev pub of_one : List ℕ → List ℕ → Input
+of_one m w = record { map_bytes = m; modules = w ∷ [] }
+
+abbrev pub of_two : List ℕ → List ℕ → List ℕ → Input
+of_two m w x = record { map_bytes = m; modules = w ∷ x ∷ [] }
+
+told : (m w x path : List ℕ) → map.get (three_files m w x) path ≡ map.find (slice_cmp nat_cmp) path ((codes "m", m) ∷ (codes "w", w) ∷ (codes "x", x) ∷ [])
+told m w x path = map.get-from_entries nat_list_cmp_total ((codes "m", m) ∷ (codes "w", w) ∷ (codes "x", x) ∷ []) path
+
+-- the words name the files
+pub names : (m w x : List ℕ) → Names (Some (three_files m w x)) right_words (of_one m w)
+names m w x = record {
+  told = three_files m w x;
   tells = refl;
   paths = right_paths;
   are_paths = refl;
-  map_bytes = map.get-from_entries nat_list_cmp_total ((codes "m", input.map_bytes) ∷ (codes "w", input.module_bytes) ∷ []) (codes "m");
-  module_bytes = map.get-from_entries nat_list_cmp_total ((codes "m", input.map_bytes) ∷ (codes "w", input.module_bytes) ∷ []) (codes "w");
+  bytes = (told m w x (codes "m"), (told m w x (codes "w"), tt));
 }
 
--- a source that tells one file of some name
+pub names-two : (m w x : List ℕ) → Names (Some (three_files m w x)) three_words (of_two m w x)
+names-two m w x = record {
+  told = three_files m w x;
+  tells = refl;
+  paths = three_paths;
+  are_paths = refl;
+  bytes = (told m w x (codes "m"), (told m w x (codes "w"), (told m w x (codes "x"), tt)));
+}
+
+-- a source that tells one file of some name, and one that tells two
 abbrev pub one_file : List ℕ → List ℕ → Files
 one_file path bytes = map.from_entries ((path, bytes) ∷ [])
 
+abbrev pub two_files : List ℕ → List ℕ → Files
+two_files m w = map.from_entries ((codes "m", m) ∷ (codes "w", w) ∷ [])
+
 -- one that has the map alone lacks the module, and one that has the module alone lacks the map
 pub lacks_module : (bytes : List ℕ) → LacksFile (Some (one_file (codes "m") bytes)) right_words
-lacks_module bytes = record { told = one_file (codes "m") bytes; tells = refl; paths = right_paths; are_paths = refl; lacks = inr (map.get-from_entries nat_list_cmp_total ((codes "m", bytes) ∷ []) (codes "w")) }
+lacks_module bytes = record { told = one_file (codes "m") bytes; tells = refl; paths = right_paths; are_paths = refl; lacks = (1, codes "w", omega arith, refl, map.get-from_entries nat_list_cmp_total ((codes "m", bytes) ∷ []) (codes "w")) }
 
 pub lacks_map : (bytes : List ℕ) → LacksFile (Some (one_file (codes "w") bytes)) right_words
-lacks_map bytes = record { told = one_file (codes "w") bytes; tells = refl; paths = right_paths; are_paths = refl; lacks = inl (map.get-from_entries nat_list_cmp_total ((codes "w", bytes) ∷ []) (codes "m")) }
+lacks_map bytes = record { told = one_file (codes "w") bytes; tells = refl; paths = right_paths; are_paths = refl; lacks = (0, codes "m", omega arith, refl, map.get-from_entries nat_list_cmp_total ((codes "w", bytes) ∷ []) (codes "m")) }
+
+-- one that has the map and the first module lacks the second
+pub lacks_second : (m w : List ℕ) → LacksFile (Some (two_files m w)) three_words
+lacks_second m w = record { told = two_files m w; tells = refl; paths = three_paths; are_paths = refl; lacks = (2, codes "x", omega arith, refl, map.get-from_entries nat_list_cmp_total ((codes "m", m) ∷ (codes "w", w) ∷ []) (codes "x")) }

@@ -1,41 +1,38 @@
 -- For each clause of a run but those on what is written: an input that meets the clause's premise, and an answer that the
 -- clause refuses.
-use Rattle.std.proofs.Common.{◌≡◌, ◌≢◌, ℕ, ◌+◌, ◌-◌, ◌^◌, ◌<◌, List, [], ◌∷◌, length, Some, None, Ok, Err, Result, true, false, refl, ap, subst, sym, ◌∙◌, arith, lit<, lit≤, inl, inr}
-use Rattle.std.specs.Prelude.{Bool, not, Any, Option, is_some, IsNone, codes, ◌⊎◌}
+use Rattle.std.proofs.Common.{◌≡◌, ◌≢◌, ℕ, zero, suc, ◌+◌, ◌-◌, ◌^◌, ◌<◌, ◌≤◌, List, [], ◌∷◌, length, Some, None, Ok, Err, Result, false, refl, ap, subst, sym, ◌∙◌, arith, lit<, lit≤}
+use Rattle.std.specs.Prelude.{All, Option, is_some, IsNone, codes}
 use Rattle.std.proofs.Math.ListN.{replicate}
 use Rattle.std.proofs.lemmas.List.{length-replicate}
-use Rattle.std.proofs.lemmas.Bool.{true≢false, false≢true}
+use Rattle.std.proofs.lemmas.Bool.{true≢false}
 use Rattle.dwc_base.specs.declared.section_name.SectionName.TheVariants.{Abbrev, Addr, Info, Line, LineStr, Loc, Loclists, Ranges, Rnglists, Str, StrOffsets, CuIndex, Frame}
 use Rattle.dwc_base.specs.declared.section_name.SectionName.{SectionName}
-use Rattle.dwc_base.proofs.SmallModule.{file_small}
-use Rattle.std.specs.List.{list_any}
-use Rattle.std.proofs.lemmas.List.Folds.{list_any-from_Any}
-use Rattle.dwc_base.specs.declared.faults.What.TheVariants.{Entry as EntryRead}
+use Rattle.dwc_base.specs.declared.faults.What.TheVariants.{Entry as EntryRead, UnitHeader as HeaderRead}
+use Rattle.dwc_base.specs.declared.faults.Kind.TheVariants.{Format64, Compressed}
+use Rattle.dwc_base.specs.Sections.{unsupported, unreadable}
+use Rattle.dwc_base.specs.Refusals.{Refusal, of_place, missing_file, first_refusal}
 use Rattle.dwc_base.specs.Widest.{widest}
-use Rattle.dwc_base.specs.FirstForm.{is_all_built}
-use Rattle.dwc_base.specs.declared.faults.Kind.TheVariants.{Format64}
-use Rattle.dwc_base.specs.Sections.{Fault, unsupported, unreadable}
-use Rattle.dwc_base.specs.Reached.{is_unreadable, reached_faults}
-use Rattle.dwc_base.specs.Wasm.{WasmModule, wasm_module, module_from_sections}
+use Rattle.dwc_base.specs.Wasm.{WasmModule}
+use Rattle.dwc_base.proofs.SmallModule.{file_small}
 use Rattle.dwc_cli.specs.MapFile.{map_of_bytes}
-use Rattle.dwc_cli.specs.Inputs.{Input, Loaded, loaded, paths_of, compilation_of}
-use Rattle.dwc_cli.specs.RunStatus.{Rose, most_bytes, IsOneOf, IsStatus, UsageCause, MissingCause, InputCauses, NamedCauses, LoadedCauses, RunsWell, IsValid}
+use Rattle.dwc_cli.specs.Inputs.{Loaded, loaded, paths_of, wasm_modules, defined_counts, compilation_of, shared_in}
+use Rattle.dwc_cli.specs.RunStatus.{Rose, most_bytes, IsOneOf, IsStatus, IsTooLong, UsageCause, MissingCause, InputCauses, NamedCauses, refusal_status, LoadedCauses, RunsWell, IsValid}
 use Rattle.dwc_cli.proofs.Examples.{map_bytes_small, map-small}
-use Rattle.dwc_cli.proofs.WholeRun.{whole_on_literals, faults_of, input_small, read_in, read_small}
-use Rattle.dwc_cli.proofs.BrokenInputs.{file_64, file_5, file_undeclared, file_compressed, with_small_map, map_bytes_falls, map_bytes_missing}
-use Rattle.dwc_cli.proofs.Answers.{refused, is_status_among, two_files, one_file, right_words, names, lacks_module, lacks_map}
+use Rattle.dwc_cli.proofs.WholeRun.{whole_on_literals, refusal_of, input_small, read_in, read_small}
+use Rattle.dwc_cli.proofs.BrokenInputs.{file_64, file_5, file_undeclared, file_compressed, file_no_directory, file_two_faults, file_cut, file_old, map_bytes_falls, map_bytes_missing, map_bytes_two, map_bytes_shared, map_bytes_shared_falls, map_bytes_second_falls}
+use Rattle.dwc_cli.proofs.Answers.{refused, is_status_among, three_files, one_file, two_files, right_words, three_words, of_one, of_two, names, names-two, lacks_module, lacks_map, lacks_second}
 
 -- ---- wrong words
 
--- words outside the grammar, and the two words within it
+-- words outside the grammar
 one_word : IsNone (paths_of (codes "m" ∷ []))
 one_word = refl
 
 no_words : IsNone (paths_of [])
 no_words = refl
 
-three_words : IsNone (paths_of (codes "m" ∷ codes "w" ∷ codes "x" ∷ []))
-three_words = refl
+empty_third : IsNone (paths_of (codes "m" ∷ codes "w" ∷ [] ∷ codes "x" ∷ []))
+empty_third = refl
 
 empty_word : IsNone (paths_of (codes "m" ∷ [] ∷ []))
 empty_word = refl
@@ -56,6 +53,9 @@ usage-read_fault h = refused (2 ∷ 9 ∷ []) 3 refl (h.always refl)
 -- right words that are refused
 usage-right : UsageCause right_words 2 → ⊥
 usage-right h = true≢false (h.only refl)
+
+usage-three : UsageCause three_words 2 → ⊥
+usage-three h = true≢false (h.only refl)
 
 -- ---- faults of source and sink: 3 and 8 only where a count rose
 
@@ -100,22 +100,39 @@ longer n = (replicate {A = ℕ} (n + 1) 0, omega (arith, length-replicate {A = �
 long_file : (bytes : List ℕ) × (most_bytes < length bytes)
 long_file = longer most_bytes
 
--- a map that is too long, and a module that is: neither success nor a later status
-long_map-success : (bytes : List ℕ) → most_bytes < length bytes → InputCauses (Some (two_files (record { map_bytes = bytes; module_bytes = file_small }))) right_words 0 → ⊥
-long_map-success bytes long h = refused (3 ∷ 4 ∷ 9 ∷ []) 0 refl ((h _ (names (record { map_bytes = bytes; module_bytes = file_small }))).too_long.always (inl long))
+-- what is said of the input that the words name
+abbrev pub Causes : List ℕ → List ℕ → ℕ → Type 0
+Causes m w status = InputCauses (Some (three_files m w [])) right_words status
 
-long_map-no_json : (bytes : List ℕ) → most_bytes < length bytes → InputCauses (Some (two_files (record { map_bytes = bytes; module_bytes = file_small }))) right_words 6 → ⊥
-long_map-no_json bytes long h = refused (3 ∷ 4 ∷ 9 ∷ []) 6 refl ((h _ (names (record { map_bytes = bytes; module_bytes = file_small }))).too_long.always (inl long))
+abbrev pub causes : (m w : List ℕ) (status : ℕ) → Causes m w status → NamedCauses (of_one m w) status
+causes m w status h = h (of_one m w) (names m w [])
 
-long_module-success : (bytes : List ℕ) → most_bytes < length bytes → InputCauses (Some (two_files (record { map_bytes = map_bytes_small; module_bytes = bytes }))) right_words 0 → ⊥
-long_module-success bytes long h = refused (3 ∷ 4 ∷ 9 ∷ []) 0 refl ((h _ (names (record { map_bytes = map_bytes_small; module_bytes = bytes }))).too_long.always (inr long))
+-- and of one of two modules
+abbrev pub CausesOfTwo : List ℕ → List ℕ → List ℕ → ℕ → Type 0
+CausesOfTwo m w x status = InputCauses (Some (three_files m w x)) three_words status
 
-long_module-no_wasm : (bytes : List ℕ) → most_bytes < length bytes → InputCauses (Some (two_files (record { map_bytes = map_bytes_small; module_bytes = bytes }))) right_words 5 → ⊥
-long_module-no_wasm bytes long h = refused (3 ∷ 4 ∷ 9 ∷ []) 5 refl ((h _ (names (record { map_bytes = map_bytes_small; module_bytes = bytes }))).too_long.always (inr long))
+abbrev pub causes_of_two : (m w x : List ℕ) (status : ℕ) → CausesOfTwo m w x status → NamedCauses (of_two m w x) status
+causes_of_two m w x status h = h (of_two m w x) (names-two m w x)
+
+-- a map that is too long, and a first and a second module that is: neither success nor a later status
+long_map-success : (bytes : List ℕ) → most_bytes < length bytes → Causes bytes file_small 0 → ⊥
+long_map-success bytes long h = refused (3 ∷ 4 ∷ 9 ∷ []) 0 refl ((causes bytes file_small 0 h).too_long.always (0, bytes, omega arith, refl, long))
+
+long_map-no_json : (bytes : List ℕ) → most_bytes < length bytes → Causes bytes file_small 6 → ⊥
+long_map-no_json bytes long h = refused (3 ∷ 4 ∷ 9 ∷ []) 6 refl ((causes bytes file_small 6 h).too_long.always (0, bytes, omega arith, refl, long))
+
+long_module-success : (bytes : List ℕ) → most_bytes < length bytes → Causes map_bytes_small bytes 0 → ⊥
+long_module-success bytes long h = refused (3 ∷ 4 ∷ 9 ∷ []) 0 refl ((causes map_bytes_small bytes 0 h).too_long.always (1, bytes, omega arith, refl, long))
+
+long_module-no_wasm : (bytes : List ℕ) → most_bytes < length bytes → Causes map_bytes_small bytes 5 → ⊥
+long_module-no_wasm bytes long h = refused (3 ∷ 4 ∷ 9 ∷ []) 5 refl ((causes map_bytes_small bytes 5 h).too_long.always (1, bytes, omega arith, refl, long))
+
+long_second-success : (bytes : List ℕ) → most_bytes < length bytes → CausesOfTwo map_bytes_two file_small bytes 0 → ⊥
+long_second-success bytes long h = refused (3 ∷ 4 ∷ 9 ∷ []) 0 refl ((causes_of_two map_bytes_two file_small bytes 0 h).too_long.always (2, bytes, omega arith, refl, long))
 
 -- ---- a missing file
 
--- the module is missing, or the map: no success, nor a status that tells of contents
+-- the module is missing, or the map, or the second module: no success, nor a status that tells of contents
 missing_module-success : (bytes : List ℕ) → MissingCause (Some (one_file (codes "m") bytes)) right_words 0 → ⊥
 missing_module-success bytes h = refused (3 ∷ 4 ∷ 9 ∷ []) 0 refl (h (lacks_module bytes))
 
@@ -128,176 +145,235 @@ missing_map-success bytes h = refused (3 ∷ 4 ∷ 9 ∷ []) 0 refl (h (lacks_ma
 missing_map-no_json : (bytes : List ℕ) → MissingCause (Some (one_file (codes "w") bytes)) right_words 6 → ⊥
 missing_map-no_json bytes h = refused (3 ∷ 4 ∷ 9 ∷ []) 6 refl (h (lacks_map bytes))
 
+missing_second-success : (m w : List ℕ) → MissingCause (Some (two_files m w)) three_words 0 → ⊥
+missing_second-success m w h = refused (3 ∷ 4 ∷ 9 ∷ []) 0 refl (h (lacks_second m w))
+
 -- ---- what is said of files that are read
 
-abbrev pub Causes : Input → ℕ → Type 0
-Causes input status = InputCauses (Some (two_files input)) right_words status
-
-abbrev pub causes : (input : Input) (status : ℕ) → Causes input status → NamedCauses input status
-causes input status h = h input (names input)
-
 -- the small files are not too long
-small-too_long : Causes input_small 4 → ⊥
-small-too_long h = short ((causes input_small 4 h).too_long.only refl)
+small-too_long : Causes map_bytes_small file_small 4 → ⊥
+small-too_long h = short ((causes map_bytes_small file_small 4 h).too_long.only refl)
   where
-    short : (most_bytes < length input_small.map_bytes) ⊎ (most_bytes < length input_small.module_bytes) → ⊥
-    short (inl long) = omega (arith, long)
-    short (inr long) = omega (arith, long)
+    short : IsTooLong (of_one map_bytes_small file_small) → ⊥
+    short (zero, x, within, is, long) = let past : most_bytes < length map_bytes_small = subst (λ b. most_bytes < length b) (sym is) long in omega (arith, past)
+    short (suc zero, x, within, is, long) = let past : most_bytes < length file_small = subst (λ b. most_bytes < length b) (sym is) long in omega (arith, past)
+    short (suc (suc k), x, within, is, long) = omega (arith, within)
 
--- a module that is no wasm file, and one that is
-no_wasm-success : Causes (with_small_map (0x00 ∷ 0x61 ∷ 0x73 ∷ 0x6D ∷ 0x0D ∷ [])) 0 → ⊥
+-- a module that is no wasm file, also the second of two, and one that is
+no_wasm-success : Causes map_bytes_small file_old 0 → ⊥
 unfolding whole_on_literals
-no_wasm-success h = refused (3 ∷ 4 ∷ 5 ∷ 9 ∷ []) 0 refl ((causes (with_small_map (0x00 ∷ 0x61 ∷ 0x73 ∷ 0x6D ∷ 0x0D ∷ [])) 0 h).wasm.always 0 refl)
+no_wasm-success h = refused (3 ∷ 4 ∷ 5 ∷ 9 ∷ []) 0 refl ((causes map_bytes_small file_old 0 h).wasm.always 0 refl)
 
-no_wasm-no_json : Causes (record { map_bytes = codes "{"; module_bytes = [] }) 6 → ⊥
+no_wasm-no_json : Causes (codes "{") [] 6 → ⊥
 unfolding whole_on_literals
-no_wasm-no_json h = refused (3 ∷ 4 ∷ 5 ∷ 9 ∷ []) 6 refl ((causes (record { map_bytes = codes "{"; module_bytes = [] }) 6 h).wasm.always 0 refl)
+no_wasm-no_json h = refused (3 ∷ 4 ∷ 5 ∷ 9 ∷ []) 6 refl ((causes (codes "{") [] 6 h).wasm.always 0 refl)
 
-small-no_wasm : Causes input_small 5 → ⊥
+no_second_wasm-success : CausesOfTwo map_bytes_two file_small file_cut 0 → ⊥
 unfolding whole_on_literals
-small-no_wasm h = let found = (causes input_small 5 h).wasm.only refl in let impossible = found.1 in cc
+no_second_wasm-success h = refused (3 ∷ 4 ∷ 5 ∷ 9 ∷ []) 0 refl ((causes_of_two map_bytes_two file_small file_cut 0 h).wasm.always 9 refl)
 
--- the module of a file that is one
-abbrev pub wasm_in : Result WasmModule ℕ → WasmModule
-wasm_in (Ok m) = m
-wasm_in (Err place) = module_from_sections []
-
--- a map that is no JSON, one that lacks a function, and one that has its value
-abbrev pub input_brace : Input
-input_brace = record { map_bytes = codes "{"; module_bytes = file_small }
-
-abbrev pub input_missing : Input
-input_missing = record { map_bytes = map_bytes_missing; module_bytes = file_small }
-
-brace-success : Causes input_brace 0 → ⊥
+small-no_wasm : Causes map_bytes_small file_small 5 → ⊥
 unfolding whole_on_literals
-brace-success h = refused (3 ∷ 4 ∷ 6 ∷ 9 ∷ []) 0 refl ((causes input_brace 0 h).map_file.always (wasm_in (wasm_module file_small), refl, refl))
+small-no_wasm h = let found = (causes map_bytes_small file_small 5 h).wasm.only refl in let impossible = found.1 in cc
 
-function_missing-success : Causes input_missing 0 → ⊥
+-- of two modules that are none the first gives the place
+first_broken : wasm_modules (file_cut ∷ file_old ∷ []) ≡ Err 9
 unfolding whole_on_literals
-function_missing-success h = refused (3 ∷ 4 ∷ 6 ∷ 9 ∷ []) 0 refl ((causes input_missing 0 h).map_file.always (wasm_in (wasm_module file_small), refl, refl))
+first_broken = refl
+
+-- the modules of files that are such
+abbrev pub wasm_in : Result (List WasmModule) ℕ → List WasmModule
+wasm_in (Ok ws) = ws
+wasm_in (Err place) = []
+
+-- a map that is no JSON, one that lacks a function, one for another number of modules, and one that has its value
+brace-success : Causes (codes "{") file_small 0 → ⊥
+unfolding whole_on_literals
+brace-success h = refused (3 ∷ 4 ∷ 6 ∷ 9 ∷ []) 0 refl ((causes (codes "{") file_small 0 h).map_file.always (wasm_in (wasm_modules (file_small ∷ [])), refl, refl))
+
+function_missing-success : Causes map_bytes_missing file_small 0 → ⊥
+unfolding whole_on_literals
+function_missing-success h = refused (3 ∷ 4 ∷ 6 ∷ 9 ∷ []) 0 refl ((causes map_bytes_missing file_small 0 h).map_file.always (wasm_in (wasm_modules (file_small ∷ [])), refl, refl))
+
+module_missing-success : CausesOfTwo map_bytes_small file_small file_small 0 → ⊥
+unfolding whole_on_literals
+module_missing-success h = refused (3 ∷ 4 ∷ 6 ∷ 9 ∷ []) 0 refl ((causes_of_two map_bytes_small file_small file_small 0 h).map_file.always (wasm_in (wasm_modules (file_small ∷ file_small ∷ [])), refl, refl))
 
 -- the small file defines one function
-defines_one : (w : WasmModule) → wasm_module file_small ≡ Ok w → 1 ≡ w.defined
+defines_one : (ws : List WasmModule) → wasm_modules (file_small ∷ []) ≡ Ok ws → 1 ∷ [] ≡ defined_counts ws
 unfolding whole_on_literals
-defines_one w is = ap (λ r. (wasm_in r).defined) is
+defines_one ws is = ap (λ r. defined_counts (wasm_in r)) is
 
 -- and the small map has a value for it
-has_map : (w : WasmModule) → wasm_module file_small ≡ Ok w → map_of_bytes (w.defined ∷ []) map_bytes_small ≡ None → ⊥
-has_map w is none =
-    let nothing : map_of_bytes (1 ∷ []) map_bytes_small ≡ None = subst (λ n. map_of_bytes (n ∷ []) map_bytes_small ≡ None) (sym (defines_one w is)) none in
+has_map : (ws : List WasmModule) → wasm_modules (file_small ∷ []) ≡ Ok ws → map_of_bytes (defined_counts ws) map_bytes_small ≡ None → ⊥
+has_map ws is none =
+    let nothing : map_of_bytes (1 ∷ []) map_bytes_small ≡ None = subst (λ ns. map_of_bytes ns map_bytes_small ≡ None) (sym (defines_one ws is)) none in
     true≢false (ap is_some (sym map-small ∙ nothing))
 
-small-no_map : Causes input_small 6 → ⊥
-small-no_map h = let found = (causes input_small 6 h).map_file.only refl in has_map found.0 found.1 found.2
+small-no_map : Causes map_bytes_small file_small 6 → ⊥
+small-no_map h = let found = (causes map_bytes_small file_small 6 h).map_file.only refl in has_map found.0 found.1 found.2
 
 -- ---- what is said of an input that has a value
 
 -- what is said of it, where a value is read
-abbrev pub loaded_causes : (input : Input) (status : ℕ) (read : Loaded) → loaded input ≡ Some read → Causes input status → LoadedCauses read status
-loaded_causes input status read is_read h = (causes input status h).is_loaded read is_read
+abbrev pub loaded_causes : (m w : List ℕ) (status : ℕ) (read : Loaded) → loaded (of_one m w) ≡ Some read → Causes m w status → LoadedCauses read status
+loaded_causes m w status read is_read h = (causes m w status h).is_loaded read is_read
 
--- an address map that falls, and one that is good
-abbrev pub input_falls : Input
-input_falls = record { map_bytes = map_bytes_falls; module_bytes = file_small }
+abbrev pub loaded_causes_of_two : (m w x : List ℕ) (status : ℕ) (read : Loaded) → loaded (of_two m w x) ≡ Some read → CausesOfTwo m w x status → LoadedCauses read status
+loaded_causes_of_two m w x status read is_read h = (causes_of_two m w x status h).is_loaded read is_read
 
-abbrev pub read_of : Input → Loaded
-read_of input = read_in (loaded input)
+abbrev pub read_of : List ℕ → List ℕ → Loaded
+read_of m w = read_in (loaded (of_one m w))
 
-falls-success : Causes input_falls 0 → ⊥
+abbrev pub read_of_two : List ℕ → List ℕ → List ℕ → Loaded
+read_of_two m w x = read_in (loaded (of_two m w x))
+
+-- ---- two functions with one symbol
+
+-- the second module's function has the symbol of the first one's
+shared_numbers : shared_in (read_of_two map_bytes_shared file_small file_small) ≡ Some (0, 1)
 unfolding whole_on_literals
-falls-success h = refused (3 ∷ 4 ∷ 9 ∷ 13 ∷ []) 0 refl ((loaded_causes input_falls 0 (read_of input_falls) refl h).address_map.always refl)
+shared_numbers = refl
 
-falls-unreadable : Causes input_falls 10 → ⊥
+shared-success : CausesOfTwo map_bytes_shared file_small file_small 0 → ⊥
 unfolding whole_on_literals
-falls-unreadable h = refused (3 ∷ 4 ∷ 9 ∷ 13 ∷ []) 10 refl ((loaded_causes input_falls 10 (read_of input_falls) refl h).address_map.always refl)
+shared-success h = refused (3 ∷ 4 ∷ 9 ∷ 21 ∷ []) 0 refl ((loaded_causes_of_two map_bytes_shared file_small file_small 0 (read_of_two map_bytes_shared file_small file_small) refl h).shared.always refl)
 
-small-falls : Causes input_small 13 → ⊥
+-- also where an address map falls, and a place is unreadable
+shared-falls : CausesOfTwo map_bytes_shared_falls file_undeclared file_small 13 → ⊥
 unfolding whole_on_literals
-small-falls h = true≢false (sym ((loaded_causes input_small 13 read_small refl h).address_map.only refl))
+shared-falls h = refused (3 ∷ 4 ∷ 9 ∷ 21 ∷ []) 13 refl ((loaded_causes_of_two map_bytes_shared_falls file_undeclared file_small 13 (read_of_two map_bytes_shared_falls file_undeclared file_small) refl h).shared.always refl)
 
--- ---- what cannot be read, and what is not built
-
--- the 64-bit format: no success, though it has no units; nor a write fault, a section too large, or a place that is unreadable
-abbrev pub input_64 : Input
-input_64 = with_small_map file_64
-
-faults-64 : faults_of (loaded input_64) ≡ unsupported Format64 0 ∷ []
+shared-unreadable : CausesOfTwo map_bytes_shared_falls file_undeclared file_small 10 → ⊥
 unfolding whole_on_literals
-faults-64 = refl
+shared-unreadable h = refused (3 ∷ 4 ∷ 9 ∷ 21 ∷ []) 10 refl ((loaded_causes_of_two map_bytes_shared_falls file_undeclared file_small 10 (read_of_two map_bytes_shared_falls file_undeclared file_small) refl h).shared.always refl)
 
-format_64-of : (status : ℕ) → Causes input_64 status → IsOneOf (3 ∷ 4 ∷ 9 ∷ 10 ∷ 11 ∷ 13 ∷ []) status
+-- two functions with two symbols
+two-shared : CausesOfTwo map_bytes_two file_small file_small 21 → ⊥
 unfolding whole_on_literals
-format_64-of status h = (loaded_causes input_64 status (read_of input_64) refl h).unread (inl (λ e. cc))
+two-shared h = true≢false (sym ((loaded_causes_of_two map_bytes_two file_small file_small 21 (read_of_two map_bytes_two file_small file_small) refl h).shared.only refl))
 
-format_64-success : Causes input_64 0 → ⊥
-format_64-success h = refused (3 ∷ 4 ∷ 9 ∷ 10 ∷ 11 ∷ 13 ∷ []) 0 refl (format_64-of 0 h)
+-- ---- bad address maps
 
-format_64-write_fault : Causes input_64 8 → ⊥
-format_64-write_fault h = refused (3 ∷ 4 ∷ 9 ∷ 10 ∷ 11 ∷ 13 ∷ []) 8 refl (format_64-of 8 h)
-
-format_64-too_large : Causes input_64 20 → ⊥
-format_64-too_large h = refused (3 ∷ 4 ∷ 9 ∷ 10 ∷ 11 ∷ 13 ∷ []) 20 refl (format_64-of 20 h)
-
-format_64-unreadable : Causes input_64 10 → ⊥
+-- an address map that falls, also the second of two, and one that is good
+falls-success : Causes map_bytes_falls file_small 0 → ⊥
 unfolding whole_on_literals
-format_64-unreadable h = none_unreadable (list_any-from_Any is_unreadable (unsupported Format64 0 ∷ []) ((loaded_causes input_64 10 (read_of input_64) refl h).unreadable refl))
+falls-success h = refused (3 ∷ 4 ∷ 9 ∷ 13 ∷ 21 ∷ []) 0 refl ((loaded_causes map_bytes_falls file_small 0 (read_of map_bytes_falls file_small) refl h).address_map.always refl)
+
+falls-unreadable : Causes map_bytes_falls file_small 10 → ⊥
+unfolding whole_on_literals
+falls-unreadable h = refused (3 ∷ 4 ∷ 9 ∷ 13 ∷ 21 ∷ []) 10 refl ((loaded_causes map_bytes_falls file_small 10 (read_of map_bytes_falls file_small) refl h).address_map.always refl)
+
+second_falls-success : CausesOfTwo map_bytes_second_falls file_small file_small 0 → ⊥
+unfolding whole_on_literals
+second_falls-success h = refused (3 ∷ 4 ∷ 9 ∷ 13 ∷ 21 ∷ []) 0 refl ((loaded_causes_of_two map_bytes_second_falls file_small file_small 0 (read_of_two map_bytes_second_falls file_small file_small) refl h).address_map.always refl)
+
+small-falls : Causes map_bytes_small file_small 13 → ⊥
+unfolding whole_on_literals
+small-falls h = true≢false (sym ((loaded_causes map_bytes_small file_small 13 read_small refl h).address_map.only refl))
+
+-- ---- what is refused in reading
+
+-- a status that is not that of the first refusal is refused, unless it is one that comes earlier
+refused_always : (read : Loaded) (r : Refusal) (status : ℕ) → first_refusal (compilation_of read) ≡ Some r → is_status_among (3 ∷ 4 ∷ 9 ∷ 13 ∷ 21 ∷ refusal_status r ∷ []) status ≡ false → LoadedCauses read status → ⊥
+refused_always read r status is none h = refused (3 ∷ 4 ∷ 9 ∷ 13 ∷ 21 ∷ refusal_status r ∷ []) status none (h.refused.always r is)
+
+-- the 64-bit format: of its statuses but 11, none is answered, nor 0, 8 or 20
+refusal-64 : refusal_of (loaded (of_one map_bytes_small file_64)) ≡ Some (of_place (unsupported Format64 0))
+unfolding whole_on_literals
+refusal-64 = refl
+
+format_64 : (status : ℕ) → is_status_among (3 ∷ 4 ∷ 9 ∷ 13 ∷ 21 ∷ 11 ∷ []) status ≡ false → Causes map_bytes_small file_64 status → ⊥
+unfolding whole_on_literals
+format_64 status none h = refused_always (read_of map_bytes_small file_64) (of_place (unsupported Format64 0)) status refl none (loaded_causes map_bytes_small file_64 status (read_of map_bytes_small file_64) refl h)
+
+format_64-success : Causes map_bytes_small file_64 0 → ⊥
+format_64-success h = format_64 0 refl h
+
+format_64-write_fault : Causes map_bytes_small file_64 8 → ⊥
+format_64-write_fault h = format_64 8 refl h
+
+format_64-unreadable : Causes map_bytes_small file_64 10 → ⊥
+format_64-unreadable h = format_64 10 refl h
+
+format_64-no_file : Causes map_bytes_small file_64 12 → ⊥
+format_64-no_file h = format_64 12 refl h
+
+format_64-too_large : Causes map_bytes_small file_64 20 → ⊥
+format_64-too_large h = format_64 20 refl h
+
+-- a unit of version 5 without its type is unreadable
+refusal-5 : refusal_of (loaded (of_one map_bytes_small file_5)) ≡ Some (of_place (unreadable HeaderRead Info 0))
+unfolding whole_on_literals
+refusal-5 = refl
+
+-- an entry whose code is not declared: neither success nor a refused kind
+refusal-undeclared : refusal_of (loaded (of_one map_bytes_small file_undeclared)) ≡ Some (of_place (unreadable EntryRead Info 16))
+unfolding whole_on_literals
+refusal-undeclared = refl
+
+undeclared : (status : ℕ) → is_status_among (3 ∷ 4 ∷ 9 ∷ 13 ∷ 21 ∷ 10 ∷ []) status ≡ false → Causes map_bytes_small file_undeclared status → ⊥
+unfolding whole_on_literals
+undeclared status none h = refused_always (read_of map_bytes_small file_undeclared) (of_place (unreadable EntryRead Info 16)) status refl none (loaded_causes map_bytes_small file_undeclared status (read_of map_bytes_small file_undeclared) refl h)
+
+undeclared-success : Causes map_bytes_small file_undeclared 0 → ⊥
+undeclared-success h = undeclared 0 refl h
+
+undeclared-unsupported : Causes map_bytes_small file_undeclared 11 → ⊥
+undeclared-unsupported h = undeclared 11 refl h
+
+-- a file of a directory that is not there: neither success nor another refusal
+refusal-no_directory : refusal_of (loaded (of_one map_bytes_small file_no_directory)) ≡ Some (missing_file 0)
+unfolding whole_on_literals
+refusal-no_directory = refl
+
+no_directory : (status : ℕ) → is_status_among (3 ∷ 4 ∷ 9 ∷ 13 ∷ 21 ∷ 12 ∷ []) status ≡ false → Causes map_bytes_small file_no_directory status → ⊥
+unfolding whole_on_literals
+no_directory status none h = refused_always (read_of map_bytes_small file_no_directory) (missing_file 0) status refl none (loaded_causes map_bytes_small file_no_directory status (read_of map_bytes_small file_no_directory) refl h)
+
+no_directory-success : Causes map_bytes_small file_no_directory 0 → ⊥
+no_directory-success h = no_directory 0 refl h
+
+no_directory-unreadable : Causes map_bytes_small file_no_directory 10 → ⊥
+no_directory-unreadable h = no_directory 10 refl h
+
+no_directory-unsupported : Causes map_bytes_small file_no_directory 11 → ⊥
+no_directory-unsupported h = no_directory 11 refl h
+
+-- a compressed section stands before all other places of its module
+refusal-compressed : refusal_of (loaded (of_one map_bytes_small file_compressed)) ≡ Some (of_place (unsupported Compressed 180))
+unfolding whole_on_literals
+refusal-compressed = refl
+
+refusal-two_faults : refusal_of (loaded (of_one map_bytes_small file_two_faults)) ≡ Some (of_place (unsupported Compressed 180))
+unfolding whole_on_literals
+refusal-two_faults = refl
+
+two_faults-unreadable : Causes map_bytes_small file_two_faults 10 → ⊥
+unfolding whole_on_literals
+two_faults-unreadable h = refused_always (read_of map_bytes_small file_two_faults) (of_place (unsupported Compressed 180)) 10 refl refl (loaded_causes map_bytes_small file_two_faults 10 (read_of map_bytes_small file_two_faults) refl h)
+
+-- of two modules the first one's refusal comes first, also where it is found later in its module
+refusal-first : refusal_of (loaded (of_two map_bytes_two file_no_directory file_compressed)) ≡ Some (missing_file 0)
+unfolding whole_on_literals
+refusal-first = refl
+
+-- and the second one's where the first is read
+refusal-second : refusal_of (loaded (of_two map_bytes_two file_small file_64)) ≡ Some (of_place (unsupported Format64 0))
+unfolding whole_on_literals
+refusal-second = refl
+
+second-success : CausesOfTwo map_bytes_two file_small file_64 0 → ⊥
+unfolding whole_on_literals
+second-success h = refused_always (read_of_two map_bytes_two file_small file_64) (of_place (unsupported Format64 0)) 0 refl refl (loaded_causes_of_two map_bytes_two file_small file_64 0 (read_of_two map_bytes_two file_small file_64) refl h)
+
+-- nothing of the small input is refused
+small-refused : (status : ℕ) → IsOneOf (10 ∷ 11 ∷ 12 ∷ []) status → Causes map_bytes_small file_small status → ⊥
+unfolding whole_on_literals
+small-refused status one h = let impossible = (loaded_causes map_bytes_small file_small status read_small refl h).refused.only one in none≢some impossible
   where
-    none_unreadable : list_any is_unreadable (unsupported Format64 0 ∷ []) ≡ true → ⊥
-    none_unreadable e = true≢false (sym e)
-
--- a unit of version 5: no success, though all that is reached could be read
-abbrev pub input_5 : Input
-input_5 = with_small_map file_5
-
-version_5-success : Causes input_5 0 → ⊥
-unfolding whole_on_literals
-version_5-success h = refused (3 ∷ 4 ∷ 9 ∷ 10 ∷ 11 ∷ 13 ∷ []) 0 refl ((loaded_causes input_5 0 (read_of input_5) refl h).unread (inr refl))
-
--- an entry whose code is not declared: no success, and nothing of a refused kind
-abbrev pub input_undeclared : Input
-input_undeclared = with_small_map file_undeclared
-
-faults-undeclared : faults_of (loaded input_undeclared) ≡ unreadable EntryRead Info 16 ∷ []
-unfolding whole_on_literals
-faults-undeclared = refl
-
-undeclared-success : Causes input_undeclared 0 → ⊥
-unfolding whole_on_literals
-undeclared-success h = refused (3 ∷ 4 ∷ 9 ∷ 10 ∷ 11 ∷ 13 ∷ []) 0 refl ((loaded_causes input_undeclared 0 (read_of input_undeclared) refl h).unread (inl (λ e. cc)))
-
--- whether a fault is of a refused kind
-abbrev pub is_refused_kind : Fault → Bool
-is_refused_kind f = not (is_unreadable f)
-
--- status 11 says that some fault is of a refused kind, or that the input is not built
-unsupported-only : (read : Loaded) → list_any is_refused_kind (reached_faults (compilation_of read)) ≡ false → is_all_built (compilation_of read) ≡ true → LoadedCauses read 11 → ⊥
-unsupported-only read none built h = go (h.unsupported refl)
-  where
-    go : Any (λ f. is_unreadable f ≡ false) (reached_faults (compilation_of read)) ⊎ (is_all_built (compilation_of read) ≡ false) → ⊥
-    go (inl found) = false≢true (sym none ∙ list_any-from_Any is_refused_kind _ (found.0, found.1, found.2, found.3, ap not found.4))
-    go (inr unbuilt) = false≢true (sym unbuilt ∙ built)
-
-undeclared-unsupported : Causes input_undeclared 11 → ⊥
-unfolding whole_on_literals
-undeclared-unsupported h = unsupported-only (read_of input_undeclared) refl refl (loaded_causes input_undeclared 11 (read_of input_undeclared) refl h)
-
--- a compressed section: no success
-abbrev pub input_compressed : Input
-input_compressed = with_small_map file_compressed
-
-compressed-success : Causes input_compressed 0 → ⊥
-unfolding whole_on_literals
-compressed-success h = refused (3 ∷ 4 ∷ 9 ∷ 10 ∷ 11 ∷ 13 ∷ []) 0 refl ((loaded_causes input_compressed 0 (read_of input_compressed) refl h).unread (inl (λ e. cc)))
-
--- the small input is read and built whole
-small-unreadable : Causes input_small 10 → ⊥
-unfolding whole_on_literals
-small-unreadable h = true≢false (sym (list_any-from_Any is_unreadable [] ((loaded_causes input_small 10 read_small refl h).unreadable refl)))
-
-small-unsupported : Causes input_small 11 → ⊥
-unfolding whole_on_literals
-small-unsupported h = unsupported-only read_small refl refl (loaded_causes input_small 11 read_small refl h)
+    none≢some : ◌≡◌ {A = Option ℕ} None (Some status) → ⊥
+    none≢some e = cc
 
 -- ---- a section that is too large
 
@@ -323,51 +399,56 @@ small-widest StrOffsets = lit< tt
 small-widest CuIndex = lit< tt
 small-widest Frame = lit< tt
 
-small-too_large : Causes input_small 20 → ⊥
+small-too_large : Causes map_bytes_small file_small 20 → ⊥
 small-too_large h =
-    let found = (loaded_causes input_small 20 read_small small-read h).too_large refl in
+    let found = (loaded_causes map_bytes_small file_small 20 read_small small-read h).too_large refl in
     let small = small-widest found.0 in
     omega (arith, small, found.1)
 
 -- ---- a run answers no other status
 
 status-1 : IsStatus 1 → ⊥
-status-1 h = refused (0 ∷ 2 ∷ 3 ∷ 4 ∷ 5 ∷ 6 ∷ 8 ∷ 9 ∷ 10 ∷ 11 ∷ 13 ∷ 20 ∷ []) 1 refl h
+status-1 h = refused (0 ∷ 2 ∷ 3 ∷ 4 ∷ 5 ∷ 6 ∷ 8 ∷ 9 ∷ 10 ∷ 11 ∷ 12 ∷ 13 ∷ 20 ∷ 21 ∷ []) 1 refl h
 
 status-7 : IsStatus 7 → ⊥
-status-7 h = refused (0 ∷ 2 ∷ 3 ∷ 4 ∷ 5 ∷ 6 ∷ 8 ∷ 9 ∷ 10 ∷ 11 ∷ 13 ∷ 20 ∷ []) 7 refl h
+status-7 h = refused (0 ∷ 2 ∷ 3 ∷ 4 ∷ 5 ∷ 6 ∷ 8 ∷ 9 ∷ 10 ∷ 11 ∷ 12 ∷ 13 ∷ 20 ∷ 21 ∷ []) 7 refl h
 
-status-12 : IsStatus 12 → ⊥
-status-12 h = refused (0 ∷ 2 ∷ 3 ∷ 4 ∷ 5 ∷ 6 ∷ 8 ∷ 9 ∷ 10 ∷ 11 ∷ 13 ∷ 20 ∷ []) 12 refl h
+status-14 : IsStatus 14 → ⊥
+status-14 h = refused (0 ∷ 2 ∷ 3 ∷ 4 ∷ 5 ∷ 6 ∷ 8 ∷ 9 ∷ 10 ∷ 11 ∷ 12 ∷ 13 ∷ 20 ∷ 21 ∷ []) 14 refl h
 
 -- ---- where all is well, a run succeeds or wants memory
 
 -- the small run is well
 valid-small : IsValid read_small
 unfolding whole_on_literals
-valid-small = record { maps = refl; readable = refl; built = refl; small = small-widest }
+valid-small = record { distinct = refl; maps = refl; accepted = refl; small = small-widest }
 
-well-small : (reads writes : ℕ) → reads < 9 → writes < 9 → RunsWell (Some (two_files input_small)) right_words reads reads writes writes
+-- its files are short
+short_small : All (λ bytes. length bytes ≤ most_bytes) (map_bytes_small ∷ file_small ∷ [])
+short_small zero d within = lit≤ tt
+short_small (suc zero) d within = lit≤ tt
+short_small (suc (suc k)) d within = absurd (omega (arith, within))
+
+well-small : (reads writes : ℕ) → reads < 9 → writes < 9 → RunsWell (Some (three_files map_bytes_small file_small [])) right_words reads reads writes writes
 well-small reads writes few fewer = record {
   input = input_small;
-  named = names input_small;
+  named = names map_bytes_small file_small [];
   read = read_small;
   is_read = small-read;
-  short_map = lit≤ tt;
-  short_module = lit≤ tt;
+  short = short_small;
   reads = λ rose. omega (arith, rose);
   writes = λ rose. omega (arith, rose);
   valid = valid-small;
 }
 
 -- each refusal of it is refused, whatever its cause
-well-refused : (status : ℕ) → is_status_among (0 ∷ 9 ∷ []) status ≡ false → (RunsWell (Some (two_files input_small)) right_words 0 0 0 0 → IsOneOf (0 ∷ 9 ∷ []) status) → ⊥
+well-refused : (status : ℕ) → is_status_among (0 ∷ 9 ∷ []) status ≡ false → (RunsWell (Some (three_files map_bytes_small file_small [])) right_words 0 0 0 0 → IsOneOf (0 ∷ 9 ∷ []) status) → ⊥
 well-refused status none clause = refused (0 ∷ 9 ∷ []) status none (clause (well-small 0 0 (lit< tt) (lit< tt)))
 
-well-read_fault : (RunsWell (Some (two_files input_small)) right_words 0 0 0 0 → IsOneOf (0 ∷ 9 ∷ []) 3) → ⊥
+well-read_fault : (RunsWell (Some (three_files map_bytes_small file_small [])) right_words 0 0 0 0 → IsOneOf (0 ∷ 9 ∷ []) 3) → ⊥
 well-read_fault clause = well-refused 3 refl clause
 
-well-too_large : (RunsWell (Some (two_files input_small)) right_words 0 0 0 0 → IsOneOf (0 ∷ 9 ∷ []) 20) → ⊥
+well-too_large : (RunsWell (Some (three_files map_bytes_small file_small [])) right_words 0 0 0 0 → IsOneOf (0 ∷ 9 ∷ []) 20) → ⊥
 well-too_large clause = well-refused 20 refl clause
 
 -- ---- nothing is written but with 0 and 8

@@ -10,20 +10,20 @@ use Rattle.dwc_base.specs.LineRows.{Segment}
 use Rattle.dwc_base.specs.Images.{IsImageOf, is_carried_segment}
 use Rattle.dwc_base.specs.Outputs.{OutputSection, output_sections, function}
 use Rattle.dwc_base.specs.Carried.{Module, units, segments_of_unit, carried_units, CarriesUnit, LinesCarried}
-use Rattle.dwc_base.specs.Reached.{reached_faults}
-use Rattle.dwc_base.specs.FirstForm.{is_all_built}
+use Rattle.dwc_base.specs.Refusals.{first_refusal}
 use Rattle.dwc_base.proofs.LineTables.{at_line, function_small, segments_small}
 use Rattle.dwc_base.proofs.CarriedSmall.{module_small, unit_small, unit_out, image_small, image-small}
 use Rattle.dwc_base.proofs.WorkedImages.{Zipped, segment, image, image_in, not_image-at}
 use Rattle.dwc_cli.specs.Inputs.{Loaded, loaded, compilation_of}
 use Rattle.dwc_cli.specs.Printed.{printed, is_plain, line_feed}
 use Rattle.dwc_cli.specs.RunStatus.{Carries, Succeeds, FrontCarries, PrefixWritten}
-use Rattle.dwc_cli.proofs.Examples.{output_small}
+use Rattle.dwc_base.proofs.SmallModule.{file_small}
+use Rattle.dwc_cli.proofs.Examples.{map_bytes_small, output_small}
 use Rattle.dwc_cli.proofs.PrintedLaws.{printed_injective}
 use Rattle.dwc_cli.proofs.OnLiterals.{printed_on_literals}
 use Rattle.dwc_cli.proofs.WholeRun.{whole_on_literals, input_small, read_in, read_small, lines_carried-small}
-use Rattle.dwc_cli.proofs.BrokenInputs.{file_bare, file_64, file_5, with_small_map}
-use Rattle.dwc_cli.proofs.Answers.{two_files, right_words, names}
+use Rattle.dwc_cli.proofs.BrokenInputs.{file_bare, file_64, file_no_directory, with_small_map}
+use Rattle.dwc_cli.proofs.Answers.{three_files, right_words, names}
 use Rattle.dwc_cli.proofs.Refused.{small-read}
 
 -- ---- the sections that a text stands for
@@ -39,8 +39,8 @@ sections_of known plain h =
     subst (λ s. LinesCarried (compilation_of read_small) s) same (subst (λ r. LinesCarried (compilation_of r) h.sections) reads h.carried)
 
 -- so a text of other sections is no answer 0
-refused-text : (known : List OutputSection) → list_all is_plain known ≡ true → (LinesCarried (compilation_of read_small) known → ⊥) → Succeeds (Some (two_files input_small)) right_words (Some []) (Some (printed known)) → ⊥
-refused-text known plain wrong h = wrong (sections_of known plain (h input_small (names input_small)))
+refused-text : (known : List OutputSection) → list_all is_plain known ≡ true → (LinesCarried (compilation_of read_small) known → ⊥) → Succeeds (Some (three_files map_bytes_small file_small [])) right_words (Some []) (Some (printed known)) → ⊥
+refused-text known plain wrong h = wrong (sections_of known plain (h input_small (names map_bytes_small file_small [])))
 
 -- ---- no text at all
 
@@ -55,7 +55,7 @@ nothing_carried h =
     let items : h.output ≡ [] = ap (λ l. l.items) (sym h.output_read ∙ no_units) in
     subst (λ us. AllZip (CarriesUnit (output_sections Little [])) (carried_units (compilation_of read_small)) us) items h.each
 
-empty_text : Succeeds (Some (two_files input_small)) right_words (Some []) (Some []) → ⊥
+empty_text : Succeeds (Some (three_files map_bytes_small file_small [])) right_words (Some []) (Some []) → ⊥
 unfolding printed
 empty_text h = refused-text [] refl nothing_carried h
 
@@ -123,7 +123,7 @@ wrong_line_carried h =
     let is_image = image_in (segment 2 (at_line 0 1 ∷ at_line 3 2 ∷ at_line 8 3 ∷ []) (Some 11)) (image (at_line 0 2 ∷ at_line 15 4 ∷ [])) refl zipped.0 in
     not_image-at 15 2 (at_line 0 1 ∷ at_line 3 2 ∷ at_line 8 3 ∷ []) (Some 11) (at_line 0 2 ∷ at_line 15 4 ∷ []) refl (λ e. omega (arith, e)) is_image
 
-wrong_line : Succeeds (Some (two_files input_small)) right_words (Some []) (Some (printed output_wrong)) → ⊥
+wrong_line : Succeeds (Some (three_files map_bytes_small file_small [])) right_words (Some []) (Some (printed output_wrong)) → ⊥
 wrong_line h = refused-text output_wrong refl wrong_line_carried h
 
 -- ---- a name with a line feed
@@ -158,8 +158,8 @@ in_sight_carried : LinesCarried (compilation_of read_small) output_in_sight → 
 unfolding whole_on_literals
 in_sight_carried h = let none : (units (output_sections Little output_in_sight)).fault ≡ None = ap (λ l. l.fault) h.output_read in true≢false (ap is_some (sym fault-in_sight ∙ none))
 
-hidden_name : Succeeds (Some (two_files input_small)) right_words (Some []) (Some (printed output_hidden)) → ⊥
-hidden_name h = refused-text output_in_sight refl in_sight_carried (subst (λ text. Succeeds (Some (two_files input_small)) right_words (Some []) (Some text)) same_text-hidden h)
+hidden_name : Succeeds (Some (three_files map_bytes_small file_small [])) right_words (Some []) (Some (printed output_hidden)) → ⊥
+hidden_name h = refused-text output_in_sight refl in_sight_carried (subst (λ text. Succeeds (Some (three_files map_bytes_small file_small [])) right_words (Some []) (Some text)) same_text-hidden h)
 
 -- ---- what was written before
 
@@ -170,9 +170,9 @@ first_byte [] e = omega (arith, e)
 first_byte (s ∷ ss) e = omega (arith, e)
 
 -- so an answer that drops what was written before is refused
-earlier_dropped : Succeeds (Some (two_files input_small)) right_words (Some (1 ∷ [])) (Some (printed output_small)) → ⊥
+earlier_dropped : Succeeds (Some (three_files map_bytes_small file_small [])) right_words (Some (1 ∷ [])) (Some (printed output_small)) → ⊥
 earlier_dropped h =
-    let carries = h input_small (names input_small) in
+    let carries = h input_small (names map_bytes_small file_small []) in
     let text : ◌≡◌ {A = Option (List ℕ)} (Some (printed output_small)) (Some (1 ∷ printed carries.sections)) = carries.written in
     let texts : printed output_small ≡ 1 ∷ printed carries.sections = cc in
     first_byte output_small (ap (λ t. get_or t 0 0) texts)
@@ -186,9 +186,9 @@ front_of_text sections zero e = omega (arith, ap (λ t. get_or t 0 0) e)
 front_of_text [] (suc count) e = omega (arith, ap (λ t. get_or t 0 0) e)
 front_of_text (s ∷ ss) (suc count) e = omega (arith, ap (λ t. get_or t 0 0) e)
 
-no_front : PrefixWritten (Some (two_files input_small)) right_words (Some []) (Some (120 ∷ [])) → ⊥
+no_front : PrefixWritten (Some (three_files map_bytes_small file_small [])) right_words (Some []) (Some (120 ∷ [])) → ⊥
 no_front h =
-    let carries = h input_small (names input_small) in
+    let carries = h input_small (names map_bytes_small file_small []) in
     let text : ◌≡◌ {A = Option (List ℕ)} (Some (120 ∷ [])) (Some (take carries.count (printed carries.sections))) = carries.written in
     let texts : take carries.count (printed carries.sections) ≡ 120 ∷ [] = cc in
     front_of_text carries.sections carries.count texts
@@ -196,45 +196,42 @@ no_front h =
 -- the first ten bytes of the wanted text are one
 front-small : FrontCarries input_small (Some []) (Some (codes "section .d"))
 unfolding whole_on_literals printed_on_literals
-front-small = record { read = read_small; is_read = refl; readable = refl; built = refl; sections = output_small; plain = refl; carried = lines_carried-small; count = 10; written = refl }
+front-small = record { read = read_small; is_read = refl; accepted = refl; sections = output_small; plain = refl; carried = lines_carried-small; count = 10; written = refl }
 
--- ---- inputs that are not read to their end: no text, nor a front of one
+-- ---- inputs of which something is refused: no text, nor a front of one
 
 abbrev pub read_of : List ℕ → Loaded
 read_of file = read_in (loaded (with_small_map file))
 
--- an answer that says of an input that all that is reached was read
-readable-of : (file : List ℕ) (read : Loaded) → loaded (with_small_map file) ≡ Some (read_of file) → loaded (with_small_map file) ≡ Some read → reached_faults (compilation_of read) ≡ [] → reached_faults (compilation_of (read_of file)) ≡ []
-readable-of file read known is_read readable = let same : read ≡ read_of file = cc in subst (λ r. reached_faults (compilation_of r) ≡ []) same readable
+-- an answer that says of an input that nothing of it is refused
+accepted-of : (file : List ℕ) (read : Loaded) → loaded (with_small_map file) ≡ Some (read_of file) → loaded (with_small_map file) ≡ Some read → first_refusal (compilation_of read) ≡ None → first_refusal (compilation_of (read_of file)) ≡ None
+accepted-of file read known is_read accepted = let same : read ≡ read_of file = cc in subst (λ r. first_refusal (compilation_of r) ≡ None) same accepted
 
-faults-64 : reached_faults (compilation_of (read_of file_64)) ≡ [] → ⊥
+refused-64 : first_refusal (compilation_of (read_of file_64)) ≡ None → ⊥
 unfolding whole_on_literals
-faults-64 e = cc
+refused-64 e = cc
 
 read-64 : loaded (with_small_map file_64) ≡ Some (read_of file_64)
 unfolding whole_on_literals
 read-64 = refl
 
-format_64-text : (before now : Option (List ℕ)) → Succeeds (Some (two_files (with_small_map file_64))) right_words before now → ⊥
-format_64-text before now h = let carries = h _ (names (with_small_map file_64)) in faults-64 (readable-of file_64 carries.read read-64 carries.is_read carries.readable)
+format_64-text : (before now : Option (List ℕ)) → Succeeds (Some (three_files map_bytes_small file_64 [])) right_words before now → ⊥
+format_64-text before now h = let carries = h _ (names map_bytes_small file_64 []) in refused-64 (accepted-of file_64 carries.read read-64 carries.is_read carries.accepted)
 
-format_64-front : (before now : Option (List ℕ)) → PrefixWritten (Some (two_files (with_small_map file_64))) right_words before now → ⊥
-format_64-front before now h = let carries = h _ (names (with_small_map file_64)) in faults-64 (readable-of file_64 carries.read read-64 carries.is_read carries.readable)
+format_64-front : (before now : Option (List ℕ)) → PrefixWritten (Some (three_files map_bytes_small file_64 [])) right_words before now → ⊥
+format_64-front before now h = let carries = h _ (names map_bytes_small file_64 []) in refused-64 (accepted-of file_64 carries.read read-64 carries.is_read carries.accepted)
 
--- an answer that says of an input that it is built
-built-of : (file : List ℕ) (read : Loaded) → loaded (with_small_map file) ≡ Some (read_of file) → loaded (with_small_map file) ≡ Some read → is_all_built (compilation_of read) ≡ true → is_all_built (compilation_of (read_of file)) ≡ true
-built-of file read known is_read built = let same : read ≡ read_of file = cc in subst (λ r. is_all_built (compilation_of r) ≡ true) same built
-
-built-5 : is_all_built (compilation_of (read_of file_5)) ≡ true → ⊥
+-- a file of a directory that is not there
+refused-no_directory : first_refusal (compilation_of (read_of file_no_directory)) ≡ None → ⊥
 unfolding whole_on_literals
-built-5 e = true≢false (sym e)
+refused-no_directory e = cc
 
-read-5 : loaded (with_small_map file_5) ≡ Some (read_of file_5)
+read-no_directory : loaded (with_small_map file_no_directory) ≡ Some (read_of file_no_directory)
 unfolding whole_on_literals
-read-5 = refl
+read-no_directory = refl
 
-version_5-text : (before now : Option (List ℕ)) → Succeeds (Some (two_files (with_small_map file_5))) right_words before now → ⊥
-version_5-text before now h = let carries = h _ (names (with_small_map file_5)) in built-5 (built-of file_5 carries.read read-5 carries.is_read carries.built)
+no_directory-text : (before now : Option (List ℕ)) → Succeeds (Some (three_files map_bytes_small file_no_directory [])) right_words before now → ⊥
+no_directory-text before now h = let carries = h _ (names map_bytes_small file_no_directory []) in refused-no_directory (accepted-of file_no_directory carries.read read-no_directory carries.is_read carries.accepted)
 
 -- ---- a module without sections of DWARF: the empty text is an answer 0
 
@@ -245,4 +242,4 @@ whole-bare (suc k) d h = absurd (omega arith)
 
 carries-bare : Carries (with_small_map file_bare) (Some []) (Some [])
 unfolding whole_on_literals printed_on_literals
-carries-bare = record { read = read_of file_bare; is_read = refl; readable = refl; built = refl; sections = []; plain = refl; carried = record { whole = whole-bare; output = []; output_read = refl; each = tt }; written = refl }
+carries-bare = record { read = read_of file_bare; is_read = refl; accepted = refl; sections = []; plain = refl; carried = record { whole = whole-bare; output = []; output_read = refl; each = tt }; written = refl }

@@ -1,65 +1,44 @@
 -- What is said of a run at each place where it ends.
-use Rattle.std.proofs.Common.{◌≡◌, ℕ, zero, suc, ◌<◌, List, [], ◌∷◌, length, true, false, Option, Some, refl, sym, ap, ◌∙◌, subst, arith, ◌⊎◌, inl, inr, ⊎_elim}
-use Rattle.std.specs.Prelude.{unwrap_or}
-use Rattle.std.specs.FinMap as map
-use Rattle.dwc_cli.specs.Inputs.{Paths, paths_of, Input}
-use Rattle.dwc_cli.specs.RunStatus.{Files, Names, IsOneOf, IsTooLong, InputCauses, RunsWell, Rose, most_bytes}
-use Rattle.dwc_cli.specs.Edge.{IsFile, IsLongFile}
-use Rattle.dwc_cli.specs.Answers.{IsInput, TextCauses, IsReadingStatus}
-use Rattle.std.specs.List.{list_all}
+use Rattle.std.proofs.Common.{◌≡◌, ℕ, zero, suc, List, [], ◌∷◌, take, false, Option, Some, refl, sym, ◌∙◌, subst, arith}
+use Rattle.std.specs.Prelude.{Any}
+use Rattle.dwc_base.specs.Sections.{unreadable, unsupported}
+use Rattle.dwc_base.specs.Refusals.{Refusal, of_place, missing_file}
+use Rattle.dwc_cli.specs.Inputs.{Paths, paths_of, all_paths, Input, Loaded}
+use Rattle.dwc_cli.specs.RunStatus.{Files, Appended, IsOneOf, Succeeds, PrefixWritten, MissingCause, refusal_status, LoadedCauses, InputCauses, RunsWell, Rose}
+use Rattle.dwc_cli.specs.Edge.{IsLongFile, AppendsFront}
+use Rattle.dwc_cli.specs.Answers.{IsInput, CarriesText, TextCauses, GivesText, IsReadingStatus, reading_statuses}
 use Rattle.dwc_cli.proofs.Statuses.{is_one_of, IsOneOf-from, IsOneOf-more, IsOneOf-other}
-
-same_some : {A : Type 0} (x y : A) → Some x ≡ Some y → x ≡ y
-same_some x y e = ap (λ o. unwrap_or o x) e
-
--- two paths that the same words name
-pub same_paths : (words : List (List ℕ)) (p q : Paths) → paths_of words ≡ Some p → paths_of words ≡ Some q → p ≡ q
-same_paths words p q a b = same_some p q (sym a ∙ b)
-
--- the bytes that were read of a file are its bytes
-same_file : (files : Option Files) (told : Files) (path bytes others : List ℕ) → files ≡ Some told → IsFile files path bytes → map.get told path ≡ Some others → bytes ≡ others
-same_file files told path bytes others tells is_file is = same_some bytes others (sym (subst (λ f. IsFile f path bytes) tells is_file) ∙ is)
-
--- a file that is told and too long
-long_file : (files : Option Files) (told : Files) (path bytes : List ℕ) → files ≡ Some told → IsLongFile files path → map.get told path ≡ Some bytes → most_bytes < length bytes
-long_file files told path bytes tells long is =
-    let found = subst (λ f. IsLongFile f path) tells long in
-    subst (λ b. most_bytes < length b) (same_some found.0 bytes (sym found.1 ∙ is)) found.2
-
--- what was read is the input that the words name
-pub same_input : (files : Option Files) (words : List (List ℕ)) (p : Paths) (read named : Input) → paths_of words ≡ Some p → IsInput files p read → Names files words named → read ≡ named
-same_input files words p read named is_p is_input names =
-    let paths = same_paths words names.paths p names.are_paths is_p in
-    let a = same_file files names.told p.map_path read.map_bytes named.map_bytes names.tells is_input.map_file (subst (λ q. map.get names.told q.map_path ≡ Some named.map_bytes) paths names.map_bytes) in
-    let b = same_file files names.told p.module_path read.module_bytes named.module_bytes names.tells is_input.module_file (subst (λ q. map.get names.told q.module_path ≡ Some named.module_bytes) paths names.module_bytes) in
-    λ i. record { map_bytes = a i; module_bytes = b i }
-
--- a file that was too long when it was read makes the input too long
-too_long_named : (files : Option Files) (words : List (List ℕ)) (p : Paths) (input : Input) → paths_of words ≡ Some p → Names files words input → IsLongFile files p.map_path ⊎ IsLongFile files p.module_path → IsTooLong input
-too_long_named files words p input is_p names long =
-    let paths = same_paths words names.paths p names.are_paths is_p in
-    ⊎_elim
-    (λ l. inl (long_file files names.told p.map_path input.map_bytes names.tells l (subst (λ q. map.get names.told q.map_path ≡ Some input.map_bytes) paths names.map_bytes)))
-    (λ l. inr (long_file files names.told p.module_path input.module_bytes names.tells l (subst (λ q. map.get names.told q.module_path ≡ Some input.module_bytes) paths names.module_bytes)))
-    long
+use Rattle.dwc_cli.proofs.NamedFiles.{same_input, too_long_named, short_input, lacks_none, not_long}
 
 -- ---- a file that cannot be read
 
-pub InputCauses-reading : (files : Option Files) (words : List (List ℕ)) (p : Paths) (status : ℕ) → paths_of words ≡ Some p → IsReadingStatus status → (status ≡ 4 → IsLongFile files p.map_path ⊎ IsLongFile files p.module_path) → InputCauses files words status
+LoadedCauses-reading : (read : Loaded) (status : ℕ) → IsReadingStatus status → LoadedCauses read status
+LoadedCauses-reading read status one =
+    let other = λ (s : ℕ) (none : is_one_of reading_statuses s ≡ false) (same : status ≡ s). IsOneOf-other reading_statuses status s one none same in
+    record {
+      shared = record { only = λ e. absurd (other 21 refl e); always = λ _. IsOneOf-more reading_statuses (3 ∷ 4 ∷ 9 ∷ 21 ∷ []) status refl one };
+      address_map = record { only = λ e. absurd (other 13 refl e); always = λ _. IsOneOf-more reading_statuses (3 ∷ 4 ∷ 9 ∷ 13 ∷ 21 ∷ []) status refl one };
+      refused = record {
+        only = λ found. absurd (none_of found);
+        always = λ r _. IsOneOf-more reading_statuses (3 ∷ 4 ∷ 9 ∷ 13 ∷ 21 ∷ refusal_status r ∷ []) status refl one;
+      };
+      too_large = λ e. absurd (other 20 refl e);
+    }
+  where
+    none_of : IsOneOf (10 ∷ 11 ∷ 12 ∷ []) status → ⊥
+    none_of (zero, x, within, is, same) = IsOneOf-other reading_statuses status 10 one refl (sym (is ∙ same))
+    none_of (suc zero, x, within, is, same) = IsOneOf-other reading_statuses status 11 one refl (sym (is ∙ same))
+    none_of (suc (suc zero), x, within, is, same) = IsOneOf-other reading_statuses status 12 one refl (sym (is ∙ same))
+    none_of (suc (suc (suc k)), x, within, is, same) = omega (arith, within)
+
+pub InputCauses-reading : (files : Option Files) (words : List (List ℕ)) (p : Paths) (status : ℕ) → paths_of words ≡ Some p → IsReadingStatus status → (status ≡ 4 → Any (IsLongFile files) (all_paths p)) → InputCauses files words status
 InputCauses-reading files words p status is_p one long =
-    let other = λ (s : ℕ) (none : is_one_of (3 ∷ 4 ∷ 9 ∷ []) s ≡ false) (same : status ≡ s). IsOneOf-other (3 ∷ 4 ∷ 9 ∷ []) status s one none same in
-    let among = λ (more : List ℕ) (all : list_all (is_one_of more) (3 ∷ 4 ∷ 9 ∷ []) ≡ true). IsOneOf-more (3 ∷ 4 ∷ 9 ∷ []) more status all one in
+    let other = λ (s : ℕ) (none : is_one_of reading_statuses s ≡ false) (same : status ≡ s). IsOneOf-other reading_statuses status s one none same in
     λ input names. record {
       too_long = record { only = λ e. too_long_named files words p input is_p names (long e); always = λ _. one };
-      wasm = record { only = λ e. absurd (other 5 refl e); always = λ _ _. among (3 ∷ 4 ∷ 5 ∷ 9 ∷ []) refl };
-      map_file = record { only = λ e. absurd (other 6 refl e); always = λ _. among (3 ∷ 4 ∷ 6 ∷ 9 ∷ []) refl };
-      is_loaded = λ read is_read. record {
-        address_map = record { only = λ e. absurd (other 13 refl e); always = λ _. among (3 ∷ 4 ∷ 9 ∷ 13 ∷ []) refl };
-        unreadable = λ e. absurd (other 10 refl e);
-        unsupported = λ e. absurd (other 11 refl e);
-        unread = λ _. among (3 ∷ 4 ∷ 9 ∷ 10 ∷ 11 ∷ 13 ∷ []) refl;
-        too_large = λ e. absurd (other 20 refl e);
-      };
+      wasm = record { only = λ e. absurd (other 5 refl e); always = λ _ _. IsOneOf-more reading_statuses (3 ∷ 4 ∷ 5 ∷ 9 ∷ []) status refl one };
+      map_file = record { only = λ e. absurd (other 6 refl e); always = λ _. IsOneOf-more reading_statuses (3 ∷ 4 ∷ 6 ∷ 9 ∷ []) status refl one };
+      is_loaded = λ read _. LoadedCauses-reading read status one;
     }
 
 -- ---- files that were read
@@ -69,15 +48,47 @@ pub InputCauses-text : (files : Option Files) (words : List (List ℕ)) (p : Pat
 InputCauses-text files words p read status is_p is_input causes not_four = λ input names.
     let same = same_input files words p read input is_p is_input names in
     let said : TextCauses input status = subst (λ i. TextCauses i status) same causes in
-    let short = subst (λ i. IsInput files p i) same is_input in
     record {
       too_long = record {
         only = λ e. absurd (not_four e);
-        always = λ long. absurd (⊎_elim (λ l. omega (arith, l, short.short_map)) (λ l. omega (arith, l, short.short_module)) long);
+        always = λ long. absurd (short_input files p input (subst (λ i. IsInput files p i) same is_input) long);
       };
       wasm = said.wasm;
       map_file = said.map_file;
       is_loaded = said.is_loaded;
+    }
+
+-- where all files were read, none is missing
+pub MissingCause-read : (files : Option Files) (words : List (List ℕ)) (p : Paths) (read : Input) (status : ℕ) → paths_of words ≡ Some p → IsInput files p read → MissingCause files words status
+MissingCause-read files words p read status is_p is_input = λ missing. absurd (lacks_none files words p read is_p is_input missing)
+
+-- a text that was written is that of the input that the words name
+pub Succeeds-read : (files : Option Files) (words : List (List ℕ)) (p : Paths) (read : Input) (text : List ℕ) (before now : Option (List ℕ)) → paths_of words ≡ Some p → IsInput files p read → CarriesText read text → Appended before now text → Succeeds files words before now
+Succeeds-read files words p read text before now is_p is_input carries written = λ input names.
+    let c = subst (λ i. CarriesText i text) (same_input files words p read input is_p is_input names) carries in
+    record {
+      read = c.read;
+      is_read = c.is_read;
+      accepted = c.carries.accepted;
+      sections = c.carries.sections;
+      plain = c.carries.plain;
+      carried = c.carries.carried;
+      written = subst (Appended before now) c.carries.text_is written;
+    }
+
+-- and so is a front of one
+pub PrefixWritten-read : (files : Option Files) (words : List (List ℕ)) (p : Paths) (read : Input) (text : List ℕ) (before now : Option (List ℕ)) → paths_of words ≡ Some p → IsInput files p read → CarriesText read text → AppendsFront before now text → PrefixWritten files words before now
+PrefixWritten-read files words p read text before now is_p is_input carries front = λ input names.
+    let c = subst (λ i. CarriesText i text) (same_input files words p read input is_p is_input names) carries in
+    record {
+      read = c.read;
+      is_read = c.is_read;
+      accepted = c.carries.accepted;
+      sections = c.carries.sections;
+      plain = c.carries.plain;
+      carried = c.carries.carried;
+      count = front.0;
+      written = subst (λ t. Appended before now (take front.0 t)) c.carries.text_is front.1;
     }
 
 -- what is said where the text was made is said where it could not be written
@@ -87,14 +98,27 @@ TextCauses-write input causes =
     record {
       wasm = record { only = λ e. absurd (omega (arith, e)); always = λ place is. absurd (not_done (3 ∷ 4 ∷ 5 ∷ 9 ∷ []) refl (causes.wasm.always place is)) };
       map_file = record { only = λ e. absurd (omega (arith, e)); always = λ none. absurd (not_done (3 ∷ 4 ∷ 6 ∷ 9 ∷ []) refl (causes.map_file.always none)) };
-      is_loaded = λ read is_read. let said = causes.is_loaded read is_read in record {
-        address_map = record { only = λ e. absurd (omega (arith, e)); always = λ bad. absurd (not_done (3 ∷ 4 ∷ 9 ∷ 13 ∷ []) refl (said.address_map.always bad)) };
-        unreadable = λ e. absurd (omega (arith, e));
-        unsupported = λ e. absurd (omega (arith, e));
-        unread = λ faults. absurd (not_done (3 ∷ 4 ∷ 9 ∷ 10 ∷ 11 ∷ 13 ∷ []) refl (said.unread faults));
-        too_large = λ e. absurd (omega (arith, e));
-      };
+      is_loaded = λ read is_read. LoadedCauses-write read (causes.is_loaded read is_read);
     }
+  where
+    -- the status of a refusal is not 0
+    refused_not_done : (r : Refusal) → is_one_of (3 ∷ 4 ∷ 9 ∷ 13 ∷ 21 ∷ refusal_status r ∷ []) 0 ≡ false
+    refused_not_done (of_place (unreadable what section offset)) = refl
+    refused_not_done (of_place (unsupported kind offset)) = refl
+    refused_not_done (missing_file offset) = refl
+
+    LoadedCauses-write : (read : Loaded) → LoadedCauses read 0 → LoadedCauses read 8
+    LoadedCauses-write read said = record {
+      shared = record { only = λ e. absurd (omega (arith, e)); always = λ some. absurd (IsOneOf-other (3 ∷ 4 ∷ 9 ∷ 21 ∷ []) 0 0 (said.shared.always some) refl refl) };
+      address_map = record { only = λ e. absurd (omega (arith, e)); always = λ bad. absurd (IsOneOf-other (3 ∷ 4 ∷ 9 ∷ 13 ∷ 21 ∷ []) 0 0 (said.address_map.always bad) refl refl) };
+      refused = record {
+        only = λ one. absurd (IsOneOf-other (10 ∷ 11 ∷ 12 ∷ []) 8 8 one refl refl);
+        always = λ r is. absurd (IsOneOf-other (3 ∷ 4 ∷ 9 ∷ 13 ∷ 21 ∷ refusal_status r ∷ []) 0 0 (said.refused.always r is) (refused_not_done r) refl);
+      };
+      too_large = λ e. absurd (omega (arith, e));
+    }
+
+-- ---- where all is well
 
 -- a status of reading that is neither 3 nor 4 is 9
 nine : (status : ℕ) → IsReadingStatus status → (status ≡ 3 → ⊥) → (status ≡ 4 → ⊥) → 9 ≡ status
@@ -104,8 +128,13 @@ nine status (suc (suc zero), x, within, is, same) not_three not_four = is ∙ sa
 nine status (suc (suc (suc k)), x, within, is, same) not_three not_four = absurd (omega (arith, within))
 
 -- where the source did not fail and no file is too long, a file is not read for want of memory alone
-pub only_memory : (files : Option Files) (words : List (List ℕ)) (p : Paths) (read_before read_now write_before write_now status : ℕ) → paths_of words ≡ Some p → IsReadingStatus status → (status ≡ 4 → IsLongFile files p.map_path ⊎ IsLongFile files p.module_path) → (status ≡ 3 → Rose read_before read_now) → RunsWell files words read_before read_now write_before write_now → IsOneOf (0 ∷ 9 ∷ []) status
+pub only_memory : (files : Option Files) (words : List (List ℕ)) (p : Paths) (read_before read_now write_before write_now status : ℕ) → paths_of words ≡ Some p → IsReadingStatus status → (status ≡ 4 → Any (IsLongFile files) (all_paths p)) → (status ≡ 3 → Rose read_before read_now) → RunsWell files words read_before read_now write_before write_now → IsOneOf (0 ∷ 9 ∷ []) status
 only_memory files words p read_before read_now write_before write_now status is_p one long rose well =
-    let not_long : status ≡ 4 → ⊥ = λ e. ⊎_elim (λ l. omega (arith, l, well.short_map)) (λ l. omega (arith, l, well.short_module)) (too_long_named files words p well.input is_p well.named (long e)) in
-    let not_read : status ≡ 3 → ⊥ = λ e. well.reads (rose e) in
-    subst (IsOneOf (0 ∷ 9 ∷ [])) (nine status one not_read not_long) (IsOneOf-from (0 ∷ 9 ∷ []) 9 refl)
+    let not_four : status ≡ 4 → ⊥ = λ e. not_long well.input well.short (too_long_named files words p well.input is_p well.named (long e)) in
+    let not_three : status ≡ 3 → ⊥ = λ e. well.reads (rose e) in
+    subst (IsOneOf (0 ∷ 9 ∷ [])) (nine status one not_three not_four) (IsOneOf-from (0 ∷ 9 ∷ []) 9 refl)
+
+-- where the input is valid, its text is not made for want of memory alone
+pub complete_read : (files : Option Files) (words : List (List ℕ)) (p : Paths) (read : Input) (read_before read_now write_before write_now status : ℕ) → paths_of words ≡ Some p → IsInput files p read → GivesText read status → RunsWell files words read_before read_now write_before write_now → IsOneOf (0 ∷ 9 ∷ []) status
+complete_read files words p read read_before read_now write_before write_now status is_p is_input gives well =
+    subst (λ i. GivesText i status) (same_input files words p read well.input is_p is_input well.named) gives well.read well.is_read well.valid

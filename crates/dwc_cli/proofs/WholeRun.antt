@@ -1,18 +1,14 @@
 -- The small module from its bytes and its map's bytes to the printed text.
-use Rattle.std.proofs.Common.{◌≡◌, ℕ, zero, suc, arith, List, [], ◌∷◌, map, Some, None, Option, Bool, true, false, refl}
+use Rattle.std.proofs.Common.{◌≡◌, ℕ, zero, suc, arith, List, [], ◌∷◌, map, Some, None, Option, refl}
 use Rattle.std.specs.Prelude.{All}
 use Rattle.dwc_base.proofs.OnLiterals.{lines_on_literals, files_on_literals}
 use Rattle.dwc_base.proofs.SmallModule.{file_small}
 use Rattle.dwc_base.proofs.LineTables.{function_small, segments_small}
 use Rattle.dwc_base.proofs.CarriedSmall.{unit_small, unit_out, image_small, output-read, images-read, image-small}
-use Rattle.dwc_base.specs.declared.faults.Kind.TheVariants.{Format64}
 use Rattle.dwc_base.specs.declared.section_name.SectionName.TheVariants.{Abbrev, Info, Line}
-use Rattle.dwc_base.specs.Sections.{Fault, unsupported}
 use Rattle.dwc_base.specs.Functions.{Function}
-use Rattle.dwc_base.specs.Wasm.{module_from_sections}
 use Rattle.dwc_base.specs.Carried.{Unit, units, carried_units, LinesCarried}
-use Rattle.dwc_base.specs.Reached.{reached_faults}
-use Rattle.dwc_base.specs.FirstForm.{is_all_built}
+use Rattle.dwc_base.specs.Refusals.{Refusal, missing_file, first_refusal}
 use Rattle.dwc_base.specs.Widest.{widest}
 use Rattle.dwc_cli.specs.Inputs.{Input, Loaded, loaded, compilation_of}
 use Rattle.dwc_cli.proofs.OnLiterals.{map_on_literals}
@@ -25,16 +21,12 @@ unfolding lines_on_literals files_on_literals map_on_literals loaded
 whole_on_literals = 0
 
 abbrev pub input_small : Input
-input_small = record { map_bytes = map_bytes_small; module_bytes = file_small }
+input_small = record { map_bytes = map_bytes_small; modules = file_small ∷ [] }
 
 -- facts of an input that are short to write down
-abbrev pub faults_of : Option Loaded → List Fault
-faults_of None = unsupported Format64 0 ∷ []
-faults_of (Some l) = reached_faults (compilation_of l)
-
-abbrev pub built_of : Option Loaded → Bool
-built_of None = false
-built_of (Some l) = is_all_built (compilation_of l)
+abbrev pub refusal_of : Option Loaded → Option Refusal
+refusal_of None = Some (missing_file 0)
+refusal_of (Some l) = first_refusal (compilation_of l)
 
 abbrev widths_of : Option Loaded → List ℕ
 widths_of None = []
@@ -52,13 +44,9 @@ functions-small : functions_of (loaded input_small) ≡ (function_small ∷ []) 
 unfolding whole_on_literals
 functions-small = refl
 
-faults-small : faults_of (loaded input_small) ≡ []
+accepted-small : refusal_of (loaded input_small) ≡ None
 unfolding whole_on_literals
-faults-small = refl
-
-built-small : built_of (loaded input_small) ≡ true
-unfolding whole_on_literals
-built-small = refl
+accepted-small = refl
 
 carried-small : carried_of (loaded input_small) ≡ unit_small ∷ []
 unfolding whole_on_literals
@@ -71,7 +59,7 @@ widths-small = refl
 
 -- what is read of the small input
 abbrev pub read_in : Option Loaded → Loaded
-read_in None = record { wasm = module_from_sections []; map_file = map_small }
+read_in None = record { wasm = []; map_file = map_small }
 read_in (Some l) = l
 
 abbrev pub read_small : Loaded
@@ -94,4 +82,4 @@ lines_carried-small = record {
 -- the text of the wanted output is an answer with status 0
 pub carries-small : Carries input_small (Some []) (Some (printed output_small))
 unfolding whole_on_literals
-carries-small = record { read = read_small; is_read = refl; readable = refl; built = refl; sections = output_small; plain = refl; carried = lines_carried-small; written = refl }
+carries-small = record { read = read_small; is_read = refl; accepted = refl; sections = output_small; plain = refl; carried = lines_carried-small; written = refl }

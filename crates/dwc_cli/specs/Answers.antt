@@ -1,20 +1,25 @@
 -- What the parts of a run say of its input and its status.
-use Rattle.std.specs.Prelude.{◌≡◌, ◌≤◌, ◌⊎◌, ℕ, List, [], ◌∷◌, length, true, Option, Some, Result, Ok, Err}
-use Rattle.std.specs.List.{list_all}
-use Rattle.dwc_base.specs.Outputs.{OutputSection}
-use Rattle.dwc_base.specs.Carried.{LinesCarried}
-use Rattle.dwc_base.specs.Reached.{reached_faults}
-use Rattle.dwc_base.specs.FirstForm.{is_all_built}
-use Rattle.dwc_cli.specs.declared.failure.Failure.{Failure}
+use Rattle.std.specs.Prelude.{◌≡◌, ◌^◌, ◌≤◌, ◌⊎◌, ℕ, List, [], ◌∷◌, map, true, Option, Some, None, Result, Ok, Err, All, Vec}
+use Rattle.std.specs.Global.{Global}
+use Rattle.std.specs.List.{list_all, AllZip}
+use Rattle.dwc_base.specs.declared.output.DwarfSection.{DwarfSection}
+use Rattle.dwc_base.specs.declared.section_name.SectionName.{SectionName}
 use Rattle.dwc_base.specs.declared.wasm.ModuleTranslation.{ModuleTranslation}
+use Rattle.dwc_base.specs.Outputs.{OutputSection, section_view}
+use Rattle.dwc_base.specs.Carried.{LinesCarried}
+use Rattle.dwc_base.specs.Refusals.{Refusal, first_refusal}
+use Rattle.dwc_base.specs.Widest.{widest}
+use Rattle.dwc_base.specs.Wasm.{WasmModule}
 use Rattle.dwc_base.specs.Translations.{IsTranslation}
+use Rattle.dwc_write.specs.Writers.{IsSound}
+use Rattle.dwc_cli.specs.declared.failure.Failure.{Failure}
 use Rattle.dwc_cli.specs.declared.map_file.MapFile.{MapFile}
-use Rattle.dwc_cli.specs.MapViews.{map_file_view}
 use Rattle.dwc_cli.specs.declared.input_files.InputFiles.{InputFiles}
-use Rattle.dwc_cli.specs.Inputs.{Paths, Input, Loaded, loaded, compilation_of}
+use Rattle.dwc_cli.specs.MapViews.{map_file_view}
+use Rattle.dwc_cli.specs.Inputs.{Paths, all_paths, Input, all_files, wasm_modules, Loaded, loaded, compilation_of, shared_in, BadMap, bad_map}
 use Rattle.dwc_cli.specs.Printed.{printed, is_plain}
-use Rattle.dwc_cli.specs.RunStatus.{Files, Rose, Appended, IsOneOf, WasmCause, MapCause, LoadedCauses, IsValid, most_bytes}
-use Rattle.dwc_cli.specs.Edge.{IsFile}
+use Rattle.dwc_cli.specs.RunStatus.{Files, Rose, Appended, IsOneOf, WasmCause, MapCause, refusal_status, LoadedCauses, IsValid}
+use Rattle.dwc_cli.specs.Edge.{IsReadFile}
 use Rattle.dwc_cli.specs.Failures.{failure_status, line_of}
 
 -- the status of a run in which a part answers so
@@ -23,24 +28,56 @@ status_of (Ok x) = 0
 status_of (Err failure) = failure_status failure
 
 abbrev pub input_view : InputFiles → Input
-input_view files = record { map_bytes = files.map.items; module_bytes = files.module.items }
+input_view files = record { map_bytes = files.map.items; modules = map (λ m. m.items) files.modules.items }
 
--- where the files are told, these are the bytes of the two that the words name, and neither is too long
-pub record IsInput (files : Option Files) (paths : Paths) (input : Input) : Type 0 where
-  pub map_file : IsFile files paths.map_path input.map_bytes
-  pub module_file : IsFile files paths.module_path input.module_bytes
-  pub short_map : length input.map_bytes ≤ most_bytes
-  pub short_module : length input.module_bytes ≤ most_bytes
+-- where the files are told, these are the bytes of those that the words name, and none is too long
+abbrev pub IsInput : Option Files → Paths → Input → Type 0
+IsInput files paths input = AllZip (IsReadFile files) (all_paths paths) (all_files input)
 
--- what was read of the module and of the map
-pub record IsReadAs (translation : ModuleTranslation) (map_file : MapFile) (read : Loaded) : Type 0 where
-  pub wasm : IsTranslation translation read.wasm
+-- why some files have no translations, by the status: for want of memory, or as one of them breaks its grammar
+abbrev pub IsBroken : List (List ℕ) → ℕ → Type 0
+IsBroken files status = (status ≡ 9) ⊎ ((status ≡ 5) × ((place : ℕ) × (wasm_modules files ≡ Err place)))
+
+-- translations of some files are those of the modules that the files are
+abbrev pub TranslatesFiles : List (List ℕ) → Result (Vec ModuleTranslation Global) Failure → Type 0
+TranslatesFiles files (Ok ts) = (ws : List WasmModule) × (wasm_modules files ≡ Ok ws) × AllZip IsTranslation ts.items ws
+TranslatesFiles files (Err failure) = IsBroken files (failure_status failure)
+
+-- what was read of the modules and of the map
+pub record IsReadAs (translations : List ModuleTranslation) (map_file : MapFile) (read : Loaded) : Type 0 where
+  pub wasm : AllZip IsTranslation translations read.wasm
   pub map_is : map_file_view map_file ≡ read.map_file
+
+-- the status of the first hindrance in the order of work: a shared symbol, a bad address map, and what is refused in reading
+abbrev pub first_status : Option (ℕ × ℕ) → Option BadMap → Option Refusal → Option ℕ
+first_status (Some functions) bad refusal = Some 21
+first_status None (Some found) refusal = Some 13
+first_status None None (Some r) = Some (refusal_status r)
+first_status None None None = None
+
+-- what hinders the lines of an input from being carried, by its status; the size of a section apart
+abbrev pub hindrance : Loaded → Option ℕ
+hindrance read = first_status (shared_in read) (bad_map read) (first_refusal (compilation_of read))
+
+-- sound sections that carry the lines of an input, which nothing hinders
+pub record IsEmitted (read : Loaded) (sections : List OutputSection) : Type 0 where
+  pub unhindered : hindrance read ≡ None
+  pub carried : LinesCarried (compilation_of read) sections
+  pub sound : All (IsSound (compilation_of read).order) sections
+
+-- why no sections are emitted, by the status: for want of memory, by a hindrance, or for a section that could be too long
+abbrev pub IsCause : Loaded → ℕ → Type 0
+IsCause read status =
+    (status ≡ 9) ⊎ ((hindrance read ≡ Some status) ⊎ ((status ≡ 20) × (hindrance read ≡ None) × ((name : SectionName) × (2 ^ 31 ≤ widest name (compilation_of read)))))
+
+-- the sections of what was read, or the cause of a refusal
+abbrev pub Emits : Loaded → Result (Vec DwarfSection Global) Failure → Type 0
+Emits read (Ok sections) = IsEmitted read (map section_view sections.items)
+Emits read (Err failure) = IsCause read (failure_status failure)
 
 -- the text of what was read: the printed sections carry all its lines
 pub record CarriesRead (read : Loaded) (text : List ℕ) : Type 0 where
-  pub readable : reached_faults (compilation_of read) ≡ []
-  pub built : is_all_built (compilation_of read) ≡ true
+  pub accepted : first_refusal (compilation_of read) ≡ None
   pub sections : List OutputSection
   pub plain : list_all is_plain sections ≡ true
   pub carried : LinesCarried (compilation_of read) sections
@@ -52,17 +89,18 @@ pub record CarriesText (input : Input) (text : List ℕ) : Type 0 where
   pub is_read : loaded input ≡ Some read
   pub carries : CarriesRead read text
 
--- the statuses of a run whose files cannot be read
+-- the statuses of a run whose files cannot be read, and of one whose input has no text
+abbrev pub reading_statuses : List ℕ
+reading_statuses = 3 ∷ 4 ∷ 9 ∷ []
+
+abbrev pub text_statuses : List ℕ
+text_statuses = 5 ∷ 6 ∷ 9 ∷ 10 ∷ 11 ∷ 12 ∷ 13 ∷ 20 ∷ 21 ∷ []
+
 abbrev pub IsReadingStatus : ℕ → Type 0
-IsReadingStatus status = IsOneOf (3 ∷ 4 ∷ 9 ∷ []) status
+IsReadingStatus status = IsOneOf reading_statuses status
 
--- the statuses of a run whose input has no text
 abbrev pub IsTextStatus : ℕ → Type 0
-IsTextStatus status = IsOneOf (5 ∷ 6 ∷ 9 ∷ 10 ∷ 11 ∷ 13 ∷ 20 ∷ []) status
-
--- the statuses of a run whose lines are not carried
-abbrev pub IsCarryingStatus : ℕ → Type 0
-IsCarryingStatus status = IsOneOf (9 ∷ 10 ∷ 11 ∷ 13 ∷ 20 ∷ []) status
+IsTextStatus status = IsOneOf text_statuses status
 
 -- what is said of an input by the status of its text
 pub record TextCauses (input : Input) (status : ℕ) : Type 0 where

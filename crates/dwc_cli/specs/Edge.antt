@@ -1,21 +1,25 @@
 -- What the edge of the program says of words, loaded files and written texts.
-use Rattle.std.specs.Prelude.{◌≡◌, ℕ, ◌<◌, List, take, length, Option, Some, IfSome}
-use Rattle.std.specs.FinMap as map
+use Rattle.std.specs.Prelude.{◌≡◌, ℕ, ◌<◌, ◌≤◌, List, map, take, length, string_bytes, Option, Some, IfSome}
+use Rattle.std.specs.FinMap as finite
 use Rattle.dwc_cli.specs.declared.words.Paths.{Paths as NamedPaths}
 use Rattle.dwc_cli.specs.Inputs.{Paths}
 use Rattle.dwc_cli.specs.RunStatus.{Files, Appended, most_bytes}
 
--- the two paths as bytes
+-- the paths as bytes
 abbrev pub paths_view : NamedPaths → Paths
-paths_view p = record { map_path = p.map_path.now; module_path = p.module_path.now }
+paths_view p = record { map_path = p.map_path.now; module_paths = map string_bytes p.module_paths.now }
 
 -- where the files are told, these are the bytes of the file at a path
 abbrev pub IsFile : Option Files → List ℕ → List ℕ → Type 0
-IsFile files path bytes = IfSome files (λ told. map.get told path ≡ Some bytes)
+IsFile files path bytes = IfSome files (λ told. finite.get told path ≡ Some bytes)
+
+-- a file that was read: its bytes are told so, and it is not too long
+abbrev pub IsReadFile : Option Files → List ℕ → List ℕ → Type 0
+IsReadFile files path bytes = IsFile files path bytes × (length bytes ≤ most_bytes)
 
 -- where the files are told, the file at a path is longer than a run reads
 abbrev pub IsLongFile : Option Files → List ℕ → Type 0
-IsLongFile files path = IfSome files (λ told. (bytes : List ℕ) × (map.get told path ≡ Some bytes) × (most_bytes < length bytes))
+IsLongFile files path = IfSome files (λ told. (bytes : List ℕ) × (finite.get told path ≡ Some bytes) × (most_bytes < length bytes))
 
 -- what was taken grew by a front of some text
 abbrev pub AppendsFront : Option (List ℕ) → Option (List ℕ) → List ℕ → Type 0

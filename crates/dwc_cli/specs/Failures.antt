@@ -22,8 +22,10 @@ status_code statuses.WriteFault = 8
 status_code statuses.OutOfMemory = 9
 status_code statuses.Read = 10
 status_code statuses.Unsupported = 11
+status_code statuses.InvalidFileIndex = 12
 status_code statuses.BadAddressMap = 13
 status_code statuses.TooLarge = 20
+status_code statuses.SharedSymbol = 21
 
 -- the status of a run that ends with a failure
 abbrev pub failure_status : Failure → ℕ

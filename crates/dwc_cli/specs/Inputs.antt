@@ -1,18 +1,20 @@
 -- What the words and the files of a run stand for.
-use Rattle.std.specs.Prelude.{ℕ, ◌+◌, ◌==◌, List, [], ◌∷◌, length, Bool, false, not, if◌then◌else◌, Option, Some, None}
+use Rattle.std.specs.Prelude.{ℕ, suc, ◌+◌, ◌==◌, List, [], ◌∷◌, map, length, Bool, false, not, if◌then◌else◌, Option, Some, None, option_map, Result, Ok, Err}
 use Rattle.std.specs.Option.{option_or}
 use Rattle.std.specs.Result.{result_ok}
+use Rattle.std.specs.List.{list_all, flat_map}
 use Rattle.dwc_base.specs.declared.records.Endian.TheVariants.{Little, Big}
 use Rattle.dwc_base.specs.declared.records.MapFault.{MapFault}
 use Rattle.dwc_base.specs.Wasm.{WasmModule, wasm_module, module_sections}
 use Rattle.dwc_base.specs.Functions.{AddressMap, map_fault, functions_of}
 use Rattle.dwc_base.specs.Carried.{Module, Compilation}
+use Rattle.dwc_cli.specs.SharedSymbols.{shared_symbol}
 use Rattle.dwc_cli.specs.MapFile.{◌>>=◌, MapFile, MapModule, map_of_bytes}
 
--- the words of a run: the path of the map, and the path of the module
+-- the words of a run: the path of the map, and those of the modules, one at least
 pub record Paths : Type 0 where
   pub map_path : List ℕ
-  pub module_path : List ℕ
+  pub module_paths : List (List ℕ)
 
 -- a path is not empty and does not begin with `-`
 abbrev pub is_path : List ℕ → Bool
@@ -21,13 +23,37 @@ is_path (c ∷ cs) = not (c == 45)
 
 -- the paths that some words name, none where they are not in the grammar
 abbrev pub paths_of : List (List ℕ) → Option Paths
-paths_of (m ∷ w ∷ []) = if is_path m then (if is_path w then Some (record { map_path = m; module_path = w }) else None) else None
-paths_of _ = None
+paths_of [] = None
+paths_of (m ∷ []) = None
+paths_of (m ∷ w ∷ ws) = if list_all is_path (m ∷ w ∷ ws) then Some (record { map_path = m; module_paths = w ∷ ws }) else None
+
+-- all paths, in the order of reading
+abbrev pub all_paths : Paths → List (List ℕ)
+all_paths p = p.map_path ∷ p.module_paths
 
 -- the bytes of the named files
 pub record Input : Type 0 where
   pub map_bytes : List ℕ
-  pub module_bytes : List ℕ
+  pub modules : List (List ℕ)
+
+-- the bytes of all files, in the order of reading
+abbrev pub all_files : Input → List (List ℕ)
+all_files input = input.map_bytes ∷ input.modules
+
+-- a module in front of others, or the place where the first of them that does breaks its grammar
+abbrev pub with_module : Result WasmModule ℕ → Result (List WasmModule) ℕ → Result (List WasmModule) ℕ
+with_module (Err place) others = Err place
+with_module (Ok w) (Err place) = Err place
+with_module (Ok w) (Ok ws) = Ok (w ∷ ws)
+
+-- The modules that some files are. Where one breaks its grammar, the place in the first that does.
+abbrev pub wasm_modules : List (List ℕ) → Result (List WasmModule) ℕ
+wasm_modules [] = Ok []
+wasm_modules (bytes ∷ files) = with_module (wasm_module bytes) (wasm_modules files)
+
+-- how many functions each module defines
+abbrev pub defined_counts : List WasmModule → List ℕ
+defined_counts ws = map (λ w. w.defined) ws
 
 -- the modules of a compilation: the sections of a file, and the functions of the map, numbered over all modules
 abbrev pub modules_of : ℕ → List WasmModule → List MapModule → List Module
@@ -41,33 +67,48 @@ modules_of number (w ∷ ws) (m ∷ ms) =
 abbrev pub compilation : MapFile → List WasmModule → Compilation
 compilation m ws = record { order = if m.target.big_endian then Big else Little; pointer_bytes = m.target.pointer_bytes; modules = modules_of 0 ws m.modules }
 
--- what was read of an input: its module, and its map
+-- what was read of an input: its modules, and its map
 pub record Loaded : Type 0 where
-  pub wasm : WasmModule
+  pub wasm : List WasmModule
   pub map_file : MapFile
 
--- what some files hold, none where the module breaks its grammar or the map has no value
+-- what some files hold, none where a module breaks its grammar or the map has no value
 unfoldable pub loaded : Input → Option Loaded
 loaded input = do
-  wasm ← result_ok (wasm_module input.module_bytes)
-  m ← map_of_bytes (wasm.defined ∷ []) input.map_bytes
-  Some (record { wasm = wasm; map_file = m })
+  ws ← result_ok (wasm_modules input.modules)
+  m ← map_of_bytes (defined_counts ws) input.map_bytes
+  Some (record { wasm = ws; map_file = m })
 
 -- the compilation of what was read
 abbrev pub compilation_of : Loaded → Compilation
-compilation_of l = compilation l.map_file (l.wasm ∷ [])
+compilation_of l = compilation l.map_file l.wasm
 
--- the first rule that an address map breaks, in order of functions
-abbrev pub first_map_fault : ℕ → List AddressMap → Option MapFault
-first_map_fault code_offset [] = None
-first_map_fault code_offset (m ∷ ms) = option_or (map_fault code_offset m) (first_map_fault code_offset ms)
+-- the symbols of all functions by their numbers
+abbrev pub symbols_of : Loaded → List (Option ℕ)
+symbols_of l = flat_map (λ m. map (λ f. f.symbol) m.functions) l.map_file.modules
 
--- the first rule that is broken, module by module
-abbrev pub first_fault_in : List WasmModule → List MapModule → Option MapFault
-first_fault_in [] ms = None
-first_fault_in (w ∷ ws) [] = None
-first_fault_in (w ∷ ws) (m ∷ ms) = option_or (first_map_fault w.code_offset m.functions) (first_fault_in ws ms)
+-- two functions of an input that have one symbol, by their numbers: the first whose symbol came before, behind where it came
+abbrev pub shared_in : Loaded → Option (ℕ × ℕ)
+shared_in l = shared_symbol (symbols_of l)
 
--- the first rule that an address map of an input breaks
-abbrev pub bad_map : Loaded → Option MapFault
-bad_map l = first_fault_in (l.wasm ∷ []) l.map_file.modules
+-- an address map that breaks a rule: its module, its function among those of the module, and the first rule
+pub record BadMap : Type 0 where
+  pub module_place : ℕ
+  pub function_place : ℕ
+  pub rule : MapFault
+
+-- the first map of a module's functions that breaks a rule; the second place is that of the first function
+abbrev pub bad_function : ℕ → ℕ → ℕ → List AddressMap → Option BadMap
+bad_function module_place code_offset place [] = None
+bad_function module_place code_offset place (m ∷ ms) =
+    option_or (option_map (λ rule. record { module_place = module_place; function_place = place; rule = rule }) (map_fault code_offset m)) (bad_function module_place code_offset (suc place) ms)
+
+-- the first map that breaks a rule, module by module; the place is that of the first module
+abbrev pub bad_module : ℕ → List WasmModule → List MapModule → Option BadMap
+bad_module place [] ms = None
+bad_module place (w ∷ ws) [] = None
+bad_module place (w ∷ ws) (m ∷ ms) = option_or (bad_function place w.code_offset 0 m.functions) (bad_module (suc place) ws ms)
+
+-- the first address map of an input that breaks a rule
+abbrev pub bad_map : Loaded → Option BadMap
+bad_map l = bad_module 0 l.wasm l.map_file.modules

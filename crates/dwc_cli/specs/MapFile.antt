@@ -1,6 +1,6 @@
 -- The value of a map file, from the JSON that it holds. It has none where a required field is missing, a number is a
 -- float or out of its range, or anything is of the wrong kind; unknown fields are passed over.
-use Rattle.std.specs.Prelude.{ℕ, ◌-◌, ◌^◌, ◌==◌, List, [], ◌∷◌, length, Bool, true, false, nat_lt, not, ◌&&◌, if◌then◌else◌, Option, Some, None, option_map, codes, sum_by}
+use Rattle.std.specs.Prelude.{◌≡◌, ◌⊎◌, ℕ, ◌-◌, ◌^◌, ◌==◌, List, [], ◌∷◌, length, Bool, true, false, nat_lt, not, ◌&&◌, if◌then◌else◌, Option, Some, None, option_map, codes, sum_by}
 use Rattle.std.specs.List.{list_any}
 use Rattle.std.specs.Str.{bytes_eq, is_utf8}
 use Rattle.serde_json.specs.Data.{unsigned, Data, null, boolean, number, string, array, object, Items, no_items, item, Members}
@@ -99,13 +99,14 @@ members_of _ = None
 abbrev pub required : {A : Type 0} → List ℕ → (Data → Option A) → Members → Option A
 required name kind ms = get_member name ms >>= kind
 
+-- a value that may be missing
+abbrev pub value_or : {A : Type 0} → A → (Data → Option A) → Option Data → Option A
+value_or default kind None = Some default
+value_or default kind (Some d) = kind d
+
 -- a field that may be missing
 abbrev pub with_default : {A : Type 0} → List ℕ → A → (Data → Option A) → Members → Option A
-with_default {A} name default kind ms = go (get_member name ms)
-  where
-    go : Option Data → Option A
-    go None = Some default
-    go (Some d) = kind d
+with_default name default kind ms = value_or default kind (get_member name ms)
 
 -- ---- objects
 
@@ -180,3 +181,10 @@ map_of_bytes defined bytes = do
   text ← only_if (is_utf8 bytes) bytes
   d ← read text
   map_value defined d
+
+-- What is said of each map that is read for modules that define so many functions: the modules are as many as these, with as
+-- many functions; modules and functions can be numbered with 32 bits; and an address has 4 or 8 bytes.
+pub record IsMapFor (defined : List ℕ) (m : MapFile) : Type 0 where
+  pub counts : have_counts defined m.modules ≡ true
+  pub countable : is_countable m.modules ≡ true
+  pub pointer : (m.target.pointer_bytes ≡ 4) ⊎ (m.target.pointer_bytes ≡ 8)

@@ -1,5 +1,5 @@
 -- A source and a sink in memory, as values.
-use Rattle.std.specs.Prelude.{◌≡◌, ℕ, ◌+◌, ◌-◌, ◌^◌, ◌==◌, min, nat_lt, Bool, ◌&&◌, List, [], ◌++◌, take, drop, length, string_bytes, String, Vec, if◌then◌else◌, Option, Some, None, option_map, is_some, slice_get}
+use Rattle.std.specs.Prelude.{◌≡◌, ℕ, ◌+◌, ◌-◌, ◌^◌, ◌==◌, min, nat_lt, Bool, ◌&&◌, List, [], ◌++◌, take, drop, length, string_bytes, String, Vec, if◌then◌else◌, Option, Some, None, option_map, is_some, slice_get, replicate}
 use Rattle.std.specs.Global.{Global}
 use Rattle.std.specs.List.{list_any}
 use Rattle.std.specs.Ordering.{nat_cmp}
@@ -16,7 +16,7 @@ one_more n = min (n + 1) (2 ^ 64 - 1)
 abbrev pub next_fails : ℕ → List ℕ → Bool
 next_fails calls failing = list_any (λ number. number == one_more calls) failing
 
--- ---- the source
+-- ---- the source that fails at calls of one's choice
 
 pub record MemorySource : Type 0 where
   pub files : List (List ℕ × List ℕ)
@@ -74,6 +74,62 @@ after_giving s room (Some rest) =
 -- a read into a buffer with so much room gives as many bytes as are left and fit it
 abbrev pub after_read : MemorySource → ℕ → MemorySource
 after_read s room = after_giving s room (reads_from s)
+
+-- ---- a source in memory that fails only where it must
+
+pub record PlainFiles : Type 0 where
+  pub files : List (List ℕ × List ℕ)
+  pub left : Option (List ℕ)
+  pub taken : ℕ
+  pub faults : ℕ
+
+abbrev pub plain_files : List (List ℕ × List ℕ) → PlainFiles
+plain_files files = record { files = files; left = None; taken = 0; faults = 0 }
+
+-- the bytes of the first file with a path
+abbrev pub plain_bytes : PlainFiles → List ℕ → Option (List ℕ)
+plain_bytes s path = finite.find (slice_cmp nat_cmp) path s.files
+
+abbrev pub after_plain_open : PlainFiles → List ℕ → PlainFiles
+after_plain_open s path = record s { left = plain_bytes s path; taken = 0; faults = if is_some (plain_bytes s path) then s.faults else one_more s.faults }
+
+-- a read into a buffer with so much room, of what is left
+abbrev pub after_plain_giving : PlainFiles → ℕ → Option (List ℕ) → PlainFiles
+after_plain_giving s room None = record s { faults = one_more s.faults }
+after_plain_giving s room (Some rest) =
+    let count = min room (length rest) in
+    record s { left = Some (drop count rest); taken = min (s.taken + count) (2 ^ 64 - 1) }
+
+abbrev pub after_plain_read : PlainFiles → ℕ → PlainFiles
+after_plain_read s room = after_plain_giving s room s.left
+
+-- ---- a source of which every path is a file of so many zero bytes
+
+pub record LongFiles : Type 0 where
+  pub file_length : ℕ
+  pub zeros : Option ℕ
+  pub taken : ℕ
+  pub faults : ℕ
+
+abbrev pub long_files : ℕ → LongFiles
+long_files file_length = record { file_length = file_length; zeros = None; taken = 0; faults = 0 }
+
+-- what is left of an opened file
+abbrev pub zeros_left : Option ℕ → Option (List ℕ)
+zeros_left zeros = option_map (λ count. replicate count 0) zeros
+
+abbrev pub after_long_open : LongFiles → LongFiles
+after_long_open s = record s { zeros = Some s.file_length; taken = 0 }
+
+-- a read into a buffer with so much room, where so many zeros are left
+abbrev pub after_long_giving : LongFiles → ℕ → Option ℕ → LongFiles
+after_long_giving s room None = record s { faults = one_more s.faults }
+after_long_giving s room (Some zeros) =
+    let count = min room zeros in
+    record s { zeros = Some (zeros - count); taken = min (s.taken + count) (2 ^ 64 - 1) }
+
+abbrev pub after_long_read : LongFiles → ℕ → LongFiles
+after_long_read s room = after_long_giving s room s.zeros
 
 -- ---- the sink
 

@@ -1,18 +1,18 @@
 -- What each status of a run says. Want of memory, status 9, may come at any time.
-use Rattle.std.specs.Prelude.{length, ◌≡◌, ◌≢◌, ℕ, ◌+◌, ◌-◌, ◌^◌, ◌<◌, ◌≤◌, ◌⊎◌, min, List, [], ◌∷◌, ◌++◌, take, true, false, Option, Some, None, IsSome, IsNone, IfSome, IsTrue, Ok, Err, Any}
+use Rattle.std.specs.Prelude.{length, ◌≡◌, ℕ, ◌+◌, ◌-◌, ◌^◌, ◌<◌, ◌≤◌, min, List, [], ◌∷◌, ◌++◌, take, true, Option, Some, None, option_map, IsSome, IsNone, IfSome, Ok, Err, All, Any}
 use Rattle.std.specs.Ordering.{nat_cmp}
 use Rattle.std.specs.Cmp.Lexicographic.{slice_cmp}
 use Rattle.std.specs.FinMap as map
-use Rattle.std.specs.List.{list_all}
+use Rattle.std.specs.List.{list_all, AllZip}
 use Rattle.dwc_base.specs.declared.section_name.SectionName.{SectionName}
-use Rattle.dwc_base.specs.Wasm.{WasmModule, wasm_module}
+use Rattle.dwc_base.specs.Sections.{unreadable, unsupported}
+use Rattle.dwc_base.specs.Wasm.{WasmModule}
 use Rattle.dwc_base.specs.Outputs.{OutputSection}
 use Rattle.dwc_base.specs.Carried.{LinesCarried}
-use Rattle.dwc_base.specs.Reached.{reached_faults, is_unreadable}
-use Rattle.dwc_base.specs.FirstForm.{is_all_built}
+use Rattle.dwc_base.specs.Refusals.{Refusal, of_place, missing_file, first_refusal}
 use Rattle.dwc_base.specs.Widest.{widest}
 use Rattle.dwc_cli.specs.MapFile.{map_of_bytes}
-use Rattle.dwc_cli.specs.Inputs.{Paths, paths_of, Input, Loaded, loaded, compilation_of, bad_map}
+use Rattle.dwc_cli.specs.Inputs.{Paths, paths_of, all_paths, Input, all_files, wasm_modules, defined_counts, Loaded, loaded, compilation_of, shared_in, bad_map}
 use Rattle.dwc_cli.specs.Printed.{printed, is_plain}
 
 -- the files of a source, where it tells them: the bytes of each path
@@ -23,25 +23,23 @@ Files = map.FinMap (slice_cmp nat_cmp) (List ℕ)
 abbrev pub Rose : ℕ → ℕ → Type 0
 Rose before now = min (before + 1) (2 ^ 64 - 1) ≤ now
 
--- The words name two files that the source tells, and these are their bytes.
+-- The words name files that the source tells, and these are their bytes.
 pub record Names (files : Option Files) (words : List (List ℕ)) (input : Input) : Type 0 where
   pub told : Files
   pub tells : files ≡ Some told
   pub paths : Paths
   pub are_paths : paths_of words ≡ Some paths
-  pub map_bytes : map.get told paths.map_path ≡ Some input.map_bytes
-  pub module_bytes : map.get told paths.module_path ≡ Some input.module_bytes
+  pub bytes : AllZip (λ path bytes. map.get told path ≡ Some bytes) (all_paths paths) (all_files input)
 
 -- What was taken grew by these bytes, where the sink tells it.
 abbrev pub Appended : Option (List ℕ) → Option (List ℕ) → List ℕ → Type 0
 Appended before now text = IfSome before (λ w. now ≡ Some (w ++ text))
 
--- 0: All that is reached was read and is built, and the printed sections carry the lines of the input that the words name.
+-- 0: Nothing that is read is refused, and the printed sections carry the lines of the input that the words name.
 pub record Carries (input : Input) (before now : Option (List ℕ)) : Type 0 where
   pub read : Loaded
   pub is_read : loaded input ≡ Some read
-  pub readable : reached_faults (compilation_of read) ≡ []
-  pub built : is_all_built (compilation_of read) ≡ true
+  pub accepted : first_refusal (compilation_of read) ≡ None
   pub sections : List OutputSection
   pub plain : list_all is_plain sections ≡ true
   pub carried : LinesCarried (compilation_of read) sections
@@ -70,7 +68,7 @@ pub record LacksFile (files : Option Files) (words : List (List ℕ)) : Type 0 w
   pub tells : files ≡ Some told
   pub paths : Paths
   pub are_paths : paths_of words ≡ Some paths
-  pub lacks : (map.get told paths.map_path ≡ None) ⊎ (map.get told paths.module_path ≡ None)
+  pub lacks : Any (λ path. map.get told path ≡ None) (all_paths paths)
 
 -- a missing file ends the run
 abbrev pub MissingCause : Option Files → List (List ℕ) → ℕ → Type 0
@@ -78,34 +76,32 @@ MissingCause files words status = LacksFile files words → IsOneOf (3 ∷ 4 ∷
 
 -- 4, of files that are told: exactly where one of them is too long, but for what comes earlier
 abbrev pub IsTooLong : Input → Type 0
-IsTooLong input = (most_bytes < length input.map_bytes) ⊎ (most_bytes < length input.module_bytes)
+IsTooLong input = Any (λ bytes. most_bytes < length bytes) (all_files input)
 
 -- 4 is exact, but for a failed read and want of memory
 pub record LengthCause (input : Input) (status : ℕ) : Type 0 where
   pub only : status ≡ 4 → IsTooLong input
   pub always : IsTooLong input → IsOneOf (3 ∷ 4 ∷ 9 ∷ []) status
 
--- 5: exactly where the module is no wasm file, but for what comes earlier
+-- 5: exactly where a module is no wasm file, but for what comes earlier
 pub record WasmCause (input : Input) (status : ℕ) : Type 0 where
-  pub only : status ≡ 5 → (place : ℕ) × (wasm_module input.module_bytes ≡ Err place)
-  pub always : (place : ℕ) → wasm_module input.module_bytes ≡ Err place → IsOneOf (3 ∷ 4 ∷ 5 ∷ 9 ∷ []) status
+  pub only : status ≡ 5 → (place : ℕ) × (wasm_modules input.modules ≡ Err place)
+  pub always : (place : ℕ) → wasm_modules input.modules ≡ Err place → IsOneOf (3 ∷ 4 ∷ 5 ∷ 9 ∷ []) status
 
--- 6: exactly where the map has no value for a module that is read
+-- 6: exactly where the map has no value for the modules, which are read
 abbrev pub HasNoMap : Input → Type 0
-HasNoMap input = (w : WasmModule) × (wasm_module input.module_bytes ≡ Ok w) × (map_of_bytes (w.defined ∷ []) input.map_bytes ≡ None)
+HasNoMap input = (ws : List WasmModule) × (wasm_modules input.modules ≡ Ok ws) × (map_of_bytes (defined_counts ws) input.map_bytes ≡ None)
 
 -- 6 is exact, but for what comes earlier
 pub record MapCause (input : Input) (status : ℕ) : Type 0 where
   pub only : status ≡ 6 → HasNoMap input
   pub always : HasNoMap input → IsOneOf (3 ∷ 4 ∷ 6 ∷ 9 ∷ []) status
 
--- 8: All that is reached was read and is built, and what was taken is a front of the printed text, all of which would carry
--- the lines.
+-- 8: Nothing that is read is refused, and what was taken is a front of the printed text, all of which would carry the lines.
 pub record FrontCarries (input : Input) (before now : Option (List ℕ)) : Type 0 where
   pub read : Loaded
   pub is_read : loaded input ≡ Some read
-  pub readable : reached_faults (compilation_of read) ≡ []
-  pub built : is_all_built (compilation_of read) ≡ true
+  pub accepted : first_refusal (compilation_of read) ≡ None
   pub sections : List OutputSection
   pub plain : list_all is_plain sections ≡ true
   pub carried : LinesCarried (compilation_of read) sections
@@ -116,35 +112,36 @@ pub record FrontCarries (input : Input) (before now : Option (List ℕ)) : Type 
 abbrev pub PrefixWritten : Option Files → List (List ℕ) → Option (List ℕ) → Option (List ℕ) → Type 0
 PrefixWritten files words before now = (input : Input) → Names files words input → FrontCarries input before now
 
+-- 21: exactly where two functions have one symbol, but for what comes earlier
+pub record SharedCause (read : Loaded) (status : ℕ) : Type 0 where
+  pub only : status ≡ 21 → IsSome (shared_in read)
+  pub always : IsSome (shared_in read) → IsOneOf (3 ∷ 4 ∷ 9 ∷ 21 ∷ []) status
+
 -- 13: exactly where an address map is bad, but for what comes earlier
 pub record AddressMapCause (read : Loaded) (status : ℕ) : Type 0 where
   pub only : status ≡ 13 → IsSome (bad_map read)
-  pub always : IsSome (bad_map read) → IsOneOf (3 ∷ 4 ∷ 9 ∷ 13 ∷ []) status
+  pub always : IsSome (bad_map read) → IsOneOf (3 ∷ 4 ∷ 9 ∷ 13 ∷ 21 ∷ []) status
 
--- 10: only where a place that is read is outside the grammar
-abbrev pub ReadCause : Loaded → ℕ → Type 0
-ReadCause read status = status ≡ 10 → Any (λ f. IsTrue (is_unreadable f)) (reached_faults (compilation_of read))
+-- the status of a refusal: of a place that is outside the grammar, of one of a refused kind, and of a missing file
+abbrev pub refusal_status : Refusal → ℕ
+refusal_status (of_place (unreadable what section offset)) = 10
+refusal_status (of_place (unsupported kind offset)) = 11
+refusal_status (missing_file offset) = 12
 
--- 11: only where a place is of a refused kind, or the form is not built yet
-abbrev pub UnsupportedCause : Loaded → ℕ → Type 0
-UnsupportedCause read status =
-    status ≡ 11 → Any (λ f. is_unreadable f ≡ false) (reached_faults (compilation_of read)) ⊎ (is_all_built (compilation_of read) ≡ false)
+-- 10, 11, 12: exactly where the first refusal in the order of reading is of that kind, but for what comes earlier
+pub record RefusalCause (read : Loaded) (status : ℕ) : Type 0 where
+  pub only : IsOneOf (10 ∷ 11 ∷ 12 ∷ []) status → option_map refusal_status (first_refusal (compilation_of read)) ≡ Some status
+  pub always : (r : Refusal) → first_refusal (compilation_of read) ≡ Some r → IsOneOf (3 ∷ 4 ∷ 9 ∷ 13 ∷ 21 ∷ refusal_status r ∷ []) status
 
 -- 20: only where a section could be longer than 2 ^ 31 - 1 bytes
 abbrev pub TooLargeCause : Loaded → ℕ → Type 0
 TooLargeCause read status = status ≡ 20 → (name : SectionName) × (2 ^ 31 ≤ widest name (compilation_of read))
 
--- what cannot be read, or is not built, is not passed over
-abbrev pub UnreadCause : Loaded → ℕ → Type 0
-UnreadCause read status =
-    (reached_faults (compilation_of read) ≢ []) ⊎ (is_all_built (compilation_of read) ≡ false) → IsOneOf (3 ∷ 4 ∷ 9 ∷ 10 ∷ 11 ∷ 13 ∷ []) status
-
 -- what is said of an input that was read, whatever the status
 pub record LoadedCauses (read : Loaded) (status : ℕ) : Type 0 where
+  pub shared : SharedCause read status
   pub address_map : AddressMapCause read status
-  pub unreadable : ReadCause read status
-  pub unsupported : UnsupportedCause read status
-  pub unread : UnreadCause read status
+  pub refused : RefusalCause read status
   pub too_large : TooLargeCause read status
 
 -- what is said of an input that the words name
@@ -160,13 +157,13 @@ InputCauses files words status = (input : Input) → Names files words input →
 
 -- a run answers nothing else
 abbrev pub IsStatus : ℕ → Type 0
-IsStatus status = IsOneOf (0 ∷ 2 ∷ 3 ∷ 4 ∷ 5 ∷ 6 ∷ 8 ∷ 9 ∷ 10 ∷ 11 ∷ 13 ∷ 20 ∷ []) status
+IsStatus status = IsOneOf (0 ∷ 2 ∷ 3 ∷ 4 ∷ 5 ∷ 6 ∷ 8 ∷ 9 ∷ 10 ∷ 11 ∷ 12 ∷ 13 ∷ 20 ∷ 21 ∷ []) status
 
 -- Where all is well, a run answers 0, or 9 for want of memory.
 pub record IsValid (read : Loaded) : Type 0 where
+  pub distinct : shared_in read ≡ None
   pub maps : bad_map read ≡ None
-  pub readable : reached_faults (compilation_of read) ≡ []
-  pub built : is_all_built (compilation_of read) ≡ true
+  pub accepted : first_refusal (compilation_of read) ≡ None
   pub small : (name : SectionName) → widest name (compilation_of read) < 2 ^ 31
 
 -- the files are read to their ends, and nothing failed: the counts of faults did not rise
@@ -175,8 +172,7 @@ pub record RunsWell (files : Option Files) (words : List (List ℕ)) (read_befor
   pub named : Names files words input
   pub read : Loaded
   pub is_read : loaded input ≡ Some read
-  pub short_map : length input.map_bytes ≤ most_bytes
-  pub short_module : length input.module_bytes ≤ most_bytes
+  pub short : All (λ bytes. length bytes ≤ most_bytes) (all_files input)
   pub reads : Rose read_before read_now → ⊥
   pub writes : Rose write_before write_now → ⊥
   pub valid : IsValid read

@@ -13,11 +13,11 @@ use crate::status::Status;
 use crate::words::read_words;
 use std::alloc::Global;
 
-/// Runs the program on the words behind its name: `MAP MODULE`, the paths of a map file and of a WebAssembly module. The
-/// sections of DWARF of the module, rewritten for the code that the map tells of, are printed to `out`. Answers the number
+/// Runs the program on the words behind its name: `MAP MODULE..`, the paths of a map file and of WebAssembly modules. The
+/// sections of DWARF of the modules, rewritten for the code that the map tells of, are printed to `out`. Answers the number
 /// of a [`Status`].
 ///
-/// Each file is read whole, the map first. For every status but [`Status::Done`] and [`Status::WriteFault`] nothing is
+/// Each file is read whole, the map first and then the modules in order. For every status but [`Status::Done`] and [`Status::WriteFault`] nothing is
 /// written to `out`, and for every status but [`Status::Done`] one line is written to `err`, whose faults change no status.
 pub fn run<S: Source, K: Sink, E: Sink>(
     alloc: Global,
@@ -49,7 +49,7 @@ pub fn run<S: Source, K: Sink, E: Sink>(
     let Some(paths) = read_words(words) else {
         return refuse(err, &Failure::Usage);
     };
-    let input = match read_input(alloc, source, paths) {
+    let input = match read_input(alloc, source, &paths) {
         Ok(input) => input,
         Err(failure) => return refuse(err, &failure),
     };

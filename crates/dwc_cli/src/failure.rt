@@ -10,7 +10,7 @@ use crate::source::Failed;
 use crate::status::Status;
 use dwc_base::WasmFault;
 use dwc_carry::DebugError;
-use std::alloc::AllocError;
+use std::alloc::{AllocError, AllocFailed};
 
 const USAGE: &str = "usage: dwarfcarry [--package P] [--text] MAP MODULE... | --generate N";
 
@@ -34,6 +34,17 @@ impl From<AllocError> for Failure<'_> {
     ghost from_gives = { λ _ e. e ≡ OutOfMemory };
 
     fn from(_: AllocError) -> Self {
+        Failure::OutOfMemory
+    }
+}
+
+impl<T: Drop> From<AllocFailed<T>> for Failure<'_> {
+    ghost use Rattle.std.specs.Prelude.{◌≡◌};
+    ghost use Rattle.dwc_cli.specs.declared.failure.Failure.TheVariants.{OutOfMemory};
+
+    ghost from_gives = { λ _ e. e ≡ OutOfMemory };
+
+    fn from(_: AllocFailed<T>) -> Self {
         Failure::OutOfMemory
     }
 }

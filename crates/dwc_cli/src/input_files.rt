@@ -4,5 +4,5 @@
 #[derive(Drop)]
 pub(crate) struct InputFiles {
     pub(crate) map: Vec<u8>,
-    pub(crate) module: Vec<u8>,
+    pub(crate) modules: Vec<Vec<u8>>,
 }

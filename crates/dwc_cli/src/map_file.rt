@@ -1,8 +1,8 @@
 //! The map file: what a code generator tells of the functions that it compiled, as a JSON object.
-ghost use Rattle.std.specs.Prelude.{◌≡◌, ◌&&◌, map, option_map, option_and_then, IfOk, Some, None};
+ghost use Rattle.std.specs.Prelude.{◌≡◌, ◌&&◌, map, option_map, option_and_then, IfOk, IfSome, Some, None};
 ghost use Rattle.serde_json.specs.View.{view, items_view};
 ghost use Rattle.dwc_clif.specs.AddressMaps.{entry_view, address_map_view};
-ghost use Rattle.dwc_cli.specs.MapFile.{target_of, text_of, u32_of, source_of, pair_of, all_items, list_of, address_map_of, map_module_of, map_value, map_of_bytes, have_counts, is_countable};
+ghost use Rattle.dwc_cli.specs.MapFile.{target_of, text_of, u32_of, source_of, pair_of, all_items, list_of, address_map_of, map_module_of, map_value, map_of_bytes, have_counts, is_countable, IsMapFor};
 ghost use Rattle.dwc_cli.specs.MapViews.{target_view, names_view, address_map_with, module_view, map_file_view};
 
 #[cfg(test)]
@@ -18,7 +18,7 @@ use serde_json::Value;
 use std::alloc::{AllocError, Global};
 
 // Modules, and functions over all modules, are numbered with 32 bits.
-pub(crate) const COUNT_LIMIT: usize = 1 << 32;
+const COUNT_LIMIT: usize = 1 << 32;
 
 /// What the code was compiled for.
 #[derive(Clone, Copy)]
@@ -323,6 +323,9 @@ pub(crate) fn map_of_counts(
 /// as these, with as many functions as each of these defines. Unknown fields are passed over, and of two members of one
 /// name the later counts.
 ///
+/// A map that is answered has the modules and functions that are asked for, fewer than 2^32 each, and addresses of 4 or 8
+/// bytes.
+///
 /// # Errors
 ///
 /// `AllocError` for want of memory alone.
@@ -332,8 +335,9 @@ pub fn map_of(
     modules: &[ModuleTranslation<'_>],
     _with_text: bool,
 ) -> Result<Option<MapFile>, AllocError>
-    ensures { IfOk result (λ o. option_map map_file_view o
+    ensures value { IfOk result (λ o. option_map map_file_view o
         ≡ map_of_bytes (map (λ m. m.defined_funcs) modules.now) bytes.now) }
+    ensures fits { IfOk result (λ o. IfSome o (λ f. IsMapFor (map (λ m. m.defined_funcs) modules.now) (map_file_view f))) }
 {
     let mut defined = Vec::with_capacity(alloc, modules.len())?;
     for module in modules {

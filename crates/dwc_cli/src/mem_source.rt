@@ -1,15 +1,15 @@
 //! A source in memory.
-ghost use Rattle.std.specs.Prelude.{◌≡◌, ◌↔◌, map, min, take, drop, length, Some, None, IsOk, IsSome, IsNone, IsTrue, IfSome, option_map, ◌<◌, string_bytes, if◌then◌else◌};
+ghost use Rattle.std.specs.Prelude.{◌≡◌, ◌↔◌, map, length, Some, None, IsOk, IsSome, IsNone, if◌then◌else◌};
 ghost use Rattle.std.specs.Io.{ReadsAtMost};
 ghost use Rattle.std.specs.Io.KnownBytes.{ReadConsumes};
 ghost use Rattle.std.specs.Ordering.{nat_cmp};
 ghost use Rattle.std.specs.Cmp.Lexicographic.{slice_cmp};
 ghost use Rattle.std.specs.FinMap as finite;
 ghost use Rattle.dwc_cli.specs.Devices.{HasCause, Takes, Opens, FailsWhileShut};
-ghost use Rattle.dwc_cli.specs.Memory.{file_entry, files_of, left_of, at_front, GivesFront};
+ghost use Rattle.dwc_cli.specs.Memory.{file_entry, files_of, left_of, GivesFront};
 
 use crate::calls::count_call;
-use crate::front::copy_front;
+use crate::memory_files::{give, open_at};
 use crate::opened::Opened;
 use crate::source::{Failed, Source};
 use std::marker::Model;
@@ -98,32 +98,13 @@ impl Source for MemSource {
         ensures reads { IsOk result ↔ IsSome (reads_from self.old) }
     {
         let fails = count_call(&mut self.calls, &self.failing);
-        let Some(count) = give(fails, &self.files, &mut self.opened, buf) else {
+        let Some(count) = giving(fails, &self.files, &mut self.opened, buf) else {
             self.faults = self.faults.saturating_add(1);
             return Err(Failed);
         };
         self.taken = self.taken.saturating_add(count as u64);
         Ok(count)
     }
-}
-
-// The number of the first file with a path.
-fn file_at(files: &[(String, Vec<u8>)], path: &str) -> Option<usize>
-    ensures left { left_of files.now (option_map at_front result) ≡ finite.find (slice_cmp nat_cmp) path.now (map file_entry files.now) }
-    ensures inside { IfSome result (λ file. file < length files.now) }
-{
-    for file in 0..files.len() {
-        if has_path(&files[file], path) {
-            return Some(file);
-        }
-    }
-    None
-}
-
-fn has_path(file: &(String, Vec<u8>), path: &str) -> bool
-    ensures { IsTrue result ↔ (string_bytes file.now.0 ≡ path.now) }
-{
-    file.0.as_str() == path
 }
 
 // The file that a call opens: none where it is to fail.
@@ -134,13 +115,11 @@ fn opening(fails: bool, files: &[(String, Vec<u8>)], path: &str) -> Option<Opene
     if fails {
         return None;
     }
-    let file = file_at(files, path)?;
-    Some(Opened { file, place: 0 })
+    open_at(files, path)
 }
 
-// What a read gives: it copies what is left of the opened file to the front of the buffer, as far as there is room, and
-// goes on behind it. None where the call is to fail or no file is open.
-fn give(
+// What a read gives. None where the call is to fail or no file is open.
+fn giving(
     fails: bool,
     files: &[(String, Vec<u8>)],
     opened: &mut Option<Opened>,
@@ -151,23 +130,5 @@ fn give(
     if fails {
         return None;
     }
-    let from = (*opened)?;
-    let (_, bytes) = files.get(from.file)?;
-    let count = copy_front(from_place(bytes, from.place), buf);
-    *opened = Some(Opened {
-        file: from.file,
-        place: from.place.saturating_add(count),
-    });
-    Some(count)
-}
-
-// The bytes from a place on, none past the end.
-fn from_place(bytes: &[u8], place: usize) -> &[u8]
-    ensures { result.now ≡ drop place bytes.now }
-{
-    if place <= bytes.len() {
-        &bytes[place..]
-    } else {
-        &[]
-    }
+    give(files, opened, buf)
 }

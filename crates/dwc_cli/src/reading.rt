@@ -1,7 +1,9 @@
 //! Reading the files that the words of a run name.
-ghost use Rattle.std.specs.Prelude.{◌≡◌, ◌≤◌, ◌<◌, ◌↔◌, ◌⊎◌, length, IfOk, IfErr};
+ghost use Rattle.std.specs.Prelude.{◌≡◌, ◌≤◌, ◌<◌, ◌↔◌, map, length, string_bytes, IfOk, IfErr, Any};
+ghost use Rattle.std.specs.List.{AllZip};
 ghost use Rattle.dwc_cli.specs.RunStatus.{Rose, most_bytes};
-ghost use Rattle.dwc_cli.specs.Edge.{IsFile, IsLongFile, paths_view};
+ghost use Rattle.dwc_cli.specs.Inputs.{all_paths};
+ghost use Rattle.dwc_cli.specs.Edge.{IsReadFile, IsLongFile, paths_view};
 ghost use Rattle.dwc_cli.specs.Failures.{failure_status};
 ghost use Rattle.dwc_cli.specs.Answers.{status_of, input_view, IsInput, IsReadingStatus};
 
@@ -12,22 +14,44 @@ use crate::source::Source;
 use crate::words::Paths;
 use std::alloc::Global;
 
-// Reads the map, and then the module.
+// Reads the map, and then the modules in order.
 pub(crate) fn read_input<'w, S: Source>(
     alloc: Global,
     source: &mut S,
-    paths: Paths<'w>,
+    paths: &Paths<'w>,
 ) -> Result<InputFiles, Failure<'w>>
-    ensures input { IfOk result (λ input. IsInput (S.files source.old) (paths_view paths.entry) (input_view input)) }
+    ensures input { IfOk result (λ input. IsInput (S.files source.old) (paths_view paths.now) (input_view input)) }
     ensures too_long { (status_of result ≡ 4) ↔ (most_bytes < S.taken source.new) }
-    ensures long_file { status_of result ≡ 4 → IsLongFile (S.files source.old) paths.entry.map_path.now ⊎ IsLongFile (S.files source.old) paths.entry.module_path.now }
+    ensures long_file { status_of result ≡ 4 → Any (IsLongFile (S.files source.old)) (all_paths (paths_view paths.now)) }
     ensures read_fault { status_of result ≡ 3 → Rose (S.faults source.old) (S.faults source.new) }
     ensures status { IfErr result (λ failure. IsReadingStatus (failure_status failure)) }
     ensures later { S.faults source.old ≤ S.faults source.new }
 {
     let map = read_file(alloc, source, paths.map_path)?;
-    let module = read_file(alloc, source, paths.module_path)?;
-    Ok(InputFiles { map, module })
+    let modules = read_files(alloc, source, paths.module_paths)?;
+    Ok(InputFiles { map, modules })
+}
+
+// Reads some files in order.
+fn read_files<'w, S: Source>(
+    alloc: Global,
+    source: &mut S,
+    paths: &'w [String],
+) -> Result<Vec<Vec<u8>>, Failure<'w>>
+    requires { S.taken source.old ≤ most_bytes }
+    ensures files_read { IfOk result (λ files. AllZip (IsReadFile (S.files source.old)) (map string_bytes paths.now) (map (λ m. m.items) files.items)) }
+    ensures too_long { (status_of result ≡ 4) ↔ (most_bytes < S.taken source.new) }
+    ensures long_file { status_of result ≡ 4 → Any (IsLongFile (S.files source.old)) (map string_bytes paths.now) }
+    ensures read_fault { status_of result ≡ 3 → Rose (S.faults source.old) (S.faults source.new) }
+    ensures status { IfErr result (λ failure. IsReadingStatus (failure_status failure)) }
+    ensures later { S.faults source.old ≤ S.faults source.new }
+{
+    let mut files = Vec::with_capacity(alloc, paths.len())?;
+    for path in paths {
+        let bytes = read_file(alloc, source, path.as_str())?;
+        files.push(bytes)?;
+    }
+    Ok(files)
 }
 
 fn read_file<'w, S: Source>(
@@ -35,8 +59,7 @@ fn read_file<'w, S: Source>(
     source: &mut S,
     path: &'w str,
 ) -> Result<Vec<u8>, Failure<'w>>
-    ensures file { IfOk result (λ bytes. IsFile (S.files source.old) path.now bytes.items) }
-    ensures short { IfOk result (λ bytes. length bytes.items ≤ most_bytes) }
+    ensures file { IfOk result (λ bytes. IsReadFile (S.files source.old) path.now bytes.items) }
     ensures too_long { (status_of result ≡ 4) ↔ (most_bytes < S.taken source.new) }
     ensures long_file { status_of result ≡ 4 → IsLongFile (S.files source.old) path.now }
     ensures read_fault { status_of result ≡ 3 → Rose (S.faults source.old) (S.faults source.new) }

@@ -12,7 +12,7 @@ pub enum Status {
     ReadFault = 3,
     /// A file has more than 2 ^ 28 bytes.
     TooLong = 4,
-    /// The module is no WebAssembly file.
+    /// A module is no WebAssembly file.
     MalformedWasm = 5,
     /// The map has no value.
     MalformedMap = 6,
@@ -23,10 +23,14 @@ pub enum Status {
     Read = 10,
     /// A place of the DWARF is of a kind that is refused.
     Unsupported = 11,
+    /// A line table names a file or a directory that is not there, or one has an empty name.
+    InvalidFileIndex = 12,
     /// A function's address map breaks a rule.
     BadAddressMap = 13,
     /// A section would be too long.
     TooLarge = 20,
+    /// Two functions have one symbol.
+    SharedSymbol = 21,
 }
 
 impl Status {

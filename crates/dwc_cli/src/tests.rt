@@ -1,5 +1,3 @@
-ghost use Rattle.std.specs.Prelude.{None};
-
 use super::*;
 use crate::sink::write_all;
 use crate::words::read_words;
@@ -21,17 +19,16 @@ fn words(alloc: Global, list: &[&str]) -> Result<Vec<String>, AllocError> {
     Ok(words)
 }
 
-fn source(
-    alloc: Global,
-    map: &[u8],
-    module: &[u8],
-    failing: &[u64],
-) -> Result<MemSource, AllocError> {
+fn files(alloc: Global, list: &[(&str, &[u8])]) -> Result<Vec<(String, Vec<u8>)>, AllocError> {
     let mut files = Vec::new(alloc);
-    files.push((String::from_str(alloc, "g.json")?, map.to_vec(alloc)?))?;
-    files.push((String::from_str(alloc, "g.wasm")?, module.to_vec(alloc)?))?;
-    files.push((String::from_str(alloc, "g.wasm")?, Vec::new(alloc)))?;
-    Ok(MemSource::new(files, failing.to_vec(alloc)?))
+    for (path, bytes) in list {
+        files.push((String::from_str(alloc, path)?, bytes.to_vec(alloc)?))?;
+    }
+    Ok(files)
+}
+
+fn source(alloc: Global, list: &[(&str, &[u8])], failing: &[u64]) -> Result<MemSource, AllocError> {
+    Ok(MemSource::new(files(alloc, list)?, failing.to_vec(alloc)?))
 }
 
 fn sink(alloc: Global, room: usize, most: usize, failing: &[u64]) -> Result<MemSink, AllocError> {
@@ -39,29 +36,48 @@ fn sink(alloc: Global, room: usize, most: usize, failing: &[u64]) -> Result<MemS
 }
 
 #[test]
-fn reads_two_paths(rt: HostRuntime) -> Result<(), Fail> {
+fn reads_paths(rt: HostRuntime) -> Result<(), Fail> {
     for (list, wanted) in [
         ([].as_slice(), None),
         (["m"].as_slice(), None),
-        (["m", "w"].as_slice(), Some(("m", "w"))),
-        (["m", "w", "x"].as_slice(), None),
+        (["m", "w"].as_slice(), Some(1)),
+        (["m", "w", "x"].as_slice(), Some(2)),
+        (["m", "m", "m", "m"].as_slice(), Some(3)),
         (["", "w"].as_slice(), None),
         (["m", ""].as_slice(), None),
+        (["m", "w", ""].as_slice(), None),
         (["-m", "w"].as_slice(), None),
         (["m", "-"].as_slice(), None),
+        (["m", "w", "-x", "y"].as_slice(), None),
         (["--generate", "0"].as_slice(), None),
-        (["m-", "./-w"].as_slice(), Some(("m-", "./-w"))),
+        (["--text", "m", "w"].as_slice(), None),
+        (["m-", "./-w"].as_slice(), Some(1)),
     ] {
         let words = words(rt.alloc(), list)?;
-        let read = read_words(&words).map(|paths| (paths.map_path, paths.module_path));
-        assert_eq!(rt; read, wanted, "{list:?}");
+        let read = read_words(&words);
+        assert_eq!(rt;
+            read.map(|paths| paths.module_paths.len()),
+            wanted,
+            "{list:?}"
+        );
+        if let (Some(paths), Some((map_path, module_paths))) = (read, list.split_first()) {
+            assert_eq!(rt; paths.map_path, *map_path);
+            for (path, wanted) in paths.module_paths.iter().zip(module_paths) {
+                assert_eq!(rt; path.as_str(), *wanted);
+            }
+        }
     }
     Ok(())
 }
 
 #[test]
 fn gives_the_first_file_of_a_path(rt: HostRuntime) -> Result<(), Fail> {
-    let mut source = source(rt.alloc(), b"abcde", b"f", &[3])?;
+    let list = [
+        ("g.json", b"abcde".as_slice()),
+        ("g.wasm", b"f".as_slice()),
+        ("g.wasm", b"".as_slice()),
+    ];
+    let mut source = source(rt.alloc(), &list, &[3])?;
     let mut buffer = [0; 3];
     assert_eq!(rt; source.read(&mut buffer), Err(Failed), "no file is open");
     assert_eq!(rt; source.open_file("g.wasm"), Ok(()));
@@ -80,6 +96,53 @@ fn gives_the_first_file_of_a_path(rt: HostRuntime) -> Result<(), Fail> {
         "no file is open after a failure"
     );
     Ok(())
+}
+
+#[test]
+fn gives_plain_files(rt: HostRuntime) -> Result<(), Fail> {
+    let list = [
+        ("a", b"abcde".as_slice()),
+        ("b", b"".as_slice()),
+        ("a", b"f".as_slice()),
+    ];
+    let mut source = PlainSource::new(files(rt.alloc(), &list)?);
+    let mut buffer = [0; 3];
+    assert_eq!(rt; source.read(&mut buffer), Err(Failed), "no file is open");
+    assert_eq!(rt; source.open_file("a"), Ok(()));
+    assert_eq!(rt; source.read(&mut buffer), Ok(3));
+    assert_eq!(rt; buffer.as_slice(), b"abc".as_slice());
+    assert_eq!(rt; source.read(&mut buffer), Ok(2));
+    assert_eq!(rt; buffer.as_slice(), b"dec".as_slice());
+    assert_eq!(rt; source.read(&mut buffer), Ok(0));
+    assert_eq!(rt; source.open_file("b"), Ok(()));
+    assert_eq!(rt; source.read(&mut buffer), Ok(0));
+    assert_eq!(rt; source.open_file("c"), Err(Failed));
+    assert_eq!(rt; source.read(&mut buffer), Err(Failed), "after a failure");
+    Ok(())
+}
+
+#[test]
+fn gives_zeros(rt: HostRuntime) {
+    let mut source = LongSource::new(5);
+    let mut buffer = [1; 3];
+    assert_eq!(rt; source.read(&mut buffer), Err(Failed), "no file is open");
+    for path in ["a", ""] {
+        assert_eq!(rt; source.open_file(path), Ok(()));
+        assert_eq!(rt; source.read(&mut buffer), Ok(3));
+        assert_eq!(rt; buffer, [0, 0, 0]);
+        buffer = [1; 3];
+        assert_eq!(rt; source.read(&mut buffer), Ok(2));
+        assert_eq!(rt; buffer, [0, 0, 1]);
+        assert_eq!(rt; source.read(&mut buffer), Ok(0));
+    }
+}
+
+#[test]
+fn takes_everything(rt: HostRuntime) {
+    let mut sink = PlainSink::new();
+    assert_eq!(rt; sink.write(b"abc"), Ok(3));
+    assert_eq!(rt; sink.write(b""), Ok(0));
+    assert_eq!(rt; write_all(&mut sink, b"abcdefghijkl"), Ok(()));
 }
 
 #[test]
@@ -105,52 +168,73 @@ fn ended(alloc: Global, list: &[&str], mut source: MemSource) -> Result<(u8, Mem
     Ok((status, err))
 }
 
+// The files of most runs: the map, the module, and two that are broken behind their preambles.
+const FILES: [(&str, &[u8]); 4] = [
+    ("g.json", MAP),
+    ("g.wasm", MODULE),
+    ("cut.wasm", b"\x00asm\x01\x00\x00\x00\x01"),
+    ("old.wasm", b"\x00asm\x0D\x00\x00\x00"),
+];
+
 #[test]
-fn ends_with_a_line_for_each_status(rt: HostRuntime) -> Result<(), Fail> {
-    let both = ["g.json", "g.wasm"].as_slice();
-    for (list, map, module, failing, wanted, line) in [
+fn ends_with_a_line_for_wrong_words_and_files(rt: HostRuntime) -> Result<(), Fail> {
+    let two = ["g.json", "g.wasm"].as_slice();
+    let three = ["g.json", "g.wasm", "cut.wasm"].as_slice();
+    for (list, failing, wanted, line) in [
         (
             ["g.json"].as_slice(),
-            MAP,
-            MODULE,
             [].as_slice(),
             2,
             "usage: dwarfcarry [--package P] [--text] MAP MODULE... | --generate N",
         ),
-        (both, MAP, MODULE, [1].as_slice(), 3, "read fault g.json"),
-        (both, MAP, MODULE, [2].as_slice(), 3, "read fault g.json"),
-        (both, MAP, MODULE, [3].as_slice(), 3, "read fault g.json"),
-        (both, MAP, MODULE, [4].as_slice(), 3, "read fault g.wasm"),
-        (both, MAP, MODULE, [5].as_slice(), 3, "read fault g.wasm"),
-        (both, MAP, MODULE, [6].as_slice(), 3, "read fault g.wasm"),
+        (two, [1].as_slice(), 3, "read fault g.json"),
+        (two, [2].as_slice(), 3, "read fault g.json"),
+        (two, [3].as_slice(), 3, "read fault g.json"),
+        (two, [4].as_slice(), 3, "read fault g.wasm"),
+        (two, [5].as_slice(), 3, "read fault g.wasm"),
+        (two, [6].as_slice(), 3, "read fault g.wasm"),
+        (three, [7].as_slice(), 3, "read fault cut.wasm"),
+        (three, [9].as_slice(), 3, "read fault cut.wasm"),
         (
             ["g.txt", "g.wasm"].as_slice(),
-            MAP,
-            MODULE,
             [].as_slice(),
             3,
             "read fault g.txt",
         ),
         (
-            both,
-            MAP,
-            b"\x00asm\x0D".as_slice(),
+            ["g.json", "g.wasm", "x.wasm", "y.wasm"].as_slice(),
+            [].as_slice(),
+            3,
+            "read fault x.wasm",
+        ),
+        (three, [].as_slice(), 5, "Malformed 9"),
+        (
+            ["g.json", "cut.wasm", "old.wasm"].as_slice(),
+            [].as_slice(),
+            5,
+            "Malformed 9",
+        ),
+        (
+            ["g.json", "g.wasm", "old.wasm"].as_slice(),
             [].as_slice(),
             5,
             "Malformed 0",
         ),
-        (both, MAP, &MODULE[..9], [].as_slice(), 5, "Malformed 9"),
         (
-            both,
-            b"{".as_slice(),
-            MODULE,
+            ["g.json", "g.wasm", "g.wasm"].as_slice(),
             [].as_slice(),
             6,
             "malformed map",
         ),
-        (both, MAP, &MODULE[..8], [].as_slice(), 6, "malformed map"),
+        (
+            ["g.wasm", "g.wasm"].as_slice(),
+            [].as_slice(),
+            6,
+            "malformed map",
+        ),
     ] {
-        let (status, err) = ended(rt.alloc(), list, source(rt.alloc(), map, module, failing)?)?;
+        let source = source(rt.alloc(), &FILES, failing)?;
+        let (status, err) = ended(rt.alloc(), list, source)?;
         assert_eq!(rt; status, wanted, "{line}");
         let line = format!(in rt.alloc(); "dwarfcarry: {line}\n")?;
         assert_eq!(rt; err.bytes(), line.as_bytes());
@@ -158,35 +242,32 @@ fn ends_with_a_line_for_each_status(rt: HostRuntime) -> Result<(), Fail> {
     Ok(())
 }
 
-// A source of which each file is so many zero bytes, of which nothing is told.
-#[derive(Drop)]
-struct Zeros {
-    length: u64,
-    left: u64,
-    taken: u64,
-}
+// A map of two modules with one function each, and maps that are none of two modules.
+const TWO_MODULES: &[u8] =
+    b"{\"target\":{\"arch\":\"x86_64\"},\"names\":[\"set\",\"resolve\"],\"modules\":[{\"functions\":[{\"symbol\":0,\"start\":22,\"end\":33,\"body_len\":30,\"map\":[]}]},{\"functions\":[{\"symbol\":1,\"start\":22,\"end\":33,\"body_len\":30,\"map\":[]}]}]}";
 
-impl Source for Zeros {
-    ghost files = { λ _. None };
+const NO_FUNCTION: &[u8] =
+    b"{\"target\":{\"arch\":\"x86_64\"},\"names\":[\"set\",\"resolve\"],\"modules\":[{\"functions\":[{\"symbol\":0,\"start\":22,\"end\":33,\"body_len\":30,\"map\":[]}]},{\"functions\":[]}]}";
 
-    ghost left = { λ _. None };
-
-    ghost taken = { λ s. s.taken };
-
-    ghost faults = { λ _. 0 };
-
-    fn open_file(&mut self, _path: &str) -> Result<(), Failed> {
-        self.left = self.length;
-        self.taken = 0;
-        Ok(())
+#[test]
+fn ends_with_a_line_for_a_malformed_map(rt: HostRuntime) -> Result<(), Fail> {
+    let one = ["m", "w"].as_slice();
+    let two = ["m", "w", "w"].as_slice();
+    let three = ["m", "w", "w", "w"].as_slice();
+    for (map, list) in [
+        (b"{".as_slice(), one),
+        (b"".as_slice(), one),
+        (MAP, two),
+        (TWO_MODULES, one),
+        (TWO_MODULES, three),
+        (NO_FUNCTION, two),
+    ] {
+        let source = source(rt.alloc(), &[("m", map), ("w", MODULE)], &[])?;
+        let (status, err) = ended(rt.alloc(), list, source)?;
+        assert_eq!(rt; status, 6, "{list:?}");
+        assert_eq!(rt; err.bytes(), b"dwarfcarry: malformed map\n".as_slice());
     }
-
-    fn read(&mut self, buf: &mut [u8]) -> Result<usize, Failed> {
-        let count = self.left.min(buf.len() as u64);
-        self.left -= count;
-        self.taken = self.taken.saturating_add(count);
-        Ok(count as usize)
-    }
+    Ok(())
 }
 
 #[test]
@@ -196,11 +277,7 @@ fn stops_at_a_file_that_is_too_long(rt: HostRuntime) -> Result<(), Fail> {
         (1 << 16, 5, "dwarfcarry: Malformed 0\n"),
     ] {
         let words = words(rt.alloc(), &["m", "w"])?;
-        let mut source = Zeros {
-            length,
-            left: 0,
-            taken: 0,
-        };
+        let mut source = LongSource::new(length);
         let mut out = sink(rt.alloc(), 10, 10, &[])?;
         let mut err = sink(rt.alloc(), 100, 100, &[])?;
         let status = run(rt.alloc(), &words, &mut source, &mut out, &mut err);
@@ -214,7 +291,7 @@ fn stops_at_a_file_that_is_too_long(rt: HostRuntime) -> Result<(), Fail> {
 #[test]
 fn ends_alike_where_no_line_can_be_written(rt: HostRuntime) -> Result<(), Fail> {
     let words = words(rt.alloc(), &["m"])?;
-    let mut source = source(rt.alloc(), MAP, MODULE, &[])?;
+    let mut source = source(rt.alloc(), &FILES, &[])?;
     let mut out = sink(rt.alloc(), 10, 10, &[])?;
     for failing in 1..5 {
         let mut err = sink(rt.alloc(), 100, 100, &[failing])?;

@@ -11,6 +11,10 @@ mod read_back;
 #[cfg(test)]
 mod runs;
 #[cfg(test)]
+mod several_modules;
+#[cfg(test)]
 mod statuses;
+#[cfg(test)]
+mod version_5;
 #[cfg(test)]
 mod worked_lines;

@@ -121,7 +121,7 @@ fn prints_the_small_module(rt: HostRuntime) -> Result<(), Fail> {
     assert_eq!(rt; whole.status, 0);
     assert_eq!(rt; whole.out.bytes(), TEXT.as_bytes());
     assert!(rt; whole.err.bytes().is_empty());
-    let cut = run_with_room(alloc, MAP, &bytes, 10)?;
+    let cut = run_with_room(alloc, MAP, &[&bytes], 10)?;
     assert_eq!(rt; cut.status, 8);
     assert_eq!(rt; cut.out.bytes(), b"section .d".as_slice());
     assert_eq!(rt; cut.err.bytes(), b"dwarfcarry: write fault\n".as_slice());

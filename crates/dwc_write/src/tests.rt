@@ -1,14 +1,18 @@
-//! The bytes of a small module: one unit with a function of two rows.
+//! The bytes of a small module, one unit with a function of two rows; and each call of a writer, in the other order of bytes.
 ghost use Rattle.std.specs.Prelude.{◌≡◌, ◌∷◌, [], IfOk};
 ghost use Rattle.dwc_write.specs.GivenUnits.{AreWritable};
 ghost use Rattle.dwc_write.specs.SmallGiven.{small_lines};
 
-use crate::{AttributeValue, Dwarf, LineProgram, Unit, UnitTable, WriteError, write_sections};
+use crate::{
+    AttributeValue, Dwarf, LineProgram, Unit, UnitTable, WriteError, Writer, WriterRelocate,
+    write_sections,
+};
 use dwc_base::constants::{
     DW_AT_high_pc, DW_AT_low_pc, DW_AT_stmt_list, DW_FORM_udata, DW_TAG_subprogram,
 };
 use dwc_base::{
     Address, DwarfSection, DwarfSectionReloc, DwarfSectionRelocTarget, Encoding, Endian, LineRow,
+    SectionName,
 };
 use std::alloc::Global;
 use std::process::Abort;
@@ -141,5 +145,62 @@ fn small_module(rt: HostRuntime) -> Result<(), Fail> {
         b"\x39\x00\x00\x00\x04\x00\x1b\x00\x00\x00\x01\x01\x01\xfb\x0e\x0d\x00\x01\x01\x01\x01\x00\x00\x00\x01\x00\x00\x01\x00\x61\x2e\x63\x00\x00\x00\x00\x00\x00\x09\x02\x00\x00\x00\x00\x00\x00\x00\x00\x03\x01\x01\x03\x01\x02\x0f\x01\x02\x0f\x00\x01\x01",
         &[to_function(40)],
     );
+    Ok(())
+}
+
+// Each call of a writer once.
+fn section_by_calls(alloc: Global) -> Result<DwarfSection, WriteError> {
+    let mut writer = WriterRelocate::new(alloc, Endian::Big, SectionName::Info)?;
+    writer.write(b"\x01\x02\x03\x04\x05\x06")?;
+    writer.write_at(0, b"\xAA\xBB")?;
+    writer.write_offset_at(2, 5, SectionName::Str, 4)?;
+    let function = Address::Symbol {
+        symbol: 7,
+        addend: -2,
+    };
+    writer.write_address(function, 8)?;
+    writer.write_address(Address::Constant(0x1234), 2)?;
+    writer.write_offset(258, SectionName::Line, 4)?;
+    Ok(writer.take())
+}
+
+fn reloc(target: DwarfSectionRelocTarget, offset: u32, addend: i32, size: u8) -> DwarfSectionReloc {
+    DwarfSectionReloc {
+        target,
+        offset,
+        addend,
+        size,
+    }
+}
+
+#[test]
+fn calls_of_a_writer(rt: HostRuntime) -> Result<(), Fail> {
+    let section = section_by_calls(rt.alloc())?;
+    check(
+        &rt,
+        &section,
+        ".debug_info",
+        b"\xAA\xBB\x00\x00\x00\x05\xFF\xFF\xFF\xFF\xFF\xFF\xFF\xFE\x12\x34\x00\x00\x01\x02",
+        &[
+            reloc(DwarfSectionRelocTarget::Section(".debug_str"), 2, 5, 4),
+            reloc(DwarfSectionRelocTarget::Func(7), 6, -2, 8),
+            reloc(DwarfSectionRelocTarget::Section(".debug_line"), 16, 258, 4),
+        ],
+    );
+    Ok(())
+}
+
+// The numbers of two directories and of a file in the second.
+fn numbers(alloc: Global) -> Result<(u64, u64, u64), WriteError> {
+    let mut program = LineProgram::new(alloc, ENCODING)?;
+    let first = program.add_directory(b"lib")?;
+    let second = program.add_directory(b"src")?;
+    let file = program.add_file(2, b"a.c")?;
+    Ok((first, second, file))
+}
+
+#[test]
+fn directories_have_numbers(rt: HostRuntime) -> Result<(), Fail> {
+    assert_eq!(rt; numbers(rt.alloc())?, (1, 2, 1));
     Ok(())
 }

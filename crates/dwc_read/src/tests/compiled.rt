@@ -236,3 +236,23 @@ fn version_5_is_read(rt: HostRuntime) -> Result<(), Fail> {
     assert_eq!(rt; text.as_str(), ENTRIES_5);
     Ok(())
 }
+
+// How many declarations the first unit has, the entry at an offset, and the offset of the first entry.
+fn found(alloc: Global, file: &[u8], offset: u64) -> Result<(usize, u64, u16, u64), Fail> {
+    let module = split_wasm(alloc, file)?;
+    let mut units = Units::new(Sections::of_module(&module));
+    let unit = units.next_unit(alloc)?.ok_or("no unit")?;
+    let declarations = unit.declarations(alloc)?;
+    let entry = unit.entry_at(alloc, offset)?;
+    let mut entries = unit.entries(alloc)?;
+    entries.advance()?;
+    let first = entries.current().offset;
+    Ok((declarations.len(), entry.offset, entry.tag, first))
+}
+
+#[test]
+fn parts_are_found(rt: HostRuntime) -> Result<(), Fail> {
+    assert_eq!(rt; found(rt.alloc(), VERSION_4, 0x45)?, (12, 0x45, 0x0D, 0x0B));
+    assert_eq!(rt; found(rt.alloc(), VERSION_5, 0x44)?, (12, 0x44, 0x0D, 0x0C));
+    Ok(())
+}

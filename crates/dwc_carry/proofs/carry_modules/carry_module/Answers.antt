@@ -11,4 +11,4 @@ returns-in_err-read c =
 pub returns : goal.returns
 returns c =
     module-gives c.args.encoding.address_size (transformed_module c.args.translation.now c.args.transform.now) c.in_default.is c.in_ok-read.read.items (rw c.of_module.ensures at c.in_ok-read.ensures)
-        c.args.units.now.units.items c.carry_units.new.units.units.items c.carry_units.result (rw c.deref.ensures.value at c.carry_units.ensures)
+    c.args.units.now.units.items c.carry_units.new.units.units.items c.carry_units.result (rw c.deref.ensures.value at c.carry_units.ensures)

@@ -1,4 +1,4 @@
-use Rattle.std.proofs.Common.{◌≡◌, ◌+◌, ◌∷◌, ◌≤◌, drop, length, arith, get_or, sym, ap, ◌∙◌, subst}
+use Rattle.std.proofs.Common.{◌+◌, ◌∷◌, ◌≤◌, drop, length, arith, get_or, sym, ap, ◌∙◌, subst}
 use Rattle.std.proofs.lemmas.List.{drop_all}
 use Rattle.std.proofs.lemmas.Result.{err_from_is_err_and}
 use Rattle.dwc_carry.specs.CarriedModules.{transformed_module, transformed_modules}
@@ -41,4 +41,4 @@ returns c =
     let ms = transformed_modules ts fss in
     let past : length ms ≤ c.loop-i.i = omega (arith, modules-length ts fss c.requires.each, c.loop-i-test.false) in
     modules-done c.args.encoding.address_size ms c.args.units.now.units.items c.loop-i.units.units.items
-        (subst (λ xs. ModulesSoFar c.args.encoding.address_size ms c.args.units.now.units.items c.loop-i.units.units.items xs) (drop_all c.loop-i.i ms past) c.loop-i.invariant)
+    (subst (λ xs. ModulesSoFar c.args.encoding.address_size ms c.args.units.now.units.items c.loop-i.units.units.items xs) (drop_all c.loop-i.i ms past) c.loop-i.invariant)

@@ -1,4 +1,4 @@
-use Rattle.std.proofs.Common.{◌≡◌, ◌+◌, ◌∷◌, [], drop, length, sym, ap, ◌∙◌, subst, rules}
+use Rattle.std.proofs.Common.{◌+◌, ◌∷◌, drop, sym, ap, ◌∙◌, subst}
 use Rattle.std.proofs.lemmas.List.{drop_more, drop_all}
 use Rattle.dwc_carry.proofs.CarriedReadLaws.{AddedSoFar, added-not, added-one, added-done}
 use Rattle.dwc_carry.proofs.carry_units.carry_units.Goals.{in-Some+in_ok-add_unit, in_default}
@@ -21,4 +21,4 @@ pub returns : goal.returns
 returns c =
     let rs = c.args.read.now in
     added-done c.args.transform.now c.args.encoding.address_size rs c.args.units.now.units.items c.loop-i.units.units.items
-        (subst (λ xs. AddedSoFar c.args.transform.now c.args.encoding.address_size rs c.args.units.now.units.items c.loop-i.units.units.items xs) (drop_all c.loop-i.i rs c.loop-i-test.false) c.loop-i.invariant)
+    (subst (λ xs. AddedSoFar c.args.transform.now c.args.encoding.address_size rs c.args.units.now.units.items c.loop-i.units.units.items xs) (drop_all c.loop-i.i rs c.loop-i-test.false) c.loop-i.invariant)

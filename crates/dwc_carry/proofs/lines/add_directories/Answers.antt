@@ -1,4 +1,4 @@
-use Rattle.std.proofs.Common.{◌≡◌, sym, ap, ◌∙◌, Some}
+use Rattle.std.proofs.Common.{sym, ap, ◌∙◌}
 use Rattle.std.specs.Prelude.{option_map}
 use Rattle.dwc_base.specs.Cursors.{slice_bytes}
 use Rattle.dwc_carry.proofs.LinesLaws.{numbered-next, more_directories}

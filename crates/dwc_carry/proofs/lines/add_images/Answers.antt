@@ -1,5 +1,4 @@
-use Rattle.std.proofs.Common.{◌≡◌, ◌∷◌, map, sym, ap, ◌∙◌}
-use Rattle.dwc_base.specs.LineRows.{start as begin, row, end}
+use Rattle.std.proofs.Common.{◌∷◌, map, ap, ◌∙◌}
 use Rattle.dwc_tabs.specs.Steps.{step_view}
 use Rattle.dwc_carry.specs.CarriedLines.{carried_row, carried_step, carried_steps}
 use Rattle.dwc_carry.proofs.LinesLaws.{images-row, images-start, images-end}

@@ -1,4 +1,4 @@
-use Rattle.std.proofs.Common.{◌≡◌, ◌+◌, ◌<◌, ◌∷◌, ◌++◌, [], length, length-append, sym, ap, ◌∙◌, arith}
+use Rattle.std.proofs.Common.{length-append, arith}
 use Rattle.dwc_base.specs.declared.constants.TheConstants.{DW_AT_low_pc, DW_AT_high_pc}
 use Rattle.dwc_carry.proofs.OutputUnitLaws.{set_in-last, set_in-length}
 use Rattle.dwc_carry.proofs.output_unit.add_subprogram.Goals as goal

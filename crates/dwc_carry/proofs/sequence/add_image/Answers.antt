@@ -1,10 +1,8 @@
-use Rattle.std.proofs.Common.{◌≡◌, ◌<◌, arith, refl, sym, ◌∙◌, ap, map, length, vec_len, None, pos, [], ◌∷◌}
+use Rattle.std.proofs.Common.{arith, sym, ◌∙◌, ap, map, length, vec_len, None}
 use Rattle.std.proofs.lemmas.Bool.{eqb-true, eqb-false}
-use Rattle.dwc_base.specs.declared.records.Address.TheVariants.{Symbol}
 use Rattle.dwc_addr.specs.Runs.{recorded_view}
 use Rattle.dwc_addr.proofs.OwnerLaws.{function_at-among}
 use Rattle.dwc_carry.specs.ImageRows.{image_rows, IsOrdered}
-use Rattle.dwc_carry.specs.ImageSequences.{sequence_at}
 use Rattle.dwc_carry.proofs.SequenceLaws.{sequence-found, sequence-none, sequence-some, number-view, image-fits, no_sequences}
 use Rattle.dwc_carry.proofs.sequence.add_image.Goals as goal
 

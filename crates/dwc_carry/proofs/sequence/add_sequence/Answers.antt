@@ -1,4 +1,4 @@
-use Rattle.std.proofs.Common.{pos, arith, rules}
+use Rattle.std.proofs.Common.{pos}
 use Rattle.dwc_base.specs.declared.records.Address.TheVariants.{Symbol}
 use Rattle.dwc_carry.proofs.SequenceLaws.{can-append, can-end}
 use Rattle.dwc_carry.proofs.sequence.add_sequence.Goals as goal

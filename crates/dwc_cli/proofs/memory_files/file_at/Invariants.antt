@@ -3,7 +3,7 @@ use Rattle.std.specs.Ordering.{nat_cmp}
 use Rattle.std.specs.Cmp.Lexicographic.{slice_cmp}
 use Rattle.std.specs.FinMap as finite
 use Rattle.dwc_cli.specs.Memory.{file_entry}
-use Rattle.dwc_cli.proofs.mem_source.file_at.Given as goal
+use Rattle.dwc_cli.proofs.memory_files.file_at.Given as goal
 
 abbrev pub invariant-loop-file : goal.invariant-loop-file
 invariant-loop-file l =

@@ -1,7 +1,7 @@
 use Rattle.std.proofs.Common.{refl}
 use Rattle.std.proofs.lemmas.Bool.{false≢true}
 use Rattle.dwc_cli.proofs.MemoryFiles.{left_of-found, find-passed}
-use Rattle.dwc_cli.proofs.mem_source.file_at.Goals as goal
+use Rattle.dwc_cli.proofs.memory_files.file_at.Goals as goal
 
 pub returns-then-has_path-clause-left : goal.returns-then-has_path-clause-left
 returns-then-has_path-clause-left c =

@@ -1,0 +1,23 @@
+use Rattle.std.proofs.Common.{sym, ◌∙◌, subst, All}
+use Rattle.std.proofs.lemmas.Result.{err_from_is_err_and}
+use Rattle.dwc_carry.specs.ImageRows.{IsOrdered}
+use Rattle.dwc_carry.proofs.TransformLaws.{counted-same, all-length, all-ordered, input-made, input-refused}
+use Rattle.dwc_carry.proofs.transform.transform_dwarf.Goals as goal
+
+pub carry_modules-requires-clause-each : goal.carry_modules-requires-clause-each
+carry_modules-requires-clause-each g c =
+    let same = counted-same c.args.compilation.now c.translations-translations.ensures.counted in
+    rw (c.deref.ensures.value, c.in_ok-transforms.ensures.1, c.translations-translations.ensures.translations) (all-length c.args.compilation.now same)
+
+pub carry_modules-requires-clause-functions : goal.carry_modules-requires-clause-functions
+carry_modules-requires-clause-functions g c =
+    subst (All (All IsOrdered)) (sym (c.deref.ensures.value ∙ c.in_ok-transforms.ensures.1)) (all-ordered c.args.compilation.now c.in_ok-transforms.ensures.0)
+
+pub returns-in_err-carry_modules-clause-units : goal.returns-in_err-carry_modules-clause-units
+returns-in_err-carry_modules-clause-units g c =
+    let p = err_from_is_err_and c.from_residual-in_err-carry_modules.result c.from_residual-in_err-carry_modules.ensures.1 in
+    rw (p.1, p.2) (input-refused c.args.compilation.now c.in_err-carry_modules.field-0.0 c.in_ok-transforms.ensures.0 (rw (c.deref.ensures.value, c.in_ok-transforms.ensures.1, c.translations-translations.ensures.translations) at c.in_err-carry_modules.ensures))
+
+pub returns-clause-units : goal.returns-clause-units
+returns-clause-units g c =
+    (c.in_ok-transforms.ensures.0, input-made _ _ c.args.compilation.now c.carry_modules.new.units.units.items (rw (c.deref.ensures.value, c.in_ok-transforms.ensures.1, c.translations-translations.ensures.translations, c.new-units.ensures, c.pointer_bytes.ensures.0) at c.in_ok-carry_modules.ensures))

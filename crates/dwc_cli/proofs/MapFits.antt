@@ -1,0 +1,88 @@
+-- What is said of each map that is read.
+use Rattle.std.proofs.Common.{◌≡◌, ◌⊎◌, ℕ, List, [], ◌∷◌, ◌++◌, ◌≤◌, length, drop, map, Option, Some, None, Bool, true, false, Result, Ok, Err, refl, sym, ◌∙◌, ap, subst, inl, inr}
+use Rattle.std.specs.Prelude.{IfOk, IfSome, ◌==◌, ◌&&◌, codes, option_map, unwrap_or, if◌then◌else◌}
+use Rattle.std.proofs.lemmas.List.{drop_all}
+use Rattle.serde_json.specs.Data.{Data}
+use Rattle.serde_json.specs.Find.{get_member}
+use Rattle.serde_json.specs.Read.{read}
+use Rattle.std.specs.Str.{is_utf8}
+use Rattle.dwc_base.specs.declared.wasm.ModuleTranslation.{ModuleTranslation}
+use Rattle.dwc_base.specs.Reading.{coded}
+use Rattle.dwc_cli.specs.declared.map_file.MapFile.{MapFile as DeclaredMap}
+use Rattle.dwc_cli.specs.MapFile.{◌>>=◌, only_if, Target, MapFile, number_below, value_or, with_default, required, list_of, pair_of, text_of, truth_of, members_of, architecture_of, pointer_bytes_of, target_of, map_module_of, have_counts, is_countable, map_value, map_of_bytes, IsMapFor}
+use Rattle.dwc_cli.specs.MapViews.{map_file_view}
+
+same_some : {A : Type 0} (x y : A) → Some x ≡ Some y → x ≡ y
+same_some x y e = ap (λ o. unwrap_or o x) e
+
+-- what is read behind something else
+bind-some : {A B : Type 0} (o : Option A) (next : A → Option B) (y : B) → o >>= next ≡ Some y → (x : A) × (o ≡ Some x) × (next x ≡ Some y)
+bind-some None next y e = absurd (cc)
+bind-some (Some x) next y e = (x, refl, e)
+
+only_if-some : {A : Type 0} (b : Bool) (x y : A) → only_if b x ≡ Some y → (b ≡ true) × (x ≡ y)
+only_if-some true x y e = (refl, same_some x y e)
+only_if-some false x y e = absurd (cc)
+
+both : (a b : Bool) → (a && b) ≡ true → (a ≡ true) × (b ≡ true)
+both true b e = (refl, e)
+both false b e = absurd (cc)
+
+-- a number in the table of sizes
+size_in : (four eight : Bool) (n : ℕ) → (if four then Some 4 else (if eight then Some 8 else None)) ≡ Some n → (n ≡ 4) ⊎ (n ≡ 8)
+size_in true eight n e = inl (sym (same_some 4 n e))
+size_in false true n e = inr (sym (same_some 8 n e))
+size_in false false n e = absurd (cc)
+
+size_of : (d : Data) (n : ℕ) → pointer_bytes_of d ≡ Some n → (n ≡ 4) ⊎ (n ≡ 8)
+size_of d n e = let found = bind-some (number_below 9 d) (λ k. coded ((4, 4) ∷ (8, 8) ∷ []) k) n e in size_in (4 == found.0) (8 == found.0) n found.2
+
+size_or : (o : Option Data) (n : ℕ) → value_or 8 pointer_bytes_of o ≡ Some n → (n ≡ 4) ⊎ (n ≡ 8)
+size_or None n e = inr (sym (same_some 8 n e))
+size_or (Some d) n e = size_of d n e
+
+-- the size of an address of a target
+target-size : (d : Data) (t : Target) → target_of d ≡ Some t → (t.pointer_bytes ≡ 4) ⊎ (t.pointer_bytes ≡ 8)
+unfolding target_of
+target-size d t e =
+    let ms = bind-some (members_of d) _ t e in
+    let architecture = bind-some (required (codes "arch") architecture_of ms.0) _ t ms.2 in
+    let big_endian = bind-some (with_default (codes "big_endian") false truth_of ms.0) _ t architecture.2 in
+    let pointer_bytes = bind-some (with_default (codes "pointer_bytes") 8 pointer_bytes_of ms.0) _ t big_endian.2 in
+    let is : pointer_bytes.0 ≡ t.pointer_bytes = ap (λ (x : Target). x.pointer_bytes) (same_some _ t pointer_bytes.2) in
+    let size = size_or (get_member (codes "pointer_bytes") ms.0) pointer_bytes.0 pointer_bytes.1 in
+    subst (λ n. (n ≡ 4) ⊎ (n ≡ 8)) is size
+
+map_value-fits : (defined : List ℕ) (d : Data) (m : MapFile) → map_value defined d ≡ Some m → IsMapFor defined m
+unfolding map_value
+map_value-fits defined d m e =
+    let ms = bind-some (members_of d) _ m e in
+    let target = bind-some (required (codes "target") target_of ms.0) _ m ms.2 in
+    let names = bind-some (required (codes "names") (pair_of text_of text_of) ms.0) _ m target.2 in
+    let modules = bind-some (required (codes "modules") (list_of map_module_of) ms.0) _ m names.2 in
+    let whole : MapFile = record { target = target.0; set_memory = (names.0).0; resolve_memory = (names.0).1; modules = modules.0 } in
+    let kept = only_if-some (have_counts defined modules.0 && is_countable modules.0) whole m modules.2 in
+    let tests = both (have_counts defined modules.0) (is_countable modules.0) kept.0 in
+    let value = bind-some (get_member (codes "target") ms.0) target_of target.0 target.1 in
+    subst (IsMapFor defined) kept.1 (record { counts = tests.0; countable = tests.1; pointer = target-size value.0 target.0 value.2 })
+
+pub map_of_bytes-fits : (defined bytes : List ℕ) (m : MapFile) → map_of_bytes defined bytes ≡ Some m → IsMapFor defined m
+unfolding map_of_bytes
+map_of_bytes-fits defined bytes m e =
+    let text = bind-some (only_if (is_utf8 bytes) bytes) _ m e in
+    let d = bind-some (read text.0) _ m text.2 in
+    map_value-fits defined d.0 m d.2
+
+-- a map that is read, if one is
+pub map_of_bytes-read : {E : Type 0} (result : Result (Option DeclaredMap) E) (defined bytes : List ℕ) → IfOk result (λ o. option_map map_file_view o ≡ map_of_bytes defined bytes) → IfOk result (λ o. IfSome o (λ f. IsMapFor defined (map_file_view f)))
+map_of_bytes-read (Ok None) defined bytes e = tt
+map_of_bytes-read (Ok (Some f)) defined bytes e = map_of_bytes-fits defined bytes (map_file_view f) (sym e)
+map_of_bytes-read (Err error) defined bytes e = tt
+
+-- the counts of all modules, where those of the modules from a place past the end on are to come
+pub all_counted : (done : List ℕ) (modules : List ModuleTranslation) (i : ℕ) → length modules ≤ i → done ++ map (λ m. m.defined_funcs) (drop i modules) ≡ map (λ m. m.defined_funcs) modules → done ≡ map (λ m. m.defined_funcs) modules
+all_counted done modules i past so_far = sym (append-nil done) ∙ ap (λ ms. done ++ map (λ m. m.defined_funcs) ms) (sym (drop_all i modules past)) ∙ so_far
+  where
+    append-nil : (ns : List ℕ) → ns ++ [] ≡ ns
+    append-nil [] = refl
+    append-nil (n ∷ ns) = ap (λ xs. n ∷ xs) (append-nil ns)

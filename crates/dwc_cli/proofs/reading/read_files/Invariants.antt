@@ -1,0 +1,14 @@
+use Rattle.std.proofs.Common.{◌≡◌, ◌≤◌, ◌++◌, ℕ, List, map, drop, string_bytes}
+use Rattle.std.specs.List.{AllZip}
+use Rattle.dwc_cli.specs.RunStatus.{most_bytes}
+use Rattle.dwc_cli.specs.Edge.{IsReadFile}
+use Rattle.dwc_cli.proofs.reading.read_files.Given as goal
+
+-- the files so far are read, and with those to come they are the files of all paths
+abbrev pub invariant-loop-path : goal.invariant-loop-path
+invariant-loop-path g l = record {
+  told : g.S.Source.files l.source ≡ g.S.Source.files l.fn.source;
+  files_read : (rest : List (List ℕ)) → AllZip (IsReadFile (g.S.Source.files l.fn.source)) (map string_bytes (drop l.path-index l.paths)) rest → AllZip (IsReadFile (g.S.Source.files l.fn.source)) (map string_bytes l.paths) (map (λ m. m.items) l.files.items ++ rest);
+  short : g.S.Source.taken l.source ≤ most_bytes;
+  later : g.S.Source.faults l.fn.source ≤ g.S.Source.faults l.source;
+}
