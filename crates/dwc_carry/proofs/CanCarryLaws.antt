@@ -1,13 +1,12 @@
 -- A line table that was read, with all its files and directories, can be carried.
-use Rattle.std.proofs.Common.{◌≡◌, ℕ, zero, suc, ◌+◌, ◌^◌, ◌<◌, ◌≤◌, refl, ap, sym, ◌∙◌, arith, List, [], ◌∷◌, ◌++◌, map, length, get_or, Bool, true, false, Option, Some, None, Result, Ok, Err, All}
-use Rattle.std.specs.Prelude.{◌&&◌, ◌==◌, if◌then◌else◌, nat_lt, not, int_lt, nat_abs, ℤ, pos, negsuc, slice_get, option_map, is_some}
+use Rattle.std.proofs.Common.{◌≡◌, ℕ, zero, suc, ◌^◌, ◌<◌, ◌≤◌, refl, sym, ◌∙◌, arith, List, [], ◌∷◌, map, length, Bool, true, false, Option, Some, None, Result, Ok, Err, All}
+use Rattle.std.specs.Prelude.{◌&&◌, if◌then◌else◌, nat_lt, not, int_lt, nat_abs, ℤ, pos, negsuc, slice_get, option_map, is_some}
 use Rattle.std.specs.List.{list_all}
 use Rattle.std.specs.Option.{option_and_then}
 use Rattle.std.proofs.lemmas.List.Elements.{All-nil, All-cons}
 use Rattle.std.proofs.lemmas.Int.{ints}
 use Rattle.std.proofs.lemmas.Bool.{ltb-true, true≢false}
 use Rattle.std.proofs.lemmas.Bool.Decides.{nat_tests}
-use Rattle.dwc_base.specs.declared.records.LineRow.{LineRow}
 use Rattle.dwc_base.specs.declared.faults.Flaw.{Flaw}
 use Rattle.dwc_base.specs.declared.faults.Flaw.TheVariants.{Malformed}
 use Rattle.dwc_base.specs.declared.faults.What.TheVariants.{LineTable as LineTableRead}
@@ -18,8 +17,7 @@ use Rattle.dwc_base.specs.LineRows.{LineTable, LineStep, start, row, end, line_t
 use Rattle.dwc_base.specs.Sections.{Sections, Fault, section_from, reported}
 use Rattle.dwc_base.specs.LineFiles.{names_file, has_names, is_named, has_all_files}
 use Rattle.dwc_write.specs.SpelledLines.{FitsName}
-use Rattle.dwc_carry.specs.ImageSequences.{FitsFiles, FitsStep}
-use Rattle.dwc_carry.specs.ImageRows.{RowsRise}
+use Rattle.dwc_carry.specs.ImageSequences.{FitsStep}
 use Rattle.dwc_carry.specs.CarriedLines.{carried_number, carried_step, FitsDirectories, CanCarry}
 use Rattle.dwc_carry.proofs.RisingRows.{line_table-rise}
 use Rattle.dwc_carry.proofs.PlainNames.{IsPlain, IsPlainFile}

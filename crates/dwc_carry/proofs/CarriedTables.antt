@@ -1,9 +1,8 @@
 -- A line table as one of version 4 has the same segments.
-use Rattle.std.proofs.Common.{◌≡◌, ℕ, refl, ap, List, [], ◌∷◌, map, Bool, true, false, Option, Some, None}
-use Rattle.std.specs.Prelude.{nat_lt, suc, if◌then◌else◌, slice_get, option_and_then}
+use Rattle.std.proofs.Common.{◌≡◌, ℕ, refl, List, [], ◌∷◌, map, Bool, true, false}
+use Rattle.std.specs.Prelude.{nat_lt, suc, if◌then◌else◌, slice_get}
 use Rattle.dwc_base.specs.declared.records.LineRow.{LineRow}
-use Rattle.dwc_base.specs.LineHeaders.{LineFile}
-use Rattle.dwc_base.specs.LineRows.{LineTable, LineStep, start, row, end, numbered, file_numbered, in_directory, source_file, named_row, rows_before, stop_behind, segment_if, with_segment, segments_among, segments}
+use Rattle.dwc_base.specs.LineRows.{LineTable, LineStep, start, row, end, numbered, file_numbered, named_row, rows_before, stop_behind, segments_among, segments}
 use Rattle.dwc_carry.specs.CarriedLines.{carried_number, carried_row, carried_step, carried_steps}
 
 -- a table as one of version 4

@@ -1,14 +1,11 @@
 -- The names in a line table that was read hold no zero.
-use Rattle.std.proofs.Common.{◌≡◌, ◌≢◌, get_or, length-take, ℕ, zero, suc, ◌+◌, ◌^◌, ◌<◌, ◌≤◌, refl, ap, sym, ◌∙◌, arith, List, [], ◌∷◌, ◌++◌, length, take, Bool, true, false, cond, Option, Some, None, Result, Ok, Err, All, eqb}
-use Rattle.std.specs.Prelude.{ℤ, ◌-◌, nat_le, ◌==◌, ◌&&◌, nat_lt, if◌then◌else◌, slice_index, option_map}
-use Rattle.std.specs.List.{position, filter_map, cons_option, list_all}
+use Rattle.std.proofs.Common.{◌≡◌, ℕ, zero, suc, ◌<◌, refl, ap, sym, ◌∙◌, arith, List, [], ◌∷◌, length, Bool, true, false, Option, Some, None, Result, Ok, Err, All, eqb}
+use Rattle.std.specs.Prelude.{ℤ, ◌-◌, nat_le, ◌==◌, ◌&&◌, nat_lt, if◌then◌else◌, slice_index}
+use Rattle.std.specs.List.{filter_map, cons_option, list_all}
 use Rattle.std.proofs.lemmas.List.Elements.{All-nil, All-cons, All-append}
-use Rattle.std.proofs.lemmas.List.{get_or-take}
-use Rattle.std.proofs.lemmas.List.Quantifiers.{position-Some}
-use Rattle.std.proofs.lemmas.Bool.{ltb-true, ltb-false, eqb-true, eqb-false, true≢false}
 use Rattle.dwc_base.specs.declared.faults.Flaw.{Flaw}
-use Rattle.dwc_base.specs.declared.faults.Flaw.TheVariants.{EndsEarly, TooWide, Malformed}
-use Rattle.dwc_base.specs.Reading.{coded, counted_at, part_at, sleb_at, Unread, Read, ◌>>=◌, passed, text_at, uleb_at, uleb_value, uleb_fitting, items_at, number_at, seen_as}
+use Rattle.dwc_base.specs.declared.faults.Flaw.TheVariants.{Malformed}
+use Rattle.dwc_base.specs.Reading.{coded, counted_at, part_at, sleb_at, Unread, Read, ◌>>=◌, text_at, uleb_at, items_at, number_at, seen_as}
 use Rattle.dwc_base.specs.Sections.{Relocation, address_at, Sections, Fault, section_from, reported}
 use Rattle.dwc_base.specs.declared.section_name.SectionName.TheVariants.{Line}
 use Rattle.dwc_base.specs.declared.faults.What.TheVariants.{LineTable as LineTableRead}

@@ -1,5 +1,5 @@
 -- The names that stand in the header of a line table hold no zero.
-use Rattle.std.proofs.Common.{◌≡◌, ◌≢◌, get_or, length-take, ℕ, zero, suc, ◌<◌, ◌+◌, subst, refl, ap, arith, List, [], ◌∷◌, length, take, drop, Bool, true, false, Option, Some, None, Result, Ok, Err, All, eqb}
+use Rattle.std.proofs.Common.{◌≡◌, ◌≢◌, get_or, length-take, ℕ, zero, suc, ◌<◌, ◌+◌, subst, refl, arith, List, [], ◌∷◌, length, take, drop, Bool, true, false, Option, Some, None, Result, Ok, Err, All}
 use Rattle.std.specs.Prelude.{◌-◌, ◌==◌, ◌&&◌, ◌||◌, nat_lt, if◌then◌else◌}
 use Rattle.std.specs.List.{position}
 use Rattle.std.proofs.lemmas.List.Elements.{All-nil, All-cons}
@@ -13,10 +13,10 @@ use Rattle.dwc_base.specs.declared.faults.Flaw.{Flaw}
 use Rattle.dwc_base.specs.declared.faults.Flaw.TheVariants.{EndsEarly, Malformed, Refused}
 use Rattle.dwc_base.specs.declared.faults.Kind.TheVariants.{NotBuilt}
 use Rattle.dwc_base.specs.Abbreviations.{AttributeSpec}
-use Rattle.dwc_base.specs.Reading.{Unread, Read, ◌>>=◌, passed, text_at, uleb_at, sleb_at, number_at, bytes_at, seen_as, counted_at}
-use Rattle.dwc_base.specs.Sections.{Relocation, address_at}
-use Rattle.dwc_base.specs.Values.{Value, address, address_index, constant, expression, flag, text, text_reference, line_reference, range_reference, range_index, location_reference, location_index, unit_reference, info_reference, dropped, Form, addr, indexed_addr, blocks, exprloc, data_of, sdata, implicit, flag_byte, flag_present, string, string_elsewhere, reference, ref_addr, sec_offset, indexed_location, indexed_range, passed_over, supplementary, variable, form_of, is_location_name, is_range_name, is_expression_name, section_offset, block_value, constant_value, sized_number_at, block_at, formed_value_at, form_code_at, encoded_value_at}
-use Rattle.dwc_base.specs.LineHeaders.{LineFile, LineSource, directory_at, file_behind, file_at, EntryFormat, entry_formats_at, entry_count_at, texts_of_form, text_in, text_elsewhere, path_text, directory_or, with_field, field_spec, entry_field_at, entry_fields_at, no_fields, file_entry_at, directory_entry_at, directories_of_5_at, files_of_5_at}
+use Rattle.dwc_base.specs.Reading.{Unread, Read, ◌>>=◌, passed, text_at, uleb_at, seen_as, counted_at}
+use Rattle.dwc_base.specs.Sections.{Relocation}
+use Rattle.dwc_base.specs.Values.{Value, constant, text, text_reference, line_reference, range_reference, location_reference, dropped, Form, addr, indexed_addr, blocks, exprloc, data_of, sdata, implicit, flag_byte, flag_present, string, string_elsewhere, reference, ref_addr, sec_offset, indexed_location, indexed_range, passed_over, supplementary, form_of, is_location_name, is_range_name, is_expression_name, section_offset, formed_value_at, form_code_at, encoded_value_at}
+use Rattle.dwc_base.specs.LineHeaders.{LineFile, LineSource, directory_at, file_behind, file_at, EntryFormat, entry_formats_at, entry_count_at, texts_of_form, text_in, path_text, directory_or, with_field, field_spec, entry_field_at, entry_fields_at, no_fields, file_entry_at, directory_entry_at, directories_of_5_at, files_of_5_at}
 
 -- ---- what holds of what was read, if it was
 

@@ -10,7 +10,7 @@ use Rattle.dwc_base.specs.Units.{UnitHeader}
 use Rattle.dwc_base.specs.Entries.{Entry, entries, attribute}
 use Rattle.dwc_base.specs.Functions.{Function}
 use Rattle.dwc_base.specs.Kept.{is_required}
-use Rattle.dwc_base.specs.LineRows.{LineTable, line_table, segments}
+use Rattle.dwc_base.specs.LineRows.{LineTable, line_table}
 use Rattle.dwc_base.specs.Images.{is_carried_segment, IsImageOf}
 use Rattle.dwc_base.specs.Carried.{Unit, root, Module, has_root_tag, table_of_unit, table_of_root, segments_of, segments_of_unit, line_offset}
 use Rattle.dwc_base.specs.Refusals.{table_offset, lines_refusal, unit_refusal, first_of}
