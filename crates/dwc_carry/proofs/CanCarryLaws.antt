@@ -1,13 +1,12 @@
 -- A line table that was read, with all its files and directories, can be carried.
-use Rattle.std.proofs.Common.{◌≡◌, ℕ, zero, suc, ◌+◌, ◌^◌, ◌<◌, ◌≤◌, refl, ap, sym, ◌∙◌, arith, List, [], ◌∷◌, ◌++◌, map, length, get_or, Bool, true, false, Option, Some, None, Result, Ok, Err, All}
-use Rattle.std.specs.Prelude.{◌&&◌, ◌==◌, if◌then◌else◌, nat_lt, not, int_lt, nat_abs, ℤ, pos, negsuc, slice_get, option_map, is_some}
+use Rattle.std.proofs.Common.{◌≡◌, ℕ, zero, suc, ◌^◌, ◌<◌, ◌≤◌, refl, sym, ◌∙◌, arith, List, [], ◌∷◌, map, length, Bool, true, false, Option, Some, None, Result, Ok, Err, All}
+use Rattle.std.specs.Prelude.{◌&&◌, if◌then◌else◌, nat_lt, not, int_lt, nat_abs, ℤ, pos, negsuc, slice_get, option_map, is_some}
 use Rattle.std.specs.List.{list_all}
 use Rattle.std.specs.Option.{option_and_then}
 use Rattle.std.proofs.lemmas.List.Elements.{All-nil, All-cons}
 use Rattle.std.proofs.lemmas.Int.{ints}
 use Rattle.std.proofs.lemmas.Bool.{ltb-true, true≢false}
 use Rattle.std.proofs.lemmas.Bool.Decides.{nat_tests}
-use Rattle.dwc_base.specs.declared.records.LineRow.{LineRow}
 use Rattle.dwc_base.specs.declared.faults.Flaw.{Flaw}
 use Rattle.dwc_base.specs.declared.faults.Flaw.TheVariants.{Malformed}
 use Rattle.dwc_base.specs.declared.faults.What.TheVariants.{LineTable as LineTableRead}
@@ -18,11 +17,11 @@ use Rattle.dwc_base.specs.LineRows.{LineTable, LineStep, start, row, end, line_t
 use Rattle.dwc_base.specs.Sections.{Sections, Fault, section_from, reported}
 use Rattle.dwc_base.specs.LineFiles.{names_file, has_names, is_named, has_all_files}
 use Rattle.dwc_write.specs.SpelledLines.{FitsName}
-use Rattle.dwc_carry.specs.ImageSequences.{FitsFiles, FitsStep}
-use Rattle.dwc_carry.specs.ImageRows.{RowsRise}
-use Rattle.dwc_carry.specs.CarriedLines.{FitsDirectories, CanCarry}
+use Rattle.dwc_carry.specs.ImageSequences.{FitsStep}
+use Rattle.dwc_carry.specs.CarriedLines.{carried_number, carried_step, FitsDirectories, CanCarry}
 use Rattle.dwc_carry.proofs.RisingRows.{line_table-rise}
-use Rattle.dwc_carry.proofs.NameLaws.{table-names, IsPlainFile}
+use Rattle.dwc_carry.proofs.PlainNames.{IsPlain, IsPlainFile}
+use Rattle.dwc_carry.proofs.NameLaws.{table-names}
 
 -- what stands in a list is inside
 inside : {A : Type 0} (xs : List A) (i : ℕ) → is_some (slice_get xs i) ≡ true → i < length xs
@@ -43,16 +42,19 @@ known-directory directories f h = go f.directory h
     go zero e = omega arith
     go (suc n) e = omega (arith, inside directories n (sym (some f.name (slice_get directories n)) ∙ e))
 
-known-file : (t : LineTable) (n : ℕ) → t.header.version ≡ 4 → is_some (source_file t n) ≡ true → (0 < n) × (n ≤ length t.files)
-known-file t n version h = go n (ap (λ v. is_some (option_and_then (in_directory t.header.directories) (if nat_lt v 5 then numbered n t.files else slice_get t.files n))) (sym version) ∙ h)
+-- a file that is there has a number of version 4
+known-file : (t : LineTable) (n : ℕ) → is_some (source_file t n) ≡ true → (0 < carried_number t.header.version n) × (carried_number t.header.version n ≤ length t.files)
+known-file t n h = go n (nat_lt t.header.version 5) h
   where
     found : (o : Option LineFile) → is_some (option_and_then (in_directory t.header.directories) o) ≡ true → is_some o ≡ true
     found None e = e
     found (Some f) e = refl
 
-    go : (n : ℕ) → is_some (option_and_then (in_directory t.header.directories) (numbered n t.files)) ≡ true → (0 < n) × (n ≤ length t.files)
-    go zero e = absurd (cc)
-    go (suc n) e = (omega arith, omega (arith, inside t.files n (found (slice_get t.files n) e)))
+    go : (n : ℕ) (early : Bool) → is_some (option_and_then (in_directory t.header.directories) (if early then numbered n t.files else slice_get t.files n)) ≡ true
+        → (0 < (if early then n else suc n)) × ((if early then n else suc n) ≤ length t.files)
+    go zero true e = absurd (cc)
+    go (suc n) true e = (omega arith, omega (arith, inside t.files n (found (slice_get t.files n) e)))
+    go n false e = (omega arith, omega (arith, inside t.files n (found (slice_get t.files n) e)))
 
 both : (a b : Bool) → (a && b) ≡ true → (a ≡ true) × (b ≡ true)
 both true b h = (refl, h)
@@ -107,16 +109,23 @@ table-short s address_size offset t read = go (line_header_at (line_source s) ad
 
 -- ---- all of it
 
-step-fits : (t : LineTable) (x : LineStep) → t.header.version ≡ 4 → HasShortLine x → names_file t x ≡ true → FitsStep (length t.files) x
-step-fits t (row r) version short named = let p = known-file t r.file version named in record { line = short; some = p.0; known = p.1 }
-step-fits t (start a) version short named = tt
-step-fits t (end e) version short named = tt
+step-fits : (t : LineTable) (x : LineStep) → HasShortLine x → names_file t x ≡ true → FitsStep (length t.files) (carried_step t.header.version x)
+step-fits t (row r) short named = let p = known-file t r.file named in record { line = short; some = p.0; known = p.1 }
+step-fits t (start a) short named = tt
+step-fits t (end e) short named = tt
 
-steps-fit : (t : LineTable) (xs : List LineStep) → t.header.version ≡ 4 → All HasShortLine xs → list_all (names_file t) xs ≡ true → All (FitsStep (length t.files)) xs
-steps-fit t [] version short named = All-nil (FitsStep (length t.files))
-steps-fit t (x ∷ xs) version short named =
+steps-fit : (t : LineTable) (xs : List LineStep) → All HasShortLine xs → list_all (names_file t) xs ≡ true → All (FitsStep (length t.files)) (map (carried_step t.header.version) xs)
+steps-fit t [] short named = All-nil (FitsStep (length t.files))
+steps-fit t (x ∷ xs) short named =
     let p = both (names_file t x) (list_all (names_file t) xs) named in
-    All-cons (FitsStep (length t.files)) x xs (step-fits t x version (short 0 x (omega arith)) p.0) (steps-fit t xs version (λ k d h. short (suc k) d (omega arith)) p.1)
+    All-cons (FitsStep (length t.files)) (carried_step t.header.version x) (map (carried_step t.header.version) xs) (step-fits t x (short 0 x (omega arith)) p.0) (steps-fit t xs (λ k d h. short (suc k) d (omega arith)) p.1)
+
+directories-fit : (ds : List (List ℕ)) → All IsPlain ds → list_all is_named ds ≡ true → All FitsName ds
+directories-fit [] plain named = All-nil FitsName
+directories-fit (d ∷ ds) plain named =
+    let p = both (is_named d) (list_all is_named ds) named in
+    let here = plain 0 d (omega arith) in
+    All-cons FitsName d ds (record { some = ltb-true 0 (length d) p.0; plain = here.plain }) (directories-fit ds (λ k e h. plain (suc k) e (omega arith)) p.1)
 
 files-fit : (directories : List (List ℕ)) (fs : List LineFile) → All IsPlainFile fs → list_all (has_names directories) fs ≡ true → All (FitsDirectories (length directories)) fs
 files-fit directories [] plain named = All-nil (FitsDirectories (length directories))
@@ -127,14 +136,14 @@ files-fit directories (f ∷ fs) plain named =
     let fits : FitsDirectories (length directories) f = record { name = record { some = ltb-true 0 (length f.name) q.1; plain = here.name.plain }; known = known-directory directories f q.0 } in
     All-cons (FitsDirectories (length directories)) f fs fits (files-fit directories fs (λ k d h. plain (suc k) d (omega arith)) p.1)
 
-pub can-carry : (s : Sections) (address_size offset : ℕ) (t : LineTable) → line_table s address_size offset ≡ Ok t → t.header.version ≡ 4 → has_all_files t ≡ true → CanCarry t
-can-carry s address_size offset t read version named =
-    let names = table-names s address_size offset t read (ap (λ v. v == 5) version) in
+pub can-carry : (s : Sections) (address_size offset : ℕ) (t : LineTable) → line_table s address_size offset ≡ Ok t → has_all_files t ≡ true → CanCarry t
+can-carry s address_size offset t read named =
+    let names = table-names s address_size offset t read in
     let whole = both (list_all (names_file t) t.steps && list_all (has_names t.header.directories) t.files) (list_all is_named t.header.directories) named in
     let p = both (list_all (names_file t) t.steps) (list_all (has_names t.header.directories) t.files) whole.0 in
     record {
-      directories = names.0;
-      files = files-fit t.header.directories t.files names.1 p.1;
-      steps = steps-fit t t.steps version (table-short s address_size offset t read) p.0;
+      directories = directories-fit t.header.directories names.directories whole.1;
+      files = files-fit t.header.directories t.files names.files p.1;
+      steps = steps-fit t t.steps (table-short s address_size offset t read) p.0;
       rise = line_table-rise s address_size offset t read;
     }

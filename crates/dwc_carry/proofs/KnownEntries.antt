@@ -9,7 +9,7 @@ use Rattle.dwc_base.specs.Reading.{Unread, Read, ◌>>=◌, seen_as, number_at, 
 use Rattle.dwc_base.specs.Sections.{Sections, address_at}
 use Rattle.dwc_base.specs.Abbreviations.{AttributeSpec, Declaration, declaration_of}
 use Rattle.dwc_base.specs.Units.{UnitHeader}
-use Rattle.dwc_base.specs.Values.{Value, address, constant, dropped, line_reference, location_reference, range_reference, is_location_name, is_range_name, section_offset, constant_value, sized_number_at, formed_value_at, form_code_at, value_at}
+use Rattle.dwc_base.specs.Values.{Value, address, constant, dropped, line_reference, location_reference, range_reference, is_location_name, is_range_name, section_offset, constant_value, sized_number_at, formed_value_at, form_code_at, encoded_value_at, value_at}
 use Rattle.dwc_base.specs.Entries.{Found, attribute, attributes_at, declared_entry_at, entry_at}
 use Rattle.dwc_base.specs.BuiltForm.{has_specs, has_line_table, is_root_shape, is_subprogram_shape, has_known_shapes, has_names, is_subprogram_entry}
 use Rattle.dwc_base.specs.declared.constants.TheConstants.{DW_AT_high_pc, DW_AT_low_pc, DW_AT_stmt_list, DW_FORM_addr, DW_FORM_data4, DW_FORM_sec_offset, DW_TAG_subprogram}
@@ -54,15 +54,15 @@ is_known_form form = (form == DW_FORM_addr) || ((form == DW_FORM_data4) || (form
 
 module _ (s : Sections) (h : UnitHeader) (from end : ℕ) where
   value-addr : (spec : AttributeSpec) (u : Unread) → spec.form ≡ DW_FORM_addr → value_at s h spec u ≡ seen_as address (address_at (s.relocations Info) h.address_size u)
-  unfolding value_at form_code_at formed_value_at
+  unfolding value_at encoded_value_at form_code_at formed_value_at
   value-addr spec u e = subst (λ f. value_at s h (record { name = spec.name; form = f; implicit = spec.implicit }) u ≡ seen_as address (address_at (s.relocations Info) h.address_size u)) (sym e) refl
 
   value-data4 : (spec : AttributeSpec) (u : Unread) → spec.form ≡ DW_FORM_data4 → value_at s h spec u ≡ seen_as (constant_value h.version spec.name DW_FORM_data4) (number_at 4 u)
-  unfolding value_at form_code_at formed_value_at sized_number_at
+  unfolding value_at encoded_value_at form_code_at formed_value_at sized_number_at
   value-data4 spec u e = subst (λ f. value_at s h (record { name = spec.name; form = f; implicit = spec.implicit }) u ≡ seen_as (constant_value h.version spec.name DW_FORM_data4) (number_at 4 u)) (sym e) refl
 
   value-offset : (spec : AttributeSpec) (u : Unread) → spec.form ≡ DW_FORM_sec_offset → value_at s h spec u ≡ seen_as (section_offset spec.name) (number_at 4 u)
-  unfolding value_at form_code_at formed_value_at
+  unfolding value_at encoded_value_at form_code_at formed_value_at
   value-offset spec u e = subst (λ f. value_at s h (record { name = spec.name; form = f; implicit = spec.implicit }) u ≡ seen_as (section_offset spec.name) (number_at 4 u)) (sym e) refl
 
   value-known : (spec : AttributeSpec) (u : Unread) → is_known_form spec.form ≡ true → IsWithin from end u → IsNoReference from end (value_at s h spec u)

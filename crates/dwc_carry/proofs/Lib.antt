@@ -21,7 +21,9 @@ pub mod CarriedReadLaws
 pub mod ReadModuleLaws
 pub mod UnitsRead
 pub mod ModuleLoopLaws
+pub mod PlainNames
 pub mod NameLaws
+pub mod CarriedTables
 pub mod OutputUnitLaws
 pub mod InfoUnitLaws
 pub mod CanCarryLaws

@@ -1,14 +1,11 @@
--- The names in a line table that was read hold no zero, and the numbers of directories have 64 bits.
-use Rattle.std.proofs.Common.{◌≡◌, ◌≢◌, get_or, length-take, ℕ, zero, suc, ◌+◌, ◌^◌, ◌<◌, ◌≤◌, refl, ap, sym, ◌∙◌, arith, List, [], ◌∷◌, ◌++◌, length, take, Bool, true, false, cond, Option, Some, None, Result, Ok, Err, All, eqb}
-use Rattle.std.specs.Prelude.{ℤ, ◌-◌, nat_le, ◌==◌, ◌&&◌, nat_lt, if◌then◌else◌, slice_index, option_map}
-use Rattle.std.specs.List.{position, filter_map, cons_option, list_all}
+-- The names in a line table that was read hold no zero.
+use Rattle.std.proofs.Common.{◌≡◌, ℕ, zero, suc, ◌<◌, refl, ap, sym, ◌∙◌, arith, List, [], ◌∷◌, length, Bool, true, false, Option, Some, None, Result, Ok, Err, All, eqb}
+use Rattle.std.specs.Prelude.{ℤ, ◌-◌, nat_le, ◌==◌, ◌&&◌, nat_lt, if◌then◌else◌, slice_index}
+use Rattle.std.specs.List.{filter_map, cons_option, list_all}
 use Rattle.std.proofs.lemmas.List.Elements.{All-nil, All-cons, All-append}
-use Rattle.std.proofs.lemmas.List.{get_or-take}
-use Rattle.std.proofs.lemmas.List.Quantifiers.{position-Some}
-use Rattle.std.proofs.lemmas.Bool.{ltb-true, ltb-false, eqb-true, eqb-false, true≢false}
 use Rattle.dwc_base.specs.declared.faults.Flaw.{Flaw}
-use Rattle.dwc_base.specs.declared.faults.Flaw.TheVariants.{EndsEarly, TooWide, Malformed}
-use Rattle.dwc_base.specs.Reading.{coded, counted_at, part_at, sleb_at, Unread, Read, ◌>>=◌, passed, text_at, uleb_at, uleb_value, uleb_fitting, items_at, number_at, seen_as}
+use Rattle.dwc_base.specs.declared.faults.Flaw.TheVariants.{Malformed}
+use Rattle.dwc_base.specs.Reading.{coded, counted_at, part_at, sleb_at, Unread, Read, ◌>>=◌, text_at, uleb_at, items_at, number_at, seen_as}
 use Rattle.dwc_base.specs.Sections.{Relocation, address_at, Sections, Fault, section_from, reported}
 use Rattle.dwc_base.specs.declared.section_name.SectionName.TheVariants.{Line}
 use Rattle.dwc_base.specs.declared.faults.What.TheVariants.{LineTable as LineTableRead}
@@ -20,55 +17,11 @@ use Rattle.dwc_base.proofs.Items.{Leaves, LeavesFewer, items-more, items-end, it
 use Rattle.dwc_base.proofs.Takes.{directory_at-leaves}
 use Rattle.dwc_base.proofs.Takes.{Leaves-bind, Leaves-same, text_at-leaves}
 use Rattle.dwc_base.proofs.TakesMore.{Leaves-more, uleb_at-leaves}
-use Rattle.dwc_write.specs.SpelledLines.{FitsName, FitsFile}
-
--- the bytes before the first zero hold none
-before-zero : (xs : List ℕ) (n : ℕ) → position (λ b. b == 0) xs ≡ Some n → All (λ b. 0 < b) (take n xs)
-before-zero xs n h = λ k d inside.
-    let p = position-Some (λ b. b == 0) xs n d h in
-    let below : k < n = omega (arith, length-take n xs) in
-    let some : get_or xs k d ≢ 0 = eqb-false (get_or xs k d) 0 (p.2 k below) in
-    rw (get_or-take n xs k d below) (omega (arith, some))
+use Rattle.dwc_carry.proofs.PlainNames.{Holds, holds-behind, holds-is, IsPlain, IsPlainFile, IsSome, text-plain, directory-plain, behind-name, file-plain, directories_of_5-plain, files_of_5-plain}
 
 -- what was read is one thing
 ok-same : {A : Type 0} (x y : A × Unread) → (let r : Read A = Ok x in r) ≡ Ok y → x ≡ y
 ok-same x y h = cc
-
--- a text holds no zero
-pub record IsPlain (name : List ℕ) : Type 0 where
-  pub plain : All (λ b. 0 < b) name
-
-text-plain : (u v : Unread) (name : List ℕ) → text_at u ≡ Ok (name, v) → IsPlain name
-unfolding text_at
-text-plain u v name h = go (position (λ b. b == 0) u.left) refl h
-  where
-    go : (o : Option ℕ) → position (λ b. b == 0) u.left ≡ o → (let r : Read (List ℕ) = elim o [ None ↦ Err EndsEarly | Some n ↦ Ok (take n u.left, passed (n + 1) u) ] in r) ≡ Ok (name, v) → IsPlain name
-    go None is e = absurd (cc)
-    go (Some n) is e =
-        let both = ok-same (take n u.left, passed (n + 1) u) (name, v) e in
-        let same : take n u.left ≡ name = ap (λ p. p.0) both in
-        rw (← same) (record { plain = before-zero u.left n is })
-
--- a number that is read has 64 bits
-uleb-small : (u v : Unread) (n : ℕ) → uleb_at u ≡ Ok (n, v) → n < 2 ^ 64
-unfolding uleb_at
-uleb-small u v n h = go (uleb_value u.left) h
-  where
-    fits : (m : ℕ × ℕ) (b : Bool) → nat_lt m.0 (2 ^ 64) ≡ b → (let r : Read ℕ = if b then Ok (m.0, passed m.1 u) else Err TooWide in r) ≡ Ok (n, v) → n < 2 ^ 64
-    fits m true is e =
-        let both = ok-same (m.0, passed m.1 u) (n, v) e in
-        let same : m.0 ≡ n = ap (λ p. p.0) both in
-        omega (arith, same, ltb-true m.0 (2 ^ 64) is)
-    fits m false is e = absurd (cc)
-
-    go : (o : Option (ℕ × ℕ)) → uleb_fitting u o ≡ Ok (n, v) → n < 2 ^ 64
-    go None e = absurd (cc)
-    go (Some m) e = fits m (nat_lt m.0 (2 ^ 64)) refl e
-
--- a file's name holds no zero, and the number of its directory has 64 bits
-pub record IsPlainFile (f : LineFile) : Type 0 where
-  pub name : IsPlain f.name
-  pub directory : f.directory < 2 ^ 64
 
 -- ---- things that are read one after another
 
@@ -97,61 +50,6 @@ module _ {A : Type 0} (P : A → Type 0) (thing : Unread → Read (Option A)) (t
 
 -- ---- directories and files of the header
 
-directory-name : (u v : Unread) (name : List ℕ) → directory_at u ≡ Ok (Some name, v) → FitsName name
-unfolding directory_at
-directory-name u v name h = go (text_at u) refl h
-  where
-    some : (read : List ℕ × Unread) → IsPlain read.0 → (b : Bool) → (length read.0 == 0) ≡ b → (let r : Read (Option (List ℕ)) = Ok (if b then None else Some read.0, read.1) in r) ≡ Ok (Some name, v) → FitsName name
-    some read plain true is e = absurd (cc (ap (λ p. p.0) (ok-same (None, read.1) (Some name, v) e)))
-    some read plain false is e =
-        let same : Some read.0 ≡ Some name = ap (λ p. p.0) (ok-same (Some read.0, read.1) (Some name, v) e) in
-        let equal : read.0 ≡ name = cc in
-        rw (← equal) (record { some = omega (arith, eqb-false (length read.0) 0 is); plain = plain.plain })
-
-    go : (r : Read (List ℕ)) → text_at u ≡ r → (let s : Read (Option (List ℕ)) = r >>= λ name. Ok (if length name.0 == 0 then None else Some name.0, name.1) in s) ≡ Ok (Some name, v) → FitsName name
-    go (Err flaw) is e = absurd (cc)
-    go (Ok read) is e = some read (text-plain u read.1 read.0 is) (length read.0 == 0) refl e
-
--- a file behind its name
-behind-name : (name : List ℕ) (u v : Unread) (f : LineFile) → IsPlain name → file_behind name u ≡ Ok (f, v) → IsPlainFile f
-unfolding file_behind
-behind-name name u v f plain h = go (uleb_at u) refl h
-  where
-    sized : (d : ℕ × Unread) → d.0 < 2 ^ 64 → (s : Read ℕ) → (let t : Read LineFile = s >>= λ size. Ok (record { directory = d.0; name = name }, size.1) in t) ≡ Ok (f, v) → IsPlainFile f
-    sized d small (Err flaw) e = absurd (cc)
-    sized d small (Ok s) e =
-        let same : record { directory = d.0; name = name } ≡ f = ap (λ p. p.0) (ok-same (record { directory = d.0; name = name }, s.1) (f, v) e) in
-        rw (← same) (record { name = plain; directory = small })
-
-    timed : (d : ℕ × Unread) → d.0 < 2 ^ 64 → (r : Read ℕ) → (let t : Read LineFile = r >>= λ time. uleb_at time.1 >>= λ size. Ok (record { directory = d.0; name = name }, size.1) in t) ≡ Ok (f, v) → IsPlainFile f
-    timed d small (Err flaw) e = absurd (cc)
-    timed d small (Ok r) e = sized d small (uleb_at r.1) e
-
-    go : (r : Read ℕ) → uleb_at u ≡ r → (let t : Read LineFile = r >>= λ directory. uleb_at directory.1 >>= λ time. uleb_at time.1 >>= λ size. Ok (record { directory = directory.0; name = name }, size.1) in t) ≡ Ok (f, v) → IsPlainFile f
-    go (Err flaw) is e = absurd (cc)
-    go (Ok d) is e = timed d (uleb-small u d.1 d.0 is) (uleb_at d.1) e
-
-file-plain : (u v : Unread) (f : LineFile) → file_at u ≡ Ok (Some f, v) → IsPlainFile f
-unfolding file_at
-file-plain u v f h = go (text_at u) refl h
-  where
-    found : (name : List ℕ × Unread) → IsPlain name.0 → (r : Read LineFile) → file_behind name.0 name.1 ≡ r → (let s : Read (Option LineFile) = r >>= λ file. Ok (Some file.0, file.1) in s) ≡ Ok (Some f, v) → IsPlainFile f
-    found name plain (Err flaw) is e = absurd (cc)
-    found name plain (Ok x) is e =
-        let some : Some x.0 ≡ Some f = ap (λ p. p.0) (ok-same (Some x.0, x.1) (Some f, v) e) in
-        let same : x.0 ≡ f = cc in
-        rw (← same) (behind-name name.0 name.1 x.1 x.0 plain is)
-
-    named : (name : List ℕ × Unread) → IsPlain name.0 → (b : Bool)
-        → (let s : Read (Option LineFile) = elim b [ true ↦ Ok (None, name.1) | false ↦ (file_behind name.0 name.1 >>= λ file. Ok (Some file.0, file.1)) ] in s) ≡ Ok (Some f, v) → IsPlainFile f
-    named name plain true e = absurd (cc (ap (λ p. p.0) (ok-same (None, name.1) (Some f, v) e)))
-    named name plain false e = found name plain (file_behind name.0 name.1) refl e
-
-    go : (r : Read (List ℕ)) → text_at u ≡ r
-        → (let s : Read (Option LineFile) = r >>= λ name. elim (length name.0 == 0) [ true ↦ Ok (None, name.1) | false ↦ (file_behind name.0 name.1 >>= λ file. Ok (Some file.0, file.1)) ] in s) ≡ Ok (Some f, v) → IsPlainFile f
-    go (Err flaw) is e = absurd (cc)
-    go (Ok name) is e = named name (text-plain u name.1 name.0 is) (length name.0 == 0) e
-
 file_behind-leaves : (name : List ℕ) (u : Unread) → Leaves (file_behind name u) (suc (length u.left))
 unfolding file_behind
 file_behind-leaves name u = search (arith, Leaves-bind, Leaves-same, Leaves-more, uleb_at-leaves) depth 9
@@ -165,10 +63,39 @@ file_at-leaves u = Leaves-bind (text_at u) _ _ (text_at-leaves u) (λ name. go (
     go true name v = Leaves-same _ _
     go false name v = Leaves-bind (file_behind name v) _ _ (file_behind-leaves name v) (λ file. Leaves-same _ _)
 
--- the header that was read, if it was, has such names, but for version 5
+-- the directories and the files of a header that was read
+pub record ArePlain (ds : List (List ℕ)) (fs : List LineFile) : Type 0 where
+  pub directories : All IsPlain ds
+  pub files : All IsPlainFile fs
+
+-- those to version 4
+listed : {A : Type 0} (P : A → Type 0) (thing : Unread → Read (Option A)) → ((u : Unread) → Leaves (thing u) (length u.left)) → ((u : Unread) → Holds (λ x. IsSome P x.0) (thing u)) → (u : Unread) → Holds (λ xs. All P xs.0) (items_at thing u)
+listed {A} P thing takes each u = go (items_at thing u) refl
+  where
+    go : (r : Read (List A)) → items_at thing u ≡ r → Holds (λ xs. All P xs.0) r
+    go (Err flaw) is = record { of = tt }
+    go (Ok xs) is = record { of = items-each P thing takes (λ v w x e. holds-is (λ y. IsSome P y.0) (thing v) (Some x, w) (each v) e) u xs.1 xs.0 is }
+
+names-plain : (s : LineSource) (version address_size : ℕ) (u : Unread) → Holds (λ x. ArePlain (x.0).0 (x.0).1) (line_names_at s version address_size u)
+unfolding line_names_at
+names-plain s version address_size u = go (version == 5)
+  where
+    both : (ds : Read (List (List ℕ))) (fs : Unread → Read (List LineFile)) → Holds (λ x. All IsPlain x.0) ds → ((v : Unread) → Holds (λ x. All IsPlainFile x.0) (fs v))
+        → Holds {A = (List (List ℕ) × List LineFile) × Unread} (λ x. ArePlain (x.0).0 (x.0).1) (ds >>= λ d. fs d.1 >>= λ f. Ok ((d.0, f.0), f.1))
+    both ds fs p q =
+        holds-behind (λ x. ArePlain (x.0).0 (x.0).1) (λ x. All IsPlain x.0) ds _ p
+        (λ d named. holds-behind (λ x. ArePlain (x.0).0 (x.0).1) (λ x. All IsPlainFile x.0) (fs d.1) _ (q d.1) (λ f plain. record { of = record { directories = named; files = plain } }))
+
+    go : (late : Bool)
+        → Holds {A = (List (List ℕ) × List LineFile) × Unread} (λ x. ArePlain (x.0).0 (x.0).1)
+        ((elim late [ true ↦ directories_of_5_at s address_size u | false ↦ items_at directory_at u ]) >>= λ d. (elim late [ true ↦ files_of_5_at s address_size d.1 | false ↦ items_at file_at d.1 ]) >>= λ f. Ok ((d.0, f.0), f.1))
+    go true = both (directories_of_5_at s address_size u) (files_of_5_at s address_size) (directories_of_5-plain s address_size u) (files_of_5-plain s address_size)
+    go false = both (items_at directory_at u) (items_at file_at) (listed IsPlain directory_at directory_at-leaves directory-plain u) (listed IsPlainFile file_at file_at-leaves file-plain)
+
+-- the header that was read, if it was, has such names
 abbrev pub NamesOf : Result LineHeader Flaw → Type 0
 NamesOf (Err flaw) = Unit {0}
-NamesOf (Ok h) = (h.version == 5) ≡ false → All FitsName h.directories × All IsPlainFile h.files
+NamesOf (Ok h) = ArePlain h.directories h.files
 
 pub record HasNames (r : Result LineHeader Flaw) : Type 0 where
   pub of : NamesOf r
@@ -179,26 +106,14 @@ names-behind (Ok x) f h = h x
 
 -- behind the directories and the files
 names-read : (s : LineSource) (version address_size : ℕ) (u : Unread) (f : (List (List ℕ) × List LineFile) × Unread → Result LineHeader Flaw)
-    → ((x : (List (List ℕ) × List LineFile) × Unread) → ((version == 5) ≡ false → All FitsName (x.0).0 × All IsPlainFile (x.0).1) → HasNames (f x)) → HasNames (line_names_at s version address_size u >>= f)
-unfolding line_names_at
-names-read s version address_size u f h = go (version == 5) refl
+    → ((x : (List (List ℕ) × List LineFile) × Unread) → ArePlain (x.0).0 (x.0).1 → HasNames (f x)) → HasNames (line_names_at s version address_size u >>= f)
+names-read s version address_size u f h = go (line_names_at s version address_size u) (names-plain s version address_size u)
   where
-    files : (ds : List (List ℕ) × Unread) → All FitsName ds.0 → (r : Read (List LineFile)) → items_at file_at ds.1 ≡ r
-        → HasNames ((let k : Read (List (List ℕ) × List LineFile) = r >>= λ fs. Ok ((ds.0, fs.0), fs.1) in k) >>= f)
-    files ds named (Err flaw) is = record { of = tt }
-    files ds named (Ok fs) is = h ((ds.0, fs.0), fs.1) (λ early. (named, items-each IsPlainFile file_at file_at-leaves file-plain ds.1 fs.1 fs.0 is))
+    go : (r : Read (List (List ℕ) × List LineFile)) → Holds (λ x. ArePlain (x.0).0 (x.0).1) r → HasNames (r >>= f)
+    go (Err flaw) p = record { of = tt }
+    go (Ok x) p = h x p.of
 
-    directories : (r : Read (List (List ℕ))) → items_at directory_at u ≡ r
-        → HasNames ((let k : Read (List (List ℕ) × List LineFile) = r >>= λ ds. items_at file_at ds.1 >>= λ fs. Ok ((ds.0, fs.0), fs.1) in k) >>= f)
-    directories (Err flaw) is = record { of = tt }
-    directories (Ok ds) is = files ds (items-each FitsName directory_at directory_at-leaves directory-name u ds.1 ds.0 is) (items_at file_at ds.1) refl
-
-    go : (late : Bool) → (version == 5) ≡ late
-        → HasNames ((let k : Read (List (List ℕ) × List LineFile) = (elim late [ true ↦ directories_of_5_at s address_size u | false ↦ items_at directory_at u ]) >>= λ ds. (elim late [ true ↦ files_of_5_at s address_size ds.1 | false ↦ items_at file_at ds.1 ]) >>= λ fs. Ok ((ds.0, fs.0), fs.1) in k) >>= f)
-    go true is = names-behind _ f (λ x. h x (λ early. absurd (true≢false (sym is ∙ early))))
-    go false is = directories (items_at directory_at u) refl
-
-names-last : (h : LineHeader) → ((h.version == 5) ≡ false → All FitsName h.directories × All IsPlainFile h.files) → HasNames (Ok h)
+names-last : (h : LineHeader) → ArePlain h.directories h.files → HasNames (Ok h)
 names-last h named = record { of = named }
 
 fields-names : (s : LineSource) (version address_size : ℕ) (program u : Unread) → HasNames (line_fields_at s version address_size program u)
@@ -277,7 +192,7 @@ extended-plain relocations h opcode u = one (opcode == DW_LNE_end_sequence) (opc
       where
         found : (s : Read LineFile) → file_behind name.0 name.1 ≡ s → IsInstructionPlain (seen_as define_file s)
         found (Err flaw) e = record { of = tt }
-        found (Ok x) e = record { of = behind-name name.0 name.1 x.1 x.0 (text-plain u name.1 name.0 is) e }
+        found (Ok x) e = record { of = holds-is (λ y. IsPlainFile y.0) (file_behind name.0 name.1) x (behind-name name.0 name.1 (holds-is (λ y. IsPlain y.0) (text_at u) name (text-plain u) is)) e }
 
     one : (a b c d : Bool) → IsInstructionPlain (elim a [
       | true ↦ Ok (end_sequence, u)
@@ -361,29 +276,24 @@ defined-plain (i ∷ is) h = go i (h 0 i (omega arith)) (defined-plain is (λ k 
 -- ---- the table
 
 -- The directories and the files of a table that was read.
-pub table-names : (s : Sections) (address_size offset : ℕ) (t : LineTable) → line_table s address_size offset ≡ Ok t → (t.header.version == 5) ≡ false → All FitsName t.header.directories × All IsPlainFile t.files
+pub table-names : (s : Sections) (address_size offset : ℕ) (t : LineTable) → line_table s address_size offset ≡ Ok t → ArePlain t.header.directories t.files
 unfolding line_table line_table_at
-table-names s address_size offset t read early =
+table-names s address_size offset t read =
     reported-names (line_header_at (line_source s) address_size (section_from s Line offset)) (header-names (line_source s) address_size (section_from s Line offset)) read
   where
-    ranged : (h : LineHeader) (is : List Instruction) (b : Bool) → ((h.version == 5) ≡ false → All FitsName h.directories × All IsPlainFile h.files) → All DefinesPlain is
-        → (let r : Result LineTable Fault = reported LineTableRead Line offset (elim b [ true ↦ Ok (table_of h is) | false ↦ Err Malformed ]) in r) ≡ Ok t → All FitsName t.header.directories × All IsPlainFile t.files
+    ranged : (h : LineHeader) (is : List Instruction) (b : Bool) → ArePlain h.directories h.files → All DefinesPlain is
+        → (let r : Result LineTable Fault = reported LineTableRead Line offset (elim b [ true ↦ Ok (table_of h is) | false ↦ Err Malformed ]) in r) ≡ Ok t → ArePlain t.header.directories t.files
     ranged h is true names defined e =
         let same : table_of h is ≡ t = cc in
-        let named = names (ap (λ x. x.header.version == 5) same ∙ early) in
-        rw (← same) (named.0, All-append IsPlainFile h.files (filter_map file_defined is) named.1 (defined-plain is defined))
+        rw (← same) (record { directories = names.directories; files = All-append IsPlainFile h.files (filter_map file_defined is) names.files (defined-plain is defined) })
     ranged h is false names defined e = absurd (cc)
 
-    checked : (h : LineHeader) (items : List Instruction) (fault : Option Flaw) → ((h.version == 5) ≡ false → All FitsName h.directories × All IsPlainFile h.files) → All DefinesPlain items
-        → reported LineTableRead Line offset (checked_table h (record { items = items; fault = fault })) ≡ Ok t → All FitsName t.header.directories × All IsPlainFile t.files
+    checked : (h : LineHeader) (items : List Instruction) (fault : Option Flaw) → ArePlain h.directories h.files → All DefinesPlain items
+        → reported LineTableRead Line offset (checked_table h (record { items = items; fault = fault })) ≡ Ok t → ArePlain t.header.directories t.files
     checked h items None names defined e = ranged h items (list_all is_in_range (effects h (at_sequence_start h) items)) names defined e
     checked h items (Some flaw) names defined e = absurd (cc)
 
     reported-names : (r : Result LineHeader Flaw) → HasNames r → reported LineTableRead Line offset (r >>= λ h. checked_table h (instructions (s.relocations Line) h h.program)) ≡ Ok t
-        → All FitsName t.header.directories × All IsPlainFile t.files
+        → ArePlain t.header.directories t.files
     reported-names (Err flaw) names e = absurd (cc)
     reported-names (Ok h) names e = checked h (instructions (s.relocations Line) h h.program).items (instructions (s.relocations Line) h h.program).fault names.of (program-plain (s.relocations Line) h h.program) e
-
--- a file whose name is not empty fits
-pub file-fits : (f : LineFile) → IsPlainFile f → 0 < length f.name → FitsFile f
-file-fits f p some = record { name = record { some = some; plain = p.name.plain }; directory = p.directory }

@@ -10,7 +10,7 @@ use Rattle.dwc_base.specs.Units.{UnitHeader}
 use Rattle.dwc_base.specs.Entries.{Entry, entries, attribute}
 use Rattle.dwc_base.specs.Functions.{Function}
 use Rattle.dwc_base.specs.Kept.{is_required}
-use Rattle.dwc_base.specs.LineRows.{LineTable, line_table, segments}
+use Rattle.dwc_base.specs.LineRows.{LineTable, line_table}
 use Rattle.dwc_base.specs.Images.{is_carried_segment, IsImageOf}
 use Rattle.dwc_base.specs.Carried.{Unit, root, Module, has_root_tag, table_of_unit, table_of_root, segments_of, segments_of_unit, line_offset}
 use Rattle.dwc_base.specs.Refusals.{table_offset, lines_refusal, unit_refusal, first_of}
@@ -31,7 +31,6 @@ use Rattle.dwc_carry.proofs.CarriedReadLaws.{filter-in, filter-out}
 use Rattle.dwc_carry.proofs.OutputUnitLaws.{named-writable}
 use Rattle.dwc_carry.proofs.WidestUnits.{unit-widest}
 use Rattle.dwc_carry.proofs.InfoUnitLaws.{subprograms-count}
-use Rattle.dwc_carry.proofs.GivenSegments.{same-segments}
 
 -- a unit that is a compile unit, and of which an entry is required
 abbrev pub is_compiled : List Function → Unit → Bool
@@ -128,8 +127,7 @@ module _ (m : Module) where
           let t = h'.table in
           let read_table : named r.unit.sections r.unit.header.address_size (Some offset) ≡ Ok (Some t) = ap (λ l. l >>= λ x. Ok (Some x)) h'.is_read in
           let table : table_of_unit m.sections (unit_of m.sections h) ≡ Ok (Some t) = table-same ∙ ap (named r.unit.sections r.unit.header.address_size) is ∙ read_table in
-          let images = subst (λ qs. AllZip (IsImageOf m.functions) (filter (is_carried_segment m.functions) (segments t)) qs) (same-segments t lines lines.sequences h'.carries.directories h'.carries.files) h'.carries.images in
-          with-table lines (Some t) table (rw is h') images (ap (λ x. cond {A = ℕ} (is_some x) 1 0) (sym is)) h'.carries.widest
+          with-table lines (Some t) table (rw is h') h'.carries.images (ap (λ x. cond {A = ℕ} (is_some x) 1 0) (sym is)) h'.carries.widest
 
       -- What carries a unit that was read is made of the unit.
       pub made-of-read : (u : GivenUnit) → CarriesRead m.functions size r u → IsMadeOf size (record { module_of = m; unit = unit_of m.sections h }) u

@@ -1,5 +1,5 @@
 -- What is written of the steps of a line table are the images of its segments.
-use Rattle.std.proofs.Common.{◌≡◌, ℕ, suc, ◌≤◌, refl, ap, ◌∙◌, sym, arith, List, [], ◌∷◌, ◌++◌, map, length, pos, Option, Some, None}
+use Rattle.std.proofs.Common.{◌≡◌, ℕ, suc, ◌≤◌, refl, ap, ◌∙◌, sym, subst, arith, List, [], ◌∷◌, ◌++◌, map, length, pos, Option, Some, None}
 use Rattle.std.specs.Prelude.{option_and_then, sum_by, All}
 use Rattle.std.specs.List.{filter, filter_map, cons_option, AllZip}
 use Rattle.std.proofs.lemmas.Bool.{lt-ltb}
@@ -14,9 +14,12 @@ use Rattle.dwc_base.specs.Images.{is_carried_segment, IsImageOf}
 use Rattle.dwc_base.specs.Widest.{widest_image, most_rows}
 use Rattle.dwc_write.specs.SpelledLines.{read_segment}
 use Rattle.dwc_write.specs.GivenLines.{GivenLines, no_lines}
+use Rattle.dwc_write.specs.ReadBack.{given_segments}
 use Rattle.dwc_carry.specs.ImageRows.{image_rows, image_from, image_of, image_with_rows, image_if, move_row, moved_to, IsOrdered, RowsRise}
 use Rattle.dwc_carry.specs.ImageSequences.{RiseIf, AllRise, sequence_with_rows, sequence_in, sequence_at, sequence_if, sequences_from, with_sequences}
-use Rattle.dwc_carry.specs.CarriedLines.{CarriesTable, with_directories, with_files}
+use Rattle.dwc_carry.specs.CarriedLines.{CarriesTable, carried_steps, with_directories, with_files}
+use Rattle.dwc_carry.proofs.CarriedTables.{as_carried, carried-segments}
+use Rattle.dwc_carry.proofs.GivenSegments.{same-segments}
 use Rattle.dwc_carry.proofs.ImageLaws.{images-AllZip}
 use Rattle.dwc_carry.proofs.WidestImages.{images-widest, sequences-seen}
 use Rattle.dwc_carry.proofs.RisingRows.{RowsRise-seen}
@@ -105,18 +108,24 @@ module _ (t : LineTable) where
         ∙ written-closed start rows e (pending None [] steps)
         ∙ ap (filter_map (image_if fs)) (sym (pending-end start rows e steps))
 
--- The rows of a table's segments do not fall, as its steps are walked.
-pub steps-rise : (t : LineTable) → All RowsRise (segments t) → AllRise None [] t.steps
-steps-rise t all = all-rise t t.steps None [] all
+-- The rows of a table's segments do not fall, as its steps are walked with the files' numbers of version 4.
+pub steps-rise : (t : LineTable) → All RowsRise (segments t) → AllRise None [] (carried_steps t)
+steps-rise t all = all-rise (as_carried t) (carried_steps t) None [] (subst (All RowsRise) (sym (carried-segments t)) all)
 
 -- What is written of a table's steps are images of its carried segments.
-pub sequences-AllZip : (t : LineTable) (fs : List Function) → All IsOrdered fs → AllZip (IsImageOf fs) (filter (is_carried_segment fs) (segments t)) (map (read_segment t) (sequences_from fs None [] t.steps))
-sequences-AllZip t fs all = rw (written t fs t.steps None []) (images-AllZip fs (segments t) all)
+written-segments : (t : LineTable) (fs : List Function) → map (read_segment (as_carried t)) (sequences_from fs None [] (carried_steps t)) ≡ filter_map (image_if fs) (segments t)
+written-segments t fs = written (as_carried t) fs (carried_steps t) None [] ∙ ap (filter_map (image_if fs)) (carried-segments t)
 
 -- and they are no longer at their widest than those
-pub sequences-widest : (t : LineTable) (fs : List Function) → sum_by (λ q. widest_image (length q.rows)) (sequences_from fs None [] t.steps) ≤ sum_by (λ q. widest_image (most_rows fs q)) (filter (is_carried_segment fs) (segments t))
-sequences-widest t fs = rw (sequences-seen t (sequences_from fs None [] t.steps), written t fs t.steps None []) (images-widest fs (segments t))
+sequences-widest : (t : LineTable) (fs : List Function) → sum_by (λ q. widest_image (length q.rows)) (sequences_from fs None [] (carried_steps t)) ≤ sum_by (λ q. widest_image (most_rows fs q)) (filter (is_carried_segment fs) (segments t))
+sequences-widest t fs = rw (sequences-seen (as_carried t) (sequences_from fs None [] (carried_steps t)), written-segments t fs) (images-widest fs (segments t))
 
 -- What is made of a table is what carries it.
-pub carries-table : (t : LineTable) (fs : List Function) (size : ℕ) (a b c d : GivenLines) → All IsOrdered fs → a ≡ no_lines (Some size) → b ≡ with_directories t.header.directories a → c ≡ with_files t.files b → d ≡ with_sequences (sequences_from fs None [] t.steps) c → CarriesTable t fs size d
-carries-table t fs size a b c d all new directories files images = rw (images, files, directories, new) (record { address_size = refl; directories = refl; files = refl; ended = refl; images = sequences-AllZip t fs all; widest = omega (arith, sequences-widest t fs) })
+pub carries-table : (t : LineTable) (fs : List Function) (size : ℕ) (a b c d : GivenLines) → All IsOrdered fs → a ≡ no_lines (Some size) → b ≡ with_directories t.header.directories a → c ≡ with_files t.files b → d ≡ with_sequences (sequences_from fs None [] (carried_steps t)) c → CarriesTable t fs size d
+carries-table t fs size a b c d all new directories files images = rw (images, files, directories, new) (record { address_size = refl; directories = refl; files = refl; ended = refl; images = are; widest = omega (arith, sequences-widest t fs) })
+  where
+    lines : GivenLines
+    lines = with_sequences (sequences_from fs None [] (carried_steps t)) (with_files t.files (with_directories t.header.directories (no_lines (Some size))))
+
+    are : AllZip (IsImageOf fs) (filter (is_carried_segment fs) (segments t)) (given_segments lines)
+    are = subst (AllZip (IsImageOf fs) (filter (is_carried_segment fs) (segments t))) (sym (written-segments t fs) ∙ same-segments t lines lines.sequences refl refl) (images-AllZip fs (segments t) all)

@@ -1,16 +1,39 @@
 -- What the line program of a unit carries of a line table.
-use Rattle.std.specs.Prelude.{◌≡◌, ℕ, ◌≤◌, List, map, length, ◌++◌, Some, None, Ok, All}
+use Rattle.std.specs.Prelude.{◌≡◌, ℕ, suc, ◌≤◌, List, map, length, ◌++◌, nat_lt, if◌then◌else◌, Some, None, Ok, All}
 use Rattle.std.specs.List.{filter, AllZip}
 use Rattle.dwc_base.specs.LineHeaders.{LineFile}
-use Rattle.dwc_base.specs.LineRows.{LineTable, segments}
+use Rattle.dwc_base.specs.declared.records.LineRow.{LineRow}
+use Rattle.dwc_base.specs.LineRows.{LineTable, LineStep, start, row, end, segments}
 use Rattle.dwc_base.specs.Functions.{Function}
 use Rattle.dwc_base.specs.Images.{is_carried_segment, IsImageOf}
 use Rattle.dwc_base.specs.Widest.{widest_table}
 use Rattle.dwc_write.specs.WidestGiven.{widest_table_for}
-use Rattle.dwc_write.specs.SpelledLines.{FitsName, read_segment}
+use Rattle.dwc_write.specs.SpelledLines.{FitsName}
+use Rattle.dwc_write.specs.ReadBack.{given_segments}
 use Rattle.dwc_write.specs.GivenLines.{GivenLines}
 use Rattle.dwc_carry.specs.ImageRows.{RowsRise}
 use Rattle.dwc_carry.specs.ImageSequences.{FitsStep}
+
+-- ---- a table as one of version 4
+
+-- A file's number in a table of version 4, by its number in one of a version: files count from 1, from version 5 on from 0.
+-- (DWARF 4, section 6.2.4, 12; DWARF 5, section 6.2.4, 17.)
+abbrev pub carried_number : ℕ → ℕ → ℕ
+carried_number version n = if nat_lt version 5 then n else suc n
+
+abbrev pub carried_row : ℕ → LineRow → LineRow
+carried_row version r = record { offset = r.offset; file = carried_number version r.file; line = r.line; column = r.column; is_stmt = r.is_stmt; basic_block = r.basic_block; prologue_end = r.prologue_end; epilogue_begin = r.epilogue_begin; isa = r.isa; discriminator = r.discriminator }
+
+abbrev pub carried_step : ℕ → LineStep → LineStep
+carried_step version (row r) = row (carried_row version r)
+carried_step version (start a) = start a
+carried_step version (end e) = end e
+
+-- the steps of a table, with the files' numbers of version 4
+abbrev pub carried_steps : LineTable → List LineStep
+carried_steps t = map (carried_step t.header.version) t.steps
+
+-- ---- what can be carried, and what carries it
 
 -- a file has a name that can be written, and one of so many directories or the compilation directory
 pub record FitsDirectories (directories : ℕ) (f : LineFile) : Type 0 where
@@ -21,17 +44,17 @@ pub record FitsDirectories (directories : ℕ) (f : LineFile) : Type 0 where
 pub record CanCarry (t : LineTable) : Type 0 where
   pub directories : All FitsName t.header.directories
   pub files : All (FitsDirectories (length t.header.directories)) t.files
-  pub steps : All (FitsStep (length t.files)) t.steps
+  pub steps : All (FitsStep (length t.files)) (carried_steps t)
   pub rise : All RowsRise (segments t)
 
--- A line program has the directories and files of a table by their numbers, and its sequences are, one to one and in order,
--- images of the carried segments of the table. At its widest it is no longer than the table.
+-- A line program has the directories and files of a table in order, and its sequences are, one to one and in order, images of
+-- the carried segments of the table. At its widest it is no longer than the table.
 pub record CarriesTable (t : LineTable) (fs : List Function) (size : ℕ) (g : GivenLines) : Type 0 where
   pub address_size : g.address_size ≡ Some size
   pub directories : g.directories ≡ t.header.directories
   pub files : g.files ≡ t.files
   pub ended : g.begun ≡ None
-  pub images : AllZip (IsImageOf fs) (filter (is_carried_segment fs) (segments t)) (map (read_segment t) g.sequences)
+  pub images : AllZip (IsImageOf fs) (filter (is_carried_segment fs) (segments t)) (given_segments g)
   pub widest : widest_table_for g.address_size g ≤ widest_table fs (Ok (Some t))
 
 abbrev pub with_directories : List (List ℕ) → GivenLines → GivenLines

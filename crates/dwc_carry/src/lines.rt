@@ -4,17 +4,18 @@ ghost use Rattle.dwc_tabs.specs.Headers.{file_view};
 ghost use Rattle.dwc_write.specs.SpelledLines.{FitsName};
 ghost use Rattle.dwc_carry.specs.ImageRows.{IsOrdered};
 ghost use Rattle.dwc_carry.specs.ImageSequences.{FitsStep, AllRise, sequences_from, with_sequences};
-ghost use Rattle.dwc_carry.specs.CarriedLines.{FitsDirectories, CanCarry, CarriesTable, with_directories, with_files};
+ghost use Rattle.dwc_carry.specs.CarriedLines.{carried_number, carried_row, carried_steps, FitsDirectories, CanCarry, CarriesTable, with_directories, with_files};
 
 use crate::sequence::add_image;
 use dwc_addr::AddressTransform;
-use dwc_base::Encoding;
+use dwc_base::{Encoding, LineRow};
 use dwc_tabs::{LineFile, LineStep, LineTable};
 use dwc_write::{LineProgram, WriteError};
 use std::alloc::Global;
 
-/// The line program that carries a line table for the functions of a module: the table's directories and files by their
-/// numbers, and one sequence for each segment that has an image.
+/// The line program that carries a line table of any version for the functions of a module: the table's directories and files
+/// in order, and one sequence for each segment that has an image. Files count from 1 there, as up to version 4, so that those
+/// of version 5, which count from 0, have the number above. (DWARF 4, section 6.2.4; DWARF 5, section 6.2.4.)
 pub fn carried_lines(
     alloc: Global,
     table: &LineTable<'_>,
@@ -59,13 +60,29 @@ fn file_at<'d>(table: &LineTable<'d>, place: u64) -> Option<LineFile<'d>>
 // Adds the files of a table, whose directories are added.
 fn add_files(program: &mut LineProgram, table: &LineTable<'_>) -> Result<(), WriteError>
     requires { All (FitsDirectories (length program.old.directories)) table.now.files }
-    ensures { OnOk result (program.new ≡ with_files table.now.files program.old) }
+    ensures added { OnOk result (program.new ≡ with_files table.now.files program.old) }
+    ensures counted { OnOk result (length table.now.files < 2 ^ 64) }
 {
     for i in 0..table.file_count() {
         let file = file_at(table, i).unwrap();
         program.add_file(file.directory, file.name)?;
     }
     Ok(())
+}
+
+// A row with its file's number in the output, where files count from 1.
+fn carried_row(table: &LineTable<'_>, row: LineRow) -> LineRow
+    requires { carried_number table.now.header.version row.file < 2 ^ 64 }
+    ensures { result ≡ carried_row table.now.header.version row }
+{
+    if table.version() < 5 {
+        row
+    } else {
+        LineRow {
+            file: row.file + 1,
+            ..row
+        }
+    }
 }
 
 // Adds the images of the segments of a table, whose files are added.
@@ -77,10 +94,11 @@ fn add_images(
 ) -> Result<(), WriteError>
     requires sized { IsSome program.old.address_size }
     requires ended { program.old.begun ≡ None }
-    requires steps { All (FitsStep (length program.old.files)) table.now.steps }
-    requires rise { AllRise None [] table.now.steps }
+    requires counted { length program.old.files < 2 ^ 64 }
+    requires steps { All (FitsStep (length program.old.files)) (carried_steps table.now) }
+    requires rise { AllRise None [] (carried_steps table.now) }
     requires functions { All IsOrdered transform.now }
-    ensures { OnOk result (program.new ≡ with_sequences (sequences_from transform.now None [] table.now.steps) program.old) }
+    ensures { OnOk result (program.new ≡ with_sequences (sequences_from transform.now None [] (carried_steps table.now)) program.old) }
 {
     let mut steps = table.rows();
     let mut start = None;
@@ -98,7 +116,7 @@ fn add_images(
                 start = None;
                 rows.clear();
             }
-            LineStep::Row(row) => rows.push(row)?,
+            LineStep::Row(row) => rows.push(carried_row(table, row))?,
         }
     }
     Ok(())

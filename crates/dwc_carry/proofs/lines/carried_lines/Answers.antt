@@ -6,4 +6,4 @@ add_images-requires-clause-rise c = steps-rise c.args.table.now c.requires.table
 
 pub returns : goal.returns
 returns c =
-    carries-table c.args.table.now c.args.transform.now c.args.encoding.address_size _ _ _ _ c.requires.functions c.in_ok-program.ensures c.in_ok-add_directories.ensures c.in_ok-add_files.ensures c.in_ok-add_images.ensures
+    carries-table c.args.table.now c.args.transform.now c.args.encoding.address_size _ _ _ _ c.requires.functions c.in_ok-program.ensures c.in_ok-add_directories.ensures c.in_ok-add_files.ensures.added c.in_ok-add_images.ensures
