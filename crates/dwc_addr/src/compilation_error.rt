@@ -7,7 +7,7 @@ use thiserror::Error;
 pub enum CompilationError {
     /// Two functions have one symbol. They are told by their numbers over all modules: `second` is the least number whose
     /// symbol came before, and `first` is where it came.
-    #[error("the functions {first} and {second} have one symbol")]
+    #[error("SharedSymbol {first} {second}")]
     SharedSymbol { first: usize, second: usize },
     #[error("out of memory")]
     OutOfMemory,
