@@ -3,6 +3,8 @@ use Rattle.std.specs.Prelude.{ℕ, List, ◌++◌, codes}
 use Rattle.dwc_base.specs.declared.wasm.WasmFault.{WasmFault}
 use Rattle.dwc_base.specs.declared.wasm.WasmFault.TheVariants as wasm
 use Rattle.dwc_base.specs.declared.wasm.WasmFault.TheVariants.{Malformed}
+use Rattle.dwc_addr.specs.declared.compilation_error.CompilationError.{CompilationError}
+use Rattle.dwc_addr.specs.declared.compilation_error.CompilationError.TheVariants as compiling
 use Rattle.dwc_carry.specs.declared.error.DebugError.{DebugError}
 use Rattle.dwc_carry.specs.declared.error.DebugError.TheVariants as debug
 use Rattle.dwc_cli.specs.declared.status.Status.{Status}
@@ -42,10 +44,16 @@ abbrev pub wasm_status : WasmFault → ℕ
 wasm_status (Malformed offset) = 5
 wasm_status wasm.OutOfMemory = 9
 
+-- the status of a run whose functions are not taken as one compilation
+abbrev pub compiling_status : CompilationError → ℕ
+compiling_status (compiling.SharedSymbol first second) = 21
+compiling_status compiling.OutOfMemory = 9
+
 -- the status of a run whose lines are not carried
 abbrev pub carrying_status : DebugError → ℕ
 carrying_status (debug.Read what section offset) = 10
 carrying_status (debug.Unsupported what offset) = 11
+carrying_status (debug.InvalidFileIndex offset) = 12
 carrying_status (debug.BadAddressMap m func why) = 13
 carrying_status (debug.TooLarge what) = 20
 carrying_status debug.OutOfMemory = 9

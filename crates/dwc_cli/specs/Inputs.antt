@@ -8,7 +8,7 @@ use Rattle.dwc_base.specs.declared.records.MapFault.{MapFault}
 use Rattle.dwc_base.specs.Wasm.{WasmModule, wasm_module, module_sections}
 use Rattle.dwc_base.specs.Functions.{AddressMap, map_fault, functions_of}
 use Rattle.dwc_base.specs.Carried.{Module, Compilation}
-use Rattle.dwc_cli.specs.SharedSymbols.{shared_symbol}
+use Rattle.dwc_base.specs.SharedSymbols.{shared_symbol}
 use Rattle.dwc_cli.specs.MapFile.{◌>>=◌, MapFile, MapModule, map_of_bytes}
 
 -- the words of a run: the path of the map, and those of the modules, one at least

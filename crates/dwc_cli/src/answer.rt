@@ -1,16 +1,14 @@
 //! The text that a run prints.
-ghost use Rattle.std.specs.Prelude.{◌≡◌, map, IfOk, IfErr};
-ghost use Rattle.dwc_cli.specs.Inputs.{Loaded};
+ghost use Rattle.std.specs.Prelude.{map, IfOk, IfErr};
 ghost use Rattle.dwc_cli.specs.Failures.{failure_status};
-ghost use Rattle.dwc_cli.specs.MapFile.{IsMapFor};
-ghost use Rattle.dwc_cli.specs.MapViews.{map_file_view};
-ghost use Rattle.dwc_cli.specs.Answers.{status_of, input_view, IsReadAs, TranslatesFiles, Emits, CarriesText, TextCauses, IsTextStatus, GivesText};
+ghost use Rattle.dwc_cli.specs.Answers.{status_of, input_view, TranslatesFiles, CarriesText, TextCauses, IsTextStatus, GivesText};
 
+use crate::emitting::emitted;
 use crate::failure::Failure;
 use crate::input_files::InputFiles;
-use crate::map_file::{MapFile, map_of};
+use crate::map_file::map_of;
 use crate::printing::printed;
-use dwc_base::{DwarfSection, ModuleTranslation, split_wasm};
+use dwc_base::{ModuleTranslation, split_wasm};
 use std::alloc::Global;
 
 // The printed text of an input: of the sections of DWARF of its modules, rewritten for the code that its map tells of.
@@ -41,18 +39,4 @@ fn translations_of<'d>(
         translations.push(translation)?;
     }
     Ok(translations)
-}
-
-// The sections of DWARF that the lines of some modules carry over to, for the functions of a map of these modules.
-fn emitted(
-    _alloc: Global,
-    map_file: MapFile,
-    translations: &[ModuleTranslation<'_>],
-) -> Result<Vec<DwarfSection>, Failure<'static>>
-    requires { IsMapFor (map (λ t. t.defined_funcs) translations.now) (map_file_view map_file) }
-    ensures { (read : Loaded) → IsReadAs translations.now map_file read → Emits read result }
-{
-    // NOT BUILT: stands here until `Compilation::new` and `emit_dwarf` over a compilation are there.
-    let _ = (map_file, translations);
-    Err(Failure::OutOfMemory)
 }

@@ -8,6 +8,7 @@ use crate::refusal::Refusal;
 use crate::sink::{Sink, write_all};
 use crate::source::Failed;
 use crate::status::Status;
+use dwc_addr::CompilationError;
 use dwc_base::WasmFault;
 use dwc_carry::DebugError;
 use std::alloc::{AllocError, AllocFailed};
@@ -66,6 +67,23 @@ impl From<WasmFault> for Failure<'_> {
     }
 }
 
+impl From<CompilationError> for Failure<'_> {
+    ghost use Rattle.std.specs.Prelude.{◌≡◌};
+    ghost use Rattle.dwc_cli.specs.Failures.{failure_status, compiling_status};
+
+    ghost from_gives = { λ error failure. failure_status failure ≡ compiling_status error };
+
+    fn from(error: CompilationError) -> Self {
+        match error {
+            CompilationError::SharedSymbol { .. } => Failure::Refused {
+                status: Status::SharedSymbol,
+                refusal: Refusal::of(&error),
+            },
+            CompilationError::OutOfMemory => Failure::OutOfMemory,
+        }
+    }
+}
+
 impl From<DebugError> for Failure<'_> {
     ghost use Rattle.std.specs.Prelude.{◌≡◌};
     ghost use Rattle.dwc_cli.specs.Failures.{failure_status, carrying_status};
@@ -76,6 +94,7 @@ impl From<DebugError> for Failure<'_> {
         let status = match error {
             DebugError::Read { .. } => Status::Read,
             DebugError::Unsupported { .. } => Status::Unsupported,
+            DebugError::InvalidFileIndex { .. } => Status::InvalidFileIndex,
             DebugError::BadAddressMap { .. } => Status::BadAddressMap,
             DebugError::TooLarge { .. } => Status::TooLarge,
             DebugError::OutOfMemory => return Failure::OutOfMemory,

@@ -4,6 +4,7 @@
 mod answer;
 mod calls;
 mod command;
+mod emitting;
 mod failure;
 mod front;
 mod host;

@@ -1,0 +1,204 @@
+-- What is emitted for a map and modules, as it was read.
+use Rattle.std.proofs.Common.{◌≡◌, ◌⊎◌, ℕ, suc, ◌+◌, ◌≤◌, ◌<◌, ◌^◌, List, [], ◌∷◌, ◌++◌, map, length, refl, sym, ap, ◌∙◌, subst, arith, inl, inr, Bool, true, false, Option, Some, None, Result, Ok, Err, Vec, All}
+use Rattle.std.specs.Prelude.{◌==◌, ◌&&◌, nat_lt, option_map, is_some, if◌then◌else◌, string_bytes, sum_by}
+use Rattle.std.specs.Option.{option_or}
+use Rattle.std.specs.List.{AllZip, flat_map, fold}
+use Rattle.std.specs.Global.{Global}
+use Rattle.std.proofs.lemmas.Bool.{eqb-true, ltb-true}
+use Rattle.std.proofs.lemmas.List.{length-map, map-append}
+use Rattle.dwc_base.specs.declared.records.Endian.{Endian}
+use Rattle.dwc_base.specs.declared.records.Endian.TheVariants.{Little, Big}
+use Rattle.dwc_base.specs.declared.records.MapFault.{MapFault}
+use Rattle.dwc_base.specs.declared.output.DwarfSection.{DwarfSection}
+use Rattle.dwc_base.specs.declared.wasm.ModuleTranslation.{ModuleTranslation}
+use Rattle.dwc_base.specs.SharedSymbols.{shared_symbol}
+use Rattle.dwc_base.specs.Functions.{AddressMap, map_fault, functions_of}
+use Rattle.dwc_base.specs.Wasm.{WasmModule, module_sections}
+use Rattle.dwc_base.specs.Translations.{translation_sections, IsTranslation}
+use Rattle.dwc_base.specs.Carried.{Module, Compilation, LinesCarried}
+use Rattle.dwc_base.specs.Refusals.{Refusal, of_place, missing_file, first_refusal}
+use Rattle.dwc_base.specs.Widest.{widest}
+use Rattle.dwc_write.specs.Writers.{IsSound}
+use Rattle.dwc_base.specs.Sections.{unreadable, unsupported}
+use Rattle.dwc_base.proofs.Translated.{translation_sections-is}
+use Rattle.dwc_clif.specs.AddressMaps.{address_map_view}
+use Rattle.dwc_addr.specs.Numbers.{Compiled, function_count, symbols_in, all_symbols, symbol_view}
+use Rattle.dwc_addr.specs.Transforms.{first_bad_map}
+use Rattle.dwc_carry.specs.Inputs as carry
+use Rattle.dwc_cli.specs.declared.map_file.MapModule.{MapModule}
+use Rattle.dwc_cli.specs.MapFile as value
+use Rattle.dwc_cli.specs.MapViews as views
+use Rattle.dwc_cli.specs.declared.map_file.MapFile.{MapFile}
+use Rattle.dwc_base.specs.declared.records.SymbolId.{SymbolId}
+use Rattle.dwc_base.specs.Outputs.{section_view}
+use Rattle.dwc_addr.specs.declared.compilation_error.CompilationError.{CompilationError}
+use Rattle.dwc_addr.specs.declared.compilation_error.CompilationError.TheVariants as compiling
+use Rattle.dwc_addr.specs.declared.memory_offset.ModuleMemoryOffset.{ModuleMemoryOffset}
+use Rattle.dwc_addr.specs.Numbers.{AreDistinct}
+use Rattle.dwc_addr.specs.Compilations.{CompilationValue, IsCounted}
+use Rattle.dwc_write.specs.declared.error.Limit.TheVariants.{Section}
+use Rattle.dwc_carry.specs.declared.error.DebugError.{DebugError}
+use Rattle.dwc_carry.specs.declared.error.DebugError.TheVariants as debug
+use Rattle.dwc_carry.specs.Emits as emits
+use Rattle.dwc_cli.specs.Inputs.{Loaded, compilation_of, BadMap, bad_map, shared_in, modules_of, bad_function, bad_module}
+use Rattle.dwc_cli.specs.RunStatus.{refusal_status}
+use Rattle.dwc_cli.specs.Failures.{compiling_status, carrying_status}
+use Rattle.dwc_cli.specs.Answers.{first_status, hindrance, IsEmitted, IsCause, IsReadAs}
+use Rattle.dwc_cli.specs.Compiled.{bad_view, IsCompiled}
+
+-- the functions of each module of a map
+abbrev pub functions_in : List MapModule → List (List Compiled)
+functions_in ms = map (λ m. m.functions.items) ms
+
+-- the modules of a map, as its value has them
+abbrev pub modules_in : List MapModule → List value.MapModule
+modules_in ms = map views.module_view ms
+
+-- ---- the input
+
+module-same : (number : ℕ) (t : ModuleTranslation) (w : WasmModule) (fs : List AddressMap) → IsTranslation t w
+    → ◌≡◌ {A = Module} (record { sections = translation_sections t; functions = functions_of t.code_section_offset number fs; compressed = t.compressed }) (record { sections = module_sections w; functions = functions_of w.code_offset number fs; compressed = w.compressed })
+module-same number t w fs is = λ i. record {
+  sections = translation_sections-is t w is i;
+  functions = functions_of (is.code_section_offset i) number fs;
+  compressed = is.compressed i;
+}
+
+pub modules-same : (number : ℕ) (ts : List ModuleTranslation) (ws : List WasmModule) (ms : List MapModule) → AllZip IsTranslation ts ws → carry.modules_from number ts (functions_in ms) ≡ modules_of number ws (modules_in ms)
+modules-same number [] [] ms h = refl
+modules-same number [] (w ∷ ws) ms h = absurd h
+modules-same number (t ∷ ts) [] ms h = absurd h
+modules-same number (t ∷ ts) (w ∷ ws) [] h = refl
+modules-same number (t ∷ ts) (w ∷ ws) (m ∷ ms) h =
+    let count : length (map address_map_view m.functions.items) ≡ length m.functions.items = length-map m.functions.items address_map_view in
+    rw (module-same number t w (map address_map_view m.functions.items) h.0, count, modules-same (number + length m.functions.items) ts ws ms h.1) refl
+
+-- ---- the first bad address map
+
+bad-function : (m code_offset place : ℕ) (fs : List AddressMap) → option_map (λ (bad : ℕ × MapFault). bad_view (m, bad)) (first_bad_map code_offset place fs) ≡ bad_function m code_offset place fs
+bad-function m code_offset place [] = refl
+bad-function m code_offset place (f ∷ fs) = go (bad-function m code_offset (suc place) fs) (map_fault code_offset f)
+  where
+    go : option_map (λ (bad : ℕ × MapFault). bad_view (m, bad)) (first_bad_map code_offset (suc place) fs) ≡ bad_function m code_offset (suc place) fs → (o : Option MapFault)
+        → option_map (λ (bad : ℕ × MapFault). bad_view (m, bad)) (option_or (option_map (λ why. (place, why)) o) (first_bad_map code_offset (suc place) fs))
+        ≡ option_or (option_map (λ rule. record { module_place = m; function_place = place; rule = rule }) o) (bad_function m code_offset (suc place) fs)
+    go others (Some why) = refl
+    go others None = others
+
+bad-joined : (m : ℕ) (o : Option (ℕ × MapFault)) (rest : Option (ℕ × (ℕ × MapFault))) → option_map bad_view (option_or (option_map (λ bad. (m, bad)) o) rest) ≡ option_or (option_map (λ (bad : ℕ × MapFault). bad_view (m, bad)) o) (option_map bad_view rest)
+bad-joined m None rest = refl
+bad-joined m (Some bad) rest = refl
+
+pub bad-same : (place : ℕ) (ts : List ModuleTranslation) (ws : List WasmModule) (ms : List MapModule) → AllZip IsTranslation ts ws → option_map bad_view (carry.bad_map_from place ts (functions_in ms)) ≡ bad_module place ws (modules_in ms)
+bad-same place [] [] ms h = refl
+bad-same place [] (w ∷ ws) ms h = absurd h
+bad-same place (t ∷ ts) [] ms h = absurd h
+bad-same place (t ∷ ts) (w ∷ ws) [] h = refl
+bad-same place (t ∷ ts) (w ∷ ws) (m ∷ ms) h =
+    bad-joined place (first_bad_map t.code_section_offset 0 (map address_map_view m.functions.items)) (carry.bad_map_from (suc place) ts (functions_in ms))
+    ∙ rw (bad-function place t.code_section_offset 0 (map address_map_view m.functions.items), (h.0).code_section_offset, bad-same (suc place) ts ws ms h.1) refl
+
+-- ---- shared symbols
+
+symbols-of : (fs : List Compiled) → map symbol_view (symbols_in fs) ≡ map (λ (f : AddressMap). f.symbol) (map address_map_view fs)
+symbols-of [] = refl
+symbols-of (f ∷ fs) = ap (λ xs. option_map (λ s. s.0) f.0 ∷ xs) (symbols-of fs)
+
+pub symbols-same : (ms : List MapModule) → map symbol_view (all_symbols (functions_in ms)) ≡ flat_map (λ (m : value.MapModule). map (λ f. f.symbol) m.functions) (modules_in ms)
+symbols-same [] = refl
+symbols-same (m ∷ ms) = map-append symbol_view (symbols_in m.functions.items) (all_symbols (functions_in ms)) ∙ rw (symbols-of m.functions.items, symbols-same ms) refl
+
+-- ---- what was read, as it is given to the emitter
+
+abbrev of_view : Loaded → value.MapFile → Loaded
+of_view read v = record { wasm = read.wasm; map_file = v }
+
+abbrev order_in : MapFile → Endian
+order_in f = if f.target.big_endian then Big else Little
+
+abbrev of_modules : MapFile → List Module → Compilation
+of_modules f ms = record { order = order_in f; pointer_bytes = f.target.pointer_bytes; modules = ms }
+
+pub compiled : (ts : List ModuleTranslation) (f : MapFile) (read : Loaded) → IsReadAs ts f read → IsCompiled (order_in f) f.target.pointer_bytes ts (functions_in f.modules.items) read
+compiled ts f read seen = record {
+  input = ap (λ v. compilation_of (of_view read v)) (sym seen.map_is) ∙ ap (of_modules f) (sym (modules-same 0 ts read.wasm f.modules.items seen.wasm));
+  maps = ap (λ v. bad_map (of_view read v)) (sym seen.map_is) ∙ sym (bad-same 0 ts read.wasm f.modules.items seen.wasm);
+  symbols = ap (λ v. shared_in (of_view read v)) (sym seen.map_is) ∙ ap shared_symbol (sym (symbols-same f.modules.items));
+}
+
+-- ---- what hinders
+
+module _ (c : CompilationValue) (order : Endian) (size : ℕ) (read : Loaded) (is : IsCompiled order size c.translations c.functions read) where
+  -- where no two functions have one symbol, by the first bad map and the first refusal
+  hindrance-is : shared_symbol (map symbol_view (all_symbols c.functions)) ≡ None → hindrance read ≡ first_status None (option_map bad_view (carry.bad_map c)) (first_refusal (carry.input_of order size c))
+  hindrance-is none =
+      ap (λ shared. first_status shared (bad_map read) (first_refusal (compilation_of read))) (is.symbols ∙ none)
+      ∙ ap (λ bad. first_status None bad (first_refusal (compilation_of read))) is.maps
+      ∙ ap (λ input. first_status None (option_map bad_view (carry.bad_map c)) (first_refusal input)) is.input
+
+  no-bad : shared_symbol (map symbol_view (all_symbols c.functions)) ≡ None → carry.bad_map c ≡ None → hindrance read ≡ first_status None None (first_refusal (carry.input_of order size c))
+  no-bad none good = hindrance-is none ∙ ap (λ bad. first_status None (option_map bad_view bad) (first_refusal (carry.input_of order size c))) good
+
+  refused : shared_symbol (map symbol_view (all_symbols c.functions)) ≡ None → carry.bad_map c ≡ None → (o : Option Refusal) → first_refusal (carry.input_of order size c) ≡ o → hindrance read ≡ first_status None None o
+  refused none good o found = no-bad none good ∙ ap (first_status None None) found
+
+  pub emitted : shared_symbol (map symbol_view (all_symbols c.functions)) ≡ None → (s : Vec DwarfSection Global) → emits.Emits order size c (Ok s) → IsEmitted read (map section_view s.items)
+  emitted none s h = record {
+    unhindered = refused none h.0 None h.1.accepted;
+    carried = subst (λ input. LinesCarried input (map section_view s.items)) (sym is.input) h.1.carried;
+    sound = subst (λ input. All (IsSound input.order) (map section_view s.items)) (sym is.input) h.1.sound;
+  }
+
+  pub refused-emitting : shared_symbol (map symbol_view (all_symbols c.functions)) ≡ None → (e : DebugError) → emits.Emits order size c (Err e) → IsCause read (carrying_status e)
+  refused-emitting none (debug.Read what name offset) h = inr (inl (refused none h.0 (Some (of_place (unreadable what name offset))) h.1))
+  refused-emitting none (debug.Unsupported kind offset) h = inr (inl (refused none h.0 (Some (of_place (unsupported kind offset))) h.1))
+  refused-emitting none (debug.InvalidFileIndex offset) h = inr (inl (refused none h.0 (Some (missing_file offset)) h.1))
+  refused-emitting none (debug.BadAddressMap m func why) h = inr (inl (hindrance-is none ∙ ap (λ bad. first_status None (option_map bad_view bad) (first_refusal (carry.input_of order size c))) h))
+  refused-emitting none (debug.TooLarge (Section name)) h = inr (inr (refl, refused none h.0 None h.1.accepted, (name, subst (λ input. 2 ^ 31 ≤ widest name input) (sym is.input) h.1.long)))
+  refused-emitting none debug.OutOfMemory h = inl refl
+
+shared-some : (read : Loaded) (functions : ℕ × ℕ) → shared_in read ≡ Some functions → hindrance read ≡ Some 21
+shared-some read functions e = rw e refl
+
+pub refused-compiling : (A : Type 0) (ts : List ModuleTranslation) (fss : List (List Compiled)) (order : Endian) (size : ℕ) (read : Loaded) → IsCompiled order size ts fss read
+    → (e : CompilationError) → AreDistinct {A = A} (all_symbols fss) (Err e) → IsCause read (compiling_status e)
+refused-compiling A ts fss order size read is (compiling.SharedSymbol first second) h = inr (inl (shared-some read (first, second) (is.symbols ∙ h)))
+refused-compiling A ts fss order size read is compiling.OutOfMemory h = inl refl
+
+-- ---- counts
+
+sum-from : (ms : List value.MapModule) (n : ℕ) → fold (λ a (m : value.MapModule). a + length m.functions) n ms ≡ n + sum_by (λ (m : value.MapModule). length m.functions) ms
+sum-from [] n = omega arith
+sum-from (m ∷ ms) n = omega (arith, sum-from ms (n + length m.functions), sum-from ms (0 + length m.functions))
+
+count-of : (ms : List MapModule) → function_count (functions_in ms) ≡ sum_by (λ (m : value.MapModule). length m.functions) (modules_in ms)
+count-of [] = refl
+count-of (m ∷ ms) = omega (arith, length-map m.functions.items address_map_view, count-of ms, sum-from (modules_in ms) (0 + length (map address_map_view m.functions.items)))
+
+both : (a b : Bool) → (a && b) ≡ true → (a ≡ true) × (b ≡ true)
+both true b e = (refl, e)
+both false b e = absurd (cc)
+
+counts-of : (ts : List ModuleTranslation) (ms : List MapModule) → value.have_counts (map (λ t. t.defined_funcs) ts) (modules_in ms) ≡ true
+    → (map length (functions_in ms) ≡ map (λ t. t.defined_funcs) ts) × (length (modules_in ms) ≡ length ts)
+counts-of [] [] e = (refl, refl)
+counts-of [] (m ∷ ms) e = absurd (cc)
+counts-of (t ∷ ts) [] e = absurd (cc)
+counts-of (t ∷ ts) (m ∷ ms) e =
+    let split = both (length (map address_map_view m.functions.items) == t.defined_funcs) (value.have_counts (map (λ t. t.defined_funcs) ts) (modules_in ms)) e in
+    let others = counts-of ts ms split.1 in
+    let count : length m.functions.items ≡ t.defined_funcs = sym (length-map m.functions.items address_map_view) ∙ eqb-true (length (map address_map_view m.functions.items)) t.defined_funcs split.0 in
+    (rw (count, others.0) refl, ap suc others.1)
+
+-- the modules and functions of a map are counted as the translations have them
+pub counted : (ts : List ModuleTranslation) (f : MapFile) (os : List ModuleMemoryOffset) → value.IsMapFor (map (λ t. t.defined_funcs) ts) (views.map_file_view f) → length os ≡ length ts → IsCounted ts (functions_in f.modules.items) os
+counted ts f os fits given =
+    let ms = f.modules.items in
+    let counts = counts-of ts ms fits.counts in
+    let few = both (nat_lt (length (modules_in ms)) (2 ^ 32)) (nat_lt (sum_by (λ (m : value.MapModule). length m.functions) (modules_in ms)) (2 ^ 32)) fits.countable in
+    record {
+      defined = counts.0;
+      offsets_given = given;
+      few_modules = subst (λ n. n < 2 ^ 32) counts.1 (ltb-true (length (modules_in ms)) (2 ^ 32) few.0);
+      few_functions = subst (λ n. n < 2 ^ 32) (sym (count-of ms)) (ltb-true (sum_by (λ (m : value.MapModule). length m.functions) (modules_in ms)) (2 ^ 32) few.1);
+    }

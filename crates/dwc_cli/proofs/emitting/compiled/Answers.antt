@@ -1,0 +1,33 @@
+use Rattle.std.proofs.Common.{◌≡◌, map, sym, ap, ◌∙◌, subst, None}
+use Rattle.std.proofs.lemmas.Result.{err_from_is_err_and}
+use Rattle.dwc_base.specs.SharedSymbols.{shared_symbol}
+use Rattle.dwc_addr.specs.Numbers.{all_symbols, symbol_view}
+use Rattle.dwc_addr.specs.Compilations.{CompilationValue}
+use Rattle.dwc_cli.specs.Compiled.{IsCompiled}
+use Rattle.dwc_cli.proofs.EmittedLaws.{emitted, refused-emitting, refused-compiling}
+use Rattle.dwc_cli.proofs.emitting.compiled.Goals as goal
+
+-- the functions are not taken as one compilation
+pub returns-in_err-compilation : goal.returns-in_err-compilation
+returns-in_err-compilation c = λ read is.
+    let p = err_from_is_err_and c.from_residual.result c.from_residual.ensures.1 in
+    let isa = c.args.isa.now in
+    rw (p.1, p.2) (refused-compiling CompilationValue c.args.translations.now _ isa.order isa.pointer_bytes read is c.in_err-compilation.field-0.0 (c.in_err-compilation.ensures).distinct)
+
+-- no DWARF is emitted
+pub returns-in_err-emitted_for : goal.returns-in_err-emitted_for
+returns-in_err-emitted_for c = λ read is.
+    let p = err_from_is_err_and c.from_residual-in_err-emitted_for.result c.from_residual-in_err-emitted_for.ensures.1 in
+    let isa = c.args.isa.now in
+    let given = sym (c.in_ok-compilation.ensures).value in
+    let seen = subst (λ v. IsCompiled isa.order isa.pointer_bytes v.translations v.functions read) given is in
+    let none = subst (λ v. shared_symbol (map symbol_view (all_symbols v.functions)) ≡ None) given (c.in_ok-compilation.ensures).distinct in
+    rw (p.1, p.2) (refused-emitting c.in_ok-compilation.compilation isa.order isa.pointer_bytes read seen none c.in_err-emitted_for.field-0.0 c.in_err-emitted_for.ensures)
+
+pub returns : goal.returns
+returns c = λ read is.
+    let isa = c.args.isa.now in
+    let given = sym (c.in_ok-compilation.ensures).value in
+    let seen = subst (λ v. IsCompiled isa.order isa.pointer_bytes v.translations v.functions read) given is in
+    let none = subst (λ v. shared_symbol (map symbol_view (all_symbols v.functions)) ≡ None) given (c.in_ok-compilation.ensures).distinct in
+    emitted c.in_ok-compilation.compilation isa.order isa.pointer_bytes read seen none c.in_ok-emitted_for.field-0 c.in_ok-emitted_for.ensures
