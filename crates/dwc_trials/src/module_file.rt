@@ -41,6 +41,11 @@ pub(crate) fn push_uleb(bytes: &mut Vec<u8>, number: u32) -> Result<(), AllocErr
     Ok(())
 }
 
+/// A length as a number of four bytes; no test makes a longer one.
+pub(crate) fn length_of(bytes: &[u8]) -> u32 {
+    u32::try_from(bytes.len()).unwrap_or(u32::MAX)
+}
+
 /// Puts a number of four bytes, the lowest first, behind some bytes.
 pub(crate) fn push_u32(bytes: &mut Vec<u8>, number: u32) -> Result<(), AllocError> {
     bytes.extend_from_slice(&number.to_le_bytes())
@@ -54,24 +59,38 @@ pub(crate) fn push_custom(
     contents: &[u8],
 ) -> Result<(), AllocError> {
     let mut inside = Vec::new(alloc);
-    push_uleb(&mut inside, name.len() as u32)?;
+    push_uleb(&mut inside, length_of(name.as_bytes()))?;
     inside.extend_from_slice(name.as_bytes())?;
     inside.extend_from_slice(contents)?;
     bytes.push(0)?;
-    push_uleb(bytes, inside.len() as u32)?;
+    push_uleb(bytes, length_of(&inside))?;
     bytes.extend_from_slice(&inside)
+}
+
+/// What has a length in front of it.
+pub(crate) fn with_length(alloc: Global, contents: &[u8]) -> Result<Vec<u8>, AllocError> {
+    let mut bytes = Vec::new(alloc);
+    push_u32(&mut bytes, length_of(contents))?;
+    bytes.extend_from_slice(contents)?;
+    Ok(bytes)
+}
+
+/// A line table of a program: what stands in front of the header's length, and what that counts.
+pub(crate) fn line_table_of(
+    alloc: Global,
+    front: &[u8],
+    fields: &[u8],
+    program: &[u8],
+) -> Result<Vec<u8>, AllocError> {
+    let mut table = front.to_vec(alloc)?;
+    table.extend_from_slice(&with_length(alloc, fields)?)?;
+    table.extend_from_slice(program)?;
+    with_length(alloc, &table)
 }
 
 /// The line table of version 4 of a program, with one file.
 pub(crate) fn line_table(alloc: Global, program: &[u8]) -> Result<Vec<u8>, AllocError> {
-    let mut table = Vec::new(alloc);
-    let fields = LINE_FIELDS.len() as u32;
-    push_u32(&mut table, 6 + fields + program.len() as u32)?;
-    table.extend_from_slice(b"\x04\x00")?;
-    push_u32(&mut table, fields)?;
-    table.extend_from_slice(LINE_FIELDS)?;
-    table.extend_from_slice(program)?;
-    Ok(table)
+    line_table_of(alloc, b"\x04\x00", LINE_FIELDS, program)
 }
 
 /// The small module with other sections of DWARF.

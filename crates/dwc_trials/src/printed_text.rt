@@ -95,10 +95,5 @@ pub(crate) fn sections_of(
 pub(crate) fn are_short(sections: &[DwarfSection]) -> bool
     ensures { result ≡ true → All (λ s. length s.body.items < 2 ^ 32) sections.now }
 {
-    for section in sections {
-        if section.body.len() >= 1 << 32 {
-            return false;
-        }
-    }
-    true
+    sections.iter().all(|section| section.body.len() < 1 << 32)
 }

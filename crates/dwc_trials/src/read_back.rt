@@ -1,5 +1,7 @@
 //! Printed sections are read again, and each native byte is compared with the plain program.
-use crate::module_file::{ABBREVIATIONS, line_table, push_custom, push_u32, push_uleb};
+use crate::module_file::{
+    ABBREVIATIONS, length_of, line_table, push_custom, push_u32, push_uleb, with_length,
+};
 use crate::printed_text::{are_short, sections_of};
 use crate::runs::run_on;
 use dwc_base::constants::DW_AT_stmt_list;
@@ -25,7 +27,7 @@ const FUNCTIONS: u32 = 1000;
 // Where a function's body begins, from the contents of the code section on: behind the count of two bytes, and a byte for
 // the length of each body.
 fn start_of(function: u32) -> u32 {
-    3 + function.saturating_mul(BODY + 1)
+    function.saturating_mul(BODY + 1).saturating_add(3)
 }
 
 // A segment of a line table: where it starts, its rows, and where it ends.
@@ -57,10 +59,7 @@ fn info(alloc: Global) -> Result<Vec<u8>, AllocError> {
         push_u32(&mut unit, BODY)?;
     }
     unit.push(0)?;
-    let mut bytes = Vec::new(alloc);
-    push_u32(&mut bytes, unit.len() as u32)?;
-    bytes.extend_from_slice(&unit)?;
-    Ok(bytes)
+    with_length(alloc, &unit)
 }
 
 // The line table with a sequence for each function.
@@ -88,7 +87,7 @@ fn code(alloc: Global) -> Result<Vec<u8>, AllocError> {
 // A section of a number.
 fn push_section(bytes: &mut Vec<u8>, number: u8, contents: &[u8]) -> Result<(), AllocError> {
     bytes.push(number)?;
-    push_uleb(bytes, contents.len() as u32)?;
+    push_uleb(bytes, length_of(contents))?;
     bytes.extend_from_slice(contents)
 }
 
@@ -104,7 +103,7 @@ fn module_bytes(alloc: Global) -> Result<(Vec<u8>, u32), AllocError> {
     push_section(&mut bytes, 3, &types)?;
     let code = code(alloc)?;
     push_section(&mut bytes, 10, &code)?;
-    let offset = (bytes.len() as u32).saturating_sub(code.len() as u32);
+    let offset = length_of(&bytes).saturating_sub(length_of(&code));
     push_custom(alloc, &mut bytes, ".debug_abbrev", ABBREVIATIONS)?;
     push_custom(alloc, &mut bytes, ".debug_info", &info(alloc)?)?;
     push_custom(alloc, &mut bytes, ".debug_line", &lines(alloc)?)?;
@@ -120,8 +119,8 @@ fn push_function(map: &mut String, function: u32, offset: u32) -> Result<(), Fai
         "{{\"symbol\":{function},\"start\":{start},\"end\":{end},\"body_len\":{CODE},\"map\":["
     )?;
     for k in 0..SOURCES {
-        let native = 5 * k;
-        let source = start.saturating_add(2 * k);
+        let native = k.saturating_mul(5);
+        let source = start.saturating_add(k.saturating_mul(2));
         write!(map, "[{native},{source}],")?;
     }
     write!(map, "[{},null]]}}", 5 * SOURCES)?;
@@ -147,7 +146,10 @@ fn map_text(alloc: Global, offset: u32) -> Result<String, Fail> {
 fn segments_of(alloc: Global, table: &LineTable<'_>) -> Result<Vec<Segment>, AllocError> {
     let mut segments: Vec<Segment> = Vec::new(alloc);
     let mut steps = table.rows();
-    while let Some(step) = steps.next() {
+    for _ in 0..u64::MAX {
+        let Some(step) = steps.next() else {
+            break;
+        };
         match step {
             LineStep::Start(start) => segments.push(Segment {
                 start,
@@ -190,7 +192,10 @@ fn sources_of(alloc: Global, function: u32) -> Result<Vec<(u64, u64)>, AllocErro
     let start = u64::from(start_of(function));
     let mut sources = Vec::new(alloc);
     for k in 0..u64::from(SOURCES) {
-        sources.push((5 * k, start + 2 * k))?;
+        sources.push((
+            k.saturating_mul(5),
+            start.saturating_add(k.saturating_mul(2)),
+        ))?;
     }
     Ok(sources)
 }

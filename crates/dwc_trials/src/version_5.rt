@@ -1,12 +1,11 @@
 //! A unit and a line table of version 5: files count from 0 there, and from 1 in the output.
-use crate::module_file::{ABBREVIATIONS, MAP, module_of, push_u32};
+use crate::module_file::{ABBREVIATIONS, MAP, line_table_of, module_of};
 use crate::printed_text::{are_short, sections_of};
 use crate::runs::run_on;
 use dwc_base::constants::DW_AT_stmt_list;
 use dwc_base::{Endian, LineRow};
 use dwc_read::{AttributeValue, Sections, Units};
 use dwc_tabs::{LineStep, LineTable};
-use std::alloc::{AllocError, Global};
 use std::process::Abort;
 use std::test::Fail;
 
@@ -21,16 +20,6 @@ const FIELDS: &[u8] =
 // From 2 on: line 1 of file 0; 3 further line 2 of file 1; 5 further line 3.
 const PROGRAM: &[u8] =
     b"\x00\x05\x02\x02\x00\x00\x00\x04\x00\x01\x02\x03\x04\x01\x03\x01\x01\x02\x05\x03\x01\x01\x02\x03\x00\x01\x01";
-
-fn line_table(alloc: Global) -> Result<Vec<u8>, AllocError> {
-    let mut table = Vec::new(alloc);
-    push_u32(&mut table, 8 + FIELDS.len() as u32 + PROGRAM.len() as u32)?;
-    table.extend_from_slice(b"\x05\x00\x04\x00")?;
-    push_u32(&mut table, FIELDS.len() as u32)?;
-    table.extend_from_slice(FIELDS)?;
-    table.extend_from_slice(PROGRAM)?;
-    Ok(table)
-}
 
 fn check_row(rt: &impl Abort, step: Option<LineStep>, offset: u64, line: u64) {
     let wanted = LineRow {
@@ -51,7 +40,8 @@ fn check_row(rt: &impl Abort, step: Option<LineStep>, offset: u64, line: u64) {
 #[test]
 fn files_count_from_1_in_the_output(rt: HostRuntime) -> Result<(), Fail> {
     let alloc = rt.alloc();
-    let bytes = module_of(alloc, ABBREVIATIONS, INFO, &line_table(alloc)?)?;
+    let line = line_table_of(alloc, b"\x05\x00\x04\x00", FIELDS, PROGRAM)?;
+    let bytes = module_of(alloc, ABBREVIATIONS, INFO, &line)?;
     let ended = run_on(alloc, MAP, &bytes)?;
     assert_eq!(rt; ended.status, 0);
     let text = str::from_utf8(ended.out.bytes())?;
