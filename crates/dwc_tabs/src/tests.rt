@@ -1,4 +1,7 @@
 //! Line tables with their rows worked out by hand, and one of a compiler with the rows that another program prints.
+ghost use Rattle.std.specs.Prelude.{IsTrue};
+ghost use Rattle.dwc_read.specs.FieldSizes.{is_field_size};
+
 mod compiled;
 mod version_5;
 
@@ -55,7 +58,9 @@ fn length(bytes: &[u8]) -> u32 {
 }
 
 // The table of a section, without texts elsewhere.
-fn read_plain<'d>(alloc: Global, line: &'d [u8], size: u8) -> Result<LineTable<'d>, TabFault> {
+fn read_plain<'d>(alloc: Global, line: &'d [u8], size: u8) -> Result<LineTable<'d>, TabFault>
+    requires { IsTrue (is_field_size size) }
+{
     read_with(alloc, line, size, b"", b"")
 }
 
@@ -66,7 +71,9 @@ fn read_with<'d>(
     size: u8,
     strings: &'d [u8],
     line_strings: &'d [u8],
-) -> Result<LineTable<'d>, TabFault> {
+) -> Result<LineTable<'d>, TabFault>
+    requires { IsTrue (is_field_size size) }
+{
     let source = Source {
         order: Endian::Little,
         strings,
