@@ -5,6 +5,8 @@
 #[cfg(test)]
 mod module_file;
 #[cfg(test)]
+mod old_versions;
+#[cfg(test)]
 mod printed_text;
 #[cfg(test)]
 mod read_back;
