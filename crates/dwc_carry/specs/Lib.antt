@@ -14,3 +14,4 @@ pub mod Transformed
 pub mod Subprograms
 pub mod InfoEntries
 pub mod InfoUnits
+pub mod KnownTables

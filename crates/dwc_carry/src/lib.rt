@@ -7,6 +7,7 @@ mod carry_units;
 mod emit;
 mod error;
 mod image;
+mod known_table;
 mod lines;
 mod output_unit;
 mod read_entries;

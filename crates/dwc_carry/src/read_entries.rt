@@ -3,14 +3,16 @@ ghost use Rattle.std.specs.Prelude.{◌≡◌, Some};
 ghost use Rattle.dwc_base.specs.Refusals.{table_offset};
 ghost use Rattle.dwc_read.specs.EntriesSeen.{entry_view};
 ghost use Rattle.dwc_carry.specs.InfoEntries.{AddsSubprograms, GivesListed, GivesUnitEntries};
+ghost use Rattle.dwc_carry.specs.KnownTables.{IsKnown};
 
 use crate::DebugError;
-use crate::built_form::{has_known_shapes, is_subprogram};
+use crate::built_form::is_subprogram;
+use crate::known_table::{KnownTable, check_shapes};
 use crate::subprogram::{Subprogram, kept_subprogram};
 use dwc_addr::AddressTransform;
 use dwc_base::Kind;
 use dwc_base::constants::{DW_AT_stmt_list, DW_TAG_compile_unit};
-use dwc_read::{AttributeValue, Entries, Entry, Unit};
+use dwc_read::{AttributeValue, Entries, Entry, Unit, Units};
 use std::alloc::Global;
 
 /// What is read of the entries of a unit.
@@ -97,22 +99,26 @@ fn listed(
     })
 }
 
-/// What is read of the entries of a unit, which has the form that is read so far.
+/// What is read of the entries of one of these units, which has the form that is read so far. `last` is the abbreviation table that was
+/// looked at last.
 ///
 /// Answers the first fault in the order of reading: that of the abbreviation table; `Unsupported` `NotBuilt` with the table's
 /// offset where it has a declaration of another shape; and of each entry in order that it is unreadable, or `Unsupported`
 /// `NotBuilt` with its offset where it has another shape.
-pub(crate) fn read_entries(
+pub(crate) fn read_entries<'d>(
     alloc: Global,
-    unit: &Unit<'_>,
+    units: &mut Units<'d>,
+    unit: &Unit<'d>,
+    last: &mut Option<KnownTable>,
     transform: &AddressTransform,
 ) -> Result<UnitEntries, DebugError>
-    ensures { GivesUnitEntries transform.now unit.now.sections unit.now.header result }
+    requires sections { unit.now.sections ≡ units.old.sections }
+    requires known { IsKnown unit.now.sections last.old }
+    ensures entries { GivesUnitEntries transform.now unit.now.sections unit.now.header result }
+    ensures units { units.new ≡ units.old }
+    ensures known { IsKnown unit.now.sections last.new }
 {
-    let mut entries = unit.entries(alloc)?;
-    let version = unit.encoding().version;
-    if !has_known_shapes(version, entries.declarations()) {
-        return Err(not_built(u64::from(unit.abbreviations())));
-    }
+    let mut entries = units.entries(alloc, unit)?;
+    check_shapes(unit, entries.declarations(), last)?;
     listed(alloc, &mut entries, transform)
 }

@@ -27,9 +27,10 @@ pub(crate) fn read_units<'d>(
     ensures { GivesUnits transform.now sections.entry result }
 {
     let mut units = Units::new(sections);
+    let mut last = None;
     let mut read = Vec::new(alloc);
     while let Some(unit) = units.next_unit(alloc)? {
-        let entries = read_entries(alloc, &unit, transform)?;
+        let entries = read_entries(alloc, &mut units, &unit, &mut last, transform)?;
         read.push(ReadUnit { unit, entries })?;
     }
     Ok(read)

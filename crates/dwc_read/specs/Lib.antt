@@ -5,6 +5,7 @@ pub mod FieldSizes
 pub mod Sizes
 pub mod Tables
 pub mod Codes
+pub mod LastTables
 pub mod ValuesSeen
 pub mod Forms
 pub mod EntriesSeen

@@ -5,16 +5,17 @@ ghost use Rattle.dwc_read.specs.Places.{GoesOn};
 
 use crate::place::Place;
 use crate::steps::go_on;
-use crate::table::{Table, table_at};
+use crate::table::Table;
 use crate::{Declaration, Entry, ReadFault, Unit};
 use std::alloc::Global;
 use std::marker::Model;
+use std::rc::Rc;
 
 /// The entries of a unit that are still to come, in file order, and the one that was read last.
 #[derive(Drop)]
 pub struct Entries<'d> {
     unit: Unit<'d>,
-    table: Table,
+    table: Rc<Table>,
     place: Option<Place<'d>>,
     entry: Entry<'d>,
 }
@@ -30,40 +31,39 @@ impl<'d> Model for Entries<'d> {
     ghost coded = { entries_code };
 
     ghost view = { λ e. record {
-      left = entries_from e.unit.sections e.unit.header e.table (option_map place_view e.place);
+      left = entries_from e.unit.sections e.unit.header e.table.value (option_map place_view e.place);
       current = entry_view e.entry;
-      table = e.table;
+      table = e.table.value;
     } };
 
     ghost invariant = { λ e. IsShallow (option_map place_view e.place) };
 }
 
 impl<'d> Entries<'d> {
-    ghost use Rattle.std.specs.Prelude.{map};
-    ghost use Rattle.dwc_read.specs.Faults.{GivesOrFault};
+    ghost use Rattle.std.specs.Prelude.{map, Ok};
     ghost use Rattle.std.specs.Borrow.{sem};
     ghost use Rattle.dwc_base.specs.Abbreviations.{abbreviation_table};
     ghost use Rattle.dwc_read.specs.Tables.{declaration_view};
-    ghost use Rattle.dwc_read.specs.EntriesSeen.{StartsAt, entry_view};
+    ghost use Rattle.dwc_read.specs.EntriesSeen.{entry_view};
     ghost use Rattle.dwc_read.specs.Lent.{Lends, LeavesOthers, Becomes};
 
-    // The entries of a unit.
-    pub fn of(unit: Unit<'d>, alloc: Global) -> Result<Entries<'d>, ReadFault>
-        ensures start { StartsAt (entries_of unit.entry.sections unit.entry.header) result }
-        ensures table { GivesOrFault (λ es. es.table) (abbreviation_table unit.entry.sections unit.entry.header.abbreviations) result }
+    // The entries of a unit by its abbreviation table.
+    pub fn of(alloc: Global, unit: Unit<'d>, table: Rc<Table>) -> Entries<'d>
+        requires { abbreviation_table unit.sections unit.header.abbreviations ≡ Ok table.value }
+        ensures start { result.left ≡ entries_of unit.entry.sections unit.entry.header }
+        ensures table { result.table ≡ table.value }
     {
-        let table = table_at(alloc, unit.sections(), unit.abbreviations())?;
         let place = Some(Place {
             depth: 0,
             cursor: unit.content(),
         });
         let entry = Entry::empty(alloc);
-        Ok(Entries {
+        Entries {
             unit,
             table,
             place,
             entry,
-        })
+        }
     }
 
     /// Goes on to the next entry, and answers whether there is one; it is then the current entry.

@@ -9,7 +9,7 @@ ghost use Rattle.dwc_read.specs.Tables.{declaration_view};
 
 use crate::abbreviation::{Declaration, declarations};
 use crate::fault::refusal;
-use crate::{ReadFault, Sections, Unit};
+use crate::{ReadFault, Sections};
 use dwc_base::{Cursor, SectionName, What};
 use std::alloc::{AllocError, Global};
 use std::collections::BTreeMap;
@@ -141,15 +141,4 @@ pub fn table_at(alloc: Global, sections: &Sections<'_>, offset: u32) -> Result<T
 {
     let declarations = declarations_at(alloc, sections, offset)?;
     Ok(Table::new(alloc, declarations)?)
-}
-
-impl<'d> Unit<'d> {
-    /// The declarations of the unit's abbreviation table, in their order. (DWARF 4 and 5, section 7.5.3.)
-    ///
-    /// Answers `Read` with the table's offset where the table cannot be read to its end.
-    pub fn declarations(&self, alloc: Global) -> Result<Vec<Declaration>, ReadFault>
-        ensures { GivesOrFault (λ v. map declaration_view v.items) (abbreviation_table self.now.sections self.now.header.abbreviations) result }
-    {
-        declarations_at(alloc, self.sections(), self.abbreviations())
-    }
 }

@@ -10,6 +10,7 @@ use crate::{Entries, Entry, ReadFault, Sections};
 use dwc_base::{Address, Cursor, Encoding, Endian, Relocations, SectionName};
 use std::alloc::Global;
 use std::marker::Model;
+use std::rc::Rc;
 
 /// A unit of `.debug_info`: its header, and the sections that it stands in.
 #[derive(Drop)]
@@ -177,7 +178,8 @@ impl<'d> Unit<'d> {
         ensures start { StartsAt (entries_of self.now.sections self.now.header) result }
         ensures table { GivesOrFault (λ es. es.table) (abbreviation_table self.now.sections self.now.header.abbreviations) result }
     {
-        Entries::of(self.again(), alloc)
+        let table = table_at(alloc, &self.sections, self.header.abbreviations)?;
+        Ok(Entries::of(alloc, self.again(), Rc::new(alloc, table)?))
     }
 
     // The unit's version of DWARF.

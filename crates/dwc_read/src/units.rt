@@ -1,11 +1,15 @@
 //! The units of `.debug_info`, one after another.
 ghost use Rattle.std.specs.Prelude.{◌≡◌, IfOk, IfSome};
 ghost use Rattle.dwc_base.specs.Units.{unit_headers};
-ghost use Rattle.dwc_read.specs.Faults.{GivesNextOrMemory};
+ghost use Rattle.dwc_base.specs.Abbreviations.{abbreviation_table};
+ghost use Rattle.dwc_base.specs.Entries.{entries as entries_of};
+ghost use Rattle.dwc_read.specs.EntriesSeen.{StartsAt};
+ghost use Rattle.dwc_read.specs.Faults.{GivesNextOrMemory, GivesOrFault};
 
 use crate::fault::reported;
 use crate::headers::next_header;
-use crate::{ReadFault, Sections, Unit};
+use crate::last_table::{LastTable, shared_table};
+use crate::{Entries, ReadFault, Sections, Unit};
 use dwc_base::{Cursor, SectionName, What};
 use std::alloc::Global;
 use std::marker::Model;
@@ -15,6 +19,8 @@ use std::marker::Model;
 pub struct Units<'d> {
     sections: Sections<'d>,
     headers: Cursor<'d>,
+    // The abbreviation table that was read last, which the next unit may share.
+    last_table: Option<LastTable>,
 }
 
 impl<'d> Model for Units<'d> {
@@ -25,7 +31,11 @@ impl<'d> Model for Units<'d> {
 
     ghost coded = { units_code };
 
+    ghost use Rattle.dwc_read.specs.LastTables.{IsLast};
+
     ghost view = { λ u. record { sections = u.sections; headers = unit_headers_from u.headers } };
+
+    ghost invariant = { λ u. IsLast u.sections u.last_table };
 }
 
 impl<'d> Units<'d> {
@@ -35,7 +45,11 @@ impl<'d> Units<'d> {
     {
         let info = sections.bytes(SectionName::Info);
         let headers = Cursor::new(info, sections.order());
-        Units { sections, headers }
+        Units {
+            sections,
+            headers,
+            last_table: None,
+        }
     }
 
     /// The next unit, if there is one. (DWARF 4 and 5, section 7.5.1.)
@@ -58,5 +72,19 @@ impl<'d> Units<'d> {
                 fault.offset as u64,
             )),
         }
+    }
+    /// The entries of one of these units, in file order, as [`Unit::entries`] gives them. The abbreviation table that was read last
+    /// is kept, and is not read again for the units behind that share it.
+    ///
+    /// Answers `Read` with the table's offset where the unit's abbreviation table cannot be read.
+    pub fn entries(&mut self, alloc: Global, unit: &Unit<'d>) -> Result<Entries<'d>, ReadFault>
+        requires { unit.now.sections ≡ self.old.sections }
+        ensures start { StartsAt (entries_of unit.now.sections unit.now.header) result }
+        ensures table { GivesOrFault (λ es. es.table) (abbreviation_table unit.now.sections unit.now.header.abbreviations) result }
+        ensures unchanged { self.new ≡ self.old }
+    {
+        let offset = unit.abbreviations();
+        let table = shared_table(alloc, &self.sections, offset, &mut self.last_table)?;
+        Ok(Entries::of(alloc, unit.again(), table))
     }
 }

@@ -242,12 +242,12 @@ fn found(alloc: Global, file: &[u8], offset: u64) -> Result<(usize, u64, u16, u6
     let module = split_wasm(alloc, file)?;
     let mut units = Units::new(Sections::of_module(&module));
     let unit = units.next_unit(alloc)?.ok_or("no unit")?;
-    let declarations = unit.declarations(alloc)?;
     let entry = unit.entry_at(alloc, offset)?;
-    let mut entries = unit.entries(alloc)?;
+    let mut entries = units.entries(alloc, &unit)?;
     entries.advance()?;
     let first = entries.current().offset;
-    Ok((declarations.len(), entry.offset, entry.tag, first))
+    let count = entries.declarations().len();
+    Ok((count, entry.offset, entry.tag, first))
 }
 
 #[test]

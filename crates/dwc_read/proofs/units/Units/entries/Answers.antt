@@ -1,0 +1,13 @@
+use Rattle.std.proofs.lemmas.Result.{err_from_is_err_and}
+use Rattle.std.proofs.Common.{sym, ap}
+use Rattle.dwc_base.specs.Abbreviations.{abbreviation_table}
+use Rattle.dwc_read.specs.Faults.{Refuses, fault_seen}
+use Rattle.dwc_read.proofs.EntriesLaws.{BeginsWith-table}
+use Rattle.dwc_read.proofs.units.Units.entries.Goals as goal
+
+pub returns-in_err-table-clause-start : goal.returns-in_err-table-clause-start
+returns-in_err-table-clause-start c =
+    let p = err_from_is_err_and c.from_residual.result c.from_residual.ensures.1 in
+    let unit = c.args.unit.now in
+    let refused : Refuses (abbreviation_table unit.sections unit.header.abbreviations) (fault_seen c.in_err-table.field-0.0) = rw (c.requires, ← c.self.view_is, ← c.abbreviations-offset.ensures) c.in_err-table.ensures.table in
+    rw (p.1, p.2) (BeginsWith-table unit.sections unit.header _ refused)
