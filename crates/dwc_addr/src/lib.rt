@@ -13,8 +13,6 @@ mod linkage_names;
 mod maps;
 mod memory_offset;
 mod symbols;
-#[cfg(test)]
-mod tests;
 mod transform;
 
 pub use address_map::{AddressMap, GeneratedAddress, WasmAddress};

@@ -28,6 +28,3 @@ pub use relocations::Relocations;
 pub use section_name::SectionName;
 pub use wasm::{FunctionMeta, ModuleTranslation, ValType, WasmFault, split_wasm};
 pub use wasm_sections::WasmSections;
-
-#[cfg(test)]
-mod tests;

@@ -9,8 +9,6 @@ mod isa;
 mod metadata;
 mod reg;
 mod table_isa;
-#[cfg(test)]
-mod tests;
 
 pub use address_map::{FunctionAddressMap, InstructionAddressMap};
 pub use architecture::Architecture;

@@ -5,8 +5,6 @@
 mod entries;
 mod kept;
 mod rows;
-#[cfg(test)]
-mod tests;
 
 pub use entries::{PlainEntry, PlainFunction, PlainValue};
 pub use kept::kept_entries;

@@ -19,8 +19,6 @@ mod place;
 mod sections;
 mod steps;
 mod table;
-#[cfg(test)]
-mod tests;
 mod unit;
 mod units;
 mod value;

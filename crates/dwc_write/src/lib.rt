@@ -11,8 +11,6 @@ mod lines;
 mod rows;
 mod sections;
 mod tables;
-#[cfg(test)]
-mod tests;
 mod units;
 mod writer;
 

@@ -1,7 +1,7 @@
 //! Units that a compiler made, with the entries and values that two other readers of DWARF print for them. The source is
 //! a structure of two members, a variable of it, and a function of two parameters with a variable in a nested block.
-use crate::{Sections, Units};
 use dwc_base::split_wasm;
+use dwc_read::{Sections, Units};
 use std::alloc::Global;
 use std::fmt::Write;
 use std::test::Fail;

@@ -3,8 +3,8 @@
 mod compiled;
 mod forms;
 
-use super::*;
 use dwc_base::{Kind, SectionName, What, split_wasm};
+use dwc_read::{ReadFault, Sections, Units};
 use std::alloc::Global;
 use std::test::Fail;
 

@@ -1,5 +1,5 @@
 //! What no clause says: files and numbers with their values by hand, texts of refusals, and that ample memory suffices.
-use super::*;
+use dwc_base::{Cursor, Endian, SectionName, WasmFault, split_wasm};
 use std::alloc::{AllocError, Global};
 use std::test::Fail;
 

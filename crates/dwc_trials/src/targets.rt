@@ -2,8 +2,11 @@
 ghost use Rattle.std.specs.Prelude.{◌≡◌, IfOk, true};
 ghost use Rattle.dwc_clif.specs.CallFrames.{cie_view, is_sound};
 
-use super::*;
 use dwc_base::Endian;
+use dwc_clif::{
+    Architecture, Cie, CompiledFunctionMetadata, FrameOp, FunctionAddressMap, Reg, TableIsa,
+    TargetIsa,
+};
 use std::alloc::{AllocError, Global};
 use std::test::Fail;
 

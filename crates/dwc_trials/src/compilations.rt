@@ -3,7 +3,10 @@ ghost use Rattle.std.specs.Prelude.{◌≡◌, ◌<◌, ◌^◌, [], ◌∷◌, 
 ghost use Rattle.dwc_addr.specs.Numbers.{all_symbols, function_count};
 ghost use Rattle.dwc_addr.specs.Compilations.{lists, IsCounted};
 
-use super::*;
+use dwc_addr::{
+    AddressTransform, Compilation, CompilationError, LinkageNames, ModuleMemoryOffset,
+    get_wasm_code_offset,
+};
 use dwc_base::{
     DefinedFuncIndex, Endian, FilePos, ModuleTranslation, StaticModuleIndex, SymbolId, Tunables,
     WasmFault, split_wasm,

@@ -3,16 +3,16 @@ ghost use Rattle.std.specs.Prelude.{◌≡◌, ◌∷◌, [], IfOk};
 ghost use Rattle.dwc_write.specs.GivenUnits.{AreWritable};
 ghost use Rattle.dwc_write.specs.SmallGiven.{small_lines};
 
-use crate::{
-    AttributeValue, Dwarf, LineProgram, Unit, UnitTable, WriteError, Writer, WriterRelocate,
-    write_sections,
-};
 use dwc_base::constants::{
     DW_AT_high_pc, DW_AT_low_pc, DW_AT_stmt_list, DW_FORM_udata, DW_TAG_subprogram,
 };
 use dwc_base::{
     Address, DwarfSection, DwarfSectionReloc, DwarfSectionRelocTarget, Encoding, Endian, LineRow,
     SectionName,
+};
+use dwc_write::{
+    AttributeValue, Dwarf, LineProgram, Unit, UnitTable, WriteError, Writer, WriterRelocate,
+    write_sections,
 };
 use std::alloc::Global;
 use std::process::Abort;

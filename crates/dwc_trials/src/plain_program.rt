@@ -1,6 +1,6 @@
-use super::*;
 use dwc_base::LineRow;
 use dwc_base::constants::*;
+use dwc_plain::*;
 use std::alloc::Global;
 use std::process::Abort;
 

@@ -1,6 +1,5 @@
 //! Values of every form, with their bytes by hand.
 use super::file_of;
-use crate::{AttributeValue as Value, Entry, ReadFault, Sections, Units};
 use dwc_base::constants::{
     DW_AT_byte_size, DW_AT_location, DW_AT_name, DW_AT_ranges, DW_AT_stmt_list, DW_AT_upper_bound,
     DW_FORM_data1, DW_FORM_data2, DW_FORM_data4, DW_FORM_data8, DW_FORM_implicit_const,
@@ -8,6 +7,7 @@ use dwc_base::constants::{
     DW_FORM_strx3, DW_FORM_strx4, DW_FORM_udata,
 };
 use dwc_base::{Address, Kind, SectionName, What, split_wasm};
+use dwc_read::{AttributeValue as Value, Entry, ReadFault, Sections, Units};
 use std::alloc::Global;
 use std::process::Abort;
 use std::test::Fail;
