@@ -25,8 +25,6 @@ mod refusal;
 mod sink;
 mod source;
 mod status;
-#[cfg(test)]
-mod tests;
 mod words;
 
 pub use command::run;

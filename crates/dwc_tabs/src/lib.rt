@@ -12,8 +12,6 @@ mod registers;
 mod source;
 mod step;
 mod table;
-#[cfg(test)]
-mod tests;
 mod unread;
 
 pub use fault::TabFault;

@@ -92,7 +92,7 @@ impl<'d> LineTable<'d> {
     }
 
     // The line table at an offset of the bytes of a line section, for a unit of an address size.
-    pub(crate) fn read_at(
+    fn read_at(
         alloc: Global,
         source: Source<'d>,
         line: &'d [u8],

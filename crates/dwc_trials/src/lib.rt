@@ -5,6 +5,8 @@
 #[cfg(test)]
 mod compilations;
 #[cfg(test)]
+mod line_tables;
+#[cfg(test)]
 mod module_file;
 #[cfg(test)]
 mod old_versions;
@@ -28,6 +30,8 @@ mod units;
 mod version_5;
 #[cfg(test)]
 mod wasm_files;
+#[cfg(test)]
+mod words_and_files;
 #[cfg(test)]
 mod worked_lines;
 #[cfg(test)]

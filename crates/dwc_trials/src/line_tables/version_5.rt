@@ -1,7 +1,8 @@
 //! Tables of version 5, by hand and of a compiler.
-use super::{is_printed, length, named, read_with, unsupported};
-use crate::TabFault;
-use dwc_base::{Kind, SectionName, What};
+use super::{MALFORMED, MISSING, file_of, is_printed, named, read_table};
+use crate::module_file::line_table_of;
+use dwc_base::Kind;
+use dwc_tabs::TabFault;
 use std::alloc::{AllocError, Global};
 use std::test::Fail;
 
@@ -37,7 +38,7 @@ static LINE: [u8; 420] = [
 ];
 
 // Its `.debug_line_str`.
-static LINE_STRINGS: [u8; 22] = *b"/w\x00inc\x00sample.c\x00mix.h\x00";
+static COMPILED_STRINGS: [u8; 22] = *b"/w\x00inc\x00sample.c\x00mix.h\x00";
 
 // What `llvm-dwarfdump --debug-line` prints of it: the address, file, line, column and discriminator, and 1 for a statement, 2 for
 // the end of a prologue, 4 for the end of a sequence.
@@ -141,34 +142,30 @@ static PRINTED: [(u64, u64, u64, u64, u64, u8); 97] = [
     (0x4011c2, 0, 15, 31, 0, 4),
 ];
 
-// A section that holds one table of sizes of addresses and of selectors, of directories and files, and of a program.
-fn section(
+// A file with one table of sizes of addresses and of selectors, of directories and files, and of a program.
+fn file_of_5(
     alloc: Global,
     sizes: [u8; 2],
     names: &[u8],
     program: &[u8],
 ) -> Result<Vec<u8>, AllocError> {
-    let mut fields = Vec::new(alloc);
-    fields.extend_from_slice(
-        b"\x01\x01\x01\xfb\x0e\x0d\x00\x01\x01\x01\x01\x00\x00\x00\x01\x00\x00\x01",
-    )?;
+    let front = [5, 0, sizes[0], sizes[1]];
+    let mut fields =
+        b"\x01\x01\x01\xfb\x0e\x0d\x00\x01\x01\x01\x01\x00\x00\x00\x01\x00\x00\x01".to_vec(alloc)?;
     fields.extend_from_slice(names)?;
-    let mut body = Vec::new(alloc);
-    body.extend_from_slice(&5_u16.to_le_bytes())?;
-    body.extend_from_slice(&sizes)?;
-    body.extend_from_slice(&length(&fields).to_le_bytes())?;
-    body.extend_from_slice(&fields)?;
-    body.extend_from_slice(program)?;
-    let mut bytes = Vec::new(alloc);
-    bytes.extend_from_slice(&length(&body).to_le_bytes())?;
-    bytes.extend_from_slice(&body)?;
-    Ok(bytes)
+    let line = line_table_of(alloc, &front, &fields, program)?;
+    file_of(alloc, 8, &line, STRINGS, LINE_STRINGS)
 }
+
+const STRINGS: &[u8] = b"\x00a.c\x00b\x00";
+
+const LINE_STRINGS: &[u8] = b"/w\x00e\x00";
 
 // The rows, files and directories that a compiler wrote are those that another program prints.
 #[test]
 fn compiled_table_of_5(rt: HostRuntime) -> Result<(), Fail> {
-    let table = read_with(rt.alloc(), &LINE, 8, b"", &LINE_STRINGS)?;
+    let file = file_of(rt.alloc(), 8, &LINE, b"", &COMPILED_STRINGS)?;
+    let table = read_table(rt.alloc(), &file)??;
     assert_eq!(rt; table.version(), 5);
     assert_eq!(rt; (table.directory_count(), table.file_count()), (1, 2));
     assert!(rt; table.directory(0).is_none() && table.directory(2).is_none());
@@ -185,82 +182,98 @@ fn compiled_table_of_5(rt: HostRuntime) -> Result<(), Fail> {
 fn fields_of_entries(rt: HostRuntime) -> Result<(), Fail> {
     let names =
         b"\x01\x01\x1f\x02\xff\x00\x00\x00\x03\x00\x00\x00\x04\x01\x0e\x05\x1e\x02\x0b\x03\x0f\x02\x01\x00\x00\x00AAAAAAAAAAAAAAAA\x01\x81\x01\x05\x00\x00\x00BBBBBBBBBBBBBBBB\x00\x00";
-    let bytes = section(rt.alloc(), [4, 0], names, b"")?;
-    let table = read_with(rt.alloc(), &bytes, 8, b"\x00a.c\x00b\x00", b"/w\x00e\x00")?;
+    let file = file_of_5(rt.alloc(), [4, 0], names, b"")?;
+    let table = read_table(rt.alloc(), &file)??;
     assert!(rt; table.directory(1) == Some(b"e".as_slice()));
     assert!(rt; named(table.file(0), 1, b"a.c"));
     assert!(rt; named(table.file(1), 0, b"b"));
-    let bytes = section(
-        rt.alloc(),
-        [4, 0],
-        b"\x00\x00\x01\x01\x08\x02a\x00b\x00",
-        b"",
-    )?;
-    let table = read_with(rt.alloc(), &bytes, 8, b"", b"")?;
+    let names = b"\x00\x00\x01\x01\x08\x02a\x00b\x00";
+    let file = file_of_5(rt.alloc(), [4, 0], names, b"")?;
+    let table = read_table(rt.alloc(), &file)??;
     assert!(rt; named(table.file(0), 0, b"a") && named(table.file(1), 0, b"b"));
     Ok(())
 }
 
-// Each kind of refusal.
+// One file without a directory, and a row that names file 1.
+const PLAIN: &[u8] = b"\x00\x00\x01\x01\x08\x01a\x00";
+
+const ROW: &[u8] = b"\x00\x05\x02\x02\x00\x00\x00\x01";
+
+// Each kind of refusal, by the sizes, the directories and files, and the program.
+const REFUSED: [([u8; 2], &[u8], &[u8], TabFault); 13] = [
+    (
+        [2, 0],
+        PLAIN,
+        b"",
+        TabFault::Unsupported {
+            what: Kind::AddressSize,
+            offset: 0,
+        },
+    ),
+    (
+        [4, 1],
+        PLAIN,
+        b"",
+        TabFault::Unsupported {
+            what: Kind::SegmentSelector,
+            offset: 0,
+        },
+    ),
+    (
+        [4, 0],
+        b"\x00\x00\x01\x01\x1d\x01\x00\x00\x00\x00",
+        b"",
+        TabFault::Unsupported {
+            what: Kind::Supplementary,
+            offset: 0,
+        },
+    ),
+    (
+        [4, 0],
+        b"\x00\x00\x01\x01\x25\x01\x00",
+        b"",
+        TabFault::Unsupported {
+            what: Kind::NotBuilt,
+            offset: 0,
+        },
+    ),
+    (
+        [4, 0],
+        b"\x00\x00\x00\xff\xff\xff\xff\xff\xff\xff\xff\xff\x01",
+        b"",
+        MALFORMED,
+    ),
+    (
+        [4, 0],
+        b"\x00\x00\x02\x01\x08\x01\x08\x01a\x00b\x00",
+        b"",
+        MALFORMED,
+    ),
+    ([4, 0], b"\x00\x00\x01\x01\x0b\x01\x01", b"", MALFORMED),
+    ([4, 0], b"\x00\x00\x02\x01\x08\x02\x21\x00", b"", MALFORMED),
+    (
+        [4, 0],
+        b"\x00\x00\x01\x01\x0e\x01\x09\x00\x00\x00",
+        b"",
+        MALFORMED,
+    ),
+    ([4, 0], PLAIN, ROW, MISSING),
+    (
+        [4, 0],
+        b"\x00\x00\x02\x01\x08\x02\x0b\x01a\x00\x01",
+        b"",
+        MISSING,
+    ),
+    ([4, 0], b"\x00\x00\x01\x01\x08\x01\x00", b"", MISSING),
+    ([4, 0], b"\x01\x01\x08\x02/\x00\x00\x00\x00", b"", MISSING),
+];
+
 #[test]
 fn refused_tables_of_5(rt: HostRuntime) -> Result<(), Fail> {
-    let malformed = TabFault::Read {
-        what: What::LineTable,
-        section: SectionName::Line,
-        offset: 0,
-    };
-    let invalid = TabFault::InvalidFileIndex { offset: 0 };
-    let plain = b"\x00\x00\x01\x01\x08\x01a\x00";
-    let row = b"\x00\x05\x02\x02\x00\x00\x00\x01";
-    let cases: [([u8; 2], &[u8], &[u8], TabFault); 13] = [
-        ([2, 0], plain, b"", unsupported(Kind::AddressSize)),
-        ([4, 1], plain, b"", unsupported(Kind::SegmentSelector)),
-        (
-            [4, 0],
-            b"\x00\x00\x01\x01\x1d\x01\x00\x00\x00\x00",
-            b"",
-            unsupported(Kind::Supplementary),
-        ),
-        (
-            [4, 0],
-            b"\x00\x00\x01\x01\x25\x01\x00",
-            b"",
-            unsupported(Kind::NotBuilt),
-        ),
-        (
-            [4, 0],
-            b"\x00\x00\x00\xff\xff\xff\xff\xff\xff\xff\xff\xff\x01",
-            b"",
-            malformed,
-        ),
-        (
-            [4, 0],
-            b"\x00\x00\x02\x01\x08\x01\x08\x01a\x00b\x00",
-            b"",
-            malformed,
-        ),
-        ([4, 0], b"\x00\x00\x01\x01\x0b\x01\x01", b"", malformed),
-        ([4, 0], b"\x00\x00\x02\x01\x08\x02\x21\x00", b"", malformed),
-        (
-            [4, 0],
-            b"\x00\x00\x01\x01\x0e\x01\x09\x00\x00\x00",
-            b"",
-            malformed,
-        ),
-        ([4, 0], plain, row, invalid),
-        (
-            [4, 0],
-            b"\x00\x00\x02\x01\x08\x02\x0b\x01a\x00\x01",
-            b"",
-            invalid,
-        ),
-        ([4, 0], b"\x00\x00\x01\x01\x08\x01\x00", b"", invalid),
-        ([4, 0], b"\x01\x01\x08\x02/\x00\x00\x00\x00", b"", invalid),
-    ];
-    for (sizes, names, program, expected) in cases {
-        let bytes = section(rt.alloc(), sizes, names, program)?;
-        let read = read_with(rt.alloc(), &bytes, 4, b"x\x00", b"");
-        assert_eq!(rt; read.err(), Some(expected), "at {names:?}");
+    for (sizes, names, program, expected) in &REFUSED {
+        let file = file_of_5(rt.alloc(), *sizes, names, program)?;
+        let read = read_table(rt.alloc(), &file)?;
+        assert_eq!(rt; read.err(), Some(*expected), "at {names:?}");
     }
     Ok(())
 }

@@ -1,6 +1,7 @@
-use super::*;
-use crate::sink::write_all;
-use crate::words::read_words;
+//! The words of a run, the sources and sinks in memory, and the statuses before any DWARF is read, each with its line.
+use dwc_cli::{
+    Failed, LongSource, MemSink, MemSource, PlainSink, PlainSource, Sink, Source, Status, run,
+};
 use std::alloc::{AllocError, Global};
 use std::test::Fail;
 
@@ -35,36 +36,35 @@ fn sink(alloc: Global, room: usize, most: usize, failing: &[u64]) -> Result<MemS
     MemSink::new(alloc, room, most, failing.to_vec(alloc)?)
 }
 
+// Words, and the first of the paths that they are, which is then missing.
+const WORDS: [(&[&str], Option<&str>); 14] = [
+    (&[], None),
+    (&["m"], None),
+    (&["m", "w"], Some("m")),
+    (&["w", "m", "x"], Some("w")),
+    (&["m", "m", "m", "m"], Some("m")),
+    (&["", "w"], None),
+    (&["m", ""], None),
+    (&["m", "w", ""], None),
+    (&["-m", "w"], None),
+    (&["m", "-"], None),
+    (&["m", "w", "-x", "y"], None),
+    (&["--generate", "0"], None),
+    (&["--text", "m", "w"], None),
+    (&["m-", "./-w"], Some("m-")),
+];
+
 #[test]
-fn reads_paths(rt: HostRuntime) -> Result<(), Fail> {
-    for (list, wanted) in [
-        ([].as_slice(), None),
-        (["m"].as_slice(), None),
-        (["m", "w"].as_slice(), Some(1)),
-        (["m", "w", "x"].as_slice(), Some(2)),
-        (["m", "m", "m", "m"].as_slice(), Some(3)),
-        (["", "w"].as_slice(), None),
-        (["m", ""].as_slice(), None),
-        (["m", "w", ""].as_slice(), None),
-        (["-m", "w"].as_slice(), None),
-        (["m", "-"].as_slice(), None),
-        (["m", "w", "-x", "y"].as_slice(), None),
-        (["--generate", "0"].as_slice(), None),
-        (["--text", "m", "w"].as_slice(), None),
-        (["m-", "./-w"].as_slice(), Some(1)),
-    ] {
-        let words = words(rt.alloc(), list)?;
-        let read = read_words(&words);
-        assert_eq!(rt;
-            read.map(|paths| paths.module_paths.len()),
-            wanted,
-            "{list:?}"
-        );
-        if let (Some(paths), Some((map_path, module_paths))) = (read, list.split_first()) {
-            assert_eq!(rt; paths.map_path, *map_path);
-            for (path, wanted) in paths.module_paths.iter().zip(module_paths) {
-                assert_eq!(rt; path.as_str(), *wanted);
+fn words_are_paths(rt: HostRuntime) -> Result<(), Fail> {
+    for (list, path) in &WORDS {
+        let (status, err) = ended(rt.alloc(), list, source(rt.alloc(), &[], &[])?)?;
+        match path {
+            Some(path) => {
+                let line = format!(in rt.alloc(); "dwarfcarry: read fault {path}\n")?;
+                assert_eq!(rt; status, Status::ReadFault.code());
+                assert_eq!(rt; err.bytes(), line.as_bytes());
             }
+            None => assert_eq!(rt; status, Status::Usage.code(), "{list:?}"),
         }
     }
     Ok(())
@@ -142,19 +142,30 @@ fn takes_everything(rt: HostRuntime) {
     let mut sink = PlainSink::new();
     assert_eq!(rt; sink.write(b"abc"), Ok(3));
     assert_eq!(rt; sink.write(b""), Ok(0));
-    assert_eq!(rt; write_all(&mut sink, b"abcdefghijkl"), Ok(()));
+}
+
+// Whether a sink takes all of some bytes.
+fn takes(sink: &mut MemSink, bytes: &[u8]) -> bool {
+    let mut rest = bytes;
+    for _ in bytes {
+        match sink.write(rest) {
+            Ok(count) => rest = rest.get(count..).unwrap_or(&[]),
+            Err(_) => return false,
+        }
+    }
+    rest.is_empty()
 }
 
 #[test]
 fn takes_no_more_than_its_room(rt: HostRuntime) -> Result<(), Fail> {
     let mut ten = sink(rt.alloc(), 10, 4, &[])?;
-    assert_eq!(rt; write_all(&mut ten, b"abcdefghijkl"), Err(Failed));
+    assert!(rt; !takes(&mut ten, b"abcdefghijkl"));
     assert_eq!(rt; ten.bytes(), b"abcdefghij".as_slice());
     let mut broken = sink(rt.alloc(), 20, 4, &[2])?;
-    assert_eq!(rt; write_all(&mut broken, b"abcdefghijkl"), Err(Failed));
+    assert!(rt; !takes(&mut broken, b"abcdefghijkl"));
     assert_eq!(rt; broken.bytes(), b"abcd".as_slice());
     let mut whole = sink(rt.alloc(), 12, 5, &[])?;
-    assert_eq!(rt; write_all(&mut whole, b"abcdefghijkl"), Ok(()));
+    assert!(rt; takes(&mut whole, b"abcdefghijkl"));
     assert_eq!(rt; whole.bytes(), b"abcdefghijkl".as_slice());
     Ok(())
 }
@@ -176,66 +187,46 @@ const FILES: [(&str, &[u8]); 4] = [
     ("old.wasm", b"\x00asm\x0D\x00\x00\x00"),
 ];
 
+const TWO: &[&str] = &["g.json", "g.wasm"];
+
+const THREE: &[&str] = &["g.json", "g.wasm", "cut.wasm"];
+
+// Runs: the words, the calls of the source that fail, the status and the line.
+const RUNS: [(&[&str], &[u64], u8, &str); 16] = [
+    (
+        &["g.json"],
+        &[],
+        2,
+        "usage: dwarfcarry [--package P] [--text] MAP MODULE... | --generate N",
+    ),
+    (TWO, &[1], 3, "read fault g.json"),
+    (TWO, &[2], 3, "read fault g.json"),
+    (TWO, &[3], 3, "read fault g.json"),
+    (TWO, &[4], 3, "read fault g.wasm"),
+    (TWO, &[5], 3, "read fault g.wasm"),
+    (TWO, &[6], 3, "read fault g.wasm"),
+    (THREE, &[7], 3, "read fault cut.wasm"),
+    (THREE, &[9], 3, "read fault cut.wasm"),
+    (&["g.txt", "g.wasm"], &[], 3, "read fault g.txt"),
+    (
+        &["g.json", "g.wasm", "x.wasm", "y.wasm"],
+        &[],
+        3,
+        "read fault x.wasm",
+    ),
+    (THREE, &[], 5, "Malformed 9"),
+    (&["g.json", "cut.wasm", "old.wasm"], &[], 5, "Malformed 9"),
+    (&["g.json", "g.wasm", "old.wasm"], &[], 5, "Malformed 0"),
+    (&["g.json", "g.wasm", "g.wasm"], &[], 6, "malformed map"),
+    (&["g.wasm", "g.wasm"], &[], 6, "malformed map"),
+];
+
 #[test]
 fn ends_with_a_line_for_wrong_words_and_files(rt: HostRuntime) -> Result<(), Fail> {
-    let two = ["g.json", "g.wasm"].as_slice();
-    let three = ["g.json", "g.wasm", "cut.wasm"].as_slice();
-    for (list, failing, wanted, line) in [
-        (
-            ["g.json"].as_slice(),
-            [].as_slice(),
-            2,
-            "usage: dwarfcarry [--package P] [--text] MAP MODULE... | --generate N",
-        ),
-        (two, [1].as_slice(), 3, "read fault g.json"),
-        (two, [2].as_slice(), 3, "read fault g.json"),
-        (two, [3].as_slice(), 3, "read fault g.json"),
-        (two, [4].as_slice(), 3, "read fault g.wasm"),
-        (two, [5].as_slice(), 3, "read fault g.wasm"),
-        (two, [6].as_slice(), 3, "read fault g.wasm"),
-        (three, [7].as_slice(), 3, "read fault cut.wasm"),
-        (three, [9].as_slice(), 3, "read fault cut.wasm"),
-        (
-            ["g.txt", "g.wasm"].as_slice(),
-            [].as_slice(),
-            3,
-            "read fault g.txt",
-        ),
-        (
-            ["g.json", "g.wasm", "x.wasm", "y.wasm"].as_slice(),
-            [].as_slice(),
-            3,
-            "read fault x.wasm",
-        ),
-        (three, [].as_slice(), 5, "Malformed 9"),
-        (
-            ["g.json", "cut.wasm", "old.wasm"].as_slice(),
-            [].as_slice(),
-            5,
-            "Malformed 9",
-        ),
-        (
-            ["g.json", "g.wasm", "old.wasm"].as_slice(),
-            [].as_slice(),
-            5,
-            "Malformed 0",
-        ),
-        (
-            ["g.json", "g.wasm", "g.wasm"].as_slice(),
-            [].as_slice(),
-            6,
-            "malformed map",
-        ),
-        (
-            ["g.wasm", "g.wasm"].as_slice(),
-            [].as_slice(),
-            6,
-            "malformed map",
-        ),
-    ] {
+    for (list, failing, wanted, line) in &RUNS {
         let source = source(rt.alloc(), &FILES, failing)?;
         let (status, err) = ended(rt.alloc(), list, source)?;
-        assert_eq!(rt; status, wanted, "{line}");
+        assert_eq!(rt; status, *wanted, "{line}");
         let line = format!(in rt.alloc(); "dwarfcarry: {line}\n")?;
         assert_eq!(rt; err.bytes(), line.as_bytes());
     }
@@ -249,20 +240,20 @@ const TWO_MODULES: &[u8] =
 const NO_FUNCTION: &[u8] =
     b"{\"target\":{\"arch\":\"x86_64\"},\"names\":[\"set\",\"resolve\"],\"modules\":[{\"functions\":[{\"symbol\":0,\"start\":22,\"end\":33,\"body_len\":30,\"map\":[]}]},{\"functions\":[]}]}";
 
+// Maps that have no value beside so many modules.
+const MAPS: [(&[u8], &[&str]); 6] = [
+    (b"{", &["m", "w"]),
+    (b"", &["m", "w"]),
+    (MAP, &["m", "w", "w"]),
+    (TWO_MODULES, &["m", "w"]),
+    (TWO_MODULES, &["m", "w", "w", "w"]),
+    (NO_FUNCTION, &["m", "w", "w"]),
+];
+
 #[test]
 fn ends_with_a_line_for_a_malformed_map(rt: HostRuntime) -> Result<(), Fail> {
-    let one = ["m", "w"].as_slice();
-    let two = ["m", "w", "w"].as_slice();
-    let three = ["m", "w", "w", "w"].as_slice();
-    for (map, list) in [
-        (b"{".as_slice(), one),
-        (b"".as_slice(), one),
-        (MAP, two),
-        (TWO_MODULES, one),
-        (TWO_MODULES, three),
-        (NO_FUNCTION, two),
-    ] {
-        let source = source(rt.alloc(), &[("m", map), ("w", MODULE)], &[])?;
+    for (map, list) in &MAPS {
+        let source = source(rt.alloc(), &[("m", *map), ("w", MODULE)], &[])?;
         let (status, err) = ended(rt.alloc(), list, source)?;
         assert_eq!(rt; status, 6, "{list:?}");
         assert_eq!(rt; err.bytes(), b"dwarfcarry: malformed map\n".as_slice());
