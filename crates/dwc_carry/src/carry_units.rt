@@ -1,5 +1,5 @@
 //! The units of the output, from those that were read of a module.
-ghost use Rattle.std.specs.Prelude.{◌≡◌, ◌⊎◌, ◌∷◌, ◌++◌, [], OnOk, IsOkUnless, All};
+ghost use Rattle.std.specs.Prelude.{◌≡◌, ◌⊎◌, All};
 ghost use Rattle.dwc_carry.specs.ImageRows.{IsOrdered};
 ghost use Rattle.dwc_carry.specs.CarriedReads.{is_carried, GivesCarried, GivesAdded};
 
@@ -37,11 +37,8 @@ fn carry_unit(
     let line_table = read.entries.line_table;
     let lines = unit_program(alloc, &read.unit, line_table, transform, encoding)?;
     let has_table = line_table.is_some();
-    match output_unit(alloc, encoding, lines, has_table, &read.entries.subprograms) {
-        Ok(unit) => Ok(Some(unit)),
-        // A unit takes memory, and asks for nothing else.
-        Err(_) => Err(DebugError::OutOfMemory),
-    }
+    let unit = output_unit(alloc, encoding, lines, has_table, &read.entries.subprograms)?;
+    Ok(Some(unit))
 }
 
 /// Adds the units of the output that carry units, in order; those that are not carried have none.
@@ -62,19 +59,8 @@ pub(crate) fn carry_units(
 {
     for i in 0..read.len() {
         if let Some(unit) = carry_unit(alloc, &read[i], transform, encoding)? {
-            add_unit(units, unit)?;
+            units.add(unit)?;
         }
     }
     Ok(())
-}
-
-// Adds a unit, which takes memory, and asks for nothing else.
-fn add_unit(units: &mut UnitTable, unit: Unit) -> Result<(), DebugError>
-    ensures added { OnOk result (units.new.units.items ≡ units.old.units.items ++ unit ∷ []) }
-    ensures memory { IsOkUnless result DebugError.OutOfMemory }
-{
-    match units.add(unit) {
-        Ok(_) => Ok(()),
-        Err(_) => Err(DebugError::OutOfMemory),
-    }
 }

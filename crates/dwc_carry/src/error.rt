@@ -1,4 +1,6 @@
 //! Why no DWARF is emitted.
+ghost use Rattle.std.specs.Prelude.{◌≡◌};
+
 use dwc_addr::AddrError;
 use dwc_base::{Kind, MapFault, SectionName, What};
 use dwc_read::ReadFault;
@@ -51,6 +53,17 @@ fn limited(what: Limit) -> SectionName {
     name
 }
 
+// The refusal of bytes at an offset of the section of a name.
+fn unreadable(what: What, name: SectionName, offset: u64) -> DebugError
+    ensures { result ≡ DebugError.Read what name offset }
+{
+    DebugError::Read {
+        what,
+        section: name,
+        offset,
+    }
+}
+
 impl From<ReadFault> for DebugError {
     ghost use Rattle.std.specs.Prelude.{◌≡◌};
     ghost use Rattle.dwc_carry.specs.Refusals.{of_reading};
@@ -63,11 +76,7 @@ impl From<ReadFault> for DebugError {
                 what,
                 section,
                 offset,
-            } => DebugError::Read {
-                what,
-                section,
-                offset,
-            },
+            } => unreadable(what, section, offset),
             ReadFault::Unsupported { what, offset } => DebugError::Unsupported { what, offset },
             ReadFault::OutOfMemory => DebugError::OutOfMemory,
         }
@@ -104,11 +113,7 @@ impl From<TabFault> for DebugError {
                 what,
                 section,
                 offset,
-            } => DebugError::Read {
-                what,
-                section,
-                offset,
-            },
+            } => unreadable(what, section, offset),
             TabFault::Unsupported { what, offset } => DebugError::Unsupported { what, offset },
             TabFault::InvalidFileIndex { offset } => DebugError::InvalidFileIndex { offset },
             TabFault::OutOfMemory => DebugError::OutOfMemory,

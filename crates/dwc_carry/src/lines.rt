@@ -1,5 +1,5 @@
 //! The line program that carries a line table.
-ghost use Rattle.std.specs.Prelude.{◌≡◌, ◌+◌, ◌<◌, ◌^◌, None, [], IsSome, OnOk, IfOk, length, All, option_map, slice_get};
+ghost use Rattle.std.specs.Prelude.{◌≡◌, ◌+◌, ◌<◌, ◌^◌, None, [], IsSome, OnOk, IfOk, IsOkUnless, length, All, option_map, slice_get};
 ghost use Rattle.dwc_tabs.specs.Headers.{file_view};
 ghost use Rattle.dwc_write.specs.SpelledLines.{FitsName};
 ghost use Rattle.dwc_carry.specs.ImageRows.{IsOrdered};
@@ -16,6 +16,9 @@ use std::alloc::Global;
 /// The line program that carries a line table of any version for the functions of a module: the table's directories and files
 /// in order, and one sequence for each segment that has an image. Files count from 1 there, as up to version 4, so that those
 /// of version 5, which count from 0, have the number above. (DWARF 4, section 6.2.4; DWARF 5, section 6.2.4.)
+///
+/// # Errors
+/// `OutOfMemory` for want of memory, and nothing else.
 pub fn carried_lines(
     alloc: Global,
     table: &LineTable<'_>,
@@ -24,7 +27,8 @@ pub fn carried_lines(
 ) -> Result<LineProgram, WriteError>
     requires table { CanCarry table.now }
     requires functions { All IsOrdered transform.now }
-    ensures { IfOk result (λ p. CarriesTable table.now transform.now encoding.address_size p) }
+    ensures carries { IfOk result (λ p. CarriesTable table.now transform.now encoding.address_size p) }
+    ensures memory { IsOkUnless result WriteError.OutOfMemory }
 {
     let mut program = LineProgram::new(alloc, encoding)?;
     add_directories(&mut program, table)?;
@@ -36,7 +40,8 @@ pub fn carried_lines(
 // Adds the directories of a table.
 fn add_directories(program: &mut LineProgram, table: &LineTable<'_>) -> Result<(), WriteError>
     requires { All FitsName table.now.header.directories }
-    ensures { OnOk result (program.new ≡ with_directories table.now.header.directories program.old) }
+    ensures added { OnOk result (program.new ≡ with_directories table.now.header.directories program.old) }
+    ensures memory { IsOkUnless result WriteError.OutOfMemory }
 {
     for i in 0..table.directory_count() {
         let name = table.directory(i + 1).unwrap();
@@ -62,6 +67,7 @@ fn add_files(program: &mut LineProgram, table: &LineTable<'_>) -> Result<(), Wri
     requires { All (FitsDirectories (length program.old.directories)) table.now.files }
     ensures added { OnOk result (program.new ≡ with_files table.now.files program.old) }
     ensures counted { OnOk result (length table.now.files < 2 ^ 64) }
+    ensures memory { IsOkUnless result WriteError.OutOfMemory }
 {
     for i in 0..table.file_count() {
         let file = file_at(table, i).unwrap();
@@ -98,7 +104,8 @@ fn add_images(
     requires steps { All (FitsStep (length program.old.files)) (carried_steps table.now) }
     requires rise { AllRise None [] (carried_steps table.now) }
     requires functions { All IsOrdered transform.now }
-    ensures { OnOk result (program.new ≡ with_sequences (sequences_from transform.now None [] (carried_steps table.now)) program.old) }
+    ensures added { OnOk result (program.new ≡ with_sequences (sequences_from transform.now None [] (carried_steps table.now)) program.old) }
+    ensures memory { IsOkUnless result WriteError.OutOfMemory }
 {
     let mut steps = table.rows();
     let mut start = None;

@@ -1,5 +1,5 @@
 //! The unit of the output: its root names the line table, and below it stand the kept subprograms.
-ghost use Rattle.std.specs.Prelude.{◌≡◌, ◌⊎◌, ◌<◌, ◌^◌, ◌∷◌, ◌++◌, [], OnOk, IfOk, length, map, true};
+ghost use Rattle.std.specs.Prelude.{◌≡◌, ◌⊎◌, ◌<◌, ◌^◌, ◌∷◌, ◌++◌, [], OnOk, IfOk, IsOkUnless, length, map, true};
 ghost use Rattle.dwc_write.specs.GivenUnits.{IsOfSize, depth_of, with_entries};
 ghost use Rattle.dwc_carry.specs.OutputUnits.{output_unit, root_entry, subprogram_entry};
 
@@ -15,7 +15,8 @@ use std::alloc::Global;
 fn add_subprogram(unit: &mut Unit, subprogram: Subprogram) -> Result<(), WriteError>
     requires some { 0 < length unit.old.entries }
     requires root { depth_of 0 unit.old.entries ≡ 0 }
-    ensures { OnOk result (unit.new ≡ with_entries (unit.old.entries ++ subprogram_entry subprogram ∷ []) unit.old) }
+    ensures added { OnOk result (unit.new ≡ with_entries (unit.old.entries ++ subprogram_entry subprogram ∷ []) unit.old) }
+    ensures memory { IsOkUnless result WriteError.OutOfMemory }
 {
     let Subprogram { function, length } = subprogram;
     let begin = Address::Symbol {
@@ -43,7 +44,8 @@ pub(crate) fn output_unit(
     requires version { encoding.version ≡ 4 }
     requires size { (encoding.address_size ≡ 4) ⊎ (encoding.address_size ≡ 8) }
     requires lines { IsOfSize encoding.address_size lines.address_size }
-    ensures { IfOk result (λ u. u ≡ output_unit encoding.address_size lines has_table subprograms.now) }
+    ensures unit { IfOk result (λ u. u ≡ output_unit encoding.address_size lines has_table subprograms.now) }
+    ensures memory { IsOkUnless result WriteError.OutOfMemory }
 {
     let mut unit = Unit::new(alloc, encoding, lines)?;
     if has_table {

@@ -1,5 +1,5 @@
 //! The image of a segment as a sequence of a line program.
-ghost use Rattle.std.specs.Prelude.{◌≡◌, ◌∷◌, [], None, IsSome, OnOk, pos, length, All};
+ghost use Rattle.std.specs.Prelude.{◌≡◌, ◌∷◌, [], None, IsSome, OnOk, IsOkUnless, pos, length, All};
 ghost use Rattle.dwc_base.specs.declared.records.Address.TheVariants.{Symbol};
 ghost use Rattle.dwc_carry.specs.ImageRows.{IsOrdered};
 ghost use Rattle.dwc_carry.specs.ImageSequences.{FitsFiles, FitsImage, RiseIf, with_sequences, sequence_if};
@@ -19,7 +19,8 @@ fn add_sequence(
     requires sized { IsSome program.old.address_size }
     requires ended { program.old.begun ≡ None }
     requires fits { FitsImage (length program.old.files) rows.now end }
-    ensures { OnOk result (program.new ≡ with_sequences (record { start_address = Symbol function (pos 0); rows = rows.now; end_offset = end } ∷ []) program.old) }
+    ensures added { OnOk result (program.new ≡ with_sequences (record { start_address = Symbol function (pos 0); rows = rows.now; end_offset = end } ∷ []) program.old) }
+    ensures memory { IsOkUnless result WriteError.OutOfMemory }
 {
     program.begin_sequence(Address::Symbol {
         symbol: function,
@@ -45,7 +46,8 @@ pub(crate) fn add_image(
     requires order { RiseIf start rows.now }
     requires each { All (FitsFiles (length program.old.files)) rows.now }
     requires functions { All IsOrdered transform.now }
-    ensures { OnOk result (program.new ≡ with_sequences (sequence_if transform.now start rows.now) program.old) }
+    ensures added { OnOk result (program.new ≡ with_sequences (sequence_if transform.now start rows.now) program.old) }
+    ensures memory { IsOkUnless result WriteError.OutOfMemory }
 {
     let Some(start) = start else {
         return Ok(());

@@ -27,9 +27,5 @@ pub(crate) fn unit_program(
         return Ok(LineProgram::none(alloc));
     };
     let table = LineTable::read(alloc, unit, offset)?;
-    match carried_lines(alloc, &table, transform, encoding) {
-        Ok(lines) => Ok(lines),
-        // A line program takes memory, and asks for nothing else.
-        Err(_) => Err(DebugError::OutOfMemory),
-    }
+    Ok(carried_lines(alloc, &table, transform, encoding)?)
 }

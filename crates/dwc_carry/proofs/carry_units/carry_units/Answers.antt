@@ -1,7 +1,7 @@
 use Rattle.std.proofs.Common.{◌+◌, ◌∷◌, drop, sym, ap, ◌∙◌, subst}
 use Rattle.std.proofs.lemmas.List.{drop_more, drop_all}
 use Rattle.dwc_carry.proofs.CarriedReadLaws.{AddedSoFar, added-not, added-one, added-done}
-use Rattle.dwc_carry.proofs.carry_units.carry_units.Goals.{in-Some+in_ok-add_unit, in_default}
+use Rattle.dwc_carry.proofs.carry_units.carry_units.Goals.{in-Some+in_ok-add, in_default}
 use Rattle.dwc_carry.proofs.carry_units.carry_units.Goals as goal
 
 pub loop-i-preserved : goal.loop-i-preserved
@@ -13,7 +13,7 @@ loop-i-preserved c =
     let rest = drop (c.loop-i.i + 1) rs in
     let here : AddedSoFar fs size rs old c.loop-i.units.units.items (c.index-read-i.result ∷ rest) = subst (λ xs. AddedSoFar fs size rs old c.loop-i.units.units.items xs) (drop_more rs c.loop-i.i c.index-read-i.result c.loop-i-test.true ∙ ap (λ x. x ∷ rest) (sym c.index-read-i.is)) c.loop-i.invariant in
     elim c.match-branch-2.branch [
-      | in-Some+in_ok-add_unit w ↦ rw (w.units-is, w.in_ok-add_unit.ensures.added) (added-one fs size rs old _ c.index-read-i.result rest w.in-Some.unit here (rw w.in-Some.is at c.in_ok-unit.ensures))
+      | in-Some+in_ok-add w ↦ rw (w.units-is, w.in_ok-add.ensures.ok) (added-one fs size rs old _ c.index-read-i.result rest w.in-Some.unit here (rw w.in-Some.is at c.in_ok-unit.ensures))
       | in_default w ↦ rw w.units-is (added-not fs size rs old _ c.index-read-i.result rest here (rw w.in_default.is at c.in_ok-unit.ensures))
     ]
 

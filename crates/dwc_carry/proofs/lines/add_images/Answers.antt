@@ -12,11 +12,11 @@ loop-step-preserved c =
 pub loop-step-preserved-in-Start : goal.loop-step-preserved-in-Start
 loop-step-preserved-in-Start c =
     let next = c.in-Some.ensures ∙ ap (λ s. step_view s ∷ c.next.new.self) c.in-Start.is in
-    rw (c.in_ok-add_image-in-Start.ensures, c.deref.ensures.value, c.clear.ensures.items)
+    rw (c.in_ok-add_image-in-Start.ensures.added, c.deref.ensures.value, c.clear.ensures.items)
     (images-start c.args.transform.now (carried_steps c.args.table.now) c.args.program.now c.loop-step.program c.loop-step.start c.loop-step.rows.items c.in-Start.address (map (carried_step c.args.table.now.header.version) c.next.new.self) (rw next at c.loop-step.invariant))
 
 pub loop-step-preserved-in-End : goal.loop-step-preserved-in-End
 loop-step-preserved-in-End c =
     let next = c.in-Some.ensures ∙ ap (λ s. step_view s ∷ c.next.new.self) c.in-End.is in
-    rw (c.in_ok-add_image-in-End.ensures, c.deref-in-End.ensures.value, c.clear-in-End.ensures.items)
+    rw (c.in_ok-add_image-in-End.ensures.added, c.deref-in-End.ensures.value, c.clear-in-End.ensures.items)
     (images-end c.args.transform.now (carried_steps c.args.table.now) c.args.program.now c.loop-step.program c.loop-step.start c.loop-step.rows.items c.in-End.field-0 (map (carried_step c.args.table.now.header.version) c.next.new.self) (rw next at c.loop-step.invariant))

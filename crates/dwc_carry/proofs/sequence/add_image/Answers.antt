@@ -6,8 +6,8 @@ use Rattle.dwc_carry.specs.ImageRows.{image_rows, IsOrdered}
 use Rattle.dwc_carry.proofs.SequenceLaws.{sequence-found, sequence-none, sequence-some, number-view, image-fits, no_sequences}
 use Rattle.dwc_carry.proofs.sequence.add_image.Goals as goal
 
-pub returns-then-is_empty : goal.returns-then-is_empty
-returns-then-is_empty c =
+pub returns-then-is_empty-clause-added : goal.returns-then-is_empty-clause-added
+returns-then-is_empty-clause-added c =
     let rows = c.args.rows.now in
     let m = c.in-Some-func_at.function.now in
     let image = c.in_ok-image_rows.ensures ∙ ap (λ xs. image_rows rows c.in-Constant.start None (map recorded_view xs)) c.deref.ensures.value in
@@ -23,11 +23,11 @@ add_sequence-requires-clause-fits c =
     let order = function_at-among IsOrdered c.args.transform.now c.in-Constant.start _ c.requires.functions (sym c.in-Some-func_at.ensures.found) in
     rw c.deref-3.ensures.value (image-fits (length c.args.program.now.files) c.in-Constant.start rows c.image_rows.new.image.items m c.requires.each order m.short image (omega (arith, eqb-false (vec_len c.image_rows.new.image) 0 (sym c.if-is_empty.ensures), c.image_rows.new.image.ok)))
 
-pub returns : goal.returns
-returns c =
+pub returns-clause-added : goal.returns-clause-added
+returns-clause-added c =
     let rows = c.args.rows.now in
     let m = c.in-Some-func_at.function.now in
     let image = c.in_ok-image_rows.ensures ∙ ap (λ xs. image_rows rows c.in-Constant.start None (map recorded_view xs)) c.deref.ensures.value in
     let written = sequence-found c.args.transform.now c.in-Constant.start rows c.image_rows.new.image.items m (sym c.in-Some-func_at.ensures.found) image in
     let some = sequence-some _ (omega (arith, eqb-false (vec_len c.image_rows.new.image) 0 (sym c.if-is_empty.ensures), c.image_rows.new.image.ok)) in
-    rw (c.in-Some.is, c.in-Constant.is, written ∙ some, number-view m c.unwrap-symbol.result c.unwrap-symbol.ensures, ← c.deref-3.ensures.value) c.add_sequence.ensures
+    rw (c.in-Some.is, c.in-Constant.is, written ∙ some, number-view m c.unwrap-symbol.result c.unwrap-symbol.ensures, ← c.deref-3.ensures.value) c.add_sequence.ensures.added
