@@ -1,5 +1,5 @@
 -- What the parts of a run say of its input and its status.
-use Rattle.std.specs.Prelude.{◌≡◌, ◌^◌, ◌≤◌, ◌⊎◌, ℕ, List, [], ◌∷◌, map, true, Option, Some, None, Result, Ok, Err, All, Vec}
+use Rattle.std.specs.Prelude.{◌≡◌, ◌^◌, ◌≤◌, ◌⊎◌, ℕ, List, [], ◌∷◌, map, true, Option, Some, None, Result, Ok, Err, All, Any, Vec}
 use Rattle.std.specs.Global.{Global}
 use Rattle.std.specs.List.{list_all, AllZip}
 use Rattle.dwc_base.specs.declared.output.DwarfSection.{DwarfSection}
@@ -20,12 +20,17 @@ use Rattle.dwc_cli.specs.Inputs.{Paths, all_paths, Input, all_files, wasm_module
 use Rattle.dwc_cli.specs.Printed.{printed, is_plain}
 use Rattle.dwc_cli.specs.RunStatus.{Files, Rose, Appended, IsOneOf, WasmCause, MapCause, refusal_status, LoadedCauses, IsValid}
 use Rattle.dwc_cli.specs.Edge.{IsReadFile}
-use Rattle.dwc_cli.specs.Failures.{failure_status, line_of}
+use Rattle.dwc_cli.specs.Failures.{failure_status, usage_message, fault_message, length_message, write_message, failure_message, line_of}
 
 -- the status of a run in which a part answers so
 abbrev pub status_of : {T : Type 0} → Result T Failure → ℕ
 status_of (Ok x) = 0
 status_of (Err failure) = failure_status failure
+
+-- the message of a run in which a part answers so
+abbrev pub message_of : {T : Type 0} → Result T Failure → List ℕ
+message_of (Ok x) = []
+message_of (Err failure) = failure_message failure
 
 abbrev pub input_view : InputFiles → Input
 input_view files = record { map_bytes = files.map.items; modules = map (λ m. m.items) files.modules.items }
@@ -120,6 +125,14 @@ GivesText input status = (read : Loaded) → loaded input ≡ Some read → Give
 abbrev pub Tells : ℕ → ℕ → Option (List ℕ) → Option (List ℕ) → List ℕ → Type 0
 Tells faults_before faults_now before now message = Rose faults_before faults_now ⊎ Appended before now (line_of message)
 
--- the same with some message
-abbrev pub Complains : ℕ → ℕ → Option (List ℕ) → Option (List ℕ) → Type 0
-Complains faults_before faults_now before now = (message : List ℕ) × Tells faults_before faults_now before now message
+-- The message of a run by its status: of wrong words, of a file by its path, which is one of the words, and of the text. Those of
+-- a refused input and of want of memory are open.
+pub record IsMessage (words : List (List ℕ)) (status : ℕ) (message : List ℕ) : Type 0 where
+  pub usage : status ≡ 2 → message ≡ usage_message
+  pub fault : status ≡ 3 → Any (λ path. message ≡ fault_message path) words
+  pub too_long : status ≡ 4 → Any (λ path. message ≡ length_message path) words
+  pub write : status ≡ 8 → message ≡ write_message
+
+-- a line with such a message was appended, unless the sink failed
+abbrev pub Complains : List (List ℕ) → ℕ → ℕ → ℕ → Option (List ℕ) → Option (List ℕ) → Type 0
+Complains words status faults_before faults_now before now = (message : List ℕ) × IsMessage words status message × Tells faults_before faults_now before now message

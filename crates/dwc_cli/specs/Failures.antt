@@ -62,12 +62,25 @@ carrying_status debug.OutOfMemory = 9
 abbrev pub line_of : List ℕ → List ℕ
 line_of message = codes "dwarfcarry: " ++ message ++ line_feed
 
+-- the messages of wrong words, of a file that cannot be read or is too long, by its path, and of a text that cannot be written
+abbrev pub usage_message : List ℕ
+usage_message = codes "usage: dwarfcarry [--package P] [--text] MAP MODULE... | --generate N"
+
+abbrev pub fault_message : List ℕ → List ℕ
+fault_message path = codes "read fault " ++ path
+
+abbrev pub length_message : List ℕ → List ℕ
+length_message path = codes "file too long " ++ path
+
+abbrev pub write_message : List ℕ
+write_message = codes "write fault"
+
 -- the message of a failure
 abbrev pub failure_message : Failure → List ℕ
-failure_message Usage = codes "usage: dwarfcarry [--package P] [--text] MAP MODULE... | --generate N"
-failure_message (ReadFault path) = codes "read fault " ++ path.now
-failure_message (TooLong path) = codes "file too long " ++ path.now
+failure_message Usage = usage_message
+failure_message (ReadFault path) = fault_message path.now
+failure_message (TooLong path) = length_message path.now
 failure_message MalformedMap = codes "malformed map"
-failure_message WriteFault = codes "write fault"
+failure_message WriteFault = write_message
 failure_message OutOfMemory = codes "out of memory"
 failure_message (Refused status refusal) = refusal

@@ -43,7 +43,7 @@ pub fn run<S: Source, K: Sink, E: Sink>(
 
     // What is written besides.
     ensures silent { result ≢ 0 → result ≢ 8 → K.written out.new ≡ K.written out.old }
-    ensures said { result ≢ 0 → Complains (E.faults err.old) (E.faults err.new) (E.written err.old) (E.written err.new) }
+    ensures said { result ≢ 0 → Complains (map string_bytes words.now) result (E.faults err.old) (E.faults err.new) (E.written err.old) (E.written err.new) }
     ensures quiet { result ≡ 0 → E.written err.new ≡ E.written err.old }
 {
     let Some(paths) = read_words(words) else {

@@ -111,6 +111,7 @@ fn table_of(alloc: Global, target: Target) -> Result<TableIsa, AllocError>
     requires { (target.pointer_bytes ≡ 4) ⊎ (target.pointer_bytes ≡ 8) }
     ensures order { IfOk result (λ isa. isa.order ≡ if target.big_endian then Big else Little) }
     ensures size { IfOk result (λ isa. isa.pointer_bytes ≡ target.pointer_bytes) }
+    ensures architecture { IfOk result (λ isa. isa.architecture ≡ target.arch) }
 {
     let order = if target.big_endian {
         Endian::Big

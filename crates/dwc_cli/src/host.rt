@@ -1,6 +1,9 @@
 //! The real files and streams: the trusted edge. They tell nothing of content; what they claim is their counts.
-ghost use Rattle.std.specs.Prelude.{None};
+ghost use Rattle.std.specs.Prelude.{◌≡◌, None, Option, IsNone, IsErr, OnErr};
 ghost use Rattle.std.specs.Io.{ReadsAtMost};
+ghost use Rattle.std.specs.Io.KnownBytes.{ReadConsumes};
+ghost use Rattle.dwc_cli.specs.Devices.{HasCause, Counts, Takes, Opens, Accepts, FailsWhileShut};
+ghost use Rattle.dwc_cli.specs.RunStatus.{Files};
 
 use crate::sink::Sink;
 use crate::source::{Failed, Source};
@@ -8,7 +11,8 @@ use std::fs;
 use std::io::Read;
 use std::rt::Files;
 
-/// The files of the system. Every failure of an opening or a read is a fault, and so is a read while no file is open.
+/// The files of the system. Every failure of an opening or a read is a fault, and so is a read while no file is open. Nothing
+/// else is one.
 #[derive(Drop)]
 pub struct HostSource<R: Files + Drop> {
     system: R,
@@ -18,8 +22,12 @@ pub struct HostSource<R: Files + Drop> {
 }
 
 impl<R: Files + Drop> HostSource<R> {
-    /// The files of a runtime; none is open.
-    pub fn new(system: R) -> HostSource<R> {
+    /// The files of a runtime; none is open, and nothing has failed.
+    pub fn new(system: R) -> HostSource<R>
+        ensures shut { IsNone result.file }
+        ensures taken { result.taken ≡ 0 }
+        ensures faults { result.faults ≡ 0 }
+    {
         HostSource {
             system,
             file: None,
@@ -38,7 +46,14 @@ impl<R: Files + Drop> Source for HostSource<R> {
 
     ghost faults = { λ s. s.faults };
 
-    fn open_file(&mut self, path: &str) -> Result<(), Failed> {
+    fn open_file(&mut self, path: &str) -> Result<(), Failed>
+        ensures files { ◌≡◌ {A = Option Files} None None }
+        ensures opened { Opens None path.now None result }
+        ensures taken { self.new.taken ≡ 0 }
+        ensures cause { HasCause self.old.faults self.new.faults result }
+        ensures counts { Counts self.old.faults self.new.faults result }
+        ensures shut { OnErr result (IsNone self.new.file) }
+    {
         self.taken = 0;
         self.file = fs::open(&self.system, path).ok();
         if self.file.is_none() {
@@ -48,7 +63,16 @@ impl<R: Files + Drop> Source for HostSource<R> {
         Ok(())
     }
 
-    fn read(&mut self, buf: &mut [u8]) -> Result<usize, Failed> {
+    fn read(&mut self, buf: &mut [u8]) -> Result<usize, Failed>
+        ensures bound { ReadsAtMost result buf.new }
+        ensures bytes { ReadConsumes None None result buf.new }
+        ensures shut { FailsWhileShut None None result }
+        ensures files { ◌≡◌ {A = Option Files} None None }
+        ensures taken { Takes self.old.taken self.new.taken result }
+        ensures cause { HasCause self.old.faults self.new.faults result }
+        ensures counts { Counts self.old.faults self.new.faults result }
+        ensures no_file { IsNone self.old.file → IsErr result }
+    {
         match read_from(&mut self.file, buf) {
             Ok(count) => {
                 self.taken = self.taken.saturating_add(count as u64);
@@ -64,7 +88,8 @@ impl<R: Files + Drop> Source for HostSource<R> {
 
 // Reads on in a file, if one is open.
 fn read_from<F: Read>(file: &mut Option<F>, buf: &mut [u8]) -> Result<usize, Failed>
-    ensures { ReadsAtMost result buf.new }
+    ensures bound { ReadsAtMost result buf.new }
+    ensures shut { IsNone file.old → IsErr result }
 {
     match file {
         Some(file) => file.read(buf).map_err(|_| Failed),
@@ -73,7 +98,7 @@ fn read_from<F: Read>(file: &mut Option<F>, buf: &mut [u8]) -> Result<usize, Fai
 }
 
 /// A stream of the system, such as standard output or standard error. Every failure of a write is a fault, and so is one
-/// that takes none of some bytes.
+/// that takes none of some bytes. Nothing else is one.
 #[derive(Drop)]
 pub struct HostSink<P: Print + Drop> {
     stream: P,
@@ -81,8 +106,10 @@ pub struct HostSink<P: Print + Drop> {
 }
 
 impl<P: Print + Drop> HostSink<P> {
-    /// A sink over a stream.
-    pub fn new(stream: P) -> HostSink<P> {
+    /// A sink over a stream; nothing has failed.
+    pub fn new(stream: P) -> HostSink<P>
+        ensures { result.faults ≡ 0 }
+    {
         HostSink { stream, faults: 0 }
     }
 }
@@ -92,7 +119,11 @@ impl<P: Print + Drop> Sink for HostSink<P> {
 
     ghost faults = { λ s. s.faults };
 
-    fn write(&mut self, bytes: &[u8]) -> Result<usize, Failed> {
+    fn write(&mut self, bytes: &[u8]) -> Result<usize, Failed>
+        ensures bytes { Accepts None None bytes.now result }
+        ensures cause { HasCause self.old.faults self.new.faults result }
+        ensures counts { Counts self.old.faults self.new.faults result }
+    {
         match self.stream.write_some(bytes) {
             Ok(count) if count > 0 || bytes.is_empty() => Ok(count),
             _ => {

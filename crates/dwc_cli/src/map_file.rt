@@ -3,7 +3,7 @@ ghost use Rattle.std.specs.Prelude.{◌≡◌, ◌&&◌, map, option_map, option
 ghost use Rattle.serde_json.specs.View.{view, items_view};
 ghost use Rattle.dwc_clif.specs.AddressMaps.{entry_view, address_map_view};
 ghost use Rattle.dwc_cli.specs.MapFile.{target_of, text_of, u32_of, source_of, pair_of, all_items, list_of, address_map_of, map_module_of, map_value, map_of_bytes, have_counts, is_countable, IsMapFor};
-ghost use Rattle.dwc_cli.specs.MapViews.{target_view, names_view, address_map_with, module_view, map_file_view};
+ghost use Rattle.dwc_cli.specs.MapViews.{target_view, names_view, address_map_with, module_view, map_file_view, told_sources, mapped_sources, HaveOneSource, ModulesHaveOneSource};
 
 #[cfg(test)]
 mod tests;
@@ -165,7 +165,8 @@ fn read_function(
     alloc: Global,
     value: &Value,
 ) -> Result<Option<(Option<SymbolId>, CompiledFunctionMetadata)>, AllocError>
-    ensures { IfOk result (λ o. option_map address_map_view o ≡ address_map_of (view value.now)) }
+    ensures value { IfOk result (λ o. option_map address_map_view o ≡ address_map_of (view value.now)) }
+    ensures sources { IfOk result (λ o. IfSome o (λ f. told_sources f ≡ mapped_sources f)) }
 {
     let Some(fields) = function_fields(value) else {
         return Ok(None);
@@ -192,8 +193,9 @@ fn read_functions(
     alloc: Global,
     values: &[Value],
 ) -> Result<Option<Vec<(Option<SymbolId>, CompiledFunctionMetadata)>>, AllocError>
-    ensures { IfOk result (λ o. option_map (λ v. map address_map_view v.items) o
+    ensures value { IfOk result (λ o. option_map (λ v. map address_map_view v.items) o
         ≡ all_items address_map_of (items_view values.now)) }
+    ensures sources { IfOk result (λ o. IfSome o (λ v. HaveOneSource v.items)) }
 {
     let mut functions = Vec::with_capacity(alloc, values.len())?;
     for value in values {
@@ -207,7 +209,8 @@ fn read_functions(
 
 #[tactic(auto, using(crate::proofs::MapKinds::list_of_items), unfolding(crate::specs::MapFile::map_module_of))]
 fn read_module(alloc: Global, value: &Value) -> Result<Option<MapModule>, AllocError>
-    ensures { IfOk result (λ o. option_map module_view o ≡ map_module_of (view value.now)) }
+    ensures value { IfOk result (λ o. option_map module_view o ≡ map_module_of (view value.now)) }
+    ensures sources { IfOk result (λ o. IfSome o (λ m. HaveOneSource m.functions.items)) }
 {
     let Some(fields) = members(value) else {
         return Ok(None);
@@ -222,8 +225,9 @@ fn read_module(alloc: Global, value: &Value) -> Result<Option<MapModule>, AllocE
 }
 
 fn read_modules(alloc: Global, values: &[Value]) -> Result<Option<Vec<MapModule>>, AllocError>
-    ensures { IfOk result (λ o. option_map (λ v. map module_view v.items) o
+    ensures value { IfOk result (λ o. option_map (λ v. map module_view v.items) o
         ≡ all_items map_module_of (items_view values.now)) }
+    ensures sources { IfOk result (λ o. IfSome o (λ v. ModulesHaveOneSource v.items)) }
 {
     let mut modules = Vec::with_capacity(alloc, values.len())?;
     for value in values {
@@ -269,7 +273,8 @@ fn can_be_numbered(modules: &[MapModule]) -> bool
 
 #[tactic(auto, using(crate::proofs::MapKinds::list_of_items), unfolding(crate::specs::MapFile::map_value))]
 fn read_map(alloc: Global, value: &Value, defined: &[u32]) -> Result<Option<MapFile>, AllocError>
-    ensures { IfOk result (λ o. option_map map_file_view o ≡ map_value defined.now (view value.now)) }
+    ensures value { IfOk result (λ o. option_map map_file_view o ≡ map_value defined.now (view value.now)) }
+    ensures sources { IfOk result (λ o. IfSome o (λ f. ModulesHaveOneSource f.modules.items)) }
 {
     let Some(fields) = members(value) else {
         return Ok(None);
@@ -306,7 +311,8 @@ pub(crate) fn map_of_counts(
     bytes: &[u8],
     defined: &[u32],
 ) -> Result<Option<MapFile>, AllocError>
-    ensures { IfOk result (λ o. option_map map_file_view o ≡ map_of_bytes defined.now bytes.now) }
+    ensures value { IfOk result (λ o. option_map map_file_view o ≡ map_of_bytes defined.now bytes.now) }
+    ensures sources { IfOk result (λ o. IfSome o (λ f. ModulesHaveOneSource f.modules.items)) }
 {
     match Value::from_slice(alloc, bytes) {
         Ok(value) => read_map(alloc, &value, defined),
@@ -324,7 +330,7 @@ pub(crate) fn map_of_counts(
 /// name the later counts.
 ///
 /// A map that is answered has the modules and functions that are asked for, fewer than 2^32 each, and addresses of 4 or 8
-/// bytes.
+/// bytes. The begin and the end of a function are the same in its record and in its address map.
 ///
 /// # Errors
 ///
@@ -338,6 +344,7 @@ pub fn map_of(
     ensures value { IfOk result (λ o. option_map map_file_view o
         ≡ map_of_bytes (map (λ m. m.defined_funcs) modules.now) bytes.now) }
     ensures fits { IfOk result (λ o. IfSome o (λ f. IsMapFor (map (λ m. m.defined_funcs) modules.now) (map_file_view f))) }
+    ensures sources { IfOk result (λ o. IfSome o (λ f. ModulesHaveOneSource f.modules.items)) }
 {
     let mut defined = Vec::with_capacity(alloc, modules.len())?;
     for module in modules {

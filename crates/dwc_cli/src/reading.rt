@@ -4,8 +4,8 @@ ghost use Rattle.std.specs.List.{AllZip};
 ghost use Rattle.dwc_cli.specs.RunStatus.{Rose, most_bytes};
 ghost use Rattle.dwc_cli.specs.Inputs.{all_paths};
 ghost use Rattle.dwc_cli.specs.Edge.{IsReadFile, IsLongFile, paths_view};
-ghost use Rattle.dwc_cli.specs.Failures.{failure_status};
-ghost use Rattle.dwc_cli.specs.Answers.{status_of, input_view, IsInput, IsReadingStatus};
+ghost use Rattle.dwc_cli.specs.Failures.{failure_status, fault_message, length_message};
+ghost use Rattle.dwc_cli.specs.Answers.{status_of, message_of, input_view, IsInput, IsReadingStatus};
 
 use crate::failure::Failure;
 use crate::input_files::InputFiles;
@@ -25,6 +25,8 @@ pub(crate) fn read_input<'w, S: Source>(
     ensures long_file { status_of result ≡ 4 → Any (IsLongFile (S.files source.old)) (all_paths (paths_view paths.now)) }
     ensures read_fault { status_of result ≡ 3 → Rose (S.faults source.old) (S.faults source.new) }
     ensures status { IfErr result (λ failure. IsReadingStatus (failure_status failure)) }
+    ensures fault_told { status_of result ≡ 3 → Any (λ path. message_of result ≡ fault_message path) (all_paths (paths_view paths.now)) }
+    ensures length_told { status_of result ≡ 4 → Any (λ path. message_of result ≡ length_message path) (all_paths (paths_view paths.now)) }
     ensures later { S.faults source.old ≤ S.faults source.new }
 {
     let map = read_file(alloc, source, paths.map_path)?;
@@ -44,6 +46,8 @@ fn read_files<'w, S: Source>(
     ensures long_file { status_of result ≡ 4 → Any (IsLongFile (S.files source.old)) (map string_bytes paths.now) }
     ensures read_fault { status_of result ≡ 3 → Rose (S.faults source.old) (S.faults source.new) }
     ensures status { IfErr result (λ failure. IsReadingStatus (failure_status failure)) }
+    ensures fault_told { status_of result ≡ 3 → Any (λ path. message_of result ≡ fault_message path) (map string_bytes paths.now) }
+    ensures length_told { status_of result ≡ 4 → Any (λ path. message_of result ≡ length_message path) (map string_bytes paths.now) }
     ensures later { S.faults source.old ≤ S.faults source.new }
 {
     let mut files = Vec::with_capacity(alloc, paths.len())?;
@@ -64,6 +68,8 @@ fn read_file<'w, S: Source>(
     ensures long_file { status_of result ≡ 4 → IsLongFile (S.files source.old) path.now }
     ensures read_fault { status_of result ≡ 3 → Rose (S.faults source.old) (S.faults source.new) }
     ensures status { IfErr result (λ failure. IsReadingStatus (failure_status failure)) }
+    ensures fault_told { status_of result ≡ 3 → message_of result ≡ fault_message path.now }
+    ensures length_told { status_of result ≡ 4 → message_of result ≡ length_message path.now }
     ensures files { S.files source.new ≡ S.files source.old }
     ensures later { S.faults source.old ≤ S.faults source.new }
 {

@@ -1,11 +1,17 @@
 use Rattle.std.proofs.Common.{[], ◌∷◌, map, string_bytes, refl, sym, subst, arith}
 use Rattle.dwc_cli.specs.Edge.{paths_view}
 use Rattle.dwc_cli.specs.RunStatus.{InputCauses, IsStatus, IsOneOf}
-use Rattle.dwc_cli.specs.Failures.{failure_status}
-use Rattle.dwc_cli.specs.Answers.{input_view, reading_statuses, text_statuses}
+use Rattle.dwc_cli.specs.Failures.{failure_status, failure_message, usage_message, write_message}
+use Rattle.dwc_cli.specs.Answers.{input_view, IsMessage, reading_statuses, text_statuses}
 use Rattle.dwc_cli.proofs.Statuses.{IsOneOf-from, IsOneOf-more, IsOneOf-other}
+use Rattle.dwc_cli.proofs.Messages.{IsMessage-usage, IsMessage-reading, IsMessage-text, IsMessage-write}
 use Rattle.dwc_cli.proofs.RunExits.{InputCauses-reading, InputCauses-text, MissingCause-read, Succeeds-read, PrefixWritten-read, TextCauses-write, only_memory, complete_read}
 use Rattle.dwc_cli.proofs.command.run.Goals as goal
+
+pub returns-in_default-clause-said : goal.returns-in_default-clause-said
+returns-in_default-clause-said g c = λ _.
+    let words = map string_bytes c.args.words.now in
+    (usage_message, subst (λ s. IsMessage words s usage_message) (sym c.refuse.ensures.status) (IsMessage-usage words), c.refuse.ensures.said)
 
 pub returns-in-Err-clause-input : goal.returns-in-Err-clause-input
 returns-in-Err-clause-input g c =
@@ -93,3 +99,22 @@ returns-clause-front g c = λ _.
 pub returns-clause-status : goal.returns-clause-status
 returns-clause-status g c =
     subst IsStatus (sym c.refuse-in-Err-write_all.ensures.status) (IsOneOf-from (0 ∷ 2 ∷ 3 ∷ 4 ∷ 5 ∷ 6 ∷ 8 ∷ 9 ∷ 10 ∷ 11 ∷ 12 ∷ 13 ∷ 20 ∷ 21 ∷ []) 8 refl)
+
+pub returns-in-Err-clause-said : goal.returns-in-Err-clause-said
+returns-in-Err-clause-said g c = λ _.
+    let words = map string_bytes c.args.words.now in
+    let message = failure_message c.in-Err.failure in
+    let says = IsMessage-reading words (paths_view c.in-Some.paths) (failure_status c.in-Err.failure) message (sym c.in-Some.ensures) c.in-Err.ensures.status c.in-Err.ensures.fault_told c.in-Err.ensures.length_told in
+    (message, subst (λ s. IsMessage words s message) (sym c.refuse-in-Err.ensures.status) says, c.refuse-in-Err.ensures.said)
+
+pub returns-in-Err-text_of-clause-said : goal.returns-in-Err-text_of-clause-said
+returns-in-Err-text_of-clause-said g c = λ _.
+    let words = map string_bytes c.args.words.now in
+    let message = failure_message c.in-Err-text_of.failure in
+    let says = IsMessage-text words (failure_status c.in-Err-text_of.failure) message c.in-Err-text_of.ensures.status in
+    (message, subst (λ s. IsMessage words s message) (sym c.refuse-in-Err-text_of.ensures.status) says, c.refuse-in-Err-text_of.ensures.said)
+
+pub returns-clause-said : goal.returns-clause-said
+returns-clause-said g c = λ _.
+    let words = map string_bytes c.args.words.now in
+    (write_message, subst (λ s. IsMessage words s write_message) (sym c.refuse-in-Err-write_all.ensures.status) (IsMessage-write words), c.refuse-in-Err-write_all.ensures.said)

@@ -1,9 +1,12 @@
 use Rattle.std.proofs.Common.{◌≡◌, ◌++◌, map, drop, option_map}
 use Rattle.serde_json.specs.View.{items_view}
-use Rattle.dwc_cli.specs.MapViews.{module_view}
+use Rattle.dwc_cli.specs.MapViews.{module_view, ModulesHaveOneSource}
 use Rattle.dwc_cli.specs.MapFile.{map_module_of, all_items}
 use Rattle.dwc_cli.proofs.map_file.read_modules.Given as goal
 
 -- the modules so far, and those of the values to come, are those of all values
 abbrev pub invariant-loop-value : goal.invariant-loop-value
-invariant-loop-value l = option_map (λ ms. map module_view l.modules.items ++ ms) (all_items map_module_of (items_view (drop l.value-index l.values))) ≡ all_items map_module_of (items_view l.values)
+invariant-loop-value l = record {
+  value : option_map (λ ms. map module_view l.modules.items ++ ms) (all_items map_module_of (items_view (drop l.value-index l.values))) ≡ all_items map_module_of (items_view l.values);
+  sources : ModulesHaveOneSource l.modules.items;
+}
