@@ -1,11 +1,12 @@
 #!/usr/bin/env python3
 """Makes WebAssembly modules with DWARF, and the map files of code compiled from them.
 
-    make_modules.py FOLDER [--functions N ...] [--segments N ...] [--modules N ...]
+    make_modules.py FOLDER [--functions N ...] [--segments N ...] [--modules N ...] [--units N ...]
 
 For each N of --functions: N functions, each with a subprogram, a line sequence of 20 rows and an address map of 20
 entries. For each N of --segments: one function of N sources, and a DW_LNE_set_address before each of its N rows, as
-wasm-opt writes them. For each N of --modules: three modules of N functions each under one map. The files are
+wasm-opt writes them. For each N of --modules: three modules of N functions each under one map. For each N of --units: N units
+without line tables, of a subprogram each, that share one abbreviation table of N declarations. The files are
 FOLDER/functions_N.json with FOLDER/functions_N.0.wasm, and so on; of --modules there are three wasm files.
 """
 
@@ -102,7 +103,23 @@ def segment_sequence(start, rows, size):
     return bytes(program)
 
 
-def module(bodies, info, line):
+# A compile unit without a line table, and a subprogram's declaration behind its code.
+BARE_ROOT = bytes.fromhex("01 1101 0000")
+SUBPROGRAM = bytes.fromhex("2E00 1101 1206 0000")
+
+
+def shared_table(count):
+    """So many declarations, at least two."""
+    return BARE_ROOT + b"".join(uleb(code) + SUBPROGRAM for code in range(2, count + 1)) + bytes([0])
+
+
+def unit_of_subprogram(start, length):
+    entries = bytes([1, 2]) + u32(start) + u32(length) + bytes([0])
+    unit = bytes.fromhex("0400") + u32(0) + bytes([4]) + entries
+    return u32(len(unit)) + unit
+
+
+def module(bodies, info, line, abbreviations=ABBREVIATIONS):
     """The file, and the offset of the code section's contents in it."""
     count = uleb(len(bodies))
     code = bytearray(count)
@@ -112,7 +129,7 @@ def module(bodies, info, line):
     front += section(1, bytes.fromhex("01 60 00 00"))
     front += section(3, count + bytes(len(bodies)))
     offset = len(front) + 1 + len(uleb(len(code)))
-    back = custom(".debug_abbrev", ABBREVIATIONS) + custom(".debug_info", info) + custom(".debug_line", line)
+    back = custom(".debug_abbrev", abbreviations) + custom(".debug_info", info) + custom(".debug_line", line)
     return front + section(10, bytes(code)) + back, offset
 
 
@@ -177,6 +194,21 @@ def segments_module(rows):
     return wasm, [function]
 
 
+def units_module(count):
+    bodies = [body_of(BODY)]
+    [start] = places(bodies)
+    info = unit_of_subprogram(start, BODY) * count
+    wasm, offset = module(bodies, info, b"", shared_table(count))
+    function = {
+        "symbol": 0,
+        "start": start + offset,
+        "end": start + offset + BODY,
+        "body_len": CODE,
+        "map": [[0, start + offset]],
+    }
+    return wasm, [function]
+
+
 def write(folder, name, modules):
     """Writes modules with their map, and answers the paths of the map and of the modules."""
     map_path = os.path.join(folder, name + ".json")
@@ -190,7 +222,7 @@ def write(folder, name, modules):
     return paths
 
 
-def make(folder, functions, segments, modules):
+def make(folder, functions, segments, modules, units):
     """The names of what was made, each with the paths of its map and of its modules, by size."""
     os.makedirs(folder, exist_ok=True)
     for count in functions:
@@ -202,6 +234,9 @@ def make(folder, functions, segments, modules):
     for count in modules:
         name = f"modules_{count}"
         yield name, write(folder, name, [functions_module(count, i * count) for i in range(3)])
+    for count in units:
+        name = f"units_{count}"
+        yield name, write(folder, name, [units_module(count)])
 
 
 def main():
@@ -210,8 +245,9 @@ def main():
     parser.add_argument("--functions", type=int, nargs="*", default=[1000, 10000, 50000])
     parser.add_argument("--segments", type=int, nargs="*", default=[5000])
     parser.add_argument("--modules", type=int, nargs="*", default=[10000])
+    parser.add_argument("--units", type=int, nargs="*", default=[10000])
     words = parser.parse_args()
-    for _, paths in make(words.folder, words.functions, words.segments, words.modules):
+    for _, paths in make(words.folder, words.functions, words.segments, words.modules, words.units):
         print(*paths)
 
 

@@ -2,6 +2,7 @@
 """Runs the built program on modules of growing size, and prints what each run takes.
 
     run.py [PROGRAM] [--rounds N] [--functions N ...] [--segments N ...] [--modules N ...]
+           [--units N ...]
 
 PROGRAM is crates/dwarfcarry/out/dwarfcarry unless it is given. A row shows the best of the rounds: seconds, MB of wasm and
 of map a second, the peak memory, and the time beside that of the row above of the same kind; linear work gives there the
@@ -53,12 +54,14 @@ def main():
     parser.add_argument("--functions", type=int, nargs="*", default=[1000, 10000, 50000])
     parser.add_argument("--segments", type=int, nargs="*", default=[5000, 10000])
     parser.add_argument("--modules", type=int, nargs="*", default=[10000])
+    parser.add_argument("--units", type=int, nargs="*", default=[5000, 10000])
     words = parser.parse_args()
     titles = ["wasm MB", "map MB", "out MB", "seconds", "wasm MB/s", "map MB/s", "peak MB", "times"]
     print(f"{'module':<18}" + "".join(f"{title:>11}" for title in titles))
     with tempfile.TemporaryDirectory() as folder:
         before = {}
-        for name, paths in make_modules.make(folder, words.functions, words.segments, words.modules):
+        made = make_modules.make(folder, words.functions, words.segments, words.modules, words.units)
+        for name, paths in made:
             out_path = os.path.join(folder, name + ".out")
             seconds, peak, (map_size, wasm_size, out_size) = measure(words.program, paths, out_path, words.rounds)
             kind = name.split("_")[0]

@@ -63,14 +63,10 @@ impl AddressTransform {
         AddressTransform::of_functions(alloc, module.0, code_offset, first_number, functions)
     }
 
-    /// The transform of a module by its number, whose code section's contents begin at `code_section_offset` of its file, and
-    /// whose defined functions, of which the first has the number `first_number` among those of all modules, are given in
-    /// order, each with its symbol if it has one.
-    ///
-    /// # Errors
-    /// `BadAddressMap` exactly where some function's map breaks a rule: the first such function, and the first rule.
-    /// `OutOfMemory` for want of memory.
-    pub fn of_functions(
+    // The transform of a module by its number, whose code section's contents begin at `code_section_offset` of its file, and
+    // whose defined functions, of which the first has the number `first_number` among those of all modules, are given in
+    // order, each with its symbol if it has one.
+    fn of_functions(
         alloc: Global,
         module_index: u32,
         code_section_offset: u64,

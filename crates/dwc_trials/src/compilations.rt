@@ -123,7 +123,7 @@ fn target(alloc: Global) -> Result<TableIsa, AllocError> {
     )
 }
 
-// Functions are numbered over both modules, and the second module's own code section counts for it.
+// Functions are numbered over both modules, and each module's own code section counts for it.
 #[test]
 fn two_modules(rt: HostRuntime) -> Result<(), Fail> {
     let alloc = rt.alloc();
@@ -174,6 +174,8 @@ fn check_two<'a>(
     assert_eq!(rt; number, None);
     assert_eq!(rt; compilation.take_id(), u64::MAX);
     assert_eq!(rt; compilation.next_id(), 0);
+    let transform = AddressTransform::new(alloc, &compilation, StaticModuleIndex(0))?;
+    check_equal_starts(rt, &transform);
     let transform = AddressTransform::new(alloc, &compilation, StaticModuleIndex(1))?;
     let [first, second] = transform.map() else {
         panic!(rt; "the module has two functions");
@@ -181,6 +183,18 @@ fn check_two<'a>(
     assert_eq!(rt; (first.symbol, second.symbol), (Some(2), Some(3)));
     assert_eq!(rt; (first.wasm_start, first.wasm_end), (6, 16));
     Ok(())
+}
+
+// Of two functions that begin at 10 the last has its addresses; it has no symbol.
+fn check_equal_starts(rt: &impl Abort, transform: &AddressTransform) {
+    assert!(rt; transform.find_func_index(9).is_none());
+    let Some(last) = transform.find_func_index(10) else {
+        panic!(rt; "two functions begin at 10");
+    };
+    assert_eq!(rt; last, DefinedFuncIndex(1));
+    assert_eq!(rt; transform.func_range(last), (0, 40));
+    assert_eq!(rt; transform.func_source_range(last), (10, 20));
+    assert!(rt; transform.func_at(10).is_none());
 }
 
 // The functions 1 and 3 have one symbol; the functions 0 and 2 have none.
@@ -221,21 +235,4 @@ fn check_shared<'a>(
         panic!(rt; "two functions have one symbol");
     };
     assert_eq!(rt; (first, second), (1, 3));
-}
-
-// Of two functions that begin at one place, the last has its addresses.
-#[test]
-fn functions_of_equal_starts(rt: HostRuntime) -> Result<(), Fail> {
-    let alloc = rt.alloc();
-    let functions = two_functions(alloc, Some(SymbolId(7)), None)?;
-    let transform = AddressTransform::of_functions(alloc, 0, 1, 0, &functions)?;
-    assert!(rt; transform.find_func_index(9).is_none());
-    let Some(last) = transform.find_func_index(10) else {
-        panic!(rt; "two functions begin at 10");
-    };
-    assert_eq!(rt; last, DefinedFuncIndex(1));
-    assert_eq!(rt; transform.func_range(last), (0, 40));
-    assert_eq!(rt; transform.func_source_range(last), (10, 20));
-    assert!(rt; transform.func_at(10).is_none());
-    Ok(())
 }
