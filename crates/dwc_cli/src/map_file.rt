@@ -5,9 +5,6 @@ ghost use Rattle.dwc_clif.specs.AddressMaps.{entry_view, address_map_view};
 ghost use Rattle.dwc_cli.specs.MapFile.{target_of, text_of, u32_of, source_of, pair_of, all_items, list_of, address_map_of, map_module_of, map_value, map_of_bytes, have_counts, is_countable, IsMapFor};
 ghost use Rattle.dwc_cli.specs.MapViews.{target_view, names_view, address_map_with, module_view, map_file_view, told_sources, mapped_sources, HaveOneSource, ModulesHaveOneSource};
 
-#[cfg(test)]
-mod tests;
-
 use crate::json_fields::{
     architecture, items, member, members, pair, plain_text, pointer_bytes, source, symbol,
     whole_number,

@@ -5,9 +5,6 @@ ghost use Rattle.hex.specs.Hex.{encode_lower};
 ghost use Rattle.dwc_base.specs.Outputs.{target_view, relocation_view, section_view};
 ghost use Rattle.dwc_cli.specs.Printed.{printed, printed_section, printed_relocation, printed_target};
 
-#[cfg(test)]
-mod tests;
-
 use dwc_base::{DwarfSection, DwarfSectionReloc, DwarfSectionRelocTarget};
 use itoa::Integer;
 use std::alloc::{AllocError, Global};

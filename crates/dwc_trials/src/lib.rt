@@ -7,6 +7,8 @@ mod compilations;
 #[cfg(test)]
 mod line_tables;
 #[cfg(test)]
+mod map_files;
+#[cfg(test)]
 mod module_file;
 #[cfg(test)]
 mod old_versions;
@@ -14,6 +16,8 @@ mod old_versions;
 mod plain_program;
 #[cfg(test)]
 mod printed_text;
+#[cfg(test)]
+mod printing;
 #[cfg(test)]
 mod read_back;
 #[cfg(test)]

@@ -1,4 +1,7 @@
-use super::*;
+//! The text of sections that are made by hand.
+use dwc_base::{DwarfSection, DwarfSectionReloc, DwarfSectionRelocTarget};
+use dwc_cli::printed;
+use std::alloc::{AllocError, Global};
 use std::test::Fail;
 
 const ABBREV: [u8; 17] = [

@@ -1,13 +1,32 @@
-use super::*;
+//! Map files: the small one, and what takes its value away.
+use crate::module_file::FRONT;
+use dwc_base::{FilePos, SymbolId, split_wasm};
+use dwc_cli::{MapFile, map_of};
+use dwc_clif::Architecture;
+use std::alloc::Global;
 use std::test::Fail;
 
 // The map of a module of one function.
 const SMALL: &str =
     "{\"target\":{\"arch\":\"x86_64\"},\"names\":[\"set_mem\",\"resolve_mem\"],\"modules\":[{\"path\":\"/m/g.wasm\",\"functions\":[{\"symbol\":0,\"start\":22,\"end\":33,\"body_len\":30,\"map\":[[5,25],[8,null],[15,30],[23,null]]}]}]}";
 
+// Modules without a function, and with two.
+const NO_FUNCTION: &[u8] = b"\x00asm\x01\x00\x00\x00";
+
+const TWO_FUNCTIONS: &[u8] = b"\x00asm\x01\x00\x00\x00\x01\x04\x01\x60\x00\x00\x03\x03\x02\x00\x00";
+
+// What a map file says beside some modules.
+fn read_map(alloc: Global, text: &[u8], files: &[&[u8]]) -> Result<Option<MapFile>, Fail> {
+    let mut modules = Vec::new(alloc);
+    for file in files {
+        modules.push(split_wasm(alloc, file)?)?;
+    }
+    Ok(map_of(alloc, text, &modules, false)?)
+}
+
 #[test]
 fn reads_the_small_map(rt: HostRuntime) -> Result<(), Fail> {
-    let map = map_of_counts(rt.alloc(), SMALL.as_bytes(), &[1])?.ok_or("a map")?;
+    let map = read_map(rt.alloc(), SMALL.as_bytes(), &[FRONT])?.ok_or("a map")?;
     assert_eq!(rt; map.target.arch, Architecture::X86_64);
     assert_eq!(rt;
         (map.target.big_endian, map.target.pointer_bytes),
@@ -40,7 +59,7 @@ fn reads_the_small_map(rt: HostRuntime) -> Result<(), Fail> {
 fn has_value(rt: &HostRuntime, old: &str, new: &str) -> Result<bool, Fail> {
     let (front, back) = SMALL.split_once(old).ok_or("a piece of the text")?;
     let text = format!(in rt.alloc(); "{front}{new}{back}")?;
-    let map = map_of_counts(rt.alloc(), text.as_bytes(), &[1])?;
+    let map = read_map(rt.alloc(), text.as_bytes(), &[FRONT])?;
     Ok(map.is_some())
 }
 
@@ -136,18 +155,19 @@ fn has_a_value_exactly_where_each_field_allows_it(rt: HostRuntime) -> Result<(),
 #[test]
 fn refuses_what_is_no_json(rt: HostRuntime) -> Result<(), Fail> {
     for text in ["", "{", "[]", "null", "{}", "{\"target\":\"\\ud800\"}"] {
-        let map = map_of_counts(rt.alloc(), text.as_bytes(), &[])?;
+        let map = read_map(rt.alloc(), text.as_bytes(), &[])?;
         assert!(rt; map.is_none(), "{text}");
     }
-    assert!(rt; map_of_counts(rt.alloc(), b"{\"target\":\"\xFF\"}", &[])?.is_none());
+    assert!(rt; read_map(rt.alloc(), b"{\"target\":\"\xFF\"}", &[])?.is_none());
     Ok(())
 }
 
 #[test]
 fn asks_for_the_defined_functions(rt: HostRuntime) -> Result<(), Fail> {
-    assert!(rt; map_of_counts(rt.alloc(), SMALL.as_bytes(), &[])?.is_none());
-    assert!(rt; map_of_counts(rt.alloc(), SMALL.as_bytes(), &[0])?.is_none());
-    assert!(rt; map_of_counts(rt.alloc(), SMALL.as_bytes(), &[2])?.is_none());
-    assert!(rt; map_of_counts(rt.alloc(), SMALL.as_bytes(), &[1, 1])?.is_none());
+    for files in &OTHER_MODULES {
+        assert!(rt; read_map(rt.alloc(), SMALL.as_bytes(), files)?.is_none());
+    }
     Ok(())
 }
+
+const OTHER_MODULES: [&[&[u8]]; 4] = [&[], &[NO_FUNCTION], &[TWO_FUNCTIONS], &[FRONT, FRONT]];
