@@ -1,4 +1,5 @@
-//! Why bytes are not DWARF that is read.
+//! Why bytes are not DWARF that is read, and what can grow too large.
+use crate::SectionName;
 use std::alloc::AllocFailed;
 
 /// What was read where a fault was met.
@@ -35,6 +36,13 @@ pub enum Kind {
     AddressSize,
     /// A form of input that is not read yet.
     NotBuilt,
+}
+
+/// What can grow too large.
+#[derive(Clone, Copy, Debug, PartialEq, Eq)]
+pub enum Limit {
+    /// A section of more than 2^31 - 1 bytes.
+    Section(SectionName),
 }
 
 /// Why bytes do not spell what is read: they end too early, a number of variable length does not fit 64 bits, the grammar

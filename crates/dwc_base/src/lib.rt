@@ -18,7 +18,7 @@ mod wasm_sections;
 mod wasm_walk;
 
 pub use cursor::{Cursor, CursorFault};
-pub use faults::{Flaw, Kind, NotRead, What};
+pub use faults::{Flaw, Kind, Limit, NotRead, What};
 pub use output::{DwarfSection, DwarfSectionReloc, DwarfSectionRelocTarget};
 pub use records::{
     Address, DefinedFuncIndex, Encoding, Endian, FilePos, LineRow, MapFault, StaticModuleIndex,

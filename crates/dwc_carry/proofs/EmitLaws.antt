@@ -9,7 +9,7 @@ use Rattle.dwc_base.specs.Refusals.{first_refusal}
 use Rattle.dwc_addr.specs.Compilations.{CompilationValue}
 use Rattle.dwc_write.specs.declared.error.WriteError.{WriteError}
 use Rattle.dwc_write.specs.declared.error.WriteError.TheVariants as write
-use Rattle.dwc_write.specs.declared.error.Limit.TheVariants.{Section}
+use Rattle.dwc_base.specs.declared.faults.Limit.TheVariants.{Section}
 use Rattle.dwc_write.specs.GivenUnits.{GivenUnit, AreWritable}
 use Rattle.dwc_write.specs.ReadBack.{ReadsBack}
 use Rattle.dwc_write.specs.WidestGiven.{IsWideRefusal}

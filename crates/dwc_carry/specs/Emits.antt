@@ -10,7 +10,7 @@ use Rattle.dwc_base.specs.Carried.{Compilation, LinesCarried}
 use Rattle.dwc_base.specs.Refusals.{of_place, missing_file, first_refusal}
 use Rattle.dwc_base.specs.Widest.{widest}
 use Rattle.dwc_addr.specs.Compilations.{CompilationValue}
-use Rattle.dwc_write.specs.declared.error.Limit.TheVariants.{Section}
+use Rattle.dwc_base.specs.declared.faults.Limit.TheVariants.{Section}
 use Rattle.dwc_write.specs.Writers.{IsSound}
 use Rattle.dwc_carry.specs.declared.error.DebugError.{DebugError}
 use Rattle.dwc_carry.specs.declared.error.DebugError.TheVariants.{Read, Unsupported, InvalidFileIndex, BadAddressMap, TooLarge, OutOfMemory}

@@ -2,10 +2,10 @@
 ghost use Rattle.std.specs.Prelude.{◌≡◌};
 
 use dwc_addr::AddrError;
-use dwc_base::{Kind, MapFault, SectionName, What};
+use dwc_base::{Kind, Limit, MapFault, SectionName, What};
 use dwc_read::ReadFault;
 use dwc_tabs::TabFault;
-use dwc_write::{Limit, WriteError};
+use dwc_write::WriteError;
 use std::alloc::{AllocError, AllocFailed};
 use thiserror::Error;
 

@@ -36,7 +36,7 @@ use Rattle.dwc_addr.specs.declared.compilation_error.CompilationError.TheVariant
 use Rattle.dwc_addr.specs.declared.memory_offset.ModuleMemoryOffset.{ModuleMemoryOffset}
 use Rattle.dwc_addr.specs.Numbers.{AreDistinct}
 use Rattle.dwc_addr.specs.Compilations.{CompilationValue, IsCounted}
-use Rattle.dwc_write.specs.declared.error.Limit.TheVariants.{Section}
+use Rattle.dwc_base.specs.declared.faults.Limit.TheVariants.{Section}
 use Rattle.dwc_carry.specs.declared.error.DebugError.{DebugError}
 use Rattle.dwc_carry.specs.declared.error.DebugError.TheVariants as debug
 use Rattle.dwc_carry.specs.Emits as emits

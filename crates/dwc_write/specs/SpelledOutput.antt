@@ -12,7 +12,7 @@ use Rattle.dwc_write.specs.SpelledRelocations.{unit_relocations, info_relocation
 use Rattle.dwc_write.specs.GivenUnits.{GivenEntry, GivenUnit, size_of, first_uses, shapes_of, numbered, written_entries, written_lines, written_unit, written_units, written_tables}
 use Rattle.dwc_write.specs.Writers.{Writing, Refuses, appended, most_bytes}
 use Rattle.dwc_write.specs.declared.error.WriteError.TheVariants.{TooLarge, OutOfMemory}
-use Rattle.dwc_write.specs.declared.error.Limit.TheVariants.{Section}
+use Rattle.dwc_base.specs.declared.faults.Limit.TheVariants.{Section}
 
 -- a section, where it is not empty
 abbrev pub section_unless_empty : SectionName → List ℕ → List OutputRelocation → List OutputSection

@@ -10,7 +10,7 @@ use Rattle.dwc_base.specs.Sections.{section_text}
 use Rattle.dwc_base.specs.Outputs.{RelocationTarget, function, section, OutputRelocation, OutputSection}
 use Rattle.dwc_write.specs.declared.error.WriteError.{WriteError}
 use Rattle.dwc_write.specs.declared.error.WriteError.TheVariants.{TooLarge, OutOfMemory}
-use Rattle.dwc_write.specs.declared.error.Limit.TheVariants.{Section}
+use Rattle.dwc_base.specs.declared.faults.Limit.TheVariants.{Section}
 use Rattle.dwc_write.specs.Spelled.{number_bytes}
 
 -- the order of its numbers, its name, its bytes so far, and its relocations in the order of the calls

@@ -1,14 +1,7 @@
 //! Why something is not written.
-use dwc_base::SectionName;
+use dwc_base::Limit;
 use std::alloc::{AllocError, AllocFailed};
 use thiserror::Error;
-
-/// What can grow too large.
-#[derive(Clone, Copy, Debug, PartialEq, Eq)]
-pub enum Limit {
-    /// A section of more than 2^31 - 1 bytes.
-    Section(SectionName),
-}
 
 /// Why something is not written.
 #[derive(Debug, Drop, Error)]

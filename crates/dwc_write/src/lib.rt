@@ -15,7 +15,7 @@ mod units;
 mod writer;
 
 pub use attributes::AttributeValue;
-pub use error::{Limit, WriteError};
+pub use error::WriteError;
 pub use lines::LineProgram;
 pub use sections::write_sections;
 pub use units::{Dwarf, Unit, UnitEntryId, UnitId, UnitTable};

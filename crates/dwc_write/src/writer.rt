@@ -8,12 +8,12 @@ ghost use Rattle.dwc_write.specs.Spelled.{number_bytes, sized_bytes};
 ghost use Rattle.dwc_write.specs.Writers.{FitsField, IsClear, IsSize, IsSound, IsTooLarge, Writes, address_relocations, most_bytes, offset_relocation, overwritten};
 ghost use Rattle.dwc_write.specs.SpelledAddresses.{address_bytes};
 ghost use Rattle.dwc_write.specs.declared.error.WriteError.TheVariants.{TooLarge, OutOfMemory};
-ghost use Rattle.dwc_write.specs.declared.error.Limit.TheVariants.{Section};
+ghost use Rattle.dwc_base.specs.declared.faults.Limit.TheVariants.{Section};
 
+use crate::WriteError;
 use crate::append::{bytes_4, put_sized, replace, replace_sized};
-use crate::{Limit, WriteError};
 use dwc_base::{
-    Address, DwarfSection, DwarfSectionReloc, DwarfSectionRelocTarget, Endian, SectionName,
+    Address, DwarfSection, DwarfSectionReloc, DwarfSectionRelocTarget, Endian, Limit, SectionName,
 };
 use std::alloc::{AllocError, Global};
 use std::marker::Model;
