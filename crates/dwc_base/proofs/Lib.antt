@@ -37,3 +37,4 @@ pub mod FormCases
 pub mod LineCases
 pub mod LineVersion5
 pub mod StandardCodes
+pub mod TreesSmall

@@ -1,5 +1,5 @@
 -- Variants of the small module, and how long the sections of its output can be.
-use Rattle.std.proofs.Common.{◌≡◌, ℕ, List, [], ◌∷◌, ◌++◌, Some, None, true, false, refl}
+use Rattle.std.proofs.Common.{◌≡◌, ℕ, List, [], ◌∷◌, None, refl}
 use Rattle.std.specs.Prelude.{map}
 use Rattle.dwc_base.proofs.OnLiterals.{lines_on_literals}
 use Rattle.dwc_base.proofs.SmallModule.{abbreviations_small, info_small, line_small}

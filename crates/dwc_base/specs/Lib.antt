@@ -19,6 +19,12 @@ pub mod Carried
 pub mod Refusals
 pub mod BuiltForm
 pub mod Widest
+pub mod Trees
+pub mod Texts
+pub mod Indexed
+pub mod TreeReading
+pub mod Outcomes
+pub mod Forests
 pub mod Lebs
 pub mod Cursors
 pub mod Translations

@@ -1,0 +1,36 @@
+-- The tree of the small module, and that an output for it carries that tree and no other.
+use Rattle.std.proofs.Common.{◌≡◌, pos, [], ◌∷◌, Ok, Err, refl}
+use Rattle.dwc_base.proofs.OnLiterals.{trees_on_literals}
+use Rattle.dwc_base.proofs.CarriedSmall.{output_small, compilation_small, compilation_64}
+use Rattle.dwc_base.specs.declared.records.Endian.TheVariants.{Little}
+use Rattle.dwc_base.specs.declared.records.Address.TheVariants.{Symbol}
+use Rattle.dwc_base.specs.declared.faults.Kind.TheVariants.{Format64}
+use Rattle.dwc_base.specs.Sections.{unsupported}
+use Rattle.dwc_base.specs.Refusals.{of_place}
+use Rattle.dwc_base.specs.Trees.{Tree, address, constant, line_table}
+use Rattle.dwc_base.specs.TreeReading.{CarriesTrees}
+use Rattle.dwc_base.specs.Forests.{forest}
+
+-- a compile unit with its line table, and below it the subprogram of function 0, of length 30
+abbrev pub tree_small : Tree
+tree_small =
+    record { depth = 0; tag = 0x11; attributes = (0x10, line_table) ∷ [] }
+    ∷ record { depth = 1; tag = 0x2E; attributes = (0x11, address (Symbol 0 (pos 0))) ∷ (0x12, constant 0x0F 30) ∷ [] } ∷ []
+
+forest-small : forest compilation_small ≡ Ok (tree_small ∷ [])
+unfolding trees_on_literals
+forest-small = refl
+
+carries-small : CarriesTrees Little (tree_small ∷ []) output_small
+unfolding trees_on_literals
+carries-small = refl
+
+-- an output without sections says no trees
+carries-nothing : CarriesTrees Little [] []
+unfolding trees_on_literals
+carries-nothing = refl
+
+-- the 64-bit format is refused
+forest-64 : forest compilation_64 ≡ Err (of_place (unsupported Format64 0))
+unfolding trees_on_literals
+forest-64 = refl
