@@ -9,6 +9,8 @@ use crate::address_map::{AddressMap, GeneratedAddress, WasmAddress};
 pub struct FunctionMap {
     /// Its number among the functions of all modules, where it has a symbol.
     pub symbol: Option<usize>,
+    /// Where its code begins in its body: at 0.
+    pub offset: GeneratedAddress,
     /// How many bytes of code it has.
     pub len: GeneratedAddress,
     /// Where it begins in the wasm file.
@@ -20,6 +22,7 @@ pub struct FunctionMap {
     /// The places of the entries whose source lies below that of the entry before. Between two of them the sources do not
     /// fall.
     pub later_runs: Vec<usize>,
+    ghost begins: { offset ≡ 0 },
     ghost short: { len < 2 ^ 32 },
     ghost starts_low: { wasm_start < 2 ^ 32 },
     ghost split: { later_runs.items ≡ run_starts 0 0 (map recorded_view addresses.items) },

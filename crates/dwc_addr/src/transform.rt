@@ -199,6 +199,7 @@ fn function_map(
     let later_runs = later_runs(alloc, &addresses)?;
     Ok(FunctionMap {
         symbol: symbol.map(|_| number),
+        offset: 0,
         len: map.body_len as usize,
         wasm_start: start_offset(map.start_srcloc, code_section_offset),
         wasm_end: start_offset(map.end_srcloc, code_section_offset),

@@ -21,8 +21,8 @@ pub use cursor::{Cursor, CursorFault};
 pub use faults::{Flaw, Kind, Limit, NotRead, What};
 pub use output::{DwarfSection, DwarfSectionReloc, DwarfSectionRelocTarget};
 pub use records::{
-    Address, DefinedFuncIndex, Encoding, Endian, FilePos, LineRow, MapFault, StaticModuleIndex,
-    SymbolId, Tunables,
+    Address, DefinedFuncIndex, Encoding, Endian, FilePos, LineRow, MapFault, ModulePC,
+    StaticModuleIndex, SymbolId, Tunables,
 };
 pub use relocations::Relocations;
 pub use section_name::SectionName;

@@ -68,6 +68,26 @@ pub struct DefinedFuncIndex(pub u32);
 #[derive(Clone, Copy, Debug, PartialEq, Eq)]
 pub struct StaticModuleIndex(pub u32);
 
+/// A place in the native code of a module.
+#[derive(Clone, Copy, Debug, PartialEq, Eq)]
+pub struct ModulePC(u32);
+
+impl ModulePC {
+    /// The place at an offset.
+    pub fn new(offset: u32) -> ModulePC
+        ensures { result.0 ≡ offset }
+    {
+        ModulePC(offset)
+    }
+
+    /// Its offset.
+    pub fn raw(self) -> u32
+        ensures { result ≡ self.0 }
+    {
+        self.0
+    }
+}
+
 /// How code is generated and laid out.
 #[derive(Clone, Copy, Debug, PartialEq, Eq)]
 pub struct Tunables {
