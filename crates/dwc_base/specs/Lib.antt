@@ -29,3 +29,4 @@ pub mod Lebs
 pub mod Cursors
 pub mod Translations
 pub mod CodeOffsets
+pub mod FieldSizes

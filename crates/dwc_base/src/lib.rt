@@ -5,6 +5,7 @@
 pub mod constants;
 mod cursor;
 mod faults;
+pub mod fields;
 mod imports;
 mod leb128;
 mod output;

@@ -12,7 +12,7 @@ use crate::subprogram::{Subprogram, kept_subprogram};
 use dwc_addr::AddressTransform;
 use dwc_base::Kind;
 use dwc_base::constants::{DW_AT_stmt_list, DW_TAG_compile_unit};
-use dwc_read::{AttributeValue, Entries, Entry, Unit, Units};
+use dwc_read::{AttributeValue, Entries, Entry, Unit};
 use std::alloc::Global;
 
 /// What is read of the entries of a unit.
@@ -105,20 +105,17 @@ fn listed(
 /// Answers the first fault in the order of reading: that of the abbreviation table; `Unsupported` `NotBuilt` with the table's
 /// offset where it has a declaration of another shape; and of each entry in order that it is unreadable, or `Unsupported`
 /// `NotBuilt` with its offset where it has another shape.
-pub(crate) fn read_entries<'d>(
+pub(crate) fn read_entries(
     alloc: Global,
-    units: &mut Units<'d>,
-    unit: &Unit<'d>,
+    unit: &Unit<'_>,
     last: &mut Option<KnownTable>,
     transform: &AddressTransform,
 ) -> Result<UnitEntries, DebugError>
-    requires sections { unit.now.sections ≡ units.old.sections }
     requires known { IsKnown unit.now.sections last.old }
     ensures entries { GivesUnitEntries transform.now unit.now.sections unit.now.header result }
-    ensures units { units.new ≡ units.old }
     ensures known { IsKnown unit.now.sections last.new }
 {
-    let mut entries = units.entries(alloc, unit)?;
+    let mut entries = unit.entries(alloc)?;
     check_shapes(unit, entries.declarations(), last)?;
     listed(alloc, &mut entries, transform)
 }

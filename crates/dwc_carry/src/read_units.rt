@@ -30,7 +30,7 @@ pub(crate) fn read_units<'d>(
     let mut last = None;
     let mut read = Vec::new(alloc);
     while let Some(unit) = units.next_unit(alloc)? {
-        let entries = read_entries(alloc, &mut units, &unit, &mut last, transform)?;
+        let entries = read_entries(alloc, &unit, &mut last, transform)?;
         read.push(ReadUnit { unit, entries })?;
     }
     Ok(read)

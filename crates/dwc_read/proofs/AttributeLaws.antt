@@ -1,5 +1,5 @@
 -- The values of a declaration's attributes, one by one.
-use Rattle.std.proofs.Common.{◌≡◌, ℕ, zero, suc, ◌+◌, ◌<◌, ◌≤◌, refl, sym, ap, ◌∙◌, arith, add-one, drop-cons, List, [], ◌∷◌, map, drop, length, get_or, Ok, Err}
+use Rattle.std.proofs.Common.{◌≡◌, ℕ, zero, suc, ◌+◌, ◌<◌, ◌≤◌, refl, arith, add-one, drop-cons, List, [], ◌∷◌, map, drop, length, get_or, Ok, Err}
 use Rattle.dwc_base.specs.declared.faults.Flaw.{Flaw}
 use Rattle.dwc_base.specs.Reading.{Unread, Read, ◌>>=◌, seen_as}
 use Rattle.dwc_base.specs.Abbreviations as table

@@ -1,7 +1,6 @@
 -- Declarations by their codes, and by their places.
-use Rattle.std.proofs.Common.{◌≡◌, ℕ, zero, suc, ◌+◌, ◌<◌, ◌≤◌, refl, sym, ap, ◌∙◌, arith, append_assoc, length-append, List, [], ◌∷◌, ◌++◌, length, Some, None, Bool, true, false, cond, eqb, eq-eqb}
-use Rattle.std.specs.Prelude.{◌==◌, ◌&&◌, slice_get, option_and_then}
-use Rattle.std.specs.List.{find}
+use Rattle.std.proofs.Common.{◌≡◌, ℕ, zero, suc, ◌+◌, ◌<◌, refl, ap, ◌∙◌, arith, append_assoc, length-append, List, [], ◌∷◌, ◌++◌, length, Some, None, Bool, true, false, cond, eqb, eq-eqb}
+use Rattle.std.specs.Prelude.{◌&&◌, slice_get, option_and_then}
 use Rattle.std.proofs.lemmas.Bool.{ne_eqb, eqb-true}
 use Rattle.dwc_base.specs.Abbreviations.{Declaration, declaration_of}
 use Rattle.dwc_read.specs.Codes.{counts_from, place_from}

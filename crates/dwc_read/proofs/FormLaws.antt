@@ -1,5 +1,5 @@
 -- Codes that name no form, and codes behind `indirect`.
-use Rattle.std.proofs.Common.{◌≡◌, ℕ, suc, ◌<◌, Ok, ◌≤◌, refl, arith, List, [], ◌∷◌, Option, Some, None, Bool, true, false, cond, eqb, leb}
+use Rattle.std.proofs.Common.{◌≡◌, ℕ, suc, ◌<◌, Ok, ◌≤◌, refl, arith, List, [], ◌∷◌, None, Bool, true, false, cond, eqb, leb}
 use Rattle.std.proofs.lemmas.Bool.{ne_eqb, leb-true}
 use Rattle.dwc_base.specs.Reading.{Unread, coded, uleb_at}
 use Rattle.dwc_base.specs.Values.{form_of, forms, form_behind}

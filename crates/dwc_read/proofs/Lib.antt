@@ -5,7 +5,6 @@ pub mod NumberLaws
 pub mod CodeLaws
 pub mod TableLaws
 pub mod AttributeLaws
-pub mod HeaderLaws
 pub mod StepLaws
 pub mod EntriesLaws
 pub mod LoneLaws

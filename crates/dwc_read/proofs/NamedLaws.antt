@@ -1,13 +1,13 @@
 -- The first section of a name.
-use Rattle.std.proofs.Common.{◌≡◌, ℕ, ◌<◌, ◌^◌, List, [], ◌∷◌, length, map, refl, ap, ◌∙◌, lit<, arith, All, Bool, true, false, cond}
-use Rattle.std.specs.Prelude.{option_map, Option, Some, None}
+use Rattle.std.proofs.Common.{◌≡◌, ℕ, ◌<◌, ◌^◌, List, [], ◌∷◌, length, map, refl, ap, lit<, arith, All, Bool, true, false, cond}
+use Rattle.std.specs.Prelude.{option_map, Some}
 use Rattle.std.specs.Option.{unwrap_or}
 use Rattle.std.specs.List.{filter_map, cons_option}
 use Rattle.std.specs.Str.{bytes_eq}
 use Rattle.std.proofs.lemmas.List.Elements.{All-tail}
 use Rattle.dwc_base.specs.declared.output.DwarfSection.{DwarfSection}
 use Rattle.dwc_base.specs.declared.output.DwarfSectionReloc.{DwarfSectionReloc}
-use Rattle.dwc_base.specs.Outputs.{OutputSection, section_view, section_named, relocation_view, function_relocation, field_relocations}
+use Rattle.dwc_base.specs.Outputs.{section_view, section_named, relocation_view, function_relocation, field_relocations}
 use Rattle.dwc_read.specs.Named.{bytes_named}
 
 -- Where no section is too long, the one of a name is not.

@@ -1,14 +1,12 @@
 -- Numbers of three bytes, and fields past the end of their section.
-use Rattle.std.proofs.Common.{◌≡◌, ℕ, zero, suc, ◌<◌, ◌≤◌, refl, arith, List, [], ◌∷◌, length, get_or, drop, length-drop, Ok, Err, Some, None, true, false, IsTrue, Bool}
-use Rattle.std.specs.Prelude.{◌==◌, ◌||◌}
-use Rattle.std.proofs.lemmas.Bool.{lt-ltb}
+use Rattle.std.proofs.Common.{◌≡◌, ℕ, zero, suc, ◌<◌, ◌≤◌, refl, arith, List, [], ◌∷◌, length, get_or, drop, length-drop, None, IsTrue}
 use Rattle.dwc_base.specs.declared.records.Endian.{Endian}
 use Rattle.dwc_base.specs.declared.faults.Flaw.TheVariants.{EndsEarly}
 use Rattle.dwc_base.specs.declared.section_name.SectionName.{SectionName}
-use Rattle.dwc_base.specs.Reading.{Unread, number, bytes_at, number_at}
+use Rattle.dwc_base.specs.Reading.{number}
 use Rattle.dwc_base.specs.Sections.{Sections, section_from, address_at}
 use Rattle.dwc_base.proofs.Steps.{bytes_at-short, number_at-no_bytes}
-use Rattle.dwc_read.specs.FieldSizes.{is_field_size}
+use Rattle.dwc_base.specs.FieldSizes.{is_field_size}
 use Rattle.dwc_read.specs.Views.{field_at}
 
 -- the number that three bytes spell is that of their list

@@ -1,11 +1,10 @@
 pub mod Faults
 pub mod SectionsSeen
 pub mod Named
-pub mod FieldSizes
 pub mod Sizes
 pub mod Tables
 pub mod Codes
-pub mod LastTables
+pub mod UnitTables
 pub mod ValuesSeen
 pub mod Forms
 pub mod EntriesSeen

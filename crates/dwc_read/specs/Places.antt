@@ -1,9 +1,7 @@
 -- What contracts see of the places of entries, and what a step to the next entry says.
-use Rattle.std.specs.Prelude.{◌≡◌, ℕ, ◌+◌, ◌<◌, ◌^◌, length, Bool, true, false, Option, Some, None, Result, Ok, Err}
+use Rattle.std.specs.Prelude.{◌≡◌, ◌+◌, ◌<◌, ◌^◌, length, Bool, true, false, Option, Some, None, Result, Ok, Err}
 use Rattle.dwc_base.specs.Listing.{Listing, no_items, only_fault, with_first}
-use Rattle.dwc_base.specs.Sections.{Sections, Fault}
-use Rattle.dwc_base.specs.Abbreviations.{Declaration}
-use Rattle.dwc_base.specs.Units.{UnitHeader}
+use Rattle.dwc_base.specs.Sections.{Fault}
 use Rattle.dwc_base.specs.Entries as spec
 use Rattle.dwc_read.specs.declared.fault.ReadFault.{ReadFault}
 use Rattle.dwc_read.specs.declared.place.Place.{Place}

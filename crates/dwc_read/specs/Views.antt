@@ -1,9 +1,9 @@
 -- What contracts see of units.
-use Rattle.std.specs.Prelude.{ℕ, ◌<◌, List, take, drop, Option, Some, None, Result, Ok, Err}
+use Rattle.std.specs.Prelude.{ℕ, Option, Some, None, Ok, Err}
 use Rattle.std.specs.Coded.{Coded, codes}
 use Rattle.dwc_base.specs.declared.records.Address.{Address}
 use Rattle.dwc_base.specs.declared.section_name.SectionName.{SectionName}
-use Rattle.dwc_base.specs.Reading.{Unread, Read}
+use Rattle.dwc_base.specs.Reading.{Read}
 use Rattle.dwc_base.specs.Listing.{Listing}
 use Rattle.dwc_base.specs.Sections.{Sections, Fault, section_from, address_at}
 use Rattle.dwc_base.specs.Units.{UnitHeader}

@@ -3,7 +3,7 @@ ghost use Rattle.std.specs.Prelude.{◌≡◌, map, option_map, length, IsTrue};
 ghost use Rattle.dwc_base.specs.Cursors.{Gives, GivesOrMemory};
 ghost use Rattle.dwc_base.specs.Entries.{attributes_at};
 ghost use Rattle.dwc_base.specs.Values.{form_behind as code_behind, form_code_at, encoded_value_at, value_at};
-ghost use Rattle.dwc_read.specs.FieldSizes.{is_field_size};
+ghost use Rattle.dwc_base.specs.FieldSizes.{is_field_size};
 ghost use Rattle.dwc_read.specs.Tables.{spec_view};
 ghost use Rattle.dwc_read.specs.ValuesSeen.{value_view, attribute_view, first_value};
 

@@ -2,7 +2,7 @@
 ghost use Rattle.std.specs.Prelude.{◌≡◌, IsTrue};
 ghost use Rattle.dwc_base.specs.Cursors.{Gives, slice_bytes};
 ghost use Rattle.dwc_base.specs.Values.{block_at, formed_value_at};
-ghost use Rattle.dwc_read.specs.FieldSizes.{is_field_size};
+ghost use Rattle.dwc_base.specs.FieldSizes.{is_field_size};
 ghost use Rattle.dwc_read.specs.Sizes.{size_view};
 ghost use Rattle.dwc_read.specs.Forms.{form_view};
 ghost use Rattle.dwc_read.specs.Tables.{spec_view};
@@ -12,7 +12,8 @@ use crate::AttributeValue;
 use crate::abbreviation::AttributeSpec;
 use crate::form::Form;
 use crate::name::{block_value, constant_value, is_location_name, is_range_name, section_offset};
-use crate::number::{Size, address, number, sized_number};
+use crate::number::{Size, sized_number};
+use dwc_base::fields::{address, number};
 use dwc_base::{Cursor, Encoding, Flaw, Kind, Relocations};
 
 // A length, and that many bytes.

@@ -1,31 +1,16 @@
 //! Reads unit headers. (DWARF 4 and 5, section 7.5.1; initial lengths, sections 7.2.2 and 7.4.)
-ghost use Rattle.std.specs.Prelude.{◌≡◌, ◌<◌, ◌≤◌, ◌^◌, length, IfOk};
+ghost use Rattle.std.specs.Prelude.{◌≡◌, ◌<◌, ◌≤◌, ◌^◌, length};
 ghost use Rattle.dwc_base.specs.Cursors.{Gives, GivesLast};
 ghost use Rattle.dwc_base.specs.Listing.{GivesNext};
-ghost use Rattle.dwc_base.specs.Units.{sized_part_at, unit_header_at, unit_headers_from, header_to_4, header_of_5, dwo_id_at};
+ghost use Rattle.dwc_base.specs.Units.{unit_header_at, unit_headers_from, header_to_4, header_of_5, dwo_id_at};
 ghost use Rattle.dwc_read.specs.Headers.{header_view, seen_flaw};
 
 use crate::header::Header;
 use dwc_base::constants::{
     DW_UT_compile, DW_UT_skeleton, DW_UT_split_compile, DW_UT_split_type, DW_UT_type,
 };
+use dwc_base::fields::sized_part;
 use dwc_base::{Cursor, Flaw, Kind};
-
-// What has an initial length.
-#[tactic(auto, unfolding(dwc_base::specs::Units::sized_part_at))]
-fn sized_part<'d>(cursor: &mut Cursor<'d>) -> Result<Cursor<'d>, Flaw>
-    ensures part { Gives (λ x. x) (sized_part_at cursor.old) cursor.new result }
-    ensures short { IfOk result (λ part. length part.left < 2 ^ 32) }
-{
-    let size = cursor.u32()?;
-    if size == 0xFFFF_FFFF {
-        return Err(Flaw::Refused(Kind::Format64));
-    }
-    if size >= 0xFFFF_FFF0 {
-        return Err(Flaw::Malformed);
-    }
-    Ok(cursor.part(size as usize)?)
-}
 
 // The fields of the versions 2 to 4, behind the version.
 #[tactic(auto, unfolding(dwc_base::specs::Units::header_to_4))]

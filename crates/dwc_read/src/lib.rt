@@ -11,7 +11,6 @@ mod form;
 mod formed;
 mod header;
 mod headers;
-mod last_table;
 mod lone;
 mod name;
 mod number;
@@ -20,6 +19,7 @@ mod sections;
 mod steps;
 mod table;
 mod unit;
+mod unit_table;
 mod units;
 mod value;
 

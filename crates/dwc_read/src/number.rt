@@ -1,13 +1,12 @@
-//! Numbers and addresses of the forms.
-ghost use Rattle.std.specs.Prelude.{◌≡◌, ◌∷◌, [], IsTrue};
+//! Numbers of the forms.
+ghost use Rattle.std.specs.Prelude.{◌≡◌, ◌∷◌, []};
 ghost use Rattle.dwc_base.specs.Cursors.{Gives};
 ghost use Rattle.dwc_base.specs.Reading.{number_at, number as spelled};
-ghost use Rattle.dwc_base.specs.Sections.{address_at};
 ghost use Rattle.dwc_base.specs.Values.{sized_number_at};
-ghost use Rattle.dwc_read.specs.FieldSizes.{is_field_size};
 ghost use Rattle.dwc_read.specs.Sizes.{size_view};
 
-use dwc_base::{Address, Cursor, Endian, Flaw, Relocations};
+use dwc_base::fields::number;
+use dwc_base::{Cursor, Endian, Flaw};
 
 // How long a number in a value is: so many bytes, or of variable length.
 #[derive(Clone, Copy)]
@@ -18,41 +17,6 @@ pub enum Size {
     Four,
     Eight,
     Variable,
-}
-
-// A number of one, two, four or eight bytes.
-pub fn number(size: u8, cursor: &mut Cursor<'_>) -> Result<u64, Flaw>
-    requires { IsTrue (is_field_size size) }
-    ensures { Gives (λ x. x) (number_at size cursor.old) cursor.new result }
-{
-    if size == 1 {
-        let value = cursor.u8()?;
-        return Ok(u64::from(value));
-    }
-    if size == 2 {
-        let value = cursor.u16()?;
-        return Ok(u64::from(value));
-    }
-    if size == 4 {
-        let value = cursor.u32()?;
-        return Ok(u64::from(value));
-    }
-    Ok(cursor.u64()?)
-}
-
-// An address of one, two, four or eight bytes.
-#[tactic(auto, unfolding(dwc_base::specs::Sections::address_at))]
-pub fn address(
-    relocations: &Relocations<'_>,
-    size: u8,
-    cursor: &mut Cursor<'_>,
-) -> Result<Address, Flaw>
-    requires { IsTrue (is_field_size size) }
-    ensures { Gives (λ x. x) (address_at relocations.now size cursor.old) cursor.new result }
-{
-    let place = cursor.place();
-    let spelled = number(size, cursor)?;
-    Ok(relocations.value(place, size, spelled))
 }
 
 // A number of three bytes.

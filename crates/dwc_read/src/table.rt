@@ -2,15 +2,11 @@
 ghost use Rattle.std.specs.Prelude.{◌≡◌, ℕ, map, option_map, slice_get, IfOk};
 ghost use Rattle.std.specs.Ordering.{nat_cmp};
 ghost use Rattle.std.specs.BTreeMap.{get};
-ghost use Rattle.dwc_base.specs.Abbreviations.{declaration_of, abbreviation_table};
-ghost use Rattle.dwc_read.specs.Faults.{GivesOrFault};
+ghost use Rattle.dwc_base.specs.Abbreviations.{declaration_of};
 ghost use Rattle.dwc_read.specs.Codes.{counts_from, place_from};
 ghost use Rattle.dwc_read.specs.Tables.{declaration_view};
 
-use crate::abbreviation::{Declaration, declarations};
-use crate::fault::refusal;
-use crate::{ReadFault, Sections};
-use dwc_base::{Cursor, SectionName, What};
+use crate::abbreviation::Declaration;
 use std::alloc::{AllocError, Global};
 use std::collections::BTreeMap;
 use std::marker::Model;
@@ -114,31 +110,4 @@ fn places_of(
         places.insert(declarations[k].code, k)?;
     }
     Ok(places)
-}
-
-// The declarations of the table at an offset of `.debug_abbrev`, in their order.
-fn declarations_at(
-    alloc: Global,
-    sections: &Sections<'_>,
-    offset: u32,
-) -> Result<Vec<Declaration>, ReadFault>
-    ensures { GivesOrFault (λ v. map declaration_view v.items) (abbreviation_table sections.now offset) result }
-{
-    let bytes = sections.bytes(SectionName::Abbrev);
-    let mut cursor = Cursor::at(bytes, offset, sections.order());
-    match declarations(alloc, &mut cursor) {
-        Ok(declarations) => Ok(declarations),
-        Err(e) => {
-            let place = u64::from(offset);
-            Err(refusal(e, What::Abbreviation, SectionName::Abbrev, place))
-        }
-    }
-}
-
-// The table at an offset of `.debug_abbrev`.
-pub fn table_at(alloc: Global, sections: &Sections<'_>, offset: u32) -> Result<Table, ReadFault>
-    ensures { GivesOrFault (λ t. t) (abbreviation_table sections.now offset) result }
-{
-    let declarations = declarations_at(alloc, sections, offset)?;
-    Ok(Table::new(alloc, declarations)?)
 }

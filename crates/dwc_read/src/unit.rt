@@ -1,22 +1,25 @@
 //! A unit of `.debug_info`.
-ghost use Rattle.std.specs.Prelude.{◌≡◌, ◌<◌, ◌^◌, length, take, IsTrue};
-ghost use Rattle.dwc_read.specs.FieldSizes.{is_field_size};
+ghost use Rattle.std.specs.Prelude.{◌≡◌, ◌<◌, ◌^◌, length, take, IsTrue, IfOk};
+ghost use Rattle.dwc_base.specs.FieldSizes.{is_field_size};
 
+use crate::fault::reported;
 use crate::header::Header;
 use crate::lone::{lone_entry as read_alone, no_entry};
-use crate::number::address;
-use crate::table::table_at;
+use crate::table::Table;
+use crate::unit_table::{UnitTable, shared};
 use crate::{Entries, Entry, ReadFault, Sections};
-use dwc_base::{Address, Cursor, Encoding, Endian, Relocations, SectionName};
-use std::alloc::Global;
+use dwc_base::fields::address;
+use dwc_base::{Address, Cursor, Encoding, Endian, Relocations, SectionName, What};
+use std::alloc::{AllocError, Global};
 use std::marker::Model;
 use std::rc::Rc;
 
-/// A unit of `.debug_info`: its header, and the sections that it stands in.
+/// A unit of `.debug_info`: its header, its abbreviation table, and the sections that it stands in.
 #[derive(Drop)]
 pub struct Unit<'d> {
     sections: Sections<'d>,
     header: Header<'d>,
+    table: UnitTable,
     relocations: Relocations<'d>,
 }
 
@@ -25,6 +28,7 @@ impl<'d> Model for Unit<'d> {
     ghost use Rattle.dwc_base.specs.declared.section_name.SectionName.TheVariants.{Info};
     ghost use Rattle.dwc_read.specs.Views.{UnitView, unit_code};
     ghost use Rattle.dwc_read.specs.Headers.{header_view};
+    ghost use Rattle.dwc_read.specs.UnitTables.{IsTable};
 
     ghost Value = { UnitView };
 
@@ -32,38 +36,58 @@ impl<'d> Model for Unit<'d> {
 
     ghost view = { λ u. record { sections = u.sections; header = header_view u.header } };
 
-    ghost invariant = { λ u. u.relocations ≡ u.sections.relocations Info };
+    ghost invariant = { λ u. (u.relocations ≡ u.sections.relocations Info) × IsTable u.sections u.header.abbreviations u.table };
 }
 
 impl<'d> Unit<'d> {
     ghost use Rattle.dwc_base.specs.Abbreviations.{abbreviation_table};
     ghost use Rattle.dwc_read.specs.Headers.{header_view};
+    ghost use Rattle.dwc_read.specs.UnitTables.{IsTable};
     ghost use Rattle.dwc_read.specs.Views.{field_at};
     ghost use Rattle.dwc_base.specs.Entries.{entries as entries_of};
     ghost use Rattle.dwc_read.specs.Faults.{GivesOrFault};
     ghost use Rattle.dwc_read.specs.EntriesSeen.{StartsAt, entry_view};
     ghost use Rattle.dwc_read.specs.Lone.{lone_entry, unread_from};
 
-    // The unit of a header.
-    pub fn new(sections: Sections<'d>, header: Header<'d>) -> Unit<'d>
+    // The unit of a header, with what stands at the offset of its abbreviation table.
+    pub fn new(sections: Sections<'d>, header: Header<'d>, table: UnitTable) -> Unit<'d>
+        requires { IsTable sections header.abbreviations table }
         ensures { result ≡ record { sections = sections.entry; header = header_view header.entry } }
     {
         let relocations = sections.relocations(SectionName::Info);
         Unit {
             sections,
             header,
+            table,
             relocations,
         }
     }
 
     /// The same unit once more.
-    pub fn again(&self) -> Unit<'d>
-        ensures { result ≡ self.now }
+    ///
+    /// # Errors
+    /// `AllocError` for want of memory.
+    pub fn again(&self) -> Result<Unit<'d>, AllocError>
+        ensures { IfOk result (λ u. u ≡ self.now) }
     {
-        Unit {
+        Ok(Unit {
             sections: self.sections.again(),
             header: self.header.again(),
+            table: shared(&self.table)?,
             relocations: self.relocations.again(),
+        })
+    }
+
+    // The unit's abbreviation table.
+    fn table(&self) -> Result<Rc<Table>, ReadFault>
+        ensures { GivesOrFault (λ t. t.value) (abbreviation_table self.now.sections self.now.header.abbreviations) result }
+    {
+        match self.table.flaw {
+            None => Ok(self.table.table.clone()?),
+            Some(flaw) => {
+                let offset = u64::from(self.header.abbreviations);
+                Err(reported(flaw, What::Abbreviation, SectionName::Abbrev, offset))
+            }
         }
     }
 
@@ -150,7 +174,7 @@ impl<'d> Unit<'d> {
     pub fn root(&self, alloc: Global) -> Result<Entry<'d>, ReadFault>
         ensures { GivesOrFault entry_view (lone_entry self.now self.now.header.content) result }
     {
-        let table = table_at(alloc, &self.sections, self.header.abbreviations)?;
+        let table = self.table()?;
         read_alone(alloc, self, &table, self.content())
     }
 
@@ -162,7 +186,7 @@ impl<'d> Unit<'d> {
     pub fn entry_at(&self, alloc: Global, offset: u64) -> Result<Entry<'d>, ReadFault>
         ensures { GivesOrFault entry_view (lone_entry self.now (unread_from self.now offset)) result }
     {
-        let table = table_at(alloc, &self.sections, self.header.abbreviations)?;
+        let table = self.table()?;
         let bytes = front_of(self.sections.bytes(SectionName::Info), self.header.end);
         if offset >= bytes.len() as u64 {
             return Err(no_entry(offset));
@@ -178,8 +202,8 @@ impl<'d> Unit<'d> {
         ensures start { StartsAt (entries_of self.now.sections self.now.header) result }
         ensures table { GivesOrFault (λ es. es.table) (abbreviation_table self.now.sections self.now.header.abbreviations) result }
     {
-        let table = table_at(alloc, &self.sections, self.header.abbreviations)?;
-        Ok(Entries::of(alloc, self.again(), Rc::new(alloc, table)?))
+        let table = self.table()?;
+        Ok(Entries::of(alloc, self.again()?, table))
     }
 
     // The unit's version of DWARF.

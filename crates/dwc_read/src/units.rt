@@ -1,15 +1,12 @@
 //! The units of `.debug_info`, one after another.
 ghost use Rattle.std.specs.Prelude.{◌≡◌, IfOk, IfSome};
 ghost use Rattle.dwc_base.specs.Units.{unit_headers};
-ghost use Rattle.dwc_base.specs.Abbreviations.{abbreviation_table};
-ghost use Rattle.dwc_base.specs.Entries.{entries as entries_of};
-ghost use Rattle.dwc_read.specs.EntriesSeen.{StartsAt};
-ghost use Rattle.dwc_read.specs.Faults.{GivesNextOrMemory, GivesOrFault};
+ghost use Rattle.dwc_read.specs.Faults.{GivesNextOrMemory};
 
 use crate::fault::reported;
 use crate::headers::next_header;
-use crate::last_table::{LastTable, shared_table};
-use crate::{Entries, ReadFault, Sections, Unit};
+use crate::unit_table::{LastTable, shared_table};
+use crate::{ReadFault, Sections, Unit};
 use dwc_base::{Cursor, SectionName, What};
 use std::alloc::Global;
 use std::marker::Model;
@@ -31,7 +28,7 @@ impl<'d> Model for Units<'d> {
 
     ghost coded = { units_code };
 
-    ghost use Rattle.dwc_read.specs.LastTables.{IsLast};
+    ghost use Rattle.dwc_read.specs.UnitTables.{IsLast};
 
     ghost view = { λ u. record { sections = u.sections; headers = unit_headers_from u.headers } };
 
@@ -52,18 +49,26 @@ impl<'d> Units<'d> {
         }
     }
 
-    /// The next unit, if there is one. (DWARF 4 and 5, section 7.5.1.)
+    /// The next unit, if there is one, with its abbreviation table. (DWARF 4 and 5, sections 7.5.1 and 7.5.3.) The table that was
+    /// read last is kept, and is not read again for the units behind that share it.
     ///
     /// Answers `Read` with the unit's offset where no unit header stands there, and `Unsupported` with it where the unit is of
     /// the 64-bit format, of a version other than 2 to 5, a type unit, or of an address size other than 4 and 8. At the
-    /// end, and after one of these, each later call answers the same. After `OutOfMemory` the call can be made again.
+    /// end, and after one of these, each later call answers the same. After `OutOfMemory` the call can be made again. A table
+    /// that cannot be read is told where it is first used.
     pub fn next_unit(&mut self, alloc: Global) -> Result<Option<Unit<'d>>, ReadFault>
         ensures unit { GivesNextOrMemory (λ u. u.header) self.old.headers self.new.headers result }
         ensures sections { self.new.sections ≡ self.old.sections }
         ensures stands_in { IfOk result (λ o. IfSome o (λ u. u.sections ≡ self.old.sections)) }
     {
-        match next_header(&mut self.headers) {
-            Ok(Some(header)) => Ok(Some(Unit::new(self.sections.again(), header))),
+        let mut ahead = self.headers.fork();
+        match next_header(&mut ahead) {
+            Ok(Some(header)) => {
+                let offset = header.abbreviations;
+                let table = shared_table(alloc, &self.sections, offset, &mut self.last_table)?;
+                self.headers = ahead;
+                Ok(Some(Unit::new(self.sections.again(), header, table)))
+            }
             Ok(None) => Ok(None),
             Err(fault) => Err(reported(
                 fault.flaw,
@@ -72,19 +77,5 @@ impl<'d> Units<'d> {
                 fault.offset as u64,
             )),
         }
-    }
-    /// The entries of one of these units, in file order, as [`Unit::entries`] gives them. The abbreviation table that was read last
-    /// is kept, and is not read again for the units behind that share it.
-    ///
-    /// Answers `Read` with the table's offset where the unit's abbreviation table cannot be read.
-    pub fn entries(&mut self, alloc: Global, unit: &Unit<'d>) -> Result<Entries<'d>, ReadFault>
-        requires { unit.now.sections ≡ self.old.sections }
-        ensures start { StartsAt (entries_of unit.now.sections unit.now.header) result }
-        ensures table { GivesOrFault (λ es. es.table) (abbreviation_table unit.now.sections unit.now.header.abbreviations) result }
-        ensures unchanged { self.new ≡ self.old }
-    {
-        let offset = unit.abbreviations();
-        let table = shared_table(alloc, &self.sections, offset, &mut self.last_table)?;
-        Ok(Entries::of(alloc, unit.again(), table))
     }
 }

@@ -4,7 +4,7 @@ ghost use Rattle.std.specs.List.{list_any};
 ghost use Rattle.dwc_base.specs.Reading.{counted_at};
 ghost use Rattle.dwc_base.specs.LineHeaders.{entry_format_at, entry_formats_at, is_path as says_path, has_one_path as have_one_path, entry_count_at, directory_or as directory_read, with_field as field_added, entry_field_at, entry_fields_at, no_fields, file_entry_at, directory_entry_at, directories_of_5_at, files_of_5_at};
 ghost use Rattle.dwc_base.specs.Cursors.{Gives, GivesLast, GivesOrMemory, slice_bytes};
-ghost use Rattle.dwc_read.specs.FieldSizes.{is_field_size};
+ghost use Rattle.dwc_base.specs.FieldSizes.{is_field_size};
 ghost use Rattle.dwc_read.specs.ValuesSeen.{value_view};
 ghost use Rattle.dwc_tabs.specs.Headers.{file_view, format_view, source_view};
 

@@ -1,15 +1,15 @@
 //! The header of a line table. (DWARF 4 and 5, section 6.2.4.)
 ghost use Rattle.std.specs.Prelude.{◌≡◌, ◌+◌, ◌-◌, ◌<◌, IsTrue, IfOk, map, option_map, length, ℕ};
 ghost use Rattle.dwc_base.specs.Reading.{counted_at, items_at, number_at};
-ghost use Rattle.dwc_base.specs.Units.{sized_part_at};
 ghost use Rattle.dwc_base.specs.LineHeaders.{signed_byte, directory_at, file_behind, file_at, operations_at, line_names_at, line_fields_at, line_address_size_at, line_header_at};
 ghost use Rattle.dwc_base.specs.Cursors.{Gives, GivesLast, GivesOrMemory, GivesLastOrMemory, slice_bytes};
-ghost use Rattle.dwc_read.specs.FieldSizes.{is_field_size};
+ghost use Rattle.dwc_base.specs.FieldSizes.{is_field_size};
 ghost use Rattle.dwc_tabs.specs.Headers.{file_view, names_view, header_view, source_view};
 
 use crate::entries::{directories_of_5, files_of_5};
 use crate::parameters::Parameters;
 use crate::source::Source;
+use dwc_base::fields::sized_part;
 use dwc_base::{Cursor, Flaw, Kind, NotRead};
 use std::alloc::Global;
 
@@ -37,21 +37,6 @@ pub struct Header<'d> {
     pub directories: Vec<&'d [u8]>,
     pub files: Vec<LineFile<'d>>,
     pub program: Cursor<'d>,
-}
-
-// What has an initial length.
-#[tactic(auto, unfolding(dwc_base::specs::Units::sized_part_at))]
-fn sized_part<'d>(cursor: &mut Cursor<'d>) -> Result<Cursor<'d>, Flaw>
-    ensures { Gives (λ x. x) (sized_part_at cursor.old) cursor.new result }
-{
-    let size = cursor.u32()?;
-    if size == 0xFFFF_FFFF {
-        return Err(Flaw::Refused(Kind::Format64));
-    }
-    if size >= 0xFFFF_FFF0 {
-        return Err(Flaw::Malformed);
-    }
-    Ok(cursor.part(size as usize)?)
 }
 
 // A directory; an empty name ends the list.

@@ -1,10 +1,7 @@
 //! The instructions of a line program. (DWARF 4, section 6.2.5.)
-ghost use Rattle.std.specs.Prelude.{◌≡◌, ◌<◌, ◌-◌, IsTrue};
-ghost use Rattle.dwc_base.specs.Reading.{number_at};
-ghost use Rattle.dwc_base.specs.Sections.{address_at};
+ghost use Rattle.std.specs.Prelude.{◌≡◌, ◌<◌, ◌-◌};
 ghost use Rattle.dwc_base.specs.LineHeaders.{passed_operands_at, extended_at, extended_instruction_at, instruction_at};
 ghost use Rattle.dwc_base.specs.Cursors.{Gives};
-ghost use Rattle.dwc_read.specs.FieldSizes.{is_field_size};
 ghost use Rattle.dwc_tabs.specs.Headers.{program_header};
 ghost use Rattle.dwc_tabs.specs.Instructions.{instruction_view, standard_at};
 
@@ -16,6 +13,7 @@ use dwc_base::constants::{
     DW_LNS_fixed_advance_pc, DW_LNS_negate_stmt, DW_LNS_set_basic_block, DW_LNS_set_column,
     DW_LNS_set_epilogue_begin, DW_LNS_set_file, DW_LNS_set_isa, DW_LNS_set_prologue_end,
 };
+use dwc_base::fields::address;
 use dwc_base::{Address, Cursor, Flaw, Relocations};
 
 /// An instruction, with its operands.
@@ -135,7 +133,7 @@ fn extended_operands<'d>(
     match opcode {
         DW_LNE_end_sequence => Ok(Instruction::EndSequence),
         DW_LNE_set_address => {
-            let address = address(parameters.address_size, relocations, cursor)?;
+            let address = address(relocations, parameters.address_size, cursor)?;
             Ok(Instruction::SetAddress(address))
         }
         DW_LNE_define_file if parameters.version < 5 => {
@@ -144,42 +142,5 @@ fn extended_operands<'d>(
         }
         DW_LNE_set_discriminator => Ok(Instruction::SetDiscriminator(cursor.uleb()?)),
         _ => Ok(Instruction::Unknown),
-    }
-}
-
-// The address that a field of 1, 2, 4 or 8 bytes holds.
-#[tactic(auto, unfolding(dwc_base::specs::Sections::address_at))]
-fn address(
-    size: u8,
-    relocations: &Relocations<'_>,
-    cursor: &mut Cursor<'_>,
-) -> Result<Address, Flaw>
-    requires { IsTrue (is_field_size size) }
-    ensures { Gives (λ x. x) (address_at relocations.now size cursor.old) cursor.new result }
-{
-    let place = cursor.place();
-    let spelled = number(size, cursor)?;
-    Ok(relocations.value(place, size, spelled))
-}
-
-// A number of 1, 2, 4 or 8 bytes.
-fn number(size: u8, cursor: &mut Cursor<'_>) -> Result<u64, Flaw>
-    requires { IsTrue (is_field_size size) }
-    ensures { Gives (λ x. x) (number_at size cursor.old) cursor.new result }
-{
-    match size {
-        1 => {
-            let value = cursor.u8()?;
-            Ok(u64::from(value))
-        }
-        2 => {
-            let value = cursor.u16()?;
-            Ok(u64::from(value))
-        }
-        4 => {
-            let value = cursor.u32()?;
-            Ok(u64::from(value))
-        }
-        _ => Ok(cursor.u64()?),
     }
 }

@@ -1,6 +1,6 @@
 //! What the instructions of a line program depend on.
 ghost use Rattle.std.specs.Prelude.{◌≡◌, ◌-◌, ◌<◌, IsTrue, length};
-ghost use Rattle.dwc_read.specs.FieldSizes.{is_field_size};
+ghost use Rattle.dwc_base.specs.FieldSizes.{is_field_size};
 
 /// The fields of a header that the instructions depend on.
 #[derive(Clone, Copy)]

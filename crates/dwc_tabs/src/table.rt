@@ -4,7 +4,7 @@ ghost use Rattle.std.specs.List.{list_all};
 ghost use Rattle.dwc_base.specs.Cursors.{slice_bytes};
 ghost use Rattle.dwc_base.specs.LineFiles.{has_all_files, is_named as is_named_directory};
 ghost use Rattle.dwc_base.specs.LineRows.{line_table, numbered, file_numbered};
-ghost use Rattle.dwc_read.specs.FieldSizes.{is_field_size};
+ghost use Rattle.dwc_base.specs.FieldSizes.{is_field_size};
 ghost use Rattle.dwc_tabs.specs.Headers.{file_view, source_view};
 ghost use Rattle.dwc_tabs.specs.Programs.{GivesStep, are_within};
 ghost use Rattle.dwc_tabs.specs.Faults.{AnswersTable};

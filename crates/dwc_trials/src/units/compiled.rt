@@ -243,7 +243,7 @@ fn found(alloc: Global, file: &[u8], offset: u64) -> Result<(usize, u64, u16, u6
     let mut units = Units::new(Sections::of_module(&module));
     let unit = units.next_unit(alloc)?.ok_or("no unit")?;
     let entry = unit.entry_at(alloc, offset)?;
-    let mut entries = units.entries(alloc, &unit)?;
+    let mut entries = unit.entries(alloc)?;
     entries.advance()?;
     let first = entries.current().offset;
     let count = entries.declarations().len();

@@ -1,4 +1,4 @@
-use Rattle.std.proofs.Common.{ap, ◌∙◌, Ok, sym}
+use Rattle.std.proofs.Common.{ap, ◌∙◌, Ok}
 use Rattle.std.proofs.lemmas.Result.{err_from_is_err_and}
 use Rattle.dwc_base.proofs.Steps.{number_at-from_bytes, number_at-no_bytes}
 use Rattle.dwc_read.proofs.NumberLaws.{number-three}

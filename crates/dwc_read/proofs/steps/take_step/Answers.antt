@@ -1,11 +1,9 @@
-use Rattle.std.proofs.Common.{◌≡◌, ◌+◌, ◌<◌, ◌^◌, length, List, Bool, sym, ap, ◌∙◌, refl, arith, Ok, Some, None}
-use Rattle.std.specs.Prelude.{option_map, Option, pred}
-use Rattle.dwc_base.specs.declared.faults.What.TheVariants.{Entry as EntryRead}
-use Rattle.dwc_base.specs.declared.section_name.SectionName.TheVariants.{Info}
-use Rattle.dwc_base.specs.Entries.{EntryPlace, entry_at, entries_from, entry_place, entry_places_left}
+use Rattle.std.proofs.Common.{◌≡◌, ◌+◌, ◌<◌, ◌^◌, length, sym, ap, ◌∙◌, refl, arith, Ok, Some, None}
+use Rattle.std.specs.Prelude.{option_map, pred}
+use Rattle.dwc_base.specs.Entries.{entry_at, entries_from, entry_place, entry_places_left}
 use Rattle.dwc_base.proofs.EntryWalk.{entries_from-none, entries_from-end, entries_from-fault, entries_from-siblings, entries_from-entry}
 use Rattle.dwc_read.specs.EntriesSeen.{found_view}
-use Rattle.dwc_read.specs.Places.{place_view, IsShallow}
+use Rattle.dwc_read.specs.Places.{place_view}
 use Rattle.dwc_read.proofs.StepLaws.{entry_at-shrinks, entry_places_left-place, IsShallow-behind, IsShallow-siblings, Stays-at}
 use Rattle.dwc_read.proofs.steps.take_step.Goals as goal
 

@@ -1,4 +1,4 @@
-use Rattle.std.proofs.Common.{◌≡◌, ◌+◌, ◌-◌, List, map, sym, ap, ◌∙◌, arith, Option, Some, None}
+use Rattle.std.proofs.Common.{◌≡◌, ◌+◌, ◌-◌, List, map, sym, ap, ◌∙◌, arith, Some, None}
 use Rattle.std.specs.Prelude.{slice_get, option_and_then}
 use Rattle.dwc_base.specs.Abbreviations.{Declaration, declaration_of}
 use Rattle.dwc_read.specs.Codes.{place_from}

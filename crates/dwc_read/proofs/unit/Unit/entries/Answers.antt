@@ -8,5 +8,5 @@ pub returns-in_err-table-clause-start : goal.returns-in_err-table-clause-start
 returns-in_err-table-clause-start c =
     let p = err_from_is_err_and c.from_residual.result c.from_residual.ensures.1 in
     let unit = c.args.self.now in
-    let refused : Refuses (abbreviation_table unit.sections unit.header.abbreviations) (fault_seen c.in_err-table.field-0.0) = rw (← c.self.view_is) c.in_err-table.ensures in
+    let refused : Refuses (abbreviation_table unit.sections unit.header.abbreviations) (fault_seen c.in_err-table.field-0.0) = c.in_err-table.ensures in
     rw (p.1, p.2) (BeginsWith-table unit.sections unit.header _ refused)

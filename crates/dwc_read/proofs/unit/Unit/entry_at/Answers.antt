@@ -1,4 +1,4 @@
-use Rattle.std.proofs.Common.{◌≡◌, ◌≤◌, Ok, length, take, ap, sym, ◌∙◌, arith}
+use Rattle.std.proofs.Common.{◌≡◌, ◌≤◌, Ok, length, take, ap, arith}
 use Rattle.std.proofs.lemmas.Result.{err_from_is_err_and}
 use Rattle.dwc_base.specs.declared.section_name.SectionName.TheVariants.{Info}
 use Rattle.dwc_base.specs.Abbreviations.{abbreviation_table}
@@ -13,21 +13,21 @@ returns-in_err-table c =
     let p = err_from_is_err_and c.from_residual.result c.from_residual.ensures.1 in
     let unit = c.args.self.now in
     let table = abbreviation_table unit.sections unit.header.abbreviations in
-    let refused : Refuses table (fault_seen c.in_err-table.field-0.0) = rw (← c.self.view_is) c.in_err-table.ensures in
+    let refused : Refuses table (fault_seen c.in_err-table.field-0.0) = c.in_err-table.ensures in
     rw (p.1, p.2) (Refuses-along _ table _ (λ fault read. lone_entry-fault unit (unread_from unit c.args.offset) fault read) refused)
 
 pub returns-then-offset-bytes : goal.returns-then-offset-bytes
 returns-then-offset-bytes c =
     let unit = c.args.self.now in
-    let table : abbreviation_table unit.sections unit.header.abbreviations ≡ Ok c.in_ok-table.table = rw (← c.self.view_is) c.in_ok-table.ensures in
+    let table : abbreviation_table unit.sections unit.header.abbreviations ≡ Ok c.in_ok-table.table.value = c.in_ok-table.ensures in
     let bytes : c.front_of-bytes.result.now ≡ take unit.header.end (unit.sections.bytes Info) = rw (← c.self.view_is, ← c.bytes.ensures.bytes) c.front_of-bytes.ensures in
     let past : length (take unit.header.end (unit.sections.bytes Info)) ≤ c.args.offset = omega (arith, ap length bytes) in
-    rw (c.no_entry.ensures, lone_entry-table unit c.in_ok-table.table (unread_from unit c.args.offset) table) (entry_with-past unit c.in_ok-table.table c.args.offset past)
+    rw (c.no_entry.ensures, lone_entry-table unit c.in_ok-table.table.value (unread_from unit c.args.offset) table) (entry_with-past unit c.in_ok-table.table.value c.args.offset past)
 
 pub returns : goal.returns
 returns c =
     let unit = c.args.self.now in
-    let table : abbreviation_table unit.sections unit.header.abbreviations ≡ Ok c.in_ok-table.table = rw (← c.self.view_is) c.in_ok-table.ensures in
+    let table : abbreviation_table unit.sections unit.header.abbreviations ≡ Ok c.in_ok-table.table.value = c.in_ok-table.ensures in
     let bytes : c.front_of-bytes.result.now ≡ take unit.header.end (unit.sections.bytes Info) = rw (← c.self.view_is, ← c.bytes.ensures.bytes) c.front_of-bytes.ensures in
     let at : c.at-cursor.result ≡ unread_from unit c.args.offset = rw (← bytes, ← c.self.view_is, ← c.order.ensures) c.at-cursor.ensures in
-    rw (lone_entry-table unit c.in_ok-table.table (unread_from unit c.args.offset) table) (rw at at c.lone_entry.ensures)
+    rw (lone_entry-table unit c.in_ok-table.table.value (unread_from unit c.args.offset) table) (rw (at, c.deref.ensures) at c.lone_entry.ensures)

@@ -11,11 +11,11 @@ returns-in_err-table c =
     let p = err_from_is_err_and c.from_residual.result c.from_residual.ensures.1 in
     let unit = c.args.self.now in
     let table = abbreviation_table unit.sections unit.header.abbreviations in
-    let refused : Refuses table (fault_seen c.in_err-table.field-0.0) = rw (← c.self.view_is) c.in_err-table.ensures in
+    let refused : Refuses table (fault_seen c.in_err-table.field-0.0) = c.in_err-table.ensures in
     rw (p.1, p.2) (Refuses-along _ table _ (λ fault read. lone_entry-fault unit unit.header.content fault read) refused)
 
 pub returns : goal.returns
 returns c =
     let unit = c.args.self.now in
-    let table : abbreviation_table unit.sections unit.header.abbreviations ≡ Ok c.in_ok-table.table = rw (← c.self.view_is) c.in_ok-table.ensures in
-    rw (lone_entry-table unit c.in_ok-table.table unit.header.content table) (rw c.content.ensures.content at c.lone_entry.ensures)
+    let table : abbreviation_table unit.sections unit.header.abbreviations ≡ Ok c.in_ok-table.table.value = c.in_ok-table.ensures in
+    rw (lone_entry-table unit c.in_ok-table.table.value unit.header.content table) (rw (c.content.ensures.content, c.deref.ensures) at c.lone_entry.ensures)
