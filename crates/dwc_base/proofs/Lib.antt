@@ -38,3 +38,4 @@ pub mod LineCases
 pub mod LineVersion5
 pub mod StandardCodes
 pub mod TreesSmall
+pub mod FieldCases

@@ -30,3 +30,5 @@ pub mod Cursors
 pub mod Translations
 pub mod CodeOffsets
 pub mod FieldSizes
+pub mod Fields
+pub mod OutputForm

@@ -1,0 +1,83 @@
+-- The fields of outputs, and their relocations.
+use Rattle.std.proofs.Common.{◌≡◌, ◌≤◌, ◌+◌, pos, [], ◌∷◌, get_or, refl, sym, lit≤, arith}
+use Rattle.std.specs.Prelude.{codes, drop, AllPairs}
+use Rattle.std.proofs.lemmas.List.Elements.{All-cons, All-nil}
+use Rattle.std.proofs.lemmas.List.Kept.{AllPairs-cons}
+use Rattle.dwc_base.proofs.OnLiterals.{lines_on_literals}
+use Rattle.dwc_base.proofs.Readings.{three_sections}
+use Rattle.dwc_base.proofs.CarriedSmall.{output_small}
+use Rattle.dwc_base.specs.declared.records.Endian.TheVariants.{Little}
+use Rattle.dwc_base.specs.declared.records.Address.TheVariants.{Constant, Symbol}
+use Rattle.dwc_base.specs.declared.section_name.SectionName.TheVariants.{Abbrev, Info, Line, LineStr, Loc, Ranges, Str}
+use Rattle.dwc_base.specs.Sections.{Sections}
+use Rattle.dwc_base.specs.Outputs.{OutputRelocation, OutputSection, function, section, output_sections}
+use Rattle.dwc_base.specs.Fields.{an_address, offset_in, fields_at, fields_of_entry, fields_of_instructions, fields_of_line_table, fields_of_section, relocations_of_fields, IsRelocated, AreRelocated}
+
+-- the fields of an output, its line table's in a section of its own
+fields-info : fields_of_section (output_sections Little output_small) Info ≡
+    record { offset = 6; size = 4; held = offset_in Abbrev 0 } ∷ record { offset = 12; size = 4; held = offset_in Line 0 } ∷ record { offset = 17; size = 8; held = an_address (Symbol 0 (pos 0)) } ∷ []
+unfolding lines_on_literals fields_of_section fields_at fields_of_entry
+fields-info = refl
+
+fields-line : fields_of_section (output_sections Little output_small) Line ≡ record { offset = 40; size = 8; held = an_address (Symbol 0 (pos 0)) } ∷ []
+unfolding lines_on_literals fields_of_section fields_of_line_table fields_of_instructions
+fields-line = refl
+
+-- One entry with the attributes low_pc (addr), name (strp), comp_dir (line_strp), ranges and location (sec_offset), import
+-- (ref_addr), sibling (ref4, which is no such field) and external (flag), in a unit of version 4 with addresses of 4 bytes.
+abbrev sections_forms : Sections
+sections_forms = three_sections
+    (0x01 ∷ 0x11 ∷ 0x00 ∷ 0x11 ∷ 0x01 ∷ 0x03 ∷ 0x0E ∷ 0x1B ∷ 0x1F ∷ 0x55 ∷ 0x17 ∷ 0x02 ∷ 0x17 ∷ 0x18 ∷ 0x10 ∷ 0x01 ∷ 0x13 ∷ 0x3F ∷ 0x0C ∷ 0x00 ∷ 0x00 ∷ 0x00 ∷ [])
+    (0x25 ∷ 0x00 ∷ 0x00 ∷ 0x00 ∷ 0x04 ∷ 0x00 ∷ 0x00 ∷ 0x00 ∷ 0x00 ∷ 0x00 ∷ 0x04 ∷ 0x01
+    ∷ 0x07 ∷ 0x00 ∷ 0x00 ∷ 0x00 ∷ 0x08 ∷ 0x00 ∷ 0x00 ∷ 0x00 ∷ 0x09 ∷ 0x00 ∷ 0x00 ∷ 0x00 ∷ 0x0A ∷ 0x00 ∷ 0x00 ∷ 0x00 ∷ 0x0B ∷ 0x00 ∷ 0x00 ∷ 0x00 ∷ 0x0C ∷ 0x00 ∷ 0x00 ∷ 0x00 ∷ 0x0D ∷ 0x00 ∷ 0x00 ∷ 0x00 ∷ 0x01 ∷ [])
+    []
+
+fields-forms : fields_of_section sections_forms Info ≡
+    record { offset = 6; size = 4; held = offset_in Abbrev 0 } ∷ record { offset = 12; size = 4; held = an_address (Constant 7) } ∷ record { offset = 16; size = 4; held = offset_in Str 8 } ∷ record { offset = 20; size = 4; held = offset_in LineStr 9 }
+    ∷ record { offset = 24; size = 4; held = offset_in Ranges 10 } ∷ record { offset = 28; size = 4; held = offset_in Loc 11 } ∷ record { offset = 32; size = 4; held = offset_in Info 12 } ∷ []
+unfolding lines_on_literals fields_of_section fields_at fields_of_entry
+fields-forms = refl
+
+-- a number that stands where an address can has no relocation
+relocations-forms : relocations_of_fields (record { offset = 12; size = 4; held = an_address (Constant 7) } ∷ record { offset = 16; size = 4; held = offset_in Str 8 } ∷ record { offset = 20; size = 4; held = an_address (Symbol 3 (pos 9)) } ∷ []) ≡
+    record { offset = 16; size = 4; target = section (codes ".debug_str"); addend = pos 8 } ∷ record { offset = 20; size = 4; target = function 3; addend = pos 9 } ∷ []
+relocations-forms = refl
+
+-- the small output has the relocations of its fields
+abbrev of_table : OutputRelocation
+of_table = record { offset = 6; size = 4; target = section (codes ".debug_abbrev"); addend = pos 0 }
+
+abbrev of_lines : OutputRelocation
+of_lines = record { offset = 12; size = 4; target = section (codes ".debug_line"); addend = pos 0 }
+
+abbrev of_function : OutputRelocation
+of_function = record { offset = 17; size = 8; target = function 0; addend = pos 0 }
+
+relocations-info : relocations_of_fields (fields_of_section (output_sections Little output_small) Info) ≡ of_table ∷ of_lines ∷ of_function ∷ []
+unfolding lines_on_literals fields_of_section fields_at fields_of_entry
+relocations-info = refl
+
+abbrev Behind : OutputRelocation → OutputRelocation → Type 0
+Behind a b = a.offset + a.size ≤ b.offset
+
+none-behind : AllPairs Behind []
+none-behind i j d less within = absurd (omega arith)
+
+one-behind : (r : OutputRelocation) → AllPairs Behind (r ∷ [])
+one-behind r = AllPairs-cons Behind r [] (All-nil (Behind r)) none-behind
+
+rising-info : AllPairs Behind (of_table ∷ of_lines ∷ of_function ∷ [])
+rising-info =
+    AllPairs-cons Behind of_table (of_lines ∷ of_function ∷ []) (All-cons (Behind of_table) of_lines (of_function ∷ []) (lit≤ tt) (All-cons (Behind of_table) of_function [] (lit≤ tt) (All-nil (Behind of_table))))
+    (AllPairs-cons Behind of_lines (of_function ∷ []) (All-cons (Behind of_lines) of_function [] (lit≤ tt) (All-nil (Behind of_lines))) (one-behind of_function))
+
+abbrev no_section : OutputSection
+no_section = record { name = []; body = []; relocations = [] }
+
+related-small : AreRelocated Little output_small
+unfolding lines_on_literals fields_of_section fields_of_line_table fields_of_instructions
+related-small =
+    let R : OutputSection → Type 0 = IsRelocated (output_sections Little output_small) in
+    All-cons R (get_or output_small 0 no_section) (drop 1 output_small) (record { name = Abbrev; named = refl; fields = refl; rising = none-behind })
+    (All-cons R (get_or output_small 1 no_section) (drop 2 output_small) (record { name = Info; named = refl; fields = sym relocations-info; rising = rising-info })
+    (All-cons R (get_or output_small 2 no_section) [] (record { name = Line; named = refl; fields = refl; rising = one-behind _ }) (All-nil R)))
