@@ -26,5 +26,7 @@ pub mod EntriesLaws
 pub mod UnitBytes
 pub mod OutputLaws
 pub mod ReadBackLaws
+pub mod ReadTrees
+pub mod OutputForms
 pub mod WidestLaws
 pub mod WideLaws

@@ -442,6 +442,7 @@ module _ (s : Sections) (size : ℕ) where
       let others = All-back (λ p. line_table s size p.offset ≡ Ok (read_table s.order size p)) (placed_tables s.order size l (written_lines u.lines)) _ (subst P split read) in (
         record {
           line_offset = l;
+          version = refl;
           address_size = sym here.size;
           entries = places-contents s.order size (shaped unit.entries) (place + header_length) ∙ contents-given l (shapes_in u) u.entries;
           lines = unit-lines place a l u (written_tables us) here.size (All-head FitsGivenUnit u us fits) (All-head (λ (v : GivenUnit). FitsLines v.lines) u us lines) here read;

@@ -16,3 +16,4 @@ pub mod SectionViews
 pub mod ReadBack
 pub mod SmallGiven
 pub mod WidestGiven
+pub mod GivenTrees

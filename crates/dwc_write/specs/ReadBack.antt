@@ -52,9 +52,10 @@ given_contents line_offset e = record { depth = e.depth; tag = e.tag; attributes
 
 -- ---- units
 
--- A unit that is read is the one that was given: its entries, and the sequences of its line program.
+-- A unit that is read is the one that was given, in version 4: its entries, and the sequences of its line program.
 pub record IsReadUnit (s : Sections) (u : GivenUnit) (v : Unit) : Type 0 where
   pub line_offset : ℕ
+  pub version : v.header.version ≡ 4
   pub address_size : v.header.address_size ≡ u.address_size
   pub entries : map read_contents v.entries ≡ map (given_contents line_offset) u.entries
   pub lines : segments_of_unit s v ≡ Ok (given_segments u.lines)

@@ -1,10 +1,14 @@
 //! The sections of an output.
-ghost use Rattle.std.specs.Prelude.{◌≡◌, ◌++◌, OnOk, IfOk, IfErr, IsOkUnless, map};
+ghost use Rattle.std.specs.Prelude.{◌≡◌, ℕ, ◌++◌, OnOk, IfOk, IfErr, IsOkUnless, map};
 ghost use Rattle.dwc_base.specs.declared.records.Endian.{Endian};
 ghost use Rattle.std.specs.List.{All};
-ghost use Rattle.dwc_base.specs.Outputs.{section_view};
+ghost use Rattle.dwc_base.specs.Carried.{units};
+ghost use Rattle.dwc_base.specs.OutputForm.{HasDistinctNames, HaveTargetForm};
+ghost use Rattle.dwc_base.specs.Outputs.{output_sections, section_view};
+ghost use Rattle.dwc_base.specs.TreeReading.{CarriesTrees};
 ghost use Rattle.dwc_write.specs.declared.error.WriteError.TheVariants.{OutOfMemory};
 ghost use Rattle.dwc_write.specs.GivenLines.{FitsLines};
+ghost use Rattle.dwc_write.specs.GivenTrees.{given_tree};
 ghost use Rattle.dwc_write.specs.GivenUnits.{AreWritable, FitsGivenUnit};
 ghost use Rattle.dwc_write.specs.SpelledOutput.{IsRefusal, WritesOne, all_units, section_unless_empty, sections_of, spelled_sections};
 ghost use Rattle.dwc_write.specs.SpelledRelocations.{DoRelocationsRise};
@@ -40,6 +44,9 @@ pub fn write_sections(
     ensures sound { IfOk result (λ s. All (IsSound order) (map section_view s.items)) }
     ensures rise { IfOk result (λ s. All DoRelocationsRise (map section_view s.items)) }
     ensures read { IfOk result (λ s. ReadsBack order dwarf.units.units.items (map section_view s.items)) }
+    ensures trees { IfOk result (λ s. CarriesTrees order (map given_tree dwarf.units.units.items) (map section_view s.items)) }
+    ensures form { IfOk result (λ s. (size : ℕ) → All (λ u. u.address_size ≡ size) dwarf.units.units.items → HaveTargetForm size (units (output_sections order (map section_view s.items))).items) }
+    ensures names { IfOk result (λ s. HasDistinctNames (map section_view s.items)) }
     ensures large { IfErr result (λ e. IsRefusal order dwarf.units.units.items e) }
     ensures widest { IfErr result (λ e. IsWideRefusal dwarf.units.units.items e) }
 {

@@ -1,12 +1,15 @@
-use Rattle.std.proofs.Common.{ap, sym, subst, ◌∙◌, List}
+use Rattle.std.proofs.Common.{ap, sym, subst, ◌∙◌, List, map}
 use Rattle.std.specs.List.{All}
-use Rattle.dwc_base.specs.Outputs.{OutputSection}
+use Rattle.dwc_base.specs.OutputForm.{HasDistinctNames}
+use Rattle.dwc_base.specs.Outputs.{OutputSection, section_view}
 use Rattle.dwc_write.specs.ReadBack.{ReadsBack}
 use Rattle.dwc_write.specs.SpelledOutput.{WrittenSections, sections_of}
 use Rattle.dwc_write.specs.SpelledRelocations.{DoRelocationsRise}
 use Rattle.dwc_write.specs.Writers.{IsSound}
 use Rattle.dwc_write.proofs.OutputLaws.{all-appended, if-ok-both, if-ok-weaker, output-sections, sections-rise}
+use Rattle.dwc_write.proofs.OutputForms.{distinct-names}
 use Rattle.dwc_write.proofs.ReadBackLaws.{reads-back}
+use Rattle.dwc_write.proofs.ReadTrees.{carries-trees, target-form}
 use Rattle.dwc_write.proofs.sections.write_sections.Goals as goal
 
 pub returns-clause-sections : goal.returns-clause-sections
@@ -42,3 +45,16 @@ returns-clause-rise c =
     if-ok-weaker c.gather.result _ _
     (λ s is. subst P (sym (is ∙ ap sections_of read ∙ output-sections c.args.order _ c.requires)) (sections-rise c.args.order c.args.dwarf.units.units.items))
     c.gather.ensures.sections
+
+pub returns-clause-trees : goal.returns-clause-trees
+returns-clause-trees c =
+    let fits = rw (c.deref.ensures.value) at c.in_ok-sections.ensures.fits in
+    if-ok-weaker c.gather.result _ _ (λ s back. carries-trees c.args.order c.args.dwarf.units.units.items (map section_view s.items) fits back) (returns-clause-read c)
+
+pub returns-clause-form : goal.returns-clause-form
+returns-clause-form c =
+    if-ok-weaker c.gather.result _ _ (λ s back size sized. target-form c.args.order c.args.dwarf.units.units.items (map section_view s.items) size sized back) (returns-clause-read c)
+
+pub returns-clause-names : goal.returns-clause-names
+returns-clause-names c =
+    if-ok-weaker c.gather.result _ _ (λ s is. subst HasDistinctNames (sym is) (distinct-names c.args.order c.args.dwarf.units.units.items)) (returns-clause-sections c)

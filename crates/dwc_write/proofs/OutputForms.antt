@@ -1,0 +1,52 @@
+-- What holds of each section that is written, and that their names are distinct: `distinct-names`.
+use Rattle.std.proofs.Common.{◌≡◌, ◌≢◌, ◌<◌, ℕ, List, [], ◌∷◌, ◌++◌, ap, get_or, lit<, refl, arith}
+use Rattle.std.specs.List.{All}
+use Rattle.std.proofs.lemmas.List.Elements.{All-cons, All-nil}
+use Rattle.std.proofs.lemmas.List.Kept.{AllPairs-cons}
+use Rattle.dwc_base.specs.declared.records.Endian.{Endian}
+use Rattle.dwc_base.specs.declared.section_name.SectionName.{SectionName}
+use Rattle.dwc_base.specs.declared.section_name.SectionName.TheVariants.{Abbrev, Info, Line}
+use Rattle.dwc_base.specs.Sections.{section_text}
+use Rattle.dwc_base.specs.Outputs.{OutputRelocation, OutputSection}
+use Rattle.dwc_base.specs.OutputForm.{HasDistinctNames}
+use Rattle.dwc_write.specs.GivenUnits.{GivenUnit}
+use Rattle.dwc_write.specs.SpelledOutput.{section_unless_empty, spelled_sections}
+
+-- what holds of a section that is written, and of the others
+pub all-written : (P : OutputSection → Type 0) (name : SectionName) (bytes : List ℕ) (rs : List OutputRelocation) (others : List OutputSection)
+    → P (record { name = section_text name; body = bytes; relocations = rs }) → All P others → All P (section_unless_empty name bytes rs ++ others)
+all-written P name [] rs others here rest = rest
+all-written P name (b ∷ bytes) rs others here rest = All-cons P _ others here rest
+
+pub last-written : (P : OutputSection → Type 0) (name : SectionName) (bytes : List ℕ) (rs : List OutputRelocation) → P (record { name = section_text name; body = bytes; relocations = rs }) → All P (section_unless_empty name bytes rs)
+last-written P name [] rs here = All-nil P
+last-written P name (b ∷ bytes) rs here = All-cons P _ [] here (All-nil P)
+
+abbrev Differ : OutputSection → OutputSection → Type 0
+Differ x y = x.name ≢ y.name
+
+none-differ : HasDistinctNames []
+none-differ i j d less within = absurd (omega arith)
+
+distinct-written : (name : SectionName) (bytes : List ℕ) (rs : List OutputRelocation) (others : List OutputSection) → All (λ t. section_text name ≢ t.name) others → HasDistinctNames others → HasDistinctNames (section_unless_empty name bytes rs ++ others)
+distinct-written name [] rs others here rest = rest
+distinct-written name (b ∷ bytes) rs others here rest = AllPairs-cons Differ _ others here rest
+
+distinct-last : (name : SectionName) (bytes : List ℕ) (rs : List OutputRelocation) → HasDistinctNames (section_unless_empty name bytes rs)
+distinct-last name [] rs = none-differ
+distinct-last name (b ∷ bytes) rs = AllPairs-cons Differ _ [] (All-nil _) none-differ
+
+-- the letters behind "debug_" differ
+other-letter : (a b : SectionName) (m n : ℕ) → get_or (section_text a) 7 0 ≡ m → get_or (section_text b) 7 0 ≡ n → m < n → section_text a ≢ section_text b
+other-letter a b m n of_a of_b less e = absurd (omega (arith, of_a, of_b, less, ap (λ xs. get_or xs 7 0) e))
+
+-- Abbreviations, entries and line tables have names of their own.
+distinct-three : (x y z : List ℕ) (q r : List OutputRelocation) → HasDistinctNames (section_unless_empty Abbrev x [] ++ (section_unless_empty Info y q ++ section_unless_empty Line z r))
+distinct-three x y z q r =
+    let lines = section_unless_empty Line z r in
+    distinct-written Abbrev x [] (section_unless_empty Info y q ++ lines)
+    (all-written (λ t. section_text Abbrev ≢ t.name) Info y q lines (other-letter Abbrev Info 97 105 refl refl (lit< tt)) (last-written (λ t. section_text Abbrev ≢ t.name) Line z r (other-letter Abbrev Line 97 108 refl refl (lit< tt))))
+    (distinct-written Info y q lines (last-written (λ t. section_text Info ≢ t.name) Line z r (other-letter Info Line 105 108 refl refl (lit< tt))) (distinct-last Line z r))
+
+pub distinct-names : (order : Endian) (us : List GivenUnit) → HasDistinctNames (spelled_sections order us)
+distinct-names order us = distinct-three _ _ _ _ _
