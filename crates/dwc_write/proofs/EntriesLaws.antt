@@ -34,7 +34,7 @@ same_flag-self false = refl
 pub same_shape-self : (s : EntryShape) → same_shape s s ≡ true
 same_shape-self s = rw (eq-eqb s.tag s.tag refl, same_flag-self s.has_children) (same_forms-self s.attributes)
 
-place-most : (s : EntryShape) (known : List EntryShape) → place_in s known ≤ length known
+pub place-most : (s : EntryShape) (known : List EntryShape) → place_in s known ≤ length known
 place-most s [] = omega arith
 place-most s (t ∷ ts) = go (same_shape t s) (place-most s ts)
   where

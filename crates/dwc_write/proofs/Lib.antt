@@ -20,6 +20,7 @@ pub mod UnitLaws
 pub mod WritesLaws
 pub mod SequenceLaws
 pub mod ShapeLaws
+pub mod ShapeSets
 pub mod ReadRelocations
 pub mod TableLaws
 pub mod EntriesLaws

@@ -1,6 +1,6 @@
 -- Shapes of entries as code keeps them, and the tables that declare them.
-use Rattle.std.proofs.Common.{◌≡◌, ℕ, zero, suc, ◌<◌, ◌≤◌, refl, sym, ap, ◌∙◌, arith, List, [], ◌∷◌, ◌++◌, append_assoc, length, map, drop, get_or, Bool, true, false, eqb, ltb}
-use Rattle.std.specs.Prelude.{◌==◌, ◌≢◌, ◌&&◌}
+use Rattle.std.proofs.Common.{◌≡◌, ℕ, zero, suc, ◌<◌, ◌≤◌, refl, sym, ap, ◌∙◌, arith, List, [], ◌∷◌, ◌++◌, append_assoc, length, map, drop, get_or, true, false, eqb, ltb}
+use Rattle.std.specs.Prelude.{◌==◌}
 use Rattle.std.specs.List.{All, flat_map}
 use Rattle.std.proofs.lemmas.Bool.{lt-ltb, le-ltb}
 use Rattle.std.proofs.lemmas.List.Elements.{All-head, All-tail}
@@ -10,20 +10,8 @@ use Rattle.dwc_write.specs.SpelledTables.{spec_bytes, declaration_bytes}
 use Rattle.dwc_write.specs.declared.abbreviations.AttributeForm.{AttributeForm}
 use Rattle.dwc_write.specs.declared.abbreviations.Shape.{Shape}
 use Rattle.dwc_write.specs.ShapeViews.{shape_view}
-use Rattle.dwc_write.specs.GivenUnits.{EntryShape, IsPlainShape, same_forms, place_in, with_use, form_bytes, shape_bytes, spec_of_form, numbered}
+use Rattle.dwc_write.specs.GivenUnits.{EntryShape, IsPlainShape, place_in, with_use, form_bytes, shape_bytes, spec_of_form, numbered}
 use Rattle.dwc_write.proofs.WritesLaws.{all-seen}
-
--- lists of different lengths are not the same
-pub same_forms-length : (xs ys : List AttributeForm) → length xs ≢ length ys → same_forms xs ys ≡ false
-same_forms-length [] [] apart = absurd (apart refl)
-same_forms-length [] (y ∷ ys) apart = refl
-same_forms-length (x ∷ xs) [] apart = refl
-same_forms-length (x ∷ xs) (y ∷ ys) apart = rw (same_forms-length xs ys (λ e. apart (ap suc e))) (both-false (x.name == y.name) (x.form == y.form))
-  where
-    both-false : (a b : Bool) → (a && (b && false)) ≡ false
-    both-false true true = refl
-    both-false true false = refl
-    both-false false b = refl
 
 pub with_use-known : (s : EntryShape) (known : List EntryShape) → place_in s known < length known → with_use s known ≡ known
 with_use-known s known within = let is : ltb (place_in s known) (length known) ≡ true = lt-ltb _ _ within in rw (is) refl

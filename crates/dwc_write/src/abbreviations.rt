@@ -1,23 +1,24 @@
 //! Abbreviation tables: what the entries of a unit have, and their codes. (DWARF 4, section 7.5.3.)
-ghost use Rattle.std.specs.Prelude.{◌≡◌, ◌++◌, ◌≤◌, OnOk, IfOk, map, length};
+ghost use Rattle.std.specs.Prelude.{◌≡◌, ◌++◌, OnOk, IfOk, map};
 ghost use Rattle.std.specs.List.{All, flat_map};
 ghost use Rattle.dwc_write.specs.SpelledTables.{table_bytes};
-ghost use Rattle.dwc_write.specs.GivenUnits.{IsPlainShape, code_in, form_bytes, forms_of, numbered, place_in, same_forms, same_shape, shape_bytes, with_use};
+ghost use Rattle.dwc_write.specs.GivenUnits.{IsPlainShape, code_in, form_bytes, forms_of, numbered, shape_bytes, with_use};
 ghost use Rattle.dwc_write.specs.ShapeViews.{shape_view};
 
 use crate::append::put_uleb;
 use crate::attributes::{Attribute, form_of};
-use std::alloc::{AllocError, Global};
+use indexmap::IndexSet;
+use std::alloc::AllocError;
 
 /// An attribute of a declaration: its name and its form.
-#[derive(Clone, Copy, Debug, PartialEq, Eq)]
+#[derive(Clone, Copy, Debug, PartialEq, Eq, Hash)]
 pub struct AttributeForm {
     pub(crate) name: u16,
     pub(crate) form: u16,
 }
 
 // What the declaration of an entry says beside its code.
-#[derive(Drop)]
+#[derive(PartialEq, Eq, Hash, Drop)]
 pub struct Shape {
     pub(crate) tag: u16,
     pub(crate) has_children: bool,
@@ -25,78 +26,56 @@ pub struct Shape {
 }
 
 // The code of an entry by its shape, which is kept where it is new.
-pub fn code_of(
-    alloc: Global,
-    shapes: &mut Vec<Shape>,
+pub fn code_of(shapes: &mut IndexSet<Shape>, shape: &Shape) -> Result<u64, AllocError>
+    ensures shapes { OnOk result (map shape_view shapes.new.keys ≡ with_use (shape_view shape.now) (map shape_view shapes.old.keys)) }
+    ensures code { IfOk result (λ code. code ≡ code_in (map shape_view shapes.old.keys) (shape_view shape.now)) }
+{
+    let count = shapes.len();
+    if let Some(place) = shapes.get_index_of(shape) {
+        return Ok(place as u64 + 1);
+    }
+    shapes.insert(copied(shape)?)?;
+    Ok(count as u64 + 1)
+}
+
+// A shape of its own.
+fn copied(shape: &Shape) -> Result<Shape, AllocError>
+    ensures { IfOk result (λ s. shape_view s ≡ shape_view shape.now) }
+{
+    Ok(Shape {
+        tag: shape.tag,
+        has_children: shape.has_children,
+        attributes: shape.attributes.to_vec(*shape.attributes.allocator())?,
+    })
+}
+
+// Makes a shape that of an entry, within the room that it has.
+pub fn set_shape(
+    shape: &mut Shape,
     tag: u16,
     has_children: bool,
     attributes: &[Attribute],
-) -> Result<u64, AllocError>
-    ensures shapes { OnOk result (map shape_view shapes.new.items ≡ with_use (record { tag = tag; has_children = has_children; attributes = forms_of attributes.now }) (map shape_view shapes.old.items)) }
-    ensures code { IfOk result (λ code. code ≡ code_in (map shape_view shapes.old.items) (record { tag = tag; has_children = has_children; attributes = forms_of attributes.now })) }
+) -> Result<(), AllocError>
+    ensures { OnOk result (shape_view shape.new ≡ record { tag = tag; has_children = has_children; attributes = forms_of attributes.now }) }
 {
-    let place = place_of(shapes, tag, has_children, attributes);
-    if place < shapes.len() {
-        return Ok(place as u64 + 1);
-    }
-    let attributes = forms(alloc, attributes)?;
-    shapes.push(Shape {
-        tag,
-        has_children,
-        attributes,
-    })?;
-    Ok(place as u64 + 1)
+    shape.tag = tag;
+    shape.has_children = has_children;
+    shape.attributes.clear();
+    push_forms(&mut shape.attributes, attributes)
 }
 
-// The place of the first shape that is this one, or the number of shapes.
-fn place_of(shapes: &[Shape], tag: u16, has_children: bool, attributes: &[Attribute]) -> usize
-    ensures place { result ≡ place_in (record { tag = tag; has_children = has_children; attributes = forms_of attributes.now }) (map shape_view shapes.now) }
-    ensures most { result ≤ length shapes.now }
+// The names and forms of attributes, behind others.
+fn push_forms(forms: &mut Vec<AttributeForm>, attributes: &[Attribute]) -> Result<(), AllocError>
+    ensures { OnOk result (forms.new.items ≡ forms.old.items ++ forms_of attributes.now) }
 {
-    for i in 0..shapes.len() {
-        if is_shape(&shapes[i], tag, has_children, attributes) {
-            return i;
-        }
-    }
-    shapes.len()
-}
-
-// Whether a shape is this one.
-fn is_shape(shape: &Shape, tag: u16, has_children: bool, attributes: &[Attribute]) -> bool
-    ensures { result ≡ same_shape (shape_view shape.now) (record { tag = tag; has_children = has_children; attributes = forms_of attributes.now }) }
-{
-    shape.tag == tag
-        && shape.has_children == has_children
-        && have_forms(&shape.attributes, attributes)
-}
-
-// Whether attributes have these names and forms.
-fn have_forms(forms: &[AttributeForm], attributes: &[Attribute]) -> bool
-    ensures { result ≡ same_forms forms.now (forms_of attributes.now) }
-{
-    if forms.len() != attributes.len() {
-        return false;
-    }
-    for i in 0..forms.len() {
-        if forms[i].name != attributes[i].name || forms[i].form != form_of(&attributes[i].value) {
-            return false;
-        }
-    }
-    true
-}
-
-// The names and forms of attributes.
-fn forms(alloc: Global, attributes: &[Attribute]) -> Result<Vec<AttributeForm>, AllocError>
-    ensures { IfOk result (λ forms. forms.items ≡ forms_of attributes.now) }
-{
-    let mut forms = Vec::with_capacity(alloc, attributes.len())?;
+    forms.reserve(attributes.len())?;
     for attribute in attributes {
         forms.push(AttributeForm {
             name: attribute.name,
             form: form_of(&attribute.value),
         })?;
     }
-    Ok(forms)
+    Ok(())
 }
 
 // The abbreviation table of some shapes, whose codes rise from 1.

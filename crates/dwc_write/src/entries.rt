@@ -11,7 +11,7 @@ ghost use Rattle.dwc_write.specs.SpelledOutput.{WritesUnit};
 ghost use Rattle.dwc_base.specs.declared.section_name.SectionName.TheVariants.{Abbrev};
 ghost use Rattle.dwc_write.specs.Writers.{Writes, most_bytes, offset_relocation};
 
-use crate::abbreviations::{Shape, code_of, put_table};
+use crate::abbreviations::{Shape, code_of, put_table, set_shape};
 use crate::append::{bytes_2, put_sized, put_sleb, put_uleb};
 use crate::attributes::Attribute;
 use crate::units::Entry;
@@ -20,6 +20,7 @@ use dwc_base::constants::{
     DW_FORM_data1, DW_FORM_data2, DW_FORM_data4, DW_FORM_data8, DW_FORM_sdata,
 };
 use dwc_base::{Endian, SectionName};
+use indexmap::IndexSet;
 use std::alloc::{AllocError, Global};
 
 // How the values of a unit are written: the order of bytes, the size of an address, and the offset of its line table.
@@ -45,13 +46,13 @@ pub fn write_unit(
     requires fits { All (FitsGivenEntry spelling.size) (map entry_view entries.now) }
     ensures { WritesUnit tables.old tables.new info.old info.new result spelling.size spelling.line_offset (map entry_view entries.now) }
 {
-    let mut shapes = Vec::new(alloc);
+    let mut shapes = IndexSet::new(alloc);
     let place = info.place();
     write_header(info, spelling, tables.place())?;
     write_entries(alloc, info, scratch, spelling, entries, &mut shapes)?;
     info.finish_length(place);
     scratch.clear();
-    put_table(scratch, &shapes)?;
+    put_table(scratch, shapes.as_slice())?;
     tables.put_bytes(scratch)
 }
 
@@ -80,23 +81,29 @@ fn write_entries(
     scratch: &mut Vec<u8>,
     spelling: Spelling,
     entries: &[Entry],
-    shapes: &mut Vec<Shape>,
+    shapes: &mut IndexSet<Shape>,
 ) -> Result<(), WriteError>
     requires order { spelling.order ≡ info.old.order }
     requires size { (spelling.size ≡ 4) ⊎ (spelling.size ≡ 8) }
     requires line { spelling.line_offset ≤ most_bytes }
     requires fits { All (FitsGivenEntry spelling.size) (map entry_view entries.now) }
-    ensures shapes { OnOk result (map shape_view shapes.new.items ≡ first_uses (map shape_view shapes.old.items) (shapes_of (map entry_view entries.now))) }
+    ensures shapes { OnOk result (map shape_view shapes.new.keys ≡ first_uses (map shape_view shapes.old.keys) (shapes_of (map entry_view entries.now))) }
     ensures bytes { Writes info.old info.new result
-        (flat_map (entry_bytes info.old.order spelling.size) (shaped (written_entries spelling.line_offset (first_uses (map shape_view shapes.old.items) (shapes_of (map entry_view entries.now))) (map entry_view entries.now))))
-        (entries_relocations info.old.order spelling.size (length info.old.body) (shaped (written_entries spelling.line_offset (first_uses (map shape_view shapes.old.items) (shapes_of (map entry_view entries.now))) (map entry_view entries.now)))) }
+        (flat_map (entry_bytes info.old.order spelling.size) (shaped (written_entries spelling.line_offset (first_uses (map shape_view shapes.old.keys) (shapes_of (map entry_view entries.now))) (map entry_view entries.now))))
+        (entries_relocations info.old.order spelling.size (length info.old.body) (shaped (written_entries spelling.line_offset (first_uses (map shape_view shapes.old.keys) (shapes_of (map entry_view entries.now))) (map entry_view entries.now)))) }
 {
+    let mut shape = Shape {
+        tag: 0,
+        has_children: false,
+        attributes: Vec::new(alloc),
+    };
     for i in 0..entries.len() {
         let entry = &entries[i];
         let next = depth_of_first(&entries[i + 1..]);
         let has_children = entry.depth < next;
         let ends = entry.depth.saturating_sub(next);
-        let code = code_of(alloc, shapes, entry.tag, has_children, &entry.attributes)?;
+        set_shape(&mut shape, entry.tag, has_children, &entry.attributes)?;
+        let code = code_of(shapes, &shape)?;
         write_entry(info, scratch, spelling, code, &entry.attributes, ends)?;
     }
     Ok(())

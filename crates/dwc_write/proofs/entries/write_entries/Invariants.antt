@@ -10,8 +10,8 @@ use Rattle.dwc_write.proofs.entries.write_entries.Given as goal
 -- the shapes that are left lead to those of all; what is there, with the entries that are left, is the whole
 abbrev pub invariant-loop-i : goal.invariant-loop-i
 invariant-loop-i l = record {
-  shapes : first_uses (map shape_view l.shapes.items) (shapes_of (map entry_view (drop l.i l.entries))) ≡ first_uses (map shape_view l.initial.shapes.items) (shapes_of (map entry_view l.entries));
+  shapes : first_uses (map shape_view l.shapes.keys) (shapes_of (map entry_view (drop l.i l.entries))) ≡ first_uses (map shape_view l.initial.shapes.keys) (shapes_of (map entry_view l.entries));
   bytes :
-      whole (entry_bytes l.initial.info.order l.spelling.size) (entry_relocations l.initial.info.order l.spelling.size) (shaped (written_entries l.spelling.line_offset (first_uses (map shape_view l.initial.shapes.items) (shapes_of (map entry_view l.entries))) (map entry_view (drop l.i l.entries)))) l.info
-      ≡ whole (entry_bytes l.initial.info.order l.spelling.size) (entry_relocations l.initial.info.order l.spelling.size) (shaped (written_entries l.spelling.line_offset (first_uses (map shape_view l.initial.shapes.items) (shapes_of (map entry_view l.entries))) (map entry_view l.entries))) l.initial.info;
+      whole (entry_bytes l.initial.info.order l.spelling.size) (entry_relocations l.initial.info.order l.spelling.size) (shaped (written_entries l.spelling.line_offset (first_uses (map shape_view l.initial.shapes.keys) (shapes_of (map entry_view l.entries))) (map entry_view (drop l.i l.entries)))) l.info
+      ≡ whole (entry_bytes l.initial.info.order l.spelling.size) (entry_relocations l.initial.info.order l.spelling.size) (shaped (written_entries l.spelling.line_offset (first_uses (map shape_view l.initial.shapes.keys) (shapes_of (map entry_view l.entries))) (map entry_view l.entries))) l.initial.info;
 }

@@ -13,11 +13,11 @@ pub finish_length-requires-clause-clear : goal.finish_length-requires-clause-cle
 finish_length-requires-clause-clear c =
     let u = unit_of (length c.args.tables.now.body) c.args.spelling.line_offset (map entry_view c.args.entries.now) in
     let headed = rw (c.place.ensures.place) at c.in_ok-write_header.ensures in
-    let filled = rw (c.new-shapes.ensures.items) at c.in_ok-write_entries.ensures.bytes in
+    let filled = rw (c.new-shapes.ensures.empty) at c.in_ok-write_entries.ensures.bytes in
     rw (c.place-place.ensures.place) (unit-clear c.args.spelling.size u c.args.info.now c.write_header.new.info c.write_entries.new.info headed filled c.place-place.ensures.below)
 
 pub put_table-requires : goal.put_table-requires
-put_table-requires c = rw (c.deref.ensures.value, c.in_ok-write_entries.ensures.shapes, c.new-shapes.ensures.items) (uses-plain [] (map entry_view c.args.entries.now) (All-nil IsPlainShape))
+put_table-requires c = rw (c.as_slice.ensures.keys, c.in_ok-write_entries.ensures.shapes, c.new-shapes.ensures.empty) (uses-plain [] (map entry_view c.args.entries.now) (All-nil IsPlainShape))
 
 pub returns-in_err-write_header : goal.returns-in_err-write_header
 returns-in_err-write_header c =
@@ -31,7 +31,7 @@ returns-in_err-write_entries c =
     let u = unit_of (length c.args.tables.now.body) c.args.spelling.line_offset (map entry_view c.args.entries.now) in
     let p = err_from_is_err_and c.from_residual-in_err-write_entries.result c.from_residual-in_err-write_entries.ensures.1 in
     let headed = rw (c.place.ensures.place) at c.in_ok-write_header.ensures in
-    let refused = rw (c.new-shapes.ensures.items) at c.in_err-write_entries.ensures.bytes in
+    let refused = rw (c.new-shapes.ensures.empty) at c.in_err-write_entries.ensures.bytes in
     info-refused-later _ _ _ _ c.args.info.now _ c.write_header.new.info (front c.args.info.now.order c.args.spelling.size u.table_offset) _ c.args.spelling.size c.args.spelling.line_offset (map entry_view c.args.entries.now) _ p headed refused
     (unit-length c.args.spelling.size u c.args.info.now c.write_header.new.info _ headed)
 
@@ -39,7 +39,7 @@ pub returns : goal.returns
 returns c =
     let u = unit_of (length c.args.tables.now.body) c.args.spelling.line_offset (map entry_view c.args.entries.now) in
     let headed = rw (c.place.ensures.place) at c.in_ok-write_header.ensures in
-    let filled = rw (c.new-shapes.ensures.items) at c.in_ok-write_entries.ensures.bytes in
-    let table = c.deref-2.ensures.value ∙ rw (c.clear.ensures.items, c.deref.ensures.value, c.in_ok-write_entries.ensures.shapes, c.new-shapes.ensures.items) at c.in_ok-put_table.ensures in
+    let filled = rw (c.new-shapes.ensures.empty) at c.in_ok-write_entries.ensures.bytes in
+    let table = c.deref.ensures.value ∙ rw (c.clear.ensures.items, c.as_slice.ensures.keys, c.in_ok-write_entries.ensures.shapes, c.new-shapes.ensures.empty) at c.in_ok-put_table.ensures in
     let info = unit-appended c.args.spelling.size u c.args.info.now c.write_header.new.info c.write_entries.new.info headed filled c.finish_length.new.self (rw (c.place-place.ensures.place) at c.finish_length.ensures) in
     unit-result _ _ _ _ _ c.args.spelling.size c.args.spelling.line_offset (map entry_view c.args.entries.now) _ c.put_bytes.ensures table info
