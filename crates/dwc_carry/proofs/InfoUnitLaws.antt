@@ -1,27 +1,23 @@
 -- What follows where .debug_info has no fault: of each unit, of all units, and of the subprograms that they become.
-use Rattle.std.proofs.Common.{◌≡◌, suc, List, [], ◌∷◌, length, map, refl, ap, sym, Bool, true, false, cond, Option, Some, None, Result, Ok, Err}
-use Rattle.std.specs.Prelude.{◌&&◌, ◌==◌, if◌then◌else◌, Vec, is_some, is_none, option_map}
-use Rattle.std.specs.Global.{Global}
+use Rattle.std.proofs.Common.{◌≡◌, suc, List, [], ◌∷◌, length, refl, ap, sym, Bool, true, false, cond, Option, Some, None, Result, Ok, Err}
+use Rattle.std.specs.Prelude.{◌&&◌, ◌==◌, if◌then◌else◌, is_some, is_none, option_map}
 use Rattle.std.specs.Option.{option_or}
 use Rattle.std.proofs.lemmas.Option.{none-some}
-use Rattle.std.specs.List.{AllZip, filter, filter_map, cons_option}
+use Rattle.std.specs.List.{filter, filter_map, cons_option}
 use Rattle.dwc_base.specs.declared.constants.TheConstants.{DW_AT_low_pc, DW_AT_ranges, DW_TAG_subprogram}
 use Rattle.dwc_base.specs.declared.faults.Kind.TheVariants.{NotBuilt}
 use Rattle.dwc_base.specs.declared.records.Address.TheVariants.{Constant, Symbol}
 use Rattle.dwc_base.specs.Sections.{Sections, Fault, unsupported}
 use Rattle.dwc_base.specs.Abbreviations.{Declaration, abbreviation_table}
-use Rattle.dwc_base.specs.Units.{UnitHeader, unit_headers}
+use Rattle.dwc_base.specs.Units.{UnitHeader}
 use Rattle.dwc_base.specs.Values.{Value, address, address_index, constant, flag, block, expression, text, text_reference, line_reference, range_reference, range_index, location_reference, location_index, unit_reference, info_reference, dropped}
 use Rattle.dwc_base.specs.Functions.{Function, function_at}
 use Rattle.dwc_base.specs.Kept.{is_required, is_translatable}
 use Rattle.dwc_base.specs.Entries.{Entry, entries, attribute}
-use Rattle.dwc_base.specs.Carried.{units, units_of_headers}
-use Rattle.dwc_base.specs.BuiltForm.{is_subprogram_entry, subprograms_fault, entries_fault, listing_fault, shapes_fault, unit_fault, units_fault, info_fault}
-use Rattle.dwc_carry.specs.declared.read_units.ReadUnit.{ReadUnit}
+use Rattle.dwc_base.specs.BuiltForm.{is_subprogram_entry, subprograms_fault, entries_fault, listing_fault, shapes_fault, unit_fault}
 use Rattle.dwc_carry.specs.declared.read_entries.UnitEntries.{UnitEntries}
 use Rattle.dwc_carry.specs.Subprograms.{function_in, subprogram_of, required_subprogram}
 use Rattle.dwc_carry.specs.InfoEntries.{IsReadOf}
-use Rattle.dwc_carry.specs.InfoUnits.{unit_of, IsReadUnit, GivesUnits}
 
 neither : {A : Type 0} (a b : Option A) → option_or a b ≡ None → (a ≡ None) × (b ≡ None)
 neither None b h = (refl, h)
@@ -65,28 +61,6 @@ sound-table s h none = go (abbreviation_table s h.abbreviations) refl
     go : (r : Result (List Declaration) Fault) → abbreviation_table s h.abbreviations ≡ r → (table : List Declaration) × (abbreviation_table s h.abbreviations ≡ Ok table)
     go (Ok table) read = (table, read)
     go (Err fault) read = absurd (none-some fault (sym (rw (read, entries) at (sound-unit s h none).whole)))
-
--- units without a fault are those of all headers
-headers-whole : (s : Sections) (hs : List UnitHeader) (last : Option Fault) → units_fault s hs last ≡ None → units_of_headers s hs last ≡ record { items = map (unit_of s) hs; fault = None }
-headers-whole s [] last none = rw none refl
-headers-whole s (h ∷ hs) last none =
-    let parts = neither (unit_fault s h) (units_fault s hs last) none in
-    rw ((sound-unit s h parts.0).whole, headers-whole s hs last parts.1) refl
-
-pub units-whole : (s : Sections) → info_fault s ≡ None → units s ≡ record { items = map (unit_of s) (unit_headers s).items; fault = None }
-unfolding units
-units-whole s none = headers-whole s (unit_headers s).items (unit_headers s).fault none
-
-module _ (fs : List Function) (s : Sections) where
-  zip-units : (hs : List UnitHeader) (rs : List ReadUnit) → AllZip (IsReadUnit fs s) hs rs → AllZip (λ u r. (u ≡ unit_of s u.header) × IsReadUnit fs s u.header r) (map (unit_of s) hs) rs
-  zip-units [] [] each = tt
-  zip-units [] (r ∷ rs) each = absurd each
-  zip-units (h ∷ hs) [] each = absurd each
-  zip-units (h ∷ hs) (r ∷ rs) each = ((refl, each.0), zip-units hs rs each.1)
-
-  -- what was read is, unit by unit, what is read of the units
-  pub given-units : (rs : Vec ReadUnit Global) → GivesUnits fs s (Ok rs) → AllZip (λ u r. (u ≡ unit_of s u.header) × IsReadUnit fs s u.header r) (units s).items rs.items
-  given-units rs given = rw (units-whole s given.0) (zip-units (unit_headers s).items rs.items given.1)
 
 -- ---- subprograms
 

@@ -13,17 +13,22 @@ use Rattle.dwc_base.specs.BuiltForm.{info_fault}
 use Rattle.dwc_base.specs.Refusals.{Refusal, of_place, unit_refusal, module_refusals, first_of}
 use Rattle.dwc_write.specs.GivenUnits.{GivenUnit}
 use Rattle.dwc_carry.specs.declared.error.DebugError.{DebugError}
-use Rattle.dwc_carry.specs.declared.error.DebugError.TheVariants.{Read, Unsupported, InvalidFileIndex, BadAddressMap, TooLarge, OutOfMemory}
+use Rattle.dwc_carry.specs.declared.error.DebugError.TheVariants.{Unsupported}
 use Rattle.dwc_carry.specs.declared.read_units.ReadUnit.{ReadUnit}
-use Rattle.dwc_carry.specs.Refusals.{Refuses}
-use Rattle.dwc_carry.specs.InfoEntries.{Tells}
+use Rattle.dwc_carry.specs.Refusals.{in_reading, RefusesReading}
+use Rattle.dwc_carry.specs.InfoEntries.{fault_refusal}
 use Rattle.dwc_carry.specs.InfoUnits.{IsReadUnit}
 use Rattle.dwc_carry.specs.CarriedReads.{refusals_of, AddsCarried, GivesAdded}
 use Rattle.dwc_carry.specs.MadeUnits.{IsMadeOf, AreMadeOf}
 use Rattle.dwc_carry.specs.CarriedModules.{transformed_module, transformed_modules, carried_in, AddsModule, GivesModule, AddsModules}
-use Rattle.dwc_carry.proofs.CarriedReadLaws.{refuses-more}
+use Rattle.dwc_carry.proofs.CarriedReadLaws.{unmapped, reading-more}
 use Rattle.dwc_carry.proofs.ReadModuleLaws.{refusals-same, made-same}
 use Rattle.dwc_carry.proofs.UnitsRead.{IsReadWhole, read-whole}
+
+-- a list without a first has nothing
+no-first : {A : Type 0} (xs : List A) → first_of xs ≡ None → xs ≡ []
+no-first [] h = refl
+no-first (x ∷ xs) h = absurd (cc)
 
 -- ---- one module
 
@@ -33,13 +38,8 @@ module _ (size : ℕ) (m : Module) (plain : m.compressed ≡ None) where
   refusals-plain = rw plain refl
 
   -- where .debug_info is refused
-  pub info-refused : (e : DebugError) → Tells (info_fault m.sections) e → Refuses (first_of (module_refusals m)) e
-  info-refused (Read what section offset) h = rw (plain, h) refl
-  info-refused (Unsupported kind offset) h = rw (plain, h) refl
-  info-refused (InvalidFileIndex offset) h = absurd h
-  info-refused (BadAddressMap n func why) h = h
-  info-refused (TooLarge what) h = h
-  info-refused OutOfMemory h = h
+  pub info-refused : (e : DebugError) → RefusesReading (fault_refusal (info_fault m.sections)) e → RefusesReading (first_of (module_refusals m)) e
+  info-refused e h = reading-more (fault_refusal (info_fault m.sections)) (first_of (module_refusals m)) e (λ r is. rw (plain, is) refl) h
 
   module _ (whole : info_fault m.sections ≡ None) (rs : List ReadUnit) (read : AllZip (IsReadUnit m.functions m.sections) (unit_headers m.sections).items rs) where
     all : IsReadWhole m
@@ -52,27 +52,29 @@ module _ (size : ℕ) (m : Module) (plain : m.compressed ≡ None) where
         ∙ refusals-same m (unit_headers m.sections).items rs read
 
     -- a line table is refused
-    pub tables-refused : (e : DebugError) → Refuses (first_of (refusals_of rs)) e → Refuses (first_of (module_refusals m)) e
-    tables-refused e h = subst (λ xs. Refuses (first_of xs) e) (sym refusals-read) h
+    pub tables-refused : (e : DebugError) → RefusesReading (first_of (refusals_of rs)) e → RefusesReading (first_of (module_refusals m)) e
+    tables-refused e h = subst (λ xs. RefusesReading (first_of xs) e) (sym refusals-read) h
 
     -- the units are added
-    pub module-added : (old new : List GivenUnit) → AddsCarried m.functions size rs old new → AddsModule size m old new
-    module-added old new h = record {
-      made = h.made;
-      added = h.added;
-      each = subst (λ us. AreMadeOf size (map (λ u. record { module_of = m; unit = u }) us) h.made) (sym all.carried) (made-same m size (unit_headers m.sections).items rs h.made read all.kept h.each);
-      whole = all.whole;
-      accepted = refusals-read ∙ h.accepted;
-    }
+    pub module-added : (old new : List GivenUnit) → (option_map in_reading (first_of (refusals_of rs)) ≡ None) × AddsCarried m.functions size rs old new → (option_map in_reading (first_of (module_refusals m)) ≡ None) × AddsModule size m old new
+    module-added old new (none, h) = (
+      ap (λ (refusals : List Refusal). option_map in_reading (first_of refusals)) refusals-read ∙ none,
+      record {
+        made = h.made;
+        added = h.added;
+        each = subst (λ us. AreMadeOf size (map (λ u. record { module_of = m; unit = u }) us) h.made) (sym all.carried) (made-same m size (unit_headers m.sections).items rs h.made read all.kept h.each);
+        whole = all.whole;
+      },
+    )
 
 -- what is answered for a module, from what is answered for the units that were read of it
-pub module-gives : (size : ℕ) (m : Module) → m.compressed ≡ None → (rs : List ReadUnit) → (info_fault m.sections ≡ None) × AllZip (IsReadUnit m.functions m.sections) (unit_headers m.sections).items rs
+pub module-gives : (size : ℕ) (m : Module) → m.compressed ≡ None → (rs : List ReadUnit) → (option_map in_reading (fault_refusal (info_fault m.sections)) ≡ None) × AllZip (IsReadUnit m.functions m.sections) (unit_headers m.sections).items rs
     → (old new : List GivenUnit) (result : Result (Prim.Unit {0}) DebugError) → GivesAdded m.functions size rs old new result → GivesModule size m old new result
-module-gives size m plain rs read old new (Ok done) h = module-added size m plain read.0 rs read.1 old new h
-module-gives size m plain rs read old new (Err e) h = tables-refused size m plain read.0 rs read.1 e h
+module-gives size m plain rs read old new (Ok done) h = module-added size m plain (unmapped of_place (info_fault m.sections) (unmapped in_reading (fault_refusal (info_fault m.sections)) read.0)) rs read.1 old new h
+module-gives size m plain rs read old new (Err e) h = tables-refused size m plain (unmapped of_place (info_fault m.sections) (unmapped in_reading (fault_refusal (info_fault m.sections)) read.0)) rs read.1 e h
 
 -- a compressed section is refused
-pub compressed-refused : (m : Module) (offset : ℕ) → m.compressed ≡ Some offset → Refuses (first_of (module_refusals m)) (Unsupported Compressed offset)
+pub compressed-refused : (m : Module) (offset : ℕ) → m.compressed ≡ Some offset → RefusesReading (first_of (module_refusals m)) (Unsupported Compressed offset)
 compressed-refused m offset h = rw h refl
 
 -- ---- modules in order
@@ -113,31 +115,33 @@ module _ (size : ℕ) (ms : List Module) (old : List GivenUnit) where
   modules-begin = record { made = []; added = sym (append-nil old); each = λ more h. h; whole = λ h. h; accepted = refl }
 
   -- a module more
-  pub modules-one : (new next : List GivenUnit) (m : Module) (rest : List Module) → ModulesSoFar new (m ∷ rest) → AddsModule size m new next → ModulesSoFar next rest
-  modules-one new next m rest h a = record {
+  pub modules-one : (new next : List GivenUnit) (m : Module) (rest : List Module) → ModulesSoFar new (m ∷ rest) → (option_map in_reading (first_of (module_refusals m)) ≡ None) × AddsModule size m new next → ModulesSoFar next rest
+  modules-one new next m rest h (none, a) = record {
     made = h.made ++ a.made;
     added = a.added ∙ ap (λ us. us ++ a.made) h.added ∙ append_assoc old h.made a.made;
     each = λ more k. subst (λ us. AreMadeOf size (flat_map carried_in ms) us) (sym (append_assoc h.made a.made more))
         (h.each (a.made ++ more) (zip-append (IsMadeOf size) (carried_in m) (flat_map carried_in rest) a.made more a.each k));
     whole = λ k. h.whole (All-cons (λ (n : Module). (units n.sections).fault ≡ None) m rest a.whole k);
-    accepted = sym (ap (λ xs. xs ++ flat_map module_refusals rest) a.accepted) ∙ h.accepted;
+    accepted = sym (ap (λ xs. xs ++ flat_map module_refusals rest) (no-first (module_refusals m) (unmapped in_reading (first_of (module_refusals m)) none))) ∙ h.accepted;
   }
 
   -- behind the last one
-  pub modules-done : (new : List GivenUnit) → ModulesSoFar new [] → AddsModules size ms old new
-  modules-done new h = record {
-    made = h.made;
-    added = h.added;
-    each = subst (λ us. AreMadeOf size (flat_map carried_in ms) us) (append-nil h.made) (h.each [] tt);
-    whole = h.whole (All-nil (λ (m : Module). (units m.sections).fault ≡ None));
-    accepted = sym h.accepted;
-  }
+  pub modules-done : (new : List GivenUnit) → ModulesSoFar new [] → (option_map in_reading (first_of (flat_map module_refusals ms)) ≡ None) × AddsModules size ms old new
+  modules-done new h = (
+    ap (λ (refusals : List Refusal). option_map in_reading (first_of refusals)) (sym h.accepted),
+    record {
+      made = h.made;
+      added = h.added;
+      each = subst (λ us. AreMadeOf size (flat_map carried_in ms) us) (append-nil h.made) (h.each [] tt);
+      whole = h.whole (All-nil (λ (m : Module). (units m.sections).fault ≡ None));
+    },
+  )
 
   first-behind : (xs ys : List Refusal) (r : Refusal) → first_of xs ≡ Some r → first_of (xs ++ ys) ≡ Some r
   first-behind [] ys r h = absurd (cc)
   first-behind (x ∷ xs) ys r h = h
 
   -- a module that is refused
-  pub modules-refused : (new : List GivenUnit) (m : Module) (rest : List Module) (e : DebugError) → ModulesSoFar new (m ∷ rest) → Refuses (first_of (module_refusals m)) e → Refuses (first_of (flat_map module_refusals ms)) e
-  modules-refused new m rest e h refused =
-      refuses-more (first_of (module_refusals m)) (first_of (flat_map module_refusals ms)) e (λ r is. sym (ap first_of h.accepted) ∙ first-behind (module_refusals m) (flat_map module_refusals rest) r is) refused
+  pub modules-refused : (new : List GivenUnit) (m : Module) (rest : List Module) (e : DebugError) → ModulesSoFar new (m ∷ rest) → RefusesReading (first_of (module_refusals m)) e → RefusesReading (first_of (flat_map module_refusals ms)) e
+  modules-refused new m rest e h met =
+      reading-more (first_of (module_refusals m)) (first_of (flat_map module_refusals ms)) e (λ r is. sym (ap first_of h.accepted) ∙ first-behind (module_refusals m) (flat_map module_refusals rest) r is) met

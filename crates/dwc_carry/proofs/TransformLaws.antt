@@ -10,6 +10,7 @@ use Rattle.dwc_base.specs.declared.records.Endian.{Endian}
 use Rattle.dwc_base.specs.declared.records.MapFault.{MapFault}
 use Rattle.dwc_base.specs.declared.wasm.ModuleTranslation.{ModuleTranslation}
 use Rattle.dwc_base.specs.Functions.{Function, functions_of}
+use Rattle.dwc_base.specs.Carried.{Module}
 use Rattle.dwc_base.specs.Refusals.{Refusal, module_refusals, first_of}
 use Rattle.dwc_clif.specs.AddressMaps.{address_map_view}
 use Rattle.dwc_addr.specs.declared.error.AddrError.{AddrError}
@@ -19,15 +20,19 @@ use Rattle.dwc_addr.specs.Compilations.{CompilationValue, functions_at, code_off
 use Rattle.dwc_addr.specs.Transforms.{kept_function, first_bad_map, Transforms}
 use Rattle.dwc_write.specs.GivenUnits.{GivenUnit}
 use Rattle.dwc_carry.specs.declared.error.DebugError.{DebugError}
-use Rattle.dwc_carry.specs.declared.error.DebugError.TheVariants.{Read, Unsupported, InvalidFileIndex, BadAddressMap, TooLarge, OutOfMemory}
 use Rattle.dwc_carry.specs.ImageRows.{IsOrdered}
-use Rattle.dwc_carry.specs.Refusals.{of_maps, Refuses}
+use Rattle.dwc_carry.specs.Refusals.{InputRefusal, bad_address_map, in_reading, of_maps, Refuses}
 use Rattle.dwc_carry.specs.MadeUnits.{AreMadeOf}
 use Rattle.dwc_carry.specs.CarriedModules.{transformed_modules, carried_in, AddsModules}
-use Rattle.dwc_carry.specs.Inputs.{module_view, modules_from, input_of, bad_map_from, bad_map}
-use Rattle.dwc_carry.specs.Transformed.{all_kept, RefusesMaps, IsTransformed, RefusesInput}
+use Rattle.dwc_carry.specs.Inputs.{module_view, modules_from, input_of, bad_map_from, bad_map, maps_refusal}
+use Rattle.dwc_carry.specs.Transformed.{all_kept, IsTransformed}
 use Rattle.dwc_carry.proofs.OrderLaws.{transform-ordered}
+use Rattle.dwc_carry.proofs.CarriedReadLaws.{unmapped, refuses-more}
 use Rattle.dwc_carry.proofs.KeptModules.{kept_module, all-refusals, all-made, all-whole}
+
+-- the refusal of a bad map
+abbrev map_refusal : Option (ℕ × (ℕ × MapFault)) → Option InputRefusal
+map_refusal bad = option_map (λ bad. bad_address_map bad.0 bad.1.0 bad.1.1) bad
 
 -- ---- the loop
 
@@ -80,19 +85,19 @@ module _ (c : CompilationValue) (same : length c.functions ≡ length c.translat
 
   -- a transform that is refused
   pub transforms-refused : (i : ℕ) (done : List (List Function)) (e : AddrError) → i < length c.translations → TransformsSoFar c.translations c.functions i done
-      → Transforms (λ t. t) i (code_offset_at c i) (first_number c.functions i) (map address_map_view (functions_at c i)) (Err e) → RefusesMaps (bad_map c) (of_maps e)
+      → Transforms (λ t. t) i (code_offset_at c i) (first_number c.functions i) (map address_map_view (functions_at c i)) (Err e) → Refuses (maps_refusal c) (of_maps e)
   transforms-refused i done (addr.BadAddressMap m func why) less h refused =
       let next = at-next c.translations c.functions i done less same h in
-      sym next.bad ∙ ap (λ o. option_or (option_map (λ (bad : ℕ × MapFault). (i, bad)) o) (bad_map_from (i + 1) (drop (i + 1) c.translations) (drop (i + 1) c.functions))) refused.1 ∙ ap (λ n. Some (n, (func, why))) (sym refused.0)
+      ap map_refusal (sym next.bad ∙ ap (λ o. option_or (option_map (λ (bad : ℕ × MapFault). (i, bad)) o) (bad_map_from (i + 1) (drop (i + 1) c.translations) (drop (i + 1) c.functions))) refused.1 ∙ ap (λ n. Some (n, (func, why))) (sym refused.0))
   transforms-refused i done addr.OutOfMemory less h refused = tt
 
   -- behind the last one
-  pub transforms-done : (i : ℕ) (done : List (List Function)) → length c.translations ≤ i → TransformsSoFar c.translations c.functions i done → (bad_map c ≡ None) × (done ≡ all_kept (modules_from 0 c.translations c.functions))
+  pub transforms-done : (i : ℕ) (done : List (List Function)) → length c.translations ≤ i → TransformsSoFar c.translations c.functions i done → (maps_refusal c ≡ None) × (done ≡ all_kept (modules_from 0 c.translations c.functions))
   transforms-done i done past h =
       let a = drop_all i c.translations past in
       let bad = rw a at h.bad in
       let functions = rw a at h.functions in
-      (sym bad, sym (append-nil done) ∙ functions)
+      (ap map_refusal (sym bad), sym (append-nil done) ∙ functions)
 
 pub transforms-begin : (ts : List ModuleTranslation) (fss : List (List Compiled)) → TransformsSoFar ts fss 0 []
 transforms-begin ts fss = record { functions = refl; bad = refl }
@@ -114,10 +119,6 @@ neither : {A : Type 0} (o p : Option A) → option_or o p ≡ None → (o ≡ No
 neither None p h = (refl, h)
 neither (Some x) p h = absurd (cc)
 
-unmapped : {A B : Type 0} (f : A → B) (o : Option A) → option_map f o ≡ None → o ≡ None
-unmapped f None h = refl
-unmapped f (Some x) h = absurd (cc)
-
 kept-ordered : (number place : ℕ) (ts : List ModuleTranslation) (fss : List (List Compiled)) → bad_map_from place ts fss ≡ None → All (All IsOrdered) (all_kept (modules_from number ts fss))
 kept-ordered number place [] fss good = All-nil (All IsOrdered)
 kept-ordered number place (t ∷ ts) [] good = All-nil (All IsOrdered)
@@ -126,44 +127,47 @@ kept-ordered number place (t ∷ ts) (fs ∷ fss) good =
     All-cons (All IsOrdered) _ _ (transform-ordered t.code_section_offset number (map address_map_view fs) (unmapped (λ (bad : ℕ × MapFault). (place, bad)) (first_bad_map t.code_section_offset 0 (map address_map_view fs)) two.0)) (kept-ordered (number + length fs) (suc place) ts fss two.1)
 
 -- the functions of all transforms are ordered
-pub all-ordered : (c : CompilationValue) → bad_map c ≡ None → All (All IsOrdered) (all_kept (modules_from 0 c.translations c.functions))
-all-ordered c good = kept-ordered 0 0 c.translations c.functions good
+pub all-ordered : (c : CompilationValue) → maps_refusal c ≡ None → All (All IsOrdered) (all_kept (modules_from 0 c.translations c.functions))
+all-ordered c good = kept-ordered 0 0 c.translations c.functions (unmapped _ (bad_map c) good)
 
 transformed-kept : (number : ℕ) (ts : List ModuleTranslation) (fss : List (List Compiled)) → transformed_modules ts (all_kept (modules_from number ts fss)) ≡ map kept_module (modules_from number ts fss)
 transformed-kept number [] fss = refl
 transformed-kept number (t ∷ ts) [] = refl
 transformed-kept number (t ∷ ts) (fs ∷ fss) = ap (λ ms. kept_module (module_view number t fs) ∷ ms) (transformed-kept (number + length fs) ts fss)
 
-module _ (order : Endian) (size : ℕ) (c : CompilationValue) where
-  -- the units that are added are those of the input
-  pub input-made : (us : List GivenUnit) → AddsModules size (transformed_modules c.translations (all_kept (modules_from 0 c.translations c.functions))) [] us → IsTransformed size (input_of order size c) us
-  input-made us h =
+module _ (c : CompilationValue) where
+  -- what is refused of the modules, in order
+  abbrev refusals_in : List Module → Option InputRefusal
+  refusals_in ms = option_map in_reading (first_of (flat_map module_refusals ms))
+
+  abbrev transformed : List Module
+  transformed = transformed_modules c.translations (all_kept (modules_from 0 c.translations c.functions))
+
+  abbrev input_refusal : Option InputRefusal
+  input_refusal = option_or (maps_refusal c) (refusals_in (modules_from 0 c.translations c.functions))
+
+  -- what is refused of the modules with their transforms is refused of the input, whose maps are good
+  input-refusals : maps_refusal c ≡ None → refusals_in transformed ≡ input_refusal
+  input-refusals good =
+      ap (λ (refusals : List Refusal). option_map in_reading (first_of refusals)) (ap (flat_map module_refusals) (transformed-kept 0 c.translations c.functions) ∙ all-refusals (modules_from 0 c.translations c.functions))
+      ∙ ap (λ o. option_or o (refusals_in (modules_from 0 c.translations c.functions))) (sym good)
+
+  pub input-refused : (e : DebugError) → maps_refusal c ≡ None → Refuses (refusals_in transformed) e → Refuses input_refusal e
+  input-refused e good h = subst (λ o. Refuses o e) (input-refusals good) h
+
+  -- a bad map refuses the input
+  pub maps-refused : (e : DebugError) → Refuses (maps_refusal c) e → Refuses input_refusal e
+  maps-refused e h = refuses-more (maps_refusal c) input_refusal e (λ r is. ap (λ o. option_or o (refusals_in (modules_from 0 c.translations c.functions))) is) h
+
+  -- the input is accepted, and the units that are added are those of it
+  pub input-transformed : (order : Endian) (size : ℕ) (us : List GivenUnit) → maps_refusal c ≡ None → (refusals_in transformed ≡ None) × AddsModules size transformed [] us
+      → (input_refusal ≡ None) × IsTransformed size (input_of order size c) us
+  input-transformed order size us good (none, h) =
       let ms = modules_from 0 c.translations c.functions in
-      let k : AddsModules size (map kept_module ms) [] us = subst (λ xs. AddsModules size xs [] us) (transformed-kept 0 c.translations c.functions) h in
-      record {
-        made = subst (AreMadeOf size (flat_map carried_in ms)) (sym k.added) (all-made size ms k.made k.each);
-        whole = all-whole ms k.whole;
-        accepted = ap first_of (sym (all-refusals ms) ∙ k.accepted);
-      }
-
--- What is refused is what is refused of the input.
-pub input-refused : (c : CompilationValue) (e : DebugError) → bad_map c ≡ None → Refuses (first_of (flat_map module_refusals (transformed_modules c.translations (all_kept (modules_from 0 c.translations c.functions))))) e
-    → RefusesInput (bad_map c) (first_of (flat_map module_refusals (modules_from 0 c.translations c.functions))) e
-input-refused c e good h = go e (subst (λ xs. Refuses (first_of xs) e) (ap (flat_map module_refusals) (transformed-kept 0 c.translations c.functions) ∙ all-refusals (modules_from 0 c.translations c.functions)) h)
-  where
-    go : (e : DebugError) → Refuses (first_of (flat_map module_refusals (modules_from 0 c.translations c.functions))) e → RefusesInput (bad_map c) (first_of (flat_map module_refusals (modules_from 0 c.translations c.functions))) e
-    go (Read what section offset) k = (good, k)
-    go (Unsupported kind offset) k = (good, k)
-    go (InvalidFileIndex offset) k = (good, k)
-    go (BadAddressMap m func why) k = absurd k
-    go (TooLarge what) k = absurd k
-    go OutOfMemory k = tt
-
--- A bad map refuses the input.
-pub maps-refused : (c : CompilationValue) (refusal : Option Refusal) (e : DebugError) → RefusesMaps (bad_map c) e → RefusesInput (bad_map c) refusal e
-maps-refused c refusal (Read what section offset) h = absurd h
-maps-refused c refusal (Unsupported kind offset) h = absurd h
-maps-refused c refusal (InvalidFileIndex offset) h = absurd h
-maps-refused c refusal (BadAddressMap m func why) h = h
-maps-refused c refusal (TooLarge what) h = h
-maps-refused c refusal OutOfMemory h = h
+      let k : AddsModules size (map kept_module ms) [] us = subst (λ xs. AddsModules size xs [] us) (transformed-kept 0 c.translations c.functions) h in (
+        sym (input-refusals good) ∙ none,
+        record {
+          made = subst (AreMadeOf size (flat_map carried_in ms)) (sym k.added) (all-made size ms k.made k.each);
+          whole = all-whole ms k.whole;
+        },
+      )

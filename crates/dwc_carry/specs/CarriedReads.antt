@@ -1,5 +1,5 @@
 -- What is made of the units that were read of a module.
-use Rattle.std.specs.Prelude.{◌≡◌, ◌&&◌, ℕ, nat_lt, vec_len, List, [], ◌++◌, Bool, true, false, Option, Some, None, is_some, Result, Ok, Err}
+use Rattle.std.specs.Prelude.{◌≡◌, ◌&&◌, ℕ, nat_lt, vec_len, List, ◌++◌, Bool, true, false, Option, Some, None, is_some, Result}
 use Rattle.std.specs.List.{filter, filter_map, AllZip}
 use Rattle.dwc_base.specs.Functions.{Function}
 use Rattle.dwc_base.specs.Refusals.{Refusal, lines_refusal, first_of}
@@ -7,7 +7,7 @@ use Rattle.dwc_write.specs.GivenLines.{GivenLines}
 use Rattle.dwc_write.specs.GivenUnits.{GivenUnit}
 use Rattle.dwc_carry.specs.declared.error.DebugError.{DebugError}
 use Rattle.dwc_carry.specs.declared.read_units.ReadUnit.{ReadUnit}
-use Rattle.dwc_carry.specs.Refusals.{Refuses}
+use Rattle.dwc_carry.specs.Refusals.{ReadsOr}
 use Rattle.dwc_carry.specs.OutputUnits.{output_unit}
 use Rattle.dwc_carry.specs.UnitPrograms.{CarriesNamed}
 
@@ -33,20 +33,21 @@ pub record CarriesRead (fs : List Function) (size : ℕ) (r : ReadUnit) (u : Giv
   pub carries : CarriesNamed fs r.unit.sections r.unit.header.address_size size r.entries.line_table lines
   pub is : u ≡ output_unit size lines (is_some r.entries.line_table) r.entries.subprograms.items
 
--- A unit of the output for one that is carried, or none for another, or the refusal of its line table.
-abbrev pub GivesCarried : List Function → ℕ → ReadUnit → Result (Option GivenUnit) DebugError → Type 0
-GivesCarried fs size r (Ok None) = is_carried r ≡ false
-GivesCarried fs size r (Ok (Some u)) = (is_carried r ≡ true) × CarriesRead fs size r u
-GivesCarried fs size r (Err e) = Refuses (refusal_if_carried r) e
+-- A unit of the output for one that is carried, or none for another.
+abbrev pub CarriesIf : List Function → ℕ → ReadUnit → Option GivenUnit → Type 0
+CarriesIf fs size r None = is_carried r ≡ false
+CarriesIf fs size r (Some u) = (is_carried r ≡ true) × CarriesRead fs size r u
 
--- Units are added, one to one and in order for the carried ones of those that were read; nothing is refused of these.
+-- That unit or none, or the refusal of its line table.
+abbrev pub GivesCarried : List Function → ℕ → ReadUnit → Result (Option GivenUnit) DebugError → Type 0
+GivesCarried fs size r result = ReadsOr (CarriesIf fs size r) (refusal_if_carried r) result
+
+-- Units are added, one to one and in order for the carried ones of those that were read.
 pub record AddsCarried (fs : List Function) (size : ℕ) (rs : List ReadUnit) (old new : List GivenUnit) : Type 0 where
   pub made : List GivenUnit
   pub added : new ≡ old ++ made
   pub each : AllZip (CarriesRead fs size) (filter is_carried rs) made
-  pub accepted : refusals_of rs ≡ []
 
 -- They are added, or the first refusal is answered.
 abbrev pub GivesAdded : List Function → ℕ → List ReadUnit → List GivenUnit → List GivenUnit → Result (Unit {0}) DebugError → Type 0
-GivesAdded fs size rs old new (Ok done) = AddsCarried fs size rs old new
-GivesAdded fs size rs old new (Err e) = Refuses (first_of (refusals_of rs)) e
+GivesAdded fs size rs old new result = ReadsOr (λ done. AddsCarried fs size rs old new) (first_of (refusals_of rs)) result

@@ -7,10 +7,12 @@ use Rattle.dwc_base.specs.declared.wasm.ModuleTranslation.{ModuleTranslation}
 use Rattle.dwc_base.specs.Translations.{translation_sections}
 use Rattle.dwc_base.specs.Functions.{functions_of}
 use Rattle.dwc_base.specs.Carried.{Module, Compilation}
+use Rattle.dwc_base.specs.Refusals.{first_refusal}
 use Rattle.dwc_clif.specs.AddressMaps.{address_map_view}
 use Rattle.dwc_addr.specs.Numbers.{Compiled}
 use Rattle.dwc_addr.specs.Compilations.{CompilationValue}
 use Rattle.dwc_addr.specs.Transforms.{first_bad_map}
+use Rattle.dwc_carry.specs.Refusals.{InputRefusal, bad_address_map, in_reading}
 
 -- a module of a translation and of the functions compiled from it, of which the first has a number
 abbrev pub module_view : ℕ → ModuleTranslation → List Compiled → Module
@@ -34,3 +36,11 @@ bad_map_from place (t ∷ ts) (fs ∷ fss) = option_or (option_map (λ bad. (pla
 
 abbrev pub bad_map : CompilationValue → Option (ℕ × (ℕ × MapFault))
 bad_map c = bad_map_from 0 c.translations c.functions
+
+-- the refusal of a compilation's address maps: that of the first bad one
+abbrev pub maps_refusal : CompilationValue → Option InputRefusal
+maps_refusal c = option_map (λ bad. bad_address_map bad.0 bad.1.0 bad.1.1) (bad_map c)
+
+-- The refusal of a compilation for a target: that of its address maps, or else the first in the order of reading.
+abbrev pub refusal_of : Endian → ℕ → CompilationValue → Option InputRefusal
+refusal_of order pointer_bytes c = option_or (maps_refusal c) (option_map in_reading (first_refusal (input_of order pointer_bytes c)))

@@ -1,6 +1,8 @@
--- The refusals of emitting DWARF, and the faults that they tell.
-use Rattle.std.specs.Prelude.{◌≡◌, Option, Some}
+-- The errors of emitting DWARF, and what they tell.
+use Rattle.std.specs.Prelude.{◌≡◌, ℕ, Option, Some, None, option_map, Result, Ok, Err}
 use Rattle.dwc_base.specs.Sections.{unreadable, unsupported}
+use Rattle.dwc_base.specs.declared.records.MapFault.{MapFault}
+use Rattle.dwc_base.specs.declared.faults.Limit.{Limit}
 use Rattle.dwc_base.specs.Refusals.{Refusal, of_place, missing_file}
 use Rattle.dwc_read.specs.declared.fault.ReadFault.{ReadFault}
 use Rattle.dwc_read.specs.declared.fault.ReadFault.TheVariants as read
@@ -35,11 +37,51 @@ abbrev pub of_writing : WriteError → DebugError
 of_writing (write.TooLarge what) = TooLarge what
 of_writing write.OutOfMemory = OutOfMemory
 
--- An error is the refusal of an input, if there is one; want of memory may be answered at any time.
-abbrev pub Refuses : Option Refusal → DebugError → Type 0
-Refuses refusal (Read what section offset) = refusal ≡ Some (of_place (unreadable what section offset))
-Refuses refusal (Unsupported kind offset) = refusal ≡ Some (of_place (unsupported kind offset))
-Refuses refusal (InvalidFileIndex offset) = refusal ≡ Some (missing_file offset)
-Refuses refusal (BadAddressMap m func why) = ⊥
-Refuses refusal (TooLarge what) = ⊥
-Refuses refusal OutOfMemory = Unit {0}
+-- ---- what an error tells
+
+-- Why an input is refused: the address map of a function, by the place of its module and its own among the functions defined there,
+-- breaks a rule; or something is refused in the order of reading.
+pub data InputRefusal : Type 0 where
+  bad_address_map : ℕ → ℕ → MapFault → InputRefusal
+  in_reading : Refusal → InputRefusal
+
+-- a refusal, a limit that would be passed, or want of memory
+pub data Told : Type 0 where
+  refused : InputRefusal → Told
+  limit : Limit → Told
+  memory : Told
+
+abbrev pub told : DebugError → Told
+told (Read what section offset) = refused (in_reading (of_place (unreadable what section offset)))
+told (Unsupported kind offset) = refused (in_reading (of_place (unsupported kind offset)))
+told (InvalidFileIndex offset) = refused (in_reading (missing_file offset))
+told (BadAddressMap m func why) = refused (bad_address_map m func why)
+told (TooLarge what) = limit what
+told OutOfMemory = memory
+
+-- What is told is the refusal of an input, if there is one; a limit, where nothing is refused and that limit could be passed; or
+-- want of memory, at any time.
+abbrev pub IsCause : (Limit → Type 0) → Option InputRefusal → Told → Type 0
+IsCause passes refusal (refused r) = refusal ≡ Some r
+IsCause passes refusal (limit what) = (refusal ≡ None) × passes what
+IsCause passes refusal memory = Unit {0}
+
+-- Where nothing is refused, what is answered has a property; an error has its cause.
+abbrev pub GivesWithin : {X : Type 0} → (Limit → Type 0) → (X → Type 0) → Option InputRefusal → Result X DebugError → Type 0
+GivesWithin passes has refusal (Ok x) = (refusal ≡ None) × has x
+GivesWithin passes has refusal (Err e) = IsCause passes refusal (told e)
+
+-- the same where no limit is
+abbrev pub Refuses : Option InputRefusal → DebugError → Type 0
+Refuses refusal e = IsCause (λ what. ⊥) refusal (told e)
+
+abbrev pub GivesOr : {X : Type 0} → (X → Type 0) → Option InputRefusal → Result X DebugError → Type 0
+GivesOr has refusal (Ok x) = (refusal ≡ None) × has x
+GivesOr has refusal (Err e) = Refuses refusal e
+
+-- and where something may be refused in the order of reading alone
+abbrev pub RefusesReading : Option Refusal → DebugError → Type 0
+RefusesReading refusal e = Refuses (option_map in_reading refusal) e
+
+abbrev pub ReadsOr : {X : Type 0} → (X → Type 0) → Option Refusal → Result X DebugError → Type 0
+ReadsOr has refusal result = GivesOr has (option_map in_reading refusal) result

@@ -1,5 +1,5 @@
 -- What the line program of a carried unit carries.
-use Rattle.std.specs.Prelude.{◌≡◌, ℕ, List, true, Option, Some, None, Result, Ok, Err}
+use Rattle.std.specs.Prelude.{◌≡◌, ℕ, List, true, Option, Some, None, Result, Ok}
 use Rattle.dwc_base.specs.Sections.{Sections}
 use Rattle.dwc_base.specs.Functions.{Function}
 use Rattle.dwc_base.specs.LineRows.{LineTable, line_table}
@@ -7,7 +7,7 @@ use Rattle.dwc_base.specs.LineFiles.{has_all_files}
 use Rattle.dwc_base.specs.Refusals.{lines_refusal}
 use Rattle.dwc_write.specs.GivenLines.{GivenLines, no_lines}
 use Rattle.dwc_carry.specs.declared.error.DebugError.{DebugError}
-use Rattle.dwc_carry.specs.Refusals.{Refuses}
+use Rattle.dwc_carry.specs.Refusals.{ReadsOr}
 use Rattle.dwc_carry.specs.CarriedLines.{CarriesTable}
 
 -- A line program carries the line table at an offset, all of whose files and directories are there.
@@ -24,5 +24,4 @@ CarriesNamed fs s address_size size (Some offset) lines = CarriesTableAt fs s ad
 
 -- A line program, or the refusal of the line table.
 abbrev pub GivesProgram : List Function → Sections → ℕ → ℕ → Option ℕ → Result GivenLines DebugError → Type 0
-GivesProgram fs s address_size size offset (Ok lines) = CarriesNamed fs s address_size size offset lines
-GivesProgram fs s address_size size offset (Err e) = Refuses (lines_refusal s address_size offset) e
+GivesProgram fs s address_size size offset result = ReadsOr (CarriesNamed fs s address_size size offset) (lines_refusal s address_size offset) result

@@ -1,6 +1,6 @@
 -- What is emitted for a map and modules, as it was read.
-use Rattle.std.proofs.Common.{◌≡◌, ◌⊎◌, ℕ, suc, ◌+◌, ◌≤◌, ◌<◌, ◌^◌, List, [], ◌∷◌, ◌++◌, map, length, refl, sym, ap, ◌∙◌, subst, arith, inl, inr, Bool, true, false, Option, Some, None, Result, Ok, Err, Vec, All}
-use Rattle.std.specs.Prelude.{◌==◌, ◌&&◌, nat_lt, option_map, is_some, if◌then◌else◌, string_bytes, sum_by}
+use Rattle.std.proofs.Common.{◌≡◌, ℕ, suc, ◌+◌, ◌≤◌, ◌<◌, ◌^◌, List, [], ◌∷◌, map, length, refl, sym, ap, ◌∙◌, subst, arith, inl, inr, Bool, true, false, Option, Some, None, Ok, Err, Vec, All}
+use Rattle.std.specs.Prelude.{◌==◌, ◌&&◌, nat_lt, option_map, if◌then◌else◌, sum_by}
 use Rattle.std.specs.Option.{option_or}
 use Rattle.std.specs.List.{AllZip, flat_map, fold}
 use Rattle.std.specs.Global.{Global}
@@ -16,10 +16,9 @@ use Rattle.dwc_base.specs.Functions.{AddressMap, map_fault, functions_of}
 use Rattle.dwc_base.specs.Wasm.{WasmModule, module_sections}
 use Rattle.dwc_base.specs.Translations.{translation_sections, IsTranslation}
 use Rattle.dwc_base.specs.Carried.{Module, Compilation, LinesCarried}
-use Rattle.dwc_base.specs.Refusals.{Refusal, of_place, missing_file, first_refusal}
+use Rattle.dwc_base.specs.Refusals.{Refusal, first_refusal}
 use Rattle.dwc_base.specs.Widest.{widest}
 use Rattle.dwc_write.specs.Writers.{IsSound}
-use Rattle.dwc_base.specs.Sections.{unreadable, unsupported}
 use Rattle.dwc_base.proofs.Translated.{translation_sections-is}
 use Rattle.dwc_clif.specs.AddressMaps.{address_map_view}
 use Rattle.dwc_addr.specs.Numbers.{Compiled, function_count, symbols_in, all_symbols, symbol_view}
@@ -29,7 +28,6 @@ use Rattle.dwc_cli.specs.declared.map_file.MapModule.{MapModule}
 use Rattle.dwc_cli.specs.MapFile as value
 use Rattle.dwc_cli.specs.MapViews as views
 use Rattle.dwc_cli.specs.declared.map_file.MapFile.{MapFile}
-use Rattle.dwc_base.specs.declared.records.SymbolId.{SymbolId}
 use Rattle.dwc_base.specs.Outputs.{section_view}
 use Rattle.dwc_addr.specs.declared.compilation_error.CompilationError.{CompilationError}
 use Rattle.dwc_addr.specs.declared.compilation_error.CompilationError.TheVariants as compiling
@@ -38,11 +36,11 @@ use Rattle.dwc_addr.specs.Numbers.{AreDistinct}
 use Rattle.dwc_addr.specs.Compilations.{CompilationValue, IsCounted}
 use Rattle.dwc_base.specs.declared.faults.Limit.TheVariants.{Section}
 use Rattle.dwc_carry.specs.declared.error.DebugError.{DebugError}
-use Rattle.dwc_carry.specs.declared.error.DebugError.TheVariants as debug
+use Rattle.dwc_carry.specs.Refusals as refusals
+use Rattle.dwc_carry.specs.Refusals.{Told, told, bad_address_map, in_reading}
 use Rattle.dwc_carry.specs.Emits as emits
-use Rattle.dwc_cli.specs.Inputs.{Loaded, compilation_of, BadMap, bad_map, shared_in, modules_of, bad_function, bad_module}
-use Rattle.dwc_cli.specs.RunStatus.{refusal_status}
-use Rattle.dwc_cli.specs.Failures.{compiling_status, carrying_status}
+use Rattle.dwc_cli.specs.Inputs.{Loaded, compilation_of, bad_map, shared_in, modules_of, bad_function, bad_module}
+use Rattle.dwc_cli.specs.Failures.{compiling_status, input_status, told_status, carrying_status}
 use Rattle.dwc_cli.specs.Answers.{first_status, hindrance, IsEmitted, IsCause, IsReadAs}
 use Rattle.dwc_cli.specs.Compiled.{bad_view, IsCompiled}
 
@@ -129,33 +127,34 @@ compiled ts f read seen = record {
 -- ---- what hinders
 
 module _ (c : CompilationValue) (order : Endian) (size : ℕ) (read : Loaded) (is : IsCompiled order size c.translations c.functions read) where
-  -- where no two functions have one symbol, by the first bad map and the first refusal
-  hindrance-is : shared_symbol (map symbol_view (all_symbols c.functions)) ≡ None → hindrance read ≡ first_status None (option_map bad_view (carry.bad_map c)) (first_refusal (carry.input_of order size c))
+  first-is : (bad : Option (ℕ × (ℕ × MapFault))) (refusal : Option Refusal) → first_status None (option_map bad_view bad) refusal
+      ≡ option_map input_status (option_or (option_map (λ bad. bad_address_map bad.0 bad.1.0 bad.1.1) bad) (option_map in_reading refusal))
+  first-is (Some bad) refusal = refl
+  first-is None (Some r) = refl
+  first-is None None = refl
+
+  -- where no two functions have one symbol, by the refusal of the input
+  hindrance-is : shared_symbol (map symbol_view (all_symbols c.functions)) ≡ None → hindrance read ≡ option_map input_status (carry.refusal_of order size c)
   hindrance-is none =
       ap (λ shared. first_status shared (bad_map read) (first_refusal (compilation_of read))) (is.symbols ∙ none)
       ∙ ap (λ bad. first_status None bad (first_refusal (compilation_of read))) is.maps
       ∙ ap (λ input. first_status None (option_map bad_view (carry.bad_map c)) (first_refusal input)) is.input
-
-  no-bad : shared_symbol (map symbol_view (all_symbols c.functions)) ≡ None → carry.bad_map c ≡ None → hindrance read ≡ first_status None None (first_refusal (carry.input_of order size c))
-  no-bad none good = hindrance-is none ∙ ap (λ bad. first_status None (option_map bad_view bad) (first_refusal (carry.input_of order size c))) good
-
-  refused : shared_symbol (map symbol_view (all_symbols c.functions)) ≡ None → carry.bad_map c ≡ None → (o : Option Refusal) → first_refusal (carry.input_of order size c) ≡ o → hindrance read ≡ first_status None None o
-  refused none good o found = no-bad none good ∙ ap (first_status None None) found
+      ∙ first-is (carry.bad_map c) (first_refusal (carry.input_of order size c))
 
   pub emitted : shared_symbol (map symbol_view (all_symbols c.functions)) ≡ None → (s : Vec DwarfSection Global) → emits.Emits order size c (Ok s) → IsEmitted read (map section_view s.items)
   emitted none s h = record {
-    unhindered = refused none h.0 None h.1.accepted;
+    unhindered = hindrance-is none ∙ ap (option_map input_status) h.0;
     carried = subst (λ input. LinesCarried input (map section_view s.items)) (sym is.input) h.1.carried;
     sound = subst (λ input. All (IsSound input.order) (map section_view s.items)) (sym is.input) h.1.sound;
   }
 
   pub refused-emitting : shared_symbol (map symbol_view (all_symbols c.functions)) ≡ None → (e : DebugError) → emits.Emits order size c (Err e) → IsCause read (carrying_status e)
-  refused-emitting none (debug.Read what name offset) h = inr (inl (refused none h.0 (Some (of_place (unreadable what name offset))) h.1))
-  refused-emitting none (debug.Unsupported kind offset) h = inr (inl (refused none h.0 (Some (of_place (unsupported kind offset))) h.1))
-  refused-emitting none (debug.InvalidFileIndex offset) h = inr (inl (refused none h.0 (Some (missing_file offset)) h.1))
-  refused-emitting none (debug.BadAddressMap m func why) h = inr (inl (hindrance-is none ∙ ap (λ bad. first_status None (option_map bad_view bad) (first_refusal (carry.input_of order size c))) h))
-  refused-emitting none (debug.TooLarge (Section name)) h = inr (inr (refl, refused none h.0 None h.1.accepted, (name, subst (λ input. 2 ^ 31 ≤ widest name input) (sym is.input) h.1.long)))
-  refused-emitting none debug.OutOfMemory h = inl refl
+  refused-emitting none e = go (told e)
+    where
+      go : (t : Told) → refusals.IsCause (emits.IsTooLong (carry.input_of order size c)) (carry.refusal_of order size c) t → IsCause read (told_status t)
+      go (refusals.refused r) h = inr (inl (hindrance-is none ∙ ap (option_map input_status) h))
+      go (refusals.limit (Section name)) h = inr (inr (refl, hindrance-is none ∙ ap (option_map input_status) h.0, (name, subst (λ input. 2 ^ 31 ≤ widest name input) (sym is.input) h.1)))
+      go refusals.memory h = inl refl
 
 shared-some : (read : Loaded) (functions : ℕ × ℕ) → shared_in read ≡ Some functions → hindrance read ≡ Some 21
 shared-some read functions e = rw e refl

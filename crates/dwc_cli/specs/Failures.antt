@@ -6,11 +6,12 @@ use Rattle.dwc_base.specs.declared.wasm.WasmFault.TheVariants.{Malformed}
 use Rattle.dwc_addr.specs.declared.compilation_error.CompilationError.{CompilationError}
 use Rattle.dwc_addr.specs.declared.compilation_error.CompilationError.TheVariants as compiling
 use Rattle.dwc_carry.specs.declared.error.DebugError.{DebugError}
-use Rattle.dwc_carry.specs.declared.error.DebugError.TheVariants as debug
+use Rattle.dwc_carry.specs.Refusals.{InputRefusal, bad_address_map, in_reading, Told, refused, limit, memory, told}
 use Rattle.dwc_cli.specs.declared.status.Status.{Status}
 use Rattle.dwc_cli.specs.declared.status.Status.TheVariants as statuses
 use Rattle.dwc_cli.specs.declared.failure.Failure.{Failure}
 use Rattle.dwc_cli.specs.declared.failure.Failure.TheVariants.{Usage, ReadFault, TooLong, MalformedMap, WriteFault, OutOfMemory, Refused}
+use Rattle.dwc_cli.specs.RunStatus.{refusal_status}
 use Rattle.dwc_cli.specs.Printed.{line_feed}
 
 abbrev pub status_code : Status → ℕ
@@ -50,13 +51,17 @@ compiling_status (compiling.SharedSymbol first second) = 21
 compiling_status compiling.OutOfMemory = 9
 
 -- the status of a run whose lines are not carried
+abbrev pub input_status : InputRefusal → ℕ
+input_status (bad_address_map m func why) = 13
+input_status (in_reading r) = refusal_status r
+
+abbrev pub told_status : Told → ℕ
+told_status (refused r) = input_status r
+told_status (limit what) = 20
+told_status memory = 9
+
 abbrev pub carrying_status : DebugError → ℕ
-carrying_status (debug.Read what section offset) = 10
-carrying_status (debug.Unsupported what offset) = 11
-carrying_status (debug.InvalidFileIndex offset) = 12
-carrying_status (debug.BadAddressMap m func why) = 13
-carrying_status (debug.TooLarge what) = 20
-carrying_status debug.OutOfMemory = 9
+carrying_status e = told_status (told e)
 
 -- a line of the program's own
 abbrev pub line_of : List ℕ → List ℕ

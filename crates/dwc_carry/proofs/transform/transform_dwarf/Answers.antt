@@ -1,7 +1,7 @@
 use Rattle.std.proofs.Common.{sym, ◌∙◌, subst, All}
 use Rattle.std.proofs.lemmas.Result.{err_from_is_err_and}
 use Rattle.dwc_carry.specs.ImageRows.{IsOrdered}
-use Rattle.dwc_carry.proofs.TransformLaws.{counted-same, all-length, all-ordered, input-made, input-refused}
+use Rattle.dwc_carry.proofs.TransformLaws.{counted-same, all-length, all-ordered, input-transformed, input-refused, maps-refused}
 use Rattle.dwc_carry.proofs.transform.transform_dwarf.Goals as goal
 
 pub carry_modules-requires-clause-each : goal.carry_modules-requires-clause-each
@@ -18,6 +18,12 @@ returns-in_err-carry_modules-clause-units g c =
     let p = err_from_is_err_and c.from_residual-in_err-carry_modules.result c.from_residual-in_err-carry_modules.ensures.1 in
     rw (p.1, p.2) (input-refused c.args.compilation.now c.in_err-carry_modules.field-0.0 c.in_ok-transforms.ensures.0 (rw (c.deref.ensures.value, c.in_ok-transforms.ensures.1, c.translations-translations.ensures.translations) at c.in_err-carry_modules.ensures))
 
+pub returns-in_err-transforms-clause-units : goal.returns-in_err-transforms-clause-units
+returns-in_err-transforms-clause-units g c =
+    let p = err_from_is_err_and c.from_residual.result c.from_residual.ensures.1 in
+    rw (p.1, p.2) (maps-refused c.args.compilation.now c.in_err-transforms.field-0.0 c.in_err-transforms.ensures)
+
 pub returns-clause-units : goal.returns-clause-units
 returns-clause-units g c =
-    (c.in_ok-transforms.ensures.0, input-made _ _ c.args.compilation.now c.carry_modules.new.units.units.items (rw (c.deref.ensures.value, c.in_ok-transforms.ensures.1, c.translations-translations.ensures.translations, c.new-units.ensures, c.pointer_bytes.ensures.0) at c.in_ok-carry_modules.ensures))
+    input-transformed c.args.compilation.now _ _ c.carry_modules.new.units.units.items c.in_ok-transforms.ensures.0
+    (rw (c.deref.ensures.value, c.in_ok-transforms.ensures.1, c.translations-translations.ensures.translations, c.new-units.ensures, c.pointer_bytes.ensures.0) at c.in_ok-carry_modules.ensures)

@@ -1,8 +1,6 @@
-use Rattle.std.proofs.Common.{map, sym, ap, ◌∙◌, subst, length}
+use Rattle.std.proofs.Common.{sym, ap, ◌∙◌, subst}
 use Rattle.dwc_addr.specs.Compilations.{lists, IsCounted}
-use Rattle.dwc_cli.specs.Answers.{Emits}
-use Rattle.dwc_cli.specs.Compiled.{IsCompiled}
-use Rattle.dwc_cli.proofs.EmittedLaws.{functions_in, compiled, counted}
+use Rattle.dwc_cli.proofs.EmittedLaws.{compiled, counted}
 use Rattle.dwc_cli.proofs.emitting.emitted.Goals as goal
 
 pub compiled-requires : goal.compiled-requires
