@@ -2,8 +2,11 @@
 use Rattle.std.proofs.Common.{◌≡◌, ℕ, List, [], ◌∷◌, Bool, true, false, if◌then◌else◌, Some, None, refl, sym, ap, subst, arith}
 use Rattle.std.specs.Prelude.{Any, unwrap_or}
 use Rattle.std.specs.List.{list_all}
+use Rattle.dwc_cli.specs.declared.failure.Failure.{Failure}
+use Rattle.dwc_cli.specs.declared.failure.Failure.TheVariants.{Usage, ReadFault, TooLong, MalformedMap, WriteFault, OutOfMemory, Refused}
+use Rattle.dwc_cli.specs.Printed.{is_line}
 use Rattle.dwc_cli.specs.Inputs.{Paths, is_path, paths_of, all_paths}
-use Rattle.dwc_cli.specs.Failures.{usage_message, fault_message, length_message, write_message}
+use Rattle.dwc_cli.specs.Failures.{usage_message, fault_message, length_message, write_message, failure_status, failure_message, IsOnOneLine}
 use Rattle.dwc_cli.specs.Answers.{IsMessage, IsReadingStatus, reading_statuses, IsTextStatus, text_statuses}
 use Rattle.dwc_cli.proofs.Statuses.{IsOneOf-other}
 
@@ -20,12 +23,23 @@ words_are_paths (m ∷ w ∷ ws) p e = go (list_all is_path (m ∷ w ∷ ws)) e
     go true e = ap (λ o. all_paths (unwrap_or o p)) (sym e)
     go false e = absurd (none_is_no_value p e)
 
+-- the message of a failure that names no path
+pub is_line-message : (failure : Failure) → IsOnOneLine failure → (failure_status failure ≡ 3 → ⊥) → (failure_status failure ≡ 4 → ⊥) → is_line (failure_message failure) ≡ true
+is_line-message (ReadFault path) one not_three not_four = absurd (not_three refl)
+is_line-message (TooLong path) one not_three not_four = absurd (not_four refl)
+is_line-message Usage one not_three not_four = one
+is_line-message MalformedMap one not_three not_four = one
+is_line-message WriteFault one not_three not_four = one
+is_line-message OutOfMemory one not_three not_four = one
+is_line-message (Refused status refusal) one not_three not_four = one
+
 pub IsMessage-usage : (words : List (List ℕ)) → IsMessage words 2 usage_message
 IsMessage-usage words = record {
   usage = λ _. refl;
   fault = λ e. absurd (omega (arith, e));
   too_long = λ e. absurd (omega (arith, e));
   write = λ e. absurd (omega (arith, e));
+  line = λ _ _. refl;
 }
 
 pub IsMessage-write : (words : List (List ℕ)) → IsMessage words 8 write_message
@@ -34,22 +48,25 @@ IsMessage-write words = record {
   fault = λ e. absurd (omega (arith, e));
   too_long = λ e. absurd (omega (arith, e));
   write = λ _. refl;
+  line = λ _ _. refl;
 }
 
 -- of files that cannot be read
-pub IsMessage-reading : (words : List (List ℕ)) (p : Paths) (status : ℕ) (message : List ℕ) → paths_of words ≡ Some p → IsReadingStatus status → (status ≡ 3 → Any (λ path. message ≡ fault_message path) (all_paths p)) → (status ≡ 4 → Any (λ path. message ≡ length_message path) (all_paths p)) → IsMessage words status message
-IsMessage-reading words p status message is_p one fault too_long = record {
-  usage = λ e. absurd (IsOneOf-other reading_statuses status 2 one refl e);
-  fault = λ e. subst (Any (λ path. message ≡ fault_message path)) (words_are_paths words p is_p) (fault e);
-  too_long = λ e. subst (Any (λ path. message ≡ length_message path)) (words_are_paths words p is_p) (too_long e);
-  write = λ e. absurd (IsOneOf-other reading_statuses status 8 one refl e);
+pub IsMessage-reading : (words : List (List ℕ)) (p : Paths) (failure : Failure) → paths_of words ≡ Some p → IsOnOneLine failure → IsReadingStatus (failure_status failure) → (failure_status failure ≡ 3 → Any (λ path. failure_message failure ≡ fault_message path) (all_paths p)) → (failure_status failure ≡ 4 → Any (λ path. failure_message failure ≡ length_message path) (all_paths p)) → IsMessage words (failure_status failure) (failure_message failure)
+IsMessage-reading words p failure is_p one_line one fault too_long = record {
+  usage = λ e. absurd (IsOneOf-other reading_statuses (failure_status failure) 2 one refl e);
+  fault = λ e. subst (Any (λ path. failure_message failure ≡ fault_message path)) (words_are_paths words p is_p) (fault e);
+  too_long = λ e. subst (Any (λ path. failure_message failure ≡ length_message path)) (words_are_paths words p is_p) (too_long e);
+  write = λ e. absurd (IsOneOf-other reading_statuses (failure_status failure) 8 one refl e);
+  line = is_line-message failure one_line;
 }
 
 -- of an input that has no text
-pub IsMessage-text : (words : List (List ℕ)) (status : ℕ) (message : List ℕ) → IsTextStatus status → IsMessage words status message
-IsMessage-text words status message one = record {
-  usage = λ e. absurd (IsOneOf-other text_statuses status 2 one refl e);
-  fault = λ e. absurd (IsOneOf-other text_statuses status 3 one refl e);
-  too_long = λ e. absurd (IsOneOf-other text_statuses status 4 one refl e);
-  write = λ e. absurd (IsOneOf-other text_statuses status 8 one refl e);
+pub IsMessage-text : (words : List (List ℕ)) (failure : Failure) → IsOnOneLine failure → IsTextStatus (failure_status failure) → IsMessage words (failure_status failure) (failure_message failure)
+IsMessage-text words failure one_line one = record {
+  usage = λ e. absurd (IsOneOf-other text_statuses (failure_status failure) 2 one refl e);
+  fault = λ e. absurd (IsOneOf-other text_statuses (failure_status failure) 3 one refl e);
+  too_long = λ e. absurd (IsOneOf-other text_statuses (failure_status failure) 4 one refl e);
+  write = λ e. absurd (IsOneOf-other text_statuses (failure_status failure) 8 one refl e);
+  line = is_line-message failure one_line;
 }

@@ -1,5 +1,5 @@
 -- The numbers of statuses, and what the line of a failure says.
-use Rattle.std.specs.Prelude.{ℕ, List, ◌++◌, codes}
+use Rattle.std.specs.Prelude.{◌≡◌, ℕ, List, ◌++◌, true, codes}
 use Rattle.dwc_base.specs.declared.wasm.WasmFault.{WasmFault}
 use Rattle.dwc_base.specs.declared.wasm.WasmFault.TheVariants as wasm
 use Rattle.dwc_base.specs.declared.wasm.WasmFault.TheVariants.{Malformed}
@@ -12,7 +12,7 @@ use Rattle.dwc_cli.specs.declared.status.Status.TheVariants as statuses
 use Rattle.dwc_cli.specs.declared.failure.Failure.{Failure}
 use Rattle.dwc_cli.specs.declared.failure.Failure.TheVariants.{Usage, ReadFault, TooLong, MalformedMap, WriteFault, OutOfMemory, Refused}
 use Rattle.dwc_cli.specs.RunStatus.{refusal_status}
-use Rattle.dwc_cli.specs.Printed.{line_feed}
+use Rattle.dwc_cli.specs.Printed.{line_feed, is_line}
 
 abbrev pub status_code : Status → ℕ
 status_code statuses.Done = 0
@@ -89,3 +89,13 @@ failure_message MalformedMap = codes "malformed map"
 failure_message WriteFault = write_message
 failure_message OutOfMemory = codes "out of memory"
 failure_message (Refused status refusal) = refusal
+
+-- the message of a failure has no line feed but inside a path
+abbrev pub IsOnOneLine : Failure → Type 0
+IsOnOneLine (ReadFault path) = Unit {0}
+IsOnOneLine (TooLong path) = Unit {0}
+IsOnOneLine Usage = is_line usage_message ≡ true
+IsOnOneLine MalformedMap = is_line (failure_message MalformedMap) ≡ true
+IsOnOneLine WriteFault = is_line write_message ≡ true
+IsOnOneLine OutOfMemory = is_line (failure_message OutOfMemory) ≡ true
+IsOnOneLine (Refused status refusal) = is_line refusal ≡ true

@@ -1,7 +1,7 @@
 //! The top call.
 ghost use Rattle.std.specs.Prelude.{◌≡◌, ◌≢◌, ◌<◌, ◌∷◌, [], map, string_bytes};
 ghost use Rattle.dwc_cli.specs.RunStatus.{Rose, Succeeds, UsageCause, MissingCause, InputCauses, PrefixWritten, IsStatus, IsOneOf, RunsWell, most_bytes};
-ghost use Rattle.dwc_cli.specs.Failures.{failure_status, failure_message};
+ghost use Rattle.dwc_cli.specs.Failures.{failure_status, failure_message, IsOnOneLine};
 ghost use Rattle.dwc_cli.specs.Answers.{Tells, Complains};
 
 use crate::answer::text_of;
@@ -67,6 +67,7 @@ pub fn run<S: Source, K: Sink, E: Sink>(
 fn refuse<E: Sink>(err: &mut E, failure: &Failure<'_>) -> u8
     ensures status { result ≡ failure_status failure.now }
     ensures said { Tells (E.faults err.old) (E.faults err.new) (E.written err.old) (E.written err.new) (failure_message failure.now) }
+    ensures one_line { IsOnOneLine failure.now }
 {
     match complain(err, failure) {
         Ok(()) | Err(Failed) => failure.status().code(),

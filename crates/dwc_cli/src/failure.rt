@@ -2,7 +2,7 @@
 ghost use Rattle.std.specs.Prelude.{◌≡◌, ◌++◌, OnOk};
 ghost use Rattle.dwc_cli.specs.Devices.{HasCause};
 ghost use Rattle.dwc_cli.specs.RunStatus.{Appended};
-ghost use Rattle.dwc_cli.specs.Failures.{status_code, failure_status, failure_message, line_of};
+ghost use Rattle.dwc_cli.specs.Failures.{status_code, failure_status, failure_message, line_of, IsOnOneLine};
 
 use crate::refusal::Refusal;
 use crate::sink::{Sink, write_all};
@@ -124,7 +124,8 @@ impl Failure<'_> {
 
     // The message, in two parts.
     fn message(&self) -> (&'static str, &[u8])
-        ensures { result.0.now ++ result.1.now ≡ failure_message self.now }
+        ensures text { result.0.now ++ result.1.now ≡ failure_message self.now }
+        ensures line { IsOnOneLine self.now }
     {
         match self {
             Failure::Usage => (USAGE, &[]),
@@ -141,6 +142,7 @@ impl Failure<'_> {
 // Writes the line of a failure: `dwarfcarry: `, the message and a line feed.
 pub(crate) fn complain<E: Sink>(err: &mut E, failure: &Failure<'_>) -> Result<(), Failed>
     ensures line { OnOk result (Appended (E.written err.old) (E.written err.new) (line_of (failure_message failure.now))) }
+    ensures one_line { IsOnOneLine failure.now }
     ensures cause { HasCause (E.faults err.old) (E.faults err.new) result }
 {
     let (message, detail) = failure.message();

@@ -1,7 +1,8 @@
 //! The text of a refusal, kept where no memory is wanted.
-ghost use Rattle.std.specs.Prelude.{◌≡◌};
+ghost use Rattle.std.specs.Prelude.{◌≡◌, true};
+ghost use Rattle.dwc_cli.specs.Printed.{is_line};
 
-use crate::front::copy_front;
+use crate::front::line_front;
 use std::fmt;
 use std::fmt::{Display, Write};
 use std::marker::Model;
@@ -9,7 +10,7 @@ use std::marker::Model;
 // No refusal has a longer text: its name, kinds and names of sections, and numbers.
 const ROOM: usize = 128;
 
-// The text of a refusal: its name and its fields, with a space between.
+// The text of a refusal: its name and its fields, with a space between, on one line.
 #[derive(Drop)]
 pub(crate) struct Refusal {
     bytes: [u8; ROOM],
@@ -17,17 +18,19 @@ pub(crate) struct Refusal {
 }
 
 impl Model for Refusal {
-    ghost use Rattle.std.specs.Prelude.{ℕ, List, take, ◌≤◌};
+    ghost use Rattle.std.specs.Prelude.{◌≡◌, ℕ, List, take, ◌≤◌, true};
+    ghost use Rattle.dwc_cli.specs.Printed.{is_line};
 
     ghost Value = { List ℕ };
 
     ghost view = { λ r. take r.len r.bytes };
 
-    ghost invariant = { λ r. r.len ≤ 128 };
+    ghost invariant = { λ r. (r.len ≤ 128) × (is_line (take r.len r.bytes) ≡ true) };
 }
 
 impl Refusal {
-    // The text that a refusal displays; what is past the room is left out.
+    // The text that a refusal displays; what is past the room is left out, and so is a piece with a line feed, which no
+    // refusal displays.
     pub(crate) fn of<D: Display>(refusal: &D) -> Refusal {
         let mut text = Refusal {
             bytes: [0; ROOM],
@@ -38,7 +41,8 @@ impl Refusal {
     }
 
     pub(crate) fn text(&self) -> &[u8]
-        ensures { result.now ≡ self.now }
+        ensures text { result.now ≡ self.now }
+        ensures line { is_line self.now ≡ true }
     {
         &self.bytes[..self.len]
     }
@@ -46,7 +50,10 @@ impl Refusal {
 
 impl Write for Refusal {
     fn write_str(&mut self, s: &str) -> fmt::Result {
-        self.len += copy_front(s.as_bytes(), &mut self.bytes[self.len..]);
+        let piece = line_front(s.as_bytes(), ROOM - self.len);
+        let end = self.len + piece.len();
+        self.bytes[self.len..end].copy_from_slice(piece);
+        self.len = end;
         Ok(())
     }
 }

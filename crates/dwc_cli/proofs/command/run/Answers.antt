@@ -104,14 +104,14 @@ pub returns-in-Err-clause-said : goal.returns-in-Err-clause-said
 returns-in-Err-clause-said g c = λ _.
     let words = map string_bytes c.args.words.now in
     let message = failure_message c.in-Err.failure in
-    let says = IsMessage-reading words (paths_view c.in-Some.paths) (failure_status c.in-Err.failure) message (sym c.in-Some.ensures) c.in-Err.ensures.status c.in-Err.ensures.fault_told c.in-Err.ensures.length_told in
+    let says = IsMessage-reading words (paths_view c.in-Some.paths) c.in-Err.failure (sym c.in-Some.ensures) c.refuse-in-Err.ensures.one_line c.in-Err.ensures.status c.in-Err.ensures.fault_told c.in-Err.ensures.length_told in
     (message, subst (λ s. IsMessage words s message) (sym c.refuse-in-Err.ensures.status) says, c.refuse-in-Err.ensures.said)
 
 pub returns-in-Err-text_of-clause-said : goal.returns-in-Err-text_of-clause-said
 returns-in-Err-text_of-clause-said g c = λ _.
     let words = map string_bytes c.args.words.now in
     let message = failure_message c.in-Err-text_of.failure in
-    let says = IsMessage-text words (failure_status c.in-Err-text_of.failure) message c.in-Err-text_of.ensures.status in
+    let says = IsMessage-text words c.in-Err-text_of.failure c.refuse-in-Err-text_of.ensures.one_line c.in-Err-text_of.ensures.status in
     (message, subst (λ s. IsMessage words s message) (sym c.refuse-in-Err-text_of.ensures.status) says, c.refuse-in-Err-text_of.ensures.said)
 
 pub returns-clause-said : goal.returns-clause-said
