@@ -1,5 +1,5 @@
 -- A source and a sink in memory, as values.
-use Rattle.std.specs.Prelude.{◌≡◌, ℕ, ◌+◌, ◌-◌, ◌^◌, ◌==◌, min, nat_lt, Bool, ◌&&◌, List, [], ◌++◌, take, drop, length, string_bytes, String, Vec, if◌then◌else◌, Option, Some, None, option_map, is_some, slice_get, replicate}
+use Rattle.std.specs.Prelude.{◌≡◌, ℕ, ◌+◌, ◌-◌, ◌^◌, ◌==◌, min, max, nat_lt, Bool, ◌&&◌, List, [], ◌++◌, take, drop, length, string_bytes, String, Vec, if◌then◌else◌, Option, Some, None, option_map, is_some, slice_get, replicate}
 use Rattle.std.specs.Global.{Global}
 use Rattle.std.specs.List.{list_any}
 use Rattle.std.specs.Ordering.{nat_cmp}
@@ -12,6 +12,10 @@ use Rattle.dwc_cli.specs.RunStatus.{Files}
 abbrev pub one_more : ℕ → ℕ
 one_more n = min (n + 1) (2 ^ 64 - 1)
 
+-- so many more, up to the type's end
+abbrev pub more : ℕ → ℕ → ℕ
+more n count = min (n + count) (2 ^ 64 - 1)
+
 -- whether the call after so many is to fail
 abbrev pub next_fails : ℕ → List ℕ → Bool
 next_fails calls failing = list_any (λ number. number == one_more calls) failing
@@ -23,6 +27,7 @@ pub record MemorySource : Type 0 where
   pub failing : List ℕ
   pub left : Option (List ℕ)
   pub taken : ℕ
+  pub longest : ℕ
   pub calls : ℕ
   pub faults : ℕ
 
@@ -31,7 +36,7 @@ abbrev pub file_entry : String Global × Vec ℕ Global → List ℕ × List ℕ
 file_entry file = (string_bytes file.0, file.1.items)
 
 abbrev pub memory_source : List (List ℕ × List ℕ) → List ℕ → MemorySource
-memory_source files failing = record { files = files; failing = failing; left = None; taken = 0; calls = 0; faults = 0 }
+memory_source files failing = record { files = files; failing = failing; left = None; taken = 0; longest = 0; calls = 0; faults = 0 }
 
 -- the files by their paths; of two equal paths the first counts
 abbrev pub files_of : List (List ℕ × List ℕ) → Files
@@ -69,7 +74,7 @@ abbrev pub after_giving : MemorySource → ℕ → Option (List ℕ) → MemoryS
 after_giving s room None = record s { calls = one_more s.calls; faults = one_more s.faults }
 after_giving s room (Some rest) =
     let count = min room (length rest) in
-    record s { left = Some (drop count rest); taken = min (s.taken + count) (2 ^ 64 - 1); calls = one_more s.calls }
+    record s { left = Some (drop count rest); taken = more s.taken count; longest = max s.longest (more s.taken count); calls = one_more s.calls }
 
 -- a read into a buffer with so much room gives as many bytes as are left and fit it
 abbrev pub after_read : MemorySource → ℕ → MemorySource
@@ -81,10 +86,11 @@ pub record PlainFiles : Type 0 where
   pub files : List (List ℕ × List ℕ)
   pub left : Option (List ℕ)
   pub taken : ℕ
+  pub longest : ℕ
   pub faults : ℕ
 
 abbrev pub plain_files : List (List ℕ × List ℕ) → PlainFiles
-plain_files files = record { files = files; left = None; taken = 0; faults = 0 }
+plain_files files = record { files = files; left = None; taken = 0; longest = 0; faults = 0 }
 
 -- the bytes of the first file with a path
 abbrev pub plain_bytes : PlainFiles → List ℕ → Option (List ℕ)
@@ -98,7 +104,7 @@ abbrev pub after_plain_giving : PlainFiles → ℕ → Option (List ℕ) → Pla
 after_plain_giving s room None = record s { faults = one_more s.faults }
 after_plain_giving s room (Some rest) =
     let count = min room (length rest) in
-    record s { left = Some (drop count rest); taken = min (s.taken + count) (2 ^ 64 - 1) }
+    record s { left = Some (drop count rest); taken = more s.taken count; longest = max s.longest (more s.taken count) }
 
 abbrev pub after_plain_read : PlainFiles → ℕ → PlainFiles
 after_plain_read s room = after_plain_giving s room s.left
@@ -109,10 +115,11 @@ pub record LongFiles : Type 0 where
   pub file_length : ℕ
   pub zeros : Option ℕ
   pub taken : ℕ
+  pub longest : ℕ
   pub faults : ℕ
 
 abbrev pub long_files : ℕ → LongFiles
-long_files file_length = record { file_length = file_length; zeros = None; taken = 0; faults = 0 }
+long_files file_length = record { file_length = file_length; zeros = None; taken = 0; longest = 0; faults = 0 }
 
 -- what is left of an opened file
 abbrev pub zeros_left : Option ℕ → Option (List ℕ)
@@ -126,7 +133,7 @@ abbrev pub after_long_giving : LongFiles → ℕ → Option ℕ → LongFiles
 after_long_giving s room None = record s { faults = one_more s.faults }
 after_long_giving s room (Some zeros) =
     let count = min room zeros in
-    record s { zeros = Some (zeros - count); taken = min (s.taken + count) (2 ^ 64 - 1) }
+    record s { zeros = Some (zeros - count); taken = more s.taken count; longest = max s.longest (more s.taken count) }
 
 abbrev pub after_long_read : LongFiles → ℕ → LongFiles
 after_long_read s room = after_long_giving s room s.zeros

@@ -1,5 +1,5 @@
 //! The top call.
-ghost use Rattle.std.specs.Prelude.{◌≡◌, ◌≢◌, ◌<◌, ◌∷◌, [], map, string_bytes};
+ghost use Rattle.std.specs.Prelude.{◌≡◌, ◌≢◌, ◌<◌, ◌≤◌, ◌↔◌, ◌∷◌, [], map, string_bytes};
 ghost use Rattle.dwc_cli.specs.RunStatus.{Rose, Succeeds, UsageCause, MissingCause, InputCauses, PrefixWritten, IsStatus, IsOneOf, RunsWell, most_bytes};
 ghost use Rattle.dwc_cli.specs.Failures.{failure_status, failure_message, IsOnOneLine};
 ghost use Rattle.dwc_cli.specs.Answers.{Tells, Complains};
@@ -33,6 +33,7 @@ pub fn run<S: Source, K: Sink, E: Sink>(
     ensures usage { UsageCause (map string_bytes words.now) result }
     ensures read_fault { result ≡ 3 → Rose (S.faults source.old) (S.faults source.new) }
     ensures too_long { result ≡ 4 → most_bytes < S.taken source.new }
+    ensures longest { S.longest source.old ≤ most_bytes → ((result ≡ 4) ↔ (most_bytes < S.longest source.new)) }
     ensures taken { most_bytes < S.taken source.new → IsOneOf (2 ∷ 4 ∷ 9 ∷ []) result }
     ensures missing { MissingCause (S.files source.old) (map string_bytes words.now) result }
     ensures input { InputCauses (S.files source.old) (map string_bytes words.now) result }

@@ -2,9 +2,10 @@
 ghost use Rattle.std.specs.Prelude.{◌≡◌, None, Option, IsNone, IsErr, OnErr};
 ghost use Rattle.std.specs.Io.{ReadsAtMost};
 ghost use Rattle.std.specs.Io.KnownBytes.{ReadConsumes};
-ghost use Rattle.dwc_cli.specs.Devices.{HasCause, Counts, Takes, Opens, Accepts, FailsWhileShut};
+ghost use Rattle.dwc_cli.specs.Devices.{HasCause, Counts, Takes, TakesMost, Opens, Accepts, FailsWhileShut};
 ghost use Rattle.dwc_cli.specs.RunStatus.{Files};
 
+use crate::calls::count_taken;
 use crate::sink::Sink;
 use crate::source::{Failed, Source};
 use std::fs;
@@ -18,6 +19,7 @@ pub struct HostSource<R: Files + Drop> {
     system: R,
     file: Option<R::File>,
     taken: u64,
+    longest: u64,
     faults: u64,
 }
 
@@ -26,12 +28,14 @@ impl<R: Files + Drop> HostSource<R> {
     pub fn new(system: R) -> HostSource<R>
         ensures shut { IsNone result.file }
         ensures taken { result.taken ≡ 0 }
+        ensures longest { result.longest ≡ 0 }
         ensures faults { result.faults ≡ 0 }
     {
         HostSource {
             system,
             file: None,
             taken: 0,
+            longest: 0,
             faults: 0,
         }
     }
@@ -44,12 +48,15 @@ impl<R: Files + Drop> Source for HostSource<R> {
 
     ghost taken = { λ s. s.taken };
 
+    ghost longest = { λ s. s.longest };
+
     ghost faults = { λ s. s.faults };
 
     fn open_file(&mut self, path: &str) -> Result<(), Failed>
         ensures files { ◌≡◌ {A = Option Files} None None }
         ensures opened { Opens None path.now None result }
         ensures taken { self.new.taken ≡ 0 }
+        ensures longest { self.new.longest ≡ self.old.longest }
         ensures cause { HasCause self.old.faults self.new.faults result }
         ensures counts { Counts self.old.faults self.new.faults result }
         ensures shut { OnErr result (IsNone self.new.file) }
@@ -69,13 +76,14 @@ impl<R: Files + Drop> Source for HostSource<R> {
         ensures shut { FailsWhileShut None None result }
         ensures files { ◌≡◌ {A = Option Files} None None }
         ensures taken { Takes self.old.taken self.new.taken result }
+        ensures longest { TakesMost self.old.longest self.new.longest self.new.taken result }
         ensures cause { HasCause self.old.faults self.new.faults result }
         ensures counts { Counts self.old.faults self.new.faults result }
         ensures no_file { IsNone self.old.file → IsErr result }
     {
         match read_from(&mut self.file, buf) {
             Ok(count) => {
-                self.taken = self.taken.saturating_add(count as u64);
+                count_taken(&mut self.taken, &mut self.longest, count);
                 Ok(count)
             }
             Err(failed) => {

@@ -1,5 +1,5 @@
 //! Reading a whole file.
-ghost use Rattle.std.specs.Prelude.{◌≡◌, ◌<◌, ◌≤◌, ◌↔◌, length, Err, IfOk};
+ghost use Rattle.std.specs.Prelude.{◌≡◌, ◌<◌, ◌≤◌, ◌↔◌, max, length, Err, IfOk};
 ghost use Rattle.dwc_cli.specs.RunStatus.{Rose, most_bytes};
 ghost use Rattle.dwc_cli.specs.Edge.{IsFile, IsLongFile};
 
@@ -54,6 +54,7 @@ pub(crate) fn load<S: Source>(
     ensures file { IfOk result (λ bytes. IsFile (S.files source.old) path.now bytes.items) }
     ensures short { IfOk result (λ bytes. length bytes.items ≤ most_bytes) }
     ensures too_long { (result ≡ Err LoadError.TooLong) ↔ (most_bytes < S.taken source.new) }
+    ensures longest { S.longest source.new ≡ max (S.longest source.old) (S.taken source.new) }
     ensures long_file { result ≡ Err LoadError.TooLong → IsLongFile (S.files source.old) path.now }
     ensures read_fault { result ≡ Err LoadError.Read → Rose (S.faults source.old) (S.faults source.new) }
     ensures files { S.files source.new ≡ S.files source.old }

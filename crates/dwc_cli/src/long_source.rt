@@ -2,10 +2,11 @@
 ghost use Rattle.std.specs.Prelude.{◌≡◌, ◌↔◌, ℕ, List, min, take, length, replicate, Option, None, IsOk, IsSome};
 ghost use Rattle.std.specs.Io.{ReadsAtMost};
 ghost use Rattle.std.specs.Io.KnownBytes.{ReadConsumes};
-ghost use Rattle.dwc_cli.specs.Devices.{HasCause, Takes, Opens, FailsWhileShut};
+ghost use Rattle.dwc_cli.specs.Devices.{HasCause, Takes, TakesMost, Opens, FailsWhileShut};
 ghost use Rattle.dwc_cli.specs.RunStatus.{Files};
 ghost use Rattle.dwc_cli.specs.Memory.{zeros_left};
 
+use crate::calls::count_taken;
 use crate::source::{Failed, Source};
 use std::marker::Model;
 
@@ -15,6 +16,7 @@ pub struct LongSource {
     file_length: u64,
     zeros: Option<u64>,
     taken: u64,
+    longest: u64,
     faults: u64,
 }
 
@@ -23,7 +25,7 @@ impl Model for LongSource {
 
     ghost Value = { LongFiles };
 
-    ghost view = { λ s. record { file_length = s.file_length; zeros = s.zeros; taken = s.taken; faults = s.faults } };
+    ghost view = { λ s. record { file_length = s.file_length; zeros = s.zeros; taken = s.taken; longest = s.longest; faults = s.faults } };
 }
 
 impl LongSource {
@@ -37,6 +39,7 @@ impl LongSource {
             file_length: length,
             zeros: None,
             taken: 0,
+            longest: 0,
             faults: 0,
         }
     }
@@ -51,6 +54,8 @@ impl Source for LongSource {
 
     ghost taken = { λ s. s.taken };
 
+    ghost longest = { λ s. s.longest };
+
     ghost faults = { λ s. s.faults };
 
     /// Opens a file of zero bytes, whatever the path. It does not fail.
@@ -58,6 +63,7 @@ impl Source for LongSource {
         ensures files { ◌≡◌ {A = Option Files} None None }
         ensures opened { Opens None path.now (zeros_left self.new.zeros) result }
         ensures taken { self.new.taken ≡ 0 }
+        ensures longest { self.new.longest ≡ self.old.longest }
         ensures cause { HasCause self.old.faults self.new.faults result }
         ensures value { self.new ≡ after_long_open self.old }
         ensures opens { IsOk result }
@@ -75,6 +81,7 @@ impl Source for LongSource {
         ensures shut { FailsWhileShut None (zeros_left self.old.zeros) result }
         ensures files { ◌≡◌ {A = Option Files} None None }
         ensures taken { Takes self.old.taken self.new.taken result }
+        ensures longest { TakesMost self.old.longest self.new.longest self.new.taken result }
         ensures cause { HasCause self.old.faults self.new.faults result }
         ensures value { self.new ≡ after_long_read self.old (length buf.old) }
         ensures reads { IsOk result ↔ IsSome self.old.zeros }
@@ -85,7 +92,7 @@ impl Source for LongSource {
         };
         let count = fill_zeros(zeros, buf);
         self.zeros = Some(zeros - count as u64);
-        self.taken = self.taken.saturating_add(count as u64);
+        count_taken(&mut self.taken, &mut self.longest, count);
         Ok(count)
     }
 }

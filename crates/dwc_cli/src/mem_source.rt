@@ -5,10 +5,10 @@ ghost use Rattle.std.specs.Io.KnownBytes.{ReadConsumes};
 ghost use Rattle.std.specs.Ordering.{nat_cmp};
 ghost use Rattle.std.specs.Cmp.Lexicographic.{slice_cmp};
 ghost use Rattle.std.specs.FinMap as finite;
-ghost use Rattle.dwc_cli.specs.Devices.{HasCause, Takes, Opens, FailsWhileShut};
+ghost use Rattle.dwc_cli.specs.Devices.{HasCause, Takes, TakesMost, Opens, FailsWhileShut};
 ghost use Rattle.dwc_cli.specs.Memory.{file_entry, files_of, left_of, GivesFront};
 
-use crate::calls::count_call;
+use crate::calls::{count_call, count_taken};
 use crate::memory_files::{give, open_at};
 use crate::opened::Opened;
 use crate::source::{Failed, Source};
@@ -22,6 +22,7 @@ pub struct MemSource {
     failing: Vec<u64>,
     opened: Option<Opened>,
     taken: u64,
+    longest: u64,
     calls: u64,
     faults: u64,
 }
@@ -32,7 +33,7 @@ impl Model for MemSource {
 
     ghost Value = { MemorySource };
 
-    ghost view = { λ s. record { files = map file_entry s.files.items; failing = s.failing.items; left = left_of s.files.items s.opened; taken = s.taken; calls = s.calls; faults = s.faults } };
+    ghost view = { λ s. record { files = map file_entry s.files.items; failing = s.failing.items; left = left_of s.files.items s.opened; taken = s.taken; longest = s.longest; calls = s.calls; faults = s.faults } };
 }
 
 impl MemSource {
@@ -49,6 +50,7 @@ impl MemSource {
             failing,
             opened: None,
             taken: 0,
+            longest: 0,
             calls: 0,
             faults: 0,
         }
@@ -64,6 +66,8 @@ impl Source for MemSource {
 
     ghost taken = { λ s. s.taken };
 
+    ghost longest = { λ s. s.longest };
+
     ghost faults = { λ s. s.faults };
 
     /// Opens the first file with the path. It fails where the call is one that is to fail, or no file has the path.
@@ -72,6 +76,7 @@ impl Source for MemSource {
         ensures files { Some (files_of self.new.files) ≡ Some (files_of self.old.files) }
         ensures opened { Opens (Some (files_of self.old.files)) path.now self.new.left result }
         ensures taken { self.new.taken ≡ 0 }
+        ensures longest { self.new.longest ≡ self.old.longest }
         ensures cause { HasCause self.old.faults self.new.faults result }
         ensures value { self.new ≡ after_open self.old path.now }
         ensures opens { IsOk result ↔ IsSome (opens self.old path.now) }
@@ -93,6 +98,7 @@ impl Source for MemSource {
         ensures shut { FailsWhileShut (Some (files_of self.old.files)) self.old.left result }
         ensures files { Some (files_of self.new.files) ≡ Some (files_of self.old.files) }
         ensures taken { Takes self.old.taken self.new.taken result }
+        ensures longest { TakesMost self.old.longest self.new.longest self.new.taken result }
         ensures cause { HasCause self.old.faults self.new.faults result }
         ensures value { self.new ≡ after_read self.old (length buf.old) }
         ensures reads { IsOk result ↔ IsSome (reads_from self.old) }
@@ -102,7 +108,7 @@ impl Source for MemSource {
             self.faults = self.faults.saturating_add(1);
             return Err(Failed);
         };
-        self.taken = self.taken.saturating_add(count as u64);
+        count_taken(&mut self.taken, &mut self.longest, count);
         Ok(count)
     }
 }

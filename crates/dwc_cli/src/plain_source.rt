@@ -2,9 +2,10 @@
 ghost use Rattle.std.specs.Prelude.{◌≡◌, ◌↔◌, map, length, Some, IsOk, IsSome};
 ghost use Rattle.std.specs.Io.{ReadsAtMost};
 ghost use Rattle.std.specs.Io.KnownBytes.{ReadConsumes};
-ghost use Rattle.dwc_cli.specs.Devices.{HasCause, Takes, Opens, FailsWhileShut};
+ghost use Rattle.dwc_cli.specs.Devices.{HasCause, Takes, TakesMost, Opens, FailsWhileShut};
 ghost use Rattle.dwc_cli.specs.Memory.{file_entry, files_of, left_of};
 
+use crate::calls::count_taken;
 use crate::memory_files::{give, open_at};
 use crate::opened::Opened;
 use crate::source::{Failed, Source};
@@ -16,6 +17,7 @@ pub struct PlainSource {
     files: Vec<(String, Vec<u8>)>,
     opened: Option<Opened>,
     taken: u64,
+    longest: u64,
     faults: u64,
 }
 
@@ -25,7 +27,7 @@ impl Model for PlainSource {
 
     ghost Value = { PlainFiles };
 
-    ghost view = { λ s. record { files = map file_entry s.files.items; left = left_of s.files.items s.opened; taken = s.taken; faults = s.faults } };
+    ghost view = { λ s. record { files = map file_entry s.files.items; left = left_of s.files.items s.opened; taken = s.taken; longest = s.longest; faults = s.faults } };
 }
 
 impl PlainSource {
@@ -40,6 +42,7 @@ impl PlainSource {
             files,
             opened: None,
             taken: 0,
+            longest: 0,
             faults: 0,
         }
     }
@@ -54,6 +57,8 @@ impl Source for PlainSource {
 
     ghost taken = { λ s. s.taken };
 
+    ghost longest = { λ s. s.longest };
+
     ghost faults = { λ s. s.faults };
 
     /// Opens the first file with the path. It fails where no file has the path.
@@ -62,6 +67,7 @@ impl Source for PlainSource {
         ensures files { Some (files_of self.new.files) ≡ Some (files_of self.old.files) }
         ensures opened { Opens (Some (files_of self.old.files)) path.now self.new.left result }
         ensures taken { self.new.taken ≡ 0 }
+        ensures longest { self.new.longest ≡ self.old.longest }
         ensures cause { HasCause self.old.faults self.new.faults result }
         ensures value { self.new ≡ after_plain_open self.old path.now }
         ensures opens { IsOk result ↔ IsSome (plain_bytes self.old path.now) }
@@ -82,6 +88,7 @@ impl Source for PlainSource {
         ensures shut { FailsWhileShut (Some (files_of self.old.files)) self.old.left result }
         ensures files { Some (files_of self.new.files) ≡ Some (files_of self.old.files) }
         ensures taken { Takes self.old.taken self.new.taken result }
+        ensures longest { TakesMost self.old.longest self.new.longest self.new.taken result }
         ensures cause { HasCause self.old.faults self.new.faults result }
         ensures value { self.new ≡ after_plain_read self.old (length buf.old) }
         ensures reads { IsOk result ↔ IsSome self.old.left }
@@ -90,7 +97,7 @@ impl Source for PlainSource {
             self.faults = self.faults.saturating_add(1);
             return Err(Failed);
         };
-        self.taken = self.taken.saturating_add(count as u64);
+        count_taken(&mut self.taken, &mut self.longest, count);
         Ok(count)
     }
 }

@@ -3,7 +3,7 @@ ghost use Rattle.std.specs.Prelude.{◌≡◌, ◌++◌, map, IfOk, OnOk};
 ghost use Rattle.std.specs.List.{flat_map};
 ghost use Rattle.hex.specs.Hex.{encode_lower};
 ghost use Rattle.dwc_base.specs.Outputs.{target_view, relocation_view, section_view};
-ghost use Rattle.dwc_cli.specs.Printed.{printed, printed_section, printed_relocation, printed_target};
+ghost use Rattle.dwc_cli.specs.Printed.{printed, printed_section, printed_relocation, printed_target, IsTextOfOne};
 
 use dwc_base::{DwarfSection, DwarfSectionReloc, DwarfSectionRelocTarget};
 use itoa::Integer;
@@ -112,8 +112,19 @@ fn likely_size(sections: &[DwarfSection]) -> usize {
 /// # Errors
 ///
 /// `AllocError` for want of memory alone.
-#[tactic(auto, unfolding(crate::specs::Printed::printed))]
+#[tactic(auto, using(crate::proofs::PrintedLaws::is_text_of_one))]
 pub fn printed(alloc: Global, sections: &[DwarfSection]) -> Result<Vec<u8>, AllocError>
+    ensures text { IfOk result (λ text. text.items ≡ printed (map section_view sections.now)) }
+
+    // Where names are words, no other sections have this text.
+    ensures one_list { IfOk result (λ text. IsTextOfOne text.items (map section_view sections.now)) }
+{
+    joined_text(alloc, sections)
+}
+
+// The text of sections, one behind another.
+#[tactic(auto, unfolding(crate::specs::Printed::printed))]
+fn joined_text(alloc: Global, sections: &[DwarfSection]) -> Result<Vec<u8>, AllocError>
     ensures { IfOk result (λ text. text.items ≡ printed (map section_view sections.now)) }
 {
     let mut text = Vec::with_capacity(alloc, likely_size(sections))?;

@@ -22,6 +22,7 @@ pub(crate) fn read_input<'w, S: Source>(
 ) -> Result<InputFiles, Failure<'w>>
     ensures input { IfOk result (λ input. IsInput (S.files source.old) (paths_view paths.now) (input_view input)) }
     ensures too_long { (status_of result ≡ 4) ↔ (most_bytes < S.taken source.new) }
+    ensures longest { S.longest source.old ≤ most_bytes → ((status_of result ≡ 4) ↔ (most_bytes < S.longest source.new)) }
     ensures long_file { status_of result ≡ 4 → Any (IsLongFile (S.files source.old)) (all_paths (paths_view paths.now)) }
     ensures read_fault { status_of result ≡ 3 → Rose (S.faults source.old) (S.faults source.new) }
     ensures status { IfErr result (λ failure. IsReadingStatus (failure_status failure)) }
@@ -43,6 +44,7 @@ fn read_files<'w, S: Source>(
     requires { S.taken source.old ≤ most_bytes }
     ensures files_read { IfOk result (λ files. AllZip (IsReadFile (S.files source.old)) (map string_bytes paths.now) (map (λ m. m.items) files.items)) }
     ensures too_long { (status_of result ≡ 4) ↔ (most_bytes < S.taken source.new) }
+    ensures longest { S.longest source.old ≤ most_bytes → ((status_of result ≡ 4) ↔ (most_bytes < S.longest source.new)) }
     ensures long_file { status_of result ≡ 4 → Any (IsLongFile (S.files source.old)) (map string_bytes paths.now) }
     ensures read_fault { status_of result ≡ 3 → Rose (S.faults source.old) (S.faults source.new) }
     ensures status { IfErr result (λ failure. IsReadingStatus (failure_status failure)) }
@@ -65,6 +67,7 @@ fn read_file<'w, S: Source>(
 ) -> Result<Vec<u8>, Failure<'w>>
     ensures file { IfOk result (λ bytes. IsReadFile (S.files source.old) path.now bytes.items) }
     ensures too_long { (status_of result ≡ 4) ↔ (most_bytes < S.taken source.new) }
+    ensures longest { S.longest source.old ≤ most_bytes → ((status_of result ≡ 4) ↔ (most_bytes < S.longest source.new)) }
     ensures long_file { status_of result ≡ 4 → IsLongFile (S.files source.old) path.now }
     ensures read_fault { status_of result ≡ 3 → Rose (S.faults source.old) (S.faults source.new) }
     ensures status { IfErr result (λ failure. IsReadingStatus (failure_status failure)) }

@@ -105,7 +105,7 @@ text_given c =
     let was = was_read ts c.in-Some.map_file input found (rw (c.deref-3.ensures.value, c.deref-2.ensures.value) at seen) in
     let read_as = subst (λ us. IsReadAs us c.in-Some.map_file was.read) (sym c.deref-4.ensures.value) was.read_as in
     let sections = map section_view c.in_ok-sections.sections.items in
-    rw (c.in_ok-printed.ensures, c.deref-5.ensures.value) (Gives-emitted input was.read sections was.is_read (c.in_ok-sections.ensures was.read read_as))
+    rw (c.in_ok-printed.ensures.text, c.deref-5.ensures.value) (Gives-emitted input was.read sections was.is_read (c.in_ok-sections.ensures was.read read_as))
 
 pub returns-clause-carried : goal.returns-clause-carried
 returns-clause-carried c = (text_given c).carried

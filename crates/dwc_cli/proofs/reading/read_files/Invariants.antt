@@ -10,5 +10,6 @@ invariant-loop-path g l = record {
   told : g.S.Source.files l.source ≡ g.S.Source.files l.fn.source;
   files_read : (rest : List (List ℕ)) → AllZip (IsReadFile (g.S.Source.files l.fn.source)) (map string_bytes (drop l.path-index l.paths)) rest → AllZip (IsReadFile (g.S.Source.files l.fn.source)) (map string_bytes l.paths) (map (λ m. m.items) l.files.items ++ rest);
   short : g.S.Source.taken l.source ≤ most_bytes;
+  longest : g.S.Source.longest l.fn.source ≤ most_bytes → g.S.Source.longest l.source ≤ most_bytes;
   later : g.S.Source.faults l.fn.source ≤ g.S.Source.faults l.source;
 }
