@@ -23,7 +23,6 @@ pub mod Trees
 pub mod Texts
 pub mod Indexed
 pub mod TreeReading
-pub mod Outcomes
 pub mod Forests
 pub mod Lebs
 pub mod Cursors
