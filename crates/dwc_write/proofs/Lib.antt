@@ -29,5 +29,8 @@ pub mod OutputLaws
 pub mod ReadBackLaws
 pub mod ReadTrees
 pub mod OutputForms
+pub mod ReadFields
+pub mod ReadLineFields
+pub mod RelatedLaws
 pub mod WidestLaws
 pub mod WideLaws

@@ -257,7 +257,7 @@ body-shorter order size u =
     let body = unit_body order size u.table_offset u.entries in
     omega (arith, length-append (number_bytes order 4 (length body)) body)
 
-units-fit : (order : Endian) (size a l : ℕ) (us : List GivenUnit) → All (λ u. u.address_size ≡ size) us → All FitsGivenUnit us
+pub units-fit : (order : Endian) (size a l : ℕ) (us : List GivenUnit) → All (λ u. u.address_size ≡ size) us → All FitsGivenUnit us
     → a + length (tables_bytes (written_units order size a l us)) ≤ most_bytes → l + length (lines_bytes order size (written_tables us)) ≤ most_bytes → length (info_bytes order size (written_units order size a l us)) ≤ most_bytes
     → All (FitsUnit order size) (written_units order size a l us)
 units-fit order size a l [] sized fits tables lines info = All-nil _
@@ -281,7 +281,7 @@ units-fit order size a l (u ∷ us) sized fits tables lines info =
     (units-fit order size (a + length (table_bytes unit.table)) (l + length (lines_bytes order size (written_lines u.lines))) us (All-tail (λ (v : GivenUnit). v.address_size ≡ size) u us sized) (All-tail FitsGivenUnit u us fits)
     (omega (arith, tables, length-append (table_bytes unit.table) (tables_bytes rest))) (omega (arith, lines, lengths-both (one_table_bytes order size) (written_lines u.lines) (written_tables us))) (omega (arith, info, length-append (placed_unit_bytes order size unit) (info_bytes order size rest))))
 
-tables-from : (order : Endian) (size : ℕ) (us : List GivenUnit) (a l : ℕ) → AreTablesFrom a (written_units order size a l us)
+pub tables-from : (order : Endian) (size : ℕ) (us : List GivenUnit) (a l : ℕ) → AreTablesFrom a (written_units order size a l us)
 tables-from order size [] a l = tt
 tables-from order size (u ∷ us) a l = (refl, tables-from order size us (a + length (table_bytes (numbered 1 (shapes_in u)))) (l + length (lines_bytes order size (written_lines u.lines))))
 
@@ -309,7 +309,7 @@ table-fits order size g fits n same sequences short =
     let P : ℕ → Type 0 = λ m. All (FitsGivenSequence m) g.sequences in
     record { directories = fits.directories; files = fits.files; sequences = All-weaker (FitsGivenSequence size) (FitsSequence size) (λ q h. h.sequence) g.sequences (subst P same sequences.0); short = short }
 
-tables-fit : (order : Endian) (size : ℕ) (us : List GivenUnit) → All (λ u. u.address_size ≡ size) us → All FitsGivenUnit us → All (λ u. FitsLines u.lines) us → length (lines_bytes order size (written_tables us)) ≤ most_bytes → All (FitsTable order size) (written_tables us)
+pub tables-fit : (order : Endian) (size : ℕ) (us : List GivenUnit) → All (λ u. u.address_size ≡ size) us → All FitsGivenUnit us → All (λ u. FitsLines u.lines) us → length (lines_bytes order size (written_tables us)) ≤ most_bytes → All (FitsTable order size) (written_tables us)
 tables-fit order size [] sized fits lines short = All-nil _
 tables-fit order size (u ∷ us) sized fits lines short =
     let g = u.lines in
@@ -329,7 +329,7 @@ tables-fit order size (u ∷ us) sized fits lines short =
 
 -- ---- what is read of each unit
 
-attributes-read : (l : ℕ) (xs : List Attribute) → map (λ (a : WrittenAttribute). (a.name, written_value a.name a.value)) (map (written_attribute l) xs) ≡ map (given_value l) xs
+pub attributes-read : (l : ℕ) (xs : List Attribute) → map (λ (a : WrittenAttribute). (a.name, written_value a.name a.value)) (map (written_attribute l) xs) ≡ map (given_value l) xs
 attributes-read l [] = refl
 attributes-read l (x ∷ xs) = ap (λ ys. given_value l x ∷ ys) (attributes-read l xs)
 
@@ -347,7 +347,7 @@ contents-given l uses (e ∷ es) =
     ∙ ap (λ ys. given_contents l e ∷ ys) (contents-given l uses es)
 
 -- whether the root names the line table
-abbrev named_offset : ℕ → Bool → Option ℕ
+abbrev pub named_offset : ℕ → Bool → Option ℕ
 named_offset l true = Some l
 named_offset l false = None
 
@@ -365,10 +365,10 @@ value-named l (Constant form bits) = constant-unnamed DW_AT_stmt_list (form == D
 value-named l (Flag b) = refl
 value-named l LineProgramRef = refl
 
-abbrev found_in : List (ℕ × Value) → Option Value
+abbrev pub found_in : List (ℕ × Value) → Option Value
 found_in xs = option_map (λ a. a.1) (find (λ a. a.0 == DW_AT_stmt_list) xs)
 
-lines-named : (l : ℕ) (xs : List Attribute) → line_offset (found_in (map (given_value l) xs)) ≡ named_offset l (names_lines_in xs)
+pub lines-named : (l : ℕ) (xs : List Attribute) → line_offset (found_in (map (given_value l) xs)) ≡ named_offset l (names_lines_in xs)
 lines-named l [] = refl
 lines-named l (x ∷ xs) = go (x.name == DW_AT_stmt_list) refl (lines-named l xs)
   where
@@ -453,14 +453,14 @@ module _ (s : Sections) (size : ℕ) where
 -- ---- the sections
 
 -- what three sections hold
-record Holds (order : Endian) (x y z : List ℕ) (q r : List OutputRelocation) (s : Sections) : Type 0 where
-  abbrev_is : s.bytes Abbrev ≡ x
-  info_is : s.bytes Info ≡ y
-  line_is : s.bytes Line ≡ z
-  info_relocations_are : s.relocations Info ≡ filter_map function_relocation q
-  line_relocations_are : s.relocations Line ≡ filter_map function_relocation r
+pub record Holds (order : Endian) (x y z : List ℕ) (q r : List OutputRelocation) (s : Sections) : Type 0 where
+  pub abbrev_is : s.bytes Abbrev ≡ x
+  pub info_is : s.bytes Info ≡ y
+  pub line_is : s.bytes Line ≡ z
+  pub info_relocations_are : s.relocations Info ≡ filter_map function_relocation q
+  pub line_relocations_are : s.relocations Line ≡ filter_map function_relocation r
 
-sections-hold : (order : Endian) (x y z : List ℕ) (q r : List OutputRelocation) → (y ≡ [] → q ≡ []) → (z ≡ [] → r ≡ [])
+pub sections-hold : (order : Endian) (x y z : List ℕ) (q r : List OutputRelocation) → (y ≡ [] → q ≡ []) → (z ≡ [] → r ≡ [])
     → Holds order x y z q r (output_sections order (section_unless_empty Abbrev x [] ++ (section_unless_empty Info y q ++ section_unless_empty Line z r)))
 sections-hold order [] [] [] q r info line = let a = info refl in let b = line refl in rw (a, b) (record { abbrev_is = refl; info_is = refl; line_is = refl; info_relocations_are = refl; line_relocations_are = refl })
 sections-hold order [] [] (c ∷ z) q r info line = let a = info refl in rw (a) (record { abbrev_is = refl; info_is = refl; line_is = refl; info_relocations_are = refl; line_relocations_are = refl })
@@ -471,28 +471,28 @@ sections-hold order (a ∷ x) [] (c ∷ z) q r info line = let e = info refl in 
 sections-hold order (a ∷ x) (b ∷ y) [] q r info line = let e = line refl in rw (e) (record { abbrev_is = refl; info_is = refl; line_is = refl; info_relocations_are = refl; line_relocations_are = refl })
 sections-hold order (a ∷ x) (b ∷ y) (c ∷ z) q r info line = record { abbrev_is = refl; info_is = refl; line_is = refl; info_relocations_are = refl; line_relocations_are = refl }
 
-info-none : (order : Endian) (size : ℕ) (ws : List WrittenUnit) → info_bytes order size ws ≡ [] → info_relocations order size 0 ws ≡ []
+pub info-none : (order : Endian) (size : ℕ) (ws : List WrittenUnit) → info_bytes order size ws ≡ [] → info_relocations order size 0 ws ≡ []
 info-none order size [] e = refl
 info-none order size (w ∷ ws) e =
     let body = unit_body order size w.table_offset w.entries in
     absurd (omega (arith, ap length e, length-append (placed_unit_bytes order size w) (info_bytes order size ws), length-append (number_bytes order 4 (length body)) body, number_bytes-length order 4 (length body)))
 
-lines-none : (order : Endian) (size : ℕ) (ts : List WrittenTable) → lines_bytes order size ts ≡ [] → lines_relocations order size 0 ts ≡ []
+pub lines-none : (order : Endian) (size : ℕ) (ts : List WrittenTable) → lines_bytes order size ts ≡ [] → lines_relocations order size 0 ts ≡ []
 lines-none order size [] e = refl
 lines-none order size (t ∷ ts) e =
     let body = line_body order size t.directories t.files (sequences_instructions t.sequences) in
     absurd (omega (arith, ap length e, length-append (one_table_bytes order size t) (lines_bytes order size ts), length-append (number_bytes order 4 (length body)) body, number_bytes-length order 4 (length body)))
 
 -- how long they are
-part-short : (order : Endian) (name : SectionName) (x : List ℕ) (q : List OutputRelocation) (rest : List OutputSection) → All (IsSound order) (section_unless_empty name x q ++ rest) → (length x ≤ most_bytes) × All (IsSound order) rest
+pub part-short : (order : Endian) (name : SectionName) (x : List ℕ) (q : List OutputRelocation) (rest : List OutputSection) → All (IsSound order) (section_unless_empty name x q ++ rest) → (length x ≤ most_bytes) × All (IsSound order) rest
 part-short order name [] q rest sound = (lit≤ tt, sound)
 part-short order name (b ∷ x) q rest sound = ((All-head (IsSound order) _ rest sound).short, All-tail (IsSound order) _ rest sound)
 
-size-known : (us : List GivenUnit) → All FitsGivenUnit us → (size_of us ≡ 4) ⊎ (size_of us ≡ 8)
+pub size-known : (us : List GivenUnit) → All FitsGivenUnit us → (size_of us ≡ 4) ⊎ (size_of us ≡ 8)
 size-known [] fits = inr refl
 size-known (u ∷ us) fits = (All-head FitsGivenUnit u us fits).size
 
-positive : (size : ℕ) → (size ≡ 4) ⊎ (size ≡ 8) → (0 < size) × (size < 2 ^ 63)
+pub positive : (size : ℕ) → (size ≡ 4) ⊎ (size ≡ 8) → (0 < size) × (size < 2 ^ 63)
 positive size (inl e) = (omega (arith, e), omega (arith, e))
 positive size (inr e) = (omega (arith, e), omega (arith, e))
 

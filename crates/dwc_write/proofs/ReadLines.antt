@@ -171,8 +171,8 @@ module _ (order : Endian) where
 -- ---- instructions of sequences
 
 -- they fit, and define no file
-record Fit (size : ℕ) (xs : List Instruction) : Type 0 where
-  all : All (FitsInstruction size) xs
+pub record Fit (size : ℕ) (xs : List Instruction) : Type 0 where
+  pub all : All (FitsInstruction size) xs
   plain : filter_map file_defined xs ≡ []
 
 when-fit : {size : ℕ} (b : Bool) (i : Instruction) {xs : List Instruction} → FitsInstruction size i → file_defined i ≡ None → Fit size xs → Fit size (when b i ++ xs)
@@ -218,7 +218,7 @@ rows-fit size (r ∷ rows) before last line fits low =
     let here = All-head FitsRow r rows fits in
     both-fit (row-fits size before r line here) (rows-fit size rows r last here.line (All-tail FitsRow r rows fits) low)
 
-sequences-fit : (size : ℕ) (qs : List WrittenSequence) → size < 2 ^ 63 → All (FitsSequence size) qs → Fit size (sequences_instructions qs)
+pub sequences-fit : (size : ℕ) (qs : List WrittenSequence) → size < 2 ^ 63 → All (FitsSequence size) qs → Fit size (sequences_instructions qs)
 sequences-fit size [] short fits = record { all = All-nil (FitsInstruction size); plain = refl }
 sequences-fit size (q ∷ qs) short fits =
     let here = All-head (FitsSequence size) q qs fits in

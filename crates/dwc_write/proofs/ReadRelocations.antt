@@ -44,7 +44,7 @@ rise-places spell at (x ∷ xs) place each =
     rise-append place (place + length (spell x)) _ (at place x) _ (each place x) (rw (end) at on)
 
 -- all are at or behind the first place
-rise-from : (low high : ℕ) (rs : List OutputRelocation) → RelocationsRise low high rs → All (λ r. low ≤ r.offset) rs
+pub rise-from : (low high : ℕ) (rs : List OutputRelocation) → RelocationsRise low high rs → All (λ r. low ≤ r.offset) rs
 rise-from low high [] rise = All-nil _
 rise-from low high (r ∷ rs) rise = All-cons (λ q. low ≤ q.offset) r rs rise.0 (All-weaker (λ q. r.offset + r.size ≤ q.offset) (λ q. low ≤ q.offset) (λ q above. omega (arith, above, rise.0)) rs (rise-from (r.offset + r.size) high rs rise.1))
 
@@ -194,7 +194,7 @@ row-none order size before r =
     (when-none order size (not (before.line == r.line)) (advance_line _) _ (λ p. refl)
     (when-none order size (not (before.offset == r.offset)) (advance_pc _) (copy ∷ []) (λ p. refl) (λ p. refl))))))))))
 
-rows-none : (order : Endian) (size : ℕ) (before : LineRow) (rows : List LineRow) (last p : ℕ) → program_fields order size p (rows_instructions before rows last) ≡ []
+pub rows-none : (order : Endian) (size : ℕ) (before : LineRow) (rows : List LineRow) (last p : ℕ) → program_fields order size p (rows_instructions before rows last) ≡ []
 rows-none order size before [] last p = when-none order size (not (before.offset == last)) (advance_pc _) (end_sequence ∷ []) (λ q. refl) (λ q. refl) p
 rows-none order size before (r ∷ rows) last p =
     at_places-append (instruction_bytes order size) (instruction_fields order size) (row_instructions before r) (rows_instructions r rows last) p

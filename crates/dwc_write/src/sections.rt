@@ -3,6 +3,7 @@ ghost use Rattle.std.specs.Prelude.{◌≡◌, ℕ, ◌++◌, OnOk, IfOk, IfErr,
 ghost use Rattle.dwc_base.specs.declared.records.Endian.{Endian};
 ghost use Rattle.std.specs.List.{All};
 ghost use Rattle.dwc_base.specs.Carried.{units};
+ghost use Rattle.dwc_base.specs.Fields.{AreRelocated};
 ghost use Rattle.dwc_base.specs.OutputForm.{HasDistinctNames, HaveTargetForm};
 ghost use Rattle.dwc_base.specs.Outputs.{output_sections, section_view};
 ghost use Rattle.dwc_base.specs.TreeReading.{CarriesTrees};
@@ -47,6 +48,7 @@ pub fn write_sections(
     ensures trees { IfOk result (λ s. CarriesTrees order (map given_tree dwarf.units.units.items) (map section_view s.items)) }
     ensures form { IfOk result (λ s. (size : ℕ) → All (λ u. u.address_size ≡ size) dwarf.units.units.items → HaveTargetForm size (units (output_sections order (map section_view s.items))).items) }
     ensures names { IfOk result (λ s. HasDistinctNames (map section_view s.items)) }
+    ensures relocated { IfOk result (λ s. AreRelocated order (map section_view s.items)) }
     ensures large { IfErr result (λ e. IsRefusal order dwarf.units.units.items e) }
     ensures widest { IfErr result (λ e. IsWideRefusal dwarf.units.units.items e) }
 {

@@ -1,5 +1,6 @@
 use Rattle.std.proofs.Common.{ap, sym, subst, ◌∙◌, List, map}
 use Rattle.std.specs.List.{All}
+use Rattle.dwc_base.specs.Fields.{AreRelocated}
 use Rattle.dwc_base.specs.OutputForm.{HasDistinctNames}
 use Rattle.dwc_base.specs.Outputs.{OutputSection, section_view}
 use Rattle.dwc_write.specs.ReadBack.{ReadsBack}
@@ -10,6 +11,7 @@ use Rattle.dwc_write.proofs.OutputLaws.{all-appended, if-ok-both, if-ok-weaker, 
 use Rattle.dwc_write.proofs.OutputForms.{distinct-names}
 use Rattle.dwc_write.proofs.ReadBackLaws.{reads-back}
 use Rattle.dwc_write.proofs.ReadTrees.{carries-trees, target-form}
+use Rattle.dwc_write.proofs.RelatedLaws.{are-relocated}
 use Rattle.dwc_write.proofs.sections.write_sections.Goals as goal
 
 pub returns-clause-sections : goal.returns-clause-sections
@@ -58,3 +60,11 @@ returns-clause-form c =
 pub returns-clause-names : goal.returns-clause-names
 returns-clause-names c =
     if-ok-weaker c.gather.result _ _ (λ s is. subst HasDistinctNames (sym is) (distinct-names c.args.order c.args.dwarf.units.units.items)) (returns-clause-sections c)
+
+pub returns-clause-relocated : goal.returns-clause-relocated
+returns-clause-relocated c =
+    let us = c.args.dwarf.units.units.items in
+    let fits = rw (c.deref.ensures.value) at c.in_ok-sections.ensures.fits in
+    let lines = rw (c.deref.ensures.value) at c.in_ok-sections.ensures.lines in
+    let Q : List OutputSection → Type 0 = λ ss. All (IsSound c.args.order) ss in
+    if-ok-both c.gather.result _ _ _ (λ s is sound. subst (AreRelocated c.args.order) (sym is) (are-relocated c.args.order us c.requires fits lines (subst Q is sound))) (returns-clause-sections c) (returns-clause-sound c)
