@@ -39,3 +39,4 @@ pub mod LineVersion5
 pub mod StandardCodes
 pub mod TreesSmall
 pub mod FieldCases
+pub mod WidestCases

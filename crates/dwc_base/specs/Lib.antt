@@ -31,3 +31,4 @@ pub mod CodeOffsets
 pub mod FieldSizes
 pub mod Fields
 pub mod OutputForm
+pub mod WidestTrees

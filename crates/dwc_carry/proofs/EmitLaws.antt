@@ -13,6 +13,7 @@ use Rattle.dwc_write.specs.GivenUnits.{GivenUnit, AreWritable}
 use Rattle.dwc_write.specs.ReadBack.{ReadsBack}
 use Rattle.dwc_write.specs.WidestGiven.{IsWideRefusal}
 use Rattle.dwc_write.specs.Writers.{IsSound}
+use Rattle.dwc_write.proofs.WidestTreeLaws.{widest-said}
 use Rattle.dwc_carry.specs.declared.error.DebugError.{DebugError}
 use Rattle.dwc_carry.specs.Refusals.{Told, refused, limit, memory, told, IsCause, Refuses, of_writing}
 use Rattle.dwc_carry.specs.Inputs.{input_of, refusal_of}
@@ -41,5 +42,5 @@ module _ (order : Endian) (size : ℕ) (c : CompilationValue) where
 
     -- writing is refused
     pub emits-large : (e : WriteError) → IsWideRefusal us e → Emits order size c (Err (of_writing e))
-    emits-large (write.TooLarge (Section name)) large = (accepted, omega (arith, large, widest-given size name (input_of order size c) us t.made))
+    emits-large (write.TooLarge (Section name)) large = (accepted, omega (arith, large, widest-said name us, widest-given size name (input_of order size c) us t.made))
     emits-large write.OutOfMemory large = tt

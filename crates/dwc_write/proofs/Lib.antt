@@ -33,4 +33,5 @@ pub mod ReadFields
 pub mod ReadLineFields
 pub mod RelatedLaws
 pub mod WidestLaws
+pub mod WidestTreeLaws
 pub mod WideLaws

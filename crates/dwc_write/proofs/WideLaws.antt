@@ -17,6 +17,7 @@ use Rattle.dwc_write.specs.SpelledOutput.{WrittenSections, unit_in, with_unit, w
 use Rattle.dwc_write.specs.WidestGiven.{widest_unit, IsWideRefusal}
 use Rattle.dwc_write.proofs.OutputLaws.{all-appended, all_of, section-refused}
 use Rattle.dwc_write.proofs.WidestLaws.{within-widest}
+use Rattle.dwc_write.proofs.WidestTreeLaws.{widest-said}
 
 -- a unit more
 pub units-taken : (us : List GivenUnit) (i : ℕ) (d : GivenUnit) (w : WrittenSections) → i < length us → with_units (take (suc i) us) w ≡ with_unit (get_or us i d) (with_units (take i us) w)
@@ -57,7 +58,7 @@ widely-refused order us i d w e within fits given lines done refused =
 
     wide : (e : WriteError) → IsRefusal order (take (suc i) us) e → IsWideRefusal us e
     wide OutOfMemory large = tt
-    wide (TooLarge (Section name)) large = omega (arith, large, within-widest order (take (suc i) us) name (writable-taken us i fits) given lines, sum_by-take-le (widest_unit name) us (suc i))
+    wide (TooLarge (Section name)) large = omega (arith, large, within-widest order (take (suc i) us) name (writable-taken us i fits) given lines, sum_by-take-le (widest_unit name) us (suc i), widest-said name us)
 
 -- the error of a call, for a function that answers something else
 pub wide-exit : {A : Type 0} (us : List GivenUnit) (result : Result A WriteError) (e : WriteError) → ((error : WriteError) × (result ≡ Err error) × (error ≡ e)) → IsWideRefusal us e → IfErr result (λ x. IsWideRefusal us x)

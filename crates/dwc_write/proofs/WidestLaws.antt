@@ -1,10 +1,10 @@
 -- The sections of given units are no longer than their widest sizes: `within-widest`.
-use Rattle.std.proofs.Common.{◌≡◌, ℕ, zero, suc, ◌+◌, ◌-◌, ◌*◌, ◌/◌, ◌%◌, ◌^◌, ◌<◌, ◌≤◌, ◌⊎◌, inl, inr, sym, ap, subst, ◌∙◌, arith, lit<, List, [], ◌∷◌, ◌++◌, length, length-append, map, replicate, Option, Some, None, Bool, true, false, ltb, refl}
-use Rattle.std.specs.Prelude.{ℤ, pos, negsuc, nat_abs, ◌-ℤ◌, ◌==◌, not, nat_lt, if◌then◌else◌, sum_by, FitsSigned}
+use Rattle.std.proofs.Common.{◌≡◌, ℕ, zero, suc, ◌+◌, ◌-◌, ◌*◌, ◌/◌, ◌%◌, ◌^◌, ◌<◌, ◌≤◌, ◌⊎◌, inl, inr, refl, sym, ap, subst, ◌∙◌, arith, lit<, List, [], ◌∷◌, ◌++◌, length, length-append, map, replicate, Option, Some, None, Bool, true, false, ltb, refl}
+use Rattle.std.specs.Prelude.{ℤ, pos, negsuc, nat_abs, ◌-ℤ◌, ◌==◌, ◌||◌, not, nat_lt, if◌then◌else◌, sum_by, FitsSigned}
 use Rattle.std.specs.List.{All, flat_map}
 use Rattle.std.specs.Int.{w64, cast_signed}
 use Rattle.std.proofs.Math.Facts.{sfits_to_z}
-use Rattle.std.proofs.lemmas.Bool.{lt-ltb, ltb-true, ltb-false}
+use Rattle.std.proofs.lemmas.Bool.{eqb-true, lt-ltb, ltb-true, ltb-false}
 use Rattle.std.proofs.lemmas.Int.{ints}
 use Rattle.std.proofs.lemmas.List.{length-replicate, length-map}
 use Rattle.std.proofs.lemmas.List.Elements.{All-head, All-tail, All-nil, All-weaker}
@@ -14,10 +14,11 @@ use Rattle.dwc_base.specs.declared.records.Endian.TheVariants.{Little}
 use Rattle.dwc_base.specs.declared.records.LineRow.{LineRow}
 use Rattle.dwc_base.specs.declared.section_name.SectionName.{SectionName}
 use Rattle.dwc_base.specs.declared.section_name.SectionName.TheVariants.{Abbrev, Info, Line}
-use Rattle.dwc_base.specs.declared.constants.TheConstants.{DW_FORM_implicit_const, DW_FORM_data1, DW_FORM_data2, DW_FORM_data4, DW_FORM_data8, DW_FORM_sdata}
+use Rattle.dwc_base.specs.declared.constants.TheConstants.{DW_FORM_implicit_const, DW_FORM_data1, DW_FORM_data2, DW_FORM_data4, DW_FORM_data8, DW_FORM_sdata, DW_FORM_udata}
 use Rattle.dwc_base.specs.Abbreviations.{Declaration}
 use Rattle.dwc_base.specs.LineHeaders.{LineFile}
 use Rattle.dwc_base.specs.Widest.{variable_bytes, widest_declaration, widest_header, widest_image, widest_row}
+use Rattle.dwc_base.specs.WidestTrees.{constant_bytes}
 use Rattle.dwc_write.specs.Spelled.{uleb_bytes, sleb_bytes, sleb_bytes_from_0, sleb_bytes_below_0, number_bytes, text_bytes}
 use Rattle.dwc_write.specs.SpelledAddresses.{address_bytes, stored}
 use Rattle.dwc_write.specs.SpelledTables.{FitsSpec, implicit_bytes, spec_bytes, declaration_bytes, flag_of, table_bytes}
@@ -30,7 +31,7 @@ use Rattle.dwc_write.specs.declared.attributes.AttributeValue.{AttributeValue}
 use Rattle.dwc_write.specs.declared.attributes.AttributeValue.TheVariants.{Address, Constant, Flag, LineProgramRef}
 use Rattle.dwc_write.specs.declared.abbreviations.AttributeForm.{AttributeForm}
 use Rattle.dwc_write.specs.GivenLines.{FitsLines, FitsSequences, FitsGivenSequence}
-use Rattle.dwc_write.specs.GivenUnits.{GivenEntry, GivenUnit, EntryShape, AreBelow, IsTree, IsOfSize, IsWritable, AreWritable, FitsAttribute, FitsValue, FitsEntry, FitsGivenUnit, size_of, written_of, form_of, first_depth, shape_of, shapes_of, place_in, with_use, first_uses, code_in, spec_of_form, numbered, shapes_in, written_attribute, written_entries, written_unit, written_lines, written_units, written_tables}
+use Rattle.dwc_write.specs.GivenUnits.{GivenEntry, GivenUnit, EntryShape, AreBelow, IsTree, IsOfSize, IsWritable, AreWritable, FitsAttribute, FitsValue, FitsEntry, FitsGivenUnit, size_of, constant_of, is_constant_form, constant_bound, written_of, form_of, first_depth, shape_of, shapes_of, place_in, with_use, first_uses, code_in, spec_of_form, numbered, shapes_in, written_attribute, written_entries, written_unit, written_lines, written_units, written_tables}
 use Rattle.dwc_write.specs.SpelledOutput.{abbrev_bytes, all_info_bytes, all_lines_bytes, bytes_of}
 use Rattle.dwc_write.specs.WidestGiven.{widest_value, widest_entry, lists_of, widest_table_for, widest_unit, widest_given}
 use Rattle.dwc_write.proofs.ReadNumbers.{number_bytes-length, uleb_bytes-length, sleb_bytes-small}
@@ -151,21 +152,30 @@ table-widest u fits =
 
 -- ---- .debug_info
 
-constant-widest : (order : Endian) (size : ℕ) (a b c d f : Bool) (bits : ℕ) → bits < (if a then 256 ^ 1 else (if b then 256 ^ 2 else (if c then 256 ^ 4 else 2 ^ 64)))
-    → length (written_bytes order size (if a then as_data1 bits else (if b then as_data2 bits else (if c then as_data4 bits else (if d then as_data8 bits else (if f then as_sdata (cast_signed w64 bits) else as_udata bits)))))) ≤ 10
-constant-widest order size true b c d f bits small = omega (arith, number_bytes-length order 1 bits)
-constant-widest order size false true c d f bits small = omega (arith, number_bytes-length order 2 bits)
-constant-widest order size false false true d f bits small = omega (arith, number_bytes-length order 4 bits)
-constant-widest order size false false false true f bits small = omega (arith, number_bytes-length order 8 bits)
-constant-widest order size false false false false true bits small = sleb-fits (cast_signed w64 bits) (sfits_to_z (record { fits = small }))
-constant-widest order size false false false false false bits small = uleb-10 bits small
+constant-widest : (order : Endian) (size form bits : ℕ) → is_constant_form form ≡ true → bits < constant_bound form → length (written_bytes order size (constant_of form bits)) ≤ constant_bytes form
+constant-widest order size form bits known small =
+    go (form == DW_FORM_data1) refl (form == DW_FORM_data2) refl (form == DW_FORM_data4) refl (form == DW_FORM_data8) refl (form == DW_FORM_sdata) refl (form == DW_FORM_udata) refl known small
+  where
+    of_form : (k n : ℕ) → (form == n) ≡ true → k ≤ constant_bytes n → k ≤ constant_bytes form
+    of_form k n e short = let P : ℕ → Type 0 = λ m. k ≤ constant_bytes m in subst P (sym (eqb-true _ _ e)) short
+
+    go : (a : Bool) → (form == DW_FORM_data1) ≡ a → (b : Bool) → (form == DW_FORM_data2) ≡ b → (c : Bool) → (form == DW_FORM_data4) ≡ c → (d : Bool) → (form == DW_FORM_data8) ≡ d → (s : Bool) → (form == DW_FORM_sdata) ≡ s → (u : Bool) → (form == DW_FORM_udata) ≡ u
+        → (a || (b || (c || (d || (s || u))))) ≡ true → bits < (if a then 256 ^ 1 else (if b then 256 ^ 2 else (if c then 256 ^ 4 else 2 ^ 64)))
+        → length (written_bytes order size (if a then as_data1 bits else (if b then as_data2 bits else (if c then as_data4 bits else (if d then as_data8 bits else (if s then as_sdata (cast_signed w64 bits) else as_udata bits)))))) ≤ constant_bytes form
+    go true is b p c q d r s t u v known small = of_form _ DW_FORM_data1 is (omega (arith, number_bytes-length order 1 bits))
+    go false n true is c q d r s t u v known small = of_form _ DW_FORM_data2 is (omega (arith, number_bytes-length order 2 bits))
+    go false n false o true is d r s t u v known small = of_form _ DW_FORM_data4 is (omega (arith, number_bytes-length order 4 bits))
+    go false n false o false p true is s t u v known small = of_form _ DW_FORM_data8 is (omega (arith, number_bytes-length order 8 bits))
+    go false n false o false p false q true is u v known small = of_form _ DW_FORM_sdata is (sleb-fits (cast_signed w64 bits) (sfits_to_z (record { fits = small })))
+    go false n false o false p false q false r true is known small = of_form _ DW_FORM_udata is (uleb-10 bits small)
+    go false n false o false p false q false r false s known small = absurd (cc)
 
 value-widest : (order : Endian) (size l : ℕ) (x : Attribute) → size ≤ 8 → FitsAttribute size x → length (written_bytes order size (written_of l x.value)) ≤ widest_value x.value
 value-widest order size l x short fits = go x.value fits.value
   where
     go : (v : AttributeValue) → FitsValue size x.name v → length (written_bytes order size (written_of l v)) ≤ widest_value v
     go (Address a) h = omega (arith, short, number_bytes-length order size (stored a))
-    go (Constant form bits) h = constant-widest order size (form == DW_FORM_data1) (form == DW_FORM_data2) (form == DW_FORM_data4) (form == DW_FORM_data8) (form == DW_FORM_sdata) bits h.1
+    go (Constant form bits) h = constant-widest order size form bits h.0 h.1
     go (Flag b) h = omega arith
     go LineProgramRef h = omega (arith, number_bytes-length order 4 l)
 

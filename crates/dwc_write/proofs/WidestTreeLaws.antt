@@ -1,0 +1,67 @@
+-- What given units can take at most is what their trees can: `widest-said`.
+use Rattle.std.proofs.Common.{◌≡◌, ℕ, ◌+◌, ◌*◌, refl, sym, ap, ◌∙◌, arith, List, [], ◌∷◌, map, length}
+use Rattle.std.specs.Prelude.{nat_lt, sum_by, if◌then◌else◌}
+use Rattle.std.proofs.lemmas.List.{length-map}
+use Rattle.std.proofs.lemmas.List.Sums.{sum_by-cons}
+use Rattle.dwc_base.specs.declared.section_name.SectionName.{SectionName}
+use Rattle.dwc_base.specs.declared.section_name.SectionName.TheVariants.{Abbrev, Addr, Info, Line, LineStr, Loc, Loclists, Ranges, Rnglists, Str, StrOffsets, CuIndex, Frame}
+use Rattle.dwc_base.specs.Widest.{variable_bytes, widest_declaration}
+use Rattle.dwc_base.specs.WidestTrees as trees
+use Rattle.dwc_write.specs.declared.attributes.AttributeValue.{AttributeValue}
+use Rattle.dwc_write.specs.declared.attributes.AttributeValue.TheVariants.{Address, Constant, Flag, LineProgramRef}
+use Rattle.dwc_write.specs.GivenUnits.{GivenEntry, GivenUnit, first_depth}
+use Rattle.dwc_write.specs.GivenTrees.{given_said, attribute_said, tree_entry, given_tree}
+use Rattle.dwc_write.specs.WidestGiven.{widest_value, widest_entry, lists_of, widest_unit, widest_given, widest_said}
+
+-- sums over what is the same of each
+sums-same : {A B : Type 0} (view : A → B) (f : A → ℕ) (g : B → ℕ) → ((x : A) → f x ≡ g (view x)) → (xs : List A) → sum_by f xs ≡ sum_by g (map view xs)
+sums-same view f g each [] = refl
+sums-same view f g each (x ∷ xs) = omega (arith, sum_by-cons f x xs, sum_by-cons g (view x) (map view xs), each x, sums-same view f g each xs)
+
+value-said : (v : AttributeValue) → widest_value v ≡ trees.widest_value (given_said v)
+value-said (Address a) = refl
+value-said (Constant form bits) = refl
+value-said (Flag b) = refl
+value-said LineProgramRef = refl
+
+entry-said : (e : GivenEntry) → widest_entry e ≡ trees.widest_entry (tree_entry e)
+entry-said e = ap (λ n. variable_bytes + n) (sums-same attribute_said (λ a. widest_value a.value) (λ a. trees.widest_value a.1) (λ a. value-said a.value) e.attributes)
+
+declaration-said : (e : GivenEntry) → widest_declaration (length e.attributes) ≡ widest_declaration (length (tree_entry e).attributes)
+declaration-said e = ap widest_declaration (sym (length-map e.attributes attribute_said))
+
+first-said : (es : List GivenEntry) → first_depth es ≡ trees.first_depth (map tree_entry es)
+first-said [] = refl
+first-said (e ∷ es) = refl
+
+lists-said : (es : List GivenEntry) → lists_of es ≡ trees.lists_of_children (map tree_entry es)
+lists-said [] = refl
+lists-said (e ∷ es) =
+    ap (λ n. (if nat_lt e.depth n then 1 else 0) + lists_of es) (first-said es) ∙ ap (λ n. (if nat_lt e.depth (trees.first_depth (map tree_entry es)) then 1 else 0) + n) (lists-said es)
+
+info-said : (u : GivenUnit) → widest_unit Info u ≡ trees.widest_unit (given_tree u)
+info-said u =
+    ap (λ n. 11 + (n + lists_of u.entries * variable_bytes)) (sums-same tree_entry widest_entry trees.widest_entry entry-said u.entries) ∙ ap (λ n. 11 + (sum_by trees.widest_entry (given_tree u) + n * variable_bytes)) (lists-said u.entries)
+
+abbreviations-said : (u : GivenUnit) → widest_unit Abbrev u ≡ trees.widest_declarations (given_tree u)
+abbreviations-said u = ap (λ n. n + variable_bytes) (sums-same tree_entry (λ e. widest_declaration (length e.attributes)) (λ e. widest_declaration (length e.attributes)) declaration-said u.entries)
+
+nothing-said : (name : SectionName) (us : List GivenUnit) → ((u : GivenUnit) → widest_unit name u ≡ 0) → 0 ≡ widest_given name us
+nothing-said name [] none = refl
+nothing-said name (u ∷ us) none = omega (arith, sum_by-cons (widest_unit name) u us, none u, nothing-said name us none)
+
+-- The two counts are one.
+pub widest-said : (name : SectionName) (us : List GivenUnit) → widest_said name us ≡ widest_given name us
+widest-said Info us = sym (sums-same given_tree (widest_unit Info) trees.widest_unit info-said us)
+widest-said Abbrev us = sym (sums-same given_tree (widest_unit Abbrev) trees.widest_declarations abbreviations-said us)
+widest-said Line us = refl
+widest-said Addr us = nothing-said Addr us (λ u. refl)
+widest-said LineStr us = nothing-said LineStr us (λ u. refl)
+widest-said Loc us = nothing-said Loc us (λ u. refl)
+widest-said Loclists us = nothing-said Loclists us (λ u. refl)
+widest-said Ranges us = nothing-said Ranges us (λ u. refl)
+widest-said Rnglists us = nothing-said Rnglists us (λ u. refl)
+widest-said Str us = nothing-said Str us (λ u. refl)
+widest-said StrOffsets us = nothing-said StrOffsets us (λ u. refl)
+widest-said CuIndex us = nothing-said CuIndex us (λ u. refl)
+widest-said Frame us = nothing-said Frame us (λ u. refl)
