@@ -1,13 +1,3 @@
-pub mod ImageLaws
-pub mod LinesLaws
-pub mod LookupLaws
-pub mod OrderLaws
-pub mod RisingRows
-pub mod RowsLaws
-pub mod RunLaws
-pub mod SegmentLaws
-pub mod SequenceLaws
-pub mod WidestImages
 pub mod WidestUnits
 pub mod KeptUnits
 pub mod UnitTrees
@@ -21,12 +11,7 @@ pub mod CarriedReadLaws
 pub mod ReadModuleLaws
 pub mod UnitsRead
 pub mod ModuleLoopLaws
-pub mod PlainNames
-pub mod NameLaws
-pub mod CarriedTables
 pub mod OutputUnitLaws
 pub mod InfoUnitLaws
-pub mod CanCarryLaws
-pub mod GivenSegments
 pub mod KeptModules
 pub mod TransformLaws

@@ -20,13 +20,12 @@ use Rattle.dwc_addr.specs.Compilations.{CompilationValue, functions_at, code_off
 use Rattle.dwc_addr.specs.Transforms.{kept_function, first_bad_map, Transforms}
 use Rattle.dwc_write.specs.GivenUnits.{GivenUnit}
 use Rattle.dwc_carry.specs.declared.error.DebugError.{DebugError}
-use Rattle.dwc_carry.specs.ImageRows.{IsOrdered}
+use Rattle.dwc_image.specs.CarriedLines.{AreKept}
 use Rattle.dwc_carry.specs.Refusals.{InputRefusal, bad_address_map, in_reading, of_maps, Refuses}
 use Rattle.dwc_carry.specs.MadeUnits.{AreMadeOf}
 use Rattle.dwc_carry.specs.CarriedModules.{transformed_modules, carried_in, AddsModules}
 use Rattle.dwc_carry.specs.Inputs.{module_view, modules_from, input_of, bad_map_from, bad_map, maps_refusal}
 use Rattle.dwc_carry.specs.Transformed.{all_kept, IsTransformed}
-use Rattle.dwc_carry.proofs.OrderLaws.{transform-ordered}
 use Rattle.dwc_carry.proofs.CarriedReadLaws.{unmapped, refuses-more}
 use Rattle.dwc_carry.proofs.KeptModules.{kept_module, all-refusals, all-made, all-whole}
 
@@ -119,16 +118,22 @@ neither : {A : Type 0} (o p : Option A) → option_or o p ≡ None → (o ≡ No
 neither None p h = (refl, h)
 neither (Some x) p h = absurd (cc)
 
-kept-ordered : (number place : ℕ) (ts : List ModuleTranslation) (fss : List (List Compiled)) → bad_map_from place ts fss ≡ None → All (All IsOrdered) (all_kept (modules_from number ts fss))
-kept-ordered number place [] fss good = All-nil (All IsOrdered)
-kept-ordered number place (t ∷ ts) [] good = All-nil (All IsOrdered)
-kept-ordered number place (t ∷ ts) (fs ∷ fss) good =
+kept-all : (number place : ℕ) (ts : List ModuleTranslation) (fss : List (List Compiled)) → bad_map_from place ts fss ≡ None → All AreKept (all_kept (modules_from number ts fss))
+kept-all number place [] fss good = All-nil AreKept
+kept-all number place (t ∷ ts) [] good = All-nil AreKept
+kept-all number place (t ∷ ts) (fs ∷ fss) good =
     let two = neither (option_map (λ (bad : ℕ × MapFault). (place, bad)) (first_bad_map t.code_section_offset 0 (map address_map_view fs))) (bad_map_from (suc place) ts fss) good in
-    All-cons (All IsOrdered) _ _ (transform-ordered t.code_section_offset number (map address_map_view fs) (unmapped (λ (bad : ℕ × MapFault). (place, bad)) (first_bad_map t.code_section_offset 0 (map address_map_view fs)) two.0)) (kept-ordered (number + length fs) (suc place) ts fss two.1)
+    All-cons AreKept _ _ (record {
+      code_offset = t.code_section_offset;
+      first_number = number;
+      maps = map address_map_view fs;
+      good = unmapped (λ (bad : ℕ × MapFault). (place, bad)) (first_bad_map t.code_section_offset 0 (map address_map_view fs)) two.0;
+      kept = refl;
+    }) (kept-all (number + length fs) (suc place) ts fss two.1)
 
--- the functions of all transforms are ordered
-pub all-ordered : (c : CompilationValue) → maps_refusal c ≡ None → All (All IsOrdered) (all_kept (modules_from 0 c.translations c.functions))
-all-ordered c good = kept-ordered 0 0 c.translations c.functions (unmapped _ (bad_map c) good)
+-- the functions of all transforms are kept of good maps
+pub all-kept : (c : CompilationValue) → maps_refusal c ≡ None → All AreKept (all_kept (modules_from 0 c.translations c.functions))
+all-kept c good = kept-all 0 0 c.translations c.functions (unmapped _ (bad_map c) good)
 
 transformed-kept : (number : ℕ) (ts : List ModuleTranslation) (fss : List (List Compiled)) → transformed_modules ts (all_kept (modules_from number ts fss)) ≡ map kept_module (modules_from number ts fss)
 transformed-kept number [] fss = refl

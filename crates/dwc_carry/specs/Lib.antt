@@ -1,7 +1,3 @@
-pub mod CarriedLines
-pub mod ImageRows
-pub mod ImageSequences
-pub mod RunRows
 pub mod Refusals
 pub mod OutputUnits
 pub mod Emits

@@ -8,7 +8,7 @@ use Rattle.dwc_base.specs.Refusals.{lines_refusal}
 use Rattle.dwc_write.specs.GivenLines.{GivenLines, no_lines}
 use Rattle.dwc_carry.specs.declared.error.DebugError.{DebugError}
 use Rattle.dwc_carry.specs.Refusals.{ReadsOr}
-use Rattle.dwc_carry.specs.CarriedLines.{CarriesTable}
+use Rattle.dwc_image.specs.CarriedLines.{CarriesTable}
 
 -- A line program carries the line table at an offset, all of whose files and directories are there.
 pub record CarriesTableAt (fs : List Function) (s : Sections) (address_size size offset : ℕ) (lines : GivenLines) : Type 0 where

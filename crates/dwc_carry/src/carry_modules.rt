@@ -1,6 +1,6 @@
 //! The units of the output, from the modules of an input.
 ghost use Rattle.std.specs.Prelude.{◌≡◌, ◌⊎◌, length, All};
-ghost use Rattle.dwc_carry.specs.ImageRows.{IsOrdered};
+ghost use Rattle.dwc_image.specs.CarriedLines.{AreKept};
 ghost use Rattle.dwc_carry.specs.CarriedModules.{transformed_module, transformed_modules, GivesModule, GivesModules};
 
 use crate::DebugError;
@@ -22,7 +22,7 @@ fn carry_module(
 ) -> Result<(), DebugError>
     requires version { encoding.version ≡ 4 }
     requires size { (encoding.address_size ≡ 4) ⊎ (encoding.address_size ≡ 8) }
-    requires functions { All IsOrdered transform.now }
+    requires functions { AreKept transform.now }
     ensures { GivesModule encoding.address_size (transformed_module translation.now transform.now) units.old.units.items units.new.units.items result }
 {
     if let Some(offset) = translation.compressed {
@@ -49,7 +49,7 @@ pub(crate) fn carry_modules(
     requires version { encoding.version ≡ 4 }
     requires size { (encoding.address_size ≡ 4) ⊎ (encoding.address_size ≡ 8) }
     requires each { length transforms.now ≡ length translations.now }
-    requires functions { All (All IsOrdered) transforms.now }
+    requires functions { All AreKept transforms.now }
     ensures { GivesModules encoding.address_size (transformed_modules translations.now transforms.now) units.old.units.items units.new.units.items result }
 {
     for i in 0..translations.len() {

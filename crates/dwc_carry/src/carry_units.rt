@@ -1,6 +1,6 @@
 //! The units of the output, from those that were read of a module.
-ghost use Rattle.std.specs.Prelude.{◌≡◌, ◌⊎◌, All};
-ghost use Rattle.dwc_carry.specs.ImageRows.{IsOrdered};
+ghost use Rattle.std.specs.Prelude.{◌≡◌, ◌⊎◌};
+ghost use Rattle.dwc_image.specs.CarriedLines.{AreKept};
 ghost use Rattle.dwc_carry.specs.CarriedReads.{is_carried, GivesCarried, GivesAdded};
 
 use crate::DebugError;
@@ -28,7 +28,7 @@ fn carry_unit(
 ) -> Result<Option<Unit>, DebugError>
     requires version { encoding.version ≡ 4 }
     requires size { (encoding.address_size ≡ 4) ⊎ (encoding.address_size ≡ 8) }
-    requires functions { All IsOrdered transform.now }
+    requires functions { AreKept transform.now }
     ensures { GivesCarried transform.now encoding.address_size read.now result }
 {
     if !is_carried(read) {
@@ -54,7 +54,7 @@ pub(crate) fn carry_units(
 ) -> Result<(), DebugError>
     requires version { encoding.version ≡ 4 }
     requires size { (encoding.address_size ≡ 4) ⊎ (encoding.address_size ≡ 8) }
-    requires functions { All IsOrdered transform.now }
+    requires functions { AreKept transform.now }
     ensures { GivesAdded transform.now encoding.address_size read.now units.old.units.items units.new.units.items result }
 {
     for i in 0..read.len() {

@@ -6,18 +6,14 @@ mod carry_modules;
 mod carry_units;
 mod emit;
 mod error;
-mod image;
 mod known_table;
-mod lines;
 mod output_unit;
 mod read_entries;
 mod read_units;
-mod sequence;
 mod subprogram;
 mod transform;
 mod unit_program;
 
 pub use emit::emit_dwarf;
 pub use error::DebugError;
-pub use lines::carried_lines;
 pub use transform::transform_dwarf;

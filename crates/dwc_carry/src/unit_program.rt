@@ -1,12 +1,11 @@
 //! The line program of a carried unit.
-ghost use Rattle.std.specs.Prelude.{All};
-ghost use Rattle.dwc_carry.specs.ImageRows.{IsOrdered};
+ghost use Rattle.dwc_image.specs.CarriedLines.{AreKept};
 ghost use Rattle.dwc_carry.specs.UnitPrograms.{GivesProgram};
 
 use crate::DebugError;
-use crate::lines::carried_lines;
 use dwc_addr::AddressTransform;
 use dwc_base::Encoding;
+use dwc_image::carried_lines;
 use dwc_read::Unit;
 use dwc_tabs::LineTable;
 use dwc_write::LineProgram;
@@ -20,7 +19,7 @@ pub(crate) fn unit_program(
     transform: &AddressTransform,
     encoding: Encoding,
 ) -> Result<LineProgram, DebugError>
-    requires { All IsOrdered transform.now }
+    requires { AreKept transform.now }
     ensures { GivesProgram transform.now unit.now.sections unit.now.header.address_size encoding.address_size line_table result }
 {
     let Some(offset) = line_table else {

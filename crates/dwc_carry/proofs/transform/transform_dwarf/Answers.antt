@@ -1,7 +1,7 @@
 use Rattle.std.proofs.Common.{sym, ◌∙◌, subst, All}
 use Rattle.std.proofs.lemmas.Result.{err_from_is_err_and}
-use Rattle.dwc_carry.specs.ImageRows.{IsOrdered}
-use Rattle.dwc_carry.proofs.TransformLaws.{counted-same, all-length, all-ordered, input-transformed, input-refused, maps-refused}
+use Rattle.dwc_image.specs.CarriedLines.{AreKept}
+use Rattle.dwc_carry.proofs.TransformLaws.{counted-same, all-length, all-kept, input-transformed, input-refused, maps-refused}
 use Rattle.dwc_carry.proofs.transform.transform_dwarf.Goals as goal
 
 pub carry_modules-requires-clause-each : goal.carry_modules-requires-clause-each
@@ -11,7 +11,7 @@ carry_modules-requires-clause-each g c =
 
 pub carry_modules-requires-clause-functions : goal.carry_modules-requires-clause-functions
 carry_modules-requires-clause-functions g c =
-    subst (All (All IsOrdered)) (sym (c.deref.ensures.value ∙ c.in_ok-transforms.ensures.1)) (all-ordered c.args.compilation.now c.in_ok-transforms.ensures.0)
+    subst (All AreKept) (sym (c.deref.ensures.value ∙ c.in_ok-transforms.ensures.1)) (all-kept c.args.compilation.now c.in_ok-transforms.ensures.0)
 
 pub returns-in_err-carry_modules-clause-units : goal.returns-in_err-carry_modules-clause-units
 returns-in_err-carry_modules-clause-units g c =

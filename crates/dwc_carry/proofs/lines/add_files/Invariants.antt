@@ -1,7 +1,0 @@
-use Rattle.std.proofs.Common.{◌≡◌, take}
-use Rattle.dwc_carry.specs.CarriedLines.{with_files}
-use Rattle.dwc_carry.proofs.lines.add_files.Given as goal
-
--- the files so far are added
-abbrev pub invariant-loop-i : goal.invariant-loop-i
-invariant-loop-i l = l.program ≡ with_files (take l.i l.table.files) l.fn.program

@@ -1,0 +1,15 @@
+pub mod LookupLaws
+pub mod RowsLaws
+pub mod RunLaws
+pub mod ImageLaws
+pub mod RisingRows
+pub mod SequenceLaws
+pub mod LinesLaws
+pub mod SegmentLaws
+pub mod WidestImages
+pub mod CarriedTables
+pub mod GivenSegments
+pub mod CanCarryLaws
+pub mod NameLaws
+pub mod PlainNames
+pub mod OrderLaws

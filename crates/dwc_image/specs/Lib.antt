@@ -1,0 +1,4 @@
+pub mod CarriedLines
+pub mod ImageRows
+pub mod ImageSequences
+pub mod RunRows
