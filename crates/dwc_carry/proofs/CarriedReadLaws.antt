@@ -1,15 +1,18 @@
 -- What the loop over the units that were read adds.
-use Rattle.std.proofs.Common.{◌≡◌, ℕ, List, [], ◌∷◌, ◌++◌, refl, ap, sym, ◌∙◌, subst, Bool, true, false, cond, Option, Some, None}
+use Rattle.std.proofs.Common.{◌≡◌, ℕ, List, [], ◌∷◌, ◌++◌, refl, ap, sym, ◌∙◌, subst, Bool, true, false, cond, Option, Some, None, Result, Ok}
 use Rattle.std.specs.Prelude.{option_map}
 use Rattle.std.specs.List.{filter, cons_option, AllZip}
 use Rattle.std.proofs.lemmas.List.{append-nil, append_assoc}
 use Rattle.std.proofs.lemmas.Option.{none-some}
 use Rattle.dwc_base.specs.Functions.{Function}
-use Rattle.dwc_base.specs.Refusals.{Refusal, first_of}
+use Rattle.dwc_base.specs.Sections.{Fault}
+use Rattle.dwc_base.specs.Refusals.{Refusal, table_refusal, first_of}
 use Rattle.dwc_write.specs.GivenUnits.{GivenUnit}
 use Rattle.dwc_carry.specs.declared.error.DebugError.{DebugError}
 use Rattle.dwc_carry.specs.declared.read_units.ReadUnit.{ReadUnit}
 use Rattle.dwc_carry.specs.Refusals.{InputRefusal, in_reading, Told, refused, limit, memory, told, IsCause, Refuses, RefusesReading}
+use Rattle.dwc_base.specs.LineRows.{LineTable}
+use Rattle.dwc_base.specs.LineFiles.{has_all_files}
 use Rattle.dwc_carry.specs.CarriedReads.{is_carried, refusal_if_carried, refusals_of, CarriesRead, AddsCarried}
 
 -- a test on the first of a list
@@ -35,6 +38,10 @@ refuses-more part whole e more = go (told e)
 pub reading-more : (part whole : Option Refusal) (e : DebugError) → ((r : Refusal) → part ≡ Some r → whole ≡ Some r) → RefusesReading part e → RefusesReading whole e
 reading-more None whole e more h = refuses-more None (option_map in_reading whole) e (λ r is. absurd (none-some r is)) h
 reading-more (Some x) whole e more h = subst (λ o. RefusesReading o e) (sym (more x refl)) h
+
+-- a table that is read, with all its files, is not refused
+pub table-accepted : (offset : ℕ) (read : Result LineTable Fault) (t : LineTable) → read ≡ Ok t → has_all_files t ≡ true → table_refusal offset read ≡ None
+table-accepted offset read t is files = ap (table_refusal offset) is ∙ rw (files, table_refusal) refl
 
 module _ (fs : List Function) (size : ℕ) (rs : List ReadUnit) (old : List GivenUnit) where
   -- What is added so far, and what is to be added for the units that are left, is all.

@@ -6,7 +6,8 @@ use Rattle.std.proofs.lemmas.List.{append-nil, append_assoc}
 use Rattle.std.proofs.lemmas.List.Elements.{All-nil, All-cons}
 use Rattle.dwc_base.specs.declared.wasm.ModuleTranslation.{ModuleTranslation}
 use Rattle.dwc_base.specs.declared.faults.Kind.TheVariants.{Compressed}
-use Rattle.dwc_base.specs.Units.{unit_headers}
+use Rattle.dwc_base.specs.Sections.{Sections}
+use Rattle.dwc_base.specs.Units.{UnitHeader, unit_headers}
 use Rattle.dwc_base.specs.Functions.{Function}
 use Rattle.dwc_base.specs.Carried.{units, Module, carried_units_of}
 use Rattle.dwc_base.specs.BuiltForm.{info_fault}
@@ -18,6 +19,7 @@ use Rattle.dwc_carry.specs.declared.read_units.ReadUnit.{ReadUnit}
 use Rattle.dwc_carry.specs.Refusals.{in_reading, RefusesReading}
 use Rattle.dwc_carry.specs.InfoEntries.{fault_refusal}
 use Rattle.dwc_carry.specs.InfoUnits.{IsReadUnit}
+use Rattle.dwc_carry.specs.LastLines.{AreOf}
 use Rattle.dwc_carry.specs.CarriedReads.{refusals_of, AddsCarried, GivesAdded}
 use Rattle.dwc_carry.specs.MadeUnits.{IsMadeOf, AreMadeOf}
 use Rattle.dwc_carry.specs.CarriedModules.{transformed_module, transformed_modules, carried_in, AddsModule, GivesModule, AddsModules}
@@ -76,6 +78,13 @@ module-gives size m plain rs read old new (Err e) h = tables-refused size m plai
 -- a compressed section is refused
 pub compressed-refused : (m : Module) (offset : ℕ) → m.compressed ≡ Some offset → RefusesReading (first_of (module_refusals m)) (Unsupported Compressed offset)
 compressed-refused m offset h = rw h refl
+
+-- the units that were read of a module are of its sections
+pub read-of-one : (fs : List Function) (s : Sections) (hs : List UnitHeader) (rs : List ReadUnit) → AllZip (IsReadUnit fs s) hs rs → AreOf s rs
+read-of-one fs s [] [] read = All-nil (λ (r : ReadUnit). r.unit.sections ≡ s)
+read-of-one fs s [] (r ∷ rs) read = absurd read
+read-of-one fs s (h ∷ hs) [] read = absurd read
+read-of-one fs s (h ∷ hs) (r ∷ rs) read = All-cons (λ (r : ReadUnit). r.unit.sections ≡ s) r rs (read.0).sections (read-of-one fs s hs rs read.1)
 
 -- ---- modules in order
 

@@ -11,3 +11,4 @@ pub mod Subprograms
 pub mod InfoEntries
 pub mod InfoUnits
 pub mod KnownTables
+pub mod LastLines

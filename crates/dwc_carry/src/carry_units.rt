@@ -2,8 +2,10 @@
 ghost use Rattle.std.specs.Prelude.{◌≡◌, ◌⊎◌};
 ghost use Rattle.dwc_image.specs.CarriedLines.{AreKept};
 ghost use Rattle.dwc_carry.specs.CarriedReads.{is_carried, GivesCarried, GivesAdded};
+ghost use Rattle.dwc_carry.specs.LastLines.{IsLast, AreOfOne};
 
 use crate::DebugError;
+use crate::last_lines::LastLines;
 use crate::output_unit::output_unit;
 use crate::read_units::ReadUnit;
 use crate::unit_program::unit_program;
@@ -19,29 +21,33 @@ fn is_carried(read: &ReadUnit<'_>) -> bool
     read.entries.is_compile_unit && read.entries.subprograms.len() > 0
 }
 
-// The unit of the output that carries a unit, if that is carried.
-fn carry_unit(
+// The unit of the output that carries a unit, if that is carried. `last` is the line table that was read last.
+fn carry_unit<'d>(
     alloc: Global,
-    read: &ReadUnit<'_>,
+    read: &ReadUnit<'d>,
+    last: &mut Option<LastLines<'d>>,
     transform: &AddressTransform,
     encoding: Encoding,
 ) -> Result<Option<Unit>, DebugError>
     requires version { encoding.version ≡ 4 }
     requires size { (encoding.address_size ≡ 4) ⊎ (encoding.address_size ≡ 8) }
     requires functions { AreKept transform.now }
-    ensures { GivesCarried transform.now encoding.address_size read.now result }
+    requires known { IsLast read.now.unit.sections last.old }
+    ensures unit { GivesCarried transform.now encoding.address_size read.now result }
+    ensures known { IsLast read.now.unit.sections last.new }
 {
     if !is_carried(read) {
         return Ok(None);
     }
     let line_table = read.entries.line_table;
-    let lines = unit_program(alloc, &read.unit, line_table, transform, encoding)?;
+    let lines = unit_program(alloc, &read.unit, line_table, last, transform, encoding)?;
     let has_table = line_table.is_some();
     let unit = output_unit(alloc, encoding, lines, has_table, &read.entries.subprograms)?;
     Ok(Some(unit))
 }
 
-/// Adds the units of the output that carry units, in order; those that are not carried have none.
+/// Adds the units of the output that carry units of the same sections, in order; those that are not carried have none. A line
+/// table that units behind one another name is read once.
 ///
 /// # Errors
 /// The refusal of the first line table of a carried unit that is refused. `OutOfMemory` for want of memory.
@@ -55,10 +61,12 @@ pub(crate) fn carry_units(
     requires version { encoding.version ≡ 4 }
     requires size { (encoding.address_size ≡ 4) ⊎ (encoding.address_size ≡ 8) }
     requires functions { AreKept transform.now }
+    requires sections { AreOfOne read.now }
     ensures { GivesAdded transform.now encoding.address_size read.now units.old.units.items units.new.units.items result }
 {
+    let mut last = None;
     for i in 0..read.len() {
-        if let Some(unit) = carry_unit(alloc, &read[i], transform, encoding)? {
+        if let Some(unit) = carry_unit(alloc, &read[i], &mut last, transform, encoding)? {
             units.add(unit)?;
         }
     }

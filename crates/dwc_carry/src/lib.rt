@@ -7,6 +7,7 @@ mod carry_units;
 mod emit;
 mod error;
 mod known_table;
+mod last_lines;
 mod output_unit;
 mod read_entries;
 mod read_units;
