@@ -32,3 +32,4 @@ pub mod FieldSizes
 pub mod Fields
 pub mod OutputForm
 pub mod WidestTrees
+pub mod OutputCarried
