@@ -8,7 +8,7 @@ use Rattle.dwc_base.proofs.Readings.{three_sections}
 use Rattle.dwc_base.proofs.CarriedSmall.{output_small}
 use Rattle.dwc_base.specs.declared.records.Endian.TheVariants.{Little}
 use Rattle.dwc_base.specs.declared.records.Address.TheVariants.{Constant, Symbol}
-use Rattle.dwc_base.specs.declared.section_name.SectionName.TheVariants.{Abbrev, Info, Line, LineStr, Loc, Ranges, Str}
+use Rattle.dwc_base.specs.declared.section_name.SectionName.TheVariants.{Abbrev, Info, Line, LineStr, Loc, Loclists, Ranges, Rnglists, Str}
 use Rattle.dwc_base.specs.Sections.{Sections}
 use Rattle.dwc_base.specs.Outputs.{OutputRelocation, OutputSection, function, section, output_sections}
 use Rattle.dwc_base.specs.Fields.{an_address, offset_in, fields_at, fields_of_entry, fields_of_instructions, fields_of_line_table, fields_of_section, relocations_of_fields, IsRelocated, AreRelocated}
@@ -37,6 +37,32 @@ fields-forms : fields_of_section sections_forms Info ≡
     ∷ record { offset = 24; size = 4; held = offset_in Ranges 10 } ∷ record { offset = 28; size = 4; held = offset_in Loc 11 } ∷ record { offset = 32; size = 4; held = offset_in Info 12 } ∷ []
 unfolding lines_on_literals fields_of_section fields_at fields_of_entry
 fields-forms = refl
+
+-- One entry of a unit of version 5, whose header is longer: location, ranges and the start of a scope (sec_offset), the base of
+-- addresses by an index (sec_offset, which no value is read of), and the line table and a text by their form in front of them.
+abbrev sections_5 : Sections
+sections_5 = three_sections
+    (0x01 ∷ 0x11 ∷ 0x00 ∷ 0x02 ∷ 0x17 ∷ 0x55 ∷ 0x17 ∷ 0x2C ∷ 0x17 ∷ 0x73 ∷ 0x17 ∷ 0x10 ∷ 0x16 ∷ 0x03 ∷ 0x16 ∷ 0x00 ∷ 0x00 ∷ 0x00 ∷ [])
+    (0x23 ∷ 0x00 ∷ 0x00 ∷ 0x00 ∷ 0x05 ∷ 0x00 ∷ 0x01 ∷ 0x08 ∷ 0x00 ∷ 0x00 ∷ 0x00 ∷ 0x00 ∷ 0x01
+    ∷ 0x07 ∷ 0x00 ∷ 0x00 ∷ 0x00 ∷ 0x08 ∷ 0x00 ∷ 0x00 ∷ 0x00 ∷ 0x09 ∷ 0x00 ∷ 0x00 ∷ 0x00 ∷ 0x08 ∷ 0x00 ∷ 0x00 ∷ 0x00 ∷ 0x17 ∷ 0x0A ∷ 0x00 ∷ 0x00 ∷ 0x00 ∷ 0x0E ∷ 0x0B ∷ 0x00 ∷ 0x00 ∷ 0x00 ∷ [])
+    []
+
+fields-5 : fields_of_section sections_5 Info ≡
+    record { offset = 8; size = 4; held = offset_in Abbrev 0 } ∷ record { offset = 13; size = 4; held = offset_in Loclists 7 } ∷ record { offset = 17; size = 4; held = offset_in Rnglists 8 } ∷ record { offset = 21; size = 4; held = offset_in Rnglists 9 }
+    ∷ record { offset = 30; size = 4; held = offset_in Line 10 } ∷ record { offset = 35; size = 4; held = offset_in Str 11 } ∷ []
+unfolding lines_on_literals fields_of_section fields_at fields_of_entry
+fields-5 = refl
+
+-- In version 2 a reference to another unit has the size of an address, and a constant of four bytes is an offset of the line table.
+abbrev sections_2 : Sections
+sections_2 = three_sections
+    (0x01 ∷ 0x11 ∷ 0x00 ∷ 0x18 ∷ 0x10 ∷ 0x10 ∷ 0x06 ∷ 0x00 ∷ 0x00 ∷ 0x00 ∷ [])
+    (0x14 ∷ 0x00 ∷ 0x00 ∷ 0x00 ∷ 0x02 ∷ 0x00 ∷ 0x00 ∷ 0x00 ∷ 0x00 ∷ 0x00 ∷ 0x08 ∷ 0x01 ∷ 0x07 ∷ 0x00 ∷ 0x00 ∷ 0x00 ∷ 0x00 ∷ 0x00 ∷ 0x00 ∷ 0x00 ∷ 0x08 ∷ 0x00 ∷ 0x00 ∷ 0x00 ∷ [])
+    []
+
+fields-2 : fields_of_section sections_2 Info ≡ record { offset = 6; size = 4; held = offset_in Abbrev 0 } ∷ record { offset = 12; size = 8; held = offset_in Info 7 } ∷ record { offset = 20; size = 4; held = offset_in Line 8 } ∷ []
+unfolding lines_on_literals fields_of_section fields_at fields_of_entry
+fields-2 = refl
 
 -- a number that stands where an address can has no relocation
 relocations-forms : relocations_of_fields (record { offset = 12; size = 4; held = an_address (Constant 7) } ∷ record { offset = 16; size = 4; held = offset_in Str 8 } ∷ record { offset = 20; size = 4; held = an_address (Symbol 3 (pos 9)) } ∷ []) ≡
