@@ -18,8 +18,9 @@ fn main(rt: HostRuntime) -> ExitCode {
         Err(_) => return ExitCode::from(NO_WORDS),
     };
     let alloc = rt.alloc();
-    let mut out = HostSink::new(rt.stdout());
-    let mut err = HostSink::new(rt.stderr());
+    let (stdout, stderr) = (rt.stdout(), rt.stderr());
+    let mut out = HostSink::new(io::writer(&stdout));
+    let mut err = HostSink::new(io::writer(&stderr));
     let mut source = HostSource::new(rt);
     ExitCode::from(run(alloc, &words, &mut source, &mut out, &mut err))
 }

@@ -1,7 +1,9 @@
-//! The real files and streams: the trusted edge. They tell nothing of content; what they claim is their counts.
-ghost use Rattle.std.specs.Prelude.{◌≡◌, None, Option, IsNone, IsErr, OnErr};
+//! The real files and streams: the trusted edge. The system tells nothing of content, so as a source and a sink they tell none
+//! either. What they claim is their counts, and that they pass on what a file gives and what a stream takes.
+ghost use Rattle.std.specs.Prelude.{◌≡◌, ◌↔◌, None, Option, IsNone, IsErr, OnErr, IfOk};
+ghost use Rattle.std.specs.Option.{option_and_then};
 ghost use Rattle.std.specs.Io.{ReadsAtMost};
-ghost use Rattle.std.specs.Io.KnownBytes.{ReadConsumes};
+ghost use Rattle.std.specs.Io.KnownBytes.{ReadConsumes, WriteAppends};
 ghost use Rattle.dwc_cli.specs.Devices.{HasCause, Counts, Takes, TakesMost, Opens, Accepts, FailsWhileShut};
 ghost use Rattle.dwc_cli.specs.RunStatus.{Files};
 
@@ -9,7 +11,7 @@ use crate::calls::count_taken;
 use crate::sink::Sink;
 use crate::source::{Failed, Source};
 use std::fs;
-use std::io::Read;
+use std::io::{Read, Write};
 use std::rt::Files;
 
 /// The files of the system. Every failure of an opening or a read is a fault, and so is a read while no file is open. Nothing
@@ -80,6 +82,8 @@ impl<R: Files + Drop> Source for HostSource<R> {
         ensures cause { HasCause self.old.faults self.new.faults result }
         ensures counts { Counts self.old.faults self.new.faults result }
         ensures no_file { IsNone self.old.file → IsErr result }
+        ensures open { IsNone self.new.file ↔ IsNone self.old.file }
+        ensures given { ReadConsumes (option_and_then R.File.Read.remaining self.old.file) (option_and_then R.File.Read.remaining self.new.file) result buf.new }
     {
         match read_from(&mut self.file, buf) {
             Ok(count) => {
@@ -98,6 +102,8 @@ impl<R: Files + Drop> Source for HostSource<R> {
 fn read_from<F: Read>(file: &mut Option<F>, buf: &mut [u8]) -> Result<usize, Failed>
     ensures bound { ReadsAtMost result buf.new }
     ensures shut { IsNone file.old → IsErr result }
+    ensures open { IsNone file.new ↔ IsNone file.old }
+    ensures given { ReadConsumes (option_and_then F.remaining file.old) (option_and_then F.remaining file.new) result buf.new }
 {
     match file {
         Some(file) => file.read(buf).map_err(|_| Failed),
@@ -108,31 +114,33 @@ fn read_from<F: Read>(file: &mut Option<F>, buf: &mut [u8]) -> Result<usize, Fai
 /// A stream of the system, such as standard output or standard error. Every failure of a write is a fault, and so is one
 /// that takes none of some bytes. Nothing else is one.
 #[derive(Drop)]
-pub struct HostSink<P: Print + Drop> {
-    stream: P,
+pub struct HostSink<W: Write + Drop> {
+    stream: W,
     faults: u64,
 }
 
-impl<P: Print + Drop> HostSink<P> {
+impl<W: Write + Drop> HostSink<W> {
     /// A sink over a stream; nothing has failed.
-    pub fn new(stream: P) -> HostSink<P>
-        ensures { result.faults ≡ 0 }
+    pub fn new(stream: W) -> HostSink<W>
+        ensures stream { result.stream ≡ stream }
+        ensures faults { result.faults ≡ 0 }
     {
         HostSink { stream, faults: 0 }
     }
 }
 
-impl<P: Print + Drop> Sink for HostSink<P> {
+impl<W: Write + Drop> Sink for HostSink<W> {
     ghost written = { λ _. None };
 
     ghost faults = { λ s. s.faults };
 
     fn write(&mut self, bytes: &[u8]) -> Result<usize, Failed>
         ensures bytes { Accepts None None bytes.now result }
+        ensures taken { WriteAppends (W.contents self.old.stream) (W.contents self.new.stream) result bytes.now }
         ensures cause { HasCause self.old.faults self.new.faults result }
         ensures counts { Counts self.old.faults self.new.faults result }
     {
-        match self.stream.write_some(bytes) {
+        match self.stream.write(bytes) {
             Ok(count) if count > 0 || bytes.is_empty() => Ok(count),
             _ => {
                 self.faults = self.faults.saturating_add(1);

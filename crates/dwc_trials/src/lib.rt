@@ -5,6 +5,8 @@
 #[cfg(test)]
 mod compilations;
 #[cfg(test)]
+mod host;
+#[cfg(test)]
 mod line_tables;
 #[cfg(test)]
 mod map_files;
