@@ -18,7 +18,8 @@ use std::alloc::Global;
 /// of a [`Status`].
 ///
 /// Each file is read whole, the map first and then the modules in order. For every status but [`Status::Done`] and [`Status::WriteFault`] nothing is
-/// written to `out`, and for every status but [`Status::Done`] one line is written to `err`, whose faults change no status.
+/// written to `out`, and for every status but [`Status::Done`] one line is written to `err`, whose faults change no status. It
+/// has no further line feed, unless it names a path that has one.
 pub fn run<S: Source, K: Sink, E: Sink>(
     alloc: Global,
     words: &[String],
@@ -54,7 +55,7 @@ pub fn run<S: Source, K: Sink, E: Sink>(
         Ok(input) => input,
         Err(failure) => return refuse(err, &failure),
     };
-    let text = match text_of(alloc, &input) {
+    let text = match text_of(alloc, input) {
         Ok(text) => text,
         Err(failure) => return refuse(err, &failure),
     };

@@ -10,10 +10,10 @@ use Rattle.dwc_cli.proofs.answer.text_of.Goals as goal
 
 -- ---- a module is refused
 
-module_refused : (c : goal.After-from_residual) → Refuses (input_view c.args.input.now) (failure_status c.in_err-translations.field-0.0)
+module_refused : (c : goal.After-drop-map) → Refuses (input_view c.args.input) (failure_status c.in_err-translations.field-0.0)
 module_refused c =
     let status = failure_status c.in_err-translations.field-0.0 in
-    Refuses-broken (input_view c.args.input.now) status (subst (λ ms. IsBroken (map (λ m. m.items) ms) status) c.deref.ensures.value c.in_err-translations.ensures)
+    Refuses-broken (input_view c.args.input) status (subst (λ ms. IsBroken (map (λ m. m.items) ms) status) c.deref.ensures.value c.in_err-translations.ensures)
 
 pub returns-in_err-translations-clause-causes : goal.returns-in_err-translations-clause-causes
 returns-in_err-translations-clause-causes c =
@@ -35,21 +35,21 @@ returns-in_err-translations-clause-complete c =
 pub returns-in_err-map_file-clause-causes : goal.returns-in_err-map_file-clause-causes
 returns-in_err-map_file-clause-causes c =
     let p = err_from_is_err_and c.from_residual-in_err-map_file.result c.from_residual-in_err-map_file.ensures.1 in
-    rw (p.1, p.2) (Refuses-memory (input_view c.args.input.now)).causes
+    rw (p.1, p.2) (Refuses-memory (input_view c.args.input)).causes
 
 pub returns-in_err-map_file-clause-status : goal.returns-in_err-map_file-clause-status
 returns-in_err-map_file-clause-status c =
     let p = err_from_is_err_and c.from_residual-in_err-map_file.result c.from_residual-in_err-map_file.ensures.1 in
-    rw (p.1, p.2) (Refuses-memory (input_view c.args.input.now)).one_of
+    rw (p.1, p.2) (Refuses-memory (input_view c.args.input)).one_of
 
-map_refused : (c : goal.After-drop-translations-in_default) → Refuses (input_view c.args.input.now) 6
+map_refused : (c : goal.After-drop-modules-in_default) → Refuses (input_view c.args.input) 6
 map_refused c =
-    let input = input_view c.args.input.now in
+    let input = input_view c.args.input in
     let ts = c.in_ok-translations.translations.items in
     let found = subst (λ ms. TranslatesFiles (map (λ m. m.items) ms) (Ok c.in_ok-translations.translations)) c.deref.ensures.value c.in_ok-translations.ensures in
     let none = none_from c.in_ok-map_file.field-0 c.in_default.not-Some in
     let seen = ap (option_map map_file_view) (sym none) ∙ c.in_ok-map_file.ensures.value in
-    Refuses-no_map ts input found (rw (c.deref-3.ensures.value, c.deref-2.ensures.value) at seen)
+    Refuses-no_map ts input found (rw (c.deref-2.ensures.value) at seen)
 
 pub returns-in_default-clause-causes : goal.returns-in_default-clause-causes
 returns-in_default-clause-causes c = (map_refused c).causes
@@ -59,14 +59,14 @@ returns-in_default-clause-complete c = (map_refused c).complete
 
 -- ---- no sections are emitted
 
-sections_refused : (c : goal.After-drop-translations-in_err-sections) → Refuses (input_view c.args.input.now) (failure_status c.in_err-sections.field-0.0)
+sections_refused : (c : goal.After-drop-modules-in_err-sections) → Refuses (input_view c.args.input) (failure_status c.in_err-sections.field-0.0)
 sections_refused c =
-    let input = input_view c.args.input.now in
+    let input = input_view c.args.input in
     let ts = c.in_ok-translations.translations.items in
     let found = subst (λ ms. TranslatesFiles (map (λ m. m.items) ms) (Ok c.in_ok-translations.translations)) c.deref.ensures.value c.in_ok-translations.ensures in
     let seen = ap (option_map map_file_view) (sym c.in-Some.is) ∙ c.in_ok-map_file.ensures.value in
-    let was = was_read ts c.in-Some.map_file input found (rw (c.deref-3.ensures.value, c.deref-2.ensures.value) at seen) in
-    let read_as = subst (λ us. IsReadAs us c.in-Some.map_file was.read) (sym c.deref-4.ensures.value) was.read_as in
+    let was = was_read ts c.in-Some.map_file input found (rw (c.deref-2.ensures.value) at seen) in
+    let read_as = subst (λ us. IsReadAs us c.in-Some.map_file was.read) (sym c.deref-3.ensures.value) was.read_as in
     Refuses-cause input was.read (failure_status c.in_err-sections.field-0.0) was.is_read (c.in_err-sections.ensures was.read read_as)
 
 pub returns-in_err-sections-clause-causes : goal.returns-in_err-sections-clause-causes
@@ -89,23 +89,23 @@ returns-in_err-sections-clause-complete c =
 pub returns-in_err-printed-clause-causes : goal.returns-in_err-printed-clause-causes
 returns-in_err-printed-clause-causes c =
     let p = err_from_is_err_and c.from_residual-in_err-printed.result c.from_residual-in_err-printed.ensures.1 in
-    rw (p.1, p.2) (Refuses-memory (input_view c.args.input.now)).causes
+    rw (p.1, p.2) (Refuses-memory (input_view c.args.input)).causes
 
 pub returns-in_err-printed-clause-status : goal.returns-in_err-printed-clause-status
 returns-in_err-printed-clause-status c =
     let p = err_from_is_err_and c.from_residual-in_err-printed.result c.from_residual-in_err-printed.ensures.1 in
-    rw (p.1, p.2) (Refuses-memory (input_view c.args.input.now)).one_of
+    rw (p.1, p.2) (Refuses-memory (input_view c.args.input)).one_of
 
-text_given : (c : goal.After-drop-translations-2) → Gives (input_view c.args.input.now) c.in_ok-printed.field-0.items
+text_given : (c : goal.After-drop-modules-2) → Gives (input_view c.args.input) c.in_ok-printed.field-0.items
 text_given c =
-    let input = input_view c.args.input.now in
+    let input = input_view c.args.input in
     let ts = c.in_ok-translations.translations.items in
     let found = subst (λ ms. TranslatesFiles (map (λ m. m.items) ms) (Ok c.in_ok-translations.translations)) c.deref.ensures.value c.in_ok-translations.ensures in
     let seen = ap (option_map map_file_view) (sym c.in-Some.is) ∙ c.in_ok-map_file.ensures.value in
-    let was = was_read ts c.in-Some.map_file input found (rw (c.deref-3.ensures.value, c.deref-2.ensures.value) at seen) in
-    let read_as = subst (λ us. IsReadAs us c.in-Some.map_file was.read) (sym c.deref-4.ensures.value) was.read_as in
+    let was = was_read ts c.in-Some.map_file input found (rw (c.deref-2.ensures.value) at seen) in
+    let read_as = subst (λ us. IsReadAs us c.in-Some.map_file was.read) (sym c.deref-3.ensures.value) was.read_as in
     let sections = map section_view c.in_ok-sections.sections.items in
-    rw (c.in_ok-printed.ensures.text, c.deref-5.ensures.value) (Gives-emitted input was.read sections was.is_read (c.in_ok-sections.ensures was.read read_as))
+    rw (c.in_ok-printed.ensures.text, c.deref-4.ensures.value) (Gives-emitted input was.read sections was.is_read (c.in_ok-sections.ensures was.read read_as))
 
 pub returns-clause-carried : goal.returns-clause-carried
 returns-clause-carried c = (text_given c).carried
