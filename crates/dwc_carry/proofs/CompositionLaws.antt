@@ -1,5 +1,5 @@
 -- What is written of the units that are made of an input's carried units carries the lines of the input.
-use Rattle.std.proofs.Common.{◌≡◌, ℕ, ◌≤◌, List, [], ◌∷◌, sym, subst, arith, None, All}
+use Rattle.std.proofs.Common.{◌≡◌, ℕ, ◌≤◌, List, [], ◌∷◌, map, refl, ap₂, sym, subst, arith, None, All}
 use Rattle.std.specs.List.{AllZip}
 use Rattle.std.specs.Prelude.{sum_by}
 use Rattle.std.proofs.lemmas.List.Elements.{All-nil, All-cons}
@@ -9,6 +9,8 @@ use Rattle.dwc_base.specs.Sections.{Sections}
 use Rattle.dwc_base.specs.Outputs.{OutputSection, output_sections}
 use Rattle.dwc_base.specs.Carried.{Unit, units, CarriedUnit, CarriesUnit, Compilation, carried_units, LinesCarried}
 use Rattle.dwc_base.specs.Widest.{widest_of_unit, widest}
+use Rattle.dwc_base.specs.Forests.{tree_of_unit}
+use Rattle.dwc_write.specs.GivenTrees.{given_tree}
 use Rattle.dwc_write.specs.GivenUnits.{GivenUnit, IsWritable, AreWritable}
 use Rattle.dwc_write.specs.ReadBack.{IsReadUnit, ReadsBack, given_segments}
 use Rattle.dwc_write.specs.WidestGiven.{widest_unit, widest_given}
@@ -39,6 +41,20 @@ lines-carried size c us s back made whole = record {
   output_read = back.units_read;
   each = carries-units size (output_sections c.order s) (carried_units c) us back.read made back.each;
 }
+
+-- Their trees are those of the carried units.
+pub made-trees : (size : ℕ) (cs : List CarriedUnit) (us : List GivenUnit) → AreMadeOf size cs us → map tree_of_unit cs ≡ map given_tree us
+made-trees size [] [] made = refl
+made-trees size [] (u ∷ us) made = absurd made
+made-trees size (c ∷ cs) [] made = absurd made
+made-trees size (c ∷ cs) (u ∷ us) made = ap₂ (λ t ts. t ∷ ts) (sym (made.0).tree) (made-trees size cs us made.1)
+
+-- all have addresses of one size
+pub made-sizes : (size : ℕ) (cs : List CarriedUnit) (us : List GivenUnit) → AreMadeOf size cs us → All (λ u. u.address_size ≡ size) us
+made-sizes size [] [] made = All-nil (λ (u : GivenUnit). u.address_size ≡ size)
+made-sizes size [] (u ∷ us) made = absurd made
+made-sizes size (c ∷ cs) [] made = absurd made
+made-sizes size (c ∷ cs) (u ∷ us) made = All-cons (λ (u : GivenUnit). u.address_size ≡ size) u us ((made.0).writable).size (made-sizes size cs us made.1)
 
 made-widest : (size : ℕ) (name : SectionName) (cs : List CarriedUnit) (us : List GivenUnit) → AreMadeOf size cs us → sum_by (widest_unit name) us ≤ sum_by (widest_of_unit name) cs
 made-widest size name [] [] made = omega arith

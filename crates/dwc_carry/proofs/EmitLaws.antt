@@ -1,25 +1,33 @@
 -- What is emitted of a compilation, from what is transformed and what is written.
-use Rattle.std.proofs.Common.{◌≡◌, ℕ, List, map, arith, None, Ok, Err, Vec, All}
+use Rattle.std.proofs.Common.{◌≡◌, ℕ, List, map, arith, None, Ok, Err, Vec, All, ◌≤◌, sym, subst}
 use Rattle.std.specs.Global.{Global}
 use Rattle.dwc_base.specs.declared.records.Endian.{Endian}
 use Rattle.dwc_base.specs.declared.output.DwarfSection.{DwarfSection}
-use Rattle.dwc_base.specs.Outputs.{section_view}
-use Rattle.dwc_base.specs.Carried.{carried_units}
+use Rattle.dwc_base.specs.declared.section_name.SectionName.{SectionName}
+use Rattle.dwc_base.specs.declared.section_name.SectionName.TheVariants.{Abbrev, Addr, Info, Line, LineStr, Loc, Loclists, Ranges, Rnglists, Str, StrOffsets, CuIndex, Frame}
+use Rattle.dwc_base.specs.Outputs.{output_sections, section_view}
+use Rattle.dwc_base.specs.TreeReading.{CarriesTrees}
+use Rattle.dwc_base.specs.Forests.{forest}
+use Rattle.dwc_base.specs.OutputForm.{HaveTargetForm, HasDistinctNames}
+use Rattle.dwc_base.specs.Fields.{AreRelocated}
+use Rattle.dwc_base.specs.WidestTrees.{widest_of_trees}
+use Rattle.dwc_write.specs.GivenTrees.{given_tree}
+use Rattle.dwc_base.specs.Carried.{units, carried_units}
 use Rattle.dwc_addr.specs.Compilations.{CompilationValue}
 use Rattle.dwc_write.specs.declared.error.WriteError.{WriteError}
 use Rattle.dwc_write.specs.declared.error.WriteError.TheVariants as write
 use Rattle.dwc_base.specs.declared.faults.Limit.TheVariants.{Section}
 use Rattle.dwc_write.specs.GivenUnits.{GivenUnit, AreWritable}
 use Rattle.dwc_write.specs.ReadBack.{ReadsBack}
-use Rattle.dwc_write.specs.WidestGiven.{IsWideRefusal}
+use Rattle.dwc_write.specs.WidestGiven.{widest_said, IsWideRefusal}
 use Rattle.dwc_write.specs.Writers.{IsSound}
 use Rattle.dwc_write.proofs.WidestTreeLaws.{widest-said}
 use Rattle.dwc_carry.specs.declared.error.DebugError.{DebugError}
 use Rattle.dwc_carry.specs.Refusals.{Told, refused, limit, memory, told, IsCause, Refuses, of_writing}
 use Rattle.dwc_carry.specs.Inputs.{input_of, refusal_of}
 use Rattle.dwc_carry.specs.Transformed.{IsTransformed}
-use Rattle.dwc_carry.specs.Emits.{IsTooLong, Emits}
-use Rattle.dwc_carry.proofs.CompositionLaws.{lines-carried, widest-given, made-writable}
+use Rattle.dwc_carry.specs.Emits.{widest_of_forest, widest_output, IsTooLong, Emits}
+use Rattle.dwc_carry.proofs.CompositionLaws.{lines-carried, made-sizes, widest-given, made-writable}
 
 module _ (order : Endian) (size : ℕ) (c : CompilationValue) where
   -- the input is refused
@@ -37,10 +45,52 @@ module _ (order : Endian) (size : ℕ) (c : CompilationValue) where
     transformed-writable = made-writable size (carried_units (input_of order size c)) us t.made
 
     -- what is written is emitted
-    pub emits-sections : (s : Vec DwarfSection Global) → ReadsBack order us (map section_view s.items) → All (IsSound order) (map section_view s.items) → Emits order size c (Ok s)
-    emits-sections s back sound = (accepted, record { carried = lines-carried size (input_of order size c) us (map section_view s.items) back t.made t.whole; sound = sound })
+    pub emits-sections : (s : Vec DwarfSection Global) → ReadsBack order us (map section_view s.items) → CarriesTrees order (map given_tree us) (map section_view s.items)
+        → ((n : ℕ) → All (λ u. u.address_size ≡ n) us → HaveTargetForm n (units (output_sections order (map section_view s.items))).items)
+        → HasDistinctNames (map section_view s.items) → AreRelocated order (map section_view s.items) → All (IsSound order) (map section_view s.items) → Emits order size c (Ok s)
+    emits-sections s back says form names relocated sound = (
+      accepted,
+      record {
+        carried = lines-carried size (input_of order size c) us (map section_view s.items) back t.made t.whole;
+        trees = map given_tree us;
+        are_forest = t.trees;
+        says = says;
+        form = form size (made-sizes size (carried_units (input_of order size c)) us t.made);
+        names = names;
+        relocated = relocated;
+        sound = sound;
+      },
+    )
+
+    -- what is counted over the trees of the units is counted over the forest
+    said-widest : (name : SectionName) → widest_said name us ≤ widest_output name (input_of order size c)
+    said-widest = go
+      where
+        same : (name : SectionName) → widest_of_trees name (map given_tree us) ≤ widest_of_forest name (forest (input_of order size c))
+        same name = subst (λ f. widest_of_trees name (map given_tree us) ≤ widest_of_forest name f) (sym t.trees) (omega arith)
+
+        go : (name : SectionName) → widest_said name us ≤ widest_output name (input_of order size c)
+        go Line = widest-given size Line (input_of order size c) us t.made
+        go Abbrev = same Abbrev
+        go Addr = same Addr
+        go Info = same Info
+        go LineStr = same LineStr
+        go Loc = same Loc
+        go Loclists = same Loclists
+        go Ranges = same Ranges
+        go Rnglists = same Rnglists
+        go Str = same Str
+        go StrOffsets = same StrOffsets
+        go CuIndex = same CuIndex
+        go Frame = same Frame
 
     -- writing is refused
     pub emits-large : (e : WriteError) → IsWideRefusal us e → Emits order size c (Err (of_writing e))
-    emits-large (write.TooLarge (Section name)) large = (accepted, omega (arith, large, widest-said name us, widest-given size name (input_of order size c) us t.made))
+    emits-large (write.TooLarge (Section name)) large = (
+      accepted,
+      record {
+        by_output = omega (arith, large, said-widest name);
+        by_input = omega (arith, large, widest-said name us, widest-given size name (input_of order size c) us t.made);
+      },
+    )
     emits-large write.OutOfMemory large = tt

@@ -16,7 +16,8 @@ use Rattle.dwc_base.specs.Kept.{is_required, is_translatable}
 use Rattle.dwc_base.specs.Entries.{Entry, entries, attribute}
 use Rattle.dwc_base.specs.BuiltForm.{is_subprogram_entry, subprograms_fault, entries_fault, listing_fault, shapes_fault, unit_fault}
 use Rattle.dwc_carry.specs.declared.read_entries.UnitEntries.{UnitEntries}
-use Rattle.dwc_carry.specs.Subprograms.{function_in, subprogram_of, required_subprogram}
+use Rattle.dwc_base.specs.Forests.{function_of_value}
+use Rattle.dwc_carry.specs.Subprograms.{subprogram_of, required_subprogram}
 use Rattle.dwc_carry.specs.InfoEntries.{IsReadOf}
 
 neither : {A : Type 0} (a b : Option A) → option_or a b ≡ None → (a ≡ None) × (b ≡ None)
@@ -68,7 +69,7 @@ some-mapped : {A B : Type 0} (f : A → B) (x : Option A) → is_some (option_ma
 some-mapped f None = refl
 some-mapped f (Some a) = refl
 
-some-function : (fs : List Function) (v : Option Value) → is_some (option_map subprogram_of (function_in fs v)) ≡ is_translatable fs v
+some-function : (fs : List Function) (v : Option Value) → is_some (option_map subprogram_of (function_of_value fs v)) ≡ is_translatable fs v
 some-function fs None = refl
 some-function fs (Some (address (Constant a))) = some-mapped subprogram_of (function_at fs a)
 some-function fs (Some (address (Symbol f a))) = refl
@@ -92,7 +93,7 @@ some-function fs (Some dropped) = refl
 pub required-some : (fs : List Function) (e : Entry) → is_some (required_subprogram fs e) ≡ is_required fs e
 required-some fs e = go (e.tag == DW_TAG_subprogram) (is_none (attribute DW_AT_ranges e)) (attribute DW_AT_low_pc e)
   where
-    go : (a b : Bool) (v : Option Value) → is_some (elim (a && b) [ true ↦ option_map subprogram_of (function_in fs v) | false ↦ None ]) ≡ (a && b && is_translatable fs v)
+    go : (a b : Bool) (v : Option Value) → is_some (elim (a && b) [ true ↦ option_map subprogram_of (function_of_value fs v) | false ↦ None ]) ≡ (a && b && is_translatable fs v)
     go true true v = some-function fs v
     go true false v = refl
     go false b v = refl

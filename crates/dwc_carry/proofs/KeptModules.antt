@@ -1,5 +1,6 @@
 -- What transforms keep of the functions of modules is enough: the same is refused and carried.
 use Rattle.std.proofs.Common.{◌≡◌, ℕ, ◌≤◌, List, [], ◌∷◌, ◌++◌, map, length, refl, ap, ◌∙◌, subst, Bool, None, All}
+use Rattle.std.specs.Prelude.{◌==◌}
 use Rattle.std.specs.List.{filter, flat_map, AllZip}
 use Rattle.std.proofs.lemmas.List.Elements.{All-nil, All-cons, All-head, All-tail}
 use Rattle.dwc_base.specs.declared.section_name.SectionName.{SectionName}
@@ -8,6 +9,9 @@ use Rattle.dwc_base.specs.Images.{IsImageOf}
 use Rattle.dwc_base.specs.Kept.{Placed, kept_entries, steps_of}
 use Rattle.dwc_base.specs.Carried.{Unit, units, Module, CarriedUnit, placed_entries, is_carried_unit, carried_units_of, table_of_unit}
 use Rattle.dwc_base.specs.Refusals.{module_refusals}
+use Rattle.dwc_base.specs.Entries.{Entry}
+use Rattle.dwc_base.specs.Trees.{TreeEntry}
+use Rattle.dwc_base.specs.Forests.{entry_made, has_line_table, kept_of_unit, tree_of_unit}
 use Rattle.dwc_base.specs.Widest.{widest_of_unit}
 use Rattle.dwc_addr.specs.Transforms.{kept_function}
 use Rattle.dwc_write.specs.GivenUnits.{GivenUnit}
@@ -15,7 +19,7 @@ use Rattle.dwc_write.specs.ReadBack.{given_segments}
 use Rattle.dwc_write.specs.WidestGiven.{widest_unit}
 use Rattle.dwc_carry.specs.MadeUnits.{IsMadeOf, AreMadeOf}
 use Rattle.dwc_carry.specs.CarriedModules.{carried_in}
-use Rattle.dwc_carry.proofs.TransferLaws.{required-kept, carried_segments-kept, widest_table-kept, images-kept}
+use Rattle.dwc_carry.proofs.TransferLaws.{entry_made-kept, required-kept, carried_segments-kept, widest_table-kept, images-kept}
 
 -- a module with what is kept of its functions
 abbrev pub kept_module : Module → Module
@@ -47,12 +51,19 @@ module _ (m : Module) where
   same-widest CuIndex u = refl
   same-widest Frame u = refl
 
+  -- the same is said
+  same-tree : (u : Unit) → tree_of_unit (record { module_of = kept_module m; unit = u }) ≡ tree_of_unit (record { module_of = m; unit = u })
+  same-tree u =
+      ap (λ ps. map (λ p. entry_made (map kept_function m.functions) (has_line_table (table_of_unit m.sections u)) p.entry) (filter (λ p. p.unit == u.header.offset) ps)) (same-kept (placed_entries (units m.sections).items))
+      ∙ ap (λ (made : Entry → TreeEntry). map (λ p. made p.entry) (kept_of_unit m u)) (λ i. λ e. entry_made-kept m.functions (has_line_table (table_of_unit m.sections u)) e i)
+
   -- what is made of a carried unit
   same-made : (size : ℕ) (u : Unit) (g : GivenUnit) → IsMadeOf size (record { module_of = kept_module m; unit = u }) g → IsMadeOf size (record { module_of = m; unit = u }) g
   same-made size u g h = record {
     input = h.input;
     input_read = h.input_read;
     images = images-kept m.functions _ _ (subst (λ qs. AllZip (IsImageOf (map kept_function m.functions)) qs (given_segments g.lines)) (carried_segments-kept m.functions h.input) h.images);
+    tree = h.tree ∙ same-tree u;
     writable = h.writable;
     widest = λ name. subst (λ n. widest_unit name g ≤ n) (same-widest name u) (h.widest name);
   }

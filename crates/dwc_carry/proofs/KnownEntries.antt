@@ -115,6 +115,10 @@ module _ (s : Sections) (h : UnitHeader) (from end : ℕ) where
 
 -- ---- entries of a declaration
 
+-- attributes of a root: its line table, or none
+abbrev pub HasRootNames : List (ℕ × Value) → Type 0
+HasRootNames values = (has_names (DW_AT_stmt_list ∷ []) values ≡ true) ⊎ (has_names [] values ≡ true)
+
 -- an entry of a root's shape, at a place and a depth
 pub record IsFoundRoot (offset depth : ℕ) (f : Found) : Type 0 where
   pub children : f.has_children ≡ true
@@ -123,6 +127,7 @@ pub record IsFoundRoot (offset depth : ℕ) (f : Found) : Type 0 where
   pub other : is_subprogram_entry f.entry ≡ false
   pub references : has_no_references f.entry ≡ true
   pub begin : attribute DW_AT_low_pc f.entry ≡ None
+  pub names : HasRootNames f.entry.attributes
 
 -- an entry of a subprogram's shape
 pub record IsFoundSubprogram (offset depth : ℕ) (f : Found) : Type 0 where
@@ -132,6 +137,7 @@ pub record IsFoundSubprogram (offset depth : ℕ) (f : Found) : Type 0 where
   pub tag : f.entry.tag ≡ DW_TAG_subprogram
   pub subprogram : is_subprogram_entry f.entry ≡ true
   pub references : has_no_references f.entry ≡ true
+  pub names : has_names (DW_AT_low_pc ∷ DW_AT_high_pc ∷ []) f.entry.attributes ≡ true
 
 -- what is read of an entry: the end of siblings, a root, or a subprogram
 abbrev pub FoundOf : ℕ → ℕ → Option Found → Type 0
@@ -147,16 +153,16 @@ pub record IsKnownRead (offset depth from end : ℕ) (r : Read (Option Found)) :
 
 -- attributes with a line table alone, or with none, are no subprogram's
 line-names : (values : List (ℕ × Value)) → has_names (DW_AT_stmt_list ∷ []) values ≡ true
-    → (has_names (DW_AT_low_pc ∷ DW_AT_high_pc ∷ []) values ≡ false) × (find (λ a. a.0 == DW_AT_low_pc) values ≡ None)
+    → (has_names (DW_AT_low_pc ∷ DW_AT_high_pc ∷ []) values ≡ false) × (find (λ a. a.0 == DW_AT_low_pc) values ≡ None) × HasRootNames values
 line-names [] h = absurd (true≢false (sym h))
 line-names (a ∷ []) h =
     let name : a.0 ≡ DW_AT_stmt_list = eqb-true a.0 DW_AT_stmt_list (both (a.0 == DW_AT_stmt_list) true h).0 in
-    (and_right (a.0 == DW_AT_low_pc) false refl, rw (name, find) refl)
+    (and_right (a.0 == DW_AT_low_pc) false refl, rw (name, find) refl, inl h)
 line-names (a ∷ b ∷ values) h = absurd (true≢false (sym (both (a.0 == DW_AT_stmt_list) false h).1))
 
 no-names : (values : List (ℕ × Value)) → has_names [] values ≡ true
-    → (has_names (DW_AT_low_pc ∷ DW_AT_high_pc ∷ []) values ≡ false) × (find (λ a. a.0 == DW_AT_low_pc) values ≡ None)
-no-names [] h = (refl, refl)
+    → (has_names (DW_AT_low_pc ∷ DW_AT_high_pc ∷ []) values ≡ false) × (find (λ a. a.0 == DW_AT_low_pc) values ≡ None) × HasRootNames values
+no-names [] h = (refl, refl, inr h)
 no-names (a ∷ values) h = absurd (true≢false (sym h))
 
 not-true : (b : Bool) → not b ≡ true → b ≡ false
@@ -165,7 +171,7 @@ not-true false h = refl
 
 module _ (s : Sections) (h : UnitHeader) (from end offset depth : ℕ) (d : Declaration) where
   root-found : (names : List ℕ) (r : Read (List (ℕ × Value))) → d.has_children ≡ true
-      → ((values : List (ℕ × Value)) → has_names names values ≡ true → (has_names (DW_AT_low_pc ∷ DW_AT_high_pc ∷ []) values ≡ false) × (find (λ a. a.0 == DW_AT_low_pc) values ≡ None))
+      → ((values : List (ℕ × Value)) → has_names names values ≡ true → (has_names (DW_AT_low_pc ∷ DW_AT_high_pc ∷ []) values ≡ false) × (find (λ a. a.0 == DW_AT_low_pc) values ≡ None) × HasRootNames values)
       → HaveNames s h from end names r
       → IsKnownRead offset depth from end (r >>= λ attributes. Ok (Some (record { entry = record { offset = offset; depth = depth; tag = d.tag; attributes = attributes.0 }; has_children = d.has_children }), attributes.1))
   root-found names (Err flaw) children named k = record { found = tt }
@@ -180,6 +186,7 @@ module _ (s : Sections) (h : UnitHeader) (from end offset depth : ℕ) (d : Decl
             other = and_right (d.tag == DW_TAG_subprogram) _ n.0;
             references = (k.read).1;
             begin = rw n.1 refl;
+            names = n.2;
           }),
           (k.read).2,
         );
@@ -198,6 +205,7 @@ module _ (s : Sections) (h : UnitHeader) (from end offset depth : ℕ) (d : Decl
             tag = eqb-true d.tag DW_TAG_subprogram tag;
             subprogram = and_from _ _ tag (k.read).0;
             references = (k.read).1;
+            names = (k.read).0;
           }),
           (k.read).2,
         );

@@ -58,7 +58,7 @@ module _ (s : Sections) (h : UnitHeader) (table : List Declaration) (known : has
           let inside : IsWithin (suc u.place) end v = record { begins = omega (arith, few, i.ends, j.ends); ends = j.ends } in
           let behind : GoodBelow (suc u.place) end (entries_from s h table (place_behind (Some f) 1 v)) = subst (λ p. GoodBelow (suc u.place) end (entries_from s h table p)) (sym place) (rest inside) in
           let whole = sym (ap (λ b. cond {A = Option Fault} b (subprograms_fault (entries_from s h table (place_behind (Some f) 1 v)).items (entries_from s h table (place_behind (Some f) 1 v)).fault) (Some (unsupported NotBuilt f.entry.offset))) k.subprogram) ∙ e in (
-            record { depth = k.depth_is; tag = k.tag; references = k.references },
+            record { depth = k.depth_is; tag = k.tag; references = k.references; names = k.names },
             omega (arith, start, i.begins),
             subst (λ n. AreSubprograms (suc n) end (entries_from s h table (place_behind (Some f) 1 v)).items) (sym start) (behind whole),
           )
@@ -84,7 +84,7 @@ module _ (s : Sections) (h : UnitHeader) (table : List Declaration) (known : has
           let behind : GoodBelow (suc u.place) end (entries_from s h table (place_behind (Some f) 0 v)) =
           subst (λ p. GoodBelow (suc u.place) end (entries_from s h table p)) (sym place) (below (suc (length v.left)) (suc u.place) end v (omega arith) inside) in
           let rest = sym (ap (λ b. cond {A = Option Fault} b (Some (unsupported NotBuilt f.entry.offset)) (subprograms_fault (entries_from s h table (place_behind (Some f) 0 v)).items (entries_from s h table (place_behind (Some f) 0 v)).fault)) k.other) ∙ e in (
-            record { depth = k.depth_is; references = k.references; begin = k.begin },
+            record { depth = k.depth_is; references = k.references; begin = k.begin; names = k.names },
             omega (arith, start, i.begins),
             subst (λ n. AreSubprograms (suc n) end (entries_from s h table (place_behind (Some f) 0 v)).items) (sym start) (behind rest),
           )

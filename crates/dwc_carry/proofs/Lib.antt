@@ -15,3 +15,4 @@ pub mod OutputUnitLaws
 pub mod InfoUnitLaws
 pub mod KeptModules
 pub mod TransformLaws
+pub mod MadeTrees

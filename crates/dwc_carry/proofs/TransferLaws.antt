@@ -1,7 +1,7 @@
 -- What is kept of functions is enough for images, for carried segments and for required entries.
 use Rattle.std.proofs.Common.{◌≡◌, List, [], ◌∷◌, map, refl, ap, sym, ◌∙◌, ◌+◌, length, Bool, true, false, Option, Some, None, Result, Ok, Err}
-use Rattle.std.specs.Prelude.{ℕ, sum_by, option_map, is_some, if◌then◌else◌}
-use Rattle.std.specs.List.{filter, list_any, AllZip}
+use Rattle.std.specs.Prelude.{ℕ, sum_by, option_map, is_some, if◌then◌else◌, ◌==◌, ◌++◌}
+use Rattle.std.specs.List.{filter, filter_map, list_any, AllZip}
 use Rattle.dwc_base.specs.declared.records.Address.{Address}
 use Rattle.dwc_base.specs.declared.records.Address.TheVariants.{Constant, Symbol}
 use Rattle.dwc_base.specs.Functions.{Function, recorded_sources, function_at, owner, with_symbol, is_unlinked}
@@ -14,7 +14,10 @@ use Rattle.dwc_base.specs.Images.{IsImage, IsImageOf, is_carried_segment, functi
 use Rattle.dwc_base.specs.Entries.{Entry, attribute}
 use Rattle.dwc_base.specs.Values.{Value, address}
 use Rattle.dwc_base.specs.Kept.{is_translatable, is_required}
-use Rattle.dwc_base.specs.declared.constants.TheConstants.{DW_AT_low_pc}
+use Rattle.dwc_base.specs.declared.constants.TheConstants.{DW_AT_high_pc, DW_AT_low_pc, DW_FORM_udata, DW_TAG_subprogram}
+use Rattle.dwc_base.specs.Trees as trees
+use Rattle.dwc_base.specs.Trees.{set_in_order}
+use Rattle.dwc_base.specs.Forests.{function_of_value, function_begun, function_bounds, attribute_becomes, if_made, entry_made}
 use Rattle.dwc_addr.specs.Transforms.{kept_function}
 use Rattle.dwc_addr.proofs.KeptLaws.{recorded_sources-kept, function_at-kept}
 
@@ -119,6 +122,26 @@ module _ (fs : List Function) where
   number-kept : (f : Function) (symbol : Option ℕ) → is_some symbol ≡ true → unwrap_or (option_map (λ s. f.number) symbol) 0 ≡ f.number
   number-kept f None h = absurd (cc)
   number-kept f (Some s) h = refl
+
+  -- the bounds of an entry are those of the function that it begins in
+  bounds-kept : (o : Option Value) → function_bounds (function_of_value (map kept_function fs) o) ≡ function_bounds (function_of_value fs o)
+  bounds-kept (Some (address (Constant a))) = ap function_bounds (function_at-kept fs a) ∙ go (function_at fs a) refl
+    where
+      go : (o : Option Function) → function_at fs a ≡ o → function_bounds (option_map kept_function o) ≡ function_bounds o
+      go None is = refl
+      go (Some f) is = ap (λ n. (DW_AT_low_pc, trees.address (Symbol n (pos 0))) ∷ (DW_AT_high_pc, trees.constant DW_FORM_udata f.length) ∷ []) (number-kept f f.symbol (at-symbol a f is))
+  bounds-kept _ = refl
+
+  begun-kept : (e : Entry) → function_bounds (function_begun (map kept_function fs) e) ≡ function_bounds (function_begun fs e)
+  begun-kept e = go (e.tag == DW_TAG_subprogram)
+    where
+      go : (b : Bool) → function_bounds (elim b [ true ↦ function_of_value (map kept_function fs) (attribute DW_AT_low_pc e) | false ↦ None ]) ≡ function_bounds (elim b [ true ↦ function_of_value fs (attribute DW_AT_low_pc e) | false ↦ None ])
+      go true = bounds-kept (attribute DW_AT_low_pc e)
+      go false = refl
+
+  -- so the same is made of an entry
+  pub entry_made-kept : (has_table : Bool) (e : Entry) → entry_made (map kept_function fs) has_table e ≡ entry_made fs has_table e
+  entry_made-kept has_table e = λ i. record { depth = e.depth; tag = e.tag; attributes = set_in_order (begun-kept e i ++ filter_map (λ a. if_made a.0 (attribute_becomes has_table e a)) e.attributes) }
 
   -- An image of a segment in what is kept of a function is one in the function.
   image-kept : (q : Segment) (start : ℕ) (f : Function) (image : Segment) → is_some f.symbol ≡ true → IsImage q start (kept_function f) image → IsImage q start f image

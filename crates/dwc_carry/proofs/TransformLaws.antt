@@ -1,5 +1,5 @@
 -- The transforms of the modules of a compilation, and what is made of the modules with them.
-use Rattle.std.proofs.Common.{◌≡◌, ℕ, zero, suc, ◌+◌, add-one, ◌<◌, ◌≤◌, List, [], ◌∷◌, ◌++◌, map, take, drop, length, get_or, slice_get, refl, ap, sym, ◌∙◌, subst, arith, Option, Some, None, Err, All}
+use Rattle.std.proofs.Common.{◌≡◌, ℕ, zero, suc, ◌+◌, add-one, ◌<◌, ◌≤◌, List, [], ◌∷◌, ◌++◌, map, take, drop, length, get_or, slice_get, refl, ap, sym, ◌∙◌, subst, arith, Option, Some, None, Err, All, Ok}
 use Rattle.std.specs.Prelude.{option_map}
 use Rattle.std.specs.Option.{option_or, unwrap_or}
 use Rattle.std.specs.List.{flat_map}
@@ -10,8 +10,9 @@ use Rattle.dwc_base.specs.declared.records.Endian.{Endian}
 use Rattle.dwc_base.specs.declared.records.MapFault.{MapFault}
 use Rattle.dwc_base.specs.declared.wasm.ModuleTranslation.{ModuleTranslation}
 use Rattle.dwc_base.specs.Functions.{Function, functions_of}
-use Rattle.dwc_base.specs.Carried.{Module}
-use Rattle.dwc_base.specs.Refusals.{Refusal, module_refusals, first_of}
+use Rattle.dwc_base.specs.Carried.{Module, Compilation, carried_units}
+use Rattle.dwc_base.specs.Forests.{tree_of_unit, forest}
+use Rattle.dwc_base.specs.Refusals.{Refusal, module_refusals, first_of, first_refusal}
 use Rattle.dwc_clif.specs.AddressMaps.{address_map_view}
 use Rattle.dwc_addr.specs.declared.error.AddrError.{AddrError}
 use Rattle.dwc_addr.specs.declared.error.AddrError.TheVariants as addr
@@ -27,6 +28,7 @@ use Rattle.dwc_carry.specs.CarriedModules.{transformed_modules, carried_in, Adds
 use Rattle.dwc_carry.specs.Inputs.{module_view, modules_from, input_of, bad_map_from, bad_map, maps_refusal}
 use Rattle.dwc_carry.specs.Transformed.{all_kept, IsTransformed}
 use Rattle.dwc_carry.proofs.CarriedReadLaws.{unmapped, refuses-more}
+use Rattle.dwc_carry.proofs.CompositionLaws.{made-trees}
 use Rattle.dwc_carry.proofs.KeptModules.{kept_module, all-refusals, all-made, all-whole}
 
 -- the refusal of a bad map
@@ -140,6 +142,10 @@ transformed-kept number [] fss = refl
 transformed-kept number (t ∷ ts) [] = refl
 transformed-kept number (t ∷ ts) (fs ∷ fss) = ap (λ ms. kept_module (module_view number t fs) ∷ ms) (transformed-kept (number + length fs) ts fss)
 
+-- the forest of an input of which nothing is refused
+forest-is : (c : Compilation) → first_refusal c ≡ None → forest c ≡ Ok (map tree_of_unit (carried_units c))
+forest-is c none = rw (none, forest) refl
+
 module _ (c : CompilationValue) where
   -- what is refused of the modules, in order
   abbrev refusals_in : List Module → Option InputRefusal
@@ -169,10 +175,13 @@ module _ (c : CompilationValue) where
       → (input_refusal ≡ None) × IsTransformed size (input_of order size c) us
   input-transformed order size us good (none, h) =
       let ms = modules_from 0 c.translations c.functions in
-      let k : AddsModules size (map kept_module ms) [] us = subst (λ xs. AddsModules size xs [] us) (transformed-kept 0 c.translations c.functions) h in (
-        sym (input-refusals good) ∙ none,
+      let k : AddsModules size (map kept_module ms) [] us = subst (λ xs. AddsModules size xs [] us) (transformed-kept 0 c.translations c.functions) h in
+      let accepted : input_refusal ≡ None = sym (input-refusals good) ∙ none in
+      let made : AreMadeOf size (flat_map carried_in ms) us = subst (AreMadeOf size (flat_map carried_in ms)) (sym k.added) (all-made size ms k.made k.each) in (
+        accepted,
         record {
-          made = subst (AreMadeOf size (flat_map carried_in ms)) (sym k.added) (all-made size ms k.made k.each);
+          made = made;
           whole = all-whole ms k.whole;
+          trees = forest-is (input_of order size c) (unmapped in_reading (first_refusal (input_of order size c)) (neither (maps_refusal c) (refusals_in ms) accepted).1) ∙ ap Ok (made-trees size (flat_map carried_in ms) us made);
         },
       )

@@ -1,6 +1,6 @@
 -- Units of the known form, and which of their entries are kept.
 use Rattle.std.proofs.Common.{◌≡◌, ◌≢◌, ℕ, suc, ◌<◌, ◌≤◌, List, [], ◌∷◌, ◌++◌, map, length, refl, ap, ap₂, sym, subst, ◌∙◌, inl, inr, arith, Bool, true, false, cond, None, append-nil, All}
-use Rattle.std.specs.Prelude.{◌==◌, ◌||◌, ◌&&◌, not}
+use Rattle.std.specs.Prelude.{◌⊎◌, ◌==◌, ◌||◌, ◌&&◌, not}
 use Rattle.std.specs.List.{filter, list_any, list_all, flat_map}
 use Rattle.std.proofs.lemmas.Bool.{eq-eqb, eqb-true, ne_eqb, or_from, and_right, true≢false}
 use Rattle.std.proofs.lemmas.List.Elements.{filter-append, All-nil, All-cons}
@@ -8,10 +8,11 @@ use Rattle.std.proofs.lemmas.List.{length-map}
 use Rattle.dwc_base.specs.Functions.{Function}
 use Rattle.dwc_base.specs.Values.{Value, unit_reference, info_reference}
 use Rattle.dwc_base.specs.Entries.{Entry, attribute}
+use Rattle.dwc_base.specs.BuiltForm.{has_names}
 use Rattle.dwc_base.specs.Carried.{Unit, Module, placed_entries, units, has_root_tag, is_carried_unit, carried_units_of}
 use Rattle.dwc_base.specs.Kept.{Placed, is_required, names_entry, kept_entries}
 use Rattle.dwc_base.specs.Widest.{kept_subprograms}
-use Rattle.dwc_base.specs.declared.constants.TheConstants.{DW_AT_low_pc, DW_AT_sibling, DW_TAG_compile_unit, DW_TAG_subprogram}
+use Rattle.dwc_base.specs.declared.constants.TheConstants.{DW_AT_high_pc, DW_AT_low_pc, DW_AT_sibling, DW_AT_stmt_list, DW_TAG_compile_unit, DW_TAG_subprogram}
 use Rattle.dwc_carry.proofs.KeptUnits.{IsIn, in-any, in-filter, filter-none, filter-same, both, NamesNone, IsTop, IsSub, Chain, Rising, IsTree, kept}
 
 -- ---- the form of units
@@ -26,17 +27,19 @@ is_no_reference _ = true
 abbrev pub has_no_references : Entry → Bool
 has_no_references e = list_all (λ a. is_no_reference a.1) e.attributes
 
--- the root of a unit: its children are subprograms, and it has no begin
+-- the root of a unit: its children are subprograms, and it has its line table or no attribute
 pub record IsRoot (e : Entry) : Type 0 where
   pub depth : e.depth ≡ 0
   pub references : has_no_references e ≡ true
   pub begin : attribute DW_AT_low_pc e ≡ None
+  pub names : (has_names (DW_AT_stmt_list ∷ []) e.attributes ≡ true) ⊎ (has_names [] e.attributes ≡ true)
 
--- a subprogram below the root
+-- a subprogram below the root, with its begin and its length
 pub record IsSubprogram (e : Entry) : Type 0 where
   pub depth : e.depth ≡ 1
   pub tag : e.tag ≡ DW_TAG_subprogram
   pub references : has_no_references e ≡ true
+  pub names : has_names (DW_AT_low_pc ∷ DW_AT_high_pc ∷ []) e.attributes ≡ true
 
 -- entries below a root, their offsets rising from one place up to another
 abbrev pub AreSubprograms : ℕ → ℕ → List Entry → Type 0
@@ -347,7 +350,7 @@ one-unit from (w ∷ ws) u v h (inl a) (inr j) e = let same : u.header.offset �
 one-unit from (w ∷ ws) u v h (inr i) (inl b) e = let same : v.header.offset ≡ w.header.offset = ap (λ x. x.header.offset) b in absurd (omega (arith, same, e, (h.1).some, unit-from w.header.end ws u h.2 i))
 one-unit from (w ∷ ws) u v h (inr i) (inr j) e = one-unit w.header.end ws u v h.2 i j e
 
-all-from-in : {A : Type 0} (P : A → Type 0) (xs : List A) → ((x : A) → IsIn x xs → P x) → All P xs
+pub all-from-in : {A : Type 0} (P : A → Type 0) (xs : List A) → ((x : A) → IsIn x xs → P x) → All P xs
 all-from-in P [] h = All-nil P
 all-from-in P (x ∷ xs) h = All-cons P x xs (h x (inl refl)) (all-from-in P xs (λ y i. h y (inr i)))
 

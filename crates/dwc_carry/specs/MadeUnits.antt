@@ -6,16 +6,20 @@ use Rattle.dwc_base.specs.LineRows.{Segment}
 use Rattle.dwc_base.specs.Images.{is_carried_segment, IsImageOf}
 use Rattle.dwc_base.specs.Carried.{CarriedUnit, segments_of_unit}
 use Rattle.dwc_base.specs.Widest.{widest_of_unit}
+use Rattle.dwc_base.specs.Forests.{tree_of_unit}
+use Rattle.dwc_write.specs.GivenTrees.{given_tree}
 use Rattle.dwc_write.specs.GivenUnits.{GivenUnit, IsWritable}
 use Rattle.dwc_write.specs.ReadBack.{given_segments}
 use Rattle.dwc_write.specs.WidestGiven.{widest_unit}
 
 -- A unit to be written, with addresses of a size, is made of a carried unit: its segments are, one to one and in order, images
--- of the carried segments of that unit; and in no section it is longer, at its widest, than what is allowed for that unit.
+-- of the carried segments of that unit; it says what is made of the unit's kept entries; and in no section it is longer, at its
+-- widest, than what is allowed for that unit.
 pub record IsMadeOf (size : ℕ) (c : CarriedUnit) (u : GivenUnit) : Type 0 where
   pub input : List Segment
   pub input_read : segments_of_unit c.module_of.sections c.unit ≡ Ok input
   pub images : AllZip (IsImageOf c.module_of.functions) (filter (is_carried_segment c.module_of.functions) input) (given_segments u.lines)
+  pub tree : given_tree u ≡ tree_of_unit c
   pub writable : IsWritable size u
   pub widest : (name : SectionName) → widest_unit name u ≤ widest_of_unit name c
 

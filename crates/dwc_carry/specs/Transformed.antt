@@ -1,5 +1,5 @@
 -- The answers of transforming the DWARF of a compilation.
-use Rattle.std.specs.Prelude.{◌≡◌, ℕ, List, map, None, Result, Vec, All}
+use Rattle.std.specs.Prelude.{◌≡◌, ℕ, List, map, None, Result, Ok, Vec, All}
 use Rattle.std.specs.Global.{Global}
 use Rattle.dwc_base.specs.declared.records.Endian.{Endian}
 use Rattle.dwc_base.specs.Functions.{Function}
@@ -8,6 +8,8 @@ use Rattle.dwc_addr.specs.declared.transform.AddressTransform.{AddressTransform}
 use Rattle.dwc_addr.specs.Compilations.{CompilationValue}
 use Rattle.dwc_addr.specs.Transforms.{kept_function}
 use Rattle.dwc_write.specs.declared.units.Dwarf.{Dwarf}
+use Rattle.dwc_base.specs.Forests.{forest}
+use Rattle.dwc_write.specs.GivenTrees.{given_tree}
 use Rattle.dwc_write.specs.GivenUnits.{GivenUnit}
 use Rattle.dwc_carry.specs.declared.error.DebugError.{DebugError}
 use Rattle.dwc_carry.specs.Refusals.{GivesOr}
@@ -22,10 +24,11 @@ all_kept ms = map (λ m. map kept_function m.functions) ms
 abbrev pub GivesTransforms : CompilationValue → Result (Vec AddressTransform Global) DebugError → Type 0
 GivesTransforms c result = GivesOr (λ (ts : Vec AddressTransform Global). ts.items ≡ all_kept (modules_from 0 c.translations c.functions)) (maps_refusal c) result
 
--- Units that are made of all carried units of an input, whose modules are read to their ends.
+-- Units that are made of all carried units of an input, whose modules are read to their ends, and that say the trees of its forest.
 pub record IsTransformed (size : ℕ) (c : Compilation) (us : List GivenUnit) : Type 0 where
   pub made : AreMadeOf size (carried_units c) us
   pub whole : All (λ m. (units m.sections).fault ≡ None) c.modules
+  pub trees : forest c ≡ Ok (map given_tree us)
 
 -- The units, or a refusal.
 abbrev pub GivesDwarf : Endian → ℕ → CompilationValue → Result Dwarf DebugError → Type 0

@@ -1,10 +1,11 @@
 //! The subprograms of the output, from those entries of the input that are kept.
 ghost use Rattle.std.specs.Prelude.{◌≡◌, option_map, is_some, IfSome, IsSome};
 ghost use Rattle.dwc_base.specs.Entries.{attribute};
+ghost use Rattle.dwc_base.specs.Forests.{function_of_value};
 ghost use Rattle.dwc_base.specs.Kept.{is_required};
 ghost use Rattle.dwc_addr.specs.Transforms.{function_view};
 ghost use Rattle.dwc_read.specs.EntriesSeen.{entry_view};
-ghost use Rattle.dwc_carry.specs.Subprograms.{function_in, required_subprogram};
+ghost use Rattle.dwc_carry.specs.Subprograms.{required_subprogram};
 
 use dwc_addr::{AddressTransform, FunctionMap};
 use dwc_base::Address;
@@ -21,7 +22,7 @@ pub(crate) struct Subprogram {
 // The function that an entry's low_pc is in.
 fn function_of<'t>(entry: &Entry<'_>, transform: &'t AddressTransform) -> Option<&'t FunctionMap>
     ensures symbol { IfSome result (λ f. IsSome f.now.symbol) }
-    ensures found { option_map (λ f. function_view f.now) result ≡ function_in transform.now (attribute DW_AT_low_pc (entry_view entry.now)) }
+    ensures found { option_map (λ f. function_view f.now) result ≡ function_of_value transform.now (attribute DW_AT_low_pc (entry_view entry.now)) }
 {
     match entry.attr(DW_AT_low_pc)? {
         AttributeValue::Addr(Address::Constant(address)) => transform.func_at(address),
