@@ -1,13 +1,22 @@
 #!/usr/bin/env python3
 """Makes WebAssembly modules with DWARF, and the map files of code compiled from them.
 
-    make_modules.py FOLDER [--functions N ...] [--segments N ...] [--modules N ...] [--units N ...]
+    make_modules.py FOLDER [--KIND N ...] ...
 
-For each N of --functions: N functions, each with a subprogram, a line sequence of 20 rows and an address map of 20
-entries. For each N of --segments: one function of N sources, and a DW_LNE_set_address before each of its N rows, as
-wasm-opt writes them. For each N of --modules: three modules of N functions each under one map. For each N of --units: N units
-without line tables, of a subprogram each, that share one abbreviation table of N declarations. The files are
-FOLDER/functions_N.json with FOLDER/functions_N.0.wasm, and so on; of --modules there are three wasm files.
+Of each kind, for each N, the files are FOLDER/KIND_N.json with FOLDER/KIND_N.0.wasm, and so on. Plain ones:
+
+- functions: N functions, each with a subprogram, a line sequence of 20 rows and an address map of 20 entries.
+- modules: three modules of N functions each under one map; there are three wasm files.
+- segments: one function of N sources, and a DW_LNE_set_address before each of its N rows, as wasm-opt writes them.
+
+Hostile ones:
+
+- units: N units without line tables, of a subprogram each, that share one abbreviation table of N declarations.
+- shapes: one unit of N subprograms, each of a shape of its own among N.
+- attributes: one entry of N attributes. It is refused so far.
+- subprograms: one unit of N subprograms, all at the begin of one function.
+- one_function: N segments of one row each, all at the begin of one function of N sources.
+- shared_table: 1,000 units of a subprogram each, which name one line table of N rows.
 """
 
 import argparse
@@ -209,6 +218,107 @@ def units_module(count):
     return wasm, [function]
 
 
+def one_function(size, info, line, abbreviations, entries, length=CODE):
+    """A module of one function at its only place, with sections of DWARF that are made for that place."""
+    bodies = [body_of(size)]
+    [start] = places(bodies)
+    wasm, offset = module(bodies, info(start), line(start), abbreviations)
+    function = {
+        "symbol": 0,
+        "start": start + offset,
+        "end": start + offset + size,
+        "body_len": length,
+        "map": [[native, start + offset + wasm_offset] for native, wasm_offset in entries],
+    }
+    return wasm, [function]
+
+
+def no_lines(start):
+    return b""
+
+
+def unit_of(entries):
+    unit = bytes.fromhex("0400") + u32(0) + bytes([4]) + entries + bytes([0])
+    return u32(len(unit)) + unit
+
+
+def shapes_module(count):
+    def info(start):
+        values = u32(start) + u32(BODY)
+        return unit_of(bytes([1]) + b"".join(uleb(code) + values for code in range(2, count + 2)))
+
+    return one_function(BODY, info, no_lines, shared_table(count + 1), [[0, 0]])
+
+
+def attributes_module(count):
+    names = b"".join(uleb(0x2000 + i % 0x1000) + bytes([0x0B]) for i in range(count))
+    table = BARE_ROOT + bytes.fromhex("02 2E00 1101 1206") + names + bytes(3)
+
+    def info(start):
+        return unit_of(bytes([1, 2]) + u32(start) + u32(BODY) + bytes(count))
+
+    return one_function(BODY, info, no_lines, table, [[0, 0]])
+
+
+def subprograms_module(count):
+    def info(start):
+        return unit_of(bytes([1]) + (bytes([2]) + u32(start) + u32(BODY)) * count)
+
+    return one_function(BODY, info, no_lines, shared_table(2), [[0, 0]])
+
+
+def one_function_module(count):
+    size = 2 * count + 2
+
+    def line(start):
+        return debug_line((set_address(start) + COPY) * count + advance_pc(size) + END_SEQUENCE)
+
+    entries = [[3 * k, 2 * k] for k in range(count)]
+    return one_function(size, lambda start: debug_info([(start, size)]), line, ABBREVIATIONS, entries, 3 * count)
+
+
+UNITS_OF_A_TABLE = 1000
+
+
+def shared_table_module(rows):
+    special = 13 + 5 + 1
+
+    def info(start):
+        return debug_info([(start, BODY)]) * UNITS_OF_A_TABLE
+
+    def line(start):
+        return debug_line(set_address(start) + COPY + bytes([special]) * (rows - 1) + advance_pc(BODY) + END_SEQUENCE)
+
+    return one_function(BODY, info, line, ABBREVIATIONS, [[0, 0], [5, 8]])
+
+
+# The kinds of modules, each with what makes the modules of a size.
+KINDS = {
+    "functions": lambda n: [functions_module(n)],
+    "modules": lambda n: [functions_module(n, i * n) for i in range(3)],
+    "segments": lambda n: [segments_module(n)],
+    "units": lambda n: [units_module(n)],
+    "shapes": lambda n: [shapes_module(n)],
+    "attributes": lambda n: [attributes_module(n)],
+    "subprograms": lambda n: [subprograms_module(n)],
+    "one_function": lambda n: [one_function_module(n)],
+    "shared_table": lambda n: [shared_table_module(n)],
+}
+
+# The sizes of each kind, unless they are given.
+SIZES = {
+    "functions": [1000, 25000, 50000],
+    "modules": [5000, 10000],
+    "segments": [5000, 10000],
+    "units": [5000, 10000],
+    "shapes": [30000, 60000],
+    "attributes": [30000, 60000],
+    "subprograms": [50000, 100000],
+    "one_function": [50000, 100000],
+    "shared_table": [500000, 1000000],
+}
+
+
 def write(folder, name, modules):
     """Writes modules with their map, and answers the paths of the map and of the modules."""
     map_path = os.path.join(folder, name + ".json")
@@ -222,32 +332,31 @@ def write(folder, name, modules):
     return paths
 
 
-def make(folder, functions, segments, modules, units):
-    """The names of what was made, each with the paths of its map and of its modules, by size."""
+def make(folder, sizes):
+    """Kind, size and the paths of the map and of the modules of all that is made, by the sizes of each kind."""
     os.makedirs(folder, exist_ok=True)
-    for count in functions:
-        name = f"functions_{count}"
-        yield name, write(folder, name, [functions_module(count)])
-    for rows in segments:
-        name = f"segments_{rows}"
-        yield name, write(folder, name, [segments_module(rows)])
-    for count in modules:
-        name = f"modules_{count}"
-        yield name, write(folder, name, [functions_module(count, i * count) for i in range(3)])
-    for count in units:
-        name = f"units_{count}"
-        yield name, write(folder, name, [units_module(count)])
+    for kind, numbers in sizes.items():
+        for number in numbers:
+            yield kind, number, write(folder, f"{kind}_{number}", KINDS[kind](number))
+
+
+def add_sizes(parser):
+    """The words of a command line for the sizes of each kind; `--only KIND ..` leaves the others out."""
+    for kind, sizes in SIZES.items():
+        parser.add_argument(f"--{kind}", type=int, nargs="*", default=sizes)
+    parser.add_argument("--only", nargs="*", choices=list(KINDS), default=list(KINDS))
+
+
+def sizes_of(words):
+    return {kind: getattr(words, kind) for kind in words.only}
 
 
 def main():
     parser = argparse.ArgumentParser(description=__doc__.splitlines()[0])
     parser.add_argument("folder")
-    parser.add_argument("--functions", type=int, nargs="*", default=[1000, 10000, 50000])
-    parser.add_argument("--segments", type=int, nargs="*", default=[5000])
-    parser.add_argument("--modules", type=int, nargs="*", default=[10000])
-    parser.add_argument("--units", type=int, nargs="*", default=[10000])
+    add_sizes(parser)
     words = parser.parse_args()
-    for _, paths in make(words.folder, words.functions, words.segments, words.modules, words.units):
+    for _, _, paths in make(words.folder, sizes_of(words)):
         print(*paths)
 
 

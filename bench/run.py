@@ -1,18 +1,18 @@
 #!/usr/bin/env python3
 """Runs the built program on modules of growing size, and prints what each run takes.
 
-    run.py [PROGRAM] [--rounds N] [--functions N ...] [--segments N ...] [--modules N ...]
-           [--units N ...]
+    run.py [PROGRAM] [--rounds N] [--only KIND ...] [--KIND N ...] [--real FOLDER]
 
-PROGRAM is crates/dwarfcarry/out/dwarfcarry unless it is given. A row shows the best of the rounds: seconds, MB of wasm and
-of map a second, the peak memory, and the time beside that of the row above of the same kind; linear work gives there the
-ratio of the sizes. The files are made in a temporary folder, which is removed. It asks for GNU time at /usr/bin/time.
+PROGRAM is crates/dwarfcarry/out/dwarfcarry unless it is given; the kinds are those of make_modules.py. A row shows the status and
+the best of the rounds: seconds, MB of wasm and of map a second, the peak memory, and the time beside that of the row above of the
+same kind, with the ratio of their sizes, which linear work keeps to. With --real the pairs NAME.json and NAME.wasm of a folder are
+run too. The files that are made stand in a temporary folder, which is removed. It asks for GNU time at /usr/bin/time.
 """
 
 import argparse
+import glob
 import os
 import subprocess
-import sys
 import tempfile
 import time
 
@@ -28,49 +28,58 @@ def run(program, paths, out_path):
     timed = ["/usr/bin/time", "--quiet", "-f", "%M", "-o", peak_path, program, *paths]
     with open(out_path, "wb") as out:
         begin = time.perf_counter()
-        status = subprocess.run(timed, stdout=out).returncode
+        status = subprocess.run(timed, stdout=out, stderr=subprocess.DEVNULL).returncode
         seconds = time.perf_counter() - begin
     with open(peak_path) as file:
         return seconds, int(file.read()) * 1024, status
 
 
 def measure(program, paths, out_path, rounds):
-    """The best seconds, the peak memory, and the sizes of the map, of all modules and of the output."""
-    best, peak = None, 0
-    for _ in range(rounds):
-        seconds, memory, status = run(program, paths, out_path)
-        if status != 0:
-            sys.exit(f"{paths[0]}: status {status}")
-        best = seconds if best is None else min(best, seconds)
-        peak = max(peak, memory)
+    """The status, the best seconds, the peak memory, and the sizes of all modules, of the map and of the output."""
+    runs = [run(program, paths, out_path) for _ in range(rounds)]
     map_size, *wasm_sizes = [os.path.getsize(path) for path in paths]
-    return best, peak, (map_size, sum(wasm_sizes), os.path.getsize(out_path))
+    sizes = [sum(wasm_sizes), map_size, os.path.getsize(out_path)]
+    return runs[0][2], min(seconds for seconds, _, _ in runs), max(peak for _, peak, _ in runs), sizes
+
+
+def made_runs(folder, words):
+    """Name, kind, size and paths of the modules that are made."""
+    for kind, number, paths in make_modules.make(folder, make_modules.sizes_of(words)):
+        yield f"{kind} {number}", kind, number, paths
+
+
+def real_runs(folder):
+    """The same of the modules of a folder."""
+    for path in sorted(glob.glob(os.path.join(folder, "*.json"))):
+        name = os.path.basename(path)[:-5]
+        yield name, name, None, [path, path[:-5] + ".wasm"]
+
+
+def print_row(name, cells):
+    print(f"{name:<22}" + "".join(f"{cell:>11}" for cell in cells), flush=True)
 
 
 def main():
     parser = argparse.ArgumentParser(description=__doc__.splitlines()[0])
     parser.add_argument("program", nargs="?", default=DEFAULT)
     parser.add_argument("--rounds", type=int, default=3)
-    parser.add_argument("--functions", type=int, nargs="*", default=[1000, 10000, 50000])
-    parser.add_argument("--segments", type=int, nargs="*", default=[5000, 10000])
-    parser.add_argument("--modules", type=int, nargs="*", default=[10000])
-    parser.add_argument("--units", type=int, nargs="*", default=[5000, 10000])
+    parser.add_argument("--real")
+    make_modules.add_sizes(parser)
     words = parser.parse_args()
-    titles = ["wasm MB", "map MB", "out MB", "seconds", "wasm MB/s", "map MB/s", "peak MB", "times"]
-    print(f"{'module':<18}" + "".join(f"{title:>11}" for title in titles))
+    titles = ["status", "wasm MB", "map MB", "out MB", "seconds", "wasm MB/s", "map MB/s", "peak MB", "times", "size"]
+    print_row("module", titles)
     with tempfile.TemporaryDirectory() as folder:
         before = {}
-        made = make_modules.make(folder, words.functions, words.segments, words.modules, words.units)
-        for name, paths in made:
-            out_path = os.path.join(folder, name + ".out")
-            seconds, peak, (map_size, wasm_size, out_size) = measure(words.program, paths, out_path, words.rounds)
-            kind = name.split("_")[0]
-            times = f"{seconds / before[kind]:.1f}" if kind in before else ""
-            before[kind] = seconds
-            sizes = [wasm_size / MB, map_size / MB, out_size / MB]
-            cells = [f"{size:.2f}" for size in sizes] + [f"{seconds:.3f}"]
-            cells += [f"{size / seconds:.1f}" for size in sizes[:2]] + [f"{peak / MB:.1f}", times]
-            print(f"{name:<18}" + "".join(f"{cell:>11}" for cell in cells), flush=True)
+        runs = list(real_runs(words.real)) if words.real else []
+        for name, kind, number, paths in [*made_runs(folder, words), *runs]:
+            out_path = os.path.join(folder, "out")
+            status, seconds, peak, sizes = measure(words.program, paths, out_path, words.rounds)
+            cells = [str(status)] + [f"{size / MB:.2f}" for size in sizes] + [f"{seconds:.3f}"]
+            cells += [f"{size / MB / seconds:.1f}" for size in sizes[:2]] + [f"{peak / MB:.1f}"]
+            if kind in before:
+                cells += [f"{seconds / before[kind][0]:.2f}", f"{number / before[kind][1]:.2f}"]
+            before[kind] = (seconds, number)
+            print_row(name, cells)
 
 
 if __name__ == "__main__":
