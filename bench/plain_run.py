@@ -1,0 +1,556 @@
+"""What a run prints, worked out anew from the files that it reads: a plain reading of WebAssembly, of the map and of DWARF,
+and a plain writing of the output. It knows valid inputs alone, in the form that is built so far, and is as slow as it is short.
+"""
+
+import json
+from dataclasses import dataclass, field, replace
+
+TAG_COMPILE_UNIT, TAG_SUBPROGRAM = 0x11, 0x2E
+AT_STMT_LIST, AT_LOW_PC, AT_HIGH_PC = 0x10, 0x11, 0x12
+DROPPED = (0, 0xFFFFFFFF)
+
+
+class Reader:
+    def __init__(self, data, at=0):
+        self.data, self.at = data, at
+
+    def take(self, count):
+        if self.at + count > len(self.data):
+            raise ValueError("the bytes end early")
+        self.at += count
+        return self.data[self.at - count : self.at]
+
+    def number(self, size):
+        return int.from_bytes(self.take(size), "little")
+
+    def uleb(self):
+        value, shift = 0, 0
+        while True:
+            byte = self.number(1)
+            value |= (byte & 0x7F) << shift
+            shift += 7
+            if byte < 0x80:
+                return value
+
+    def sleb(self):
+        value, shift = 0, 0
+        while True:
+            byte = self.number(1)
+            value |= (byte & 0x7F) << shift
+            shift += 7
+            if byte < 0x80:
+                return value - (1 << shift) if byte & 0x40 else value
+
+    def text(self):
+        end = self.data.index(0, self.at)
+        return self.take(end + 1 - self.at)[:-1]
+
+
+def uleb(n):
+    out = bytearray()
+    while n >= 0x80:
+        out.append(n & 0x7F | 0x80)
+        n >>= 7
+    return bytes(out) + bytes([n])
+
+
+def sleb(n):
+    out = bytearray()
+    while not -64 <= n < 64:
+        out.append(n & 0x7F | 0x80)
+        n >>= 7
+    return bytes(out) + bytes([n & 0x7F])
+
+
+# ---- what is read
+
+
+def read_wasm(data):
+    """The offset of the code section's contents, and the custom sections; of equal names the later counts."""
+    reader, code, sections = Reader(data, 8), 0, {}
+    while reader.at < len(data):
+        number, size = reader.number(1), reader.uleb()
+        if number == 10:
+            code = reader.at
+        contents = Reader(reader.take(size))
+        if number == 0:
+            name = contents.take(contents.uleb()).decode()
+            sections[name] = contents.data[contents.at :]
+    return code, sections
+
+
+@dataclass
+class Function:
+    number: int
+    symbol: int | None
+    start: int
+    length: int
+    sources: list
+
+
+def read_map(data, codes):
+    """The target, and the functions of each module, with wasm offsets in place of those of the file."""
+    value, number, modules = json.loads(data), 0, []
+    for told, code in zip(value["modules"], codes):
+        functions = []
+        for f in told["functions"]:
+            sources = [(native, place - code) for native, place in f["map"] if place is not None]
+            functions.append(Function(number, f["symbol"], f["start"] - code, f["body_len"], sources))
+            number += 1
+        modules.append(functions)
+    return value["target"], modules
+
+
+def function_at(functions, address):
+    """The function with the greatest start at or below an address, the last of several, if it has a symbol."""
+    below = [f for f in functions if f.start <= address]
+    if address in DROPPED or not below:
+        return None
+    owner = max(below, key=lambda f: (f.start, f.number))
+    return owner if owner.symbol is not None else None
+
+
+def read_table(data, offset):
+    """Tag, children and attributes of each code of an abbreviation table; of equal codes the first counts."""
+    reader, table = Reader(data, offset), {}
+    while code := reader.uleb():
+        tag, children, attributes = reader.uleb(), reader.number(1), []
+        while (pair := (reader.uleb(), reader.uleb())) != (0, 0):
+            attributes.append(pair)
+        table.setdefault(code, (tag, children, attributes))
+    return table
+
+
+@dataclass
+class Unit:
+    version: int
+    address_size: int
+    tag: int
+    line_table: int | None
+    subprograms: list  # of the begin and the length
+
+
+def read_units(sections):
+    data = sections.get(".debug_info", b"")
+    at, units = 0, []
+    while at < len(data):
+        reader = Reader(data, at)
+        at += 4 + reader.number(4)
+        version = reader.number(2)
+        if version == 5:
+            kind, size = reader.number(1), reader.number(1)
+            table = reader.number(4)
+            reader.take(8 if kind in (4, 5) else 0)
+        else:
+            table, size = reader.number(4), reader.number(1)
+        units.append(read_entries(reader, at, version, size, read_table(sections[".debug_abbrev"], table)))
+    return units
+
+
+def read_entries(reader, end, version, size, table):
+    sizes = {0x01: size, 0x06: 4, 0x17: 4}
+    depth, root, subprograms = 0, None, []
+    while reader.at < end:
+        code = reader.uleb()
+        if code == 0:
+            depth -= 1
+            if depth <= 0:
+                break
+            continue
+        tag, children, attributes = table[code]
+        values = {name: reader.number(sizes[form]) for name, form in attributes}
+        if root is None:
+            root = Unit(version, size, tag, values.get(AT_STMT_LIST), subprograms)
+            if not children:
+                break
+        else:
+            subprograms.append((values[AT_LOW_PC], values[AT_HIGH_PC]))
+        depth += children
+    return root
+
+
+@dataclass
+class Row:
+    offset: int = 0
+    file: int = 1
+    line: int = 1
+    column: int = 0
+    is_stmt: bool = True
+    basic_block: bool = False
+    prologue_end: bool = False
+    epilogue_begin: bool = False
+    isa: int = 0
+    discriminator: int = 0
+
+
+def after_row(row):
+    return replace(row, basic_block=False, prologue_end=False, epilogue_begin=False, discriminator=0)
+
+
+@dataclass
+class Table:
+    version: int
+    directories: list = field(default_factory=list)  # from 1 on
+    files: list = field(default_factory=list)  # pairs of the directory and the name, from 1 on
+    segments: list = field(default_factory=list)  # pairs of a start and rows, with the files counted from 1 on
+    steps: list = field(default_factory=list)  # each start, row and end, in order
+
+
+def read_line_table(sections, unit):
+    reader = Reader(sections[".debug_line"], unit.line_table)
+    end = reader.number(4) + reader.at
+    table = Table(reader.number(2))
+    size = unit.address_size
+    if table.version == 5:
+        size = reader.number(1)
+        reader.take(1)
+    program = reader.number(4) + reader.at
+    step = reader.number(1)
+    if table.version >= 4:
+        reader.take(1)
+    is_stmt, base = reader.number(1) != 0, reader.number(1)
+    base -= 256 if base >= 128 else 0
+    width, opcode_base = reader.number(1), reader.number(1)
+    operands = [0] + list(reader.take(opcode_base - 1))
+    if table.version == 5:
+        names_of_5(reader, sections, table)
+    else:
+        names_of_4(reader, table)
+    reader = Reader(reader.data[:end], program)
+    run_program(reader, table, (size, step, is_stmt, base, width, operands))
+    return table
+
+
+def names_of_4(reader, table):
+    while name := reader.text():
+        table.directories.append(name)
+    while name := reader.text():
+        table.files.append((reader.uleb(), name))
+        reader.uleb(), reader.uleb()
+
+
+def names_of_5(reader, sections, table):
+    directories = entries_of_5(reader, sections)
+    table.directories = [path for _, path in directories[1:]]
+    table.files = entries_of_5(reader, sections)
+
+
+def entries_of_5(reader, sections):
+    formats = [(reader.uleb(), reader.uleb()) for _ in range(reader.number(1))]
+    entries = []
+    for _ in range(reader.uleb()):
+        directory, path = 0, None
+        for content, form in formats:
+            value = value_of_5(reader, sections, form)
+            if content == 1:
+                path = value
+            elif content == 2 and isinstance(value, int):
+                directory = value
+        entries.append((directory, path))
+    return entries
+
+
+def value_of_5(reader, sections, form):
+    if form == 0x08:
+        return reader.text()
+    if form in (0x0E, 0x1F):
+        name = {0x0E: ".debug_str", 0x1F: ".debug_line_str"}[form]
+        return Reader(sections[name], reader.number(4)).text()
+    if form == 0x0F:
+        return reader.uleb()
+    if form == 0x1E:
+        return reader.take(16)
+    return reader.number({0x0B: 1, 0x05: 2, 0x06: 4, 0x07: 8}[form])
+
+
+def run_program(reader, table, parameters):
+    size, step, is_stmt, base, width, operands = parameters
+    opcode_base, first = len(operands), Row(is_stmt=is_stmt)
+    row, rows, start = first, [], None
+
+    def close():
+        if start is not None and rows:
+            table.segments.append((start, rows))
+
+    def show(row):
+        shift = 1 if table.version == 5 else 0
+        rows.append(replace(row, file=row.file + shift))
+        table.steps.append(("row", row))
+        return after_row(row)
+
+    while reader.at < len(reader.data):
+        opcode = reader.number(1)
+        if opcode >= opcode_base:
+            a = opcode - opcode_base
+            row = show(replace(row, offset=row.offset + step * (a // width), line=row.line + base + a % width))
+        elif opcode == 0:
+            inside = Reader(reader.take(reader.uleb()))
+            kind = inside.number(1)
+            if kind == 1:
+                close()
+                table.steps.append(("end", row.offset if row.offset < 1 << 32 else None))
+                row, rows, start = first, [], None
+            elif kind == 2:
+                close()
+                row, rows, start = replace(row, offset=0), [], inside.number(size)
+                table.steps.append(("start", start))
+            elif kind == 3 and table.version <= 4:
+                name = inside.text()
+                table.files.append((inside.uleb(), name))
+            elif kind == 4:
+                row = replace(row, discriminator=inside.uleb())
+        elif opcode == 1:
+            row = show(row)
+        elif opcode == 2:
+            row = replace(row, offset=row.offset + step * reader.uleb())
+        elif opcode == 3:
+            row = replace(row, line=row.line + reader.sleb())
+        elif opcode == 4:
+            row = replace(row, file=reader.uleb())
+        elif opcode == 5:
+            row = replace(row, column=reader.uleb())
+        elif opcode == 6:
+            row = replace(row, is_stmt=not row.is_stmt)
+        elif opcode == 7:
+            row = replace(row, basic_block=True)
+        elif opcode == 8:
+            row = replace(row, offset=row.offset + step * ((255 - opcode_base) // width))
+        elif opcode == 9:
+            row = replace(row, offset=row.offset + reader.number(2))
+        elif opcode == 10:
+            row = replace(row, prologue_end=True)
+        elif opcode == 11:
+            row = replace(row, epilogue_begin=True)
+        elif opcode == 12:
+            row = replace(row, isa=reader.uleb())
+        else:
+            for _ in range(operands[opcode]):
+                reader.uleb()
+
+
+def listed_row(row):
+    words = ["row", row.offset, row.file, row.line, row.column]
+    words += ["isa", row.isa] if row.isa else []
+    words += ["discriminator", row.discriminator] if row.discriminator else []
+    return words + [flag for flag in ("is_stmt", "basic_block", "prologue_end", "epilogue_begin") if getattr(row, flag)]
+
+
+def listed_lines(module):
+    """The line table at 0 of a module, with its names and its steps, as its first unit reads it."""
+    _, sections = read_wasm(module)
+    first = sections[".debug_info"]
+    version = int.from_bytes(first[4:6], "little")
+    size = first[7] if version == 5 else first[10]
+    table = read_line_table(sections, Unit(version, size, TAG_COMPILE_UNIT, 0, []))
+    lines = [["table", table.version]]
+    lines += [["directory", i, name.decode()] for i, name in enumerate(table.directories, 1)]
+    lines += [["file", i, *pair] for i, pair in enumerate(table.files, 0 if table.version == 5 else 1)]
+    for kind, value in table.steps:
+        lines.append(listed_row(value) if kind == "row" else [kind] if value is None else [kind, value])
+    return "".join(" ".join(w.decode() if isinstance(w, bytes) else str(w) for w in line) + "\n" for line in lines)
+
+
+# What a value of a form is: a name of its kind, or of the number that it is.
+OLD_FORMS = {0x01: "address", 0x05: 2, 0x06: 4, 0x08: "text", 0x0A: "block", 0x0B: 1, 0x0C: "flag", 0x0E: "offset", 0x13: "unit"}
+
+
+def listed_value(reader, name, form, size, names):
+    kind = OLD_FORMS[form]
+    if kind == "address":
+        return f"Addr(Constant({reader.number(size)}))"
+    if kind == "text":
+        return f"Text({list(reader.text())})"
+    if kind == "block":
+        what = "Exprloc" if name in names["location"] else "Block"
+        return f"{what}({list(reader.take(reader.number(1)))})"
+    if kind == "flag":
+        return f"Flag({str(reader.number(1) != 0).lower()})"
+    if kind == "offset":
+        return f"TextRef {{ form: {form}, bits: {reader.number(4)} }}"
+    if kind == "unit":
+        return f"UnitRef({reader.number(4)})"
+    number = reader.number(kind)
+    return f"LineRef({number})" if name == names["line_table"] else f"Constant {{ form: {form}, bits: {number} }}"
+
+
+def listed_unit(module, names):
+    """The only unit of a module, of version 2 or 3, with its entries and their values."""
+    _, sections = read_wasm(module)
+    info = sections[".debug_info"]
+    reader = Reader(info, 4)
+    version, table, size = reader.number(2), reader.number(4), reader.number(1)
+    table, depth = read_table(sections[".debug_abbrev"], table), 0
+    lines = [f"unit 0 {len(info)} {version} {size} 1"]
+    while reader.at < len(info):
+        at, code = reader.at, reader.uleb()
+        if code == 0:
+            depth -= 1
+            continue
+        tag, children, attributes = table[code]
+        lines.append(f"{at:#x} {depth} {tag:#x}")
+        lines += [f"  {name:#x} {listed_value(reader, name, form, size, names)}" for name, form in attributes]
+        depth += children
+    return "".join(line + "\n" for line in lines)
+
+
+# ---- what is carried
+
+
+def image_of(start, rows, function):
+    """The rows of the image of a segment: of each recorded source in order the last row at or below its distance to the
+    start. The first one found stands at 0, a later one at its native offset, unless its row has the offset of the one before."""
+    image, found = [], None
+    for native, wasm in function.sources:
+        here = [row for row in rows if wasm >= start and row.offset <= wasm - start]
+        if here and (found is None or here[-1].offset != found):
+            image.append(replace(here[-1], offset=0 if found is None else native))
+        found = here[-1].offset if here else found
+    return image
+
+
+# ---- what is written
+
+
+class Section:
+    def __init__(self, name):
+        self.name, self.body, self.relocations = name, bytearray(), []
+
+    def printed(self):
+        lines = [f"section {self.name} {len(self.body)}", self.body.hex()]
+        lines += [f"reloc {offset} {size} {target} {addend}" for offset, size, target, addend in self.relocations]
+        return "".join(line + "\n" for line in lines)
+
+
+class Writer:
+    def __init__(self, target):
+        self.order = "big" if target.get("big_endian", False) else "little"
+        self.size = target.get("pointer_bytes", 8)
+        self.abbrev, self.info, self.line = map(Section, (".debug_abbrev", ".debug_info", ".debug_line"))
+
+    def number(self, value, size):
+        return value.to_bytes(size, self.order)
+
+    def offset(self, section, to, value):
+        section.relocations.append((len(section.body), 4, f"section {to.name}", value))
+        section.body += self.number(value, 4)
+
+    def address(self, section, function):
+        section.relocations.append((len(section.body), self.size, f"func {function.number}", 0))
+        section.body += bytes(self.size)
+
+    def sized(self, section, write):
+        """What has its length in front of it."""
+        at = len(section.body)
+        section.body += bytes(4)
+        write()
+        section.body[at : at + 4] = self.number(len(section.body) - at - 4, 4)
+
+    def unit(self, functions, table):
+        table_at = len(self.abbrev.body)
+        root = bytes([AT_STMT_LIST, 0x17, 0, 0]) if table else bytes(2)
+        self.abbrev.body += bytes([1, TAG_COMPILE_UNIT, 1]) + root
+        self.abbrev.body += bytes([2, TAG_SUBPROGRAM, 0, AT_LOW_PC, 0x01, AT_HIGH_PC, 0x0F, 0, 0, 0])
+        line_at = len(self.line.body)
+
+        def write():
+            self.info.body += self.number(4, 2)
+            self.offset(self.info, self.abbrev, table_at)
+            self.info.body += bytes([self.size, 1])
+            if table:
+                self.offset(self.info, self.line, line_at)
+            for function in functions:
+                self.info.body.append(2)
+                self.address(self.info, function)
+                self.info.body += uleb(function.length)
+            self.info.body.append(0)
+
+        self.sized(self.info, write)
+
+    def line_table(self, table, images):
+        names = b"".join(name + b"\0" for name in table.directories) + b"\0"
+        names += b"".join(name + b"\0" + uleb(directory) + b"\0\0" for directory, name in table.files) + b"\0"
+        parameters = bytes.fromhex("010101fb0e0d000101010100000001000001") + names
+
+        def write():
+            self.line.body += self.number(4, 2) + self.number(len(parameters), 4) + parameters
+            for function, rows in images:
+                self.sequence(function, rows)
+
+        self.sized(self.line, write)
+
+    def sequence(self, function, rows):
+        body = self.line.body
+        body += bytes([0, self.size + 1, 2])
+        self.address(self.line, function)
+        before = Row()
+        for row in rows:
+            if row.discriminator:
+                operand = uleb(row.discriminator)
+                body += bytes([0, len(operand) + 1, 4]) + operand
+            body += bytes(code for code, flag in ((7, row.basic_block), (10, row.prologue_end), (11, row.epilogue_begin)) if flag)
+            body += b"\x06" if row.is_stmt != before.is_stmt else b""
+            for code, name in ((4, "file"), (5, "column"), (12, "isa")):
+                if getattr(row, name) != getattr(before, name):
+                    body += bytes([code]) + uleb(getattr(row, name))
+            body += b"\x03" + sleb(row.line - before.line) if row.line != before.line else b""
+            body += b"\x02" + uleb(row.offset - before.offset) if row.offset != before.offset else b""
+            body.append(1)
+            before = row
+        body += b"\x02" + uleb(function.length - before.offset) if function.length != before.offset else b""
+        body += bytes([0, 1, 1])
+
+
+def printed_text(map_bytes, modules):
+    """The text that a run on a map and modules prints."""
+    files = [read_wasm(data) for data in modules]
+    target, maps = read_map(map_bytes, [code for code, _ in files])
+    writer = Writer(target)
+    for (_, sections), functions in zip(files, maps):
+        for unit in read_units(sections):
+            carry_unit(writer, sections, functions, unit)
+    return "".join(s.printed() for s in (writer.abbrev, writer.info, writer.line) if s.body)
+
+
+def carry_unit(writer, sections, functions, unit):
+    kept = [function_at(functions, begin) for begin, _ in unit.subprograms]
+    kept = [function for function in kept if function is not None]
+    if unit.tag != TAG_COMPILE_UNIT or not kept:
+        return
+    table = read_line_table(sections, unit) if unit.line_table is not None else None
+    writer.unit(kept, table)
+    if table:
+        images = [(function_at(functions, start), start, rows) for start, rows in table.segments]
+        images = [(f, image_of(start, rows, f)) for f, start, rows in images if f is not None]
+        writer.line_table(table, [(f, rows) for f, rows in images if rows])
+
+
+# ---- what is said of each byte
+
+
+def in_force(rows, offset):
+    """The last row at or below an offset, without its own."""
+    here = [replace(row, offset=0) for row in rows if row.offset <= offset]
+    return here[-1] if here else None
+
+
+def row_for_byte(start, rows, function, byte):
+    """The row of the last recorded source at or below a byte that has one; before any, of the first that has one."""
+    found = [(native, in_force(rows, wasm - start)) for native, wasm in function.sources if wasm >= start]
+    found = [(native, row) for native, row in found if row is not None]
+    below = [row for native, row in found if native <= byte]
+    return below[-1] if below else found[0][1]
+
+
+def check_bytes(map_bytes, modules):
+    """Whether each image has, at each byte of its function, the row of that byte's source."""
+    files = [read_wasm(data) for data in modules]
+    _, maps = read_map(map_bytes, [code for code, _ in files])
+    for (_, sections), functions in zip(files, maps):
+        for unit in read_units(sections):
+            if unit.line_table is None or not any(function_at(functions, begin) for begin, _ in unit.subprograms):
+                continue
+            for start, rows in read_line_table(sections, unit).segments:
+                function = function_at(functions, start)
+                image = image_of(start, rows, function) if function else []
+                for byte in range(function.length if image else 0):
+                    assert in_force(image, byte) == row_for_byte(start, rows, function, byte)
