@@ -100,7 +100,7 @@ rising-info =
 abbrev no_section : OutputSection
 no_section = record { name = []; body = []; relocations = [] }
 
-related-small : AreRelocated Little output_small
+pub related-small : AreRelocated Little output_small
 unfolding lines_on_literals fields_of_section fields_of_line_table fields_of_instructions
 related-small =
     let R : OutputSection → Type 0 = IsRelocated (output_sections Little output_small) in

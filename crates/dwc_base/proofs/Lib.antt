@@ -40,3 +40,4 @@ pub mod StandardCodes
 pub mod TreesSmall
 pub mod FieldCases
 pub mod WidestCases
+pub mod OutputSmall

@@ -17,11 +17,11 @@ tree_small =
     record { depth = 0; tag = 0x11; attributes = (0x10, line_table) ∷ [] }
     ∷ record { depth = 1; tag = 0x2E; attributes = (0x11, address (Symbol 0 (pos 0))) ∷ (0x12, constant 0x0F 30) ∷ [] } ∷ []
 
-forest-small : forest compilation_small ≡ Ok (tree_small ∷ [])
+pub forest-small : forest compilation_small ≡ Ok (tree_small ∷ [])
 unfolding trees_on_literals
 forest-small = refl
 
-carries-small : CarriesTrees Little (tree_small ∷ []) output_small
+pub carries-small : CarriesTrees Little (tree_small ∷ []) output_small
 unfolding trees_on_literals
 carries-small = refl
 

@@ -7,7 +7,8 @@ use Rattle.dwc_base.specs.declared.section_name.SectionName.{SectionName}
 use Rattle.dwc_base.specs.declared.section_name.SectionName.TheVariants.{Abbrev, Addr, Info, Line, LineStr, Loc, Loclists, Ranges, Rnglists, Str, StrOffsets, CuIndex, Frame}
 use Rattle.dwc_base.specs.Outputs.{output_sections, section_view}
 use Rattle.dwc_base.specs.TreeReading.{CarriesTrees}
-use Rattle.dwc_base.specs.Forests.{forest}
+use Rattle.dwc_base.specs.Forests.{tree_of_unit}
+use Rattle.dwc_base.specs.OutputCarried.{widest}
 use Rattle.dwc_base.specs.OutputForm.{HaveTargetForm, HasDistinctNames}
 use Rattle.dwc_base.specs.Fields.{AreRelocated}
 use Rattle.dwc_base.specs.WidestTrees.{widest_of_trees}
@@ -21,13 +22,12 @@ use Rattle.dwc_write.specs.GivenUnits.{GivenUnit, AreWritable}
 use Rattle.dwc_write.specs.ReadBack.{ReadsBack}
 use Rattle.dwc_write.specs.WidestGiven.{widest_said, IsWideRefusal}
 use Rattle.dwc_write.specs.Writers.{IsSound}
-use Rattle.dwc_write.proofs.WidestTreeLaws.{widest-said}
 use Rattle.dwc_carry.specs.declared.error.DebugError.{DebugError}
 use Rattle.dwc_carry.specs.Refusals.{Told, refused, limit, memory, told, IsCause, Refuses, of_writing}
 use Rattle.dwc_carry.specs.Inputs.{input_of, refusal_of}
 use Rattle.dwc_carry.specs.Transformed.{IsTransformed}
-use Rattle.dwc_carry.specs.Emits.{widest_of_forest, widest_output, IsTooLong, Emits}
-use Rattle.dwc_carry.proofs.CompositionLaws.{lines-carried, made-sizes, widest-given, made-writable}
+use Rattle.dwc_carry.specs.Emits.{IsTooLong, Emits}
+use Rattle.dwc_carry.proofs.CompositionLaws.{lines-carried, made-sizes, made-trees, widest-given, made-writable}
 
 module _ (order : Endian) (size : ℕ) (c : CompilationValue) where
   -- the input is refused
@@ -51,25 +51,27 @@ module _ (order : Endian) (size : ℕ) (c : CompilationValue) where
     emits-sections s back says form names relocated sound = (
       accepted,
       record {
-        carried = lines-carried size (input_of order size c) us (map section_view s.items) back t.made t.whole;
-        trees = map given_tree us;
-        are_forest = t.trees;
-        says = says;
-        form = form size (made-sizes size (carried_units (input_of order size c)) us t.made);
-        names = names;
-        relocated = relocated;
+        output = record {
+          lines = lines-carried size (input_of order size c) us (map section_view s.items) back t.made t.whole;
+          wanted = map given_tree us;
+          is_forest = t.trees;
+          trees = says;
+          form = form size (made-sizes size (carried_units (input_of order size c)) us t.made);
+          names = names;
+          relocated = relocated;
+        };
         sound = sound;
       },
     )
 
-    -- what is counted over the trees of the units is counted over the forest
-    said-widest : (name : SectionName) → widest_said name us ≤ widest_output name (input_of order size c)
+    -- what is counted over the trees of the units is counted over those of the carried units
+    said-widest : (name : SectionName) → widest_said name us ≤ widest name (input_of order size c)
     said-widest = go
       where
-        same : (name : SectionName) → widest_of_trees name (map given_tree us) ≤ widest_of_forest name (forest (input_of order size c))
-        same name = subst (λ f. widest_of_trees name (map given_tree us) ≤ widest_of_forest name f) (sym t.trees) (omega arith)
+        same : (name : SectionName) → widest_of_trees name (map given_tree us) ≤ widest_of_trees name (map tree_of_unit (carried_units (input_of order size c)))
+        same name = subst (λ ts. widest_of_trees name (map given_tree us) ≤ widest_of_trees name ts) (sym (made-trees size (carried_units (input_of order size c)) us t.made)) (omega arith)
 
-        go : (name : SectionName) → widest_said name us ≤ widest_output name (input_of order size c)
+        go : (name : SectionName) → widest_said name us ≤ widest name (input_of order size c)
         go Line = widest-given size Line (input_of order size c) us t.made
         go Abbrev = same Abbrev
         go Addr = same Addr
@@ -86,11 +88,5 @@ module _ (order : Endian) (size : ℕ) (c : CompilationValue) where
 
     -- writing is refused
     pub emits-large : (e : WriteError) → IsWideRefusal us e → Emits order size c (Err (of_writing e))
-    emits-large (write.TooLarge (Section name)) large = (
-      accepted,
-      record {
-        by_output = omega (arith, large, said-widest name);
-        by_input = omega (arith, large, widest-said name us, widest-given size name (input_of order size c) us t.made);
-      },
-    )
+    emits-large (write.TooLarge (Section name)) large = (accepted, omega (arith, large, said-widest name))
     emits-large write.OutOfMemory large = tt

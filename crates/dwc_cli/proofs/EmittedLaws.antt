@@ -15,9 +15,9 @@ use Rattle.dwc_base.specs.SharedSymbols.{shared_symbol}
 use Rattle.dwc_base.specs.Functions.{AddressMap, map_fault, functions_of}
 use Rattle.dwc_base.specs.Wasm.{WasmModule, module_sections}
 use Rattle.dwc_base.specs.Translations.{translation_sections, IsTranslation}
-use Rattle.dwc_base.specs.Carried.{Module, Compilation, LinesCarried}
+use Rattle.dwc_base.specs.Carried.{Module, Compilation}
 use Rattle.dwc_base.specs.Refusals.{Refusal, first_refusal}
-use Rattle.dwc_base.specs.Widest.{widest}
+use Rattle.dwc_base.specs.OutputCarried.{OutputCarried, widest}
 use Rattle.dwc_write.specs.Writers.{IsSound}
 use Rattle.dwc_base.proofs.Translated.{translation_sections-is}
 use Rattle.dwc_clif.specs.AddressMaps.{address_map_view}
@@ -144,7 +144,7 @@ module _ (c : CompilationValue) (order : Endian) (size : ℕ) (read : Loaded) (i
   pub emitted : shared_symbol (map symbol_view (all_symbols c.functions)) ≡ None → (s : Vec DwarfSection Global) → emits.Emits order size c (Ok s) → IsEmitted read (map section_view s.items)
   emitted none s h = record {
     unhindered = hindrance-is none ∙ ap (option_map input_status) h.0;
-    carried = subst (λ input. LinesCarried input (map section_view s.items)) (sym is.input) h.1.carried;
+    carried = subst (λ input. OutputCarried input (map section_view s.items)) (sym is.input) h.1.output;
     sound = subst (λ input. All (IsSound input.order) (map section_view s.items)) (sym is.input) h.1.sound;
   }
 
@@ -153,7 +153,7 @@ module _ (c : CompilationValue) (order : Endian) (size : ℕ) (read : Loaded) (i
     where
       go : (t : Told) → refusals.IsCause (emits.IsTooLong (carry.input_of order size c)) (carry.refusal_of order size c) t → IsCause read (told_status t)
       go (refusals.refused r) h = inr (inl (hindrance-is none ∙ ap (option_map input_status) h))
-      go (refusals.limit (Section name)) h = inr (inr (refl, hindrance-is none ∙ ap (option_map input_status) h.0, (name, subst (λ input. 2 ^ 31 ≤ widest name input) (sym is.input) (h.1).by_input)))
+      go (refusals.limit (Section name)) h = inr (inr (refl, hindrance-is none ∙ ap (option_map input_status) h.0, (name, subst (λ input. 2 ^ 31 ≤ widest name input) (sym is.input) h.1)))
       go refusals.memory h = inl refl
 
 shared-some : (read : Loaded) (functions : ℕ × ℕ) → shared_in read ≡ Some functions → hindrance read ≡ Some 21

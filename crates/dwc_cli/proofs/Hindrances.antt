@@ -5,7 +5,7 @@ use Rattle.dwc_base.specs.declared.section_name.SectionName.{SectionName}
 use Rattle.dwc_base.specs.Outputs.{OutputSection}
 use Rattle.dwc_base.specs.Sections.{unreadable, unsupported}
 use Rattle.dwc_base.specs.Refusals.{Refusal, of_place, missing_file, first_refusal}
-use Rattle.dwc_base.specs.Widest.{widest}
+use Rattle.dwc_base.specs.OutputCarried.{widest}
 use Rattle.dwc_cli.specs.Inputs.{BadMap, Loaded, compilation_of, shared_in, bad_map}
 use Rattle.dwc_cli.specs.RunStatus.{IsOneOf, refusal_status, LoadedCauses, IsValid}
 use Rattle.dwc_cli.specs.Printed.{printed}

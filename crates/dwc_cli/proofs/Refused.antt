@@ -11,7 +11,7 @@ use Rattle.dwc_base.specs.declared.faults.What.TheVariants.{Entry as EntryRead, 
 use Rattle.dwc_base.specs.declared.faults.Kind.TheVariants.{Format64, Compressed}
 use Rattle.dwc_base.specs.Sections.{unsupported, unreadable}
 use Rattle.dwc_base.specs.Refusals.{Refusal, of_place, missing_file, first_refusal}
-use Rattle.dwc_base.specs.Widest.{widest}
+use Rattle.dwc_base.specs.OutputCarried.{widest}
 use Rattle.dwc_base.specs.Wasm.{WasmModule}
 use Rattle.dwc_base.proofs.SmallModule.{file_small}
 use Rattle.dwc_cli.specs.MapFile.{map_of_bytes}

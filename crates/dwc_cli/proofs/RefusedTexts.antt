@@ -36,7 +36,7 @@ sections_of known plain h =
     let same : h.sections ≡ known = sym (printed_injective known h.sections plain h.plain texts) in
     let found : loaded input_small ≡ Some h.read = h.is_read in
     let reads : h.read ≡ read_small = cc (found, small-read) in
-    subst (λ s. LinesCarried (compilation_of read_small) s) same (subst (λ r. LinesCarried (compilation_of r) h.sections) reads h.carried)
+    subst (λ s. LinesCarried (compilation_of read_small) s) same (subst (λ r. LinesCarried (compilation_of r) h.sections) reads h.carried.lines)
 
 -- so a text of other sections is no answer 0
 refused-text : (known : List OutputSection) → list_all is_plain known ≡ true → (LinesCarried (compilation_of read_small) known → ⊥) → Succeeds (Some (three_files map_bytes_small file_small [])) right_words (Some []) (Some (printed known)) → ⊥

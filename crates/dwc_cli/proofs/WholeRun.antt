@@ -1,7 +1,7 @@
 -- The small module from its bytes and its map's bytes to the printed text.
 use Rattle.std.proofs.Common.{◌≡◌, ℕ, zero, suc, arith, List, [], ◌∷◌, map, Some, None, Option, refl}
 use Rattle.std.specs.Prelude.{All}
-use Rattle.dwc_base.proofs.OnLiterals.{lines_on_literals, files_on_literals}
+use Rattle.dwc_base.proofs.OnLiterals.{lines_on_literals, files_on_literals, trees_on_literals}
 use Rattle.dwc_base.proofs.SmallModule.{file_small}
 use Rattle.dwc_base.proofs.LineTables.{function_small, segments_small}
 use Rattle.dwc_base.proofs.CarriedSmall.{unit_small, unit_out, image_small, output-read, images-read, image-small}
@@ -9,7 +9,10 @@ use Rattle.dwc_base.specs.declared.section_name.SectionName.TheVariants.{Abbrev,
 use Rattle.dwc_base.specs.Functions.{Function}
 use Rattle.dwc_base.specs.Carried.{Unit, units, carried_units, LinesCarried}
 use Rattle.dwc_base.specs.Refusals.{Refusal, missing_file, first_refusal}
-use Rattle.dwc_base.specs.Widest.{widest}
+use Rattle.dwc_base.specs.OutputCarried.{OutputCarried, widest}
+use Rattle.dwc_base.proofs.TreesSmall.{tree_small, carries-small as trees_carried-small}
+use Rattle.dwc_base.proofs.OutputSmall.{form-small, names-small}
+use Rattle.dwc_base.proofs.FieldCases.{related-small}
 use Rattle.dwc_cli.specs.Inputs.{Input, Loaded, loaded, compilation_of}
 use Rattle.dwc_cli.proofs.OnLiterals.{map_on_literals}
 use Rattle.dwc_cli.specs.Printed.{printed}
@@ -79,7 +82,20 @@ lines_carried-small = record {
   each = (record { images = image_small ∷ []; images_read = images-read; carried = record { input = segments_small; input_read = refl; each = ((function_small, refl, image-small), tt) } }, tt);
 }
 
+-- the wanted output carries the whole small input
+pub output_carried-small : OutputCarried (compilation_of read_small) output_small
+unfolding whole_on_literals trees_on_literals
+output_carried-small = record {
+  lines = lines_carried-small;
+  wanted = tree_small ∷ [];
+  is_forest = refl;
+  trees = trees_carried-small;
+  form = form-small;
+  names = names-small;
+  relocated = related-small;
+}
+
 -- the text of the wanted output is an answer with status 0
 pub carries-small : Carries input_small (Some []) (Some (printed output_small))
 unfolding whole_on_literals
-carries-small = record { read = read_small; is_read = refl; accepted = refl; sections = output_small; plain = refl; carried = lines_carried-small; written = refl }
+carries-small = record { read = read_small; is_read = refl; accepted = refl; sections = output_small; plain = refl; carried = output_carried-small; written = refl }

@@ -6,9 +6,8 @@ use Rattle.dwc_base.specs.declared.output.DwarfSection.{DwarfSection}
 use Rattle.dwc_base.specs.declared.section_name.SectionName.{SectionName}
 use Rattle.dwc_base.specs.declared.wasm.ModuleTranslation.{ModuleTranslation}
 use Rattle.dwc_base.specs.Outputs.{OutputSection, section_view}
-use Rattle.dwc_base.specs.Carried.{LinesCarried}
 use Rattle.dwc_base.specs.Refusals.{Refusal, first_refusal}
-use Rattle.dwc_base.specs.Widest.{widest}
+use Rattle.dwc_base.specs.OutputCarried.{OutputCarried, widest}
 use Rattle.dwc_base.specs.Wasm.{WasmModule}
 use Rattle.dwc_base.specs.Translations.{IsTranslation}
 use Rattle.dwc_write.specs.Writers.{IsSound}
@@ -67,7 +66,7 @@ hindrance read = first_status (shared_in read) (bad_map read) (first_refusal (co
 -- sound sections that carry the lines of an input, which nothing hinders
 pub record IsEmitted (read : Loaded) (sections : List OutputSection) : Type 0 where
   pub unhindered : hindrance read ≡ None
-  pub carried : LinesCarried (compilation_of read) sections
+  pub carried : OutputCarried (compilation_of read) sections
   pub sound : All (IsSound (compilation_of read).order) sections
 
 -- why no sections are emitted, by the status: for want of memory, by a hindrance, or for a section that could be too long
@@ -85,7 +84,7 @@ pub record CarriesRead (read : Loaded) (text : List ℕ) : Type 0 where
   pub accepted : first_refusal (compilation_of read) ≡ None
   pub sections : List OutputSection
   pub plain : list_all is_plain sections ≡ true
-  pub carried : LinesCarried (compilation_of read) sections
+  pub carried : OutputCarried (compilation_of read) sections
   pub text_is : text ≡ printed sections
 
 -- the text of an input

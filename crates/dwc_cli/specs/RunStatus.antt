@@ -8,9 +8,8 @@ use Rattle.dwc_base.specs.declared.section_name.SectionName.{SectionName}
 use Rattle.dwc_base.specs.Sections.{unreadable, unsupported}
 use Rattle.dwc_base.specs.Wasm.{WasmModule}
 use Rattle.dwc_base.specs.Outputs.{OutputSection}
-use Rattle.dwc_base.specs.Carried.{LinesCarried}
 use Rattle.dwc_base.specs.Refusals.{Refusal, of_place, missing_file, first_refusal}
-use Rattle.dwc_base.specs.Widest.{widest}
+use Rattle.dwc_base.specs.OutputCarried.{OutputCarried, widest}
 use Rattle.dwc_cli.specs.MapFile.{map_of_bytes}
 use Rattle.dwc_cli.specs.Inputs.{Paths, paths_of, all_paths, Input, all_files, wasm_modules, defined_counts, Loaded, loaded, compilation_of, shared_in, bad_map}
 use Rattle.dwc_cli.specs.Printed.{printed, is_plain}
@@ -42,7 +41,7 @@ pub record Carries (input : Input) (before now : Option (List ℕ)) : Type 0 whe
   pub accepted : first_refusal (compilation_of read) ≡ None
   pub sections : List OutputSection
   pub plain : list_all is_plain sections ≡ true
-  pub carried : LinesCarried (compilation_of read) sections
+  pub carried : OutputCarried (compilation_of read) sections
   pub written : Appended before now (printed sections)
 
 -- a run that answers 0, of whatever input the words name
@@ -104,7 +103,7 @@ pub record FrontCarries (input : Input) (before now : Option (List ℕ)) : Type 
   pub accepted : first_refusal (compilation_of read) ≡ None
   pub sections : List OutputSection
   pub plain : list_all is_plain sections ≡ true
-  pub carried : LinesCarried (compilation_of read) sections
+  pub carried : OutputCarried (compilation_of read) sections
   pub count : ℕ
   pub written : Appended before now (take count (printed sections))
 

@@ -1,0 +1,61 @@
+-- The output for the small module carries it whole: lines, entries, the form of units, names and relocations.
+use Rattle.std.proofs.Common.{◌≡◌, ◌≢◌, ℕ, List, [], ◌∷◌, get_or, refl, ap, arith}
+use Rattle.std.specs.Prelude.{AllPairs}
+use Rattle.std.proofs.lemmas.List.Elements.{All-cons, All-nil}
+use Rattle.std.proofs.lemmas.List.Kept.{AllPairs-cons}
+use Rattle.dwc_base.specs.declared.records.Endian.TheVariants.{Little}
+use Rattle.dwc_base.specs.Outputs.{OutputSection, output_sections}
+use Rattle.dwc_base.specs.Carried.{Unit, units}
+use Rattle.dwc_base.specs.OutputForm.{HaveTargetForm, HasDistinctNames}
+use Rattle.dwc_base.specs.OutputCarried.{OutputCarried}
+use Rattle.dwc_base.proofs.CarriedSmall.{unit_out, output-read, output_small, compilation_small, lines_carried-small}
+use Rattle.dwc_base.proofs.TreesSmall.{tree_small, forest-small, carries-small}
+use Rattle.dwc_base.proofs.FieldCases.{related-small}
+
+abbrev HasForm : Unit → Type 0
+HasForm u = (u.header.version ≡ 4) × (u.header.address_size ≡ 8)
+
+pub form-small : HaveTargetForm 8 (units (output_sections Little output_small)).items
+form-small = rw output-read (All-cons HasForm unit_out [] (refl, refl) (All-nil HasForm))
+
+abbrev Differ : OutputSection → OutputSection → Type 0
+Differ x y = x.name ≢ y.name
+
+abbrev no_section : OutputSection
+no_section = record { name = []; body = []; relocations = [] }
+
+none-differ : AllPairs Differ []
+none-differ i j d less within = absurd (omega arith)
+
+-- the names differ at their eighth letter: a, i, l
+abbrev letter : List ℕ → ℕ
+letter name = get_or name 7 0
+
+apart-1 : ◌≡◌ {A = ℕ} 97 105 → ⊥
+apart-1 e = omega (arith, e)
+
+apart-2 : ◌≡◌ {A = ℕ} 97 108 → ⊥
+apart-2 e = omega (arith, e)
+
+apart-3 : ◌≡◌ {A = ℕ} 105 108 → ⊥
+apart-3 e = omega (arith, e)
+
+pub names-small : HasDistinctNames output_small
+names-small =
+    let first = get_or output_small 0 no_section in
+    let second = get_or output_small 1 no_section in
+    let third = get_or output_small 2 no_section in
+    AllPairs-cons Differ first (second ∷ third ∷ []) (All-cons (Differ first) second (third ∷ []) (λ e. apart-1 (ap letter e)) (All-cons (Differ first) third [] (λ e. apart-2 (ap letter e)) (All-nil (Differ first))))
+    (AllPairs-cons Differ second (third ∷ []) (All-cons (Differ second) third [] (λ e. apart-3 (ap letter e)) (All-nil (Differ second)))
+    (AllPairs-cons Differ third [] (All-nil (Differ third)) none-differ))
+
+output_carried-small : OutputCarried compilation_small output_small
+output_carried-small = record {
+  lines = lines_carried-small;
+  wanted = tree_small ∷ [];
+  is_forest = forest-small;
+  trees = carries-small;
+  form = form-small;
+  names = names-small;
+  relocated = related-small;
+}
