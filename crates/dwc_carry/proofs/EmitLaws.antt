@@ -18,7 +18,7 @@ use Rattle.dwc_addr.specs.Compilations.{CompilationValue}
 use Rattle.dwc_write.specs.declared.error.WriteError.{WriteError}
 use Rattle.dwc_write.specs.declared.error.WriteError.TheVariants as write
 use Rattle.dwc_base.specs.declared.faults.Limit.TheVariants.{Section}
-use Rattle.dwc_write.specs.GivenUnits.{GivenUnit, AreWritable}
+use Rattle.dwc_write.specs.GivenUnits.{GivenUnit, AreWritable, ordered}
 use Rattle.dwc_write.specs.ReadBack.{ReadsBack}
 use Rattle.dwc_write.specs.WidestGiven.{widest_said, IsWideRefusal}
 use Rattle.dwc_write.specs.Writers.{IsSound}
@@ -41,19 +41,19 @@ module _ (order : Endian) (size : ℕ) (c : CompilationValue) where
 
   module _ (us : List GivenUnit) (accepted : refusal_of order size c ≡ None) (t : IsTransformed size (input_of order size c) us) where
     -- the units can be written
-    pub transformed-writable : AreWritable us
+    pub transformed-writable : AreWritable (map ordered us)
     transformed-writable = made-writable size (carried_units (input_of order size c)) us t.made
 
     -- what is written is emitted
-    pub emits-sections : (s : Vec DwarfSection Global) → ReadsBack order us (map section_view s.items) → CarriesTrees order (map given_tree us) (map section_view s.items)
-        → ((n : ℕ) → All (λ u. u.address_size ≡ n) us → HaveTargetForm n (units (output_sections order (map section_view s.items))).items)
+    pub emits-sections : (s : Vec DwarfSection Global) → ReadsBack order (map ordered us) (map section_view s.items) → CarriesTrees order (map given_tree (map ordered us)) (map section_view s.items)
+        → ((n : ℕ) → All (λ u. u.address_size ≡ n) (map ordered us) → HaveTargetForm n (units (output_sections order (map section_view s.items))).items)
         → HasDistinctNames (map section_view s.items) → AreRelocated order (map section_view s.items) → All (IsSound order) (map section_view s.items) → Emits order size c (Ok s)
     emits-sections s back says form names relocated sound = (
       accepted,
       record {
         output = record {
           lines = lines-carried size (input_of order size c) us (map section_view s.items) back t.made t.whole;
-          wanted = map given_tree us;
+          wanted = map given_tree (map ordered us);
           is_forest = t.trees;
           trees = says;
           form = form size (made-sizes size (carried_units (input_of order size c)) us t.made);
@@ -65,13 +65,13 @@ module _ (order : Endian) (size : ℕ) (c : CompilationValue) where
     )
 
     -- what is counted over the trees of the units is counted over those of the carried units
-    said-widest : (name : SectionName) → widest_said name us ≤ widest name (input_of order size c)
+    said-widest : (name : SectionName) → widest_said name (map ordered us) ≤ widest name (input_of order size c)
     said-widest = go
       where
-        same : (name : SectionName) → widest_of_trees name (map given_tree us) ≤ widest_of_trees name (map tree_of_unit (carried_units (input_of order size c)))
-        same name = subst (λ ts. widest_of_trees name (map given_tree us) ≤ widest_of_trees name ts) (sym (made-trees size (carried_units (input_of order size c)) us t.made)) (omega arith)
+        same : (name : SectionName) → widest_of_trees name (map given_tree (map ordered us)) ≤ widest_of_trees name (map tree_of_unit (carried_units (input_of order size c)))
+        same name = subst (λ ts. widest_of_trees name (map given_tree (map ordered us)) ≤ widest_of_trees name ts) (sym (made-trees size (carried_units (input_of order size c)) us t.made)) (omega arith)
 
-        go : (name : SectionName) → widest_said name us ≤ widest name (input_of order size c)
+        go : (name : SectionName) → widest_said name (map ordered us) ≤ widest name (input_of order size c)
         go Line = widest-given size Line (input_of order size c) us t.made
         go Abbrev = same Abbrev
         go Addr = same Addr
@@ -87,6 +87,6 @@ module _ (order : Endian) (size : ℕ) (c : CompilationValue) where
         go Frame = same Frame
 
     -- writing is refused
-    pub emits-large : (e : WriteError) → IsWideRefusal us e → Emits order size c (Err (of_writing e))
+    pub emits-large : (e : WriteError) → IsWideRefusal (map ordered us) e → Emits order size c (Err (of_writing e))
     emits-large (write.TooLarge (Section name)) large = (accepted, omega (arith, large, said-widest name))
     emits-large write.OutOfMemory large = tt

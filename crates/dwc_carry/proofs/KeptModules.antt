@@ -14,7 +14,7 @@ use Rattle.dwc_base.specs.Trees.{TreeEntry}
 use Rattle.dwc_base.specs.Forests.{entry_made, has_line_table, kept_of_unit, tree_of_unit}
 use Rattle.dwc_base.specs.Widest.{widest_of_unit}
 use Rattle.dwc_addr.specs.Transforms.{kept_function}
-use Rattle.dwc_write.specs.GivenUnits.{GivenUnit}
+use Rattle.dwc_write.specs.GivenUnits.{GivenUnit, ordered}
 use Rattle.dwc_write.specs.ReadBack.{given_segments}
 use Rattle.dwc_write.specs.WidestGiven.{widest_unit}
 use Rattle.dwc_carry.specs.MadeUnits.{IsMadeOf, AreMadeOf}
@@ -65,7 +65,7 @@ module _ (m : Module) where
     images = images-kept m.functions _ _ (subst (λ qs. AllZip (IsImageOf (map kept_function m.functions)) qs (given_segments g.lines)) (carried_segments-kept m.functions h.input) h.images);
     tree = h.tree ∙ same-tree u;
     writable = h.writable;
-    widest = λ name. subst (λ n. widest_unit name g ≤ n) (same-widest name u) (h.widest name);
+    widest = λ name. subst (λ n. widest_unit name (ordered g) ≤ n) (same-widest name u) (h.widest name);
   }
 
   -- the carried units, with the units that are made of them and those of other modules

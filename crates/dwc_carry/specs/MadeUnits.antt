@@ -8,7 +8,7 @@ use Rattle.dwc_base.specs.Carried.{CarriedUnit, segments_of_unit}
 use Rattle.dwc_base.specs.Widest.{widest_of_unit}
 use Rattle.dwc_base.specs.Forests.{tree_of_unit}
 use Rattle.dwc_write.specs.GivenTrees.{given_tree}
-use Rattle.dwc_write.specs.GivenUnits.{GivenUnit, IsWritable}
+use Rattle.dwc_write.specs.GivenUnits.{GivenUnit, IsWritable, ordered}
 use Rattle.dwc_write.specs.ReadBack.{given_segments}
 use Rattle.dwc_write.specs.WidestGiven.{widest_unit}
 
@@ -19,9 +19,9 @@ pub record IsMadeOf (size : ℕ) (c : CarriedUnit) (u : GivenUnit) : Type 0 wher
   pub input : List Segment
   pub input_read : segments_of_unit c.module_of.sections c.unit ≡ Ok input
   pub images : AllZip (IsImageOf c.module_of.functions) (filter (is_carried_segment c.module_of.functions) input) (given_segments u.lines)
-  pub tree : given_tree u ≡ tree_of_unit c
-  pub writable : IsWritable size u
-  pub widest : (name : SectionName) → widest_unit name u ≤ widest_of_unit name c
+  pub tree : given_tree (ordered u) ≡ tree_of_unit c
+  pub writable : IsWritable size (ordered u)
+  pub widest : (name : SectionName) → widest_unit name (ordered u) ≤ widest_of_unit name c
 
 -- units that are made of some carried units, one to one and in order
 abbrev pub AreMadeOf : ℕ → List CarriedUnit → List GivenUnit → Type 0

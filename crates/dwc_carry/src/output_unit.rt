@@ -1,7 +1,7 @@
 //! The unit of the output: its root names the line table, and below it stand the kept subprograms.
-ghost use Rattle.std.specs.Prelude.{◌≡◌, ◌⊎◌, ◌<◌, ◌^◌, ◌∷◌, ◌++◌, [], OnOk, IfOk, IsOkUnless, length, map, true};
-ghost use Rattle.dwc_write.specs.GivenUnits.{IsOfSize, depth_of, with_entries};
-ghost use Rattle.dwc_carry.specs.OutputUnits.{output_unit, root_entry, subprogram_entry};
+ghost use Rattle.std.specs.Prelude.{◌≡◌, ◌⊎◌, Some, OnOk, IfOk, IsOkUnless};
+ghost use Rattle.dwc_write.specs.GivenUnits.{IsOfSize, place_of};
+ghost use Rattle.dwc_carry.specs.OutputUnits.{output_unit, subprogram_entry, with_entry};
 
 use crate::subprogram::Subprogram;
 use dwc_base::constants::{
@@ -13,9 +13,8 @@ use std::alloc::Global;
 
 // Adds a subprogram below the root.
 fn add_subprogram(unit: &mut Unit, subprogram: Subprogram) -> Result<(), WriteError>
-    requires some { 0 < length unit.old.entries }
-    requires root { depth_of 0 unit.old.entries ≡ 0 }
-    ensures added { OnOk result (unit.new ≡ with_entries (unit.old.entries ++ subprogram_entry subprogram ∷ []) unit.old) }
+    requires root { place_of 0 unit.old.places ≡ Some 0 }
+    ensures added { OnOk result (unit.new ≡ with_entry (subprogram_entry subprogram) unit.old) }
     ensures memory { IsOkUnless result WriteError.OutOfMemory }
 {
     let Subprogram { function, length } = subprogram;

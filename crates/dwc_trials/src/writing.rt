@@ -1,6 +1,6 @@
 //! The bytes of a small module, one unit with a function of two rows; and each call of a writer, in the other order of bytes.
 ghost use Rattle.std.specs.Prelude.{◌≡◌, ◌∷◌, [], IfOk};
-ghost use Rattle.dwc_write.specs.GivenUnits.{AreWritable};
+ghost use Rattle.dwc_write.specs.GivenUnits.{AreWritable, ordered};
 ghost use Rattle.dwc_write.specs.SmallGiven.{small_lines};
 
 use dwc_base::constants::{
@@ -67,7 +67,7 @@ fn small_program(alloc: Global) -> Result<LineProgram, WriteError>
 }
 
 fn small_unit(alloc: Global) -> Result<Unit, WriteError>
-    ensures { IfOk result (λ u. AreWritable (u ∷ [])) }
+    ensures { IfOk result (λ u. AreWritable (ordered u ∷ [])) }
 {
     let program = small_program(alloc)?;
     let mut unit = Unit::new(alloc, ENCODING, program)?;

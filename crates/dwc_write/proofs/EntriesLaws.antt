@@ -16,8 +16,6 @@ use Rattle.dwc_write.specs.declared.attributes.AttributeValue.TheVariants.{Addre
 use Rattle.dwc_write.specs.declared.abbreviations.AttributeForm.{AttributeForm}
 use Rattle.dwc_write.specs.GivenUnits.{GivenEntry, EntryShape, IsPlainShape, form_of, forms_of, first_depth, shape_of, shapes_of, same_forms, same_flag, same_shape, place_in, with_use, first_uses, code_in, written_attribute, written_entries, written_of}
 use Rattle.dwc_write.specs.declared.error.WriteError.{WriteError}
-use Rattle.dwc_write.specs.declared.units.Entry.{Entry}
-use Rattle.dwc_write.specs.UnitViews.{entry_view}
 use Rattle.dwc_write.specs.Writers.{Writing, Refuses, Writes, appended}
 use Rattle.dwc_write.proofs.WritesLaws.{whole, whole-more, whole-refused}
 
@@ -155,37 +153,37 @@ entries-more order size line_offset e es known now uses w v all code used grown 
     let here = ap (λ k. P (entry_with line_offset k e es ∷ shaped (written_entries line_offset uses es))) (sym final) ∙ ap P (sym (shaped-more line_offset uses e es)) ∙ invariant in
     (rw (grown) used, whole-more (entry_bytes order size) (entry_relocations order size) (entry_with line_offset code e es) (shaped (written_entries line_offset uses es)) w v all here step)
 
--- ---- the same of the entries that a unit keeps, at an index
+-- ---- the same of entries that are seen by f, at an index
 
-seen-more : (es : List Entry) (i : ℕ) (d : Entry) → i < length es → map entry_view (drop i es) ≡ entry_view (get_or es i d) ∷ map entry_view (drop (suc i) es)
-seen-more [] i d within = absurd (omega arith)
-seen-more (e ∷ es) zero d within = refl
-seen-more (e ∷ es) (suc i) d within = seen-more es i d (omega arith)
+seen-more : {A : Type 0} (f : A → GivenEntry) (es : List A) (i : ℕ) (d : A) → i < length es → map f (drop i es) ≡ f (get_or es i d) ∷ map f (drop (suc i) es)
+seen-more f [] i d within = absurd (omega arith)
+seen-more f (e ∷ es) zero d within = refl
+seen-more f (e ∷ es) (suc i) d within = seen-more f es i d (omega arith)
 
-pub loop-entries : (order : Endian) (size line_offset : ℕ) (es : List Entry) (i : ℕ) (d : Entry) (known now uses : List EntryShape) (w v all : Writing) (code : ℕ) → i < length es
-    → first_uses known (shapes_of (map entry_view (drop i es))) ≡ uses
-    → whole (entry_bytes order size) (entry_relocations order size) (shaped (written_entries line_offset uses (map entry_view (drop i es)))) w ≡ all
-    → now ≡ with_use (shape_of (entry_view (get_or es i d)) (map entry_view (drop (suc i) es))) known → code ≡ code_in known (shape_of (entry_view (get_or es i d)) (map entry_view (drop (suc i) es)))
-    → v ≡ appended (entry_bytes order size (entry_with line_offset code (entry_view (get_or es i d)) (map entry_view (drop (suc i) es)))) (entry_relocations order size (length w.body) (entry_with line_offset code (entry_view (get_or es i d)) (map entry_view (drop (suc i) es)))) w
-    → (first_uses now (shapes_of (map entry_view (drop (suc i) es))) ≡ uses) × (whole (entry_bytes order size) (entry_relocations order size) (shaped (written_entries line_offset uses (map entry_view (drop (suc i) es)))) v ≡ all)
-loop-entries order size line_offset es i d known now uses w v all code within used invariant grown is step =
-    let e = entry_view (get_or es i d) in
-    let behind = map entry_view (drop (suc i) es) in
-    let more = seen-more es i d within in
+pub loop-entries : {A : Type 0} (f : A → GivenEntry) (order : Endian) (size line_offset : ℕ) (es : List A) (i : ℕ) (d : A) (known now uses : List EntryShape) (w v all : Writing) (code : ℕ) → i < length es
+    → first_uses known (shapes_of (map f (drop i es))) ≡ uses
+    → whole (entry_bytes order size) (entry_relocations order size) (shaped (written_entries line_offset uses (map f (drop i es)))) w ≡ all
+    → now ≡ with_use (shape_of (f (get_or es i d)) (map f (drop (suc i) es))) known → code ≡ code_in known (shape_of (f (get_or es i d)) (map f (drop (suc i) es)))
+    → v ≡ appended (entry_bytes order size (entry_with line_offset code (f (get_or es i d)) (map f (drop (suc i) es)))) (entry_relocations order size (length w.body) (entry_with line_offset code (f (get_or es i d)) (map f (drop (suc i) es)))) w
+    → (first_uses now (shapes_of (map f (drop (suc i) es))) ≡ uses) × (whole (entry_bytes order size) (entry_relocations order size) (shaped (written_entries line_offset uses (map f (drop (suc i) es)))) v ≡ all)
+loop-entries f order size line_offset es i d known now uses w v all code within used invariant grown is step =
+    let e = f (get_or es i d) in
+    let behind = map f (drop (suc i) es) in
+    let more = seen-more f es i d within in
     entries-more order size line_offset e behind known now uses w v all code (ap (λ xs. first_uses known (shapes_of xs)) (sym more) ∙ used) grown is
     (ap (λ xs. whole (entry_bytes order size) (entry_relocations order size) (shaped (written_entries line_offset uses xs)) w) (sym more) ∙ invariant) step
 
 -- an entry that is refused
-pub loop-entries-refused : (order : Endian) (size line_offset : ℕ) (es : List Entry) (i : ℕ) (d : Entry) (known uses : List EntryShape) (all : List Shaped) (w a now : Writing) (code : ℕ) (result : Result (Unit {0}) WriteError) (error : WriteError) (rs : List OutputRelocation) → i < length es
-    → first_uses known (shapes_of (map entry_view (drop i es))) ≡ uses
-    → whole (entry_bytes order size) (entry_relocations order size) (shaped (written_entries line_offset uses (map entry_view (drop i es)))) w ≡ whole (entry_bytes order size) (entry_relocations order size) all a
-    → code ≡ code_in known (shape_of (entry_view (get_or es i d)) (map entry_view (drop (suc i) es)))
-    → ((e : WriteError) × (result ≡ Err e) × (e ≡ error)) → Refuses error w (length (entry_bytes order size (entry_with line_offset code (entry_view (get_or es i d)) (map entry_view (drop (suc i) es)))))
+pub loop-entries-refused : {A : Type 0} (f : A → GivenEntry) (order : Endian) (size line_offset : ℕ) (es : List A) (i : ℕ) (d : A) (known uses : List EntryShape) (all : List Shaped) (w a now : Writing) (code : ℕ) (result : Result (Unit {0}) WriteError) (error : WriteError) (rs : List OutputRelocation) → i < length es
+    → first_uses known (shapes_of (map f (drop i es))) ≡ uses
+    → whole (entry_bytes order size) (entry_relocations order size) (shaped (written_entries line_offset uses (map f (drop i es)))) w ≡ whole (entry_bytes order size) (entry_relocations order size) all a
+    → code ≡ code_in known (shape_of (f (get_or es i d)) (map f (drop (suc i) es)))
+    → ((e : WriteError) × (result ≡ Err e) × (e ≡ error)) → Refuses error w (length (entry_bytes order size (entry_with line_offset code (f (get_or es i d)) (map f (drop (suc i) es)))))
     → Writes a now result (flat_map (entry_bytes order size) all) rs
-loop-entries-refused order size line_offset es i d known uses all w a now code result error rs within used invariant is p refused =
-    let e = entry_view (get_or es i d) in
-    let behind = map entry_view (drop (suc i) es) in
-    let more = seen-more es i d within in
+loop-entries-refused f order size line_offset es i d known uses all w a now code result error rs within used invariant is p refused =
+    let e = f (get_or es i d) in
+    let behind = map f (drop (suc i) es) in
+    let more = seen-more f es i d within in
     let s = shape_of e behind in
     let used_more : first_uses known (shapes_of (e ∷ behind)) ≡ uses = ap (λ xs. first_uses known (shapes_of xs)) (sym more) ∙ used in
     let final : code_in uses s ≡ code = ap (λ us. code_in us s) (sym used_more) ∙ code-stays s known (shapes_of behind) ∙ sym is in

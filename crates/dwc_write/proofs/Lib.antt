@@ -21,6 +21,8 @@ pub mod WritesLaws
 pub mod SequenceLaws
 pub mod ShapeLaws
 pub mod ShapeSets
+pub mod FileOrderLaws
+pub mod OrderedLaws
 pub mod ReadRelocations
 pub mod TableLaws
 pub mod EntriesLaws

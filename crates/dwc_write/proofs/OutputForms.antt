@@ -9,7 +9,7 @@ use Rattle.dwc_base.specs.declared.section_name.SectionName.TheVariants.{Abbrev,
 use Rattle.dwc_base.specs.Sections.{section_text}
 use Rattle.dwc_base.specs.Outputs.{OutputRelocation, OutputSection}
 use Rattle.dwc_base.specs.OutputForm.{HasDistinctNames}
-use Rattle.dwc_write.specs.GivenUnits.{GivenUnit}
+use Rattle.dwc_write.specs.GivenUnits.{OrderedUnit}
 use Rattle.dwc_write.specs.SpelledOutput.{section_unless_empty, spelled_sections}
 
 -- what holds of a section that is written, and of the others
@@ -48,5 +48,5 @@ distinct-three x y z q r =
     (all-written (λ t. section_text Abbrev ≢ t.name) Info y q lines (other-letter Abbrev Info 97 105 refl refl (lit< tt)) (last-written (λ t. section_text Abbrev ≢ t.name) Line z r (other-letter Abbrev Line 97 108 refl refl (lit< tt))))
     (distinct-written Info y q lines (last-written (λ t. section_text Info ≢ t.name) Line z r (other-letter Info Line 105 108 refl refl (lit< tt))) (distinct-last Line z r))
 
-pub distinct-names : (order : Endian) (us : List GivenUnit) → HasDistinctNames (spelled_sections order us)
+pub distinct-names : (order : Endian) (us : List OrderedUnit) → HasDistinctNames (spelled_sections order us)
 distinct-names order us = distinct-three _ _ _ _ _

@@ -16,7 +16,7 @@ use Rattle.dwc_write.specs.SpelledTables.{table_bytes}
 use Rattle.dwc_write.specs.SpelledSections.{placed_unit_bytes, tables_bytes, info_bytes, one_table_bytes, lines_bytes}
 use Rattle.dwc_write.specs.SpelledRelocations.{unit_relocations, info_relocations, one_table_relocations, lines_relocations, RelocationsRise, DoRelocationsRise}
 use Rattle.dwc_write.proofs.ReadRelocations.{info-rise, lines-rise, rise-above}
-use Rattle.dwc_write.specs.GivenUnits.{GivenEntry, GivenUnit, IsWritable, size_of, written_lines, written_units, written_tables, AreWritable}
+use Rattle.dwc_write.specs.GivenUnits.{GivenEntry, OrderedUnit, IsWritable, size_of, written_lines, written_units, written_tables, AreWritable}
 use Rattle.dwc_write.specs.Writers.{Writing, Refuses, Writes, IsSound, appended, most_bytes}
 use Rattle.dwc_write.specs.SpelledOutput.{section_unless_empty, sections_of, spelled_sections, unit_of, WritesUnit, WrittenSections, unit_in, with_unit, RefusesUnit, WritesOne, empty_section, with_units, all_units, IsRefusal, bytes_of, abbrev_bytes, all_info_bytes, all_lines_bytes}
 use Rattle.dwc_write.proofs.WritesLaws.{refused-longer, refused-later, appended-twice, appended-nothing}
@@ -45,12 +45,12 @@ unit-result a a' i i' (Ok done) size line_offset es bytes written table info = (
 unit-result a a' i i' (Err e) size line_offset es bytes written table info = inl (refused-longer e a _ _ written (omega (arith, ap length table)))
 
 -- a unit behind its line table
-pub one-refused : (result : Result (Unit {0}) WriteError) (e : WriteError) (w w' : WrittenSections) (u : GivenUnit) → ((error : WriteError) × (result ≡ Err error) × (error ≡ e)) → Refuses e w.line_section (length (lines_bytes w.line_section.order u.address_size (written_lines u.lines))) → WritesOne w w' result u
+pub one-refused : (result : Result (Unit {0}) WriteError) (e : WriteError) (w w' : WrittenSections) (u : OrderedUnit) → ((error : WriteError) × (result ≡ Err error) × (error ≡ e)) → Refuses e w.line_section (length (lines_bytes w.line_section.order u.address_size (written_lines u.lines))) → WritesOne w w' result u
 one-refused result e w w' u p refused =
     let is : result ≡ Err e = p.1 ∙ ap Err p.2 in
     rw (is) (inr (inr refused))
 
-pub one-written : (result : Result (Unit {0}) WriteError) (w w' : WrittenSections) (u : GivenUnit) (a' i' l' : Writing) → l' ≡ appended (lines_bytes w.line_section.order u.address_size (written_lines u.lines)) (lines_relocations w.line_section.order u.address_size (length w.line_section.body) (written_lines u.lines)) w.line_section
+pub one-written : (result : Result (Unit {0}) WriteError) (w w' : WrittenSections) (u : OrderedUnit) (a' i' l' : Writing) → l' ≡ appended (lines_bytes w.line_section.order u.address_size (written_lines u.lines)) (lines_relocations w.line_section.order u.address_size (length w.line_section.body) (written_lines u.lines)) w.line_section
     → WritesUnit w.abbrev_section a' w.info_section i' result u.address_size (length w.line_section.body) u.entries → w' ≡ record { abbrev_section = a'; info_section = i'; line_section = l' } → WritesOne w w' result u
 one-written (Ok done) w w' u a' i' l' lines unit is = is ∙ rw (unit.0, unit.1, lines) refl
 one-written (Err e) w w' u a' i' l' lines (inl refused) is = inl refused
@@ -59,7 +59,7 @@ one-written (Err e) w w' u a' i' l' lines (inr refused) is = inr (inl refused)
 -- ---- all of them
 
 -- what is there with those that are left is the whole
-pub units-more : (order : Endian) (us all : List GivenUnit) (i : ℕ) (d : GivenUnit) (w w' : WrittenSections) → i < length us → with_units (drop i us) w ≡ all_units order all → w' ≡ with_unit (get_or us i d) w → with_units (drop (suc i) us) w' ≡ all_units order all
+pub units-more : (order : Endian) (us all : List OrderedUnit) (i : ℕ) (d : OrderedUnit) (w w' : WrittenSections) → i < length us → with_units (drop i us) w ≡ all_units order all → w' ≡ with_unit (get_or us i d) w → with_units (drop (suc i) us) w' ≡ all_units order all
 units-more order [] all i d w w' within invariant step = absurd (omega arith)
 units-more order (u ∷ us) all zero d w w' within invariant step = ap (with_units us) step ∙ invariant
 units-more order (u ∷ us) all (suc i) d w w' within invariant step = units-more order us all i d w w' (omega arith) invariant step
@@ -76,7 +76,7 @@ module _ (order : Endian) (size : ℕ) where
     line : w.line_section.order ≡ order
 
   -- what units append to three sections
-  abbrev pub appended_units : List GivenUnit → WrittenSections → WrittenSections
+  abbrev pub appended_units : List OrderedUnit → WrittenSections → WrittenSections
   appended_units us w = record {
     abbrev_section = appended (tables_bytes (written_units order size (length w.abbrev_section.body) (length w.line_section.body) us)) [] w.abbrev_section;
     info_section = appended (info_bytes order size (written_units order size (length w.abbrev_section.body) (length w.line_section.body) us)) (info_relocations order size (length w.info_section.body) (written_units order size (length w.abbrev_section.body) (length w.line_section.body) us)) w.info_section;
@@ -94,7 +94,7 @@ module _ (order : Endian) (size : ℕ) where
       ∙ sym (append_assoc (at place x) _ _)
       ∙ ap (λ p. (at place x ++ at_places spell at (place + length (spell x)) xs) ++ at_places spell at p ys) (omega (arith, length-append (spell x) (flat_map spell xs)))
 
-  with_units-appended : (us : List GivenUnit) (w : WrittenSections) → AreOf w → All (λ u. u.address_size ≡ size) us → with_units us w ≡ appended_units us w
+  with_units-appended : (us : List OrderedUnit) (w : WrittenSections) → AreOf w → All (λ u. u.address_size ≡ size) us → with_units us w ≡ appended_units us w
   with_units-appended [] w of sized = three-equal (appended-nothing w.abbrev_section) (appended-nothing w.info_section) (appended-nothing w.line_section)
   with_units-appended (u ∷ us) w of sized =
       let a = w.abbrev_section in
@@ -102,8 +102,8 @@ module _ (order : Endian) (size : ℕ) where
       let l = w.line_section in
       let unit = unit_in w u in
       let table = table_bytes unit.table in
-      let same : u.address_size ≡ size = All-head (λ (v : GivenUnit). v.address_size ≡ size) u us sized in
-      let others = with_units-appended us (with_unit u w) (record { info = of.info; line = of.line }) (All-tail (λ (v : GivenUnit). v.address_size ≡ size) u us sized) in
+      let same : u.address_size ≡ size = All-head (λ (v : OrderedUnit). v.address_size ≡ size) u us sized in
+      let others = with_units-appended us (with_unit u w) (record { info = of.info; line = of.line }) (All-tail (λ (v : OrderedUnit). v.address_size ≡ size) u us sized) in
       let lines : lines_bytes l.order u.address_size (written_lines u.lines) ≡ lines_bytes order size (written_lines u.lines) = ap (λ o. lines_bytes o u.address_size (written_lines u.lines)) of.line ∙ ap (λ n. lines_bytes order n (written_lines u.lines)) same in
       let placed : placed_unit_bytes i.order u.address_size unit ≡ placed_unit_bytes order size unit = ap (λ o. placed_unit_bytes o u.address_size unit) of.info ∙ ap (λ n. placed_unit_bytes order n unit) same in
       let at_table : length (a.body ++ table) ≡ length a.body + length table = length-append a.body table in
@@ -127,15 +127,15 @@ module _ (order : Endian) (size : ℕ) where
       step-section a x y r s = appended-twice a (appended x r a) _ x y r (s (length (a.body ++ x))) refl refl ∙ ap (λ p. appended (x ++ y) (r ++ s p) a) (length-append a.body x)
 
 -- all units have one size
-writable-sizes : (us : List GivenUnit) → AreWritable us → All (λ u. u.address_size ≡ size_of us) us
+writable-sizes : (us : List OrderedUnit) → AreWritable us → All (λ u. u.address_size ≡ size_of us) us
 writable-sizes us fits = All-weaker (IsWritable (size_of us)) (λ u. u.address_size ≡ size_of us) (λ u h. h.size) us fits
 
 -- what is appended to empty sections
-abbrev pub all_of : Endian → List GivenUnit → WrittenSections
+abbrev pub all_of : Endian → List OrderedUnit → WrittenSections
 all_of order us = appended_units order (size_of us) us (record { abbrev_section = empty_section order Abbrev; info_section = empty_section order Info; line_section = empty_section order Line })
 
 -- The sections of all units are the ones that are spelled.
-pub all-appended : (order : Endian) (us : List GivenUnit) → AreWritable us → all_units order us ≡ all_of order us
+pub all-appended : (order : Endian) (us : List OrderedUnit) → AreWritable us → all_units order us ≡ all_of order us
 all-appended order us fits = with_units-appended order (size_of us) us _ (record { info = refl; line = refl }) (writable-sizes us fits)
 
 -- ---- a refusal
@@ -149,7 +149,7 @@ record Grown (w v : WrittenSections) : Type 0 where
   line_name : w.line_section.name ≡ v.line_section.name
   line_more : length w.line_section.body ≤ length v.line_section.body
 
-grown-units : (us : List GivenUnit) (w : WrittenSections) → Grown w (with_units us w)
+grown-units : (us : List OrderedUnit) (w : WrittenSections) → Grown w (with_units us w)
 grown-units [] w = record { abbrev_name = refl; abbrev_more = omega arith; info_name = refl; info_more = omega arith; line_name = refl; line_more = omega arith }
 grown-units (u ∷ us) w =
     let on = grown-units us (with_unit u w) in
@@ -162,7 +162,7 @@ grown-units (u ∷ us) w =
       line_more = let h = on.line_more in omega (arith, h, length-append w.line_section.body (lines_bytes w.line_section.order u.address_size (written_lines u.lines)));
     }
 
-pub section-refused : (order : Endian) (us : List GivenUnit) (e : WriteError) (a b : Writing) (name : SectionName) (x : List ℕ) → Refuses e a (length x) → a.name ≡ b.name → length (a.body ++ x) ≤ length b.body → b.name ≡ name → b.body ≡ bytes_of order us name → IsRefusal order us e
+pub section-refused : (order : Endian) (us : List OrderedUnit) (e : WriteError) (a b : Writing) (name : SectionName) (x : List ℕ) → Refuses e a (length x) → a.name ≡ b.name → length (a.body ++ x) ≤ length b.body → b.name ≡ name → b.body ≡ bytes_of order us name → IsRefusal order us e
 section-refused order us OutOfMemory a b name x refused named more final is = tt
 section-refused order us (TooLarge (Section n)) a b name x refused named more final is =
     let same : n ≡ name = refused.0 ∙ named ∙ final in
@@ -172,7 +172,7 @@ section-refused order us (TooLarge (Section n)) a b name x refused named more fi
     subst P (sym same) (omega (arith, large, more, long, length-append a.body x))
 
 -- A unit that is refused is a refusal of all.
-pub units-refused : (order : Endian) (us : List GivenUnit) (i : ℕ) (d : GivenUnit) (w : WrittenSections) (e : WriteError) → i < length us → AreWritable us → with_units (drop i us) w ≡ all_units order us → RefusesUnit e w (get_or us i d) → IsRefusal order us e
+pub units-refused : (order : Endian) (us : List OrderedUnit) (i : ℕ) (d : OrderedUnit) (w : WrittenSections) (e : WriteError) → i < length us → AreWritable us → with_units (drop i us) w ≡ all_units order us → RefusesUnit e w (get_or us i d) → IsRefusal order us e
 units-refused order us i d w e within fits invariant refused =
     let u = get_or us i d in
     let final : with_units (drop (suc i) us) (with_unit u w) ≡ all_of order us =
@@ -187,7 +187,7 @@ units-refused order us i d w e within fits invariant refused =
     go (inr (inr refused)) grown = section-refused order us e w.line_section (all_of order us).line_section Line (lines_bytes w.line_section.order (get_or us i d).address_size (written_lines (get_or us i d).lines)) refused grown.line_name grown.line_more refl refl
 
 -- the error of a call, for a function that answers something else
-pub units-exit : {A : Type 0} (order : Endian) (us : List GivenUnit) (result : Result A WriteError) (e : WriteError) → ((error : WriteError) × (result ≡ Err error) × (error ≡ e)) → IsRefusal order us e → IfErr result (λ x. IsRefusal order us x)
+pub units-exit : {A : Type 0} (order : Endian) (us : List OrderedUnit) (result : Result A WriteError) (e : WriteError) → ((error : WriteError) × (result ≡ Err error) × (error ≡ e)) → IsRefusal order us e → IfErr result (λ x. IsRefusal order us x)
 units-exit order us result e p refused =
     let is : result ≡ Err e = p.1 ∙ ap Err p.2 in
     rw (is) refused
@@ -214,11 +214,11 @@ all-taken P [] i past all = All-nil P
 all-taken P (x ∷ xs) zero past all = absurd (omega arith)
 all-taken P (x ∷ xs) (suc i) past all = All-cons P x xs (All-head P x (take i xs) all) (all-taken P xs i (omega arith) (All-tail P x (take i xs) all))
 
-pub units-done : (order : Endian) (us : List GivenUnit) (i : ℕ) (w : WrittenSections) → length us ≤ i → with_units (drop i us) w ≡ all_units order us → w ≡ all_units order us
+pub units-done : (order : Endian) (us : List OrderedUnit) (i : ℕ) (w : WrittenSections) → length us ≤ i → with_units (drop i us) w ≡ all_units order us → w ≡ all_units order us
 units-done order us i w past invariant = rw (drop_all i us past) at invariant
 
 -- what is gathered of all is what is spelled
-pub output-sections : (order : Endian) (us : List GivenUnit) → AreWritable us → sections_of (all_units order us) ≡ spelled_sections order us
+pub output-sections : (order : Endian) (us : List OrderedUnit) → AreWritable us → sections_of (all_units order us) ≡ spelled_sections order us
 output-sections order us fits = ap sections_of (all-appended order us fits)
 
 pub if-ok-weaker : {A E : Type 0} (result : Result A E) (P Q : A → Type 0) → ((x : A) → P x → Q x) → IfOk result P → IfOk result Q
@@ -235,7 +235,7 @@ part-rises : (name : SectionName) (x : List ℕ) (rs : List OutputRelocation) (r
 part-rises name [] rs rest rise others = others
 part-rises name (b ∷ x) rs rest rise others = All-cons DoRelocationsRise _ rest rise others
 
-pub sections-rise : (order : Endian) (us : List GivenUnit) → All DoRelocationsRise (spelled_sections order us)
+pub sections-rise : (order : Endian) (us : List OrderedUnit) → All DoRelocationsRise (spelled_sections order us)
 sections-rise order us =
     let size = size_of us in
     let ws = written_units order size 0 0 us in

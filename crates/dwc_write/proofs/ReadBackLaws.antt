@@ -32,7 +32,7 @@ use Rattle.dwc_write.specs.declared.attributes.AttributeValue.{AttributeValue}
 use Rattle.dwc_write.specs.declared.attributes.AttributeValue.TheVariants.{Address, Constant, Flag, LineProgramRef}
 use Rattle.dwc_write.specs.declared.abbreviations.AttributeForm.{AttributeForm}
 use Rattle.dwc_write.specs.GivenLines.{GivenLines, FitsLines, FitsSequences, FitsGivenSequence}
-use Rattle.dwc_write.specs.GivenUnits.{GivenEntry, GivenUnit, IsOfSize, written_of, FitsValue, FitsAttribute, AreBelow, IsTree, FitsEntry, FitsGivenUnit, is_lines, names_lines_in, names_lines, IsWritable, size_of, AreWritable, EntryShape, form_of, forms_of, shape_of, shapes_of, same_forms, same_flag, same_shape, place_in, with_use, first_uses, code_in, spec_of_form, numbered, shapes_in, written_attribute, written_entries, written_unit, written_lines, written_units, written_tables}
+use Rattle.dwc_write.specs.GivenUnits.{GivenEntry, OrderedUnit, IsOfSize, written_of, FitsValue, FitsAttribute, AreBelow, IsTree, FitsEntry, FitsOrdered, is_lines, names_lines_in, names_lines, IsWritable, size_of, AreWritable, EntryShape, form_of, forms_of, shape_of, shapes_of, same_forms, same_flag, same_shape, place_in, with_use, first_uses, code_in, spec_of_form, numbered, shapes_in, written_attribute, written_entries, written_unit, written_lines, written_units, written_tables}
 use Rattle.dwc_write.specs.SpelledOutput.{section_unless_empty, abbrev_bytes, all_info_bytes, all_lines_bytes, spelled_sections}
 use Rattle.dwc_write.specs.ReadBack.{given_file, given_row, given_segments, given_segment, Contents, read_contents, given_contents, given_value, IsReadUnit, ReadsBack}
 use Rattle.dwc_write.specs.Writers.{IsSound, most_bytes}
@@ -257,13 +257,13 @@ body-shorter order size u =
     let body = unit_body order size u.table_offset u.entries in
     omega (arith, length-append (number_bytes order 4 (length body)) body)
 
-pub units-fit : (order : Endian) (size a l : ℕ) (us : List GivenUnit) → All (λ u. u.address_size ≡ size) us → All FitsGivenUnit us
+pub units-fit : (order : Endian) (size a l : ℕ) (us : List OrderedUnit) → All (λ u. u.address_size ≡ size) us → All FitsOrdered us
     → a + length (tables_bytes (written_units order size a l us)) ≤ most_bytes → l + length (lines_bytes order size (written_tables us)) ≤ most_bytes → length (info_bytes order size (written_units order size a l us)) ≤ most_bytes
     → All (FitsUnit order size) (written_units order size a l us)
 units-fit order size a l [] sized fits tables lines info = All-nil _
 units-fit order size a l (u ∷ us) sized fits tables lines info =
-    let here = All-head FitsGivenUnit u us fits in
-    let same : u.address_size ≡ size = All-head (λ (v : GivenUnit). v.address_size ≡ size) u us sized in
+    let here = All-head FitsOrdered u us fits in
+    let same : u.address_size ≡ size = All-head (λ (v : OrderedUnit). v.address_size ≡ size) u us sized in
     let P : ℕ → Type 0 = λ n. All (FitsEntry n) u.entries in
     let entries : All (FitsEntry size) u.entries = subst P same here.entries in
     let unit = written_unit a l u in
@@ -278,10 +278,10 @@ units-fit order size a l (u ∷ us) sized fits tables lines info =
       entries = entries-fit size l [] (shapes_in u) u.entries (omega (arith, lines)) (omega (arith, long, few)) refl entries;
       tree = tree-written l (shapes_in u) u.entries here.tree;
     })
-    (units-fit order size (a + length (table_bytes unit.table)) (l + length (lines_bytes order size (written_lines u.lines))) us (All-tail (λ (v : GivenUnit). v.address_size ≡ size) u us sized) (All-tail FitsGivenUnit u us fits)
+    (units-fit order size (a + length (table_bytes unit.table)) (l + length (lines_bytes order size (written_lines u.lines))) us (All-tail (λ (v : OrderedUnit). v.address_size ≡ size) u us sized) (All-tail FitsOrdered u us fits)
     (omega (arith, tables, length-append (table_bytes unit.table) (tables_bytes rest))) (omega (arith, lines, lengths-both (one_table_bytes order size) (written_lines u.lines) (written_tables us))) (omega (arith, info, length-append (placed_unit_bytes order size unit) (info_bytes order size rest))))
 
-pub tables-from : (order : Endian) (size : ℕ) (us : List GivenUnit) (a l : ℕ) → AreTablesFrom a (written_units order size a l us)
+pub tables-from : (order : Endian) (size : ℕ) (us : List OrderedUnit) (a l : ℕ) → AreTablesFrom a (written_units order size a l us)
 tables-from order size [] a l = tt
 tables-from order size (u ∷ us) a l = (refl, tables-from order size us (a + length (table_bytes (numbered 1 (shapes_in u)))) (l + length (lines_bytes order size (written_lines u.lines))))
 
@@ -309,15 +309,15 @@ table-fits order size g fits n same sequences short =
     let P : ℕ → Type 0 = λ m. All (FitsGivenSequence m) g.sequences in
     record { directories = fits.directories; files = fits.files; sequences = All-weaker (FitsGivenSequence size) (FitsSequence size) (λ q h. h.sequence) g.sequences (subst P same sequences.0); short = short }
 
-pub tables-fit : (order : Endian) (size : ℕ) (us : List GivenUnit) → All (λ u. u.address_size ≡ size) us → All FitsGivenUnit us → All (λ u. FitsLines u.lines) us → length (lines_bytes order size (written_tables us)) ≤ most_bytes → All (FitsTable order size) (written_tables us)
+pub tables-fit : (order : Endian) (size : ℕ) (us : List OrderedUnit) → All (λ u. u.address_size ≡ size) us → All FitsOrdered us → All (λ u. FitsLines u.lines) us → length (lines_bytes order size (written_tables us)) ≤ most_bytes → All (FitsTable order size) (written_tables us)
 tables-fit order size [] sized fits lines short = All-nil _
 tables-fit order size (u ∷ us) sized fits lines short =
     let g = u.lines in
-    let same : u.address_size ≡ size = All-head (λ (v : GivenUnit). v.address_size ≡ size) u us sized in
+    let same : u.address_size ≡ size = All-head (λ (v : OrderedUnit). v.address_size ≡ size) u us sized in
     let total = lengths-both (one_table_bytes order size) (written_lines g) (written_tables us) in
-    let here = All-head (λ (v : GivenUnit). FitsLines v.lines) u us lines in
-    let unit = All-head FitsGivenUnit u us fits in
-    let others = tables-fit order size us (All-tail (λ (v : GivenUnit). v.address_size ≡ size) u us sized) (All-tail FitsGivenUnit u us fits) (All-tail (λ (v : GivenUnit). FitsLines v.lines) u us lines) (omega (arith, short, total)) in
+    let here = All-head (λ (v : OrderedUnit). FitsLines v.lines) u us lines in
+    let unit = All-head FitsOrdered u us fits in
+    let others = tables-fit order size us (All-tail (λ (v : OrderedUnit). v.address_size ≡ size) u us sized) (All-tail FitsOrdered u us fits) (All-tail (λ (v : OrderedUnit). FitsLines v.lines) u us lines) (omega (arith, short, total)) in
     let own : length (lines_bytes order size (lines_for g.address_size g)) ≤ most_bytes = rw (← lines-are g) (omega (arith, short, total)) in
     All-append (FitsTable order size) (written_lines g) (written_tables us) (rw (lines-are g) (go g.address_size unit.lines here.sequences same own here)) others
   where
@@ -416,7 +416,7 @@ module _ (s : Sections) (size : ℕ) where
       let fit = All-weaker (FitsGivenSequence size) (FitsSequence size) (λ q h. h.sequence) g.sequences (subst P same sequences.0) in
       segments-read s size v e p sized is_root names here fit ∙ ap Ok (segments-same s.order size g p refl g.sequences)
 
-  unit-lines : (place a l : ℕ) (u : GivenUnit) (rest : List WrittenTable) → u.address_size ≡ size → FitsGivenUnit u → FitsLines u.lines → IsWritable size u
+  unit-lines : (place a l : ℕ) (u : OrderedUnit) (rest : List WrittenTable) → u.address_size ≡ size → FitsOrdered u → FitsLines u.lines → IsWritable size u
       → All (λ p. line_table s size p.offset ≡ Ok (read_table s.order size p)) (placed_tables s.order size l (written_lines u.lines ++ rest))
       → segments_of_unit s (read_unit s.order size place (written_unit a l u)) ≡ Ok (given_segments u.lines)
   unit-lines place a l u rest same fits lines writable read = at-root u.entries fits.tree writable.named
@@ -430,7 +430,7 @@ module _ (s : Sections) (size : ℕ) where
           let Q : ℕ → Type 0 = λ n. IsOfSize n u.lines.address_size in
           root-lines _ _ l u.lines rest u.lines.address_size refl refl names lines (subst Q same fits.lines) lines.sequences (subst P (lines-are u.lines) read)
 
-  units-each : (place a l : ℕ) (us : List GivenUnit) → All (IsWritable size) us → All FitsGivenUnit us → All (λ u. FitsLines u.lines) us
+  units-each : (place a l : ℕ) (us : List OrderedUnit) → All (IsWritable size) us → All FitsOrdered us → All (λ u. FitsLines u.lines) us
       → All (λ p. line_table s size p.offset ≡ Ok (read_table s.order size p)) (placed_tables s.order size l (written_tables us))
       → AllZip (IsReadUnit s) us (read_units s.order size place (written_units s.order size a l us))
   units-each place a l [] writable fits lines read = tt
@@ -445,9 +445,9 @@ module _ (s : Sections) (size : ℕ) where
           version = refl;
           address_size = sym here.size;
           entries = places-contents s.order size (shaped unit.entries) (place + header_length) ∙ contents-given l (shapes_in u) u.entries;
-          lines = unit-lines place a l u (written_tables us) here.size (All-head FitsGivenUnit u us fits) (All-head (λ (v : GivenUnit). FitsLines v.lines) u us lines) here read;
+          lines = unit-lines place a l u (written_tables us) here.size (All-head FitsOrdered u us fits) (All-head (λ (v : OrderedUnit). FitsLines v.lines) u us lines) here read;
         },
-        units-each (place + length (placed_unit_bytes s.order size unit)) (a + length (table_bytes unit.table)) (l + length (lines_bytes s.order size (written_lines u.lines))) us (All-tail (IsWritable size) u us writable) (All-tail FitsGivenUnit u us fits) (All-tail (λ (v : GivenUnit). FitsLines v.lines) u us lines) others,
+        units-each (place + length (placed_unit_bytes s.order size unit)) (a + length (table_bytes unit.table)) (l + length (lines_bytes s.order size (written_lines u.lines))) us (All-tail (IsWritable size) u us writable) (All-tail FitsOrdered u us fits) (All-tail (λ (v : OrderedUnit). FitsLines v.lines) u us lines) others,
       )
 
 -- ---- the sections
@@ -488,16 +488,16 @@ pub part-short : (order : Endian) (name : SectionName) (x : List ℕ) (q : List 
 part-short order name [] q rest sound = (lit≤ tt, sound)
 part-short order name (b ∷ x) q rest sound = ((All-head (IsSound order) _ rest sound).short, All-tail (IsSound order) _ rest sound)
 
-pub size-known : (us : List GivenUnit) → All FitsGivenUnit us → (size_of us ≡ 4) ⊎ (size_of us ≡ 8)
+pub size-known : (us : List OrderedUnit) → All FitsOrdered us → (size_of us ≡ 4) ⊎ (size_of us ≡ 8)
 size-known [] fits = inr refl
-size-known (u ∷ us) fits = (All-head FitsGivenUnit u us fits).size
+size-known (u ∷ us) fits = (All-head FitsOrdered u us fits).size
 
 pub positive : (size : ℕ) → (size ≡ 4) ⊎ (size ≡ 8) → (0 < size) × (size < 2 ^ 63)
 positive size (inl e) = (omega (arith, e), omega (arith, e))
 positive size (inr e) = (omega (arith, e), omega (arith, e))
 
 -- Given units that are spelled within the size of sections are read back.
-pub reads-back : (order : Endian) (us : List GivenUnit) → AreWritable us → All FitsGivenUnit us → All (λ u. FitsLines u.lines) us → All (IsSound order) (spelled_sections order us) → ReadsBack order us (spelled_sections order us)
+pub reads-back : (order : Endian) (us : List OrderedUnit) → AreWritable us → All FitsOrdered us → All (λ u. FitsLines u.lines) us → All (IsSound order) (spelled_sections order us) → ReadsBack order us (spelled_sections order us)
 reads-back order us writable fits lines sound =
     let size = size_of us in
     let ws = written_units order size 0 0 us in

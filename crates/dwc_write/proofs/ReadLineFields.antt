@@ -27,7 +27,7 @@ use Rattle.dwc_write.specs.SpelledRelocations.{sequence_bytes, sequence_relocati
 use Rattle.dwc_write.specs.SpelledTables.{table_bytes}
 use Rattle.dwc_write.specs.Writers.{address_relocations}
 use Rattle.dwc_write.specs.GivenLines.{GivenLines}
-use Rattle.dwc_write.specs.GivenUnits.{GivenEntry, GivenUnit, IsTree, names_lines, IsWritable, FitsGivenUnit, shapes_in, written_attribute, written_entries, written_lines, written_unit, written_units, written_tables}
+use Rattle.dwc_write.specs.GivenUnits.{GivenEntry, OrderedUnit, IsTree, names_lines, IsWritable, FitsOrdered, shapes_in, written_attribute, written_entries, written_lines, written_unit, written_units, written_tables}
 use Rattle.dwc_write.proofs.ReadNumbers.{number_bytes-length}
 use Rattle.dwc_write.proofs.ReadParts.{Spells-uleb_bytes}
 use Rattle.dwc_write.proofs.ReadValues.{All-front, All-back}
@@ -166,7 +166,7 @@ module _ (s : Sections) (size : ℕ) where
       let here : fields_of_line_table s size l ≡ Ok (table_fields s.order size l t) = All-head (IsFound s size) (record { offset = l; table = t }) _ found in
       rw (fields_of_lines, names, sized, here) (sym (append-nil (table_fields s.order size l t)))
 
-  unit-found : (place a l : ℕ) (u : GivenUnit) (rest : List WrittenTable) → FitsGivenUnit u → IsWritable size u → All (IsFound s size) (placed_tables s.order size l (written_lines u.lines ++ rest))
+  unit-found : (place a l : ℕ) (u : OrderedUnit) (rest : List WrittenTable) → FitsOrdered u → IsWritable size u → All (IsFound s size) (placed_tables s.order size l (written_lines u.lines ++ rest))
       → fields_of_lines s (read_unit s.order size place (written_unit a l u)).header (root (read_unit s.order size place (written_unit a l u))) ≡ tables_fields s.order size l (written_lines u.lines)
   unit-found place a l u rest fits writable found = at-root u.entries fits.tree writable.named
     where
@@ -181,7 +181,7 @@ module _ (s : Sections) (size : ℕ) where
           root-found h entry l u.lines rest u.lines.address_size refl names (subst P (lines-are u.lines) found) ∙ ap (tables_fields s.order size l) (sym (lines-are u.lines))
 
   -- The fields of the line tables that the units name are those of all tables.
-  pub unit_lines-found : (us : List GivenUnit) (place a l : ℕ) → All (IsWritable size) us → All FitsGivenUnit us → All (IsFound s size) (placed_tables s.order size l (written_tables us))
+  pub unit_lines-found : (us : List OrderedUnit) (place a l : ℕ) → All (IsWritable size) us → All FitsOrdered us → All (IsFound s size) (placed_tables s.order size l (written_tables us))
       → flat_map (λ u. fields_of_lines s u.header (root u)) (read_units s.order size place (written_units s.order size a l us)) ≡ tables_fields s.order size l (written_tables us)
   unit_lines-found [] place a l writable fits found = refl
   unit_lines-found (u ∷ us) place a l writable fits found =
@@ -191,7 +191,7 @@ module _ (s : Sections) (size : ℕ) where
       let next = l + length (lines_bytes s.order size own) in
       let split = at_places-append (one_table_bytes s.order size) (λ p t. record { offset = p; table = t } ∷ []) own rest l in
       let behind = All-back (IsFound s size) (placed_tables s.order size l own) _ (subst (All (IsFound s size)) split found) in
-      let first = unit-found place a l u rest (All-head FitsGivenUnit u us fits) (All-head (IsWritable size) u us writable) found in
-      let more = unit_lines-found us (place + length (placed_unit_bytes s.order size unit)) (a + length (table_bytes unit.table)) next (All-tail (IsWritable size) u us writable) (All-tail FitsGivenUnit u us fits) behind in
+      let first = unit-found place a l u rest (All-head FitsOrdered u us fits) (All-head (IsWritable size) u us writable) found in
+      let more = unit_lines-found us (place + length (placed_unit_bytes s.order size unit)) (a + length (table_bytes unit.table)) next (All-tail (IsWritable size) u us writable) (All-tail FitsOrdered u us fits) behind in
       let others = flat_map (λ v. fields_of_lines s v.header (root v)) (read_units s.order size (place + length (placed_unit_bytes s.order size unit)) (written_units s.order size (a + length (table_bytes unit.table)) next us)) in
       ap (λ fs. fs ++ others) first ∙ ap (λ fs. tables_fields s.order size l own ++ fs) more ∙ sym (at_places-append (one_table_bytes s.order size) (table_fields s.order size) own rest l)

@@ -19,7 +19,7 @@ use Rattle.dwc_write.specs.declared.attributes.Attribute.{Attribute}
 use Rattle.dwc_write.specs.declared.attributes.AttributeValue.{AttributeValue}
 use Rattle.dwc_write.specs.declared.attributes.AttributeValue.TheVariants.{Address, Constant, Flag, LineProgramRef}
 use Rattle.dwc_write.specs.SpelledUnits.{as_data1, as_data2, as_data4, as_data8, as_udata, as_sdata, written_value}
-use Rattle.dwc_write.specs.GivenUnits.{GivenEntry, GivenUnit, constant_of, written_of, is_constant_form, constant_bound, FitsValue, FitsAttribute, FitsEntry, FitsGivenUnit}
+use Rattle.dwc_write.specs.GivenUnits.{GivenEntry, OrderedUnit, constant_of, written_of, is_constant_form, constant_bound, FitsValue, FitsAttribute, FitsEntry, FitsOrdered}
 use Rattle.dwc_write.specs.GivenTrees.{given_said, attribute_said, tree_entry, given_tree}
 use Rattle.dwc_write.specs.ReadBack.{read_contents, given_value, given_contents, IsReadUnit, ReadsBack}
 
@@ -86,21 +86,21 @@ module _ (lists : ListReading) (r : ReadingUnit) where
 -- ---- units
 
 module _ (lists : ListReading) (s : Sections) (all : List Unit) where
-  unit-given : (number : ℕ) (u : GivenUnit) (v : Unit) → FitsGivenUnit u → IsReadUnit s u v → unit_said lists s all number v ≡ Ok (given_tree u)
+  unit-given : (number : ℕ) (u : OrderedUnit) (v : Unit) → FitsOrdered u → IsReadUnit s u v → unit_said lists s all number v ≡ Ok (given_tree u)
   unfolding unit_said
   unit-given number u v fits read = entries-given lists _ u.address_size read.line_offset v.entries u.entries fits.entries read.entries
 
-  units-given : (us : List GivenUnit) (vs : List Unit) (number : ℕ) → All FitsGivenUnit us → AllZip (IsReadUnit s) us vs → units_said lists s all number vs ≡ Ok (map given_tree us)
+  units-given : (us : List OrderedUnit) (vs : List Unit) (number : ℕ) → All FitsOrdered us → AllZip (IsReadUnit s) us vs → units_said lists s all number vs ≡ Ok (map given_tree us)
   units-given [] [] number fits read = refl
   units-given [] (v ∷ vs) number fits read = absurd read
   units-given (u ∷ us) [] number fits read = absurd read
   units-given (u ∷ us) (v ∷ vs) number fits read =
-      let here = unit-given number u v (All-head FitsGivenUnit u us fits) read.0 in
-      let others = units-given us vs (suc number) (All-tail FitsGivenUnit u us fits) read.1 in
+      let here = unit-given number u v (All-head FitsOrdered u us fits) read.0 in
+      let others = units-given us vs (suc number) (All-tail FitsOrdered u us fits) read.1 in
       rw (here, others) refl
 
 -- Sections that read back as given units say their trees.
-pub carries-trees : (order : Endian) (us : List GivenUnit) (s : List OutputSection) → All FitsGivenUnit us → ReadsBack order us s → CarriesTrees order (map given_tree us) s
+pub carries-trees : (order : Endian) (us : List OrderedUnit) (s : List OutputSection) → All FitsOrdered us → ReadsBack order us s → CarriesTrees order (map given_tree us) s
 unfolding trees
 carries-trees order us s fits back =
     let read = back.units_read in
@@ -109,17 +109,17 @@ carries-trees order us s fits back =
 
 -- ---- the form of the units
 
-forms-read : (s : Sections) (size : ℕ) (us : List GivenUnit) (vs : List Unit) → All (λ u. u.address_size ≡ size) us → AllZip (IsReadUnit s) us vs → HaveTargetForm size vs
+forms-read : (s : Sections) (size : ℕ) (us : List OrderedUnit) (vs : List Unit) → All (λ u. u.address_size ≡ size) us → AllZip (IsReadUnit s) us vs → HaveTargetForm size vs
 forms-read s size [] [] sized read = All-nil _
 forms-read s size [] (v ∷ vs) sized read = absurd read
 forms-read s size (u ∷ us) [] sized read = absurd read
 forms-read s size (u ∷ us) (v ∷ vs) sized read =
     let here : v.header.address_size ≡ u.address_size = read.0.address_size in
-    All-cons (λ (w : Unit). (w.header.version ≡ 4) × (w.header.address_size ≡ size)) v vs (read.0.version, here ∙ All-head (λ (g : GivenUnit). g.address_size ≡ size) u us sized)
-    (forms-read s size us vs (All-tail (λ (g : GivenUnit). g.address_size ≡ size) u us sized) read.1)
+    All-cons (λ (w : Unit). (w.header.version ≡ 4) × (w.header.address_size ≡ size)) v vs (read.0.version, here ∙ All-head (λ (g : OrderedUnit). g.address_size ≡ size) u us sized)
+    (forms-read s size us vs (All-tail (λ (g : OrderedUnit). g.address_size ≡ size) u us sized) read.1)
 
 -- Sections that read back as given units of a size have units of version 4 and of this size.
-pub target-form : (order : Endian) (us : List GivenUnit) (s : List OutputSection) (size : ℕ) → All (λ u. u.address_size ≡ size) us → ReadsBack order us s → HaveTargetForm size (units (output_sections order s)).items
+pub target-form : (order : Endian) (us : List OrderedUnit) (s : List OutputSection) (size : ℕ) → All (λ u. u.address_size ≡ size) us → ReadsBack order us s → HaveTargetForm size (units (output_sections order s)).items
 target-form order us s size sized back =
     let read = back.units_read in
     rw (read) (forms-read (output_sections order s) size us back.read sized back.each)

@@ -23,7 +23,7 @@ use Rattle.dwc_write.specs.SpelledUnits.{as_data1, as_data2, as_data4, as_data8,
 use Rattle.dwc_write.specs.SpelledSections.{lines_bytes, info_fields, lines_fields, read_units}
 use Rattle.dwc_write.specs.SpelledRelocations.{value_relocations, info_relocations, lines_relocations, RelocationsRise}
 use Rattle.dwc_write.specs.GivenLines.{FitsLines}
-use Rattle.dwc_write.specs.GivenUnits.{GivenEntry, GivenUnit, EntryShape, written_of, FitsValue, FitsAttribute, FitsEntry, FitsGivenUnit, IsWritable, size_of, AreWritable, shapes_in, numbered, written_attribute, written_entries, written_lines, written_units, written_tables}
+use Rattle.dwc_write.specs.GivenUnits.{GivenEntry, OrderedUnit, EntryShape, written_of, FitsValue, FitsAttribute, FitsEntry, FitsOrdered, IsWritable, size_of, AreWritable, shapes_in, numbered, written_attribute, written_entries, written_lines, written_units, written_tables}
 use Rattle.dwc_write.specs.SpelledOutput.{abbrev_bytes, all_info_bytes, all_lines_bytes, spelled_sections}
 use Rattle.dwc_write.specs.Writers.{IsSound}
 use Rattle.dwc_write.proofs.ReadAddresses.{rising-held}
@@ -67,11 +67,11 @@ entries-related size l uses [] fits = All-nil _
 entries-related size l uses (e ∷ es) fits =
     All-cons (λ (x : Shaped). All IsRelatedValue x.entry.attributes) _ (shaped (written_entries l uses es)) (values-related size l e.attributes (All-head (FitsEntry size) e es fits).attributes) (entries-related size l uses es (All-tail (FitsEntry size) e es fits))
 
-units-related : (s : Sections) (order : Endian) (size : ℕ) (us : List GivenUnit) (a l : ℕ) → All FitsGivenUnit us → All (IsRelatedUnit s size) (written_units order size a l us)
+units-related : (s : Sections) (order : Endian) (size : ℕ) (us : List OrderedUnit) (a l : ℕ) → All FitsOrdered us → All (IsRelatedUnit s size) (written_units order size a l us)
 units-related s order size [] a l fits = All-nil _
 units-related s order size (u ∷ us) a l fits =
-    All-cons (IsRelatedUnit s size) _ _ (entries-related u.address_size l (shapes_in u) u.entries (All-head FitsGivenUnit u us fits).entries)
-    (units-related s order size us (a + length (table_bytes (numbered 1 (shapes_in u)))) (l + length (lines_bytes order size (written_lines u.lines))) (All-tail FitsGivenUnit u us fits))
+    All-cons (IsRelatedUnit s size) _ _ (entries-related u.address_size l (shapes_in u) u.entries (All-head FitsOrdered u us fits).entries)
+    (units-related s order size us (a + length (table_bytes (numbered 1 (shapes_in u)))) (l + length (lines_bytes order size (written_lines u.lines))) (All-tail FitsOrdered u us fits))
 
 -- ---- one behind another
 
@@ -100,7 +100,7 @@ unfolding fields_of_section
 no-fields s = refl
 
 -- Given units that are spelled within the size of sections have the relocations of their fields.
-pub are-relocated : (order : Endian) (us : List GivenUnit) → AreWritable us → All FitsGivenUnit us → All (λ u. FitsLines u.lines) us → All (IsSound order) (spelled_sections order us) → AreRelocated order (spelled_sections order us)
+pub are-relocated : (order : Endian) (us : List OrderedUnit) → AreWritable us → All FitsOrdered us → All (λ u. FitsLines u.lines) us → All (IsSound order) (spelled_sections order us) → AreRelocated order (spelled_sections order us)
 are-relocated order us writable fits lines sound =
     let size = size_of us in
     let ws = written_units order size 0 0 us in

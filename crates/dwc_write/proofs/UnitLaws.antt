@@ -1,18 +1,18 @@
 -- What a unit owes when an entry is added to it, or an attribute is set.
-use Rattle.std.proofs.Common.{◌≡◌, ℕ, zero, suc, ◌+◌, ◌^◌, ◌<◌, ◌≤◌, refl, sym, ap, ◌∙◌, arith, List, [], ◌∷◌, ◌++◌, length, length-append, get_or, drop, map, Option, Some, None, Bool, true, false, eqb, ltb, cond}
+use Rattle.std.proofs.Common.{◌≡◌, ℕ, zero, suc, ◌+◌, ◌^◌, ◌<◌, ◌≤◌, refl, sym, ap, subst, ◌∙◌, arith, List, [], ◌∷◌, ◌++◌, length, length-append, get_or, map, Option, Some, None, Bool, true, false, is_some, eqb, ltb, cond}
 use Rattle.std.specs.Prelude.{◌==◌, slice_set, if◌then◌else◌}
 use Rattle.std.specs.List.{All, position, position_or_len}
 use Rattle.std.proofs.lemmas.Bool.{ltb-false}
 use Rattle.std.proofs.lemmas.List.Quantifiers.{position-Some}
 use Rattle.std.proofs.lemmas.List.Sums.{fails_before_first}
-use Rattle.std.proofs.lemmas.List.{length-map}
+use Rattle.std.proofs.lemmas.List.{length-map, map-append}
 use Rattle.std.proofs.lemmas.List.Elements.{All-append, All-cons, All-nil, All-head, All-tail, All-weaker}
 use Rattle.dwc_write.specs.declared.attributes.Attribute.{Attribute}
 use Rattle.dwc_write.specs.declared.attributes.AttributeValue.{AttributeValue}
 use Rattle.dwc_write.specs.declared.attributes.AttributeValue.TheVariants.{Address, Constant, Flag, LineProgramRef}
 use Rattle.dwc_write.specs.declared.units.Entry.{Entry}
-use Rattle.dwc_write.specs.UnitViews.{entry_view}
-use Rattle.dwc_write.specs.GivenUnits.{GivenEntry, GivenUnit, FitsAttribute, FitsValue, FitsOperand, FitsEntry, FitsGivenUnit, set_attribute, set_in_entry, set_in, with_entries, depth_of, tag_of, child_of, IsOpen, AreBelow, IsTree}
+use Rattle.dwc_write.specs.UnitViews.{addition_view}
+use Rattle.dwc_write.specs.GivenUnits.{Addition, GivenUnit, FitsAttribute, FitsValue, FitsOperand, FitsAddition, FitsGivenUnit, IsPlaceBelow, set_attribute, set_in_addition, set_in, with_additions, with_value, with_child, with_next, with_known, place_of, tag_at, tag_of, AreBehindParents, IsRooted}
 
 -- ---- attributes
 
@@ -54,132 +54,194 @@ set-fits size name value (a ∷ xs) new fits = go (eqb a.name name) (set-fits si
 
 -- ---- entries that are looked up and changed
 
-pub tag-at : (id : ℕ) (es : List Entry) (d : Entry) → id < length es → tag_of id (map entry_view es) ≡ (get_or es id d).tag
-tag-at id [] d within = absurd (omega arith)
-tag-at zero (e ∷ es) d within = refl
-tag-at (suc id) (e ∷ es) d within = tag-at id es d (omega arith)
+pub tag-of : (place : ℕ) (es : List Entry) (d : Entry) → place < length es → tag_at place (map addition_view es) ≡ (get_or es place d).tag
+tag-of place [] d within = absurd (omega arith)
+tag-of zero (e ∷ es) d within = refl
+tag-of (suc place) (e ∷ es) d within = tag-of place es d (omega arith)
 
-pub depth-at : (id : ℕ) (es : List Entry) (d : Entry) → id < length es → depth_of id (map entry_view es) ≡ (get_or es id d).depth
-depth-at id [] d within = absurd (omega arith)
-depth-at zero (e ∷ es) d within = refl
-depth-at (suc id) (e ∷ es) d within = depth-at id es d (omega arith)
-
--- the entry of a number has changed
-pub set-viewed : (id name : ℕ) (value : AttributeValue) (es : List Entry) (d now : Entry) → id < length es → entry_view now ≡ set_in_entry name value (entry_view (get_or es id d)) → map entry_view (slice_set es id now) ≡ set_in id name value (map entry_view es)
-set-viewed id name value [] d now within changed = absurd (omega arith)
-set-viewed zero name value (e ∷ es) d now within changed = ap (λ x. x ∷ map entry_view es) changed
-set-viewed (suc id) name value (e ∷ es) d now within changed = ap (λ xs. entry_view e ∷ xs) (set-viewed id name value es d now (omega arith) changed)
+-- the entry at a place has changed
+pub set-viewed : (place name : ℕ) (value : AttributeValue) (es : List Entry) (d now : Entry) → place < length es → addition_view now ≡ set_in_addition name value (addition_view (get_or es place d)) → map addition_view (slice_set es place now) ≡ set_in place name value (map addition_view es)
+set-viewed place name value [] d now within changed = absurd (omega arith)
+set-viewed zero name value (e ∷ es) d now within changed = ap (λ x. x ∷ map addition_view es) changed
+set-viewed (suc place) name value (e ∷ es) d now within changed = ap (λ xs. addition_view e ∷ xs) (set-viewed place name value es d now (omega arith) changed)
 
 -- and has not
-pub same-viewed : (id : ℕ) (es : List Entry) (d now : Entry) → id < length es → entry_view now ≡ entry_view (get_or es id d) → map entry_view (slice_set es id now) ≡ map entry_view es
-same-viewed id [] d now within same = absurd (omega arith)
-same-viewed zero (e ∷ es) d now within same = ap (λ x. x ∷ map entry_view es) same
-same-viewed (suc id) (e ∷ es) d now within same = ap (λ xs. entry_view e ∷ xs) (same-viewed id es d now (omega arith) same)
+pub same-viewed : (place : ℕ) (es : List Entry) (d now : Entry) → place < length es → addition_view now ≡ addition_view (get_or es place d) → map addition_view (slice_set es place now) ≡ map addition_view es
+same-viewed place [] d now within same = absurd (omega arith)
+same-viewed zero (e ∷ es) d now within same = ap (λ x. x ∷ map addition_view es) same
+same-viewed (suc place) (e ∷ es) d now within same = ap (λ xs. addition_view e ∷ xs) (same-viewed place es d now (omega arith) same)
 
-length-set_in : (id name : ℕ) (value : AttributeValue) (es : List GivenEntry) → length (set_in id name value es) ≡ length es
-length-set_in id name value [] = refl
+pub length-set_in : (place name : ℕ) (value : AttributeValue) (es : List Addition) → length (set_in place name value es) ≡ length es
+length-set_in place name value [] = refl
 length-set_in zero name value (e ∷ es) = refl
-length-set_in (suc id) name value (e ∷ es) = ap suc (length-set_in id name value es)
+length-set_in (suc place) name value (e ∷ es) = ap suc (length-set_in place name value es)
 
-set-all : (P : GivenEntry → Type 0) (id name : ℕ) (value : AttributeValue) → ((e : GivenEntry) → P e → P (set_in_entry name value e)) → (es : List GivenEntry) → All P es → All P (set_in id name value es)
-set-all P id name value keeps [] all = all
-set-all P zero name value keeps (e ∷ es) all = All-cons P (set_in_entry name value e) es (keeps e (All-head P e es all)) (All-tail P e es all)
-set-all P (suc id) name value keeps (e ∷ es) all = All-cons P e (set_in id name value es) (All-head P e es all) (set-all P id name value keeps es (All-tail P e es all))
+set-all : (P : Addition → Type 0) (place name : ℕ) (value : AttributeValue) → ((e : Addition) → P e → P (set_in_addition name value e)) → (es : List Addition) → All P es → All P (set_in place name value es)
+set-all P place name value keeps [] all = all
+set-all P zero name value keeps (e ∷ es) all = All-cons P (set_in_addition name value e) es (keeps e (All-head P e es all)) (All-tail P e es all)
+set-all P (suc place) name value keeps (e ∷ es) all = All-cons P e (set_in place name value es) (All-head P e es all) (set-all P place name value keeps es (All-tail P e es all))
 
-set-below : (depth id name : ℕ) (value : AttributeValue) (es : List GivenEntry) → AreBelow depth es → AreBelow depth (set_in id name value es)
-set-below depth id name value [] below = tt
-set-below depth zero name value (e ∷ es) below = below
-set-below depth (suc id) name value (e ∷ es) below = (below.0, below.1, set-below e.depth id name value es below.2)
+set-behind : (from place name : ℕ) (value : AttributeValue) (es : List Addition) → AreBehindParents from es → AreBehindParents from (set_in place name value es)
+set-behind from place name value [] behind = tt
+set-behind from zero name value (e ∷ es) behind = behind
+set-behind from (suc place) name value (e ∷ es) behind = (behind.0, set-behind (suc from) place name value es behind.1)
 
-set-tree : (id name : ℕ) (value : AttributeValue) (es : List GivenEntry) → IsTree es → IsTree (set_in id name value es)
-set-tree id name value [] tree = absurd tree
-set-tree zero name value (e ∷ es) tree = tree
-set-tree (suc id) name value (e ∷ es) tree = (tree.0, set-below 0 id name value es tree.1)
+set-rooted : (place name : ℕ) (value : AttributeValue) (es : List Addition) → IsRooted es → IsRooted (set_in place name value es)
+set-rooted place name value [] rooted = absurd rooted
+set-rooted zero name value (e ∷ es) rooted = rooted
+set-rooted (suc place) name value (e ∷ es) rooted = set-behind 1 place name value es rooted
 
 -- A value that fits leaves the unit as it is to be.
-pub set-kept : (u : GivenUnit) (id name : ℕ) (value : AttributeValue) → FitsGivenUnit u → 0 < name → name ≤ 65535 → FitsValue u.address_size name value → FitsGivenUnit (with_entries (set_in id name value u.entries) u)
-set-kept u id name value fits some small fit = record {
-  size = fits.size;
-  lines = fits.lines;
-  tree = set-tree id name value u.entries fits.tree;
-  low = let same = length-set_in id name value u.entries in All-weaker (λ e. e.depth < length u.entries) (λ e. e.depth < length (set_in id name value u.entries)) (λ e h. omega (arith, h, same)) (set_in id name value u.entries) (set-all (λ e. e.depth < length u.entries) id name value (λ e h. h) u.entries fits.low);
-  entries = set-all (FitsEntry u.address_size) id name value (λ e h. record { tag = h.tag; attributes = set-fits u.address_size name value e.attributes (record { some = some; name = small; value = fit }) h.attributes }) u.entries fits.entries;
-  few = let few = fits.few in omega (arith, few, length-set_in id name value u.entries);
-}
-
--- ---- a further entry
-
-last_depth : ℕ → List GivenEntry → ℕ
-last_depth depth [] = depth
-last_depth depth (e ∷ es) = last_depth e.depth es
-
-below-push : (depth : ℕ) (es : List GivenEntry) (e : GivenEntry) → AreBelow depth es → 0 < e.depth → e.depth ≤ suc (last_depth depth es) → AreBelow depth (es ++ e ∷ [])
-unfolding last_depth
-below-push depth [] e below some near = (some, near, tt)
-below-push depth (x ∷ es) e below some near = (below.0, below.1, below-push x.depth es e below.2 some near)
-
-all-last : (k depth : ℕ) (es : List GivenEntry) → k ≤ depth → All (λ e. k < e.depth) es → k ≤ last_depth depth es
-unfolding last_depth
-all-last k depth [] low all = low
-all-last k depth (e ∷ es) low all = all-last k e.depth es (omega (arith, All-head (λ e. k < e.depth) e es all)) (All-tail (λ e. k < e.depth) e es all)
-
-open-last : (depth id : ℕ) (es : List GivenEntry) → id < length es → All (λ e. depth_of id es < e.depth) (drop (suc id) es) → depth_of id es ≤ last_depth depth es
-unfolding last_depth
-open-last depth id [] within free = absurd (omega arith)
-open-last depth zero (e ∷ es) within free = all-last e.depth e.depth es (omega arith) free
-open-last depth (suc id) (e ∷ es) within free = open-last e.depth id es (omega arith) free
-
-tree-push : (es : List GivenEntry) (id tag : ℕ) → IsTree es → id < length es → IsOpen id es → IsTree (es ++ child_of id tag es ∷ [])
-tree-push [] id tag tree within free = absurd tree
-tree-push (e ∷ es) zero tag tree within free = (tree.0, below-push 0 es _ tree.1 (omega arith) (let root = tree.0 in omega (arith, root)))
-tree-push (e ∷ es) (suc id) tag tree within free =
-    (tree.0, below-push 0 es (child_of (suc id) tag (e ∷ es)) tree.1 (omega arith) (let near = open-last 0 id es (omega arith) free in omega (arith, near)))
-
-low-at : (most id : ℕ) (es : List GivenEntry) → id < length es → All (λ e. e.depth < most) es → depth_of id es < most
-low-at most id [] within low = absurd (omega arith)
-low-at most zero (e ∷ es) within low = All-head (λ e. e.depth < most) e es low
-low-at most (suc id) (e ∷ es) within low = low-at most id es (omega arith) (All-tail (λ e. e.depth < most) e es low)
-
-pub depth-low : (u : GivenUnit) (id : ℕ) → FitsGivenUnit u → id < length u.entries → depth_of id u.entries < length u.entries
-depth-low u id fits within = low-at (length u.entries) id u.entries within fits.low
-
--- A further entry leaves the unit as it is to be.
-pub child-kept : (u : GivenUnit) (id tag : ℕ) → FitsGivenUnit u → id < length u.entries → IsOpen id u.entries → tag ≤ 65535 → suc (length u.entries) < 2 ^ 64 → FitsGivenUnit (with_entries (u.entries ++ child_of id tag u.entries ∷ []) u)
-child-kept u id tag fits within free small few =
-    let child = child_of id tag u.entries in
-    let longer : length (u.entries ++ child ∷ []) ≡ suc (length u.entries) = omega (arith, length-append u.entries (child ∷ [])) in
-    let low = depth-low u id fits within in
+pub set-kept : (u : GivenUnit) (place name : ℕ) (value : AttributeValue) → FitsGivenUnit u → 0 < name → name ≤ 65535 → FitsValue u.address_size name value → FitsGivenUnit (with_additions (set_in place name value u.additions) u)
+set-kept u place name value fits some small fit =
+    let same = length-set_in place name value u.additions in
+    let few = fits.few in
     record {
       size = fits.size;
       lines = fits.lines;
-      tree = tree-push u.entries id tag fits.tree within free;
-      low = All-append (λ e. e.depth < length (u.entries ++ child ∷ [])) u.entries (child ∷ []) (All-weaker (λ e. e.depth < length u.entries) (λ e. e.depth < length (u.entries ++ child ∷ [])) (λ e h. omega (arith, h, longer)) u.entries fits.low)
-          (All-cons (λ e. e.depth < length (u.entries ++ child ∷ [])) child [] (omega (arith, low, longer)) (All-nil (λ e. e.depth < length (u.entries ++ child ∷ []))));
-      entries = All-append (FitsEntry u.address_size) u.entries (child ∷ []) fits.entries (All-cons (FitsEntry u.address_size) child [] (record { tag = small; attributes = All-nil (FitsAttribute u.address_size) }) (All-nil (FitsEntry u.address_size)));
+      rooted = set-rooted place name value u.additions fits.rooted;
+      additions = set-all (FitsAddition u.address_size) place name value (λ e h. record { tag = h.tag; attributes = set-fits u.address_size name value e.attributes (record { some = some; name = small; value = fit }) h.attributes }) u.additions fits.additions;
+      known = subst (λ n. All (IsPlaceBelow n) u.places) (sym same) fits.known;
+      few = omega (arith, few, same);
+    }
+
+-- ---- numbers of entries
+
+pub place_here : (id : ℕ) (ps : List (Option ℕ)) → is_some (place_of id ps) ≡ true → id < length ps
+place_here id [] some = absurd (cc)
+place_here zero (p ∷ ps) some = omega arith
+place_here (suc id) (p ∷ ps) some = omega (arith, place_here id ps some)
+
+pub place_get : (id : ℕ) (ps : List (Option ℕ)) (d : Option ℕ) → id < length ps → place_of id ps ≡ get_or ps id d
+place_get id [] d within = absurd (omega arith)
+place_get zero (p ∷ ps) d within = refl
+place_get (suc id) (p ∷ ps) d within = place_get id ps d (omega arith)
+
+pub none-added : (p : Option ℕ) → p ≡ None → is_some p ≡ true → ⊥
+none-added None is some = absurd (cc)
+none-added (Some place) is some = absurd (cc)
+
+-- an entry that was added is there
+pub place-below : (n id place : ℕ) (ps : List (Option ℕ)) → All (IsPlaceBelow n) ps → place_of id ps ≡ Some place → place < n
+place-below n id place [] all is = absurd (cc)
+place-below n zero place (p ∷ ps) all is = subst (IsPlaceBelow n) is (All-head (IsPlaceBelow n) p ps all)
+place-below n (suc id) place (p ∷ ps) all is = place-below n id place ps (All-tail (IsPlaceBelow n) p ps all) is
+
+pub value-placed : (u : GivenUnit) (id place name : ℕ) (value : AttributeValue) → place_of id u.places ≡ Some place → with_value id name value u ≡ with_additions (set_in place name value u.additions) u
+value-placed u id place name value is = rw (is, with_value) refl
+
+pub tag-placed : (u : GivenUnit) (id place : ℕ) → place_of id u.places ≡ Some place → tag_of id u ≡ tag_at place u.additions
+tag-placed u id place is = rw (is, tag_of) refl
+
+behind-push : (from : ℕ) (es : List Addition) (e : Addition) → AreBehindParents from es → e.parent < from + length es → AreBehindParents from (es ++ e ∷ [])
+behind-push from [] e behind low = (omega (arith, low), tt)
+behind-push from (x ∷ es) e behind low = (behind.0, behind-push (suc from) es e behind.1 (omega (arith, low)))
+
+rooted-push : (es : List Addition) (e : Addition) → IsRooted es → e.parent < length es → IsRooted (es ++ e ∷ [])
+rooted-push [] e rooted low = absurd rooted
+rooted-push (r ∷ es) e rooted low = behind-push 1 es e rooted (omega (arith, low))
+
+-- A further entry leaves the unit as it is to be; its number is a new one, or one that was reserved.
+pub child-kept : (u : GivenUnit) (e : Addition) (ps : List (Option ℕ)) → FitsGivenUnit u → e.parent < length u.additions → e.tag ≤ 65535 → e.attributes ≡ [] → suc (length u.additions) < 2 ^ 63 → All (IsPlaceBelow (suc (length u.additions))) ps
+    → FitsGivenUnit (record { address_size = u.address_size; lines = u.lines; places = ps; additions = u.additions ++ e ∷ [] })
+child-kept u e ps fits low small none few known =
+    let longer : length (u.additions ++ e ∷ []) ≡ suc (length u.additions) = omega (arith, length-append u.additions (e ∷ [])) in
+    record {
+      size = fits.size;
+      lines = fits.lines;
+      rooted = rooted-push u.additions e fits.rooted low;
+      additions = All-append (FitsAddition u.address_size) u.additions (e ∷ []) fits.additions
+          (All-cons (FitsAddition u.address_size) e [] (record { tag = small; attributes = subst (λ xs. All (FitsAttribute u.address_size) xs) (sym none) (All-nil (FitsAttribute u.address_size)) }) (All-nil (FitsAddition u.address_size)));
+      known = subst (λ n. All (IsPlaceBelow n) ps) (sym longer) known;
       few = omega (arith, longer, few);
+    }
+
+pub more-known : (n : ℕ) (ps : List (Option ℕ)) → All (IsPlaceBelow n) ps → All (IsPlaceBelow (suc n)) ps
+more-known n ps known = All-weaker (IsPlaceBelow n) (IsPlaceBelow (suc n)) (λ p h. go p h) ps known
+  where
+    go : (p : Option ℕ) → IsPlaceBelow n p → IsPlaceBelow (suc n) p
+    go None h = tt
+    go (Some place) h = omega (arith, h)
+
+pub next-known : (n : ℕ) (ps : List (Option ℕ)) → All (IsPlaceBelow n) ps → All (IsPlaceBelow (suc n)) (ps ++ Some n ∷ [])
+next-known n ps known = All-append (IsPlaceBelow (suc n)) ps (Some n ∷ []) (more-known n ps known) (All-cons (IsPlaceBelow (suc n)) (Some n) [] (omega arith) (All-nil (IsPlaceBelow (suc n))))
+
+pub reserved-known : (n : ℕ) (ps : List (Option ℕ)) → All (IsPlaceBelow n) ps → All (IsPlaceBelow n) (ps ++ None ∷ [])
+reserved-known n ps known = All-append (IsPlaceBelow n) ps (None ∷ []) known (All-cons (IsPlaceBelow n) None [] tt (All-nil (IsPlaceBelow n)))
+
+pub set-known : (n id : ℕ) (ps : List (Option ℕ)) → All (IsPlaceBelow n) ps → All (IsPlaceBelow (suc n)) (slice_set ps id (Some n))
+set-known n id ps known = go id ps (more-known n ps known)
+  where
+    go : (id : ℕ) (ps : List (Option ℕ)) → All (IsPlaceBelow (suc n)) ps → All (IsPlaceBelow (suc n)) (slice_set ps id (Some n))
+    go id [] all = all
+    go zero (p ∷ ps) all = All-cons (IsPlaceBelow (suc n)) (Some n) ps (omega arith) (All-tail (IsPlaceBelow (suc n)) p ps all)
+    go (suc id) (p ∷ ps) all = All-cons (IsPlaceBelow (suc n)) p (slice_set ps id (Some n)) (All-head (IsPlaceBelow (suc n)) p ps all) (go id ps (All-tail (IsPlaceBelow (suc n)) p ps all))
+
+-- the place of a parent stays when a number is added, or when another one is set
+place-append : (id place : ℕ) (ps qs : List (Option ℕ)) → place_of id ps ≡ Some place → place_of id (ps ++ qs) ≡ Some place
+place-append id place [] qs is = absurd (cc)
+place-append zero place (p ∷ ps) qs is = is
+place-append (suc id) place (p ∷ ps) qs is = place-append id place ps qs is
+
+place-set : (id other place n : ℕ) (ps : List (Option ℕ)) → place_of id ps ≡ Some place → place_of other ps ≡ None → place_of id (slice_set ps other (Some n)) ≡ Some place
+place-set id other place n [] is none = absurd (cc)
+place-set zero zero place n (p ∷ ps) is none = absurd (cc)
+place-set zero (suc other) place n (p ∷ ps) is none = is
+place-set (suc id) zero place n (p ∷ ps) is none = is
+place-set (suc id) (suc other) place n (p ∷ ps) is none = place-set id other place n ps is none
+
+pub child-next : (u : GivenUnit) (parent place tag : ℕ) → place_of parent u.places ≡ Some place
+    → with_child parent tag (with_next u) ≡ record { address_size = u.address_size; lines = u.lines; places = u.places ++ Some (length u.additions) ∷ []; additions = u.additions ++ record { parent = place; tag = tag; attributes = [] } ∷ [] }
+child-next u parent place tag is = let there = place-append parent place u.places (Some (length u.additions) ∷ []) is in rw (there, with_child) refl
+
+pub child-known : (u : GivenUnit) (id parent place tag : ℕ) → place_of parent u.places ≡ Some place → place_of id u.places ≡ None
+    → with_child parent tag (with_known id u) ≡ record { address_size = u.address_size; lines = u.lines; places = slice_set u.places id (Some (length u.additions)); additions = u.additions ++ record { parent = place; tag = tag; attributes = [] } ∷ [] }
+child-known u id parent place tag is none = let there = place-set parent id place (length u.additions) u.places is none in rw (there, with_child) refl
+
+-- A unit to which an entry was added is the one that is said, and as it is to be.
+pub record IsAddedTo (u said : GivenUnit) (places : List (Option ℕ)) (additions : List Addition) : Type 0 where
+  pub kept : FitsGivenUnit (record { address_size = u.address_size; lines = u.lines; places = places; additions = additions })
+  pub is : record { address_size = u.address_size; lines = u.lines; places = places; additions = additions } ≡ said
+
+pub added-next : (u : GivenUnit) (parent place tag n : ℕ) (places : List (Option ℕ)) (additions : List Addition) → FitsGivenUnit u → place_of parent u.places ≡ Some place → tag ≤ 65535 → n ≡ length u.additions → suc n < 2 ^ 63
+    → additions ≡ u.additions ++ record { parent = place; tag = tag; attributes = [] } ∷ [] → places ≡ u.places ++ Some n ∷ [] → IsAddedTo u (with_child parent tag (with_next u)) places additions
+added-next u parent place tag n places additions fits is small long few pushed numbered =
+    let e : Addition = record { parent = place; tag = tag; attributes = [] } in
+    let placed : places ≡ u.places ++ Some (length u.additions) ∷ [] = numbered ∙ ap (λ k. u.places ++ Some k ∷ []) long in
+    let P : List (Option ℕ) → List Addition → GivenUnit = λ ps es. record { address_size = u.address_size; lines = u.lines; places = ps; additions = es } in
+    let same : P places additions ≡ P (u.places ++ Some (length u.additions) ∷ []) (u.additions ++ e ∷ []) = ap (λ ps. P ps additions) placed ∙ ap (P (u.places ++ Some (length u.additions) ∷ [])) pushed in
+    record {
+      kept = subst FitsGivenUnit (sym same) (child-kept u e (u.places ++ Some (length u.additions) ∷ []) fits (place-below (length u.additions) parent place u.places fits.known is) small refl (omega (arith, long, few)) (next-known (length u.additions) u.places fits.known));
+      is = same ∙ sym (child-next u parent place tag is);
+    }
+
+pub added-known : (u : GivenUnit) (id parent place tag n : ℕ) (places : List (Option ℕ)) (additions : List Addition) → FitsGivenUnit u → place_of parent u.places ≡ Some place → place_of id u.places ≡ None → tag ≤ 65535 → n ≡ length u.additions → suc n < 2 ^ 63
+    → additions ≡ u.additions ++ record { parent = place; tag = tag; attributes = [] } ∷ [] → places ≡ slice_set u.places id (Some n) → IsAddedTo u (with_child parent tag (with_known id u)) places additions
+added-known u id parent place tag n places additions fits is none small long few pushed numbered =
+    let e : Addition = record { parent = place; tag = tag; attributes = [] } in
+    let placed : places ≡ slice_set u.places id (Some (length u.additions)) = numbered ∙ ap (λ k. slice_set u.places id (Some k)) long in
+    let P : List (Option ℕ) → List Addition → GivenUnit = λ ps es. record { address_size = u.address_size; lines = u.lines; places = ps; additions = es } in
+    let same : P places additions ≡ P (slice_set u.places id (Some (length u.additions))) (u.additions ++ e ∷ []) = ap (λ ps. P ps additions) placed ∙ ap (P (slice_set u.places id (Some (length u.additions)))) pushed in
+    record {
+      kept = subst FitsGivenUnit (sym same) (child-kept u e (slice_set u.places id (Some (length u.additions))) fits (place-below (length u.additions) parent place u.places fits.known is) small refl (omega (arith, long, few)) (set-known (length u.additions) id u.places fits.known));
+      is = same ∙ sym (child-known u id parent place tag is none);
     }
 
 -- ---- the same of the entries that a unit keeps
 
--- the depth of an entry that was looked up
-pub looked-up : (es : List Entry) (id : ℕ) (d : Entry) → d ≡ get_or es id d → id < length (map entry_view es) → depth_of id (map entry_view es) ≡ d.depth
-looked-up es id d is within = depth-at id es d (omega (arith, within, length-map es entry_view)) ∙ ap (λ (x : Entry). x.depth) (sym is)
-
--- an entry that is added
-pub added-view : (es : List Entry) (id tag : ℕ) (d e : Entry) → d ≡ get_or es id d → id < length (map entry_view es) → e.depth ≡ d.depth + 1 → e.tag ≡ tag → e.attributes.items ≡ [] → entry_view e ≡ child_of id tag (map entry_view es)
-added-view es id tag d e is within deep tagged none =
-    let depth : e.depth ≡ suc (depth_of id (map entry_view es)) = omega (arith, deep, looked-up es id d is within) in
-    rw (depth, tagged, none) refl
-
 -- an entry that was looked up, with a value set
-pub changed-view : (es : List Entry) (id name : ℕ) (value : AttributeValue) (d e : Entry) → d ≡ get_or es id d → id < length (map entry_view es) → e.depth ≡ d.depth → e.tag ≡ d.tag → e.attributes.items ≡ set_attribute name value d.attributes.items
-    → map entry_view (slice_set es id e) ≡ set_in id name value (map entry_view es)
-changed-view es id name value d e is within deep tagged set =
-    set-viewed id name value es d e (omega (arith, within, length-map es entry_view)) (rw (deep, tagged, set) (ap (λ x. set_in_entry name value (entry_view x)) is))
+pub changed-view : (es : List Entry) (place name : ℕ) (value : AttributeValue) (d e : Entry) → d ≡ get_or es place d → place < length (map addition_view es) → e.parent ≡ d.parent → e.tag ≡ d.tag → e.attributes.items ≡ set_attribute name value d.attributes.items
+    → map addition_view (slice_set es place e) ≡ set_in place name value (map addition_view es)
+changed-view es place name value d e is within parent tagged set =
+    set-viewed place name value es d e (omega (arith, within, length-map es addition_view)) (rw (parent, tagged, set) (ap (λ x. set_in_addition name value (addition_view x)) is))
 
-pub unchanged-view : (es : List Entry) (id : ℕ) (d e : Entry) → d ≡ get_or es id d → id < length (map entry_view es) → e.depth ≡ d.depth → e.tag ≡ d.tag → e.attributes.items ≡ d.attributes.items → map entry_view (slice_set es id e) ≡ map entry_view es
-unchanged-view es id d e is within deep tagged same =
-    same-viewed id es d e (omega (arith, within, length-map es entry_view)) (rw (deep, tagged, same) (ap entry_view is))
+pub unchanged-view : (es : List Entry) (place : ℕ) (d e : Entry) → d ≡ get_or es place d → place < length (map addition_view es) → e.parent ≡ d.parent → e.tag ≡ d.tag → e.attributes.items ≡ d.attributes.items → map addition_view (slice_set es place e) ≡ map addition_view es
+unchanged-view es place d e is within parent tagged same =
+    same-viewed place es d e (omega (arith, within, length-map es addition_view)) (rw (parent, tagged, same) (ap addition_view is))
+
+-- an entry that is pushed
+pub pushed-view : (es now : List Entry) (e : Entry) (parent tag : ℕ) → now ≡ es ++ e ∷ [] → e.parent ≡ parent → e.tag ≡ tag → e.attributes.items ≡ [] → map addition_view now ≡ map addition_view es ++ record { parent = parent; tag = tag; attributes = [] } ∷ []
+pushed-view es now e parent tag pushed below tagged none = rw (pushed, map-append, below, tagged, none) refl
 
 -- what writing asks of a value that fits
 pub operand-fits : (size : ℕ) (a : Attribute) → FitsAttribute size a → FitsOperand size a.value

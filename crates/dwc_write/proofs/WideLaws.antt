@@ -12,7 +12,7 @@ use Rattle.dwc_base.specs.declared.faults.Limit.TheVariants.{Section}
 use Rattle.dwc_write.specs.SpelledTables.{table_bytes}
 use Rattle.dwc_write.specs.SpelledSections.{placed_unit_bytes, lines_bytes}
 use Rattle.dwc_write.specs.GivenLines.{FitsLines}
-use Rattle.dwc_write.specs.GivenUnits.{GivenUnit, FitsGivenUnit, IsWritable, AreWritable, size_of, written_lines}
+use Rattle.dwc_write.specs.GivenUnits.{OrderedUnit, FitsOrdered, IsWritable, AreWritable, size_of, written_lines}
 use Rattle.dwc_write.specs.SpelledOutput.{WrittenSections, unit_in, with_unit, with_units, all_units, RefusesUnit, IsRefusal}
 use Rattle.dwc_write.specs.WidestGiven.{widest_unit, IsWideRefusal}
 use Rattle.dwc_write.proofs.OutputLaws.{all-appended, all_of, section-refused}
@@ -20,7 +20,7 @@ use Rattle.dwc_write.proofs.WidestLaws.{within-widest}
 use Rattle.dwc_write.proofs.WidestTreeLaws.{widest-said}
 
 -- a unit more
-pub units-taken : (us : List GivenUnit) (i : ℕ) (d : GivenUnit) (w : WrittenSections) → i < length us → with_units (take (suc i) us) w ≡ with_unit (get_or us i d) (with_units (take i us) w)
+pub units-taken : (us : List OrderedUnit) (i : ℕ) (d : OrderedUnit) (w : WrittenSections) → i < length us → with_units (take (suc i) us) w ≡ with_unit (get_or us i d) (with_units (take i us) w)
 units-taken [] i d w within = absurd (omega arith)
 units-taken (u ∷ us) zero d w within = refl
 units-taken (u ∷ us) (suc i) d w within = units-taken us i d (with_unit u w) (omega arith)
@@ -31,15 +31,15 @@ all-take P [] (suc n) all = all
 all-take P (x ∷ xs) zero all = All-nil P
 all-take P (x ∷ xs) (suc n) all = All-cons P x (take n xs) (All-head P x xs all) (all-take P xs n (All-tail P x xs all))
 
-size-taken : (us : List GivenUnit) (i : ℕ) → size_of (take (suc i) us) ≡ size_of us
+size-taken : (us : List OrderedUnit) (i : ℕ) → size_of (take (suc i) us) ≡ size_of us
 size-taken [] i = refl
 size-taken (u ∷ us) i = refl
 
-writable-taken : (us : List GivenUnit) (i : ℕ) → AreWritable us → AreWritable (take (suc i) us)
+writable-taken : (us : List OrderedUnit) (i : ℕ) → AreWritable us → AreWritable (take (suc i) us)
 writable-taken us i fits = let P : ℕ → Type 0 = λ n. All (IsWritable n) (take (suc i) us) in subst P (sym (size-taken us i)) (all-take (IsWritable (size_of us)) us (suc i) fits)
 
 -- A unit that is refused is so for the widest size of all.
-pub widely-refused : (order : Endian) (us : List GivenUnit) (i : ℕ) (d : GivenUnit) (w : WrittenSections) (e : WriteError) → i < length us → AreWritable us → All FitsGivenUnit (take (suc i) us) → All (λ u. FitsLines u.lines) (take (suc i) us)
+pub widely-refused : (order : Endian) (us : List OrderedUnit) (i : ℕ) (d : OrderedUnit) (w : WrittenSections) (e : WriteError) → i < length us → AreWritable us → All FitsOrdered (take (suc i) us) → All (λ u. FitsLines u.lines) (take (suc i) us)
     → w ≡ all_units order (take i us) → RefusesUnit e w (get_or us i d) → IsWideRefusal us e
 widely-refused order us i d w e within fits given lines done refused =
     let vs = take (suc i) us in
@@ -61,7 +61,7 @@ widely-refused order us i d w e within fits given lines done refused =
     wide (TooLarge (Section name)) large = omega (arith, large, within-widest order (take (suc i) us) name (writable-taken us i fits) given lines, sum_by-take-le (widest_unit name) us (suc i), widest-said name us)
 
 -- the error of a call, for a function that answers something else
-pub wide-exit : {A : Type 0} (us : List GivenUnit) (result : Result A WriteError) (e : WriteError) → ((error : WriteError) × (result ≡ Err error) × (error ≡ e)) → IsWideRefusal us e → IfErr result (λ x. IsWideRefusal us x)
+pub wide-exit : {A : Type 0} (us : List OrderedUnit) (result : Result A WriteError) (e : WriteError) → ((error : WriteError) × (result ≡ Err error) × (error ≡ e)) → IsWideRefusal us e → IfErr result (λ x. IsWideRefusal us x)
 wide-exit us result e p refused =
     let is : result ≡ Err e = p.1 ∙ ap Err p.2 in
     rw (is) refused

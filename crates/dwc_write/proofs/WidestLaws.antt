@@ -31,7 +31,7 @@ use Rattle.dwc_write.specs.declared.attributes.AttributeValue.{AttributeValue}
 use Rattle.dwc_write.specs.declared.attributes.AttributeValue.TheVariants.{Address, Constant, Flag, LineProgramRef}
 use Rattle.dwc_write.specs.declared.abbreviations.AttributeForm.{AttributeForm}
 use Rattle.dwc_write.specs.GivenLines.{FitsLines, FitsSequences, FitsGivenSequence}
-use Rattle.dwc_write.specs.GivenUnits.{GivenEntry, GivenUnit, EntryShape, AreBelow, IsTree, IsOfSize, IsWritable, AreWritable, FitsAttribute, FitsValue, FitsEntry, FitsGivenUnit, size_of, constant_of, is_constant_form, constant_bound, written_of, form_of, first_depth, shape_of, shapes_of, place_in, with_use, first_uses, code_in, spec_of_form, numbered, shapes_in, written_attribute, written_entries, written_unit, written_lines, written_units, written_tables}
+use Rattle.dwc_write.specs.GivenUnits.{GivenEntry, OrderedUnit, EntryShape, AreBelow, IsTree, IsOfSize, IsWritable, AreWritable, FitsAttribute, FitsValue, FitsEntry, FitsOrdered, size_of, constant_of, is_constant_form, constant_bound, written_of, form_of, first_depth, shape_of, shapes_of, place_in, with_use, first_uses, code_in, spec_of_form, numbered, shapes_in, written_attribute, written_entries, written_unit, written_lines, written_units, written_tables}
 use Rattle.dwc_write.specs.SpelledOutput.{abbrev_bytes, all_info_bytes, all_lines_bytes, bytes_of}
 use Rattle.dwc_write.specs.WidestGiven.{widest_value, widest_entry, lists_of, widest_table_for, widest_unit, widest_given}
 use Rattle.dwc_write.proofs.ReadNumbers.{number_bytes-length, uleb_bytes-length, sleb_bytes-small}
@@ -142,7 +142,7 @@ uses-widest known (e ∷ es) =
     let same : shape_width s ≡ entry_width e = ap widest_declaration (length-map e.attributes form_of) in
     omega (arith, same, uses-widest (with_use s known) es, use-widest s known, sum_by-cons entry_width e es)
 
-table-widest : (u : GivenUnit) → FitsGivenUnit u → length (table_bytes (numbered 1 (shapes_in u))) ≤ widest_unit Abbrev u
+table-widest : (u : OrderedUnit) → FitsOrdered u → length (table_bytes (numbered 1 (shapes_in u))) ≤ widest_unit Abbrev u
 table-widest u fits =
     let few = fits.few in
     let long = uses-length [] u.entries in
@@ -223,7 +223,7 @@ one-widest order size l uses e (f ∷ fs) short few below fits known used =
     one-step order size l uses e (f ∷ fs) short few below (All-head (FitsEntry size) e (f ∷ fs) fits) there
     (one-widest order size l uses f fs short few below.2 (All-tail (FitsEntry size) e (f ∷ fs) fits) (with_use (shape_of e (f ∷ fs)) known) used)
 
-size-short : (u : GivenUnit) (size : ℕ) → u.address_size ≡ size → (u.address_size ≡ 4) ⊎ (u.address_size ≡ 8) → size ≤ 8
+size-short : (u : OrderedUnit) (size : ℕ) → u.address_size ≡ size → (u.address_size ≡ 4) ⊎ (u.address_size ≡ 8) → size ≤ 8
 size-short u size same (inl e) = omega (arith, e, same)
 size-short u size same (inr e) = omega (arith, e, same)
 
@@ -239,7 +239,7 @@ tree-widest order size l (e ∷ es) short few tree fits =
     below-root : (depth : ℕ) (es : List GivenEntry) → depth ≡ 0 → AreBelow 0 es → AreBelow depth es
     below-root depth es is below = let P : ℕ → Type 0 = λ n. AreBelow n es in subst P (sym is) below
 
-info-widest : (order : Endian) (size a l : ℕ) (u : GivenUnit) → u.address_size ≡ size → FitsGivenUnit u → length (placed_unit_bytes order size (written_unit a l u)) ≤ widest_unit Info u
+info-widest : (order : Endian) (size a l : ℕ) (u : OrderedUnit) → u.address_size ≡ size → FitsOrdered u → length (placed_unit_bytes order size (written_unit a l u)) ≤ widest_unit Info u
 info-widest order size a l u same fits =
     let few_entries = fits.few in
     let few : length (shapes_in u) < 2 ^ 64 = omega (arith, few_entries, uses-length [] u.entries) in
@@ -310,7 +310,7 @@ fields-widest ds fs fits =
 table-lengths : (a b c d e : List ℕ) → length (a ++ (b ++ ((c ++ d) ++ e))) ≡ length a + (length b + (length c + (length d + length e)))
 table-lengths a b c d e = simp (length-append) (omega arith)
 
-lines-widest : (order : Endian) (size : ℕ) (u : GivenUnit) → u.address_size ≡ size → FitsGivenUnit u → FitsLines u.lines → length (lines_bytes order size (written_lines u.lines)) ≤ widest_unit Line u
+lines-widest : (order : Endian) (size : ℕ) (u : OrderedUnit) → u.address_size ≡ size → FitsOrdered u → FitsLines u.lines → length (lines_bytes order size (written_lines u.lines)) ≤ widest_unit Line u
 lines-widest order size u same fits lines =
     let P : ℕ → Type 0 = λ n. IsOfSize n u.lines.address_size in
     rw (lines-are u.lines) (go u.lines.address_size (subst P same fits.lines) lines.sequences)
@@ -330,31 +330,31 @@ lines-widest order size u same fits lines =
 
 -- ---- all units
 
-tables-within : (order : Endian) (size a l : ℕ) (us : List GivenUnit) → All FitsGivenUnit us → length (tables_bytes (written_units order size a l us)) ≤ widest_given Abbrev us
+tables-within : (order : Endian) (size a l : ℕ) (us : List OrderedUnit) → All FitsOrdered us → length (tables_bytes (written_units order size a l us)) ≤ widest_given Abbrev us
 tables-within order size a l [] fits = omega arith
 tables-within order size a l (u ∷ us) fits =
-    let here = table-widest u (All-head FitsGivenUnit u us fits) in
+    let here = table-widest u (All-head FitsOrdered u us fits) in
     let table = table_bytes (numbered 1 (shapes_in u)) in
     let rest = written_units order size (a + length table) (l + length (lines_bytes order size (written_lines u.lines))) us in
-    omega (arith, here, tables-within order size (a + length table) (l + length (lines_bytes order size (written_lines u.lines))) us (All-tail FitsGivenUnit u us fits), length-append table (tables_bytes rest), sum_by-cons (widest_unit Abbrev) u us)
+    omega (arith, here, tables-within order size (a + length table) (l + length (lines_bytes order size (written_lines u.lines))) us (All-tail FitsOrdered u us fits), length-append table (tables_bytes rest), sum_by-cons (widest_unit Abbrev) u us)
 
-info-within : (order : Endian) (size a l : ℕ) (us : List GivenUnit) → All (λ u. u.address_size ≡ size) us → All FitsGivenUnit us → length (info_bytes order size (written_units order size a l us)) ≤ widest_given Info us
+info-within : (order : Endian) (size a l : ℕ) (us : List OrderedUnit) → All (λ u. u.address_size ≡ size) us → All FitsOrdered us → length (info_bytes order size (written_units order size a l us)) ≤ widest_given Info us
 info-within order size a l [] sized fits = omega arith
 info-within order size a l (u ∷ us) sized fits =
-    let here = info-widest order size a l u (All-head (λ (v : GivenUnit). v.address_size ≡ size) u us sized) (All-head FitsGivenUnit u us fits) in
+    let here = info-widest order size a l u (All-head (λ (v : OrderedUnit). v.address_size ≡ size) u us sized) (All-head FitsOrdered u us fits) in
     let at = a + length (table_bytes (numbered 1 (shapes_in u))) in
     let lines_at = l + length (lines_bytes order size (written_lines u.lines)) in
-    omega (arith, here, info-within order size at lines_at us (All-tail (λ (v : GivenUnit). v.address_size ≡ size) u us sized) (All-tail FitsGivenUnit u us fits), length-append (placed_unit_bytes order size (written_unit a l u)) (info_bytes order size (written_units order size at lines_at us)), sum_by-cons (widest_unit Info) u us)
+    omega (arith, here, info-within order size at lines_at us (All-tail (λ (v : OrderedUnit). v.address_size ≡ size) u us sized) (All-tail FitsOrdered u us fits), length-append (placed_unit_bytes order size (written_unit a l u)) (info_bytes order size (written_units order size at lines_at us)), sum_by-cons (widest_unit Info) u us)
 
-lines-within : (order : Endian) (size : ℕ) (us : List GivenUnit) → All (λ u. u.address_size ≡ size) us → All FitsGivenUnit us → All (λ u. FitsLines u.lines) us → length (lines_bytes order size (written_tables us)) ≤ widest_given Line us
+lines-within : (order : Endian) (size : ℕ) (us : List OrderedUnit) → All (λ u. u.address_size ≡ size) us → All FitsOrdered us → All (λ u. FitsLines u.lines) us → length (lines_bytes order size (written_tables us)) ≤ widest_given Line us
 lines-within order size [] sized fits lines = omega arith
 lines-within order size (u ∷ us) sized fits lines =
-    let here = lines-widest order size u (All-head (λ (v : GivenUnit). v.address_size ≡ size) u us sized) (All-head FitsGivenUnit u us fits) (All-head (λ (v : GivenUnit). FitsLines v.lines) u us lines) in
-    let others = lines-within order size us (All-tail (λ (v : GivenUnit). v.address_size ≡ size) u us sized) (All-tail FitsGivenUnit u us fits) (All-tail (λ (v : GivenUnit). FitsLines v.lines) u us lines) in
+    let here = lines-widest order size u (All-head (λ (v : OrderedUnit). v.address_size ≡ size) u us sized) (All-head FitsOrdered u us fits) (All-head (λ (v : OrderedUnit). FitsLines v.lines) u us lines) in
+    let others = lines-within order size us (All-tail (λ (v : OrderedUnit). v.address_size ≡ size) u us sized) (All-tail FitsOrdered u us fits) (All-tail (λ (v : OrderedUnit). FitsLines v.lines) u us lines) in
     omega (arith, here, others, lengths-both (one_table_bytes order size) (written_lines u.lines) (written_tables us), sum_by-cons (widest_unit Line) u us)
 
 -- A section of given units is no longer than its widest size.
-pub within-widest : (order : Endian) (us : List GivenUnit) (name : SectionName) → AreWritable us → All FitsGivenUnit us → All (λ u. FitsLines u.lines) us → length (bytes_of order us name) ≤ widest_given name us
+pub within-widest : (order : Endian) (us : List OrderedUnit) (name : SectionName) → AreWritable us → All FitsOrdered us → All (λ u. FitsLines u.lines) us → length (bytes_of order us name) ≤ widest_given name us
 within-widest order us name writable fits lines =
     let sized : All (λ u. u.address_size ≡ size_of us) us = All-weaker (IsWritable (size_of us)) (λ u. u.address_size ≡ size_of us) (λ u h. h.size) us writable in
     go name (tables-within order (size_of us) 0 0 us fits) (info-within order (size_of us) 0 0 us sized fits) (lines-within order (size_of us) us sized fits lines)

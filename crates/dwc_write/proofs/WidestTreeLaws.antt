@@ -9,7 +9,7 @@ use Rattle.dwc_base.specs.Widest.{variable_bytes, widest_declaration}
 use Rattle.dwc_base.specs.WidestTrees as trees
 use Rattle.dwc_write.specs.declared.attributes.AttributeValue.{AttributeValue}
 use Rattle.dwc_write.specs.declared.attributes.AttributeValue.TheVariants.{Address, Constant, Flag, LineProgramRef}
-use Rattle.dwc_write.specs.GivenUnits.{GivenEntry, GivenUnit, first_depth}
+use Rattle.dwc_write.specs.GivenUnits.{GivenEntry, OrderedUnit, first_depth}
 use Rattle.dwc_write.specs.GivenTrees.{given_said, attribute_said, tree_entry, given_tree}
 use Rattle.dwc_write.specs.WidestGiven.{widest_value, widest_entry, lists_of, widest_unit, widest_given, widest_said}
 
@@ -39,19 +39,19 @@ lists-said [] = refl
 lists-said (e ∷ es) =
     ap (λ n. (if nat_lt e.depth n then 1 else 0) + lists_of es) (first-said es) ∙ ap (λ n. (if nat_lt e.depth (trees.first_depth (map tree_entry es)) then 1 else 0) + n) (lists-said es)
 
-info-said : (u : GivenUnit) → widest_unit Info u ≡ trees.widest_unit (given_tree u)
+info-said : (u : OrderedUnit) → widest_unit Info u ≡ trees.widest_unit (given_tree u)
 info-said u =
     ap (λ n. 11 + (n + lists_of u.entries * variable_bytes)) (sums-same tree_entry widest_entry trees.widest_entry entry-said u.entries) ∙ ap (λ n. 11 + (sum_by trees.widest_entry (given_tree u) + n * variable_bytes)) (lists-said u.entries)
 
-abbreviations-said : (u : GivenUnit) → widest_unit Abbrev u ≡ trees.widest_declarations (given_tree u)
+abbreviations-said : (u : OrderedUnit) → widest_unit Abbrev u ≡ trees.widest_declarations (given_tree u)
 abbreviations-said u = ap (λ n. n + variable_bytes) (sums-same tree_entry (λ e. widest_declaration (length e.attributes)) (λ e. widest_declaration (length e.attributes)) declaration-said u.entries)
 
-nothing-said : (name : SectionName) (us : List GivenUnit) → ((u : GivenUnit) → widest_unit name u ≡ 0) → 0 ≡ widest_given name us
+nothing-said : (name : SectionName) (us : List OrderedUnit) → ((u : OrderedUnit) → widest_unit name u ≡ 0) → 0 ≡ widest_given name us
 nothing-said name [] none = refl
 nothing-said name (u ∷ us) none = omega (arith, sum_by-cons (widest_unit name) u us, none u, nothing-said name us none)
 
 -- The two counts are one.
-pub widest-said : (name : SectionName) (us : List GivenUnit) → widest_said name us ≡ widest_given name us
+pub widest-said : (name : SectionName) (us : List OrderedUnit) → widest_said name us ≡ widest_given name us
 widest-said Info us = sym (sums-same given_tree (widest_unit Info) trees.widest_unit info-said us)
 widest-said Abbrev us = sym (sums-same given_tree (widest_unit Abbrev) trees.widest_declarations abbreviations-said us)
 widest-said Line us = refl

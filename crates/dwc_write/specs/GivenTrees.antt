@@ -4,7 +4,7 @@ use Rattle.dwc_base.specs.Trees.{TreeValue, address, constant, flag, line_table,
 use Rattle.dwc_write.specs.declared.attributes.Attribute.{Attribute}
 use Rattle.dwc_write.specs.declared.attributes.AttributeValue.{AttributeValue}
 use Rattle.dwc_write.specs.declared.attributes.AttributeValue.TheVariants.{Address, Constant, Flag, LineProgramRef}
-use Rattle.dwc_write.specs.GivenUnits.{GivenEntry, GivenUnit}
+use Rattle.dwc_write.specs.GivenUnits.{GivenEntry, OrderedUnit}
 
 -- what a value says
 abbrev pub given_said : AttributeValue → TreeValue
@@ -20,5 +20,5 @@ abbrev pub tree_entry : GivenEntry → TreeEntry
 tree_entry e = record { depth = e.depth; tag = e.tag; attributes = map attribute_said e.attributes }
 
 -- a given unit as a tree
-abbrev pub given_tree : GivenUnit → Tree
+abbrev pub given_tree : OrderedUnit → Tree
 given_tree u = map tree_entry u.entries

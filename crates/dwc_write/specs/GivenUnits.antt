@@ -1,5 +1,5 @@
 -- Units as they are given to a writer, and what its calls ask and do.
-use Rattle.std.specs.Prelude.{◌≡◌, ℕ, zero, suc, ◌+◌, ◌^◌, ◌<◌, ◌≤◌, ◌==◌, ◌⊎◌, pos, List, [], ◌∷◌, ◌++◌, map, length, drop, Bool, true, false, nat_lt, not, ◌&&◌, ◌||◌, if◌then◌else◌, Option, Some, None, is_some}
+use Rattle.std.specs.Prelude.{◌≡◌, ℕ, zero, suc, ◌+◌, ◌^◌, ◌<◌, ◌≤◌, ◌==◌, ◌⊎◌, pos, List, [], ◌∷◌, ◌++◌, map, length, slice_set, Bool, true, false, nat_lt, not, ◌&&◌, ◌||◌, if◌then◌else◌, Option, Some, None, is_some}
 use Rattle.std.specs.List.{All, flat_map}
 use Rattle.std.specs.Int.{w64, cast_signed}
 use Rattle.dwc_base.specs.declared.constants.TheConstants.{DW_AT_stmt_list, DW_FORM_data1, DW_FORM_data2, DW_FORM_data4, DW_FORM_data8, DW_FORM_sdata, DW_FORM_udata, DW_FORM_implicit_const}
@@ -16,17 +16,53 @@ use Rattle.dwc_write.specs.SpelledSections.{WrittenUnit, WrittenTable, lines_byt
 use Rattle.dwc_write.specs.Writers.{FitsField}
 use Rattle.dwc_write.specs.GivenLines.{GivenLines}
 
--- an entry: its depth below the root, its tag and its attributes
+-- an entry as it was added: the place of its parent among the entries (its own for the root), its tag and its attributes
+pub record Addition : Type 0 where
+  pub parent : ℕ
+  pub tag : ℕ
+  pub attributes : List Attribute
+
+-- a unit: the size of its addresses, its line program, its entries in the order of addition, the root first, and for each number
+-- that was given to an entry the entry's place there, none where the number is only reserved
+pub record GivenUnit : Type 0 where
+  pub address_size : ℕ
+  pub lines : GivenLines
+  pub places : List (Option ℕ)
+  pub additions : List Addition
+
+-- an entry in file order: its place in the order of addition, its depth below the root, its tag and its attributes
 pub record GivenEntry : Type 0 where
+  pub place : ℕ
   pub depth : ℕ
   pub tag : ℕ
   pub attributes : List Attribute
 
--- a unit: the size of its addresses, its line program, and its entries in file order, the root first
-pub record GivenUnit : Type 0 where
+-- a unit with its entries in file order
+pub record OrderedUnit : Type 0 where
   pub address_size : ℕ
   pub lines : GivenLines
+  pub places : List (Option ℕ)
   pub entries : List GivenEntry
+
+-- ---- file order: an entry is followed by what is below it (DWARF 4, section 2.3)
+
+abbrev pub entry_at : ℕ → ℕ → Addition → GivenEntry
+entry_at depth place e = record { place = place; depth = depth; tag = e.tag; attributes = e.attributes }
+
+-- what is below the entry at a place, among additions behind it that stand from another place on; its children have a depth
+abbrev pub below : ℕ → ℕ → ℕ → List Addition → List GivenEntry
+below depth parent place [] = []
+below depth parent place (e ∷ es) =
+    if e.parent == parent then entry_at depth place e ∷ (below (suc depth) place (suc place) es ++ below depth parent (suc place) es)
+    else below depth parent (suc place) es
+
+-- the root, and what is below it
+abbrev pub in_file_order : List Addition → List GivenEntry
+in_file_order [] = []
+in_file_order (root ∷ es) = entry_at 0 0 root ∷ below 1 0 1 es
+
+abbrev pub ordered : GivenUnit → OrderedUnit
+ordered u = record { address_size = u.address_size; lines = u.lines; places = u.places; entries = in_file_order u.additions }
 
 -- ---- values
 
@@ -77,41 +113,101 @@ abbrev pub set_attribute : ℕ → AttributeValue → List Attribute → List At
 set_attribute name value [] = record { name = name; value = value } ∷ []
 set_attribute name value (a ∷ others) = if a.name == name then record { name = name; value = value } ∷ others else a ∷ set_attribute name value others
 
-abbrev pub set_in_entry : ℕ → AttributeValue → GivenEntry → GivenEntry
-set_in_entry name value e = record { depth = e.depth; tag = e.tag; attributes = set_attribute name value e.attributes }
+abbrev pub set_in_addition : ℕ → AttributeValue → Addition → Addition
+set_in_addition name value e = record { parent = e.parent; tag = e.tag; attributes = set_attribute name value e.attributes }
 
--- in the entry of a number
-abbrev pub set_in : ℕ → ℕ → AttributeValue → List GivenEntry → List GivenEntry
-set_in id name value [] = []
-set_in zero name value (e ∷ es) = set_in_entry name value e ∷ es
-set_in (suc id) name value (e ∷ es) = e ∷ set_in id name value es
+-- in the entry at a place
+abbrev pub set_in : ℕ → ℕ → AttributeValue → List Addition → List Addition
+set_in place name value [] = []
+set_in zero name value (e ∷ es) = set_in_addition name value e ∷ es
+set_in (suc place) name value (e ∷ es) = e ∷ set_in place name value es
 
-abbrev pub with_entries : List GivenEntry → GivenUnit → GivenUnit
-with_entries es u = record { address_size = u.address_size; lines = u.lines; entries = es }
+-- the place of the entry of a number
+abbrev pub place_of : ℕ → List (Option ℕ) → Option ℕ
+place_of id [] = None
+place_of zero (p ∷ ps) = p
+place_of (suc id) (p ∷ ps) = place_of id ps
 
--- the depth and the tag of the entry of a number
-abbrev pub depth_of : ℕ → List GivenEntry → ℕ
-depth_of id [] = 0
-depth_of zero (e ∷ es) = e.depth
-depth_of (suc id) (e ∷ es) = depth_of id es
+abbrev pub tag_at : ℕ → List Addition → ℕ
+tag_at place [] = 0
+tag_at zero (e ∷ es) = e.tag
+tag_at (suc place) (e ∷ es) = tag_at place es
 
-abbrev pub tag_of : ℕ → List GivenEntry → ℕ
-tag_of id [] = 0
-tag_of zero (e ∷ es) = e.tag
-tag_of (suc id) (e ∷ es) = tag_of id es
+-- An entry of this number was added; it is only reserved.
+abbrev pub IsAdded : ℕ → GivenUnit → Type 0
+IsAdded id u = is_some (place_of id u.places) ≡ true
 
--- an entry without attributes, below a parent
-abbrev pub child_of : ℕ → ℕ → List GivenEntry → GivenEntry
-child_of parent tag es = record { depth = suc (depth_of parent es); tag = tag; attributes = [] }
+abbrev pub IsReserved : ℕ → GivenUnit → Type 0
+IsReserved id u = (id < length u.places) × (place_of id u.places ≡ None)
 
--- An entry can have a further child: the entries behind it are below it. The root always can.
-abbrev pub IsOpen : ℕ → List GivenEntry → Type 0
-IsOpen zero es = Unit {0}
-IsOpen (suc id) es = All (λ e. depth_of (suc id) es < e.depth) (drop (suc (suc id)) es)
+abbrev pub with_additions : List Addition → GivenUnit → GivenUnit
+with_additions es u = record { address_size = u.address_size; lines = u.lines; places = u.places; additions = es }
+
+abbrev pub with_places : List (Option ℕ) → GivenUnit → GivenUnit
+with_places ps u = record { address_size = u.address_size; lines = u.lines; places = ps; additions = u.additions }
+
+-- the tag of the entry of a number
+abbrev pub tag_of : ℕ → GivenUnit → ℕ
+tag_of id u = elim (place_of id u.places) [ None ↦ 0 | Some place ↦ tag_at place u.additions ]
+
+-- a value in the entry of a number
+abbrev pub with_value : ℕ → ℕ → AttributeValue → GivenUnit → GivenUnit
+with_value id name value u = elim (place_of id u.places) [ None ↦ u | Some place ↦ with_additions (set_in place name value u.additions) u ]
+
+-- an entry without attributes behind the others, below the entry of a number
+abbrev pub with_child : ℕ → ℕ → GivenUnit → GivenUnit
+with_child parent tag u =
+    elim (place_of parent u.places) [ None ↦ u | Some place ↦ with_additions (u.additions ++ record { parent = place; tag = tag; attributes = [] } ∷ []) u ]
+
+-- a number more, only reserved, and one for the entry that is added next
+abbrev pub with_reserved : GivenUnit → GivenUnit
+with_reserved u = with_places (u.places ++ None ∷ []) u
+
+abbrev pub with_next : GivenUnit → GivenUnit
+with_next u = with_places (u.places ++ Some (length u.additions) ∷ []) u
+
+-- a number that was reserved, for the entry that is added next
+abbrev pub with_known : ℕ → GivenUnit → GivenUnit
+with_known id u = with_places (slice_set u.places id (Some (length u.additions))) u
+
+-- the places of entries that were all added without a number reserved before
+abbrev pub places_from : ℕ → List Addition → List (Option ℕ)
+places_from place [] = []
+places_from place (e ∷ es) = Some place ∷ places_from (suc place) es
 
 -- ---- what always holds
 
--- Depths below the root rise by one at most.
+-- Each parent stands before its children.
+abbrev pub AreBehindParents : ℕ → List Addition → Type 0
+AreBehindParents place [] = Unit {0}
+AreBehindParents place (e ∷ es) = (e.parent < place) × AreBehindParents (suc place) es
+
+abbrev pub IsRooted : List Addition → Type 0
+IsRooted [] = ⊥
+IsRooted (root ∷ es) = AreBehindParents 1 es
+
+pub record FitsAddition (size : ℕ) (e : Addition) : Type 0 where
+  pub tag : e.tag ≤ 65535
+  pub attributes : All (FitsAttribute size) e.attributes
+
+abbrev pub IsPlaceBelow : ℕ → Option ℕ → Type 0
+IsPlaceBelow n None = Unit {0}
+IsPlaceBelow n (Some place) = place < n
+
+-- the address size of a unit's line program, where it has one
+abbrev pub IsOfSize : ℕ → Option ℕ → Type 0
+IsOfSize size None = Unit {0}
+IsOfSize size (Some n) = n ≡ size
+
+pub record FitsGivenUnit (u : GivenUnit) : Type 0 where
+  pub size : (u.address_size ≡ 4) ⊎ (u.address_size ≡ 8)
+  pub lines : IsOfSize u.address_size u.lines.address_size
+  pub rooted : IsRooted u.additions
+  pub additions : All (FitsAddition u.address_size) u.additions
+  pub known : All (IsPlaceBelow (length u.additions)) u.places
+  pub few : length u.additions < 2 ^ 63
+
+-- the same of a unit in file order: depths below the root rise by one at most
 abbrev pub AreBelow : ℕ → List GivenEntry → Type 0
 AreBelow depth [] = Unit {0}
 AreBelow depth (e ∷ es) = (0 < e.depth) × (e.depth ≤ suc depth) × AreBelow e.depth es
@@ -124,16 +220,10 @@ pub record FitsEntry (size : ℕ) (e : GivenEntry) : Type 0 where
   pub tag : e.tag ≤ 65535
   pub attributes : All (FitsAttribute size) e.attributes
 
--- the address size of a unit's line program, where it has one
-abbrev pub IsOfSize : ℕ → Option ℕ → Type 0
-IsOfSize size None = Unit {0}
-IsOfSize size (Some n) = n ≡ size
-
-pub record FitsGivenUnit (u : GivenUnit) : Type 0 where
+pub record FitsOrdered (u : OrderedUnit) : Type 0 where
   pub size : (u.address_size ≡ 4) ⊎ (u.address_size ≡ 8)
   pub lines : IsOfSize u.address_size u.lines.address_size
   pub tree : IsTree u.entries
-  pub low : All (λ e. e.depth < length u.entries) u.entries
   pub entries : All (FitsEntry u.address_size) u.entries
   pub few : length u.entries < 2 ^ 64
 
@@ -153,16 +243,16 @@ names_lines [] = false
 names_lines (e ∷ es) = names_lines_in e.attributes
 
 -- A unit is of the size of all, its sequences are ended, and its root names a line table exactly where it has one.
-pub record IsWritable (shared : ℕ) (u : GivenUnit) : Type 0 where
+pub record IsWritable (shared : ℕ) (u : OrderedUnit) : Type 0 where
   pub size : u.address_size ≡ shared
   pub ended : u.lines.begun ≡ None
   pub named : names_lines u.entries ≡ is_some u.lines.address_size
 
-abbrev pub size_of : List GivenUnit → ℕ
+abbrev pub size_of : List OrderedUnit → ℕ
 size_of [] = 8
 size_of (u ∷ us) = u.address_size
 
-abbrev pub AreWritable : List GivenUnit → Type 0
+abbrev pub AreWritable : List OrderedUnit → Type 0
 AreWritable us = All (IsWritable (size_of us)) us
 
 -- ---- the shapes of entries, and their codes
@@ -229,7 +319,7 @@ abbrev pub numbered : ℕ → List EntryShape → List Declaration
 numbered code [] = []
 numbered code (s ∷ ss) = record { code = code; tag = s.tag; has_children = s.has_children; attributes = map spec_of_form s.attributes } ∷ numbered (suc code) ss
 
-abbrev pub shapes_in : GivenUnit → List EntryShape
+abbrev pub shapes_in : OrderedUnit → List EntryShape
 shapes_in u = first_uses [] (shapes_of u.entries)
 
 -- ---- what is written of a unit, whose abbreviation table and line table stand at offsets
@@ -242,7 +332,7 @@ written_entries line_offset shapes [] = []
 written_entries line_offset shapes (e ∷ es) =
     record { depth = e.depth; code = code_in shapes (shape_of e es); tag = e.tag; attributes = map (written_attribute line_offset) e.attributes } ∷ written_entries line_offset shapes es
 
-abbrev pub written_unit : ℕ → ℕ → GivenUnit → WrittenUnit
+abbrev pub written_unit : ℕ → ℕ → OrderedUnit → WrittenUnit
 written_unit table_offset line_offset u = record { table_offset = table_offset; table = numbered 1 (shapes_in u); entries = written_entries line_offset (shapes_in u) u.entries }
 
 -- its line table, where it has one
@@ -250,13 +340,13 @@ abbrev pub written_lines : GivenLines → List WrittenTable
 written_lines g = elim g.address_size [ None ↦ [] | Some size ↦ record { directories = g.directories; files = g.files; sequences = g.sequences } ∷ [] ]
 
 -- all units, whose tables stand one behind another from two offsets on
-abbrev pub written_units : Endian → ℕ → ℕ → ℕ → List GivenUnit → List WrittenUnit
+abbrev pub written_units : Endian → ℕ → ℕ → ℕ → List OrderedUnit → List WrittenUnit
 written_units order size table_offset line_offset [] = []
 written_units order size table_offset line_offset (u ∷ us) =
     written_unit table_offset line_offset u
     ∷ written_units order size (table_offset + length (table_bytes (numbered 1 (shapes_in u)))) (line_offset + length (lines_bytes order size (written_lines u.lines))) us
 
-abbrev pub written_tables : List GivenUnit → List WrittenTable
+abbrev pub written_tables : List OrderedUnit → List WrittenTable
 written_tables us = flat_map (λ u. written_lines u.lines) us
 
 -- ---- the bytes of a shape: a declaration behind its code

@@ -13,7 +13,7 @@ use Rattle.dwc_write.specs.declared.attributes.Attribute.{Attribute}
 use Rattle.dwc_write.specs.SpelledUnits.{written_value}
 use Rattle.dwc_write.specs.SpelledLines.{WrittenSequence}
 use Rattle.dwc_write.specs.GivenLines.{GivenLines}
-use Rattle.dwc_write.specs.GivenUnits.{GivenEntry, GivenUnit, written_of}
+use Rattle.dwc_write.specs.GivenUnits.{GivenEntry, OrderedUnit, written_of}
 
 -- ---- line tables
 
@@ -53,7 +53,7 @@ given_contents line_offset e = record { depth = e.depth; tag = e.tag; attributes
 -- ---- units
 
 -- A unit that is read is the one that was given, in version 4: its entries, and the sequences of its line program.
-pub record IsReadUnit (s : Sections) (u : GivenUnit) (v : Unit) : Type 0 where
+pub record IsReadUnit (s : Sections) (u : OrderedUnit) (v : Unit) : Type 0 where
   pub line_offset : ℕ
   pub version : v.header.version ≡ 4
   pub address_size : v.header.address_size ≡ u.address_size
@@ -61,7 +61,7 @@ pub record IsReadUnit (s : Sections) (u : GivenUnit) (v : Unit) : Type 0 where
   pub lines : segments_of_unit s v ≡ Ok (given_segments u.lines)
 
 -- Some sections hold, one to one and in order, the given units, and no others.
-pub record ReadsBack (order : Endian) (us : List GivenUnit) (s : List OutputSection) : Type 0 where
+pub record ReadsBack (order : Endian) (us : List OrderedUnit) (s : List OutputSection) : Type 0 where
   pub read : List Unit
   pub units_read : units (output_sections order s) ≡ record { items = read; fault = None }
   pub each : AllZip (IsReadUnit (output_sections order s)) us read

@@ -9,7 +9,7 @@ use Rattle.dwc_write.specs.declared.error.WriteError.{WriteError}
 use Rattle.dwc_write.specs.SpelledTables.{table_bytes}
 use Rattle.dwc_write.specs.SpelledSections.{WrittenUnit, placed_unit_bytes, tables_bytes, info_bytes, lines_bytes}
 use Rattle.dwc_write.specs.SpelledRelocations.{unit_relocations, info_relocations, lines_relocations}
-use Rattle.dwc_write.specs.GivenUnits.{GivenEntry, GivenUnit, size_of, first_uses, shapes_of, numbered, written_entries, written_lines, written_unit, written_units, written_tables}
+use Rattle.dwc_write.specs.GivenUnits.{GivenEntry, OrderedUnit, size_of, first_uses, shapes_of, numbered, written_entries, written_lines, written_unit, written_units, written_tables}
 use Rattle.dwc_write.specs.Writers.{Writing, Refuses, appended, most_bytes}
 use Rattle.dwc_write.specs.declared.error.WriteError.TheVariants.{TooLarge, OutOfMemory}
 use Rattle.dwc_base.specs.declared.faults.Limit.TheVariants.{Section}
@@ -19,24 +19,24 @@ abbrev pub section_unless_empty : SectionName → List ℕ → List OutputReloca
 section_unless_empty name [] relocations = []
 section_unless_empty name (b ∷ bytes) relocations = record { name = section_text name; body = b ∷ bytes; relocations = relocations } ∷ []
 
-abbrev pub abbrev_bytes : Endian → List GivenUnit → List ℕ
+abbrev pub abbrev_bytes : Endian → List OrderedUnit → List ℕ
 abbrev_bytes order us = tables_bytes (written_units order (size_of us) 0 0 us)
 
-abbrev pub all_info_bytes : Endian → List GivenUnit → List ℕ
+abbrev pub all_info_bytes : Endian → List OrderedUnit → List ℕ
 all_info_bytes order us = info_bytes order (size_of us) (written_units order (size_of us) 0 0 us)
 
-abbrev pub all_lines_bytes : Endian → List GivenUnit → List ℕ
+abbrev pub all_lines_bytes : Endian → List OrderedUnit → List ℕ
 all_lines_bytes order us = lines_bytes order (size_of us) (written_tables us)
 
 -- how many bytes a section has
-abbrev pub bytes_of : Endian → List GivenUnit → SectionName → List ℕ
+abbrev pub bytes_of : Endian → List OrderedUnit → SectionName → List ℕ
 bytes_of order us Abbrev = abbrev_bytes order us
 bytes_of order us Info = all_info_bytes order us
 bytes_of order us Line = all_lines_bytes order us
 bytes_of order us name = []
 
 -- abbreviations, entries and line tables, in this order
-abbrev pub spelled_sections : Endian → List GivenUnit → List OutputSection
+abbrev pub spelled_sections : Endian → List OrderedUnit → List OutputSection
 spelled_sections order us =
     section_unless_empty Abbrev (abbrev_bytes order us) []
     ++ (section_unless_empty Info (all_info_bytes order us) (info_relocations order (size_of us) 0 (written_units order (size_of us) 0 0 us))
@@ -62,10 +62,10 @@ pub record WrittenSections : Type 0 where
   pub line_section : Writing
 
 -- a unit with its line table behind what is there
-abbrev pub unit_in : WrittenSections → GivenUnit → WrittenUnit
+abbrev pub unit_in : WrittenSections → OrderedUnit → WrittenUnit
 unit_in w u = written_unit (length w.abbrev_section.body) (length w.line_section.body) u
 
-abbrev pub with_unit : GivenUnit → WrittenSections → WrittenSections
+abbrev pub with_unit : OrderedUnit → WrittenSections → WrittenSections
 with_unit u w = record {
   abbrev_section = appended (table_bytes (unit_in w u).table) [] w.abbrev_section;
   info_section = appended (placed_unit_bytes w.info_section.order u.address_size (unit_in w u)) (unit_relocations w.info_section.order u.address_size (length w.info_section.body) (unit_in w u)) w.info_section;
@@ -73,28 +73,28 @@ with_unit u w = record {
 }
 
 -- one of the sections refuses a unit
-abbrev pub RefusesUnit : WriteError → WrittenSections → GivenUnit → Type 0
+abbrev pub RefusesUnit : WriteError → WrittenSections → OrderedUnit → Type 0
 RefusesUnit e w u =
     Refuses e w.abbrev_section (length (table_bytes (unit_in w u).table))
     ⊎ (Refuses e w.info_section (length (placed_unit_bytes w.info_section.order u.address_size (unit_in w u)))
     ⊎ Refuses e w.line_section (length (lines_bytes w.line_section.order u.address_size (written_lines u.lines))))
 
-abbrev pub WritesOne : WrittenSections → WrittenSections → Result (Unit {0}) WriteError → GivenUnit → Type 0
+abbrev pub WritesOne : WrittenSections → WrittenSections → Result (Unit {0}) WriteError → OrderedUnit → Type 0
 WritesOne old new (Ok done) u = new ≡ with_unit u old
 WritesOne old new (Err e) u = RefusesUnit e old u
 
 abbrev pub empty_section : Endian → SectionName → Writing
 empty_section order name = record { order = order; name = name; body = []; relocations = [] }
 
-abbrev pub with_units : List GivenUnit → WrittenSections → WrittenSections
+abbrev pub with_units : List OrderedUnit → WrittenSections → WrittenSections
 with_units [] w = w
 with_units (u ∷ us) w = with_units us (with_unit u w)
 
-abbrev pub all_units : Endian → List GivenUnit → WrittenSections
+abbrev pub all_units : Endian → List OrderedUnit → WrittenSections
 all_units order us = with_units us (record { abbrev_section = empty_section order Abbrev; info_section = empty_section order Info; line_section = empty_section order Line })
 
 -- A refusal of all units: for want of memory, or for a section's size.
-abbrev pub IsRefusal : Endian → List GivenUnit → WriteError → Type 0
+abbrev pub IsRefusal : Endian → List OrderedUnit → WriteError → Type 0
 IsRefusal order us OutOfMemory = Unit {0}
 IsRefusal order us (TooLarge (Section name)) = most_bytes < length (bytes_of order us name)
 

@@ -13,7 +13,7 @@ use Rattle.dwc_base.specs.declared.faults.Limit.TheVariants.{Section}
 use Rattle.dwc_write.specs.Writers.{most_bytes}
 use Rattle.dwc_write.specs.GivenLines.{GivenLines}
 use Rattle.dwc_write.specs.GivenTrees.{given_tree}
-use Rattle.dwc_write.specs.GivenUnits.{GivenEntry, GivenUnit, first_depth}
+use Rattle.dwc_write.specs.GivenUnits.{GivenEntry, OrderedUnit, first_depth}
 
 abbrev pub widest_value : AttributeValue → ℕ
 widest_value (Address a) = address_bytes
@@ -35,22 +35,22 @@ abbrev pub widest_table_for : Option ℕ → GivenLines → ℕ
 widest_table_for None g = 0
 widest_table_for (Some size) g = widest_header g.directories g.files + sum_by (λ q. widest_image (length q.rows)) g.sequences
 
-abbrev pub widest_unit : SectionName → GivenUnit → ℕ
+abbrev pub widest_unit : SectionName → OrderedUnit → ℕ
 widest_unit Abbrev u = sum_by (λ e. widest_declaration (length e.attributes)) u.entries + variable_bytes
 widest_unit Info u = 11 + (sum_by widest_entry u.entries + lists_of u.entries * variable_bytes)
 widest_unit Line u = widest_table_for u.lines.address_size u.lines
 widest_unit name u = 0
 
 -- how long a section can be at most
-abbrev pub widest_given : SectionName → List GivenUnit → ℕ
+abbrev pub widest_given : SectionName → List OrderedUnit → ℕ
 widest_given name us = sum_by (widest_unit name) us
 
 -- the same, counted over what the units say; line tables say nothing there
-abbrev pub widest_said : SectionName → List GivenUnit → ℕ
+abbrev pub widest_said : SectionName → List OrderedUnit → ℕ
 widest_said Line us = widest_given Line us
 widest_said name us = widest_of_trees name (map given_tree us)
 
 -- A refusal of all units for want of memory, or for a section's widest size.
-abbrev pub IsWideRefusal : List GivenUnit → WriteError → Type 0
+abbrev pub IsWideRefusal : List OrderedUnit → WriteError → Type 0
 IsWideRefusal us OutOfMemory = Unit {0}
 IsWideRefusal us (TooLarge (Section name)) = most_bytes < widest_said name us

@@ -1,11 +1,12 @@
 //! Units with their entries, as they are written. (DWARF 4, section 7.5.)
-ghost use Rattle.std.specs.Prelude.{◌≡◌, ◌++◌, ◌∷◌, [], ◌+◌, ◌≤◌, ◌⊎◌, OnOk, map, length, replicate};
+ghost use Rattle.std.specs.Prelude.{◌≡◌, ◌++◌, ◌∷◌, [], ◌+◌, ◌<◌, ◌≤◌, ◌⊎◌, List, OnOk, map, length, replicate};
 ghost use Rattle.std.specs.List.{All, flat_map};
 ghost use Rattle.dwc_write.specs.Spelled.{number_bytes, uleb_bytes};
 ghost use Rattle.dwc_write.specs.SpelledUnits.{attribute_bytes, entry_bytes, shaped, written_bytes};
 ghost use Rattle.dwc_write.specs.SpelledRelocations.{entries_relocations, value_relocations, values_relocations};
-ghost use Rattle.dwc_write.specs.GivenUnits.{FitsAttribute, FitsEntry as FitsGivenEntry, FitsOperand, constant_of, first_depth, first_uses, shapes_of, written_attribute, written_entries, written_of};
-ghost use Rattle.dwc_write.specs.UnitViews.{entry_view};
+ghost use Rattle.dwc_write.specs.GivenUnits.{Addition, FitsAttribute, FitsEntry as FitsGivenEntry, FitsOperand, constant_of, first_depth, first_uses, shapes_of, written_attribute, written_entries, written_of};
+ghost use Rattle.dwc_write.specs.FileOrders.{looked_up};
+ghost use Rattle.dwc_write.specs.UnitViews.{addition_view};
 ghost use Rattle.dwc_write.specs.ShapeViews.{shape_view};
 ghost use Rattle.dwc_write.specs.SpelledOutput.{WritesUnit};
 ghost use Rattle.dwc_base.specs.declared.section_name.SectionName.TheVariants.{Abbrev};
@@ -14,6 +15,7 @@ ghost use Rattle.dwc_write.specs.Writers.{Writes, most_bytes, offset_relocation}
 use crate::abbreviations::{Shape, code_of, put_table, set_shape};
 use crate::append::{bytes_2, put_sized, put_sleb, put_uleb};
 use crate::attributes::Attribute;
+use crate::file_order::FilePlace;
 use crate::units::Entry;
 use crate::{AttributeValue, WriteError, WriterRelocate};
 use dwc_base::constants::{
@@ -31,7 +33,7 @@ pub struct Spelling {
     pub line_offset: usize,
 }
 
-// A unit: its entries behind their header, and the abbreviation table that declares them.
+// A unit: its entries behind their header, in file order, and the abbreviation table that declares them.
 pub fn write_unit(
     alloc: Global,
     tables: &mut WriterRelocate,
@@ -39,17 +41,19 @@ pub fn write_unit(
     scratch: &mut Vec<u8>,
     spelling: Spelling,
     entries: &[Entry],
+    order: &[FilePlace],
 ) -> Result<(), WriteError>
     requires order { spelling.order ≡ info.old.order }
     requires size { (spelling.size ≡ 4) ⊎ (spelling.size ≡ 8) }
     requires line { spelling.line_offset ≤ most_bytes }
-    requires fits { All (FitsGivenEntry spelling.size) (map entry_view entries.now) }
-    ensures { WritesUnit tables.old tables.new info.old info.new result spelling.size spelling.line_offset (map entry_view entries.now) }
+    requires fits { All (FitsGivenEntry spelling.size) (map (looked_up (map addition_view entries.now)) order.now) }
+    requires known { All (λ f. f.index < length entries.now) order.now }
+    ensures { WritesUnit tables.old tables.new info.old info.new result spelling.size spelling.line_offset (map (looked_up (map addition_view entries.now)) order.now) }
 {
     let mut shapes = IndexSet::new(alloc);
     let place = info.place();
     write_header(info, spelling, tables.place())?;
-    write_entries(alloc, info, scratch, spelling, entries, &mut shapes)?;
+    write_entries(alloc, info, scratch, spelling, entries, order, &mut shapes)?;
     info.finish_length(place);
     scratch.clear();
     put_table(scratch, shapes.as_slice())?;
@@ -81,27 +85,30 @@ fn write_entries(
     scratch: &mut Vec<u8>,
     spelling: Spelling,
     entries: &[Entry],
+    order: &[FilePlace],
     shapes: &mut IndexSet<Shape>,
 ) -> Result<(), WriteError>
     requires order { spelling.order ≡ info.old.order }
     requires size { (spelling.size ≡ 4) ⊎ (spelling.size ≡ 8) }
     requires line { spelling.line_offset ≤ most_bytes }
-    requires fits { All (FitsGivenEntry spelling.size) (map entry_view entries.now) }
-    ensures shapes { OnOk result (map shape_view shapes.new.keys ≡ first_uses (map shape_view shapes.old.keys) (shapes_of (map entry_view entries.now))) }
+    requires fits { All (FitsGivenEntry spelling.size) (map (looked_up (map addition_view entries.now)) order.now) }
+    requires known { All (λ f. f.index < length entries.now) order.now }
+    ensures shapes { OnOk result (map shape_view shapes.new.keys ≡ first_uses (map shape_view shapes.old.keys) (shapes_of (map (looked_up (map addition_view entries.now)) order.now))) }
     ensures bytes { Writes info.old info.new result
-        (flat_map (entry_bytes info.old.order spelling.size) (shaped (written_entries spelling.line_offset (first_uses (map shape_view shapes.old.keys) (shapes_of (map entry_view entries.now))) (map entry_view entries.now))))
-        (entries_relocations info.old.order spelling.size (length info.old.body) (shaped (written_entries spelling.line_offset (first_uses (map shape_view shapes.old.keys) (shapes_of (map entry_view entries.now))) (map entry_view entries.now)))) }
+        (flat_map (entry_bytes info.old.order spelling.size) (shaped (written_entries spelling.line_offset (first_uses (map shape_view shapes.old.keys) (shapes_of (map (looked_up (map addition_view entries.now)) order.now))) (map (looked_up (map addition_view entries.now)) order.now))))
+        (entries_relocations info.old.order spelling.size (length info.old.body) (shaped (written_entries spelling.line_offset (first_uses (map shape_view shapes.old.keys) (shapes_of (map (looked_up (map addition_view entries.now)) order.now))) (map (looked_up (map addition_view entries.now)) order.now)))) }
 {
     let mut shape = Shape {
         tag: 0,
         has_children: false,
         attributes: Vec::new(alloc),
     };
-    for i in 0..entries.len() {
-        let entry = &entries[i];
-        let next = depth_of_first(&entries[i + 1..]);
-        let has_children = entry.depth < next;
-        let ends = entry.depth.saturating_sub(next);
+    for i in 0..order.len() {
+        let depth = order[i].depth;
+        let entry = &entries[order[i].index];
+        let next = depth_of_first(&order[i + 1..]);
+        let has_children = depth < next;
+        let ends = depth.saturating_sub(next);
         set_shape(&mut shape, entry.tag, has_children, &entry.attributes)?;
         let code = code_of(shapes, &shape)?;
         write_entry(info, scratch, spelling, code, &entry.attributes, ends)?;
@@ -205,10 +212,10 @@ fn put_constant(out: &mut Vec<u8>, order: Endian, form: u16, bits: u64) -> Resul
 }
 
 // The depth of the first of some entries, 0 where there is none.
-pub fn depth_of_first(entries: &[Entry]) -> usize
-    ensures { result ≡ first_depth (map entry_view entries.now) }
+fn depth_of_first(order: &[FilePlace]) -> usize
+    ensures { (added : List Addition) → result ≡ first_depth (map (looked_up added) order.now) }
 {
-    match entries {
+    match order {
         [] => 0,
         [first, ..] => first.depth,
     }

@@ -7,6 +7,7 @@ mod append;
 mod attributes;
 mod entries;
 mod error;
+mod file_order;
 mod lines;
 mod rows;
 mod sections;

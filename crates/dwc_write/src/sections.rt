@@ -10,7 +10,7 @@ ghost use Rattle.dwc_base.specs.TreeReading.{CarriesTrees};
 ghost use Rattle.dwc_write.specs.declared.error.WriteError.TheVariants.{OutOfMemory};
 ghost use Rattle.dwc_write.specs.GivenLines.{FitsLines};
 ghost use Rattle.dwc_write.specs.GivenTrees.{given_tree};
-ghost use Rattle.dwc_write.specs.GivenUnits.{AreWritable, FitsGivenUnit};
+ghost use Rattle.dwc_write.specs.GivenUnits.{AreWritable, FitsOrdered, ordered};
 ghost use Rattle.dwc_write.specs.SpelledOutput.{IsRefusal, WritesOne, all_units, section_unless_empty, sections_of, spelled_sections};
 ghost use Rattle.dwc_write.specs.SpelledRelocations.{DoRelocationsRise};
 ghost use Rattle.dwc_write.specs.ReadBack.{ReadsBack};
@@ -19,6 +19,7 @@ ghost use Rattle.dwc_write.specs.WidestGiven.{IsWideRefusal};
 ghost use Rattle.dwc_write.specs.Writers.{IsSound};
 
 use crate::entries::{Spelling, write_unit};
+use crate::file_order::file_order;
 use crate::tables::write_lines;
 use crate::{Dwarf, Unit, WriteError, WriterRelocate};
 use dwc_base::{DwarfSection, Endian, SectionName};
@@ -40,17 +41,17 @@ pub fn write_sections(
     dwarf: Dwarf,
     order: Endian,
 ) -> Result<Vec<DwarfSection>, WriteError>
-    requires { AreWritable dwarf.units.units.items }
-    ensures sections { IfOk result (λ s. map section_view s.items ≡ spelled_sections order dwarf.units.units.items) }
+    requires { AreWritable (map ordered dwarf.units.units.items) }
+    ensures sections { IfOk result (λ s. map section_view s.items ≡ spelled_sections order (map ordered dwarf.units.units.items)) }
     ensures sound { IfOk result (λ s. All (IsSound order) (map section_view s.items)) }
     ensures rise { IfOk result (λ s. All DoRelocationsRise (map section_view s.items)) }
-    ensures read { IfOk result (λ s. ReadsBack order dwarf.units.units.items (map section_view s.items)) }
-    ensures trees { IfOk result (λ s. CarriesTrees order (map given_tree dwarf.units.units.items) (map section_view s.items)) }
+    ensures read { IfOk result (λ s. ReadsBack order (map ordered dwarf.units.units.items) (map section_view s.items)) }
+    ensures trees { IfOk result (λ s. CarriesTrees order (map given_tree (map ordered dwarf.units.units.items)) (map section_view s.items)) }
     ensures form { IfOk result (λ s. (size : ℕ) → All (λ u. u.address_size ≡ size) dwarf.units.units.items → HaveTargetForm size (units (output_sections order (map section_view s.items))).items) }
     ensures names { IfOk result (λ s. HasDistinctNames (map section_view s.items)) }
     ensures relocated { IfOk result (λ s. AreRelocated order (map section_view s.items)) }
-    ensures large { IfErr result (λ e. IsRefusal order dwarf.units.units.items e) }
-    ensures widest { IfErr result (λ e. IsWideRefusal dwarf.units.units.items e) }
+    ensures large { IfErr result (λ e. IsRefusal order (map ordered dwarf.units.units.items) e) }
+    ensures widest { IfErr result (λ e. IsWideRefusal (map ordered dwarf.units.units.items) e) }
 {
     let sections = write_units(alloc, order, &dwarf.units.units)?;
     gather(alloc, sections)
@@ -58,12 +59,12 @@ pub fn write_sections(
 
 // Units, one behind another.
 fn write_units(alloc: Global, order: Endian, units: &[Unit]) -> Result<Sections, WriteError>
-    requires { AreWritable units.now }
-    ensures ok { IfOk result (λ s. sections_view s ≡ all_units order units.now) }
-    ensures large { IfErr result (λ e. IsRefusal order units.now e) }
-    ensures widest { IfErr result (λ e. IsWideRefusal units.now e) }
-    ensures fits { OnOk result (All FitsGivenUnit units.now) }
-    ensures lines { OnOk result (All (λ u. FitsLines u.lines) units.now) }
+    requires { AreWritable (map ordered units.now) }
+    ensures ok { IfOk result (λ s. sections_view s ≡ all_units order (map ordered units.now)) }
+    ensures large { IfErr result (λ e. IsRefusal order (map ordered units.now) e) }
+    ensures widest { IfErr result (λ e. IsWideRefusal (map ordered units.now) e) }
+    ensures fits { OnOk result (All FitsOrdered (map ordered units.now)) }
+    ensures lines { OnOk result (All (λ u. FitsLines u.lines) (map ordered units.now)) }
 {
     let mut sections = Sections {
         abbrev: WriterRelocate::new(alloc, order, SectionName::Abbrev)?,
@@ -87,8 +88,8 @@ fn write_one(
 ) -> Result<(), WriteError>
     requires info { order ≡ sections.old.info.order }
     requires line { order ≡ sections.old.line.order }
-    ensures bytes { WritesOne (sections_view sections.old) (sections_view sections.new) result unit.now }
-    ensures fits { FitsGivenUnit unit.now }
+    ensures bytes { WritesOne (sections_view sections.old) (sections_view sections.new) result (ordered unit.now) }
+    ensures fits { FitsOrdered (ordered unit.now) }
     ensures lines { FitsLines unit.now.lines }
 {
     let size = unit.address_size;
@@ -99,6 +100,7 @@ fn write_one(
         size,
         line_offset,
     };
+    let entry_order = file_order(alloc, &unit.entries)?;
     write_unit(
         alloc,
         &mut sections.abbrev,
@@ -106,6 +108,7 @@ fn write_one(
         scratch,
         spelling,
         &unit.entries,
+        &entry_order,
     )
 }
 

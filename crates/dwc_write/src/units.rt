@@ -1,5 +1,6 @@
 //! Units as they are given: a line program and a tree of entries. (DWARF 4, section 7.5.)
-ghost use Rattle.std.specs.Prelude.{◌≡◌, ◌⊎◌, ◌<◌, ◌∷◌, ◌++◌, [], OnOk, OnErr, IfOk, IsOkUnless, length, slice_index_or};
+ghost use Rattle.std.specs.Prelude.{◌≡◌, ◌⊎◌, ◌<◌, ◌∷◌, ◌++◌, [], Some, true, is_some, OnOk, OnErr, IfOk, IsOkUnless, length, slice_index_or};
+ghost use Rattle.dwc_write.specs.GivenUnits.{place_of};
 ghost use Rattle.dwc_write.specs.declared.error.WriteError.TheVariants.{OutOfMemory};
 ghost use Rattle.dwc_write.specs.Writers.{OkUnlessMemory};
 
@@ -10,62 +11,67 @@ use dwc_base::constants::DW_TAG_compile_unit;
 use std::alloc::Global;
 use std::marker::Model;
 
-/// An entry of a unit, by its number in file order.
+/// An entry of a unit, by the number that was given to it.
 #[derive(Clone, Copy, Debug, PartialEq, Eq)]
 pub struct UnitEntryId {
     pub(crate) index: usize,
 }
 
-/// An entry, with its depth below the root.
+/// An entry as it was added: the place of its parent in the order of addition (its own for the root), its tag and attributes.
 #[derive(Drop)]
 pub(crate) struct Entry {
-    pub(crate) depth: usize,
+    pub(crate) parent: usize,
     pub(crate) tag: u16,
     pub(crate) attributes: Vec<Attribute>,
 }
 
-/// A unit: its line program, and its entries in file order.
+/// A unit: its line program, its entries in the order in which they were added, and for each number that was given to an
+/// entry the entry's place there, none where the number is only reserved.
 #[derive(Drop)]
 pub struct Unit {
     pub(crate) address_size: u8,
     pub(crate) lines: LineProgram,
+    pub(crate) places: Vec<Option<usize>>,
     pub(crate) entries: Vec<Entry>,
 }
 
 impl Model for Unit {
     ghost use Rattle.std.specs.Prelude.{map};
     ghost use Rattle.dwc_write.specs.GivenUnits.{GivenUnit, FitsGivenUnit};
-    ghost use Rattle.dwc_write.specs.UnitViews.{entry_view};
+    ghost use Rattle.dwc_write.specs.UnitViews.{addition_view};
 
     ghost Value = { GivenUnit };
 
-    ghost view = { λ u. record { address_size = u.address_size; lines = u.lines; entries = map entry_view u.entries.items } };
+    ghost view = { λ u. record { address_size = u.address_size; lines = u.lines; places = u.places.items; additions = map addition_view u.entries.items } };
 
-    ghost invariant = { λ u. FitsGivenUnit (record { address_size = u.address_size; lines = u.lines; entries = map entry_view u.entries.items }) };
+    ghost invariant = { λ u. FitsGivenUnit (record { address_size = u.address_size; lines = u.lines; places = u.places.items; additions = map addition_view u.entries.items }) };
 }
 
 impl Unit {
-    ghost use Rattle.std.specs.Prelude.{◌≡◌, ◌⊎◌, ◌<◌, ◌∷◌, ◌++◌, [], OnOk, OnErr, IfOk, IsOkUnless, length};
+    ghost use Rattle.std.specs.Prelude.{◌≡◌, ◌⊎◌, ◌<◌, ◌∷◌, ◌++◌, [], Some, OnOk, OnErr, IfOk, IsOkUnless, length};
     ghost use Rattle.dwc_base.specs.declared.constants.TheConstants.{DW_TAG_compile_unit};
-    ghost use Rattle.dwc_write.specs.GivenUnits.{FitsValue, IsOfSize, IsOpen, child_of, set_in, tag_of, with_entries};
+    ghost use Rattle.dwc_write.specs.GivenUnits.{FitsValue, IsAdded, IsOfSize, IsReserved, tag_of, with_child, with_known, with_next, with_reserved, with_value};
 
     /// A unit of version 4 with a line program of the same encoding, or with none. Its root is a compile unit.
     pub fn new(alloc: Global, encoding: Encoding, program: LineProgram) -> Result<Unit, WriteError>
         requires version { encoding.version ≡ 4 }
         requires size { (encoding.address_size ≡ 4) ⊎ (encoding.address_size ≡ 8) }
         requires lines { IsOfSize encoding.address_size program.address_size }
-        ensures { OkUnlessMemory result (λ u. u ≡ record { address_size = encoding.address_size; lines = program; entries = record { depth = 0; tag = DW_TAG_compile_unit; attributes = [] } ∷ [] }) }
+        ensures { OkUnlessMemory result (λ u. u ≡ record { address_size = encoding.address_size; lines = program; places = Some 0 ∷ []; additions = record { parent = 0; tag = DW_TAG_compile_unit; attributes = [] } ∷ [] }) }
     {
         let root = Entry {
-            depth: 0,
+            parent: 0,
             tag: DW_TAG_compile_unit,
             attributes: Vec::new(alloc),
         };
         let mut entries = Vec::new(alloc);
         entries.push(root)?;
+        let mut places = Vec::new(alloc);
+        places.push(Some(0))?;
         Ok(Unit {
             address_size: encoding.address_size,
             lines: program,
+            places,
             entries,
         })
     }
@@ -77,23 +83,62 @@ impl Unit {
         UnitEntryId { index: 0 }
     }
 
-    /// Adds an entry without attributes below a parent. The parent is the root, or the last entry or one of its ancestors.
+    /// Adds an entry without attributes below a parent, which was added before. In the file it stands behind the entries that
+    /// were added below that parent before it.
     pub fn add(&mut self, parent: UnitEntryId, tag: u16) -> Result<UnitEntryId, WriteError>
-        requires known { parent.index < length self.old.entries }
-        requires open { IsOpen parent.index self.old.entries }
-        ensures ok { OnOk result (self.new ≡ with_entries (self.old.entries ++ child_of parent.index tag self.old.entries ∷ []) self.old) }
-        ensures id { IfOk result (λ id. id ≡ record { index = length self.old.entries }) }
+        requires { IsAdded parent.index self.old }
+        ensures ok { OnOk result (self.new ≡ with_child parent.index tag (with_next self.old)) }
+        ensures id { IfOk result (λ id. id ≡ record { index = length self.old.places }) }
         ensures err { OnErr result (self.new ≡ self.old) }
         ensures memory { IsOkUnless result OutOfMemory }
     {
         let entry = Entry {
-            depth: self.entries[parent.index].depth + 1,
+            parent: known_place(&self.places, parent),
             tag,
             attributes: Vec::new(*self.entries.allocator()),
         };
-        let index = self.entries.len();
+        let index = self.places.len();
+        let place = self.entries.len();
+        self.places.reserve(1)?;
         self.entries.push(entry)?;
+        self.places.push(Some(place)).unwrap();
         Ok(UnitEntryId { index })
+    }
+
+    /// A number for an entry that `add_reserved` is to add, so that it can be referred to before.
+    pub fn reserve(&mut self) -> Result<UnitEntryId, WriteError>
+        ensures ok { OnOk result (self.new ≡ with_reserved self.old) }
+        ensures id { IfOk result (λ id. id ≡ record { index = length self.old.places }) }
+        ensures err { OnErr result (self.new ≡ self.old) }
+        ensures memory { IsOkUnless result OutOfMemory }
+    {
+        let index = self.places.len();
+        self.places.push(None)?;
+        Ok(UnitEntryId { index })
+    }
+
+    /// Adds an entry without attributes, whose number was reserved, below a parent, which was added before.
+    pub fn add_reserved(
+        &mut self,
+        id: UnitEntryId,
+        parent: UnitEntryId,
+        tag: u16,
+    ) -> Result<(), WriteError>
+        requires reserved { IsReserved id.index self.old }
+        requires parent { IsAdded parent.index self.old }
+        ensures ok { OnOk result (self.new ≡ with_child parent.index tag (with_known id.index self.old)) }
+        ensures err { OnErr result (self.new ≡ self.old) }
+        ensures memory { IsOkUnless result OutOfMemory }
+    {
+        let entry = Entry {
+            parent: known_place(&self.places, parent),
+            tag,
+            attributes: Vec::new(*self.entries.allocator()),
+        };
+        let place = self.entries.len();
+        self.entries.push(entry)?;
+        self.places[id.index] = Some(place);
+        Ok(())
     }
 
     /// Gives an entry a value under a name: in the place of the value of that name, else behind the others.
@@ -103,24 +148,37 @@ impl Unit {
         name: u16,
         value: AttributeValue,
     ) -> Result<(), WriteError>
-        requires known { id.index < length self.old.entries }
+        requires known { IsAdded id.index self.old }
         requires name { 0 < name }
         requires fits { FitsValue self.old.address_size name value }
-        ensures ok { OnOk result (self.new ≡ with_entries (set_in id.index name value self.old.entries) self.old) }
+        ensures ok { OnOk result (self.new ≡ with_value id.index name value self.old) }
         ensures err { OnErr result (self.new ≡ self.old) }
         ensures memory { IsOkUnless result OutOfMemory }
     {
-        let entry = &mut self.entries[id.index];
+        let place = known_place(&self.places, id);
+        let entry = &mut self.entries[place];
         set_attribute(&mut entry.attributes, name, value)?;
         Ok(())
     }
 
     /// The tag of an entry.
     pub fn tag(&self, id: UnitEntryId) -> u16
-        requires { id.index < length self.now.entries }
-        ensures { result ≡ tag_of id.index self.now.entries }
+        requires { IsAdded id.index self.now }
+        ensures { result ≡ tag_of id.index self.now }
     {
-        self.entries[id.index].tag
+        self.entries[known_place(&self.places, id)].tag
+    }
+}
+
+// The place of an entry that was added.
+#[tactic(auto, using(crate::proofs::UnitLaws::place_here, crate::proofs::UnitLaws::place_get))]
+fn known_place(places: &[Option<usize>], id: UnitEntryId) -> usize
+    requires { is_some (place_of id.index places.now) ≡ true }
+    ensures { place_of id.index places.now ≡ Some result }
+{
+    match places[id.index] {
+        Some(place) => place,
+        None => unreachable!(),
     }
 }
 
@@ -164,6 +222,13 @@ impl UnitTable {
         ensures { result.now ≡ slice_index_or self.now.units.items id.index result.now }
     {
         &self.units[id.index]
+    }
+
+    /// A unit of the table, to be changed.
+    pub fn get_mut(&mut self, id: UnitId) -> &mut Unit
+        requires { id.index < length self.old.units.items }
+    {
+        &mut self.units[id.index]
     }
 }
 

@@ -1,0 +1,15 @@
+use Rattle.std.proofs.Common.{◌≤◌, ◌<◌, length, map}
+use Rattle.dwc_write.specs.UnitViews.{addition_view}
+use Rattle.dwc_write.proofs.FileOrderLaws.{LinkedFrom}
+use Rattle.dwc_write.proofs.file_order.links_of.Given as goal
+
+-- the entries from a place on are linked
+abbrev pub invariant-loop-place : goal.invariant-loop-place
+invariant-loop-place l = record {
+  some : 0 < l.place;
+  within : l.place ≤ length l.entries;
+  linked : LinkedFrom (map addition_view l.entries) l.place l.first_children.items l.next_siblings.items;
+}
+
+abbrev pub decreases-loop-place : goal.decreases-loop-place
+decreases-loop-place l = l.place

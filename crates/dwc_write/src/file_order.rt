@@ -1,0 +1,76 @@
+//! The order in which the entries of a unit stand in the file: an entry is followed by what is below it. (DWARF 4, section 2.3.)
+ghost use Rattle.std.specs.Prelude.{◌≡◌, ◌++◌, ◌∷◌, [], ◌<◌, ◌≤◌, OnOk, IfOk, length, map, replicate};
+ghost use Rattle.std.specs.List.{All};
+ghost use Rattle.dwc_write.specs.GivenUnits.{IsRooted, in_file_order};
+ghost use Rattle.dwc_write.specs.FileOrders.{AreLinked, looked_up, linked_place};
+ghost use Rattle.dwc_write.specs.UnitViews.{addition_view};
+
+use crate::units::Entry;
+use std::alloc::{AllocError, Global};
+
+// An entry in file order: its place in the order of addition, and its depth below the root.
+#[derive(Clone, Copy, Debug)]
+pub struct FilePlace {
+    pub index: usize,
+    pub depth: usize,
+}
+
+// For each entry, in the order of addition, its first child and its next sibling; 0, the root's place, where there is none.
+#[derive(Drop)]
+pub struct Links {
+    pub first_children: Vec<usize>,
+    pub next_siblings: Vec<usize>,
+}
+
+// The entries in file order.
+pub fn file_order(alloc: Global, entries: &[Entry]) -> Result<Vec<FilePlace>, AllocError>
+    requires { IsRooted (map addition_view entries.now) }
+    ensures order { IfOk result (λ order. map (looked_up (map addition_view entries.now)) order.items ≡ in_file_order (map addition_view entries.now)) }
+    ensures known { IfOk result (λ order. All (λ f. f.index < length entries.now) order.items) }
+{
+    let links = links_of(alloc, entries)?;
+    let mut order = Vec::with_capacity(alloc, entries.len())?;
+    let mut pending = Vec::new(alloc);
+    order.push(FilePlace { index: 0, depth: 0 })?;
+    push_link(&mut pending, links.first_children[0], 1)?;
+    while let Some(place) = pending.pop() {
+        order.push(place)?;
+        push_link(&mut pending, links.next_siblings[place.index], place.depth)?;
+        push_link(
+            &mut pending,
+            links.first_children[place.index],
+            place.depth + 1,
+        )?;
+    }
+    Ok(order)
+}
+
+// An entry at a depth behind others, where there is one.
+fn push_link(pending: &mut Vec<FilePlace>, index: usize, depth: usize) -> Result<(), AllocError>
+    ensures { OnOk result (pending.new.items ≡ pending.old.items ++ linked_place index depth) }
+{
+    if index != 0 {
+        pending.push(FilePlace { index, depth })?;
+    }
+    Ok(())
+}
+
+// The links of entries. Children are met from the last to the first, so that each is put in front of those behind it.
+fn links_of(alloc: Global, entries: &[Entry]) -> Result<Links, AllocError>
+    requires { IsRooted (map addition_view entries.now) }
+    ensures { IfOk result (λ links. AreLinked (map addition_view entries.now) links.first_children.items links.next_siblings.items) }
+{
+    let mut first_children = vec![in alloc; 0; entries.len()]?;
+    let mut next_siblings = vec![in alloc; 0; entries.len()]?;
+    let mut place = entries.len();
+    while place > 1 {
+        place -= 1;
+        let parent = entries[place].parent;
+        next_siblings[place] = first_children[parent];
+        first_children[parent] = place;
+    }
+    Ok(Links {
+        first_children,
+        next_siblings,
+    })
+}
