@@ -218,11 +218,25 @@ form-small (Constant form bits) = constant-small (form == DW_FORM_data1) (form =
 form-small (Flag b) = lit< tt
 form-small LineProgramRef = lit< tt
 
+constant-some : (a b c d f : Bool) (bits : ℕ) → 0 < form_number (if a then as_data1 bits else (if b then as_data2 bits else (if c then as_data4 bits else (if d then as_data8 bits else (if f then as_sdata (cast_signed w64 bits) else as_udata bits)))))
+constant-some true b c d f bits = lit< tt
+constant-some false true c d f bits = lit< tt
+constant-some false false true d f bits = lit< tt
+constant-some false false false true f bits = lit< tt
+constant-some false false false false true bits = lit< tt
+constant-some false false false false false bits = lit< tt
+
+form-some : (v : AttributeValue) → 0 < form_number (written_of 0 v)
+form-some (Address a) = lit< tt
+form-some (Constant form bits) = constant-some (form == DW_FORM_data1) (form == DW_FORM_data2) (form == DW_FORM_data4) (form == DW_FORM_data8) (form == DW_FORM_sdata) bits
+form-some (Flag b) = lit< tt
+form-some LineProgramRef = lit< tt
+
 forms-fit : (size : ℕ) (xs : List Attribute) → All (FitsAttribute size) xs → All (λ f. FitsSpec (spec_of_form f)) (forms_of xs)
 forms-fit size [] fits = All-nil _
 forms-fit size (x ∷ xs) fits =
     let here = All-head (FitsAttribute size) x xs fits in
-    All-cons (λ (f : AttributeForm). FitsSpec (spec_of_form f)) (form_of x) (forms_of xs) (record { some = here.some; name = here.name; form = form-small x.value; implicit = refl; plain = λ e. refl })
+    All-cons (λ (f : AttributeForm). FitsSpec (spec_of_form f)) (form_of x) (forms_of xs) (record { name = here.name; some = form-some x.value; form = form-small x.value; implicit = refl; plain = λ e. refl })
     (forms-fit size xs (All-tail (FitsAttribute size) x xs fits))
 
 use-fits : (s : EntryShape) (known : List EntryShape) → FitsShape s → All FitsShape known → All FitsShape (with_use s known)

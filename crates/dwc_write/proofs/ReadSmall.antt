@@ -80,7 +80,7 @@ entries-fit = All-from_recursion (FitsEntry table_written 8) (shaped unit_writte
   (record { some = lit< tt; code = lit< tt; declared = refl; values = values-fit function_written.attributes (tt, (lit< tt, tt)) }, tt),
 )
 
-spec-fits : (name form : ℕ) → 0 < name → name ≤ 65535 → form < 2 ^ 64 → FitsSpec (record { name = name; form = form; implicit = pos 0 })
+spec-fits : (name form : ℕ) → 0 < form → name ≤ 65535 → form < 2 ^ 64 → FitsSpec (record { name = name; form = form; implicit = pos 0 })
 spec-fits name form some small fits = record { some = some; name = small; form = fits; implicit = refl; plain = λ e. refl }
 
 abbrev root_declared : List AttributeSpec

@@ -1,7 +1,7 @@
 -- An abbreviation table that is spelled is read again. `table-read`: the table that a section holds at an offset, whatever stands
 -- around it. `numbered-found`: the declaration of a code where codes rise from 1.
 use Rattle.std.proofs.Common.{ap, ◌≡◌, ℕ, zero, suc, ◌+◌, add-zero, ◌<◌, refl, arith, List, [], ◌∷◌, ◌++◌, length, get_or, drop, Some, None, Ok, Bool, true, false, ltb, eqb, ◌∙◌, length-append}
-use Rattle.std.specs.Prelude.{ℤ, pos, ◌==◌, if◌then◌else◌}
+use Rattle.std.specs.Prelude.{ℤ, pos, ◌==◌, ◌&&◌, if◌then◌else◌}
 use Rattle.std.specs.List.{All, flat_map}
 use Rattle.std.proofs.lemmas.Bool.{le-ltb, ne_eqb, eq-eqb}
 use Rattle.std.proofs.lemmas.List.{get_or_push}
@@ -30,11 +30,16 @@ implicit-reads order place form z small plain = go (form == DW_FORM_implicit_con
 pub Spells-spec : (order : Endian) (a : AttributeSpec) → FitsSpec a → Spells order attribute_spec_at (spec_bytes a) (Some a)
 unfolding attribute_spec_at
 Spells-spec order a fits = anywhere (λ place.
-    let named : eqb a.name 0 ≡ false = ne_eqb _ _ (λ e. absurd (omega (arith, fits.some, e))) in
+    let formed : eqb a.form 0 ≡ false = ne_eqb _ _ (λ e. absurd (omega (arith, fits.some, e))) in
+    let no_end : ((a.name == 0) && (a.form == 0)) ≡ false = rw (formed) (not-both (eqb a.name 0)) in
     behind _ (here place (Spells-uleb_bytes order a.name (omega (arith, fits.name))))
     (behind _ (here _ (Spells-uleb_bytes order a.form fits.form))
     (tested _ _ _ (le-ltb _ _ fits.name)
-    (last _ (implicit-reads order _ a.form a.implicit fits.implicit fits.plain) (λ u. rw (named) refl)))))
+    (last _ (implicit-reads order _ a.form a.implicit fits.implicit fits.plain) (λ u. rw (no_end) refl)))))
+  where
+    not-both : (b : Bool) → (b && false) ≡ false
+    not-both true = refl
+    not-both false = refl
 
 specs-end : (order : Endian) → Spells order attribute_spec_at (0 ∷ 0 ∷ []) None
 unfolding attribute_spec_at implicit_at

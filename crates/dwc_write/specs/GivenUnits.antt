@@ -102,7 +102,6 @@ FitsOperand size (Address a) = FitsField size a
 FitsOperand size _ = Unit {0}
 
 pub record FitsAttribute (size : ℕ) (a : Attribute) : Type 0 where
-  pub some : 0 < a.name
   pub name : a.name ≤ 65535
   pub value : FitsValue size a.name a.value
 

@@ -25,10 +25,10 @@ declaration_bytes d = uleb_bytes d.code ++ (uleb_bytes d.tag ++ ((flag_of d.has_
 abbrev pub table_bytes : List Declaration → List ℕ
 table_bytes ds = flat_map declaration_bytes ds ++ 0 ∷ []
 
--- An attribute has a name from 1 to 65,535 and a form of 64 bits, and only an implicit constant has a value here.
+-- An attribute has a name up to 65,535 and a form from 1 to 2 ^ 64 - 1, and only an implicit constant has a value here.
 pub record FitsSpec (a : AttributeSpec) : Type 0 where
-  pub some : 0 < a.name
   pub name : a.name ≤ 65535
+  pub some : 0 < a.form
   pub form : a.form < 2 ^ 64
   pub implicit : is_64_bit a.implicit ≡ true
   pub plain : (a.form == DW_FORM_implicit_const) ≡ false → a.implicit ≡ pos 0

@@ -149,7 +149,6 @@ impl Unit {
         value: AttributeValue,
     ) -> Result<(), WriteError>
         requires known { IsAdded id.index self.old }
-        requires name { 0 < name }
         requires fits { FitsValue self.old.address_size name value }
         ensures ok { OnOk result (self.new ≡ with_value id.index name value self.old) }
         ensures err { OnErr result (self.new ≡ self.old) }

@@ -30,7 +30,7 @@ invariant_of-self-2 c =
     let place = rw (c.deref.ensures.value) at c.known_place-place.ensures in
     let within = place-below _ c.args.id.index c.known_place-place.result c.self.inside.places.items c.self.invariant.known place in
     rw (changed-view c.self.inside.entries.items c.known_place-place.result c.args.name c.args.value c.index_mut-entry.result.now (record { parent = c.index_mut-entry.result.now.parent; tag = c.index_mut-entry.result.now.tag; attributes = c.set_attribute.new.attributes }) c.index_mut-entry.ensures.value within refl refl c.in_ok-set_attribute.ensures.ok)
-    (set-kept _ c.known_place-place.result c.args.name c.args.value c.self.invariant c.requires.name (omega (arith, c.ranges.name)) (rw (← c.self.view_is) at c.requires.fits))
+    (set-kept _ c.known_place-place.result c.args.name c.args.value c.self.invariant (omega (arith, c.ranges.name)) (rw (← c.self.view_is) at c.requires.fits))
 
 pub returns-clause-ok : goal.returns-clause-ok
 returns-clause-ok c =
