@@ -12,19 +12,19 @@ use Rattle.dwc_base.proofs.CarriedSmall.{unit_out, output-read, output_small, co
 use Rattle.dwc_base.proofs.TreesSmall.{tree_small, forest-small, carries-small}
 use Rattle.dwc_base.proofs.FieldCases.{related-small}
 
-abbrev HasForm : Unit → Type 0
+abbrev pub HasForm : Unit → Type 0
 HasForm u = (u.header.version ≡ 4) × (u.header.address_size ≡ 8)
 
 pub form-small : HaveTargetForm 8 (units (output_sections Little output_small)).items
 form-small = rw output-read (All-cons HasForm unit_out [] (refl, refl) (All-nil HasForm))
 
-abbrev Differ : OutputSection → OutputSection → Type 0
+abbrev pub Differ : OutputSection → OutputSection → Type 0
 Differ x y = x.name ≢ y.name
 
 abbrev no_section : OutputSection
 no_section = record { name = []; body = []; relocations = [] }
 
-none-differ : AllPairs Differ []
+pub none-differ : AllPairs Differ []
 none-differ i j d less within = absurd (omega arith)
 
 -- the names differ at their eighth letter: a, i, l

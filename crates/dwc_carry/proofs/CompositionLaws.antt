@@ -11,7 +11,7 @@ use Rattle.dwc_base.specs.Carried.{Unit, units, CarriedUnit, CarriesUnit, Compil
 use Rattle.dwc_base.specs.Widest.{widest_of_unit, widest}
 use Rattle.dwc_base.specs.Forests.{tree_of_unit}
 use Rattle.dwc_write.specs.GivenTrees.{given_tree}
-use Rattle.dwc_write.specs.GivenUnits.{GivenUnit, IsWritable, AreWritable, OrderedUnit, ordered}
+use Rattle.dwc_write.specs.GivenUnits.{GivenUnit, IsWritable, AreWritable, ordered}
 use Rattle.dwc_write.specs.ReadBack.{IsReadUnit, ReadsBack, given_segments}
 use Rattle.dwc_write.specs.WidestGiven.{widest_unit, widest_given}
 use Rattle.dwc_carry.specs.MadeUnits.{IsMadeOf, AreMadeOf}
@@ -50,11 +50,11 @@ made-trees size (c ∷ cs) [] made = absurd made
 made-trees size (c ∷ cs) (u ∷ us) made = ap₂ (λ t ts. t ∷ ts) (sym (made.0).tree) (made-trees size cs us made.1)
 
 -- all have addresses of one size
-pub made-sizes : (size : ℕ) (cs : List CarriedUnit) (us : List GivenUnit) → AreMadeOf size cs us → All (λ u. u.address_size ≡ size) (map ordered us)
-made-sizes size [] [] made = All-nil (λ (u : OrderedUnit). u.address_size ≡ size)
+pub made-sizes : (size : ℕ) (cs : List CarriedUnit) (us : List GivenUnit) → AreMadeOf size cs us → All (λ u. u.address_size ≡ size) us
+made-sizes size [] [] made = All-nil (λ (u : GivenUnit). u.address_size ≡ size)
 made-sizes size [] (u ∷ us) made = absurd made
 made-sizes size (c ∷ cs) [] made = absurd made
-made-sizes size (c ∷ cs) (u ∷ us) made = All-cons (λ (u : OrderedUnit). u.address_size ≡ size) (ordered u) (map ordered us) ((made.0).writable).size (made-sizes size cs us made.1)
+made-sizes size (c ∷ cs) (u ∷ us) made = All-cons (λ (u : GivenUnit). u.address_size ≡ size) u us ((made.0).writable).size (made-sizes size cs us made.1)
 
 made-widest : (size : ℕ) (name : SectionName) (cs : List CarriedUnit) (us : List GivenUnit) → AreMadeOf size cs us → sum_by (widest_unit name) (map ordered us) ≤ sum_by (widest_of_unit name) cs
 made-widest size name [] [] made = omega arith

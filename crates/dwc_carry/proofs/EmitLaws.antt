@@ -46,7 +46,7 @@ module _ (order : Endian) (size : ℕ) (c : CompilationValue) where
 
     -- what is written is emitted
     pub emits-sections : (s : Vec DwarfSection Global) → ReadsBack order (map ordered us) (map section_view s.items) → CarriesTrees order (map given_tree (map ordered us)) (map section_view s.items)
-        → ((n : ℕ) → All (λ u. u.address_size ≡ n) (map ordered us) → HaveTargetForm n (units (output_sections order (map section_view s.items))).items)
+        → ((n : ℕ) → All (λ u. u.address_size ≡ n) us → HaveTargetForm n (units (output_sections order (map section_view s.items))).items)
         → HasDistinctNames (map section_view s.items) → AreRelocated order (map section_view s.items) → All (IsSound order) (map section_view s.items) → Emits order size c (Ok s)
     emits-sections s back says form names relocated sound = (
       accepted,

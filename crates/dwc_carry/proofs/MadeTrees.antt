@@ -16,9 +16,13 @@ use Rattle.dwc_base.specs.Refusals.{table_offset, first_of}
 use Rattle.dwc_base.specs.Widest.{kept_subprograms}
 use Rattle.dwc_base.specs.Trees.{TreeValue, TreeEntry, address, constant, line_table, set_in_order}
 use Rattle.dwc_base.specs.Forests.{function_of_value, function_begun, function_bounds, is_bound_name, table_becomes, attribute_becomes, if_made, attributes_made, entry_made, kept_of_unit}
-use Rattle.dwc_write.specs.GivenTrees.{tree_entry}
+use Rattle.dwc_write.specs.GivenTrees.{tree_entry, given_tree}
+use Rattle.dwc_write.specs.GivenLines.{GivenLines}
+use Rattle.dwc_write.specs.GivenUnits.{entry_at, ordered}
+use Rattle.dwc_write.proofs.OrderedLaws.{listed}
 use Rattle.dwc_carry.specs.declared.subprogram.Subprogram.{Subprogram}
-use Rattle.dwc_carry.specs.OutputUnits.{root_entry, subprogram_entry}
+use Rattle.dwc_carry.specs.OutputUnits.{output_unit, root_entry, subprogram_entry}
+use Rattle.dwc_carry.proofs.WidestUnits.{order-is}
 use Rattle.dwc_carry.specs.Subprograms.{subprogram_of, required_subprogram}
 use Rattle.dwc_carry.proofs.KeptUnits.{both}
 use Rattle.dwc_carry.proofs.KeptUnits.{IsIn}
@@ -26,12 +30,27 @@ use Rattle.dwc_carry.proofs.UnitTrees.{IsRoot, IsSubprogram, AreSubprograms, Are
 use Rattle.dwc_carry.proofs.KnownUnits.{known-units, unit-of-module, subprograms-of-unit}
 use Rattle.dwc_carry.proofs.InfoUnitLaws.{required-some}
 
+-- what the root and the subprograms of the output say
+abbrev pub root_said : Bool → TreeEntry
+root_said has_table = tree_entry (entry_at 0 0 (root_entry has_table))
+
+abbrev pub subprogram_said : Subprogram → TreeEntry
+subprogram_said s = tree_entry (entry_at 1 0 (subprogram_entry s))
+
+-- A unit of the output says its root, and then its subprograms.
+pub unit-said : (size : ℕ) (lines : GivenLines) (has_table : Bool) (ss : List Subprogram) → given_tree (ordered (output_unit size lines has_table ss)) ≡ root_said has_table ∷ map subprogram_said ss
+unit-said size lines has_table ss = ap (λ es. root_said has_table ∷ map tree_entry es) (order-is ss) ∙ ap (λ es. root_said has_table ∷ es) (each 1 ss)
+  where
+    each : (place : ℕ) (ss : List Subprogram) → map tree_entry (listed place (map subprogram_entry ss)) ≡ map subprogram_said ss
+    each place [] = refl
+    each place (s ∷ ss) = ap (λ es. subprogram_said s ∷ es) (each (suc place) ss)
+
 -- What is kept of a carried unit: no fewer subprograms than entries are required, and what is made of the kept entries says what
 -- the root and the subprograms of the output say.
 pub record IsKeptWhole (m : Module) (u : Unit) : Type 0 where
   pub few : length (filter (is_required m.functions) u.entries) ≤ kept_subprograms (record { module_of = m; unit = u })
   pub tree : (has_table : Bool) → (table_offset (first_of u.entries) ≡ None → has_table ≡ false)
-      → map (λ p. entry_made m.functions has_table p.entry) (kept_of_unit m u) ≡ map tree_entry (root_entry has_table ∷ map subprogram_entry (filter_map (required_subprogram m.functions) u.entries))
+      → map (λ p. entry_made m.functions has_table p.entry) (kept_of_unit m u) ≡ (root_said has_table ∷ map subprogram_said (filter_map (required_subprogram m.functions) u.entries))
 
 module _ (fs : List Function) (has_table : Bool) where
   -- bounds are not said again
@@ -50,7 +69,7 @@ module _ (fs : List Function) (has_table : Bool) where
   bounds-dropped e (a ∷ b ∷ c ∷ xs) h = absurd (true≢false (sym (both (b.0 == DW_AT_high_pc) false (both (a.0 == DW_AT_low_pc) ((b.0 == DW_AT_high_pc) && false) h).1).1))
 
   -- a subprogram that begins in a function
-  subprogram-made : (e : Entry) (f : Function) → IsSubprogram e → function_of_value fs (attribute DW_AT_low_pc e) ≡ Some f → entry_made fs has_table e ≡ tree_entry (subprogram_entry (subprogram_of f))
+  subprogram-made : (e : Entry) (f : Function) → IsSubprogram e → function_of_value fs (attribute DW_AT_low_pc e) ≡ Some f → entry_made fs has_table e ≡ subprogram_said (subprogram_of f)
   subprogram-made e f h begins = λ i. record { depth = h.depth i; tag = h.tag i; attributes = attributes i }
     where
       begun : function_begun fs e ≡ Some f
@@ -61,26 +80,26 @@ module _ (fs : List Function) (has_table : Bool) where
           ap (λ o. set_in_order (function_bounds o ++ filter_map (λ a. if_made a.0 (attribute_becomes has_table e a)) e.attributes)) begun
           ∙ ap (λ xs. set_in_order (function_bounds (Some f) ++ xs)) (bounds-dropped e e.attributes h.names)
 
-  sub-tree : (e : Entry) (s : Subprogram) → IsSubprogram e → required_subprogram fs e ≡ Some s → entry_made fs has_table e ≡ tree_entry (subprogram_entry s)
+  sub-tree : (e : Entry) (s : Subprogram) → IsSubprogram e → required_subprogram fs e ≡ Some s → entry_made fs has_table e ≡ subprogram_said s
   sub-tree e s h is = go ((e.tag == DW_TAG_subprogram) && is_none (attribute DW_AT_ranges e)) (function_of_value fs (attribute DW_AT_low_pc e)) refl is
     where
       go : (b : Bool) (o : Option Function) → function_of_value fs (attribute DW_AT_low_pc e) ≡ o → ◌≡◌ {A = Option Subprogram} (elim b [ true ↦ option_map subprogram_of o | false ↦ None ]) (Some s)
-          → entry_made fs has_table e ≡ tree_entry (subprogram_entry s)
+          → entry_made fs has_table e ≡ subprogram_said s
       go false o begins k = absurd (cc)
       go true None begins k = absurd (cc)
       go true (Some f) begins k =
           let same : subprogram_of f ≡ s = cc in
-          subst (λ t. entry_made fs has_table e ≡ tree_entry (subprogram_entry t)) same (subprogram-made e f h begins)
+          subst (λ t. entry_made fs has_table e ≡ subprogram_said t) same (subprogram-made e f h begins)
 
   subs-tree : (from end : ℕ) (es : List Entry) → AreSubprograms from end es
-      → map (entry_made fs has_table) (filter (is_required fs) es) ≡ map tree_entry (map subprogram_entry (filter_map (required_subprogram fs) es))
+      → map (entry_made fs has_table) (filter (is_required fs) es) ≡ map subprogram_said (filter_map (required_subprogram fs) es)
   subs-tree from end [] h = refl
   subs-tree from end (e ∷ es) h =
       ap (λ b. map (entry_made fs has_table) (cond {A = List Entry} b (e ∷ filter (is_required fs) es) (filter (is_required fs) es))) (sym (required-some fs e))
       ∙ go (required_subprogram fs e) refl (subs-tree (suc e.offset) end es h.2)
     where
-      go : (o : Option Subprogram) → required_subprogram fs e ≡ o → map (entry_made fs has_table) (filter (is_required fs) es) ≡ map tree_entry (map subprogram_entry (filter_map (required_subprogram fs) es))
-          → map (entry_made fs has_table) (cond {A = List Entry} (is_some o) (e ∷ filter (is_required fs) es) (filter (is_required fs) es)) ≡ map tree_entry (map subprogram_entry (cons_option o (filter_map (required_subprogram fs) es)))
+      go : (o : Option Subprogram) → required_subprogram fs e ≡ o → map (entry_made fs has_table) (filter (is_required fs) es) ≡ map subprogram_said (filter_map (required_subprogram fs) es)
+          → map (entry_made fs has_table) (cond {A = List Entry} (is_some o) (e ∷ filter (is_required fs) es) (filter (is_required fs) es)) ≡ map subprogram_said (cons_option o (filter_map (required_subprogram fs) es))
       go None is more = more
       go (Some s) is more = ap₂ (λ x xs. x ∷ xs) (sub-tree e s h.0 is) more
 
@@ -122,7 +141,7 @@ module _ (fs : List Function) (has_table : Bool) where
       arms true = refl
       arms false = refl
 
-  root-tree : (e : Entry) → IsRoot e → e.tag ≡ DW_TAG_compile_unit → (e.attributes ≡ [] → has_table ≡ false) → entry_made fs has_table e ≡ tree_entry (root_entry has_table)
+  root-tree : (e : Entry) → IsRoot e → e.tag ≡ DW_TAG_compile_unit → (e.attributes ≡ [] → has_table ≡ false) → entry_made fs has_table e ≡ root_said has_table
   root-tree e h tag none = (λ i. record { depth = h.depth i; tag = tag i; attributes = attributes i }) ∙ arms has_table
     where
       begun : function_begun fs e ≡ None
@@ -141,7 +160,7 @@ module _ (fs : List Function) (has_table : Bool) where
       attributes : attributes_made fs has_table e ≡ root_attributes has_table
       attributes = ap (λ o. set_in_order (function_bounds o ++ filter_map (λ a. if_made a.0 (attribute_becomes has_table e a)) e.attributes)) begun ∙ said h.names
 
-      arms : (b : Bool) → ◌≡◌ {A = TreeEntry} (record { depth = 0; tag = DW_TAG_compile_unit; attributes = root_attributes b }) (tree_entry (root_entry b))
+      arms : (b : Bool) → ◌≡◌ {A = TreeEntry} (record { depth = 0; tag = DW_TAG_compile_unit; attributes = root_attributes b }) (root_said b)
       arms true = refl
       arms false = refl
 
@@ -151,7 +170,7 @@ module _ (fs : List Function) (has_table : Bool) where
 
   -- the entries of a unit, of which some are required
   unit-tree : (n from end : ℕ) (e : Entry) (es : List Entry) → AreEntries from end (e ∷ es) → e.tag ≡ DW_TAG_compile_unit → list_any (is_required fs) (e ∷ es) ≡ true → (e.attributes ≡ [] → has_table ≡ false)
-      → map (λ p. entry_made fs has_table p.entry) (placed_at n (kept_of fs (e ∷ es))) ≡ map tree_entry (root_entry has_table ∷ map subprogram_entry (filter_map (required_subprogram fs) (e ∷ es)))
+      → map (λ p. entry_made fs has_table p.entry) (placed_at n (kept_of fs (e ∷ es))) ≡ (root_said has_table ∷ map subprogram_said (filter_map (required_subprogram fs) (e ∷ es)))
   unit-tree n from end e es h tag some none =
       let not_it : is_required fs e ≡ false = root-required fs e h.0 in
       let below : list_any (is_required fs) es ≡ true = sym (ap (λ b. b || list_any (is_required fs) es) not_it) ∙ some in
@@ -161,7 +180,7 @@ module _ (fs : List Function) (has_table : Bool) where
       ∙ go (required_subprogram fs e) (required-some fs e ∙ not_it)
     where
       go : (o : Option Subprogram) → is_some o ≡ false
-          → tree_entry (root_entry has_table) ∷ map tree_entry (map subprogram_entry (filter_map (required_subprogram fs) es)) ≡ map tree_entry (root_entry has_table ∷ map subprogram_entry (cons_option o (filter_map (required_subprogram fs) es)))
+          → root_said has_table ∷ map subprogram_said (filter_map (required_subprogram fs) es) ≡ (root_said has_table ∷ map subprogram_said (cons_option o (filter_map (required_subprogram fs) es)))
       go None k = refl
       go (Some s) k = absurd (true≢false k)
 
@@ -176,6 +195,6 @@ kept-whole m u whole i tag some = record {
   where
     go : (has_table : Bool) (es : List Entry) → AreEntries (u.header.content).place u.header.end es → has_root_tag DW_TAG_compile_unit (record { header = u.header; entries = es }) ≡ true → list_any (is_required m.functions) es ≡ true
         → (table_offset (first_of es) ≡ None → has_table ≡ false)
-        → map (λ p. entry_made m.functions has_table p.entry) (placed_at u.header.offset (kept_of m.functions es)) ≡ map tree_entry (root_entry has_table ∷ map subprogram_entry (filter_map (required_subprogram m.functions) es))
+        → map (λ p. entry_made m.functions has_table p.entry) (placed_at u.header.offset (kept_of m.functions es)) ≡ (root_said has_table ∷ map subprogram_said (filter_map (required_subprogram m.functions) es))
     go has_table [] h t k none = absurd (true≢false (sym k))
     go has_table (e ∷ es) h t k none = unit-tree m.functions has_table u.header.offset (u.header.content).place u.header.end e es h (eqb-true e.tag DW_TAG_compile_unit t) k (λ is. none (rw (is, attribute) refl))

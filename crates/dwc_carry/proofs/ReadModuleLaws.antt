@@ -33,7 +33,7 @@ use Rattle.dwc_carry.proofs.WidestUnits.{unit-widest}
 use Rattle.dwc_base.specs.Forests.{entry_made, has_line_table, kept_of_unit}
 use Rattle.dwc_write.specs.GivenTrees.{tree_entry}
 use Rattle.dwc_carry.proofs.InfoUnitLaws.{subprograms-count}
-use Rattle.dwc_carry.proofs.MadeTrees.{IsKeptWhole}
+use Rattle.dwc_carry.proofs.MadeTrees.{IsKeptWhole, root_said, subprogram_said, unit-said}
 
 -- a unit that is a compile unit, and of which an entry is required
 abbrev pub is_compiled : List Function → Unit → Bool
@@ -118,7 +118,8 @@ module _ (m : Module) where
         input_read = ap (λ x. x >>= λ t. Ok (segments_of t)) table;
         images = images;
         tree =
-            ap (λ subs. map tree_entry (root_entry (is_some r.entries.line_table) ∷ map subprogram_entry subs)) (read.entries).subprograms
+            unit-said size lines (is_some r.entries.line_table) r.entries.subprograms.items
+            ∙ ap (λ subs. root_said (is_some r.entries.line_table) ∷ map subprogram_said subs) (read.entries).subprograms
             ∙ sym (kept.tree (is_some r.entries.line_table) (λ none. ap is_some ((read.entries).line_table ∙ none)))
             ∙ sym (ap (λ b. map (λ p. entry_made m.functions b p.entry) (kept_of_unit m (unit_of m.sections h))) (ap has_line_table table ∙ same));
         writable = named-writable m.functions r.unit.sections r.unit.header.address_size size r.entries.line_table lines r.entries.subprograms.items carries;

@@ -43,7 +43,7 @@ all-below-root [] = All-nil (λ (e : Addition). e.parent ≡ 0)
 all-below-root (s ∷ others) = All-cons (λ (e : Addition). e.parent ≡ 0) (subprogram_entry s) (map subprogram_entry others) refl (all-below-root others)
 
 -- they stand in the order in which they were added
-order-is : (subprograms : List Subprogram) → below 1 0 1 (map subprogram_entry subprograms) ≡ entries_of 1 subprograms
+pub order-is : (subprograms : List Subprogram) → below 1 0 1 (map subprogram_entry subprograms) ≡ entries_of 1 subprograms
 order-is subprograms = below-listed 1 (map subprogram_entry subprograms) (omega arith) (all-below-root subprograms)
 
 -- What is asked of a unit of the output: the root's attributes, few subprograms, and a line program of some size.

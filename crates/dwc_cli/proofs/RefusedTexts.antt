@@ -21,10 +21,15 @@ use Rattle.dwc_base.proofs.SmallModule.{file_small}
 use Rattle.dwc_cli.proofs.Examples.{map_bytes_small, output_small}
 use Rattle.dwc_cli.proofs.PrintedLaws.{printed_injective}
 use Rattle.dwc_cli.proofs.OnLiterals.{printed_on_literals}
-use Rattle.dwc_cli.proofs.WholeRun.{whole_on_literals, input_small, read_in, read_small, lines_carried-small}
+use Rattle.dwc_cli.proofs.WholeRun.{whole_on_literals, input_small, read_in, read_small, lines_carried-small, output_carried-small}
 use Rattle.dwc_cli.proofs.BrokenInputs.{file_bare, file_64, file_no_directory, with_small_map}
 use Rattle.dwc_cli.proofs.Answers.{three_files, right_words, names}
 use Rattle.dwc_cli.proofs.Refused.{small-read}
+use Rattle.std.proofs.lemmas.List.Elements.{All-nil}
+use Rattle.dwc_base.specs.OutputCarried.{OutputCarried}
+use Rattle.dwc_base.specs.Fields.{IsRelocated}
+use Rattle.dwc_base.proofs.OnLiterals.{trees_on_literals}
+use Rattle.dwc_base.proofs.OutputSmall.{HasForm, none-differ}
 
 -- ---- the sections that a text stands for
 
@@ -196,7 +201,7 @@ no_front h =
 -- the first ten bytes of the wanted text are one
 front-small : FrontCarries input_small (Some []) (Some (codes "section .d"))
 unfolding whole_on_literals printed_on_literals
-front-small = record { read = read_small; is_read = refl; accepted = refl; sections = output_small; plain = refl; carried = lines_carried-small; count = 10; written = refl }
+front-small = record { read = read_small; is_read = refl; accepted = refl; sections = output_small; plain = refl; carried = output_carried-small; count = 10; written = refl }
 
 -- ---- inputs of which something is refused: no text, nor a front of one
 
@@ -240,6 +245,18 @@ unfolding whole_on_literals
 whole-bare zero d h = refl
 whole-bare (suc k) d h = absurd (omega arith)
 
+carried-bare : OutputCarried (compilation_of (read_of file_bare)) []
+unfolding whole_on_literals trees_on_literals
+carried-bare = record {
+  lines = record { whole = whole-bare; output = []; output_read = refl; each = tt };
+  wanted = [];
+  is_forest = refl;
+  trees = refl;
+  form = All-nil HasForm;
+  names = none-differ;
+  relocated = All-nil (IsRelocated (output_sections Little []));
+}
+
 carries-bare : Carries (with_small_map file_bare) (Some []) (Some [])
 unfolding whole_on_literals printed_on_literals
-carries-bare = record { read = read_of file_bare; is_read = refl; accepted = refl; sections = []; plain = refl; carried = record { whole = whole-bare; output = []; output_read = refl; each = tt }; written = refl }
+carries-bare = record { read = read_of file_bare; is_read = refl; accepted = refl; sections = []; plain = refl; carried = carried-bare; written = refl }
