@@ -5,7 +5,8 @@ use Rattle.std.specs.List.{All}
 use Rattle.std.proofs.lemmas.Bool.{eqb-true, eqb-false}
 use Rattle.std.proofs.lemmas.List.{get_or-map}
 use Rattle.std.proofs.lemmas.List.Elements.{All-head, All-tail, All-cons, All-nil, All-append}
-use Rattle.dwc_write.specs.GivenUnits.{Addition, GivenEntry, GivenUnit, entry_at, below, in_file_order, ordered, FitsAddition, FitsGivenUnit, FitsEntry, FitsOrdered, AreBelow, IsTree, IsRooted}
+use Rattle.dwc_write.specs.SpelledUnits.{shaped}
+use Rattle.dwc_write.specs.GivenUnits.{Addition, EntryShape, GivenEntry, GivenUnit, written_entries, entry_at, below, in_file_order, ordered, FitsAddition, FitsGivenUnit, FitsEntry, FitsOrdered, AreBelow, IsTree, IsRooted}
 
 -- ---- attributes
 
@@ -154,3 +155,7 @@ below-listed place (e ∷ es) some all =
     go : (b : Bool) → eqb e.parent 0 ≡ b → e.parent ≡ 0 → below 2 place (suc place) es ≡ [] → below 1 0 (suc place) es ≡ listed (suc place) es → (if b then entry_at 1 place e ∷ (below 2 place (suc place) es ++ below 1 0 (suc place) es) else below 1 0 (suc place) es) ≡ entry_at 1 place e ∷ listed (suc place) es
     go true is root none rest = rw (none) (ap (λ xs. entry_at 1 place e ∷ xs) rest)
     go false is root none rest = absurd (eqb-false e.parent 0 is root)
+
+-- A root that stands alone is written without children, and ends no list of them.
+pub root-alone : (line_offset : ℕ) (shapes : List EntryShape) (root : Addition) → map {B = Bool × ℕ} (λ x. (x.has_children, x.ends)) (shaped (written_entries line_offset shapes (in_file_order (root ∷ [])))) ≡ (false, 0) ∷ []
+root-alone line_offset shapes root = refl
