@@ -13,7 +13,7 @@ fn parts_are_found(rt: HostRuntime) -> Result<(), Fail> {
     let unit = units.next_unit(alloc)?.ok_or("no unit")?;
     let found = unit.entry_at(alloc, 16)?;
     assert_eq!(rt; (found.offset, found.tag), (16, DW_TAG_subprogram));
-    let mut entries = units.entries(alloc, &unit)?;
+    let mut entries = unit.entries(alloc)?;
     assert!(rt; entries.advance()?);
     let first = entries.current();
     assert_eq!(rt; (first.offset, first.tag), (11, DW_TAG_compile_unit));
