@@ -17,6 +17,7 @@ pub mod Whole
 pub mod LineLaws
 pub mod RowLaws
 pub mod UnitLaws
+pub mod AttributeLaws
 pub mod WritesLaws
 pub mod SequenceLaws
 pub mod ShapeLaws

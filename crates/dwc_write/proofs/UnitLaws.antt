@@ -1,10 +1,7 @@
 -- What a unit owes when an entry is added to it, or an attribute is set.
-use Rattle.std.proofs.Common.{◌≡◌, ℕ, zero, suc, ◌+◌, ◌^◌, ◌<◌, ◌≤◌, refl, sym, ap, subst, ◌∙◌, arith, List, [], ◌∷◌, ◌++◌, length, length-append, get_or, map, Option, Some, None, Bool, true, false, is_some, eqb, ltb, cond}
-use Rattle.std.specs.Prelude.{◌==◌, slice_set, if◌then◌else◌}
-use Rattle.std.specs.List.{All, position, position_or_len}
-use Rattle.std.proofs.lemmas.Bool.{ltb-false}
-use Rattle.std.proofs.lemmas.List.Quantifiers.{position-Some}
-use Rattle.std.proofs.lemmas.List.Sums.{fails_before_first}
+use Rattle.std.proofs.Common.{◌≡◌, ℕ, zero, suc, ◌+◌, ◌^◌, ◌<◌, ◌≤◌, refl, sym, ap, subst, ◌∙◌, arith, List, [], ◌∷◌, ◌++◌, length, length-append, get_or, map, Option, Some, None, Bool, true, false, is_some, eqb}
+use Rattle.std.specs.Prelude.{slice_set, if◌then◌else◌}
+use Rattle.std.specs.List.{All}
 use Rattle.std.proofs.lemmas.List.{length-map, map-append}
 use Rattle.std.proofs.lemmas.List.Elements.{All-append, All-cons, All-nil, All-head, All-tail, All-weaker}
 use Rattle.dwc_write.specs.declared.attributes.Attribute.{Attribute}
@@ -15,34 +12,6 @@ use Rattle.dwc_write.specs.UnitViews.{addition_view}
 use Rattle.dwc_write.specs.GivenUnits.{Addition, GivenUnit, FitsAttribute, FitsValue, FitsOperand, FitsAddition, FitsGivenUnit, IsPlaceBelow, set_attribute, set_in_addition, set_in, with_additions, with_value, with_child, with_next, with_known, place_of, tag_at, tag_of, AreBehindParents, IsRooted}
 
 -- ---- attributes
-
-set-first : (name : ℕ) (value : AttributeValue) (xs : List Attribute) (place : ℕ) (d : Attribute) → place < length xs → ((get_or xs place d).name == name) ≡ true → ((k : ℕ) → k < place → ((get_or xs k d).name == name) ≡ false)
-    → slice_set xs place (record { name = name; value = value }) ≡ set_attribute name value xs
-set-first name value [] place d within here before = absurd (omega arith)
-set-first name value (a ∷ xs) zero d within here before = rw (here) refl
-set-first name value (a ∷ xs) (suc place) d within here before =
-    let other : eqb a.name name ≡ false = before 0 (omega arith) in
-    rw (other) (ap (λ ys. a ∷ ys) (set-first name value xs place d (omega arith) here (λ k low. before (suc k) (omega (arith, low)))))
-
-pub set-found : (name : ℕ) (value : AttributeValue) (xs : List Attribute) (place : ℕ) (d : Attribute) → position (λ a. a.name == name) xs ≡ Some place → slice_set xs place (record { name = name; value = value }) ≡ set_attribute name value xs
-set-found name value xs place d found =
-    let is = position-Some (λ a. a.name == name) xs place d found in
-    set-first name value xs place d is.0 is.1 is.2
-
-set-last : (name : ℕ) (value : AttributeValue) (xs : List Attribute) (d : Attribute) → ((k : ℕ) → k < length xs → ((get_or xs k d).name == name) ≡ false) → xs ++ record { name = name; value = value } ∷ [] ≡ set_attribute name value xs
-set-last name value [] d none = refl
-set-last name value (a ∷ xs) d none =
-    let other : eqb a.name name ≡ false = none 0 (omega arith) in
-    rw (other) (ap (λ ys. a ∷ ys) (set-last name value xs d (λ k low. none (suc k) (omega (arith, low)))))
-
-pub set-new : (name : ℕ) (value : AttributeValue) (xs : List Attribute) → position (λ a. a.name == name) xs ≡ None → xs ++ record { name = name; value = value } ∷ [] ≡ set_attribute name value xs
-set-new name value xs none =
-    let past : length xs ≤ position_or_len (λ a. a.name == name) xs = go (ltb (position_or_len (λ a. a.name == name) xs) (length xs)) refl none in
-    set-last name value xs (record { name = name; value = value }) (λ k low. fails_before_first (λ a. a.name == name) xs k (record { name = name; value = value }) (omega (arith, low, past)))
-  where
-    go : (b : Bool) → ltb (position_or_len (λ a. a.name == name) xs) (length xs) ≡ b → cond {A = Option ℕ} b (Some (position_or_len (λ a. a.name == name) xs)) None ≡ None → length xs ≤ position_or_len (λ a. a.name == name) xs
-    go true e h = absurd (cc)
-    go false e h = ltb-false _ _ e
 
 set-fits : (size name : ℕ) (value : AttributeValue) (xs : List Attribute) → FitsAttribute size (record { name = name; value = value }) → All (FitsAttribute size) xs → All (FitsAttribute size) (set_attribute name value xs)
 set-fits size name value [] new fits = All-cons (FitsAttribute size) _ [] new (All-nil (FitsAttribute size))
@@ -230,17 +199,17 @@ added-known u id parent place tag n places additions fits is none small long few
 -- ---- the same of the entries that a unit keeps
 
 -- an entry that was looked up, with a value set
-pub changed-view : (es : List Entry) (place name : ℕ) (value : AttributeValue) (d e : Entry) → d ≡ get_or es place d → place < length (map addition_view es) → e.parent ≡ d.parent → e.tag ≡ d.tag → e.attributes.items ≡ set_attribute name value d.attributes.items
+pub changed-view : (es : List Entry) (place name : ℕ) (value : AttributeValue) (d e : Entry) → d ≡ get_or es place d → place < length (map addition_view es) → e.parent ≡ d.parent → e.tag ≡ d.tag → e.attributes ≡ set_attribute name value d.attributes
     → map addition_view (slice_set es place e) ≡ set_in place name value (map addition_view es)
 changed-view es place name value d e is within parent tagged set =
     set-viewed place name value es d e (omega (arith, within, length-map es addition_view)) (rw (parent, tagged, set) (ap (λ x. set_in_addition name value (addition_view x)) is))
 
-pub unchanged-view : (es : List Entry) (place : ℕ) (d e : Entry) → d ≡ get_or es place d → place < length (map addition_view es) → e.parent ≡ d.parent → e.tag ≡ d.tag → e.attributes.items ≡ d.attributes.items → map addition_view (slice_set es place e) ≡ map addition_view es
+pub unchanged-view : (es : List Entry) (place : ℕ) (d e : Entry) → d ≡ get_or es place d → place < length (map addition_view es) → e.parent ≡ d.parent → e.tag ≡ d.tag → e.attributes ≡ d.attributes → map addition_view (slice_set es place e) ≡ map addition_view es
 unchanged-view es place d e is within parent tagged same =
     same-viewed place es d e (omega (arith, within, length-map es addition_view)) (rw (parent, tagged, same) (ap addition_view is))
 
 -- an entry that is pushed
-pub pushed-view : (es now : List Entry) (e : Entry) (parent tag : ℕ) → now ≡ es ++ e ∷ [] → e.parent ≡ parent → e.tag ≡ tag → e.attributes.items ≡ [] → map addition_view now ≡ map addition_view es ++ record { parent = parent; tag = tag; attributes = [] } ∷ []
+pub pushed-view : (es now : List Entry) (e : Entry) (parent tag : ℕ) → now ≡ es ++ e ∷ [] → e.parent ≡ parent → e.tag ≡ tag → e.attributes ≡ [] → map addition_view now ≡ map addition_view es ++ record { parent = parent; tag = tag; attributes = [] } ∷ []
 pushed-view es now e parent tag pushed below tagged none = rw (pushed, map-append, below, tagged, none) refl
 
 -- what writing asks of a value that fits

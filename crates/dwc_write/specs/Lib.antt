@@ -9,6 +9,7 @@ pub mod GivenLines
 pub mod LineViews
 pub mod GivenUnits
 pub mod UnitViews
+pub mod AttributePlaces
 pub mod FileOrders
 pub mod SpelledRelocations
 pub mod ShapeViews

@@ -1,15 +1,19 @@
 //! Attributes of entries, as they are given. (DWARF 4, section 7.5.4.)
-ghost use Rattle.std.specs.Prelude.{◌≡◌, ◌==◌, OnOk, OnErr};
-ghost use Rattle.std.specs.List.{position};
+ghost use Rattle.std.specs.Prelude.{◌≡◌, ◌++◌, ◌∷◌, [], ℕ, OnOk, OnErr, IfOk, Some, None, slice_set};
+ghost use Rattle.std.specs.Ordering.{nat_cmp};
+ghost use Rattle.std.specs.BTreeMap.{get};
 ghost use Rattle.dwc_write.specs.SpelledUnits.{form_number};
-ghost use Rattle.dwc_write.specs.GivenUnits.{constant_of, set_attribute as set_in_list, written_of};
+ghost use Rattle.dwc_write.specs.GivenUnits.{constant_of, set_attribute, written_of};
+ghost use Rattle.dwc_write.specs.AttributePlaces.{place_from};
 
 use dwc_base::Address;
 use dwc_base::constants::{
     DW_FORM_addr, DW_FORM_data1, DW_FORM_data2, DW_FORM_data4, DW_FORM_data8, DW_FORM_flag,
     DW_FORM_sdata, DW_FORM_sec_offset, DW_FORM_udata,
 };
-use std::alloc::AllocError;
+use std::alloc::{AllocError, Global};
+use std::collections::BTreeMap;
+use std::marker::Model;
 
 /// The value of an attribute.
 #[derive(Debug, Drop)]
@@ -31,26 +35,121 @@ pub(crate) struct Attribute {
     pub(crate) value: AttributeValue,
 }
 
-// Puts a value in the place of the first of its name, or behind the others.
-pub(crate) fn set_attribute(
-    attributes: &mut Vec<Attribute>,
-    name: u16,
-    value: AttributeValue,
-) -> Result<(), AllocError>
-    ensures ok { OnOk result (attributes.new.items ≡ set_in_list name value attributes.old.items) }
-    ensures err { OnErr result (attributes.new.items ≡ attributes.old.items) }
-{
-    let attribute = Attribute { name, value };
-    match place_of(attributes, name) {
-        Some(place) => attributes[place] = attribute,
-        None => attributes.push(attribute)?,
-    }
-    Ok(())
+// How many attributes an entry has before their names are indexed. Most entries have fewer.
+const MANY: usize = 16;
+
+// The attributes of an entry in their order. Where they are many, `places` has the first place of each name.
+#[derive(Drop)]
+pub(crate) struct Attributes {
+    list: Vec<Attribute>,
+    places: Option<BTreeMap<u16, usize>>,
 }
 
-// The place of the first attribute of a name.
-fn place_of(attributes: &[Attribute], name: u16) -> Option<usize>
-    ensures { result ≡ position (λ a. a.name == name) attributes.now }
+impl Model for Attributes {
+    ghost use Rattle.std.specs.Prelude.{List};
+    ghost use Rattle.dwc_write.specs.AttributePlaces.{IsIndexed};
+    ghost use Rattle.dwc_write.specs.declared.attributes.Attribute as declared;
+
+    ghost Value = { List declared.Attribute };
+
+    ghost view = { λ a. a.list.items };
+
+    ghost invariant = { λ a. IsIndexed a.list.items a.places };
+}
+
+impl Attributes {
+    // No attributes.
+    pub(crate) fn new(alloc: Global) -> Attributes
+        ensures { result ≡ [] }
+    {
+        Attributes {
+            list: Vec::new(alloc),
+            places: None,
+        }
+    }
+
+    // The attributes in their order.
+    pub(crate) fn as_slice(&self) -> &[Attribute]
+        ensures { result.now ≡ self.now }
+    {
+        self.list.as_slice()
+    }
+
+    // Puts a value in the place of the first of its name, or behind the others.
+    pub(crate) fn set(&mut self, name: u16, value: AttributeValue) -> Result<(), AllocError>
+        ensures ok { OnOk result (self.new ≡ set_attribute name value self.old) }
+        ensures err { OnErr result (self.new ≡ self.old) }
+    {
+        self.index_many()?;
+        let attribute = Attribute { name, value };
+        match self.place_of(name) {
+            Some(place) => self.replace(place, attribute),
+            None => self.push(attribute)?,
+        }
+        Ok(())
+    }
+
+    // Makes the index where the attributes have become many.
+    fn index_many(&mut self) -> Result<(), AllocError>
+        ensures { self.new ≡ self.old }
+    {
+        if self.list.len() >= MANY && self.places.is_none() {
+            let alloc = *self.list.allocator();
+            self.places = Some(places_of(alloc, &self.list)?);
+        }
+        Ok(())
+    }
+
+    // The place of the first attribute of a name.
+    fn place_of(&self, name: u16) -> Option<usize>
+        ensures { result ≡ place_from 0 self.now name }
+    {
+        match &self.places {
+            Some(places) => places.get(&name).copied(),
+            None => place_in(&self.list, name),
+        }
+    }
+
+    // Puts an attribute in the place of the first of its name.
+    fn replace(&mut self, place: usize, attribute: Attribute)
+        requires { place_from 0 self.old attribute.name ≡ Some place }
+        ensures { self.new ≡ slice_set self.old place attribute }
+    {
+        self.list[place] = attribute;
+    }
+
+    // Adds an attribute behind the others, whose names are others.
+    fn push(&mut self, attribute: Attribute) -> Result<(), AllocError>
+        requires { place_from 0 self.old attribute.name ≡ None }
+        ensures ok { OnOk result (self.new ≡ self.old ++ attribute ∷ []) }
+        ensures err { OnErr result (self.new ≡ self.old) }
+    {
+        let place = self.list.len();
+        self.list.reserve(1)?;
+        if let Some(places) = &mut self.places {
+            places.insert(attribute.name, place)?;
+        }
+        self.list.push(attribute).unwrap();
+        Ok(())
+    }
+}
+
+// The first place of each name.
+fn places_of(alloc: Global, attributes: &[Attribute]) -> Result<BTreeMap<u16, usize>, AllocError>
+    ensures { IfOk result (λ m. (name : ℕ) → get nat_cmp m name ≡ place_from 0 attributes.now name) }
+{
+    let mut places = BTreeMap::new(alloc);
+    let mut k = attributes.len();
+    while k > 0 {
+        k -= 1;
+        places.insert(attributes[k].name, k)?;
+    }
+    Ok(places)
+}
+
+// The place of the first attribute of a name, by a scan.
+fn place_in(attributes: &[Attribute], name: u16) -> Option<usize>
+    ensures { result ≡ place_from 0 attributes.now name }
 {
     attributes.iter().position(|a| a.name == name)
 }

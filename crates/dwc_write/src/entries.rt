@@ -106,12 +106,13 @@ fn write_entries(
     for i in 0..order.len() {
         let depth = order[i].depth;
         let entry = &entries[order[i].index];
+        let attributes = entry.attributes.as_slice();
         let next = depth_of_first(&order[i + 1..]);
         let has_children = depth < next;
         let ends = depth.saturating_sub(next);
-        set_shape(&mut shape, entry.tag, has_children, &entry.attributes)?;
+        set_shape(&mut shape, entry.tag, has_children, attributes)?;
         let code = code_of(shapes, &shape)?;
-        write_entry(info, scratch, spelling, code, &entry.attributes, ends)?;
+        write_entry(info, scratch, spelling, code, attributes, ends)?;
     }
     Ok(())
 }

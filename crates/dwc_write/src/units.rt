@@ -4,7 +4,7 @@ ghost use Rattle.dwc_write.specs.GivenUnits.{place_of};
 ghost use Rattle.dwc_write.specs.declared.error.WriteError.TheVariants.{OutOfMemory};
 ghost use Rattle.dwc_write.specs.Writers.{OkUnlessMemory};
 
-use crate::attributes::{Attribute, set_attribute};
+use crate::attributes::Attributes;
 use crate::{AttributeValue, LineProgram, WriteError};
 use dwc_base::Encoding;
 use dwc_base::constants::DW_TAG_compile_unit;
@@ -22,7 +22,7 @@ pub struct UnitEntryId {
 pub(crate) struct Entry {
     pub(crate) parent: usize,
     pub(crate) tag: u16,
-    pub(crate) attributes: Vec<Attribute>,
+    pub(crate) attributes: Attributes,
 }
 
 /// A unit: its line program, its entries in the order in which they were added, and for each number that was given to an
@@ -62,7 +62,7 @@ impl Unit {
         let root = Entry {
             parent: 0,
             tag: DW_TAG_compile_unit,
-            attributes: Vec::new(alloc),
+            attributes: Attributes::new(alloc),
         };
         let mut entries = Vec::new(alloc);
         entries.push(root)?;
@@ -95,7 +95,7 @@ impl Unit {
         let entry = Entry {
             parent: known_place(&self.places, parent),
             tag,
-            attributes: Vec::new(*self.entries.allocator()),
+            attributes: Attributes::new(*self.entries.allocator()),
         };
         let index = self.places.len();
         let place = self.entries.len();
@@ -133,7 +133,7 @@ impl Unit {
         let entry = Entry {
             parent: known_place(&self.places, parent),
             tag,
-            attributes: Vec::new(*self.entries.allocator()),
+            attributes: Attributes::new(*self.entries.allocator()),
         };
         let place = self.entries.len();
         self.entries.push(entry)?;
@@ -156,7 +156,7 @@ impl Unit {
     {
         let place = known_place(&self.places, id);
         let entry = &mut self.entries[place];
-        set_attribute(&mut entry.attributes, name, value)?;
+        entry.attributes.set(name, value)?;
         Ok(())
     }
 

@@ -18,7 +18,7 @@ write_entry-requires-clause-fits c =
     let f = looked_up (map addition_view c.args.entries.now) in
     let seen = entry-seen c.args.entries.now c.args.order.now c.loop-i.i c.index-entries-order.result c.loop-i-test.true c.requires.known c.index-entries-order.is in
     let here = subst (FitsEntry c.args.spelling.size) seen (all-seen (FitsEntry c.args.spelling.size) f c.args.order.now c.loop-i.i first_place c.loop-i-test.true c.requires.fits) in
-    rw (c.deref-in-loop-i.ensures.value) here.attributes
+    rw (c.as_slice-attributes.ensures) here.attributes
 
 pub loop-i-preserved : goal.loop-i-preserved
 loop-i-preserved c =
@@ -31,13 +31,13 @@ loop-i-preserved c =
     let order = whole-order spell at (shaped (written_entries c.args.spelling.line_offset uses (map f (drop c.loop-i.i c.args.order.now)))) _ c.loop-i.info c.args.info.now c.loop-i.invariant.bytes in
     let seen = entry-seen c.args.entries.now c.args.order.now c.loop-i.i c.index-entries-order.result c.loop-i-test.true c.requires.known c.index-entries-order.is in
     let next : c.depth_of_first-next.result ≡ first_depth behind = rw (take_rest, add-one) at (c.depth_of_first-next.ensures (map addition_view c.args.entries.now)) in
-    let shape : shape_view c.set_shape.new.shape ≡ shape_of (f place) behind = rw (c.deref.ensures.value, next) at c.in_ok-set_shape.ensures ∙ ap (λ (e : GivenEntry). shape_of e behind) (sym seen) in
+    let shape : shape_view c.set_shape.new.shape ≡ shape_of (f place) behind = rw (c.as_slice-attributes.ensures, next) at c.in_ok-set_shape.ensures ∙ ap (λ (e : GivenEntry). shape_of e behind) (sym seen) in
     let P : GivenEntry → Type 0 = λ e. c.write_entry.new.info ≡ appended (spell (entry_with c.args.spelling.line_offset c.in_ok-code.code e behind)) (at (length c.loop-i.info.body) (entry_with c.args.spelling.line_offset c.in_ok-code.code e behind)) c.loop-i.info in
     let both = loop-entries f c.args.info.now.order c.args.spelling.size c.args.spelling.line_offset c.args.order.now c.loop-i.i first_place (map shape_view c.loop-i.shapes.keys) (map shape_view c.code_of.new.shapes.keys) uses c.loop-i.info c.write_entry.new.info _ c.in_ok-code.code c.loop-i-test.true
     c.loop-i.invariant.shapes c.loop-i.invariant.bytes
     (rw (shape) at c.in_ok-code.ensures.shapes)
     (rw (shape) at c.in_ok-code.ensures.code)
-    (subst P (sym seen) (rw (← order) (rw (c.deref-in-loop-i.ensures.value, c.saturating_sub-ends.ensures, next) at c.in_ok-write_entry.ensures))) in
+    (subst P (sym seen) (rw (← order) (rw (c.as_slice-attributes.ensures, c.saturating_sub-ends.ensures, next) at c.in_ok-write_entry.ensures))) in
     rw add-one (record { shapes = both.0; bytes = both.1 })
 
 pub returns-in_err-write_entry-clause-bytes : goal.returns-in_err-write_entry-clause-bytes
@@ -52,9 +52,9 @@ returns-in_err-write_entry-clause-bytes c =
     let order = whole-order spell at (shaped (written_entries c.args.spelling.line_offset uses (map f (drop c.loop-i.i c.args.order.now)))) _ c.loop-i.info c.args.info.now c.loop-i.invariant.bytes in
     let seen = entry-seen c.args.entries.now c.args.order.now c.loop-i.i c.index-entries-order.result c.loop-i-test.true c.requires.known c.index-entries-order.is in
     let next : c.depth_of_first-next.result ≡ first_depth behind = rw (take_rest, add-one) at (c.depth_of_first-next.ensures (map addition_view c.args.entries.now)) in
-    let shape : shape_view c.set_shape.new.shape ≡ shape_of (f place) behind = rw (c.deref.ensures.value, next) at c.in_ok-set_shape.ensures ∙ ap (λ (e : GivenEntry). shape_of e behind) (sym seen) in
+    let shape : shape_view c.set_shape.new.shape ≡ shape_of (f place) behind = rw (c.as_slice-attributes.ensures, next) at c.in_ok-set_shape.ensures ∙ ap (λ (e : GivenEntry). shape_of e behind) (sym seen) in
     let P : GivenEntry → Type 0 = λ e. Refuses c.in_err-write_entry.field-0.0 c.loop-i.info (length (spell (entry_with c.args.spelling.line_offset c.in_ok-code.code e behind))) in
     loop-entries-refused f c.args.info.now.order c.args.spelling.size c.args.spelling.line_offset c.args.order.now c.loop-i.i first_place (map shape_view c.loop-i.shapes.keys) uses _ c.loop-i.info c.args.info.now _ c.in_ok-code.code _ _ _ c.loop-i-test.true
     c.loop-i.invariant.shapes c.loop-i.invariant.bytes
     (rw (shape) at c.in_ok-code.ensures.code) p
-    (subst P (sym seen) (rw (← order) (rw (c.deref-in-loop-i.ensures.value, c.saturating_sub-ends.ensures, next) at c.in_err-write_entry.ensures)))
+    (subst P (sym seen) (rw (← order) (rw (c.as_slice-attributes.ensures, c.saturating_sub-ends.ensures, next) at c.in_err-write_entry.ensures)))

@@ -10,7 +10,7 @@ invariant_of-self-2 c =
     let es = c.self.inside.entries in
     let parent = rw (c.deref.ensures.value) at c.known_place.ensures in
     let reserved = rw (← c.self.view_is) at c.requires.reserved in
-    let view = pushed-view es.items c.push.new.self.items _ c.known_place.result c.args.tag c.in_ok-push.ensures.items refl refl c.new.ensures.items in
+    let view = pushed-view es.items c.push.new.self.items _ c.known_place.result c.args.tag c.in_ok-push.ensures.items refl refl c.new.ensures in
     (added-known _ c.args.id.index c.args.parent.index c.known_place.result c.args.tag c.len-place.result _ _ c.self.invariant parent reserved.1 (omega (arith, c.ranges.tag)) (omega (arith, c.len-place.ensures, length-map es.items addition_view, es.ok.0, es.ok.1)) (omega (arith, c.push.new.self.small, c.in_ok-push.ensures.len, c.len-place.ensures, es.small, es.ok.0, es.ok.1, c.push.new.self.ok.0, c.push.new.self.ok.1)) view refl).kept
 
 pub returns-clause-ok : goal.returns-clause-ok
@@ -18,5 +18,5 @@ returns-clause-ok c =
     let es = c.self.inside.entries in
     let parent = rw (c.deref.ensures.value) at c.known_place.ensures in
     let reserved = rw (← c.self.view_is) at c.requires.reserved in
-    let view = pushed-view es.items c.push.new.self.items _ c.known_place.result c.args.tag c.in_ok-push.ensures.items refl refl c.new.ensures.items in
+    let view = pushed-view es.items c.push.new.self.items _ c.known_place.result c.args.tag c.in_ok-push.ensures.items refl refl c.new.ensures in
     (added-known _ c.args.id.index c.args.parent.index c.known_place.result c.args.tag c.len-place.result _ _ c.self.invariant parent reserved.1 (omega (arith, c.ranges.tag)) (omega (arith, c.len-place.ensures, length-map es.items addition_view, es.ok.0, es.ok.1)) (omega (arith, c.push.new.self.small, c.in_ok-push.ensures.len, c.len-place.ensures, es.small, es.ok.0, es.ok.1, c.push.new.self.ok.0, c.push.new.self.ok.1)) view refl).is ∙ ap (λ u. with_child c.args.parent.index c.args.tag (with_known c.args.id.index u)) c.self.view_is

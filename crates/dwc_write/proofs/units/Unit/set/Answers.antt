@@ -16,20 +16,20 @@ pub invariant_of-self : goal.invariant_of-self
 invariant_of-self c =
     let place = rw (c.deref.ensures.value) at c.known_place-place.ensures in
     let within = place-below _ c.args.id.index c.known_place-place.result c.self.inside.places.items c.self.invariant.known place in
-    rw (unchanged-view c.self.inside.entries.items c.known_place-place.result c.index_mut-entry.result.now (record { parent = c.index_mut-entry.result.now.parent; tag = c.index_mut-entry.result.now.tag; attributes = c.set_attribute.new.attributes }) c.index_mut-entry.ensures.value within refl refl c.in_err-set_attribute.ensures.err) c.self.invariant
+    rw (unchanged-view c.self.inside.entries.items c.known_place-place.result c.index_mut-entry.result.now (record { parent = c.index_mut-entry.result.now.parent; tag = c.index_mut-entry.result.now.tag; attributes = c.set.new.self }) c.index_mut-entry.ensures.value within refl refl c.in_err-set.ensures.err) c.self.invariant
 
-pub returns-in_err-set_attribute-clause-err : goal.returns-in_err-set_attribute-clause-err
-returns-in_err-set_attribute-clause-err c =
+pub returns-in_err-set-clause-err : goal.returns-in_err-set-clause-err
+returns-in_err-set-clause-err c =
     let p = err_from_is_err_and c.from_residual.result c.from_residual.ensures.1 in
     let place = rw (c.deref.ensures.value) at c.known_place-place.ensures in
     let within = place-below _ c.args.id.index c.known_place-place.result c.self.inside.places.items c.self.invariant.known place in
-    rw (p.1, ← c.self.view_is, unchanged-view c.self.inside.entries.items c.known_place-place.result c.index_mut-entry.result.now (record { parent = c.index_mut-entry.result.now.parent; tag = c.index_mut-entry.result.now.tag; attributes = c.set_attribute.new.attributes }) c.index_mut-entry.ensures.value within refl refl c.in_err-set_attribute.ensures.err) refl
+    rw (p.1, ← c.self.view_is, unchanged-view c.self.inside.entries.items c.known_place-place.result c.index_mut-entry.result.now (record { parent = c.index_mut-entry.result.now.parent; tag = c.index_mut-entry.result.now.tag; attributes = c.set.new.self }) c.index_mut-entry.ensures.value within refl refl c.in_err-set.ensures.err) refl
 
 pub invariant_of-self-2 : goal.invariant_of-self-2
 invariant_of-self-2 c =
     let place = rw (c.deref.ensures.value) at c.known_place-place.ensures in
     let within = place-below _ c.args.id.index c.known_place-place.result c.self.inside.places.items c.self.invariant.known place in
-    rw (changed-view c.self.inside.entries.items c.known_place-place.result c.args.name c.args.value c.index_mut-entry.result.now (record { parent = c.index_mut-entry.result.now.parent; tag = c.index_mut-entry.result.now.tag; attributes = c.set_attribute.new.attributes }) c.index_mut-entry.ensures.value within refl refl c.in_ok-set_attribute.ensures.ok)
+    rw (changed-view c.self.inside.entries.items c.known_place-place.result c.args.name c.args.value c.index_mut-entry.result.now (record { parent = c.index_mut-entry.result.now.parent; tag = c.index_mut-entry.result.now.tag; attributes = c.set.new.self }) c.index_mut-entry.ensures.value within refl refl c.in_ok-set.ensures.ok)
     (set-kept _ c.known_place-place.result c.args.name c.args.value c.self.invariant (omega (arith, c.ranges.name)) (rw (← c.self.view_is) at c.requires.fits))
 
 pub returns-clause-ok : goal.returns-clause-ok
@@ -37,5 +37,5 @@ returns-clause-ok c =
     let place = rw (c.deref.ensures.value) at c.known_place-place.ensures in
     let within = place-below _ c.args.id.index c.known_place-place.result c.self.inside.places.items c.self.invariant.known place in
     let given : GivenUnit = record { address_size = c.self.inside.address_size; lines = c.self.inside.lines; places = c.self.inside.places.items; additions = map addition_view c.self.inside.entries.items } in
-    ap (λ es. with_additions es given) (changed-view c.self.inside.entries.items c.known_place-place.result c.args.name c.args.value c.index_mut-entry.result.now (record { parent = c.index_mut-entry.result.now.parent; tag = c.index_mut-entry.result.now.tag; attributes = c.set_attribute.new.attributes }) c.index_mut-entry.ensures.value within refl refl c.in_ok-set_attribute.ensures.ok)
+    ap (λ es. with_additions es given) (changed-view c.self.inside.entries.items c.known_place-place.result c.args.name c.args.value c.index_mut-entry.result.now (record { parent = c.index_mut-entry.result.now.parent; tag = c.index_mut-entry.result.now.tag; attributes = c.set.new.self }) c.index_mut-entry.ensures.value within refl refl c.in_ok-set.ensures.ok)
     ∙ sym (value-placed given c.args.id.index c.known_place-place.result c.args.name c.args.value place) ∙ ap (with_value c.args.id.index c.args.name c.args.value) c.self.view_is
