@@ -15,6 +15,7 @@ pub mod Appended
 pub mod SizedBytes
 pub mod Whole
 pub mod LineLaws
+pub mod NameLaws
 pub mod RowLaws
 pub mod UnitLaws
 pub mod AttributeLaws

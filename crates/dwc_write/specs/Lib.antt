@@ -7,6 +7,7 @@ pub mod SpelledSections
 pub mod Writers
 pub mod GivenLines
 pub mod LineViews
+pub mod NameViews
 pub mod GivenUnits
 pub mod UnitViews
 pub mod AttributePlaces

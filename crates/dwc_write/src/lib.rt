@@ -9,6 +9,7 @@ mod entries;
 mod error;
 mod file_order;
 mod lines;
+mod names;
 mod rows;
 mod sections;
 mod tables;

@@ -6,17 +6,11 @@ ghost use Rattle.dwc_write.specs.Writers.{OkUnlessMemory};
 ghost use Rattle.dwc_write.specs.GivenLines.{no_lines, with_directory, with_file, with_begun, with_row, with_end, CanBegin, CanAppend, CanEnd};
 
 use crate::WriteError;
+use crate::names::{Files, Names};
 use dwc_base::{Address, Encoding, LineRow};
 use std::alloc::Global;
 use std::marker::Model;
 use std::mem;
-
-/// A file of a line program: its name and the number of its directory.
-#[derive(Drop)]
-pub(crate) struct File {
-    pub(crate) name: Vec<u8>,
-    pub(crate) directory: u64,
-}
 
 /// A sequence that is ended.
 #[derive(Drop)]
@@ -30,8 +24,8 @@ pub(crate) struct Sequence {
 #[derive(Drop)]
 pub struct LineProgram {
     pub(crate) address_size: Option<u8>,
-    pub(crate) directories: Vec<Vec<u8>>,
-    pub(crate) files: Vec<File>,
+    pub(crate) directories: Names,
+    pub(crate) files: Files,
     pub(crate) sequences: Vec<Sequence>,
     start_address: Option<Address>,
     rows: Vec<LineRow>,
@@ -40,22 +34,22 @@ pub struct LineProgram {
 impl Model for LineProgram {
     ghost use Rattle.std.specs.Prelude.{map, option_map};
     ghost use Rattle.dwc_write.specs.GivenLines.{GivenLines, FitsLines};
-    ghost use Rattle.dwc_write.specs.LineViews.{file_view, sequence_view};
+    ghost use Rattle.dwc_write.specs.LineViews.{sequence_view};
 
     ghost Value = { GivenLines };
 
     ghost view = { λ p. record {
       address_size = p.address_size;
-      directories = map (λ d. d.items) p.directories.items;
-      files = map file_view p.files.items;
+      directories = p.directories;
+      files = p.files;
       sequences = map sequence_view p.sequences.items;
       begun = option_map (λ a. record { start_address = a; rows = p.rows.items }) p.start_address;
     } };
 
     ghost invariant = { λ p. FitsLines (record {
       address_size = p.address_size;
-      directories = map (λ d. d.items) p.directories.items;
-      files = map file_view p.files.items;
+      directories = p.directories;
+      files = p.files;
       sequences = map sequence_view p.sequences.items;
       begun = option_map (λ a. record { start_address = a; rows = p.rows.items }) p.start_address;
     }) };
@@ -68,8 +62,8 @@ impl LineProgram {
     {
         LineProgram {
             address_size: None,
-            directories: Vec::new(alloc),
-            files: Vec::new(alloc),
+            directories: Names::new(alloc),
+            files: Files::new(alloc),
             sequences: Vec::new(alloc),
             start_address: None,
             rows: Vec::new(alloc),
@@ -82,8 +76,8 @@ impl LineProgram {
     {
         Ok(LineProgram {
             address_size: Some(encoding.address_size),
-            directories: Vec::new(alloc),
-            files: Vec::new(alloc),
+            directories: Names::new(alloc),
+            files: Files::new(alloc),
             sequences: Vec::new(alloc),
             start_address: None,
             rows: Vec::new(alloc),
@@ -98,7 +92,6 @@ impl LineProgram {
         ensures err { OnErr result (self.new ≡ self.old) }
         ensures memory { IsOkUnless result OutOfMemory }
     {
-        let name = name.to_vec(*self.directories.allocator())?;
         self.directories.push(name)?;
         Ok(self.directories.len() as u64)
     }
@@ -112,8 +105,7 @@ impl LineProgram {
         ensures err { OnErr result (self.new ≡ self.old) }
         ensures memory { IsOkUnless result OutOfMemory }
     {
-        let name = name.to_vec(*self.directories.allocator())?;
-        self.files.push(File { name, directory })?;
+        self.files.push(directory, name)?;
         Ok(self.files.len() as u64)
     }
 

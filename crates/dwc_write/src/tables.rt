@@ -8,11 +8,12 @@ ghost use Rattle.dwc_write.specs.SpelledSections.{lines_bytes};
 ghost use Rattle.dwc_write.specs.SpelledRelocations.{lines_relocations, sequence_bytes, sequence_relocations, sequences_relocations};
 ghost use Rattle.dwc_write.specs.GivenLines.{FitsGivenSequence, FitsLines};
 ghost use Rattle.dwc_write.specs.GivenUnits.{IsOfSize, written_lines};
-ghost use Rattle.dwc_write.specs.LineViews.{file_view, sequence_view};
+ghost use Rattle.dwc_write.specs.LineViews.{sequence_view};
 ghost use Rattle.dwc_write.specs.Writers.{FitsField, Writes, address_relocations};
 
 use crate::append::{bytes_2, put_text, put_uleb};
-use crate::lines::{File, Sequence};
+use crate::lines::Sequence;
+use crate::names::{Files, Names};
 use crate::rows::put_rows;
 use crate::{LineProgram, WriteError, WriterRelocate};
 use dwc_base::constants::DW_LNE_set_address;
@@ -100,8 +101,8 @@ fn write_start(line: &mut WriterRelocate, size: u8, start: Address) -> Result<()
 }
 
 // The fields of a header: how instructions are spelled, the directories and the files.
-fn put_fields(out: &mut Vec<u8>, directories: &[Vec<u8>], files: &[File]) -> Result<(), AllocError>
-    ensures { OnOk result (out.new.items ≡ out.old.items ++ line_fields_bytes (map (λ d. d.items) directories.now) (map file_view files.now)) }
+fn put_fields(out: &mut Vec<u8>, directories: &Names, files: &Files) -> Result<(), AllocError>
+    ensures { OnOk result (out.new.items ≡ out.old.items ++ line_fields_bytes directories.now files.now) }
 {
     let minimum_length = 1;
     let operations = 1;
@@ -126,33 +127,33 @@ fn put_fields(out: &mut Vec<u8>, directories: &[Vec<u8>], files: &[File]) -> Res
 const STANDARD_OPCODE_LENGTHS: [u8; 12] = [0, 1, 1, 1, 1, 0, 0, 0, 1, 0, 0, 1];
 
 // Directories, and the end of their list.
-fn put_directories(out: &mut Vec<u8>, directories: &[Vec<u8>]) -> Result<(), AllocError>
-    ensures { OnOk result (out.new.items ≡ out.old.items ++ (flat_map text_bytes (map (λ d. d.items) directories.now) ++ 0 ∷ [])) }
+fn put_directories(out: &mut Vec<u8>, directories: &Names) -> Result<(), AllocError>
+    ensures { OnOk result (out.new.items ≡ out.old.items ++ (flat_map text_bytes directories.now ++ 0 ∷ [])) }
 {
     for i in 0..directories.len() {
-        put_text(out, &directories[i])?;
+        put_text(out, directories.get(i))?;
     }
     out.push(0)?;
     Ok(())
 }
 
 // Files, and the end of their list.
-fn put_files(out: &mut Vec<u8>, files: &[File]) -> Result<(), AllocError>
-    ensures { OnOk result (out.new.items ≡ out.old.items ++ (flat_map file_bytes (map file_view files.now) ++ 0 ∷ [])) }
+fn put_files(out: &mut Vec<u8>, files: &Files) -> Result<(), AllocError>
+    ensures { OnOk result (out.new.items ≡ out.old.items ++ (flat_map file_bytes files.now ++ 0 ∷ [])) }
 {
     for i in 0..files.len() {
-        put_file(out, &files[i])?;
+        put_file(out, files.name(i), files.directory(i))?;
     }
     out.push(0)?;
     Ok(())
 }
 
 // A file: its name and its directory, without time and length.
-fn put_file(out: &mut Vec<u8>, file: &File) -> Result<(), AllocError>
-    ensures { OnOk result (out.new.items ≡ out.old.items ++ file_bytes (file_view file.now)) }
+fn put_file(out: &mut Vec<u8>, name: &[u8], directory: u64) -> Result<(), AllocError>
+    ensures { OnOk result (out.new.items ≡ out.old.items ++ file_bytes (record { directory = directory; name = name.now })) }
 {
-    put_text(out, &file.name)?;
-    put_uleb(out, file.directory)?;
+    put_text(out, name)?;
+    put_uleb(out, directory)?;
     out.extend_from_slice(&[0, 0])?;
     Ok(())
 }

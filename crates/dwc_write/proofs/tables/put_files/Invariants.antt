@@ -1,9 +1,8 @@
-use Rattle.std.proofs.Common.{◌≡◌, ◌++◌, drop, map}
+use Rattle.std.proofs.Common.{◌≡◌, ◌++◌, drop}
 use Rattle.std.specs.List.{flat_map}
 use Rattle.dwc_write.specs.SpelledLines.{file_bytes}
-use Rattle.dwc_write.specs.LineViews.{file_view}
 use Rattle.dwc_write.proofs.tables.put_files.Given as goal
 
 -- what is there, and what is left to append
 abbrev pub invariant-loop-i : goal.invariant-loop-i
-invariant-loop-i l = l.out.items ++ flat_map file_bytes (map file_view (drop l.i l.files)) ≡ l.initial.out.items ++ flat_map file_bytes (map file_view l.files)
+invariant-loop-i l = l.out.items ++ flat_map file_bytes (drop l.i l.files) ≡ l.initial.out.items ++ flat_map file_bytes l.files
