@@ -8,6 +8,7 @@ pub mod EmitLaws
 pub mod TransferLaws
 pub mod CompositionLaws
 pub mod CarriedReadLaws
+pub mod LastLaws
 pub mod ReadModuleLaws
 pub mod UnitsRead
 pub mod ModuleLoopLaws

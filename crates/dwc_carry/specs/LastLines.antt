@@ -1,19 +1,27 @@
--- The line table that was read last.
-use Rattle.std.specs.Prelude.{◌≡◌, ℕ, List, true, Option, Some, None, Ok, All}
+-- The line table that was carried last.
+use Rattle.std.specs.Prelude.{◌≡◌, ℕ, ◌<◌, List, length, slice_index_or, Option, Some, None, All}
 use Rattle.dwc_base.specs.Sections.{Sections}
-use Rattle.dwc_base.specs.LineRows.{LineTable, line_table}
-use Rattle.dwc_base.specs.LineFiles.{has_all_files}
+use Rattle.dwc_base.specs.Functions.{Function}
+use Rattle.dwc_write.specs.declared.units.UnitId.{UnitId}
+use Rattle.dwc_write.specs.GivenUnits.{GivenUnit}
+use Rattle.dwc_carry.specs.UnitPrograms.{CarriesTableAt}
 use Rattle.dwc_carry.specs.declared.last_lines.LastLines.{LastLines}
 use Rattle.dwc_carry.specs.declared.read_units.ReadUnit.{ReadUnit}
 
--- A table is the one at an offset, for units of an address size, and all its files and directories are there.
-abbrev pub IsTableOf : Sections → ℕ → ℕ → LineTable → Type 0
-IsTableOf s address_size offset t = (line_table s address_size offset ≡ Ok t) × (has_all_files t ≡ true)
+-- The line program of its unit among those of the output, all of one address size, carries the table at its offset.
+pub record IsCarriedIn (fs : List Function) (size : ℕ) (s : Sections) (us : List GivenUnit) (last : LastLines) : Type 0 where
+  pub within : last.unit.index < length us
+  pub carries : (u : GivenUnit) → u ≡ slice_index_or us last.unit.index u → (u.address_size ≡ size) × CarriesTableAt fs s last.address_size size last.offset u.lines
 
--- The table that was read last, where there is one, is the one at its offset.
-abbrev pub IsLast : Sections → Option LastLines → Type 0
-IsLast s None = Unit {0}
-IsLast s (Some last) = IsTableOf s last.address_size last.offset last.table.value
+-- The same of the table that was carried last, where there is one.
+abbrev pub IsLast : List Function → ℕ → Sections → List GivenUnit → Option LastLines → Type 0
+IsLast fs size s us None = Unit {0}
+IsLast fs size s us (Some last) = IsCarriedIn fs size s us last
+
+-- the table that was carried last, behind a unit of an address size that names a table or none
+abbrev pub last_after : Option ℕ → ℕ → UnitId → Option LastLines → Option LastLines
+last_after None address_size unit last = last
+last_after (Some offset) address_size unit last = Some (record { offset = offset; address_size = address_size; unit = unit })
 
 -- units that were read of the same sections
 abbrev pub AreOf : Sections → List ReadUnit → Type 0

@@ -6,6 +6,7 @@ use Rattle.dwc_base.specs.LineRows.{LineTable, line_table}
 use Rattle.dwc_base.specs.LineFiles.{has_all_files}
 use Rattle.dwc_base.specs.Refusals.{lines_refusal}
 use Rattle.dwc_write.specs.GivenLines.{GivenLines, no_lines}
+use Rattle.dwc_write.specs.GivenUnits.{GivenUnit, new_unit}
 use Rattle.dwc_carry.specs.declared.error.DebugError.{DebugError}
 use Rattle.dwc_carry.specs.Refusals.{ReadsOr}
 use Rattle.dwc_image.specs.CarriedLines.{CarriesTable}
@@ -22,6 +23,10 @@ abbrev pub CarriesNamed : List Function → Sections → ℕ → ℕ → Option 
 CarriesNamed fs s address_size size None lines = lines ≡ no_lines None
 CarriesNamed fs s address_size size (Some offset) lines = CarriesTableAt fs s address_size size offset lines
 
--- A line program, or the refusal of the line table.
-abbrev pub GivesProgram : List Function → Sections → ℕ → ℕ → Option ℕ → Result GivenLines DebugError → Type 0
-GivesProgram fs s address_size size offset result = ReadsOr (CarriesNamed fs s address_size size offset) (lines_refusal s address_size offset) result
+-- A new unit, with the line program that carries what a root names.
+abbrev pub IsBegun : List Function → Sections → ℕ → ℕ → Option ℕ → GivenUnit → Type 0
+IsBegun fs s address_size size offset u = CarriesNamed fs s address_size size offset u.lines × (u ≡ new_unit size u.lines)
+
+-- That unit, or the refusal of the line table.
+abbrev pub GivesBegun : List Function → Sections → ℕ → ℕ → Option ℕ → Result GivenUnit DebugError → Type 0
+GivesBegun fs s address_size size offset result = ReadsOr (IsBegun fs s address_size size offset) (lines_refusal s address_size offset) result

@@ -5,10 +5,10 @@ ghost use Rattle.dwc_carry.specs.CarriedReads.{is_carried, GivesCarried, GivesAd
 ghost use Rattle.dwc_carry.specs.LastLines.{IsLast, AreOfOne};
 
 use crate::DebugError;
-use crate::last_lines::LastLines;
+use crate::begun_unit::begun_unit;
+use crate::last_lines::{LastLines, last_after};
 use crate::output_unit::output_unit;
 use crate::read_units::ReadUnit;
-use crate::unit_program::unit_program;
 use dwc_addr::AddressTransform;
 use dwc_base::Encoding;
 use dwc_write::{Unit, UnitTable};
@@ -21,33 +21,36 @@ fn is_carried(read: &ReadUnit<'_>) -> bool
     read.entries.is_compile_unit && read.entries.subprograms.len() > 0
 }
 
-// The unit of the output that carries a unit, if that is carried. `last` is the line table that was read last.
-fn carry_unit<'d>(
+// The unit of the output that carries a unit, if that is carried. `last` is the line table that was carried last, in a unit of
+// `units`.
+fn carry_unit(
     alloc: Global,
-    read: &ReadUnit<'d>,
-    last: &mut Option<LastLines<'d>>,
+    read: &ReadUnit<'_>,
+    last: Option<LastLines>,
+    units: &UnitTable,
     transform: &AddressTransform,
     encoding: Encoding,
 ) -> Result<Option<Unit>, DebugError>
     requires version { encoding.version ≡ 4 }
     requires size { (encoding.address_size ≡ 4) ⊎ (encoding.address_size ≡ 8) }
     requires functions { AreKept transform.now }
-    requires known { IsLast read.now.unit.sections last.old }
-    ensures unit { GivesCarried transform.now encoding.address_size read.now result }
-    ensures known { IsLast read.now.unit.sections last.new }
+    requires known { IsLast transform.now encoding.address_size read.now.unit.sections units.now.units.items last }
+    ensures { GivesCarried transform.now encoding.address_size read.now result }
 {
     if !is_carried(read) {
         return Ok(None);
     }
     let line_table = read.entries.line_table;
-    let lines = unit_program(alloc, &read.unit, line_table, last, transform, encoding)?;
+    let begun = begun_unit(
+        alloc, &read.unit, line_table, last, units, transform, encoding,
+    )?;
     let has_table = line_table.is_some();
-    let unit = output_unit(alloc, encoding, lines, has_table, &read.entries.subprograms)?;
+    let unit = output_unit(begun, has_table, &read.entries.subprograms)?;
     Ok(Some(unit))
 }
 
 /// Adds the units of the output that carry units of the same sections, in order; those that are not carried have none. A line
-/// table that units behind one another name is read once.
+/// table that units behind one another name is read and carried once.
 ///
 /// # Errors
 /// The refusal of the first line table of a carried unit that is refused. `OutOfMemory` for want of memory.
@@ -66,8 +69,10 @@ pub(crate) fn carry_units(
 {
     let mut last = None;
     for i in 0..read.len() {
-        if let Some(unit) = carry_unit(alloc, &read[i], &mut last, transform, encoding)? {
-            units.add(unit)?;
+        let read_unit = &read[i];
+        if let Some(unit) = carry_unit(alloc, read_unit, last, units, transform, encoding)? {
+            let id = units.add(unit)?;
+            last = last_after(read_unit, id, last);
         }
     }
     Ok(())

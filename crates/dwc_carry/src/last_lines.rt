@@ -1,46 +1,33 @@
-//! The line table that was read last, which several units may name.
-ghost use Rattle.dwc_base.specs.LineRows.{line_table};
-ghost use Rattle.dwc_base.specs.Refusals.{table_refusal};
-ghost use Rattle.dwc_carry.specs.Refusals.{ReadsOr};
-ghost use Rattle.dwc_carry.specs.LastLines.{IsLast, IsTableOf};
+//! The line table that was carried last, which several units may name.
+ghost use Rattle.std.specs.Prelude.{◌≡◌};
+ghost use Rattle.dwc_carry.specs.LastLines.{last_after};
 
-use crate::DebugError;
-use dwc_read::Unit;
-use dwc_tabs::LineTable;
-use std::alloc::Global;
-use std::rc::Rc;
+use crate::read_units::ReadUnit;
+use dwc_write::UnitId;
 
-/// A line table, its offset in `.debug_line`, and the address size of the unit that it was read for.
-#[derive(Drop)]
-pub(crate) struct LastLines<'d> {
-    offset: u64,
-    address_size: u8,
-    table: Rc<LineTable<'d>>,
+/// A line table that was carried: its offset in `.debug_line`, the address size of the unit that it was read for, and the unit
+/// of the output whose line program carries it.
+#[derive(Clone, Copy)]
+pub(crate) struct LastLines {
+    pub offset: u64,
+    pub address_size: u8,
+    pub unit: UnitId,
 }
 
-/// The line table of a unit at an offset of `.debug_line`: the last one, or one that is read and then is the last.
-pub(crate) fn shared_lines<'d>(
-    alloc: Global,
-    unit: &Unit<'d>,
-    offset: u64,
-    last: &mut Option<LastLines<'d>>,
-) -> Result<Rc<LineTable<'d>>, DebugError>
-    requires { IsLast unit.now.sections last.old }
-    ensures table { ReadsOr (λ t. IsTableOf unit.now.sections unit.now.header.address_size offset t.value) (table_refusal offset (line_table unit.now.sections unit.now.header.address_size offset)) result }
-    ensures last { IsLast unit.now.sections last.new }
+/// The line table that was carried last, once a unit of the output carries one that was read. `last` is the one before.
+pub(crate) fn last_after(
+    read: &ReadUnit<'_>,
+    unit: UnitId,
+    last: Option<LastLines>,
+) -> Option<LastLines>
+    ensures { result ≡ last_after read.now.entries.line_table read.now.unit.header.address_size unit last }
 {
-    let address_size = unit.address_size();
-    if let Some(known) = last
-        && known.offset == offset
-        && known.address_size == address_size
-    {
-        return Ok(known.table.clone()?);
-    }
-    let table = Rc::new(alloc, LineTable::read(alloc, unit, offset)?)?;
-    *last = Some(LastLines {
+    let Some(offset) = read.entries.line_table else {
+        return last;
+    };
+    Some(LastLines {
         offset,
-        address_size,
-        table: table.clone()?,
-    });
-    Ok(table)
+        address_size: read.unit.address_size(),
+        unit,
+    })
 }

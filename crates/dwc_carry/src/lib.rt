@@ -1,6 +1,7 @@
 //! Carries the DWARF of a compilation over to the native code of its functions.
 #![tactic(auto)]
 
+mod begun_unit;
 mod built_form;
 mod carry_modules;
 mod carry_units;
@@ -13,7 +14,6 @@ mod read_entries;
 mod read_units;
 mod subprogram;
 mod transform;
-mod unit_program;
 
 pub use emit::emit_dwarf;
 pub use error::DebugError;

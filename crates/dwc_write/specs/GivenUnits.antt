@@ -2,7 +2,7 @@
 use Rattle.std.specs.Prelude.{◌≡◌, ℕ, zero, suc, ◌+◌, ◌^◌, ◌<◌, ◌≤◌, ◌==◌, ◌⊎◌, pos, List, [], ◌∷◌, ◌++◌, map, length, slice_set, Bool, true, false, nat_lt, not, ◌&&◌, ◌||◌, if◌then◌else◌, Option, Some, None, is_some}
 use Rattle.std.specs.List.{All, flat_map}
 use Rattle.std.specs.Int.{w64, cast_signed}
-use Rattle.dwc_base.specs.declared.constants.TheConstants.{DW_AT_stmt_list, DW_FORM_data1, DW_FORM_data2, DW_FORM_data4, DW_FORM_data8, DW_FORM_sdata, DW_FORM_udata, DW_FORM_implicit_const}
+use Rattle.dwc_base.specs.declared.constants.TheConstants.{DW_TAG_compile_unit, DW_AT_stmt_list, DW_FORM_data1, DW_FORM_data2, DW_FORM_data4, DW_FORM_data8, DW_FORM_sdata, DW_FORM_udata, DW_FORM_implicit_const}
 use Rattle.dwc_base.specs.declared.records.Endian.{Endian}
 use Rattle.dwc_base.specs.Abbreviations.{AttributeSpec, Declaration}
 use Rattle.dwc_write.specs.declared.attributes.Attribute.{Attribute}
@@ -106,6 +106,10 @@ pub record FitsAttribute (size : ℕ) (a : Attribute) : Type 0 where
   pub value : FitsValue size a.name a.value
 
 -- ---- what the calls do
+
+-- a new unit: a compile unit as root, and no other entries
+abbrev pub new_unit : ℕ → GivenLines → GivenUnit
+new_unit size lines = record { address_size = size; lines = lines; places = Some 0 ∷ []; additions = record { parent = 0; tag = DW_TAG_compile_unit; attributes = [] } ∷ [] }
 
 -- a value under a name: in the place of the first of that name, else behind the others
 abbrev pub set_attribute : ℕ → AttributeValue → List Attribute → List Attribute

@@ -1,6 +1,6 @@
 //! Units as they are given: a line program and a tree of entries. (DWARF 4, section 7.5.)
 ghost use Rattle.std.specs.Prelude.{◌≡◌, ◌⊎◌, ◌<◌, ◌∷◌, ◌++◌, [], Some, true, is_some, OnOk, OnErr, IfOk, IsOkUnless, length, slice_index_or};
-ghost use Rattle.dwc_write.specs.GivenUnits.{place_of};
+ghost use Rattle.dwc_write.specs.GivenUnits.{IsOfSize, new_unit, place_of};
 ghost use Rattle.dwc_write.specs.declared.error.WriteError.TheVariants.{OutOfMemory};
 ghost use Rattle.dwc_write.specs.Writers.{OkUnlessMemory};
 
@@ -10,6 +10,7 @@ use dwc_base::Encoding;
 use dwc_base::constants::DW_TAG_compile_unit;
 use std::alloc::Global;
 use std::marker::Model;
+use std::rc::Rc;
 
 /// An entry of a unit, by the number that was given to it.
 #[derive(Clone, Copy, Debug, PartialEq, Eq)]
@@ -25,12 +26,12 @@ pub(crate) struct Entry {
     pub(crate) attributes: Attributes,
 }
 
-/// A unit: its line program, its entries in the order in which they were added, and for each number that was given to an
-/// entry the entry's place there, none where the number is only reserved.
+/// A unit: its line program, which other units may share, its entries in the order in which they were added, and for each
+/// number that was given to an entry the entry's place there, none where the number is only reserved.
 #[derive(Drop)]
 pub struct Unit {
     pub(crate) address_size: u8,
-    pub(crate) lines: LineProgram,
+    pub(crate) lines: Rc<LineProgram>,
     pub(crate) places: Vec<Option<usize>>,
     pub(crate) entries: Vec<Entry>,
 }
@@ -42,38 +43,33 @@ impl Model for Unit {
 
     ghost Value = { GivenUnit };
 
-    ghost view = { λ u. record { address_size = u.address_size; lines = u.lines; places = u.places.items; additions = map addition_view u.entries.items } };
+    ghost view = { λ u. record { address_size = u.address_size; lines = u.lines.value; places = u.places.items; additions = map addition_view u.entries.items } };
 
-    ghost invariant = { λ u. FitsGivenUnit (record { address_size = u.address_size; lines = u.lines; places = u.places.items; additions = map addition_view u.entries.items }) };
+    ghost invariant = { λ u. FitsGivenUnit (record { address_size = u.address_size; lines = u.lines.value; places = u.places.items; additions = map addition_view u.entries.items }) };
 }
 
 impl Unit {
-    ghost use Rattle.std.specs.Prelude.{◌≡◌, ◌⊎◌, ◌<◌, ◌∷◌, ◌++◌, [], Some, OnOk, OnErr, IfOk, IsOkUnless, length};
-    ghost use Rattle.dwc_base.specs.declared.constants.TheConstants.{DW_TAG_compile_unit};
-    ghost use Rattle.dwc_write.specs.GivenUnits.{FitsValue, IsAdded, IsOfSize, IsReserved, tag_of, with_child, with_known, with_next, with_reserved, with_value};
+    ghost use Rattle.std.specs.Prelude.{◌≡◌, ◌⊎◌, OnOk, OnErr, IfOk, IsOkUnless, length};
+    ghost use Rattle.dwc_write.specs.GivenUnits.{FitsValue, IsAdded, IsOfSize, IsReserved, new_unit, tag_of, with_child, with_known, with_next, with_reserved, with_value};
 
     /// A unit of version 4 with a line program of the same encoding, or with none. Its root is a compile unit.
     pub fn new(alloc: Global, encoding: Encoding, program: LineProgram) -> Result<Unit, WriteError>
         requires version { encoding.version ≡ 4 }
         requires size { (encoding.address_size ≡ 4) ⊎ (encoding.address_size ≡ 8) }
         requires lines { IsOfSize encoding.address_size program.address_size }
-        ensures { OkUnlessMemory result (λ u. u ≡ record { address_size = encoding.address_size; lines = program; places = Some 0 ∷ []; additions = record { parent = 0; tag = DW_TAG_compile_unit; attributes = [] } ∷ [] }) }
+        ensures { OkUnlessMemory result (λ u. u ≡ new_unit encoding.address_size program) }
     {
-        let root = Entry {
-            parent: 0,
-            tag: DW_TAG_compile_unit,
-            attributes: Attributes::new(alloc),
-        };
-        let mut entries = Vec::new(alloc);
-        entries.push(root)?;
-        let mut places = Vec::new(alloc);
-        places.push(Some(0))?;
-        Ok(Unit {
-            address_size: encoding.address_size,
-            lines: program,
-            places,
-            entries,
-        })
+        let lines = Rc::new(alloc, program)?;
+        with_root(alloc, encoding.address_size, lines)
+    }
+
+    /// A unit of version 4 with the address size and the line program of another, which both share from then on. Its root is a
+    /// compile unit.
+    pub fn sharing(alloc: Global, other: &Unit) -> Result<Unit, WriteError>
+        ensures { OkUnlessMemory result (λ u. u ≡ new_unit other.now.address_size other.now.lines) }
+    {
+        let lines = other.lines.clone()?;
+        with_root(alloc, other.address_size, lines)
     }
 
     /// The root.
@@ -167,6 +163,29 @@ impl Unit {
     {
         self.entries[known_place(&self.places, id)].tag
     }
+}
+
+// A unit with a root alone.
+fn with_root(alloc: Global, address_size: u8, lines: Rc<LineProgram>) -> Result<Unit, WriteError>
+    requires size { (address_size ≡ 4) ⊎ (address_size ≡ 8) }
+    requires lines { IsOfSize address_size lines.value.address_size }
+    ensures { OkUnlessMemory result (λ u. u ≡ new_unit address_size lines.value) }
+{
+    let root = Entry {
+        parent: 0,
+        tag: DW_TAG_compile_unit,
+        attributes: Attributes::new(alloc),
+    };
+    let mut entries = Vec::new(alloc);
+    entries.push(root)?;
+    let mut places = Vec::new(alloc);
+    places.push(Some(0))?;
+    Ok(Unit {
+        address_size,
+        lines,
+        places,
+        entries,
+    })
 }
 
 // The place of an entry that was added.

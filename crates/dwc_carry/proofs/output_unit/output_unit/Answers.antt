@@ -7,4 +7,4 @@ pub loop-subprogram-preserved : goal.loop-subprogram-preserved
 loop-subprogram-preserved c =
     rw add-one
     (c.in_ok-add_subprogram.ensures.added ∙ ap (with_entry (subprogram_entry _)) c.loop-subprogram.invariant
-    ∙ subprogram-more c.args.encoding.address_size c.args.lines c.args.has_table c.args.subprograms.now c.loop-subprogram.subprogram-index _ c.loop-subprogram-test.true)
+    ∙ subprogram-more c.args.begun.address_size c.args.begun.lines c.args.has_table c.args.subprograms.now c.loop-subprogram.subprogram-index _ c.loop-subprogram-test.true)

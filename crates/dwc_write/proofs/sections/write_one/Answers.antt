@@ -17,8 +17,8 @@ returns-in_err-entry_order-clause-fits c =
 pub write_unit-requires-clause-fits : goal.write_unit-requires-clause-fits
 write_unit-requires-clause-fits c =
     let P : List GivenEntry → Type 0 = λ es. All (FitsEntry c.unit.inside.address_size) es in
-    let same = rw (c.deref.ensures.value) at c.in_ok-entry_order.ensures.order in
-    rw (c.deref-2.ensures.value, c.deref-3.ensures.value) (subst P (sym same) (ordered-fits _ c.unit.invariant).entries)
+    let same = rw (c.deref-2.ensures.value) at c.in_ok-entry_order.ensures.order in
+    rw (c.deref-3.ensures.value, c.deref-4.ensures.value) (subst P (sym same) (ordered-fits _ c.unit.invariant).entries)
 
 pub returns-clause-fits : goal.returns-clause-fits
 returns-clause-fits c =

@@ -36,6 +36,6 @@ pub returns-clause-ok : goal.returns-clause-ok
 returns-clause-ok c =
     let place = rw (c.deref.ensures.value) at c.known_place-place.ensures in
     let within = place-below _ c.args.id.index c.known_place-place.result c.self.inside.places.items c.self.invariant.known place in
-    let given : GivenUnit = record { address_size = c.self.inside.address_size; lines = c.self.inside.lines; places = c.self.inside.places.items; additions = map addition_view c.self.inside.entries.items } in
+    let given : GivenUnit = record { address_size = c.self.inside.address_size; lines = c.self.inside.lines.value; places = c.self.inside.places.items; additions = map addition_view c.self.inside.entries.items } in
     ap (λ es. with_additions es given) (changed-view c.self.inside.entries.items c.known_place-place.result c.args.name c.args.value c.index_mut-entry.result.now (record { parent = c.index_mut-entry.result.now.parent; tag = c.index_mut-entry.result.now.tag; attributes = c.set.new.self }) c.index_mut-entry.ensures.value within refl refl c.in_ok-set.ensures.ok)
     ∙ sym (value-placed given c.args.id.index c.known_place-place.result c.args.name c.args.value place) ∙ ap (with_value c.args.id.index c.args.name c.args.value) c.self.view_is

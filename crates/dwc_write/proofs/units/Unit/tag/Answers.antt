@@ -18,4 +18,4 @@ returns c =
     let place = rw (c.deref.ensures.value) at c.known_place.ensures in
     let within = place-below _ c.args.id.index c.known_place.result c.self.inside.places.items c.self.invariant.known place in
     ap (λ (e : Entry). e.tag) c.index.ensures ∙ sym (tag-of c.known_place.result es.items c.index.result.now (omega (arith, within, length-map es.items addition_view)))
-    ∙ sym (tag-placed (record { address_size = c.self.inside.address_size; lines = c.self.inside.lines; places = c.self.inside.places.items; additions = map addition_view es.items }) c.args.id.index c.known_place.result place) ∙ ap (tag_of c.args.id.index) c.self.view_is
+    ∙ sym (tag-placed (record { address_size = c.self.inside.address_size; lines = c.self.inside.lines.value; places = c.self.inside.places.items; additions = map addition_view es.items }) c.args.id.index c.known_place.result place) ∙ ap (tag_of c.args.id.index) c.self.view_is
