@@ -23,23 +23,23 @@ class Reader:
     def number(self, size):
         return int.from_bytes(self.take(size), "little")
 
-    def uleb(self):
-        value, shift = 0, 0
+    def leb(self):
+        """The bits of a number of variable length, how many they are, and whether the highest of them is set."""
+        value, bits = 0, 0
         while True:
             byte = self.number(1)
-            value |= (byte & 0x7F) << shift
-            shift += 7
+            value |= (byte & 0x7F) << bits
+            bits += 7
             if byte < 0x80:
-                return value
+                return value, bits, byte & 0x40 != 0
+
+    def uleb(self):
+        value, _, _ = self.leb()
+        return value
 
     def sleb(self):
-        value, shift = 0, 0
-        while True:
-            byte = self.number(1)
-            value |= (byte & 0x7F) << shift
-            shift += 7
-            if byte < 0x80:
-                return value - (1 << shift) if byte & 0x40 else value
+        value, bits, is_negative = self.leb()
+        return value - (1 << bits) if is_negative else value
 
     def text(self):
         end = self.data.index(0, self.at)
