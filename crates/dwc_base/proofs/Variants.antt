@@ -8,7 +8,7 @@ use Rattle.dwc_base.proofs.LineTables.{function_small}
 use Rattle.dwc_base.specs.declared.section_name.SectionName.TheVariants.{Line, Abbrev, Info}
 use Rattle.dwc_base.specs.declared.records.Endian.TheVariants.{Little}
 use Rattle.dwc_base.specs.Carried.{Module, carried_units_of}
-use Rattle.dwc_base.specs.Widest.{widest}
+use Rattle.dwc_base.specs.OutputCarried.{widest}
 
 abbrev pub module_with : List ℕ → List ℕ → List ℕ → Module
 module_with a i l = record { sections = three_sections a i l; functions = function_small ∷ []; compressed = None }

@@ -10,7 +10,7 @@ use Rattle.dwc_base.specs.TreeReading.{CarriesTrees}
 use Rattle.dwc_base.specs.Forests.{tree_of_unit, forest}
 use Rattle.dwc_base.specs.OutputForm.{HaveTargetForm, HasDistinctNames}
 use Rattle.dwc_base.specs.Fields.{AreRelocated}
-use Rattle.dwc_base.specs.Widest as lines
+use Rattle.dwc_base.specs.Widest.{widest_lines}
 use Rattle.dwc_base.specs.WidestTrees.{widest_of_trees}
 
 -- An output carries an input, of which nothing is refused: its lines; the trees of its forest, and no others; in units of version 4
@@ -27,5 +27,5 @@ pub record OutputCarried (c : Compilation) (sections : List OutputSection) : Typ
 -- How long a section of the output of an input can be at most: the line tables with the images of the carried sequences, and what
 -- says the trees of the carried units.
 abbrev pub widest : SectionName → Compilation → ℕ
-widest Line c = lines.widest Line c
+widest Line c = widest_lines c
 widest name c = widest_of_trees name (map tree_of_unit (carried_units c))

@@ -1,17 +1,13 @@
--- How long the sections of an output can be at most: each number of variable length has 10 bytes and each address 8,
--- each entry has an abbreviation of its own, and each row has all its opcodes.
-use Rattle.std.specs.Prelude.{ℕ, ◌+◌, ◌*◌, ◌==◌, ◌&&◌, List, length, is_some, sum_by, Option, Some, None, Result, Ok, Err}
+-- How long the line tables of an output can be at most: each number of variable length has 10 bytes and each address 8, and each row
+-- has all its opcodes. (DWARF 4, section 6.2.)
+use Rattle.std.specs.Prelude.{ℕ, ◌+◌, ◌*◌, List, length, is_some, sum_by, Option, Some, None, Result, Ok, Err}
 use Rattle.std.specs.List.{filter}
-use Rattle.dwc_base.specs.declared.section_name.SectionName.{SectionName}
-use Rattle.dwc_base.specs.declared.section_name.SectionName.TheVariants.{Abbrev, Info, Line}
-use Rattle.dwc_base.specs.Kept.{kept_entries}
 use Rattle.dwc_base.specs.LineHeaders.{LineFile}
 use Rattle.dwc_base.specs.LineRows.{LineTable, Segment, segments}
 use Rattle.dwc_base.specs.Sections.{Fault}
 use Rattle.dwc_base.specs.Functions.{Function, recorded_sources}
 use Rattle.dwc_base.specs.Images.{row_of_source, start_of_segment, function_of_segment, is_carried_segment}
-use Rattle.dwc_base.specs.declared.constants.TheConstants.{DW_TAG_subprogram}
-use Rattle.dwc_base.specs.Carried.{Compilation, CarriedUnit, carried_units, table_of_unit, placed_entries, units}
+use Rattle.dwc_base.specs.Carried.{Compilation, CarriedUnit, carried_units, table_of_unit}
 
 -- a number of variable length, and an address
 abbrev pub variable_bytes : ℕ
@@ -24,15 +20,6 @@ address_bytes = 8
 -- a declaration: its code, tag and children byte, so many attributes of a name and a form, and two zeros
 abbrev pub widest_declaration : ℕ → ℕ
 widest_declaration attributes = variable_bytes + variable_bytes + 1 + attributes * (variable_bytes + variable_bytes) + (variable_bytes + variable_bytes)
-
--- The carried root has so many attributes, its line table or nothing; a kept subprogram has its begin and its length; a
--- table ends with a zero.
-abbrev pub widest_abbreviations : ℕ → ℕ → ℕ
-widest_abbreviations root_attributes subprograms = widest_declaration root_attributes + subprograms * widest_declaration 2 + variable_bytes
-
--- a header of version 4, the root, the subprograms, and the end of their list
-abbrev pub widest_info : ℕ → ℕ → ℕ
-widest_info root_attributes subprograms = 11 + (variable_bytes + root_attributes * 4) + subprograms * (variable_bytes + address_bytes + variable_bytes) + variable_bytes
 
 -- a row with all its opcodes: set_discriminator, set_basic_block, set_prologue_end, set_epilogue_begin, negate_stmt,
 -- set_file, set_column, set_isa, advance_line, advance_pc, copy
@@ -62,28 +49,10 @@ widest_table fs (Err fault) = 0
 widest_table fs (Ok None) = 0
 widest_table fs (Ok (Some t)) = widest_header t.header.directories t.files + sum_by (λ q. widest_image (most_rows fs q)) (filter (is_carried_segment fs) (segments t))
 
--- the kept subprograms of a carried unit
-abbrev pub kept_subprograms : CarriedUnit → ℕ
-kept_subprograms u =
-    length (filter (λ p. (p.unit == u.unit.header.offset) && (p.entry.tag == DW_TAG_subprogram)) (kept_entries u.module_of.functions (placed_entries (units u.module_of.sections).items)))
+-- how long the line table of a carried unit can be at most
+abbrev pub widest_lines_of : CarriedUnit → ℕ
+widest_lines_of u = widest_table u.module_of.functions (table_of_unit u.module_of.sections u.unit)
 
--- the attributes of a carried root: its line table, where its unit has one
-abbrev pub root_attributes_with : Result (Option LineTable) Fault → ℕ
-root_attributes_with (Err fault) = 0
-root_attributes_with (Ok None) = 0
-root_attributes_with (Ok (Some t)) = 1
-
--- the attributes of a carried unit's root
-abbrev pub root_attributes_of : CarriedUnit → ℕ
-root_attributes_of u = root_attributes_with (table_of_unit u.module_of.sections u.unit)
-
--- how long what a carried unit gives to a section can be at most
-abbrev pub widest_of_unit : SectionName → CarriedUnit → ℕ
-widest_of_unit Abbrev u = widest_abbreviations (root_attributes_of u) (kept_subprograms u)
-widest_of_unit Info u = widest_info (root_attributes_of u) (kept_subprograms u)
-widest_of_unit Line u = widest_table u.module_of.functions (table_of_unit u.module_of.sections u.unit)
-widest_of_unit name u = 0
-
--- how long a section can be at most
-abbrev pub widest : SectionName → Compilation → ℕ
-widest name c = sum_by (widest_of_unit name) (carried_units c)
+-- how long the line tables of an output can be at most
+abbrev pub widest_lines : Compilation → ℕ
+widest_lines c = sum_by widest_lines_of (carried_units c)

@@ -13,7 +13,7 @@ use Rattle.dwc_base.specs.Widest.{variable_bytes, address_bytes, widest_declarat
 abbrev pub constant_bytes : ℕ → ℕ
 constant_bytes form = unwrap_or (coded ((DW_FORM_data1, 1) ∷ (DW_FORM_data2, 2) ∷ (DW_FORM_data4, 4) ∷ (DW_FORM_data8, 8) ∷ []) form) variable_bytes
 
--- a value where it stands: what is elsewhere is named by an offset of four bytes
+-- a value where it stands: what is elsewhere, or nowhere, is named by an offset of four bytes
 abbrev pub widest_value : TreeValue → ℕ
 widest_value (address a) = address_bytes
 widest_value (constant form bits) = constant_bytes form
@@ -25,7 +25,7 @@ widest_value line_table = 4
 widest_value (ranges is) = 4
 widest_value (locations ls) = 4
 widest_value (entry number place) = 4
-widest_value nothing = 0
+widest_value nothing = 4
 
 -- a code and the values
 abbrev pub widest_entry : TreeEntry → ℕ
