@@ -1,5 +1,5 @@
 -- Entries as code writes them: codes by first use, one entry behind another, and a unit with its header.
-use Rattle.std.proofs.Common.{◌≡◌, ℕ, zero, suc, ◌<◌, ◌≤◌, refl, sym, ap, ◌∙◌, arith, List, [], ◌∷◌, ◌++◌, length, length-append, map, drop, get_or, Bool, true, false, ltb, Err}
+use Rattle.std.proofs.Common.{◌≡◌, ℕ, zero, suc, ◌+◌, ◌<◌, ◌≤◌, refl, sym, ap, ◌∙◌, arith, List, [], ◌∷◌, ◌++◌, append_assoc, length, length-append, map, drop, get_or, Bool, true, false, ltb, Err}
 use Rattle.std.specs.Prelude.{◌-◌, ◌==◌, if◌then◌else◌, nat_lt, Result}
 use Rattle.std.specs.List.{All, flat_map}
 use Rattle.std.proofs.lemmas.Bool.{eq-eqb, ltb-true, ltb-false}
@@ -8,13 +8,16 @@ use Rattle.dwc_base.specs.declared.records.Endian.{Endian}
 use Rattle.std.specs.Int.{w64, cast_signed}
 use Rattle.dwc_base.specs.declared.constants.TheConstants.{DW_FORM_implicit_const, DW_FORM_data1, DW_FORM_data2, DW_FORM_data4, DW_FORM_data8, DW_FORM_sdata}
 use Rattle.dwc_base.specs.Outputs.{OutputRelocation}
+use Rattle.dwc_write.specs.Spelled.{at_places}
 use Rattle.dwc_write.specs.SpelledUnits.{form_number, as_data1, as_data2, as_data4, as_data8, as_sdata, as_udata, Shaped, next_depth, shaped, entry_bytes}
 use Rattle.dwc_write.specs.SpelledRelocations.{entry_relocations}
 use Rattle.dwc_write.specs.declared.attributes.Attribute.{Attribute}
 use Rattle.dwc_write.specs.declared.attributes.AttributeValue.{AttributeValue}
-use Rattle.dwc_write.specs.declared.attributes.AttributeValue.TheVariants.{Address, Constant, Flag, LineProgramRef}
+use Rattle.dwc_write.specs.declared.attributes.AttributeValue.TheVariants.{Address, Constant, Flag, LineProgramRef, UnitRef, DebugInfoRef}
+use Rattle.dwc_write.specs.declared.attributes.DebugInfoRef.TheVariants.{Entry}
 use Rattle.dwc_write.specs.declared.abbreviations.AttributeForm.{AttributeForm}
-use Rattle.dwc_write.specs.GivenUnits.{GivenEntry, EntryShape, IsPlainShape, form_of, forms_of, first_depth, shape_of, shapes_of, same_forms, same_flag, same_shape, place_in, with_use, first_uses, code_in, written_attribute, written_entries, written_of}
+use Rattle.dwc_write.specs.GivenUnits.{GivenEntry, Places, no_places, EntryShape, IsPlainShape, form_of, forms_of, first_depth, shape_of, shapes_of, same_forms, same_flag, same_shape, place_in, with_use, first_uses, code_in, written_attribute, written_entries, written_of}
+use Rattle.dwc_write.specs.Layouts.{codes_of}
 use Rattle.dwc_write.specs.declared.error.WriteError.{WriteError}
 use Rattle.dwc_write.specs.Writers.{Writing, Refuses, Writes, appended}
 use Rattle.dwc_write.proofs.WritesLaws.{whole, whole-more, whole-refused}
@@ -104,11 +107,13 @@ constant-plain false false false true f bits = refl
 constant-plain false false false false true bits = refl
 constant-plain false false false false false bits = refl
 
-value-plain : (v : AttributeValue) → (form_number (written_of 0 v) == DW_FORM_implicit_const) ≡ false
+value-plain : (v : AttributeValue) → (form_number (written_of no_places v) == DW_FORM_implicit_const) ≡ false
 value-plain (Address x) = refl
 value-plain (Constant form bits) = constant-plain (form == DW_FORM_data1) (form == DW_FORM_data2) (form == DW_FORM_data4) (form == DW_FORM_data8) (form == DW_FORM_sdata) bits
 value-plain (Flag b) = refl
 value-plain LineProgramRef = refl
+value-plain (UnitRef id) = refl
+value-plain (DebugInfoRef (Entry unit id)) = refl
 
 forms-plain : (xs : List Attribute) → All (λ f. (f.form == DW_FORM_implicit_const) ≡ false) (forms_of xs)
 forms-plain [] = All-nil _
@@ -129,66 +134,102 @@ uses-plain known (e ∷ es) all = uses-plain (with_use (shape_of e es) known) es
 -- ---- one entry behind another
 
 -- the depth that follows
-pub next-first : (line_offset : ℕ) (shapes : List EntryShape) (es : List GivenEntry) → next_depth (written_entries line_offset shapes es) ≡ first_depth es
-next-first line_offset shapes [] = refl
-next-first line_offset shapes (e ∷ es) = refl
+pub next-first : (p : Places) (shapes : List EntryShape) (es : List GivenEntry) → next_depth (written_entries p shapes es) ≡ first_depth es
+next-first p shapes [] = refl
+next-first p shapes (e ∷ es) = refl
 
 -- an entry as it is written, with the depth that follows
-abbrev pub entry_with : ℕ → ℕ → GivenEntry → List GivenEntry → Shaped
-entry_with line_offset code e behind = record { entry = record { depth = e.depth; code = code; tag = e.tag; attributes = map (written_attribute line_offset) e.attributes }; has_children = nat_lt e.depth (first_depth behind); ends = e.depth - first_depth behind }
+abbrev pub entry_with : Places → ℕ → GivenEntry → List GivenEntry → Shaped
+entry_with p code e behind = record { entry = record { depth = e.depth; code = code; tag = e.tag; attributes = map (written_attribute p) e.attributes }; has_children = nat_lt e.depth (first_depth behind); ends = e.depth - first_depth behind }
 
-shaped-more : (line_offset : ℕ) (shapes : List EntryShape) (e : GivenEntry) (es : List GivenEntry) → shaped (written_entries line_offset shapes (e ∷ es)) ≡ entry_with line_offset (code_in shapes (shape_of e es)) e es ∷ shaped (written_entries line_offset shapes es)
-shaped-more line_offset shapes e es = rw (next-first line_offset shapes es) refl
-
--- an entry more, whose shape is used
-pub entries-more : (order : Endian) (size line_offset : ℕ) (e : GivenEntry) (es : List GivenEntry) (known now uses : List EntryShape) (w v all : Writing) (code : ℕ)
-    → first_uses known (shapes_of (e ∷ es)) ≡ uses → now ≡ with_use (shape_of e es) known → code ≡ code_in known (shape_of e es)
-    → whole (entry_bytes order size) (entry_relocations order size) (shaped (written_entries line_offset uses (e ∷ es))) w ≡ all
-    → v ≡ appended (entry_bytes order size (entry_with line_offset code e es)) (entry_relocations order size (length w.body) (entry_with line_offset code e es)) w
-    → (first_uses now (shapes_of es) ≡ uses) × (whole (entry_bytes order size) (entry_relocations order size) (shaped (written_entries line_offset uses es)) v ≡ all)
-entries-more order size line_offset e es known now uses w v all code used grown is invariant step =
-    let s = shape_of e es in
-    let final : code_in uses s ≡ code = ap (λ us. code_in us s) (sym used) ∙ code-stays s known (shapes_of es) ∙ sym is in
-    let P : List Shaped → Writing = λ xs. whole (entry_bytes order size) (entry_relocations order size) xs w in
-    let here = ap (λ k. P (entry_with line_offset k e es ∷ shaped (written_entries line_offset uses es))) (sym final) ∙ ap P (sym (shaped-more line_offset uses e es)) ∙ invariant in
-    (rw (grown) used, whole-more (entry_bytes order size) (entry_relocations order size) (entry_with line_offset code e es) (shaped (written_entries line_offset uses es)) w v all here step)
+pub shaped-more : (p : Places) (shapes : List EntryShape) (e : GivenEntry) (es : List GivenEntry) → shaped (written_entries p shapes (e ∷ es)) ≡ entry_with p (code_in shapes (shape_of e es)) e es ∷ shaped (written_entries p shapes es)
+shaped-more p shapes e es = rw (next-first p shapes es) refl
 
 -- ---- the same of entries that are seen by f, at an index
 
-seen-more : {A : Type 0} (f : A → GivenEntry) (es : List A) (i : ℕ) (d : A) → i < length es → map f (drop i es) ≡ f (get_or es i d) ∷ map f (drop (suc i) es)
+pub seen-more : {A : Type 0} (f : A → GivenEntry) (es : List A) (i : ℕ) (d : A) → i < length es → map f (drop i es) ≡ f (get_or es i d) ∷ map f (drop (suc i) es)
 seen-more f [] i d within = absurd (omega arith)
 seen-more f (e ∷ es) zero d within = refl
 seen-more f (e ∷ es) (suc i) d within = seen-more f es i d (omega arith)
 
-pub loop-entries : {A : Type 0} (f : A → GivenEntry) (order : Endian) (size line_offset : ℕ) (es : List A) (i : ℕ) (d : A) (known now uses : List EntryShape) (w v all : Writing) (code : ℕ) → i < length es
-    → first_uses known (shapes_of (map f (drop i es))) ≡ uses
-    → whole (entry_bytes order size) (entry_relocations order size) (shaped (written_entries line_offset uses (map f (drop i es)))) w ≡ all
-    → now ≡ with_use (shape_of (f (get_or es i d)) (map f (drop (suc i) es))) known → code ≡ code_in known (shape_of (f (get_or es i d)) (map f (drop (suc i) es)))
-    → v ≡ appended (entry_bytes order size (entry_with line_offset code (f (get_or es i d)) (map f (drop (suc i) es)))) (entry_relocations order size (length w.body) (entry_with line_offset code (f (get_or es i d)) (map f (drop (suc i) es)))) w
-    → (first_uses now (shapes_of (map f (drop (suc i) es))) ≡ uses) × (whole (entry_bytes order size) (entry_relocations order size) (shaped (written_entries line_offset uses (map f (drop (suc i) es)))) v ≡ all)
-loop-entries f order size line_offset es i d known now uses w v all code within used invariant grown is step =
+-- the code at an index, among those of entries
+pub code-at : {A : Type 0} (f : A → GivenEntry) (es : List A) (codes : List ℕ) (i : ℕ) (d : A) → i < length es → codes ≡ codes_of (map f es) → get_or codes i 0 ≡ code_in (first_uses [] (shapes_of (map f es))) (shape_of (f (get_or es i d)) (map f (drop (suc i) es)))
+code-at {A} f es codes i d within are = ap (λ (xs : List ℕ). get_or xs i 0) are ∙ go (first_uses [] (shapes_of (map f es))) es i within
+  where
+    go : (uses : List EntryShape) (xs : List A) (n : ℕ) → n < length xs → get_or (map (λ w. w.code) (written_entries no_places uses (map f xs))) n 0 ≡ code_in uses (shape_of (f (get_or xs n d)) (map f (drop (suc n) xs)))
+    go uses [] n h = absurd (omega arith)
+    go uses (x ∷ xs) zero h = refl
+    go uses (x ∷ xs) (suc n) h = go uses xs n (omega arith)
+
+pub codes-long : (p : Places) (uses : List EntryShape) (es : List GivenEntry) → length (map (λ w. w.code) (written_entries p uses es)) ≡ length es
+codes-long p uses [] = refl
+codes-long p uses (e ∷ es) = ap suc (codes-long p uses es)
+
+-- an entry more
+pub loop-entries : {A : Type 0} (f : A → GivenEntry) (order : Endian) (size : ℕ) (p : Places) (es : List A) (i : ℕ) (d : A) (uses : List EntryShape) (w v all : Writing) (code : ℕ) → i < length es
+    → whole (entry_bytes order size) (entry_relocations order size) (shaped (written_entries p uses (map f (drop i es)))) w ≡ all
+    → code ≡ code_in uses (shape_of (f (get_or es i d)) (map f (drop (suc i) es)))
+    → v ≡ appended (entry_bytes order size (entry_with p code (f (get_or es i d)) (map f (drop (suc i) es)))) (entry_relocations order size (length w.body) (entry_with p code (f (get_or es i d)) (map f (drop (suc i) es)))) w
+    → whole (entry_bytes order size) (entry_relocations order size) (shaped (written_entries p uses (map f (drop (suc i) es)))) v ≡ all
+loop-entries f order size p es i d uses w v all code within invariant is step =
     let e = f (get_or es i d) in
     let behind = map f (drop (suc i) es) in
     let more = seen-more f es i d within in
-    entries-more order size line_offset e behind known now uses w v all code (ap (λ xs. first_uses known (shapes_of xs)) (sym more) ∙ used) grown is
-    (ap (λ xs. whole (entry_bytes order size) (entry_relocations order size) (shaped (written_entries line_offset uses xs)) w) (sym more) ∙ invariant) step
+    let P : List Shaped → Writing = λ xs. whole (entry_bytes order size) (entry_relocations order size) xs w in
+    let here = ap (λ k. P (entry_with p k e behind ∷ shaped (written_entries p uses behind))) is ∙ ap P (sym (shaped-more p uses e behind)) ∙ ap (λ xs. P (shaped (written_entries p uses xs))) (sym more) ∙ invariant in
+    whole-more (entry_bytes order size) (entry_relocations order size) (entry_with p code e behind) (shaped (written_entries p uses behind)) w v all here step
 
 -- an entry that is refused
-pub loop-entries-refused : {A : Type 0} (f : A → GivenEntry) (order : Endian) (size line_offset : ℕ) (es : List A) (i : ℕ) (d : A) (known uses : List EntryShape) (all : List Shaped) (w a now : Writing) (code : ℕ) (result : Result (Unit {0}) WriteError) (error : WriteError) (rs : List OutputRelocation) → i < length es
-    → first_uses known (shapes_of (map f (drop i es))) ≡ uses
-    → whole (entry_bytes order size) (entry_relocations order size) (shaped (written_entries line_offset uses (map f (drop i es)))) w ≡ whole (entry_bytes order size) (entry_relocations order size) all a
-    → code ≡ code_in known (shape_of (f (get_or es i d)) (map f (drop (suc i) es)))
-    → ((e : WriteError) × (result ≡ Err e) × (e ≡ error)) → Refuses error w (length (entry_bytes order size (entry_with line_offset code (f (get_or es i d)) (map f (drop (suc i) es)))))
+pub loop-entries-refused : {A : Type 0} (f : A → GivenEntry) (order : Endian) (size : ℕ) (p : Places) (es : List A) (i : ℕ) (d : A) (uses : List EntryShape) (all : List Shaped) (w a now : Writing) (code : ℕ) (result : Result (Unit {0}) WriteError) (error : WriteError) (rs : List OutputRelocation) → i < length es
+    → whole (entry_bytes order size) (entry_relocations order size) (shaped (written_entries p uses (map f (drop i es)))) w ≡ whole (entry_bytes order size) (entry_relocations order size) all a
+    → code ≡ code_in uses (shape_of (f (get_or es i d)) (map f (drop (suc i) es)))
+    → ((e : WriteError) × (result ≡ Err e) × (e ≡ error)) → Refuses error w (length (entry_bytes order size (entry_with p code (f (get_or es i d)) (map f (drop (suc i) es)))))
     → Writes a now result (flat_map (entry_bytes order size) all) rs
-loop-entries-refused f order size line_offset es i d known uses all w a now code result error rs within used invariant is p refused =
+loop-entries-refused f order size p es i d uses all w a now code result error rs within invariant is met refused =
     let e = f (get_or es i d) in
     let behind = map f (drop (suc i) es) in
     let more = seen-more f es i d within in
-    let s = shape_of e behind in
-    let used_more : first_uses known (shapes_of (e ∷ behind)) ≡ uses = ap (λ xs. first_uses known (shapes_of xs)) (sym more) ∙ used in
-    let final : code_in uses s ≡ code = ap (λ us. code_in us s) (sym used_more) ∙ code-stays s known (shapes_of behind) ∙ sym is in
     let P : List Shaped → Writing = λ xs. whole (entry_bytes order size) (entry_relocations order size) xs w in
-    let here = ap (λ k. P (entry_with line_offset k e behind ∷ shaped (written_entries line_offset uses behind))) (sym final) ∙ ap P (sym (shaped-more line_offset uses e behind)) ∙ ap (λ xs. P (shaped (written_entries line_offset uses xs))) (sym more) ∙ invariant in
-    let later = whole-refused (entry_bytes order size) (entry_relocations order size) (entry_with line_offset code e behind) (shaped (written_entries line_offset uses behind)) all w a error here refused in
-    let met : result ≡ Err error = p.1 ∙ ap Err p.2 in
-    rw (met) later
+    let here = ap (λ k. P (entry_with p k e behind ∷ shaped (written_entries p uses behind))) is ∙ ap P (sym (shaped-more p uses e behind)) ∙ ap (λ xs. P (shaped (written_entries p uses xs))) (sym more) ∙ invariant in
+    let later = whole-refused (entry_bytes order size) (entry_relocations order size) (entry_with p code e behind) (shaped (written_entries p uses behind)) all w a error here refused in
+    let is_err : result ≡ Err error = met.1 ∙ ap Err met.2 in
+    rw (is_err) later
+
+-- ---- entries that are laid out
+
+-- an entry more, whose shape is used: codes by first use, offsets, and how long the entries are
+pub record IsStep (order : Endian) (size : ℕ) (known uses : List EntryShape) (codes offsets : List ℕ) (place : ℕ) (all : List ℕ) (starts : List ℕ) (total : ℕ) (es : List GivenEntry) : Type 0 where
+  pub used : first_uses known (shapes_of es) ≡ uses
+  pub coded : codes ++ map (λ w. w.code) (written_entries no_places uses es) ≡ all
+  pub placed : offsets ++ at_places (entry_bytes order size) (λ p x. p ∷ []) place (shaped (written_entries no_places uses es)) ≡ starts
+  pub long : place + length (flat_map (entry_bytes order size) (shaped (written_entries no_places uses es))) ≡ total
+
+pub step-more : (order : Endian) (size : ℕ) (known now uses : List EntryShape) (codes offsets : List ℕ) (place next code : ℕ) (all starts : List ℕ) (total : ℕ) (e : GivenEntry) (es : List GivenEntry) → IsStep order size known uses codes offsets place all starts total (e ∷ es)
+    → now ≡ with_use (shape_of e es) known → code ≡ code_in known (shape_of e es) → next ≡ place + length (entry_bytes order size (entry_with no_places code e es))
+    → IsStep order size now uses (codes ++ code ∷ []) (offsets ++ place ∷ []) next all starts total es
+step-more order size known now uses codes offsets place next code all starts total e es step grown is on =
+    let s = shape_of e es in
+    let final : code_in uses s ≡ code = ap (λ us. code_in us s) (sym step.used) ∙ code-stays s known (shapes_of es) ∙ sym is in
+    let rest = shaped (written_entries no_places uses es) in
+    let here = entry_with no_places code e es in
+    let shape_is : shaped (written_entries no_places uses (e ∷ es)) ≡ here ∷ rest = shaped-more no_places uses e es ∙ ap (λ k. entry_with no_places k e es ∷ rest) final in
+    let placed = ap (λ xs. offsets ++ at_places (entry_bytes order size) (λ p x. p ∷ []) place xs) (sym shape_is) ∙ step.placed in
+    let long = ap (λ xs. place + length (flat_map (entry_bytes order size) xs)) (sym shape_is) ∙ step.long in
+    record {
+      used = rw (grown) (step.used);
+      coded = append_assoc codes (code ∷ []) _ ∙ ap (λ k. codes ++ k ∷ map (λ w. w.code) (written_entries no_places uses es)) (sym final) ∙ step.coded;
+      placed = append_assoc offsets (place ∷ []) _ ∙ ap (λ p. offsets ++ place ∷ at_places (entry_bytes order size) (λ q x. q ∷ []) p rest) on ∙ placed;
+      long = omega (arith, on, long, length-append (entry_bytes order size here) (flat_map (entry_bytes order size) rest));
+    }
+
+-- the end that is refused
+pub step-refused : (order : Endian) (size : ℕ) (known uses : List EntryShape) (codes offsets : List ℕ) (place code : ℕ) (all starts : List ℕ) (total : ℕ) (e : GivenEntry) (es : List GivenEntry) → IsStep order size known uses codes offsets place all starts total (e ∷ es)
+    → code ≡ code_in known (shape_of e es) → place + length (entry_bytes order size (entry_with no_places code e es)) ≤ total
+step-refused order size known uses codes offsets place code all starts total e es step is =
+    let s = shape_of e es in
+    let final : code_in uses s ≡ code = ap (λ us. code_in us s) (sym step.used) ∙ code-stays s known (shapes_of es) ∙ sym is in
+    let rest = shaped (written_entries no_places uses es) in
+    let here = entry_with no_places code e es in
+    let shape_is : shaped (written_entries no_places uses (e ∷ es)) ≡ here ∷ rest = shaped-more no_places uses e es ∙ ap (λ k. entry_with no_places k e es ∷ rest) final in
+    let long = ap (λ xs. place + length (flat_map (entry_bytes order size) xs)) (sym shape_is) ∙ step.long in
+    omega (arith, long, length-append (entry_bytes order size here) (flat_map (entry_bytes order size) rest))

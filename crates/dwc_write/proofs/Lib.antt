@@ -1,4 +1,6 @@
 pub mod ReadNumbers
+pub mod SizeLaws
+pub mod LayoutLaws
 pub mod ReadParts
 pub mod ReadBytes
 pub mod ReadTables
@@ -30,6 +32,7 @@ pub mod TableLaws
 pub mod EntriesLaws
 pub mod UnitBytes
 pub mod OutputLaws
+pub mod PlacedEntries
 pub mod ReadBackLaws
 pub mod ReadTrees
 pub mod OutputForms
@@ -39,3 +42,4 @@ pub mod RelatedLaws
 pub mod WidestLaws
 pub mod WidestTreeLaws
 pub mod WideLaws
+pub mod ReferenceSmall

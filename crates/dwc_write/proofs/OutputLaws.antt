@@ -16,60 +16,61 @@ use Rattle.dwc_write.specs.SpelledTables.{table_bytes}
 use Rattle.dwc_write.specs.SpelledSections.{placed_unit_bytes, tables_bytes, info_bytes, one_table_bytes, lines_bytes}
 use Rattle.dwc_write.specs.SpelledRelocations.{unit_relocations, info_relocations, one_table_relocations, lines_relocations, RelocationsRise, DoRelocationsRise}
 use Rattle.dwc_write.proofs.ReadRelocations.{info-rise, lines-rise, rise-above}
-use Rattle.dwc_write.specs.GivenUnits.{GivenEntry, OrderedUnit, IsWritable, size_of, written_lines, written_units, written_tables, AreWritable}
+use Rattle.dwc_write.specs.GivenUnits.{GivenEntry, OrderedUnit, Places, IsWritable, size_of, AreWritable}
+use Rattle.dwc_write.specs.Layouts.{UnitPlaces, offsets_by_number, places_in, written_lines, written_unit, written_units, written_tables}
 use Rattle.dwc_write.specs.Writers.{Writing, Refuses, Writes, IsSound, appended, most_bytes}
-use Rattle.dwc_write.specs.SpelledOutput.{section_unless_empty, sections_of, spelled_sections, unit_of, WritesUnit, WrittenSections, unit_in, with_unit, RefusesUnit, WritesOne, empty_section, with_units, all_units, IsRefusal, bytes_of, abbrev_bytes, all_info_bytes, all_lines_bytes}
+use Rattle.dwc_write.specs.SpelledOutput.{section_unless_empty, sections_of, sections_placed, units_placed, all_places, spelled_sections, unit_of, WritesUnit, WrittenSections, places_there, unit_in, with_unit, RefusesUnit, WritesOne, empty_section, with_units, all_units, IsRefusalAmong, IsRefusal, bytes_of, abbrev_bytes, all_info_bytes, all_lines_bytes}
 use Rattle.dwc_write.proofs.WritesLaws.{refused-longer, refused-later, appended-twice, appended-nothing}
 
 -- ---- one unit
 
 -- a call on .debug_info is refused
-pub info-refused : (result : Result (Unit {0}) WriteError) (e : WriteError) (a a' i i' : Writing) (size line_offset : ℕ) (es : List GivenEntry) (n : ℕ) → ((error : WriteError) × (result ≡ Err error) × (error ≡ e)) → Refuses e i n
-    → n ≤ length (placed_unit_bytes i.order size (unit_of (length a.body) line_offset es)) → WritesUnit a a' i i' result size line_offset es
-info-refused result e a a' i i' size line_offset es n p refused less =
+pub info-refused : (result : Result (Unit {0}) WriteError) (e : WriteError) (a a' i i' : Writing) (size : ℕ) (places : Places) (es : List GivenEntry) (n : ℕ) → ((error : WriteError) × (result ≡ Err error) × (error ≡ e)) → Refuses e i n
+    → n ≤ length (placed_unit_bytes i.order size (unit_of (length a.body) places es)) → WritesUnit a a' i i' result size places es
+info-refused result e a a' i i' size places es n p refused less =
     let is : result ≡ Err e = p.1 ∙ ap Err p.2 in
-    let later : Refuses e i (length (placed_unit_bytes i.order size (unit_of (length a.body) line_offset es))) = refused-longer e i n _ refused less in
+    let later : Refuses e i (length (placed_unit_bytes i.order size (unit_of (length a.body) places es))) = refused-longer e i n _ refused less in
     rw (is) (inr later)
 
-pub info-refused-later : (result : Result (Unit {0}) WriteError) (e : WriteError) (a a' i i' b : Writing) (x : List ℕ) (r : List OutputRelocation) (size line_offset : ℕ) (es : List GivenEntry) (n : ℕ) → ((error : WriteError) × (result ≡ Err error) × (error ≡ e)) → b ≡ appended x r i → Refuses e b n
-    → length x + n ≤ length (placed_unit_bytes i.order size (unit_of (length a.body) line_offset es)) → WritesUnit a a' i i' result size line_offset es
-info-refused-later result e a a' i i' b x r size line_offset es n p grown refused less =
+pub info-refused-later : (result : Result (Unit {0}) WriteError) (e : WriteError) (a a' i i' b : Writing) (x : List ℕ) (r : List OutputRelocation) (size : ℕ) (places : Places) (es : List GivenEntry) (n : ℕ) → ((error : WriteError) × (result ≡ Err error) × (error ≡ e)) → b ≡ appended x r i → Refuses e b n
+    → length x + n ≤ length (placed_unit_bytes i.order size (unit_of (length a.body) places es)) → WritesUnit a a' i i' result size places es
+info-refused-later result e a a' i i' b x r size places es n p grown refused less =
     let is : result ≡ Err e = p.1 ∙ ap Err p.2 in
-    let later : Refuses e i (length (placed_unit_bytes i.order size (unit_of (length a.body) line_offset es))) = refused-later e i b x r n _ grown refused less in
+    let later : Refuses e i (length (placed_unit_bytes i.order size (unit_of (length a.body) places es))) = refused-later e i b x r n _ grown refused less in
     rw (is) (inr later)
 
 -- the last call, on .debug_abbrev
-pub unit-result : (a a' i i' : Writing) (result : Result (Unit {0}) WriteError) (size line_offset : ℕ) (es : List GivenEntry) (bytes : List ℕ) → Writes a a' result bytes [] → bytes ≡ table_bytes (unit_of (length a.body) line_offset es).table
-    → i' ≡ appended (placed_unit_bytes i.order size (unit_of (length a.body) line_offset es)) (unit_relocations i.order size (length i.body) (unit_of (length a.body) line_offset es)) i → WritesUnit a a' i i' result size line_offset es
-unit-result a a' i i' (Ok done) size line_offset es bytes written table info = (written ∙ ap (λ bs. appended bs [] a) table, info)
-unit-result a a' i i' (Err e) size line_offset es bytes written table info = inl (refused-longer e a _ _ written (omega (arith, ap length table)))
+pub unit-result : (a a' i i' : Writing) (result : Result (Unit {0}) WriteError) (size : ℕ) (places : Places) (es : List GivenEntry) (bytes : List ℕ) → Writes a a' result bytes [] → bytes ≡ table_bytes (unit_of (length a.body) places es).table
+    → i' ≡ appended (placed_unit_bytes i.order size (unit_of (length a.body) places es)) (unit_relocations i.order size (length i.body) (unit_of (length a.body) places es)) i → WritesUnit a a' i i' result size places es
+unit-result a a' i i' (Ok done) size places es bytes written table info = (written ∙ ap (λ bs. appended bs [] a) table, info)
+unit-result a a' i i' (Err e) size places es bytes written table info = inl (refused-longer e a _ _ written (omega (arith, ap length table)))
 
 -- a unit behind its line table
-pub one-refused : (result : Result (Unit {0}) WriteError) (e : WriteError) (w w' : WrittenSections) (u : OrderedUnit) → ((error : WriteError) × (result ≡ Err error) × (error ≡ e)) → Refuses e w.line_section (length (lines_bytes w.line_section.order u.address_size (written_lines u.lines))) → WritesOne w w' result u
-one-refused result e w w' u p refused =
+pub one-refused : (result : Result (Unit {0}) WriteError) (e : WriteError) (units : List UnitPlaces) (w w' : WrittenSections) (u : OrderedUnit) → ((error : WriteError) × (result ≡ Err error) × (error ≡ e)) → Refuses e w.line_section (length (lines_bytes w.line_section.order u.address_size (written_lines u.lines))) → WritesOne units w w' result u
+one-refused result e units w w' u p refused =
     let is : result ≡ Err e = p.1 ∙ ap Err p.2 in
     rw (is) (inr (inr refused))
 
-pub one-written : (result : Result (Unit {0}) WriteError) (w w' : WrittenSections) (u : OrderedUnit) (a' i' l' : Writing) → l' ≡ appended (lines_bytes w.line_section.order u.address_size (written_lines u.lines)) (lines_relocations w.line_section.order u.address_size (length w.line_section.body) (written_lines u.lines)) w.line_section
-    → WritesUnit w.abbrev_section a' w.info_section i' result u.address_size (length w.line_section.body) u.entries → w' ≡ record { abbrev_section = a'; info_section = i'; line_section = l' } → WritesOne w w' result u
-one-written (Ok done) w w' u a' i' l' lines unit is = is ∙ rw (unit.0, unit.1, lines) refl
-one-written (Err e) w w' u a' i' l' lines (inl refused) is = inl refused
-one-written (Err e) w w' u a' i' l' lines (inr refused) is = inr (inl refused)
+pub one-written : (result : Result (Unit {0}) WriteError) (units : List UnitPlaces) (w w' : WrittenSections) (u : OrderedUnit) (a' i' l' : Writing) → l' ≡ appended (lines_bytes w.line_section.order u.address_size (written_lines u.lines)) (lines_relocations w.line_section.order u.address_size (length w.line_section.body) (written_lines u.lines)) w.line_section
+    → WritesUnit w.abbrev_section a' w.info_section i' result u.address_size (places_there units w u) u.entries → w' ≡ record { abbrev_section = a'; info_section = i'; line_section = l' } → WritesOne units w w' result u
+one-written (Ok done) units w w' u a' i' l' lines unit is = is ∙ rw (unit.0, unit.1, lines) refl
+one-written (Err e) units w w' u a' i' l' lines (inl refused) is = inl refused
+one-written (Err e) units w w' u a' i' l' lines (inr refused) is = inr (inl refused)
 
 -- ---- all of them
 
 -- what is there with those that are left is the whole
-pub units-more : (order : Endian) (us all : List OrderedUnit) (i : ℕ) (d : OrderedUnit) (w w' : WrittenSections) → i < length us → with_units (drop i us) w ≡ all_units order all → w' ≡ with_unit (get_or us i d) w → with_units (drop (suc i) us) w' ≡ all_units order all
-units-more order [] all i d w w' within invariant step = absurd (omega arith)
-units-more order (u ∷ us) all zero d w w' within invariant step = ap (with_units us) step ∙ invariant
-units-more order (u ∷ us) all (suc i) d w w' within invariant step = units-more order us all i d w w' (omega arith) invariant step
+pub units-more : (order : Endian) (units : List UnitPlaces) (us all : List OrderedUnit) (i : ℕ) (d : OrderedUnit) (w w' : WrittenSections) → i < length us → with_units units (drop i us) w ≡ all_units order units all → w' ≡ with_unit units (get_or us i d) w → with_units units (drop (suc i) us) w' ≡ all_units order units all
+units-more order units [] all i d w w' within invariant step = absurd (omega arith)
+units-more order units (u ∷ us) all zero d w w' within invariant step = ap (with_units units us) step ∙ invariant
+units-more order units (u ∷ us) all (suc i) d w w' within invariant step = units-more order units us all i d w w' (omega arith) invariant step
 
 -- ---- the bytes of all
 
 three-equal : {a b i j l m : Writing} → a ≡ b → i ≡ j → l ≡ m → ◌≡◌ {A = WrittenSections} (record { abbrev_section = a; info_section = i; line_section = l }) (record { abbrev_section = b; info_section = j; line_section = m })
 three-equal {a} {b} {i} {j} {l} {m} p q r = rw (p, q, r) refl
 
-module _ (order : Endian) (size : ℕ) where
+module _ (order : Endian) (size : ℕ) (units : List UnitPlaces) where
   -- sections of this order
   record AreOf (w : WrittenSections) : Type 0 where
     info : w.info_section.order ≡ order
@@ -78,8 +79,8 @@ module _ (order : Endian) (size : ℕ) where
   -- what units append to three sections
   abbrev pub appended_units : List OrderedUnit → WrittenSections → WrittenSections
   appended_units us w = record {
-    abbrev_section = appended (tables_bytes (written_units order size (length w.abbrev_section.body) (length w.line_section.body) us)) [] w.abbrev_section;
-    info_section = appended (info_bytes order size (written_units order size (length w.abbrev_section.body) (length w.line_section.body) us)) (info_relocations order size (length w.info_section.body) (written_units order size (length w.abbrev_section.body) (length w.line_section.body) us)) w.info_section;
+    abbrev_section = appended (tables_bytes (written_units order size units (length w.abbrev_section.body) (length w.line_section.body) us)) [] w.abbrev_section;
+    info_section = appended (info_bytes order size (written_units order size units (length w.abbrev_section.body) (length w.line_section.body) us)) (info_relocations order size (length w.info_section.body) (written_units order size units (length w.abbrev_section.body) (length w.line_section.body) us)) w.info_section;
     line_section = appended (lines_bytes order size (written_tables us)) (lines_relocations order size (length w.line_section.body) (written_tables us)) w.line_section;
   }
 
@@ -94,29 +95,32 @@ module _ (order : Endian) (size : ℕ) where
       ∙ sym (append_assoc (at place x) _ _)
       ∙ ap (λ p. (at place x ++ at_places spell at (place + length (spell x)) xs) ++ at_places spell at p ys) (omega (arith, length-append (spell x) (flat_map spell xs)))
 
-  with_units-appended : (us : List OrderedUnit) (w : WrittenSections) → AreOf w → All (λ u. u.address_size ≡ size) us → with_units us w ≡ appended_units us w
+  with_units-appended : (us : List OrderedUnit) (w : WrittenSections) → AreOf w → All (λ u. u.address_size ≡ size) us → with_units units us w ≡ appended_units us w
   with_units-appended [] w of sized = three-equal (appended-nothing w.abbrev_section) (appended-nothing w.info_section) (appended-nothing w.line_section)
   with_units-appended (u ∷ us) w of sized =
       let a = w.abbrev_section in
       let i = w.info_section in
       let l = w.line_section in
-      let unit = unit_in w u in
+      let unit = unit_in units w u in
       let table = table_bytes unit.table in
       let same : u.address_size ≡ size = All-head (λ (v : OrderedUnit). v.address_size ≡ size) u us sized in
-      let others = with_units-appended us (with_unit u w) (record { info = of.info; line = of.line }) (All-tail (λ (v : OrderedUnit). v.address_size ≡ size) u us sized) in
+      let others = with_units-appended us (with_unit units u w) (record { info = of.info; line = of.line }) (All-tail (λ (v : OrderedUnit). v.address_size ≡ size) u us sized) in
+      let there : unit ≡ written_unit (places_in units (offsets_by_number order size u) (length l.body)) (length a.body) u =
+      ap (λ o. written_unit (places_in units (offsets_by_number o u.address_size u) (length l.body)) (length a.body) u) of.info ∙ ap (λ n. written_unit (places_in units (offsets_by_number order n u) (length l.body)) (length a.body) u) same in
       let lines : lines_bytes l.order u.address_size (written_lines u.lines) ≡ lines_bytes order size (written_lines u.lines) = ap (λ o. lines_bytes o u.address_size (written_lines u.lines)) of.line ∙ ap (λ n. lines_bytes order n (written_lines u.lines)) same in
       let placed : placed_unit_bytes i.order u.address_size unit ≡ placed_unit_bytes order size unit = ap (λ o. placed_unit_bytes o u.address_size unit) of.info ∙ ap (λ n. placed_unit_bytes order n unit) same in
       let at_table : length (a.body ++ table) ≡ length a.body + length table = length-append a.body table in
       let at_lines : length (l.body ++ lines_bytes l.order u.address_size (written_lines u.lines)) ≡ length l.body + length (lines_bytes order size (written_lines u.lines)) = length-append l.body _ ∙ ap (λ bytes. length l.body + length bytes) lines in
-      let rest = written_units order size (length a.body + length table) (length l.body + length (lines_bytes order size (written_lines u.lines))) us in
-      let rest_is : written_units order size (length (a.body ++ table)) (length (l.body ++ lines_bytes l.order u.address_size (written_lines u.lines))) us ≡ rest =
-      ap (λ p. written_units order size p (length (l.body ++ lines_bytes l.order u.address_size (written_lines u.lines))) us) at_table ∙ ap (λ q. written_units order size (length a.body + length table) q us) at_lines in
+      let rest = written_units order size units (length a.body + length table) (length l.body + length (lines_bytes order size (written_lines u.lines))) us in
+      let rest_is : written_units order size units (length (a.body ++ table)) (length (l.body ++ lines_bytes l.order u.address_size (written_lines u.lines))) us ≡ rest =
+      ap (λ p. written_units order size units p (length (l.body ++ lines_bytes l.order u.address_size (written_lines u.lines))) us) at_table ∙ ap (λ q. written_units order size units (length a.body + length table) q us) at_lines in
       others ∙ three-equal
       (ap (λ ws. appended (tables_bytes ws) [] (appended table [] a)) rest_is ∙ step-section a table (tables_bytes rest) [] (λ p. []))
       (ap (λ ws. appended (info_bytes order size ws) (info_relocations order size (length (i.body ++ placed_unit_bytes i.order u.address_size unit)) ws) (appended (placed_unit_bytes i.order u.address_size unit) (unit_relocations i.order u.address_size (length i.body) unit) i)) rest_is
       ∙ step-section i (placed_unit_bytes i.order u.address_size unit) (info_bytes order size rest) (unit_relocations i.order u.address_size (length i.body) unit) (λ p. info_relocations order size p rest)
       ∙ ap (λ o. appended (placed_unit_bytes o u.address_size unit ++ info_bytes order size rest) (unit_relocations o u.address_size (length i.body) unit ++ info_relocations order size (length i.body + length (placed_unit_bytes o u.address_size unit)) rest) i) of.info
-      ∙ ap (λ n. appended (placed_unit_bytes order n unit ++ info_bytes order size rest) (unit_relocations order n (length i.body) unit ++ info_relocations order size (length i.body + length (placed_unit_bytes order n unit)) rest) i) same)
+      ∙ ap (λ n. appended (placed_unit_bytes order n unit ++ info_bytes order size rest) (unit_relocations order n (length i.body) unit ++ info_relocations order size (length i.body + length (placed_unit_bytes order n unit)) rest) i) same
+      ∙ ap (λ v. appended (placed_unit_bytes order size v ++ info_bytes order size rest) (unit_relocations order size (length i.body) v ++ info_relocations order size (length i.body + length (placed_unit_bytes order size v)) rest) i) there)
       (step-section l (lines_bytes l.order u.address_size (written_lines u.lines)) (lines_bytes order size (written_tables us)) (lines_relocations l.order u.address_size (length l.body) (written_lines u.lines)) (λ p. lines_relocations order size p (written_tables us))
       ∙ ap (λ o. appended (lines_bytes o u.address_size (written_lines u.lines) ++ lines_bytes order size (written_tables us)) (lines_relocations o u.address_size (length l.body) (written_lines u.lines) ++ lines_relocations order size (length l.body + length (lines_bytes o u.address_size (written_lines u.lines))) (written_tables us)) l) of.line
       ∙ ap (λ n. appended (lines_bytes order n (written_lines u.lines) ++ lines_bytes order size (written_tables us)) (lines_relocations order n (length l.body) (written_lines u.lines) ++ lines_relocations order size (length l.body + length (lines_bytes order n (written_lines u.lines))) (written_tables us)) l) same
@@ -131,12 +135,12 @@ writable-sizes : (us : List OrderedUnit) → AreWritable us → All (λ u. u.add
 writable-sizes us fits = All-weaker (IsWritable (size_of us)) (λ u. u.address_size ≡ size_of us) (λ u h. h.size) us fits
 
 -- what is appended to empty sections
-abbrev pub all_of : Endian → List OrderedUnit → WrittenSections
-all_of order us = appended_units order (size_of us) us (record { abbrev_section = empty_section order Abbrev; info_section = empty_section order Info; line_section = empty_section order Line })
+abbrev pub all_of : Endian → List UnitPlaces → List OrderedUnit → WrittenSections
+all_of order units us = appended_units order (size_of us) units us (record { abbrev_section = empty_section order Abbrev; info_section = empty_section order Info; line_section = empty_section order Line })
 
 -- The sections of all units are the ones that are spelled.
-pub all-appended : (order : Endian) (us : List OrderedUnit) → AreWritable us → all_units order us ≡ all_of order us
-all-appended order us fits = with_units-appended order (size_of us) us _ (record { info = refl; line = refl }) (writable-sizes us fits)
+pub all-appended : (order : Endian) (units : List UnitPlaces) (us : List OrderedUnit) → AreWritable us → all_units order units us ≡ all_of order units us
+all-appended order units us fits = with_units-appended order (size_of us) units us _ (record { info = refl; line = refl }) (writable-sizes us fits)
 
 -- ---- a refusal
 
@@ -149,46 +153,50 @@ record Grown (w v : WrittenSections) : Type 0 where
   line_name : w.line_section.name ≡ v.line_section.name
   line_more : length w.line_section.body ≤ length v.line_section.body
 
-grown-units : (us : List OrderedUnit) (w : WrittenSections) → Grown w (with_units us w)
-grown-units [] w = record { abbrev_name = refl; abbrev_more = omega arith; info_name = refl; info_more = omega arith; line_name = refl; line_more = omega arith }
-grown-units (u ∷ us) w =
-    let on = grown-units us (with_unit u w) in
+grown-units : (units : List UnitPlaces) (us : List OrderedUnit) (w : WrittenSections) → Grown w (with_units units us w)
+grown-units units [] w = record { abbrev_name = refl; abbrev_more = omega arith; info_name = refl; info_more = omega arith; line_name = refl; line_more = omega arith }
+grown-units units (u ∷ us) w =
+    let on = grown-units units us (with_unit units u w) in
     record {
       abbrev_name = on.abbrev_name;
-      abbrev_more = let h = on.abbrev_more in omega (arith, h, length-append w.abbrev_section.body (table_bytes (unit_in w u).table));
+      abbrev_more = let h = on.abbrev_more in omega (arith, h, length-append w.abbrev_section.body (table_bytes (unit_in units w u).table));
       info_name = on.info_name;
-      info_more = let h = on.info_more in omega (arith, h, length-append w.info_section.body (placed_unit_bytes w.info_section.order u.address_size (unit_in w u)));
+      info_more = let h = on.info_more in omega (arith, h, length-append w.info_section.body (placed_unit_bytes w.info_section.order u.address_size (unit_in units w u)));
       line_name = on.line_name;
       line_more = let h = on.line_more in omega (arith, h, length-append w.line_section.body (lines_bytes w.line_section.order u.address_size (written_lines u.lines)));
     }
 
-pub section-refused : (order : Endian) (us : List OrderedUnit) (e : WriteError) (a b : Writing) (name : SectionName) (x : List ℕ) → Refuses e a (length x) → a.name ≡ b.name → length (a.body ++ x) ≤ length b.body → b.name ≡ name → b.body ≡ bytes_of order us name → IsRefusal order us e
-section-refused order us OutOfMemory a b name x refused named more final is = tt
-section-refused order us (TooLarge (Section n)) a b name x refused named more final is =
+pub section-refused : (order : Endian) (units : List UnitPlaces) (us : List OrderedUnit) (e : WriteError) (a b : Writing) (name : SectionName) (x : List ℕ) → Refuses e a (length x) → a.name ≡ b.name → length (a.body ++ x) ≤ length b.body → b.name ≡ name → b.body ≡ bytes_of order units us name → IsRefusalAmong order units us e
+section-refused order units us OutOfMemory a b name x refused named more final is = tt
+section-refused order units us (TooLarge (Section n)) a b name x refused named more final is =
     let same : n ≡ name = refused.0 ∙ named ∙ final in
     let large = refused.1 in
     let long = ap length is in
-    let P : SectionName → Type 0 = λ m. most_bytes < length (bytes_of order us m) in
+    let P : SectionName → Type 0 = λ m. most_bytes < length (bytes_of order units us m) in
     subst P (sym same) (omega (arith, large, more, long, length-append a.body x))
 
 -- A unit that is refused is a refusal of all.
-pub units-refused : (order : Endian) (us : List OrderedUnit) (i : ℕ) (d : OrderedUnit) (w : WrittenSections) (e : WriteError) → i < length us → AreWritable us → with_units (drop i us) w ≡ all_units order us → RefusesUnit e w (get_or us i d) → IsRefusal order us e
-units-refused order us i d w e within fits invariant refused =
+pub units-refused : (order : Endian) (units : List UnitPlaces) (us : List OrderedUnit) (i : ℕ) (d : OrderedUnit) (w : WrittenSections) (e : WriteError) → i < length us → AreWritable us → with_units units (drop i us) w ≡ all_units order units us → RefusesUnit e units w (get_or us i d) → IsRefusalAmong order units us e
+units-refused order units us i d w e within fits invariant refused =
     let u = get_or us i d in
-    let final : with_units (drop (suc i) us) (with_unit u w) ≡ all_of order us =
-    units-more order us us i d w (with_unit u w) within invariant refl ∙ all-appended order us fits in
-    let grown = grown-units (drop (suc i) us) (with_unit u w) in
-    let P : WrittenSections → Type 0 = λ v. Grown (with_unit u w) v in
+    let final : with_units units (drop (suc i) us) (with_unit units u w) ≡ all_of order units us =
+    units-more order units us us i d w (with_unit units u w) within invariant refl ∙ all-appended order units us fits in
+    let grown = grown-units units (drop (suc i) us) (with_unit units u w) in
+    let P : WrittenSections → Type 0 = λ v. Grown (with_unit units u w) v in
     go refused (subst P final grown)
   where
-    go : RefusesUnit e w (get_or us i d) → Grown (with_unit (get_or us i d) w) (all_of order us) → IsRefusal order us e
-    go (inl refused) grown = section-refused order us e w.abbrev_section (all_of order us).abbrev_section Abbrev (table_bytes (unit_in w (get_or us i d)).table) refused grown.abbrev_name grown.abbrev_more refl refl
-    go (inr (inl refused)) grown = section-refused order us e w.info_section (all_of order us).info_section Info (placed_unit_bytes w.info_section.order (get_or us i d).address_size (unit_in w (get_or us i d))) refused grown.info_name grown.info_more refl refl
-    go (inr (inr refused)) grown = section-refused order us e w.line_section (all_of order us).line_section Line (lines_bytes w.line_section.order (get_or us i d).address_size (written_lines (get_or us i d).lines)) refused grown.line_name grown.line_more refl refl
+    go : RefusesUnit e units w (get_or us i d) → Grown (with_unit units (get_or us i d) w) (all_of order units us) → IsRefusalAmong order units us e
+    go (inl refused) grown = section-refused order units us e w.abbrev_section (all_of order units us).abbrev_section Abbrev (table_bytes (unit_in units w (get_or us i d)).table) refused grown.abbrev_name grown.abbrev_more refl refl
+    go (inr (inl refused)) grown = section-refused order units us e w.info_section (all_of order units us).info_section Info (placed_unit_bytes w.info_section.order (get_or us i d).address_size (unit_in units w (get_or us i d))) refused grown.info_name grown.info_more refl refl
+    go (inr (inr refused)) grown = section-refused order units us e w.line_section (all_of order units us).line_section Line (lines_bytes w.line_section.order (get_or us i d).address_size (written_lines (get_or us i d).lines)) refused grown.line_name grown.line_more refl refl
+
+-- among their own places it is the refusal of the units
+pub refusal-of-all : (order : Endian) (units : List UnitPlaces) (us : List OrderedUnit) (e : WriteError) → units ≡ all_places order us → IsRefusalAmong order units us e → IsRefusal order us e
+refusal-of-all order units us e placed refused = subst (λ xs. IsRefusalAmong order xs us e) placed refused
 
 -- the error of a call, for a function that answers something else
-pub units-exit : {A : Type 0} (order : Endian) (us : List OrderedUnit) (result : Result A WriteError) (e : WriteError) → ((error : WriteError) × (result ≡ Err error) × (error ≡ e)) → IsRefusal order us e → IfErr result (λ x. IsRefusal order us x)
-units-exit order us result e p refused =
+pub units-exit : {A : Type 0} (order : Endian) (units : List UnitPlaces) (us : List OrderedUnit) (result : Result A WriteError) (e : WriteError) → ((error : WriteError) × (result ≡ Err error) × (error ≡ e)) → IsRefusalAmong order units us e → IfErr result (λ x. IsRefusalAmong order units us x)
+units-exit order units us result e p refused =
     let is : result ≡ Err e = p.1 ∙ ap Err p.2 in
     rw (is) refused
 
@@ -214,12 +222,12 @@ all-taken P [] i past all = All-nil P
 all-taken P (x ∷ xs) zero past all = absurd (omega arith)
 all-taken P (x ∷ xs) (suc i) past all = All-cons P x xs (All-head P x (take i xs) all) (all-taken P xs i (omega arith) (All-tail P x (take i xs) all))
 
-pub units-done : (order : Endian) (us : List OrderedUnit) (i : ℕ) (w : WrittenSections) → length us ≤ i → with_units (drop i us) w ≡ all_units order us → w ≡ all_units order us
-units-done order us i w past invariant = rw (drop_all i us past) at invariant
+pub units-done : (order : Endian) (units : List UnitPlaces) (us : List OrderedUnit) (i : ℕ) (w : WrittenSections) → length us ≤ i → with_units units (drop i us) w ≡ all_units order units us → w ≡ all_units order units us
+units-done order units us i w past invariant = rw (drop_all i us past) at invariant
 
 -- what is gathered of all is what is spelled
-pub output-sections : (order : Endian) (us : List OrderedUnit) → AreWritable us → sections_of (all_units order us) ≡ spelled_sections order us
-output-sections order us fits = ap sections_of (all-appended order us fits)
+pub output-sections : (order : Endian) (units : List UnitPlaces) (us : List OrderedUnit) → units ≡ all_places order us → AreWritable us → sections_of (all_units order units us) ≡ spelled_sections order us
+output-sections order units us placed fits = ap sections_of (all-appended order units us fits) ∙ ap (λ xs. sections_placed order xs us) placed
 
 pub if-ok-weaker : {A E : Type 0} (result : Result A E) (P Q : A → Type 0) → ((x : A) → P x → Q x) → IfOk result P → IfOk result Q
 if-ok-weaker (Ok x) P Q weaker h = weaker x h
@@ -238,12 +246,13 @@ part-rises name (b ∷ x) rs rest rise others = All-cons DoRelocationsRise _ res
 pub sections-rise : (order : Endian) (us : List OrderedUnit) → All DoRelocationsRise (spelled_sections order us)
 sections-rise order us =
     let size = size_of us in
-    let ws = written_units order size 0 0 us in
-    let info : RelocationsRise 0 (length (all_info_bytes order us)) (info_relocations order size 0 ws) = from-0 (length (all_info_bytes order us)) _ (info-rise order size 0 ws) in
+    let units = all_places order us in
+    let ws = units_placed order units us in
+    let info : RelocationsRise 0 (length (all_info_bytes order units us)) (info_relocations order size 0 ws) = from-0 (length (all_info_bytes order units us)) _ (info-rise order size 0 ws) in
     let lines : RelocationsRise 0 (length (all_lines_bytes order us)) (lines_relocations order size 0 (written_tables us)) = from-0 (length (all_lines_bytes order us)) _ (lines-rise order size 0 (written_tables us)) in
     let P : List OutputSection → Type 0 = λ ss. All DoRelocationsRise ss in
     let last = subst P (append-nil _) (part-rises Line (all_lines_bytes order us) (lines_relocations order size 0 (written_tables us)) [] lines (All-nil DoRelocationsRise)) in
-    part-rises Abbrev (abbrev_bytes order us) [] _ (omega arith) (part-rises Info (all_info_bytes order us) (info_relocations order size 0 ws) _ info last)
+    part-rises Abbrev (abbrev_bytes order units us) [] _ (omega arith) (part-rises Info (all_info_bytes order units us) (info_relocations order size 0 ws) _ info last)
   where
     from-0 : (n : ℕ) (rs : List OutputRelocation) → RelocationsRise 0 (0 + n) rs → RelocationsRise 0 n rs
     from-0 n rs rise = rise-above 0 (0 + n) n rs (omega arith) rise

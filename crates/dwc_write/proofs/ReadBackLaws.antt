@@ -18,7 +18,7 @@ use Rattle.dwc_base.specs.LineRows.{line_table, source_file, in_directory, named
 use Rattle.dwc_base.specs.Sections.{Sections}
 use Rattle.dwc_base.specs.Values.{Value}
 use Rattle.dwc_base.specs.Entries.{Entry, attribute}
-use Rattle.dwc_base.specs.Carried.{Unit, root, line_offset, table_of_root, table_of_unit, segments_of_unit}
+use Rattle.dwc_base.specs.Carried.{Unit, units, root, line_offset, table_of_root, table_of_unit, segments_of_unit}
 use Rattle.dwc_base.specs.Outputs.{OutputRelocation, OutputSection, function_relocation, output_sections}
 use Rattle.dwc_write.specs.Spelled.{at_places, number_bytes}
 use Rattle.dwc_write.specs.SpelledTables.{FitsSpec, FitsDeclaration, AreNumbered, table_bytes}
@@ -29,11 +29,13 @@ use Rattle.dwc_write.specs.SpelledSections.{WrittenUnit, placed_unit_bytes, tabl
 use Rattle.dwc_write.specs.SpelledRelocations.{info_relocations, lines_relocations}
 use Rattle.dwc_write.specs.declared.attributes.Attribute.{Attribute}
 use Rattle.dwc_write.specs.declared.attributes.AttributeValue.{AttributeValue}
-use Rattle.dwc_write.specs.declared.attributes.AttributeValue.TheVariants.{Address, Constant, Flag, LineProgramRef}
+use Rattle.dwc_write.specs.declared.attributes.AttributeValue.TheVariants.{Address, Constant, Flag, LineProgramRef, UnitRef, DebugInfoRef}
+use Rattle.dwc_write.specs.declared.attributes.DebugInfoRef.TheVariants.{Entry as entry_of}
 use Rattle.dwc_write.specs.declared.abbreviations.AttributeForm.{AttributeForm}
 use Rattle.dwc_write.specs.GivenLines.{GivenLines, FitsLines, FitsSequences, FitsGivenSequence}
-use Rattle.dwc_write.specs.GivenUnits.{GivenEntry, OrderedUnit, IsOfSize, written_of, FitsValue, FitsAttribute, AreBelow, IsTree, FitsEntry, FitsOrdered, is_lines, names_lines_in, names_lines, IsWritable, size_of, AreWritable, EntryShape, form_of, forms_of, shape_of, shapes_of, same_forms, same_flag, same_shape, place_in, with_use, first_uses, code_in, spec_of_form, numbered, shapes_in, written_attribute, written_entries, written_unit, written_lines, written_units, written_tables}
-use Rattle.dwc_write.specs.SpelledOutput.{section_unless_empty, abbrev_bytes, all_info_bytes, all_lines_bytes, spelled_sections}
+use Rattle.dwc_write.specs.GivenUnits.{GivenEntry, OrderedUnit, Places, no_places, IsOfSize, written_of, FitsValue, FitsAttribute, AreBelow, IsTree, FitsEntry, FitsOrdered, is_lines, names_lines_in, names_lines, IsWritable, size_of, AreWritable, EntryShape, form_of, forms_of, shape_of, shapes_of, same_forms, same_flag, same_shape, place_in, with_use, first_uses, code_in, spec_of_form, numbered, shapes_in, written_attribute, written_entries}
+use Rattle.dwc_write.specs.Layouts.{UnitPlaces, AreShort, offsets_by_number, offset_in_section, places_in, unit_length, written_unit, written_lines, written_units, written_tables}
+use Rattle.dwc_write.specs.SpelledOutput.{section_unless_empty, abbrev_bytes, all_info_bytes, all_lines_bytes, units_placed, all_places, spelled_sections}
 use Rattle.dwc_write.specs.ReadBack.{given_file, given_row, given_segments, given_segment, Contents, read_contents, given_contents, given_value, IsReadUnit, ReadsBack}
 use Rattle.dwc_write.specs.Writers.{IsSound, most_bytes}
 use Rattle.dwc_write.proofs.ReadNumbers.{number_bytes-length}
@@ -43,19 +45,22 @@ use Rattle.dwc_write.proofs.ReadValues.{All-back}
 use Rattle.dwc_write.proofs.ReadSections.{units-read, lines-read, segments-read}
 use Rattle.dwc_write.proofs.LineLaws.{field-address}
 use Rattle.dwc_write.proofs.EntriesLaws.{code-there, next-first}
+use Rattle.dwc_write.proofs.PlacedEntries.{placed-length, offset-within, places-short, info-length}
 
 -- ---- values
 
--- a form does not hang on where the line table stands
-form-same : (l : ℕ) (v : AttributeValue) → form_number (written_of l v) ≡ form_number (written_of 0 v)
-form-same l (Address a) = refl
-form-same l (Constant form bits) = refl
-form-same l (Flag b) = refl
-form-same l LineProgramRef = refl
+-- a form does not hang on places
+form-same : (p : Places) (v : AttributeValue) → form_number (written_of p v) ≡ form_number (written_of no_places v)
+form-same p (Address a) = refl
+form-same p (Constant form bits) = refl
+form-same p (Flag b) = refl
+form-same p LineProgramRef = refl
+form-same p (UnitRef id) = refl
+form-same p (DebugInfoRef (entry_of unit id)) = refl
 
-forms-same : (l : ℕ) (xs : List Attribute) → map spec_of (map (written_attribute l) xs) ≡ map spec_of_form (forms_of xs)
-forms-same l [] = refl
-forms-same l (x ∷ xs) = ap (λ (f : ℕ). record { name = x.name; form = f; implicit = pos 0 } ∷ map spec_of (map (written_attribute l) xs)) (form-same l x.value) ∙ ap (λ ys. spec_of_form (form_of x) ∷ ys) (forms-same l xs)
+forms-same : (p : Places) (xs : List Attribute) → map spec_of (map (written_attribute p) xs) ≡ map spec_of_form (forms_of xs)
+forms-same p [] = refl
+forms-same p (x ∷ xs) = ap (λ (f : ℕ). record { name = x.name; form = f; implicit = pos 0 } ∷ map spec_of (map (written_attribute p) xs)) (form-same p x.value) ∙ ap (λ ys. spec_of_form (form_of x) ∷ ys) (forms-same p xs)
 
 signed-64 : (z : ℤ) → FitsSigned w64 z → is_64_bit z ≡ true
 signed-64 z fits =
@@ -75,19 +80,21 @@ constant-fits size false false false true f bits small = omega (arith, small)
 constant-fits size false false false false true bits small = signed-fits size bits small
 constant-fits size false false false false false bits small = small
 
-value-fits : (size l : ℕ) (a : Attribute) → l < 256 ^ 4 → FitsAttribute size a → FitsWritten size (written_of l a.value)
-value-fits size l a near fits = go a.value fits.value
+value-fits : (size : ℕ) (p : Places) (a : Attribute) → AreShort p → FitsAttribute size a → FitsWritten size (written_of p a.value)
+value-fits size p a near fits = go a.value fits.value
   where
-    go : (v : AttributeValue) → FitsValue size a.name v → FitsWritten size (written_of l v)
+    go : (v : AttributeValue) → FitsValue size a.name v → FitsWritten size (written_of p v)
     go (Address x) h = field-address size x h
     go (Constant form bits) h = constant-fits size (form == DW_FORM_data1) (form == DW_FORM_data2) (form == DW_FORM_data4) (form == DW_FORM_data8) (form == DW_FORM_sdata) bits h.1
     go (Flag b) h = tt
-    go LineProgramRef h = near
+    go LineProgramRef h = let short = near.line in omega (arith, short)
+    go (UnitRef id) h = let short = near.entry id.index in omega (arith, short)
+    go (DebugInfoRef (entry_of unit id)) h = let short = near.entry_of unit.index id.index in omega (arith, short)
 
-values-fit : (size l : ℕ) (xs : List Attribute) → l < 256 ^ 4 → All (FitsAttribute size) xs → All (λ a. FitsWritten size a.value) (map (written_attribute l) xs)
-values-fit size l [] near fits = All-nil _
-values-fit size l (x ∷ xs) near fits =
-    All-cons (λ (a : WrittenAttribute). FitsWritten size a.value) (written_attribute l x) (map (written_attribute l) xs) (value-fits size l x near (All-head (FitsAttribute size) x xs fits)) (values-fit size l xs near (All-tail (FitsAttribute size) x xs fits))
+values-fit : (size : ℕ) (p : Places) (xs : List Attribute) → AreShort p → All (FitsAttribute size) xs → All (λ a. FitsWritten size a.value) (map (written_attribute p) xs)
+values-fit size p [] near fits = All-nil _
+values-fit size p (x ∷ xs) near fits =
+    All-cons (λ (a : WrittenAttribute). FitsWritten size a.value) (written_attribute p x) (map (written_attribute p) xs) (value-fits size p x near (All-head (FitsAttribute size) x xs fits)) (values-fit size p xs near (All-tail (FitsAttribute size) x xs fits))
 
 -- ---- codes
 
@@ -161,30 +168,30 @@ code-declared s shapes within =
 
 -- ---- entries
 
-entries-fit : (size l : ℕ) (known uses : List EntryShape) (es : List GivenEntry) → l < 256 ^ 4 → length uses < 2 ^ 64 → first_uses known (shapes_of es) ≡ uses → All (FitsEntry size) es → All (spelled.FitsEntry (numbered 1 uses) size) (shaped (written_entries l uses es))
-entries-fit size l known uses [] near few used fits = All-nil _
-entries-fit size l known uses (e ∷ es) near few used fits =
+entries-fit : (size : ℕ) (p : Places) (known uses : List EntryShape) (es : List GivenEntry) → AreShort p → length uses < 2 ^ 64 → first_uses known (shapes_of es) ≡ uses → All (FitsEntry size) es → All (spelled.FitsEntry (numbered 1 uses) size) (shaped (written_entries p uses es))
+entries-fit size p known uses [] near few used fits = All-nil _
+entries-fit size p known uses (e ∷ es) near few used fits =
     let s = shape_of e es in
     let there : place_in s uses < length uses = rw (used) at (code-there s known (shapes_of es)) in
     let found = code-declared s uses there in
-    let others = entries-fit size l (with_use s known) uses es near few used (All-tail (FitsEntry size) e es fits) in
+    let others = entries-fit size p (with_use s known) uses es near few used (All-tail (FitsEntry size) e es fits) in
     let here = All-head (FitsEntry size) e es fits in
-    All-cons (spelled.FitsEntry (numbered 1 uses) size) _ (shaped (written_entries l uses es))
+    All-cons (spelled.FitsEntry (numbered 1 uses) size) _ (shaped (written_entries p uses es))
     (record {
       some = omega arith;
       code = omega (arith, there, few);
-      declared = found ∙ ap Some (ap (λ d. record { code = code_in uses s; tag = e.tag; has_children = nat_lt e.depth d; attributes = map spec_of_form (forms_of e.attributes) }) (sym (next-first l uses es)) ∙ ap (λ xs. record { code = code_in uses s; tag = e.tag; has_children = nat_lt e.depth (next_depth (written_entries l uses es)); attributes = xs }) (sym (forms-same l e.attributes)));
-      values = values-fit size l e.attributes near here.attributes;
+      declared = found ∙ ap Some (ap (λ d. record { code = code_in uses s; tag = e.tag; has_children = nat_lt e.depth d; attributes = map spec_of_form (forms_of e.attributes) }) (sym (next-first p uses es)) ∙ ap (λ xs. record { code = code_in uses s; tag = e.tag; has_children = nat_lt e.depth (next_depth (written_entries p uses es)); attributes = xs }) (sym (forms-same p e.attributes)));
+      values = values-fit size p e.attributes near here.attributes;
     })
     others
 
-below-written : (l depth : ℕ) (uses : List EntryShape) (es : List GivenEntry) → AreBelow depth es → spelled.AreBelow depth (written_entries l uses es)
-below-written l depth uses [] below = tt
-below-written l depth uses (e ∷ es) below = (below.0, below.1, below-written l e.depth uses es below.2)
+below-written : (p : Places) (depth : ℕ) (uses : List EntryShape) (es : List GivenEntry) → AreBelow depth es → spelled.AreBelow depth (written_entries p uses es)
+below-written p depth uses [] below = tt
+below-written p depth uses (e ∷ es) below = (below.0, below.1, below-written p e.depth uses es below.2)
 
-tree-written : (l : ℕ) (uses : List EntryShape) (es : List GivenEntry) → IsTree es → spelled.IsTree (written_entries l uses es)
-tree-written l uses [] tree = absurd tree
-tree-written l uses (e ∷ es) tree = (tree.0, below-written l 0 uses es tree.1)
+tree-written : (p : Places) (uses : List EntryShape) (es : List GivenEntry) → IsTree es → spelled.IsTree (written_entries p uses es)
+tree-written p uses [] tree = absurd tree
+tree-written p uses (e ∷ es) tree = (tree.0, below-written p 0 uses es tree.1)
 
 -- ---- declarations
 
@@ -212,11 +219,13 @@ constant-small false false false true f bits = lit< tt
 constant-small false false false false true bits = lit< tt
 constant-small false false false false false bits = lit< tt
 
-form-small : (v : AttributeValue) → form_number (written_of 0 v) < 2 ^ 64
+form-small : (v : AttributeValue) → form_number (written_of no_places v) < 2 ^ 64
 form-small (Address a) = lit< tt
 form-small (Constant form bits) = constant-small (form == DW_FORM_data1) (form == DW_FORM_data2) (form == DW_FORM_data4) (form == DW_FORM_data8) (form == DW_FORM_sdata) bits
 form-small (Flag b) = lit< tt
 form-small LineProgramRef = lit< tt
+form-small (UnitRef id) = lit< tt
+form-small (DebugInfoRef (entry_of unit id)) = lit< tt
 
 constant-some : (a b c d f : Bool) (bits : ℕ) → 0 < form_number (if a then as_data1 bits else (if b then as_data2 bits else (if c then as_data4 bits else (if d then as_data8 bits else (if f then as_sdata (cast_signed w64 bits) else as_udata bits)))))
 constant-some true b c d f bits = lit< tt
@@ -226,11 +235,13 @@ constant-some false false false true f bits = lit< tt
 constant-some false false false false true bits = lit< tt
 constant-some false false false false false bits = lit< tt
 
-form-some : (v : AttributeValue) → 0 < form_number (written_of 0 v)
+form-some : (v : AttributeValue) → 0 < form_number (written_of no_places v)
 form-some (Address a) = lit< tt
 form-some (Constant form bits) = constant-some (form == DW_FORM_data1) (form == DW_FORM_data2) (form == DW_FORM_data4) (form == DW_FORM_data8) (form == DW_FORM_sdata) bits
 form-some (Flag b) = lit< tt
 form-some LineProgramRef = lit< tt
+form-some (UnitRef id) = lit< tt
+form-some (DebugInfoRef (entry_of unit id)) = lit< tt
 
 forms-fit : (size : ℕ) (xs : List Attribute) → All (FitsAttribute size) xs → All (λ f. FitsSpec (spec_of_form f)) (forms_of xs)
 forms-fit size [] fits = All-nil _
@@ -271,33 +282,37 @@ body-shorter order size u =
     let body = unit_body order size u.table_offset u.entries in
     omega (arith, length-append (number_bytes order 4 (length body)) body)
 
-pub units-fit : (order : Endian) (size a l : ℕ) (us : List OrderedUnit) → All (λ u. u.address_size ≡ size) us → All FitsOrdered us
-    → a + length (tables_bytes (written_units order size a l us)) ≤ most_bytes → l + length (lines_bytes order size (written_tables us)) ≤ most_bytes → length (info_bytes order size (written_units order size a l us)) ≤ most_bytes
-    → All (FitsUnit order size) (written_units order size a l us)
-units-fit order size a l [] sized fits tables lines info = All-nil _
-units-fit order size a l (u ∷ us) sized fits tables lines info =
+pub units-fit : (order : Endian) (size a l : ℕ) (units : List UnitPlaces) (us : List OrderedUnit) → All (λ u. u.address_size ≡ size) us → All FitsOrdered us → ((unit id : ℕ) → offset_in_section units unit id ≤ most_bytes)
+    → a + length (tables_bytes (written_units order size units a l us)) ≤ most_bytes → l + length (lines_bytes order size (written_tables us)) ≤ most_bytes → length (info_bytes order size (written_units order size units a l us)) ≤ most_bytes
+    → All (FitsUnit order size) (written_units order size units a l us)
+units-fit order size a l units [] sized fits near tables lines info = All-nil _
+units-fit order size a l units (u ∷ us) sized fits near tables lines info =
     let here = All-head FitsOrdered u us fits in
     let same : u.address_size ≡ size = All-head (λ (v : OrderedUnit). v.address_size ≡ size) u us sized in
     let P : ℕ → Type 0 = λ n. All (FitsEntry n) u.entries in
     let entries : All (FitsEntry size) u.entries = subst P same here.entries in
-    let unit = written_unit a l u in
+    let p = places_in units (offsets_by_number order size u) l in
+    let unit = written_unit p a u in
     let few = here.few in
-    let rest = written_units order size (a + length (table_bytes unit.table)) (l + length (lines_bytes order size (written_lines u.lines))) us in
+    let rest = written_units order size units (a + length (table_bytes unit.table)) (l + length (lines_bytes order size (written_lines u.lines))) us in
     let long = uses-length [] u.entries in
+    let whole = length-append (placed_unit_bytes order size unit) (info_bytes order size rest) in
+    let length_of : length (placed_unit_bytes order size unit) ≡ unit_length order size u = placed-length order size p a u in
+    let short : AreShort p = record { line = omega (arith, lines); entry = λ id. omega (arith, offset-within order size u id, length_of, whole, info); entry_of = near } in
     All-cons (FitsUnit order size) unit rest
     (record {
       offset = omega (arith, tables);
-      short = omega (arith, info, body-shorter order size unit, length-append (placed_unit_bytes order size unit) (info_bytes order size rest));
+      short = omega (arith, info, body-shorter order size unit, whole);
       table = numbered-fit 1 (shapes_in u) (lit< tt) (omega (arith, long, few)) (uses-fit size [] u.entries entries (All-nil FitsShape));
-      entries = entries-fit size l [] (shapes_in u) u.entries (omega (arith, lines)) (omega (arith, long, few)) refl entries;
-      tree = tree-written l (shapes_in u) u.entries here.tree;
+      entries = entries-fit size p [] (shapes_in u) u.entries short (omega (arith, long, few)) refl entries;
+      tree = tree-written p (shapes_in u) u.entries here.tree;
     })
-    (units-fit order size (a + length (table_bytes unit.table)) (l + length (lines_bytes order size (written_lines u.lines))) us (All-tail (λ (v : OrderedUnit). v.address_size ≡ size) u us sized) (All-tail FitsOrdered u us fits)
-    (omega (arith, tables, length-append (table_bytes unit.table) (tables_bytes rest))) (omega (arith, lines, lengths-both (one_table_bytes order size) (written_lines u.lines) (written_tables us))) (omega (arith, info, length-append (placed_unit_bytes order size unit) (info_bytes order size rest))))
+    (units-fit order size (a + length (table_bytes unit.table)) (l + length (lines_bytes order size (written_lines u.lines))) units us (All-tail (λ (v : OrderedUnit). v.address_size ≡ size) u us sized) (All-tail FitsOrdered u us fits) near
+    (omega (arith, tables, length-append (table_bytes unit.table) (tables_bytes rest))) (omega (arith, lines, lengths-both (one_table_bytes order size) (written_lines u.lines) (written_tables us))) (omega (arith, info, whole)))
 
-pub tables-from : (order : Endian) (size : ℕ) (us : List OrderedUnit) (a l : ℕ) → AreTablesFrom a (written_units order size a l us)
-tables-from order size [] a l = tt
-tables-from order size (u ∷ us) a l = (refl, tables-from order size us (a + length (table_bytes (numbered 1 (shapes_in u)))) (l + length (lines_bytes order size (written_lines u.lines))))
+pub tables-from : (order : Endian) (size : ℕ) (units : List UnitPlaces) (us : List OrderedUnit) (a l : ℕ) → AreTablesFrom a (written_units order size units a l us)
+tables-from order size units [] a l = tt
+tables-from order size units (u ∷ us) a l = (refl, tables-from order size units us (a + length (table_bytes (numbered 1 (shapes_in u)))) (l + length (lines_bytes order size (written_lines u.lines))))
 
 -- ---- all line tables
 
@@ -343,22 +358,22 @@ tables-fit order size (u ∷ us) sized fits lines short =
 
 -- ---- what is read of each unit
 
-pub attributes-read : (l : ℕ) (xs : List Attribute) → map (λ (a : WrittenAttribute). (a.name, written_value a.name a.value)) (map (written_attribute l) xs) ≡ map (given_value l) xs
-attributes-read l [] = refl
-attributes-read l (x ∷ xs) = ap (λ ys. given_value l x ∷ ys) (attributes-read l xs)
+pub attributes-read : (p : Places) (xs : List Attribute) → map (λ (a : WrittenAttribute). (a.name, written_value a.name a.value)) (map (written_attribute p) xs) ≡ map (given_value p) xs
+attributes-read p [] = refl
+attributes-read p (x ∷ xs) = ap (λ ys. given_value p x ∷ ys) (attributes-read p xs)
 
-abbrev shaped_contents : Shaped → Contents
+abbrev pub shaped_contents : Shaped → Contents
 shaped_contents x = record { depth = x.entry.depth; tag = x.entry.tag; attributes = map (λ (a : WrittenAttribute). (a.name, written_value a.name a.value)) x.entry.attributes }
 
-places-contents : (order : Endian) (size : ℕ) (xs : List Shaped) (place : ℕ) → map read_contents (at_places (entry_bytes order size) (λ p x. read_entry p x ∷ []) place xs) ≡ map shaped_contents xs
+pub places-contents : (order : Endian) (size : ℕ) (xs : List Shaped) (place : ℕ) → map read_contents (at_places (entry_bytes order size) (λ p x. read_entry p x ∷ []) place xs) ≡ map shaped_contents xs
 places-contents order size [] place = refl
 places-contents order size (x ∷ xs) place = ap (λ ys. shaped_contents x ∷ ys) (places-contents order size xs (place + length (entry_bytes order size x)))
 
-contents-given : (l : ℕ) (uses : List EntryShape) (es : List GivenEntry) → map shaped_contents (shaped (written_entries l uses es)) ≡ map (given_contents l) es
-contents-given l uses [] = refl
-contents-given l uses (e ∷ es) =
-    ap (λ xs. record { depth = e.depth; tag = e.tag; attributes = xs } ∷ map shaped_contents (shaped (written_entries l uses es))) (attributes-read l e.attributes)
-    ∙ ap (λ ys. given_contents l e ∷ ys) (contents-given l uses es)
+pub contents-given : (p : Places) (uses : List EntryShape) (es : List GivenEntry) → map shaped_contents (shaped (written_entries p uses es)) ≡ map (given_contents p) es
+contents-given p uses [] = refl
+contents-given p uses (e ∷ es) =
+    ap (λ xs. record { depth = e.depth; tag = e.tag; attributes = xs } ∷ map shaped_contents (shaped (written_entries p uses es))) (attributes-read p e.attributes)
+    ∙ ap (λ ys. given_contents p e ∷ ys) (contents-given p uses es)
 
 -- whether the root names the line table
 abbrev pub named_offset : ℕ → Bool → Option ℕ
@@ -373,22 +388,24 @@ constant-unnamed name false false false true f bits = refl
 constant-unnamed name false false false false true bits = refl
 constant-unnamed name false false false false false bits = refl
 
-value-named : (l : ℕ) (v : AttributeValue) → line_offset (Some (written_value DW_AT_stmt_list (written_of l v))) ≡ named_offset l (is_lines v)
-value-named l (Address a) = refl
-value-named l (Constant form bits) = constant-unnamed DW_AT_stmt_list (form == DW_FORM_data1) (form == DW_FORM_data2) (form == DW_FORM_data4) (form == DW_FORM_data8) (form == DW_FORM_sdata) bits
-value-named l (Flag b) = refl
-value-named l LineProgramRef = refl
+value-named : (p : Places) (v : AttributeValue) → line_offset (Some (written_value DW_AT_stmt_list (written_of p v))) ≡ named_offset p.line (is_lines v)
+value-named p (Address a) = refl
+value-named p (Constant form bits) = constant-unnamed DW_AT_stmt_list (form == DW_FORM_data1) (form == DW_FORM_data2) (form == DW_FORM_data4) (form == DW_FORM_data8) (form == DW_FORM_sdata) bits
+value-named p (Flag b) = refl
+value-named p LineProgramRef = refl
+value-named p (UnitRef id) = refl
+value-named p (DebugInfoRef (entry_of unit id)) = refl
 
 abbrev pub found_in : List (ℕ × Value) → Option Value
 found_in xs = option_map (λ a. a.1) (find (λ a. a.0 == DW_AT_stmt_list) xs)
 
-pub lines-named : (l : ℕ) (xs : List Attribute) → line_offset (found_in (map (given_value l) xs)) ≡ named_offset l (names_lines_in xs)
-lines-named l [] = refl
-lines-named l (x ∷ xs) = go (x.name == DW_AT_stmt_list) refl (lines-named l xs)
+pub lines-named : (p : Places) (xs : List Attribute) → line_offset (found_in (map (given_value p) xs)) ≡ named_offset p.line (names_lines_in xs)
+lines-named p [] = refl
+lines-named p (x ∷ xs) = go (x.name == DW_AT_stmt_list) refl (lines-named p xs)
   where
-    go : (b : Bool) → (x.name == DW_AT_stmt_list) ≡ b → line_offset (found_in (map (given_value l) xs)) ≡ named_offset l (names_lines_in xs)
-        → line_offset (option_map (λ (a : ℕ × Value). a.1) (cond b (Some (given_value l x)) (find (λ a. a.0 == DW_AT_stmt_list) (map (given_value l) xs)))) ≡ named_offset l (if b then is_lines x.value else names_lines_in xs)
-    go true e others = let name : x.name ≡ DW_AT_stmt_list = eqb-true _ _ e in ap (λ n. line_offset (Some (written_value n (written_of l x.value)))) name ∙ value-named l x.value
+    go : (b : Bool) → (x.name == DW_AT_stmt_list) ≡ b → line_offset (found_in (map (given_value p) xs)) ≡ named_offset p.line (names_lines_in xs)
+        → line_offset (option_map (λ (a : ℕ × Value). a.1) (cond b (Some (given_value p x)) (find (λ a. a.0 == DW_AT_stmt_list) (map (given_value p) xs)))) ≡ named_offset p.line (if b then is_lines x.value else names_lines_in xs)
+    go true e others = let name : x.name ≡ DW_AT_stmt_list = eqb-true _ _ e in ap (λ n. line_offset (Some (written_value n (written_of p x.value)))) name ∙ value-named p x.value
     go false e others = others
 
 -- the files, rows and sequences of a table that is read are those that were given
@@ -430,38 +447,39 @@ module _ (s : Sections) (size : ℕ) where
       let fit = All-weaker (FitsGivenSequence size) (FitsSequence size) (λ q h. h.sequence) g.sequences (subst P same sequences.0) in
       segments-read s size v e p sized is_root names here fit ∙ ap Ok (segments-same s.order size g p refl g.sequences)
 
-  unit-lines : (place a l : ℕ) (u : OrderedUnit) (rest : List WrittenTable) → u.address_size ≡ size → FitsOrdered u → FitsLines u.lines → IsWritable size u
-      → All (λ p. line_table s size p.offset ≡ Ok (read_table s.order size p)) (placed_tables s.order size l (written_lines u.lines ++ rest))
-      → segments_of_unit s (read_unit s.order size place (written_unit a l u)) ≡ Ok (given_segments u.lines)
-  unit-lines place a l u rest same fits lines writable read = at-root u.entries fits.tree writable.named
+  unit-lines : (place a : ℕ) (p : Places) (u : OrderedUnit) (rest : List WrittenTable) → u.address_size ≡ size → FitsOrdered u → FitsLines u.lines → IsWritable size u
+      → All (λ t. line_table s size t.offset ≡ Ok (read_table s.order size t)) (placed_tables s.order size p.line (written_lines u.lines ++ rest))
+      → segments_of_unit s (read_unit s.order size place (written_unit p a u)) ≡ Ok (given_segments u.lines)
+  unit-lines place a p u rest same fits lines writable read = at-root u.entries fits.tree writable.named
     where
       at-root : (es : List GivenEntry) → IsTree es → names_lines es ≡ is_some u.lines.address_size
-          → segments_of_unit s (record { header = (read_unit s.order size place (written_unit a l u)).header; entries = read_entries s.order size (place + header_length) (written_entries l (shapes_in u) es) }) ≡ Ok (given_segments u.lines)
+          → segments_of_unit s (record { header = (read_unit s.order size place (written_unit p a u)).header; entries = read_entries s.order size (place + header_length) (written_entries p (shapes_in u) es) }) ≡ Ok (given_segments u.lines)
       at-root [] tree named = absurd tree
       at-root (e ∷ es) tree named =
-          let names = ap (λ xs. line_offset (found_in xs)) (attributes-read l e.attributes) ∙ lines-named l e.attributes ∙ ap (named_offset l) named in
-          let P : List WrittenTable → Type 0 = λ ts. All (λ p. line_table s size p.offset ≡ Ok (read_table s.order size p)) (placed_tables s.order size l (ts ++ rest)) in
+          let names = ap (λ xs. line_offset (found_in xs)) (attributes-read p e.attributes) ∙ lines-named p e.attributes ∙ ap (named_offset p.line) named in
+          let P : List WrittenTable → Type 0 = λ ts. All (λ t. line_table s size t.offset ≡ Ok (read_table s.order size t)) (placed_tables s.order size p.line (ts ++ rest)) in
           let Q : ℕ → Type 0 = λ n. IsOfSize n u.lines.address_size in
-          root-lines _ _ l u.lines rest u.lines.address_size refl refl names lines (subst Q same fits.lines) lines.sequences (subst P (lines-are u.lines) read)
+          root-lines _ _ p.line u.lines rest u.lines.address_size refl refl names lines (subst Q same fits.lines) lines.sequences (subst P (lines-are u.lines) read)
 
-  units-each : (place a l : ℕ) (us : List OrderedUnit) → All (IsWritable size) us → All FitsOrdered us → All (λ u. FitsLines u.lines) us
+  units-each : (place a l : ℕ) (units : List UnitPlaces) (us : List OrderedUnit) → All (IsWritable size) us → All FitsOrdered us → All (λ u. FitsLines u.lines) us
       → All (λ p. line_table s size p.offset ≡ Ok (read_table s.order size p)) (placed_tables s.order size l (written_tables us))
-      → AllZip (IsReadUnit s) us (read_units s.order size place (written_units s.order size a l us))
-  units-each place a l [] writable fits lines read = tt
-  units-each place a l (u ∷ us) writable fits lines read =
+      → AllZip (IsReadUnit s) us (read_units s.order size place (written_units s.order size units a l us))
+  units-each place a l units [] writable fits lines read = tt
+  units-each place a l units (u ∷ us) writable fits lines read =
       let here = All-head (IsWritable size) u us writable in
-      let unit = written_unit a l u in
+      let p = places_in units (offsets_by_number s.order size u) l in
+      let unit = written_unit p a u in
       let split = at_places-append (one_table_bytes s.order size) (λ p t. record { offset = p; table = t } ∷ []) (written_lines u.lines) (written_tables us) l in
       let P : List PlacedTable → Type 0 = λ ps. All (λ p. line_table s size p.offset ≡ Ok (read_table s.order size p)) ps in
       let others = All-back (λ p. line_table s size p.offset ≡ Ok (read_table s.order size p)) (placed_tables s.order size l (written_lines u.lines)) _ (subst P split read) in (
         record {
-          line_offset = l;
+          places = p;
           version = refl;
           address_size = sym here.size;
-          entries = places-contents s.order size (shaped unit.entries) (place + header_length) ∙ contents-given l (shapes_in u) u.entries;
-          lines = unit-lines place a l u (written_tables us) here.size (All-head FitsOrdered u us fits) (All-head (λ (v : OrderedUnit). FitsLines v.lines) u us lines) here read;
+          entries = places-contents s.order size (shaped unit.entries) (place + header_length) ∙ contents-given p (shapes_in u) u.entries;
+          lines = unit-lines place a p u (written_tables us) here.size (All-head FitsOrdered u us fits) (All-head (λ (v : OrderedUnit). FitsLines v.lines) u us lines) here read;
         },
-        units-each (place + length (placed_unit_bytes s.order size unit)) (a + length (table_bytes unit.table)) (l + length (lines_bytes s.order size (written_lines u.lines))) us (All-tail (IsWritable size) u us writable) (All-tail FitsOrdered u us fits) (All-tail (λ (v : OrderedUnit). FitsLines v.lines) u us lines) others,
+        units-each (place + length (placed_unit_bytes s.order size unit)) (a + length (table_bytes unit.table)) (l + length (lines_bytes s.order size (written_lines u.lines))) units us (All-tail (IsWritable size) u us writable) (All-tail FitsOrdered u us fits) (All-tail (λ (v : OrderedUnit). FitsLines v.lines) u us lines) others,
       )
 
 -- ---- the sections
@@ -510,27 +528,60 @@ pub positive : (size : ℕ) → (size ≡ 4) ⊎ (size ≡ 8) → (0 < size) × 
 positive size (inl e) = (omega (arith, e), omega (arith, e))
 positive size (inr e) = (omega (arith, e), omega (arith, e))
 
+-- What is known of the sections of given units, which are spelled within the size of sections.
+pub record AreSpelled (order : Endian) (us : List OrderedUnit) : Type 0 where
+  pub sized : All (λ u. u.address_size ≡ size_of us) us
+  pub known : (size_of us ≡ 4) ⊎ (size_of us ≡ 8)
+  pub holds : Holds order (abbrev_bytes order (all_places order us) us) (all_info_bytes order (all_places order us) us) (all_lines_bytes order us) (info_relocations order (size_of us) 0 (units_placed order (all_places order us) us)) (lines_relocations order (size_of us) 0 (written_tables us)) (output_sections order (spelled_sections order us))
+  pub units_fit : All (FitsUnit order (size_of us)) (units_placed order (all_places order us) us)
+  pub tables_fit : All (FitsTable order (size_of us)) (written_tables us)
+
+pub are-spelled : (order : Endian) (us : List OrderedUnit) → AreWritable us → All FitsOrdered us → All (λ u. FitsLines u.lines) us → All (IsSound order) (spelled_sections order us) → AreSpelled order us
+are-spelled order us writable fits lines sound =
+    let size = size_of us in
+    let units = all_places order us in
+    let ws = units_placed order units us in
+    let ts = written_tables us in
+    let q = info_relocations order size 0 ws in
+    let r = lines_relocations order size 0 ts in
+    let sized : All (λ u. u.address_size ≡ size) us = All-weaker (IsWritable size) (λ u. u.address_size ≡ size) (λ u h. h.size) us writable in
+    let tables_short = part-short order Abbrev (abbrev_bytes order units us) [] _ sound in
+    let info_short = part-short order Info (all_info_bytes order units us) q _ tables_short.1 in
+    let P : List OutputSection → Type 0 = λ xs. All (IsSound order) xs in
+    let lines_short = part-short order Line (all_lines_bytes order us) r [] (subst P (sym (append-nil _)) info_short.1) in
+    let a = tables_short.0 in
+    let i = info_short.0 in
+    let l = lines_short.0 in
+    let near : (unit id : ℕ) → offset_in_section units unit id ≤ most_bytes = λ unit id. omega (arith, i, places-short order size 0 us unit id, info-length order size units 0 0 us) in
+    record {
+      sized = sized;
+      known = size-known us fits;
+      holds = sections-hold order (abbrev_bytes order units us) (all_info_bytes order units us) (all_lines_bytes order us) q r (info-none order size ws) (lines-none order size ts);
+      units_fit = units-fit order size 0 0 units us sized fits near (omega (arith, a)) (omega (arith, l)) i;
+      tables_fit = tables-fit order size us sized fits lines l;
+    }
+
+-- All units that are read.
+pub units-read-back : (order : Endian) (us : List OrderedUnit) → AreSpelled order us → units (output_sections order (spelled_sections order us)) ≡ record { items = read_units order (size_of us) 0 (units_placed order (all_places order us) us); fault = None }
+units-read-back order us spelled =
+    let size = size_of us in
+    let ws = units_placed order (all_places order us) us in
+    let holds = spelled.holds in
+    units-read (output_sections order (spelled_sections order us)) size ws spelled.known spelled.units_fit (tables-from order size (all_places order us) us 0 0) holds.abbrev_is holds.info_is (holds.info_relocations_are ∙ info-functions order size 0 ws)
+
 -- Given units that are spelled within the size of sections are read back.
 pub reads-back : (order : Endian) (us : List OrderedUnit) → AreWritable us → All FitsOrdered us → All (λ u. FitsLines u.lines) us → All (IsSound order) (spelled_sections order us) → ReadsBack order us (spelled_sections order us)
 reads-back order us writable fits lines sound =
     let size = size_of us in
-    let ws = written_units order size 0 0 us in
+    let units = all_places order us in
     let ts = written_tables us in
     let s = output_sections order (spelled_sections order us) in
-    let sized : All (λ u. u.address_size ≡ size) us = All-weaker (IsWritable size) (λ u. u.address_size ≡ size) (λ u h. h.size) us writable in
-    let known = size-known us fits in
-    let some = positive size known in
-    let holds = sections-hold order (abbrev_bytes order us) (all_info_bytes order us) (all_lines_bytes order us) (info_relocations order size 0 ws) (lines_relocations order size 0 ts) (info-none order size ws) (lines-none order size ts) in
-    let tables_short = part-short order Abbrev (abbrev_bytes order us) [] _ sound in
-    let info_short = part-short order Info (all_info_bytes order us) (info_relocations order size 0 ws) _ tables_short.1 in
-    let P : List OutputSection → Type 0 = λ xs. All (IsSound order) xs in
-    let lines_short = part-short order Line (all_lines_bytes order us) (lines_relocations order size 0 ts) [] (subst P (sym (append-nil _)) info_short.1) in
-    let a = tables_short.0 in
-    let i = info_short.0 in
-    let l = lines_short.0 in
-    let table_facts = lines-read s size ts some.0 some.1 (tables-fit order size us sized fits lines l) holds.line_is (holds.line_relocations_are ∙ lines-functions order size 0 ts) in
+    let spelled = are-spelled order us writable fits lines sound in
+    let holds = spelled.holds in
+    let some = positive size spelled.known in
+    let table_facts = lines-read s size ts some.0 some.1 spelled.tables_fit holds.line_is (holds.line_relocations_are ∙ lines-functions order size 0 ts) in
     record {
-      read = read_units order size 0 ws;
-      units_read = units-read s size ws known (units-fit order size 0 0 us sized fits (omega (arith, a)) (omega (arith, l)) i) (tables-from order size us 0 0) holds.abbrev_is holds.info_is (holds.info_relocations_are ∙ info-functions order size 0 ws);
-      each = units-each s size 0 0 0 us writable fits lines table_facts;
+      read = read_units order size 0 (units_placed order units us);
+      units_read = units-read-back order us spelled;
+      each = units-each s size 0 0 0 units us writable fits lines table_facts;
     }

@@ -1,6 +1,6 @@
 -- The sections that are spelled of given units say their trees, in units of version 4: `carries-trees`, `target-form`.
-use Rattle.std.proofs.Common.{◌≡◌, ℕ, suc, ◌^◌, ◌<◌, refl, sym, ap, ◌∙◌, List, [], ◌∷◌, map, Ok, Bool, true, false}
-use Rattle.std.specs.Prelude.{◌==◌, ◌||◌, if◌then◌else◌}
+use Rattle.std.proofs.Common.{◌≡◌, ℕ, suc, ◌+◌, ◌^◌, ◌<◌, refl, sym, ap, subst, ◌∙◌, arith, List, [], ◌∷◌, length, map, Ok, Bool, true, false}
+use Rattle.std.specs.Prelude.{◌==◌, ◌||◌, if◌then◌else◌, option_map, option_and_then, slice_get, position}
 use Rattle.std.specs.List.{All, AllZip}
 use Rattle.std.specs.Int.{w64, cast_signed}
 use Rattle.std.proofs.lemmas.Bool.{eqb-true}
@@ -11,17 +11,27 @@ use Rattle.dwc_base.specs.declared.constants.TheConstants.{DW_FORM_data1, DW_FOR
 use Rattle.dwc_base.specs.Sections.{Sections}
 use Rattle.dwc_base.specs.Values as Values
 use Rattle.dwc_base.specs.Entries.{Entry}
-use Rattle.dwc_base.specs.Carried.{Unit, units}
+use Rattle.dwc_base.specs.Carried.{Unit as ReadUnit, units}
 use Rattle.dwc_base.specs.Outputs.{OutputSection, output_sections}
 use Rattle.dwc_base.specs.OutputForm.{HaveTargetForm}
-use Rattle.dwc_base.specs.TreeReading.{ListReading, ReadingUnit, each_read, read_as, value_said, entry_said, unit_said, units_said, trees, no_lists, CarriesTrees}
+use Rattle.dwc_base.specs.TreeReading.{ListReading, ReadingUnit, each_read, read_as, entry_or_nothing, entry_in_unit, entry_in_section, value_said, entry_said, unit_said, units_said, trees, no_lists, CarriesTrees}
+use Rattle.dwc_base.specs.Indexed.{texts_of_unit}
 use Rattle.dwc_write.specs.declared.attributes.Attribute.{Attribute}
 use Rattle.dwc_write.specs.declared.attributes.AttributeValue.{AttributeValue}
-use Rattle.dwc_write.specs.declared.attributes.AttributeValue.TheVariants.{Address, Constant, Flag, LineProgramRef}
-use Rattle.dwc_write.specs.SpelledUnits.{as_data1, as_data2, as_data4, as_data8, as_udata, as_sdata, written_value}
-use Rattle.dwc_write.specs.GivenUnits.{GivenEntry, OrderedUnit, constant_of, written_of, is_constant_form, constant_bound, FitsValue, FitsAttribute, FitsEntry, FitsOrdered}
-use Rattle.dwc_write.specs.GivenTrees.{given_said, attribute_said, tree_entry, given_tree}
+use Rattle.dwc_write.specs.declared.attributes.AttributeValue.TheVariants.{Address, Constant, Flag, LineProgramRef, UnitRef, DebugInfoRef}
+use Rattle.dwc_write.specs.declared.attributes.DebugInfoRef.TheVariants.{Entry as entry_of}
+use Rattle.dwc_write.specs.SpelledUnits.{as_data1, as_data2, as_data4, as_data8, as_udata, as_sdata, written_value, shaped, header_length}
+use Rattle.dwc_write.specs.SpelledTables.{table_bytes}
+use Rattle.dwc_write.specs.SpelledSections.{placed_unit_bytes, lines_bytes, read_units}
+use Rattle.dwc_write.specs.GivenLines.{FitsLines}
+use Rattle.dwc_write.specs.GivenUnits.{GivenEntry, OrderedUnit, Places, AreWritable, size_of, shapes_in, constant_of, written_of, is_constant_form, constant_bound, FitsValue, FitsAttribute, FitsEntry, FitsOrdered}
+use Rattle.dwc_write.specs.GivenTrees.{place_in_order, place_in_units, given_said, attribute_said, tree_entry, given_tree, trees_from, given_trees}
+use Rattle.dwc_write.specs.Layouts.{UnitPlaces, unit_length, offsets_by_number, places_of_units, places_in, written_unit, written_lines, written_units}
+use Rattle.dwc_write.specs.SpelledOutput.{units_placed, all_places, spelled_sections}
+use Rattle.dwc_write.specs.Writers.{IsSound}
 use Rattle.dwc_write.specs.ReadBack.{read_contents, given_value, given_contents, IsReadUnit, ReadsBack}
+use Rattle.dwc_write.proofs.PlacedEntries.{placed-length, offsets-same, offsets-moved, offsets-read, StandsAt, StandFrom, in-unit, in-section}
+use Rattle.dwc_write.proofs.ReadBackLaws.{places-contents, contents-given, are-spelled, units-read-back}
 
 -- ---- values
 
@@ -44,78 +54,141 @@ constant-read name form bits known small =
     go false n false o false p false q false r true is known small = of_form DW_FORM_udata is
     go false n false o false p false q false r false s known small = absurd (cc)
 
-module _ (lists : ListReading) (r : ReadingUnit) where
+-- What references at some places are read as: the entries of a unit, and those of all units.
+record AreNamed (us : List OrderedUnit) (u : OrderedUnit) (p : Places) (r : ReadingUnit) : Type 0 where
+  entry : (id : ℕ) → entry_in_unit r (p.entry id) ≡ entry_or_nothing (option_map (λ place. (r.number, place)) (place_in_order u id))
+  entry_of : (unit id : ℕ) → entry_in_section r (p.entry_of unit id) ≡ entry_or_nothing (place_in_units us unit id)
+
+module _ (lists : ListReading) (us : List OrderedUnit) (u : OrderedUnit) (p : Places) (r : ReadingUnit) (named : AreNamed us u p r) where
   -- a value says what was given
-  value-given : (size l : ℕ) (e : Entry) (a : Attribute) → FitsAttribute size a → value_said lists r e (written_value a.name (written_of l a.value)) ≡ Ok (given_said a.value)
+  value-given : (size : ℕ) (e : Entry) (a : Attribute) → FitsAttribute size a → value_said lists r e (written_value a.name (written_of p a.value)) ≡ Ok (given_said us r.number u a.value)
   unfolding value_said
-  value-given size l e a fits = go a.value fits.value
+  value-given size e a fits = go a.value fits.value
     where
-      go : (v : AttributeValue) → FitsValue size a.name v → value_said lists r e (written_value a.name (written_of l v)) ≡ Ok (given_said v)
+      go : (v : AttributeValue) → FitsValue size a.name v → value_said lists r e (written_value a.name (written_of p v)) ≡ Ok (given_said us r.number u v)
       go (Address x) h = refl
       go (Constant form bits) h = ap (value_said lists r e) (constant-read a.name form bits h.0 h.1)
       go (Flag b) h = refl
       go LineProgramRef h = rw (h) refl
+      go (UnitRef id) h = ap Ok (named.entry id.index)
+      go (DebugInfoRef (entry_of unit id)) h = ap Ok (named.entry_of unit.index id.index)
 
-  values-given : (size l : ℕ) (e : Entry) (xs : List Attribute) → All (FitsAttribute size) xs → each_read (λ a. read_as (λ v. (a.0, v)) (value_said lists r e a.1)) (map (given_value l) xs) ≡ Ok (map attribute_said xs)
-  values-given size l e [] fits = refl
-  values-given size l e (x ∷ xs) fits =
-      let here = value-given size l e x (All-head (FitsAttribute size) x xs fits) in
-      let others = values-given size l e xs (All-tail (FitsAttribute size) x xs fits) in
+  values-given : (size : ℕ) (e : Entry) (xs : List Attribute) → All (FitsAttribute size) xs → each_read (λ a. read_as (λ v. (a.0, v)) (value_said lists r e a.1)) (map (given_value p) xs) ≡ Ok (map (attribute_said us r.number u) xs)
+  values-given size e [] fits = refl
+  values-given size e (x ∷ xs) fits =
+      let here = value-given size e x (All-head (FitsAttribute size) x xs fits) in
+      let others = values-given size e xs (All-tail (FitsAttribute size) x xs fits) in
       rw (here, others) refl
 
   -- an entry, by what stands beside its offset
-  entry-given : (size l : ℕ) (e : Entry) (g : GivenEntry) → FitsEntry size g → read_contents e ≡ given_contents l g → entry_said lists r e ≡ Ok (tree_entry g)
-  entry-given size l e g fits same =
+  entry-given : (size : ℕ) (e : Entry) (g : GivenEntry) → FitsEntry size g → read_contents e ≡ given_contents p g → entry_said lists r e ≡ Ok (tree_entry us r.number u g)
+  entry-given size e g fits same =
       let depth : e.depth ≡ g.depth = ap (λ c. c.depth) same in
       let tag : e.tag ≡ g.tag = ap (λ c. c.tag) same in
-      let attributes : e.attributes ≡ map (given_value l) g.attributes = ap (λ c. c.attributes) same in
-      let values = ap (each_read (λ a. read_as (λ v. (a.0, v)) (value_said lists r e a.1))) attributes ∙ values-given size l e g.attributes fits.attributes in
+      let attributes : e.attributes ≡ map (given_value p) g.attributes = ap (λ c. c.attributes) same in
+      let values = ap (each_read (λ a. read_as (λ v. (a.0, v)) (value_said lists r e a.1))) attributes ∙ values-given size e g.attributes fits.attributes in
       rw (values, depth, tag) refl
 
-  entries-given : (size l : ℕ) (es : List Entry) (gs : List GivenEntry) → All (FitsEntry size) gs → map read_contents es ≡ map (given_contents l) gs → each_read (entry_said lists r) es ≡ Ok (map tree_entry gs)
-  entries-given size l [] [] fits same = refl
-  entries-given size l [] (g ∷ gs) fits same = absurd (cc)
-  entries-given size l (e ∷ es) [] fits same = absurd (cc)
-  entries-given size l (e ∷ es) (g ∷ gs) fits same =
-      let one : read_contents e ≡ given_contents l g = cc in
-      let rest : map read_contents es ≡ map (given_contents l) gs = cc in
-      let here = entry-given size l e g (All-head (FitsEntry size) g gs fits) one in
-      let others = entries-given size l es gs (All-tail (FitsEntry size) g gs fits) rest in
+  entries-given : (size : ℕ) (es : List Entry) (gs : List GivenEntry) → All (FitsEntry size) gs → map read_contents es ≡ map (given_contents p) gs → each_read (entry_said lists r) es ≡ Ok (map (tree_entry us r.number u) gs)
+  entries-given size [] [] fits same = refl
+  entries-given size [] (g ∷ gs) fits same = absurd (cc)
+  entries-given size (e ∷ es) [] fits same = absurd (cc)
+  entries-given size (e ∷ es) (g ∷ gs) fits same =
+      let one : read_contents e ≡ given_contents p g = cc in
+      let rest : map read_contents es ≡ map (given_contents p) gs = cc in
+      let here = entry-given size e g (All-head (FitsEntry size) g gs fits) one in
+      let others = entries-given size es gs (All-tail (FitsEntry size) g gs fits) rest in
       rw (here, others) refl
 
 -- ---- units
 
-module _ (lists : ListReading) (s : Sections) (all : List Unit) where
-  unit-given : (number : ℕ) (u : OrderedUnit) (v : Unit) → FitsOrdered u → IsReadUnit s u v → unit_said lists s all number v ≡ Ok (given_tree u)
-  unfolding unit_said
-  unit-given number u v fits read = entries-given lists _ u.address_size read.line_offset v.entries u.entries fits.entries read.entries
+-- A unit that is read at a place says, beside its entries' offsets, what was given, in a unit among others that have some places.
+record IsPlacedUnit (order : Endian) (size : ℕ) (units : List UnitPlaces) (start : ℕ) (u : OrderedUnit) (v : ReadUnit) : Type 0 where
+  line : ℕ
+  contents : map read_contents v.entries ≡ map (given_contents (places_in units (offsets_by_number order size u) line)) u.entries
+  stands : StandsAt order size start u v
 
-  units-given : (us : List OrderedUnit) (vs : List Unit) (number : ℕ) → All FitsOrdered us → AllZip (IsReadUnit s) us vs → units_said lists s all number vs ≡ Ok (map given_tree us)
-  units-given [] [] number fits read = refl
-  units-given [] (v ∷ vs) number fits read = absurd read
-  units-given (u ∷ us) [] number fits read = absurd read
-  units-given (u ∷ us) (v ∷ vs) number fits read =
-      let here = unit-given number u v (All-head FitsOrdered u us fits) read.0 in
-      let others = units-given us vs (suc number) (All-tail FitsOrdered u us fits) read.1 in
+abbrev ArePlaced : Endian → ℕ → List UnitPlaces → ℕ → List OrderedUnit → List ReadUnit → Type 0
+ArePlaced order size units start [] [] = Unit {0}
+ArePlaced order size units start [] (v ∷ vs) = ⊥
+ArePlaced order size units start (u ∷ us) [] = ⊥
+ArePlaced order size units start (u ∷ us) (v ∷ vs) = IsPlacedUnit order size units start u v × ArePlaced order size units (start + unit_length order size u) us vs
+
+placed-stand : (order : Endian) (size : ℕ) (units : List UnitPlaces) (start : ℕ) (us : List OrderedUnit) (vs : List ReadUnit) → ArePlaced order size units start us vs → StandFrom order size start us vs
+placed-stand order size units start [] [] placed = tt
+placed-stand order size units start [] (v ∷ vs) placed = absurd placed
+placed-stand order size units start (u ∷ us) [] placed = absurd placed
+placed-stand order size units start (u ∷ us) (v ∷ vs) placed = (placed.0.stands, placed-stand order size units (start + unit_length order size u) us vs placed.1)
+
+-- units that are spelled one behind another are read so
+read-placed : (order : Endian) (size : ℕ) (units : List UnitPlaces) (place a l : ℕ) (us : List OrderedUnit) → ArePlaced order size units place us (read_units order size place (written_units order size units a l us))
+read-placed order size units place a l [] = tt
+read-placed order size units place a l (u ∷ us) =
+    let p = places_in units (offsets_by_number order size u) l in
+    let unit = written_unit p a u in
+    let xs = shaped unit.entries in
+    let table_at = a + length (table_bytes unit.table) in
+    let line_at = l + length (lines_bytes order size (written_lines u.lines)) in
+    let next = place + length (placed_unit_bytes order size unit) in
+    let P : ℕ → Type 0 = λ n. ArePlaced order size units n us (read_units order size next (written_units order size units table_at line_at us)) in
+    let same : next ≡ place + unit_length order size u = ap (λ n. place + n) (placed-length order size p a u) in (
+      record {
+        line = l;
+        contents = places-contents order size xs (place + header_length) ∙ contents-given p (shapes_in u) u.entries;
+        stands = record {
+          begins = refl;
+          offsets = offsets-read order size xs (place + header_length) ∙ offsets-moved order size place xs header_length ∙ ap (map (λ o. place + o)) (offsets-same order size p (shapes_in u) u.entries header_length);
+        };
+      },
+      subst P same (read-placed order size units next table_at line_at us),
+    )
+
+module _ (lists : ListReading) (s : Sections) (order : Endian) (size : ℕ) (given : List OrderedUnit) (all : List ReadUnit) (stand : StandFrom order size 0 given all) where
+  abbrev places : List UnitPlaces
+  places = places_of_units order size 0 given
+
+  unit-given : (number start : ℕ) (u : OrderedUnit) (v : ReadUnit) → FitsOrdered u → IsPlacedUnit order size places start u v → unit_said lists s all number v ≡ Ok (given_tree given number u)
+  unfolding unit_said
+  unit-given number start u v fits placed =
+      let r : ReadingUnit = record { sections = s; number = number; unit = v; texts = texts_of_unit s v.header; units = all } in
+      let p = places_in places (offsets_by_number order size u) placed.line in
+      let own : (id : ℕ) → entry_in_unit r (p.entry id) ≡ entry_or_nothing (option_map (λ place. (number, place)) (place_in_order u id)) =
+      λ id. ap (λ n. entry_or_nothing (option_map (λ place. (number, place)) (position (λ e. e.offset == n + p.entry id) v.entries))) placed.stands.begins
+      ∙ ap (λ q. entry_or_nothing (option_map (λ place. (number, place)) q)) (in-unit order size start id u v placed.stands) in
+      let any : (unit id : ℕ) → entry_in_section r (p.entry_of unit id) ≡ entry_or_nothing (place_in_units given unit id) =
+      λ unit id. ap entry_or_nothing (in-section order size 0 0 given all unit id stand ∙ ap (λ m. option_map (λ place. (m, place)) (option_and_then (λ w. place_in_order w id) (slice_get given unit))) (omega arith)) in
+      entries-given lists given u p r (record { entry = own; entry_of = any }) u.address_size v.entries u.entries fits.entries placed.contents
+
+  units-given : (us : List OrderedUnit) (vs : List ReadUnit) (number start : ℕ) → All FitsOrdered us → ArePlaced order size places start us vs → units_said lists s all number vs ≡ Ok (trees_from given number us)
+  units-given [] [] number start fits placed = refl
+  units-given [] (v ∷ vs) number start fits placed = absurd placed
+  units-given (u ∷ us) [] number start fits placed = absurd placed
+  units-given (u ∷ us) (v ∷ vs) number start fits placed =
+      let here = unit-given number start u v (All-head FitsOrdered u us fits) placed.0 in
+      let others = units-given us vs (suc number) (start + unit_length order size u) (All-tail FitsOrdered u us fits) placed.1 in
       rw (here, others) refl
 
--- Sections that read back as given units say their trees.
-pub carries-trees : (order : Endian) (us : List OrderedUnit) (s : List OutputSection) → All FitsOrdered us → ReadsBack order us s → CarriesTrees order (map given_tree us) s
+-- The sections that are spelled of given units say their trees.
+pub carries-trees : (order : Endian) (us : List OrderedUnit) → AreWritable us → All FitsOrdered us → All (λ u. FitsLines u.lines) us → All (IsSound order) (spelled_sections order us) → CarriesTrees order (given_trees us) (spelled_sections order us)
 unfolding trees
-carries-trees order us s fits back =
-    let read = back.units_read in
-    let said = units-given no_lists (output_sections order s) back.read us back.read 0 fits back.each in
+carries-trees order us writable fits lines sound =
+    let size = size_of us in
+    let places = all_places order us in
+    let vs = read_units order size 0 (units_placed order places us) in
+    let placed = read-placed order size places 0 0 0 us in
+    let read = units-read-back order us (are-spelled order us writable fits lines sound) in
+    let said = units-given no_lists (output_sections order (spelled_sections order us)) order size us vs (placed-stand order size places 0 us vs placed) us vs 0 0 fits placed in
     rw (read) said
 
 -- ---- the form of the units
 
-forms-read : (s : Sections) (size : ℕ) (us : List OrderedUnit) (vs : List Unit) → All (λ u. u.address_size ≡ size) us → AllZip (IsReadUnit s) us vs → HaveTargetForm size vs
+forms-read : (s : Sections) (size : ℕ) (us : List OrderedUnit) (vs : List ReadUnit) → All (λ u. u.address_size ≡ size) us → AllZip (IsReadUnit s) us vs → HaveTargetForm size vs
 forms-read s size [] [] sized read = All-nil _
 forms-read s size [] (v ∷ vs) sized read = absurd read
 forms-read s size (u ∷ us) [] sized read = absurd read
 forms-read s size (u ∷ us) (v ∷ vs) sized read =
     let here : v.header.address_size ≡ u.address_size = read.0.address_size in
-    All-cons (λ (w : Unit). (w.header.version ≡ 4) × (w.header.address_size ≡ size)) v vs (read.0.version, here ∙ All-head (λ (g : OrderedUnit). g.address_size ≡ size) u us sized)
+    All-cons (λ (w : ReadUnit). (w.header.version ≡ 4) × (w.header.address_size ≡ size)) v vs (read.0.version, here ∙ All-head (λ (g : OrderedUnit). g.address_size ≡ size) u us sized)
     (forms-read s size us vs (All-tail (λ (g : OrderedUnit). g.address_size ≡ size) u us sized) read.1)
 
 -- Sections that read back as given units of a size have units of version 4 and of this size.

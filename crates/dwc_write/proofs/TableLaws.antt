@@ -6,7 +6,7 @@ use Rattle.dwc_base.specs.declared.records.Endian.{Endian}
 use Rattle.dwc_write.specs.Spelled.{number_bytes, sized_bytes}
 use Rattle.dwc_base.specs.LineHeaders.{LineFile}
 use Rattle.dwc_write.specs.GivenLines.{GivenLines, BegunSequence}
-use Rattle.dwc_write.specs.GivenUnits.{written_lines}
+use Rattle.dwc_write.specs.Layouts.{written_lines}
 use Rattle.dwc_write.specs.SpelledLines.{WrittenSequence, line_fields_bytes, line_body, program_place, sequences_instructions}
 use Rattle.dwc_write.specs.SpelledSections.{WrittenTable, one_table_bytes, lines_bytes}
 use Rattle.dwc_write.specs.SpelledRelocations.{sequence_bytes, sequences_relocations, one_table_relocations, lines_relocations}

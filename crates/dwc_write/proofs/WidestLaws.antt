@@ -28,16 +28,19 @@ use Rattle.dwc_write.specs.SpelledSections.{WrittenTable, placed_unit_bytes, tab
 use Rattle.dwc_write.specs.SpelledRelocations.{sequence_bytes}
 use Rattle.dwc_write.specs.declared.attributes.Attribute.{Attribute}
 use Rattle.dwc_write.specs.declared.attributes.AttributeValue.{AttributeValue}
-use Rattle.dwc_write.specs.declared.attributes.AttributeValue.TheVariants.{Address, Constant, Flag, LineProgramRef}
+use Rattle.dwc_write.specs.declared.attributes.AttributeValue.TheVariants.{Address, Constant, Flag, LineProgramRef, UnitRef, DebugInfoRef}
+use Rattle.dwc_write.specs.declared.attributes.DebugInfoRef.TheVariants.{Entry as entry_of}
 use Rattle.dwc_write.specs.declared.abbreviations.AttributeForm.{AttributeForm}
 use Rattle.dwc_write.specs.GivenLines.{FitsLines, FitsSequences, FitsGivenSequence}
-use Rattle.dwc_write.specs.GivenUnits.{GivenEntry, OrderedUnit, EntryShape, AreBelow, IsTree, IsOfSize, IsWritable, AreWritable, FitsAttribute, FitsValue, FitsEntry, FitsOrdered, size_of, constant_of, is_constant_form, constant_bound, written_of, form_of, first_depth, shape_of, shapes_of, place_in, with_use, first_uses, code_in, spec_of_form, numbered, shapes_in, written_attribute, written_entries, written_unit, written_lines, written_units, written_tables}
+use Rattle.dwc_write.specs.GivenUnits.{GivenEntry, OrderedUnit, Places, EntryShape, AreBelow, IsTree, IsOfSize, IsWritable, AreWritable, FitsAttribute, FitsValue, FitsEntry, FitsOrdered, size_of, constant_of, is_constant_form, constant_bound, written_of, form_of, first_depth, shape_of, shapes_of, place_in, with_use, first_uses, code_in, spec_of_form, numbered, shapes_in, written_attribute, written_entries}
+use Rattle.dwc_write.specs.Layouts.{UnitPlaces, offsets_by_number, places_in, written_unit, written_lines, written_units, written_tables}
 use Rattle.dwc_write.specs.SpelledOutput.{abbrev_bytes, all_info_bytes, all_lines_bytes, bytes_of}
 use Rattle.dwc_write.specs.WidestGiven.{widest_value, widest_entry, lists_of, widest_table_for, widest_unit, widest_given}
 use Rattle.dwc_write.proofs.ReadNumbers.{number_bytes-length, uleb_bytes-length, sleb_bytes-small}
 use Rattle.dwc_write.proofs.ReadWritten.{row-bytes, rows-bytes-end, rows-bytes-more}
 use Rattle.dwc_write.proofs.ReadRelocations.{sequences-bytes}
 use Rattle.dwc_write.proofs.SequenceLaws.{sequence-bytes}
+use Rattle.dwc_write.proofs.SizeLaws.{below_length, sleb-most}
 use Rattle.dwc_write.proofs.EntriesLaws.{code-there, next-first}
 use Rattle.dwc_write.proofs.ReadBackLaws.{FitsShape, uses-fit, uses-length, lines_for, lines-are, lengths-both}
 
@@ -46,30 +49,9 @@ uleb-10 n small = uleb_bytes-length 9 n (omega arith)
 
 -- ---- signed numbers
 
-from_0-length : (m k n : ℕ) → n < 64 * 128 ^ k → length (sleb_bytes_from_0 m n) ≤ suc k
-unfolding sleb_bytes_from_0
-from_0-length zero k n small = omega arith
-from_0-length (suc m) zero n small = let is : ltb n 64 ≡ true = lt-ltb n 64 (omega arith) in rw (is, sleb_bytes_from_0) (omega arith)
-from_0-length (suc m) (suc k) n small = go (ltb n 64) (from_0-length m k (n / 128) (omega arith))
-  where
-    go : (b : Bool) → length (sleb_bytes_from_0 m (n / 128)) ≤ suc k → length {A = ℕ} (elim b [ true ↦ n ∷ [] | false ↦ (128 + n % 128) ∷ sleb_bytes_from_0 m (n / 128) ]) ≤ suc (suc k)
-    go true h = omega arith
-    go false h = omega (arith, h)
-
-below_0-length : (m k n : ℕ) → n < 64 * 128 ^ k → length (sleb_bytes_below_0 m n) ≤ suc k
-unfolding sleb_bytes_below_0
-below_0-length zero k n small = omega arith
-below_0-length (suc m) zero n small = let is : ltb n 64 ≡ true = lt-ltb n 64 (omega arith) in rw (is, sleb_bytes_below_0) (omega arith)
-below_0-length (suc m) (suc k) n small = go (ltb n 64) (below_0-length m k (n / 128) (omega arith))
-  where
-    go : (b : Bool) → length (sleb_bytes_below_0 m (n / 128)) ≤ suc k → length {A = ℕ} (elim b [ true ↦ (127 - n) ∷ [] | false ↦ (255 - n % 128) ∷ sleb_bytes_below_0 m (n / 128) ]) ≤ suc (suc k)
-    go true h = omega arith
-    go false h = omega (arith, h)
-
 sleb-10 : (z : ℤ) → nat_abs z ≤ 2 ^ 64 → length (sleb_bytes z) ≤ 10
-unfolding sleb_bytes
-sleb-10 (pos n) small = from_0-length n 9 n (omega (arith, small))
-sleb-10 (negsuc n) small = below_0-length n 9 n (omega (arith, small))
+sleb-10 (pos n) small = sleb-most n small
+sleb-10 (negsuc n) small = omega (arith, below_length n, sleb-most n (omega (arith, small)))
 
 sleb-fits : (z : ℤ) → FitsSigned w64 z → length (sleb_bytes z) ≤ 10
 sleb-fits z fits = sleb-10 z (grind (arith, ints))
@@ -170,21 +152,23 @@ constant-widest order size form bits known small =
     go false n false o false p false q false r true is known small = of_form _ DW_FORM_udata is (uleb-10 bits small)
     go false n false o false p false q false r false s known small = absurd (cc)
 
-value-widest : (order : Endian) (size l : ℕ) (x : Attribute) → size ≤ 8 → FitsAttribute size x → length (written_bytes order size (written_of l x.value)) ≤ widest_value x.value
-value-widest order size l x short fits = go x.value fits.value
+value-widest : (order : Endian) (size : ℕ) (p : Places) (x : Attribute) → size ≤ 8 → FitsAttribute size x → length (written_bytes order size (written_of p x.value)) ≤ widest_value x.value
+value-widest order size p x short fits = go x.value fits.value
   where
-    go : (v : AttributeValue) → FitsValue size x.name v → length (written_bytes order size (written_of l v)) ≤ widest_value v
+    go : (v : AttributeValue) → FitsValue size x.name v → length (written_bytes order size (written_of p v)) ≤ widest_value v
     go (Address a) h = omega (arith, short, number_bytes-length order size (stored a))
     go (Constant form bits) h = constant-widest order size form bits h.0 h.1
     go (Flag b) h = omega arith
-    go LineProgramRef h = omega (arith, number_bytes-length order 4 l)
+    go LineProgramRef h = omega (arith, number_bytes-length order 4 p.line)
+    go (UnitRef id) h = omega (arith, number_bytes-length order 4 (p.entry id.index))
+    go (DebugInfoRef (entry_of unit id)) h = omega (arith, number_bytes-length order 4 (p.entry_of unit.index id.index))
 
-values-widest : (order : Endian) (size l : ℕ) (xs : List Attribute) → size ≤ 8 → All (FitsAttribute size) xs → length (flat_map (attribute_bytes order size) (map (written_attribute l) xs)) ≤ sum_by (λ a. widest_value a.value) xs
-values-widest order size l [] short fits = omega arith
-values-widest order size l (x ∷ xs) short fits =
-    let here = value-widest order size l x short (All-head (FitsAttribute size) x xs fits) in
-    let others = values-widest order size l xs short (All-tail (FitsAttribute size) x xs fits) in
-    omega (arith, here, others, length-append (attribute_bytes order size (written_attribute l x)) (flat_map (attribute_bytes order size) (map (written_attribute l) xs)), sum_by-cons (λ (a : Attribute). widest_value a.value) x xs)
+values-widest : (order : Endian) (size : ℕ) (p : Places) (xs : List Attribute) → size ≤ 8 → All (FitsAttribute size) xs → length (flat_map (attribute_bytes order size) (map (written_attribute p) xs)) ≤ sum_by (λ a. widest_value a.value) xs
+values-widest order size p [] short fits = omega arith
+values-widest order size p (x ∷ xs) short fits =
+    let here = value-widest order size p x short (All-head (FitsAttribute size) x xs fits) in
+    let others = values-widest order size p xs short (All-tail (FitsAttribute size) x xs fits) in
+    omega (arith, here, others, length-append (attribute_bytes order size (written_attribute p x)) (flat_map (attribute_bytes order size) (map (written_attribute p) xs)), sum_by-cons (λ (a : Attribute). widest_value a.value) x xs)
 
 -- what one list of siblings more or less makes
 ends-widest : (depth : ℕ) (es : List GivenEntry) → first_depth es ≤ suc depth → (depth - first_depth es) + first_depth es ≤ depth + (if nat_lt depth (first_depth es) then 1 else 0)
@@ -198,55 +182,55 @@ first-near : (depth : ℕ) (es : List GivenEntry) → AreBelow depth es → firs
 first-near depth [] below = omega arith
 first-near depth (e ∷ es) below = below.1
 
-one-step : (order : Endian) (size l : ℕ) (uses : List EntryShape) (e : GivenEntry) (es : List GivenEntry) → size ≤ 8 → length uses < 2 ^ 64 → AreBelow e.depth es → FitsEntry size e → place_in (shape_of e es) uses < length uses
-    → length (flat_map (entry_bytes order size) (shaped (written_entries l uses es))) ≤ sum_by widest_entry es + (first_depth es + lists_of es)
-    → length (flat_map (entry_bytes order size) (shaped (written_entries l uses (e ∷ es)))) ≤ sum_by widest_entry (e ∷ es) + (e.depth + lists_of (e ∷ es))
-one-step order size l uses e es short few below fits there others =
+one-step : (order : Endian) (size : ℕ) (p : Places) (uses : List EntryShape) (e : GivenEntry) (es : List GivenEntry) → size ≤ 8 → length uses < 2 ^ 64 → AreBelow e.depth es → FitsEntry size e → place_in (shape_of e es) uses < length uses
+    → length (flat_map (entry_bytes order size) (shaped (written_entries p uses es))) ≤ sum_by widest_entry es + (first_depth es + lists_of es)
+    → length (flat_map (entry_bytes order size) (shaped (written_entries p uses (e ∷ es)))) ≤ sum_by widest_entry (e ∷ es) + (e.depth + lists_of (e ∷ es))
+one-step order size p uses e es short few below fits there others =
     let s = shape_of e es in
     let code = uleb-10 (code_in uses s) (omega (arith, there, few)) in
-    let values = values-widest order size l e.attributes short fits.attributes in
-    let next = next-first l uses es in
-    let zeros : length {A = ℕ} (replicate (e.depth - next_depth (written_entries l uses es)) 0) ≡ e.depth - first_depth es = length-replicate {A = ℕ} (e.depth - next_depth (written_entries l uses es)) 0 ∙ ap (λ n. e.depth - n) next in
+    let values = values-widest order size p e.attributes short fits.attributes in
+    let next = next-first p uses es in
+    let zeros : length {A = ℕ} (replicate (e.depth - next_depth (written_entries p uses es)) 0) ≡ e.depth - first_depth es = length-replicate {A = ℕ} (e.depth - next_depth (written_entries p uses es)) 0 ∙ ap (λ n. e.depth - n) next in
     let ends = ends-widest e.depth es (first-near e.depth es below) in
-    let bytes = flat_map (attribute_bytes order size) (map (written_attribute l) e.attributes) in
-    let last = replicate {A = ℕ} (e.depth - next_depth (written_entries l uses es)) 0 in
-    omega (arith, code, values, others, zeros, ends, length-append (uleb_bytes (code_in uses s) ++ (bytes ++ last)) (flat_map (entry_bytes order size) (shaped (written_entries l uses es))), length-append (uleb_bytes (code_in uses s)) (bytes ++ last), length-append bytes last, sum_by-cons widest_entry e es)
+    let bytes = flat_map (attribute_bytes order size) (map (written_attribute p) e.attributes) in
+    let last = replicate {A = ℕ} (e.depth - next_depth (written_entries p uses es)) 0 in
+    omega (arith, code, values, others, zeros, ends, length-append (uleb_bytes (code_in uses s) ++ (bytes ++ last)) (flat_map (entry_bytes order size) (shaped (written_entries p uses es))), length-append (uleb_bytes (code_in uses s)) (bytes ++ last), length-append bytes last, sum_by-cons widest_entry e es)
 
 -- an entry and those behind it: as many lists end as begin, and as stand open above it
-one-widest : (order : Endian) (size l : ℕ) (uses : List EntryShape) (e : GivenEntry) (es : List GivenEntry) → size ≤ 8 → length uses < 2 ^ 64 → AreBelow e.depth es → All (FitsEntry size) (e ∷ es) → (known : List EntryShape) → first_uses known (shapes_of (e ∷ es)) ≡ uses
-    → length (flat_map (entry_bytes order size) (shaped (written_entries l uses (e ∷ es)))) ≤ sum_by widest_entry (e ∷ es) + (e.depth + lists_of (e ∷ es))
-one-widest order size l uses e [] short few below fits known used =
+one-widest : (order : Endian) (size : ℕ) (p : Places) (uses : List EntryShape) (e : GivenEntry) (es : List GivenEntry) → size ≤ 8 → length uses < 2 ^ 64 → AreBelow e.depth es → All (FitsEntry size) (e ∷ es) → (known : List EntryShape) → first_uses known (shapes_of (e ∷ es)) ≡ uses
+    → length (flat_map (entry_bytes order size) (shaped (written_entries p uses (e ∷ es)))) ≤ sum_by widest_entry (e ∷ es) + (e.depth + lists_of (e ∷ es))
+one-widest order size p uses e [] short few below fits known used =
     let there : place_in (shape_of e []) uses < length uses = rw (used) at (code-there (shape_of e []) known []) in
-    one-step order size l uses e [] short few below (All-head (FitsEntry size) e [] fits) there (omega arith)
-one-widest order size l uses e (f ∷ fs) short few below fits known used =
+    one-step order size p uses e [] short few below (All-head (FitsEntry size) e [] fits) there (omega arith)
+one-widest order size p uses e (f ∷ fs) short few below fits known used =
     let there : place_in (shape_of e (f ∷ fs)) uses < length uses = rw (used) at (code-there (shape_of e (f ∷ fs)) known (shapes_of (f ∷ fs))) in
-    one-step order size l uses e (f ∷ fs) short few below (All-head (FitsEntry size) e (f ∷ fs) fits) there
-    (one-widest order size l uses f fs short few below.2 (All-tail (FitsEntry size) e (f ∷ fs) fits) (with_use (shape_of e (f ∷ fs)) known) used)
+    one-step order size p uses e (f ∷ fs) short few below (All-head (FitsEntry size) e (f ∷ fs) fits) there
+    (one-widest order size p uses f fs short few below.2 (All-tail (FitsEntry size) e (f ∷ fs) fits) (with_use (shape_of e (f ∷ fs)) known) used)
 
 size-short : (u : OrderedUnit) (size : ℕ) → u.address_size ≡ size → (u.address_size ≡ 4) ⊎ (u.address_size ≡ 8) → size ≤ 8
 size-short u size same (inl e) = omega (arith, e, same)
 size-short u size same (inr e) = omega (arith, e, same)
 
 -- entries of a tree: below a depth that is never above the root's, as many lists end as begin
-tree-widest : (order : Endian) (size l : ℕ) (es : List GivenEntry) → size ≤ 8 → length (first_uses [] (shapes_of es)) < 2 ^ 64 → IsTree es → All (FitsEntry size) es
-    → length (flat_map (entry_bytes order size) (shaped (written_entries l (first_uses [] (shapes_of es)) es))) ≤ sum_by widest_entry es + lists_of es
-tree-widest order size l [] short few tree fits = absurd tree
-tree-widest order size l (e ∷ es) short few tree fits =
+tree-widest : (order : Endian) (size : ℕ) (p : Places) (es : List GivenEntry) → size ≤ 8 → length (first_uses [] (shapes_of es)) < 2 ^ 64 → IsTree es → All (FitsEntry size) es
+    → length (flat_map (entry_bytes order size) (shaped (written_entries p (first_uses [] (shapes_of es)) es))) ≤ sum_by widest_entry es + lists_of es
+tree-widest order size p [] short few tree fits = absurd tree
+tree-widest order size p (e ∷ es) short few tree fits =
     let root = tree.0 in
-    let all = one-widest order size l (first_uses [] (shapes_of (e ∷ es))) e es short few (below-root e.depth es root tree.1) fits [] refl in
+    let all = one-widest order size p (first_uses [] (shapes_of (e ∷ es))) e es short few (below-root e.depth es root tree.1) fits [] refl in
     omega (arith, all, root)
   where
     below-root : (depth : ℕ) (es : List GivenEntry) → depth ≡ 0 → AreBelow 0 es → AreBelow depth es
     below-root depth es is below = let P : ℕ → Type 0 = λ n. AreBelow n es in subst P (sym is) below
 
-info-widest : (order : Endian) (size a l : ℕ) (u : OrderedUnit) → u.address_size ≡ size → FitsOrdered u → length (placed_unit_bytes order size (written_unit a l u)) ≤ widest_unit Info u
-info-widest order size a l u same fits =
+info-widest : (order : Endian) (size a : ℕ) (p : Places) (u : OrderedUnit) → u.address_size ≡ size → FitsOrdered u → length (placed_unit_bytes order size (written_unit p a u)) ≤ widest_unit Info u
+info-widest order size a p u same fits =
     let few_entries = fits.few in
     let few : length (shapes_in u) < 2 ^ 64 = omega (arith, few_entries, uses-length [] u.entries) in
     let P : ℕ → Type 0 = λ n. All (FitsEntry n) u.entries in
-    let entries = tree-widest order size l u.entries (size-short u size same fits.size) few fits.tree (subst P same fits.entries) in
-    let bytes = entries_bytes order size (written_entries l (shapes_in u) u.entries) in
-    let body = unit_body order size a (written_entries l (shapes_in u) u.entries) in
+    let entries = tree-widest order size p u.entries (size-short u size same fits.size) few fits.tree (subst P same fits.entries) in
+    let bytes = entries_bytes order size (written_entries p (shapes_in u) u.entries) in
+    let body = unit_body order size a (written_entries p (shapes_in u) u.entries) in
     omega (arith, entries, number_bytes-length order 4 (length body), number_bytes-length order 2 4, number_bytes-length order 4 a, length-append (number_bytes order 4 (length body)) body, length-append (number_bytes order 2 4) (number_bytes order 4 a ++ ((size ∷ []) ++ bytes)), length-append (number_bytes order 4 a) ((size ∷ []) ++ bytes))
 
 -- ---- .debug_line
@@ -330,21 +314,22 @@ lines-widest order size u same fits lines =
 
 -- ---- all units
 
-tables-within : (order : Endian) (size a l : ℕ) (us : List OrderedUnit) → All FitsOrdered us → length (tables_bytes (written_units order size a l us)) ≤ widest_given Abbrev us
-tables-within order size a l [] fits = omega arith
-tables-within order size a l (u ∷ us) fits =
+tables-within : (order : Endian) (size a l : ℕ) (units : List UnitPlaces) (us : List OrderedUnit) → All FitsOrdered us → length (tables_bytes (written_units order size units a l us)) ≤ widest_given Abbrev us
+tables-within order size a l units [] fits = omega arith
+tables-within order size a l units (u ∷ us) fits =
     let here = table-widest u (All-head FitsOrdered u us fits) in
     let table = table_bytes (numbered 1 (shapes_in u)) in
-    let rest = written_units order size (a + length table) (l + length (lines_bytes order size (written_lines u.lines))) us in
-    omega (arith, here, tables-within order size (a + length table) (l + length (lines_bytes order size (written_lines u.lines))) us (All-tail FitsOrdered u us fits), length-append table (tables_bytes rest), sum_by-cons (widest_unit Abbrev) u us)
+    let rest = written_units order size units (a + length table) (l + length (lines_bytes order size (written_lines u.lines))) us in
+    omega (arith, here, tables-within order size (a + length table) (l + length (lines_bytes order size (written_lines u.lines))) units us (All-tail FitsOrdered u us fits), length-append table (tables_bytes rest), sum_by-cons (widest_unit Abbrev) u us)
 
-info-within : (order : Endian) (size a l : ℕ) (us : List OrderedUnit) → All (λ u. u.address_size ≡ size) us → All FitsOrdered us → length (info_bytes order size (written_units order size a l us)) ≤ widest_given Info us
-info-within order size a l [] sized fits = omega arith
-info-within order size a l (u ∷ us) sized fits =
-    let here = info-widest order size a l u (All-head (λ (v : OrderedUnit). v.address_size ≡ size) u us sized) (All-head FitsOrdered u us fits) in
+pub info-within : (order : Endian) (size a l : ℕ) (units : List UnitPlaces) (us : List OrderedUnit) → All (λ u. u.address_size ≡ size) us → All FitsOrdered us → length (info_bytes order size (written_units order size units a l us)) ≤ widest_given Info us
+info-within order size a l units [] sized fits = omega arith
+info-within order size a l units (u ∷ us) sized fits =
+    let p = places_in units (offsets_by_number order size u) l in
+    let here = info-widest order size a p u (All-head (λ (v : OrderedUnit). v.address_size ≡ size) u us sized) (All-head FitsOrdered u us fits) in
     let at = a + length (table_bytes (numbered 1 (shapes_in u))) in
     let lines_at = l + length (lines_bytes order size (written_lines u.lines)) in
-    omega (arith, here, info-within order size at lines_at us (All-tail (λ (v : OrderedUnit). v.address_size ≡ size) u us sized) (All-tail FitsOrdered u us fits), length-append (placed_unit_bytes order size (written_unit a l u)) (info_bytes order size (written_units order size at lines_at us)), sum_by-cons (widest_unit Info) u us)
+    omega (arith, here, info-within order size at lines_at units us (All-tail (λ (v : OrderedUnit). v.address_size ≡ size) u us sized) (All-tail FitsOrdered u us fits), length-append (placed_unit_bytes order size (written_unit p a u)) (info_bytes order size (written_units order size units at lines_at us)), sum_by-cons (widest_unit Info) u us)
 
 lines-within : (order : Endian) (size : ℕ) (us : List OrderedUnit) → All (λ u. u.address_size ≡ size) us → All FitsOrdered us → All (λ u. FitsLines u.lines) us → length (lines_bytes order size (written_tables us)) ≤ widest_given Line us
 lines-within order size [] sized fits lines = omega arith
@@ -354,12 +339,12 @@ lines-within order size (u ∷ us) sized fits lines =
     omega (arith, here, others, lengths-both (one_table_bytes order size) (written_lines u.lines) (written_tables us), sum_by-cons (widest_unit Line) u us)
 
 -- A section of given units is no longer than its widest size.
-pub within-widest : (order : Endian) (us : List OrderedUnit) (name : SectionName) → AreWritable us → All FitsOrdered us → All (λ u. FitsLines u.lines) us → length (bytes_of order us name) ≤ widest_given name us
-within-widest order us name writable fits lines =
+pub within-widest : (order : Endian) (units : List UnitPlaces) (us : List OrderedUnit) (name : SectionName) → AreWritable us → All FitsOrdered us → All (λ u. FitsLines u.lines) us → length (bytes_of order units us name) ≤ widest_given name us
+within-widest order units us name writable fits lines =
     let sized : All (λ u. u.address_size ≡ size_of us) us = All-weaker (IsWritable (size_of us)) (λ u. u.address_size ≡ size_of us) (λ u h. h.size) us writable in
-    go name (tables-within order (size_of us) 0 0 us fits) (info-within order (size_of us) 0 0 us sized fits) (lines-within order (size_of us) us sized fits lines)
+    go name (tables-within order (size_of us) 0 0 units us fits) (info-within order (size_of us) 0 0 units us sized fits) (lines-within order (size_of us) us sized fits lines)
   where
-    go : (n : SectionName) → length (abbrev_bytes order us) ≤ widest_given Abbrev us → length (all_info_bytes order us) ≤ widest_given Info us → length (all_lines_bytes order us) ≤ widest_given Line us → length (bytes_of order us n) ≤ widest_given n us
+    go : (n : SectionName) → length (abbrev_bytes order units us) ≤ widest_given Abbrev us → length (all_info_bytes order units us) ≤ widest_given Info us → length (all_lines_bytes order us) ≤ widest_given Line us → length (bytes_of order units us n) ≤ widest_given n us
     go Abbrev a i l = a
     go Info a i l = i
     go Line a i l = l

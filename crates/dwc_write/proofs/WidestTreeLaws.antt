@@ -1,16 +1,19 @@
 -- What given units can take at most is what their trees can: `widest-said`.
-use Rattle.std.proofs.Common.{◌≡◌, ℕ, ◌+◌, ◌*◌, refl, sym, ap, ◌∙◌, arith, List, [], ◌∷◌, map, length}
+use Rattle.std.proofs.Common.{◌≡◌, ℕ, suc, ◌+◌, ◌*◌, refl, sym, ap, ◌∙◌, arith, List, [], ◌∷◌, map, length, Option, Some, None}
 use Rattle.std.specs.Prelude.{nat_lt, sum_by, if◌then◌else◌}
 use Rattle.std.proofs.lemmas.List.{length-map}
 use Rattle.std.proofs.lemmas.List.Sums.{sum_by-cons}
 use Rattle.dwc_base.specs.declared.section_name.SectionName.{SectionName}
 use Rattle.dwc_base.specs.declared.section_name.SectionName.TheVariants.{Abbrev, Addr, Info, Line, LineStr, Loc, Loclists, Ranges, Rnglists, Str, StrOffsets, CuIndex, Frame}
 use Rattle.dwc_base.specs.Widest.{variable_bytes, widest_declaration}
+use Rattle.dwc_base.specs.Trees.{Tree}
+use Rattle.dwc_base.specs.TreeReading.{entry_or_nothing}
 use Rattle.dwc_base.specs.WidestTrees as trees
 use Rattle.dwc_write.specs.declared.attributes.AttributeValue.{AttributeValue}
-use Rattle.dwc_write.specs.declared.attributes.AttributeValue.TheVariants.{Address, Constant, Flag, LineProgramRef}
+use Rattle.dwc_write.specs.declared.attributes.AttributeValue.TheVariants.{Address, Constant, Flag, LineProgramRef, UnitRef, DebugInfoRef}
+use Rattle.dwc_write.specs.declared.attributes.DebugInfoRef.TheVariants.{Entry as entry_of}
 use Rattle.dwc_write.specs.GivenUnits.{GivenEntry, OrderedUnit, first_depth}
-use Rattle.dwc_write.specs.GivenTrees.{given_said, attribute_said, tree_entry, given_tree}
+use Rattle.dwc_write.specs.GivenTrees.{given_said, attribute_said, tree_entry, given_tree, trees_from}
 use Rattle.dwc_write.specs.WidestGiven.{widest_value, widest_entry, lists_of, widest_unit, widest_given, widest_said}
 
 -- sums over what is the same of each
@@ -18,33 +21,46 @@ sums-same : {A B : Type 0} (view : A → B) (f : A → ℕ) (g : B → ℕ) → 
 sums-same view f g each [] = refl
 sums-same view f g each (x ∷ xs) = omega (arith, sum_by-cons f x xs, sum_by-cons g (view x) (map view xs), each x, sums-same view f g each xs)
 
-value-said : (v : AttributeValue) → widest_value v ≡ trees.widest_value (given_said v)
-value-said (Address a) = refl
-value-said (Constant form bits) = refl
-value-said (Flag b) = refl
-value-said LineProgramRef = refl
+-- a reference is as long whether it says an entry or nothing
+reference-said : (p : Option (ℕ × ℕ)) → 4 ≡ trees.widest_value (entry_or_nothing p)
+reference-said None = refl
+reference-said (Some p) = refl
 
-entry-said : (e : GivenEntry) → widest_entry e ≡ trees.widest_entry (tree_entry e)
-entry-said e = ap (λ n. variable_bytes + n) (sums-same attribute_said (λ a. widest_value a.value) (λ a. trees.widest_value a.1) (λ a. value-said a.value) e.attributes)
+module _ (us : List OrderedUnit) (number : ℕ) (u : OrderedUnit) where
+  value-said : (v : AttributeValue) → widest_value v ≡ trees.widest_value (given_said us number u v)
+  value-said (Address a) = refl
+  value-said (Constant form bits) = refl
+  value-said (Flag b) = refl
+  value-said LineProgramRef = refl
+  value-said (UnitRef id) = reference-said _
+  value-said (DebugInfoRef (entry_of unit id)) = reference-said _
 
-declaration-said : (e : GivenEntry) → widest_declaration (length e.attributes) ≡ widest_declaration (length (tree_entry e).attributes)
-declaration-said e = ap widest_declaration (sym (length-map e.attributes attribute_said))
+  entry-said : (e : GivenEntry) → widest_entry e ≡ trees.widest_entry (tree_entry us number u e)
+  entry-said e = ap (λ n. variable_bytes + n) (sums-same (attribute_said us number u) (λ a. widest_value a.value) (λ a. trees.widest_value a.1) (λ a. value-said a.value) e.attributes)
 
-first-said : (es : List GivenEntry) → first_depth es ≡ trees.first_depth (map tree_entry es)
-first-said [] = refl
-first-said (e ∷ es) = refl
+  declaration-said : (e : GivenEntry) → widest_declaration (length e.attributes) ≡ widest_declaration (length (tree_entry us number u e).attributes)
+  declaration-said e = ap widest_declaration (sym (length-map e.attributes (attribute_said us number u)))
 
-lists-said : (es : List GivenEntry) → lists_of es ≡ trees.lists_of_children (map tree_entry es)
-lists-said [] = refl
-lists-said (e ∷ es) =
-    ap (λ n. (if nat_lt e.depth n then 1 else 0) + lists_of es) (first-said es) ∙ ap (λ n. (if nat_lt e.depth (trees.first_depth (map tree_entry es)) then 1 else 0) + n) (lists-said es)
+  first-said : (es : List GivenEntry) → first_depth es ≡ trees.first_depth (map (tree_entry us number u) es)
+  first-said [] = refl
+  first-said (e ∷ es) = refl
 
-info-said : (u : OrderedUnit) → widest_unit Info u ≡ trees.widest_unit (given_tree u)
-info-said u =
-    ap (λ n. 11 + (n + lists_of u.entries * variable_bytes)) (sums-same tree_entry widest_entry trees.widest_entry entry-said u.entries) ∙ ap (λ n. 11 + (sum_by trees.widest_entry (given_tree u) + n * variable_bytes)) (lists-said u.entries)
+  lists-said : (es : List GivenEntry) → lists_of es ≡ trees.lists_of_children (map (tree_entry us number u) es)
+  lists-said [] = refl
+  lists-said (e ∷ es) =
+      ap (λ n. (if nat_lt e.depth n then 1 else 0) + lists_of es) (first-said es) ∙ ap (λ n. (if nat_lt e.depth (trees.first_depth (map (tree_entry us number u) es)) then 1 else 0) + n) (lists-said es)
 
-abbreviations-said : (u : OrderedUnit) → widest_unit Abbrev u ≡ trees.widest_declarations (given_tree u)
-abbreviations-said u = ap (λ n. n + variable_bytes) (sums-same tree_entry (λ e. widest_declaration (length e.attributes)) (λ e. widest_declaration (length e.attributes)) declaration-said u.entries)
+  info-said : widest_unit Info u ≡ trees.widest_unit (given_tree us number u)
+  info-said =
+      ap (λ n. 11 + (n + lists_of u.entries * variable_bytes)) (sums-same (tree_entry us number u) widest_entry trees.widest_entry entry-said u.entries)
+      ∙ ap (λ n. 11 + (sum_by trees.widest_entry (given_tree us number u) + n * variable_bytes)) (lists-said u.entries)
+
+  abbreviations-said : widest_unit Abbrev u ≡ trees.widest_declarations (given_tree us number u)
+  abbreviations-said = ap (λ n. n + variable_bytes) (sums-same (tree_entry us number u) (λ e. widest_declaration (length e.attributes)) (λ e. widest_declaration (length e.attributes)) declaration-said u.entries)
+
+trees-said : (f : OrderedUnit → ℕ) (g : Tree → ℕ) (all : List OrderedUnit) → ((number : ℕ) (u : OrderedUnit) → f u ≡ g (given_tree all number u)) → (number : ℕ) (us : List OrderedUnit) → sum_by g (trees_from all number us) ≡ sum_by f us
+trees-said f g all each number [] = refl
+trees-said f g all each number (u ∷ us) = omega (arith, sum_by-cons f u us, sum_by-cons g (given_tree all number u) (trees_from all (suc number) us), each number u, trees-said f g all each (suc number) us)
 
 nothing-said : (name : SectionName) (us : List OrderedUnit) → ((u : OrderedUnit) → widest_unit name u ≡ 0) → 0 ≡ widest_given name us
 nothing-said name [] none = refl
@@ -52,8 +68,8 @@ nothing-said name (u ∷ us) none = omega (arith, sum_by-cons (widest_unit name)
 
 -- The two counts are one.
 pub widest-said : (name : SectionName) (us : List OrderedUnit) → widest_said name us ≡ widest_given name us
-widest-said Info us = sym (sums-same given_tree (widest_unit Info) trees.widest_unit info-said us)
-widest-said Abbrev us = sym (sums-same given_tree (widest_unit Abbrev) trees.widest_declarations abbreviations-said us)
+widest-said Info us = trees-said (widest_unit Info) trees.widest_unit us (info-said us) 0 us
+widest-said Abbrev us = trees-said (widest_unit Abbrev) trees.widest_declarations us (abbreviations-said us) 0 us
 widest-said Line us = refl
 widest-said Addr us = nothing-said Addr us (λ u. refl)
 widest-said LineStr us = nothing-said LineStr us (λ u. refl)

@@ -1,18 +1,17 @@
 -- Units as they are given to a writer, and what its calls ask and do.
-use Rattle.std.specs.Prelude.{◌≡◌, ℕ, zero, suc, ◌+◌, ◌^◌, ◌<◌, ◌≤◌, ◌==◌, ◌⊎◌, pos, List, [], ◌∷◌, ◌++◌, map, length, slice_set, Bool, true, false, nat_lt, not, ◌&&◌, ◌||◌, if◌then◌else◌, Option, Some, None, is_some}
+use Rattle.std.specs.Prelude.{◌≡◌, ℕ, zero, suc, ◌^◌, ◌<◌, ◌≤◌, ◌==◌, ◌⊎◌, pos, List, [], ◌∷◌, ◌++◌, map, length, slice_set, Bool, true, false, nat_lt, not, ◌&&◌, ◌||◌, if◌then◌else◌, Option, Some, None, is_some}
 use Rattle.std.specs.List.{All, flat_map}
 use Rattle.std.specs.Int.{w64, cast_signed}
 use Rattle.dwc_base.specs.declared.constants.TheConstants.{DW_TAG_compile_unit, DW_AT_stmt_list, DW_FORM_data1, DW_FORM_data2, DW_FORM_data4, DW_FORM_data8, DW_FORM_sdata, DW_FORM_udata, DW_FORM_implicit_const}
-use Rattle.dwc_base.specs.declared.records.Endian.{Endian}
 use Rattle.dwc_base.specs.Abbreviations.{AttributeSpec, Declaration}
 use Rattle.dwc_write.specs.declared.attributes.Attribute.{Attribute}
 use Rattle.dwc_write.specs.declared.abbreviations.AttributeForm.{AttributeForm}
 use Rattle.dwc_write.specs.declared.attributes.AttributeValue.{AttributeValue}
-use Rattle.dwc_write.specs.declared.attributes.AttributeValue.TheVariants.{Address, Constant, Flag, LineProgramRef}
+use Rattle.dwc_write.specs.declared.attributes.AttributeValue.TheVariants.{Address, Constant, Flag, LineProgramRef, UnitRef, DebugInfoRef}
+use Rattle.dwc_write.specs.declared.attributes.DebugInfoRef.TheVariants.{Entry}
 use Rattle.dwc_write.specs.Spelled.{uleb_bytes}
-use Rattle.dwc_write.specs.SpelledTables.{table_bytes, flag_of}
-use Rattle.dwc_write.specs.SpelledUnits.{Written, as_addr, as_data1, as_data2, as_data4, as_data8, as_udata, as_sdata, as_flag, as_sec_offset, form_number, WrittenAttribute, WrittenEntry}
-use Rattle.dwc_write.specs.SpelledSections.{WrittenUnit, WrittenTable, lines_bytes}
+use Rattle.dwc_write.specs.SpelledTables.{flag_of}
+use Rattle.dwc_write.specs.SpelledUnits.{Written, as_addr, as_data1, as_data2, as_data4, as_data8, as_udata, as_sdata, as_flag, as_ref4, as_ref_addr, as_sec_offset, form_number, WrittenAttribute, WrittenEntry}
 use Rattle.dwc_write.specs.Writers.{FitsField}
 use Rattle.dwc_write.specs.GivenLines.{GivenLines}
 
@@ -75,12 +74,25 @@ constant_of form bits =
     else (if form == DW_FORM_data8 then as_data8 bits
     else (if form == DW_FORM_sdata then as_sdata (cast_signed w64 bits) else as_udata bits))))
 
--- a value in a unit whose line table stands at an offset
-abbrev pub written_of : ℕ → AttributeValue → Written
-written_of line_offset (Address a) = as_addr a
-written_of line_offset (Constant form bits) = constant_of form bits
-written_of line_offset (Flag b) = as_flag b
-written_of line_offset LineProgramRef = as_sec_offset line_offset
+-- Where what a unit names by an offset stands: its line table, its own entries, from the unit's first byte, and the entries of the
+-- unit of a number, from the first byte of `.debug_info`; entries by their numbers. (DWARF 4, section 7.5.4.)
+pub record Places : Type 0 where
+  pub line : ℕ
+  pub entry : ℕ → ℕ
+  pub entry_of : ℕ → ℕ → ℕ
+
+-- nothing has a place yet: forms and sizes do not hang on places
+abbrev pub no_places : Places
+no_places = record { line = 0; entry = λ id. 0; entry_of = λ unit id. 0 }
+
+-- a value in a unit with some places
+abbrev pub written_of : Places → AttributeValue → Written
+written_of places (Address a) = as_addr a
+written_of places (Constant form bits) = constant_of form bits
+written_of places (Flag b) = as_flag b
+written_of places LineProgramRef = as_sec_offset places.line
+written_of places (UnitRef id) = as_ref4 (places.entry id.index)
+written_of places (DebugInfoRef (Entry unit id)) = as_ref_addr (places.entry_of unit.index id.index)
 
 -- the forms of constants, and the numbers below which they can be
 abbrev pub is_constant_form : ℕ → Bool
@@ -95,6 +107,8 @@ FitsValue size name (Address a) = FitsField size a
 FitsValue size name (Constant form bits) = (is_constant_form form ≡ true) × (bits < constant_bound form)
 FitsValue size name (Flag b) = Unit {0}
 FitsValue size name LineProgramRef = name ≡ DW_AT_stmt_list
+FitsValue size name (UnitRef id) = Unit {0}
+FitsValue size name (DebugInfoRef reference) = Unit {0}
 
 -- what writing asks of a value
 abbrev pub FitsOperand : ℕ → AttributeValue → Type 0
@@ -267,7 +281,7 @@ pub record EntryShape : Type 0 where
   pub attributes : List AttributeForm
 
 abbrev pub form_of : Attribute → AttributeForm
-form_of a = record { name = a.name; form = form_number (written_of 0 a.value) }
+form_of a = record { name = a.name; form = form_number (written_of no_places a.value) }
 
 abbrev pub forms_of : List Attribute → List AttributeForm
 forms_of xs = map form_of xs
@@ -325,32 +339,15 @@ numbered code (s ∷ ss) = record { code = code; tag = s.tag; has_children = s.h
 abbrev pub shapes_in : OrderedUnit → List EntryShape
 shapes_in u = first_uses [] (shapes_of u.entries)
 
--- ---- what is written of a unit, whose abbreviation table and line table stand at offsets
+-- ---- what is written of entries, with some places and the codes of some shapes
 
-abbrev pub written_attribute : ℕ → Attribute → WrittenAttribute
-written_attribute line_offset a = record { name = a.name; value = written_of line_offset a.value }
+abbrev pub written_attribute : Places → Attribute → WrittenAttribute
+written_attribute places a = record { name = a.name; value = written_of places a.value }
 
-abbrev pub written_entries : ℕ → List EntryShape → List GivenEntry → List WrittenEntry
-written_entries line_offset shapes [] = []
-written_entries line_offset shapes (e ∷ es) =
-    record { depth = e.depth; code = code_in shapes (shape_of e es); tag = e.tag; attributes = map (written_attribute line_offset) e.attributes } ∷ written_entries line_offset shapes es
-
-abbrev pub written_unit : ℕ → ℕ → OrderedUnit → WrittenUnit
-written_unit table_offset line_offset u = record { table_offset = table_offset; table = numbered 1 (shapes_in u); entries = written_entries line_offset (shapes_in u) u.entries }
-
--- its line table, where it has one
-abbrev pub written_lines : GivenLines → List WrittenTable
-written_lines g = elim g.address_size [ None ↦ [] | Some size ↦ record { directories = g.directories; files = g.files; sequences = g.sequences } ∷ [] ]
-
--- all units, whose tables stand one behind another from two offsets on
-abbrev pub written_units : Endian → ℕ → ℕ → ℕ → List OrderedUnit → List WrittenUnit
-written_units order size table_offset line_offset [] = []
-written_units order size table_offset line_offset (u ∷ us) =
-    written_unit table_offset line_offset u
-    ∷ written_units order size (table_offset + length (table_bytes (numbered 1 (shapes_in u)))) (line_offset + length (lines_bytes order size (written_lines u.lines))) us
-
-abbrev pub written_tables : List OrderedUnit → List WrittenTable
-written_tables us = flat_map (λ u. written_lines u.lines) us
+abbrev pub written_entries : Places → List EntryShape → List GivenEntry → List WrittenEntry
+written_entries places shapes [] = []
+written_entries places shapes (e ∷ es) =
+    record { depth = e.depth; code = code_in shapes (shape_of e es); tag = e.tag; attributes = map (written_attribute places) e.attributes } ∷ written_entries places shapes es
 
 -- ---- the bytes of a shape: a declaration behind its code
 

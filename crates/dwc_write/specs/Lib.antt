@@ -9,11 +9,13 @@ pub mod GivenLines
 pub mod LineViews
 pub mod NameViews
 pub mod GivenUnits
+pub mod Layouts
 pub mod UnitViews
 pub mod AttributePlaces
 pub mod FileOrders
 pub mod SpelledRelocations
 pub mod ShapeViews
+pub mod LayoutViews
 pub mod SpelledOutput
 pub mod SectionViews
 pub mod ReadBack

@@ -13,7 +13,7 @@ use Rattle.dwc_write.specs.declared.attributes.Attribute.{Attribute}
 use Rattle.dwc_write.specs.SpelledUnits.{written_value}
 use Rattle.dwc_write.specs.SpelledLines.{WrittenSequence}
 use Rattle.dwc_write.specs.GivenLines.{GivenLines}
-use Rattle.dwc_write.specs.GivenUnits.{GivenEntry, OrderedUnit, written_of}
+use Rattle.dwc_write.specs.GivenUnits.{GivenEntry, OrderedUnit, Places, written_of}
 
 -- ---- line tables
 
@@ -43,21 +43,21 @@ pub record Contents : Type 0 where
 abbrev pub read_contents : Entry → Contents
 read_contents e = record { depth = e.depth; tag = e.tag; attributes = e.attributes }
 
--- the value of an attribute, in a unit whose line table stands at an offset
-abbrev pub given_value : ℕ → Attribute → ℕ × Value
-given_value line_offset a = (a.name, written_value a.name (written_of line_offset a.value))
+-- the value of an attribute, in a unit with some places
+abbrev pub given_value : Places → Attribute → ℕ × Value
+given_value places a = (a.name, written_value a.name (written_of places a.value))
 
-abbrev pub given_contents : ℕ → GivenEntry → Contents
-given_contents line_offset e = record { depth = e.depth; tag = e.tag; attributes = map (given_value line_offset) e.attributes }
+abbrev pub given_contents : Places → GivenEntry → Contents
+given_contents places e = record { depth = e.depth; tag = e.tag; attributes = map (given_value places) e.attributes }
 
 -- ---- units
 
 -- A unit that is read is the one that was given, in version 4: its entries, and the sequences of its line program.
 pub record IsReadUnit (s : Sections) (u : OrderedUnit) (v : Unit) : Type 0 where
-  pub line_offset : ℕ
+  pub places : Places
   pub version : v.header.version ≡ 4
   pub address_size : v.header.address_size ≡ u.address_size
-  pub entries : map read_contents v.entries ≡ map (given_contents line_offset) u.entries
+  pub entries : map read_contents v.entries ≡ map (given_contents places) u.entries
   pub lines : segments_of_unit s v ≡ Ok (given_segments u.lines)
 
 -- Some sections hold, one to one and in order, the given units, and no others.

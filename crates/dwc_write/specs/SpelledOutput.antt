@@ -9,7 +9,8 @@ use Rattle.dwc_write.specs.declared.error.WriteError.{WriteError}
 use Rattle.dwc_write.specs.SpelledTables.{table_bytes}
 use Rattle.dwc_write.specs.SpelledSections.{WrittenUnit, placed_unit_bytes, tables_bytes, info_bytes, lines_bytes}
 use Rattle.dwc_write.specs.SpelledRelocations.{unit_relocations, info_relocations, lines_relocations}
-use Rattle.dwc_write.specs.GivenUnits.{GivenEntry, OrderedUnit, size_of, first_uses, shapes_of, numbered, written_entries, written_lines, written_unit, written_units, written_tables}
+use Rattle.dwc_write.specs.GivenUnits.{GivenEntry, OrderedUnit, Places, size_of, first_uses, shapes_of, numbered, written_entries}
+use Rattle.dwc_write.specs.Layouts.{UnitPlaces, offsets_by_number, places_of_units, places_in, written_lines, written_unit, written_units, written_tables}
 use Rattle.dwc_write.specs.Writers.{Writing, Refuses, appended, most_bytes}
 use Rattle.dwc_write.specs.declared.error.WriteError.TheVariants.{TooLarge, OutOfMemory}
 use Rattle.dwc_base.specs.declared.faults.Limit.TheVariants.{Section}
@@ -19,41 +20,52 @@ abbrev pub section_unless_empty : SectionName → List ℕ → List OutputReloca
 section_unless_empty name [] relocations = []
 section_unless_empty name (b ∷ bytes) relocations = record { name = section_text name; body = b ∷ bytes; relocations = relocations } ∷ []
 
-abbrev pub abbrev_bytes : Endian → List OrderedUnit → List ℕ
-abbrev_bytes order us = tables_bytes (written_units order (size_of us) 0 0 us)
+-- units among others that have some places, in their section
+abbrev pub units_placed : Endian → List UnitPlaces → List OrderedUnit → List WrittenUnit
+units_placed order units us = written_units order (size_of us) units 0 0 us
 
-abbrev pub all_info_bytes : Endian → List OrderedUnit → List ℕ
-all_info_bytes order us = info_bytes order (size_of us) (written_units order (size_of us) 0 0 us)
+abbrev pub abbrev_bytes : Endian → List UnitPlaces → List OrderedUnit → List ℕ
+abbrev_bytes order units us = tables_bytes (units_placed order units us)
+
+abbrev pub all_info_bytes : Endian → List UnitPlaces → List OrderedUnit → List ℕ
+all_info_bytes order units us = info_bytes order (size_of us) (units_placed order units us)
 
 abbrev pub all_lines_bytes : Endian → List OrderedUnit → List ℕ
 all_lines_bytes order us = lines_bytes order (size_of us) (written_tables us)
 
 -- how many bytes a section has
-abbrev pub bytes_of : Endian → List OrderedUnit → SectionName → List ℕ
-bytes_of order us Abbrev = abbrev_bytes order us
-bytes_of order us Info = all_info_bytes order us
-bytes_of order us Line = all_lines_bytes order us
-bytes_of order us name = []
+abbrev pub bytes_of : Endian → List UnitPlaces → List OrderedUnit → SectionName → List ℕ
+bytes_of order units us Abbrev = abbrev_bytes order units us
+bytes_of order units us Info = all_info_bytes order units us
+bytes_of order units us Line = all_lines_bytes order us
+bytes_of order units us name = []
 
 -- abbreviations, entries and line tables, in this order
-abbrev pub spelled_sections : Endian → List OrderedUnit → List OutputSection
-spelled_sections order us =
-    section_unless_empty Abbrev (abbrev_bytes order us) []
-    ++ (section_unless_empty Info (all_info_bytes order us) (info_relocations order (size_of us) 0 (written_units order (size_of us) 0 0 us))
+abbrev pub sections_placed : Endian → List UnitPlaces → List OrderedUnit → List OutputSection
+sections_placed order units us =
+    section_unless_empty Abbrev (abbrev_bytes order units us) []
+    ++ (section_unless_empty Info (all_info_bytes order units us) (info_relocations order (size_of us) 0 (units_placed order units us))
     ++ section_unless_empty Line (all_lines_bytes order us) (lines_relocations order (size_of us) 0 (written_tables us)))
+
+-- the places of all units
+abbrev pub all_places : Endian → List OrderedUnit → List UnitPlaces
+all_places order us = places_of_units order (size_of us) 0 us
+
+abbrev pub spelled_sections : Endian → List OrderedUnit → List OutputSection
+spelled_sections order us = sections_placed order (all_places order us) us
 
 -- ---- what the calls within a writer say
 
 -- A unit is written into both sections, or one of them refuses it.
-abbrev pub unit_of : ℕ → ℕ → List GivenEntry → WrittenUnit
-unit_of table_offset line_offset es = record { table_offset = table_offset; table = numbered 1 (first_uses [] (shapes_of es)); entries = written_entries line_offset (first_uses [] (shapes_of es)) es }
+abbrev pub unit_of : ℕ → Places → List GivenEntry → WrittenUnit
+unit_of table_offset places es = record { table_offset = table_offset; table = numbered 1 (first_uses [] (shapes_of es)); entries = written_entries places (first_uses [] (shapes_of es)) es }
 
-abbrev pub WritesUnit : Writing → Writing → Writing → Writing → Result (Unit {0}) WriteError → ℕ → ℕ → List GivenEntry → Type 0
-WritesUnit abbrev_old abbrev_new info_old info_new (Ok done) size line_offset es =
-    (abbrev_new ≡ appended (table_bytes (unit_of (length abbrev_old.body) line_offset es).table) [] abbrev_old)
-    × (info_new ≡ appended (placed_unit_bytes info_old.order size (unit_of (length abbrev_old.body) line_offset es)) (unit_relocations info_old.order size (length info_old.body) (unit_of (length abbrev_old.body) line_offset es)) info_old)
-WritesUnit abbrev_old abbrev_new info_old info_new (Err e) size line_offset es =
-    Refuses e abbrev_old (length (table_bytes (unit_of (length abbrev_old.body) line_offset es).table)) ⊎ Refuses e info_old (length (placed_unit_bytes info_old.order size (unit_of (length abbrev_old.body) line_offset es)))
+abbrev pub WritesUnit : Writing → Writing → Writing → Writing → Result (Unit {0}) WriteError → ℕ → Places → List GivenEntry → Type 0
+WritesUnit abbrev_old abbrev_new info_old info_new (Ok done) size places es =
+    (abbrev_new ≡ appended (table_bytes (unit_of (length abbrev_old.body) places es).table) [] abbrev_old)
+    × (info_new ≡ appended (placed_unit_bytes info_old.order size (unit_of (length abbrev_old.body) places es)) (unit_relocations info_old.order size (length info_old.body) (unit_of (length abbrev_old.body) places es)) info_old)
+WritesUnit abbrev_old abbrev_new info_old info_new (Err e) size places es =
+    Refuses e abbrev_old (length (table_bytes (unit_of (length abbrev_old.body) places es).table)) ⊎ Refuses e info_old (length (placed_unit_bytes info_old.order size (unit_of (length abbrev_old.body) places es)))
 
 -- the three sections as they are written
 pub record WrittenSections : Type 0 where
@@ -61,42 +73,49 @@ pub record WrittenSections : Type 0 where
   pub info_section : Writing
   pub line_section : Writing
 
--- a unit with its line table behind what is there
-abbrev pub unit_in : WrittenSections → OrderedUnit → WrittenUnit
-unit_in w u = written_unit (length w.abbrev_section.body) (length w.line_section.body) u
+-- the places in a unit among others, whose line table stands behind what is there
+abbrev pub places_there : List UnitPlaces → WrittenSections → OrderedUnit → Places
+places_there units w u = places_in units (offsets_by_number w.info_section.order u.address_size u) (length w.line_section.body)
 
-abbrev pub with_unit : OrderedUnit → WrittenSections → WrittenSections
-with_unit u w = record {
-  abbrev_section = appended (table_bytes (unit_in w u).table) [] w.abbrev_section;
-  info_section = appended (placed_unit_bytes w.info_section.order u.address_size (unit_in w u)) (unit_relocations w.info_section.order u.address_size (length w.info_section.body) (unit_in w u)) w.info_section;
+-- a unit with its line table behind what is there
+abbrev pub unit_in : List UnitPlaces → WrittenSections → OrderedUnit → WrittenUnit
+unit_in units w u = written_unit (places_there units w u) (length w.abbrev_section.body) u
+
+abbrev pub with_unit : List UnitPlaces → OrderedUnit → WrittenSections → WrittenSections
+with_unit units u w = record {
+  abbrev_section = appended (table_bytes (unit_in units w u).table) [] w.abbrev_section;
+  info_section = appended (placed_unit_bytes w.info_section.order u.address_size (unit_in units w u)) (unit_relocations w.info_section.order u.address_size (length w.info_section.body) (unit_in units w u)) w.info_section;
   line_section = appended (lines_bytes w.line_section.order u.address_size (written_lines u.lines)) (lines_relocations w.line_section.order u.address_size (length w.line_section.body) (written_lines u.lines)) w.line_section;
 }
 
 -- one of the sections refuses a unit
-abbrev pub RefusesUnit : WriteError → WrittenSections → OrderedUnit → Type 0
-RefusesUnit e w u =
-    Refuses e w.abbrev_section (length (table_bytes (unit_in w u).table))
-    ⊎ (Refuses e w.info_section (length (placed_unit_bytes w.info_section.order u.address_size (unit_in w u)))
+abbrev pub RefusesUnit : WriteError → List UnitPlaces → WrittenSections → OrderedUnit → Type 0
+RefusesUnit e units w u =
+    Refuses e w.abbrev_section (length (table_bytes (unit_in units w u).table))
+    ⊎ (Refuses e w.info_section (length (placed_unit_bytes w.info_section.order u.address_size (unit_in units w u)))
     ⊎ Refuses e w.line_section (length (lines_bytes w.line_section.order u.address_size (written_lines u.lines))))
 
-abbrev pub WritesOne : WrittenSections → WrittenSections → Result (Unit {0}) WriteError → OrderedUnit → Type 0
-WritesOne old new (Ok done) u = new ≡ with_unit u old
-WritesOne old new (Err e) u = RefusesUnit e old u
+abbrev pub WritesOne : List UnitPlaces → WrittenSections → WrittenSections → Result (Unit {0}) WriteError → OrderedUnit → Type 0
+WritesOne units old new (Ok done) u = new ≡ with_unit units u old
+WritesOne units old new (Err e) u = RefusesUnit e units old u
 
 abbrev pub empty_section : Endian → SectionName → Writing
 empty_section order name = record { order = order; name = name; body = []; relocations = [] }
 
-abbrev pub with_units : List OrderedUnit → WrittenSections → WrittenSections
-with_units [] w = w
-with_units (u ∷ us) w = with_units us (with_unit u w)
+abbrev pub with_units : List UnitPlaces → List OrderedUnit → WrittenSections → WrittenSections
+with_units units [] w = w
+with_units units (u ∷ us) w = with_units units us (with_unit units u w)
 
-abbrev pub all_units : Endian → List OrderedUnit → WrittenSections
-all_units order us = with_units us (record { abbrev_section = empty_section order Abbrev; info_section = empty_section order Info; line_section = empty_section order Line })
+abbrev pub all_units : Endian → List UnitPlaces → List OrderedUnit → WrittenSections
+all_units order units us = with_units units us (record { abbrev_section = empty_section order Abbrev; info_section = empty_section order Info; line_section = empty_section order Line })
 
 -- A refusal of all units: for want of memory, or for a section's size.
+abbrev pub IsRefusalAmong : Endian → List UnitPlaces → List OrderedUnit → WriteError → Type 0
+IsRefusalAmong order units us OutOfMemory = Unit {0}
+IsRefusalAmong order units us (TooLarge (Section name)) = most_bytes < length (bytes_of order units us name)
+
 abbrev pub IsRefusal : Endian → List OrderedUnit → WriteError → Type 0
-IsRefusal order us OutOfMemory = Unit {0}
-IsRefusal order us (TooLarge (Section name)) = most_bytes < length (bytes_of order us name)
+IsRefusal order us e = IsRefusalAmong order (all_places order us) us e
 
 abbrev pub sections_of : WrittenSections → List OutputSection
 sections_of w =

@@ -1,18 +1,18 @@
 -- How long the sections of given units can be at most, counted as `Widest` counts them: numbers of variable length have 10
 -- bytes and addresses 8, each entry has a declaration of its own, and each row all its instructions.
-use Rattle.std.specs.Prelude.{ℕ, ◌+◌, ◌*◌, ◌<◌, List, [], ◌∷◌, length, map, sum_by, nat_lt, if◌then◌else◌, Option, Some, None}
+use Rattle.std.specs.Prelude.{ℕ, ◌+◌, ◌*◌, ◌<◌, List, [], ◌∷◌, length, sum_by, nat_lt, if◌then◌else◌, Option, Some, None}
 use Rattle.dwc_base.specs.declared.section_name.SectionName.{SectionName}
 use Rattle.dwc_base.specs.declared.section_name.SectionName.TheVariants.{Abbrev, Info, Line}
 use Rattle.dwc_base.specs.Widest.{variable_bytes, address_bytes, widest_declaration, widest_header, widest_image}
 use Rattle.dwc_base.specs.WidestTrees.{constant_bytes, widest_of_trees}
 use Rattle.dwc_write.specs.declared.attributes.AttributeValue.{AttributeValue}
-use Rattle.dwc_write.specs.declared.attributes.AttributeValue.TheVariants.{Address, Constant, Flag, LineProgramRef}
+use Rattle.dwc_write.specs.declared.attributes.AttributeValue.TheVariants.{Address, Constant, Flag, LineProgramRef, UnitRef, DebugInfoRef}
 use Rattle.dwc_write.specs.declared.error.WriteError.{WriteError}
 use Rattle.dwc_write.specs.declared.error.WriteError.TheVariants.{TooLarge, OutOfMemory}
 use Rattle.dwc_base.specs.declared.faults.Limit.TheVariants.{Section}
 use Rattle.dwc_write.specs.Writers.{most_bytes}
 use Rattle.dwc_write.specs.GivenLines.{GivenLines}
-use Rattle.dwc_write.specs.GivenTrees.{given_tree}
+use Rattle.dwc_write.specs.GivenTrees.{given_trees}
 use Rattle.dwc_write.specs.GivenUnits.{GivenEntry, OrderedUnit, first_depth}
 
 abbrev pub widest_value : AttributeValue → ℕ
@@ -20,6 +20,8 @@ widest_value (Address a) = address_bytes
 widest_value (Constant form bits) = constant_bytes form
 widest_value (Flag b) = 1
 widest_value LineProgramRef = 4
+widest_value (UnitRef id) = 4
+widest_value (DebugInfoRef reference) = 4
 
 -- a code and the values
 abbrev pub widest_entry : GivenEntry → ℕ
@@ -48,7 +50,7 @@ widest_given name us = sum_by (widest_unit name) us
 -- the same, counted over what the units say; line tables say nothing there
 abbrev pub widest_said : SectionName → List OrderedUnit → ℕ
 widest_said Line us = widest_given Line us
-widest_said name us = widest_of_trees name (map given_tree us)
+widest_said name us = widest_of_trees name (given_trees us)
 
 -- A refusal of all units for want of memory, or for a section's widest size.
 abbrev pub IsWideRefusal : List OrderedUnit → WriteError → Type 0

@@ -3,13 +3,14 @@ ghost use Rattle.std.specs.Prelude.{◌≡◌, ◌++◌, ◌∷◌, [], ℕ, OnO
 ghost use Rattle.std.specs.Ordering.{nat_cmp};
 ghost use Rattle.std.specs.BTreeMap.{get};
 ghost use Rattle.dwc_write.specs.SpelledUnits.{form_number};
-ghost use Rattle.dwc_write.specs.GivenUnits.{constant_of, set_attribute, written_of};
+ghost use Rattle.dwc_write.specs.GivenUnits.{constant_of, no_places, set_attribute, written_of};
 ghost use Rattle.dwc_write.specs.AttributePlaces.{place_from};
 
+use crate::{UnitEntryId, UnitId};
 use dwc_base::Address;
 use dwc_base::constants::{
     DW_FORM_addr, DW_FORM_data1, DW_FORM_data2, DW_FORM_data4, DW_FORM_data8, DW_FORM_flag,
-    DW_FORM_sdata, DW_FORM_sec_offset, DW_FORM_udata,
+    DW_FORM_ref_addr, DW_FORM_ref4, DW_FORM_sdata, DW_FORM_sec_offset, DW_FORM_udata,
 };
 use std::alloc::{AllocError, Global};
 use std::collections::BTreeMap;
@@ -26,6 +27,17 @@ pub enum AttributeValue {
     Flag(bool),
     /// The line program of the unit, by `DW_FORM_sec_offset`.
     LineProgramRef,
+    /// An entry of the same unit, by `DW_FORM_ref4`. One that is only reserved is named by 0, where no entry begins.
+    UnitRef(UnitEntryId),
+    /// An entry of any unit, by `DW_FORM_ref_addr`.
+    DebugInfoRef(DebugInfoRef),
+}
+
+/// What is named by its offset in `.debug_info`.
+#[derive(Clone, Copy, Debug, PartialEq, Eq)]
+pub enum DebugInfoRef {
+    /// An entry of a unit.
+    Entry(UnitId, UnitEntryId),
 }
 
 // An attribute: its name and its value.
@@ -156,13 +168,15 @@ fn place_in(attributes: &[Attribute], name: u16) -> Option<usize>
 
 // The form of a value.
 pub(crate) fn form_of(value: &AttributeValue) -> u16
-    ensures { result ≡ form_number (written_of 0 value.now) }
+    ensures { result ≡ form_number (written_of no_places value.now) }
 {
     match value {
         AttributeValue::Address(_) => DW_FORM_addr,
         AttributeValue::Constant { form, bits } => constant_form(*form, *bits),
         AttributeValue::Flag(_) => DW_FORM_flag,
         AttributeValue::LineProgramRef => DW_FORM_sec_offset,
+        AttributeValue::UnitRef(_) => DW_FORM_ref4,
+        AttributeValue::DebugInfoRef(_) => DW_FORM_ref_addr,
     }
 }
 

@@ -1,75 +1,117 @@
 //! Units with their entries, as they are written. (DWARF 4, section 7.5.)
-ghost use Rattle.std.specs.Prelude.{◌≡◌, ◌++◌, ◌∷◌, [], ◌+◌, ◌<◌, ◌≤◌, ◌⊎◌, List, OnOk, map, length, replicate};
+ghost use Rattle.std.specs.Prelude.{◌≡◌, ◌++◌, ◌∷◌, [], ◌+◌, ◌<◌, ◌≤◌, ◌⊎◌, OnOk, map, length, get_or, replicate};
 ghost use Rattle.std.specs.List.{All, flat_map};
 ghost use Rattle.dwc_write.specs.Spelled.{number_bytes, uleb_bytes};
 ghost use Rattle.dwc_write.specs.SpelledUnits.{attribute_bytes, entry_bytes, shaped, written_bytes};
 ghost use Rattle.dwc_write.specs.SpelledRelocations.{entries_relocations, value_relocations, values_relocations};
-ghost use Rattle.dwc_write.specs.GivenUnits.{Addition, FitsAttribute, FitsEntry as FitsGivenEntry, FitsOperand, constant_of, first_depth, first_uses, shapes_of, written_attribute, written_entries, written_of};
+ghost use Rattle.dwc_write.specs.GivenUnits.{FitsAttribute, FitsEntry as FitsGivenEntry, FitsOperand, constant_of, first_uses, shapes_of, written_attribute, written_entries, written_of};
 ghost use Rattle.dwc_write.specs.FileOrders.{looked_up};
+ghost use Rattle.dwc_write.specs.LayoutViews.{places_view, spelling_places};
+ghost use Rattle.dwc_write.specs.Layouts.{AreShort, codes_of, offset_in_section};
 ghost use Rattle.dwc_write.specs.UnitViews.{addition_view};
 ghost use Rattle.dwc_write.specs.ShapeViews.{shape_view};
 ghost use Rattle.dwc_write.specs.SpelledOutput.{WritesUnit};
 ghost use Rattle.dwc_base.specs.declared.section_name.SectionName.TheVariants.{Abbrev};
 ghost use Rattle.dwc_write.specs.Writers.{Writes, most_bytes, offset_relocation};
 
-use crate::abbreviations::{Shape, code_of, put_table, set_shape};
-use crate::append::{bytes_2, put_sized, put_sleb, put_uleb};
+use crate::abbreviations::put_table;
+use crate::append::{bytes_2, bytes_4, put_sized, put_sleb, put_uleb};
 use crate::attributes::Attribute;
-use crate::file_order::FilePlace;
+use crate::file_order::{FilePlace, depth_of_first};
+use crate::layout::UnitLayout;
 use crate::units::Entry;
-use crate::{AttributeValue, WriteError, WriterRelocate};
+use crate::{AttributeValue, DebugInfoRef, UnitEntryId, UnitId, WriteError, WriterRelocate};
 use dwc_base::constants::{
     DW_FORM_data1, DW_FORM_data2, DW_FORM_data4, DW_FORM_data8, DW_FORM_sdata,
 };
 use dwc_base::{Endian, SectionName};
-use indexmap::IndexSet;
-use std::alloc::{AllocError, Global};
+use std::alloc::AllocError;
 
-// How the values of a unit are written: the order of bytes, the size of an address, and the offset of its line table.
+// How the values of a unit are written: the order of bytes, the size of an address, and where what they name stands: the unit's
+// line table, its entries by their numbers, and the entries of all units.
 #[derive(Clone, Copy)]
-pub struct Spelling {
+pub struct Spelling<'a> {
     pub order: Endian,
     pub size: u8,
     pub line_offset: usize,
+    pub offsets: &'a [usize],
+    pub units: &'a [UnitLayout],
+}
+
+impl Spelling<'_> {
+    // The offset in the unit of one of its entries.
+    fn offset_of(&self, id: UnitEntryId) -> usize
+        ensures { result ≡ get_or self.now.offsets.now id.index 0 }
+    {
+        offset_at(self.offsets, id)
+    }
+
+    // The offset in `.debug_info` of an entry of a unit, 0 where there is no such unit.
+    fn section_offset_of(&self, unit: UnitId, id: UnitEntryId) -> usize
+        requires { offset_in_section (map places_view self.now.units.now) unit.index id.index ≤ most_bytes }
+        ensures { result ≡ offset_in_section (map places_view self.now.units.now) unit.index id.index }
+    {
+        match self.units.get(unit.index) {
+            Some(layout) => layout.start + offset_at(&layout.offsets, id),
+            None => 0,
+        }
+    }
+}
+
+// The offset of an entry by its number, 0 where there is none.
+fn offset_at(offsets: &[usize], id: UnitEntryId) -> usize
+    ensures { result ≡ get_or offsets.now id.index 0 }
+{
+    match offsets.get(id.index) {
+        Some(offset) => *offset,
+        None => 0,
+    }
 }
 
 // A unit: its entries behind their header, in file order, and the abbreviation table that declares them.
 pub fn write_unit(
-    alloc: Global,
     tables: &mut WriterRelocate,
     info: &mut WriterRelocate,
     scratch: &mut Vec<u8>,
-    spelling: Spelling,
+    spelling: &Spelling<'_>,
     entries: &[Entry],
-    order: &[FilePlace],
+    layout: &UnitLayout,
 ) -> Result<(), WriteError>
-    requires order { spelling.order ≡ info.old.order }
-    requires size { (spelling.size ≡ 4) ⊎ (spelling.size ≡ 8) }
-    requires line { spelling.line_offset ≤ most_bytes }
-    requires fits { All (FitsGivenEntry spelling.size) (map (looked_up (map addition_view entries.now)) order.now) }
-    requires known { All (λ f. f.index < length entries.now) order.now }
-    ensures { WritesUnit tables.old tables.new info.old info.new result spelling.size spelling.line_offset (map (looked_up (map addition_view entries.now)) order.now) }
+    requires order { spelling.now.order ≡ info.old.order }
+    requires size { (spelling.now.size ≡ 4) ⊎ (spelling.now.size ≡ 8) }
+    requires short { AreShort (spelling_places spelling.now) }
+    requires fits { All (FitsGivenEntry spelling.now.size) (map (looked_up (map addition_view entries.now)) layout.now.order.items) }
+    requires known { All (λ f. f.index < length entries.now) layout.now.order.items }
+    requires codes { layout.now.codes.items ≡ codes_of (map (looked_up (map addition_view entries.now)) layout.now.order.items) }
+    requires shapes { map shape_view layout.now.shapes.keys ≡ first_uses [] (shapes_of (map (looked_up (map addition_view entries.now)) layout.now.order.items)) }
+    ensures { WritesUnit tables.old tables.new info.old info.new result spelling.now.size (spelling_places spelling.now) (map (looked_up (map addition_view entries.now)) layout.now.order.items) }
 {
-    let mut shapes = IndexSet::new(alloc);
     let place = info.place();
     write_header(info, spelling, tables.place())?;
-    write_entries(alloc, info, scratch, spelling, entries, order, &mut shapes)?;
+    write_entries(
+        info,
+        scratch,
+        spelling,
+        entries,
+        &layout.order,
+        &layout.codes,
+    )?;
     info.finish_length(place);
     scratch.clear();
-    put_table(scratch, shapes.as_slice())?;
+    put_table(scratch, layout.shapes.as_slice())?;
     tables.put_bytes(scratch)
 }
 
 // A header: room for the length, the version, the offset of the abbreviation table, and the size of an address.
 fn write_header(
     info: &mut WriterRelocate,
-    spelling: Spelling,
+    spelling: &Spelling<'_>,
     table_offset: usize,
 ) -> Result<(), WriteError>
-    requires order { spelling.order ≡ info.old.order }
+    requires order { spelling.now.order ≡ info.old.order }
     requires table { table_offset ≤ most_bytes }
     ensures { Writes info.old info.new result
-        ((0 ∷ 0 ∷ 0 ∷ 0 ∷ []) ++ (number_bytes info.old.order 2 4 ++ (number_bytes info.old.order 4 table_offset ++ (spelling.size ∷ []))))
+        ((0 ∷ 0 ∷ 0 ∷ 0 ∷ []) ++ (number_bytes info.old.order 2 4 ++ (number_bytes info.old.order 4 table_offset ++ (spelling.now.size ∷ []))))
         (offset_relocation (length info.old.body + 6) 4 Abbrev table_offset ∷ []) }
 {
     let version = bytes_2(spelling.order, 4);
@@ -78,41 +120,31 @@ fn write_header(
     info.put_bytes(&[spelling.size])
 }
 
-// Entries, one behind another, with the codes of their shapes.
+// Entries in file order, one behind another, with the codes of their shapes.
 fn write_entries(
-    alloc: Global,
     info: &mut WriterRelocate,
     scratch: &mut Vec<u8>,
-    spelling: Spelling,
+    spelling: &Spelling<'_>,
     entries: &[Entry],
     order: &[FilePlace],
-    shapes: &mut IndexSet<Shape>,
+    codes: &[u64],
 ) -> Result<(), WriteError>
-    requires order { spelling.order ≡ info.old.order }
-    requires size { (spelling.size ≡ 4) ⊎ (spelling.size ≡ 8) }
-    requires line { spelling.line_offset ≤ most_bytes }
-    requires fits { All (FitsGivenEntry spelling.size) (map (looked_up (map addition_view entries.now)) order.now) }
+    requires order { spelling.now.order ≡ info.old.order }
+    requires size { (spelling.now.size ≡ 4) ⊎ (spelling.now.size ≡ 8) }
+    requires short { AreShort (spelling_places spelling.now) }
+    requires fits { All (FitsGivenEntry spelling.now.size) (map (looked_up (map addition_view entries.now)) order.now) }
     requires known { All (λ f. f.index < length entries.now) order.now }
-    ensures shapes { OnOk result (map shape_view shapes.new.keys ≡ first_uses (map shape_view shapes.old.keys) (shapes_of (map (looked_up (map addition_view entries.now)) order.now))) }
-    ensures bytes { Writes info.old info.new result
-        (flat_map (entry_bytes info.old.order spelling.size) (shaped (written_entries spelling.line_offset (first_uses (map shape_view shapes.old.keys) (shapes_of (map (looked_up (map addition_view entries.now)) order.now))) (map (looked_up (map addition_view entries.now)) order.now))))
-        (entries_relocations info.old.order spelling.size (length info.old.body) (shaped (written_entries spelling.line_offset (first_uses (map shape_view shapes.old.keys) (shapes_of (map (looked_up (map addition_view entries.now)) order.now))) (map (looked_up (map addition_view entries.now)) order.now)))) }
+    requires codes { codes.now ≡ codes_of (map (looked_up (map addition_view entries.now)) order.now) }
+    ensures { Writes info.old info.new result
+        (flat_map (entry_bytes info.old.order spelling.now.size) (shaped (written_entries (spelling_places spelling.now) (first_uses [] (shapes_of (map (looked_up (map addition_view entries.now)) order.now))) (map (looked_up (map addition_view entries.now)) order.now))))
+        (entries_relocations info.old.order spelling.now.size (length info.old.body) (shaped (written_entries (spelling_places spelling.now) (first_uses [] (shapes_of (map (looked_up (map addition_view entries.now)) order.now))) (map (looked_up (map addition_view entries.now)) order.now)))) }
 {
-    let mut shape = Shape {
-        tag: 0,
-        has_children: false,
-        attributes: Vec::new(alloc),
-    };
     for i in 0..order.len() {
         let depth = order[i].depth;
         let entry = &entries[order[i].index];
         let attributes = entry.attributes.as_slice();
-        let next = depth_of_first(&order[i + 1..]);
-        let has_children = depth < next;
-        let ends = depth.saturating_sub(next);
-        set_shape(&mut shape, entry.tag, has_children, attributes)?;
-        let code = code_of(shapes, &shape)?;
-        write_entry(info, scratch, spelling, code, attributes, ends)?;
+        let ends = depth.saturating_sub(depth_of_first(&order[i + 1..]));
+        write_entry(info, scratch, spelling, codes[i], attributes, ends)?;
     }
     Ok(())
 }
@@ -121,18 +153,18 @@ fn write_entries(
 pub fn write_entry(
     info: &mut WriterRelocate,
     scratch: &mut Vec<u8>,
-    spelling: Spelling,
+    spelling: &Spelling<'_>,
     code: u64,
     attributes: &[Attribute],
     ends: usize,
 ) -> Result<(), WriteError>
-    requires order { spelling.order ≡ info.old.order }
-    requires size { (spelling.size ≡ 4) ⊎ (spelling.size ≡ 8) }
-    requires line { spelling.line_offset ≤ most_bytes }
-    requires fits { All (FitsAttribute spelling.size) attributes.now }
+    requires order { spelling.now.order ≡ info.old.order }
+    requires size { (spelling.now.size ≡ 4) ⊎ (spelling.now.size ≡ 8) }
+    requires short { AreShort (spelling_places spelling.now) }
+    requires fits { All (FitsAttribute spelling.now.size) attributes.now }
     ensures { Writes info.old info.new result
-        (uleb_bytes code ++ (flat_map (attribute_bytes info.old.order spelling.size) (map (written_attribute spelling.line_offset) attributes.now) ++ replicate ends 0))
-        (values_relocations info.old.order spelling.size (length info.old.body + length (uleb_bytes code)) (map (written_attribute spelling.line_offset) attributes.now)) }
+        (uleb_bytes code ++ (flat_map (attribute_bytes info.old.order spelling.now.size) (map (written_attribute (spelling_places spelling.now)) attributes.now) ++ replicate ends 0))
+        (values_relocations info.old.order spelling.now.size (length info.old.body + length (uleb_bytes code)) (map (written_attribute (spelling_places spelling.now)) attributes.now)) }
 {
     scratch.clear();
     put_uleb(scratch, code)?;
@@ -155,16 +187,16 @@ fn write_ends(info: &mut WriterRelocate, count: usize) -> Result<(), WriteError>
 fn write_values(
     info: &mut WriterRelocate,
     scratch: &mut Vec<u8>,
-    spelling: Spelling,
+    spelling: &Spelling<'_>,
     attributes: &[Attribute],
 ) -> Result<(), WriteError>
-    requires order { spelling.order ≡ info.old.order }
-    requires size { (spelling.size ≡ 4) ⊎ (spelling.size ≡ 8) }
-    requires line { spelling.line_offset ≤ most_bytes }
-    requires fits { All (FitsAttribute spelling.size) attributes.now }
+    requires order { spelling.now.order ≡ info.old.order }
+    requires size { (spelling.now.size ≡ 4) ⊎ (spelling.now.size ≡ 8) }
+    requires short { AreShort (spelling_places spelling.now) }
+    requires fits { All (FitsAttribute spelling.now.size) attributes.now }
     ensures { Writes info.old info.new result
-        (flat_map (attribute_bytes info.old.order spelling.size) (map (written_attribute spelling.line_offset) attributes.now))
-        (values_relocations info.old.order spelling.size (length info.old.body) (map (written_attribute spelling.line_offset) attributes.now)) }
+        (flat_map (attribute_bytes info.old.order spelling.now.size) (map (written_attribute (spelling_places spelling.now)) attributes.now))
+        (values_relocations info.old.order spelling.now.size (length info.old.body) (map (written_attribute (spelling_places spelling.now)) attributes.now)) }
 {
     for i in 0..attributes.len() {
         let attribute = &attributes[i];
@@ -177,14 +209,14 @@ fn write_values(
 fn write_value(
     info: &mut WriterRelocate,
     scratch: &mut Vec<u8>,
-    spelling: Spelling,
+    spelling: &Spelling<'_>,
     value: &AttributeValue,
 ) -> Result<(), WriteError>
-    requires order { spelling.order ≡ info.old.order }
-    requires size { (spelling.size ≡ 4) ⊎ (spelling.size ≡ 8) }
-    requires line { spelling.line_offset ≤ most_bytes }
-    requires fits { FitsOperand spelling.size value.now }
-    ensures { Writes info.old info.new result (written_bytes info.old.order spelling.size (written_of spelling.line_offset value.now)) (value_relocations spelling.size (length info.old.body) (written_of spelling.line_offset value.now)) }
+    requires order { spelling.now.order ≡ info.old.order }
+    requires size { (spelling.now.size ≡ 4) ⊎ (spelling.now.size ≡ 8) }
+    requires short { AreShort (spelling_places spelling.now) }
+    requires fits { FitsOperand spelling.now.size value.now }
+    ensures { Writes info.old info.new result (written_bytes info.old.order spelling.now.size (written_of (spelling_places spelling.now) value.now)) (value_relocations spelling.now.size (length info.old.body) (written_of (spelling_places spelling.now) value.now)) }
 {
     match value {
         AttributeValue::Address(address) => info.put_address(*address, spelling.size),
@@ -195,6 +227,12 @@ fn write_value(
         }
         AttributeValue::Flag(flag) => info.put_bytes(&[u8::from(*flag)]),
         AttributeValue::LineProgramRef => info.put_offset(spelling.line_offset, SectionName::Line),
+        AttributeValue::UnitRef(id) => {
+            info.put_bytes(&bytes_4(spelling.order, spelling.offset_of(*id) as u32))
+        }
+        AttributeValue::DebugInfoRef(DebugInfoRef::Entry(unit, id)) => {
+            info.put_offset(spelling.section_offset_of(*unit, *id), SectionName::Info)
+        }
     }
 }
 
@@ -209,15 +247,5 @@ fn put_constant(out: &mut Vec<u8>, order: Endian, form: u16, bits: u64) -> Resul
         DW_FORM_data8 => put_sized(out, order, 8, bits),
         DW_FORM_sdata => put_sleb(out, bits.cast_signed()),
         _ => put_uleb(out, bits),
-    }
-}
-
-// The depth of the first of some entries, 0 where there is none.
-fn depth_of_first(order: &[FilePlace]) -> usize
-    ensures { (added : List Addition) → result ≡ first_depth (map (looked_up added) order.now) }
-{
-    match order {
-        [] => 0,
-        [first, ..] => first.depth,
     }
 }

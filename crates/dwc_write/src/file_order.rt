@@ -1,7 +1,7 @@
 //! The order in which the entries of a unit stand in the file: an entry is followed by what is below it. (DWARF 4, section 2.3.)
-ghost use Rattle.std.specs.Prelude.{◌≡◌, ◌++◌, ◌∷◌, [], ◌<◌, ◌≤◌, OnOk, IfOk, length, map, replicate};
+ghost use Rattle.std.specs.Prelude.{◌≡◌, ◌++◌, ◌∷◌, [], List, ◌<◌, ◌≤◌, OnOk, IfOk, length, map, replicate};
 ghost use Rattle.std.specs.List.{All};
-ghost use Rattle.dwc_write.specs.GivenUnits.{IsRooted, in_file_order};
+ghost use Rattle.dwc_write.specs.GivenUnits.{Addition, IsRooted, first_depth, in_file_order};
 ghost use Rattle.dwc_write.specs.FileOrders.{AreLinked, looked_up, linked_place};
 ghost use Rattle.dwc_write.specs.UnitViews.{addition_view};
 
@@ -73,4 +73,14 @@ fn links_of(alloc: Global, entries: &[Entry]) -> Result<Links, AllocError>
         first_children,
         next_siblings,
     })
+}
+
+// The depth of the first of some entries, 0 where there is none.
+pub fn depth_of_first(order: &[FilePlace]) -> usize
+    ensures { (added : List Addition) → result ≡ first_depth (map (looked_up added) order.now) }
+{
+    match order {
+        [] => 0,
+        [first, ..] => first.depth,
+    }
 }

@@ -8,15 +8,17 @@ mod attributes;
 mod entries;
 mod error;
 mod file_order;
+mod layout;
 mod lines;
 mod names;
 mod rows;
 mod sections;
+mod sizes;
 mod tables;
 mod units;
 mod writer;
 
-pub use attributes::AttributeValue;
+pub use attributes::{AttributeValue, DebugInfoRef};
 pub use error::WriteError;
 pub use lines::LineProgram;
 pub use sections::write_sections;

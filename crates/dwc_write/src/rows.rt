@@ -6,6 +6,7 @@ ghost use Rattle.dwc_write.specs.Spelled.{uleb_bytes, sleb_bytes};
 ghost use Rattle.dwc_write.specs.SpelledLines.{FitsRow, RowsRise, bytes_when, differs as differ, extended_bytes, first_row, program_bytes, row_instructions, rows_instructions};
 
 use crate::append::{put_sleb, put_uleb};
+use crate::sizes::uleb_length;
 use dwc_base::LineRow;
 use dwc_base::constants::{
     DW_LNE_end_sequence, DW_LNE_set_discriminator, DW_LNS_advance_line, DW_LNS_advance_pc,
@@ -126,20 +127,6 @@ fn put_discriminator(out: &mut Vec<u8>, discriminator: u64) -> Result<(), AllocE
         put_uleb(out, discriminator)?;
     }
     Ok(())
-}
-
-// How many bytes an unsigned LEB128 number has.
-fn uleb_length(value: u64) -> u8
-    ensures length { result ≡ length (uleb_bytes value) }
-    ensures most { result ≤ 10 }
-{
-    let mut rest = value;
-    let mut count: u8 = 1;
-    while rest >= 128 {
-        rest /= 128;
-        count += 1;
-    }
-    count
 }
 
 // How far a line is from the one before.

@@ -1,5 +1,5 @@
 //! The sections of an output.
-ghost use Rattle.std.specs.Prelude.{◌≡◌, ℕ, ◌++◌, OnOk, IfOk, IfErr, IsOkUnless, map};
+ghost use Rattle.std.specs.Prelude.{◌≡◌, ◌<◌, ◌≤◌, ℕ, ◌++◌, get_or, length, OnOk, IfOk, IfErr, IsOkUnless, map};
 ghost use Rattle.dwc_base.specs.declared.records.Endian.{Endian};
 ghost use Rattle.std.specs.List.{All};
 ghost use Rattle.dwc_base.specs.Carried.{units};
@@ -9,17 +9,20 @@ ghost use Rattle.dwc_base.specs.Outputs.{output_sections, section_view};
 ghost use Rattle.dwc_base.specs.TreeReading.{CarriesTrees};
 ghost use Rattle.dwc_write.specs.declared.error.WriteError.TheVariants.{OutOfMemory};
 ghost use Rattle.dwc_write.specs.GivenLines.{FitsLines};
-ghost use Rattle.dwc_write.specs.GivenTrees.{given_tree};
+ghost use Rattle.dwc_write.specs.GivenTrees.{given_trees};
 ghost use Rattle.dwc_write.specs.GivenUnits.{AreWritable, FitsOrdered, ordered};
-ghost use Rattle.dwc_write.specs.SpelledOutput.{IsRefusal, WritesOne, all_units, section_unless_empty, sections_of, spelled_sections};
+ghost use Rattle.dwc_write.specs.declared.layout.UnitLayout.{UnitLayout};
+ghost use Rattle.dwc_write.specs.LayoutViews.{IsLaidOut, places_view};
+ghost use Rattle.dwc_write.specs.Layouts.{AreShort, offsets_by_number, places_in};
+ghost use Rattle.dwc_write.specs.SpelledOutput.{IsRefusal, WritesOne, all_places, all_units, section_unless_empty, sections_of, spelled_sections};
 ghost use Rattle.dwc_write.specs.SpelledRelocations.{DoRelocationsRise};
 ghost use Rattle.dwc_write.specs.ReadBack.{ReadsBack};
 ghost use Rattle.dwc_write.specs.SectionViews.{sections_view};
 ghost use Rattle.dwc_write.specs.WidestGiven.{IsWideRefusal};
-ghost use Rattle.dwc_write.specs.Writers.{IsSound};
+ghost use Rattle.dwc_write.specs.Writers.{IsSound, most_bytes};
 
 use crate::entries::{Spelling, write_unit};
-use crate::file_order::file_order;
+use crate::layout::{UnitLayout, lay_out};
 use crate::tables::write_lines;
 use crate::{Dwarf, Unit, WriteError, WriterRelocate};
 use dwc_base::{DwarfSection, Endian, SectionName};
@@ -46,7 +49,7 @@ pub fn write_sections(
     ensures sound { IfOk result (λ s. All (IsSound order) (map section_view s.items)) }
     ensures rise { IfOk result (λ s. All DoRelocationsRise (map section_view s.items)) }
     ensures read { IfOk result (λ s. ReadsBack order (map ordered dwarf.units.units.items) (map section_view s.items)) }
-    ensures trees { IfOk result (λ s. CarriesTrees order (map given_tree (map ordered dwarf.units.units.items)) (map section_view s.items)) }
+    ensures trees { IfOk result (λ s. CarriesTrees order (given_trees (map ordered dwarf.units.units.items)) (map section_view s.items)) }
     ensures form { IfOk result (λ s. (size : ℕ) → All (λ u. u.address_size ≡ size) dwarf.units.units.items → HaveTargetForm size (units (output_sections order (map section_view s.items))).items) }
     ensures names { IfOk result (λ s. HasDistinctNames (map section_view s.items)) }
     ensures relocated { IfOk result (λ s. AreRelocated order (map section_view s.items)) }
@@ -57,58 +60,74 @@ pub fn write_sections(
     gather(alloc, sections)
 }
 
-// Units, one behind another.
+// Units, one behind another: first where all of them stand, then their bytes.
 fn write_units(alloc: Global, order: Endian, units: &[Unit]) -> Result<Sections, WriteError>
     requires { AreWritable (map ordered units.now) }
-    ensures ok { IfOk result (λ s. sections_view s ≡ all_units order (map ordered units.now)) }
+    ensures ok { IfOk result (λ s. sections_view s ≡ all_units order (all_places order (map ordered units.now)) (map ordered units.now)) }
     ensures large { IfErr result (λ e. IsRefusal order (map ordered units.now) e) }
     ensures widest { IfErr result (λ e. IsWideRefusal (map ordered units.now) e) }
     ensures fits { OnOk result (All FitsOrdered (map ordered units.now)) }
     ensures lines { OnOk result (All (λ u. FitsLines u.lines) (map ordered units.now)) }
 {
+    let layouts = lay_out(alloc, units)?;
+    let room = length_of(&layouts);
     let mut sections = Sections {
         abbrev: WriterRelocate::new(alloc, order, SectionName::Abbrev)?,
-        info: WriterRelocate::new(alloc, order, SectionName::Info)?,
+        info: WriterRelocate::with_room(alloc, order, SectionName::Info, room)?,
         line: WriterRelocate::new(alloc, order, SectionName::Line)?,
     };
     let mut scratch = Vec::new(alloc);
     for i in 0..units.len() {
-        write_one(alloc, order, &mut sections, &mut scratch, &units[i])?;
+        write_one(order, &mut sections, &mut scratch, &units[i], &layouts, i)?;
     }
     Ok(sections)
 }
 
-// A unit with its line table.
+// How many bytes units take.
+fn length_of(layouts: &[UnitLayout]) -> usize {
+    match layouts {
+        [] => 0,
+        [.., last] => last.start.saturating_add(last.length),
+    }
+}
+
+// A unit with its line table, at a place among others.
 fn write_one(
-    alloc: Global,
     order: Endian,
     sections: &mut Sections,
     scratch: &mut Vec<u8>,
     unit: &Unit,
+    layouts: &[UnitLayout],
+    place: usize,
 ) -> Result<(), WriteError>
     requires info { order ≡ sections.old.info.order }
     requires line { order ≡ sections.old.line.order }
-    ensures bytes { WritesOne (sections_view sections.old) (sections_view sections.new) result (ordered unit.now) }
+    requires place { place < length layouts.now }
+    requires laid { (d : UnitLayout) → IsLaidOut unit.now (get_or layouts.now place d) }
+    requires offsets { (d : UnitLayout) → (get_or layouts.now place d).offsets.items ≡ offsets_by_number order unit.now.address_size (ordered unit.now) }
+    requires short { (line : ℕ) → line ≤ most_bytes → AreShort (places_in (map places_view layouts.now) (offsets_by_number order unit.now.address_size (ordered unit.now)) line) }
+    ensures bytes { WritesOne (map places_view layouts.now) (sections_view sections.old) (sections_view sections.new) result (ordered unit.now) }
     ensures fits { FitsOrdered (ordered unit.now) }
     ensures lines { FitsLines unit.now.lines }
 {
     let size = unit.address_size;
     let line_offset = sections.line.place();
     write_lines(&mut sections.line, scratch, order, size, &unit.lines)?;
+    let layout = &layouts[place];
     let spelling = Spelling {
         order,
         size,
         line_offset,
+        offsets: &layout.offsets,
+        units: layouts,
     };
-    let entry_order = file_order(alloc, &unit.entries)?;
     write_unit(
-        alloc,
         &mut sections.abbrev,
         &mut sections.info,
         scratch,
-        spelling,
+        &spelling,
         &unit.entries,
-        &entry_order,
+        layout,
     )
 }
 

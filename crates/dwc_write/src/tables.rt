@@ -7,7 +7,8 @@ ghost use Rattle.dwc_write.specs.SpelledLines.{file_bytes, line_fields_bytes};
 ghost use Rattle.dwc_write.specs.SpelledSections.{lines_bytes};
 ghost use Rattle.dwc_write.specs.SpelledRelocations.{lines_relocations, sequence_bytes, sequence_relocations, sequences_relocations};
 ghost use Rattle.dwc_write.specs.GivenLines.{FitsGivenSequence, FitsLines};
-ghost use Rattle.dwc_write.specs.GivenUnits.{IsOfSize, written_lines};
+ghost use Rattle.dwc_write.specs.GivenUnits.{IsOfSize};
+ghost use Rattle.dwc_write.specs.Layouts.{written_lines};
 ghost use Rattle.dwc_write.specs.LineViews.{sequence_view};
 ghost use Rattle.dwc_write.specs.Writers.{FitsField, Writes, address_relocations};
 

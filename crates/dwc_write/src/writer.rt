@@ -19,7 +19,7 @@ use std::alloc::{AllocError, Global};
 use std::marker::Model;
 
 // The most bytes that a section holds.
-const MOST_BYTES: usize = 0x7FFF_FFFF;
+pub(crate) const MOST_BYTES: usize = 0x7FFF_FFFF;
 
 /// A section that is written. Each call answers `TooLarge` exactly where the body would pass 2^31 - 1 bytes, else
 /// `OutOfMemory` for want of memory, and then changes nothing.
@@ -123,6 +123,24 @@ impl WriterRelocate {
             order,
             name,
             body: Vec::new(alloc),
+            relocs: Vec::new(alloc),
+        })
+    }
+
+    // An empty section with room for so many bytes.
+    pub(crate) fn with_room(
+        alloc: Global,
+        order: Endian,
+        name: SectionName,
+        room: usize,
+    ) -> Result<WriterRelocate, WriteError>
+        ensures ok { IfOk result (λ w. w ≡ record { order = order; name = name; body = []; relocations = [] }) }
+        ensures memory { IsOkUnless result OutOfMemory }
+    {
+        Ok(WriterRelocate {
+            order,
+            name,
+            body: Vec::with_capacity(alloc, room)?,
             relocs: Vec::new(alloc),
         })
     }

@@ -1,9 +1,11 @@
-use Rattle.std.proofs.Common.{◌≡◌, ap, sym, subst, ◌∙◌, List, map}
+use Rattle.std.proofs.Common.{◌≡◌, refl, ap, sym, subst, ◌∙◌, List, map}
 use Rattle.std.specs.List.{All}
 use Rattle.std.proofs.lemmas.List.Elements.{All-map}
 use Rattle.dwc_base.specs.Fields.{AreRelocated}
 use Rattle.dwc_base.specs.OutputForm.{HasDistinctNames}
 use Rattle.dwc_base.specs.Outputs.{OutputSection, section_view}
+use Rattle.dwc_base.specs.TreeReading.{CarriesTrees}
+use Rattle.dwc_write.specs.GivenTrees.{given_trees}
 use Rattle.dwc_write.specs.ReadBack.{ReadsBack}
 use Rattle.dwc_write.specs.SpelledOutput.{WrittenSections, sections_of}
 use Rattle.dwc_write.specs.SpelledRelocations.{DoRelocationsRise}
@@ -19,11 +21,11 @@ use Rattle.dwc_write.proofs.sections.write_sections.Goals as goal
 pub returns-clause-sections : goal.returns-clause-sections
 returns-clause-sections c =
     let all = rw (c.deref.ensures.value) at c.in_ok-sections.ensures.ok in
-    if-ok-weaker c.gather.result _ _ (λ s h. h ∙ ap sections_of all ∙ output-sections c.args.order _ c.requires) c.gather.ensures.sections
+    if-ok-weaker c.gather.result _ _ (λ s h. h ∙ ap sections_of all ∙ output-sections c.args.order _ _ refl c.requires) c.gather.ensures.sections
 
 pub returns-clause-sound : goal.returns-clause-sound
 returns-clause-sound c =
-    let all = (rw (c.deref.ensures.value) at c.in_ok-sections.ensures.ok) ∙ all-appended c.args.order _ c.requires in
+    let all = (rw (c.deref.ensures.value) at c.in_ok-sections.ensures.ok) ∙ all-appended c.args.order _ _ c.requires in
     c.gather.ensures.sound c.args.order (ap (λ (w : WrittenSections). w.abbrev_section.order) all) (ap (λ (w : WrittenSections). w.info_section.order) all) (ap (λ (w : WrittenSections). w.line_section.order) all)
 
 pub returns-clause-read : goal.returns-clause-read
@@ -42,8 +44,12 @@ returns-clause-rise c =
 
 pub returns-clause-trees : goal.returns-clause-trees
 returns-clause-trees c =
+    let us = map ordered c.args.dwarf.units.units.items in
     let fits = rw (c.deref.ensures.value) at c.in_ok-sections.ensures.fits in
-    if-ok-weaker c.gather.result _ _ (λ s back. carries-trees c.args.order (map ordered c.args.dwarf.units.units.items) (map section_view s.items) fits back) (returns-clause-read c)
+    let lines = rw (c.deref.ensures.value) at c.in_ok-sections.ensures.lines in
+    let P : List OutputSection → Type 0 = λ ss. CarriesTrees c.args.order (given_trees us) ss in
+    let Q : List OutputSection → Type 0 = λ ss. All (IsSound c.args.order) ss in
+    if-ok-both c.gather.result _ _ _ (λ s is sound. subst P (sym is) (carries-trees c.args.order us c.requires fits lines (subst Q is sound))) (returns-clause-sections c) (returns-clause-sound c)
 
 pub returns-clause-form : goal.returns-clause-form
 returns-clause-form c =

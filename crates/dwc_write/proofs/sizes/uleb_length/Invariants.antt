@@ -1,6 +1,6 @@
 use Rattle.std.proofs.Common.{◌≡◌, ◌+◌, ◌≤◌, length}
 use Rattle.dwc_write.specs.Spelled.{uleb_bytes}
-use Rattle.dwc_write.proofs.rows.uleb_length.Given as goal
+use Rattle.dwc_write.proofs.sizes.uleb_length.Given as goal
 
 -- the bytes that were counted, one of them the last, and those of the number that is left; the count is below ten while
 -- more is left than what one byte holds

@@ -1,6 +1,6 @@
 use Rattle.std.proofs.Common.{refl, ap, arith, length}
 use Rattle.dwc_write.proofs.ReadNumbers.{uleb_bytes-length, uleb_bytes-more, uleb_bytes-small}
-use Rattle.dwc_write.proofs.rows.uleb_length.Goals as goal
+use Rattle.dwc_write.proofs.sizes.uleb_length.Goals as goal
 
 pub loop-rest-init : goal.loop-rest-init
 loop-rest-init c = record { counted = refl; most = omega (arith, uleb_bytes-length 9 c.args.value (omega arith)) }

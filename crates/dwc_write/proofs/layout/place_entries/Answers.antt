@@ -1,0 +1,60 @@
+use Rattle.std.proofs.Common.{◌≡◌, ◌+◌, ◌∙◌, sym, ap, subst, suc, add-one, drop, map, length, get_or, append-nil, Err}
+use Rattle.std.proofs.lemmas.List.{drop_all, take_rest}
+use Rattle.std.proofs.lemmas.Result.{err_from_is_err_and}
+use Rattle.dwc_base.specs.declared.records.Endian.{Endian}
+use Rattle.dwc_base.specs.declared.records.Endian.TheVariants.{Little}
+use Rattle.dwc_write.specs.SpelledUnits.{entry_bytes, header_length}
+use Rattle.dwc_write.specs.GivenUnits.{GivenEntry, first_depth, no_places, shape_of}
+use Rattle.dwc_write.specs.FileOrders.{looked_up}
+use Rattle.dwc_write.specs.LayoutViews.{Advances}
+use Rattle.dwc_write.specs.UnitViews.{addition_view}
+use Rattle.dwc_write.specs.ShapeViews.{shape_view}
+use Rattle.dwc_write.proofs.LayoutLaws.{advance-free}
+use Rattle.dwc_write.proofs.EntriesLaws.{entry_with, seen-more, step-more, step-refused}
+use Rattle.dwc_write.proofs.FileOrderLaws.{entry-seen, first_place}
+use Rattle.dwc_write.proofs.layout.place_entries.Goals as goal
+
+pub behind_entry-requires-clause-place : goal.behind_entry-requires-clause-place
+behind_entry-requires-clause-place c = c.loop-i.invariant.short
+
+pub loop-i-preserved : goal.loop-i-preserved
+loop-i-preserved c =
+    let f = looked_up (map addition_view c.args.entries.now) in
+    let place = get_or c.args.order.now c.loop-i.i first_place in
+    let behind = map f (drop (suc c.loop-i.i) c.args.order.now) in
+    let seen = entry-seen c.args.entries.now c.args.order.now c.loop-i.i c.index-entries-order.result c.loop-i-test.true c.requires.known c.index-entries-order.is in
+    let next : c.depth_of_first-next.result ≡ first_depth behind = rw (take_rest, add-one) at (c.depth_of_first-next.ensures (map addition_view c.args.entries.now)) in
+    let shape : shape_view c.set_shape.new.shape ≡ shape_of (f place) behind = rw (c.as_slice-attributes.ensures, next) at c.in_ok-set_shape.ensures ∙ ap (λ (e : GivenEntry). shape_of e behind) (sym seen) in
+    let P : Endian → GivenEntry → Type 0 = λ o e. c.in_ok-place.place ≡ c.loop-i.place + length (entry_bytes o c.args.size (entry_with no_places c.in_ok-code.code e behind)) in
+    rw add-one
+    (record {
+      short = (c.in_ok-place.ensures Little).1;
+      step = λ o.
+          rw (c.in_ok-push.ensures.items, c.in_ok-push-2.ensures.items)
+          (step-more o c.args.size _ _ _ _ _ _ _ _ _ _ _ (f place) behind (rw (seen-more f c.args.order.now c.loop-i.i first_place c.loop-i-test.true) at (c.loop-i.invariant.step o))
+          (rw (shape) at c.in_ok-code.ensures.shapes) (rw (shape) at c.in_ok-code.ensures.code)
+          (subst (P o) (sym seen) (rw (c.as_slice-attributes.ensures, c.saturating_sub.ensures, next) at ((c.in_ok-place.ensures o).0))));
+    })
+
+pub returns-in_err-place-clause-end : goal.returns-in_err-place-clause-end
+returns-in_err-place-clause-end c = λ o.
+    let p = err_from_is_err_and c.from_residual-in_err-place.result c.from_residual-in_err-place.ensures.1 in
+    let f = looked_up (map addition_view c.args.entries.now) in
+    let place = get_or c.args.order.now c.loop-i.i first_place in
+    let behind = map f (drop (suc c.loop-i.i) c.args.order.now) in
+    let seen = entry-seen c.args.entries.now c.args.order.now c.loop-i.i c.index-entries-order.result c.loop-i-test.true c.requires.known c.index-entries-order.is in
+    let next : c.depth_of_first-next.result ≡ first_depth behind = rw (take_rest, add-one) at (c.depth_of_first-next.ensures (map addition_view c.args.entries.now)) in
+    let shape : shape_view c.set_shape.new.shape ≡ shape_of (f place) behind = rw (c.as_slice-attributes.ensures, next) at c.in_ok-set_shape.ensures ∙ ap (λ (e : GivenEntry). shape_of e behind) (sym seen) in
+    let less = step-refused o c.args.size _ _ _ _ _ c.in_ok-code.code _ _ _ (f place) behind (rw (seen-more f c.args.order.now c.loop-i.i first_place c.loop-i-test.true) at (c.loop-i.invariant.step o)) (rw (shape) at c.in_ok-code.ensures.code) in
+    let P : GivenEntry → Type 0 = λ e. Advances (Err c.in_err-place.field-0.0) c.loop-i.place (length (entry_bytes o c.args.size (entry_with no_places c.in_ok-code.code e behind))) in
+    advance-free c.from_residual-in_err-place.result _ c.loop-i.place _ header_length _ p (subst P (sym seen) (rw (c.as_slice-attributes.ensures, c.saturating_sub.ensures, next) at (c.in_err-place.ensures o))) less
+
+pub returns-clause-shapes : goal.returns-clause-shapes
+returns-clause-shapes c =
+    let step = rw (drop_all c.loop-i.i c.args.order.now c.loop-i-test.false) at (c.loop-i.invariant.step Little) in
+    step.used
+
+pub returns-clause-codes : goal.returns-clause-codes
+returns-clause-codes c =
+    let step = rw (drop_all c.loop-i.i c.args.order.now c.loop-i-test.false) at (c.loop-i.invariant.step Little) in
+    sym (append-nil c.loop-i.coded.codes.items) ∙ step.coded

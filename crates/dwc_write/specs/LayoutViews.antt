@@ -1,0 +1,51 @@
+-- Units that are laid out, as a writer keeps them.
+use Rattle.std.specs.Prelude.{◌≡◌, ℕ, ◌+◌, ◌<◌, ◌≤◌, List, length, map, get_or, Option, Some, None, Result, Ok, Err}
+use Rattle.std.specs.List.{All}
+use Rattle.dwc_base.specs.declared.section_name.SectionName.TheVariants.{Info}
+use Rattle.dwc_base.specs.declared.faults.Limit.TheVariants.{Section}
+use Rattle.dwc_write.specs.declared.error.WriteError.{WriteError}
+use Rattle.dwc_write.specs.declared.error.WriteError.TheVariants.{TooLarge, OutOfMemory}
+use Rattle.dwc_write.specs.declared.layout.UnitLayout.{UnitLayout}
+use Rattle.dwc_write.specs.declared.entries.Spelling.{Spelling}
+use Rattle.dwc_write.specs.Writers.{most_bytes}
+use Rattle.dwc_write.specs.GivenUnits.{GivenUnit, Places, in_file_order, ordered, shapes_in}
+use Rattle.dwc_write.specs.FileOrders.{looked_up}
+use Rattle.dwc_write.specs.Layouts.{UnitPlaces, codes_of, places_in}
+use Rattle.dwc_write.specs.ShapeViews.{shape_view}
+
+-- where a unit and its entries stand
+abbrev pub places_view : UnitLayout → UnitPlaces
+places_view l = record { start = l.start; offsets = l.offsets.items }
+
+-- the places of what a unit names, as it is written
+abbrev pub spelling_places : Spelling → Places
+spelling_places s = places_in (map places_view s.units.now) s.offsets.now s.line_offset
+
+-- A unit is laid out: its entries in file order, with the codes of their shapes.
+pub record IsLaidOut (u : GivenUnit) (l : UnitLayout) : Type 0 where
+  pub order : map (looked_up u.additions) l.order.items ≡ in_file_order u.additions
+  pub known : All (λ f. f.index < length u.additions) l.order.items
+  pub codes : l.codes.items ≡ codes_of (in_file_order u.additions)
+  pub shapes : map shape_view l.shapes.keys ≡ shapes_in (ordered u)
+
+-- A place is passed on by so many bytes, or is refused as it would be past the most that `.debug_info` holds.
+abbrev pub Advances : Result ℕ WriteError → ℕ → ℕ → Type 0
+Advances (Ok end) place more = (end ≡ place + more) × (end ≤ most_bytes)
+Advances (Err OutOfMemory) place more = ⊥
+Advances (Err (TooLarge (Section name))) place more = (name ≡ Info) × (most_bytes < place + more)
+
+-- the same, or want of memory
+abbrev pub AdvancesOrMemory : Result ℕ WriteError → ℕ → ℕ → Type 0
+AdvancesOrMemory (Ok end) place more = (end ≡ place + more) × (end ≤ most_bytes)
+AdvancesOrMemory (Err OutOfMemory) place more = Unit {0}
+AdvancesOrMemory (Err (TooLarge (Section name))) place more = (name ≡ Info) × (most_bytes < place + more)
+
+-- A refusal of a unit that is so long, or want of memory.
+abbrev pub IsTooLong : WriteError → ℕ → Type 0
+IsTooLong OutOfMemory size = Unit {0}
+IsTooLong (TooLarge (Section name)) size = (name ≡ Info) × (most_bytes < size)
+
+-- the offset of an entry by its place in the order of addition, where it has one
+abbrev pub offset_known : List ℕ → Option ℕ → ℕ
+offset_known by_place None = 0
+offset_known by_place (Some place) = get_or by_place place 0

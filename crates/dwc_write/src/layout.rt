@@ -1,0 +1,225 @@
+//! Where the entries of units stand, found before a byte is written: a reference names an entry by its offset, which may stand
+//! behind it. (DWARF 4, sections 7.5.1 and 7.5.4.)
+ghost use Rattle.std.specs.Prelude.{◌≡◌, ◌++◌, ◌∷◌, [], ℕ, List, ◌+◌, ◌<◌, ◌≤◌, ◌⊎◌, OnOk, IfOk, IfErr, get_or, length, map, replicate};
+ghost use Rattle.std.specs.List.{All, AllZip, flat_map};
+ghost use Rattle.dwc_base.specs.declared.records.Endian.{Endian};
+ghost use Rattle.dwc_write.specs.FileOrders.{looked_up};
+ghost use Rattle.dwc_write.specs.GivenUnits.{Addition, AreWritable, FitsOrdered, first_uses, no_places, ordered, shapes_of, written_attribute, written_entries};
+ghost use Rattle.dwc_write.specs.LayoutViews.{Advances, AdvancesOrMemory, IsLaidOut, IsTooLong, offset_known, places_view};
+ghost use Rattle.dwc_write.specs.Layouts.{codes_of, offset_among, offsets_by_number, unit_length, units_length};
+ghost use Rattle.dwc_write.specs.ShapeViews.{shape_view};
+ghost use Rattle.dwc_write.specs.Spelled.{at_places, uleb_bytes};
+ghost use Rattle.dwc_write.specs.SpelledOutput.{IsRefusal, all_places};
+ghost use Rattle.dwc_write.specs.SpelledUnits.{attribute_bytes, entry_bytes, header_length, shaped};
+ghost use Rattle.dwc_write.specs.UnitViews.{addition_view};
+ghost use Rattle.dwc_write.specs.WidestGiven.{IsWideRefusal};
+ghost use Rattle.dwc_write.specs.Writers.{most_bytes};
+
+use crate::abbreviations::{Shape, code_of, set_shape};
+use crate::attributes::Attribute;
+use crate::file_order::{FilePlace, depth_of_first, file_order};
+use crate::sizes::{uleb_length, value_size};
+use crate::units::Entry;
+use crate::writer::MOST_BYTES;
+use crate::{Unit, WriteError};
+use dwc_base::{Limit, SectionName};
+use indexmap::IndexSet;
+use std::alloc::{AllocError, Global};
+
+// The bytes of a unit's header.
+const HEADER_LENGTH: usize = 11;
+
+// A unit as it will stand.
+#[derive(Drop)]
+pub struct UnitLayout {
+    // where it begins in `.debug_info`, and how long it is
+    pub start: usize,
+    pub length: usize,
+    // its entries in file order, the codes of their shapes, and the shapes
+    pub order: Vec<FilePlace>,
+    pub codes: Vec<u64>,
+    pub shapes: IndexSet<Shape>,
+    // the offsets in it of its entries by their numbers, 0 for a number that is only reserved
+    pub offsets: Vec<usize>,
+}
+
+// The entries of a unit in file order, with what is found of them.
+#[derive(Drop)]
+struct Coded {
+    shapes: IndexSet<Shape>,
+    codes: Vec<u64>,
+    offsets: Vec<usize>,
+}
+
+/// Units one behind another, before they are written. `TooLarge` is answered only where `.debug_info` would have more than 2^31 - 1
+/// bytes, and `OutOfMemory` for want of memory.
+pub fn lay_out(alloc: Global, units: &[Unit]) -> Result<Vec<UnitLayout>, WriteError>
+    requires { AreWritable (map ordered units.now) }
+    ensures places { IfOk result (λ ls. (order : Endian) → map places_view ls.items ≡ all_places order (map ordered units.now)) }
+    ensures units { IfOk result (λ ls. AllZip IsLaidOut units.now ls.items) }
+    ensures short { OnOk result ((order : Endian) → units_length order (map ordered units.now) ≤ most_bytes) }
+    ensures large { IfErr result (λ e. (order : Endian) → IsRefusal order (map ordered units.now) e) }
+    ensures widest { IfErr result (λ e. IsWideRefusal (map ordered units.now) e) }
+{
+    let mut layouts = Vec::with_capacity(alloc, units.len())?;
+    let mut start = 0;
+    for i in 0..units.len() {
+        let layout = lay_out_unit(alloc, &units[i], start)?;
+        start = advanced(start, layout.length)?;
+        layouts.push(layout)?;
+    }
+    Ok(layouts)
+}
+
+// A unit that begins at a place.
+fn lay_out_unit(alloc: Global, unit: &Unit, start: usize) -> Result<UnitLayout, WriteError>
+    ensures unit { IfOk result (λ l. IsLaidOut unit.now l) }
+    ensures places { IfOk result (λ l. (order : Endian) → places_view l ≡ record { start = start; offsets = offsets_by_number order unit.now.address_size (ordered unit.now) }) }
+    ensures length { IfOk result (λ l. (order : Endian) → l.length ≡ unit_length order unit.now.address_size (ordered unit.now)) }
+    ensures large { IfErr result (λ e. (order : Endian) → IsTooLong e (unit_length order unit.now.address_size (ordered unit.now))) }
+    ensures fits { FitsOrdered (ordered unit.now) }
+{
+    let order = file_order(alloc, &unit.entries)?;
+    let mut coded = Coded {
+        shapes: IndexSet::new(alloc),
+        codes: Vec::with_capacity(alloc, order.len())?,
+        offsets: Vec::with_capacity(alloc, order.len())?,
+    };
+    let length = place_entries(alloc, unit.address_size, &unit.entries, &order, &mut coded)?;
+    let by_place = offsets_by_place(alloc, &order, &coded.offsets, unit.entries.len())?;
+    let Coded { shapes, codes, .. } = coded;
+    Ok(UnitLayout {
+        start,
+        length,
+        order,
+        codes,
+        shapes,
+        offsets: offsets_by_number(alloc, &unit.places, &by_place)?,
+    })
+}
+
+// Entries one behind another: their codes and their offsets in the unit. Answers how long the unit is.
+fn place_entries(
+    alloc: Global,
+    size: u8,
+    entries: &[Entry],
+    order: &[FilePlace],
+    coded: &mut Coded,
+) -> Result<usize, WriteError>
+    requires size { (size ≡ 4) ⊎ (size ≡ 8) }
+    requires known { All (λ f. f.index < length entries.now) order.now }
+    requires shapes { map shape_view coded.old.shapes.keys ≡ [] }
+    requires codes { coded.old.codes.items ≡ [] }
+    requires offsets { coded.old.offsets.items ≡ [] }
+    ensures shapes { OnOk result (map shape_view coded.new.shapes.keys ≡ first_uses [] (shapes_of (map (looked_up (map addition_view entries.now)) order.now))) }
+    ensures codes { OnOk result (coded.new.codes.items ≡ codes_of (map (looked_up (map addition_view entries.now)) order.now)) }
+    ensures offsets { OnOk result ((o : Endian) → coded.new.offsets.items ≡ at_places (entry_bytes o size) (λ place x. place ∷ []) header_length (shaped (written_entries no_places (first_uses [] (shapes_of (map (looked_up (map addition_view entries.now)) order.now))) (map (looked_up (map addition_view entries.now)) order.now)))) }
+    ensures end { (o : Endian) → AdvancesOrMemory result header_length (length (flat_map (entry_bytes o size) (shaped (written_entries no_places (first_uses [] (shapes_of (map (looked_up (map addition_view entries.now)) order.now))) (map (looked_up (map addition_view entries.now)) order.now))))) }
+{
+    let mut shape = Shape {
+        tag: 0,
+        has_children: false,
+        attributes: Vec::new(alloc),
+    };
+    let mut place = HEADER_LENGTH;
+    for i in 0..order.len() {
+        let depth = order[i].depth;
+        let entry = &entries[order[i].index];
+        let attributes = entry.attributes.as_slice();
+        let next = depth_of_first(&order[i + 1..]);
+        set_shape(&mut shape, entry.tag, depth < next, attributes)?;
+        let code = code_of(&mut coded.shapes, &shape)?;
+        coded.codes.push(code)?;
+        coded.offsets.push(place)?;
+        place = behind_entry(place, size, code, attributes, depth.saturating_sub(next))?;
+    }
+    Ok(place)
+}
+
+// The place behind an entry: its code, its values, and an end for each list of siblings that ends behind it.
+fn behind_entry(
+    place: usize,
+    size: u8,
+    code: u64,
+    attributes: &[Attribute],
+    ends: usize,
+) -> Result<usize, WriteError>
+    requires place { place ≤ most_bytes }
+    requires size { (size ≡ 4) ⊎ (size ≡ 8) }
+    ensures { (order : Endian) → Advances result place (length (uleb_bytes code ++ (flat_map (attribute_bytes order size) (map (written_attribute no_places) attributes.now) ++ replicate {A = ℕ} ends 0))) }
+{
+    let behind_code = advanced(place, usize::from(uleb_length(code)))?;
+    let behind_values = behind_values(behind_code, size, attributes)?;
+    advanced(behind_values, ends)
+}
+
+// The place behind values.
+fn behind_values(place: usize, size: u8, attributes: &[Attribute]) -> Result<usize, WriteError>
+    requires place { place ≤ most_bytes }
+    requires size { (size ≡ 4) ⊎ (size ≡ 8) }
+    ensures { (order : Endian) → Advances result place (length (flat_map (attribute_bytes order size) (map (written_attribute no_places) attributes.now))) }
+{
+    let mut behind = place;
+    for i in 0..attributes.len() {
+        behind = advanced(behind, value_size(&attributes[i].value, size))?;
+    }
+    Ok(behind)
+}
+
+// A place that is so many bytes behind another, in `.debug_info`.
+fn advanced(place: usize, more: usize) -> Result<usize, WriteError>
+    requires { place ≤ most_bytes }
+    ensures { Advances result place more }
+{
+    if more > MOST_BYTES - place {
+        return Err(WriteError::TooLarge {
+            what: Limit::Section(SectionName::Info),
+        });
+    }
+    Ok(place + more)
+}
+
+// The offsets of entries by their places in the order of addition, of which there are so many. The first of a place counts.
+fn offsets_by_place(
+    alloc: Global,
+    order: &[FilePlace],
+    offsets: &[usize],
+    count: usize,
+) -> Result<Vec<usize>, AllocError>
+    requires known { All (λ f. f.index < count) order.now }
+    requires each { length offsets.now ≡ length order.now }
+    ensures { IfOk result (λ found. (added : List Addition) → (place : ℕ) → get_or found.items place 0 ≡ offset_among place (map (looked_up added) order.now) offsets.now) }
+{
+    let mut found = vec![in alloc; 0; count]?;
+    let mut k = order.len();
+    while k > 0 {
+        k -= 1;
+        found[order[k].index] = offsets[k];
+    }
+    Ok(found)
+}
+
+// The offsets of entries by their numbers, whose places in the order of addition are given.
+fn offsets_by_number(
+    alloc: Global,
+    places: &[Option<usize>],
+    by_place: &[usize],
+) -> Result<Vec<usize>, AllocError>
+    ensures { IfOk result (λ offsets. offsets.items ≡ map (offset_known by_place.now) places.now) }
+{
+    let mut offsets = Vec::with_capacity(alloc, places.len())?;
+    for place in places {
+        offsets.push(known_offset(by_place, *place))?;
+    }
+    Ok(offsets)
+}
+
+// The offset of an entry by its place in the order of addition, where it has one.
+fn known_offset(by_place: &[usize], place: Option<usize>) -> usize
+    ensures { result ≡ offset_known by_place.now place }
+{
+    match place {
+        Some(place) if place < by_place.len() => by_place[place],
+        _ => 0,
+    }
+}

@@ -1,0 +1,85 @@
+//! How long values are. What they name by an offset has four bytes wherever it stands. (DWARF 4, sections 7.5.4 and 7.6.)
+ghost use Rattle.std.specs.Prelude.{◌≡◌, ◌≤◌, ◌⊎◌, length, negsuc, pos};
+ghost use Rattle.dwc_base.specs.declared.records.Endian.{Endian};
+ghost use Rattle.dwc_write.specs.GivenUnits.{constant_of, no_places, written_of};
+ghost use Rattle.dwc_write.specs.Spelled.{sleb_bytes, uleb_bytes};
+ghost use Rattle.dwc_write.specs.SpelledUnits.{written_bytes};
+
+use crate::AttributeValue;
+use dwc_base::constants::{
+    DW_FORM_data1, DW_FORM_data2, DW_FORM_data4, DW_FORM_data8, DW_FORM_sdata,
+};
+
+// How many bytes an unsigned LEB128 number has.
+pub fn uleb_length(value: u64) -> u8
+    ensures length { result ≡ length (uleb_bytes value) }
+    ensures most { result ≤ 10 }
+{
+    let mut rest = value;
+    let mut count: u8 = 1;
+    while rest >= 128 {
+        rest /= 128;
+        count += 1;
+    }
+    count
+}
+
+// How many bytes a signed LEB128 number has.
+fn sleb_length(value: i64) -> u8
+    ensures { result ≡ length (sleb_bytes value) }
+{
+    if value < 0 {
+        sleb_length_below_0((-(value + 1)) as u64)
+    } else {
+        sleb_length_from_0(value as u64)
+    }
+}
+
+// The number that is so much below -1.
+#[tactic(auto, using(crate::proofs::SizeLaws::below_length))]
+fn sleb_length_below_0(value: u64) -> u8
+    ensures { result ≡ length (sleb_bytes (negsuc value)) }
+{
+    sleb_length_from_0(value)
+}
+
+fn sleb_length_from_0(value: u64) -> u8
+    ensures { result ≡ length (sleb_bytes (pos value)) }
+{
+    let mut rest = value;
+    let mut count: u8 = 1;
+    while rest >= 64 {
+        rest /= 128;
+        count += 1;
+    }
+    count
+}
+
+// How many bytes a value has, in a unit of a size of addresses.
+pub fn value_size(value: &AttributeValue, size: u8) -> usize
+    requires { (size ≡ 4) ⊎ (size ≡ 8) }
+    ensures { (order : Endian) → result ≡ length (written_bytes order size (written_of no_places value.now)) }
+{
+    match value {
+        AttributeValue::Address(_) => usize::from(size),
+        AttributeValue::Constant { form, bits } => usize::from(constant_size(*form, *bits)),
+        AttributeValue::Flag(_) => 1,
+        AttributeValue::LineProgramRef => 4,
+        AttributeValue::UnitRef(_) => 4,
+        AttributeValue::DebugInfoRef(_) => 4,
+    }
+}
+
+// How many bytes a constant has in its form.
+fn constant_size(form: u16, bits: u64) -> u8
+    ensures { (order : Endian) → result ≡ length (written_bytes order 8 (constant_of form bits)) }
+{
+    match form {
+        DW_FORM_data1 => 1,
+        DW_FORM_data2 => 2,
+        DW_FORM_data4 => 4,
+        DW_FORM_data8 => 8,
+        DW_FORM_sdata => sleb_length(bits.cast_signed()),
+        _ => uleb_length(bits),
+    }
+}
