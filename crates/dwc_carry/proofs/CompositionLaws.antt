@@ -1,17 +1,17 @@
 -- What is written of the units that are made of an input's carried units carries the lines of the input.
-use Rattle.std.proofs.Common.{◌≡◌, ℕ, ◌≤◌, List, [], ◌∷◌, map, refl, ap₂, sym, subst, arith, None, All}
+use Rattle.std.proofs.Common.{◌≡◌, ℕ, suc, ◌≤◌, List, [], ◌∷◌, map, refl, ap₂, sym, subst, arith, None, All}
 use Rattle.std.specs.List.{AllZip}
 use Rattle.std.specs.Prelude.{sum_by}
 use Rattle.std.proofs.lemmas.List.Elements.{All-nil, All-cons}
 use Rattle.std.proofs.lemmas.List.Sums.{sum_by-cons}
-use Rattle.dwc_base.specs.declared.section_name.SectionName.{SectionName}
+use Rattle.dwc_base.specs.declared.section_name.SectionName.TheVariants.{Line}
 use Rattle.dwc_base.specs.Sections.{Sections}
 use Rattle.dwc_base.specs.Outputs.{OutputSection, output_sections}
 use Rattle.dwc_base.specs.Carried.{Unit, units, CarriedUnit, CarriesUnit, Compilation, carried_units, LinesCarried}
-use Rattle.dwc_base.specs.Widest.{widest_of_unit, widest}
+use Rattle.dwc_base.specs.Widest.{widest_lines_of, widest_lines}
 use Rattle.dwc_base.specs.Forests.{tree_of_unit}
-use Rattle.dwc_write.specs.GivenTrees.{given_tree}
-use Rattle.dwc_write.specs.GivenUnits.{GivenUnit, IsWritable, AreWritable, ordered}
+use Rattle.dwc_write.specs.GivenTrees.{trees_from, given_trees}
+use Rattle.dwc_write.specs.GivenUnits.{OrderedUnit, GivenUnit, IsWritable, AreWritable, ordered}
 use Rattle.dwc_write.specs.ReadBack.{IsReadUnit, ReadsBack, given_segments}
 use Rattle.dwc_write.specs.WidestGiven.{widest_unit, widest_given}
 use Rattle.dwc_carry.specs.MadeUnits.{IsMadeOf, AreMadeOf}
@@ -42,12 +42,16 @@ lines-carried size c us s back made whole = record {
   each = carries-units size (output_sections c.order s) (carried_units c) us back.read made back.each;
 }
 
+-- among other units, the first with a number
+trees-from : (all : List OrderedUnit) (size number : ℕ) (cs : List CarriedUnit) (us : List GivenUnit) → AreMadeOf size cs us → map tree_of_unit cs ≡ trees_from all number (map ordered us)
+trees-from all size number [] [] made = refl
+trees-from all size number [] (u ∷ us) made = absurd made
+trees-from all size number (c ∷ cs) [] made = absurd made
+trees-from all size number (c ∷ cs) (u ∷ us) made = ap₂ (λ t ts. t ∷ ts) (sym (made.0.tree all number)) (trees-from all size (suc number) cs us made.1)
+
 -- Their trees are those of the carried units.
-pub made-trees : (size : ℕ) (cs : List CarriedUnit) (us : List GivenUnit) → AreMadeOf size cs us → map tree_of_unit cs ≡ map given_tree (map ordered us)
-made-trees size [] [] made = refl
-made-trees size [] (u ∷ us) made = absurd made
-made-trees size (c ∷ cs) [] made = absurd made
-made-trees size (c ∷ cs) (u ∷ us) made = ap₂ (λ t ts. t ∷ ts) (sym (made.0).tree) (made-trees size cs us made.1)
+pub made-trees : (size : ℕ) (cs : List CarriedUnit) (us : List GivenUnit) → AreMadeOf size cs us → map tree_of_unit cs ≡ given_trees (map ordered us)
+made-trees size cs us made = trees-from (map ordered us) size 0 cs us made
 
 -- all have addresses of one size
 pub made-sizes : (size : ℕ) (cs : List CarriedUnit) (us : List GivenUnit) → AreMadeOf size cs us → All (λ u. u.address_size ≡ size) us
@@ -56,16 +60,16 @@ made-sizes size [] (u ∷ us) made = absurd made
 made-sizes size (c ∷ cs) [] made = absurd made
 made-sizes size (c ∷ cs) (u ∷ us) made = All-cons (λ (u : GivenUnit). u.address_size ≡ size) u us ((made.0).writable).size (made-sizes size cs us made.1)
 
-made-widest : (size : ℕ) (name : SectionName) (cs : List CarriedUnit) (us : List GivenUnit) → AreMadeOf size cs us → sum_by (widest_unit name) (map ordered us) ≤ sum_by (widest_of_unit name) cs
-made-widest size name [] [] made = omega arith
-made-widest size name [] (u ∷ us) made = absurd made
-made-widest size name (c ∷ cs) [] made = absurd made
-made-widest size name (c ∷ cs) (u ∷ us) made =
-    rw (sum_by-cons (widest_unit name) (ordered u) (map ordered us), sum_by-cons (widest_of_unit name) c cs) (omega (arith, made.0.widest name, made-widest size name cs us made.1))
+made-widest : (size : ℕ) (cs : List CarriedUnit) (us : List GivenUnit) → AreMadeOf size cs us → sum_by (widest_unit Line) (map ordered us) ≤ sum_by widest_lines_of cs
+made-widest size [] [] made = omega arith
+made-widest size [] (u ∷ us) made = absurd made
+made-widest size (c ∷ cs) [] made = absurd made
+made-widest size (c ∷ cs) (u ∷ us) made =
+    rw (sum_by-cons (widest_unit Line) (ordered u) (map ordered us), sum_by-cons widest_lines_of c cs) (omega (arith, made.0.widest, made-widest size cs us made.1))
 
--- No section of them is longer, at its widest, than that of the input.
-pub widest-given : (size : ℕ) (name : SectionName) (c : Compilation) (us : List GivenUnit) → AreMadeOf size (carried_units c) us → widest_given name (map ordered us) ≤ widest name c
-widest-given size name c us made = made-widest size name (carried_units c) us made
+-- Their line tables are no longer, at their widest, than those of the input.
+pub widest-given : (size : ℕ) (c : Compilation) (us : List GivenUnit) → AreMadeOf size (carried_units c) us → widest_given Line (map ordered us) ≤ widest_lines c
+widest-given size c us made = made-widest size (carried_units c) us made
 
 each-writable : (size : ℕ) (cs : List CarriedUnit) (us : List GivenUnit) → AreMadeOf size cs us → All (IsWritable size) (map ordered us)
 each-writable size [] [] made = All-nil (IsWritable size)

@@ -12,7 +12,7 @@ use Rattle.dwc_base.specs.OutputCarried.{widest}
 use Rattle.dwc_base.specs.OutputForm.{HaveTargetForm, HasDistinctNames}
 use Rattle.dwc_base.specs.Fields.{AreRelocated}
 use Rattle.dwc_base.specs.WidestTrees.{widest_of_trees}
-use Rattle.dwc_write.specs.GivenTrees.{given_tree}
+use Rattle.dwc_write.specs.GivenTrees.{given_trees}
 use Rattle.dwc_base.specs.Carried.{units, carried_units}
 use Rattle.dwc_addr.specs.Compilations.{CompilationValue}
 use Rattle.dwc_write.specs.declared.error.WriteError.{WriteError}
@@ -45,7 +45,7 @@ module _ (order : Endian) (size : ℕ) (c : CompilationValue) where
     transformed-writable = made-writable size (carried_units (input_of order size c)) us t.made
 
     -- what is written is emitted
-    pub emits-sections : (s : Vec DwarfSection Global) → ReadsBack order (map ordered us) (map section_view s.items) → CarriesTrees order (map given_tree (map ordered us)) (map section_view s.items)
+    pub emits-sections : (s : Vec DwarfSection Global) → ReadsBack order (map ordered us) (map section_view s.items) → CarriesTrees order (given_trees (map ordered us)) (map section_view s.items)
         → ((n : ℕ) → All (λ u. u.address_size ≡ n) us → HaveTargetForm n (units (output_sections order (map section_view s.items))).items)
         → HasDistinctNames (map section_view s.items) → AreRelocated order (map section_view s.items) → All (IsSound order) (map section_view s.items) → Emits order size c (Ok s)
     emits-sections s back says form names relocated sound = (
@@ -53,7 +53,7 @@ module _ (order : Endian) (size : ℕ) (c : CompilationValue) where
       record {
         output = record {
           lines = lines-carried size (input_of order size c) us (map section_view s.items) back t.made t.whole;
-          wanted = map given_tree (map ordered us);
+          wanted = given_trees (map ordered us);
           is_forest = t.trees;
           trees = says;
           form = form size (made-sizes size (carried_units (input_of order size c)) us t.made);
@@ -68,11 +68,11 @@ module _ (order : Endian) (size : ℕ) (c : CompilationValue) where
     said-widest : (name : SectionName) → widest_said name (map ordered us) ≤ widest name (input_of order size c)
     said-widest = go
       where
-        same : (name : SectionName) → widest_of_trees name (map given_tree (map ordered us)) ≤ widest_of_trees name (map tree_of_unit (carried_units (input_of order size c)))
-        same name = subst (λ ts. widest_of_trees name (map given_tree (map ordered us)) ≤ widest_of_trees name ts) (sym (made-trees size (carried_units (input_of order size c)) us t.made)) (omega arith)
+        same : (name : SectionName) → widest_of_trees name (given_trees (map ordered us)) ≤ widest_of_trees name (map tree_of_unit (carried_units (input_of order size c)))
+        same name = subst (λ ts. widest_of_trees name (given_trees (map ordered us)) ≤ widest_of_trees name ts) (sym (made-trees size (carried_units (input_of order size c)) us t.made)) (omega arith)
 
         go : (name : SectionName) → widest_said name (map ordered us) ≤ widest name (input_of order size c)
-        go Line = widest-given size Line (input_of order size c) us t.made
+        go Line = widest-given size (input_of order size c) us t.made
         go Abbrev = same Abbrev
         go Addr = same Addr
         go Info = same Info

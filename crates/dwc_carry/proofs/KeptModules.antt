@@ -3,8 +3,6 @@ use Rattle.std.proofs.Common.{◌≡◌, ℕ, ◌≤◌, List, [], ◌∷◌, �
 use Rattle.std.specs.Prelude.{◌==◌}
 use Rattle.std.specs.List.{filter, flat_map, AllZip}
 use Rattle.std.proofs.lemmas.List.Elements.{All-nil, All-cons, All-head, All-tail}
-use Rattle.dwc_base.specs.declared.section_name.SectionName.{SectionName}
-use Rattle.dwc_base.specs.declared.section_name.SectionName.TheVariants.{Abbrev, Addr, Info, Line, LineStr, Loc, Loclists, Ranges, Rnglists, Str, StrOffsets, CuIndex, Frame}
 use Rattle.dwc_base.specs.Images.{IsImageOf}
 use Rattle.dwc_base.specs.Kept.{Placed, kept_entries, steps_of}
 use Rattle.dwc_base.specs.Carried.{Unit, units, Module, CarriedUnit, placed_entries, is_carried_unit, carried_units_of, table_of_unit}
@@ -12,11 +10,11 @@ use Rattle.dwc_base.specs.Refusals.{module_refusals}
 use Rattle.dwc_base.specs.Entries.{Entry}
 use Rattle.dwc_base.specs.Trees.{TreeEntry}
 use Rattle.dwc_base.specs.Forests.{entry_made, has_line_table, kept_of_unit, tree_of_unit}
-use Rattle.dwc_base.specs.Widest.{widest_of_unit}
+use Rattle.dwc_base.specs.Widest.{widest_lines_of}
 use Rattle.dwc_addr.specs.Transforms.{kept_function}
-use Rattle.dwc_write.specs.GivenUnits.{GivenUnit, ordered}
+use Rattle.dwc_write.specs.GivenUnits.{GivenUnit}
 use Rattle.dwc_write.specs.ReadBack.{given_segments}
-use Rattle.dwc_write.specs.WidestGiven.{widest_unit}
+use Rattle.dwc_write.specs.WidestGiven.{widest_table_for}
 use Rattle.dwc_carry.specs.MadeUnits.{IsMadeOf, AreMadeOf}
 use Rattle.dwc_carry.specs.CarriedModules.{carried_in}
 use Rattle.dwc_carry.proofs.TransferLaws.{entry_made-kept, required-kept, carried_segments-kept, widest_table-kept, images-kept}
@@ -36,20 +34,9 @@ module _ (m : Module) where
   pub same-refusals : module_refusals (kept_module m) ≡ module_refusals m
   same-refusals = rw same-carried refl
 
-  same-widest : (name : SectionName) (u : Unit) → widest_of_unit name (record { module_of = kept_module m; unit = u }) ≡ widest_of_unit name (record { module_of = m; unit = u })
-  same-widest Abbrev u = rw (same-kept (placed_entries (units m.sections).items)) refl
-  same-widest Info u = rw (same-kept (placed_entries (units m.sections).items)) refl
-  same-widest Line u = widest_table-kept m.functions (table_of_unit m.sections u)
-  same-widest Addr u = refl
-  same-widest LineStr u = refl
-  same-widest Loc u = refl
-  same-widest Loclists u = refl
-  same-widest Ranges u = refl
-  same-widest Rnglists u = refl
-  same-widest Str u = refl
-  same-widest StrOffsets u = refl
-  same-widest CuIndex u = refl
-  same-widest Frame u = refl
+  -- the same line table is as long at its widest
+  same-widest : (u : Unit) → widest_lines_of (record { module_of = kept_module m; unit = u }) ≡ widest_lines_of (record { module_of = m; unit = u })
+  same-widest u = widest_table-kept m.functions (table_of_unit m.sections u)
 
   -- the same is said
   same-tree : (u : Unit) → tree_of_unit (record { module_of = kept_module m; unit = u }) ≡ tree_of_unit (record { module_of = m; unit = u })
@@ -63,9 +50,9 @@ module _ (m : Module) where
     input = h.input;
     input_read = h.input_read;
     images = images-kept m.functions _ _ (subst (λ qs. AllZip (IsImageOf (map kept_function m.functions)) qs (given_segments g.lines)) (carried_segments-kept m.functions h.input) h.images);
-    tree = h.tree ∙ same-tree u;
+    tree = λ all number. h.tree all number ∙ same-tree u;
     writable = h.writable;
-    widest = λ name. subst (λ n. widest_unit name (ordered g) ≤ n) (same-widest name u) (h.widest name);
+    widest = subst (λ n. widest_table_for g.lines.address_size g.lines ≤ n) (same-widest u) h.widest;
   }
 
   -- the carried units, with the units that are made of them and those of other modules

@@ -1,10 +1,9 @@
 -- Units that were read and have the known form: one behind another, their offsets rising, and in each a root with
 -- subprograms below it.
-use Rattle.std.proofs.Common.{◌≡◌, ℕ, zero, suc, ◌+◌, ◌<◌, ◌≤◌, List, [], ◌∷◌, ◌++◌, map, length, refl, ap, ap₂, sym, subst, ◌∙◌, inl, inr, arith, Bool, true, false, cond, Option, Some, None, Result, Ok, Err}
+use Rattle.std.proofs.Common.{◌≡◌, ℕ, zero, suc, ◌+◌, ◌<◌, ◌≤◌, List, [], ◌∷◌, map, length, refl, ap, sym, subst, ◌∙◌, inl, inr, arith, Bool, true, false, cond, Option, Some, None, Result, Ok, Err}
 use Rattle.std.specs.Prelude.{◌&&◌, if◌then◌else◌}
 use Rattle.std.specs.Option.{option_or}
-use Rattle.std.specs.List.{All, filter, flat_map, list_any}
-use Rattle.std.proofs.lemmas.List.Elements.{All-nil, All-append, All-map}
+use Rattle.std.specs.List.{filter, list_any}
 use Rattle.dwc_base.specs.declared.section_name.SectionName.TheVariants.{Info}
 use Rattle.dwc_base.specs.declared.faults.Kind.TheVariants.{NotBuilt}
 use Rattle.dwc_base.specs.Reading.{Unread, Read}
@@ -13,18 +12,17 @@ use Rattle.dwc_base.specs.Sections.{Sections, Fault, section_from, unsupported}
 use Rattle.dwc_base.specs.Abbreviations.{Declaration, abbreviation_table}
 use Rattle.dwc_base.specs.Units.{UnitHeader, unit_header_at, unit_headers, unit_headers_from}
 use Rattle.dwc_base.specs.Entries.{Entry, Found, EntryPlace, entry_place, place_behind, root_place, entry_at, entries_from, entries}
-use Rattle.dwc_base.specs.Carried.{Unit, Module, Compilation, CarriedUnit, placed_entries, units_of_headers, units, has_root_tag, carried_units_of, carried_units}
+use Rattle.dwc_base.specs.Carried.{Unit, Module, units_of_headers, units, has_root_tag, carried_units_of}
 use Rattle.dwc_base.specs.BuiltForm.{has_known_shapes, is_subprogram_entry, subprograms_fault, entries_fault, listing_fault, shapes_fault, unit_fault, units_fault, info_fault}
 use Rattle.dwc_base.proofs.Items.{LeavesFewer}
 use Rattle.dwc_base.proofs.Takes.{unit_header_at-leaves}
 use Rattle.dwc_base.proofs.TakesValues.{entry_at-leaves}
 use Rattle.dwc_base.proofs.EntryWalk.{entries_from-none, entries_from-end, entries_from-fault, entries_from-siblings, entries_from-entry}
 use Rattle.dwc_base.proofs.UnitWalk.{unit_headers_from-end, unit_headers_from-item, unit_headers_from-fault}
-use Rattle.dwc_base.specs.Kept.{Placed, is_required, kept_entries}
-use Rattle.dwc_base.specs.Widest.{kept_subprograms}
+use Rattle.dwc_base.specs.Kept.{is_required}
 use Rattle.dwc_base.specs.declared.constants.TheConstants.{DW_TAG_compile_unit}
-use Rattle.dwc_carry.proofs.KeptUnits.{IsIn, one-at-offset}
-use Rattle.dwc_carry.proofs.UnitTrees.{AreSubprograms, AreEntries, IsUnit, AreUnits, kept_of, placed, units-rise, unit-is, one-unit, kept-of-units, carried-units, unit-subprograms, carried-subprograms}
+use Rattle.dwc_carry.proofs.KeptUnits.{IsIn}
+use Rattle.dwc_carry.proofs.UnitTrees.{AreSubprograms, AreEntries, IsUnit, AreUnits, unit-is, carried-units}
 use Rattle.dwc_carry.proofs.ReadEnds.{IsWithin, HeaderIs, UnitWithin, unit_header_at-within}
 use Rattle.dwc_carry.proofs.KnownEntries.{FoundOf, ReadsFound, entry-known}
 
@@ -199,54 +197,10 @@ units-of-headers s h = headers-units s (unit_headers s).items (unit_headers s).f
 -- ---- a module without a fault
 
 module _ (m : Module) (h : info_fault m.sections ≡ None) where
-  -- The kept entries are, unit by unit and in order, the root and the required entries of each unit that has one.
-  pub kept-of-module : kept_entries m.functions (placed_entries (units m.sections).items) ≡ placed (λ u. kept_of m.functions u.entries) (units m.sections).items
-  kept-of-module = kept-of-units m.functions 0 (units m.sections).items (known-units m.sections h).units_are
-
   -- The carried units are those of which the root is a compile unit and an entry is required.
   pub carried-of-module : carried_units_of m ≡ filter (λ u. has_root_tag DW_TAG_compile_unit u && list_any (is_required m.functions) u.entries) (units m.sections).items
   carried-of-module = carried-units m (known-units m.sections h).units_are
 
-  -- The kept subprograms of each carried unit are as many as its required entries.
-  pub subprograms-of-module : All (λ u. kept_subprograms (record { module_of = m; unit = u }) ≡ length (filter (is_required m.functions) u.entries)) (carried_units_of m)
-  subprograms-of-module = carried-subprograms m (known-units m.sections h).units_are
-
-  -- the same of a unit that need not be carried
-  pub subprograms-of-unit : (u : Unit) → IsIn u (units m.sections).items → has_root_tag DW_TAG_compile_unit u ≡ true → kept_subprograms (record { module_of = m; unit = u }) ≡ length (filter (is_required m.functions) u.entries)
-  subprograms-of-unit u i tag = unit-subprograms m (known-units m.sections h).units_are u i tag
-
   -- the entries of a unit: a root at depth 0 and subprograms at depth 1, which name no entry, their offsets rising behind the header
   pub unit-of-module : (u : Unit) → IsIn u (units m.sections).items → IsUnit u
   unit-of-module u i = unit-is 0 (units m.sections).items u (known-units m.sections h).units_are i
-
-  -- units at one offset are one unit
-  pub unit-at-offset : (u v : Unit) → IsIn u (units m.sections).items → IsIn v (units m.sections).items → u.header.offset ≡ v.header.offset → u ≡ v
-  unit-at-offset u v i j e = one-unit 0 (units m.sections).items u v (known-units m.sections h).units_are i j e
-
-  -- entries at one offset are one entry
-  pub entry-at-offset : (p q : Placed) → IsIn p (placed_entries (units m.sections).items) → IsIn q (placed_entries (units m.sections).items) → p.entry.offset ≡ q.entry.offset → p ≡ q
-  entry-at-offset p q i j e = one-at-offset 0 (placed_entries (units m.sections).items) p q (units-rise 0 (units m.sections).items (known-units m.sections h).units_are) i j e
-
--- ---- an input of which no module has a fault
-
--- The carried units are, module by module and in order, those of which the root is a compile unit and an entry is required.
-pub carried-of-compilation : (c : Compilation) → All (λ m. info_fault m.sections ≡ None) c.modules
-    → carried_units c ≡ flat_map (λ m. map (λ u. record { module_of = m; unit = u }) (filter (λ u. has_root_tag DW_TAG_compile_unit u && list_any (is_required m.functions) u.entries) (units m.sections).items)) c.modules
-carried-of-compilation c h = go c.modules h
-  where
-    go : (ms : List Module) → All (λ m. info_fault m.sections ≡ None) ms → flat_map (λ m. map (λ u. let v : CarriedUnit = record { module_of = m; unit = u } in v) (carried_units_of m)) ms
-        ≡ flat_map (λ m. map (λ u. record { module_of = m; unit = u }) (filter (λ u. has_root_tag DW_TAG_compile_unit u && list_any (is_required m.functions) u.entries) (units m.sections).items)) ms
-    go [] k = refl
-    go (m ∷ ms) k = ap₂ (λ xs ys. map (λ u. let v : CarriedUnit = record { module_of = m; unit = u } in v) xs ++ ys) (carried-of-module m (k 0 m (omega arith))) (go ms (λ i d less. k (suc i) d (omega (arith, less))))
-
--- The kept subprograms of each carried unit are as many as its required entries.
-pub subprograms-of-compilation : (c : Compilation) → All (λ m. info_fault m.sections ≡ None) c.modules → All (λ u. kept_subprograms u ≡ length (filter (is_required u.module_of.functions) u.unit.entries)) (carried_units c)
-subprograms-of-compilation c h = go c.modules h
-  where
-    go : (ms : List Module) → All (λ m. info_fault m.sections ≡ None) ms
-        → All (λ u. kept_subprograms u ≡ length (filter (is_required u.module_of.functions) u.unit.entries)) (flat_map (λ m. map (λ u. record { module_of = m; unit = u }) (carried_units_of m)) ms)
-    go [] k = All-nil (λ u. kept_subprograms u ≡ length (filter (is_required u.module_of.functions) u.unit.entries))
-    go (m ∷ ms) k =
-        All-append (λ u. kept_subprograms u ≡ length (filter (is_required u.module_of.functions) u.unit.entries)) (map (λ u. record { module_of = m; unit = u }) (carried_units_of m)) (flat_map (λ m. map (λ u. record { module_of = m; unit = u }) (carried_units_of m)) ms)
-        (All-map (λ u. kept_subprograms u ≡ length (filter (is_required u.module_of.functions) u.unit.entries)) (λ u. record { module_of = m; unit = u }) (carried_units_of m) (subprograms-of-module m (k 0 m (omega arith))))
-        (go ms (λ i d less. k (suc i) d (omega (arith, less))))

@@ -1,4 +1,3 @@
-pub mod WidestUnits
 pub mod KeptUnits
 pub mod UnitTrees
 pub mod ReadEnds

@@ -1,8 +1,9 @@
 -- What is said of a carried unit of the known form: its root, which names the line table, and the subprograms that its required
 -- entries become.
-use Rattle.std.proofs.Common.{◌≡◌, ℕ, suc, ◌≤◌, List, [], ◌∷◌, ◌++◌, map, length, refl, ap, ap₂, sym, subst, ◌∙◌, inl, inr, Bool, true, false, cond, Option, Some, None, Ok, arith}
+use Rattle.std.proofs.Common.{◌≡◌, ℕ, suc, List, [], ◌∷◌, ◌++◌, map, refl, ap, ap₂, sym, subst, ◌∙◌, inl, inr, Bool, true, false, cond, Option, Some, None, Ok, arith}
 use Rattle.std.specs.Prelude.{pos, ◌==◌, ◌&&◌, ◌||◌, ◌⊎◌, is_some, is_none, option_map}
-use Rattle.std.specs.List.{filter, filter_map, cons_option, list_any}
+use Rattle.std.specs.List.{All, filter, filter_map, cons_option, list_any}
+use Rattle.std.proofs.lemmas.List.Elements.{All-cons, All-nil}
 use Rattle.std.proofs.lemmas.Bool.{eqb-true, true≢false}
 use Rattle.dwc_base.specs.declared.records.Address.TheVariants.{Symbol}
 use Rattle.dwc_base.specs.declared.constants.TheConstants.{DW_AT_high_pc, DW_AT_low_pc, DW_AT_ranges, DW_AT_stmt_list, DW_FORM_udata, DW_TAG_compile_unit, DW_TAG_subprogram}
@@ -13,42 +14,54 @@ use Rattle.dwc_base.specs.BuiltForm.{has_names, info_fault}
 use Rattle.dwc_base.specs.Kept.{is_required}
 use Rattle.dwc_base.specs.Carried.{Unit, Module, units, has_root_tag}
 use Rattle.dwc_base.specs.Refusals.{table_offset, first_of}
-use Rattle.dwc_base.specs.Widest.{kept_subprograms}
 use Rattle.dwc_base.specs.Trees.{TreeValue, TreeEntry, address, constant, line_table, set_in_order}
 use Rattle.dwc_base.specs.Forests.{function_of_value, function_begun, function_bounds, is_bound_name, table_becomes, attribute_becomes, if_made, attributes_made, entry_made, kept_of_unit}
 use Rattle.dwc_write.specs.GivenTrees.{tree_entry, given_tree}
 use Rattle.dwc_write.specs.GivenLines.{GivenLines}
-use Rattle.dwc_write.specs.GivenUnits.{entry_at, ordered}
-use Rattle.dwc_write.proofs.OrderedLaws.{listed}
+use Rattle.dwc_write.specs.GivenUnits.{Addition, OrderedUnit, entry_at, ordered}
+use Rattle.dwc_write.proofs.OrderedLaws.{below-listed, listed}
 use Rattle.dwc_carry.specs.declared.subprogram.Subprogram.{Subprogram}
 use Rattle.dwc_carry.specs.OutputUnits.{output_unit, root_entry, subprogram_entry}
-use Rattle.dwc_carry.proofs.WidestUnits.{order-is}
 use Rattle.dwc_carry.specs.Subprograms.{subprogram_of, required_subprogram}
 use Rattle.dwc_carry.proofs.KeptUnits.{both}
 use Rattle.dwc_carry.proofs.KeptUnits.{IsIn}
 use Rattle.dwc_carry.proofs.UnitTrees.{IsRoot, IsSubprogram, AreSubprograms, AreEntries, kept_of, placed_at, root-required, kept-of-unit}
-use Rattle.dwc_carry.proofs.KnownUnits.{known-units, unit-of-module, subprograms-of-unit}
+use Rattle.dwc_carry.proofs.KnownUnits.{known-units, unit-of-module}
 use Rattle.dwc_carry.proofs.InfoUnitLaws.{required-some}
 
 -- what the root and the subprograms of the output say
+abbrev pub root_attributes : Bool → List (ℕ × TreeValue)
+root_attributes true = (DW_AT_stmt_list, line_table) ∷ []
+root_attributes false = []
+
 abbrev pub root_said : Bool → TreeEntry
-root_said has_table = tree_entry (entry_at 0 0 (root_entry has_table))
+root_said has_table = record { depth = 0; tag = DW_TAG_compile_unit; attributes = root_attributes has_table }
 
 abbrev pub subprogram_said : Subprogram → TreeEntry
-subprogram_said s = tree_entry (entry_at 1 0 (subprogram_entry s))
+subprogram_said s = record { depth = 1; tag = DW_TAG_subprogram; attributes = (DW_AT_low_pc, address (Symbol s.function (pos 0))) ∷ (DW_AT_high_pc, constant DW_FORM_udata s.length) ∷ [] }
 
--- A unit of the output says its root, and then its subprograms.
-pub unit-said : (size : ℕ) (lines : GivenLines) (has_table : Bool) (ss : List Subprogram) → given_tree (ordered (output_unit size lines has_table ss)) ≡ root_said has_table ∷ map subprogram_said ss
-unit-said size lines has_table ss = ap (λ es. root_said has_table ∷ map tree_entry es) (order-is ss) ∙ ap (λ es. root_said has_table ∷ es) (each 1 ss)
+all-below-root : (ss : List Subprogram) → All (λ e. e.parent ≡ 0) (map subprogram_entry ss)
+all-below-root [] = All-nil (λ (e : Addition). e.parent ≡ 0)
+all-below-root (s ∷ ss) = All-cons (λ (e : Addition). e.parent ≡ 0) (subprogram_entry s) (map subprogram_entry ss) refl (all-below-root ss)
+
+-- A unit of the output says its root, and then its subprograms, whatever units it stands among.
+pub unit-said : (all : List OrderedUnit) (number size : ℕ) (lines : GivenLines) (has_table : Bool) (ss : List Subprogram) → given_tree all number (ordered (output_unit size lines has_table ss)) ≡ root_said has_table ∷ map subprogram_said ss
+unit-said all number size lines has_table ss =
+    ap₂ (λ e es. e ∷ es) (root has_table) (ap (map (tree_entry all number u)) (below-listed 1 (map subprogram_entry ss) (omega arith) (all-below-root ss)) ∙ each 1 ss)
   where
-    each : (place : ℕ) (ss : List Subprogram) → map tree_entry (listed place (map subprogram_entry ss)) ≡ map subprogram_said ss
+    u : OrderedUnit
+    u = ordered (output_unit size lines has_table ss)
+
+    root : (b : Bool) → tree_entry all number u (entry_at 0 0 (root_entry b)) ≡ root_said b
+    root true = refl
+    root false = refl
+
+    each : (place : ℕ) (ss : List Subprogram) → map (tree_entry all number u) (listed place (map subprogram_entry ss)) ≡ map subprogram_said ss
     each place [] = refl
     each place (s ∷ ss) = ap (λ es. subprogram_said s ∷ es) (each (suc place) ss)
 
--- What is kept of a carried unit: no fewer subprograms than entries are required, and what is made of the kept entries says what
--- the root and the subprograms of the output say.
+-- What is kept of a carried unit: what is made of the kept entries says what the root and the subprograms of the output say.
 pub record IsKeptWhole (m : Module) (u : Unit) : Type 0 where
-  pub few : length (filter (is_required m.functions) u.entries) ≤ kept_subprograms (record { module_of = m; unit = u })
   pub tree : (has_table : Bool) → (table_offset (first_of u.entries) ≡ None → has_table ≡ false)
       → map (λ p. entry_made m.functions has_table p.entry) (kept_of_unit m u) ≡ (root_said has_table ∷ map subprogram_said (filter_map (required_subprogram m.functions) u.entries))
 
@@ -103,11 +116,7 @@ module _ (fs : List Function) (has_table : Bool) where
       go None is more = more
       go (Some s) is more = ap₂ (λ x xs. x ∷ xs) (sub-tree e s h.0 is) more
 
-  -- what a root says
-  abbrev root_attributes : Bool → List (ℕ × TreeValue)
-  root_attributes true = (DW_AT_stmt_list, line_table) ∷ []
-  root_attributes false = []
-
+  -- what becomes of the line table's attribute
   abbrev line_said : Bool → Option (ℕ × TreeValue)
   line_said true = Some (DW_AT_stmt_list, line_table)
   line_said false = None
@@ -142,7 +151,7 @@ module _ (fs : List Function) (has_table : Bool) where
       arms false = refl
 
   root-tree : (e : Entry) → IsRoot e → e.tag ≡ DW_TAG_compile_unit → (e.attributes ≡ [] → has_table ≡ false) → entry_made fs has_table e ≡ root_said has_table
-  root-tree e h tag none = (λ i. record { depth = h.depth i; tag = tag i; attributes = attributes i }) ∙ arms has_table
+  root-tree e h tag none = λ i. record { depth = h.depth i; tag = tag i; attributes = attributes i }
     where
       begun : function_begun fs e ≡ None
       begun = rw tag refl
@@ -159,10 +168,6 @@ module _ (fs : List Function) (has_table : Bool) where
 
       attributes : attributes_made fs has_table e ≡ root_attributes has_table
       attributes = ap (λ o. set_in_order (function_bounds o ++ filter_map (λ a. if_made a.0 (attribute_becomes has_table e a)) e.attributes)) begun ∙ said h.names
-
-      arms : (b : Bool) → ◌≡◌ {A = TreeEntry} (record { depth = 0; tag = DW_TAG_compile_unit; attributes = root_attributes b }) (root_said b)
-      arms true = refl
-      arms false = refl
 
   placed-made : (n : ℕ) (es : List Entry) → map (λ p. entry_made fs has_table p.entry) (placed_at n es) ≡ map (entry_made fs has_table) es
   placed-made n [] = refl
@@ -187,7 +192,6 @@ module _ (fs : List Function) (has_table : Bool) where
 -- of a module that is read without a fault
 pub kept-whole : (m : Module) (u : Unit) → info_fault m.sections ≡ None → IsIn u (units m.sections).items → has_root_tag DW_TAG_compile_unit u ≡ true → list_any (is_required m.functions) u.entries ≡ true → IsKeptWhole m u
 kept-whole m u whole i tag some = record {
-  few = omega (arith, subprograms-of-unit m whole u i tag);
   tree = λ has_table none.
       ap (map (λ p. entry_made m.functions has_table p.entry)) (kept-of-unit m.functions 0 (units m.sections).items u (known-units m.sections whole).units_are i)
       ∙ go has_table u.entries (unit-of-module m whole u i).entries tag some none;

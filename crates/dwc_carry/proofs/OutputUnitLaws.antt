@@ -15,11 +15,6 @@ pub set_in-last : (es : List Addition) (e : Addition) (name : ℕ) (value : Attr
 set_in-last [] e name value = refl
 set_in-last (x ∷ es) e name value = ap (λ xs. x ∷ xs) (set_in-last es e name value)
 
-pub set_in-length : (id name : ℕ) (value : AttributeValue) (es : List Addition) → length (set_in id name value es) ≡ length es
-set_in-length id name value [] = refl
-set_in-length zero name value (e ∷ es) = refl
-set_in-length (suc id) name value (e ∷ es) = ap suc (set_in-length id name value es)
-
 -- places of one entry more
 pub places-more : (place : ℕ) (es : List Addition) (e : Addition) → places_from place (es ++ e ∷ []) ≡ places_from place es ++ Some (place + length es) ∷ []
 places-more place [] e = ap (λ n. Some n ∷ []) (omega arith)

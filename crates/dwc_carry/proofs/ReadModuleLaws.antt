@@ -14,14 +14,14 @@ use Rattle.dwc_base.specs.LineRows.{LineTable, line_table}
 use Rattle.dwc_base.specs.Images.{is_carried_segment, IsImageOf}
 use Rattle.dwc_base.specs.Carried.{Unit, root, Module, has_root_tag, table_of_unit, table_of_root, segments_of, segments_of_unit, line_offset}
 use Rattle.dwc_base.specs.Refusals.{table_offset, lines_refusal, unit_refusal, first_of}
-use Rattle.dwc_base.specs.Widest.{widest_table, root_attributes_with}
+use Rattle.dwc_base.specs.Widest.{widest_table}
 use Rattle.dwc_base.specs.declared.constants.TheConstants.{DW_AT_stmt_list, DW_TAG_compile_unit}
 use Rattle.dwc_write.specs.GivenLines.{GivenLines}
 use Rattle.dwc_write.specs.GivenUnits.{GivenUnit}
 use Rattle.dwc_write.specs.ReadBack.{given_segments}
 use Rattle.dwc_write.specs.WidestGiven.{widest_table_for}
 use Rattle.dwc_carry.specs.declared.read_units.ReadUnit.{ReadUnit}
-use Rattle.dwc_carry.specs.OutputUnits.{root_entry, subprogram_entry, output_unit}
+use Rattle.dwc_carry.specs.OutputUnits.{output_unit}
 use Rattle.dwc_carry.specs.InfoEntries.{is_compile_unit}
 use Rattle.dwc_carry.specs.InfoUnits.{unit_of, IsReadUnit}
 use Rattle.dwc_carry.specs.UnitPrograms.{CarriesNamed}
@@ -29,9 +29,7 @@ use Rattle.dwc_carry.specs.CarriedReads.{is_carried, refusal_if, refusal_if_carr
 use Rattle.dwc_carry.specs.MadeUnits.{IsMadeOf, AreMadeOf}
 use Rattle.dwc_carry.proofs.CarriedReadLaws.{filter-in, filter-out}
 use Rattle.dwc_carry.proofs.OutputUnitLaws.{named-writable}
-use Rattle.dwc_carry.proofs.WidestUnits.{unit-widest}
 use Rattle.dwc_base.specs.Forests.{entry_made, has_line_table, kept_of_unit}
-use Rattle.dwc_write.specs.GivenTrees.{tree_entry}
 use Rattle.dwc_carry.proofs.InfoUnitLaws.{subprograms-count}
 use Rattle.dwc_carry.proofs.MadeTrees.{IsKeptWhole, root_said, subprogram_said, unit-said}
 
@@ -108,35 +106,33 @@ module _ (m : Module) where
       with-table : (lines : GivenLines) (t : Option LineTable) → table_of_unit m.sections (unit_of m.sections h) ≡ Ok t
           → CarriesNamed m.functions r.unit.sections r.unit.header.address_size size r.entries.line_table lines
           → AllZip (IsImageOf m.functions) (filter (is_carried_segment m.functions) (segments_of t)) (given_segments lines)
-          → root_attributes_with (Ok t) ≡ cond {A = ℕ} (is_some r.entries.line_table) 1 0
           → widest_table_for lines.address_size lines ≤ widest_table m.functions (Ok t)
           → is_some t ≡ is_some r.entries.line_table
           → IsMadeOf size (record { module_of = m; unit = unit_of m.sections h }) (output_unit size lines (is_some r.entries.line_table) r.entries.subprograms.items)
       unfolding segments_of_unit
-      with-table lines t table carries images attributes narrow same = record {
+      with-table lines t table carries images narrow same = record {
         input = segments_of t;
         input_read = ap (λ x. x >>= λ t. Ok (segments_of t)) table;
         images = images;
-        tree =
-            unit-said size lines (is_some r.entries.line_table) r.entries.subprograms.items
+        tree = λ all number.
+            unit-said all number size lines (is_some r.entries.line_table) r.entries.subprograms.items
             ∙ ap (λ subs. root_said (is_some r.entries.line_table) ∷ map subprogram_said subs) (read.entries).subprograms
             ∙ sym (kept.tree (is_some r.entries.line_table) (λ none. ap is_some ((read.entries).line_table ∙ none)))
             ∙ sym (ap (λ b. map (λ p. entry_made m.functions b p.entry) (kept_of_unit m (unit_of m.sections h))) (ap has_line_table table ∙ same));
         writable = named-writable m.functions r.unit.sections r.unit.header.address_size size r.entries.line_table lines r.entries.subprograms.items carries;
-        widest = unit-widest (record { module_of = m; unit = unit_of m.sections h }) size lines (is_some r.entries.line_table) r.entries.subprograms.items
-            (record { root = ap root_attributes_with table ∙ attributes; few = omega (arith, kept.few, subprograms-count m.functions (entries m.sections h).items r.entries read.entries); table = rw table narrow });
+        widest = rw table narrow;
       }
 
       from-lines : (lines : GivenLines) (o : Option ℕ) → r.entries.line_table ≡ o → CarriesNamed m.functions r.unit.sections r.unit.header.address_size size o lines
           → IsMadeOf size (record { module_of = m; unit = unit_of m.sections h }) (output_unit size lines (is_some r.entries.line_table) r.entries.subprograms.items)
       from-lines lines None is h' =
           let table : table_of_unit m.sections (unit_of m.sections h) ≡ Ok None = table-same ∙ ap (named r.unit.sections r.unit.header.address_size) is in
-          with-table lines None table (rw is h') (rw h' tt) (ap (λ x. cond {A = ℕ} (is_some x) 1 0) (sym is)) (rw h' (omega arith)) (ap is_some (sym is))
+          with-table lines None table (rw is h') (rw h' tt) (rw h' (omega arith)) (ap is_some (sym is))
       from-lines lines (Some offset) is h' =
           let t = h'.table in
           let read_table : named r.unit.sections r.unit.header.address_size (Some offset) ≡ Ok (Some t) = ap (λ l. l >>= λ x. Ok (Some x)) h'.is_read in
           let table : table_of_unit m.sections (unit_of m.sections h) ≡ Ok (Some t) = table-same ∙ ap (named r.unit.sections r.unit.header.address_size) is ∙ read_table in
-          with-table lines (Some t) table (rw is h') h'.carries.images (ap (λ x. cond {A = ℕ} (is_some x) 1 0) (sym is)) h'.carries.widest (ap is_some (sym is))
+          with-table lines (Some t) table (rw is h') h'.carries.images h'.carries.widest (ap is_some (sym is))
 
       -- What carries a unit that was read is made of the unit.
       pub made-of-read : (u : GivenUnit) → CarriesRead m.functions size r u → IsMadeOf size (record { module_of = m; unit = unit_of m.sections h }) u

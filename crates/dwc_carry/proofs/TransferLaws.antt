@@ -99,10 +99,6 @@ module _ (fs : List Function) where
   pub required-kept : (e : Entry) → is_required (map kept_function fs) e ≡ is_required fs e
   required-kept e = rw (translatable-kept (attribute DW_AT_low_pc e)) refl
 
-  pub some_required-kept : (es : List Entry) → list_any (is_required (map kept_function fs)) es ≡ list_any (is_required fs) es
-  some_required-kept [] = refl
-  some_required-kept (e ∷ es) = rw (required-kept e, some_required-kept es) refl
-
   -- a function that an address is in has a symbol
   at-symbol : (a : ℕ) (f : Function) → function_at fs a ≡ Some f → is_some f.symbol ≡ true
   at-symbol a f h = go (is_unlinked a) (owner fs a) h

@@ -1,19 +1,17 @@
 -- Units of the known form, and which of their entries are kept.
-use Rattle.std.proofs.Common.{◌≡◌, ◌≢◌, ℕ, suc, ◌<◌, ◌≤◌, List, [], ◌∷◌, ◌++◌, map, length, refl, ap, ap₂, sym, subst, ◌∙◌, inl, inr, arith, Bool, true, false, cond, None, append-nil, All}
+use Rattle.std.proofs.Common.{◌≡◌, ◌≢◌, ℕ, suc, ◌<◌, ◌≤◌, List, [], ◌∷◌, ◌++◌, map, refl, ap, ap₂, sym, subst, ◌∙◌, inl, inr, arith, Bool, true, false, cond, None, append-nil, All}
 use Rattle.std.specs.Prelude.{◌⊎◌, ◌==◌, ◌||◌, ◌&&◌, not}
 use Rattle.std.specs.List.{filter, list_any, list_all, flat_map}
-use Rattle.std.proofs.lemmas.Bool.{eq-eqb, eqb-true, ne_eqb, or_from, and_right, true≢false}
+use Rattle.std.proofs.lemmas.Bool.{eq-eqb, ne_eqb, or_from, and_right, true≢false}
 use Rattle.std.proofs.lemmas.List.Elements.{filter-append, All-nil, All-cons}
-use Rattle.std.proofs.lemmas.List.{length-map}
 use Rattle.dwc_base.specs.Functions.{Function}
 use Rattle.dwc_base.specs.Values.{Value, unit_reference, info_reference}
 use Rattle.dwc_base.specs.Entries.{Entry, attribute}
 use Rattle.dwc_base.specs.BuiltForm.{has_names}
-use Rattle.dwc_base.specs.Carried.{Unit, Module, placed_entries, units, has_root_tag, is_carried_unit, carried_units_of}
+use Rattle.dwc_base.specs.Carried.{Unit, Module, placed_entries, units, has_root_tag, carried_units_of}
 use Rattle.dwc_base.specs.Kept.{Placed, is_required, names_entry, kept_entries}
-use Rattle.dwc_base.specs.Widest.{kept_subprograms}
 use Rattle.dwc_base.specs.declared.constants.TheConstants.{DW_AT_high_pc, DW_AT_low_pc, DW_AT_sibling, DW_AT_stmt_list, DW_TAG_compile_unit, DW_TAG_subprogram}
-use Rattle.dwc_carry.proofs.KeptUnits.{IsIn, in-any, in-filter, filter-none, filter-same, both, NamesNone, IsTop, IsSub, Chain, Rising, IsTree, kept}
+use Rattle.dwc_carry.proofs.KeptUnits.{IsIn, in-any, filter-none, filter-same, both, NamesNone, IsTop, IsSub, Chain, Rising, IsTree, kept}
 
 -- ---- the form of units
 
@@ -288,67 +286,11 @@ kept-any fs n from end (e ∷ es) h = go (list_any (is_required fs) es) ∙ sym 
     go true = refl
     go false = refl
 
-module _ {X : Type 0} (p q : X → Bool) where
-  -- two tests, one behind the other
-  filter-both : (xs : List X) → filter q (filter p xs) ≡ filter (λ x. p x && q x) xs
-  filter-both [] = refl
-  filter-both (x ∷ xs) = go (p x) (filter-both xs)
-    where
-      pick : (b : Bool) → filter q (filter p xs) ≡ filter (λ y. p y && q y) xs → cond {A = List X} b (x ∷ filter q (filter p xs)) (filter q (filter p xs)) ≡ cond {A = List X} b (x ∷ filter (λ y. p y && q y) xs) (filter (λ y. p y && q y) xs)
-      pick true more = ap (λ ys. x ∷ ys) more
-      pick false more = more
-
-      go : (b : Bool) → filter q (filter p xs) ≡ filter (λ y. p y && q y) xs → filter q (cond {A = List X} b (x ∷ filter p xs) (filter p xs)) ≡ cond {A = List X} (b && q x) (x ∷ filter (λ y. p y && q y) xs) (filter (λ y. p y && q y) xs)
-      go true more = pick (q x) more
-      go false more = more
-
--- the required entries of a unit are subprograms
-below-root : (fs : List Function) (n from end : ℕ) (es : List Entry) → AreSubprograms from end es → filter (λ p. p.entry.tag == DW_TAG_subprogram) (placed_at n (filter (is_required fs) es)) ≡ placed_at n (filter (is_required fs) es)
-below-root fs n from end [] h = refl
-below-root fs n from end (e ∷ es) h = go (is_required fs e) (below-root fs n (suc e.offset) end es h.2)
-  where
-    go : (b : Bool) → filter (λ p. p.entry.tag == DW_TAG_subprogram) (placed_at n (filter (is_required fs) es)) ≡ placed_at n (filter (is_required fs) es)
-        → filter (λ p. p.entry.tag == DW_TAG_subprogram) (placed_at n (cond {A = List Entry} b (e ∷ filter (is_required fs) es) (filter (is_required fs) es))) ≡ placed_at n (cond {A = List Entry} b (e ∷ filter (is_required fs) es) (filter (is_required fs) es))
-    go true more =
-        ap (λ b. cond {A = List Placed} b (placed_entry n e ∷ filter (λ p. p.entry.tag == DW_TAG_subprogram) (placed_at n (filter (is_required fs) es))) (filter (λ p. p.entry.tag == DW_TAG_subprogram) (placed_at n (filter (is_required fs) es)))) (eq-eqb e.tag DW_TAG_subprogram (h.0).tag)
-        ∙ ap (λ ps. placed_entry n e ∷ ps) more
-    go false more = more
-
--- Of the kept entries of a unit whose root is no subprogram, the subprograms are the required ones.
-kept-subs : (fs : List Function) (n from end : ℕ) (e : Entry) (es : List Entry) → AreEntries from end (e ∷ es) → (e.tag == DW_TAG_subprogram) ≡ false
-    → filter (λ p. p.entry.tag == DW_TAG_subprogram) (placed_at n (kept_of fs (e ∷ es))) ≡ placed_at n (filter (is_required fs) es)
-kept-subs fs n from end e es h root = go (list_any (is_required fs) es) refl
-  where
-    go : (b : Bool) → list_any (is_required fs) es ≡ b → filter (λ p. p.entry.tag == DW_TAG_subprogram) (placed_at n (cond {A = List Entry} b (e ∷ filter (is_required fs) es) [])) ≡ placed_at n (filter (is_required fs) es)
-    go true is =
-        ap (λ b. cond {A = List Placed} b (placed_entry n e ∷ filter (λ p. p.entry.tag == DW_TAG_subprogram) (placed_at n (filter (is_required fs) es))) (filter (λ p. p.entry.tag == DW_TAG_subprogram) (placed_at n (filter (is_required fs) es)))) root
-        ∙ below-root fs n (suc e.offset) end es h.2
-    go false is = sym (ap (placed_at n) (none-required fs es is))
-
-kept-count : (fs : List Function) (n : ℕ) (u : Unit) (from end : ℕ) → AreEntries from end u.entries → has_root_tag DW_TAG_compile_unit u ≡ true
-    → length (filter (λ p. p.entry.tag == DW_TAG_subprogram) (placed_at n (kept_of fs u.entries))) ≡ length (filter (is_required fs) u.entries)
-kept-count fs n u from end h tag = go u.entries h tag
-  where
-    go : (es : List Entry) → AreEntries from end es → has_root_tag DW_TAG_compile_unit (record { header = u.header; entries = es }) ≡ true → length (filter (λ p. p.entry.tag == DW_TAG_subprogram) (placed_at n (kept_of fs es))) ≡ length (filter (is_required fs) es)
-    go [] k t = refl
-    go (e ∷ es) k t =
-        ap length (kept-subs fs n from end e es k (ap (λ x. x == DW_TAG_subprogram) (eqb-true e.tag DW_TAG_compile_unit t)))
-        ∙ length-map (filter (is_required fs) es) (placed_entry n)
-        ∙ sym (ap (λ b. length (cond {A = List Entry} b (e ∷ filter (is_required fs) es) (filter (is_required fs) es))) (root-required fs e k.0))
-
 -- each unit of some is one
 pub unit-is : (from : ℕ) (us : List Unit) (u : Unit) → AreUnits from us → IsIn u us → IsUnit u
 unit-is from [] u h i = absurd i
 unit-is from (v ∷ vs) u h (inl e) = subst (λ w. IsUnit w) (sym e) h.1
 unit-is from (v ∷ vs) u h (inr i) = unit-is v.header.end vs u h.2 i
-
--- units at one offset are one unit
-pub one-unit : (from : ℕ) (us : List Unit) (u v : Unit) → AreUnits from us → IsIn u us → IsIn v us → u.header.offset ≡ v.header.offset → u ≡ v
-one-unit from [] u v h i j e = absurd i
-one-unit from (w ∷ ws) u v h (inl a) (inl b) e = a ∙ sym b
-one-unit from (w ∷ ws) u v h (inl a) (inr j) e = let same : u.header.offset ≡ w.header.offset = ap (λ x. x.header.offset) a in absurd (omega (arith, same, e, (h.1).some, unit-from w.header.end ws v h.2 j))
-one-unit from (w ∷ ws) u v h (inr i) (inl b) e = let same : v.header.offset ≡ w.header.offset = ap (λ x. x.header.offset) b in absurd (omega (arith, same, e, (h.1).some, unit-from w.header.end ws u h.2 i))
-one-unit from (w ∷ ws) u v h (inr i) (inr j) e = one-unit w.header.end ws u v h.2 i j e
 
 pub all-from-in : {A : Type 0} (P : A → Type 0) (xs : List A) → ((x : A) → IsIn x xs → P x) → All P xs
 all-from-in P [] h = All-nil P
@@ -364,15 +306,3 @@ module _ (m : Module) (h : AreUnits 0 (units m.sections).items) where
   -- The carried units are those of which the root is a compile unit and an entry is required.
   pub carried-units : carried_units_of m ≡ filter (λ u. has_root_tag DW_TAG_compile_unit u && list_any (is_required m.functions) u.entries) (units m.sections).items
   carried-units = filter-same _ _ (units m.sections).items (λ u i. ap (λ b. has_root_tag DW_TAG_compile_unit u && b) (kept-in u i))
-
-  -- The kept subprograms of a unit whose root is a compile unit are its required entries.
-  pub unit-subprograms : (u : Unit) → IsIn u (units m.sections).items → has_root_tag DW_TAG_compile_unit u ≡ true → kept_subprograms (record { module_of = m; unit = u }) ≡ length (filter (is_required m.functions) u.entries)
-  unit-subprograms u i tag =
-      ap length (sym (filter-both (λ p. p.unit == u.header.offset) (λ p. p.entry.tag == DW_TAG_subprogram) (kept_entries m.functions (placed_entries (units m.sections).items))))
-      ∙ ap (λ ps. length (filter (λ p. p.entry.tag == DW_TAG_subprogram) ps)) (kept-of-unit m.functions 0 (units m.sections).items u h i)
-      ∙ kept-count m.functions u.header.offset u (u.header.content).place u.header.end (unit-is 0 (units m.sections).items u h i).entries tag
-
-  pub carried-subprograms : All (λ u. kept_subprograms (record { module_of = m; unit = u }) ≡ length (filter (is_required m.functions) u.entries)) (carried_units_of m)
-  carried-subprograms = all-from-in _ (carried_units_of m) (λ u i.
-      let f = in-filter (is_carried_unit (kept_entries m.functions (placed_entries (units m.sections).items))) (units m.sections).items u i in
-      unit-subprograms u f.0 (both _ _ f.1).0)

@@ -1,11 +1,11 @@
 -- The answers of emitting DWARF for a compilation.
-use Rattle.std.specs.Prelude.{◌≡◌, ℕ, ◌^◌, ◌≤◌, List, map, Result, Ok, Err, Vec, All}
+use Rattle.std.specs.Prelude.{ℕ, ◌^◌, ◌≤◌, List, map, Result, Vec, All}
 use Rattle.std.specs.Global.{Global}
 use Rattle.dwc_base.specs.declared.faults.Limit.{Limit}
 use Rattle.dwc_base.specs.declared.faults.Limit.TheVariants.{Section}
 use Rattle.dwc_base.specs.declared.records.Endian.{Endian}
 use Rattle.dwc_base.specs.declared.output.DwarfSection.{DwarfSection}
-use Rattle.dwc_base.specs.Outputs.{OutputSection, output_sections, section_view}
+use Rattle.dwc_base.specs.Outputs.{OutputSection, section_view}
 use Rattle.dwc_base.specs.Carried.{Compilation}
 use Rattle.dwc_base.specs.OutputCarried.{OutputCarried, widest}
 use Rattle.dwc_addr.specs.Compilations.{CompilationValue}

@@ -9,7 +9,7 @@ use Rattle.dwc_addr.specs.Compilations.{CompilationValue}
 use Rattle.dwc_addr.specs.Transforms.{kept_function}
 use Rattle.dwc_write.specs.declared.units.Dwarf.{Dwarf}
 use Rattle.dwc_base.specs.Forests.{forest}
-use Rattle.dwc_write.specs.GivenTrees.{given_tree}
+use Rattle.dwc_write.specs.GivenTrees.{given_trees}
 use Rattle.dwc_write.specs.GivenUnits.{GivenUnit, ordered}
 use Rattle.dwc_carry.specs.declared.error.DebugError.{DebugError}
 use Rattle.dwc_carry.specs.Refusals.{GivesOr}
@@ -28,7 +28,7 @@ GivesTransforms c result = GivesOr (λ (ts : Vec AddressTransform Global). ts.it
 pub record IsTransformed (size : ℕ) (c : Compilation) (us : List GivenUnit) : Type 0 where
   pub made : AreMadeOf size (carried_units c) us
   pub whole : All (λ m. (units m.sections).fault ≡ None) c.modules
-  pub trees : forest c ≡ Ok (map given_tree (map ordered us))
+  pub trees : forest c ≡ Ok (given_trees (map ordered us))
 
 -- The units, or a refusal.
 abbrev pub GivesDwarf : Endian → ℕ → CompilationValue → Result Dwarf DebugError → Type 0
