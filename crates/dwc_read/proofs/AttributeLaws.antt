@@ -18,7 +18,7 @@ as_seen x (Err flaw) = refl
 abbrev pub specs_from : ℕ → List AttributeSpec → List table.AttributeSpec
 specs_from i specs = map spec_view (drop i specs)
 
-specs_from-next : (specs : List AttributeSpec) (i : ℕ) (d : AttributeSpec) → i < length specs → specs_from i specs ≡ spec_view (get_or specs i d) ∷ specs_from (i + 1) specs
+pub specs_from-next : (specs : List AttributeSpec) (i : ℕ) (d : AttributeSpec) → i < length specs → specs_from i specs ≡ spec_view (get_or specs i d) ∷ specs_from (i + 1) specs
 specs_from-next specs i d h = rw (add-one, drop-cons specs i d) refl
 
 module _ (s : Sections) (h : UnitHeader) (specs : List AttributeSpec) (i : ℕ) (d : AttributeSpec) (u v : Unread) where
@@ -32,7 +32,7 @@ module _ (s : Sections) (h : UnitHeader) (specs : List AttributeSpec) (i : ℕ) 
   unfolding attributes_at
   attributes_at-flaw flaw inside read = rw (specs_from-next specs i d inside) (rw (read, attributes_at) refl)
 
-drop-past : {A : Type 0} (xs : List A) (i : ℕ) → length xs ≤ i → drop i xs ≡ []
+pub drop-past : {A : Type 0} (xs : List A) (i : ℕ) → length xs ≤ i → drop i xs ≡ []
 drop-past [] zero past = refl
 drop-past [] (suc i) past = refl
 drop-past (x ∷ xs) zero past = absurd (omega arith)

@@ -8,3 +8,4 @@ pub mod AttributeLaws
 pub mod StepLaws
 pub mod EntriesLaws
 pub mod LoneLaws
+pub mod IndexedLaws

@@ -12,4 +12,5 @@ pub mod Places
 pub mod Headers
 pub mod Views
 pub mod Lone
+pub mod Elsewhere
 pub mod Lent

@@ -11,6 +11,7 @@ mod form;
 mod formed;
 mod header;
 mod headers;
+mod indexed;
 mod lone;
 mod name;
 mod number;
