@@ -14,7 +14,7 @@ module _ (s : Sections) (h : UnitHeader) where
   unfolding entries
   entries-table table read = rw (read, entries) refl
 
-  entries-fault : (fault : Fault) → abbreviation_table s h.abbreviations ≡ Err fault → entries s h ≡ only_fault fault
+  pub entries-fault : (fault : Fault) → abbreviation_table s h.abbreviations ≡ Err fault → entries s h ≡ only_fault fault
   unfolding entries
   entries-fault fault read = rw (read, entries) refl
 

@@ -9,3 +9,7 @@ pub mod StepLaws
 pub mod EntriesLaws
 pub mod LoneLaws
 pub mod IndexedLaws
+pub mod RootLaws
+pub mod BasesLaws
+pub mod LowPcLaws
+pub mod FirstBaseLaws

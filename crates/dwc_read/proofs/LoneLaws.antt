@@ -41,7 +41,7 @@ drop-past [] (suc i) past = refl
 drop-past (x ∷ xs) zero past = absurd (omega arith)
 drop-past (x ∷ xs) (suc i) past = drop-past xs i (omega arith)
 
-entry_at-empty : (u : UnitView) (table : List Declaration) (at : Unread) → at.left ≡ [] → entry_at u.sections u.header table 0 at ≡ Err EndsEarly
+pub entry_at-empty : (u : UnitView) (table : List Declaration) (at : Unread) → at.left ≡ [] → entry_at u.sections u.header table 0 at ≡ Err EndsEarly
 unfolding entry_at
 entry_at-empty u table at empty = rw (uleb_at-none at (ap uleb_value empty), entry_at) refl
 

@@ -13,4 +13,6 @@ pub mod Headers
 pub mod Views
 pub mod Lone
 pub mod Elsewhere
+pub mod RootValues
+pub mod Bases
 pub mod Lent

@@ -4,6 +4,7 @@
 
 mod abbreviation;
 mod attribute;
+mod bases;
 mod entries;
 mod entry;
 mod fault;
@@ -16,6 +17,7 @@ mod lone;
 mod name;
 mod number;
 mod place;
+mod root_values;
 mod sections;
 mod steps;
 mod table;
