@@ -2,25 +2,29 @@
 ghost use Rattle.std.specs.Prelude.{◌≡◌, ◌<◌, ◌^◌, length, take, IsTrue, IfOk};
 ghost use Rattle.dwc_base.specs.FieldSizes.{is_field_size};
 
+use crate::bases::{Bases, bases_of_unit};
 use crate::fault::reported;
 use crate::header::Header;
+use crate::indexed::{address_indexed, text_named};
 use crate::lone::{lone_entry as read_alone, no_entry};
 use crate::table::Table;
 use crate::unit_table::{UnitTable, shared};
-use crate::{Entries, Entry, ReadFault, Sections};
+use crate::{AttributeValue, Entries, Entry, ReadFault, Sections};
 use dwc_base::fields::address;
-use dwc_base::{Address, Cursor, Encoding, Endian, Relocations, SectionName, What};
+use dwc_base::{Address, Cursor, Encoding, Endian, Flaw, Relocations, SectionName, What};
 use std::alloc::{AllocError, Global};
 use std::marker::Model;
 use std::rc::Rc;
 
-/// A unit of `.debug_info`: its header, its abbreviation table, and the sections that it stands in.
+/// A unit of `.debug_info`: its header, its abbreviation table, where its lists and indexed values begin, and the sections that it
+/// stands in.
 #[derive(Drop)]
 pub struct Unit<'d> {
     sections: Sections<'d>,
     header: Header<'d>,
     table: UnitTable,
     relocations: Relocations<'d>,
+    bases: Bases,
 }
 
 impl<'d> Model for Unit<'d> {
@@ -29,6 +33,7 @@ impl<'d> Model for Unit<'d> {
     ghost use Rattle.dwc_read.specs.Views.{UnitView, unit_code};
     ghost use Rattle.dwc_read.specs.Headers.{header_view};
     ghost use Rattle.dwc_read.specs.UnitTables.{IsTable};
+    ghost use Rattle.dwc_read.specs.Bases.{AreBases};
 
     ghost Value = { UnitView };
 
@@ -36,7 +41,7 @@ impl<'d> Model for Unit<'d> {
 
     ghost view = { λ u. record { sections = u.sections; header = header_view u.header } };
 
-    ghost invariant = { λ u. (u.relocations ≡ u.sections.relocations Info) × IsTable u.sections u.header.abbreviations u.table };
+    ghost invariant = { λ u. (u.relocations ≡ u.sections.relocations Info) × IsTable u.sections u.header.abbreviations u.table × AreBases u.sections (header_view u.header) u.bases };
 }
 
 impl<'d> Unit<'d> {
@@ -48,6 +53,15 @@ impl<'d> Unit<'d> {
     ghost use Rattle.dwc_read.specs.Faults.{GivesOrFault};
     ghost use Rattle.dwc_read.specs.EntriesSeen.{StartsAt, entry_view};
     ghost use Rattle.dwc_read.specs.Lone.{lone_entry, unread_from};
+    ghost use Rattle.std.specs.Prelude.{◌≢◌, Some, Err, option_map};
+    ghost use Rattle.std.specs.Option.{unwrap_or};
+    ghost use Rattle.dwc_base.specs.declared.section_name.SectionName.TheVariants.{Info};
+    ghost use Rattle.dwc_base.specs.Cursors.{slice_bytes};
+    ghost use Rattle.dwc_base.specs.Indexed.{index_base as base_of_indexes, address_in_unit, text_in_unit};
+    ghost use Rattle.dwc_base.specs.Sections.{fault_of};
+    ghost use Rattle.dwc_read.specs.Bases.{first_base_of};
+    ghost use Rattle.dwc_read.specs.Faults.{fault_seen};
+    ghost use Rattle.dwc_read.specs.ValuesSeen.{value_view};
 
     // The unit of a header, with what stands at the offset of its abbreviation table.
     pub fn new(sections: Sections<'d>, header: Header<'d>, table: UnitTable) -> Unit<'d>
@@ -55,11 +69,13 @@ impl<'d> Unit<'d> {
         ensures { result ≡ record { sections = sections.entry; header = header_view header.entry } }
     {
         let relocations = sections.relocations(SectionName::Info);
+        let bases = bases_of_unit(&sections, &header, &table);
         Unit {
             sections,
             header,
             table,
             relocations,
+            bases,
         }
     }
 
@@ -75,6 +91,7 @@ impl<'d> Unit<'d> {
             header: self.header.again(),
             table: shared(&self.table)?,
             relocations: self.relocations.again(),
+            bases: self.bases,
         })
     }
 
@@ -165,6 +182,66 @@ impl<'d> Unit<'d> {
         let relocations = self.sections.relocations(name);
         let mut cursor = Cursor::at(bytes, offset as u32, self.sections.order());
         address(&relocations, size, &mut cursor).ok()
+    }
+
+    /// Where the unit's indexed values begin in a section: texts in `.debug_str_offsets`, addresses in `.debug_addr`, and lists in
+    /// `.debug_rnglists` and `.debug_loclists`. (DWARF 5, section 3.1.1.) 0 where the unit has none there: in the other sections, and for
+    /// addresses in a split unit whose root does not say where they are. A root that cannot be read says nothing.
+    pub fn index_base(&self, name: SectionName) -> u64
+        ensures { result ≡ unwrap_or (base_of_indexes self.now.sections self.now.header name) 0 }
+    {
+        match name {
+            SectionName::StrOffsets => self.bases.texts,
+            SectionName::Addr => self.bases.addresses.unwrap_or(0),
+            SectionName::Rnglists => self.bases.ranges,
+            SectionName::Loclists => self.bases.locations,
+            _ => 0,
+        }
+    }
+
+    /// The address that the unit's lists begin with: the `DW_AT_low_pc` of its root. (DWARF 4 and 5, section 3.1.1.) 0 where the root
+    /// has none, and where the root, or the address by an index that it has, cannot be read.
+    pub fn first_base(&self) -> Address
+        ensures { result ≡ first_base_of self.now.sections self.now.header }
+    {
+        self.bases.lists
+    }
+
+    /// The address at an index among the unit's. (DWARF 5, section 7.27.)
+    ///
+    /// Answers `Read` with the unit's offset where the unit has no addresses by an index, and where the one at the index passes the end
+    /// of `.debug_addr`.
+    pub fn address(&self, index: u64) -> Result<Address, ReadFault>
+        ensures address { GivesOrFault (λ a. a) (address_in_unit self.now.sections self.now.header index) result }
+        ensures memory { result ≢ Err ReadFault.OutOfMemory }
+    {
+        match address_indexed(&self.sections, &self.header, self.bases.addresses, index) {
+            Ok(address) => Ok(address),
+            Err(flaw) => Err(self.unreadable(flaw, What::AddressValue)),
+        }
+    }
+
+    /// The text that a value names: in place, at an offset of `.debug_str` or `.debug_line_str`, or in `.debug_str` by the index of
+    /// its offset among the unit's. (DWARF 5, sections 7.5.5 and 7.26.) The text is without the 0 at its end. None for a value that
+    /// is no text.
+    ///
+    /// Answers `Read` with the unit's offset where the text has no end in its section, and where its offset passes the end of
+    /// `.debug_str_offsets`.
+    pub fn name_of(&self, value: &AttributeValue<'d>) -> Result<Option<&'d [u8]>, ReadFault>
+        ensures text { GivesOrFault (option_map slice_bytes) (text_in_unit self.now.sections self.now.header (value_view value.now)) result }
+        ensures memory { result ≢ Err ReadFault.OutOfMemory }
+    {
+        match text_named(&self.sections, self.bases.texts, *value) {
+            Ok(text) => Ok(text),
+            Err(flaw) => Err(self.unreadable(flaw, What::Text)),
+        }
+    }
+
+    // The fault of what cannot be read for this unit, at the unit's offset.
+    fn unreadable(&self, flaw: Flaw, what: What) -> ReadFault
+        ensures { fault_seen result ≡ Some (fault_of what Info self.now.header.offset flaw) }
+    {
+        reported(flaw, what, SectionName::Info, self.offset())
     }
 
     /// The first entry of the unit.
