@@ -13,3 +13,4 @@ pub mod RootLaws
 pub mod BasesLaws
 pub mod LowPcLaws
 pub mod FirstBaseLaws
+pub mod IndexCases
