@@ -1,5 +1,5 @@
 -- An entry on its own.
-use Rattle.std.proofs.Common.{◌≡◌, ℕ, zero, suc, ◌≤◌, refl, ap, arith, List, [], ◌∷◌, take, drop, length, Ok, Err, Some, None}
+use Rattle.std.proofs.Common.{◌≡◌, ℕ, ◌≤◌, refl, ap, List, [], take, length, Ok, Err, Some, None}
 use Rattle.dwc_base.specs.declared.faults.Flaw.{Flaw}
 use Rattle.dwc_base.specs.declared.faults.What.TheVariants.{Entry as EntryRead}
 use Rattle.dwc_base.specs.declared.section_name.SectionName.TheVariants.{Info}
@@ -10,6 +10,7 @@ use Rattle.dwc_base.specs.Sections.{Fault, fault_of, unreadable}
 use Rattle.dwc_base.specs.Abbreviations.{Declaration, abbreviation_table}
 use Rattle.dwc_base.specs.Entries.{Found, entry_at}
 use Rattle.dwc_read.specs.Views.{UnitView}
+use Rattle.dwc_read.proofs.AttributeLaws.{drop-past}
 use Rattle.dwc_read.specs.Lone.{unread_from, entry_with, lone_entry}
 
 module _ (u : UnitView) (table : List Declaration) (at v : Unread) where
@@ -34,12 +35,6 @@ lone_entry-table u table at read = rw (read, lone_entry) refl
 pub lone_entry-fault : (u : UnitView) (at : Unread) (fault : Fault) → abbreviation_table u.sections u.header.abbreviations ≡ Err fault → lone_entry u at ≡ Err fault
 unfolding lone_entry
 lone_entry-fault u at fault read = rw (read, lone_entry) refl
-
-drop-past : {A : Type 0} (xs : List A) (i : ℕ) → length xs ≤ i → drop i xs ≡ []
-drop-past [] zero past = refl
-drop-past [] (suc i) past = refl
-drop-past (x ∷ xs) zero past = absurd (omega arith)
-drop-past (x ∷ xs) (suc i) past = drop-past xs i (omega arith)
 
 pub entry_at-empty : (u : UnitView) (table : List Declaration) (at : Unread) → at.left ≡ [] → entry_at u.sections u.header table 0 at ≡ Err EndsEarly
 unfolding entry_at
