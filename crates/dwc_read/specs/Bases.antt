@@ -31,3 +31,7 @@ pub record AreBases (s : Sections) (h : UnitHeader) (b : Bases) : Type 0 where
   pub ranges : index_base s h Rnglists ≡ Some b.ranges
   pub locations : index_base s h Loclists ≡ Some b.locations
   pub lists : first_base_of s h ≡ b.lists
+
+-- The same, kept shut: a unit that is dropped brings its invariant to proofs above, which have no use for it.
+unfoldable pub HasBases : Sections → UnitHeader → Bases → Type 0
+HasBases s h b = AreBases s h b

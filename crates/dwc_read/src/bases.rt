@@ -4,7 +4,7 @@ ghost use Rattle.std.specs.Option.{option_or, unwrap_or};
 ghost use Rattle.dwc_base.specs.declared.section_name.SectionName.TheVariants.{Addr};
 ghost use Rattle.dwc_base.specs.declared.records.Address.TheVariants.{Constant};
 ghost use Rattle.dwc_base.specs.Indexed.{usual_base, is_split, address_from};
-ghost use Rattle.dwc_read.specs.Bases.{AreBases};
+ghost use Rattle.dwc_read.specs.Bases.{HasBases};
 ghost use Rattle.dwc_read.specs.Headers.{header_view};
 ghost use Rattle.dwc_read.specs.UnitTables.{IsTable};
 ghost use Rattle.dwc_read.specs.RootValues.{said_number, said_address};
@@ -71,7 +71,7 @@ fn base_of_lists(
 // The bases of a unit, which its root says. A root that cannot be read says nothing.
 pub fn bases_of_unit(sections: &Sections<'_>, header: &Header<'_>, table: &UnitTable) -> Bases
     requires { IsTable sections.now header.now.abbreviations table.now }
-    ensures { AreBases sections.now (header_view header.now) result }
+    ensures { HasBases sections.now (header_view header.now) result }
 {
     let values = root_values(sections, header, table);
     let addresses = base_of_addresses(header, values.addr_base);

@@ -33,7 +33,7 @@ impl<'d> Model for Unit<'d> {
     ghost use Rattle.dwc_read.specs.Views.{UnitView, unit_code};
     ghost use Rattle.dwc_read.specs.Headers.{header_view};
     ghost use Rattle.dwc_read.specs.UnitTables.{IsTable};
-    ghost use Rattle.dwc_read.specs.Bases.{AreBases};
+    ghost use Rattle.dwc_read.specs.Bases.{HasBases};
 
     ghost Value = { UnitView };
 
@@ -41,7 +41,7 @@ impl<'d> Model for Unit<'d> {
 
     ghost view = { λ u. record { sections = u.sections; header = header_view u.header } };
 
-    ghost invariant = { λ u. (u.relocations ≡ u.sections.relocations Info) × IsTable u.sections u.header.abbreviations u.table × AreBases u.sections (header_view u.header) u.bases };
+    ghost invariant = { λ u. (u.relocations ≡ u.sections.relocations Info) × IsTable u.sections u.header.abbreviations u.table × HasBases u.sections (header_view u.header) u.bases };
 }
 
 impl<'d> Unit<'d> {
@@ -187,6 +187,7 @@ impl<'d> Unit<'d> {
     /// Where the unit's indexed values begin in a section: texts in `.debug_str_offsets`, addresses in `.debug_addr`, and lists in
     /// `.debug_rnglists` and `.debug_loclists`. (DWARF 5, section 3.1.1.) 0 where the unit has none there: in the other sections, and for
     /// addresses in a split unit whose root does not say where they are. A root that cannot be read says nothing.
+    #[tactic(auto, unfolding(crate::specs::Bases::HasBases))]
     pub fn index_base(&self, name: SectionName) -> u64
         ensures { result ≡ unwrap_or (base_of_indexes self.now.sections self.now.header name) 0 }
     {
@@ -201,6 +202,7 @@ impl<'d> Unit<'d> {
 
     /// The address that the unit's lists begin with: the `DW_AT_low_pc` of its root. (DWARF 4 and 5, section 3.1.1.) 0 where the root
     /// has none, and where the root, or the address by an index that it has, cannot be read.
+    #[tactic(auto, unfolding(crate::specs::Bases::HasBases))]
     pub fn first_base(&self) -> Address
         ensures { result ≡ first_base_of self.now.sections self.now.header }
     {
@@ -211,6 +213,7 @@ impl<'d> Unit<'d> {
     ///
     /// Answers `Read` with the unit's offset where the unit has no addresses by an index, and where the one at the index passes the end
     /// of `.debug_addr`.
+    #[tactic(auto, unfolding(crate::specs::Bases::HasBases))]
     pub fn address(&self, index: u64) -> Result<Address, ReadFault>
         ensures address { GivesOrFault (λ a. a) (address_in_unit self.now.sections self.now.header index) result }
         ensures memory { result ≢ Err ReadFault.OutOfMemory }
@@ -227,6 +230,7 @@ impl<'d> Unit<'d> {
     ///
     /// Answers `Read` with the unit's offset where the text has no end in its section, and where its offset passes the end of
     /// `.debug_str_offsets`.
+    #[tactic(auto, unfolding(crate::specs::Bases::HasBases))]
     pub fn name_of(&self, value: &AttributeValue<'d>) -> Result<Option<&'d [u8]>, ReadFault>
         ensures text { GivesOrFault (option_map slice_bytes) (text_in_unit self.now.sections self.now.header (value_view value.now)) result }
         ensures memory { result ≢ Err ReadFault.OutOfMemory }

@@ -1,9 +1,11 @@
+use Rattle.dwc_read.specs.Bases.{HasBases}
 use Rattle.dwc_read.specs.Headers.{header_view}
 use Rattle.dwc_read.proofs.BasesLaws.{index_base-texts, index_base-addresses, index_base-ranges, index_base-locations}
 use Rattle.dwc_read.proofs.FirstBaseLaws.{first_base-said}
 use Rattle.dwc_read.proofs.bases.bases_of_unit.Goals as goal
 
 pub returns : goal.returns
+unfolding HasBases
 returns c =
     let s = c.args.sections.now in
     let h = header_view c.args.header.now in
