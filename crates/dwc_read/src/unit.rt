@@ -2,7 +2,7 @@
 ghost use Rattle.std.specs.Prelude.{◌≡◌, ◌<◌, ◌^◌, length, take, IsTrue, IfOk};
 ghost use Rattle.dwc_base.specs.FieldSizes.{is_field_size};
 
-use crate::bases::{Bases, bases_of_unit};
+use crate::bases::bases_of_unit;
 use crate::fault::reported;
 use crate::header::Header;
 use crate::indexed::{address_indexed, text_named};
@@ -24,7 +24,12 @@ pub struct Unit<'d> {
     header: Header<'d>,
     table: UnitTable,
     relocations: Relocations<'d>,
-    bases: Bases,
+    // Its bases, one by one: a record more here is one more that each proof about a unit goes through.
+    texts: u64,
+    addresses: Option<u64>,
+    ranges: u64,
+    locations: u64,
+    lists: Address,
 }
 
 impl<'d> Model for Unit<'d> {
@@ -41,7 +46,7 @@ impl<'d> Model for Unit<'d> {
 
     ghost view = { λ u. record { sections = u.sections; header = header_view u.header } };
 
-    ghost invariant = { λ u. (u.relocations ≡ u.sections.relocations Info) × IsTable u.sections u.header.abbreviations u.table × HasBases u.sections (header_view u.header) u.bases };
+    ghost invariant = { λ u. (u.relocations ≡ u.sections.relocations Info) × IsTable u.sections u.header.abbreviations u.table × HasBases u.sections (header_view u.header) (record { texts = u.texts; addresses = u.addresses; ranges = u.ranges; locations = u.locations; lists = u.lists }) };
 }
 
 impl<'d> Unit<'d> {
@@ -75,7 +80,11 @@ impl<'d> Unit<'d> {
             header,
             table,
             relocations,
-            bases,
+            texts: bases.texts,
+            addresses: bases.addresses,
+            ranges: bases.ranges,
+            locations: bases.locations,
+            lists: bases.lists,
         }
     }
 
@@ -91,7 +100,11 @@ impl<'d> Unit<'d> {
             header: self.header.again(),
             table: shared(&self.table)?,
             relocations: self.relocations.again(),
-            bases: self.bases,
+            texts: self.texts,
+            addresses: self.addresses,
+            ranges: self.ranges,
+            locations: self.locations,
+            lists: self.lists,
         })
     }
 
@@ -192,10 +205,10 @@ impl<'d> Unit<'d> {
         ensures { result ≡ unwrap_or (base_of_indexes self.now.sections self.now.header name) 0 }
     {
         match name {
-            SectionName::StrOffsets => self.bases.texts,
-            SectionName::Addr => self.bases.addresses.unwrap_or(0),
-            SectionName::Rnglists => self.bases.ranges,
-            SectionName::Loclists => self.bases.locations,
+            SectionName::StrOffsets => self.texts,
+            SectionName::Addr => self.addresses.unwrap_or(0),
+            SectionName::Rnglists => self.ranges,
+            SectionName::Loclists => self.locations,
             _ => 0,
         }
     }
@@ -206,7 +219,7 @@ impl<'d> Unit<'d> {
     pub fn first_base(&self) -> Address
         ensures { result ≡ first_base_of self.now.sections self.now.header }
     {
-        self.bases.lists
+        self.lists
     }
 
     /// The address at an index among the unit's. (DWARF 5, section 7.27.)
@@ -218,7 +231,7 @@ impl<'d> Unit<'d> {
         ensures address { GivesOrFault (λ a. a) (address_in_unit self.now.sections self.now.header index) result }
         ensures memory { result ≢ Err ReadFault.OutOfMemory }
     {
-        match address_indexed(&self.sections, &self.header, self.bases.addresses, index) {
+        match address_indexed(&self.sections, &self.header, self.addresses, index) {
             Ok(address) => Ok(address),
             Err(flaw) => Err(self.unreadable(flaw, What::AddressValue)),
         }
@@ -235,7 +248,7 @@ impl<'d> Unit<'d> {
         ensures text { GivesOrFault (option_map slice_bytes) (text_in_unit self.now.sections self.now.header (value_view value.now)) result }
         ensures memory { result ≢ Err ReadFault.OutOfMemory }
     {
-        match text_named(&self.sections, self.bases.texts, *value) {
+        match text_named(&self.sections, self.texts, *value) {
             Ok(text) => Ok(text),
             Err(flaw) => Err(self.unreadable(flaw, What::Text)),
         }
