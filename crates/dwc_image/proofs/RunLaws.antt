@@ -1,5 +1,5 @@
 -- The rows of an image, run by run: which sources are passed, and which row the next one finds.
-use Rattle.std.proofs.Common.{◌≡◌, ℕ, zero, suc, ◌+◌, ◌-◌, ◌<◌, ◌≤◌, refl, ap, ◌∙◌, arith, List, [], ◌∷◌, map, length, drop, take, get_or, Option, Some, None, inl, inr}
+use Rattle.std.proofs.Common.{◌≡◌, ℕ, zero, suc, ◌+◌, ◌-◌, ◌<◌, ◌≤◌, refl, ap, sym, ◌∙◌, arith, List, [], ◌∷◌, map, length, drop, take, get_or, Option, Some, None, inl, inr}
 use Rattle.std.specs.Prelude.{nat_lt, if◌then◌else◌, Bool, true, false, ◌⊎◌}
 use Rattle.std.specs.List.Sorted.{IsNonDecreasingBy, IsPartitionPoint, IsPartitionedBy}
 use Rattle.std.proofs.lemmas.Bool.{ltb-true, ltb-false, le-leb, lt-leb, eq-eqb, cases_lt}
@@ -106,7 +106,7 @@ module _ (rows : List LineRow) (start : ℕ) where
   cut-none o h = last_at-not_found (λ r. r.offset) rows o 0 refl (λ k e low high. absurd (omega arith), λ k e low high. lt-leb _ _ (h.above k e low high))
 
   -- the step at a source that does not lie in front of the first row
-  pub run-step : (xs : List AddressMap) (found : Option ℕ) (k count : ℕ) (e : AddressMap) (d : LineRow) → k < length xs → e ≡ get_or xs k e → start ≤ e.wasm → IsCut rows (e.wasm - start) count → 0 < count
+  run-step : (xs : List AddressMap) (found : Option ℕ) (k count : ℕ) (e : AddressMap) (d : LineRow) → k < length xs → e ≡ get_or xs k e → start ≤ e.wasm → IsCut rows (e.wasm - start) count → 0 < count
       → image_rows rows start found (map recorded_view (drop k xs)) ≡ with_found (λ r. r.offset) move_row (λ b. image_rows rows start b (map recorded_view (drop (k + 1) xs))) found e.generated (Some (get_or rows (count - 1) d))
   run-step xs found k count e d inside is le cut some =
       rw (drop_more xs k e inside, ← is, le-leb start e.wasm le, cut-found (e.wasm - start) count d cut some) refl
@@ -157,9 +157,34 @@ module _ (rows : List LineRow) (start : ℕ) where
       same d = is ∙ ap (λ r. r.offset) (get_or_default rows 0 e d some)
 
   -- a row is found at a source that does not lie in front of the first one
-  pub cut-some : (o count : ℕ) (d : LineRow) → IsCut rows o count → 0 < length rows → (get_or rows 0 d).offset ≤ o → 0 < count
+  cut-some : (o count : ℕ) (d : LineRow) → IsCut rows o count → 0 < length rows → (get_or rows 0 d).offset ≤ o → 0 < count
   cut-some o zero d cut some le = absurd (omega (arith, cut.above 0 d (omega arith) some))
   cut-some o (suc count) d cut some le = omega arith
+
+  -- what the first source finds that does not lie in front of the next row
+  pub record IsFound (xs : List AddressMap) (at k count : ℕ) (found : Option ℕ) (e : AddressMap) (d : LineRow) : Type 0 where
+    pub le : start ≤ (get_or xs k e).wasm
+    pub some : 0 < count
+    pub step : image_rows rows start found (map recorded_view (drop at xs)) ≡ with_found (λ r. r.offset) move_row (λ b. image_rows rows start b (map recorded_view (drop (k + 1) xs))) found (get_or xs k e).generated (Some (get_or rows (count - 1) d))
+
+  pub is-found : (xs : List AddressMap) (from end at offset k count : ℕ) (found : Option ℕ) (e : AddressMap) (d : LineRow) → RunSoFar xs from end at offset found → IsFirstBehind (λ s. s.wasm) xs at end (start + offset) k → k < end → end ≤ length xs
+      → 0 < length rows → IsCut rows ((get_or xs k e).wasm - start) count → IsFound xs at k count found e d
+  is-found xs from end at offset k count found e d run first less high full cut = record { le = le; some = some; step = passed ∙ step }
+    where
+      behind : start + offset ≤ (get_or xs k e).wasm
+      behind = first.at e less
+
+      le : start ≤ (get_or xs k e).wasm
+      le = omega (arith, behind)
+
+      some : 0 < count
+      some = cut-some ((get_or xs k e).wasm - start) count d cut full (omega (arith, behind, run.first d))
+
+      passed : image_rows rows start found (map recorded_view (drop at xs)) ≡ image_rows rows start found (map recorded_view (drop k xs))
+      passed = skip xs found at k (start + offset) end run.passed first.low first.high high first.before
+
+      step : image_rows rows start found (map recorded_view (drop k xs)) ≡ with_found (λ r. r.offset) move_row (λ b. image_rows rows start b (map recorded_view (drop (k + 1) xs))) found (get_or xs k e).generated (Some (get_or rows (count - 1) d))
+      step = run-step xs found k count (get_or xs k e) d (omega arith) (sym (get_or_default xs k (get_or xs k e) e (omega arith))) le cut some
 
   -- behind a source it stands at the next one, and the next row
   pub RunSoFar-next : (xs : List AddressMap) (from end at count : ℕ) (e : AddressMap) (c d : LineRow) → IsNonDecreasingBy (λ r. r.offset) rows → RisesBetween (λ s. s.wasm) xs from end → end ≤ length xs → from ≤ at → at < end

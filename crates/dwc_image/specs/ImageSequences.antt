@@ -1,5 +1,5 @@
 -- The sequences of images in a line program.
-use Rattle.std.specs.Prelude.{ℕ, ◌^◌, ◌<◌, ◌≤◌, List, [], ◌∷◌, ◌++◌, length, pos, nat_lt, if◌then◌else◌, Option, Some, None, All}
+use Rattle.std.specs.Prelude.{◌≡◌, ℕ, ◌^◌, ◌<◌, ◌≤◌, List, [], ◌∷◌, ◌++◌, length, pos, nat_lt, if◌then◌else◌, Option, Some, None, All}
 use Rattle.dwc_base.specs.declared.records.LineRow.{LineRow}
 use Rattle.std.specs.List.Sorted.{IsNonDecreasingBy}
 use Rattle.dwc_base.specs.declared.records.Address.{Address}
@@ -7,7 +7,7 @@ use Rattle.dwc_base.specs.declared.records.Address.TheVariants.{Constant, Symbol
 use Rattle.dwc_base.specs.LineRows.{LineStep, start as begin, row, end}
 use Rattle.dwc_base.specs.Functions.{Function, function_at, recorded_sources}
 use Rattle.dwc_write.specs.SpelledLines.{WrittenSequence}
-use Rattle.dwc_write.specs.GivenLines.{GivenLines}
+use Rattle.dwc_write.specs.GivenLines.{GivenLines, BegunSequence, last_offset, with_begun}
 use Rattle.dwc_image.specs.ImageRows.{RisesFrom, image_rows}
 
 -- a row's file is one of so many, and its line has 32 bits
@@ -16,13 +16,33 @@ pub record FitsFiles (files : ℕ) (r : LineRow) : Type 0 where
   pub some : 0 < r.file
   pub known : r.file ≤ files
 
--- the rows of an image, of which there are some, rise and lie before the end
-pub record FitsImage (files : ℕ) (rows : List LineRow) (end : ℕ) : Type 0 where
-  pub some : 0 < length rows
+-- the rows of an image rise, and fit into a line program of so many files
+pub record FitsImage (files : ℕ) (rows : List LineRow) : Type 0 where
   pub each : All (FitsFiles files) rows
   pub rise : RisesFrom (λ r. r.offset) 0 rows
-  pub within : All (λ r. r.offset ≤ end) rows
-  pub short : end < 2 ^ 32
+  pub short : All (λ r. r.offset < 2 ^ 32) rows
+
+-- a row may come behind others
+pub record FitsNext (files : ℕ) (rows : List LineRow) (r : LineRow) : Type 0 where
+  pub fits : FitsFiles files r
+  pub behind : last_offset 0 rows ≤ r.offset
+  pub short : r.offset < 2 ^ 32
+
+-- the rows of a sequence that may be begun
+abbrev pub begun_rows : Option BegunSequence → List LineRow
+begun_rows None = []
+begun_rows (Some q) = q.rows
+
+-- a sequence is begun at a function, by its number, and has a row, exactly where a row was found
+abbrev pub IsBegun : ℕ → Option ℕ → Option BegunSequence → Type 0
+IsBegun function None begun = begun ≡ None
+IsBegun function (Some offset) None = ⊥
+IsBegun function (Some offset) (Some q) = (q.start_address ≡ Symbol function (pos 0)) × (0 < length q.rows)
+
+-- a line program has grown by what is begun alone
+pub record HasGrown (function : ℕ) (found : Option ℕ) (before after : GivenLines) : Type 0 where
+  pub begun : IsBegun function found after.begun
+  pub same : after ≡ with_begun after.begun before
 
 -- a line program with further sequences
 abbrev pub with_sequences : List WrittenSequence → GivenLines → GivenLines

@@ -1,16 +1,19 @@
 //! The rows of an image: for each recorded source of a function that finds another row of a segment than the one before, that
 //! row, at the source's code. The sources are a few runs along which they do not fall, so in each run the sources that find
-//! another row are themselves found by halves: the work is that of the runs and the rows written, not of all sources.
-ghost use Rattle.std.specs.Prelude.{◌≡◌, ℕ, List, Option, Some, ◌++◌, ◌+◌, ◌<◌, ◌≤◌, length, map, drop, nat_lt, None, OnOk, IfOk};
+//! another row are themselves found by halves: the work is that of the runs and the rows written, not of all sources. Each
+//! row goes into the line program as it is found; the first begins the sequence.
+ghost use Rattle.std.specs.Prelude.{◌≡◌, ℕ, List, Option, Some, ◌++◌, ◌+◌, ◌<◌, ◌≤◌, false, length, map, drop, nat_lt, None, OnOk, IfOk, IsOkUnless, IsSome};
 ghost use Rattle.std.specs.List.Sorted.{IsNonDecreasingBy};
 ghost use Rattle.dwc_base.specs.declared.records.LineRow.{LineRow};
 ghost use Rattle.dwc_addr.specs.Runs.{recorded_view, run_starts};
-ghost use Rattle.dwc_image.specs.ImageRows.{move_row, with_found, image_rows};
+ghost use Rattle.dwc_image.specs.ImageRows.{move_row, placed_at, is_repeated, with_found, image_rows};
+ghost use Rattle.dwc_image.specs.ImageSequences.{FitsImage, FitsNext, IsBegun, begun_rows, HasGrown};
 ghost use Rattle.dwc_image.specs.RunRows.{RisesBetween, IsCut, IsFirstBehind};
 
 use dwc_addr::AddressMap;
-use dwc_base::LineRow;
-use std::alloc::AllocFailed;
+use dwc_base::{Address, LineRow};
+use dwc_write::{LineProgram, WriteError};
+use std::ops::Range;
 
 // How many rows do not begin above an offset.
 fn count_at(rows: &[LineRow], offset: u64) -> usize
@@ -44,53 +47,70 @@ fn moved(row: LineRow, offset: u64) -> LineRow
     LineRow { offset, ..row }
 }
 
-// Adds a row that the source at an offset of the code found, unless it is the one found last, whose offset is `found`.
+// Adds a row that the source at an offset of a function's code found, unless it is the one found last, whose offset is
+// `found`. The first row begins the sequence, and stands at its start.
 fn add_row(
-    image: &mut Vec<LineRow>,
+    program: &mut LineProgram,
+    function: usize,
     row: LineRow,
     native: u64,
     found: Option<u64>,
-) -> Result<(), AllocFailed<LineRow>>
-    ensures { OnOk result ((rest : Option ℕ → List LineRow) → image.new.items ++ rest (Some row.offset) ≡ image.old.items ++ with_found (λ r. r.offset) move_row rest found native (Some row)) }
+) -> Result<(), WriteError>
+    requires sized { IsSome program.old.address_size }
+    requires begun { IsBegun function found program.old.begun }
+    requires next { is_repeated found row.offset ≡ false → FitsNext (length program.old.files) (begun_rows program.old.begun) (move_row (placed_at found native) row) }
+    ensures rows { OnOk result ((rest : Option ℕ → List LineRow) → begun_rows program.new.begun ++ rest (Some row.offset) ≡ begun_rows program.old.begun ++ with_found (λ r. r.offset) move_row rest found native (Some row)) }
+    ensures begun { OnOk result (HasGrown function (Some row.offset) program.old program.new) }
+    ensures memory { IsOkUnless result WriteError.OutOfMemory }
 {
     match found {
-        None => image.push(moved(row, 0)),
+        None => {
+            program.begin_sequence(Address::Symbol {
+                symbol: function,
+                addend: 0,
+            })?;
+            program.generate_row(moved(row, 0))
+        }
         Some(offset) if offset == row.offset => Ok(()),
-        Some(_) => image.push(moved(row, native)),
+        Some(_) => program.generate_row(moved(row, native)),
     }
 }
 
-// Adds the rows of the sources from `from` on and before `end`, which are of one run; `found` is the offset of the row found
-// last, and the answer that behind them.
-fn image_run(
-    image: &mut Vec<LineRow>,
+// Adds the rows of the sources of a run; `found` is the offset of the row found last, and the answer that behind them.
+fn add_run(
+    program: &mut LineProgram,
+    function: usize,
     rows: &[LineRow],
     start: u64,
     sources: &[AddressMap],
-    from: usize,
-    end: usize,
+    run: Range<usize>,
     found: Option<u64>,
-) -> Result<Option<u64>, AllocFailed<LineRow>>
+) -> Result<Option<u64>, WriteError>
     requires order { IsNonDecreasingBy (λ r. r.offset) rows.now }
     requires some { 0 < length rows.now }
-    requires low { from ≤ end }
-    requires high { end ≤ length sources.now }
-    requires rises { RisesBetween (λ s. s.wasm) sources.now from end }
-    ensures { IfOk result (λ last. image.new.items ++ image_rows rows.now start last (map recorded_view (drop end sources.now)) ≡ image.old.items ++ image_rows rows.now start found (map recorded_view (drop from sources.now))) }
+    requires low { run.start ≤ run.end }
+    requires high { run.end ≤ length sources.now }
+    requires rises { RisesBetween (λ s. s.wasm) sources.now run.start run.end }
+    requires sized { IsSome program.old.address_size }
+    requires begun { IsBegun function found program.old.begun }
+    requires fits { FitsImage (length program.old.files) (begun_rows program.old.begun ++ image_rows rows.now start found (map recorded_view (drop run.start sources.now))) }
+    ensures rows { IfOk result (λ last. begun_rows program.new.begun ++ image_rows rows.now start last (map recorded_view (drop run.end sources.now)) ≡ begun_rows program.old.begun ++ image_rows rows.now start found (map recorded_view (drop run.start sources.now))) }
+    ensures begun { IfOk result (λ last. HasGrown function last program.old program.new) }
+    ensures memory { IsOkUnless result WriteError.OutOfMemory }
 {
     let mut found = found;
-    let mut at = from;
+    let mut at = run.start;
     // Sources in front of the row at this offset find no row, or the one found last.
     let mut offset = rows[0].offset;
-    while at < end {
-        at = first_behind(sources, at, end, start, offset);
-        if at == end {
+    while at < run.end {
+        at = first_behind(sources, at, run.end, start, offset);
+        if at == run.end {
             return Ok(found);
         }
         let source = sources[at];
         let count = count_at(rows, source.wasm - start);
         let row = rows[count - 1];
-        add_row(image, row, source.generated as u64, found)?;
+        add_row(program, function, row, source.generated as u64, found)?;
         found = Some(row.offset);
         if count == rows.len() {
             return Ok(found);
@@ -101,29 +121,45 @@ fn image_run(
     Ok(found)
 }
 
-/// The rows of the image of a segment that begins at `start`, in place of what `image` held: none where no source finds a
-/// row. Of the sources' runs the places of all but the first are given.
-pub(crate) fn image_rows(
-    image: &mut Vec<LineRow>,
+/// Adds the rows of the image of a segment that begins at `start` for a function, by its number, to a sequence that begins with
+/// the first; the answer is None where no source finds a row, and so no sequence is begun. Of the sources' runs the places of
+/// all but the first are given.
+///
+/// # Errors
+/// `OutOfMemory` for want of memory, and nothing else.
+pub(crate) fn add_rows(
+    program: &mut LineProgram,
+    function: usize,
     rows: &[LineRow],
     start: u64,
     sources: &[AddressMap],
     later_runs: &[usize],
-) -> Result<(), AllocFailed<LineRow>>
+) -> Result<Option<u64>, WriteError>
     requires order { IsNonDecreasingBy (λ r. r.offset) rows.now }
     requires runs { later_runs.now ≡ run_starts 0 0 (map recorded_view sources.now) }
-    ensures { OnOk result (image.new.items ≡ image_rows rows.now start None (map recorded_view sources.now)) }
+    requires sized { IsSome program.old.address_size }
+    requires ended { program.old.begun ≡ None }
+    requires fits { FitsImage (length program.old.files) (image_rows rows.now start None (map recorded_view sources.now)) }
+    ensures rows { OnOk result (begun_rows program.new.begun ≡ image_rows rows.now start None (map recorded_view sources.now)) }
+    ensures begun { IfOk result (λ found. HasGrown function found program.old program.new) }
+    ensures memory { IsOkUnless result WriteError.OutOfMemory }
 {
-    image.clear();
     if rows.is_empty() {
-        return Ok(());
+        return Ok(None);
     }
     let mut found = None;
     let mut from = 0;
     for place in later_runs {
-        found = image_run(image, rows, start, sources, from, *place, found)?;
+        found = add_run(program, function, rows, start, sources, from..*place, found)?;
         from = *place;
     }
-    image_run(image, rows, start, sources, from, sources.len(), found)?;
-    Ok(())
+    add_run(
+        program,
+        function,
+        rows,
+        start,
+        sources,
+        from..sources.len(),
+        found,
+    )
 }

@@ -110,16 +110,15 @@ fn add_images(
     let mut steps = table.rows();
     let mut start = None;
     let mut rows = Vec::new(alloc);
-    let mut image = Vec::new(alloc);
     while let Some(step) = steps.next() {
         match step {
             LineStep::Start(address) => {
-                add_image(program, transform, start, &rows, &mut image)?;
+                add_image(program, transform, start, &rows)?;
                 start = Some(address);
                 rows.clear();
             }
             LineStep::End(_) => {
-                add_image(program, transform, start, &rows, &mut image)?;
+                add_image(program, transform, start, &rows)?;
                 start = None;
                 rows.clear();
             }
