@@ -155,7 +155,46 @@ def words_cases():
     ]:
         cases.refused(f"files {paths}", status, line, ["g.json", *paths], files)
     cases.refused("a module as the map", 6, "malformed map", ["g.wasm", "g.wasm"], small)
+    module_files(cases)
     return cases
+
+
+# What stands behind the magic number and the version, and the place of the first field that breaks the grammar.
+BROKEN_FILES = [
+    ("no size of a section", "01", 9),
+    ("a section past the file", "01 02 00", 9),
+    ("a section of 2^32 bytes", "01 8080808010", 9),
+    ("a name past its section", "00 01 05", 10),
+    ("a name that is no text", "00 02 01 FF", 10),
+    ("a function too few", "03 02 02 00", 12),
+    ("a function too many", "03 03 01 00 07", 12),
+    ("an import of no kind", "02 07 01 0161 0162 05 07", 15),
+    ("a table of no type", "02 09 01 0161 0162 01 6E 00 00", 16),
+    ("limits with no such flag", "02 08 01 0161 0162 02 08 00", 16),
+    ("a byte behind the imports", "02 02 00 00", 11),
+]
+
+# Six imports of each kind, two of them of functions.
+IMPORTS = bytes.fromhex(
+    "02 32 06 0161 0162 00 07  0161 0162 01 70 01 02 03  0161 0162 02 00 02  0161 0162 03 7F 00  0161 0162 04 00 05"
+    "0161 07 6C6F6E67657221 00 8001"
+)
+
+
+def module_files(cases):
+    """What stands around the sections of DWARF, and where it is broken."""
+    for name, behind, place in BROKEN_FILES:
+        cases.refused_module(f"a file with {name}", 5, f"Malformed {place}", PREAMBLE + bytes.fromhex(behind))
+    cases.refused_module("a file of another version", 5, "Malformed 0", b"\0asm\x02\0\0\0")
+    cases.refused_module("a file that ends in its version", 5, "Malformed 0", PREAMBLE[:5])
+    rest = SMALL[len(FRONT) :]
+    cases.carried("the later of two sections", MAP, FRONT + custom(".debug_line", b"") + rest, text=SMALL_TEXT)
+    imports, moved = FRONT[:14] + IMPORTS + FRONT[14:], len(IMPORTS)
+    entries = [[native, source and source + moved] for native, source in SOURCES]
+    text = map_of([function(start=22 + moved, end=33 + moved, entries=entries)])
+    cases.carried("imports before the functions", text, imports + rest, text=SMALL_TEXT)
+    compressed = FRONT + custom(".zdebug_a", b"") + custom(".zdebug_b", b"") + rest
+    cases.refused_module("two compressed sections", 11, f"Unsupported Compressed {len(FRONT)}", compressed)
 
 
 # Pieces of the small map that are left out or changed, so that it has no value.
