@@ -1,6 +1,6 @@
 //! Runs over sources and sinks that fail or have no room, each with its line, and over the plain ones.
 use crate::module_file::{MAP, SMALL};
-use dwc_cli::{LongSource, MemSink, MemSource, PlainSink, PlainSource, Status, run};
+use dwc_cli::{LongSource, MemSink, MemSource, PlainSink, PlainSource, Sink, Source, Status, run};
 use std::alloc::{AllocError, Global};
 use std::test::Fail;
 
@@ -28,13 +28,16 @@ fn sink(alloc: Global, room: usize, most: usize, failing: &[u64]) -> Result<MemS
     MemSink::new(alloc, room, most, failing.to_vec(alloc)?)
 }
 
-// The status of a run, and its line.
-fn ended(alloc: Global, list: &[&str], mut source: MemSource) -> Result<(u8, MemSink), AllocError> {
+// The status of a run.
+fn status<S: Source, K: Sink, E: Sink>(
+    alloc: Global,
+    list: &[&str],
+    source: &mut S,
+    out: &mut K,
+    err: &mut E,
+) -> Result<u8, AllocError> {
     let words = words(alloc, list)?;
-    let mut out = sink(alloc, 1000, 1000, &[])?;
-    let mut err = sink(alloc, 1000, 7, &[])?;
-    let status = run(alloc, &words, &mut source, &mut out, &mut err);
-    Ok((status, err))
+    Ok(run(alloc, &words, source, out, err))
 }
 
 // The files of runs: the map, the module, and one that is cut.
@@ -44,72 +47,69 @@ const FILES: [(&str, &[u8]); 3] = [
     ("cut.wasm", b"\x00asm\x01\x00\x00\x00\x01"),
 ];
 
+const TWO: &[&str] = &["g.json", "g.wasm"];
+
 const THREE: &[&str] = &["g.json", "g.wasm", "cut.wasm"];
 
-// The calls of the source that fail, and the file at which a run then ends.
-const FAILING: [(u64, &str); 8] = [
-    (1, "g.json"),
-    (2, "g.json"),
-    (3, "g.json"),
-    (4, "g.wasm"),
-    (5, "g.wasm"),
-    (6, "g.wasm"),
-    (7, "cut.wasm"),
-    (9, "cut.wasm"),
+// The words, the call of the source that fails, the room of the sink, and how a run then ends: its status, its text and its line.
+// A sink that is full takes a front of the text.
+const ENDINGS: [(&[&str], u64, usize, u8, &str, &str); 9] = [
+    (THREE, 1, 99, 3, "", "dwarfcarry: read fault g.json\n"),
+    (THREE, 2, 99, 3, "", "dwarfcarry: read fault g.json\n"),
+    (THREE, 3, 99, 3, "", "dwarfcarry: read fault g.json\n"),
+    (THREE, 4, 99, 3, "", "dwarfcarry: read fault g.wasm\n"),
+    (THREE, 5, 99, 3, "", "dwarfcarry: read fault g.wasm\n"),
+    (THREE, 6, 99, 3, "", "dwarfcarry: read fault g.wasm\n"),
+    (THREE, 7, 99, 3, "", "dwarfcarry: read fault cut.wasm\n"),
+    (THREE, 9, 99, 3, "", "dwarfcarry: read fault cut.wasm\n"),
+    (TWO, 0, 10, 8, "section .d", "dwarfcarry: write fault\n"),
 ];
 
 #[test]
-fn ends_with_a_line_where_a_source_fails(rt: HostRuntime) -> Result<(), Fail> {
-    for (call, path) in &FAILING {
-        let source = source(rt.alloc(), &FILES, &[*call])?;
-        let (status, err) = ended(rt.alloc(), THREE, source)?;
-        assert_eq!(rt; status, Status::ReadFault.code(), "{path}");
-        let line = format!(in rt.alloc(); "dwarfcarry: read fault {path}\n")?;
+fn ends_with_a_line_where_a_source_or_a_sink_fails(rt: HostRuntime) -> Result<(), Fail> {
+    for (words, call, room, wanted, text, line) in &ENDINGS {
+        let mut source = source(rt.alloc(), &FILES, &[*call])?;
+        let mut out = sink(rt.alloc(), *room, 7, &[])?;
+        let mut err = sink(rt.alloc(), 99, 7, &[])?;
+        let status = status(rt.alloc(), words, &mut source, &mut out, &mut err)?;
+        assert_eq!(rt; status, *wanted, "{line}");
+        assert_eq!(rt; out.bytes(), text.as_bytes());
         assert_eq!(rt; err.bytes(), line.as_bytes());
     }
     Ok(())
 }
 
-// A sink that is full takes a front of the text.
-#[test]
-fn ends_with_a_line_where_a_sink_is_full(rt: HostRuntime) -> Result<(), Fail> {
-    let words = words(rt.alloc(), &["g.json", "g.wasm"])?;
-    let mut source = source(rt.alloc(), &FILES, &[])?;
-    let mut out = sink(rt.alloc(), 10, 7, &[])?;
-    let mut err = sink(rt.alloc(), 100, 100, &[])?;
-    let status = run(rt.alloc(), &words, &mut source, &mut out, &mut err);
-    assert_eq!(rt; status, Status::WriteFault.code());
-    assert_eq!(rt; out.bytes(), b"section .d".as_slice());
-    assert_eq!(rt; err.bytes(), b"dwarfcarry: write fault\n".as_slice());
-    Ok(())
-}
+// The lengths of files, and how a run of such files ends.
+const LENGTHS: [(u64, u8, &str); 2] = [
+    ((1 << 28) + 1, 4, "dwarfcarry: file too long g.json\n"),
+    (1 << 16, 5, "dwarfcarry: Malformed 0\n"),
+];
 
 #[test]
 fn stops_at_a_file_that_is_too_long(rt: HostRuntime) -> Result<(), Fail> {
-    for (length, wanted, line) in [
-        ((1 << 28) + 1, 4, "dwarfcarry: file too long m\n"),
-        (1 << 16, 5, "dwarfcarry: Malformed 0\n"),
-    ] {
-        let words = words(rt.alloc(), &["m", "w"])?;
-        let mut source = LongSource::new(length);
-        let mut out = sink(rt.alloc(), 10, 10, &[])?;
+    for (length, wanted, line) in &LENGTHS {
+        let mut source = LongSource::new(*length);
+        let mut out = PlainSink::new();
         let mut err = sink(rt.alloc(), 100, 100, &[])?;
-        let status = run(rt.alloc(), &words, &mut source, &mut out, &mut err);
-        assert_eq!(rt; status, wanted, "{length}");
+        let status = status(rt.alloc(), TWO, &mut source, &mut out, &mut err)?;
+        assert_eq!(rt; status, *wanted, "{length}");
         assert_eq!(rt; err.bytes(), line.as_bytes());
-        assert!(rt; out.bytes().is_empty());
     }
     Ok(())
 }
 
 #[test]
 fn ends_alike_where_no_line_can_be_written(rt: HostRuntime) -> Result<(), Fail> {
-    let words = words(rt.alloc(), &["m"])?;
-    let mut source = source(rt.alloc(), &FILES, &[])?;
-    let mut out = sink(rt.alloc(), 10, 10, &[])?;
     for failing in 1..5 {
+        let mut source = source(rt.alloc(), &FILES, &[])?;
         let mut err = sink(rt.alloc(), 100, 100, &[failing])?;
-        let status = run(rt.alloc(), &words, &mut source, &mut out, &mut err);
+        let status = status(
+            rt.alloc(),
+            &["m"],
+            &mut source,
+            &mut PlainSink::new(),
+            &mut err,
+        )?;
         assert_eq!(rt; status, Status::Usage.code());
     }
     Ok(())
@@ -118,11 +118,10 @@ fn ends_alike_where_no_line_can_be_written(rt: HostRuntime) -> Result<(), Fail> 
 // The plain source and sink give and take all.
 #[test]
 fn runs_over_a_plain_source_and_sink(rt: HostRuntime) -> Result<(), Fail> {
-    let words = words(rt.alloc(), &["g.json", "g.wasm"])?;
     let mut source = PlainSource::new(files(rt.alloc(), &FILES)?);
     let mut out = PlainSink::new();
     let mut err = PlainSink::new();
-    let status = run(rt.alloc(), &words, &mut source, &mut out, &mut err);
+    let status = status(rt.alloc(), TWO, &mut source, &mut out, &mut err)?;
     assert_eq!(rt; status, Status::Done.code());
     Ok(())
 }
