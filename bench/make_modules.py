@@ -17,6 +17,7 @@ Hostile ones:
 - subprograms: one unit of N subprograms, all at the begin of one function.
 - one_function: N segments of one row each, all at the begin of one function of N sources.
 - shared_table: 1,000 units of a subprogram each, which name one line table of N rows.
+- two_tables: the same where the units name two line tables of N rows in turn.
 """
 
 import argparse
@@ -65,8 +66,9 @@ ABBREVIATIONS = bytes.fromhex("011101 1017 0000 022E00 1101 1206 0000 00")
 LINE_PARAMETERS = bytes.fromhex("01 01 01 FB 0E 0D 000101010100000001000001 00 612E6300000000 00")
 
 
-def debug_info(ranges):
-    entries = bytearray(bytes([1]) + u32(0))
+def debug_info(ranges, table=0):
+    """A unit of subprograms, which names the line table at an offset."""
+    entries = bytearray(bytes([1]) + u32(table))
     for start, length in ranges:
         entries += bytes([2]) + u32(start) + u32(length)
     entries.append(0)
@@ -280,14 +282,27 @@ def one_function_module(count):
 UNITS_OF_A_TABLE = 1000
 
 
-def shared_table_module(rows):
+def table_of_rows(rows, start):
+    """One sequence of so many rows at one place, a line further each."""
     special = 13 + 5 + 1
+    return debug_line(set_address(start) + COPY + bytes([special]) * (rows - 1) + advance_pc(BODY) + END_SEQUENCE)
 
+
+def shared_table_module(rows):
     def info(start):
         return debug_info([(start, BODY)]) * UNITS_OF_A_TABLE
 
+    return one_function(BODY, info, lambda start: table_of_rows(rows, start), ABBREVIATIONS, [[0, 0], [5, 8]])
+
+
+def two_tables_module(rows):
     def line(start):
-        return debug_line(set_address(start) + COPY + bytes([special]) * (rows - 1) + advance_pc(BODY) + END_SEQUENCE)
+        return table_of_rows(rows, start) * 2
+
+    def info(start):
+        second = len(table_of_rows(rows, start))
+        pair = debug_info([(start, BODY)]) + debug_info([(start, BODY)], second)
+        return pair * (UNITS_OF_A_TABLE // 2)
 
     return one_function(BODY, info, line, ABBREVIATIONS, [[0, 0], [5, 8]])
 
@@ -303,6 +318,7 @@ KINDS = {
     "subprograms": lambda n: [subprograms_module(n)],
     "one_function": lambda n: [one_function_module(n)],
     "shared_table": lambda n: [shared_table_module(n)],
+    "two_tables": lambda n: [two_tables_module(n)],
 }
 
 # The sizes of each kind, unless they are given.
@@ -316,6 +332,7 @@ SIZES = {
     "subprograms": [50000, 100000],
     "one_function": [50000, 100000],
     "shared_table": [500000, 1000000],
+    "two_tables": [5000, 10000],
 }
 
 
