@@ -1,0 +1,123 @@
+-- Items of lists, and what tests find and count among them.
+use Rattle.std.proofs.Common.{◌≡◌, ℕ, zero, suc, ◌<◌, ◌≤◌, ◌⊎◌, ◌≢◌, List, [], ◌∷◌, length, get_or, refl, ap, sym, subst, ◌∙◌, inl, inr, arith, Bool, true, false, cond}
+use Rattle.std.specs.Prelude.{◌||◌, Contains, AllPairs}
+use Rattle.std.specs.List.{filter, list_any}
+use Rattle.std.proofs.lemmas.Bool.{or_right, cases_order}
+use Rattle.std.proofs.lemmas.List.{get_or_default}
+
+-- an item of a list
+abbrev pub IsIn : {A : Type 0} → A → List A → Type 0
+IsIn x [] = ⊥
+IsIn x (y ∷ ys) = (x ≡ y) ⊎ IsIn x ys
+
+pub at-in : {A : Type 0} (xs : List A) (i : ℕ) (d : A) → i < length xs → IsIn (get_or xs i d) xs
+at-in [] i d less = absurd (omega (arith, less))
+at-in (x ∷ xs) zero d less = inl refl
+at-in (x ∷ xs) (suc i) d less = inr (at-in xs i d (omega (arith, less)))
+
+pub in-at : {A : Type 0} (xs : List A) (x : A) → IsIn x xs → (i : ℕ) × (i < length xs) × (get_or xs i x ≡ x)
+in-at [] x i = absurd i
+in-at (y ∷ ys) x (inl e) = (0, omega arith, sym e)
+in-at (y ∷ ys) x (inr i) = let found = in-at ys x i in (suc found.0, omega (arith, found.1), found.2)
+
+pub contains-in : {A : Type 0} (xs : List A) (x : A) → Contains xs x → IsIn x xs
+contains-in xs x c = subst (λ y. IsIn y xs) c.2 (at-in xs c.0 x c.1)
+
+pub in-contains : {A : Type 0} (xs : List A) (x : A) → IsIn x xs → Contains xs x
+in-contains xs x i = in-at xs x i
+
+-- items of a list whose later ones differ from earlier ones are at one place
+pub distinct-same : {A : Type 0} (n : A → ℕ) (xs : List A) (x y : A) → AllPairs (λ a b. n a ≢ n b) xs → IsIn x xs → IsIn y xs → n x ≡ n y → x ≡ y
+distinct-same {A} n xs x y apart i j same = go (cases_order p.0 q.0)
+  where
+    p : (k : ℕ) × (k < length xs) × (get_or xs k x ≡ x)
+    p = in-at xs x i
+
+    q : (k : ℕ) × (k < length xs) × (get_or xs k y ≡ y)
+    q = in-at xs y j
+
+    at_q : get_or xs q.0 x ≡ y
+    at_q = get_or_default xs q.0 x y q.1 ∙ q.2
+
+    go : (p.0 ≡ q.0) ⊎ ((p.0 < q.0) ⊎ (q.0 < p.0)) → x ≡ y
+    go (inl e) = sym p.2 ∙ ap (λ k. get_or xs k x) e ∙ at_q
+    go (inr (inl less)) = absurd (apart p.0 q.0 x less q.1 (ap n p.2 ∙ same ∙ ap n (sym at_q)))
+    go (inr (inr less)) = absurd (apart q.0 p.0 x less p.1 (ap n at_q ∙ sym same ∙ ap n (sym p.2)))
+
+module _ {A : Type 0} (t : A → Bool) where
+  -- what a test finds
+  pub any-in : (xs : List A) → list_any t xs ≡ true → (x : A) × IsIn x xs × (t x ≡ true)
+  any-in [] h = absurd (cc)
+  any-in (x ∷ xs) h = go (t x) refl h (λ e. any-in xs e)
+    where
+      go : (b : Bool) → t x ≡ b → (b || list_any t xs) ≡ true → (list_any t xs ≡ true → (y : A) × IsIn y xs × (t y ≡ true)) → (y : A) × IsIn y (x ∷ xs) × (t y ≡ true)
+      go true is e others = (x, inl refl, is)
+      go false is e others = let found = others e in (found.0, inr found.1, found.2)
+
+  pub in-any : (xs : List A) (x : A) → IsIn x xs → t x ≡ true → list_any t xs ≡ true
+  in-any [] x i h = absurd i
+  in-any (y ∷ ys) x (inl e) h = let here : t y ≡ true = ap t (sym e) ∙ h in ap (λ b. b || list_any t ys) here
+  in-any (y ∷ ys) x (inr i) h = or_right (t y) (list_any t ys) (in-any ys x i h)
+
+  pub in-filter : (xs : List A) (x : A) → IsIn x (filter t xs) → IsIn x xs × (t x ≡ true)
+  in-filter [] x i = absurd i
+  in-filter (y ∷ ys) x i = go (t y) refl i (λ j. in-filter ys x j)
+    where
+      go : (b : Bool) → t y ≡ b → IsIn x (cond {A = List A} b (y ∷ filter t ys) (filter t ys)) → (IsIn x (filter t ys) → IsIn x ys × (t x ≡ true)) → IsIn x (y ∷ ys) × (t x ≡ true)
+      go true is (inl e) others = (inl e, ap t e ∙ is)
+      go true is (inr j) others = let f = others j in (inr f.0, f.1)
+      go false is j others = let f = others j in (inr f.0, f.1)
+
+  pub filter-in : (xs : List A) (x : A) → IsIn x xs → t x ≡ true → IsIn x (filter t xs)
+  filter-in [] x i h = absurd i
+  filter-in (y ∷ ys) x (inl e) h = let here : t y ≡ true = ap t (sym e) ∙ h in subst (λ b. IsIn x (cond {A = List A} b (y ∷ filter t ys) (filter t ys))) (sym here) (inl e)
+  filter-in (y ∷ ys) x (inr j) h = go (t y) (filter-in ys x j h)
+    where
+      go : (b : Bool) → IsIn x (filter t ys) → IsIn x (cond {A = List A} b (y ∷ filter t ys) (filter t ys))
+      go true k = inr k
+      go false k = k
+
+  -- how many items pass
+  pub filter-few : (xs : List A) → length (filter t xs) ≤ length xs
+  filter-few [] = omega arith
+  filter-few (x ∷ xs) = go (t x) (filter-few xs)
+    where
+      go : (b : Bool) → length (filter t xs) ≤ length xs → length (cond {A = List A} b (x ∷ filter t xs) (filter t xs)) ≤ suc (length xs)
+      go true h = omega (arith, h)
+      go false h = omega (arith, h)
+
+  pub none-passes : (xs : List A) (x : A) → length (filter t xs) ≡ 0 → IsIn x xs → t x ≡ true → ⊥
+  none-passes xs x none i h = go (filter t xs) none (filter-in xs x i h)
+    where
+      go : (ys : List A) → length ys ≡ 0 → IsIn x ys → ⊥
+      go [] e j = j
+      go (y ∷ ys) e j = absurd (omega (arith, e))
+
+-- Where a second test passes only what a first one passes, it passes fewer items or the same ones.
+pub fewer-or-same : {A : Type 0} (p q : A → Bool) (xs : List A) → ((x : A) → IsIn x xs → q x ≡ true → p x ≡ true) → (length (filter q xs) < length (filter p xs)) ⊎ ((length (filter q xs) ≡ length (filter p xs)) × ((x : A) → IsIn x xs → p x ≡ true → q x ≡ true))
+fewer-or-same p q [] under = inr (refl, λ x i h. absurd i)
+fewer-or-same {A} p q (y ∷ ys) under = go (p y) (q y) refl refl (fewer-or-same p q ys (λ x i h. under x (inr i) h))
+  where
+    go : (a b : Bool) → p y ≡ a → q y ≡ b → (length (filter q ys) < length (filter p ys)) ⊎ ((length (filter q ys) ≡ length (filter p ys)) × ((x : A) → IsIn x ys → p x ≡ true → q x ≡ true))
+        → (length (cond {A = List A} b (y ∷ filter q ys) (filter q ys)) < length (cond {A = List A} a (y ∷ filter p ys) (filter p ys))) ⊎ ((length (cond {A = List A} b (y ∷ filter q ys) (filter q ys)) ≡ length (cond {A = List A} a (y ∷ filter p ys) (filter p ys))) × ((x : A) → IsIn x (y ∷ ys) → p x ≡ true → q x ≡ true))
+    go true true ea eb (inl less) = inl (omega (arith, less))
+    go true true ea eb (inr same) = inr (ap suc same.0, each)
+      where
+        each : (x : A) → IsIn x (y ∷ ys) → p x ≡ true → q x ≡ true
+        each x (inl e) h = ap q e ∙ eb
+        each x (inr i) h = same.1 x i h
+    go true false ea eb (inl less) = inl (omega (arith, less))
+    go true false ea eb (inr same) = inl (omega (arith, same.0))
+    go false true ea eb others = absurd (clash (sym ea ∙ under y (inl refl) eb))
+      where
+        clash : false ≡ true → ⊥
+        clash e = cc
+    go false false ea eb (inl less) = inl less
+    go false false ea eb (inr same) = inr (same.0, each)
+      where
+        each : (x : A) → IsIn x (y ∷ ys) → p x ≡ true → q x ≡ true
+        each x (inl e) h = absurd (clash (sym ea ∙ ap p (sym e) ∙ h))
+          where
+            clash : false ≡ true → ⊥
+            clash f = cc
+        each x (inr i) h = same.1 x i h

@@ -1,0 +1,7 @@
+//! The entries of a module that are kept: the graph of what each entry keeps, and the least set of entries that holds the required ones
+//! and all that its entries keep.
+#![tactic(auto)]
+
+mod laws;
+
+pub use laws::kept_are_least;
