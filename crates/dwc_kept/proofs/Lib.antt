@@ -1,2 +1,3 @@
 pub mod InLists
 pub mod KeptLaws
+pub mod MarkLaws

@@ -1,8 +1,8 @@
 -- What entries keep, by their numbers in file order. (This project's own rule, of `dwc_base/specs/Kept`.)
-use Rattle.std.specs.Prelude.{◌≡◌, ℕ, ◌<◌, ◌==◌, List, [], length, get_or, map, Bool, false, ◌&&◌, ◌||◌, IsTrue, Option, Some, None}
+use Rattle.std.specs.Prelude.{◌≡◌, ◌≢◌, AllPairs, Contains, ℕ, ◌<◌, ◌==◌, List, [], length, get_or, map, Bool, false, ◌&&◌, ◌||◌, IsTrue, Option, Some, None}
 use Rattle.std.specs.List.{list_any}
 use Rattle.dwc_base.specs.Kept.{Placed, keeps}
-use Rattle.dwc_kept.specs.KeptEntries.{has_place}
+use Rattle.dwc_kept.specs.KeptEntries.{has_place, kept_with}
 
 -- An entry: its offset in `.debug_info`, the number of its parent, the offsets that its references name, and whether it is a part of
 -- its parent.
@@ -56,3 +56,9 @@ pub record IsGraphOf (es : List Placed) (ns : List Node) : Type 0 where
 -- marks say of each entry whether it is among some
 abbrev pub SayWhich : List Placed → List Placed → List Bool → Type 0
 SayWhich es some marks = (i : ℕ) (d : Placed) → i < length es → is_marked marks i ≡ has_place some (get_or es i d).entry.offset
+
+-- The law: of entries at offsets of their own and their graph, the least marks from those of some required entries on are those of the
+-- entries that are kept with these.
+abbrev pub MarksAreKept : List Placed → List Node → List Placed → List Bool → List Bool → Type 0
+MarksAreKept es ns required flags marks = AllPairs (λ e f. e.entry.offset ≢ f.entry.offset) es → ((e : Placed) → Contains required e → Contains es e) → IsGraphOf es ns → SayWhich es required flags → AreLeastMarks ns flags marks
+    → SayWhich es (kept_with es required) marks

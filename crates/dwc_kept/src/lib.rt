@@ -4,4 +4,4 @@
 
 mod laws;
 
-pub use laws::kept_are_least;
+pub use laws::{kept_are_least, marks_are_kept};
