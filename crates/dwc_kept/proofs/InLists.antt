@@ -1,7 +1,7 @@
 -- Items of lists, and what tests find and count among them.
-use Rattle.std.proofs.Common.{◌≡◌, ℕ, zero, suc, ◌<◌, ◌≤◌, ◌⊎◌, ◌≢◌, List, [], ◌∷◌, length, get_or, refl, ap, sym, subst, ◌∙◌, inl, inr, arith, Bool, true, false, cond}
-use Rattle.std.specs.Prelude.{◌||◌, Contains, AllPairs}
-use Rattle.std.specs.List.{filter, list_any}
+use Rattle.std.proofs.Common.{◌≡◌, ℕ, zero, suc, ◌<◌, ◌≤◌, ◌⊎◌, ◌≢◌, List, [], ◌∷◌, length, get_or, refl, ap, sym, subst, ◌∙◌, inl, inr, arith, Bool, true, false, cond, ◌++◌, Some, None}
+use Rattle.std.specs.Prelude.{◌||◌, Contains, AllPairs, Option}
+use Rattle.std.specs.List.{filter, list_any, filter_map, cons_option}
 use Rattle.std.proofs.lemmas.Bool.{or_right, cases_order}
 use Rattle.std.proofs.lemmas.List.{get_or_default}
 
@@ -121,3 +121,42 @@ fewer-or-same {A} p q (y ∷ ys) under = go (p y) (q y) refl refl (fewer-or-same
             clash : false ≡ true → ⊥
             clash f = cc
         each x (inr i) h = same.1 x i h
+
+-- ---- items of lists that are made of others
+
+pub in-append : {A : Type 0} (xs ys : List A) (x : A) → IsIn x (xs ++ ys) → IsIn x xs ⊎ IsIn x ys
+in-append [] ys x i = inr i
+in-append (y ∷ xs) ys x (inl e) = inl (inl e)
+in-append (y ∷ xs) ys x (inr i) = go (in-append xs ys x i)
+  where
+    go : IsIn x xs ⊎ IsIn x ys → IsIn x (y ∷ xs) ⊎ IsIn x ys
+    go (inl j) = inl (inr j)
+    go (inr j) = inr j
+
+pub append-left : {A : Type 0} (xs ys : List A) (x : A) → IsIn x xs → IsIn x (xs ++ ys)
+append-left [] ys x i = absurd i
+append-left (y ∷ xs) ys x (inl e) = inl e
+append-left (y ∷ xs) ys x (inr i) = inr (append-left xs ys x i)
+
+pub append-right : {A : Type 0} (xs ys : List A) (x : A) → IsIn x ys → IsIn x (xs ++ ys)
+append-right [] ys x i = i
+append-right (y ∷ xs) ys x i = inr (append-right xs ys x i)
+
+module _ {A B : Type 0} (f : A → Option B) where
+  pub in-filter_map : (xs : List A) (y : B) → IsIn y (filter_map f xs) → (x : A) × IsIn x xs × (f x ≡ Some y)
+  in-filter_map [] y i = absurd i
+  in-filter_map (x ∷ xs) y i = go (f x) refl i (λ j. in-filter_map xs y j)
+    where
+      go : (o : Option B) → f x ≡ o → IsIn y (cons_option o (filter_map f xs)) → (IsIn y (filter_map f xs) → (z : A) × IsIn z xs × (f z ≡ Some y)) → (z : A) × IsIn z (x ∷ xs) × (f z ≡ Some y)
+      go None is j others = let found = others j in (found.0, inr found.1, found.2)
+      go (Some z) is (inl e) others = (x, inl refl, is ∙ ap Some (sym e))
+      go (Some z) is (inr j) others = let found = others j in (found.0, inr found.1, found.2)
+
+  pub filter_map-in : (xs : List A) (x : A) (y : B) → IsIn x xs → f x ≡ Some y → IsIn y (filter_map f xs)
+  filter_map-in [] x y i is = absurd i
+  filter_map-in (z ∷ xs) x y (inl e) is = let here : f z ≡ Some y = ap f (sym e) ∙ is in subst (λ o. IsIn y (cons_option o (filter_map f xs))) (sym here) (inl refl)
+  filter_map-in (z ∷ xs) x y (inr i) is = go (f z) (filter_map-in xs x y i is)
+    where
+      go : (o : Option B) → IsIn y (filter_map f xs) → IsIn y (cons_option o (filter_map f xs))
+      go None j = j
+      go (Some w) j = inr j

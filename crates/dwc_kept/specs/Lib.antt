@@ -1,2 +1,3 @@
 pub mod KeptEntries
 pub mod EntryGraphs
+pub mod GraphEntries

@@ -2,6 +2,8 @@
 //! and all that its entries keep.
 #![tactic(auto)]
 
+mod graph_entry;
 mod laws;
+mod marks;
 
 pub use laws::{kept_are_least, marks_are_kept};

@@ -1,0 +1,177 @@
+//! Marks numbers of entries, and keeps those that are marked in a list of work to do.
+ghost use Rattle.std.specs.Prelude.{◌≡◌, ◌<◌, ◌≤◌, ◌^◌, length, drop, suc, replicate, false, [], OnOk, IfOk, filter_map};
+ghost use Rattle.dwc_kept.specs.EntryGraphs.{AreLeastMarks};
+ghost use Rattle.dwc_kept.specs.GraphEntries.{mark as mark_one, mark_all, number_at, parts_below, kept_numbers, numbers_from, targets_of, targets_start, AreRising, AreLinked, HaveTargets, AreEntries, nodes_seen};
+
+use crate::graph_entry::GraphEntry;
+use std::alloc::{AllocError, Global};
+
+// Marks a number, if it is not marked yet.
+fn mark(marks: &mut [bool], queue: &mut Vec<u32>, number: u32) -> Result<(), AllocError>
+    requires { number < length marks.old }
+    ensures { OnOk result (record { marks = marks.new; queue = queue.new.items } ≡ mark_one number (record { marks = marks.old; queue = queue.old.items })) }
+{
+    let place = number as usize;
+    if !marks[place] {
+        queue.push(number)?;
+        marks[place] = true;
+    }
+    Ok(())
+}
+
+// The number of the entry at an offset.
+fn number_of(entries: &[GraphEntry], offset: u32) -> Option<u32>
+    requires { AreRising entries.now }
+    ensures { result ≡ number_at entries.now offset }
+{
+    let place = entries.partition_point(|entry| entry.offset < offset);
+    if place < entries.len() && entries[place].offset == offset {
+        Some(place as u32)
+    } else {
+        None
+    }
+}
+
+// Marks the entries at some offsets.
+fn mark_targets(
+    entries: &[GraphEntry],
+    targets: &[u32],
+    marks: &mut [bool],
+    queue: &mut Vec<u32>,
+) -> Result<(), AllocError>
+    requires rising { AreRising entries.now }
+    requires counted { length marks.old ≡ length entries.now }
+    ensures { OnOk result (record { marks = marks.new; queue = queue.new.items } ≡ mark_all (filter_map (number_at entries.now) targets.now) (record { marks = marks.old; queue = queue.old.items })) }
+{
+    for target in targets {
+        if let Some(number) = number_of(entries, *target) {
+            mark(marks, queue, number)?;
+        }
+    }
+    Ok(())
+}
+
+// Marks the parts of an entry.
+fn mark_parts(
+    entries: &[GraphEntry],
+    number: u32,
+    marks: &mut [bool],
+    queue: &mut Vec<u32>,
+) -> Result<(), AllocError>
+    requires linked { AreLinked entries.now }
+    requires counted { length marks.old ≡ length entries.now }
+    requires inside { number < length entries.now }
+    ensures { OnOk result (record { marks = marks.new; queue = queue.new.items } ≡ mark_all (parts_below entries.now number (length entries.now)) (record { marks = marks.old; queue = queue.old.items })) }
+{
+    let mut part = entries[number as usize].last_part;
+    while part != number {
+        mark(marks, queue, part)?;
+        part = entries[part as usize].previous_part;
+    }
+    Ok(())
+}
+
+// Where the targets of an entry end, of so many targets.
+fn targets_end(entries: &[GraphEntry], number: usize, size: usize) -> usize
+    requires { number < length entries.now }
+    ensures { result ≡ targets_start (drop (suc number) entries.now) size }
+{
+    match entries.get(number + 1) {
+        Some(next) => next.first_target as usize,
+        None => size,
+    }
+}
+
+// The targets of an entry.
+fn targets_at<'t>(entries: &[GraphEntry], targets: &'t [u32], number: usize) -> &'t [u32]
+    requires inside { number < length entries.now }
+    requires has { HaveTargets entries.now (length targets.now) }
+    ensures { result.now ≡ targets_of entries.now targets.now number }
+{
+    let start = entries[number].first_target as usize;
+    let end = targets_end(entries, number, targets.len());
+    &targets[start..end]
+}
+
+// Marks what an entry keeps.
+fn mark_kept(
+    entries: &[GraphEntry],
+    targets: &[u32],
+    number: u32,
+    marks: &mut [bool],
+    queue: &mut Vec<u32>,
+) -> Result<(), AllocError>
+    requires entries { AreEntries entries.now (length targets.now) }
+    requires counted { length marks.old ≡ length entries.now }
+    requires inside { number < length entries.now }
+    ensures { OnOk result (record { marks = marks.new; queue = queue.new.items } ≡ mark_all (kept_numbers entries.now targets.now number) (record { marks = marks.old; queue = queue.old.items })) }
+{
+    mark(marks, queue, entries[number as usize].parent)?;
+    let named = targets_at(entries, targets, number as usize);
+    mark_targets(entries, named, marks, queue)?;
+    mark_parts(entries, number, marks, queue)?;
+    Ok(())
+}
+
+// Marks the required entries.
+fn mark_required(
+    required: &[bool],
+    marks: &mut [bool],
+    queue: &mut Vec<u32>,
+) -> Result<(), AllocError>
+    requires few { length required.now ≤ 2 ^ 32 }
+    requires counted { length marks.old ≡ length required.now }
+    ensures { OnOk result (record { marks = marks.new; queue = queue.new.items } ≡ mark_all (numbers_from 0 required.now) (record { marks = marks.old; queue = queue.old.items })) }
+{
+    for i in 0..required.len() {
+        if required[i] {
+            mark(marks, queue, i as u32)?;
+        }
+    }
+    Ok(())
+}
+
+// Marks the least set of entries that holds the required ones and what its entries keep.
+fn mark_least(
+    entries: &[GraphEntry],
+    targets: &[u32],
+    required: &[bool],
+    marks: &mut [bool],
+    queue: &mut Vec<u32>,
+) -> Result<(), AllocError>
+    requires entries { AreEntries entries.now (length targets.now) }
+    requires each { length required.now ≡ length entries.now }
+    requires unmarked { marks.old ≡ replicate (length entries.now) false }
+    requires empty { queue.old.items ≡ [] }
+    ensures { OnOk result (AreLeastMarks (nodes_seen 0 entries.now targets.now) required.now marks.new) }
+{
+    mark_required(required, marks, queue)?;
+    let mut done = 0;
+    while done < queue.len() {
+        let number = queue[done];
+        mark_kept(entries, targets, number, marks, queue)?;
+        done += 1;
+    }
+    Ok(())
+}
+
+/// The marks of the least set of entries that holds the required ones and what its entries keep. Each entry and each target is looked
+/// at once.
+///
+/// # Errors
+/// `AllocError` for want of memory.
+pub(crate) fn least_marks(
+    alloc: Global,
+    entries: &[GraphEntry],
+    targets: &[u32],
+    required: &[bool],
+) -> Result<Vec<bool>, AllocError>
+    requires entries { AreEntries entries.now (length targets.now) }
+    requires each { length required.now ≡ length entries.now }
+    ensures { IfOk result (λ marks. AreLeastMarks (nodes_seen 0 entries.now targets.now) required.now marks.items) }
+{
+    let mut marks = vec![in alloc; false; entries.len()]?;
+    let mut queue = Vec::new(alloc);
+    mark_least(entries, targets, required, &mut marks, &mut queue)?;
+    Ok(marks)
+}
