@@ -5,3 +5,4 @@ pub mod NumberLaws
 pub mod PartWalks
 pub mod KeptNumbers
 pub mod MarkWalks
+pub mod PushLaws

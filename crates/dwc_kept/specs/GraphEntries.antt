@@ -95,3 +95,17 @@ kept_numbers es ts i = (entry es i).parent ∷ (filter_map (number_at es) (targe
 abbrev pub numbers_from : ℕ → List Bool → List ℕ
 numbers_from i [] = []
 numbers_from i (t ∷ ts) = if t then i ∷ numbers_from (suc i) ts else numbers_from (suc i) ts
+
+-- ---- one more entry
+
+-- an entry is told the number of its last part
+abbrev pub with_last : List GraphEntry → ℕ → ℕ → List GraphEntry
+with_last es p last = set es p (record (entry es p) { last_part = last })
+
+-- an entry behind others, by the number of its parent, or its own
+abbrev pub next_entry : List GraphEntry → ℕ → ℕ → Bool → ℕ → GraphEntry
+next_entry es offset parent is_part first_target = record { offset = offset; parent = parent; first_target = first_target; last_part = length es; previous_part = if is_part then (entry es parent).last_part else length es }
+
+-- Entries with one more behind them.
+abbrev pub with_entry : List GraphEntry → ℕ → ℕ → Bool → ℕ → List GraphEntry
+with_entry es offset parent is_part first_target = if is_part then with_last (es ++ next_entry es offset parent is_part first_target ∷ []) parent (length es) else es ++ next_entry es offset parent is_part first_target ∷ []

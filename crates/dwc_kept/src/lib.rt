@@ -2,8 +2,10 @@
 //! and all that its entries keep.
 #![tactic(auto)]
 
+mod graph;
 mod graph_entry;
 mod laws;
 mod marks;
 
+pub use graph::{EntryGraph, closure};
 pub use laws::{kept_are_least, marks_are_kept};
