@@ -6,3 +6,4 @@ pub mod PartWalks
 pub mod KeptNumbers
 pub mod MarkWalks
 pub mod PushLaws
+pub mod OffsetLaws

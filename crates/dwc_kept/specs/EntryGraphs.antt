@@ -1,5 +1,5 @@
 -- What entries keep, by their numbers in file order. (This project's own rule, of `dwc_base/specs/Kept`.)
-use Rattle.std.specs.Prelude.{◌≡◌, ◌≢◌, AllPairs, Contains, ℕ, ◌<◌, ◌==◌, List, [], length, get_or, map, Bool, false, ◌&&◌, ◌||◌, IsTrue, Option, Some, None}
+use Rattle.std.specs.Prelude.{◌≡◌, ◌≢◌, AllPairs, Contains, ℕ, ◌<◌, ◌==◌, List, [], ◌∷◌, length, get_or, map, if◌then◌else◌, Bool, false, ◌&&◌, ◌||◌, IsTrue, Option, Some, None}
 use Rattle.std.specs.List.{list_any}
 use Rattle.dwc_base.specs.Kept.{Placed, keeps}
 use Rattle.dwc_kept.specs.KeptEntries.{has_place, kept_with}
@@ -62,3 +62,20 @@ SayWhich es some marks = (i : ℕ) (d : Placed) → i < length es → is_marked 
 abbrev pub MarksAreKept : List Placed → List Node → List Placed → List Bool → List Bool → Type 0
 MarksAreKept es ns required flags marks = AllPairs (λ e f. e.entry.offset ≢ f.entry.offset) es → ((e : Placed) → Contains required e → Contains es e) → IsGraphOf es ns → SayWhich es required flags → AreLeastMarks ns flags marks
     → SayWhich es (kept_with es required) marks
+
+-- the offsets that are marked
+abbrev pub marked_of : List ℕ → List Bool → List ℕ
+marked_of [] marks = []
+marked_of (offset ∷ offsets) [] = []
+marked_of (offset ∷ offsets) (m ∷ marks) = if m then offset ∷ marked_of offsets marks else marked_of offsets marks
+
+-- Offsets are those of the least set of entries that holds the required ones and what its entries keep.
+pub record AreKeptOffsets (ns : List Node) (required : List Bool) (offsets : List ℕ) : Type 0 where
+  pub marks : List Bool
+  pub least : AreLeastMarks ns required marks
+  pub marked : offsets ≡ marked_of (map (λ n. n.offset) ns) marks
+
+-- The law: of entries at offsets of their own and their graph, these offsets are those of the entries that are kept with the required ones.
+abbrev pub OffsetsAreKept : List Placed → List Node → List Placed → List Bool → List ℕ → Type 0
+OffsetsAreKept es ns required flags offsets = AllPairs (λ e f. e.entry.offset ≢ f.entry.offset) es → ((e : Placed) → Contains required e → Contains es e) → IsGraphOf es ns → SayWhich es required flags → AreKeptOffsets ns flags offsets
+    → offsets ≡ map (λ e. e.entry.offset) (kept_with es required)

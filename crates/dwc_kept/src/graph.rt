@@ -1,7 +1,7 @@
 //! The graph of what the entries of a module keep.
-ghost use Rattle.std.specs.Prelude.{◌≡◌, ◌++◌, ◌∷◌, [], ◌<◌, ◌≤◌, ◌^◌, ◌&&◌, length, is_some, All, IfSome, IfOk, OnOk, OnErr, IsTrue};
+ghost use Rattle.std.specs.Prelude.{◌≡◌, ◌++◌, ◌∷◌, [], ◌<◌, ◌≤◌, ◌^◌, ◌&&◌, length, map, is_some, All, IfSome, IfOk, OnOk, OnErr, IsTrue};
 ghost use Rattle.dwc_kept.specs.EntryGraphs.{AreLeastMarks};
-ghost use Rattle.dwc_kept.specs.GraphEntries.{with_entry};
+ghost use Rattle.dwc_kept.specs.GraphEntries.{with_entry, AreRising};
 
 use crate::graph_entry::GraphEntry;
 use crate::marks::least_marks;
@@ -43,6 +43,14 @@ impl EntryGraph {
         ensures { result ≡ length self.now }
     {
         self.entries.len()
+    }
+
+    // The entries in file order.
+    pub(crate) fn entries(&self) -> &[GraphEntry]
+        ensures offsets { map (λ e. e.offset) result.now ≡ map (λ n. n.offset) self.now }
+        ensures rising { AreRising result.now }
+    {
+        &self.entries
     }
 
     /// Adds an entry behind the others: its offset in `.debug_info`, the number of its parent, whether it is a part of that parent, and the

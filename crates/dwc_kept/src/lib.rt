@@ -4,8 +4,10 @@
 
 mod graph;
 mod graph_entry;
+mod kept;
 mod laws;
 mod marks;
 
 pub use graph::{EntryGraph, closure};
+pub use kept::Kept;
 pub use laws::{kept_are_least, marks_are_kept};
