@@ -7,3 +7,4 @@ pub mod KeptNumbers
 pub mod MarkWalks
 pub mod PushLaws
 pub mod OffsetLaws
+pub mod KeptOffsets

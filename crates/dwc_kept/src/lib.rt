@@ -10,4 +10,4 @@ mod marks;
 
 pub use graph::{EntryGraph, closure};
 pub use kept::Kept;
-pub use laws::{kept_are_least, marks_are_kept};
+pub use laws::{kept_are_least, marks_are_kept, offsets_are_kept};
