@@ -8,3 +8,7 @@ pub mod MarkWalks
 pub mod PushLaws
 pub mod OffsetLaws
 pub mod KeptOffsets
+pub mod ReadEnds
+pub mod ValueEnds
+pub mod UnitOffsets
+pub mod LastLaws

@@ -1,3 +1,6 @@
 pub mod KeptEntries
 pub mod EntryGraphs
 pub mod GraphEntries
+pub mod UnitOffsets
+pub mod ReadEntries
+pub mod ReadingSeen

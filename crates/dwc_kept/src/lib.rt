@@ -5,8 +5,13 @@
 mod graph;
 mod graph_entry;
 mod kept;
+mod last_at;
 mod laws;
 mod marks;
+mod parts;
+mod reading;
+mod references;
+mod required;
 
 pub use graph::{EntryGraph, closure};
 pub use kept::Kept;

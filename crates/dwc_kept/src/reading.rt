@@ -1,0 +1,119 @@
+//! What is kept of the entries of a module as they are read, one after another.
+ghost use Rattle.std.specs.Prelude.{◌≡◌, ◌<◌, ◌≤◌, ◌||◌, ◌==◌, ◌++◌, ◌∷◌, [], length, map, option_map, OnOk, IsOkUnless, IfSome, All};
+ghost use Rattle.dwc_base.specs.declared.constants.TheConstants.{DW_TAG_namespace};
+ghost use Rattle.dwc_read.specs.declared.fault.ReadFault.TheVariants.{OutOfMemory};
+ghost use Rattle.dwc_read.specs.EntriesSeen.{entry_view};
+ghost use Rattle.dwc_kept.specs.ReadEntries.{ReadSoFar, none_read, last_above, with_last_at, with_entry_read, AreAmong, StandBefore};
+ghost use Rattle.dwc_kept.specs.ReadingSeen.{reading_view};
+
+use crate::graph::EntryGraph;
+use crate::last_at::LastAt;
+use crate::parts::is_part_below;
+use crate::references::name_offsets;
+use crate::required::is_required;
+use dwc_addr::AddressTransform;
+use dwc_base::constants::DW_TAG_namespace;
+use dwc_read::{Entry, ReadFault};
+use std::alloc::{AllocError, Global};
+
+/// What is kept of the entries that were read: their graph, the last entry at each depth, and which of them are required.
+#[derive(Drop)]
+pub(crate) struct Reading {
+    pub graph: EntryGraph,
+    pub lasts: Vec<Option<LastAt>>,
+    pub required: Vec<bool>,
+    // The targets of the entry that is read; a buffer.
+    pub targets: Vec<u32>,
+}
+
+/// Nothing is read yet.
+pub(crate) fn none_read(alloc: Global) -> Reading
+    ensures { reading_view result ≡ none_read }
+{
+    Reading {
+        graph: EntryGraph::new(alloc),
+        lasts: Vec::new(alloc),
+        required: Vec::new(alloc),
+        targets: Vec::new(alloc),
+    }
+}
+
+// The depth of an entry.
+fn depth_of(entry: &Entry<'_>) -> usize
+    ensures { result ≡ (entry_view entry.now).depth }
+{
+    entry.depth as usize
+}
+
+// The last entry above a depth.
+fn last_above(lasts: &[Option<LastAt>], depth: usize) -> Option<LastAt>
+    ensures { result ≡ last_above lasts.now depth }
+{
+    if depth == 0 || depth > lasts.len() {
+        return None;
+    }
+    lasts[depth - 1]
+}
+
+// Makes an entry the last one at a depth.
+fn put_last(lasts: &mut Vec<Option<LastAt>>, depth: usize, last: LastAt) -> Result<(), AllocError>
+    ensures { OnOk result (lasts.new.items ≡ with_last_at lasts.old.items depth last) }
+{
+    while lasts.len() <= depth {
+        lasts.push(None)?;
+    }
+    lasts[depth] = Some(last);
+    Ok(())
+}
+
+// Whether an entry of a depth and a tag is a root or a namespace.
+fn is_outer(depth: usize, tag: u16) -> bool
+    ensures { result ≡ ((depth == 0) || (tag == DW_TAG_namespace)) }
+{
+    depth == 0 || tag == DW_TAG_namespace
+}
+
+// The number of an entry, if there is one.
+fn number_of(last: Option<LastAt>) -> Option<u32>
+    ensures { result ≡ option_map (λ p. p.number) last }
+{
+    match last {
+        None => None,
+        Some(last) => Some(last.number),
+    }
+}
+
+/// Adds an entry of a unit, which stands from an offset up to another.
+///
+/// # Errors
+/// `OutOfMemory` alone.
+pub(crate) fn add_entry(
+    reading: &mut Reading,
+    transform: &AddressTransform,
+    unit: u64,
+    end: u64,
+    entry: &Entry<'_>,
+) -> Result<(), ReadFault>
+    requires among { AreAmong (reading_view reading.old) }
+    requires before { StandBefore (entry_view entry.now).offset (reading_view reading.old) }
+    ensures added { OnOk result (reading_view reading.new ≡ with_entry_read transform.now unit end (entry_view entry.now) (reading_view reading.old)) }
+    ensures memory { IsOkUnless result OutOfMemory }
+{
+    let Ok(offset) = u32::try_from(entry.offset) else {
+        return Err(ReadFault::OutOfMemory);
+    };
+    let Ok(number) = u32::try_from(reading.graph.len()) else {
+        return Err(ReadFault::OutOfMemory);
+    };
+    let depth = depth_of(entry);
+    let parent = last_above(&reading.lasts, depth);
+    name_offsets(unit, end, entry.attrs(), &mut reading.targets)?;
+    let is_part = is_part_below(parent, entry.tag);
+    reading
+        .graph
+        .push(offset, number_of(parent), is_part, &reading.targets)?;
+    let is_outer = is_outer(depth, entry.tag);
+    put_last(&mut reading.lasts, depth, LastAt { number, is_outer })?;
+    reading.required.push(is_required(entry, transform))?;
+    Ok(())
+}
