@@ -12,3 +12,4 @@ pub mod ReadEnds
 pub mod ValueEnds
 pub mod UnitOffsets
 pub mod LastLaws
+pub mod ReadLaws

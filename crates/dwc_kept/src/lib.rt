@@ -12,6 +12,7 @@ mod parts;
 mod reading;
 mod references;
 mod required;
+mod walk;
 
 pub use graph::{EntryGraph, closure};
 pub use kept::Kept;
