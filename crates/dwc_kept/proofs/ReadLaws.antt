@@ -1,5 +1,5 @@
 -- Reading the entries of a unit, and the units of a module, one after another.
-use Rattle.std.proofs.Common.{◌≡◌, ℕ, suc, ◌+◌, ◌<◌, ◌≤◌, ◌⊎◌, List, ◌∷◌, length, get_or, refl, ap, sym, subst, ◌∙◌, inl, inr, arith, Option, Some, None}
+use Rattle.std.proofs.Common.{◌≡◌, ℕ, suc, ◌+◌, ◌^◌, ◌<◌, ◌≤◌, ◌⊎◌, List, ◌∷◌, length, get_or, refl, ap, sym, subst, ◌∙◌, inl, inr, arith, Option, Some, None}
 use Rattle.std.specs.Prelude.{IfSome}
 use Rattle.std.proofs.lemmas.Bool.{cases_eq}
 use Rattle.std.proofs.lemmas.List.{length_push}
@@ -15,7 +15,7 @@ use Rattle.dwc_kept.specs.EntryGraphs.{Node}
 use Rattle.dwc_kept.specs.declared.last_at.LastAt.{LastAt}
 use Rattle.dwc_kept.specs.UnitOffsets.{RiseIn, StandFrom}
 use Rattle.dwc_kept.specs.ReadEntries.{ReadSoFar, none_read, with_entry_read, with_entries_read, with_units_read, AreAmong, StandBefore}
-use Rattle.dwc_kept.specs.ReadingSeen.{HasRead}
+use Rattle.dwc_kept.specs.ReadingSeen.{HasRead, IsRead}
 use Rattle.dwc_kept.proofs.LastLaws.{last-here, last-other}
 use Rattle.dwc_kept.proofs.UnitOffsets.{units-stand}
 
@@ -50,16 +50,18 @@ module _ (fs : List Function) (unit end : ℕ) where
     pub among : AreAmong now
     pub before_next : StandBefore from now
     pub before_end : StandBefore end now
+    pub small : StandBefore (2 ^ 32) now
     pub rise : RiseIn from end left.items
 
-  pub entries-begin : (all : Listing Fault Entry) (first : ReadSoFar) → AreAmong first → StandBefore unit first → unit < end → RiseIn unit end all.items → EntriesSoFar all first all first
-  entries-begin all first among before some rise = record {
+  pub entries-begin : (all : Listing Fault Entry) (first : ReadSoFar) → AreAmong first → StandBefore unit first → StandBefore (2 ^ 32) first → unit < end → RiseIn unit end all.items → EntriesSoFar all first all first
+  entries-begin all first among before small some rise = record {
     from = unit;
     fault = refl;
     rest = refl;
     among = among;
     before_next = before;
     before_end = All-weaker (λ (n : Node). n.offset < unit) (λ n. n.offset < end) (λ n h. omega (arith, h, some)) first.nodes before;
+    small = small;
     rise = rise;
   }
 
@@ -69,8 +71,8 @@ module _ (fs : List Function) (unit end : ℕ) where
       let rise : RiseIn so_far.from end (e ∷ next.items) = subst (λ (l : Listing Fault Entry). RiseIn so_far.from end l.items) is so_far.rise in
       All-weaker (λ (n : Node). n.offset < so_far.from) (λ n. n.offset < e.offset) (λ n h. omega (arith, h, rise.0)) now.nodes so_far.before_next
 
-  pub entries-go : (all : Listing Fault Entry) (first : ReadSoFar) (left next : Listing Fault Entry) (now new : ReadSoFar) (e : Entry) → EntriesSoFar all first left now → left ≡ with_first e next → new ≡ with_entry_read fs unit end e now → EntriesSoFar all first next new
-  entries-go all first left next now new e so_far is read =
+  pub entries-go : (all : Listing Fault Entry) (first : ReadSoFar) (left next : Listing Fault Entry) (now new : ReadSoFar) (e : Entry) → EntriesSoFar all first left now → left ≡ with_first e next → new ≡ with_entry_read fs unit end e now → e.offset < 2 ^ 32 → EntriesSoFar all first next new
+  entries-go all first left next now new e so_far is read small =
       let rise : RiseIn so_far.from end (e ∷ next.items) = subst (λ (l : Listing Fault Entry). RiseIn so_far.from end l.items) is so_far.rise in
       subst (EntriesSoFar all first next) (sym read) (record {
         from = suc e.offset;
@@ -79,13 +81,14 @@ module _ (fs : List Function) (unit end : ℕ) where
         among = entry-among e now so_far.among;
         before_next = entry-before e now (suc e.offset) (All-weaker (λ (n : Node). n.offset < so_far.from) (λ n. n.offset < suc e.offset) (λ n h. omega (arith, h, rise.0)) now.nodes so_far.before_next) (omega arith);
         before_end = entry-before e now end so_far.before_end rise.1;
+        small = entry-before e now (2 ^ 32) so_far.small small;
         rise = rise.2;
       })
 
   pub entries-end : (all : Listing Fault Entry) (first : ReadSoFar) (left : Listing Fault Entry) (now : ReadSoFar) → EntriesSoFar all first left now → left ≡ no_items → (all.fault ≡ None) × HasRead (with_entries_read fs unit end all.items first) end now
   entries-end all first left now so_far is = (
     sym so_far.fault ∙ ap (λ (l : Listing Fault Entry). l.fault) is,
-    record { is = sym (ap (λ (l : Listing Fault Entry). with_entries_read fs unit end l.items now) is) ∙ so_far.rest; among = so_far.among; before = so_far.before_end },
+    record { is = sym (ap (λ (l : Listing Fault Entry). with_entries_read fs unit end l.items now) is) ∙ so_far.rest; among = so_far.among; before = so_far.before_end; small = so_far.small },
   )
 
   pub entries-fault : (all : Listing Fault Entry) (first : ReadSoFar) (left : Listing Fault Entry) (now : ReadSoFar) (fault : Fault) → EntriesSoFar all first left now → left ≡ only_fault fault → all.fault ≡ Some fault
@@ -109,6 +112,7 @@ module _ (fs : List Function) (s : Sections) where
     pub rest : with_units_read fs s left.headers.items now ≡ with_units_read fs s (unit_headers s).items none_read
     pub among : AreAmong now
     pub before : StandBefore from now
+    pub small : StandBefore (2 ^ 32) now
     pub stand : StandFrom s from left.headers.items
 
   pub units-begin : (left : UnitsView) (now : ReadSoFar) → left ≡ record { sections = s; headers = unit_headers s } → now ≡ none_read → UnitsSoFar left now
@@ -120,6 +124,7 @@ module _ (fs : List Function) (s : Sections) where
     rest = refl;
     among = λ depth. tt;
     before = All-nil (λ (n : Node). n.offset < 0);
+    small = All-nil (λ (n : Node). n.offset < 2 ^ 32);
     stand = units-stand s;
   }))
 
@@ -138,13 +143,14 @@ module _ (fs : List Function) (s : Sections) where
     rest = ap (with_units_read fs s new_left.headers.items) read.is ∙ sym (ap (λ (l : Listing Fault UnitHeader). with_units_read fs s l.items now) is) ∙ so_far.rest;
     among = read.among;
     before = read.before;
+    small = read.small;
     stand = (unit-stands left new_left.headers now h so_far is).3;
   }
 
-  pub units-end : (left : UnitsView) (now : ReadSoFar) → UnitsSoFar left now → left.headers ≡ no_items → ((units s).fault ≡ None) × (now ≡ with_units_read fs s (unit_headers s).items none_read)
+  pub units-end : (left : UnitsView) (now : ReadSoFar) → UnitsSoFar left now → left.headers ≡ no_items → ((units s).fault ≡ None) × IsRead (with_units_read fs s (unit_headers s).items none_read) now
   units-end left now so_far is = (
     sym so_far.fault ∙ ap (λ (l : Listing Fault UnitHeader). (units_of_headers s l.items l.fault).fault) is,
-    sym (ap (λ (l : Listing Fault UnitHeader). with_units_read fs s l.items now) is) ∙ so_far.rest,
+    record { is = sym (ap (λ (l : Listing Fault UnitHeader). with_units_read fs s l.items now) is) ∙ so_far.rest; small = so_far.small },
   )
 
   -- a fault of the next header, and one of the next unit's entries, are the first one

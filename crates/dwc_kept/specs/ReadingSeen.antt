@@ -1,5 +1,5 @@
 -- What contracts see of what is kept of entries as they are read.
-use Rattle.std.specs.Prelude.{◌≡◌, ℕ}
+use Rattle.std.specs.Prelude.{◌≡◌, ℕ, ◌^◌}
 use Rattle.dwc_kept.specs.declared.reading.Reading.{Reading}
 use Rattle.dwc_kept.specs.ReadEntries.{ReadSoFar, AreAmong, StandBefore}
 
@@ -11,3 +11,9 @@ pub record HasRead (wanted : ReadSoFar) (end : ℕ) (read : ReadSoFar) : Type 0 
   pub is : read ≡ wanted
   pub among : AreAmong read
   pub before : StandBefore end read
+  pub small : StandBefore (2 ^ 32) read
+
+-- What was read is what was to be read, at offsets of 32 bits.
+pub record IsRead (wanted read : ReadSoFar) : Type 0 where
+  pub is : read ≡ wanted
+  pub small : StandBefore (2 ^ 32) read

@@ -1,5 +1,5 @@
 //! What is kept of the entries of a module as they are read, one after another.
-ghost use Rattle.std.specs.Prelude.{◌≡◌, ◌<◌, ◌≤◌, ◌||◌, ◌==◌, ◌++◌, ◌∷◌, [], length, map, option_map, OnOk, IsOkUnless, IfSome, All};
+ghost use Rattle.std.specs.Prelude.{◌≡◌, ◌^◌, ◌<◌, ◌≤◌, ◌||◌, ◌==◌, ◌++◌, ◌∷◌, [], length, map, option_map, OnOk, IsOkUnless, IfSome, All};
 ghost use Rattle.dwc_base.specs.declared.constants.TheConstants.{DW_TAG_namespace};
 ghost use Rattle.dwc_read.specs.declared.fault.ReadFault.TheVariants.{OutOfMemory};
 ghost use Rattle.dwc_read.specs.EntriesSeen.{entry_view};
@@ -97,6 +97,7 @@ pub(crate) fn add_entry(
     requires among { AreAmong (reading_view reading.old) }
     requires before { StandBefore (entry_view entry.now).offset (reading_view reading.old) }
     ensures added { OnOk result (reading_view reading.new ≡ with_entry_read transform.now unit end (entry_view entry.now) (reading_view reading.old)) }
+    ensures small { OnOk result ((entry_view entry.now).offset < 2 ^ 32) }
     ensures memory { IsOkUnless result OutOfMemory }
 {
     let Ok(offset) = u32::try_from(entry.offset) else {

@@ -1,11 +1,11 @@
 //! Reads the entries of a module once, and keeps what each of them keeps.
-ghost use Rattle.std.specs.Prelude.{◌≡◌, ◌<◌};
+ghost use Rattle.std.specs.Prelude.{◌<◌, ◌^◌};
 ghost use Rattle.dwc_base.specs.Entries.{entries as entries_of};
 ghost use Rattle.dwc_base.specs.Units.{unit_headers};
 ghost use Rattle.dwc_base.specs.Carried.{units as units_of};
 ghost use Rattle.dwc_kept.specs.UnitOffsets.{RiseIn};
 ghost use Rattle.dwc_kept.specs.ReadEntries.{with_entries_read, with_units_read, none_read, AreAmong, StandBefore, ReadsOrTells};
-ghost use Rattle.dwc_kept.specs.ReadingSeen.{reading_view, HasRead};
+ghost use Rattle.dwc_kept.specs.ReadingSeen.{reading_view, HasRead, IsRead};
 
 use crate::reading::{Reading, add_entry, none_read};
 use dwc_addr::AddressTransform;
@@ -22,6 +22,7 @@ fn add_entries(
 ) -> Result<(), ReadFault>
     requires among { AreAmong (reading_view reading.old) }
     requires before { StandBefore unit (reading_view reading.old) }
+    requires small { StandBefore (2 ^ 32) (reading_view reading.old) }
     requires some { unit < end }
     requires rise { RiseIn unit end entries.old.left.items }
     ensures { ReadsOrTells (λ done. HasRead (with_entries_read transform.now unit end entries.old.left.items (reading_view reading.old)) end (reading_view reading.new)) entries.old.left.fault result }
@@ -41,6 +42,7 @@ fn add_unit(
 ) -> Result<(), ReadFault>
     requires among { AreAmong (reading_view reading.old) }
     requires before { StandBefore unit.now.header.offset (reading_view reading.old) }
+    requires small { StandBefore (2 ^ 32) (reading_view reading.old) }
     requires some { unit.now.header.offset < unit.now.header.end }
     requires rise { RiseIn unit.now.header.offset unit.now.header.end (entries_of unit.now.sections unit.now.header).items }
     ensures { ReadsOrTells (λ done. HasRead (with_entries_read transform.now unit.now.header.offset unit.now.header.end (entries_of unit.now.sections unit.now.header).items (reading_view reading.old)) unit.now.header.end (reading_view reading.new)) (entries_of unit.now.sections unit.now.header).fault result }
@@ -57,7 +59,7 @@ pub(crate) fn read_entries(
     sections: Sections<'_>,
     transform: &AddressTransform,
 ) -> Result<Reading, ReadFault>
-    ensures { ReadsOrTells (λ r. reading_view r ≡ with_units_read transform.now sections.entry (unit_headers sections.entry).items none_read) (units_of sections.entry).fault result }
+    ensures { ReadsOrTells (λ r. IsRead (with_units_read transform.now sections.entry (unit_headers sections.entry).items none_read) (reading_view r)) (units_of sections.entry).fault result }
 {
     let mut units = Units::new(sections);
     let mut reading = none_read(alloc);
