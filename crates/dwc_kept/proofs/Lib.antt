@@ -13,3 +13,6 @@ pub mod ValueEnds
 pub mod UnitOffsets
 pub mod LastLaws
 pub mod ReadLaws
+pub mod StandingLaws
+pub mod GraphLaws
+pub mod RequiredLaws

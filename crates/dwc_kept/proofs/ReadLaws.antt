@@ -100,7 +100,7 @@ module _ (fs : List Function) (unit end : ℕ) where
 pub first-unit : (s : Sections) (h : UnitHeader) (hs : List UnitHeader) (last : Option Fault) → (entries s h).fault ≡ None → units_of_headers s (h ∷ hs) last ≡ with_first (record { header = h; entries = (entries s h).items }) (units_of_headers s hs last)
 first-unit s h hs last e = rw e refl
 
-first-fault : (s : Sections) (h : UnitHeader) (hs : List UnitHeader) (last : Option Fault) (fault : Fault) → (entries s h).fault ≡ Some fault → units_of_headers s (h ∷ hs) last ≡ only_fault fault
+pub first-fault : (s : Sections) (h : UnitHeader) (hs : List UnitHeader) (last : Option Fault) (fault : Fault) → (entries s h).fault ≡ Some fault → units_of_headers s (h ∷ hs) last ≡ only_fault fault
 first-fault s h hs last fault e = rw e refl
 
 module _ (fs : List Function) (s : Sections) where

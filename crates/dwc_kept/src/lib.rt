@@ -17,3 +17,4 @@ mod walk;
 pub use graph::{EntryGraph, closure};
 pub use kept::Kept;
 pub use laws::{kept_are_least, marks_are_kept, offsets_are_kept};
+pub use walk::{ModuleGraph, graph_of, kept_entries};

@@ -1,12 +1,15 @@
 //! Reads the entries of a module once, and keeps what each of them keeps.
-ghost use Rattle.std.specs.Prelude.{◌<◌, ◌^◌};
+ghost use Rattle.std.specs.Prelude.{◌≡◌, ◌<◌, ◌^◌};
 ghost use Rattle.dwc_base.specs.Entries.{entries as entries_of};
 ghost use Rattle.dwc_base.specs.Units.{unit_headers};
 ghost use Rattle.dwc_base.specs.Carried.{units as units_of};
 ghost use Rattle.dwc_kept.specs.UnitOffsets.{RiseIn};
 ghost use Rattle.dwc_kept.specs.ReadEntries.{with_entries_read, with_units_read, none_read, AreAmong, StandBefore, ReadsOrTells};
+ghost use Rattle.dwc_kept.specs.ReadGraphs.{IsModuleGraph, kept_offsets};
 ghost use Rattle.dwc_kept.specs.ReadingSeen.{reading_view, HasRead, IsRead};
 
+use crate::graph::EntryGraph;
+use crate::kept::Kept;
 use crate::reading::{Reading, add_entry, none_read};
 use dwc_addr::AddressTransform;
 use dwc_read::{Entries, ReadFault, Sections, Unit, Units};
@@ -67,4 +70,46 @@ pub(crate) fn read_entries(
         add_unit(alloc, &unit, transform, &mut reading)?;
     }
     Ok(reading)
+}
+
+/// The graph of the entries of a module, and for each entry in file order whether it is required.
+#[derive(Drop)]
+pub struct ModuleGraph {
+    pub graph: EntryGraph,
+    pub required: Vec<bool>,
+}
+
+/// The graph of the entries of a module, which are read once, and which of them are required: a subprogram without ranges that
+/// begins in a function with a symbol.
+///
+/// # Errors
+/// `Read` and `Unsupported` for the first fault in the order of reading: of each unit its header, its abbreviation table, and then its
+/// entries. `OutOfMemory` for want of memory.
+pub fn graph_of(
+    alloc: Global,
+    sections: Sections<'_>,
+    transform: &AddressTransform,
+) -> Result<ModuleGraph, ReadFault>
+    ensures { ReadsOrTells (λ m. IsModuleGraph transform.now sections.entry m.graph m.required.items) (units_of sections.entry).fault result }
+{
+    let reading = read_entries(alloc, sections, transform)?;
+    Ok(ModuleGraph {
+        graph: reading.graph,
+        required: reading.required,
+    })
+}
+
+/// The entries of a module that are kept: the least set that holds the required ones and all that its entries keep.
+///
+/// # Errors
+/// As [`graph_of`].
+pub fn kept_entries(
+    alloc: Global,
+    sections: Sections<'_>,
+    transform: &AddressTransform,
+) -> Result<Kept, ReadFault>
+    ensures { ReadsOrTells (λ kept. kept ≡ kept_offsets transform.now sections.entry) (units_of sections.entry).fault result }
+{
+    let read = graph_of(alloc, sections, transform)?;
+    Ok(Kept::new(alloc, &read.graph, &read.required)?)
 }
