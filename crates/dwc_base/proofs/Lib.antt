@@ -41,3 +41,8 @@ pub mod TreesSmall
 pub mod FieldCases
 pub mod WidestCases
 pub mod OutputSmall
+pub mod DraftsOnLiterals
+pub mod TreeInputs
+pub mod ReferenceCases
+pub mod TextCases
+pub mod AttributeCases

@@ -1,7 +1,7 @@
 -- The codes are those of the standard. The definitions name a code by its constant, so that a wrong number would be wrong in
 -- the program and in the definitions alike; here each stands beside the number that its table gives. (DWARF 5, section 7.)
 use Rattle.std.proofs.Common.{◌≡◌, ℕ, List, [], ◌∷◌, map, refl}
-use Rattle.dwc_base.specs.declared.constants.TheConstants.{DW_AT_addr_base, DW_AT_allocated, DW_AT_associated, DW_AT_bit_size, DW_AT_bit_stride, DW_AT_byte_size, DW_AT_byte_stride, DW_AT_count, DW_AT_data_location, DW_AT_data_member_location, DW_AT_frame_base, DW_AT_high_pc, DW_AT_location, DW_AT_loclists_base, DW_AT_low_pc, DW_AT_lower_bound, DW_AT_name, DW_AT_ranges, DW_AT_return_addr, DW_AT_rnglists_base, DW_AT_segment, DW_AT_sibling, DW_AT_start_scope, DW_AT_static_link, DW_AT_stmt_list, DW_AT_str_offsets_base, DW_AT_string_length, DW_AT_upper_bound, DW_AT_use_location, DW_AT_vtable_elem_location, DW_CHILDREN_no, DW_CHILDREN_yes, DW_FORM_addr, DW_FORM_addrx, DW_FORM_addrx1, DW_FORM_addrx2, DW_FORM_addrx3, DW_FORM_addrx4, DW_FORM_block, DW_FORM_block1, DW_FORM_block2, DW_FORM_block4, DW_FORM_data1, DW_FORM_data16, DW_FORM_data2, DW_FORM_data4, DW_FORM_data8, DW_FORM_exprloc, DW_FORM_flag, DW_FORM_flag_present, DW_FORM_implicit_const, DW_FORM_indirect, DW_FORM_line_strp, DW_FORM_loclistx, DW_FORM_ref1, DW_FORM_ref2, DW_FORM_ref4, DW_FORM_ref8, DW_FORM_ref_addr, DW_FORM_ref_sig8, DW_FORM_ref_sup4, DW_FORM_ref_sup8, DW_FORM_ref_udata, DW_FORM_rnglistx, DW_FORM_sdata, DW_FORM_sec_offset, DW_FORM_string, DW_FORM_strp, DW_FORM_strp_sup, DW_FORM_strx, DW_FORM_strx1, DW_FORM_strx2, DW_FORM_strx3, DW_FORM_strx4, DW_FORM_udata, DW_LNCT_directory_index, DW_LNCT_path, DW_LNE_define_file, DW_LNE_end_sequence, DW_LNE_set_address, DW_LNE_set_discriminator, DW_LNS_advance_line, DW_LNS_advance_pc, DW_LNS_const_add_pc, DW_LNS_copy, DW_LNS_fixed_advance_pc, DW_LNS_negate_stmt, DW_LNS_set_basic_block, DW_LNS_set_column, DW_LNS_set_epilogue_begin, DW_LNS_set_file, DW_LNS_set_isa, DW_LNS_set_prologue_end, DW_TAG_array_type, DW_TAG_base_type, DW_TAG_call_site, DW_TAG_call_site_parameter, DW_TAG_catch_block, DW_TAG_compile_unit, DW_TAG_const_type, DW_TAG_constant, DW_TAG_entry_point, DW_TAG_enumerator, DW_TAG_formal_parameter, DW_TAG_inheritance, DW_TAG_inlined_subroutine, DW_TAG_label, DW_TAG_lexical_block, DW_TAG_member, DW_TAG_namespace, DW_TAG_pointer_type, DW_TAG_reference_type, DW_TAG_structure_type, DW_TAG_subprogram, DW_TAG_subrange_type, DW_TAG_template_type_parameter, DW_TAG_template_value_parameter, DW_TAG_try_block, DW_TAG_unspecified_parameters, DW_TAG_variable, DW_TAG_variant, DW_TAG_variant_part, DW_TAG_with_stmt, DW_UT_compile, DW_UT_partial, DW_UT_skeleton, DW_UT_split_compile, DW_UT_split_type, DW_UT_type}
+use Rattle.dwc_base.specs.declared.constants.TheConstants.{DW_AT_GNU_locviews, DW_AT_addr_base, DW_AT_call_file, DW_AT_decl_file, DW_AT_dwo_name, DW_AT_endianity, DW_AT_macro_info, DW_AT_macros, DW_END_little, DW_AT_allocated, DW_AT_associated, DW_AT_bit_size, DW_AT_bit_stride, DW_AT_byte_size, DW_AT_byte_stride, DW_AT_count, DW_AT_data_location, DW_AT_data_member_location, DW_AT_frame_base, DW_AT_high_pc, DW_AT_location, DW_AT_loclists_base, DW_AT_low_pc, DW_AT_lower_bound, DW_AT_name, DW_AT_ranges, DW_AT_return_addr, DW_AT_rnglists_base, DW_AT_segment, DW_AT_sibling, DW_AT_start_scope, DW_AT_static_link, DW_AT_stmt_list, DW_AT_str_offsets_base, DW_AT_string_length, DW_AT_upper_bound, DW_AT_use_location, DW_AT_vtable_elem_location, DW_CHILDREN_no, DW_CHILDREN_yes, DW_FORM_addr, DW_FORM_addrx, DW_FORM_addrx1, DW_FORM_addrx2, DW_FORM_addrx3, DW_FORM_addrx4, DW_FORM_block, DW_FORM_block1, DW_FORM_block2, DW_FORM_block4, DW_FORM_data1, DW_FORM_data16, DW_FORM_data2, DW_FORM_data4, DW_FORM_data8, DW_FORM_exprloc, DW_FORM_flag, DW_FORM_flag_present, DW_FORM_implicit_const, DW_FORM_indirect, DW_FORM_line_strp, DW_FORM_loclistx, DW_FORM_ref1, DW_FORM_ref2, DW_FORM_ref4, DW_FORM_ref8, DW_FORM_ref_addr, DW_FORM_ref_sig8, DW_FORM_ref_sup4, DW_FORM_ref_sup8, DW_FORM_ref_udata, DW_FORM_rnglistx, DW_FORM_sdata, DW_FORM_sec_offset, DW_FORM_string, DW_FORM_strp, DW_FORM_strp_sup, DW_FORM_strx, DW_FORM_strx1, DW_FORM_strx2, DW_FORM_strx3, DW_FORM_strx4, DW_FORM_udata, DW_LNCT_directory_index, DW_LNCT_path, DW_LNE_define_file, DW_LNE_end_sequence, DW_LNE_set_address, DW_LNE_set_discriminator, DW_LNS_advance_line, DW_LNS_advance_pc, DW_LNS_const_add_pc, DW_LNS_copy, DW_LNS_fixed_advance_pc, DW_LNS_negate_stmt, DW_LNS_set_basic_block, DW_LNS_set_column, DW_LNS_set_epilogue_begin, DW_LNS_set_file, DW_LNS_set_isa, DW_LNS_set_prologue_end, DW_TAG_array_type, DW_TAG_base_type, DW_TAG_call_site, DW_TAG_call_site_parameter, DW_TAG_catch_block, DW_TAG_compile_unit, DW_TAG_const_type, DW_TAG_constant, DW_TAG_entry_point, DW_TAG_enumerator, DW_TAG_formal_parameter, DW_TAG_inheritance, DW_TAG_inlined_subroutine, DW_TAG_label, DW_TAG_lexical_block, DW_TAG_member, DW_TAG_namespace, DW_TAG_pointer_type, DW_TAG_reference_type, DW_TAG_structure_type, DW_TAG_subprogram, DW_TAG_subrange_type, DW_TAG_template_type_parameter, DW_TAG_template_value_parameter, DW_TAG_try_block, DW_TAG_unspecified_parameters, DW_TAG_variable, DW_TAG_variant, DW_TAG_variant_part, DW_TAG_with_stmt, DW_UT_compile, DW_UT_partial, DW_UT_skeleton, DW_UT_split_compile, DW_UT_split_type, DW_UT_type}
 
 -- the numbers on the left are those on the right
 abbrev AreStandard : List (ℕ × ℕ) → Type 0
@@ -28,7 +28,9 @@ attribute_names : AreStandard (
     ∷ (DW_AT_frame_base, 0x40) ∷ (DW_AT_segment, 0x46) ∷ (DW_AT_static_link, 0x48) ∷ (DW_AT_use_location, 0x4A)
     ∷ (DW_AT_vtable_elem_location, 0x4D) ∷ (DW_AT_allocated, 0x4E) ∷ (DW_AT_associated, 0x4F) ∷ (DW_AT_data_location, 0x50)
     ∷ (DW_AT_byte_stride, 0x51) ∷ (DW_AT_ranges, 0x55) ∷ (DW_AT_str_offsets_base, 0x72) ∷ (DW_AT_addr_base, 0x73)
-    ∷ (DW_AT_rnglists_base, 0x74) ∷ (DW_AT_loclists_base, 0x8C) ∷ [])
+    ∷ (DW_AT_rnglists_base, 0x74) ∷ (DW_AT_loclists_base, 0x8C) ∷ (DW_AT_decl_file, 0x3A) ∷ (DW_AT_macro_info, 0x43)
+    ∷ (DW_AT_call_file, 0x58) ∷ (DW_AT_endianity, 0x65) ∷ (DW_AT_dwo_name, 0x76) ∷ (DW_AT_macros, 0x79)
+    ∷ (DW_AT_GNU_locviews, 0x2137) ∷ [])
 attribute_names = refl
 
 -- forms (table 7.6)
@@ -73,3 +75,8 @@ content_types = refl
 children_bytes : AreStandard (
     (DW_CHILDREN_no, 0x00) ∷ (DW_CHILDREN_yes, 0x01) ∷ [])
 children_bytes = refl
+
+-- the byte orders of a base type (table 7.17)
+byte_orders : AreStandard (
+    (DW_END_little, 0x02) ∷ [])
+byte_orders = refl

@@ -33,3 +33,12 @@ pub mod Fields
 pub mod OutputForm
 pub mod WidestTrees
 pub mod OutputCarried
+pub mod Drafts
+pub mod Targets
+pub mod KeptEntries
+pub mod KeptModules
+pub mod Clones
+pub mod CarriedDrafts
+pub mod DraftForests
+pub mod ReachedEntries
+pub mod BuiltEntries

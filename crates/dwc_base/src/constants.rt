@@ -93,9 +93,13 @@ pub const DW_AT_upper_bound: u16 = 0x2f;
 
 pub const DW_AT_count: u16 = 0x37;
 
+pub const DW_AT_decl_file: u16 = 0x3a;
+
 pub const DW_AT_data_member_location: u16 = 0x38;
 
 pub const DW_AT_frame_base: u16 = 0x40;
+
+pub const DW_AT_macro_info: u16 = 0x43;
 
 pub const DW_AT_segment: u16 = 0x46;
 
@@ -115,13 +119,27 @@ pub const DW_AT_byte_stride: u16 = 0x51;
 
 pub const DW_AT_ranges: u16 = 0x55;
 
+pub const DW_AT_call_file: u16 = 0x58;
+
+pub const DW_AT_endianity: u16 = 0x65;
+
 pub const DW_AT_str_offsets_base: u16 = 0x72;
 
 pub const DW_AT_addr_base: u16 = 0x73;
 
 pub const DW_AT_rnglists_base: u16 = 0x74;
 
+pub const DW_AT_dwo_name: u16 = 0x76;
+
+pub const DW_AT_macros: u16 = 0x79;
+
 pub const DW_AT_loclists_base: u16 = 0x8c;
+
+// The one of these that is a vendor's.
+pub const DW_AT_GNU_locviews: u16 = 0x2137;
+
+// The byte orders of a base type. (Table 7.17.)
+pub const DW_END_little: u8 = 0x02;
 
 // Forms. (Table 7.6.)
 pub const DW_FORM_addr: u16 = 0x01;

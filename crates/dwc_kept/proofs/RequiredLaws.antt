@@ -7,7 +7,7 @@ use Rattle.dwc_base.specs.Sections.{Sections}
 use Rattle.dwc_base.specs.Functions.{Function}
 use Rattle.dwc_base.specs.Carried.{placed_entries, units}
 use Rattle.dwc_base.specs.Kept.{Placed, is_required}
-use Rattle.dwc_kept.specs.KeptEntries.{kept_with, has_place}
+use Rattle.dwc_base.specs.KeptEntries.{kept_with, has_place}
 use Rattle.dwc_kept.specs.EntryGraphs.{Node, SayWhich, AreKeptOffsets}
 use Rattle.dwc_kept.specs.ReadGraphs.{IsModuleGraph, kept_offsets}
 use Rattle.dwc_kept.proofs.InLists.{at-in, contains-in, in-contains, in-filter, filter-in, distinct-same}

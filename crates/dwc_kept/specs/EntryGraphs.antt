@@ -2,7 +2,7 @@
 use Rattle.std.specs.Prelude.{◌≡◌, ◌≢◌, AllPairs, Contains, ℕ, ◌<◌, ◌==◌, List, [], ◌∷◌, length, get_or, map, if◌then◌else◌, Bool, false, ◌&&◌, ◌||◌, IsTrue, Option, Some, None}
 use Rattle.std.specs.List.{list_any}
 use Rattle.dwc_base.specs.Kept.{Placed, keeps}
-use Rattle.dwc_kept.specs.KeptEntries.{has_place, kept_with}
+use Rattle.dwc_base.specs.KeptEntries.{has_place, kept_with}
 
 -- An entry: its offset in `.debug_info`, the number of its parent, the offsets that its references name, and whether it is a part of
 -- its parent.

@@ -1,4 +1,3 @@
-pub mod KeptEntries
 pub mod EntryGraphs
 pub mod GraphEntries
 pub mod UnitOffsets

@@ -1,0 +1,18 @@
+-- The definitions that stay shut, as a set: a proof that computes on literals names it on its `unfolding` line.
+use Rattle.std.proofs.Common.{ℕ}
+use Rattle.dwc_base.proofs.OnLiterals.{lines_on_literals}
+use Rattle.dwc_base.specs.Texts.{text_elsewhere, text_named, path_text}
+use Rattle.dwc_base.specs.Indexed.{root_offsets, offset_of_root, index_base, address_from, address_named, texts_of_unit}
+use Rattle.dwc_base.specs.Targets.{target_of, entry_begun_at}
+use Rattle.dwc_base.specs.KeptEntries.{kept_with}
+use Rattle.dwc_base.specs.KeptModules.{kept_module}
+use Rattle.dwc_base.specs.Clones.{value_becomes, bound_becomes, attribute_becomes, attributes_become, attributes_made, entry_refusals}
+use Rattle.dwc_base.specs.CarriedDrafts.{source_of, carried_drafts}
+use Rattle.dwc_base.specs.ReachedEntries.{info_refusals, kept_refusals, module_refusals}
+use Rattle.dwc_base.specs.BuiltEntries.{function_begun}
+use Rattle.dwc_base.specs.DraftForests.{forest}
+use Rattle.dwc_base.specs.TreeReading.{value_said, unit_said, trees}
+
+unfoldable pub drafts_on_literals : ℕ
+unfolding lines_on_literals text_elsewhere text_named path_text root_offsets offset_of_root index_base address_from address_named texts_of_unit target_of entry_begun_at kept_with kept_module value_becomes bound_becomes attribute_becomes attributes_become attributes_made entry_refusals source_of carried_drafts info_refusals kept_refusals module_refusals function_begun forest value_said unit_said trees
+drafts_on_literals = 0
