@@ -12,7 +12,7 @@ use Rattle.dwc_base.proofs.OnLiterals.{lines_on_literals}
 use Rattle.dwc_base.proofs.Readings.{three_sections}
 
 abbrev pub table : List ℕ → Result LineTable Fault
-table bytes = line_table (three_sections [] [] bytes) 4 0
+table bytes = line_table (three_sections [] [] bytes) 4 8 0
 
 abbrev pub segment : ℕ → List Row → Option ℕ → Segment
 segment start rows end = record { start = Constant start; rows = rows; end = end }

@@ -31,7 +31,7 @@ segments_read (Ok t) = segments t
 abbrev pub segments_small : List Segment
 segments_small = record { start = Constant 2; rows = at_line 0 1 ∷ at_line 3 2 ∷ at_line 8 3 ∷ []; end = Some 11 } ∷ []
 
-rows-small : segments_read (line_table sections_small 4 0) ≡ segments_small
+rows-small : segments_read (line_table sections_small 4 8 0) ≡ segments_small
 unfolding lines_on_literals
 rows-small = refl
 
@@ -66,11 +66,11 @@ row-small = refl
 abbrev pub line_below_start : List ℕ
 line_below_start = 0x30 ∷ 0x00 ∷ 0x00 ∷ 0x00 ∷ 0x04 ∷ 0x00 ∷ 0x1B ∷ 0x00 ∷ 0x00 ∷ 0x00 ∷ 0x01 ∷ 0x01 ∷ 0x01 ∷ 0xFB ∷ 0x0E ∷ 0x0D ∷ 0x00 ∷ 0x01 ∷ 0x01 ∷ 0x01 ∷ 0x01 ∷ 0x00 ∷ 0x00 ∷ 0x00 ∷ 0x01 ∷ 0x00 ∷ 0x00 ∷ 0x01 ∷ 0x00 ∷ 0x61 ∷ 0x2E ∷ 0x63 ∷ 0x00 ∷ 0x00 ∷ 0x00 ∷ 0x00 ∷ 0x00 ∷ 0x00 ∷ 0x05 ∷ 0x02 ∷ 0x06 ∷ 0x00 ∷ 0x00 ∷ 0x00 ∷ 0x03 ∷ 0x08 ∷ 0x01 ∷ 0x02 ∷ 0x07 ∷ 0x00 ∷ 0x01 ∷ 0x01 ∷ []
 
-rows-below_start : segments_read (line_table (three_sections abbreviations_small info_small line_below_start) 4 0) ≡ record { start = Constant 6; rows = at_line 0 9 ∷ []; end = Some 7 } ∷ []
+rows-below_start : segments_read (line_table (three_sections abbreviations_small info_small line_below_start) 4 8 0) ≡ record { start = Constant 6; rows = at_line 0 9 ∷ []; end = Some 7 } ∷ []
 unfolding lines_on_literals
 rows-below_start = refl
 
-bytes-below_start : map (λ q. lines_at q (0 ∷ 5 ∷ 14 ∷ 15 ∷ 29 ∷ [])) (filter (is_carried_segment (function_small ∷ [])) (segments_read (line_table (three_sections abbreviations_small info_small line_below_start) 4 0))) ≡ (9 ∷ 9 ∷ 9 ∷ 9 ∷ 9 ∷ []) ∷ []
+bytes-below_start : map (λ q. lines_at q (0 ∷ 5 ∷ 14 ∷ 15 ∷ 29 ∷ [])) (filter (is_carried_segment (function_small ∷ [])) (segments_read (line_table (three_sections abbreviations_small info_small line_below_start) 4 8 0))) ≡ (9 ∷ 9 ∷ 9 ∷ 9 ∷ 9 ∷ []) ∷ []
 unfolding lines_on_literals
 bytes-below_start = refl
 
@@ -78,11 +78,11 @@ bytes-below_start = refl
 abbrev pub line_same_offset : List ℕ
 line_same_offset = 0x3B ∷ 0x00 ∷ 0x00 ∷ 0x00 ∷ 0x04 ∷ 0x00 ∷ 0x1B ∷ 0x00 ∷ 0x00 ∷ 0x00 ∷ 0x01 ∷ 0x01 ∷ 0x01 ∷ 0xFB ∷ 0x0E ∷ 0x0D ∷ 0x00 ∷ 0x01 ∷ 0x01 ∷ 0x01 ∷ 0x01 ∷ 0x00 ∷ 0x00 ∷ 0x00 ∷ 0x01 ∷ 0x00 ∷ 0x00 ∷ 0x01 ∷ 0x00 ∷ 0x61 ∷ 0x2E ∷ 0x63 ∷ 0x00 ∷ 0x00 ∷ 0x00 ∷ 0x00 ∷ 0x00 ∷ 0x00 ∷ 0x05 ∷ 0x02 ∷ 0x02 ∷ 0x00 ∷ 0x00 ∷ 0x00 ∷ 0x01 ∷ 0x02 ∷ 0x03 ∷ 0x03 ∷ 0x01 ∷ 0x01 ∷ 0x03 ∷ 0x03 ∷ 0x01 ∷ 0x02 ∷ 0x05 ∷ 0x03 ∷ 0x7E ∷ 0x01 ∷ 0x02 ∷ 0x03 ∷ 0x00 ∷ 0x01 ∷ 0x01 ∷ []
 
-rows-same_offset : segments_read (line_table (three_sections abbreviations_small info_small line_same_offset) 4 0) ≡ record { start = Constant 2; rows = at_line 0 1 ∷ at_line 3 2 ∷ at_line 3 5 ∷ at_line 8 3 ∷ []; end = Some 11 } ∷ []
+rows-same_offset : segments_read (line_table (three_sections abbreviations_small info_small line_same_offset) 4 8 0) ≡ record { start = Constant 2; rows = at_line 0 1 ∷ at_line 3 2 ∷ at_line 3 5 ∷ at_line 8 3 ∷ []; end = Some 11 } ∷ []
 unfolding lines_on_literals
 rows-same_offset = refl
 
-bytes-same_offset : map (λ q. lines_at q (0 ∷ 5 ∷ 14 ∷ 15 ∷ 29 ∷ [])) (filter (is_carried_segment (function_small ∷ [])) (segments_read (line_table (three_sections abbreviations_small info_small line_same_offset) 4 0))) ≡ (5 ∷ 5 ∷ 5 ∷ 3 ∷ 3 ∷ []) ∷ []
+bytes-same_offset : map (λ q. lines_at q (0 ∷ 5 ∷ 14 ∷ 15 ∷ 29 ∷ [])) (filter (is_carried_segment (function_small ∷ [])) (segments_read (line_table (three_sections abbreviations_small info_small line_same_offset) 4 8 0))) ≡ (5 ∷ 5 ∷ 5 ∷ 3 ∷ 3 ∷ []) ∷ []
 unfolding lines_on_literals
 bytes-same_offset = refl
 
@@ -90,11 +90,11 @@ bytes-same_offset = refl
 abbrev pub line_unlinked : List ℕ
 line_unlinked = 0x3B ∷ 0x00 ∷ 0x00 ∷ 0x00 ∷ 0x04 ∷ 0x00 ∷ 0x1B ∷ 0x00 ∷ 0x00 ∷ 0x00 ∷ 0x01 ∷ 0x01 ∷ 0x01 ∷ 0xFB ∷ 0x0E ∷ 0x0D ∷ 0x00 ∷ 0x01 ∷ 0x01 ∷ 0x01 ∷ 0x01 ∷ 0x00 ∷ 0x00 ∷ 0x00 ∷ 0x01 ∷ 0x00 ∷ 0x00 ∷ 0x01 ∷ 0x00 ∷ 0x61 ∷ 0x2E ∷ 0x63 ∷ 0x00 ∷ 0x00 ∷ 0x00 ∷ 0x00 ∷ 0x00 ∷ 0x00 ∷ 0x05 ∷ 0x02 ∷ 0x00 ∷ 0x00 ∷ 0x00 ∷ 0x00 ∷ 0x01 ∷ 0x02 ∷ 0x05 ∷ 0x00 ∷ 0x01 ∷ 0x01 ∷ 0x00 ∷ 0x05 ∷ 0x02 ∷ 0xFF ∷ 0xFF ∷ 0xFF ∷ 0xFF ∷ 0x01 ∷ 0x02 ∷ 0x05 ∷ 0x00 ∷ 0x01 ∷ 0x01 ∷ []
 
-rows-unlinked : segments_read (line_table (three_sections abbreviations_small info_small line_unlinked) 4 0) ≡ record { start = Constant 0; rows = at_line 0 1 ∷ []; end = Some 5 } ∷ record { start = Constant 0xFFFFFFFF; rows = at_line 0 1 ∷ []; end = Some 5 } ∷ []
+rows-unlinked : segments_read (line_table (three_sections abbreviations_small info_small line_unlinked) 4 8 0) ≡ record { start = Constant 0; rows = at_line 0 1 ∷ []; end = Some 5 } ∷ record { start = Constant 0xFFFFFFFF; rows = at_line 0 1 ∷ []; end = Some 5 } ∷ []
 unfolding lines_on_literals
 rows-unlinked = refl
 
-bytes-unlinked : filter (is_carried_segment (function_small ∷ [])) (segments_read (line_table (three_sections abbreviations_small info_small line_unlinked) 4 0)) ≡ []
+bytes-unlinked : filter (is_carried_segment (function_small ∷ [])) (segments_read (line_table (three_sections abbreviations_small info_small line_unlinked) 4 8 0)) ≡ []
 unfolding lines_on_literals
 bytes-unlinked = refl
 
@@ -102,15 +102,15 @@ bytes-unlinked = refl
 abbrev pub line_cut : List ℕ
 line_cut = 0x38 ∷ 0x00 ∷ 0x00 ∷ 0x00 ∷ 0x04 ∷ 0x00 ∷ 0x1B ∷ 0x00 ∷ 0x00 ∷ 0x00 ∷ 0x01 ∷ 0x01 ∷ 0x01 ∷ 0xFB ∷ 0x0E ∷ 0x0D ∷ 0x00 ∷ 0x01 ∷ 0x01 ∷ 0x01 ∷ 0x01 ∷ 0x00 ∷ 0x00 ∷ 0x00 ∷ 0x01 ∷ 0x00 ∷ 0x00 ∷ 0x01 ∷ 0x00 ∷ 0x61 ∷ 0x2E ∷ 0x63 ∷ 0x00 ∷ 0x00 ∷ 0x00 ∷ 0x00 ∷ 0x00 ∷ 0x00 ∷ 0x05 ∷ 0x02 ∷ 0x02 ∷ 0x00 ∷ 0x00 ∷ 0x00 ∷ 0x01 ∷ 0x00 ∷ 0x05 ∷ 0x02 ∷ 0x07 ∷ 0x00 ∷ 0x00 ∷ 0x00 ∷ 0x03 ∷ 0x03 ∷ 0x01 ∷ 0x02 ∷ 0x03 ∷ 0x00 ∷ 0x01 ∷ 0x01 ∷ []
 
-rows-cut : segments_read (line_table (three_sections abbreviations_small info_small line_cut) 4 0) ≡ record { start = Constant 2; rows = at_line 0 1 ∷ []; end = None } ∷ record { start = Constant 7; rows = at_line 0 4 ∷ []; end = Some 3 } ∷ []
+rows-cut : segments_read (line_table (three_sections abbreviations_small info_small line_cut) 4 8 0) ≡ record { start = Constant 2; rows = at_line 0 1 ∷ []; end = None } ∷ record { start = Constant 7; rows = at_line 0 4 ∷ []; end = Some 3 } ∷ []
 unfolding lines_on_literals
 rows-cut = refl
 
-bytes-cut : map (λ q. lines_at q (0 ∷ 5 ∷ 14 ∷ 15 ∷ 29 ∷ [])) (filter (is_carried_segment (function_small ∷ [])) (segments_read (line_table (three_sections abbreviations_small info_small line_cut) 4 0))) ≡ (1 ∷ 1 ∷ 1 ∷ 1 ∷ 1 ∷ []) ∷ (4 ∷ 4 ∷ 4 ∷ 4 ∷ 4 ∷ []) ∷ []
+bytes-cut : map (λ q. lines_at q (0 ∷ 5 ∷ 14 ∷ 15 ∷ 29 ∷ [])) (filter (is_carried_segment (function_small ∷ [])) (segments_read (line_table (three_sections abbreviations_small info_small line_cut) 4 8 0))) ≡ (1 ∷ 1 ∷ 1 ∷ 1 ∷ 1 ∷ []) ∷ (4 ∷ 4 ∷ 4 ∷ 4 ∷ 4 ∷ []) ∷ []
 unfolding lines_on_literals
 bytes-cut = refl
 
 -- a table cut short cannot be read
-cut-short : line_table (three_sections abbreviations_small info_small (0x38 ∷ 0 ∷ 0 ∷ 0 ∷ 4 ∷ 0 ∷ 0x1B ∷ [])) 4 0 ≡ Err (unreadable LineTableRead Line 0)
+cut-short : line_table (three_sections abbreviations_small info_small (0x38 ∷ 0 ∷ 0 ∷ 0 ∷ 4 ∷ 0 ∷ 0x1B ∷ [])) 4 8 0 ≡ Err (unreadable LineTableRead Line 0)
 unfolding lines_on_literals
 cut-short = refl

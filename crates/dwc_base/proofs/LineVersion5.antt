@@ -5,8 +5,8 @@ use Rattle.std.specs.Prelude.{Option, Result}
 use Rattle.dwc_base.specs.declared.records.Address.TheVariants.{Constant}
 use Rattle.dwc_base.specs.declared.records.Endian.TheVariants.{Little}
 use Rattle.dwc_base.specs.declared.faults.What.TheVariants.{LineTable as LineTableRead}
-use Rattle.dwc_base.specs.declared.faults.Kind.TheVariants.{AddressSize, NotBuilt, Operations, SegmentSelector, Supplementary}
-use Rattle.dwc_base.specs.declared.section_name.SectionName.TheVariants.{Line, LineStr, Str}
+use Rattle.dwc_base.specs.declared.faults.Kind.TheVariants.{AddressSize, Operations, SegmentSelector, Supplementary}
+use Rattle.dwc_base.specs.declared.section_name.SectionName.TheVariants.{Line, LineStr, Str, StrOffsets}
 use Rattle.dwc_base.specs.Sections.{Sections, Fault, unreadable, unsupported}
 use Rattle.dwc_base.specs.LineRows.{LineTable, line_table, Row, SourceFile}
 use Rattle.dwc_base.specs.LineFiles.{has_all_files}
@@ -14,9 +14,9 @@ use Rattle.dwc_base.proofs.LineTables.{segments_read}
 use Rattle.dwc_base.proofs.OnLiterals.{lines_on_literals}
 
 -- `.debug_str` has an empty text at 0, `a.c` at 1 and `d` at 5; `.debug_line_str` has `/w` at 0, `e` at 3, and at 5 a
--- text without an end
+-- text without an end; from 8 on the offsets of `.debug_str` by an index are 1 and 200
 abbrev sections : List ℕ → Sections
-sections bytes = record { order = Little; bytes = λ name. elim name [ Str ↦ (0x00 ∷ 0x61 ∷ 0x2E ∷ 0x63 ∷ 0x00 ∷ 0x64 ∷ 0x00 ∷ []) | LineStr ↦ (0x2F ∷ 0x77 ∷ 0x00 ∷ 0x65 ∷ 0x00 ∷ 0x62 ∷ []) | Line ↦ bytes | _ ↦ [] ]; relocations = λ name. [] }
+sections bytes = record { order = Little; bytes = λ name. elim name [ Str ↦ (0x00 ∷ 0x61 ∷ 0x2E ∷ 0x63 ∷ 0x00 ∷ 0x64 ∷ 0x00 ∷ []) | LineStr ↦ (0x2F ∷ 0x77 ∷ 0x00 ∷ 0x65 ∷ 0x00 ∷ 0x62 ∷ []) | StrOffsets ↦ (0xFF ∷ 0xFF ∷ 0xFF ∷ 0xFF ∷ 0xFF ∷ 0xFF ∷ 0xFF ∷ 0xFF ∷ 0x01 ∷ 0x00 ∷ 0x00 ∷ 0x00 ∷ 0xC8 ∷ 0x00 ∷ 0x00 ∷ 0x00 ∷ []) | Line ↦ bytes | _ ↦ [] ]; relocations = λ name. [] }
 
 -- a number below 256 in four bytes
 abbrev four : ℕ → List ℕ
@@ -39,7 +39,7 @@ row_of_file n = 0x00 ∷ 0x05 ∷ 0x02 ∷ 0x02 ∷ 0x00 ∷ 0x00 ∷ 0x00 ∷ 0
 
 -- the table of some bytes
 abbrev table_of_bytes : List ℕ → Result LineTable Fault
-table_of_bytes bytes = line_table (sections bytes) 4 0
+table_of_bytes bytes = line_table (sections bytes) 4 8 0
 
 -- the table of directories and files
 abbrev table : List ℕ → Result LineTable Fault
@@ -350,33 +350,30 @@ other-supplementary : table (0x00 ∷ 0x00 ∷ 0x02 ∷ 0x01 ∷ 0x08 ∷ 0x05 �
 unfolding lines_on_literals
 other-supplementary = refl
 
--- a path by the index of a text
-path-strx : table (0x00 ∷ 0x00 ∷ 0x01 ∷ 0x01 ∷ 0x1A ∷ 0x01 ∷ 0x00 ∷ []) ≡ Err (unsupported NotBuilt 0)
+-- a path by the index of a text, in each form
+path-strx : HasNames (0x00 ∷ 0x00 ∷ 0x01 ∷ 0x01 ∷ 0x1A ∷ 0x01 ∷ 0x00 ∷ []) [] ((0, 0x61 ∷ 0x2E ∷ 0x63 ∷ []) ∷ [])
 unfolding lines_on_literals
 path-strx = refl
 
--- the same of so many bytes
-path-strx1 : table (0x00 ∷ 0x00 ∷ 0x01 ∷ 0x01 ∷ 0x25 ∷ 0x01 ∷ 0x00 ∷ []) ≡ Err (unsupported NotBuilt 0)
+path-strx1 : HasNames (0x00 ∷ 0x00 ∷ 0x01 ∷ 0x01 ∷ 0x25 ∷ 0x01 ∷ 0x00 ∷ []) [] ((0, 0x61 ∷ 0x2E ∷ 0x63 ∷ []) ∷ [])
 unfolding lines_on_literals
 path-strx1 = refl
 
--- the same of so many bytes
-path-strx2 : table (0x00 ∷ 0x00 ∷ 0x01 ∷ 0x01 ∷ 0x26 ∷ 0x01 ∷ 0x00 ∷ 0x00 ∷ []) ≡ Err (unsupported NotBuilt 0)
-unfolding lines_on_literals
-path-strx2 = refl
-
--- the same of so many bytes
-path-strx3 : table (0x00 ∷ 0x00 ∷ 0x01 ∷ 0x01 ∷ 0x27 ∷ 0x01 ∷ 0x00 ∷ 0x00 ∷ 0x00 ∷ []) ≡ Err (unsupported NotBuilt 0)
-unfolding lines_on_literals
-path-strx3 = refl
-
--- the same of so many bytes
-path-strx4 : table (0x00 ∷ 0x00 ∷ 0x01 ∷ 0x01 ∷ 0x28 ∷ 0x01 ∷ 0x00 ∷ 0x00 ∷ 0x00 ∷ 0x00 ∷ []) ≡ Err (unsupported NotBuilt 0)
+path-strx4 : HasNames (0x00 ∷ 0x00 ∷ 0x01 ∷ 0x01 ∷ 0x28 ∷ 0x01 ∷ 0x00 ∷ 0x00 ∷ 0x00 ∷ 0x00 ∷ []) [] ((0, 0x61 ∷ 0x2E ∷ 0x63 ∷ []) ∷ [])
 unfolding lines_on_literals
 path-strx4 = refl
 
--- also the path of directory 0
-directory_0-strx : table (0x01 ∷ 0x01 ∷ 0x1A ∷ 0x01 ∷ 0x00 ∷ 0x00 ∷ 0x00 ∷ []) ≡ Err (unsupported NotBuilt 0)
+-- an index whose text is not there, and one whose offset is not
+path-strx_past : NoTable (0x00 ∷ 0x00 ∷ 0x01 ∷ 0x01 ∷ 0x26 ∷ 0x01 ∷ 0x01 ∷ 0x00 ∷ [])
+unfolding lines_on_literals
+path-strx_past = refl
+
+path-strx_cut : NoTable (0x00 ∷ 0x00 ∷ 0x01 ∷ 0x01 ∷ 0x27 ∷ 0x01 ∷ 0x02 ∷ 0x00 ∷ 0x00 ∷ [])
+unfolding lines_on_literals
+path-strx_cut = refl
+
+-- that of directory 0 is not looked up
+directory_0-strx : HasNames (0x01 ∷ 0x01 ∷ 0x1A ∷ 0x01 ∷ 0x02 ∷ 0x00 ∷ 0x00 ∷ []) [] []
 unfolding lines_on_literals
 directory_0-strx = refl
 

@@ -12,7 +12,7 @@ use Rattle.dwc_base.specs.Entries.{attributes_at, declared_entry_at, entry_at, n
 use Rattle.dwc_base.specs.LineHeaders.{directory_at, file_behind, file_at, operations_at, entry_format_at, entry_formats_at, entry_count_at, entry_field_at, entry_fields_at, directories_of_5_at, files_of_5_at, line_names_at, line_fields_at, line_address_size_at, line_header_at, operand_at, passed_operands_at, extended_at, extended_instruction_at, instruction_at, next_instruction, instructions}
 use Rattle.dwc_base.specs.LineRows.{line_table_at, line_table}
 use Rattle.dwc_base.specs.Carried.{units, table_of_unit, segments_of_unit}
-use Rattle.dwc_base.specs.Texts.{text_elsewhere, text_named}
+use Rattle.dwc_base.specs.Texts.{text_elsewhere, text_named, path_text}
 use Rattle.dwc_base.specs.Indexed.{root_offsets, offset_of_root, index_base, address_from, address_named, texts_of_unit}
 use Rattle.dwc_base.specs.TreeReading.{value_said, unit_said, trees}
 use Rattle.dwc_base.specs.Wasm.{name_at, u32_at, byte_at, limits_at, import_of_kind, import_at, imports_at, type_numbers_at, contents_of, section_bytes_at, wasm_section_at, next_wasm_section, wasm_sections, sections_of_file, custom_section, module_from_sections, wasm_module}
@@ -30,9 +30,9 @@ unfolding reading_on_literals walk walk_up_to is_utf8 chars encode name_at u32_a
 files_on_literals = 0
 
 unfoldable pub lines_on_literals : ℕ
-unfolding units_on_literals directory_at file_behind file_at operations_at entry_format_at entry_formats_at entry_count_at entry_field_at entry_fields_at directories_of_5_at files_of_5_at line_names_at line_fields_at line_address_size_at line_header_at operand_at passed_operands_at extended_at extended_instruction_at instruction_at next_instruction instructions line_table_at line_table units table_of_unit segments_of_unit
+unfolding units_on_literals text_elsewhere path_text root_offsets offset_of_root index_base directory_at file_behind file_at operations_at entry_format_at entry_formats_at entry_count_at entry_field_at entry_fields_at directories_of_5_at files_of_5_at line_names_at line_fields_at line_address_size_at line_header_at operand_at passed_operands_at extended_at extended_instruction_at instruction_at next_instruction instructions line_table_at line_table units table_of_unit segments_of_unit
 lines_on_literals = 0
 
 unfoldable pub trees_on_literals : ℕ
-unfolding lines_on_literals text_elsewhere text_named root_offsets offset_of_root index_base address_from address_named texts_of_unit value_said unit_said trees
+unfolding lines_on_literals text_named address_from address_named texts_of_unit value_said unit_said trees
 trees_on_literals = 0

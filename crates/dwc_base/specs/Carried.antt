@@ -7,6 +7,7 @@ use Rattle.dwc_base.specs.Listing.{Listing, only_fault, with_first}
 use Rattle.dwc_base.specs.Sections.{Sections, Fault}
 use Rattle.dwc_base.specs.Units.{UnitHeader, unit_headers}
 use Rattle.dwc_base.specs.Values.{Value, line_reference}
+use Rattle.dwc_base.specs.Indexed.{text_base}
 use Rattle.dwc_base.specs.Entries.{Entry, entries, attribute}
 use Rattle.dwc_base.specs.LineRows.{LineTable, line_table, Segment, segments}
 use Rattle.dwc_base.specs.Functions.{Function}
@@ -50,7 +51,7 @@ abbrev pub table_of_root : Sections → Unit → Option Entry → Result (Option
 table_of_root s u None = Ok None
 table_of_root s u (Some e) = elim (line_offset (attribute DW_AT_stmt_list e)) [
   | None ↦ Ok None
-  | Some offset ↦ (line_table s u.header.address_size offset >>= λ t. Ok (Some t))
+  | Some offset ↦ (line_table s u.header.address_size (text_base s u.header) offset >>= λ t. Ok (Some t))
 ]
 
 -- a unit's line table, if its root names one

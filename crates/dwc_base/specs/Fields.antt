@@ -16,6 +16,7 @@ use Rattle.dwc_base.specs.Abbreviations.{AttributeSpec, Declaration, declaration
 use Rattle.dwc_base.specs.Units.{UnitHeader}
 use Rattle.dwc_base.specs.Values.{Value, address, text_reference, line_reference, range_reference, location_reference, info_reference, form_code_at, value_at}
 use Rattle.dwc_base.specs.Entries.{Entry, attribute}
+use Rattle.dwc_base.specs.Indexed.{text_base}
 use Rattle.dwc_base.specs.LineHeaders.{LineHeader, line_source, Instruction, set_address, line_header_at, instruction_at, instructions}
 use Rattle.dwc_base.specs.Carried.{Unit, units, root, line_offset}
 use Rattle.dwc_base.specs.Outputs.{OutputRelocation, function, section, OutputSection, output_sections}
@@ -110,16 +111,16 @@ fields_of_instructions relocations h [] u = []
 fields_of_instructions relocations h (i ∷ is) u =
     field_of_instruction h u i ++ elim (instruction_at relocations h u) [ Err flaw ↦ [] | Ok read ↦ fields_of_instructions relocations h is read.1 ]
 
--- the fields of the line table at an offset, for a unit of an address size
-unfoldable pub fields_of_line_table : Sections → ℕ → ℕ → Result (List Field) Flaw
-fields_of_line_table s address_size offset = do
-  h ← line_header_at (line_source s) address_size (section_from s Line offset)
+-- the fields of the line table at an offset, for a unit of an address size, whose texts by an index begin at a base
+unfoldable pub fields_of_line_table : Sections → ℕ → ℕ → ℕ → Result (List Field) Flaw
+fields_of_line_table s address_size base offset = do
+  h ← line_header_at (line_source s base) address_size (section_from s Line offset)
   Ok (fields_of_instructions (s.relocations Line) h (instructions (s.relocations Line) h h.program).items h.program)
 
 -- the fields of the line table that an entry names, if it names one
 abbrev pub fields_of_lines : Sections → UnitHeader → Option Entry → List Field
 fields_of_lines s h None = []
-fields_of_lines s h (Some e) = elim (line_offset (attribute DW_AT_stmt_list e)) [ None ↦ [] | Some offset ↦ fields_read (fields_of_line_table s h.address_size offset) ]
+fields_of_lines s h (Some e) = elim (line_offset (attribute DW_AT_stmt_list e)) [ None ↦ [] | Some offset ↦ fields_read (fields_of_line_table s h.address_size (text_base s h) offset) ]
 
 -- ---- their relocations
 

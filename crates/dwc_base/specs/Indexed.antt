@@ -5,7 +5,7 @@ use Rattle.std.specs.Option.{option_or, unwrap_or}
 use Rattle.std.specs.List.{find}
 use Rattle.dwc_base.specs.declared.records.Address.{Address}
 use Rattle.dwc_base.specs.declared.section_name.SectionName.{SectionName}
-use Rattle.dwc_base.specs.declared.section_name.SectionName.TheVariants.{Addr, Info, LineStr, Loclists, Rnglists, Str, StrOffsets}
+use Rattle.dwc_base.specs.declared.section_name.SectionName.TheVariants.{Addr, Info, Loclists, Rnglists, StrOffsets}
 use Rattle.dwc_base.specs.declared.faults.What.TheVariants.{AddressValue, Text}
 use Rattle.dwc_base.specs.declared.faults.Flaw.{Flaw}
 use Rattle.dwc_base.specs.declared.faults.Flaw.TheVariants.{Malformed}
@@ -16,7 +16,7 @@ use Rattle.dwc_base.specs.Abbreviations.{AttributeSpec, Declaration, declaration
 use Rattle.dwc_base.specs.Units.{UnitHeader}
 use Rattle.dwc_base.specs.Values.{Value, address, address_index, constant, line_reference}
 use Rattle.dwc_base.specs.Entries.{attributes_at}
-use Rattle.dwc_base.specs.Texts.{TextSource, text_named}
+use Rattle.dwc_base.specs.Texts.{TextSource, texts_from, text_named}
 
 -- ---- bases
 
@@ -93,9 +93,13 @@ address_named s h _ = Ok None
 
 -- ---- texts
 
+-- where the offsets of a unit's texts by an index begin
+abbrev pub text_base : Sections → UnitHeader → ℕ
+text_base s h = unwrap_or (index_base s h StrOffsets) 0
+
 -- where the texts of a unit are
 unfoldable pub texts_of_unit : Sections → UnitHeader → TextSource
-texts_of_unit s h = record { order = s.order; strings = s.bytes Str; line_strings = s.bytes LineStr; offsets = s.bytes StrOffsets; base = unwrap_or (index_base s h StrOffsets) 0 }
+texts_of_unit s h = texts_from s (text_base s h)
 
 -- ---- a unit's own calls, which know no entry and tell the unit's place
 

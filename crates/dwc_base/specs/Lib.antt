@@ -5,7 +5,9 @@ pub mod Sections
 pub mod Abbreviations
 pub mod Units
 pub mod Values
+pub mod Texts
 pub mod Entries
+pub mod Indexed
 pub mod Wasm
 pub mod LineHeaders
 pub mod LineRows
@@ -20,8 +22,6 @@ pub mod Refusals
 pub mod BuiltForm
 pub mod Widest
 pub mod Trees
-pub mod Texts
-pub mod Indexed
 pub mod TreeReading
 pub mod Forests
 pub mod Lebs

@@ -1,19 +1,20 @@
 -- Line tables: the header, and the instructions of the program. (DWARF 4 and 5, sections 6.2.4 and 6.2.5.)
-use Rattle.std.specs.Prelude.{ℕ, ◌-◌, ◌==◌, ℤ, pos, ◌-ℤ◌, List, [], ◌∷◌, length, drop, Bool, true, false, nat_lt, nat_le, not, ◌||◌, ◌&&◌, if◌then◌else◌, slice_index, Option, Some, None, Result, Ok, Err}
+use Rattle.std.specs.Prelude.{ℕ, ◌-◌, ◌==◌, ℤ, pos, ◌-ℤ◌, List, [], ◌∷◌, length, Bool, true, false, nat_lt, nat_le, not, ◌||◌, ◌&&◌, if◌then◌else◌, slice_index, Option, Some, None, Result, Ok, Err}
 use Rattle.std.specs.List.{list_any}
 use Rattle.dwc_base.specs.declared.records.Address.{Address}
-use Rattle.dwc_base.specs.declared.records.Endian.{Endian}
-use Rattle.dwc_base.specs.declared.faults.Kind.TheVariants.{AddressSize, NotBuilt, Operations, SegmentSelector, Version}
+use Rattle.dwc_base.specs.declared.faults.Kind.TheVariants.{AddressSize, Operations, SegmentSelector, Version}
 use Rattle.dwc_base.specs.declared.faults.Flaw.{Flaw}
 use Rattle.dwc_base.specs.declared.faults.Flaw.TheVariants.{Malformed, Refused}
 use Rattle.dwc_base.specs.Reading.{Unread, Read, ◌>>=◌, forbid, part_at, number_at, uleb_at, sleb_at, text_at, items_at, counted_at, seen_as, coded}
 use Rattle.dwc_base.specs.Listing.{Listing, Next, at_end, broken, item, walk}
-use Rattle.dwc_base.specs.declared.section_name.SectionName.TheVariants.{Line, LineStr, Str}
+use Rattle.dwc_base.specs.declared.section_name.SectionName.TheVariants.{Line}
 use Rattle.dwc_base.specs.Sections.{Relocation, Sections, address_at}
 use Rattle.dwc_base.specs.Abbreviations.{AttributeSpec}
-use Rattle.dwc_base.specs.Values.{Form, string, string_elsewhere, supplementary, form_of, Value, constant, text, text_reference, encoded_value_at}
+use Rattle.dwc_base.specs.Values.{Form, string, string_elsewhere, supplementary, form_of, Value, constant, encoded_value_at}
+pub use Rattle.dwc_base.specs.Texts.{text_in}
+use Rattle.dwc_base.specs.Texts.{TextSource, texts_from, path_text}
 use Rattle.dwc_base.specs.Units.{sized_part_at}
-use Rattle.dwc_base.specs.declared.constants.TheConstants.{DW_FORM_implicit_const, DW_FORM_line_strp, DW_FORM_strp, DW_LNCT_directory_index, DW_LNCT_path, DW_LNE_define_file, DW_LNE_end_sequence, DW_LNE_set_address, DW_LNE_set_discriminator, DW_LNS_advance_line, DW_LNS_advance_pc, DW_LNS_const_add_pc, DW_LNS_copy, DW_LNS_fixed_advance_pc, DW_LNS_negate_stmt, DW_LNS_set_basic_block, DW_LNS_set_column, DW_LNS_set_epilogue_begin, DW_LNS_set_file, DW_LNS_set_isa, DW_LNS_set_prologue_end}
+use Rattle.dwc_base.specs.declared.constants.TheConstants.{DW_FORM_implicit_const, DW_LNCT_directory_index, DW_LNCT_path, DW_LNE_define_file, DW_LNE_end_sequence, DW_LNE_set_address, DW_LNE_set_discriminator, DW_LNS_advance_line, DW_LNS_advance_pc, DW_LNS_const_add_pc, DW_LNS_copy, DW_LNS_fixed_advance_pc, DW_LNS_negate_stmt, DW_LNS_set_basic_block, DW_LNS_set_column, DW_LNS_set_epilogue_begin, DW_LNS_set_file, DW_LNS_set_isa, DW_LNS_set_prologue_end}
 
 -- a file of a line table: the number of its directory, and its name
 pub record LineFile : Type 0 where
@@ -110,33 +111,14 @@ entry_count_at formats u = do
   named ← forbid (nat_lt 0 count.0 && not (has_one_path formats)) Malformed
   Ok count
 
--- What else a header is read from: the texts of `.debug_str` and `.debug_line_str`, and the relocations of its section.
+-- What else a header is read from: the texts of its unit, and the relocations of its section.
 pub record LineSource : Type 0 where
-  pub order : Endian
-  pub strings : List ℕ
-  pub line_strings : List ℕ
+  pub texts : TextSource
   pub relocations : List Relocation
 
-abbrev pub line_source : Sections → LineSource
-line_source s = record { order = s.order; strings = s.bytes Str; line_strings = s.bytes LineStr; relocations = s.relocations Line }
-
--- the section that the texts of a form stand in; those by an index are not built yet
-abbrev pub texts_of_form : LineSource → ℕ → Option (List ℕ)
-texts_of_form s form = coded ((DW_FORM_strp, s.strings) ∷ (DW_FORM_line_strp, s.line_strings) ∷ []) form
-
--- the text at an offset of a section
-abbrev pub text_in : Endian → List ℕ → ℕ → Result (List ℕ) Flaw
-text_in order section offset = text_at (record { order = order; place = offset; left = drop offset section }) >>= λ found. Ok found.0
-
--- the text elsewhere that a form names; it is empty where it is not looked up
-abbrev pub text_elsewhere : LineSource → Bool → ℕ → ℕ → Result (List ℕ) Flaw
-text_elsewhere s looked_up form offset = elim (texts_of_form s form) [ None ↦ Err (Refused NotBuilt) | Some section ↦ elim looked_up [ true ↦ text_in s.order section offset | false ↦ Ok [] ] ]
-
--- the text of a path
-abbrev pub path_text : LineSource → Bool → Value → Result (List ℕ) Flaw
-path_text s looked_up (text bytes) = Ok bytes
-path_text s looked_up (text_reference form offset) = text_elsewhere s looked_up form offset
-path_text s looked_up _ = Err Malformed
+-- the same of sections, for a unit whose texts by an index begin at a base
+abbrev pub line_source : Sections → ℕ → LineSource
+line_source s base = record { texts = texts_from s base; relocations = s.relocations Line }
 
 -- the number of a directory, which a constant says
 abbrev pub directory_or : ℕ → Value → ℕ
@@ -147,7 +129,7 @@ directory_or before _ = before
 abbrev pub with_field : LineSource → Bool → ℕ → Value → LineFile → Result LineFile Flaw
 with_field s looked_up content value f =
     elim (content == DW_LNCT_path) [
-      | true ↦ (path_text s looked_up value >>= λ name. Ok (record { directory = f.directory; name = name }))
+      | true ↦ (path_text s.texts looked_up value >>= λ name. Ok (record { directory = f.directory; name = name }))
       | false ↦ Ok (if content == DW_LNCT_directory_index then record { directory = directory_or f.directory value; name = f.name } else f)
     ]
 

@@ -141,14 +141,14 @@ checked_table h program =
     ]
 
 -- The table at the front: its header, and the instructions behind it.
-unfoldable pub line_table_at : Sections → ℕ → Unread → Result LineTable Flaw
-line_table_at s address_size u = do
-  h ← line_header_at (line_source s) address_size u
+unfoldable pub line_table_at : Sections → ℕ → ℕ → Unread → Result LineTable Flaw
+line_table_at s address_size base u = do
+  h ← line_header_at (line_source s base) address_size u
   checked_table h (instructions (s.relocations Line) h h.program)
 
--- the table at an offset of .debug_line, for a unit of an address size
-unfoldable pub line_table : Sections → ℕ → ℕ → Result LineTable Fault
-line_table s address_size offset = reported LineTableRead Line offset (line_table_at s address_size (section_from s Line offset))
+-- the table at an offset of .debug_line, for a unit of an address size, whose texts by an index begin at a base
+unfoldable pub line_table : Sections → ℕ → ℕ → ℕ → Result LineTable Fault
+line_table s address_size base offset = reported LineTableRead Line offset (line_table_at s address_size base (section_from s Line offset))
 
 -- A file by its names; without a directory's name it is in the compilation directory.
 pub record SourceFile : Type 0 where

@@ -3,6 +3,8 @@ use Rattle.std.specs.Prelude.{ℕ, List, [], ◌∷◌, map, true, false, Option
 use Rattle.std.specs.List.{filter_map, flat_map}
 use Rattle.dwc_base.specs.declared.faults.Kind.TheVariants.{Compressed}
 use Rattle.dwc_base.specs.Sections.{Sections, Fault, unsupported}
+use Rattle.dwc_base.specs.Units.{UnitHeader}
+use Rattle.dwc_base.specs.Indexed.{text_base}
 use Rattle.dwc_base.specs.Entries.{Entry, attribute}
 use Rattle.dwc_base.specs.LineRows.{LineTable, line_table}
 use Rattle.dwc_base.specs.LineFiles.{has_all_files}
@@ -22,9 +24,9 @@ table_refusal offset (Err fault) = Some (of_place fault)
 table_refusal offset (Ok t) = elim (has_all_files t) [ true ↦ None | false ↦ Some (missing_file offset) ]
 
 -- the refusal of the line table that a root names, if it names one
-abbrev pub lines_refusal : Sections → ℕ → Option ℕ → Option Refusal
-lines_refusal s address_size None = None
-lines_refusal s address_size (Some offset) = table_refusal offset (line_table s address_size offset)
+abbrev pub lines_refusal : Sections → UnitHeader → Option ℕ → Option Refusal
+lines_refusal s h None = None
+lines_refusal s h (Some offset) = table_refusal offset (line_table s h.address_size (text_base s h) offset)
 
 -- the offset of the line table that an entry names
 abbrev pub table_offset : Option Entry → Option ℕ
@@ -33,7 +35,7 @@ table_offset (Some e) = line_offset (attribute DW_AT_stmt_list e)
 
 -- the refusal of a carried unit's line table
 abbrev pub unit_refusal : Sections → Unit → Option Refusal
-unit_refusal s u = lines_refusal s u.header.address_size (table_offset (root u))
+unit_refusal s u = lines_refusal s u.header (table_offset (root u))
 
 -- What is refused of a module, in the order of reading: a compressed section; of each unit its header, its abbreviation
 -- table and its entries; and then of each carried unit its line table.
