@@ -1,12 +1,14 @@
 -- Things of a known number, and the fields of an entry, one by one.
-use Rattle.std.proofs.Common.{◌≡◌, ℕ, zero, suc, ◌+◌, ◌<◌, ◌≤◌, refl, ap, arith, add-one, drop-cons, List, [], ◌∷◌, map, drop, length, get_or, Bool, Ok, Err}
+use Rattle.std.proofs.Common.{◌≡◌, ℕ, zero, suc, ◌+◌, ◌*◌, ◌<◌, ◌≤◌, refl, ap, arith, add-one, drop-cons, List, [], ◌∷◌, map, drop, length, length-drop, get_or, Bool, Ok, Err}
 use Rattle.std.proofs.lemmas.List.{drop_all}
 use Rattle.dwc_base.specs.declared.records.Endian.{Endian}
 use Rattle.dwc_base.specs.declared.faults.Flaw.{Flaw}
 use Rattle.dwc_base.specs.declared.faults.Flaw.TheVariants.{EndsEarly}
 use Rattle.dwc_base.specs.Reading.{Unread, Read, ◌>>=◌, seen_as, counted_at, text_at}
 use Rattle.dwc_base.specs.LineHeaders as spec
-use Rattle.dwc_base.specs.LineHeaders.{LineFile, LineSource, text_in, entry_field_at, entry_fields_at}
+use Rattle.dwc_base.specs.Texts.{TextSource, text_in, offset_of_text}
+use Rattle.dwc_base.specs.LineHeaders.{LineFile, LineSource, entry_field_at, entry_fields_at}
+use Rattle.dwc_base.proofs.Steps.{bytes_at-short, number_at-no_bytes}
 use Rattle.dwc_tabs.specs.declared.entries.EntryFormat.{EntryFormat}
 use Rattle.dwc_tabs.specs.Headers.{format_view}
 
@@ -69,3 +71,10 @@ unfolding text_at
 text_in-past order section offset short =
     let none : drop offset section ≡ [] = drop_all offset section (omega (arith, short)) in
     ap (λ left. text_at (record { order = order; place = offset; left = left }) >>= λ found. Ok found.0) none
+
+pub offset_of_text-past : (s : TextSource) (index : ℕ) → length s.offsets < s.base + 4 * index → offset_of_text s index ≡ Err EndsEarly
+offset_of_text-past s index short =
+    let at = s.base + 4 * index in
+    let u : Unread = record { order = s.order; place = at; left = drop at s.offsets } in
+    let few : length (drop at s.offsets) < 4 = omega (arith, short, length-drop at s.offsets) in
+    rw (number_at-no_bytes 4 u EndsEarly (bytes_at-short 4 u few)) refl

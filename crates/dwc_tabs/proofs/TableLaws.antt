@@ -262,12 +262,12 @@ module _ (source : LineSource) (address_size : ℕ) (u : Unread) where
 -- ---- where a table stands
 
 -- the table of some sections is that of their line section
-pub line_table-in : (s : Sections) (address_size offset : ℕ) → table_in (line_source s) (s.bytes Line) address_size offset ≡ line_table s address_size offset
+pub line_table-in : (s : Sections) (address_size base offset : ℕ) → table_in (line_source s base) (s.bytes Line) address_size offset ≡ line_table s address_size base offset
 unfolding line_table line_table_at table_at
-line_table-in s address_size offset = refl
+line_table-in s address_size base offset = refl
 
 -- no table stands behind the section's end
-pub table_at-end : (source : LineSource) (address_size place : ℕ) → table_at source address_size (record { order = source.order; place = place; left = [] }) ≡ Err EndsEarly
+pub table_at-end : (source : LineSource) (address_size place : ℕ) → table_at source address_size (record { order = source.texts.order; place = place; left = [] }) ≡ Err EndsEarly
 unfolding table_at line_header_at sized_part_at number_at bytes_at
 table_at-end source address_size place = refl
 
@@ -299,7 +299,7 @@ passed-short order bytes offset flaw h = go (ltb (length bytes) offset) refl h
 
 module _ (source : LineSource) (line : List ℕ) (address_size offset : ℕ) where
   -- a flaw that is met is answered as its fault
-  pub answers-flaw : (fault : TabFault) (flaw : Flaw) → fault_view fault ≡ Some (fault_of LineTableRead Line offset flaw) → table_at source address_size (record { order = source.order; place = offset; left = drop offset line }) ≡ Err flaw
+  pub answers-flaw : (fault : TabFault) (flaw : Flaw) → fault_view fault ≡ Some (fault_of LineTableRead Line offset flaw) → table_at source address_size (record { order = source.texts.order; place = offset; left = drop offset line }) ≡ Err flaw
       → AnswersTable offset (table_in source line address_size offset) (Err fault)
   answers-flaw (Read what section at) flaw is h = ap (reported LineTableRead Line offset) h ∙ ap Err (let same : fault_of LineTableRead Line offset flaw ≡ unreadable what section at = cc in same)
   answers-flaw (Unsupported kind at) flaw is h = ap (reported LineTableRead Line offset) h ∙ ap Err (let same : fault_of LineTableRead Line offset flaw ≡ unsupported kind at = cc in same)

@@ -2,6 +2,7 @@
 use Rattle.std.specs.Prelude.{ℕ, List, [], map}
 use Rattle.dwc_base.specs.declared.records.Endian.TheVariants.{Little}
 use Rattle.dwc_base.specs.Reading.{Unread}
+use Rattle.dwc_base.specs.Texts.{TextSource}
 use Rattle.dwc_base.specs.LineHeaders as spec
 use Rattle.dwc_base.specs.Cursors.{slice_bytes}
 use Rattle.dwc_tabs.specs.declared.header.LineFile.{LineFile}
@@ -19,9 +20,13 @@ file_view f = record { directory = f.directory; name = f.name.now }
 abbrev pub format_view : EntryFormat → spec.EntryFormat
 format_view f = record { content = f.content; form = f.form }
 
+-- where the texts of a table's paths are
+abbrev pub texts_view : Source → TextSource
+texts_view s = record { order = s.order; strings = s.strings.now; line_strings = s.line_strings.now; offsets = s.offsets.now; base = s.base }
+
 -- what a table is read from beside its own section
 abbrev pub source_view : Source → spec.LineSource
-source_view s = record { order = s.order; strings = s.strings.now; line_strings = s.line_strings.now; relocations = s.relocations }
+source_view s = record { texts = texts_view s; relocations = s.relocations }
 
 -- directories and files
 abbrev pub names_view : Names → List (List ℕ) × List spec.LineFile

@@ -28,7 +28,7 @@ table_at source address_size u = do
 
 -- the table at an offset of the bytes of a line section
 abbrev pub table_in : LineSource → List ℕ → ℕ → ℕ → Result LineTable Fault
-table_in source line address_size offset = reported LineTableRead Line offset (table_at source address_size (record { order = source.order; place = offset; left = drop offset line }))
+table_in source line address_size offset = reported LineTableRead Line offset (table_at source address_size (record { order = source.texts.order; place = offset; left = drop offset line }))
 
 -- a table by its parts; the first files are those of the header
 abbrev pub table_of_parts : Parameters → List (List ℕ) → ℕ → List LineFile → List Relocation → Unread → LineTable

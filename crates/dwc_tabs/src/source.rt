@@ -9,5 +9,9 @@ pub struct Source<'d> {
     pub strings: &'d [u8],
     /// The bytes of `.debug_line_str`.
     pub line_strings: &'d [u8],
+    /// The bytes of `.debug_str_offsets`.
+    pub offsets: &'d [u8],
+    /// Where the offsets of the unit's texts by an index begin there.
+    pub base: u64,
     pub relocations: Relocations<'d>,
 }

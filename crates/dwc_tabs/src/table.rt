@@ -3,6 +3,7 @@ ghost use Rattle.std.specs.Prelude.{◌≡◌, ◌&&◌, IsTrue, length, map, op
 ghost use Rattle.std.specs.List.{list_all};
 ghost use Rattle.dwc_base.specs.Cursors.{slice_bytes};
 ghost use Rattle.dwc_base.specs.LineFiles.{has_all_files, is_named as is_named_directory};
+ghost use Rattle.dwc_base.specs.Indexed.{text_base};
 ghost use Rattle.dwc_base.specs.LineRows.{line_table, numbered, file_numbered};
 ghost use Rattle.dwc_base.specs.FieldSizes.{is_field_size};
 ghost use Rattle.dwc_tabs.specs.Headers.{file_view, source_view};
@@ -72,19 +73,21 @@ impl<'d> Model for Rows<'d> {
 }
 
 impl<'d> LineTable<'d> {
-    /// The line table at an offset of `.debug_line`, read whole. Versions 2 to 5 are read. It answers `Read` where the bytes
-    /// are no line table, a row's offset or line is out of range, or the text that a path names elsewhere cannot be read;
-    /// `Unsupported` for the 64-bit format, for several operations in one instruction, for any other version, and in version 5
-    /// for an address size other than 4 and 8, for segment selectors, for forms of supplementary files and, so far, for paths
-    /// by the index of a text; and `InvalidFileIndex` where the table names a file or a directory that is not there, or has
-    /// one without a name. (DWARF 4 and 5, section 6.2.4.)
+    /// The line table at an offset of `.debug_line`, read whole, for a unit that names it: its texts by an index are the unit's.
+    /// Versions 2 to 5 are read. It answers `Read` where the bytes are no line table, a row's offset or line is out of range, or
+    /// the text that a path names elsewhere, by its offset or by an index, cannot be read; `Unsupported` for the 64-bit format, for
+    /// several operations in one instruction, for any other version, and in version 5 for an address size other than 4 and 8, for
+    /// segment selectors and for forms of supplementary files; and `InvalidFileIndex` where the table names a file or a directory
+    /// that is not there, or has one without a name. (DWARF 4 and 5, section 6.2.4; DWARF 5, section 7.26.)
     pub fn read(alloc: Global, unit: &Unit<'d>, offset: u64) -> Result<LineTable<'d>, TabFault>
-        ensures { AnswersTable offset (line_table unit.now.sections unit.now.header.address_size offset) result }
+        ensures { AnswersTable offset (line_table unit.now.sections unit.now.header.address_size (text_base unit.now.sections unit.now.header) offset) result }
     {
         let source = Source {
             order: unit.order(),
             strings: unit.section(SectionName::Str),
             line_strings: unit.section(SectionName::LineStr),
+            offsets: unit.section(SectionName::StrOffsets),
+            base: unit.index_base(SectionName::StrOffsets),
             relocations: unit.relocations(SectionName::Line),
         };
         let line = unit.section(SectionName::Line);

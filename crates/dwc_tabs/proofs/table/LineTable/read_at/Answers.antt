@@ -15,7 +15,7 @@ returns-in_default c =
     let line = c.args.line.now in
     let short : length line < c.args.offset = c.in_default.ensures in
     let none : drop c.args.offset line ≡ [] = drop_all c.args.offset line (omega arith) in
-    let read : table_at source c.args.address_size (record { order = source.order; place = c.args.offset; left = drop c.args.offset line }) ≡ Err EndsEarly = ap (λ left. table_at source c.args.address_size (record { order = source.order; place = c.args.offset; left = left })) none ∙ table_at-end source c.args.address_size c.args.offset in
+    let read : table_at source c.args.address_size (record { order = source.texts.order; place = c.args.offset; left = drop c.args.offset line }) ≡ Err EndsEarly = ap (λ left. table_at source c.args.address_size (record { order = source.texts.order; place = c.args.offset; left = left })) none ∙ table_at-end source c.args.address_size c.args.offset in
     answers-flaw source line c.args.address_size c.args.offset c.flawed.result EndsEarly c.flawed.ensures read
 
 pub returns-in-Err-Flawed : goal.returns-in-Err-Flawed
