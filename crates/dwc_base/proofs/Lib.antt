@@ -36,6 +36,7 @@ pub mod KeptCases
 pub mod FormCases
 pub mod LineCases
 pub mod LineVersion5
+pub mod PathCases
 pub mod StandardCodes
 pub mod TreesSmall
 pub mod FieldCases
