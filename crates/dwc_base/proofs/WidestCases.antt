@@ -2,7 +2,7 @@
 use Rattle.std.proofs.Common.{◌≡◌, ◌+◌, ◌*◌, [], ◌∷◌, true, refl}
 use Rattle.dwc_base.proofs.TreesSmall.{tree_small}
 use Rattle.dwc_base.specs.declared.records.Address.TheVariants.{Constant}
-use Rattle.dwc_base.specs.declared.section_name.SectionName.TheVariants.{Abbrev, Info, Line}
+use Rattle.dwc_base.specs.declared.section_name.SectionName.TheVariants.{Abbrev, Info, Line, Str}
 use Rattle.dwc_base.specs.Trees.{address, constant, flag, block, text, entry}
 use Rattle.dwc_base.specs.WidestTrees.{widest_entry, widest_of_trees}
 
@@ -30,3 +30,7 @@ entry-forms = refl
 -- each entry that has children ends their list
 lists-forms : widest_of_trees Info ((record { depth = 0; tag = 1; attributes = [] } ∷ record { depth = 1; tag = 1; attributes = [] } ∷ record { depth = 2; tag = 1; attributes = [] } ∷ record { depth = 1; tag = 1; attributes = [] } ∷ []) ∷ []) ≡ 11 + 4 * 10 + 2 * 10
 lists-forms = refl
+
+-- three texts of which one is empty and one stands twice, each ended by a zero
+texts-small : widest_of_trees Str ((record { depth = 0; tag = 0x11; attributes = (0x03, text (97 ∷ 98 ∷ [])) ∷ (0x1B, text []) ∷ [] } ∷ record { depth = 1; tag = 0x2E; attributes = (0x03, text (97 ∷ 98 ∷ [])) ∷ (0x6E, text (97 ∷ [])) ∷ [] } ∷ []) ∷ []) ≡ 3 + 1 + 2
+texts-small = refl

@@ -31,6 +31,7 @@ pub mod CodeOffsets
 pub mod FieldSizes
 pub mod Fields
 pub mod OutputForm
+pub mod TreeLaws
 pub mod WidestTrees
 pub mod OutputCarried
 pub mod Drafts

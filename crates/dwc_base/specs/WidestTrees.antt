@@ -1,12 +1,13 @@
 -- How long the sections that hold entries can be at most, counted over what an output is to say: each number of variable length has
--- 10 bytes and each address 8, and each entry has an abbreviation of its own. (DWARF 4, sections 7.5.1 to 7.5.4.)
+-- 10 bytes and each address 8, each entry has an abbreviation of its own, and each text stands once. (DWARF 4, sections 7.5.1 to 7.5.4.)
 use Rattle.std.specs.Prelude.{ℕ, ◌+◌, ◌*◌, List, [], ◌∷◌, length, nat_lt, sum_by, if◌then◌else◌}
 use Rattle.std.specs.Option.{unwrap_or}
 use Rattle.dwc_base.specs.declared.section_name.SectionName.{SectionName}
-use Rattle.dwc_base.specs.declared.section_name.SectionName.TheVariants.{Abbrev, Info}
+use Rattle.dwc_base.specs.declared.section_name.SectionName.TheVariants.{Abbrev, Info, Str}
 use Rattle.dwc_base.specs.declared.constants.TheConstants.{DW_FORM_data1, DW_FORM_data2, DW_FORM_data4, DW_FORM_data8}
 use Rattle.dwc_base.specs.Reading.{coded}
 use Rattle.dwc_base.specs.Trees.{TreeValue, address, constant, flag, block, expression, text, line_table, ranges, locations, entry, nothing, TreeEntry, Tree}
+use Rattle.dwc_base.specs.TreeLaws.{distinct_texts, texts_ended}
 use Rattle.dwc_base.specs.Widest.{variable_bytes, address_bytes, widest_declaration}
 
 -- the size of a constant by its form; all others have a variable length
@@ -49,8 +50,9 @@ widest_unit t = 11 + (sum_by widest_entry t + lists_of_children t * variable_byt
 abbrev pub widest_declarations : Tree → ℕ
 widest_declarations t = sum_by (λ e. widest_declaration (length e.attributes)) t + variable_bytes
 
--- How long a section with entries or abbreviations can be at most.
+-- How long a section with entries, abbreviations or texts can be at most.
 abbrev pub widest_of_trees : SectionName → List Tree → ℕ
 widest_of_trees Info ts = sum_by widest_unit ts
 widest_of_trees Abbrev ts = sum_by widest_declarations ts
+widest_of_trees Str ts = length (texts_ended (distinct_texts ts))
 widest_of_trees name ts = 0
