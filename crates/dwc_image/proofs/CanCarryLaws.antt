@@ -96,9 +96,9 @@ steps-short : (es : List Effect) → list_all is_in_range es ≡ true → All Ha
 steps-short [] h = All-nil HasShortLine
 steps-short (e ∷ es) h = let p = both (is_in_range e) (list_all is_in_range es) h in All-cons HasShortLine (step_of e) (map step_of es) (step-short e p.0) (steps-short es p.1)
 
-table-short : (s : Sections) (address_size offset : ℕ) (t : LineTable) → line_table s address_size offset ≡ Ok t → All HasShortLine t.steps
+table-short : (s : Sections) (address_size base offset : ℕ) (t : LineTable) → line_table s address_size base offset ≡ Ok t → All HasShortLine t.steps
 unfolding line_table line_table_at
-table-short s address_size offset t read = go (line_header_at (line_source s) address_size (section_from s Line offset)) read
+table-short s address_size base offset t read = go (line_header_at (line_source s base) address_size (section_from s Line offset)) read
   where
     ranged : (h : LineHeader) (is : List Instruction) (b : Bool) → list_all is_in_range (effects h (at_sequence_start h) is) ≡ b
         → (let r : Result LineTable Fault = reported LineTableRead Line offset (elim b [ true ↦ Ok (table_of h is) | false ↦ Err Malformed ]) in r) ≡ Ok t → All HasShortLine t.steps
@@ -144,17 +144,17 @@ files-fit directories (f ∷ fs) plain named =
     let fits : FitsDirectories (length directories) f = record { name = record { some = ltb-true 0 (length f.name) q.1; plain = here.name.plain }; known = known-directory directories f q.0 } in
     All-cons (FitsDirectories (length directories)) f fs fits (files-fit directories fs (λ k d h. plain (suc k) d (omega arith)) p.1)
 
-can-carry : (s : Sections) (address_size offset : ℕ) (t : LineTable) → line_table s address_size offset ≡ Ok t → has_all_files t ≡ true → CanCarry t
-can-carry s address_size offset t read named =
-    let names = table-names s address_size offset t read in
+can-carry : (s : Sections) (address_size base offset : ℕ) (t : LineTable) → line_table s address_size base offset ≡ Ok t → has_all_files t ≡ true → CanCarry t
+can-carry s address_size base offset t read named =
+    let names = table-names s address_size base offset t read in
     let whole = both (list_all (names_file t) t.steps && list_all (has_names t.header.directories) t.files) (list_all is_named t.header.directories) named in
     let p = both (list_all (names_file t) t.steps) (list_all (has_names t.header.directories) t.files) whole.0 in
     record {
       directories = directories-fit t.header.directories names.directories whole.1;
       files = files-fit t.header.directories t.files names.files p.1;
-      steps = steps-fit t t.steps (table-short s address_size offset t read) p.0;
-      rise = line_table-rise s address_size offset t read;
+      steps = steps-fit t t.steps (table-short s address_size base offset t read) p.0;
+      rise = line_table-rise s address_size base offset t read;
     }
 
 pub read-carried : (t : LineTable) → IsRead t → CanCarry t
-read-carried t h = can-carry h.sections h.address_size h.offset t h.is_read h.files
+read-carried t h = can-carry h.sections h.address_size h.base h.offset t h.is_read h.files

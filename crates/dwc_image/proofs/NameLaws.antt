@@ -276,10 +276,10 @@ defined-plain (i ∷ is) h = go i (h 0 i (omega arith)) (defined-plain is (λ k 
 -- ---- the table
 
 -- The directories and the files of a table that was read.
-pub table-names : (s : Sections) (address_size offset : ℕ) (t : LineTable) → line_table s address_size offset ≡ Ok t → ArePlain t.header.directories t.files
+pub table-names : (s : Sections) (address_size base offset : ℕ) (t : LineTable) → line_table s address_size base offset ≡ Ok t → ArePlain t.header.directories t.files
 unfolding line_table line_table_at
-table-names s address_size offset t read =
-    reported-names (line_header_at (line_source s) address_size (section_from s Line offset)) (header-names (line_source s) address_size (section_from s Line offset)) read
+table-names s address_size base offset t read =
+    reported-names (line_header_at (line_source s base) address_size (section_from s Line offset)) (header-names (line_source s base) address_size (section_from s Line offset)) read
   where
     ranged : (h : LineHeader) (is : List Instruction) (b : Bool) → ArePlain h.directories h.files → All DefinesPlain is
         → (let r : Result LineTable Fault = reported LineTableRead Line offset (elim b [ true ↦ Ok (table_of h is) | false ↦ Err Malformed ]) in r) ≡ Ok t → ArePlain t.header.directories t.files

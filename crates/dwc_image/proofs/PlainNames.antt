@@ -10,13 +10,13 @@ use Rattle.dwc_base.specs.declared.constants.TheConstants.{DW_LNCT_path, DW_LNCT
 use Rattle.dwc_base.specs.declared.records.Endian.{Endian}
 use Rattle.dwc_base.specs.declared.records.Encoding.{Encoding}
 use Rattle.dwc_base.specs.declared.faults.Flaw.{Flaw}
-use Rattle.dwc_base.specs.declared.faults.Flaw.TheVariants.{EndsEarly, Malformed, Refused}
-use Rattle.dwc_base.specs.declared.faults.Kind.TheVariants.{NotBuilt}
+use Rattle.dwc_base.specs.declared.faults.Flaw.TheVariants.{EndsEarly, Malformed}
 use Rattle.dwc_base.specs.Abbreviations.{AttributeSpec}
 use Rattle.dwc_base.specs.Reading.{Unread, Read, ◌>>=◌, passed, text_at, uleb_at, seen_as, counted_at}
 use Rattle.dwc_base.specs.Sections.{Relocation}
 use Rattle.dwc_base.specs.Values.{Value, constant, text, text_reference, line_reference, range_reference, location_reference, dropped, Form, addr, indexed_addr, blocks, exprloc, data_of, sdata, implicit, flag_byte, flag_present, string, string_elsewhere, reference, ref_addr, sec_offset, indexed_location, indexed_range, passed_over, supplementary, form_of, is_location_name, is_range_name, is_expression_name, section_offset, formed_value_at, form_code_at, encoded_value_at}
-use Rattle.dwc_base.specs.LineHeaders.{LineFile, LineSource, directory_at, file_behind, file_at, EntryFormat, entry_formats_at, entry_count_at, texts_of_form, text_in, path_text, directory_or, with_field, field_spec, entry_field_at, entry_fields_at, no_fields, file_entry_at, directory_entry_at, directories_of_5_at, files_of_5_at}
+use Rattle.dwc_base.specs.Texts.{TextSource, text_in, offset_of_text, texts_of_form, text_elsewhere, path_text}
+use Rattle.dwc_base.specs.LineHeaders.{LineFile, LineSource, directory_at, file_behind, file_at, EntryFormat, entry_formats_at, entry_count_at, directory_or, with_field, field_spec, entry_field_at, entry_fields_at, no_fields, file_entry_at, directory_entry_at, directories_of_5_at, files_of_5_at}
 
 -- ---- what holds of what was read, if it was
 
@@ -164,14 +164,19 @@ value-plain relocations e spec u = holds-any _ (form_code_at spec u) _ (λ code.
 text_in-plain : (order : Endian) (section : List ℕ) (offset : ℕ) → Holds IsPlain (text_in order section offset)
 text_in-plain order section offset = holds-behind IsPlain (λ x. IsPlain x.0) (text_at (record { order = order; place = offset; left = drop offset section })) _ (text-plain _) (λ found p. record { of = p })
 
-path-plain : (s : LineSource) (looked_up : Bool) (value : Value) → IsPlainValue value → Holds IsPlain (path_text s looked_up value)
-path-plain s looked_up (text bytes) p = record { of = p }
-path-plain s looked_up (text_reference form offset) p = go (texts_of_form s form) looked_up
+elsewhere-plain : (s : TextSource) (form n : ℕ) → Holds IsPlain (text_elsewhere s form n)
+unfolding text_elsewhere
+elsewhere-plain s form n = go (texts_of_form s form)
   where
-    go : (o : Option (List ℕ)) (b : Bool) → Holds IsPlain (let r : Result (List ℕ) Flaw = elim o [ None ↦ Err (Refused NotBuilt) | Some section ↦ elim b [ true ↦ text_in s.order section offset | false ↦ Ok [] ] ] in r)
-    go None b = record { of = tt }
-    go (Some section) true = text_in-plain s.order section offset
-    go (Some section) false = record { of = record { plain = All-nil (λ b. 0 < b) } }
+    go : (o : Option (List ℕ)) → Holds IsPlain (let r : Result (List ℕ) Flaw = elim o [ Some section ↦ text_in s.order section n | None ↦ (offset_of_text s n >>= λ offset. text_in s.order s.strings offset) ] in r)
+    go (Some section) = text_in-plain s.order section n
+    go None = holds-any IsPlain (offset_of_text s n) _ (λ offset. text_in-plain s.order s.strings offset)
+
+path-plain : (s : TextSource) (looked_up : Bool) (value : Value) → IsPlainValue value → Holds IsPlain (path_text s looked_up value)
+unfolding path_text
+path-plain s looked_up (text bytes) p = record { of = p }
+path-plain s true (text_reference form n) p = elsewhere-plain s form n
+path-plain s false (text_reference form n) p = record { of = record { plain = All-nil (λ b. 0 < b) } }
 path-plain s looked_up _ p = record { of = tt }
 
 with_field-plain : (s : LineSource) (looked_up : Bool) (content : ℕ) (value : Value) (f : LineFile) → IsPlainValue value → IsPlainFile f → Holds IsPlainFile (with_field s looked_up content value f)
@@ -181,8 +186,8 @@ with_field-plain s looked_up content value f p q = go (content == DW_LNCT_path) 
     other true = record { name = q.name }
     other false = q
 
-    go : (a b : Bool) → Holds IsPlainFile (let r : Result LineFile Flaw = elim a [ true ↦ (path_text s looked_up value >>= λ name. Ok (record { directory = f.directory; name = name })) | false ↦ Ok (if b then record { directory = directory_or f.directory value; name = f.name } else f) ] in r)
-    go true b = holds-behind IsPlainFile IsPlain (path_text s looked_up value) _ (path-plain s looked_up value p) (λ name r. record { of = record { name = r } })
+    go : (a b : Bool) → Holds IsPlainFile (let r : Result LineFile Flaw = elim a [ true ↦ (path_text s.texts looked_up value >>= λ name. Ok (record { directory = f.directory; name = name })) | false ↦ Ok (if b then record { directory = directory_or f.directory value; name = f.name } else f) ] in r)
+    go true b = holds-behind IsPlainFile IsPlain (path_text s.texts looked_up value) _ (path-plain s.texts looked_up value p) (λ name r. record { of = record { name = r } })
     go false b = record { of = other b }
 
 field-plain : (s : LineSource) (size : ℕ) (looked_up : Bool) (format : EntryFormat) (f : LineFile) (u : Unread) → IsPlainFile f → Holds (λ x. IsPlainFile x.0) (entry_field_at s size looked_up format f u)

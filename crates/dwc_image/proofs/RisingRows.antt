@@ -80,17 +80,17 @@ checked_table-rise h program t = go program.fault (list_all is_in_range (effects
     go None false e = absurd (cc)
     go None true e = let same : table_of h program.items ≡ t = cc in rw (← same) (segments-rise h program.items)
 
-line_table_at-rise : (s : Sections) (size : ℕ) (u : Unread) (t : LineTable) → line_table_at s size u ≡ Ok t → All RowsRise (segments t)
+line_table_at-rise : (s : Sections) (size base : ℕ) (u : Unread) (t : LineTable) → line_table_at s size base u ≡ Ok t → All RowsRise (segments t)
 unfolding line_table_at
-line_table_at-rise s size u t = go (line_header_at (line_source s) size u)
+line_table_at-rise s size base u t = go (line_header_at (line_source s base) size u)
   where
     go : (r : Result LineHeader Flaw) → (r >>= λ h. checked_table h (instructions (s.relocations Line) h h.program)) ≡ Ok t → All RowsRise (segments t)
     go (Err flaw) e = absurd (cc)
     go (Ok h) e = checked_table-rise h (instructions (s.relocations Line) h h.program) t e
 
-pub line_table-rise : (s : Sections) (size offset : ℕ) (t : LineTable) → line_table s size offset ≡ Ok t → All RowsRise (segments t)
+pub line_table-rise : (s : Sections) (size base offset : ℕ) (t : LineTable) → line_table s size base offset ≡ Ok t → All RowsRise (segments t)
 unfolding line_table
-line_table-rise s size offset t = go (line_table_at s size (section_from s Line offset)) (line_table_at-rise s size (section_from s Line offset) t)
+line_table-rise s size base offset t = go (line_table_at s size base (section_from s Line offset)) (line_table_at-rise s size base (section_from s Line offset) t)
   where
     go : (r : Result LineTable Flaw) → (r ≡ Ok t → All RowsRise (segments t)) → reported LineTableRead Line offset r ≡ Ok t → All RowsRise (segments t)
     go (Err flaw) h e = absurd (cc)

@@ -45,8 +45,9 @@ pub record FitsDirectories (directories : ℕ) (f : LineFile) : Type 0 where
 pub record IsRead (t : LineTable) : Type 0 where
   pub sections : Sections
   pub address_size : ℕ
+  pub base : ℕ
   pub offset : ℕ
-  pub is_read : line_table sections address_size offset ≡ Ok t
+  pub is_read : line_table sections address_size base offset ≡ Ok t
   pub files : has_all_files t ≡ true
 
 -- Functions as a transform keeps them, none of whose address maps is bad.
