@@ -3,6 +3,7 @@ use Rattle.std.proofs.Common.{◌≡◌, ℕ, List, [], ◌∷◌, ◌++◌, len
 use Rattle.std.proofs.lemmas.List.{get_or_append_left, length-append}
 use Rattle.std.proofs.Math.Seq.{get_or-append_seam}
 use Rattle.dwc_base.specs.Sections.{Sections}
+use Rattle.dwc_base.specs.Indexed.{text_base}
 use Rattle.dwc_base.specs.Functions.{Function}
 use Rattle.dwc_write.specs.declared.units.UnitId.{UnitId}
 use Rattle.dwc_write.specs.GivenUnits.{GivenUnit}
@@ -26,16 +27,16 @@ module _ (fs : List Function) (size : ℕ) where
 
   -- a unit that names a table, or none
   pub last-carried : (us : List GivenUnit) (r : ReadUnit) (u : GivenUnit) (id : UnitId) (last : Option LastLines) → id.index ≡ length us → IsLast fs size r.unit.sections us last → CarriesRead fs size r u
-      → IsLast fs size r.unit.sections (us ++ u ∷ []) (last_after r.entries.line_table r.unit.header.address_size id last)
+      → IsLast fs size r.unit.sections (us ++ u ∷ []) (last_after r.entries.line_table r.unit.header.address_size (text_base r.unit.sections r.unit.header) id last)
   last-carried us r u id last at h carried =
-      let P : GivenUnit → Type 0 = λ v. CarriesNamed fs r.unit.sections r.unit.header.address_size size r.entries.line_table v.lines in
+      let P : GivenUnit → Type 0 = λ v. CarriesNamed fs r.unit.sections r.unit.header size r.entries.line_table v.lines in
       go r.entries.line_table (subst P (sym carried.is) carried.carries)
     where
-      go : (o : Option ℕ) → CarriesNamed fs r.unit.sections r.unit.header.address_size size o u.lines → IsLast fs size r.unit.sections (us ++ u ∷ []) (last_after o r.unit.header.address_size id last)
+      go : (o : Option ℕ) → CarriesNamed fs r.unit.sections r.unit.header size o u.lines → IsLast fs size r.unit.sections (us ++ u ∷ []) (last_after o r.unit.header.address_size (text_base r.unit.sections r.unit.header) id last)
       go None named = kept r.unit.sections us u last h
       go (Some offset) named =
           let same : (v : GivenUnit) → v ≡ get_or (us ++ u ∷ []) id.index v → v ≡ u = λ v is. is ∙ ap (λ i. get_or (us ++ u ∷ []) i v) at ∙ get_or-append_seam us u [] v in
-          let Q : GivenUnit → Type 0 = λ v. (v.address_size ≡ size) × CarriesTableAt fs r.unit.sections r.unit.header.address_size size offset v.lines in
+          let Q : GivenUnit → Type 0 = λ v. (v.address_size ≡ size) × CarriesTableAt fs r.unit.sections r.unit.header.address_size (text_base r.unit.sections r.unit.header) size offset v.lines in
           record {
             within = omega (arith, at, length-append us (u ∷ []));
             carries = λ v is. subst Q (sym (same v is)) (ap (λ (x : GivenUnit). x.address_size) carried.is, named);

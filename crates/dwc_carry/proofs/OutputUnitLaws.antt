@@ -1,6 +1,7 @@
 -- Entries that are added one behind the other.
 use Rattle.std.proofs.Common.{◌≡◌, ℕ, zero, suc, ◌+◌, ◌<◌, List, [], ◌∷◌, ◌++◌, length, map, take, get_or, refl, ap, sym, ◌∙◌, arith, Bool, Option, Some, None, is_some}
 use Rattle.dwc_base.specs.Sections.{Sections}
+use Rattle.dwc_base.specs.Units.{UnitHeader}
 use Rattle.dwc_base.specs.Functions.{Function}
 use Rattle.dwc_write.specs.declared.attributes.AttributeValue.{AttributeValue}
 use Rattle.dwc_write.specs.GivenUnits.{Addition, GivenUnit, IsAdded, IsWritable, ordered, with_additions, with_value, places_from, place_of, set_in, set_in_addition}
@@ -53,6 +54,6 @@ subprogram-more size lines has_table ss i d within =
     taken (x ∷ ss) (suc i) d within = ap (λ xs. subprogram_entry x ∷ xs) (taken ss i d (omega arith))
 
 -- The unit that carries a line table can be written.
-pub named-writable : (fs : List Function) (s : Sections) (address_size size : ℕ) (offset : Option ℕ) (lines : GivenLines) (subprograms : List Subprogram) → CarriesNamed fs s address_size size offset lines → IsWritable size (ordered (output_unit size lines (is_some offset) subprograms))
-named-writable fs s address_size size None lines subprograms h = record { size = refl; ended = ap (λ (g : GivenLines). g.begun) h; named = sym (ap (λ (g : GivenLines). is_some g.address_size) h) }
-named-writable fs s address_size size (Some offset) lines subprograms h = record { size = refl; ended = h.carries.ended; named = sym (ap is_some h.carries.address_size) }
+pub named-writable : (fs : List Function) (s : Sections) (h : UnitHeader) (size : ℕ) (offset : Option ℕ) (lines : GivenLines) (subprograms : List Subprogram) → CarriesNamed fs s h size offset lines → IsWritable size (ordered (output_unit size lines (is_some offset) subprograms))
+named-writable fs s h size None lines subprograms named = record { size = refl; ended = ap (λ (g : GivenLines). g.begun) named; named = sym (ap (λ (g : GivenLines). is_some g.address_size) named) }
+named-writable fs s h size (Some offset) lines subprograms named = record { size = refl; ended = named.carries.ended; named = sym (ap is_some named.carries.address_size) }

@@ -10,6 +10,7 @@ use Rattle.dwc_base.specs.Units.{UnitHeader}
 use Rattle.dwc_base.specs.Entries.{Entry, entries, attribute}
 use Rattle.dwc_base.specs.Functions.{Function}
 use Rattle.dwc_base.specs.Kept.{is_required}
+use Rattle.dwc_base.specs.Indexed.{text_base}
 use Rattle.dwc_base.specs.LineRows.{LineTable, line_table}
 use Rattle.dwc_base.specs.Images.{is_carried_segment, IsImageOf}
 use Rattle.dwc_base.specs.Carried.{Unit, root, Module, has_root_tag, table_of_unit, table_of_root, segments_of, segments_of_unit, line_offset}
@@ -63,19 +64,19 @@ any-some {X} p (x ∷ xs) = go (p x) (any-some p xs)
     go false more = more
 
 -- the line table that is named at an offset, if it is
-abbrev named : Sections → ℕ → Option ℕ → Result (Option LineTable) Fault
-named s address_size None = Ok None
-named s address_size (Some offset) = line_table s address_size offset >>= λ t. Ok (Some t)
+abbrev named : Sections → UnitHeader → Option ℕ → Result (Option LineTable) Fault
+named s h None = Ok None
+named s h (Some offset) = line_table s h.address_size (text_base s h) offset >>= λ t. Ok (Some t)
 
-table-named : (s : Sections) (u : Unit) → table_of_unit s u ≡ named s u.header.address_size (table_offset (first_of u.entries))
+table-named : (s : Sections) (u : Unit) → table_of_unit s u ≡ named s u.header (table_offset (first_of u.entries))
 unfolding table_of_unit
-table-named s u = go (root u) ∙ ap (λ o. named s u.header.address_size (table_offset o)) (root-first u)
+table-named s u = go (root u) ∙ ap (λ o. named s u.header (table_offset o)) (root-first u)
   where
-    inner : (o : Option ℕ) → (let t : Result (Option LineTable) Fault = elim o [ None ↦ Ok None | Some offset ↦ (line_table s u.header.address_size offset >>= λ t. Ok (Some t)) ] in t) ≡ named s u.header.address_size o
+    inner : (o : Option ℕ) → (let t : Result (Option LineTable) Fault = elim o [ None ↦ Ok None | Some offset ↦ (line_table s u.header.address_size (text_base s u.header) offset >>= λ t. Ok (Some t)) ] in t) ≡ named s u.header o
     inner None = refl
     inner (Some offset) = refl
 
-    go : (o : Option Entry) → table_of_root s u o ≡ named s u.header.address_size (table_offset o)
+    go : (o : Option Entry) → table_of_root s u o ≡ named s u.header (table_offset o)
     go None = refl
     go (Some e) = inner (line_offset (attribute DW_AT_stmt_list e))
 
@@ -88,23 +89,23 @@ module _ (m : Module) where
         let some : list_any (is_required m.functions) (entries m.sections h).items ≡ nat_lt 0 (vec_len r.entries.subprograms) = any-some (is_required m.functions) (entries m.sections h).items ∙ ap (nat_lt 0) (sym count) in
         ap (λ b. b && list_any (is_required m.functions) (entries m.sections h).items) tag ∙ ap (λ b. r.entries.is_compile_unit && b) some
 
-    refusal-same : unit_refusal m.sections (unit_of m.sections h) ≡ lines_refusal r.unit.sections r.unit.header.address_size r.entries.line_table
+    refusal-same : unit_refusal m.sections (unit_of m.sections h) ≡ lines_refusal r.unit.sections r.unit.header r.entries.line_table
     refusal-same =
-        ap (λ o. lines_refusal m.sections h.address_size (table_offset o)) (root-first (unit_of m.sections h))
-        ∙ ap (lines_refusal m.sections h.address_size) (sym (read.entries).line_table)
-        ∙ ap (λ k. lines_refusal m.sections k.address_size r.entries.line_table) (sym read.header)
-        ∙ ap (λ s. lines_refusal s r.unit.header.address_size r.entries.line_table) (sym read.sections)
+        ap (λ o. lines_refusal m.sections h (table_offset o)) (root-first (unit_of m.sections h))
+        ∙ ap (lines_refusal m.sections h) (sym (read.entries).line_table)
+        ∙ ap (λ k. lines_refusal m.sections k r.entries.line_table) (sym read.header)
+        ∙ ap (λ s. lines_refusal s r.unit.header r.entries.line_table) (sym read.sections)
 
-    table-same : table_of_unit m.sections (unit_of m.sections h) ≡ named r.unit.sections r.unit.header.address_size r.entries.line_table
+    table-same : table_of_unit m.sections (unit_of m.sections h) ≡ named r.unit.sections r.unit.header r.entries.line_table
     table-same =
         table-named m.sections (unit_of m.sections h)
-        ∙ ap (named m.sections h.address_size) (sym (read.entries).line_table)
-        ∙ ap (λ k. named m.sections k.address_size r.entries.line_table) (sym read.header)
-        ∙ ap (λ s. named s r.unit.header.address_size r.entries.line_table) (sym read.sections)
+        ∙ ap (named m.sections h) (sym (read.entries).line_table)
+        ∙ ap (λ k. named m.sections k r.entries.line_table) (sym read.header)
+        ∙ ap (λ s. named s r.unit.header r.entries.line_table) (sym read.sections)
 
     module _ (size : ℕ) (kept : IsKeptWhole m (unit_of m.sections h)) where
       with-table : (lines : GivenLines) (t : Option LineTable) → table_of_unit m.sections (unit_of m.sections h) ≡ Ok t
-          → CarriesNamed m.functions r.unit.sections r.unit.header.address_size size r.entries.line_table lines
+          → CarriesNamed m.functions r.unit.sections r.unit.header size r.entries.line_table lines
           → AllZip (IsImageOf m.functions) (filter (is_carried_segment m.functions) (segments_of t)) (given_segments lines)
           → widest_table_for lines.address_size lines ≤ widest_table m.functions (Ok t)
           → is_some t ≡ is_some r.entries.line_table
@@ -119,19 +120,19 @@ module _ (m : Module) where
             ∙ ap (λ subs. root_said (is_some r.entries.line_table) ∷ map subprogram_said subs) (read.entries).subprograms
             ∙ sym (kept.tree (is_some r.entries.line_table) (λ none. ap is_some ((read.entries).line_table ∙ none)))
             ∙ sym (ap (λ b. map (λ p. entry_made m.functions b p.entry) (kept_of_unit m (unit_of m.sections h))) (ap has_line_table table ∙ same));
-        writable = named-writable m.functions r.unit.sections r.unit.header.address_size size r.entries.line_table lines r.entries.subprograms.items carries;
+        writable = named-writable m.functions r.unit.sections r.unit.header size r.entries.line_table lines r.entries.subprograms.items carries;
         widest = rw table narrow;
       }
 
-      from-lines : (lines : GivenLines) (o : Option ℕ) → r.entries.line_table ≡ o → CarriesNamed m.functions r.unit.sections r.unit.header.address_size size o lines
+      from-lines : (lines : GivenLines) (o : Option ℕ) → r.entries.line_table ≡ o → CarriesNamed m.functions r.unit.sections r.unit.header size o lines
           → IsMadeOf size (record { module_of = m; unit = unit_of m.sections h }) (output_unit size lines (is_some r.entries.line_table) r.entries.subprograms.items)
       from-lines lines None is h' =
-          let table : table_of_unit m.sections (unit_of m.sections h) ≡ Ok None = table-same ∙ ap (named r.unit.sections r.unit.header.address_size) is in
+          let table : table_of_unit m.sections (unit_of m.sections h) ≡ Ok None = table-same ∙ ap (named r.unit.sections r.unit.header) is in
           with-table lines None table (rw is h') (rw h' tt) (rw h' (omega arith)) (ap is_some (sym is))
       from-lines lines (Some offset) is h' =
           let t = h'.table in
-          let read_table : named r.unit.sections r.unit.header.address_size (Some offset) ≡ Ok (Some t) = ap (λ l. l >>= λ x. Ok (Some x)) h'.is_read in
-          let table : table_of_unit m.sections (unit_of m.sections h) ≡ Ok (Some t) = table-same ∙ ap (named r.unit.sections r.unit.header.address_size) is ∙ read_table in
+          let read_table : named r.unit.sections r.unit.header (Some offset) ≡ Ok (Some t) = ap (λ l. l >>= λ x. Ok (Some x)) h'.is_read in
+          let table : table_of_unit m.sections (unit_of m.sections h) ≡ Ok (Some t) = table-same ∙ ap (named r.unit.sections r.unit.header) is ∙ read_table in
           with-table lines (Some t) table (rw is h') h'.carries.images h'.carries.widest (ap is_some (sym is))
 
       -- What carries a unit that was read is made of the unit.
@@ -151,12 +152,12 @@ module _ (m : Module) where
           → filter_map (λ x. x) (map (unit_refusal m.sections) (filter (is_compiled m.functions) (map (unit_of m.sections) (h ∷ hs)))) ≡ refusals_of (r ∷ rs)
       go true is more =
           ap (λ us. filter_map (λ x. x) (map (unit_refusal m.sections) us)) (filter-in (is_compiled m.functions) (unit_of m.sections h) (map (unit_of m.sections) hs) (carried-same h r read.0 ∙ is))
-          ∙ ap (λ o. cons_option o (filter_map (λ x. x) (map (unit_refusal m.sections) (filter (is_compiled m.functions) (map (unit_of m.sections) hs))))) (refusal-same h r read.0 ∙ sym (ap (λ b. refusal_if b (lines_refusal r.unit.sections r.unit.header.address_size r.entries.line_table)) is))
+          ∙ ap (λ o. cons_option o (filter_map (λ x. x) (map (unit_refusal m.sections) (filter (is_compiled m.functions) (map (unit_of m.sections) hs))))) (refusal-same h r read.0 ∙ sym (ap (λ b. refusal_if b (lines_refusal r.unit.sections r.unit.header r.entries.line_table)) is))
           ∙ ap (cons_option (refusal_if_carried r)) more
       go false is more =
           ap (λ us. filter_map (λ x. x) (map (unit_refusal m.sections) us)) (filter-out (is_compiled m.functions) (unit_of m.sections h) (map (unit_of m.sections) hs) (carried-same h r read.0 ∙ is))
           ∙ more
-          ∙ sym (ap (λ b. cons_option (refusal_if b (lines_refusal r.unit.sections r.unit.header.address_size r.entries.line_table)) (refusals_of rs)) is)
+          ∙ sym (ap (λ b. cons_option (refusal_if b (lines_refusal r.unit.sections r.unit.header r.entries.line_table)) (refusals_of rs)) is)
 
   -- what carries the units that were read is made of the units
   pub made-same : (size : ℕ) (hs : List UnitHeader) (rs : List ReadUnit) (us : List GivenUnit) → AllZip (IsReadUnit m.functions m.sections) hs rs

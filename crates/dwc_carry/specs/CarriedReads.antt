@@ -21,7 +21,7 @@ refusal_if false refusal = None
 refusal_if true refusal = refusal
 
 abbrev pub refusal_if_carried : ReadUnit → Option Refusal
-refusal_if_carried r = refusal_if (is_carried r) (lines_refusal r.unit.sections r.unit.header.address_size r.entries.line_table)
+refusal_if_carried r = refusal_if (is_carried r) (lines_refusal r.unit.sections r.unit.header r.entries.line_table)
 
 -- what is refused of some units
 abbrev pub refusals_of : List ReadUnit → List Refusal
@@ -30,7 +30,7 @@ refusals_of rs = filter_map refusal_if_carried rs
 -- The unit of the output that carries a unit which was read.
 pub record CarriesRead (fs : List Function) (size : ℕ) (r : ReadUnit) (u : GivenUnit) : Type 0 where
   pub lines : GivenLines
-  pub carries : CarriesNamed fs r.unit.sections r.unit.header.address_size size r.entries.line_table lines
+  pub carries : CarriesNamed fs r.unit.sections r.unit.header size r.entries.line_table lines
   pub is : u ≡ output_unit size lines (is_some r.entries.line_table) r.entries.subprograms.items
 
 -- A unit of the output for one that is carried, or none for another.

@@ -7,7 +7,7 @@ ghost use Rattle.dwc_carry.specs.UnitPrograms.{GivesBegun};
 use crate::DebugError;
 use crate::last_lines::LastLines;
 use dwc_addr::AddressTransform;
-use dwc_base::Encoding;
+use dwc_base::{Encoding, SectionName};
 use dwc_image::carried_lines;
 use dwc_read::Unit;
 use dwc_tabs::LineTable;
@@ -30,7 +30,7 @@ pub(crate) fn begun_unit(
     requires size { (encoding.address_size ≡ 4) ⊎ (encoding.address_size ≡ 8) }
     requires functions { AreKept transform.now }
     requires known { IsLast transform.now encoding.address_size unit.now.sections units.now.units.items last }
-    ensures { GivesBegun transform.now unit.now.sections unit.now.header.address_size encoding.address_size line_table result }
+    ensures { GivesBegun transform.now unit.now.sections unit.now.header encoding.address_size line_table result }
 {
     let Some(offset) = line_table else {
         let none = LineProgram::none(alloc);
@@ -39,6 +39,7 @@ pub(crate) fn begun_unit(
     if let Some(known) = last
         && known.offset == offset
         && known.address_size == unit.address_size()
+        && known.base == unit.index_base(SectionName::StrOffsets)
     {
         return Ok(dwc_write::Unit::sharing(alloc, units.get(known.unit))?);
     }

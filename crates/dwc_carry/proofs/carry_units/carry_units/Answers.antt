@@ -1,6 +1,7 @@
 use Rattle.std.proofs.Common.{◌+◌, [], ◌∷◌, ◌++◌, drop, sym, ap, ◌∙◌, subst}
 use Rattle.std.proofs.lemmas.List.{drop_more, drop_all}
 use Rattle.dwc_base.specs.Sections.{Sections}
+use Rattle.dwc_base.specs.Indexed.{text_base}
 use Rattle.dwc_write.specs.declared.units.UnitId.{UnitId}
 use Rattle.dwc_carry.specs.declared.read_units.ReadUnit.{ReadUnit}
 use Rattle.dwc_carry.specs.LastLines.{AreOf, IsLast, last_after}
@@ -27,7 +28,7 @@ loop-i-preserved c =
       known = λ s same. elim c.match-branch-2.branch [
         | in-Some+in_ok-id w ↦
             let behind = last-carried fs size c.loop-i.units.units.items r w.in-Some.unit w.in_ok-id.id c.loop-i.last (ap (λ (i : UnitId). i.index) w.in_ok-id.ensures.id) (subst (λ x. IsLast fs size x c.loop-i.units.units.items c.loop-i.last) (sym (sections s same)) (c.loop-i.invariant.known s same)) (rw w.in-Some.is at c.in_ok-unit.ensures).1.1 in
-            rw (w.units-is, w.last-is, w.last_after-last.ensures, w.in_ok-id.ensures.ok) (subst (λ x. IsLast fs size x (c.loop-i.units.units.items ++ w.in-Some.unit ∷ []) (last_after r.entries.line_table r.unit.header.address_size w.in_ok-id.id c.loop-i.last)) (sections s same) behind)
+            rw (w.units-is, w.last-is, w.last_after-last.ensures, w.in_ok-id.ensures.ok) (subst (λ x. IsLast fs size x (c.loop-i.units.units.items ++ w.in-Some.unit ∷ []) (last_after r.entries.line_table r.unit.header.address_size (text_base r.unit.sections r.unit.header) w.in_ok-id.id c.loop-i.last)) (sections s same) behind)
         | in_default w ↦ rw (w.units-is, w.last-is) (c.loop-i.invariant.known s same)
       ];
     }
