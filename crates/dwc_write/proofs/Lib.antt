@@ -43,3 +43,4 @@ pub mod WidestLaws
 pub mod WidestTreeLaws
 pub mod WideLaws
 pub mod ReferenceSmall
+mod TextSets

@@ -8,6 +8,7 @@ pub mod Writers
 pub mod GivenLines
 pub mod LineViews
 pub mod NameViews
+pub mod TextTables
 pub mod GivenUnits
 pub mod Layouts
 pub mod UnitViews
