@@ -11,7 +11,6 @@ use Rattle.dwc_write.specs.Spelled.{at_places}
 use Rattle.dwc_write.specs.SpelledUnits.{shaped}
 use Rattle.dwc_write.specs.GivenUnits.{EntryShape, GivenEntry, OrderedUnit, Places, size_of, written_entries}
 use Rattle.dwc_write.specs.Layouts.{UnitPlaces, offset_among, offset_if_added, offsets_by_number, places_of_units, unit_length}
-use Rattle.dwc_write.specs.SpelledOutput.{all_places}
 use Rattle.dwc_write.specs.LayoutViews.{Advances, AdvancesOrMemory, offset_known, places_view}
 use Rattle.dwc_write.specs.declared.layout.UnitLayout.{UnitLayout}
 
@@ -69,7 +68,7 @@ shaped-many p shapes (e ∷ es) = ap suc (shaped-many p shapes es)
 
 -- what is found of the first units, with what is to be found of those that are left, is the whole
 pub record IsLaying (order : Endian) (us : List OrderedUnit) (i start : ℕ) (ps : List UnitPlaces) : Type 0 where
-  pub places : ps ++ places_of_units order (size_of us) start (drop i us) ≡ all_places order us
+  pub places : ps ++ places_of_units order (size_of us) start (drop i us) ≡ places_of_units order (size_of us) 0 us
   pub long : start ≡ sum_by (unit_length order (size_of us)) (take i us)
 
 rest-more : (us : List OrderedUnit) (i : ℕ) (d : OrderedUnit) → i < length us → drop i us ≡ get_or us i d ∷ drop (suc i) us

@@ -44,3 +44,6 @@ pub mod WidestTreeLaws
 pub mod WideLaws
 pub mod ReferenceSmall
 mod TextSets
+mod TextLaws
+mod ReadTexts
+mod SaidTexts

@@ -5,7 +5,7 @@ use Rattle.std.proofs.lemmas.List.Elements.{All-cons, All-nil}
 use Rattle.std.proofs.lemmas.List.Kept.{AllPairs-cons}
 use Rattle.dwc_base.specs.declared.records.Endian.{Endian}
 use Rattle.dwc_base.specs.declared.section_name.SectionName.{SectionName}
-use Rattle.dwc_base.specs.declared.section_name.SectionName.TheVariants.{Abbrev, Info, Line}
+use Rattle.dwc_base.specs.declared.section_name.SectionName.TheVariants.{Abbrev, Info, Line, Str}
 use Rattle.dwc_base.specs.Sections.{section_text}
 use Rattle.dwc_base.specs.Outputs.{OutputRelocation, OutputSection}
 use Rattle.dwc_base.specs.OutputForm.{HasDistinctNames}
@@ -40,13 +40,17 @@ distinct-last name (b ∷ bytes) rs = AllPairs-cons Differ _ [] (All-nil _) none
 other-letter : (a b : SectionName) (m n : ℕ) → get_or (section_text a) 7 0 ≡ m → get_or (section_text b) 7 0 ≡ n → m < n → section_text a ≢ section_text b
 other-letter a b m n of_a of_b less e = absurd (omega (arith, of_a, of_b, less, ap (λ xs. get_or xs 7 0) e))
 
--- Abbreviations, entries and line tables have names of their own.
-distinct-three : (x y z : List ℕ) (q r : List OutputRelocation) → HasDistinctNames (section_unless_empty Abbrev x [] ++ (section_unless_empty Info y q ++ section_unless_empty Line z r))
-distinct-three x y z q r =
-    let lines = section_unless_empty Line z r in
+-- Abbreviations, entries, line tables and texts have names of their own.
+distinct-four : (x y z w : List ℕ) (q r : List OutputRelocation) → HasDistinctNames (section_unless_empty Abbrev x [] ++ (section_unless_empty Info y q ++ (section_unless_empty Line z r ++ section_unless_empty Str w [])))
+distinct-four x y z w q r =
+    let texts = section_unless_empty Str w [] in
+    let lines = section_unless_empty Line z r ++ texts in
     distinct-written Abbrev x [] (section_unless_empty Info y q ++ lines)
-    (all-written (λ t. section_text Abbrev ≢ t.name) Info y q lines (other-letter Abbrev Info 97 105 refl refl (lit< tt)) (last-written (λ t. section_text Abbrev ≢ t.name) Line z r (other-letter Abbrev Line 97 108 refl refl (lit< tt))))
-    (distinct-written Info y q lines (last-written (λ t. section_text Info ≢ t.name) Line z r (other-letter Info Line 105 108 refl refl (lit< tt))) (distinct-last Line z r))
+    (all-written (λ t. section_text Abbrev ≢ t.name) Info y q lines (other-letter Abbrev Info 97 105 refl refl (lit< tt))
+    (all-written (λ t. section_text Abbrev ≢ t.name) Line z r texts (other-letter Abbrev Line 97 108 refl refl (lit< tt)) (last-written (λ t. section_text Abbrev ≢ t.name) Str w [] (other-letter Abbrev Str 97 115 refl refl (lit< tt)))))
+    (distinct-written Info y q lines
+    (all-written (λ t. section_text Info ≢ t.name) Line z r texts (other-letter Info Line 105 108 refl refl (lit< tt)) (last-written (λ t. section_text Info ≢ t.name) Str w [] (other-letter Info Str 105 115 refl refl (lit< tt))))
+    (distinct-written Line z r texts (last-written (λ t. section_text Line ≢ t.name) Str w [] (other-letter Line Str 108 115 refl refl (lit< tt))) (distinct-last Str w [])))
 
-pub distinct-names : (order : Endian) (us : List OrderedUnit) → HasDistinctNames (spelled_sections order us)
-distinct-names order us = distinct-three _ _ _ _ _
+pub distinct-names : (order : Endian) (texts : List (List ℕ)) (us : List OrderedUnit) → HasDistinctNames (spelled_sections order texts us)
+distinct-names order texts us = distinct-four _ _ _ _ _ _

@@ -6,7 +6,7 @@ use Rattle.std.specs.List.{All, flat_map}
 use Rattle.std.proofs.lemmas.List.Elements.{All-head, All-tail, All-cons, All-nil, All-weaker}
 use Rattle.dwc_base.specs.declared.records.Endian.{Endian}
 use Rattle.dwc_base.specs.declared.section_name.SectionName.{SectionName}
-use Rattle.dwc_base.specs.declared.section_name.SectionName.TheVariants.{Abbrev, Info, Line}
+use Rattle.dwc_base.specs.declared.section_name.SectionName.TheVariants.{Abbrev, Info, Line, Str}
 use Rattle.dwc_base.specs.Outputs.{OutputRelocation, OutputSection}
 use Rattle.dwc_write.specs.declared.error.WriteError.{WriteError}
 use Rattle.dwc_write.specs.declared.error.WriteError.TheVariants.{TooLarge, OutOfMemory}
@@ -17,9 +17,10 @@ use Rattle.dwc_write.specs.SpelledSections.{placed_unit_bytes, tables_bytes, inf
 use Rattle.dwc_write.specs.SpelledRelocations.{unit_relocations, info_relocations, one_table_relocations, lines_relocations, RelocationsRise, DoRelocationsRise}
 use Rattle.dwc_write.proofs.ReadRelocations.{info-rise, lines-rise, rise-above}
 use Rattle.dwc_write.specs.GivenUnits.{GivenEntry, OrderedUnit, Places, IsWritable, size_of, AreWritable}
-use Rattle.dwc_write.specs.Layouts.{UnitPlaces, offsets_by_number, places_in, written_lines, written_unit, written_units, written_tables}
+use Rattle.dwc_write.specs.Layouts.{AllPlaces, offsets_by_number, places_in, written_lines, written_unit, written_units, written_tables}
+use Rattle.dwc_write.specs.UsedTexts.{strings_bytes}
 use Rattle.dwc_write.specs.Writers.{Writing, Refuses, Writes, IsSound, appended, most_bytes}
-use Rattle.dwc_write.specs.SpelledOutput.{section_unless_empty, sections_of, sections_placed, units_placed, all_places, spelled_sections, unit_of, WritesUnit, WrittenSections, places_there, unit_in, with_unit, RefusesUnit, WritesOne, empty_section, with_units, all_units, IsRefusalAmong, IsRefusal, bytes_of, abbrev_bytes, all_info_bytes, all_lines_bytes}
+use Rattle.dwc_write.specs.SpelledOutput.{section_unless_empty, sections_of, sections_placed, units_placed, all_places, spelled_sections, unit_of, WritesUnit, WrittenSections, places_there, unit_in, with_unit, RefusesUnit, WritesOne, empty_section, with_units, all_units, IsRefusalAmong, IsRefusal, bytes_of, abbrev_bytes, all_info_bytes, all_lines_bytes, section_bytes}
 use Rattle.dwc_write.proofs.WritesLaws.{refused-longer, refused-later, appended-twice, appended-nothing}
 
 -- ---- one unit
@@ -46,12 +47,12 @@ unit-result a a' i i' (Ok done) size places es bytes written table info = (writt
 unit-result a a' i i' (Err e) size places es bytes written table info = inl (refused-longer e a _ _ written (omega (arith, ap length table)))
 
 -- a unit behind its line table
-pub one-refused : (result : Result (Unit {0}) WriteError) (e : WriteError) (units : List UnitPlaces) (w w' : WrittenSections) (u : OrderedUnit) → ((error : WriteError) × (result ≡ Err error) × (error ≡ e)) → Refuses e w.line_section (length (lines_bytes w.line_section.order u.address_size (written_lines u.lines))) → WritesOne units w w' result u
+pub one-refused : (result : Result (Unit {0}) WriteError) (e : WriteError) (units : AllPlaces) (w w' : WrittenSections) (u : OrderedUnit) → ((error : WriteError) × (result ≡ Err error) × (error ≡ e)) → Refuses e w.line_section (length (lines_bytes w.line_section.order u.address_size (written_lines u.lines))) → WritesOne units w w' result u
 one-refused result e units w w' u p refused =
     let is : result ≡ Err e = p.1 ∙ ap Err p.2 in
     rw (is) (inr (inr refused))
 
-pub one-written : (result : Result (Unit {0}) WriteError) (units : List UnitPlaces) (w w' : WrittenSections) (u : OrderedUnit) (a' i' l' : Writing) → l' ≡ appended (lines_bytes w.line_section.order u.address_size (written_lines u.lines)) (lines_relocations w.line_section.order u.address_size (length w.line_section.body) (written_lines u.lines)) w.line_section
+pub one-written : (result : Result (Unit {0}) WriteError) (units : AllPlaces) (w w' : WrittenSections) (u : OrderedUnit) (a' i' l' : Writing) → l' ≡ appended (lines_bytes w.line_section.order u.address_size (written_lines u.lines)) (lines_relocations w.line_section.order u.address_size (length w.line_section.body) (written_lines u.lines)) w.line_section
     → WritesUnit w.abbrev_section a' w.info_section i' result u.address_size (places_there units w u) u.entries → w' ≡ record { abbrev_section = a'; info_section = i'; line_section = l' } → WritesOne units w w' result u
 one-written (Ok done) units w w' u a' i' l' lines unit is = is ∙ rw (unit.0, unit.1, lines) refl
 one-written (Err e) units w w' u a' i' l' lines (inl refused) is = inl refused
@@ -60,7 +61,7 @@ one-written (Err e) units w w' u a' i' l' lines (inr refused) is = inr (inl refu
 -- ---- all of them
 
 -- what is there with those that are left is the whole
-pub units-more : (order : Endian) (units : List UnitPlaces) (us all : List OrderedUnit) (i : ℕ) (d : OrderedUnit) (w w' : WrittenSections) → i < length us → with_units units (drop i us) w ≡ all_units order units all → w' ≡ with_unit units (get_or us i d) w → with_units units (drop (suc i) us) w' ≡ all_units order units all
+pub units-more : (order : Endian) (units : AllPlaces) (us all : List OrderedUnit) (i : ℕ) (d : OrderedUnit) (w w' : WrittenSections) → i < length us → with_units units (drop i us) w ≡ all_units order units all → w' ≡ with_unit units (get_or us i d) w → with_units units (drop (suc i) us) w' ≡ all_units order units all
 units-more order units [] all i d w w' within invariant step = absurd (omega arith)
 units-more order units (u ∷ us) all zero d w w' within invariant step = ap (with_units units us) step ∙ invariant
 units-more order units (u ∷ us) all (suc i) d w w' within invariant step = units-more order units us all i d w w' (omega arith) invariant step
@@ -70,7 +71,7 @@ units-more order units (u ∷ us) all (suc i) d w w' within invariant step = uni
 three-equal : {a b i j l m : Writing} → a ≡ b → i ≡ j → l ≡ m → ◌≡◌ {A = WrittenSections} (record { abbrev_section = a; info_section = i; line_section = l }) (record { abbrev_section = b; info_section = j; line_section = m })
 three-equal {a} {b} {i} {j} {l} {m} p q r = rw (p, q, r) refl
 
-module _ (order : Endian) (size : ℕ) (units : List UnitPlaces) where
+module _ (order : Endian) (size : ℕ) (units : AllPlaces) where
   -- sections of this order
   record AreOf (w : WrittenSections) : Type 0 where
     info : w.info_section.order ≡ order
@@ -135,11 +136,11 @@ writable-sizes : (us : List OrderedUnit) → AreWritable us → All (λ u. u.add
 writable-sizes us fits = All-weaker (IsWritable (size_of us)) (λ u. u.address_size ≡ size_of us) (λ u h. h.size) us fits
 
 -- what is appended to empty sections
-abbrev pub all_of : Endian → List UnitPlaces → List OrderedUnit → WrittenSections
+abbrev pub all_of : Endian → AllPlaces → List OrderedUnit → WrittenSections
 all_of order units us = appended_units order (size_of us) units us (record { abbrev_section = empty_section order Abbrev; info_section = empty_section order Info; line_section = empty_section order Line })
 
 -- The sections of all units are the ones that are spelled.
-pub all-appended : (order : Endian) (units : List UnitPlaces) (us : List OrderedUnit) → AreWritable us → all_units order units us ≡ all_of order units us
+pub all-appended : (order : Endian) (units : AllPlaces) (us : List OrderedUnit) → AreWritable us → all_units order units us ≡ all_of order units us
 all-appended order units us fits = with_units-appended order (size_of us) units us _ (record { info = refl; line = refl }) (writable-sizes us fits)
 
 -- ---- a refusal
@@ -153,7 +154,7 @@ record Grown (w v : WrittenSections) : Type 0 where
   line_name : w.line_section.name ≡ v.line_section.name
   line_more : length w.line_section.body ≤ length v.line_section.body
 
-grown-units : (units : List UnitPlaces) (us : List OrderedUnit) (w : WrittenSections) → Grown w (with_units units us w)
+grown-units : (units : AllPlaces) (us : List OrderedUnit) (w : WrittenSections) → Grown w (with_units units us w)
 grown-units units [] w = record { abbrev_name = refl; abbrev_more = omega arith; info_name = refl; info_more = omega arith; line_name = refl; line_more = omega arith }
 grown-units units (u ∷ us) w =
     let on = grown-units units us (with_unit units u w) in
@@ -166,7 +167,7 @@ grown-units units (u ∷ us) w =
       line_more = let h = on.line_more in omega (arith, h, length-append w.line_section.body (lines_bytes w.line_section.order u.address_size (written_lines u.lines)));
     }
 
-pub section-refused : (order : Endian) (units : List UnitPlaces) (us : List OrderedUnit) (e : WriteError) (a b : Writing) (name : SectionName) (x : List ℕ) → Refuses e a (length x) → a.name ≡ b.name → length (a.body ++ x) ≤ length b.body → b.name ≡ name → b.body ≡ bytes_of order units us name → IsRefusalAmong order units us e
+pub section-refused : (order : Endian) (units : AllPlaces) (us : List OrderedUnit) (e : WriteError) (a b : Writing) (name : SectionName) (x : List ℕ) → Refuses e a (length x) → a.name ≡ b.name → length (a.body ++ x) ≤ length b.body → b.name ≡ name → b.body ≡ bytes_of order units us name → IsRefusalAmong order units us e
 section-refused order units us OutOfMemory a b name x refused named more final is = tt
 section-refused order units us (TooLarge (Section n)) a b name x refused named more final is =
     let same : n ≡ name = refused.0 ∙ named ∙ final in
@@ -176,7 +177,7 @@ section-refused order units us (TooLarge (Section n)) a b name x refused named m
     subst P (sym same) (omega (arith, large, more, long, length-append a.body x))
 
 -- A unit that is refused is a refusal of all.
-pub units-refused : (order : Endian) (units : List UnitPlaces) (us : List OrderedUnit) (i : ℕ) (d : OrderedUnit) (w : WrittenSections) (e : WriteError) → i < length us → AreWritable us → with_units units (drop i us) w ≡ all_units order units us → RefusesUnit e units w (get_or us i d) → IsRefusalAmong order units us e
+pub units-refused : (order : Endian) (units : AllPlaces) (us : List OrderedUnit) (i : ℕ) (d : OrderedUnit) (w : WrittenSections) (e : WriteError) → i < length us → AreWritable us → with_units units (drop i us) w ≡ all_units order units us → RefusesUnit e units w (get_or us i d) → IsRefusalAmong order units us e
 units-refused order units us i d w e within fits invariant refused =
     let u = get_or us i d in
     let final : with_units units (drop (suc i) us) (with_unit units u w) ≡ all_of order units us =
@@ -191,24 +192,34 @@ units-refused order units us i d w e within fits invariant refused =
     go (inr (inr refused)) grown = section-refused order units us e w.line_section (all_of order units us).line_section Line (lines_bytes w.line_section.order (get_or us i d).address_size (written_lines (get_or us i d).lines)) refused grown.line_name grown.line_more refl refl
 
 -- among their own places it is the refusal of the units
-pub refusal-of-all : (order : Endian) (units : List UnitPlaces) (us : List OrderedUnit) (e : WriteError) → units ≡ all_places order us → IsRefusalAmong order units us e → IsRefusal order us e
-refusal-of-all order units us e placed refused = subst (λ xs. IsRefusalAmong order xs us e) placed refused
+pub refusal-of-all : (order : Endian) (units : AllPlaces) (texts : List (List ℕ)) (us : List OrderedUnit) (e : WriteError) → units ≡ all_places order texts us → IsRefusalAmong order units us e → IsRefusal order texts us e
+refusal-of-all order units texts us OutOfMemory placed refused = tt
+refusal-of-all order units texts us (TooLarge (Section name)) placed refused = go name (subst (λ xs. most_bytes < length (bytes_of order xs us name)) placed refused)
+  where
+    go : (n : SectionName) → most_bytes < length (bytes_of order (all_places order texts us) us n) → most_bytes < length (section_bytes order texts us n)
+    go Abbrev large = large
+    go Info large = large
+    go Line large = large
+    go Str large = absurd (omega (arith, large))
+    go _ large = large
 
 -- the error of a call, for a function that answers something else
-pub units-exit : {A : Type 0} (order : Endian) (units : List UnitPlaces) (us : List OrderedUnit) (result : Result A WriteError) (e : WriteError) → ((error : WriteError) × (result ≡ Err error) × (error ≡ e)) → IsRefusalAmong order units us e → IfErr result (λ x. IsRefusalAmong order units us x)
+pub units-exit : {A : Type 0} (order : Endian) (units : AllPlaces) (us : List OrderedUnit) (result : Result A WriteError) (e : WriteError) → ((error : WriteError) × (result ≡ Err error) × (error ≡ e)) → IsRefusalAmong order units us e → IfErr result (λ x. IsRefusalAmong order units us x)
 units-exit order units us result e p refused =
     let is : result ≡ Err e = p.1 ∙ ap Err p.2 in
     rw (is) refused
 
 -- ---- what is gathered
 
-pub gathered : (order x y z : Endian) (none one two three : List OutputSection) → none ≡ [] → (All (IsSound x) none → All (IsSound x) one) → (All (IsSound y) one → All (IsSound y) two) → (All (IsSound z) two → All (IsSound z) three) → x ≡ order → y ≡ order → z ≡ order → All (IsSound order) three
-gathered order x y z none one two three empty first second third a b c =
+pub gathered : (order x y z w : Endian) (none one two three four : List OutputSection) → none ≡ [] → (All (IsSound x) none → All (IsSound x) one) → (All (IsSound y) one → All (IsSound y) two) → (All (IsSound z) two → All (IsSound z) three) → (All (IsSound w) three → All (IsSound w) four) → x ≡ order → y ≡ order → z ≡ order → w ≡ order
+    → All (IsSound order) four
+gathered order x y z w none one two three four empty first second third fourth a b c d =
     let start : All (IsSound x) none = rw (empty) (All-nil (IsSound x)) in
     let P : List OutputSection → Endian → Type 0 = λ ss o. All (IsSound o) ss in
     let one_sound : All (IsSound y) one = subst (P one) (a ∙ sym b) (first start) in
     let two_sound : All (IsSound z) two = subst (P two) (b ∙ sym c) (second one_sound) in
-    subst (P three) c (third two_sound)
+    let three_sound : All (IsSound w) three = subst (P three) (c ∙ sym d) (third two_sound) in
+    subst (P four) d (fourth three_sound)
 
 -- ---- for a loop over units, and for its end
 
@@ -222,12 +233,13 @@ all-taken P [] i past all = All-nil P
 all-taken P (x ∷ xs) zero past all = absurd (omega arith)
 all-taken P (x ∷ xs) (suc i) past all = All-cons P x xs (All-head P x (take i xs) all) (all-taken P xs i (omega arith) (All-tail P x (take i xs) all))
 
-pub units-done : (order : Endian) (units : List UnitPlaces) (us : List OrderedUnit) (i : ℕ) (w : WrittenSections) → length us ≤ i → with_units units (drop i us) w ≡ all_units order units us → w ≡ all_units order units us
+pub units-done : (order : Endian) (units : AllPlaces) (us : List OrderedUnit) (i : ℕ) (w : WrittenSections) → length us ≤ i → with_units units (drop i us) w ≡ all_units order units us → w ≡ all_units order units us
 units-done order units us i w past invariant = rw (drop_all i us past) at invariant
 
 -- what is gathered of all is what is spelled
-pub output-sections : (order : Endian) (units : List UnitPlaces) (us : List OrderedUnit) → units ≡ all_places order us → AreWritable us → sections_of (all_units order units us) ≡ spelled_sections order us
-output-sections order units us placed fits = ap sections_of (all-appended order units us fits) ∙ ap (λ xs. sections_placed order xs us) placed
+pub output-sections : (order : Endian) (units : AllPlaces) (texts : List (List ℕ)) (us : List OrderedUnit) → units ≡ all_places order texts us → AreWritable us → sections_of (all_units order units us) (record { order = order; name = Str; body = strings_bytes texts us; relocations = [] }) ≡ spelled_sections order texts us
+output-sections order units texts us placed fits =
+    ap (λ w. sections_of w (record { order = order; name = Str; body = strings_bytes texts us; relocations = [] })) (all-appended order units us fits) ∙ ap (λ xs. sections_placed order xs (strings_bytes texts us) us) placed
 
 pub if-ok-weaker : {A E : Type 0} (result : Result A E) (P Q : A → Type 0) → ((x : A) → P x → Q x) → IfOk result P → IfOk result Q
 if-ok-weaker (Ok x) P Q weaker h = weaker x h
@@ -243,16 +255,17 @@ part-rises : (name : SectionName) (x : List ℕ) (rs : List OutputRelocation) (r
 part-rises name [] rs rest rise others = others
 part-rises name (b ∷ x) rs rest rise others = All-cons DoRelocationsRise _ rest rise others
 
-pub sections-rise : (order : Endian) (us : List OrderedUnit) → All DoRelocationsRise (spelled_sections order us)
-sections-rise order us =
+pub sections-rise : (order : Endian) (texts : List (List ℕ)) (us : List OrderedUnit) → All DoRelocationsRise (spelled_sections order texts us)
+sections-rise order texts us =
     let size = size_of us in
-    let units = all_places order us in
+    let units = all_places order texts us in
     let ws = units_placed order units us in
     let info : RelocationsRise 0 (length (all_info_bytes order units us)) (info_relocations order size 0 ws) = from-0 (length (all_info_bytes order units us)) _ (info-rise order size 0 ws) in
     let lines : RelocationsRise 0 (length (all_lines_bytes order us)) (lines_relocations order size 0 (written_tables us)) = from-0 (length (all_lines_bytes order us)) _ (lines-rise order size 0 (written_tables us)) in
     let P : List OutputSection → Type 0 = λ ss. All DoRelocationsRise ss in
-    let last = subst P (append-nil _) (part-rises Line (all_lines_bytes order us) (lines_relocations order size 0 (written_tables us)) [] lines (All-nil DoRelocationsRise)) in
-    part-rises Abbrev (abbrev_bytes order units us) [] _ (omega arith) (part-rises Info (all_info_bytes order units us) (info_relocations order size 0 ws) _ info last)
+    let last = subst P (append-nil _) (part-rises Str (strings_bytes texts us) [] [] (omega arith) (All-nil DoRelocationsRise)) in
+    let behind = part-rises Line (all_lines_bytes order us) (lines_relocations order size 0 (written_tables us)) _ lines last in
+    part-rises Abbrev (abbrev_bytes order units us) [] _ (omega arith) (part-rises Info (all_info_bytes order units us) (info_relocations order size 0 ws) _ info behind)
   where
     from-0 : (n : ℕ) (rs : List OutputRelocation) → RelocationsRise 0 (0 + n) rs → RelocationsRise 0 n rs
     from-0 n rs rise = rise-above 0 (0 + n) n rs (omega arith) rise

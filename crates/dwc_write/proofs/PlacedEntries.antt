@@ -17,11 +17,11 @@ use Rattle.dwc_write.specs.SpelledUnits.{written_bytes, attribute_bytes, next_de
 use Rattle.dwc_write.specs.SpelledSections.{placed_unit_bytes, info_bytes, lines_bytes}
 use Rattle.dwc_write.specs.declared.attributes.Attribute.{Attribute}
 use Rattle.dwc_write.specs.declared.attributes.AttributeValue.{AttributeValue}
-use Rattle.dwc_write.specs.declared.attributes.AttributeValue.TheVariants.{Address, Constant, Flag, LineProgramRef, UnitRef, DebugInfoRef}
+use Rattle.dwc_write.specs.declared.attributes.AttributeValue.TheVariants.{Address, Constant, Flag, StringRef, LineProgramRef, UnitRef, DebugInfoRef}
 use Rattle.dwc_write.specs.declared.attributes.DebugInfoRef.TheVariants.{Entry as entry_of}
 use Rattle.dwc_write.specs.GivenUnits.{GivenEntry, OrderedUnit, Places, no_places, EntryShape, place_of, shape_of, code_in, numbered, shapes_in, written_of, written_attribute, written_entries}
 use Rattle.dwc_write.specs.GivenTrees.{place_in_order}
-use Rattle.dwc_write.specs.Layouts.{UnitPlaces, entry_offsets, unit_length, offset_among, offset_if_added, offsets_by_number, places_of_units, offset_in_section, places_in, written_unit, written_lines, written_units}
+use Rattle.dwc_write.specs.Layouts.{AllPlaces, entry_offsets, unit_length, offset_among, offset_if_added, offsets_by_number, places_of_units, offset_in_section, places_in, written_unit, written_lines, written_units}
 use Rattle.dwc_write.proofs.ReadNumbers.{number_bytes-length, uleb_bytes-small, uleb_bytes-more}
 use Rattle.dwc_write.proofs.EntriesLaws.{next-first}
 
@@ -32,6 +32,7 @@ module _ (order : Endian) (size : ℕ) where
   value-length p (Address a) = refl
   value-length p (Constant form bits) = refl
   value-length p (Flag b) = refl
+  value-length p (StringRef id) = number_bytes-length order 4 (p.text id.index) ∙ sym (number_bytes-length order 4 0)
   value-length p LineProgramRef = number_bytes-length order 4 p.line ∙ sym (number_bytes-length order 4 0)
   value-length p (UnitRef id) = number_bytes-length order 4 (p.entry id.index) ∙ sym (number_bytes-length order 4 0)
   value-length p (DebugInfoRef (entry_of unit id)) = number_bytes-length order 4 (p.entry_of unit.index id.index) ∙ sym (number_bytes-length order 4 0)
@@ -163,7 +164,7 @@ offset-within order size u id =
 -- ---- units
 
 -- The section of units is as long as they are together.
-pub info-length : (order : Endian) (size : ℕ) (units : List UnitPlaces) (a l : ℕ) (us : List OrderedUnit) → length (info_bytes order size (written_units order size units a l us)) ≡ sum_by (unit_length order size) us
+pub info-length : (order : Endian) (size : ℕ) (units : AllPlaces) (a l : ℕ) (us : List OrderedUnit) → length (info_bytes order size (written_units order size units a l us)) ≡ sum_by (unit_length order size) us
 info-length order size units a l [] = refl
 info-length order size units a l (u ∷ us) =
     let p = places_in units (offsets_by_number order size u) l in

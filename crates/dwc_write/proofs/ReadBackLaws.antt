@@ -10,7 +10,7 @@ use Rattle.std.proofs.lemmas.Bool.{eqb-true}
 use Rattle.std.proofs.lemmas.List.Elements.{All-head, All-tail, All-cons, All-nil, All-append, All-weaker, All-map}
 use Rattle.dwc_base.specs.declared.records.Endian.{Endian}
 use Rattle.dwc_base.specs.declared.section_name.SectionName.{SectionName}
-use Rattle.dwc_base.specs.declared.section_name.SectionName.TheVariants.{Abbrev, Info, Line}
+use Rattle.dwc_base.specs.declared.section_name.SectionName.TheVariants.{Abbrev, Info, Line, Str}
 use Rattle.dwc_base.specs.declared.constants.TheConstants.{DW_AT_stmt_list, DW_FORM_data1, DW_FORM_data2, DW_FORM_data4, DW_FORM_data8, DW_FORM_sdata}
 use Rattle.dwc_base.specs.Abbreviations.{Declaration, declaration_of}
 use Rattle.dwc_base.specs.declared.records.LineRow.{LineRow}
@@ -29,16 +29,18 @@ use Rattle.dwc_write.specs.SpelledSections.{WrittenUnit, placed_unit_bytes, tabl
 use Rattle.dwc_write.specs.SpelledRelocations.{info_relocations, lines_relocations}
 use Rattle.dwc_write.specs.declared.attributes.Attribute.{Attribute}
 use Rattle.dwc_write.specs.declared.attributes.AttributeValue.{AttributeValue}
-use Rattle.dwc_write.specs.declared.attributes.AttributeValue.TheVariants.{Address, Constant, Flag, LineProgramRef, UnitRef, DebugInfoRef}
+use Rattle.dwc_write.specs.declared.attributes.AttributeValue.TheVariants.{Address, Constant, Flag, StringRef, LineProgramRef, UnitRef, DebugInfoRef}
 use Rattle.dwc_write.specs.declared.attributes.DebugInfoRef.TheVariants.{Entry as entry_of}
 use Rattle.dwc_write.specs.declared.abbreviations.AttributeForm.{AttributeForm}
 use Rattle.dwc_write.specs.GivenLines.{GivenLines, FitsLines, FitsSequences, FitsGivenSequence}
 use Rattle.dwc_write.specs.GivenUnits.{GivenEntry, OrderedUnit, Places, no_places, IsOfSize, written_of, FitsValue, FitsAttribute, AreBelow, IsTree, FitsEntry, FitsOrdered, is_lines, names_lines_in, names_lines, IsWritable, size_of, AreWritable, EntryShape, form_of, forms_of, shape_of, shapes_of, same_forms, same_flag, same_shape, place_in, with_use, first_uses, code_in, spec_of_form, numbered, shapes_in, written_attribute, written_entries}
-use Rattle.dwc_write.specs.Layouts.{UnitPlaces, AreShort, offsets_by_number, offset_in_section, places_in, unit_length, written_unit, written_lines, written_units, written_tables}
+use Rattle.dwc_write.specs.Layouts.{AllPlaces, AreShort, offset_of_text, offsets_by_number, offset_in_section, places_in, unit_length, written_unit, written_lines, written_units, written_tables}
+use Rattle.dwc_write.specs.UsedTexts.{strings_bytes}
 use Rattle.dwc_write.specs.SpelledOutput.{section_unless_empty, abbrev_bytes, all_info_bytes, all_lines_bytes, units_placed, all_places, spelled_sections}
 use Rattle.dwc_write.specs.ReadBack.{given_file, given_row, given_segments, given_segment, Contents, read_contents, given_contents, given_value, IsReadUnit, ReadsBack}
 use Rattle.dwc_write.specs.Writers.{IsSound, most_bytes}
 use Rattle.dwc_write.proofs.ReadNumbers.{number_bytes-length}
+use Rattle.dwc_write.proofs.ReadTexts.{offset-bound}
 use Rattle.dwc_write.proofs.ReadTables.{numbered-found}
 use Rattle.dwc_write.proofs.ReadRelocations.{info-functions, lines-functions, at_places-append}
 use Rattle.dwc_write.proofs.ReadValues.{All-back}
@@ -54,6 +56,7 @@ form-same : (p : Places) (v : AttributeValue) → form_number (written_of p v) �
 form-same p (Address a) = refl
 form-same p (Constant form bits) = refl
 form-same p (Flag b) = refl
+form-same p (StringRef id) = refl
 form-same p LineProgramRef = refl
 form-same p (UnitRef id) = refl
 form-same p (DebugInfoRef (entry_of unit id)) = refl
@@ -87,6 +90,7 @@ value-fits size p a near fits = go a.value fits.value
     go (Address x) h = field-address size x h
     go (Constant form bits) h = constant-fits size (form == DW_FORM_data1) (form == DW_FORM_data2) (form == DW_FORM_data4) (form == DW_FORM_data8) (form == DW_FORM_sdata) bits h.1
     go (Flag b) h = tt
+    go (StringRef id) h = let short = near.text id.index in omega (arith, short)
     go LineProgramRef h = let short = near.line in omega (arith, short)
     go (UnitRef id) h = let short = near.entry id.index in omega (arith, short)
     go (DebugInfoRef (entry_of unit id)) h = let short = near.entry_of unit.index id.index in omega (arith, short)
@@ -223,6 +227,7 @@ form-small : (v : AttributeValue) → form_number (written_of no_places v) < 2 ^
 form-small (Address a) = lit< tt
 form-small (Constant form bits) = constant-small (form == DW_FORM_data1) (form == DW_FORM_data2) (form == DW_FORM_data4) (form == DW_FORM_data8) (form == DW_FORM_sdata) bits
 form-small (Flag b) = lit< tt
+form-small (StringRef id) = lit< tt
 form-small LineProgramRef = lit< tt
 form-small (UnitRef id) = lit< tt
 form-small (DebugInfoRef (entry_of unit id)) = lit< tt
@@ -239,6 +244,7 @@ form-some : (v : AttributeValue) → 0 < form_number (written_of no_places v)
 form-some (Address a) = lit< tt
 form-some (Constant form bits) = constant-some (form == DW_FORM_data1) (form == DW_FORM_data2) (form == DW_FORM_data4) (form == DW_FORM_data8) (form == DW_FORM_sdata) bits
 form-some (Flag b) = lit< tt
+form-some (StringRef id) = lit< tt
 form-some LineProgramRef = lit< tt
 form-some (UnitRef id) = lit< tt
 form-some (DebugInfoRef (entry_of unit id)) = lit< tt
@@ -282,11 +288,11 @@ body-shorter order size u =
     let body = unit_body order size u.table_offset u.entries in
     omega (arith, length-append (number_bytes order 4 (length body)) body)
 
-pub units-fit : (order : Endian) (size a l : ℕ) (units : List UnitPlaces) (us : List OrderedUnit) → All (λ u. u.address_size ≡ size) us → All FitsOrdered us → ((unit id : ℕ) → offset_in_section units unit id ≤ most_bytes)
+pub units-fit : (order : Endian) (size a l : ℕ) (units : AllPlaces) (us : List OrderedUnit) → All (λ u. u.address_size ≡ size) us → All FitsOrdered us → ((unit id : ℕ) → offset_in_section units.units unit id ≤ most_bytes) → ((id : ℕ) → offset_of_text units.texts id ≤ most_bytes)
     → a + length (tables_bytes (written_units order size units a l us)) ≤ most_bytes → l + length (lines_bytes order size (written_tables us)) ≤ most_bytes → length (info_bytes order size (written_units order size units a l us)) ≤ most_bytes
     → All (FitsUnit order size) (written_units order size units a l us)
-units-fit order size a l units [] sized fits near tables lines info = All-nil _
-units-fit order size a l units (u ∷ us) sized fits near tables lines info =
+units-fit order size a l units [] sized fits near texts tables lines info = All-nil _
+units-fit order size a l units (u ∷ us) sized fits near texts tables lines info =
     let here = All-head FitsOrdered u us fits in
     let same : u.address_size ≡ size = All-head (λ (v : OrderedUnit). v.address_size ≡ size) u us sized in
     let P : ℕ → Type 0 = λ n. All (FitsEntry n) u.entries in
@@ -298,7 +304,7 @@ units-fit order size a l units (u ∷ us) sized fits near tables lines info =
     let long = uses-length [] u.entries in
     let whole = length-append (placed_unit_bytes order size unit) (info_bytes order size rest) in
     let length_of : length (placed_unit_bytes order size unit) ≡ unit_length order size u = placed-length order size p a u in
-    let short : AreShort p = record { line = omega (arith, lines); entry = λ id. omega (arith, offset-within order size u id, length_of, whole, info); entry_of = near } in
+    let short : AreShort p = record { line = omega (arith, lines); entry = λ id. omega (arith, offset-within order size u id, length_of, whole, info); entry_of = near; text = texts } in
     All-cons (FitsUnit order size) unit rest
     (record {
       offset = omega (arith, tables);
@@ -307,10 +313,10 @@ units-fit order size a l units (u ∷ us) sized fits near tables lines info =
       entries = entries-fit size p [] (shapes_in u) u.entries short (omega (arith, long, few)) refl entries;
       tree = tree-written p (shapes_in u) u.entries here.tree;
     })
-    (units-fit order size (a + length (table_bytes unit.table)) (l + length (lines_bytes order size (written_lines u.lines))) units us (All-tail (λ (v : OrderedUnit). v.address_size ≡ size) u us sized) (All-tail FitsOrdered u us fits) near
+    (units-fit order size (a + length (table_bytes unit.table)) (l + length (lines_bytes order size (written_lines u.lines))) units us (All-tail (λ (v : OrderedUnit). v.address_size ≡ size) u us sized) (All-tail FitsOrdered u us fits) near texts
     (omega (arith, tables, length-append (table_bytes unit.table) (tables_bytes rest))) (omega (arith, lines, lengths-both (one_table_bytes order size) (written_lines u.lines) (written_tables us))) (omega (arith, info, whole)))
 
-pub tables-from : (order : Endian) (size : ℕ) (units : List UnitPlaces) (us : List OrderedUnit) (a l : ℕ) → AreTablesFrom a (written_units order size units a l us)
+pub tables-from : (order : Endian) (size : ℕ) (units : AllPlaces) (us : List OrderedUnit) (a l : ℕ) → AreTablesFrom a (written_units order size units a l us)
 tables-from order size units [] a l = tt
 tables-from order size units (u ∷ us) a l = (refl, tables-from order size units us (a + length (table_bytes (numbered 1 (shapes_in u)))) (l + length (lines_bytes order size (written_lines u.lines))))
 
@@ -392,6 +398,7 @@ value-named : (p : Places) (v : AttributeValue) → line_offset (Some (written_v
 value-named p (Address a) = refl
 value-named p (Constant form bits) = constant-unnamed DW_AT_stmt_list (form == DW_FORM_data1) (form == DW_FORM_data2) (form == DW_FORM_data4) (form == DW_FORM_data8) (form == DW_FORM_sdata) bits
 value-named p (Flag b) = refl
+value-named p (StringRef id) = refl
 value-named p LineProgramRef = refl
 value-named p (UnitRef id) = refl
 value-named p (DebugInfoRef (entry_of unit id)) = refl
@@ -461,7 +468,7 @@ module _ (s : Sections) (size : ℕ) where
           let Q : ℕ → Type 0 = λ n. IsOfSize n u.lines.address_size in
           root-lines _ _ p.line u.lines rest u.lines.address_size refl refl names lines (subst Q same fits.lines) lines.sequences (subst P (lines-are u.lines) read)
 
-  units-each : (place a l : ℕ) (units : List UnitPlaces) (us : List OrderedUnit) → All (IsWritable size) us → All FitsOrdered us → All (λ u. FitsLines u.lines) us
+  units-each : (place a l : ℕ) (units : AllPlaces) (us : List OrderedUnit) → All (IsWritable size) us → All FitsOrdered us → All (λ u. FitsLines u.lines) us
       → All (λ p. line_table s size p.offset ≡ Ok (read_table s.order size p)) (placed_tables s.order size l (written_tables us))
       → AllZip (IsReadUnit s) us (read_units s.order size place (written_units s.order size units a l us))
   units-each place a l units [] writable fits lines read = tt
@@ -484,24 +491,33 @@ module _ (s : Sections) (size : ℕ) where
 
 -- ---- the sections
 
--- what three sections hold
-pub record Holds (order : Endian) (x y z : List ℕ) (q r : List OutputRelocation) (s : Sections) : Type 0 where
+-- what four sections hold
+pub record Holds (order : Endian) (x y z w : List ℕ) (q r : List OutputRelocation) (s : Sections) : Type 0 where
   pub abbrev_is : s.bytes Abbrev ≡ x
   pub info_is : s.bytes Info ≡ y
   pub line_is : s.bytes Line ≡ z
+  pub strings_are : s.bytes Str ≡ w
   pub info_relocations_are : s.relocations Info ≡ filter_map function_relocation q
   pub line_relocations_are : s.relocations Line ≡ filter_map function_relocation r
 
-pub sections-hold : (order : Endian) (x y z : List ℕ) (q r : List OutputRelocation) → (y ≡ [] → q ≡ []) → (z ≡ [] → r ≡ [])
-    → Holds order x y z q r (output_sections order (section_unless_empty Abbrev x [] ++ (section_unless_empty Info y q ++ section_unless_empty Line z r)))
-sections-hold order [] [] [] q r info line = let a = info refl in let b = line refl in rw (a, b) (record { abbrev_is = refl; info_is = refl; line_is = refl; info_relocations_are = refl; line_relocations_are = refl })
-sections-hold order [] [] (c ∷ z) q r info line = let a = info refl in rw (a) (record { abbrev_is = refl; info_is = refl; line_is = refl; info_relocations_are = refl; line_relocations_are = refl })
-sections-hold order [] (b ∷ y) [] q r info line = let e = line refl in rw (e) (record { abbrev_is = refl; info_is = refl; line_is = refl; info_relocations_are = refl; line_relocations_are = refl })
-sections-hold order [] (b ∷ y) (c ∷ z) q r info line = record { abbrev_is = refl; info_is = refl; line_is = refl; info_relocations_are = refl; line_relocations_are = refl }
-sections-hold order (a ∷ x) [] [] q r info line = let e = info refl in let b = line refl in rw (e, b) (record { abbrev_is = refl; info_is = refl; line_is = refl; info_relocations_are = refl; line_relocations_are = refl })
-sections-hold order (a ∷ x) [] (c ∷ z) q r info line = let e = info refl in rw (e) (record { abbrev_is = refl; info_is = refl; line_is = refl; info_relocations_are = refl; line_relocations_are = refl })
-sections-hold order (a ∷ x) (b ∷ y) [] q r info line = let e = line refl in rw (e) (record { abbrev_is = refl; info_is = refl; line_is = refl; info_relocations_are = refl; line_relocations_are = refl })
-sections-hold order (a ∷ x) (b ∷ y) (c ∷ z) q r info line = record { abbrev_is = refl; info_is = refl; line_is = refl; info_relocations_are = refl; line_relocations_are = refl }
+pub sections-hold : (order : Endian) (x y z w : List ℕ) (q r : List OutputRelocation) → (y ≡ [] → q ≡ []) → (z ≡ [] → r ≡ [])
+    → Holds order x y z w q r (output_sections order (section_unless_empty Abbrev x [] ++ (section_unless_empty Info y q ++ (section_unless_empty Line z r ++ section_unless_empty Str w []))))
+sections-hold order [] [] [] [] q r info line = let e = info refl in let f = line refl in rw (e, f) (record { abbrev_is = refl; info_is = refl; line_is = refl; strings_are = refl; info_relocations_are = refl; line_relocations_are = refl })
+sections-hold order [] [] [] (d ∷ w) q r info line = let e = info refl in let f = line refl in rw (e, f) (record { abbrev_is = refl; info_is = refl; line_is = refl; strings_are = refl; info_relocations_are = refl; line_relocations_are = refl })
+sections-hold order [] [] (c ∷ z) [] q r info line = let e = info refl in rw (e) (record { abbrev_is = refl; info_is = refl; line_is = refl; strings_are = refl; info_relocations_are = refl; line_relocations_are = refl })
+sections-hold order [] [] (c ∷ z) (d ∷ w) q r info line = let e = info refl in rw (e) (record { abbrev_is = refl; info_is = refl; line_is = refl; strings_are = refl; info_relocations_are = refl; line_relocations_are = refl })
+sections-hold order [] (b ∷ y) [] [] q r info line = let f = line refl in rw (f) (record { abbrev_is = refl; info_is = refl; line_is = refl; strings_are = refl; info_relocations_are = refl; line_relocations_are = refl })
+sections-hold order [] (b ∷ y) [] (d ∷ w) q r info line = let f = line refl in rw (f) (record { abbrev_is = refl; info_is = refl; line_is = refl; strings_are = refl; info_relocations_are = refl; line_relocations_are = refl })
+sections-hold order [] (b ∷ y) (c ∷ z) [] q r info line = record { abbrev_is = refl; info_is = refl; line_is = refl; strings_are = refl; info_relocations_are = refl; line_relocations_are = refl }
+sections-hold order [] (b ∷ y) (c ∷ z) (d ∷ w) q r info line = record { abbrev_is = refl; info_is = refl; line_is = refl; strings_are = refl; info_relocations_are = refl; line_relocations_are = refl }
+sections-hold order (a ∷ x) [] [] [] q r info line = let e = info refl in let f = line refl in rw (e, f) (record { abbrev_is = refl; info_is = refl; line_is = refl; strings_are = refl; info_relocations_are = refl; line_relocations_are = refl })
+sections-hold order (a ∷ x) [] [] (d ∷ w) q r info line = let e = info refl in let f = line refl in rw (e, f) (record { abbrev_is = refl; info_is = refl; line_is = refl; strings_are = refl; info_relocations_are = refl; line_relocations_are = refl })
+sections-hold order (a ∷ x) [] (c ∷ z) [] q r info line = let e = info refl in rw (e) (record { abbrev_is = refl; info_is = refl; line_is = refl; strings_are = refl; info_relocations_are = refl; line_relocations_are = refl })
+sections-hold order (a ∷ x) [] (c ∷ z) (d ∷ w) q r info line = let e = info refl in rw (e) (record { abbrev_is = refl; info_is = refl; line_is = refl; strings_are = refl; info_relocations_are = refl; line_relocations_are = refl })
+sections-hold order (a ∷ x) (b ∷ y) [] [] q r info line = let f = line refl in rw (f) (record { abbrev_is = refl; info_is = refl; line_is = refl; strings_are = refl; info_relocations_are = refl; line_relocations_are = refl })
+sections-hold order (a ∷ x) (b ∷ y) [] (d ∷ w) q r info line = let f = line refl in rw (f) (record { abbrev_is = refl; info_is = refl; line_is = refl; strings_are = refl; info_relocations_are = refl; line_relocations_are = refl })
+sections-hold order (a ∷ x) (b ∷ y) (c ∷ z) [] q r info line = record { abbrev_is = refl; info_is = refl; line_is = refl; strings_are = refl; info_relocations_are = refl; line_relocations_are = refl }
+sections-hold order (a ∷ x) (b ∷ y) (c ∷ z) (d ∷ w) q r info line = record { abbrev_is = refl; info_is = refl; line_is = refl; strings_are = refl; info_relocations_are = refl; line_relocations_are = refl }
 
 pub info-none : (order : Endian) (size : ℕ) (ws : List WrittenUnit) → info_bytes order size ws ≡ [] → info_relocations order size 0 ws ≡ []
 info-none order size [] e = refl
@@ -529,17 +545,17 @@ positive size (inl e) = (omega (arith, e), omega (arith, e))
 positive size (inr e) = (omega (arith, e), omega (arith, e))
 
 -- What is known of the sections of given units, which are spelled within the size of sections.
-pub record AreSpelled (order : Endian) (us : List OrderedUnit) : Type 0 where
+pub record AreSpelled (order : Endian) (texts : List (List ℕ)) (us : List OrderedUnit) : Type 0 where
   pub sized : All (λ u. u.address_size ≡ size_of us) us
   pub known : (size_of us ≡ 4) ⊎ (size_of us ≡ 8)
-  pub holds : Holds order (abbrev_bytes order (all_places order us) us) (all_info_bytes order (all_places order us) us) (all_lines_bytes order us) (info_relocations order (size_of us) 0 (units_placed order (all_places order us) us)) (lines_relocations order (size_of us) 0 (written_tables us)) (output_sections order (spelled_sections order us))
-  pub units_fit : All (FitsUnit order (size_of us)) (units_placed order (all_places order us) us)
+  pub holds : Holds order (abbrev_bytes order (all_places order texts us) us) (all_info_bytes order (all_places order texts us) us) (all_lines_bytes order us) (strings_bytes texts us) (info_relocations order (size_of us) 0 (units_placed order (all_places order texts us) us)) (lines_relocations order (size_of us) 0 (written_tables us)) (output_sections order (spelled_sections order texts us))
+  pub units_fit : All (FitsUnit order (size_of us)) (units_placed order (all_places order texts us) us)
   pub tables_fit : All (FitsTable order (size_of us)) (written_tables us)
 
-pub are-spelled : (order : Endian) (us : List OrderedUnit) → AreWritable us → All FitsOrdered us → All (λ u. FitsLines u.lines) us → All (IsSound order) (spelled_sections order us) → AreSpelled order us
-are-spelled order us writable fits lines sound =
+pub are-spelled : (order : Endian) (texts : List (List ℕ)) (us : List OrderedUnit) → AreWritable us → All FitsOrdered us → All (λ u. FitsLines u.lines) us → All (IsSound order) (spelled_sections order texts us) → AreSpelled order texts us
+are-spelled order texts us writable fits lines sound =
     let size = size_of us in
-    let units = all_places order us in
+    let units = all_places order texts us in
     let ws = units_placed order units us in
     let ts = written_tables us in
     let q = info_relocations order size 0 ws in
@@ -548,40 +564,42 @@ are-spelled order us writable fits lines sound =
     let tables_short = part-short order Abbrev (abbrev_bytes order units us) [] _ sound in
     let info_short = part-short order Info (all_info_bytes order units us) q _ tables_short.1 in
     let P : List OutputSection → Type 0 = λ xs. All (IsSound order) xs in
-    let lines_short = part-short order Line (all_lines_bytes order us) r [] (subst P (sym (append-nil _)) info_short.1) in
+    let lines_short = part-short order Line (all_lines_bytes order us) r _ info_short.1 in
+    let strings_short = part-short order Str (strings_bytes texts us) [] [] (subst P (sym (append-nil _)) lines_short.1) in
+    let w = strings_short.0 in
     let a = tables_short.0 in
     let i = info_short.0 in
     let l = lines_short.0 in
-    let near : (unit id : ℕ) → offset_in_section units unit id ≤ most_bytes = λ unit id. omega (arith, i, places-short order size 0 us unit id, info-length order size units 0 0 us) in
+    let near : (unit id : ℕ) → offset_in_section units.units unit id ≤ most_bytes = λ unit id. omega (arith, i, places-short order size 0 us unit id, info-length order size units 0 0 us) in
     record {
       sized = sized;
       known = size-known us fits;
-      holds = sections-hold order (abbrev_bytes order units us) (all_info_bytes order units us) (all_lines_bytes order us) q r (info-none order size ws) (lines-none order size ts);
-      units_fit = units-fit order size 0 0 units us sized fits near (omega (arith, a)) (omega (arith, l)) i;
+      holds = sections-hold order (abbrev_bytes order units us) (all_info_bytes order units us) (all_lines_bytes order us) (strings_bytes texts us) q r (info-none order size ws) (lines-none order size ts);
+      units_fit = units-fit order size 0 0 units us sized fits near (λ id. omega (arith, w, offset-bound texts us id)) (omega (arith, a)) (omega (arith, l)) i;
       tables_fit = tables-fit order size us sized fits lines l;
     }
 
 -- All units that are read.
-pub units-read-back : (order : Endian) (us : List OrderedUnit) → AreSpelled order us → units (output_sections order (spelled_sections order us)) ≡ record { items = read_units order (size_of us) 0 (units_placed order (all_places order us) us); fault = None }
-units-read-back order us spelled =
+pub units-read-back : (order : Endian) (texts : List (List ℕ)) (us : List OrderedUnit) → AreSpelled order texts us → units (output_sections order (spelled_sections order texts us)) ≡ record { items = read_units order (size_of us) 0 (units_placed order (all_places order texts us) us); fault = None }
+units-read-back order texts us spelled =
     let size = size_of us in
-    let ws = units_placed order (all_places order us) us in
+    let ws = units_placed order (all_places order texts us) us in
     let holds = spelled.holds in
-    units-read (output_sections order (spelled_sections order us)) size ws spelled.known spelled.units_fit (tables-from order size (all_places order us) us 0 0) holds.abbrev_is holds.info_is (holds.info_relocations_are ∙ info-functions order size 0 ws)
+    units-read (output_sections order (spelled_sections order texts us)) size ws spelled.known spelled.units_fit (tables-from order size (all_places order texts us) us 0 0) holds.abbrev_is holds.info_is (holds.info_relocations_are ∙ info-functions order size 0 ws)
 
 -- Given units that are spelled within the size of sections are read back.
-pub reads-back : (order : Endian) (us : List OrderedUnit) → AreWritable us → All FitsOrdered us → All (λ u. FitsLines u.lines) us → All (IsSound order) (spelled_sections order us) → ReadsBack order us (spelled_sections order us)
-reads-back order us writable fits lines sound =
+pub reads-back : (order : Endian) (texts : List (List ℕ)) (us : List OrderedUnit) → AreWritable us → All FitsOrdered us → All (λ u. FitsLines u.lines) us → All (IsSound order) (spelled_sections order texts us) → ReadsBack order us (spelled_sections order texts us)
+reads-back order texts us writable fits lines sound =
     let size = size_of us in
-    let units = all_places order us in
+    let units = all_places order texts us in
     let ts = written_tables us in
-    let s = output_sections order (spelled_sections order us) in
-    let spelled = are-spelled order us writable fits lines sound in
+    let s = output_sections order (spelled_sections order texts us) in
+    let spelled = are-spelled order texts us writable fits lines sound in
     let holds = spelled.holds in
     let some = positive size spelled.known in
     let table_facts = lines-read s size ts some.0 some.1 spelled.tables_fit holds.line_is (holds.line_relocations_are ∙ lines-functions order size 0 ts) in
     record {
       read = read_units order size 0 (units_placed order units us);
-      units_read = units-read-back order us spelled;
+      units_read = units-read-back order texts us spelled;
       each = units-each s size 0 0 0 units us writable fits lines table_facts;
     }

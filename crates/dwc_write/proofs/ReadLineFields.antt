@@ -28,7 +28,7 @@ use Rattle.dwc_write.specs.SpelledTables.{table_bytes}
 use Rattle.dwc_write.specs.Writers.{address_relocations}
 use Rattle.dwc_write.specs.GivenLines.{GivenLines}
 use Rattle.dwc_write.specs.GivenUnits.{GivenEntry, OrderedUnit, Places, IsTree, names_lines, IsWritable, FitsOrdered, shapes_in, written_attribute, written_entries}
-use Rattle.dwc_write.specs.Layouts.{UnitPlaces, offsets_by_number, places_in, written_lines, written_unit, written_units, written_tables}
+use Rattle.dwc_write.specs.Layouts.{AllPlaces, offsets_by_number, places_in, written_lines, written_unit, written_units, written_tables}
 use Rattle.dwc_write.proofs.ReadNumbers.{number_bytes-length}
 use Rattle.dwc_write.proofs.ReadParts.{Spells-uleb_bytes}
 use Rattle.dwc_write.proofs.ReadValues.{All-front, All-back}
@@ -182,7 +182,7 @@ module _ (s : Sections) (size : ℕ) where
           root-found h entry p.line u.lines rest u.lines.address_size refl names (subst P (lines-are u.lines) found) ∙ ap (tables_fields s.order size p.line) (sym (lines-are u.lines))
 
   -- The fields of the line tables that the units name are those of all tables.
-  pub unit_lines-found : (units : List UnitPlaces) (us : List OrderedUnit) (place a l : ℕ) → All (IsWritable size) us → All FitsOrdered us → All (IsFound s size) (placed_tables s.order size l (written_tables us))
+  pub unit_lines-found : (units : AllPlaces) (us : List OrderedUnit) (place a l : ℕ) → All (IsWritable size) us → All FitsOrdered us → All (IsFound s size) (placed_tables s.order size l (written_tables us))
       → flat_map (λ u. fields_of_lines s u.header (root u)) (read_units s.order size place (written_units s.order size units a l us)) ≡ tables_fields s.order size l (written_tables us)
   unit_lines-found units [] place a l writable fits found = refl
   unit_lines-found units (u ∷ us) place a l writable fits found =

@@ -113,7 +113,7 @@ position-zero (b ∷ bs) rest some =
     let left : eqb b 0 ≡ false = ne_eqb b 0 (λ e. let h = All-head (λ b. 0 < b) b bs some in absurd (omega (arith, h, e))) in
     rw (left, position-zero bs rest (All-tail (λ b. 0 < b) b bs some)) (omega arith)
 
-text_at-front : (order : Endian) (place : ℕ) (text rest : List ℕ) → All (λ b. 0 < b) text → text_at (unread_at order place (text ++ 0 ∷ rest)) ≡ Ok (text, unread_at order (place + (length text + 1)) rest)
+pub text_at-front : (order : Endian) (place : ℕ) (text rest : List ℕ) → All (λ b. 0 < b) text → text_at (unread_at order place (text ++ 0 ∷ rest)) ≡ Ok (text, unread_at order (place + (length text + 1)) rest)
 unfolding text_at
 text_at-front order place text rest some =
     let found = position-zero text rest some in

@@ -11,7 +11,7 @@ use Rattle.dwc_base.specs.LineHeaders.{Instruction, set_address, copy, advance_p
 use Rattle.dwc_base.specs.Outputs.{OutputRelocation, function_relocation}
 use Rattle.dwc_write.specs.Spelled.{number_bytes, uleb_bytes, at_places}
 use Rattle.dwc_write.specs.SpelledAddresses.{AddressField, address_bytes, stored, relocation_for, relocations_of}
-use Rattle.dwc_write.specs.SpelledUnits.{Written, as_addr, as_ref_addr, as_sec_offset, written_bytes, value_fields, WrittenAttribute, attribute_bytes, Shaped, shaped, entry_bytes, entry_fields, entries_bytes, header_length, unit_body}
+use Rattle.dwc_write.specs.SpelledUnits.{Written, as_addr, as_strp, as_ref_addr, as_sec_offset, written_bytes, value_fields, WrittenAttribute, attribute_bytes, Shaped, shaped, entry_bytes, entry_fields, entries_bytes, header_length, unit_body}
 use Rattle.dwc_write.specs.SpelledLines.{instruction_bytes, instruction_fields, line_fields_bytes, program_bytes, program_fields, program_place, WrittenSequence, first_row, when, differs, row_instructions, rows_instructions, sequence_instructions, sequences_instructions, line_body}
 use Rattle.dwc_write.specs.SpelledSections.{WrittenUnit, placed_unit_bytes, info_bytes, unit_fields, info_fields, WrittenTable, one_table_bytes, lines_bytes, one_table_fields, lines_fields}
 use Rattle.dwc_write.specs.SpelledRelocations.{value_relocations, entry_relocations, entries_relocations, unit_relocations, info_relocations, sequence_bytes, sequence_relocations, sequences_relocations, one_table_relocations, lines_relocations, RelocationsRise}
@@ -73,6 +73,7 @@ value-rise order size place a = go a.value
   where
     go : (w : Written) → RelocationsRise place (place + length (written_bytes order size w)) (value_relocations size place w)
     go (as_addr x) = rw (number_bytes-length order size (stored x)) (address-rise place size x)
+    go (as_strp n) = (omega arith, omega (arith, number_bytes-length order 4 n))
     go (as_ref_addr n) = (omega arith, omega (arith, number_bytes-length order 4 n))
     go (as_sec_offset n) = (omega arith, omega (arith, number_bytes-length order 4 n))
     go _ = omega arith

@@ -54,13 +54,13 @@ unfolding uleb_bytes uleb_bytes_within
 length-small = refl
 
 -- The second unit begins at 26, and its root at 37.
-info-small : all_info_bytes Little (all_places Little two_units) two_units ≡
+info-small : all_info_bytes Little (all_places Little [] two_units) two_units ≡
     22 ∷ 0 ∷ 0 ∷ 0 ∷ 4 ∷ 0 ∷ 0 ∷ 0 ∷ 0 ∷ 0 ∷ 4 ∷ 1 ∷ 16 ∷ 0 ∷ 0 ∷ 0 ∷ 2 ∷ 37 ∷ 0 ∷ 0 ∷ 0 ∷ 0 ∷ 0 ∷ 0 ∷ 0 ∷ 0
     ∷ 8 ∷ 0 ∷ 0 ∷ 0 ∷ 4 ∷ 0 ∷ 17 ∷ 0 ∷ 0 ∷ 0 ∷ 4 ∷ 1 ∷ []
 unfolding uleb_bytes uleb_bytes_within
 info-small = refl
 
-abbrev-small : abbrev_bytes Little (all_places Little two_units) two_units ≡
+abbrev-small : abbrev_bytes Little (all_places Little [] two_units) two_units ≡
     1 ∷ 0x11 ∷ 1 ∷ 0x49 ∷ 0x13 ∷ 0 ∷ 0 ∷ 2 ∷ 0x34 ∷ 0 ∷ 0x49 ∷ 0x10 ∷ 1 ∷ 0x13 ∷ 0 ∷ 0 ∷ 0
     ∷ 1 ∷ 0x11 ∷ 0 ∷ 0 ∷ 0 ∷ 0 ∷ []
 unfolding uleb_bytes uleb_bytes_within
@@ -73,7 +73,7 @@ relocations_written =
     ∷ record { offset = 17; size = 4; target = section (codes ".debug_info"); addend = pos 37 }
     ∷ record { offset = 32; size = 4; target = section (codes ".debug_abbrev"); addend = pos 17 } ∷ []
 
-relocations-small : info_relocations Little 4 0 (units_placed Little (all_places Little two_units) two_units) ≡ relocations_written
+relocations-small : info_relocations Little 4 0 (units_placed Little (all_places Little [] two_units) two_units) ≡ relocations_written
 unfolding uleb_bytes uleb_bytes_within
 relocations-small = refl
 
@@ -83,5 +83,5 @@ trees_written =
     (record { depth = 0; tag = 0x11; attributes = (0x49, entry 0 1) ∷ [] } ∷ record { depth = 1; tag = 0x34; attributes = (0x49, entry 1 0) ∷ (0x01, nothing) ∷ [] } ∷ [])
     ∷ (record { depth = 0; tag = 0x11; attributes = [] } ∷ []) ∷ []
 
-trees-small : given_trees two_units ≡ trees_written
+trees-small : given_trees [] two_units ≡ trees_written
 trees-small = refl

@@ -7,7 +7,7 @@ use Rattle.std.proofs.lemmas.List.Elements.{All-head, All-tail, All-cons, All-ni
 use Rattle.std.proofs.lemmas.List.Kept.{AllPairs-cons}
 use Rattle.dwc_base.specs.declared.records.Endian.{Endian}
 use Rattle.dwc_base.specs.declared.records.Address.TheVariants.{Constant, Symbol}
-use Rattle.dwc_base.specs.declared.section_name.SectionName.TheVariants.{Abbrev, Info, Line}
+use Rattle.dwc_base.specs.declared.section_name.SectionName.TheVariants.{Abbrev, Info, Line, Str}
 use Rattle.dwc_base.specs.declared.constants.TheConstants.{DW_FORM_data1, DW_FORM_data2, DW_FORM_data4, DW_FORM_data8, DW_FORM_sdata}
 use Rattle.dwc_base.specs.Sections.{Sections}
 use Rattle.dwc_base.specs.Units.{UnitHeader}
@@ -25,7 +25,8 @@ use Rattle.dwc_write.specs.SpelledSections.{lines_bytes, info_fields, lines_fiel
 use Rattle.dwc_write.specs.SpelledRelocations.{value_relocations, info_relocations, lines_relocations, RelocationsRise}
 use Rattle.dwc_write.specs.GivenLines.{FitsLines}
 use Rattle.dwc_write.specs.GivenUnits.{GivenEntry, OrderedUnit, Places, EntryShape, written_of, FitsValue, FitsAttribute, FitsEntry, FitsOrdered, size_of, AreWritable, shapes_in, numbered, written_attribute, written_entries}
-use Rattle.dwc_write.specs.Layouts.{UnitPlaces, offsets_by_number, places_in, written_lines, written_units, written_tables}
+use Rattle.dwc_write.specs.Layouts.{AllPlaces, offsets_by_number, places_in, written_lines, written_units, written_tables}
+use Rattle.dwc_write.specs.UsedTexts.{strings_bytes}
 use Rattle.dwc_write.specs.SpelledOutput.{abbrev_bytes, all_info_bytes, all_lines_bytes, units_placed, all_places, spelled_sections}
 use Rattle.dwc_write.specs.Writers.{IsSound}
 use Rattle.dwc_write.proofs.ReadAddresses.{rising-held}
@@ -57,6 +58,7 @@ value-related size p a fits h version place = go a.value fits.value
     go (given.Address (Symbol symbol addend)) fit = refl
     go (given.Constant form bits) fit = constant-related h place a.name (form == DW_FORM_data1) (form == DW_FORM_data2) (form == DW_FORM_data4) (form == DW_FORM_data8) (form == DW_FORM_sdata) bits
     go (given.Flag b) fit = refl
+    go (given.StringRef id) fit = refl
     go given.LineProgramRef fit = rw (fit) refl
     go (given.UnitRef id) fit = refl
     go (given.DebugInfoRef (entry_of unit id)) fit = rw (version) refl
@@ -71,7 +73,7 @@ entries-related size p uses [] fits = All-nil _
 entries-related size p uses (e ∷ es) fits =
     All-cons (λ (x : Shaped). All IsRelatedValue x.entry.attributes) _ (shaped (written_entries p uses es)) (values-related size p e.attributes (All-head (FitsEntry size) e es fits).attributes) (entries-related size p uses es (All-tail (FitsEntry size) e es fits))
 
-units-related : (s : Sections) (order : Endian) (size : ℕ) (units : List UnitPlaces) (us : List OrderedUnit) (a l : ℕ) → All FitsOrdered us → All (IsRelatedUnit s size) (written_units order size units a l us)
+units-related : (s : Sections) (order : Endian) (size : ℕ) (units : AllPlaces) (us : List OrderedUnit) (a l : ℕ) → All FitsOrdered us → All (IsRelatedUnit s size) (written_units order size units a l us)
 units-related s order size units [] a l fits = All-nil _
 units-related s order size units (u ∷ us) a l fits =
     All-cons (IsRelatedUnit s size) _ _ (entries-related u.address_size (places_in units (offsets_by_number order size u) l) (shapes_in u) u.entries (All-head FitsOrdered u us fits).entries)
@@ -103,17 +105,21 @@ no-fields : (s : Sections) → [] ≡ relocations_of_fields (fields_of_section s
 unfolding fields_of_section
 no-fields s = refl
 
+no-text-fields : (s : Sections) → [] ≡ relocations_of_fields (fields_of_section s Str)
+unfolding fields_of_section
+no-text-fields s = refl
+
 -- Given units that are spelled within the size of sections have the relocations of their fields.
-pub are-relocated : (order : Endian) (us : List OrderedUnit) → AreWritable us → All FitsOrdered us → All (λ u. FitsLines u.lines) us → All (IsSound order) (spelled_sections order us) → AreRelocated order (spelled_sections order us)
-are-relocated order us writable fits lines sound =
+pub are-relocated : (order : Endian) (texts : List (List ℕ)) (us : List OrderedUnit) → AreWritable us → All FitsOrdered us → All (λ u. FitsLines u.lines) us → All (IsSound order) (spelled_sections order texts us) → AreRelocated order (spelled_sections order texts us)
+are-relocated order texts us writable fits lines sound =
     let size = size_of us in
-    let units = all_places order us in
+    let units = all_places order texts us in
     let ws = units_placed order units us in
     let ts = written_tables us in
-    let s = output_sections order (spelled_sections order us) in
+    let s = output_sections order (spelled_sections order texts us) in
     let q = info_relocations order size 0 ws in
     let r = lines_relocations order size 0 ts in
-    let spelled = are-spelled order us writable fits lines sound in
+    let spelled = are-spelled order texts us writable fits lines sound in
     let holds = spelled.holds in
     let units_fit = spelled.units_fit in
     let some = positive size spelled.known in
@@ -123,7 +129,7 @@ are-relocated order us writable fits lines sound =
     let lines_rising = rising-held 0 _ (lines_fields order size 0 ts) (lines-rise order size some.0 0 ts) in
     let info_held : All (IsHeld (s.relocations Info)) (info_fields order size 0 ws) = rw (info_is) info_rising in
     let lines_held : All (IsHeld (s.relocations Line)) (lines_fields order size 0 ts) = rw (lines_is) lines_rising in
-    let read = units-read-back order us spelled in
+    let read = units-read-back order texts us spelled in
     let tables = tables-read s order size 0 ws [] units_fit (tables-from order size units us 0 0) (holds.abbrev_is ∙ sym (append-nil _)) in
     let of_info : q ≡ relocations_of_fields (fields_of_section s Info) =
     info-related s size ws units_fit tables info_held holds.info_is (units-related s order size units us 0 0 fits) ∙ ap relocations_of_fields (sym (fields-of_info s (read_units order size 0 ws) read)) in
@@ -132,4 +138,5 @@ are-relocated order us writable fits lines sound =
     sym (ap relocations_of_fields (fields-of_line s (read_units order size 0 ws) read ∙ unit_lines-found s size units us 0 0 0 writable fits found) ∙ lines-related order size ts 0) in
     all-written (IsRelocated s) Abbrev (abbrev_bytes order units us) [] _ (record { name = Abbrev; named = refl; fields = no-fields s; rising = pairs-rise 0 0 [] (omega arith) })
     (all-written (IsRelocated s) Info (all_info_bytes order units us) q _ (record { name = Info; named = refl; fields = of_info; rising = pairs-rise 0 _ q (relocations.info-rise order size 0 ws) })
-    (last-written (IsRelocated s) Line (all_lines_bytes order us) r (record { name = Line; named = refl; fields = of_lines; rising = pairs-rise 0 _ r (relocations.lines-rise order size 0 ts) })))
+    (all-written (IsRelocated s) Line (all_lines_bytes order us) r _ (record { name = Line; named = refl; fields = of_lines; rising = pairs-rise 0 _ r (relocations.lines-rise order size 0 ts) })
+    (last-written (IsRelocated s) Str (strings_bytes texts us) [] (record { name = Str; named = refl; fields = no-text-fields s; rising = pairs-rise 0 0 [] (omega arith) }))))

@@ -4,7 +4,7 @@ use Rattle.std.specs.Prelude.{◌||◌, if◌then◌else◌, is_some, not, nat_e
 use Rattle.std.specs.List.{All, list_any, position, position_or_len}
 use Rattle.std.specs.Str.{bytes_eq}
 use Rattle.std.proofs.lemmas.Bool.{eq-eqb, ltb-false}
-use Rattle.std.proofs.lemmas.List.{length-map, map-append}
+use Rattle.std.proofs.lemmas.List.{get_or-map, length-map, map-append}
 use Rattle.std.proofs.lemmas.List.Elements.{All-push}
 use Rattle.std.proofs.lemmas.List.Folds.{list_any_at}
 use Rattle.std.proofs.lemmas.List.Quantifiers.{all_pairs_push}
@@ -31,6 +31,10 @@ position-text t ks = is_position_or_len (λ ks. position_or_len (bytes_eq t) (te
     go : (b : Bool) (n : ℕ) → ◌≡◌ {A = ℕ} (cond (not b) (1 + n) 0) (cond b 0 (1 + n))
     go true n = refl
     go false n = refl
+
+-- the text at a place
+pub text-found : (ks : List (Vec ℕ Global)) (i : ℕ) (v : Vec ℕ Global) → i < length ks → v ≡ get_or ks i v → v.items ≡ get_or (texts_of ks) i []
+text-found ks i v within is = ap (λ (k : Vec ℕ Global). k.items) is ∙ sym (get_or-map (λ (k : Vec ℕ Global). k.items) ks i v [] within)
 
 -- a text that is found
 pub found-text : (t : List ℕ) (ks : List (Vec ℕ Global)) (place : ℕ) → Some place ≡ position (is_key t) ks → position_or_len (bytes_eq t) (texts_of ks) ≡ place

@@ -15,8 +15,8 @@ use Rattle.dwc_write.specs.SpelledTables.{table_bytes}
 use Rattle.dwc_write.specs.SpelledSections.{placed_unit_bytes, lines_bytes}
 use Rattle.dwc_write.specs.GivenLines.{FitsLines}
 use Rattle.dwc_write.specs.GivenUnits.{OrderedUnit, FitsOrdered, IsWritable, AreWritable, size_of}
-use Rattle.dwc_write.specs.Layouts.{UnitPlaces, unit_length, written_lines}
-use Rattle.dwc_write.specs.SpelledOutput.{WrittenSections, unit_in, with_unit, with_units, all_units, RefusesUnit, IsRefusal, IsRefusalAmong, all_info_bytes, all_places, bytes_of}
+use Rattle.dwc_write.specs.Layouts.{AllPlaces, unit_length, written_lines}
+use Rattle.dwc_write.specs.SpelledOutput.{WrittenSections, unit_in, with_unit, with_units, all_units, RefusesUnit, IsRefusal, IsRefusalAmong, all_info_bytes, all_places, section_bytes}
 use Rattle.dwc_write.specs.LayoutViews.{Advances, IsTooLong}
 use Rattle.dwc_write.specs.WidestGiven.{widest_unit, widest_said, IsWideRefusal}
 use Rattle.dwc_write.specs.Writers.{most_bytes}
@@ -26,7 +26,7 @@ use Rattle.dwc_write.proofs.PlacedEntries.{info-length}
 use Rattle.dwc_write.proofs.WidestTreeLaws.{widest-said}
 
 -- a unit more
-pub units-taken : (units : List UnitPlaces) (us : List OrderedUnit) (i : ℕ) (d : OrderedUnit) (w : WrittenSections) → i < length us → with_units units (take (suc i) us) w ≡ with_unit units (get_or us i d) (with_units units (take i us) w)
+pub units-taken : (units : AllPlaces) (us : List OrderedUnit) (i : ℕ) (d : OrderedUnit) (w : WrittenSections) → i < length us → with_units units (take (suc i) us) w ≡ with_unit units (get_or us i d) (with_units units (take i us) w)
 units-taken units [] i d w within = absurd (omega arith)
 units-taken units (u ∷ us) zero d w within = refl
 units-taken units (u ∷ us) (suc i) d w within = units-taken units us i d (with_unit units u w) (omega arith)
@@ -45,9 +45,9 @@ writable-taken : (us : List OrderedUnit) (i : ℕ) → AreWritable us → AreWri
 writable-taken us i fits = let P : ℕ → Type 0 = λ n. All (IsWritable n) (take (suc i) us) in subst P (sym (size-taken us i)) (all-take (IsWritable (size_of us)) us (suc i) fits)
 
 -- A unit that is refused is so for the widest size of all.
-pub widely-refused : (order : Endian) (units : List UnitPlaces) (us : List OrderedUnit) (i : ℕ) (d : OrderedUnit) (w : WrittenSections) (e : WriteError) → i < length us → AreWritable us → All FitsOrdered (take (suc i) us) → All (λ u. FitsLines u.lines) (take (suc i) us)
-    → w ≡ all_units order units (take i us) → RefusesUnit e units w (get_or us i d) → IsWideRefusal us e
-widely-refused order units us i d w e within fits given lines done refused =
+pub widely-refused : (order : Endian) (units : AllPlaces) (texts : List (List ℕ)) (us : List OrderedUnit) (i : ℕ) (d : OrderedUnit) (w : WrittenSections) (e : WriteError) → i < length us → AreWritable us → All FitsOrdered (take (suc i) us) → All (λ u. FitsLines u.lines) (take (suc i) us)
+    → w ≡ all_units order units (take i us) → RefusesUnit e units w (get_or us i d) → IsWideRefusal texts us e
+widely-refused order units texts us i d w e within fits given lines done refused =
     let vs = take (suc i) us in
     let u = get_or us i d in
     let writable = writable-taken us i fits in
@@ -62,32 +62,35 @@ widely-refused order units us i d w e within fits given lines done refused =
     go (inr (inr refused)) is =
         section-refused order units (take (suc i) us) e w.line_section (all_of order units (take (suc i) us)).line_section Line (lines_bytes w.line_section.order (get_or us i d).address_size (written_lines (get_or us i d).lines)) refused (ap (λ (v : WrittenSections). v.line_section.name) is) (omega (arith, ap (λ (v : WrittenSections). length v.line_section.body) is)) refl refl
 
-    wide : (e : WriteError) → IsRefusalAmong order units (take (suc i) us) e → IsWideRefusal us e
+    wide : (e : WriteError) → IsRefusalAmong order units (take (suc i) us) e → IsWideRefusal texts us e
     wide OutOfMemory large = tt
-    wide (TooLarge (Section name)) large = omega (arith, large, within-widest order units (take (suc i) us) name (writable-taken us i fits) given lines, sum_by-take-le (widest_unit name) us (suc i), widest-said name us)
+    wide (TooLarge (Section name)) large = omega (arith, large, within-widest order units (take (suc i) us) name (writable-taken us i fits) given lines, sum_by-take-le (widest_unit name) us (suc i), widest-said name texts us)
+
+abbrev no_units : AllPlaces
+no_units = record { units = []; texts = [] }
 
 -- Units that are too long together before they are written.
-pub layout-widest : (us : List OrderedUnit) (i : ℕ) → AreWritable us → All FitsOrdered (take (suc i) us) → most_bytes < sum_by (unit_length Little (size_of us)) (take (suc i) us) → most_bytes < widest_said Info us
-layout-widest us i writable fits large =
+pub layout-widest : (texts : List (List ℕ)) (us : List OrderedUnit) (i : ℕ) → AreWritable us → All FitsOrdered (take (suc i) us) → most_bytes < sum_by (unit_length Little (size_of us)) (take (suc i) us) → most_bytes < widest_said Info texts us
+layout-widest texts us i writable fits large =
     let vs = take (suc i) us in
     let sized : All (λ u. u.address_size ≡ size_of us) vs = all-take (λ u. u.address_size ≡ size_of us) us (suc i) (All-weaker (IsWritable (size_of us)) (λ u. u.address_size ≡ size_of us) (λ u h. h.size) us writable) in
-    omega (arith, large, info-length Little (size_of us) [] 0 0 vs, info-within Little (size_of us) 0 0 [] vs sized fits, sum_by-take-le (widest_unit Info) us (suc i), widest-said Info us)
+    omega (arith, large, info-length Little (size_of us) no_units 0 0 vs, info-within Little (size_of us) 0 0 no_units vs sized fits, sum_by-take-le (widest_unit Info) us (suc i), widest-said Info texts us)
 
-pub layout-large : (order : Endian) (us : List OrderedUnit) (i : ℕ) → most_bytes < sum_by (unit_length order (size_of us)) (take (suc i) us) → most_bytes < length (all_info_bytes order (all_places order us) us)
-layout-large order us i large = omega (arith, large, sum_by-take-le (unit_length order (size_of us)) us (suc i), info-length order (size_of us) (all_places order us) 0 0 us)
+pub layout-large : (order : Endian) (texts : List (List ℕ)) (us : List OrderedUnit) (i : ℕ) → most_bytes < sum_by (unit_length order (size_of us)) (take (suc i) us) → most_bytes < length (all_info_bytes order (all_places order texts us) us)
+layout-large order texts us i large = omega (arith, large, sum_by-take-le (unit_length order (size_of us)) us (suc i), info-length order (size_of us) (all_places order texts us) 0 0 us)
 
 -- a refusal of such a length
 pub too-long : (e : WriteError) (place more : ℕ) → Advances (Err e) place more → IsTooLong e (place + more)
 too-long OutOfMemory place more refused = absurd refused
 too-long (TooLarge (Section name)) place more refused = refused
 
-pub refused-long : (order : Endian) (us : List OrderedUnit) (e : WriteError) (n : ℕ) → IsTooLong e n → (most_bytes < n → most_bytes < length (all_info_bytes order (all_places order us) us)) → IsRefusal order us e
-refused-long order us OutOfMemory n long large = tt
-refused-long order us (TooLarge (Section name)) n long large = let P : SectionName → Type 0 = λ m. most_bytes < length (bytes_of order (all_places order us) us m) in subst P (sym long.0) (large long.1)
+pub refused-long : (order : Endian) (texts : List (List ℕ)) (us : List OrderedUnit) (e : WriteError) (n : ℕ) → IsTooLong e n → (most_bytes < n → most_bytes < length (all_info_bytes order (all_places order texts us) us)) → IsRefusal order texts us e
+refused-long order texts us OutOfMemory n long large = tt
+refused-long order texts us (TooLarge (Section name)) n long large = let P : SectionName → Type 0 = λ m. most_bytes < length (section_bytes order texts us m) in subst P (sym long.0) (large long.1)
 
-pub refused-widely : (us : List OrderedUnit) (e : WriteError) (n : ℕ) → IsTooLong e n → (most_bytes < n → most_bytes < widest_said Info us) → IsWideRefusal us e
-refused-widely us OutOfMemory n long large = tt
-refused-widely us (TooLarge (Section name)) n long large = let P : SectionName → Type 0 = λ m. most_bytes < widest_said m us in subst P (sym long.0) (large long.1)
+pub refused-widely : (texts : List (List ℕ)) (us : List OrderedUnit) (e : WriteError) (n : ℕ) → IsTooLong e n → (most_bytes < n → most_bytes < widest_said Info texts us) → IsWideRefusal texts us e
+refused-widely texts us OutOfMemory n long large = tt
+refused-widely texts us (TooLarge (Section name)) n long large = let P : SectionName → Type 0 = λ m. most_bytes < widest_said m texts us in subst P (sym long.0) (large long.1)
 
 pub err-exit : {A : Type 0} (P : WriteError → Type 0) (result : Result A WriteError) (e : WriteError) → ((error : WriteError) × (result ≡ Err error) × (error ≡ e)) → P e → IfErr result P
 err-exit P result e p refused =
@@ -95,7 +98,7 @@ err-exit P result e p refused =
     rw (is) refused
 
 -- the error of a call, for a function that answers something else
-pub wide-exit : {A : Type 0} (us : List OrderedUnit) (result : Result A WriteError) (e : WriteError) → ((error : WriteError) × (result ≡ Err error) × (error ≡ e)) → IsWideRefusal us e → IfErr result (λ x. IsWideRefusal us x)
-wide-exit us result e p refused =
+pub wide-exit : {A : Type 0} (texts : List (List ℕ)) (us : List OrderedUnit) (result : Result A WriteError) (e : WriteError) → ((error : WriteError) × (result ≡ Err error) × (error ≡ e)) → IsWideRefusal texts us e → IfErr result (λ x. IsWideRefusal texts us x)
+wide-exit texts us result e p refused =
     let is : result ≡ Err e = p.1 ∙ ap Err p.2 in
     rw (is) refused

@@ -28,12 +28,12 @@ use Rattle.dwc_write.specs.SpelledSections.{WrittenTable, placed_unit_bytes, tab
 use Rattle.dwc_write.specs.SpelledRelocations.{sequence_bytes}
 use Rattle.dwc_write.specs.declared.attributes.Attribute.{Attribute}
 use Rattle.dwc_write.specs.declared.attributes.AttributeValue.{AttributeValue}
-use Rattle.dwc_write.specs.declared.attributes.AttributeValue.TheVariants.{Address, Constant, Flag, LineProgramRef, UnitRef, DebugInfoRef}
+use Rattle.dwc_write.specs.declared.attributes.AttributeValue.TheVariants.{Address, Constant, Flag, StringRef, LineProgramRef, UnitRef, DebugInfoRef}
 use Rattle.dwc_write.specs.declared.attributes.DebugInfoRef.TheVariants.{Entry as entry_of}
 use Rattle.dwc_write.specs.declared.abbreviations.AttributeForm.{AttributeForm}
 use Rattle.dwc_write.specs.GivenLines.{FitsLines, FitsSequences, FitsGivenSequence}
 use Rattle.dwc_write.specs.GivenUnits.{GivenEntry, OrderedUnit, Places, EntryShape, AreBelow, IsTree, IsOfSize, IsWritable, AreWritable, FitsAttribute, FitsValue, FitsEntry, FitsOrdered, size_of, constant_of, is_constant_form, constant_bound, written_of, form_of, first_depth, shape_of, shapes_of, place_in, with_use, first_uses, code_in, spec_of_form, numbered, shapes_in, written_attribute, written_entries}
-use Rattle.dwc_write.specs.Layouts.{UnitPlaces, offsets_by_number, places_in, written_unit, written_lines, written_units, written_tables}
+use Rattle.dwc_write.specs.Layouts.{AllPlaces, offsets_by_number, places_in, written_unit, written_lines, written_units, written_tables}
 use Rattle.dwc_write.specs.SpelledOutput.{abbrev_bytes, all_info_bytes, all_lines_bytes, bytes_of}
 use Rattle.dwc_write.specs.WidestGiven.{widest_value, widest_entry, lists_of, widest_table_for, widest_unit, widest_given}
 use Rattle.dwc_write.proofs.ReadNumbers.{number_bytes-length, uleb_bytes-length, sleb_bytes-small}
@@ -159,6 +159,7 @@ value-widest order size p x short fits = go x.value fits.value
     go (Address a) h = omega (arith, short, number_bytes-length order size (stored a))
     go (Constant form bits) h = constant-widest order size form bits h.0 h.1
     go (Flag b) h = omega arith
+    go (StringRef id) h = omega (arith, number_bytes-length order 4 (p.text id.index))
     go LineProgramRef h = omega (arith, number_bytes-length order 4 p.line)
     go (UnitRef id) h = omega (arith, number_bytes-length order 4 (p.entry id.index))
     go (DebugInfoRef (entry_of unit id)) h = omega (arith, number_bytes-length order 4 (p.entry_of unit.index id.index))
@@ -314,7 +315,7 @@ lines-widest order size u same fits lines =
 
 -- ---- all units
 
-tables-within : (order : Endian) (size a l : ℕ) (units : List UnitPlaces) (us : List OrderedUnit) → All FitsOrdered us → length (tables_bytes (written_units order size units a l us)) ≤ widest_given Abbrev us
+tables-within : (order : Endian) (size a l : ℕ) (units : AllPlaces) (us : List OrderedUnit) → All FitsOrdered us → length (tables_bytes (written_units order size units a l us)) ≤ widest_given Abbrev us
 tables-within order size a l units [] fits = omega arith
 tables-within order size a l units (u ∷ us) fits =
     let here = table-widest u (All-head FitsOrdered u us fits) in
@@ -322,7 +323,7 @@ tables-within order size a l units (u ∷ us) fits =
     let rest = written_units order size units (a + length table) (l + length (lines_bytes order size (written_lines u.lines))) us in
     omega (arith, here, tables-within order size (a + length table) (l + length (lines_bytes order size (written_lines u.lines))) units us (All-tail FitsOrdered u us fits), length-append table (tables_bytes rest), sum_by-cons (widest_unit Abbrev) u us)
 
-pub info-within : (order : Endian) (size a l : ℕ) (units : List UnitPlaces) (us : List OrderedUnit) → All (λ u. u.address_size ≡ size) us → All FitsOrdered us → length (info_bytes order size (written_units order size units a l us)) ≤ widest_given Info us
+pub info-within : (order : Endian) (size a l : ℕ) (units : AllPlaces) (us : List OrderedUnit) → All (λ u. u.address_size ≡ size) us → All FitsOrdered us → length (info_bytes order size (written_units order size units a l us)) ≤ widest_given Info us
 info-within order size a l units [] sized fits = omega arith
 info-within order size a l units (u ∷ us) sized fits =
     let p = places_in units (offsets_by_number order size u) l in
@@ -339,7 +340,7 @@ lines-within order size (u ∷ us) sized fits lines =
     omega (arith, here, others, lengths-both (one_table_bytes order size) (written_lines u.lines) (written_tables us), sum_by-cons (widest_unit Line) u us)
 
 -- A section of given units is no longer than its widest size.
-pub within-widest : (order : Endian) (units : List UnitPlaces) (us : List OrderedUnit) (name : SectionName) → AreWritable us → All FitsOrdered us → All (λ u. FitsLines u.lines) us → length (bytes_of order units us name) ≤ widest_given name us
+pub within-widest : (order : Endian) (units : AllPlaces) (us : List OrderedUnit) (name : SectionName) → AreWritable us → All FitsOrdered us → All (λ u. FitsLines u.lines) us → length (bytes_of order units us name) ≤ widest_given name us
 within-widest order units us name writable fits lines =
     let sized : All (λ u. u.address_size ≡ size_of us) us = All-weaker (IsWritable (size_of us)) (λ u. u.address_size ≡ size_of us) (λ u h. h.size) us writable in
     go name (tables-within order (size_of us) 0 0 units us fits) (info-within order (size_of us) 0 0 units us sized fits) (lines-within order (size_of us) us sized fits lines)

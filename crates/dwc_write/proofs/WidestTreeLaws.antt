@@ -1,5 +1,5 @@
 -- What given units can take at most is what their trees can: `widest-said`.
-use Rattle.std.proofs.Common.{◌≡◌, ℕ, suc, ◌+◌, ◌*◌, refl, sym, ap, ◌∙◌, arith, List, [], ◌∷◌, map, length, Option, Some, None}
+use Rattle.std.proofs.Common.{◌≡◌, ℕ, suc, ◌≤◌, ◌+◌, ◌*◌, refl, sym, ap, ◌∙◌, arith, List, [], ◌∷◌, map, length, Option, Some, None}
 use Rattle.std.specs.Prelude.{nat_lt, sum_by, if◌then◌else◌}
 use Rattle.std.proofs.lemmas.List.{length-map}
 use Rattle.std.proofs.lemmas.List.Sums.{sum_by-cons}
@@ -10,7 +10,7 @@ use Rattle.dwc_base.specs.Trees.{Tree}
 use Rattle.dwc_base.specs.TreeReading.{entry_or_nothing}
 use Rattle.dwc_base.specs.WidestTrees as trees
 use Rattle.dwc_write.specs.declared.attributes.AttributeValue.{AttributeValue}
-use Rattle.dwc_write.specs.declared.attributes.AttributeValue.TheVariants.{Address, Constant, Flag, LineProgramRef, UnitRef, DebugInfoRef}
+use Rattle.dwc_write.specs.declared.attributes.AttributeValue.TheVariants.{Address, Constant, Flag, StringRef, LineProgramRef, UnitRef, DebugInfoRef}
 use Rattle.dwc_write.specs.declared.attributes.DebugInfoRef.TheVariants.{Entry as entry_of}
 use Rattle.dwc_write.specs.GivenUnits.{GivenEntry, OrderedUnit, first_depth}
 use Rattle.dwc_write.specs.GivenTrees.{given_said, attribute_said, tree_entry, given_tree, trees_from}
@@ -26,58 +26,59 @@ reference-said : (p : Option (ℕ × ℕ)) → 4 ≡ trees.widest_value (entry_o
 reference-said None = refl
 reference-said (Some p) = refl
 
-module _ (us : List OrderedUnit) (number : ℕ) (u : OrderedUnit) where
-  value-said : (v : AttributeValue) → widest_value v ≡ trees.widest_value (given_said us number u v)
+module _ (texts : List (List ℕ)) (us : List OrderedUnit) (number : ℕ) (u : OrderedUnit) where
+  value-said : (v : AttributeValue) → widest_value v ≡ trees.widest_value (given_said texts us number u v)
   value-said (Address a) = refl
   value-said (Constant form bits) = refl
   value-said (Flag b) = refl
+  value-said (StringRef id) = refl
   value-said LineProgramRef = refl
   value-said (UnitRef id) = reference-said _
   value-said (DebugInfoRef (entry_of unit id)) = reference-said _
 
-  entry-said : (e : GivenEntry) → widest_entry e ≡ trees.widest_entry (tree_entry us number u e)
-  entry-said e = ap (λ n. variable_bytes + n) (sums-same (attribute_said us number u) (λ a. widest_value a.value) (λ a. trees.widest_value a.1) (λ a. value-said a.value) e.attributes)
+  entry-said : (e : GivenEntry) → widest_entry e ≡ trees.widest_entry (tree_entry texts us number u e)
+  entry-said e = ap (λ n. variable_bytes + n) (sums-same (attribute_said texts us number u) (λ a. widest_value a.value) (λ a. trees.widest_value a.1) (λ a. value-said a.value) e.attributes)
 
-  declaration-said : (e : GivenEntry) → widest_declaration (length e.attributes) ≡ widest_declaration (length (tree_entry us number u e).attributes)
-  declaration-said e = ap widest_declaration (sym (length-map e.attributes (attribute_said us number u)))
+  declaration-said : (e : GivenEntry) → widest_declaration (length e.attributes) ≡ widest_declaration (length (tree_entry texts us number u e).attributes)
+  declaration-said e = ap widest_declaration (sym (length-map e.attributes (attribute_said texts us number u)))
 
-  first-said : (es : List GivenEntry) → first_depth es ≡ trees.first_depth (map (tree_entry us number u) es)
+  first-said : (es : List GivenEntry) → first_depth es ≡ trees.first_depth (map (tree_entry texts us number u) es)
   first-said [] = refl
   first-said (e ∷ es) = refl
 
-  lists-said : (es : List GivenEntry) → lists_of es ≡ trees.lists_of_children (map (tree_entry us number u) es)
+  lists-said : (es : List GivenEntry) → lists_of es ≡ trees.lists_of_children (map (tree_entry texts us number u) es)
   lists-said [] = refl
   lists-said (e ∷ es) =
-      ap (λ n. (if nat_lt e.depth n then 1 else 0) + lists_of es) (first-said es) ∙ ap (λ n. (if nat_lt e.depth (trees.first_depth (map (tree_entry us number u) es)) then 1 else 0) + n) (lists-said es)
+      ap (λ n. (if nat_lt e.depth n then 1 else 0) + lists_of es) (first-said es) ∙ ap (λ n. (if nat_lt e.depth (trees.first_depth (map (tree_entry texts us number u) es)) then 1 else 0) + n) (lists-said es)
 
-  info-said : widest_unit Info u ≡ trees.widest_unit (given_tree us number u)
+  info-said : widest_unit Info u ≡ trees.widest_unit (given_tree texts us number u)
   info-said =
-      ap (λ n. 11 + (n + lists_of u.entries * variable_bytes)) (sums-same (tree_entry us number u) widest_entry trees.widest_entry entry-said u.entries)
-      ∙ ap (λ n. 11 + (sum_by trees.widest_entry (given_tree us number u) + n * variable_bytes)) (lists-said u.entries)
+      ap (λ n. 11 + (n + lists_of u.entries * variable_bytes)) (sums-same (tree_entry texts us number u) widest_entry trees.widest_entry entry-said u.entries)
+      ∙ ap (λ n. 11 + (sum_by trees.widest_entry (given_tree texts us number u) + n * variable_bytes)) (lists-said u.entries)
 
-  abbreviations-said : widest_unit Abbrev u ≡ trees.widest_declarations (given_tree us number u)
-  abbreviations-said = ap (λ n. n + variable_bytes) (sums-same (tree_entry us number u) (λ e. widest_declaration (length e.attributes)) (λ e. widest_declaration (length e.attributes)) declaration-said u.entries)
+  abbreviations-said : widest_unit Abbrev u ≡ trees.widest_declarations (given_tree texts us number u)
+  abbreviations-said = ap (λ n. n + variable_bytes) (sums-same (tree_entry texts us number u) (λ e. widest_declaration (length e.attributes)) (λ e. widest_declaration (length e.attributes)) declaration-said u.entries)
 
-trees-said : (f : OrderedUnit → ℕ) (g : Tree → ℕ) (all : List OrderedUnit) → ((number : ℕ) (u : OrderedUnit) → f u ≡ g (given_tree all number u)) → (number : ℕ) (us : List OrderedUnit) → sum_by g (trees_from all number us) ≡ sum_by f us
-trees-said f g all each number [] = refl
-trees-said f g all each number (u ∷ us) = omega (arith, sum_by-cons f u us, sum_by-cons g (given_tree all number u) (trees_from all (suc number) us), each number u, trees-said f g all each (suc number) us)
+trees-said : (texts : List (List ℕ)) (f : OrderedUnit → ℕ) (g : Tree → ℕ) (all : List OrderedUnit) → ((number : ℕ) (u : OrderedUnit) → f u ≡ g (given_tree texts all number u)) → (number : ℕ) (us : List OrderedUnit) → sum_by g (trees_from texts all number us) ≡ sum_by f us
+trees-said texts f g all each number [] = refl
+trees-said texts f g all each number (u ∷ us) = omega (arith, sum_by-cons f u us, sum_by-cons g (given_tree texts all number u) (trees_from texts all (suc number) us), each number u, trees-said texts f g all each (suc number) us)
 
-nothing-said : (name : SectionName) (us : List OrderedUnit) → ((u : OrderedUnit) → widest_unit name u ≡ 0) → 0 ≡ widest_given name us
-nothing-said name [] none = refl
-nothing-said name (u ∷ us) none = omega (arith, sum_by-cons (widest_unit name) u us, none u, nothing-said name us none)
+nothing-given : (name : SectionName) (us : List OrderedUnit) → ((u : OrderedUnit) → widest_unit name u ≡ 0) → widest_given name us ≡ 0
+nothing-given name [] none = refl
+nothing-given name (u ∷ us) none = omega (arith, sum_by-cons (widest_unit name) u us, none u, nothing-given name us none)
 
--- The two counts are one.
-pub widest-said : (name : SectionName) (us : List OrderedUnit) → widest_said name us ≡ widest_given name us
-widest-said Info us = trees-said (widest_unit Info) trees.widest_unit us (info-said us) 0 us
-widest-said Abbrev us = trees-said (widest_unit Abbrev) trees.widest_declarations us (abbreviations-said us) 0 us
-widest-said Line us = refl
-widest-said Addr us = nothing-said Addr us (λ u. refl)
-widest-said LineStr us = nothing-said LineStr us (λ u. refl)
-widest-said Loc us = nothing-said Loc us (λ u. refl)
-widest-said Loclists us = nothing-said Loclists us (λ u. refl)
-widest-said Ranges us = nothing-said Ranges us (λ u. refl)
-widest-said Rnglists us = nothing-said Rnglists us (λ u. refl)
-widest-said Str us = nothing-said Str us (λ u. refl)
-widest-said StrOffsets us = nothing-said StrOffsets us (λ u. refl)
-widest-said CuIndex us = nothing-said CuIndex us (λ u. refl)
-widest-said Frame us = nothing-said Frame us (λ u. refl)
+-- What is counted over units is no more than what is counted over what they say; texts are counted there alone.
+pub widest-said : (name : SectionName) (texts : List (List ℕ)) (us : List OrderedUnit) → widest_given name us ≤ widest_said name texts us
+widest-said Info texts us = omega (arith, trees-said texts (widest_unit Info) trees.widest_unit us (info-said texts us) 0 us)
+widest-said Abbrev texts us = omega (arith, trees-said texts (widest_unit Abbrev) trees.widest_declarations us (abbreviations-said texts us) 0 us)
+widest-said Line texts us = omega arith
+widest-said Addr texts us = omega (arith, nothing-given Addr us (λ u. refl))
+widest-said LineStr texts us = omega (arith, nothing-given LineStr us (λ u. refl))
+widest-said Loc texts us = omega (arith, nothing-given Loc us (λ u. refl))
+widest-said Loclists texts us = omega (arith, nothing-given Loclists us (λ u. refl))
+widest-said Ranges texts us = omega (arith, nothing-given Ranges us (λ u. refl))
+widest-said Rnglists texts us = omega (arith, nothing-given Rnglists us (λ u. refl))
+widest-said Str texts us = omega (arith, nothing-given Str us (λ u. refl))
+widest-said StrOffsets texts us = omega (arith, nothing-given StrOffsets us (λ u. refl))
+widest-said CuIndex texts us = omega (arith, nothing-given CuIndex us (λ u. refl))
+widest-said Frame texts us = omega (arith, nothing-given Frame us (λ u. refl))

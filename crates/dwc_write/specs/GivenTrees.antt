@@ -1,12 +1,13 @@
--- Given units as trees: what their entries say, without the spelling of a section.
+-- Given units as trees: what their entries say with the texts of a table, without the spelling of a section.
 use Rattle.std.specs.Prelude.{ℕ, suc, ◌==◌, List, [], ◌∷◌, map, position, slice_get, Option, option_map, option_and_then}
-use Rattle.dwc_base.specs.Trees.{TreeValue, address, constant, flag, line_table, TreeEntry, Tree}
+use Rattle.dwc_base.specs.Trees.{TreeValue, address, constant, flag, text, line_table, TreeEntry, Tree}
 use Rattle.dwc_base.specs.TreeReading.{entry_or_nothing}
 use Rattle.dwc_write.specs.declared.attributes.Attribute.{Attribute}
 use Rattle.dwc_write.specs.declared.attributes.AttributeValue.{AttributeValue}
-use Rattle.dwc_write.specs.declared.attributes.AttributeValue.TheVariants.{Address, Constant, Flag, LineProgramRef, UnitRef, DebugInfoRef}
+use Rattle.dwc_write.specs.declared.attributes.AttributeValue.TheVariants.{Address, Constant, Flag, StringRef, LineProgramRef, UnitRef, DebugInfoRef}
 use Rattle.dwc_write.specs.declared.attributes.DebugInfoRef.TheVariants.{Entry}
 use Rattle.dwc_write.specs.GivenUnits.{GivenEntry, OrderedUnit, place_of}
+use Rattle.dwc_write.specs.UsedTexts.{text_numbered}
 
 -- the place of the entry of a number among the entries of its unit in file order; none where the number is only reserved
 abbrev pub place_in_order : OrderedUnit → ℕ → Option ℕ
@@ -17,29 +18,30 @@ abbrev pub place_in_units : List OrderedUnit → ℕ → ℕ → Option (ℕ × 
 place_in_units us number id = option_map (λ place. (number, place)) (option_and_then (λ u. place_in_order u id) (slice_get us number))
 
 -- What a value says in a unit of a number among units. A reference to an entry that was not added says nothing.
-abbrev pub given_said : List OrderedUnit → ℕ → OrderedUnit → AttributeValue → TreeValue
-given_said us number u (Address a) = address a
-given_said us number u (Constant form bits) = constant form bits
-given_said us number u (Flag b) = flag b
-given_said us number u LineProgramRef = line_table
-given_said us number u (UnitRef id) = entry_or_nothing (option_map (λ place. (number, place)) (place_in_order u id.index))
-given_said us number u (DebugInfoRef (Entry unit id)) = entry_or_nothing (place_in_units us unit.index id.index)
+abbrev pub given_said : List (List ℕ) → List OrderedUnit → ℕ → OrderedUnit → AttributeValue → TreeValue
+given_said texts us number u (Address a) = address a
+given_said texts us number u (Constant form bits) = constant form bits
+given_said texts us number u (Flag b) = flag b
+given_said texts us number u (StringRef id) = text (text_numbered texts id.index)
+given_said texts us number u LineProgramRef = line_table
+given_said texts us number u (UnitRef id) = entry_or_nothing (option_map (λ place. (number, place)) (place_in_order u id.index))
+given_said texts us number u (DebugInfoRef (Entry unit id)) = entry_or_nothing (place_in_units us unit.index id.index)
 
-abbrev pub attribute_said : List OrderedUnit → ℕ → OrderedUnit → Attribute → ℕ × TreeValue
-attribute_said us number u a = (a.name, given_said us number u a.value)
+abbrev pub attribute_said : List (List ℕ) → List OrderedUnit → ℕ → OrderedUnit → Attribute → ℕ × TreeValue
+attribute_said texts us number u a = (a.name, given_said texts us number u a.value)
 
-abbrev pub tree_entry : List OrderedUnit → ℕ → OrderedUnit → GivenEntry → TreeEntry
-tree_entry us number u e = record { depth = e.depth; tag = e.tag; attributes = map (attribute_said us number u) e.attributes }
+abbrev pub tree_entry : List (List ℕ) → List OrderedUnit → ℕ → OrderedUnit → GivenEntry → TreeEntry
+tree_entry texts us number u e = record { depth = e.depth; tag = e.tag; attributes = map (attribute_said texts us number u) e.attributes }
 
 -- a given unit as a tree
-abbrev pub given_tree : List OrderedUnit → ℕ → OrderedUnit → Tree
-given_tree us number u = map (tree_entry us number u) u.entries
+abbrev pub given_tree : List (List ℕ) → List OrderedUnit → ℕ → OrderedUnit → Tree
+given_tree texts us number u = map (tree_entry texts us number u) u.entries
 
 -- units among others, of which the first has a number
-abbrev pub trees_from : List OrderedUnit → ℕ → List OrderedUnit → List Tree
-trees_from all number [] = []
-trees_from all number (u ∷ us) = given_tree all number u ∷ trees_from all (suc number) us
+abbrev pub trees_from : List (List ℕ) → List OrderedUnit → ℕ → List OrderedUnit → List Tree
+trees_from texts all number [] = []
+trees_from texts all number (u ∷ us) = given_tree texts all number u ∷ trees_from texts all (suc number) us
 
 -- given units as trees
-abbrev pub given_trees : List OrderedUnit → List Tree
-given_trees us = trees_from us 0 us
+abbrev pub given_trees : List (List ℕ) → List OrderedUnit → List Tree
+given_trees texts us = trees_from texts us 0 us

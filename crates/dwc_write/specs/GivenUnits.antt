@@ -7,11 +7,11 @@ use Rattle.dwc_base.specs.Abbreviations.{AttributeSpec, Declaration}
 use Rattle.dwc_write.specs.declared.attributes.Attribute.{Attribute}
 use Rattle.dwc_write.specs.declared.abbreviations.AttributeForm.{AttributeForm}
 use Rattle.dwc_write.specs.declared.attributes.AttributeValue.{AttributeValue}
-use Rattle.dwc_write.specs.declared.attributes.AttributeValue.TheVariants.{Address, Constant, Flag, LineProgramRef, UnitRef, DebugInfoRef}
+use Rattle.dwc_write.specs.declared.attributes.AttributeValue.TheVariants.{Address, Constant, Flag, StringRef, LineProgramRef, UnitRef, DebugInfoRef}
 use Rattle.dwc_write.specs.declared.attributes.DebugInfoRef.TheVariants.{Entry}
 use Rattle.dwc_write.specs.Spelled.{uleb_bytes}
 use Rattle.dwc_write.specs.SpelledTables.{flag_of}
-use Rattle.dwc_write.specs.SpelledUnits.{Written, as_addr, as_data1, as_data2, as_data4, as_data8, as_udata, as_sdata, as_flag, as_ref4, as_ref_addr, as_sec_offset, form_number, WrittenAttribute, WrittenEntry}
+use Rattle.dwc_write.specs.SpelledUnits.{Written, as_addr, as_data1, as_data2, as_data4, as_data8, as_udata, as_sdata, as_flag, as_strp, as_ref4, as_ref_addr, as_sec_offset, form_number, WrittenAttribute, WrittenEntry}
 use Rattle.dwc_write.specs.Writers.{FitsField}
 use Rattle.dwc_write.specs.GivenLines.{GivenLines}
 
@@ -74,22 +74,25 @@ constant_of form bits =
     else (if form == DW_FORM_data8 then as_data8 bits
     else (if form == DW_FORM_sdata then as_sdata (cast_signed w64 bits) else as_udata bits))))
 
--- Where what a unit names by an offset stands: its line table, its own entries, from the unit's first byte, and the entries of the
--- unit of a number, from the first byte of `.debug_info`; entries by their numbers. (DWARF 4, section 7.5.4.)
+-- Where what a unit names by an offset stands: its line table, its own entries, from the unit's first byte, the entries of the
+-- unit of a number, from the first byte of `.debug_info`, and texts, in `.debug_str`; entries and texts by their numbers. (DWARF 4,
+-- section 7.5.4.)
 pub record Places : Type 0 where
   pub line : ℕ
   pub entry : ℕ → ℕ
   pub entry_of : ℕ → ℕ → ℕ
+  pub text : ℕ → ℕ
 
 -- nothing has a place yet: forms and sizes do not hang on places
 abbrev pub no_places : Places
-no_places = record { line = 0; entry = λ id. 0; entry_of = λ unit id. 0 }
+no_places = record { line = 0; entry = λ id. 0; entry_of = λ unit id. 0; text = λ id. 0 }
 
 -- a value in a unit with some places
 abbrev pub written_of : Places → AttributeValue → Written
 written_of places (Address a) = as_addr a
 written_of places (Constant form bits) = constant_of form bits
 written_of places (Flag b) = as_flag b
+written_of places (StringRef id) = as_strp (places.text id.index)
 written_of places LineProgramRef = as_sec_offset places.line
 written_of places (UnitRef id) = as_ref4 (places.entry id.index)
 written_of places (DebugInfoRef (Entry unit id)) = as_ref_addr (places.entry_of unit.index id.index)
@@ -106,6 +109,7 @@ abbrev pub FitsValue : ℕ → ℕ → AttributeValue → Type 0
 FitsValue size name (Address a) = FitsField size a
 FitsValue size name (Constant form bits) = (is_constant_form form ≡ true) × (bits < constant_bound form)
 FitsValue size name (Flag b) = Unit {0}
+FitsValue size name (StringRef id) = Unit {0}
 FitsValue size name LineProgramRef = name ≡ DW_AT_stmt_list
 FitsValue size name (UnitRef id) = Unit {0}
 FitsValue size name (DebugInfoRef reference) = Unit {0}

@@ -10,16 +10,20 @@ use Rattle.dwc_write.specs.declared.entries.Spelling.{Spelling}
 use Rattle.dwc_write.specs.Writers.{most_bytes}
 use Rattle.dwc_write.specs.GivenUnits.{GivenUnit, Places, in_file_order, ordered, shapes_in}
 use Rattle.dwc_write.specs.FileOrders.{looked_up}
-use Rattle.dwc_write.specs.Layouts.{UnitPlaces, codes_of, places_in}
+use Rattle.dwc_write.specs.Layouts.{UnitPlaces, AllPlaces, codes_of, places_in}
 use Rattle.dwc_write.specs.ShapeViews.{shape_view}
 
 -- where a unit and its entries stand
 abbrev pub places_view : UnitLayout → UnitPlaces
 places_view l = record { start = l.start; offsets = l.offsets.items }
 
+-- the same of all units, with the places of texts
+abbrev pub whole_view : List UnitLayout → List (Option ℕ) → AllPlaces
+whole_view layouts texts = record { units = map places_view layouts; texts = texts }
+
 -- the places of what a unit names, as it is written
 abbrev pub spelling_places : Spelling → Places
-spelling_places s = places_in (map places_view s.units.now) s.offsets.now s.line_offset
+spelling_places s = places_in (whole_view s.units.now s.texts.now) s.offsets.now s.line_offset
 
 -- A unit is laid out: its entries in file order, with the codes of their shapes.
 pub record IsLaidOut (u : GivenUnit) (l : UnitLayout) : Type 0 where

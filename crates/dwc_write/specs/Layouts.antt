@@ -1,6 +1,7 @@
 -- Where entries stand, and what is written of units: a reference is an offset in its unit, or in `.debug_info`. (DWARF 4, sections
 -- 7.5.1 and 7.5.4.)
 use Rattle.std.specs.Prelude.{ℕ, ◌+◌, ◌≤◌, ◌==◌, List, [], ◌∷◌, map, length, sum_by, get_or, slice_get, if◌then◌else◌, Option, Some, None}
+use Rattle.std.specs.Option.{unwrap_or}
 use Rattle.std.specs.List.{flat_map}
 use Rattle.dwc_base.specs.declared.records.Endian.{Endian}
 use Rattle.dwc_write.specs.Spelled.{at_places}
@@ -9,7 +10,7 @@ use Rattle.dwc_write.specs.SpelledUnits.{WrittenEntry, shaped, entry_bytes, entr
 use Rattle.dwc_write.specs.SpelledSections.{WrittenUnit, WrittenTable, lines_bytes}
 use Rattle.dwc_write.specs.Writers.{most_bytes}
 use Rattle.dwc_write.specs.GivenLines.{GivenLines}
-use Rattle.dwc_write.specs.GivenUnits.{GivenEntry, OrderedUnit, Places, no_places, size_of, first_uses, shapes_of, shapes_in, numbered, written_entries}
+use Rattle.dwc_write.specs.GivenUnits.{GivenEntry, OrderedUnit, Places, no_places, place_of, size_of, first_uses, shapes_of, shapes_in, numbered, written_entries}
 
 -- ---- the entries of a unit
 
@@ -64,15 +65,25 @@ places_of_units order size start (u ∷ us) = record { start = start; offsets = 
 abbrev pub offset_in_section : List UnitPlaces → ℕ → ℕ → ℕ
 offset_in_section units unit id = elim (slice_get units unit) [ None ↦ 0 | Some u ↦ u.start + get_or u.offsets id 0 ]
 
+-- where all units stand, and the texts of a table by their numbers, if they stand
+pub record AllPlaces : Type 0 where
+  pub units : List UnitPlaces
+  pub texts : List (Option ℕ)
+
+-- the offset in `.debug_str` of a text by its number; 0 for one that does not stand there
+abbrev pub offset_of_text : List (Option ℕ) → ℕ → ℕ
+offset_of_text texts id = unwrap_or (place_of id texts) 0
+
 -- the places in a unit among others, whose line table stands at an offset
-abbrev pub places_in : List UnitPlaces → List ℕ → ℕ → Places
-places_in units offsets line = record { line = line; entry = λ id. get_or offsets id 0; entry_of = offset_in_section units }
+abbrev pub places_in : AllPlaces → List ℕ → ℕ → Places
+places_in all offsets line = record { line = line; entry = λ id. get_or offsets id 0; entry_of = offset_in_section all.units; text = offset_of_text all.texts }
 
 -- All places are below the most bytes that a section holds.
 pub record AreShort (p : Places) : Type 0 where
   pub line : p.line ≤ most_bytes
   pub entry : (id : ℕ) → p.entry id ≤ most_bytes
   pub entry_of : (unit id : ℕ) → p.entry_of unit id ≤ most_bytes
+  pub text : (id : ℕ) → p.text id ≤ most_bytes
 
 -- ---- what is written of units, whose abbreviation tables and line tables stand at offsets
 
@@ -84,11 +95,11 @@ abbrev pub written_lines : GivenLines → List WrittenTable
 written_lines g = elim g.address_size [ None ↦ [] | Some size ↦ record { directories = g.directories; files = g.files; sequences = g.sequences } ∷ [] ]
 
 -- units among others, whose tables stand one behind another from two offsets on
-abbrev pub written_units : Endian → ℕ → List UnitPlaces → ℕ → ℕ → List OrderedUnit → List WrittenUnit
-written_units order size units table_offset line_offset [] = []
-written_units order size units table_offset line_offset (u ∷ us) =
-    written_unit (places_in units (offsets_by_number order size u) line_offset) table_offset u
-    ∷ written_units order size units (table_offset + length (table_bytes (numbered 1 (shapes_in u)))) (line_offset + length (lines_bytes order size (written_lines u.lines))) us
+abbrev pub written_units : Endian → ℕ → AllPlaces → ℕ → ℕ → List OrderedUnit → List WrittenUnit
+written_units order size all table_offset line_offset [] = []
+written_units order size all table_offset line_offset (u ∷ us) =
+    written_unit (places_in all (offsets_by_number order size u) line_offset) table_offset u
+    ∷ written_units order size all (table_offset + length (table_bytes (numbered 1 (shapes_in u)))) (line_offset + length (lines_bytes order size (written_lines u.lines))) us
 
 abbrev pub written_tables : List OrderedUnit → List WrittenTable
 written_tables us = flat_map (λ u. written_lines u.lines) us

@@ -10,6 +10,7 @@ pub mod LineViews
 pub mod NameViews
 pub mod TextTables
 pub mod GivenUnits
+pub mod UsedTexts
 pub mod Layouts
 pub mod UnitViews
 pub mod AttributePlaces
@@ -17,6 +18,7 @@ pub mod FileOrders
 pub mod SpelledRelocations
 pub mod ShapeViews
 pub mod LayoutViews
+pub mod TextViews
 pub mod SpelledOutput
 pub mod SectionViews
 pub mod ReadBack

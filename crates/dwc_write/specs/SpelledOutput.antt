@@ -2,7 +2,7 @@
 use Rattle.std.specs.Prelude.{◌≡◌, ◌<◌, ◌⊎◌, ℕ, List, [], ◌∷◌, ◌++◌, length, Result, Ok, Err}
 use Rattle.dwc_base.specs.declared.records.Endian.{Endian}
 use Rattle.dwc_base.specs.declared.section_name.SectionName.{SectionName}
-use Rattle.dwc_base.specs.declared.section_name.SectionName.TheVariants.{Abbrev, Info, Line}
+use Rattle.dwc_base.specs.declared.section_name.SectionName.TheVariants.{Abbrev, Info, Line, Str}
 use Rattle.dwc_base.specs.Sections.{section_text}
 use Rattle.dwc_base.specs.Outputs.{OutputRelocation, OutputSection}
 use Rattle.dwc_write.specs.declared.error.WriteError.{WriteError}
@@ -10,7 +10,8 @@ use Rattle.dwc_write.specs.SpelledTables.{table_bytes}
 use Rattle.dwc_write.specs.SpelledSections.{WrittenUnit, placed_unit_bytes, tables_bytes, info_bytes, lines_bytes}
 use Rattle.dwc_write.specs.SpelledRelocations.{unit_relocations, info_relocations, lines_relocations}
 use Rattle.dwc_write.specs.GivenUnits.{GivenEntry, OrderedUnit, Places, size_of, first_uses, shapes_of, numbered, written_entries}
-use Rattle.dwc_write.specs.Layouts.{UnitPlaces, offsets_by_number, places_of_units, places_in, written_lines, written_unit, written_units, written_tables}
+use Rattle.dwc_write.specs.UsedTexts.{strings_bytes, text_places}
+use Rattle.dwc_write.specs.Layouts.{AllPlaces, offsets_by_number, places_of_units, places_in, written_lines, written_unit, written_units, written_tables}
 use Rattle.dwc_write.specs.Writers.{Writing, Refuses, appended, most_bytes}
 use Rattle.dwc_write.specs.declared.error.WriteError.TheVariants.{TooLarge, OutOfMemory}
 use Rattle.dwc_base.specs.declared.faults.Limit.TheVariants.{Section}
@@ -21,38 +22,43 @@ section_unless_empty name [] relocations = []
 section_unless_empty name (b ∷ bytes) relocations = record { name = section_text name; body = b ∷ bytes; relocations = relocations } ∷ []
 
 -- units among others that have some places, in their section
-abbrev pub units_placed : Endian → List UnitPlaces → List OrderedUnit → List WrittenUnit
-units_placed order units us = written_units order (size_of us) units 0 0 us
+abbrev pub units_placed : Endian → AllPlaces → List OrderedUnit → List WrittenUnit
+units_placed order places us = written_units order (size_of us) places 0 0 us
 
-abbrev pub abbrev_bytes : Endian → List UnitPlaces → List OrderedUnit → List ℕ
-abbrev_bytes order units us = tables_bytes (units_placed order units us)
+abbrev pub abbrev_bytes : Endian → AllPlaces → List OrderedUnit → List ℕ
+abbrev_bytes order places us = tables_bytes (units_placed order places us)
 
-abbrev pub all_info_bytes : Endian → List UnitPlaces → List OrderedUnit → List ℕ
-all_info_bytes order units us = info_bytes order (size_of us) (units_placed order units us)
+abbrev pub all_info_bytes : Endian → AllPlaces → List OrderedUnit → List ℕ
+all_info_bytes order places us = info_bytes order (size_of us) (units_placed order places us)
 
 abbrev pub all_lines_bytes : Endian → List OrderedUnit → List ℕ
 all_lines_bytes order us = lines_bytes order (size_of us) (written_tables us)
 
--- how many bytes a section has
-abbrev pub bytes_of : Endian → List UnitPlaces → List OrderedUnit → SectionName → List ℕ
-bytes_of order units us Abbrev = abbrev_bytes order units us
-bytes_of order units us Info = all_info_bytes order units us
-bytes_of order units us Line = all_lines_bytes order us
-bytes_of order units us name = []
+-- the bytes of a section with units
+abbrev pub bytes_of : Endian → AllPlaces → List OrderedUnit → SectionName → List ℕ
+bytes_of order places us Abbrev = abbrev_bytes order places us
+bytes_of order places us Info = all_info_bytes order places us
+bytes_of order places us Line = all_lines_bytes order us
+bytes_of order places us name = []
 
--- abbreviations, entries and line tables, in this order
-abbrev pub sections_placed : Endian → List UnitPlaces → List OrderedUnit → List OutputSection
-sections_placed order units us =
-    section_unless_empty Abbrev (abbrev_bytes order units us) []
-    ++ (section_unless_empty Info (all_info_bytes order units us) (info_relocations order (size_of us) 0 (units_placed order units us))
-    ++ section_unless_empty Line (all_lines_bytes order us) (lines_relocations order (size_of us) 0 (written_tables us)))
+-- abbreviations, entries, line tables and texts, in this order
+abbrev pub sections_placed : Endian → AllPlaces → List ℕ → List OrderedUnit → List OutputSection
+sections_placed order places strings us =
+    section_unless_empty Abbrev (abbrev_bytes order places us) []
+    ++ (section_unless_empty Info (all_info_bytes order places us) (info_relocations order (size_of us) 0 (units_placed order places us))
+    ++ (section_unless_empty Line (all_lines_bytes order us) (lines_relocations order (size_of us) 0 (written_tables us)) ++ section_unless_empty Str strings []))
 
--- the places of all units
-abbrev pub all_places : Endian → List OrderedUnit → List UnitPlaces
-all_places order us = places_of_units order (size_of us) 0 us
+-- the places of all units, and of the texts of a table that they name
+abbrev pub all_places : Endian → List (List ℕ) → List OrderedUnit → AllPlaces
+all_places order texts us = record { units = places_of_units order (size_of us) 0 us; texts = text_places texts us }
 
-abbrev pub spelled_sections : Endian → List OrderedUnit → List OutputSection
-spelled_sections order us = sections_placed order (all_places order us) us
+abbrev pub spelled_sections : Endian → List (List ℕ) → List OrderedUnit → List OutputSection
+spelled_sections order texts us = sections_placed order (all_places order texts us) (strings_bytes texts us) us
+
+-- the bytes of a section
+abbrev pub section_bytes : Endian → List (List ℕ) → List OrderedUnit → SectionName → List ℕ
+section_bytes order texts us Str = strings_bytes texts us
+section_bytes order texts us name = bytes_of order (all_places order texts us) us name
 
 -- ---- what the calls within a writer say
 
@@ -74,51 +80,53 @@ pub record WrittenSections : Type 0 where
   pub line_section : Writing
 
 -- the places in a unit among others, whose line table stands behind what is there
-abbrev pub places_there : List UnitPlaces → WrittenSections → OrderedUnit → Places
-places_there units w u = places_in units (offsets_by_number w.info_section.order u.address_size u) (length w.line_section.body)
+abbrev pub places_there : AllPlaces → WrittenSections → OrderedUnit → Places
+places_there places w u = places_in places (offsets_by_number w.info_section.order u.address_size u) (length w.line_section.body)
 
 -- a unit with its line table behind what is there
-abbrev pub unit_in : List UnitPlaces → WrittenSections → OrderedUnit → WrittenUnit
-unit_in units w u = written_unit (places_there units w u) (length w.abbrev_section.body) u
+abbrev pub unit_in : AllPlaces → WrittenSections → OrderedUnit → WrittenUnit
+unit_in places w u = written_unit (places_there places w u) (length w.abbrev_section.body) u
 
-abbrev pub with_unit : List UnitPlaces → OrderedUnit → WrittenSections → WrittenSections
-with_unit units u w = record {
-  abbrev_section = appended (table_bytes (unit_in units w u).table) [] w.abbrev_section;
-  info_section = appended (placed_unit_bytes w.info_section.order u.address_size (unit_in units w u)) (unit_relocations w.info_section.order u.address_size (length w.info_section.body) (unit_in units w u)) w.info_section;
+abbrev pub with_unit : AllPlaces → OrderedUnit → WrittenSections → WrittenSections
+with_unit places u w = record {
+  abbrev_section = appended (table_bytes (unit_in places w u).table) [] w.abbrev_section;
+  info_section = appended (placed_unit_bytes w.info_section.order u.address_size (unit_in places w u)) (unit_relocations w.info_section.order u.address_size (length w.info_section.body) (unit_in places w u)) w.info_section;
   line_section = appended (lines_bytes w.line_section.order u.address_size (written_lines u.lines)) (lines_relocations w.line_section.order u.address_size (length w.line_section.body) (written_lines u.lines)) w.line_section;
 }
 
 -- one of the sections refuses a unit
-abbrev pub RefusesUnit : WriteError → List UnitPlaces → WrittenSections → OrderedUnit → Type 0
-RefusesUnit e units w u =
-    Refuses e w.abbrev_section (length (table_bytes (unit_in units w u).table))
-    ⊎ (Refuses e w.info_section (length (placed_unit_bytes w.info_section.order u.address_size (unit_in units w u)))
+abbrev pub RefusesUnit : WriteError → AllPlaces → WrittenSections → OrderedUnit → Type 0
+RefusesUnit e places w u =
+    Refuses e w.abbrev_section (length (table_bytes (unit_in places w u).table))
+    ⊎ (Refuses e w.info_section (length (placed_unit_bytes w.info_section.order u.address_size (unit_in places w u)))
     ⊎ Refuses e w.line_section (length (lines_bytes w.line_section.order u.address_size (written_lines u.lines))))
 
-abbrev pub WritesOne : List UnitPlaces → WrittenSections → WrittenSections → Result (Unit {0}) WriteError → OrderedUnit → Type 0
-WritesOne units old new (Ok done) u = new ≡ with_unit units u old
-WritesOne units old new (Err e) u = RefusesUnit e units old u
+abbrev pub WritesOne : AllPlaces → WrittenSections → WrittenSections → Result (Unit {0}) WriteError → OrderedUnit → Type 0
+WritesOne places old new (Ok done) u = new ≡ with_unit places u old
+WritesOne places old new (Err e) u = RefusesUnit e places old u
 
 abbrev pub empty_section : Endian → SectionName → Writing
 empty_section order name = record { order = order; name = name; body = []; relocations = [] }
 
-abbrev pub with_units : List UnitPlaces → List OrderedUnit → WrittenSections → WrittenSections
-with_units units [] w = w
-with_units units (u ∷ us) w = with_units units us (with_unit units u w)
+abbrev pub with_units : AllPlaces → List OrderedUnit → WrittenSections → WrittenSections
+with_units places [] w = w
+with_units places (u ∷ us) w = with_units places us (with_unit places u w)
 
-abbrev pub all_units : Endian → List UnitPlaces → List OrderedUnit → WrittenSections
-all_units order units us = with_units units us (record { abbrev_section = empty_section order Abbrev; info_section = empty_section order Info; line_section = empty_section order Line })
+abbrev pub all_units : Endian → AllPlaces → List OrderedUnit → WrittenSections
+all_units order places us = with_units places us (record { abbrev_section = empty_section order Abbrev; info_section = empty_section order Info; line_section = empty_section order Line })
 
--- A refusal of all units: for want of memory, or for a section's size.
-abbrev pub IsRefusalAmong : Endian → List UnitPlaces → List OrderedUnit → WriteError → Type 0
-IsRefusalAmong order units us OutOfMemory = Unit {0}
-IsRefusalAmong order units us (TooLarge (Section name)) = most_bytes < length (bytes_of order units us name)
+-- A refusal of all units that have some places: for want of memory, or for a section's size.
+abbrev pub IsRefusalAmong : Endian → AllPlaces → List OrderedUnit → WriteError → Type 0
+IsRefusalAmong order places us OutOfMemory = Unit {0}
+IsRefusalAmong order places us (TooLarge (Section name)) = most_bytes < length (bytes_of order places us name)
 
-abbrev pub IsRefusal : Endian → List OrderedUnit → WriteError → Type 0
-IsRefusal order us e = IsRefusalAmong order (all_places order us) us e
+-- A refusal of units and of the texts that they name.
+abbrev pub IsRefusal : Endian → List (List ℕ) → List OrderedUnit → WriteError → Type 0
+IsRefusal order texts us OutOfMemory = Unit {0}
+IsRefusal order texts us (TooLarge (Section name)) = most_bytes < length (section_bytes order texts us name)
 
-abbrev pub sections_of : WrittenSections → List OutputSection
-sections_of w =
+abbrev pub sections_of : WrittenSections → Writing → List OutputSection
+sections_of w strings =
     section_unless_empty w.abbrev_section.name w.abbrev_section.body w.abbrev_section.relocations
     ++ (section_unless_empty w.info_section.name w.info_section.body w.info_section.relocations
-    ++ section_unless_empty w.line_section.name w.line_section.body w.line_section.relocations)
+    ++ (section_unless_empty w.line_section.name w.line_section.body w.line_section.relocations ++ section_unless_empty strings.name strings.body strings.relocations))

@@ -2,11 +2,11 @@
 -- `ReadRelocations`.
 use Rattle.std.specs.Prelude.{ℕ, ◌+◌, ◌≤◌, List, [], ◌∷◌, length}
 use Rattle.dwc_base.specs.declared.records.Endian.{Endian}
-use Rattle.dwc_base.specs.declared.section_name.SectionName.TheVariants.{Abbrev, Info, Line}
+use Rattle.dwc_base.specs.declared.section_name.SectionName.TheVariants.{Abbrev, Info, Line, Str}
 use Rattle.dwc_base.specs.Outputs.{OutputRelocation, OutputSection}
 use Rattle.dwc_write.specs.Spelled.{uleb_bytes, at_places}
 use Rattle.dwc_write.specs.SpelledAddresses.{address_bytes}
-use Rattle.dwc_write.specs.SpelledUnits.{Written, as_addr, as_ref_addr, as_sec_offset, WrittenAttribute, attribute_bytes, Shaped, shaped, entry_bytes, header_length}
+use Rattle.dwc_write.specs.SpelledUnits.{Written, as_addr, as_strp, as_ref_addr, as_sec_offset, WrittenAttribute, attribute_bytes, Shaped, shaped, entry_bytes, header_length}
 use Rattle.dwc_write.specs.SpelledLines.{WrittenSequence, program_bytes, program_place, sequence_instructions}
 use Rattle.dwc_write.specs.SpelledSections.{WrittenUnit, placed_unit_bytes, WrittenTable, one_table_bytes}
 use Rattle.dwc_write.specs.Writers.{address_relocations, offset_relocation}
@@ -15,6 +15,7 @@ use Rattle.dwc_write.specs.Writers.{address_relocations, offset_relocation}
 
 abbrev pub value_relocations : ℕ → ℕ → Written → List OutputRelocation
 value_relocations size place (as_addr a) = address_relocations place size a
+value_relocations size place (as_strp n) = offset_relocation place 4 Str n ∷ []
 value_relocations size place (as_ref_addr n) = offset_relocation place 4 Info n ∷ []
 value_relocations size place (as_sec_offset n) = offset_relocation place 4 Line n ∷ []
 value_relocations size place _ = []

@@ -6,7 +6,7 @@ use Rattle.dwc_base.specs.declared.section_name.SectionName.TheVariants.{Abbrev,
 use Rattle.dwc_base.specs.Widest.{variable_bytes, address_bytes, widest_declaration, widest_header, widest_image}
 use Rattle.dwc_base.specs.WidestTrees.{constant_bytes, widest_of_trees}
 use Rattle.dwc_write.specs.declared.attributes.AttributeValue.{AttributeValue}
-use Rattle.dwc_write.specs.declared.attributes.AttributeValue.TheVariants.{Address, Constant, Flag, LineProgramRef, UnitRef, DebugInfoRef}
+use Rattle.dwc_write.specs.declared.attributes.AttributeValue.TheVariants.{Address, Constant, Flag, StringRef, LineProgramRef, UnitRef, DebugInfoRef}
 use Rattle.dwc_write.specs.declared.error.WriteError.{WriteError}
 use Rattle.dwc_write.specs.declared.error.WriteError.TheVariants.{TooLarge, OutOfMemory}
 use Rattle.dwc_base.specs.declared.faults.Limit.TheVariants.{Section}
@@ -19,6 +19,7 @@ abbrev pub widest_value : AttributeValue → ℕ
 widest_value (Address a) = address_bytes
 widest_value (Constant form bits) = constant_bytes form
 widest_value (Flag b) = 1
+widest_value (StringRef id) = 4
 widest_value LineProgramRef = 4
 widest_value (UnitRef id) = 4
 widest_value (DebugInfoRef reference) = 4
@@ -48,11 +49,11 @@ abbrev pub widest_given : SectionName → List OrderedUnit → ℕ
 widest_given name us = sum_by (widest_unit name) us
 
 -- the same, counted over what the units say; line tables say nothing there
-abbrev pub widest_said : SectionName → List OrderedUnit → ℕ
-widest_said Line us = widest_given Line us
-widest_said name us = widest_of_trees name (given_trees us)
+abbrev pub widest_said : SectionName → List (List ℕ) → List OrderedUnit → ℕ
+widest_said Line texts us = widest_given Line us
+widest_said name texts us = widest_of_trees name (given_trees texts us)
 
 -- A refusal of all units for want of memory, or for a section's widest size.
-abbrev pub IsWideRefusal : List OrderedUnit → WriteError → Type 0
-IsWideRefusal us OutOfMemory = Unit {0}
-IsWideRefusal us (TooLarge (Section name)) = most_bytes < widest_said name us
+abbrev pub IsWideRefusal : List (List ℕ) → List OrderedUnit → WriteError → Type 0
+IsWideRefusal texts us OutOfMemory = Unit {0}
+IsWideRefusal texts us (TooLarge (Section name)) = most_bytes < widest_said name texts us

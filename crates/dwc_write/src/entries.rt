@@ -7,7 +7,7 @@ ghost use Rattle.dwc_write.specs.SpelledRelocations.{entries_relocations, value_
 ghost use Rattle.dwc_write.specs.GivenUnits.{FitsAttribute, FitsEntry as FitsGivenEntry, FitsOperand, constant_of, first_uses, shapes_of, written_attribute, written_entries, written_of};
 ghost use Rattle.dwc_write.specs.FileOrders.{looked_up};
 ghost use Rattle.dwc_write.specs.LayoutViews.{places_view, spelling_places};
-ghost use Rattle.dwc_write.specs.Layouts.{AreShort, codes_of, offset_in_section};
+ghost use Rattle.dwc_write.specs.Layouts.{AreShort, codes_of, offset_in_section, offset_of_text};
 ghost use Rattle.dwc_write.specs.UnitViews.{addition_view};
 ghost use Rattle.dwc_write.specs.ShapeViews.{shape_view};
 ghost use Rattle.dwc_write.specs.SpelledOutput.{WritesUnit};
@@ -20,7 +20,9 @@ use crate::attributes::Attribute;
 use crate::file_order::{FilePlace, depth_of_first};
 use crate::layout::UnitLayout;
 use crate::units::Entry;
-use crate::{AttributeValue, DebugInfoRef, UnitEntryId, UnitId, WriteError, WriterRelocate};
+use crate::{
+    AttributeValue, DebugInfoRef, StringId, UnitEntryId, UnitId, WriteError, WriterRelocate,
+};
 use dwc_base::constants::{
     DW_FORM_data1, DW_FORM_data2, DW_FORM_data4, DW_FORM_data8, DW_FORM_sdata,
 };
@@ -28,7 +30,7 @@ use dwc_base::{Endian, SectionName};
 use std::alloc::AllocError;
 
 // How the values of a unit are written: the order of bytes, the size of an address, and where what they name stands: the unit's
-// line table, its entries by their numbers, and the entries of all units.
+// line table, its entries by their numbers, the entries of all units, and texts by their numbers.
 #[derive(Clone, Copy)]
 pub struct Spelling<'a> {
     pub order: Endian,
@@ -36,6 +38,7 @@ pub struct Spelling<'a> {
     pub line_offset: usize,
     pub offsets: &'a [usize],
     pub units: &'a [UnitLayout],
+    pub texts: &'a [Option<usize>],
 }
 
 impl Spelling<'_> {
@@ -53,6 +56,16 @@ impl Spelling<'_> {
     {
         match self.units.get(unit.index) {
             Some(layout) => layout.start + offset_at(&layout.offsets, id),
+            None => 0,
+        }
+    }
+
+    // The offset in `.debug_str` of a text, 0 where it does not stand there.
+    fn text_offset_of(&self, id: StringId) -> usize
+        ensures { result ≡ offset_of_text self.now.texts.now id.index }
+    {
+        match self.texts.get(id.index) {
+            Some(offset) => offset.unwrap_or(0),
             None => 0,
         }
     }
@@ -226,6 +239,9 @@ fn write_value(
             info.put_bytes(scratch)
         }
         AttributeValue::Flag(flag) => info.put_bytes(&[u8::from(*flag)]),
+        AttributeValue::StringRef(id) => {
+            info.put_offset(spelling.text_offset_of(*id), SectionName::Str)
+        }
         AttributeValue::LineProgramRef => info.put_offset(spelling.line_offset, SectionName::Line),
         AttributeValue::UnitRef(id) => {
             info.put_bytes(&bytes_4(spelling.order, spelling.offset_of(*id) as u32))

@@ -4,12 +4,12 @@ ghost use Rattle.std.specs.Prelude.{◌≡◌, ◌++◌, ◌∷◌, [], ℕ, Lis
 ghost use Rattle.std.specs.List.{All, AllZip, flat_map};
 ghost use Rattle.dwc_base.specs.declared.records.Endian.{Endian};
 ghost use Rattle.dwc_write.specs.FileOrders.{looked_up};
-ghost use Rattle.dwc_write.specs.GivenUnits.{Addition, AreWritable, FitsOrdered, first_uses, no_places, ordered, shapes_of, written_attribute, written_entries};
+ghost use Rattle.dwc_write.specs.GivenUnits.{Addition, AreWritable, FitsOrdered, first_uses, no_places, ordered, shapes_of, size_of, written_attribute, written_entries};
 ghost use Rattle.dwc_write.specs.LayoutViews.{Advances, AdvancesOrMemory, IsLaidOut, IsTooLong, offset_known, places_view};
-ghost use Rattle.dwc_write.specs.Layouts.{codes_of, offset_among, offsets_by_number, unit_length, units_length};
+ghost use Rattle.dwc_write.specs.Layouts.{codes_of, offset_among, offsets_by_number, places_of_units, unit_length, units_length};
 ghost use Rattle.dwc_write.specs.ShapeViews.{shape_view};
 ghost use Rattle.dwc_write.specs.Spelled.{at_places, uleb_bytes};
-ghost use Rattle.dwc_write.specs.SpelledOutput.{IsRefusal, all_places};
+ghost use Rattle.dwc_write.specs.SpelledOutput.{IsRefusal};
 ghost use Rattle.dwc_write.specs.SpelledUnits.{attribute_bytes, entry_bytes, header_length, shaped};
 ghost use Rattle.dwc_write.specs.UnitViews.{addition_view};
 ghost use Rattle.dwc_write.specs.WidestGiven.{IsWideRefusal};
@@ -55,11 +55,11 @@ struct Coded {
 /// bytes, and `OutOfMemory` for want of memory.
 pub fn lay_out(alloc: Global, units: &[Unit]) -> Result<Vec<UnitLayout>, WriteError>
     requires { AreWritable (map ordered units.now) }
-    ensures places { IfOk result (λ ls. (order : Endian) → map places_view ls.items ≡ all_places order (map ordered units.now)) }
+    ensures places { IfOk result (λ ls. (order : Endian) → map places_view ls.items ≡ places_of_units order (size_of (map ordered units.now)) 0 (map ordered units.now)) }
     ensures units { IfOk result (λ ls. AllZip IsLaidOut units.now ls.items) }
     ensures short { OnOk result ((order : Endian) → units_length order (map ordered units.now) ≤ most_bytes) }
-    ensures large { IfErr result (λ e. (order : Endian) → IsRefusal order (map ordered units.now) e) }
-    ensures widest { IfErr result (λ e. IsWideRefusal (map ordered units.now) e) }
+    ensures large { IfErr result (λ e. (order : Endian) (texts : List (List ℕ)) → IsRefusal order texts (map ordered units.now) e) }
+    ensures widest { IfErr result (λ e. (texts : List (List ℕ)) → IsWideRefusal texts (map ordered units.now) e) }
 {
     let mut layouts = Vec::with_capacity(alloc, units.len())?;
     let mut start = 0;

@@ -16,6 +16,7 @@ mod sections;
 mod sizes;
 mod strings;
 mod tables;
+mod text_layout;
 mod units;
 mod writer;
 

@@ -1,7 +1,7 @@
 //! The sections of an output.
-ghost use Rattle.std.specs.Prelude.{◌≡◌, ◌<◌, ◌≤◌, ℕ, ◌++◌, get_or, length, OnOk, IfOk, IfErr, IsOkUnless, map};
+ghost use Rattle.std.specs.Prelude.{◌≡◌, ◌<◌, ◌≤◌, ℕ, List, ◌++◌, get_or, length, OnOk, IfOk, IfErr, IsOkUnless, map};
 ghost use Rattle.dwc_base.specs.declared.records.Endian.{Endian};
-ghost use Rattle.std.specs.List.{All};
+ghost use Rattle.std.specs.List.{All, AllZip};
 ghost use Rattle.dwc_base.specs.Carried.{units};
 ghost use Rattle.dwc_base.specs.Fields.{AreRelocated};
 ghost use Rattle.dwc_base.specs.OutputForm.{HasDistinctNames, HaveTargetForm};
@@ -10,20 +10,22 @@ ghost use Rattle.dwc_base.specs.TreeReading.{CarriesTrees};
 ghost use Rattle.dwc_write.specs.declared.error.WriteError.TheVariants.{OutOfMemory};
 ghost use Rattle.dwc_write.specs.GivenLines.{FitsLines};
 ghost use Rattle.dwc_write.specs.GivenTrees.{given_trees};
-ghost use Rattle.dwc_write.specs.GivenUnits.{AreWritable, FitsOrdered, ordered};
+ghost use Rattle.dwc_write.specs.GivenUnits.{AreWritable, FitsOrdered, ordered, size_of};
 ghost use Rattle.dwc_write.specs.declared.layout.UnitLayout.{UnitLayout};
-ghost use Rattle.dwc_write.specs.LayoutViews.{IsLaidOut, places_view};
-ghost use Rattle.dwc_write.specs.Layouts.{AreShort, offsets_by_number, places_in};
-ghost use Rattle.dwc_write.specs.SpelledOutput.{IsRefusal, WritesOne, all_places, all_units, section_unless_empty, sections_of, spelled_sections};
+ghost use Rattle.dwc_write.specs.LayoutViews.{IsLaidOut, places_view, whole_view};
+ghost use Rattle.dwc_write.specs.Layouts.{AreShort, offset_of_text, offsets_by_number, places_in, places_of_units, units_length};
+ghost use Rattle.dwc_write.specs.SpelledOutput.{IsRefusal, IsRefusalAmong, WritesOne, all_units, section_unless_empty, sections_of, spelled_sections};
 ghost use Rattle.dwc_write.specs.SpelledRelocations.{DoRelocationsRise};
 ghost use Rattle.dwc_write.specs.ReadBack.{ReadsBack};
 ghost use Rattle.dwc_write.specs.SectionViews.{sections_view};
+ghost use Rattle.dwc_write.specs.UsedTexts.{HaveTexts};
 ghost use Rattle.dwc_write.specs.WidestGiven.{IsWideRefusal};
 ghost use Rattle.dwc_write.specs.Writers.{IsSound, most_bytes};
 
 use crate::entries::{Spelling, write_unit};
 use crate::layout::{UnitLayout, lay_out};
 use crate::tables::write_lines;
+use crate::text_layout::{lay_out_texts, write_texts};
 use crate::{Dwarf, Unit, WriteError, WriterRelocate};
 use dwc_base::{DwarfSection, Endian, SectionName};
 use std::alloc::Global;
@@ -36,41 +38,56 @@ pub(crate) struct Sections {
     pub(crate) line: WriterRelocate,
 }
 
-/// The sections `.debug_abbrev`, `.debug_info` and `.debug_line` of some units of version 4, in this order; those that are
-/// empty are left out. `TooLarge` is answered only where a section would have more than 2^31 - 1 bytes, and
+/// The sections `.debug_abbrev`, `.debug_info`, `.debug_line` and `.debug_str` of some units of version 4, in this order; those
+/// that are empty are left out. Each text that an entry names stands once, in the order of first use, and no other. `TooLarge` is answered only where a section would have more than 2^31 - 1 bytes, and
 /// `OutOfMemory` for want of memory. (DWARF 4, sections 6.2 and 7.5.)
 pub fn write_sections(
     alloc: Global,
     dwarf: Dwarf,
     order: Endian,
 ) -> Result<Vec<DwarfSection>, WriteError>
-    requires { AreWritable (map ordered dwarf.units.units.items) }
-    ensures sections { IfOk result (λ s. map section_view s.items ≡ spelled_sections order (map ordered dwarf.units.units.items)) }
+    requires units { AreWritable (map ordered dwarf.units.units.items) }
+    requires texts { HaveTexts dwarf.strings (map ordered dwarf.units.units.items) }
+    ensures sections { IfOk result (λ s. map section_view s.items ≡ spelled_sections order dwarf.strings (map ordered dwarf.units.units.items)) }
     ensures sound { IfOk result (λ s. All (IsSound order) (map section_view s.items)) }
     ensures rise { IfOk result (λ s. All DoRelocationsRise (map section_view s.items)) }
     ensures read { IfOk result (λ s. ReadsBack order (map ordered dwarf.units.units.items) (map section_view s.items)) }
-    ensures trees { IfOk result (λ s. CarriesTrees order (given_trees (map ordered dwarf.units.units.items)) (map section_view s.items)) }
+    ensures trees { IfOk result (λ s. CarriesTrees order (given_trees dwarf.strings (map ordered dwarf.units.units.items)) (map section_view s.items)) }
     ensures form { IfOk result (λ s. (size : ℕ) → All (λ u. u.address_size ≡ size) dwarf.units.units.items → HaveTargetForm size (units (output_sections order (map section_view s.items))).items) }
     ensures names { IfOk result (λ s. HasDistinctNames (map section_view s.items)) }
     ensures relocated { IfOk result (λ s. AreRelocated order (map section_view s.items)) }
-    ensures large { IfErr result (λ e. IsRefusal order (map ordered dwarf.units.units.items) e) }
-    ensures widest { IfErr result (λ e. IsWideRefusal (map ordered dwarf.units.units.items) e) }
+    ensures large { IfErr result (λ e. IsRefusal order dwarf.strings (map ordered dwarf.units.units.items) e) }
+    ensures widest { IfErr result (λ e. IsWideRefusal dwarf.strings (map ordered dwarf.units.units.items) e) }
 {
-    let sections = write_units(alloc, order, &dwarf.units.units)?;
-    gather(alloc, sections)
+    let units = dwarf.units.units.as_slice();
+    let texts = dwarf.strings.as_slice();
+    let layouts = lay_out(alloc, units)?;
+    let text_layout = lay_out_texts(alloc, units, &layouts, texts)?;
+    let sections = write_units(alloc, order, units, &layouts, &text_layout.offsets)?;
+    let strings = write_texts(alloc, order, texts, &text_layout)?;
+    gather(alloc, sections, strings)
 }
 
-// Units, one behind another: first where all of them stand, then their bytes.
-fn write_units(alloc: Global, order: Endian, units: &[Unit]) -> Result<Sections, WriteError>
-    requires { AreWritable (map ordered units.now) }
-    ensures ok { IfOk result (λ s. sections_view s ≡ all_units order (all_places order (map ordered units.now)) (map ordered units.now)) }
-    ensures large { IfErr result (λ e. IsRefusal order (map ordered units.now) e) }
-    ensures widest { IfErr result (λ e. IsWideRefusal (map ordered units.now) e) }
+// Units, one behind another, that are laid out with the texts that they name.
+fn write_units(
+    alloc: Global,
+    order: Endian,
+    units: &[Unit],
+    layouts: &[UnitLayout],
+    texts: &[Option<usize>],
+) -> Result<Sections, WriteError>
+    requires writable { AreWritable (map ordered units.now) }
+    requires laid { AllZip IsLaidOut units.now layouts.now }
+    requires placed { map places_view layouts.now ≡ places_of_units order (size_of (map ordered units.now)) 0 (map ordered units.now) }
+    requires short { units_length order (map ordered units.now) ≤ most_bytes }
+    requires texts { (id : ℕ) → offset_of_text texts.now id ≤ most_bytes }
+    ensures ok { IfOk result (λ s. sections_view s ≡ all_units order (whole_view layouts.now texts.now) (map ordered units.now)) }
+    ensures large { IfErr result (λ e. IsRefusalAmong order (whole_view layouts.now texts.now) (map ordered units.now) e) }
+    ensures widest { IfErr result (λ e. (table : List (List ℕ)) → IsWideRefusal table (map ordered units.now) e) }
     ensures fits { OnOk result (All FitsOrdered (map ordered units.now)) }
     ensures lines { OnOk result (All (λ u. FitsLines u.lines) (map ordered units.now)) }
 {
-    let layouts = lay_out(alloc, units)?;
-    let room = length_of(&layouts);
+    let room = length_of(layouts);
     let mut sections = Sections {
         abbrev: WriterRelocate::new(alloc, order, SectionName::Abbrev)?,
         info: WriterRelocate::with_room(alloc, order, SectionName::Info, room)?,
@@ -78,7 +95,15 @@ fn write_units(alloc: Global, order: Endian, units: &[Unit]) -> Result<Sections,
     };
     let mut scratch = Vec::new(alloc);
     for i in 0..units.len() {
-        write_one(order, &mut sections, &mut scratch, &units[i], &layouts, i)?;
+        write_one(
+            order,
+            &mut sections,
+            &mut scratch,
+            &units[i],
+            layouts,
+            texts,
+            i,
+        )?;
     }
     Ok(sections)
 }
@@ -98,6 +123,7 @@ fn write_one(
     scratch: &mut Vec<u8>,
     unit: &Unit,
     layouts: &[UnitLayout],
+    texts: &[Option<usize>],
     place: usize,
 ) -> Result<(), WriteError>
     requires info { order ≡ sections.old.info.order }
@@ -105,8 +131,8 @@ fn write_one(
     requires place { place < length layouts.now }
     requires laid { (d : UnitLayout) → IsLaidOut unit.now (get_or layouts.now place d) }
     requires offsets { (d : UnitLayout) → (get_or layouts.now place d).offsets.items ≡ offsets_by_number order unit.now.address_size (ordered unit.now) }
-    requires short { (line : ℕ) → line ≤ most_bytes → AreShort (places_in (map places_view layouts.now) (offsets_by_number order unit.now.address_size (ordered unit.now)) line) }
-    ensures bytes { WritesOne (map places_view layouts.now) (sections_view sections.old) (sections_view sections.new) result (ordered unit.now) }
+    requires short { (line : ℕ) → line ≤ most_bytes → AreShort (places_in (whole_view layouts.now texts.now) (offsets_by_number order unit.now.address_size (ordered unit.now)) line) }
+    ensures bytes { WritesOne (whole_view layouts.now texts.now) (sections_view sections.old) (sections_view sections.new) result (ordered unit.now) }
     ensures fits { FitsOrdered (ordered unit.now) }
     ensures lines { FitsLines unit.now.lines }
 {
@@ -120,6 +146,7 @@ fn write_one(
         line_offset,
         offsets: &layout.offsets,
         units: layouts,
+        texts,
     };
     write_unit(
         &mut sections.abbrev,
@@ -132,16 +159,21 @@ fn write_one(
 }
 
 // The sections that are not empty.
-fn gather(alloc: Global, sections: Sections) -> Result<Vec<DwarfSection>, WriteError>
-    ensures sections { IfOk result (λ s. map section_view s.items ≡ sections_of (sections_view sections)) }
-    ensures sound { (order : Endian) → sections.abbrev.order ≡ order → sections.info.order ≡ order → sections.line.order ≡ order → IfOk result (λ s. All (IsSound order) (map section_view s.items)) }
+fn gather(
+    alloc: Global,
+    sections: Sections,
+    strings: WriterRelocate,
+) -> Result<Vec<DwarfSection>, WriteError>
+    ensures sections { IfOk result (λ s. map section_view s.items ≡ sections_of (sections_view sections) strings) }
+    ensures sound { (order : Endian) → sections.abbrev.order ≡ order → sections.info.order ≡ order → sections.line.order ≡ order → strings.order ≡ order → IfOk result (λ s. All (IsSound order) (map section_view s.items)) }
     ensures memory { IsOkUnless result OutOfMemory }
 {
     let Sections { abbrev, info, line } = sections;
-    let mut list = Vec::with_capacity(alloc, 3)?;
+    let mut list = Vec::with_capacity(alloc, 4)?;
     push_section(&mut list, abbrev)?;
     push_section(&mut list, info)?;
     push_section(&mut list, line)?;
+    push_section(&mut list, strings)?;
     Ok(list)
 }
 

@@ -64,6 +64,7 @@ pub fn value_size(value: &AttributeValue, size: u8) -> usize
         AttributeValue::Address(_) => usize::from(size),
         AttributeValue::Constant { form, bits } => usize::from(constant_size(*form, *bits)),
         AttributeValue::Flag(_) => 1,
+        AttributeValue::StringRef(_) => 4,
         AttributeValue::LineProgramRef => 4,
         AttributeValue::UnitRef(_) => 4,
         AttributeValue::DebugInfoRef(_) => 4,

@@ -5,7 +5,7 @@ ghost use Rattle.dwc_write.specs.declared.error.WriteError.TheVariants.{OutOfMem
 ghost use Rattle.dwc_write.specs.Writers.{OkUnlessMemory};
 
 use crate::attributes::Attributes;
-use crate::{AttributeValue, LineProgram, WriteError};
+use crate::{AttributeValue, LineProgram, StringTable, WriteError};
 use dwc_base::Encoding;
 use dwc_base::constants::DW_TAG_compile_unit;
 use std::alloc::Global;
@@ -250,8 +250,9 @@ impl UnitTable {
     }
 }
 
-/// What is written: units in their order.
+/// What is written: units in their order, and the texts that they name.
 #[derive(Drop)]
 pub struct Dwarf {
     pub units: UnitTable,
+    pub strings: StringTable,
 }

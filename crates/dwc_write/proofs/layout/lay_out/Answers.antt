@@ -1,4 +1,4 @@
-use Rattle.std.proofs.Common.{◌≡◌, ◌<◌, ◌∙◌, refl, sym, ap, subst, arith, ◌∷◌, [], map, length, add-one}
+use Rattle.std.proofs.Common.{◌≡◌, ℕ, List, ◌<◌, ◌∙◌, refl, sym, ap, subst, arith, ◌∷◌, [], map, length, add-one}
 use Rattle.std.proofs.lemmas.List.{length-map, map-append}
 use Rattle.std.proofs.lemmas.Result.{err_from_is_err_and}
 use Rattle.dwc_base.specs.declared.records.Endian.{Endian}
@@ -41,8 +41,8 @@ returns-in_err-layout-clause-large c =
     let one = unit-seen c.args.units.now c.loop-i.i u c.loop-i-test.true c.index-units-i.is in
     let same : u.address_size ≡ size_of us = ap (λ (v : OrderedUnit). v.address_size) (sym one) ∙ (c.requires c.loop-i.i (ordered u) within).size in
     let p = err_from_is_err_and c.from_residual-in_err-layout.result c.from_residual-in_err-layout.ensures.1 in
-    err-exit (λ e. (order : Endian) → IsRefusal order us e) _ _ p
-    (λ order. refused-long order us _ _ (c.in_err-layout.ensures.large order) (λ large. layout-large order us c.loop-i.i (omega (arith, large, laying-past order us c.loop-i.i c.loop-i.start _ _ (ordered u) (ordered u) (c.loop-i.invariant.laying order) within one same refl))))
+    err-exit (λ e. (order : Endian) (texts : List (List ℕ)) → IsRefusal order texts us e) _ _ p
+    (λ order texts. refused-long order texts us _ _ (c.in_err-layout.ensures.large order) (λ large. layout-large order texts us c.loop-i.i (omega (arith, large, laying-past order us c.loop-i.i c.loop-i.start _ _ (ordered u) (ordered u) (c.loop-i.invariant.laying order) within one same refl))))
 
 pub returns-in_err-layout-clause-widest : goal.returns-in_err-layout-clause-widest
 returns-in_err-layout-clause-widest c =
@@ -53,8 +53,8 @@ returns-in_err-layout-clause-widest c =
     let same : u.address_size ≡ size_of us = ap (λ (v : OrderedUnit). v.address_size) (sym one) ∙ (c.requires c.loop-i.i (ordered u) within).size in
     let p = err_from_is_err_and c.from_residual-in_err-layout.result c.from_residual-in_err-layout.ensures.1 in
     let fits = all-taken-more FitsOrdered us c.loop-i.i (ordered u) within c.loop-i.invariant.fits (rw (one) c.in_err-layout.ensures.fits) in
-    err-exit (IsWideRefusal us) _ _ p
-    (refused-widely us _ _ (c.in_err-layout.ensures.large Little) (λ large. layout-widest us c.loop-i.i c.requires fits (omega (arith, large, laying-past Little us c.loop-i.i c.loop-i.start _ _ (ordered u) (ordered u) (c.loop-i.invariant.laying Little) within one same refl))))
+    err-exit (λ e. (texts : List (List ℕ)) → IsWideRefusal texts us e) _ _ p
+    (λ texts. refused-widely texts us _ _ (c.in_err-layout.ensures.large Little) (λ large. layout-widest texts us c.loop-i.i c.requires fits (omega (arith, large, laying-past Little us c.loop-i.i c.loop-i.start _ _ (ordered u) (ordered u) (c.loop-i.invariant.laying Little) within one same refl))))
 
 pub returns-in_err-start-clause-large : goal.returns-in_err-start-clause-large
 returns-in_err-start-clause-large c =
@@ -64,8 +64,8 @@ returns-in_err-start-clause-large c =
     let one = unit-seen c.args.units.now c.loop-i.i u c.loop-i-test.true c.index-units-i.is in
     let same : u.address_size ≡ size_of us = ap (λ (v : OrderedUnit). v.address_size) (sym one) ∙ (c.requires c.loop-i.i (ordered u) within).size in
     let p = err_from_is_err_and c.from_residual-in_err-start.result c.from_residual-in_err-start.ensures.1 in
-    err-exit (λ e. (order : Endian) → IsRefusal order us e) _ _ p
-    (λ order. refused-long order us _ _ (too-long _ _ _ c.in_err-start.ensures) (λ large. layout-large order us c.loop-i.i (omega (arith, large, laying-past order us c.loop-i.i c.loop-i.start _ _ (ordered u) (ordered u) (c.loop-i.invariant.laying order) within one same (c.in_ok-layout.ensures.length order)))))
+    err-exit (λ e. (order : Endian) (texts : List (List ℕ)) → IsRefusal order texts us e) _ _ p
+    (λ order texts. refused-long order texts us _ _ (too-long _ _ _ c.in_err-start.ensures) (λ large. layout-large order texts us c.loop-i.i (omega (arith, large, laying-past order us c.loop-i.i c.loop-i.start _ _ (ordered u) (ordered u) (c.loop-i.invariant.laying order) within one same (c.in_ok-layout.ensures.length order)))))
 
 pub returns-in_err-start-clause-widest : goal.returns-in_err-start-clause-widest
 returns-in_err-start-clause-widest c =
@@ -76,5 +76,5 @@ returns-in_err-start-clause-widest c =
     let same : u.address_size ≡ size_of us = ap (λ (v : OrderedUnit). v.address_size) (sym one) ∙ (c.requires c.loop-i.i (ordered u) within).size in
     let p = err_from_is_err_and c.from_residual-in_err-start.result c.from_residual-in_err-start.ensures.1 in
     let fits = all-taken-more FitsOrdered us c.loop-i.i (ordered u) within c.loop-i.invariant.fits (rw (one) c.in_ok-layout.ensures.fits) in
-    err-exit (IsWideRefusal us) _ _ p
-    (refused-widely us _ _ (too-long _ _ _ c.in_err-start.ensures) (λ large. layout-widest us c.loop-i.i c.requires fits (omega (arith, large, laying-past Little us c.loop-i.i c.loop-i.start _ _ (ordered u) (ordered u) (c.loop-i.invariant.laying Little) within one same (c.in_ok-layout.ensures.length Little)))))
+    err-exit (λ e. (texts : List (List ℕ)) → IsWideRefusal texts us e) _ _ p
+    (λ texts. refused-widely texts us _ _ (too-long _ _ _ c.in_err-start.ensures) (λ large. layout-widest texts us c.loop-i.i c.requires fits (omega (arith, large, laying-past Little us c.loop-i.i c.loop-i.start _ _ (ordered u) (ordered u) (c.loop-i.invariant.laying Little) within one same (c.in_ok-layout.ensures.length Little)))))

@@ -3,7 +3,7 @@ use Rattle.std.specs.List.{All}
 use Rattle.dwc_write.specs.declared.layout.UnitLayout.{UnitLayout}
 use Rattle.dwc_write.specs.FileOrders.{looked_up}
 use Rattle.dwc_write.specs.GivenUnits.{GivenUnit, FitsEntry, FitsOrdered, in_file_order, ordered}
-use Rattle.dwc_write.specs.LayoutViews.{IsLaidOut, places_view}
+use Rattle.dwc_write.specs.LayoutViews.{IsLaidOut, places_view, whole_view}
 use Rattle.dwc_write.specs.Layouts.{offsets_by_number, written_lines}
 use Rattle.dwc_write.specs.GivenLines.{GivenLines}
 use Rattle.dwc_write.specs.SpelledRelocations.{lines_relocations}
@@ -48,11 +48,11 @@ returns-clause-bytes c =
     let order = subst O (sym c.unit.view_is) laid.order in
     let F : GivenUnit → Type 0 = λ u. l.offsets.items ≡ offsets_by_number c.args.sections.now.info.order u.address_size (ordered u) in
     let offsets = subst F (sym c.unit.view_is) (offsets_are ∙ ap (λ o. offsets_by_number o c.args.unit.now.address_size (ordered c.args.unit.now)) c.requires.info) in
-    let W : GivenUnit → Type 0 = λ u. WritesOne (map places_view c.args.layouts.now) (sections_view c.args.sections.now) (sections_view (record { «abbrev» = c.write_unit.new.tables; info = c.write_unit.new.info; line = c.write_lines.new.line })) c.write_unit.result (ordered u) in
+    let W : GivenUnit → Type 0 = λ u. WritesOne (whole_view c.args.layouts.now c.args.texts.now) (sections_view c.args.sections.now) (sections_view (record { «abbrev» = c.write_unit.new.tables; info = c.write_unit.new.info; line = c.write_lines.new.line })) c.write_unit.result (ordered u) in
     let G : GivenLines → Type 0 = λ g. c.write_lines.new.line ≡ appended (lines_bytes c.args.sections.now.line.order c.unit.inside.address_size (written_lines g)) (lines_relocations c.args.sections.now.line.order c.unit.inside.address_size (length c.args.sections.now.line.body) (written_lines g)) c.args.sections.now.line in
     let written = rw (c.deref-3.ensures.value, c.deref-2.ensures.value, order, offsets, c.place-line_offset.ensures.place) at c.write_unit.ensures in
     subst W c.unit.view_is
-    (one-written c.write_unit.result (map places_view c.args.layouts.now) (sections_view c.args.sections.now) _ _ c.write_unit.new.tables c.write_unit.new.info c.write_lines.new.line (subst G c.deref.ensures c.in_ok-write_lines.ensures.bytes) written refl)
+    (one-written c.write_unit.result (whole_view c.args.layouts.now c.args.texts.now) (sections_view c.args.sections.now) _ _ c.write_unit.new.tables c.write_unit.new.info c.write_lines.new.line (subst G c.deref.ensures c.in_ok-write_lines.ensures.bytes) written refl)
 
 pub returns-clause-fits : goal.returns-clause-fits
 returns-clause-fits c =

@@ -1,6 +1,7 @@
-use Rattle.std.proofs.Common.{◌≡◌, refl, ap, sym, subst, ◌∙◌, List, map}
+use Rattle.std.proofs.Common.{◌≡◌, ℕ, ◌≤◌, refl, ap, sym, subst, ◌∙◌, List, [], map}
 use Rattle.std.specs.List.{All}
 use Rattle.std.proofs.lemmas.List.Elements.{All-map}
+use Rattle.std.proofs.lemmas.Result.{err_from_is_err_and}
 use Rattle.dwc_base.specs.Fields.{AreRelocated}
 use Rattle.dwc_base.specs.OutputForm.{HasDistinctNames}
 use Rattle.dwc_base.specs.Outputs.{OutputSection, section_view}
@@ -10,46 +11,118 @@ use Rattle.dwc_write.specs.ReadBack.{ReadsBack}
 use Rattle.dwc_write.specs.SpelledOutput.{WrittenSections, sections_of}
 use Rattle.dwc_write.specs.SpelledRelocations.{DoRelocationsRise}
 use Rattle.dwc_write.specs.GivenUnits.{OrderedUnit, ordered}
-use Rattle.dwc_write.specs.Writers.{IsSound}
-use Rattle.dwc_write.proofs.OutputLaws.{all-appended, if-ok-both, if-ok-weaker, output-sections, sections-rise}
+use Rattle.dwc_base.specs.declared.section_name.SectionName.TheVariants.{Str}
+use Rattle.dwc_write.specs.Writers.{IsSound, Writing}
+use Rattle.dwc_write.specs.LayoutViews.{whole_view}
+use Rattle.dwc_write.specs.SpelledOutput.{IsRefusal, all_places, all_units}
+use Rattle.dwc_write.specs.TextTables.{AreTexts}
+use Rattle.dwc_write.specs.TextViews.{IsTextLayout}
+use Rattle.dwc_write.specs.UsedTexts.{texts_bytes, texts_used}
+use Rattle.dwc_write.specs.WidestGiven.{IsWideRefusal}
+use Rattle.dwc_write.proofs.ReadTexts.{all-placed, laid-short, text-places-are}
+use Rattle.dwc_write.proofs.SaidTexts.{texts-widely}
+use Rattle.dwc_write.proofs.WideLaws.{err-exit}
+use Rattle.dwc_write.proofs.OutputLaws.{all-appended, refusal-of-all, if-ok-both, if-ok-weaker, output-sections, sections-rise}
 use Rattle.dwc_write.proofs.OutputForms.{distinct-names}
 use Rattle.dwc_write.proofs.ReadBackLaws.{reads-back}
 use Rattle.dwc_write.proofs.ReadTrees.{carries-trees, target-form}
 use Rattle.dwc_write.proofs.RelatedLaws.{are-relocated}
 use Rattle.dwc_write.proofs.sections.write_sections.Goals as goal
 
+pub returns-in_err-layouts-clause-large : goal.returns-in_err-layouts-clause-large
+returns-in_err-layouts-clause-large c =
+    let us = map ordered c.args.dwarf.units.units.items in
+    let table = c.args.dwarf.strings in
+    let p = err_from_is_err_and c.from_residual.result c.from_residual.ensures.1 in
+    err-exit (λ e. IsRefusal c.args.order table us e) _ _ p ((rw (c.as_slice-units.ensures.value) at c.in_err-layouts.ensures.large) c.args.order table)
+
+pub returns-in_err-layouts-clause-widest : goal.returns-in_err-layouts-clause-widest
+returns-in_err-layouts-clause-widest c =
+    let us = map ordered c.args.dwarf.units.units.items in
+    let table = c.args.dwarf.strings in
+    let p = err_from_is_err_and c.from_residual.result c.from_residual.ensures.1 in
+    err-exit (λ e. IsWideRefusal table us e) _ _ p ((rw (c.as_slice-units.ensures.value) at c.in_err-layouts.ensures.widest) table)
+
+pub returns-in_err-text_layout-clause-widest : goal.returns-in_err-text_layout-clause-widest
+returns-in_err-text_layout-clause-widest c =
+    let us = map ordered c.args.dwarf.units.units.items in
+    let table = c.args.dwarf.strings in
+    let texts : AreTexts table = subst AreTexts c.drop-in_err-text_layout.view_is c.drop-in_err-text_layout.invariant in
+    let p = err_from_is_err_and c.from_residual-in_err-text_layout.result c.from_residual-in_err-text_layout.ensures.1 in
+    err-exit (λ e. IsWideRefusal table us e) _ _ p (texts-widely table us _ texts c.requires.texts (rw (c.as_slice-units.ensures.value, c.as_slice-texts.ensures) at c.in_err-text_layout.ensures.large))
+
+pub write_units-requires-clause-texts : goal.write_units-requires-clause-texts
+write_units-requires-clause-texts c =
+    λ id. rw (c.deref-3.ensures.value) (laid-short _ c.in_ok-text_layout.text_layout id c.in_ok-text_layout.ensures.laid)
+
+pub returns-in_err-sections-clause-large : goal.returns-in_err-sections-clause-large
+returns-in_err-sections-clause-large c =
+    let us = map ordered c.args.dwarf.units.units.items in
+    let table = c.args.dwarf.strings in
+    let l = c.in_ok-text_layout.text_layout in
+    let laid : IsTextLayout table l = rw (c.as_slice-texts.ensures) at c.in_ok-text_layout.ensures.laid in
+    let used : l.used.items ≡ texts_used us = rw (c.as_slice-units.ensures.value) at c.in_ok-text_layout.ensures.used in
+    let placed = rw (c.as_slice-units.ensures.value) at (c.in_ok-layouts.ensures.places c.args.order) in
+    let are : whole_view c.deref-2.result.now c.deref-3.result.now ≡ all_places c.args.order table us = rw (c.deref-2.ensures.value, c.deref-3.ensures.value) (all-placed _ _ _ _ placed (text-places-are table us l laid used)) in
+    let p = err_from_is_err_and c.from_residual-in_err-sections.result c.from_residual-in_err-sections.ensures.1 in
+    err-exit (λ e. IsRefusal c.args.order table us e) _ _ p (refusal-of-all c.args.order (whole_view c.deref-2.result.now c.deref-3.result.now) table us _ are (rw (c.as_slice-units.ensures.value) at c.in_err-sections.ensures.large))
+
+pub returns-in_err-sections-clause-widest : goal.returns-in_err-sections-clause-widest
+returns-in_err-sections-clause-widest c =
+    let us = map ordered c.args.dwarf.units.units.items in
+    let table = c.args.dwarf.strings in
+    let p = err_from_is_err_and c.from_residual-in_err-sections.result c.from_residual-in_err-sections.ensures.1 in
+    err-exit (λ e. IsWideRefusal table us e) _ _ p ((rw (c.as_slice-units.ensures.value) at c.in_err-sections.ensures.widest) table)
+
 pub returns-clause-sections : goal.returns-clause-sections
 returns-clause-sections c =
-    let all = rw (c.deref.ensures.value) at c.in_ok-sections.ensures.ok in
-    if-ok-weaker c.gather.result _ _ (λ s h. h ∙ ap sections_of all ∙ output-sections c.args.order _ _ refl c.requires) c.gather.ensures.sections
+    let us = map ordered c.args.dwarf.units.units.items in
+    let table = c.args.dwarf.strings in
+    let l = c.in_ok-text_layout.text_layout in
+    let laid : IsTextLayout table l = rw (c.as_slice-texts.ensures) at c.in_ok-text_layout.ensures.laid in
+    let used : l.used.items ≡ texts_used us = rw (c.as_slice-units.ensures.value) at c.in_ok-text_layout.ensures.used in
+    let placed = rw (c.as_slice-units.ensures.value) at (c.in_ok-layouts.ensures.places c.args.order) in
+    let are : whole_view c.deref-2.result.now c.deref-3.result.now ≡ all_places c.args.order table us = rw (c.deref-2.ensures.value, c.deref-3.ensures.value) (all-placed _ _ _ _ placed (text-places-are table us l laid used)) in
+    let all = rw (c.as_slice-units.ensures.value) at c.in_ok-sections.ensures.ok in
+    let body : texts_bytes table l.used.items ≡ texts_bytes table (texts_used us) = ap (texts_bytes table) used in
+    let strings = (rw (c.as_slice-texts.ensures) at c.in_ok-strings.ensures.ok) ∙ ap (λ (bytes : List ℕ). record { order = c.args.order; name = Str; body = bytes; relocations = [] }) body in
+    if-ok-weaker c.gather.result _ _
+    (λ s h. h ∙ ap (λ (w : WrittenSections). sections_of w c.in_ok-strings.strings) all ∙ ap (λ (w : Writing). sections_of (all_units c.args.order (whole_view c.deref-2.result.now c.deref-3.result.now) us) w) strings ∙ output-sections c.args.order _ table us are c.requires.units) c.gather.ensures.sections
 
 pub returns-clause-sound : goal.returns-clause-sound
 returns-clause-sound c =
-    let all = (rw (c.deref.ensures.value) at c.in_ok-sections.ensures.ok) ∙ all-appended c.args.order _ _ c.requires in
-    c.gather.ensures.sound c.args.order (ap (λ (w : WrittenSections). w.abbrev_section.order) all) (ap (λ (w : WrittenSections). w.info_section.order) all) (ap (λ (w : WrittenSections). w.line_section.order) all)
+    let us = map ordered c.args.dwarf.units.units.items in
+    let table = c.args.dwarf.strings in
+    let all = (rw (c.as_slice-units.ensures.value) at c.in_ok-sections.ensures.ok) ∙ all-appended c.args.order _ us c.requires.units in
+    c.gather.ensures.sound c.args.order (ap (λ (w : WrittenSections). w.abbrev_section.order) all) (ap (λ (w : WrittenSections). w.info_section.order) all) (ap (λ (w : WrittenSections). w.line_section.order) all) (ap (λ (w : Writing). w.order) c.in_ok-strings.ensures.ok)
+
+pub returns-clause-rise : goal.returns-clause-rise
+returns-clause-rise c =
+    let us = map ordered c.args.dwarf.units.units.items in
+    let table = c.args.dwarf.strings in
+    let P : List OutputSection → Type 0 = λ ss. All DoRelocationsRise ss in
+    if-ok-weaker c.gather.result _ _ (λ s is. subst P (sym is) (sections-rise c.args.order table us)) (returns-clause-sections c)
 
 pub returns-clause-read : goal.returns-clause-read
 returns-clause-read c =
     let us = map ordered c.args.dwarf.units.units.items in
-    let fits = rw (c.deref.ensures.value) at c.in_ok-sections.ensures.fits in
-    let lines = rw (c.deref.ensures.value) at c.in_ok-sections.ensures.lines in
-    let P : List OutputSection → Type 0 = λ ss. ReadsBack c.args.order us ss in
+    let table = c.args.dwarf.strings in
+    let fits = rw (c.as_slice-units.ensures.value) at c.in_ok-sections.ensures.fits in
+    let lines = rw (c.as_slice-units.ensures.value) at c.in_ok-sections.ensures.lines in
     let Q : List OutputSection → Type 0 = λ ss. All (IsSound c.args.order) ss in
-    if-ok-both c.gather.result _ _ _ (λ s is sound. subst P (sym is) (reads-back c.args.order us c.requires fits lines (subst Q is sound))) (returns-clause-sections c) (returns-clause-sound c)
-
-pub returns-clause-rise : goal.returns-clause-rise
-returns-clause-rise c =
-    let P : List OutputSection → Type 0 = λ ss. All DoRelocationsRise ss in
-    if-ok-weaker c.gather.result _ _ (λ s is. subst P (sym is) (sections-rise c.args.order (map ordered c.args.dwarf.units.units.items))) (returns-clause-sections c)
+    let P : List OutputSection → Type 0 = λ ss. ReadsBack c.args.order us ss in
+    if-ok-both c.gather.result _ _ _ (λ s is sound. subst P (sym is) (reads-back c.args.order table us c.requires.units fits lines (subst Q is sound))) (returns-clause-sections c) (returns-clause-sound c)
 
 pub returns-clause-trees : goal.returns-clause-trees
 returns-clause-trees c =
     let us = map ordered c.args.dwarf.units.units.items in
-    let fits = rw (c.deref.ensures.value) at c.in_ok-sections.ensures.fits in
-    let lines = rw (c.deref.ensures.value) at c.in_ok-sections.ensures.lines in
-    let P : List OutputSection → Type 0 = λ ss. CarriesTrees c.args.order (given_trees us) ss in
+    let table = c.args.dwarf.strings in
+    let fits = rw (c.as_slice-units.ensures.value) at c.in_ok-sections.ensures.fits in
+    let lines = rw (c.as_slice-units.ensures.value) at c.in_ok-sections.ensures.lines in
     let Q : List OutputSection → Type 0 = λ ss. All (IsSound c.args.order) ss in
-    if-ok-both c.gather.result _ _ _ (λ s is sound. subst P (sym is) (carries-trees c.args.order us c.requires fits lines (subst Q is sound))) (returns-clause-sections c) (returns-clause-sound c)
+    let texts : AreTexts table = subst AreTexts c.drop-2.view_is c.drop-2.invariant in
+    let P : List OutputSection → Type 0 = λ ss. CarriesTrees c.args.order (given_trees table us) ss in
+    if-ok-both c.gather.result _ _ _ (λ s is sound. subst P (sym is) (carries-trees c.args.order table us c.requires.units c.requires.texts texts.plain fits lines (subst Q is sound))) (returns-clause-sections c) (returns-clause-sound c)
 
 pub returns-clause-form : goal.returns-clause-form
 returns-clause-form c =
@@ -60,12 +133,15 @@ returns-clause-form c =
 
 pub returns-clause-names : goal.returns-clause-names
 returns-clause-names c =
-    if-ok-weaker c.gather.result _ _ (λ s is. subst HasDistinctNames (sym is) (distinct-names c.args.order (map ordered c.args.dwarf.units.units.items))) (returns-clause-sections c)
+    let us = map ordered c.args.dwarf.units.units.items in
+    let table = c.args.dwarf.strings in
+    if-ok-weaker c.gather.result _ _ (λ s is. subst HasDistinctNames (sym is) (distinct-names c.args.order table us)) (returns-clause-sections c)
 
 pub returns-clause-relocated : goal.returns-clause-relocated
 returns-clause-relocated c =
     let us = map ordered c.args.dwarf.units.units.items in
-    let fits = rw (c.deref.ensures.value) at c.in_ok-sections.ensures.fits in
-    let lines = rw (c.deref.ensures.value) at c.in_ok-sections.ensures.lines in
+    let table = c.args.dwarf.strings in
+    let fits = rw (c.as_slice-units.ensures.value) at c.in_ok-sections.ensures.fits in
+    let lines = rw (c.as_slice-units.ensures.value) at c.in_ok-sections.ensures.lines in
     let Q : List OutputSection → Type 0 = λ ss. All (IsSound c.args.order) ss in
-    if-ok-both c.gather.result _ _ _ (λ s is sound. subst (AreRelocated c.args.order) (sym is) (are-relocated c.args.order us c.requires fits lines (subst Q is sound))) (returns-clause-sections c) (returns-clause-sound c)
+    if-ok-both c.gather.result _ _ _ (λ s is sound. subst (AreRelocated c.args.order) (sym is) (are-relocated c.args.order table us c.requires.units fits lines (subst Q is sound))) (returns-clause-sections c) (returns-clause-sound c)
