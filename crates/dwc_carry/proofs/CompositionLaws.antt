@@ -1,5 +1,5 @@
 -- What is written of the units that are made of an input's carried units carries the lines of the input.
-use Rattle.std.proofs.Common.{◌≡◌, ℕ, suc, ◌≤◌, List, [], ◌∷◌, map, refl, ap₂, sym, subst, arith, None, All}
+use Rattle.std.proofs.Common.{◌≡◌, ℕ, suc, ◌<◌, ◌≤◌, List, [], ◌∷◌, ◌++◌, map, length, refl, ap₂, sym, subst, arith, None, All}
 use Rattle.std.specs.List.{AllZip}
 use Rattle.std.specs.Prelude.{sum_by}
 use Rattle.std.proofs.lemmas.List.Elements.{All-nil, All-cons}
@@ -13,6 +13,7 @@ use Rattle.dwc_base.specs.Forests.{tree_of_unit}
 use Rattle.dwc_write.specs.GivenTrees.{trees_from, given_trees}
 use Rattle.dwc_write.specs.GivenUnits.{OrderedUnit, GivenUnit, IsWritable, AreWritable, ordered}
 use Rattle.dwc_write.specs.ReadBack.{IsReadUnit, ReadsBack, given_segments}
+use Rattle.dwc_write.specs.UsedTexts.{texts_named, HaveTexts}
 use Rattle.dwc_write.specs.WidestGiven.{widest_unit, widest_given}
 use Rattle.dwc_carry.specs.MadeUnits.{IsMadeOf, AreMadeOf}
 
@@ -43,15 +44,15 @@ lines-carried size c us s back made whole = record {
 }
 
 -- among other units, the first with a number
-trees-from : (all : List OrderedUnit) (size number : ℕ) (cs : List CarriedUnit) (us : List GivenUnit) → AreMadeOf size cs us → map tree_of_unit cs ≡ trees_from all number (map ordered us)
-trees-from all size number [] [] made = refl
-trees-from all size number [] (u ∷ us) made = absurd made
-trees-from all size number (c ∷ cs) [] made = absurd made
-trees-from all size number (c ∷ cs) (u ∷ us) made = ap₂ (λ t ts. t ∷ ts) (sym (made.0.tree all number)) (trees-from all size (suc number) cs us made.1)
+trees-from : (texts : List (List ℕ)) (all : List OrderedUnit) (size number : ℕ) (cs : List CarriedUnit) (us : List GivenUnit) → AreMadeOf size cs us → map tree_of_unit cs ≡ trees_from texts all number (map ordered us)
+trees-from texts all size number [] [] made = refl
+trees-from texts all size number [] (u ∷ us) made = absurd made
+trees-from texts all size number (c ∷ cs) [] made = absurd made
+trees-from texts all size number (c ∷ cs) (u ∷ us) made = ap₂ (λ t ts. t ∷ ts) (sym (made.0.tree texts all number)) (trees-from texts all size (suc number) cs us made.1)
 
--- Their trees are those of the carried units.
-pub made-trees : (size : ℕ) (cs : List CarriedUnit) (us : List GivenUnit) → AreMadeOf size cs us → map tree_of_unit cs ≡ given_trees (map ordered us)
-made-trees size cs us made = trees-from (map ordered us) size 0 cs us made
+-- Their trees are those of the carried units, with any texts.
+pub made-trees : (texts : List (List ℕ)) (size : ℕ) (cs : List CarriedUnit) (us : List GivenUnit) → AreMadeOf size cs us → map tree_of_unit cs ≡ given_trees texts (map ordered us)
+made-trees texts size cs us made = trees-from texts (map ordered us) size 0 cs us made
 
 -- all have addresses of one size
 pub made-sizes : (size : ℕ) (cs : List CarriedUnit) (us : List GivenUnit) → AreMadeOf size cs us → All (λ u. u.address_size ≡ size) us
@@ -83,3 +84,13 @@ made-writable size [] [] made = All-nil (IsWritable 8)
 made-writable size [] (u ∷ us) made = absurd made
 made-writable size (c ∷ cs) [] made = absurd made
 made-writable size (c ∷ cs) (u ∷ us) made = subst (λ n. All (IsWritable n) (map ordered (u ∷ us))) (sym made.0.writable.size) (each-writable size (c ∷ cs) (u ∷ us) made)
+
+none-named : (size : ℕ) (cs : List CarriedUnit) (us : List GivenUnit) → AreMadeOf size cs us → texts_named (map ordered us) ≡ []
+none-named size [] [] made = refl
+none-named size [] (u ∷ us) made = absurd made
+none-named size (c ∷ cs) [] made = absurd made
+none-named size (c ∷ cs) (u ∷ us) made = ap₂ (λ ns ms. ns ++ ms) made.0.no_texts (none-named size cs us made.1)
+
+-- They name no text, and so all that they name are in any table.
+pub made-texts : (texts : List (List ℕ)) (size : ℕ) (cs : List CarriedUnit) (us : List GivenUnit) → AreMadeOf size cs us → HaveTexts texts (map ordered us)
+made-texts texts size cs us made = subst (All (λ n. n < length texts)) (sym (none-named size cs us made)) (All-nil (λ (n : ℕ). n < length texts))

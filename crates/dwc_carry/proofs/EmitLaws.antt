@@ -20,6 +20,7 @@ use Rattle.dwc_write.specs.declared.error.WriteError.TheVariants as write
 use Rattle.dwc_base.specs.declared.faults.Limit.TheVariants.{Section}
 use Rattle.dwc_write.specs.GivenUnits.{GivenUnit, AreWritable, ordered}
 use Rattle.dwc_write.specs.ReadBack.{ReadsBack}
+use Rattle.dwc_write.specs.UsedTexts.{HaveTexts}
 use Rattle.dwc_write.specs.WidestGiven.{widest_said, IsWideRefusal}
 use Rattle.dwc_write.specs.Writers.{IsSound}
 use Rattle.dwc_carry.specs.declared.error.DebugError.{DebugError}
@@ -27,7 +28,7 @@ use Rattle.dwc_carry.specs.Refusals.{Told, refused, limit, memory, told, IsCause
 use Rattle.dwc_carry.specs.Inputs.{input_of, refusal_of}
 use Rattle.dwc_carry.specs.Transformed.{IsTransformed}
 use Rattle.dwc_carry.specs.Emits.{IsTooLong, Emits}
-use Rattle.dwc_carry.proofs.CompositionLaws.{lines-carried, made-sizes, made-trees, widest-given, made-writable}
+use Rattle.dwc_carry.proofs.CompositionLaws.{lines-carried, made-sizes, made-texts, made-trees, widest-given, made-writable}
 
 module _ (order : Endian) (size : ℕ) (c : CompilationValue) where
   -- the input is refused
@@ -39,13 +40,17 @@ module _ (order : Endian) (size : ℕ) (c : CompilationValue) where
       go (limit what) h = absurd h.1
       go memory h = tt
 
-  module _ (us : List GivenUnit) (accepted : refusal_of order size c ≡ None) (t : IsTransformed size (input_of order size c) us) where
+  module _ (texts : List (List ℕ)) (us : List GivenUnit) (accepted : refusal_of order size c ≡ None) (t : IsTransformed size (input_of order size c) texts us) where
     -- the units can be written
     pub transformed-writable : AreWritable (map ordered us)
     transformed-writable = made-writable size (carried_units (input_of order size c)) us t.made
 
+    -- and all that they name is in the table of texts
+    pub transformed-texts : HaveTexts texts (map ordered us)
+    transformed-texts = made-texts texts size (carried_units (input_of order size c)) us t.made
+
     -- what is written is emitted
-    pub emits-sections : (s : Vec DwarfSection Global) → ReadsBack order (map ordered us) (map section_view s.items) → CarriesTrees order (given_trees (map ordered us)) (map section_view s.items)
+    pub emits-sections : (s : Vec DwarfSection Global) → ReadsBack order (map ordered us) (map section_view s.items) → CarriesTrees order (given_trees texts (map ordered us)) (map section_view s.items)
         → ((n : ℕ) → All (λ u. u.address_size ≡ n) us → HaveTargetForm n (units (output_sections order (map section_view s.items))).items)
         → HasDistinctNames (map section_view s.items) → AreRelocated order (map section_view s.items) → All (IsSound order) (map section_view s.items) → Emits order size c (Ok s)
     emits-sections s back says form names relocated sound = (
@@ -53,7 +58,7 @@ module _ (order : Endian) (size : ℕ) (c : CompilationValue) where
       record {
         output = record {
           lines = lines-carried size (input_of order size c) us (map section_view s.items) back t.made t.whole;
-          wanted = given_trees (map ordered us);
+          wanted = given_trees texts (map ordered us);
           is_forest = t.trees;
           trees = says;
           form = form size (made-sizes size (carried_units (input_of order size c)) us t.made);
@@ -65,13 +70,13 @@ module _ (order : Endian) (size : ℕ) (c : CompilationValue) where
     )
 
     -- what is counted over the trees of the units is counted over those of the carried units
-    said-widest : (name : SectionName) → widest_said name (map ordered us) ≤ widest name (input_of order size c)
+    said-widest : (name : SectionName) → widest_said name texts (map ordered us) ≤ widest name (input_of order size c)
     said-widest = go
       where
-        same : (name : SectionName) → widest_of_trees name (given_trees (map ordered us)) ≤ widest_of_trees name (map tree_of_unit (carried_units (input_of order size c)))
-        same name = subst (λ ts. widest_of_trees name (given_trees (map ordered us)) ≤ widest_of_trees name ts) (sym (made-trees size (carried_units (input_of order size c)) us t.made)) (omega arith)
+        same : (name : SectionName) → widest_of_trees name (given_trees texts (map ordered us)) ≤ widest_of_trees name (map tree_of_unit (carried_units (input_of order size c)))
+        same name = subst (λ ts. widest_of_trees name (given_trees texts (map ordered us)) ≤ widest_of_trees name ts) (sym (made-trees texts size (carried_units (input_of order size c)) us t.made)) (omega arith)
 
-        go : (name : SectionName) → widest_said name (map ordered us) ≤ widest name (input_of order size c)
+        go : (name : SectionName) → widest_said name texts (map ordered us) ≤ widest name (input_of order size c)
         go Line = widest-given size (input_of order size c) us t.made
         go Abbrev = same Abbrev
         go Addr = same Addr
@@ -87,6 +92,6 @@ module _ (order : Endian) (size : ℕ) (c : CompilationValue) where
         go Frame = same Frame
 
     -- writing is refused
-    pub emits-large : (e : WriteError) → IsWideRefusal (map ordered us) e → Emits order size c (Err (of_writing e))
+    pub emits-large : (e : WriteError) → IsWideRefusal texts (map ordered us) e → Emits order size c (Err (of_writing e))
     emits-large (write.TooLarge (Section name)) large = (accepted, omega (arith, large, said-widest name))
     emits-large write.OutOfMemory large = tt

@@ -50,7 +50,8 @@ module _ (m : Module) where
     input = h.input;
     input_read = h.input_read;
     images = images-kept m.functions _ _ (subst (λ qs. AllZip (IsImageOf (map kept_function m.functions)) qs (given_segments g.lines)) (carried_segments-kept m.functions h.input) h.images);
-    tree = λ all number. h.tree all number ∙ same-tree u;
+    tree = λ texts all number. h.tree texts all number ∙ same-tree u;
+    no_texts = h.no_texts;
     writable = h.writable;
     widest = subst (λ n. widest_table_for g.lines.address_size g.lines ≤ n) (same-widest u) h.widest;
   }

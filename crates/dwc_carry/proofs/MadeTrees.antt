@@ -19,6 +19,7 @@ use Rattle.dwc_base.specs.Forests.{function_of_value, function_begun, function_b
 use Rattle.dwc_write.specs.GivenTrees.{tree_entry, given_tree}
 use Rattle.dwc_write.specs.GivenLines.{GivenLines}
 use Rattle.dwc_write.specs.GivenUnits.{Addition, OrderedUnit, entry_at, ordered}
+use Rattle.dwc_write.specs.UsedTexts.{texts_of_attributes, texts_of_entries}
 use Rattle.dwc_write.proofs.OrderedLaws.{below-listed, listed}
 use Rattle.dwc_carry.specs.declared.subprogram.Subprogram.{Subprogram}
 use Rattle.dwc_carry.specs.OutputUnits.{output_unit, root_entry, subprogram_entry}
@@ -44,21 +45,34 @@ all-below-root : (ss : List Subprogram) → All (λ e. e.parent ≡ 0) (map subp
 all-below-root [] = All-nil (λ (e : Addition). e.parent ≡ 0)
 all-below-root (s ∷ ss) = All-cons (λ (e : Addition). e.parent ≡ 0) (subprogram_entry s) (map subprogram_entry ss) refl (all-below-root ss)
 
--- A unit of the output says its root, and then its subprograms, whatever units it stands among.
-pub unit-said : (all : List OrderedUnit) (number size : ℕ) (lines : GivenLines) (has_table : Bool) (ss : List Subprogram) → given_tree all number (ordered (output_unit size lines has_table ss)) ≡ root_said has_table ∷ map subprogram_said ss
-unit-said all number size lines has_table ss =
-    ap₂ (λ e es. e ∷ es) (root has_table) (ap (map (tree_entry all number u)) (below-listed 1 (map subprogram_entry ss) (omega arith) (all-below-root ss)) ∙ each 1 ss)
+-- A unit of the output says its root, and then its subprograms, whatever units it stands among and whatever texts there are.
+pub unit-said : (texts : List (List ℕ)) (all : List OrderedUnit) (number size : ℕ) (lines : GivenLines) (has_table : Bool) (ss : List Subprogram) → given_tree texts all number (ordered (output_unit size lines has_table ss)) ≡ root_said has_table ∷ map subprogram_said ss
+unit-said texts all number size lines has_table ss =
+    ap₂ (λ e es. e ∷ es) (root has_table) (ap (map (tree_entry texts all number u)) (below-listed 1 (map subprogram_entry ss) (omega arith) (all-below-root ss)) ∙ each 1 ss)
   where
     u : OrderedUnit
     u = ordered (output_unit size lines has_table ss)
 
-    root : (b : Bool) → tree_entry all number u (entry_at 0 0 (root_entry b)) ≡ root_said b
+    root : (b : Bool) → tree_entry texts all number u (entry_at 0 0 (root_entry b)) ≡ root_said b
     root true = refl
     root false = refl
 
-    each : (place : ℕ) (ss : List Subprogram) → map (tree_entry all number u) (listed place (map subprogram_entry ss)) ≡ map subprogram_said ss
+    each : (place : ℕ) (ss : List Subprogram) → map (tree_entry texts all number u) (listed place (map subprogram_entry ss)) ≡ map subprogram_said ss
     each place [] = refl
     each place (s ∷ ss) = ap (λ es. subprogram_said s ∷ es) (each (suc place) ss)
+
+-- It names no text.
+pub unit-texts : (size : ℕ) (lines : GivenLines) (has_table : Bool) (ss : List Subprogram) → texts_of_entries (ordered (output_unit size lines has_table ss)).entries ≡ []
+unit-texts size lines has_table ss =
+    ap₂ (λ ns ms. ns ++ ms) (root has_table) (ap texts_of_entries (below-listed 1 (map subprogram_entry ss) (omega arith) (all-below-root ss)) ∙ each 1 ss)
+  where
+    root : (b : Bool) → texts_of_attributes (root_entry b).attributes ≡ []
+    root true = refl
+    root false = refl
+
+    each : (place : ℕ) (ss : List Subprogram) → texts_of_entries (listed place (map subprogram_entry ss)) ≡ []
+    each place [] = refl
+    each place (s ∷ ss) = each (suc place) ss
 
 -- What is kept of a carried unit: what is made of the kept entries says what the root and the subprograms of the output say.
 pub record IsKeptWhole (m : Module) (u : Unit) : Type 0 where

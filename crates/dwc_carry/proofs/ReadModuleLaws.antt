@@ -32,7 +32,7 @@ use Rattle.dwc_carry.proofs.CarriedReadLaws.{filter-in, filter-out}
 use Rattle.dwc_carry.proofs.OutputUnitLaws.{named-writable}
 use Rattle.dwc_base.specs.Forests.{entry_made, has_line_table, kept_of_unit}
 use Rattle.dwc_carry.proofs.InfoUnitLaws.{subprograms-count}
-use Rattle.dwc_carry.proofs.MadeTrees.{IsKeptWhole, root_said, subprogram_said, unit-said}
+use Rattle.dwc_carry.proofs.MadeTrees.{IsKeptWhole, root_said, subprogram_said, unit-said, unit-texts}
 
 -- a unit that is a compile unit, and of which an entry is required
 abbrev pub is_compiled : List Function → Unit → Bool
@@ -115,11 +115,12 @@ module _ (m : Module) where
         input = segments_of t;
         input_read = ap (λ x. x >>= λ t. Ok (segments_of t)) table;
         images = images;
-        tree = λ all number.
-            unit-said all number size lines (is_some r.entries.line_table) r.entries.subprograms.items
+        tree = λ texts all number.
+            unit-said texts all number size lines (is_some r.entries.line_table) r.entries.subprograms.items
             ∙ ap (λ subs. root_said (is_some r.entries.line_table) ∷ map subprogram_said subs) (read.entries).subprograms
             ∙ sym (kept.tree (is_some r.entries.line_table) (λ none. ap is_some ((read.entries).line_table ∙ none)))
             ∙ sym (ap (λ b. map (λ p. entry_made m.functions b p.entry) (kept_of_unit m (unit_of m.sections h))) (ap has_line_table table ∙ same));
+        no_texts = unit-texts size lines (is_some r.entries.line_table) r.entries.subprograms.items;
         writable = named-writable m.functions r.unit.sections r.unit.header size r.entries.line_table lines r.entries.subprograms.items carries;
         widest = rw table narrow;
       }

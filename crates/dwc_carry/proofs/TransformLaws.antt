@@ -171,9 +171,9 @@ module _ (c : CompilationValue) where
   maps-refused e h = refuses-more (maps_refusal c) input_refusal e (λ r is. ap (λ o. option_or o (refusals_in (modules_from 0 c.translations c.functions))) is) h
 
   -- the input is accepted, and the units that are added are those of it
-  pub input-transformed : (order : Endian) (size : ℕ) (us : List GivenUnit) → maps_refusal c ≡ None → (refusals_in transformed ≡ None) × AddsModules size transformed [] us
-      → (input_refusal ≡ None) × IsTransformed size (input_of order size c) us
-  input-transformed order size us good (none, h) =
+  pub input-transformed : (order : Endian) (size : ℕ) (texts : List (List ℕ)) (us : List GivenUnit) → texts ≡ [] → maps_refusal c ≡ None → (refusals_in transformed ≡ None) × AddsModules size transformed [] us
+      → (input_refusal ≡ None) × IsTransformed size (input_of order size c) texts us
+  input-transformed order size texts us empty good (none, h) =
       let ms = modules_from 0 c.translations c.functions in
       let k : AddsModules size (map kept_module ms) [] us = subst (λ xs. AddsModules size xs [] us) (transformed-kept 0 c.translations c.functions) h in
       let accepted : input_refusal ≡ None = sym (input-refusals good) ∙ none in
@@ -182,6 +182,7 @@ module _ (c : CompilationValue) where
         record {
           made = made;
           whole = all-whole ms k.whole;
-          trees = forest-is (input_of order size c) (unmapped in_reading (first_refusal (input_of order size c)) (neither (maps_refusal c) (refusals_in ms) accepted).1) ∙ ap Ok (made-trees size (flat_map carried_in ms) us made);
+          no_texts = empty;
+          trees = forest-is (input_of order size c) (unmapped in_reading (first_refusal (input_of order size c)) (neither (maps_refusal c) (refusals_in ms) accepted).1) ∙ ap Ok (made-trees texts size (flat_map carried_in ms) us made);
         },
       )

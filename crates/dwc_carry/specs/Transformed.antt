@@ -1,5 +1,5 @@
 -- The answers of transforming the DWARF of a compilation.
-use Rattle.std.specs.Prelude.{◌≡◌, ℕ, List, map, None, Result, Ok, Vec, All}
+use Rattle.std.specs.Prelude.{◌≡◌, ℕ, List, [], map, None, Result, Ok, Vec, All}
 use Rattle.std.specs.Global.{Global}
 use Rattle.dwc_base.specs.declared.records.Endian.{Endian}
 use Rattle.dwc_base.specs.Functions.{Function}
@@ -24,12 +24,14 @@ all_kept ms = map (λ m. map kept_function m.functions) ms
 abbrev pub GivesTransforms : CompilationValue → Result (Vec AddressTransform Global) DebugError → Type 0
 GivesTransforms c result = GivesOr (λ (ts : Vec AddressTransform Global). ts.items ≡ all_kept (modules_from 0 c.translations c.functions)) (maps_refusal c) result
 
--- Units that are made of all carried units of an input, whose modules are read to their ends, and that say the trees of its forest.
-pub record IsTransformed (size : ℕ) (c : Compilation) (us : List GivenUnit) : Type 0 where
+-- Units that are made of all carried units of an input, whose modules are read to their ends, and that say the trees of its forest
+-- with a table of texts, which is empty.
+pub record IsTransformed (size : ℕ) (c : Compilation) (texts : List (List ℕ)) (us : List GivenUnit) : Type 0 where
   pub made : AreMadeOf size (carried_units c) us
   pub whole : All (λ m. (units m.sections).fault ≡ None) c.modules
-  pub trees : forest c ≡ Ok (given_trees (map ordered us))
+  pub no_texts : texts ≡ []
+  pub trees : forest c ≡ Ok (given_trees texts (map ordered us))
 
--- The units, or a refusal.
+-- The units and the texts that they name, or a refusal.
 abbrev pub GivesDwarf : Endian → ℕ → CompilationValue → Result Dwarf DebugError → Type 0
-GivesDwarf order size c result = GivesOr (λ (d : Dwarf). IsTransformed size (input_of order size c) d.units.units.items) (refusal_of order size c) result
+GivesDwarf order size c result = GivesOr (λ (d : Dwarf). IsTransformed size (input_of order size c) d.strings d.units.units.items) (refusal_of order size c) result

@@ -7,11 +7,11 @@ use crate::carry_modules::carry_modules;
 use dwc_addr::{AddressTransform, Compilation};
 use dwc_base::{Encoding, StaticModuleIndex};
 use dwc_clif::TargetIsa;
-use dwc_write::{Dwarf, UnitTable};
+use dwc_write::{Dwarf, StringTable, UnitTable};
 use std::alloc::Global;
 
 /// The units of DWARF that carry those of a compilation, for a target: module by module and in order, one for each compile unit
-/// of which an entry is kept. The compilation is left as it is.
+/// of which an entry is kept. They name no text, so the table of texts is empty. The compilation is left as it is.
 ///
 /// # Errors
 /// `BadAddressMap` exactly where a function's address map breaks a rule: the first module, its first such function, and the
@@ -33,7 +33,8 @@ pub fn transform_dwarf(
     let mut units = UnitTable::new(alloc);
     let translations = compilation.translations();
     carry_modules(alloc, translations, &transforms, encoding, &mut units)?;
-    Ok(Dwarf { units })
+    let strings = StringTable::new(alloc);
+    Ok(Dwarf { units, strings })
 }
 
 // The transforms of the modules of a compilation, in order.
