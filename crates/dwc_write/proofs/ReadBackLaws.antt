@@ -14,7 +14,7 @@ use Rattle.dwc_base.specs.declared.section_name.SectionName.TheVariants.{Abbrev,
 use Rattle.dwc_base.specs.declared.constants.TheConstants.{DW_AT_stmt_list, DW_FORM_data1, DW_FORM_data2, DW_FORM_data4, DW_FORM_data8, DW_FORM_sdata}
 use Rattle.dwc_base.specs.Abbreviations.{Declaration, declaration_of}
 use Rattle.dwc_base.specs.declared.records.LineRow.{LineRow}
-use Rattle.dwc_base.specs.LineRows.{line_table, source_file, in_directory, named_row}
+use Rattle.dwc_base.specs.LineRows.{source_file, in_directory, named_row}
 use Rattle.dwc_base.specs.Sections.{Sections}
 use Rattle.dwc_base.specs.Values.{Value}
 use Rattle.dwc_base.specs.Entries.{Entry, attribute}
@@ -44,7 +44,7 @@ use Rattle.dwc_write.proofs.ReadTexts.{offset-bound}
 use Rattle.dwc_write.proofs.ReadTables.{numbered-found}
 use Rattle.dwc_write.proofs.ReadRelocations.{info-functions, lines-functions, at_places-append}
 use Rattle.dwc_write.proofs.ReadValues.{All-back}
-use Rattle.dwc_write.proofs.ReadSections.{units-read, lines-read, segments-read}
+use Rattle.dwc_write.proofs.ReadSections.{IsReadAt, units-read, lines-read, segments-read}
 use Rattle.dwc_write.proofs.LineLaws.{field-address}
 use Rattle.dwc_write.proofs.EntriesLaws.{code-there, next-first}
 use Rattle.dwc_write.proofs.PlacedEntries.{placed-length, offset-within, places-short, info-length}
@@ -442,20 +442,20 @@ module _ (s : Sections) (size : ℕ) where
 
   -- the segments of a unit, from its root's entry
   root-lines : (v : Unit) (e : Entry) (l : ℕ) (g : GivenLines) (rest : List WrittenTable) (n : Option ℕ) → v.header.address_size ≡ size → root v ≡ Some e → line_offset (attribute DW_AT_stmt_list e) ≡ named_offset l (is_some n) → FitsLines g → IsOfSize size n → FitsSequences n g.sequences g.begun
-      → All (λ p. line_table s size p.offset ≡ Ok (read_table s.order size p)) (placed_tables s.order size l (lines_for n g ++ rest))
+      → All (IsReadAt s size) (placed_tables s.order size l (lines_for n g ++ rest))
       → segments_of_unit s v ≡ Ok (given_segments g)
   root-lines v e l g rest None sized is_root names fits same sequences read =
       segments-without v e is_root names ∙ ap (λ qs. Ok (map (given_segment g) qs)) (sym sequences.0)
   root-lines v e l g rest (Some n) sized is_root names fits same sequences read =
       let t : WrittenTable = record { directories = g.directories; files = g.files; sequences = g.sequences } in
       let p : PlacedTable = record { offset = l; table = t } in
-      let here : line_table s size l ≡ Ok (read_table s.order size p) = All-head (λ q. line_table s size q.offset ≡ Ok (read_table s.order size q)) p _ read in
+      let here : IsReadAt s size p = All-head (IsReadAt s size) p _ read in
       let P : ℕ → Type 0 = λ m. All (FitsGivenSequence m) g.sequences in
       let fit = All-weaker (FitsGivenSequence size) (FitsSequence size) (λ q h. h.sequence) g.sequences (subst P same sequences.0) in
       segments-read s size v e p sized is_root names here fit ∙ ap Ok (segments-same s.order size g p refl g.sequences)
 
   unit-lines : (place a : ℕ) (p : Places) (u : OrderedUnit) (rest : List WrittenTable) → u.address_size ≡ size → FitsOrdered u → FitsLines u.lines → IsWritable size u
-      → All (λ t. line_table s size t.offset ≡ Ok (read_table s.order size t)) (placed_tables s.order size p.line (written_lines u.lines ++ rest))
+      → All (IsReadAt s size) (placed_tables s.order size p.line (written_lines u.lines ++ rest))
       → segments_of_unit s (read_unit s.order size place (written_unit p a u)) ≡ Ok (given_segments u.lines)
   unit-lines place a p u rest same fits lines writable read = at-root u.entries fits.tree writable.named
     where
@@ -464,12 +464,12 @@ module _ (s : Sections) (size : ℕ) where
       at-root [] tree named = absurd tree
       at-root (e ∷ es) tree named =
           let names = ap (λ xs. line_offset (found_in xs)) (attributes-read p e.attributes) ∙ lines-named p e.attributes ∙ ap (named_offset p.line) named in
-          let P : List WrittenTable → Type 0 = λ ts. All (λ t. line_table s size t.offset ≡ Ok (read_table s.order size t)) (placed_tables s.order size p.line (ts ++ rest)) in
+          let P : List WrittenTable → Type 0 = λ ts. All (IsReadAt s size) (placed_tables s.order size p.line (ts ++ rest)) in
           let Q : ℕ → Type 0 = λ n. IsOfSize n u.lines.address_size in
           root-lines _ _ p.line u.lines rest u.lines.address_size refl refl names lines (subst Q same fits.lines) lines.sequences (subst P (lines-are u.lines) read)
 
   units-each : (place a l : ℕ) (units : AllPlaces) (us : List OrderedUnit) → All (IsWritable size) us → All FitsOrdered us → All (λ u. FitsLines u.lines) us
-      → All (λ p. line_table s size p.offset ≡ Ok (read_table s.order size p)) (placed_tables s.order size l (written_tables us))
+      → All (IsReadAt s size) (placed_tables s.order size l (written_tables us))
       → AllZip (IsReadUnit s) us (read_units s.order size place (written_units s.order size units a l us))
   units-each place a l units [] writable fits lines read = tt
   units-each place a l units (u ∷ us) writable fits lines read =
@@ -477,8 +477,8 @@ module _ (s : Sections) (size : ℕ) where
       let p = places_in units (offsets_by_number s.order size u) l in
       let unit = written_unit p a u in
       let split = at_places-append (one_table_bytes s.order size) (λ p t. record { offset = p; table = t } ∷ []) (written_lines u.lines) (written_tables us) l in
-      let P : List PlacedTable → Type 0 = λ ps. All (λ p. line_table s size p.offset ≡ Ok (read_table s.order size p)) ps in
-      let others = All-back (λ p. line_table s size p.offset ≡ Ok (read_table s.order size p)) (placed_tables s.order size l (written_lines u.lines)) _ (subst P split read) in (
+      let P : List PlacedTable → Type 0 = λ ps. All (IsReadAt s size) ps in
+      let others = All-back (IsReadAt s size) (placed_tables s.order size l (written_lines u.lines)) _ (subst P split read) in (
         record {
           places = p;
           version = refl;

@@ -15,6 +15,7 @@ use Rattle.dwc_base.specs.Sections.{Sections, Relocation}
 use Rattle.dwc_base.specs.Units.{UnitHeader}
 use Rattle.dwc_base.specs.Entries.{Entry, attribute}
 use Rattle.dwc_base.specs.LineHeaders.{LineHeader, line_source, Instruction, special, copy, advance_pc, advance_line, set_file, set_column, negate_stmt, set_basic_block, const_add_pc, fixed_advance_pc, set_prologue_end, set_epilogue_begin, set_isa, end_sequence, set_address, define_file, set_discriminator, unknown}
+use Rattle.dwc_base.specs.Indexed.{text_base}
 use Rattle.dwc_base.specs.Carried.{root, line_offset}
 use Rattle.dwc_base.specs.Fields.{Field, an_address, field_of_instruction, fields_of_instructions, fields_of_line_table, fields_of_lines, relocation_of, relocations_of_fields}
 use Rattle.dwc_base.specs.Spelling.{unread_at}
@@ -127,20 +128,20 @@ lines-related order size ts place =
 
 -- ---- tables
 
--- a table whose fields are found at its offset
+-- a table whose fields are found at its offset, whatever the base of texts by an index, of which version 4 has none
 abbrev pub IsFound : Sections → ℕ → PlacedTable → Type 0
-IsFound s size p = fields_of_line_table s size p.offset ≡ Ok (table_fields s.order size p.offset p.table)
+IsFound s size p = (base : ℕ) → fields_of_line_table s size base p.offset ≡ Ok (table_fields s.order size p.offset p.table)
 
 module _ (s : Sections) (size : ℕ) where
   table-found : (place : ℕ) (t : WrittenTable) (rest : List ℕ) → size < 2 ^ 63 → FitsTable s.order size t → All (IsHeld (s.relocations Line)) (one_table_fields s.order size place t)
       → drop place (s.bytes Line) ≡ one_table_bytes s.order size t ++ rest → IsFound s size (record { offset = place; table = t })
   unfolding fields_of_line_table
-  table-found place t rest short fits held stands =
+  table-found place t rest short fits held stands = λ base.
       let is = sequences_instructions t.sequences in
       let h = read_line_header s.order size place t.directories t.files is in
       let fit = sequences-fit size t.sequences short fits.sequences in
       let at = place + program_place t.directories t.files in
-      let header = header-read s.order (line_source s) place size t.directories t.files is rest fits.directories fits.files fits.short in
+      let header = header-read s.order (line_source s base) place size t.directories t.files is rest fits.directories fits.files fits.short in
       let program = program-read (s.relocations Line) h refl refl s.order is at fit.all held in
       let found = instructions-found (s.relocations Line) h refl refl s.order is at fit.all held in
       rw (stands, header, ◌>>=◌, program) (ap Ok found)
@@ -164,8 +165,9 @@ module _ (s : Sections) (size : ℕ) where
   root-found h e l g rest None sized names found = rw (fields_of_lines, names) refl
   root-found h e l g rest (Some n) sized names found =
       let t : WrittenTable = record { directories = g.directories; files = g.files; sequences = g.sequences } in
-      let here : fields_of_line_table s size l ≡ Ok (table_fields s.order size l t) = All-head (IsFound s size) (record { offset = l; table = t }) _ found in
-      rw (fields_of_lines, names, sized, here) (sym (append-nil (table_fields s.order size l t)))
+      let base = text_base s h in
+      let here : fields_of_line_table s h.address_size base l ≡ Ok (table_fields s.order size l t) = ap (λ m. fields_of_line_table s m base l) sized ∙ All-head (IsFound s size) (record { offset = l; table = t }) _ found base in
+      rw (fields_of_lines, names, here) (sym (append-nil (table_fields s.order size l t)))
 
   unit-found : (place a : ℕ) (p : Places) (u : OrderedUnit) (rest : List WrittenTable) → FitsOrdered u → IsWritable size u → All (IsFound s size) (placed_tables s.order size p.line (written_lines u.lines ++ rest))
       → fields_of_lines s (read_unit s.order size place (written_unit p a u)).header (root (read_unit s.order size place (written_unit p a u))) ≡ tables_fields s.order size p.line (written_lines u.lines)

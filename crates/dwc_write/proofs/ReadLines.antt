@@ -231,19 +231,19 @@ abbrev with_files : LineHeader → List LineFile → List LineStep → LineTable
 with_files h files steps = record { header = h; files = files; steps = steps }
 
 -- A line table that a section holds at an offset, whatever stands around it, is read as it was given.
-pub line-table-read : (s : Sections) (size offset : ℕ) (directories : List (List ℕ)) (files : List LineFile) (qs : List WrittenSequence) (rest : List ℕ)
+pub line-table-read : (s : Sections) (size base offset : ℕ) (directories : List (List ℕ)) (files : List LineFile) (qs : List WrittenSequence) (rest : List ℕ)
     → All FitsName directories → All FitsFile files → size < 2 ^ 63 → All (FitsSequence size) qs
     → length (line_body s.order size directories files (sequences_instructions qs)) < 0xFFFFFFF0
     → All (IsHeld (s.relocations Line)) (program_fields s.order size (offset + program_place directories files) (sequences_instructions qs))
     → drop offset (s.bytes Line) ≡ line_table_bytes s.order size directories files (sequences_instructions qs) ++ rest
-    → line_table s size offset ≡ Ok (read_line_table s.order size offset directories files qs)
+    → line_table s size base offset ≡ Ok (read_line_table s.order size offset directories files qs)
 unfolding line_table line_table_at
-line-table-read s size offset directories files qs rest named given short fits small held stands =
+line-table-read s size base offset directories files qs rest named given short fits small held stands =
     let is = sequences_instructions qs in
     let h = read_line_header s.order size offset directories files is in
     let fit = sequences-fit size qs short fits in
     let none = fit.plain in
-    let header = header-read s.order (line_source s) offset size directories files is rest named given small in
+    let header = header-read s.order (line_source s base) offset size directories files is rest named given small in
     let program = program-read (s.relocations Line) h refl refl s.order is (offset + program_place directories files) fit.all held in
     let shown = sequences-show h refl refl size qs fits in
     let steps : map step_of (effects h (at_sequence_start h) is) ≡ flat_map sequence_steps qs = ap (map step_of) shown ∙ sequences-steps size qs fits in

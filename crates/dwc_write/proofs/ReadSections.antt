@@ -15,6 +15,7 @@ use Rattle.dwc_base.specs.Units.{UnitHeader, unit_headers_from, unit_headers}
 use Rattle.dwc_base.specs.Entries.{Entry, attribute}
 use Rattle.dwc_base.specs.LineHeaders.{Instruction, set_address}
 use Rattle.dwc_base.specs.LineRows.{line_table}
+use Rattle.dwc_base.specs.Indexed.{text_base}
 use Rattle.dwc_base.specs.Carried.{Unit as ReadUnit, units, units_of_headers, root, line_offset, table_of_root, table_of_unit, segments_of_unit}
 use Rattle.dwc_base.specs.Spelling.{unread_at}
 use Rattle.dwc_write.specs.Spelled.{number_bytes, uleb_bytes}
@@ -164,22 +165,26 @@ units-read s size us known fits stand abbrev_bytes info_bytes_are relocations_ar
 
 -- ---- the line tables
 
+-- A line table is read at its offset as it was given, whatever the base of texts by an index, of which version 4 has none.
+abbrev pub IsReadAt : Sections → ℕ → PlacedTable → Type 0
+IsReadAt s size p = (base : ℕ) → line_table s size base p.offset ≡ Ok (read_table s.order size p)
+
 tables-at : (s : Sections) (size place : ℕ) (ts : List WrittenTable) (rest : List ℕ) → size < 2 ^ 63 → All (FitsTable s.order size) ts → All (IsHeld (s.relocations Line)) (lines_fields s.order size place ts)
     → drop place (s.bytes Line) ≡ lines_bytes s.order size ts ++ rest
-    → All (λ p. line_table s size p.offset ≡ Ok (read_table s.order size p)) (placed_tables s.order size place ts)
+    → All (IsReadAt s size) (placed_tables s.order size place ts)
 tables-at s size place [] rest short fits held bytes = All-nil _
 tables-at s size place (t ∷ ts) rest short fits held bytes =
     let here = All-head (FitsTable s.order size) t ts fits in
     let grouped : drop place (s.bytes Line) ≡ one_table_bytes s.order size t ++ (lines_bytes s.order size ts ++ rest) = bytes ∙ append_assoc (one_table_bytes s.order size t) (lines_bytes s.order size ts) rest in
-    let first = line-table-read s size place t.directories t.files t.sequences (lines_bytes s.order size ts ++ rest) here.directories here.files short here.sequences here.short (All-front (IsHeld (s.relocations Line)) (one_table_fields s.order size place t) _ held) grouped in
-    All-cons (λ p. line_table s size p.offset ≡ Ok (read_table s.order size p)) (record { offset = place; table = t }) _ first
+    let first : IsReadAt s size (record { offset = place; table = t }) = λ base. line-table-read s size base place t.directories t.files t.sequences (lines_bytes s.order size ts ++ rest) here.directories here.files short here.sequences here.short (All-front (IsHeld (s.relocations Line)) (one_table_fields s.order size place t) _ held) grouped in
+    All-cons (IsReadAt s size) (record { offset = place; table = t }) _ first
     (tables-at s size (place + length (one_table_bytes s.order size t)) ts rest short (All-tail (FitsTable s.order size) t ts fits) (All-back (IsHeld (s.relocations Line)) (one_table_fields s.order size place t) _ held)
     (drop-behind place (s.bytes Line) (one_table_bytes s.order size t) (lines_bytes s.order size ts ++ rest) grouped))
 
 -- Each line table of a section that is spelled is read at its offset as it was given.
 pub lines-read : (s : Sections) (size : ℕ) (ts : List WrittenTable) → 0 < size → size < 2 ^ 63 → All (FitsTable s.order size) ts
     → s.bytes Line ≡ lines_bytes s.order size ts → s.relocations Line ≡ relocations_of (lines_fields s.order size 0 ts)
-    → All (λ p. line_table s size p.offset ≡ Ok (read_table s.order size p)) (placed_tables s.order size 0 ts)
+    → All (IsReadAt s size) (placed_tables s.order size 0 ts)
 lines-read s size ts some short fits bytes_are relocations_are =
     let held_by = rising-held 0 _ (lines_fields s.order size 0 ts) (lines-rise s.order size some 0 ts) in
     let held : All (IsHeld (s.relocations Line)) (lines_fields s.order size 0 ts) = rw (relocations_are) held_by in
@@ -189,10 +194,12 @@ lines-read s size ts some short fits bytes_are relocations_are =
 
 -- A unit whose root names a line table that was spelled has its sequences as segments.
 pub segments-read : (s : Sections) (size : ℕ) (u : ReadUnit) (e : Entry) (p : PlacedTable) → u.header.address_size ≡ size → root u ≡ Some e → line_offset (attribute DW_AT_stmt_list e) ≡ Some p.offset
-    → line_table s size p.offset ≡ Ok (read_table s.order size p) → All (FitsSequence size) p.table.sequences
+    → IsReadAt s size p → All (FitsSequence size) p.table.sequences
     → segments_of_unit s u ≡ Ok (map (read_segment (read_table s.order size p)) p.table.sequences)
 unfolding segments_of_unit table_of_unit
 segments-read s size u e p sized is_root names read fits =
     let same = line-table-segments s.order size p.offset p.table.directories p.table.files p.table.sequences fits in
-    let table : table_of_root s u (Some e) ≡ Ok (Some (read_table s.order size p)) = rw (table_of_root, names, sized, read) refl in
+    let base = text_base s u.header in
+    let here : line_table s u.header.address_size base p.offset ≡ Ok (read_table s.order size p) = ap (λ n. line_table s n base p.offset) sized ∙ read base in
+    let table : table_of_root s u (Some e) ≡ Ok (Some (read_table s.order size p)) = rw (table_of_root, names, here) refl in
     rw (segments_of_unit, table_of_unit, is_root, table, same) refl

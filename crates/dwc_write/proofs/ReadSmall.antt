@@ -8,7 +8,7 @@ use Rattle.dwc_base.specs.Carried.{segments_of_unit, units}
 use Rattle.dwc_write.specs.SpelledLines.{read_segment, FitsName, FitsFile, FitsRow, FitsSequence}
 use Rattle.dwc_write.specs.SpelledSections.{PlacedTable, read_unit, WrittenUnit, tables_bytes, info_bytes, info_fields, read_units, WrittenTable, lines_bytes, lines_fields, FitsUnit, FitsTable, placed_tables, read_table}
 use Rattle.std.proofs.lemmas.List.Elements.{All-head, All-cons, All-nil, All-from_recursion}
-use Rattle.dwc_write.proofs.ReadSections.{segments-read, units-read, lines-read}
+use Rattle.dwc_write.proofs.ReadSections.{IsReadAt, segments-read, units-read, lines-read}
 use Rattle.std.specs.List.{All, AllByRecursion}
 use Rattle.dwc_base.specs.declared.records.Endian.TheVariants.{Little}
 use Rattle.dwc_base.specs.declared.records.Address.TheVariants.{Symbol}
@@ -19,7 +19,6 @@ use Rattle.dwc_base.specs.Outputs.{output_sections}
 use Rattle.dwc_write.specs.Spelled.{uleb_bytes, uleb_bytes_within, sleb_bytes, sleb_bytes_from_0}
 use Rattle.dwc_write.specs.SpelledUnits.{as_addr, as_udata, as_sec_offset, WrittenAttribute, WrittenEntry, shaped, FitsEntry, FitsWritten}
 use Rattle.dwc_write.specs.SpelledTables.{FitsSpec, FitsDeclaration}
-use Rattle.dwc_base.specs.LineRows.{line_table}
 use Rattle.dwc_write.specs.SpelledAddresses.{relocations_of}
 use Rattle.dwc_base.proofs.CarriedSmall.{output_small}
 
@@ -128,7 +127,7 @@ unfolding uleb_bytes uleb_bytes_within sleb_bytes sleb_bytes_from_0
 lines-fit = record { directories = All-nil FitsName; files = files-fit; sequences = sequences-fit; short = lit< tt }
 
 -- and so is its line table, with its one segment
-pub small-lines : All (λ p. line_table (output_sections Little output_small) 8 p.offset ≡ Ok (read_table Little 8 p)) (placed_tables Little 8 0 (lines_written ∷ []))
+pub small-lines : All (IsReadAt (output_sections Little output_small) 8) (placed_tables Little 8 0 (lines_written ∷ []))
 small-lines =
     lines-read (output_sections Little output_small) 8 (lines_written ∷ []) (lit< tt) (lit< tt) (All-cons (FitsTable Little 8) lines_written [] lines-fit (All-nil (FitsTable Little 8))) line-bytes line-relocations
 
@@ -142,4 +141,4 @@ root_read = record { offset = 11; depth = 0; tag = 0x11; attributes = (0x10, lin
 pub small-segments : segments_of_unit (output_sections Little output_small) (read_unit Little 8 0 unit_written) ≡ Ok (map (read_segment (read_table Little 8 placed_written)) lines_written.sequences)
 small-segments =
     segments-read (output_sections Little output_small) 8 (read_unit Little 8 0 unit_written) root_read placed_written refl refl refl
-    (All-head (λ p. line_table (output_sections Little output_small) 8 p.offset ≡ Ok (read_table Little 8 p)) placed_written [] small-lines) sequences-fit
+    (All-head (IsReadAt (output_sections Little output_small) 8) placed_written [] small-lines) sequences-fit
