@@ -568,7 +568,10 @@ REFUSED_5 = [
     ("addresses of 2 bytes", (2, 0), "0000 010108 01 6100", "", 11, "Unsupported AddressSize 0"),
     ("a segment selector", (4, 1), "0000 010108 01 6100", "", 11, "Unsupported SegmentSelector 0"),
     ("a supplementary path", (4, 0), "0000 01011D 01 00000000", "", 11, "Unsupported Supplementary 0"),
-    ("a path by the index of a text", (4, 0), "0000 010125 01 00", "", 11, "Unsupported NotBuilt 0"),
+    ("a path by an index past the offsets", (4, 0), "0000 010125 01 04", "", 10, MALFORMED_TABLE),
+    ("a path by the index of a text past its section", (4, 0), "0000 010125 01 03", "", 10, MALFORMED_TABLE),
+    ("a path by an index that is cut", (4, 0), "0000 010128 01 0000", "", 10, MALFORMED_TABLE),
+    ("a path by the index of an empty text", (4, 0), "0000 010125 01 02", "", 12, MISSING_FILE),
     ("a count of files that is too large", (4, 0), "0000 00 FFFFFFFFFFFFFFFFFF01", "", 10, MALFORMED_TABLE),
     ("two paths of a file", (4, 0), "0000 0201080108 01 6100 6200", "", 10, MALFORMED_TABLE),
     ("a path that is no text", (4, 0), "0000 01010B 01 01", "", 10, MALFORMED_TABLE),
@@ -581,14 +584,22 @@ REFUSED_5 = [
 ]
 
 STRINGS, LINE_STRINGS = b"\0a.c\0b\0", b"/w\0e\0"
+# Behind a header of eight bytes the offsets in `.debug_str` of `a.c`, `b`, an empty text and one past the section.
+TEXT_OFFSETS = bytes.fromhex("1400000005000000 01000000 05000000 00000000 C8000000")
+TEXTS = [(".debug_str", STRINGS), (".debug_line_str", LINE_STRINGS), (".debug_str_offsets", TEXT_OFFSETS)]
+
+
+def paths_by_index(form):
+    """The directories, of which number 1 is `b`, and two files `a.c` and `b`, by indexes of a form."""
+    first, second = [uleb(i) if form == 0x1A else i.to_bytes(form - 0x24, "little") for i in (0, 1)]
+    directories = bytes([1, 1, form, 2]) + first + second
+    return directories + bytes([2, 1, form, 2, 0x0B, 2]) + first + b"\0" + second + b"\1"
 
 
 def tables_of_5(cases):
-    texts = [(".debug_str", STRINGS), (".debug_line_str", LINE_STRINGS)]
-
     def table(names, program_bytes, sizes=(4, 0)):
         line = line_table(program_bytes, 5, names, sizes)
-        return module(info=unit(version=5), line=line, others=texts)
+        return module(info=unit(version=5), line=line, others=TEXTS)
 
     for name, sizes, names, code, status, line in REFUSED_5:
         refused = table(bytes.fromhex(names), bytes.fromhex(code), sizes)
@@ -601,6 +612,8 @@ def tables_of_5(cases):
     cases.carried("version 5: fields of each kind", MAP, table(bytes.fromhex(fields), code))
     plain = bytes.fromhex("0000 010108 02 6100 6200")
     cases.carried("version 5: no directory", MAP, table(plain, code))
+    for form in (0x1A, 0x25, 0x26, 0x27, 0x28):
+        cases.carried(f"version 5: paths by an index of form {form:02X}", MAP, table(paths_by_index(form), code))
 
 
 # ---- listings of units and of line tables
@@ -689,6 +702,7 @@ def line_listings(listed):
     wide = bytes.fromhex("01 028080808010 02FFFFFFFFFFFFFFFFFF01 000101 01")
     made = line_module(line_table(wide))
     listed("lines", "an end above 32 bits", made, plain_run.listed_lines(made))
+    paths_of_units(listed)
     for version in (2, 3):
         made = line_module(changed(compiled("old_line.hex"), 4, bytes([version])), size=8)
         wanted = plain_run.listed_lines(made)
@@ -701,6 +715,23 @@ def line_listings(listed):
         wanted = compiled(f"lines_{version}.txt")
         assert wanted == plain_run.listed_lines(made)
         listed("lines", f"a compiler's table of version {version}", made, wanted)
+
+
+def paths_of_units(listed):
+    """Paths by the index of a text, from the usual base, and from the base that a unit's root says."""
+    table, line = bytes.fromhex("01 11 00 7217 0000 00"), line_table(PROGRAM, 5, paths_by_index(0x25), (4, 0))
+    made = line_module(line, 5, texts=TEXTS)
+    wanted = "table 5\ndirectory 1 b\nfile 0 0 a.c\nfile 1 1 b\n"
+    assert plain_run.listed_lines(made).startswith(wanted)
+    listed("lines", "paths by an index from the usual base", made, plain_run.listed_lines(made))
+    behind = TEXT_OFFSETS + u32(12) + TEXT_OFFSETS[4:8] + u32(5) + u32(1)
+    for base in (8, 32, 36, 40):
+        info = unit(b"\x01" + u32(base), 5)
+        sections = [(".debug_abbrev", table), (".debug_info", info), (".debug_line", line)]
+        made = sections_module(*sections, *TEXTS[:2], (".debug_str_offsets", behind))
+        wanted = f"{MALFORMED_TABLE}\n" if base > 32 else plain_run.listed_lines(made)
+        assert base != 32 or wanted.startswith("table 5\ndirectory 1 a.c\nfile 0 0 b\nfile 1 1 a.c\n")
+        listed("lines", f"paths by an index from base {base}", made, wanted)
 
 
 MORE_OPCODES = {

@@ -6,7 +6,8 @@ import json
 from dataclasses import dataclass, field, replace
 
 TAG_COMPILE_UNIT, TAG_SUBPROGRAM = 0x11, 0x2E
-AT_STMT_LIST, AT_LOW_PC, AT_HIGH_PC = 0x10, 0x11, 0x12
+AT_STMT_LIST, AT_LOW_PC, AT_HIGH_PC, AT_STR_OFFSETS_BASE = 0x10, 0x11, 0x12, 0x72
+USUAL_TEXT_BASE = 8  # behind the header of `.debug_str_offsets`
 DROPPED = (0, 0xFFFFFFFF)
 
 
@@ -128,6 +129,7 @@ class Unit:
     tag: int
     line_table: int | None
     subprograms: list  # of the begin and the length
+    text_base: int = USUAL_TEXT_BASE
 
 
 def read_units(sections):
@@ -160,7 +162,8 @@ def read_entries(reader, end, version, size, table):
         tag, children, attributes = table[code]
         values = {name: reader.number(sizes[form]) for name, form in attributes}
         if root is None:
-            root = Unit(version, size, tag, values.get(AT_STMT_LIST), subprograms)
+            base = values.get(AT_STR_OFFSETS_BASE, USUAL_TEXT_BASE)
+            root = Unit(version, size, tag, values.get(AT_STMT_LIST), subprograms, base)
             if not children:
                 break
         else:
@@ -213,7 +216,7 @@ def read_line_table(sections, unit):
     width, opcode_base = reader.number(1), reader.number(1)
     operands = [0] + list(reader.take(opcode_base - 1))
     if table.version == 5:
-        names_of_5(reader, sections, table)
+        names_of_5(reader, sections, unit.text_base, table)
     else:
         names_of_4(reader, table)
     reader = Reader(reader.data[:end], program)
@@ -229,19 +232,19 @@ def names_of_4(reader, table):
         reader.uleb(), reader.uleb()
 
 
-def names_of_5(reader, sections, table):
-    directories = entries_of_5(reader, sections)
+def names_of_5(reader, sections, text_base, table):
+    directories = entries_of_5(reader, sections, text_base)
     table.directories = [path for _, path in directories[1:]]
-    table.files = entries_of_5(reader, sections)
+    table.files = entries_of_5(reader, sections, text_base)
 
 
-def entries_of_5(reader, sections):
+def entries_of_5(reader, sections, text_base):
     formats = [(reader.uleb(), reader.uleb()) for _ in range(reader.number(1))]
     entries = []
     for _ in range(reader.uleb()):
         directory, path = 0, None
         for content, form in formats:
-            value = value_of_5(reader, sections, form)
+            value = value_of_5(reader, sections, text_base, form)
             if content == 1:
                 path = value
             elif content == 2 and isinstance(value, int):
@@ -250,9 +253,13 @@ def entries_of_5(reader, sections):
     return entries
 
 
-def value_of_5(reader, sections, form):
+def value_of_5(reader, sections, text_base, form):
     if form == 0x08:
         return reader.text()
+    if form == 0x1A or 0x25 <= form <= 0x28:
+        index = reader.uleb() if form == 0x1A else reader.number(form - 0x24)
+        offset = Reader(sections[".debug_str_offsets"], text_base + 4 * index).number(4)
+        return Reader(sections[".debug_str"], offset).text()
     if form in (0x0E, 0x1F):
         name = {0x0E: ".debug_str", 0x1F: ".debug_line_str"}[form]
         return Reader(sections[name], reader.number(4)).text()
@@ -341,7 +348,8 @@ def listed_lines(module):
     first = sections[".debug_info"]
     version = int.from_bytes(first[4:6], "little")
     size = first[7] if version == 5 else first[10]
-    table = read_line_table(sections, Unit(version, size, TAG_COMPILE_UNIT, 0, []))
+    base = read_units(sections)[0].text_base if ".debug_abbrev" in sections else USUAL_TEXT_BASE
+    table = read_line_table(sections, Unit(version, size, TAG_COMPILE_UNIT, 0, [], base))
     lines = [["table", table.version]]
     lines += [["directory", i, name.decode()] for i, name in enumerate(table.directories, 1)]
     lines += [["file", i, *pair] for i, pair in enumerate(table.files, 0 if table.version == 5 else 1)]
