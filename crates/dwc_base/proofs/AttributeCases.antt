@@ -6,7 +6,7 @@ use Rattle.dwc_base.specs.declared.records.Address.TheVariants.{Symbol}
 use Rattle.dwc_base.specs.Sections.{Sections}
 use Rattle.dwc_base.specs.Outputs.{function}
 use Rattle.dwc_base.specs.Trees.{address, constant, flag, block, text, line_table, entry, Tree}
-use Rattle.dwc_base.specs.BuiltEntries.{forest_built, first_refusal_built}
+use Rattle.dwc_base.specs.Forests.{trees_made, first_refusal}
 use Rattle.dwc_base.specs.TreeReading.{CarriesTrees}
 use Rattle.dwc_base.proofs.DraftsOnLiterals.{drafts_on_literals}
 use Rattle.dwc_base.proofs.TreeInputs.{an_input, a_compilation, an_entry, a_section}
@@ -18,11 +18,11 @@ input-name_twice = an_input (0x01 ∷ 0x11 ∷ 0x01 ∷ 0x10 ∷ 0x17 ∷ 0x00 �
 abbrev wanted-name_twice : List Tree
 wanted-name_twice = (an_entry 0 0x11 ((0x10, line_table) ∷ []) ∷ an_entry 1 0x2E ((0x11, address (Symbol 0 (pos 0))) ∷ (0x12, constant 0x0F 30) ∷ (0x03, text (0x62 ∷ [])) ∷ (0x3B, constant 0x0B 1) ∷ []) ∷ []) ∷ []
 
-forest-name_twice : forest_built (a_compilation Little input-name_twice) ≡ wanted-name_twice
+forest-name_twice : trees_made (a_compilation Little input-name_twice) ≡ wanted-name_twice
 unfolding drafts_on_literals
 forest-name_twice = refl
 
-not_refused-name_twice : first_refusal_built (a_compilation Little input-name_twice) ≡ None
+not_refused-name_twice : first_refusal (a_compilation Little input-name_twice) ≡ None
 unfolding drafts_on_literals
 not_refused-name_twice = refl
 
@@ -37,11 +37,11 @@ input-type_twice = an_input (0x01 ∷ 0x11 ∷ 0x01 ∷ 0x10 ∷ 0x17 ∷ 0x00 �
 abbrev wanted-type_twice : List Tree
 wanted-type_twice = (an_entry 0 0x11 ((0x10, line_table) ∷ []) ∷ an_entry 1 0x2E ((0x11, address (Symbol 0 (pos 0))) ∷ (0x12, constant 0x0F 30) ∷ (0x49, entry 0 2) ∷ (0x3B, constant 0x0B 1) ∷ []) ∷ an_entry 1 0x24 ((0x03, text (0x69 ∷ 0x6E ∷ 0x74 ∷ [])) ∷ []) ∷ []) ∷ []
 
-forest-type_twice : forest_built (a_compilation Little input-type_twice) ≡ wanted-type_twice
+forest-type_twice : trees_made (a_compilation Little input-type_twice) ≡ wanted-type_twice
 unfolding drafts_on_literals
 forest-type_twice = refl
 
-not_refused-type_twice : first_refusal_built (a_compilation Little input-type_twice) ≡ None
+not_refused-type_twice : first_refusal (a_compilation Little input-type_twice) ≡ None
 unfolding drafts_on_literals
 not_refused-type_twice = refl
 
@@ -56,11 +56,11 @@ input-type_and_text = an_input (0x01 ∷ 0x11 ∷ 0x01 ∷ 0x10 ∷ 0x17 ∷ 0x0
 abbrev wanted-type_and_text : List Tree
 wanted-type_and_text = (an_entry 0 0x11 ((0x10, line_table) ∷ []) ∷ an_entry 1 0x2E ((0x11, address (Symbol 0 (pos 0))) ∷ (0x12, constant 0x0F 30) ∷ (0x49, entry 0 2) ∷ []) ∷ an_entry 1 0x24 ((0x03, text (0x69 ∷ 0x6E ∷ 0x74 ∷ [])) ∷ []) ∷ []) ∷ []
 
-forest-type_and_text : forest_built (a_compilation Little input-type_and_text) ≡ wanted-type_and_text
+forest-type_and_text : trees_made (a_compilation Little input-type_and_text) ≡ wanted-type_and_text
 unfolding drafts_on_literals
 forest-type_and_text = refl
 
-not_refused-type_and_text : first_refusal_built (a_compilation Little input-type_and_text) ≡ None
+not_refused-type_and_text : first_refusal (a_compilation Little input-type_and_text) ≡ None
 unfolding drafts_on_literals
 not_refused-type_and_text = refl
 
@@ -75,11 +75,11 @@ input-constants = an_input (0x01 ∷ 0x11 ∷ 0x01 ∷ 0x10 ∷ 0x17 ∷ 0x00 �
 abbrev wanted-constants : List Tree
 wanted-constants = (an_entry 0 0x11 ((0x10, line_table) ∷ []) ∷ an_entry 1 0x2E ((0x11, address (Symbol 0 (pos 0))) ∷ (0x12, constant 0x0F 30) ∷ (0x1C, constant 0x0B 255) ∷ (0x13, constant 0x05 65535) ∷ (0x3B, constant 0x06 4294967295) ∷ (0x0B, constant 0x07 18446744073709551615) ∷ (0x3E, constant 0x0F 1099511627776) ∷ (0x22, constant 0x0D 18446744073709551614) ∷ (0x2F, constant 0x0D 18446744073709551613) ∷ (0x37, constant 0x0D 5) ∷ (0x39, constant 0x05 9) ∷ (0x2D, constant 0x0D 18446744073709551615) ∷ []) ∷ []) ∷ []
 
-forest-constants : forest_built (a_compilation Little input-constants) ≡ wanted-constants
+forest-constants : trees_made (a_compilation Little input-constants) ≡ wanted-constants
 unfolding drafts_on_literals
 forest-constants = refl
 
-not_refused-constants : first_refusal_built (a_compilation Little input-constants) ≡ None
+not_refused-constants : first_refusal (a_compilation Little input-constants) ≡ None
 unfolding drafts_on_literals
 not_refused-constants = refl
 
@@ -94,11 +94,11 @@ input-flags = an_input (0x01 ∷ 0x11 ∷ 0x01 ∷ 0x10 ∷ 0x17 ∷ 0x00 ∷ 0x
 abbrev wanted-flags : List Tree
 wanted-flags = (an_entry 0 0x11 ((0x10, line_table) ∷ []) ∷ an_entry 1 0x2E ((0x11, address (Symbol 0 (pos 0))) ∷ (0x12, constant 0x0F 30) ∷ (0x3F, flag false) ∷ (0x3C, flag true) ∷ (0x34, flag true) ∷ []) ∷ []) ∷ []
 
-forest-flags : forest_built (a_compilation Little input-flags) ≡ wanted-flags
+forest-flags : trees_made (a_compilation Little input-flags) ≡ wanted-flags
 unfolding drafts_on_literals
 forest-flags = refl
 
-not_refused-flags : first_refusal_built (a_compilation Little input-flags) ≡ None
+not_refused-flags : first_refusal (a_compilation Little input-flags) ≡ None
 unfolding drafts_on_literals
 not_refused-flags = refl
 
@@ -113,11 +113,11 @@ input-blocks = an_input (0x01 ∷ 0x11 ∷ 0x01 ∷ 0x10 ∷ 0x17 ∷ 0x00 ∷ 0
 abbrev wanted-blocks : List Tree
 wanted-blocks = (an_entry 0 0x11 ((0x10, line_table) ∷ []) ∷ an_entry 1 0x2E ((0x11, address (Symbol 0 (pos 0))) ∷ (0x12, constant 0x0F 30) ∷ (0x1C, block (0x01 ∷ [])) ∷ (0x2004, block (0x02 ∷ 0x03 ∷ [])) ∷ (0x2005, block ([])) ∷ (0x2006, block (0x04 ∷ [])) ∷ []) ∷ []) ∷ []
 
-forest-blocks : forest_built (a_compilation Little input-blocks) ≡ wanted-blocks
+forest-blocks : trees_made (a_compilation Little input-blocks) ≡ wanted-blocks
 unfolding drafts_on_literals
 forest-blocks = refl
 
-not_refused-blocks : first_refusal_built (a_compilation Little input-blocks) ≡ None
+not_refused-blocks : first_refusal (a_compilation Little input-blocks) ≡ None
 unfolding drafts_on_literals
 not_refused-blocks = refl
 
@@ -132,11 +132,11 @@ input-dropped_forms = an_input (0x01 ∷ 0x11 ∷ 0x01 ∷ 0x10 ∷ 0x17 ∷ 0x0
 abbrev wanted-dropped_forms : List Tree
 wanted-dropped_forms = (an_entry 0 0x11 ((0x10, line_table) ∷ []) ∷ an_entry 1 0x2E ((0x11, address (Symbol 0 (pos 0))) ∷ (0x12, constant 0x0F 30) ∷ (0x3A, text (0x78 ∷ [])) ∷ []) ∷ []) ∷ []
 
-forest-dropped_forms : forest_built (a_compilation Little input-dropped_forms) ≡ wanted-dropped_forms
+forest-dropped_forms : trees_made (a_compilation Little input-dropped_forms) ≡ wanted-dropped_forms
 unfolding drafts_on_literals
 forest-dropped_forms = refl
 
-not_refused-dropped_forms : first_refusal_built (a_compilation Little input-dropped_forms) ≡ None
+not_refused-dropped_forms : first_refusal (a_compilation Little input-dropped_forms) ≡ None
 unfolding drafts_on_literals
 not_refused-dropped_forms = refl
 
@@ -151,11 +151,11 @@ input-dropped_names = an_input (0x01 ∷ 0x11 ∷ 0x01 ∷ 0x10 ∷ 0x17 ∷ 0x0
 abbrev wanted-dropped_names : List Tree
 wanted-dropped_names = (an_entry 0 0x11 ((0x10, line_table) ∷ []) ∷ an_entry 1 0x2E ((0x11, address (Symbol 0 (pos 0))) ∷ (0x12, constant 0x0F 30) ∷ []) ∷ []) ∷ []
 
-forest-dropped_names : forest_built (a_compilation Little input-dropped_names) ≡ wanted-dropped_names
+forest-dropped_names : trees_made (a_compilation Little input-dropped_names) ≡ wanted-dropped_names
 unfolding drafts_on_literals
 forest-dropped_names = refl
 
-not_refused-dropped_names : first_refusal_built (a_compilation Little input-dropped_names) ≡ None
+not_refused-dropped_names : first_refusal (a_compilation Little input-dropped_names) ≡ None
 unfolding drafts_on_literals
 not_refused-dropped_names = refl
 

@@ -5,7 +5,7 @@ use Rattle.std.specs.Option.{option_or, is_some}
 use Rattle.std.proofs.Common.{zero, suc, ap, sym, ◌∙◌, lit<}
 use Rattle.std.proofs.Math.Dec.{leb-zero}
 use Rattle.std.proofs.lemmas.Bool.{false≢true, true≢false}
-use Rattle.dwc_base.proofs.OnLiterals.{lines_on_literals}
+use Rattle.dwc_base.proofs.DraftsOnLiterals.{drafts_on_literals}
 use Rattle.dwc_base.proofs.Readings.{three_sections, sections_small, header_small}
 use Rattle.dwc_base.proofs.Numbers.{at_place}
 use Rattle.dwc_base.proofs.LineTables.{line_in, function_small, segments_small, at_line, line_of_a_c}
@@ -18,7 +18,9 @@ use Rattle.dwc_base.specs.Values.{address, constant, line_reference}
 use Rattle.dwc_base.specs.LineRows.{Segment, row_in_force}
 use Rattle.dwc_base.specs.Images.{row_for_byte, IsImage}
 use Rattle.dwc_base.specs.Outputs.{OutputSection, function, section, output_sections}
-use Rattle.dwc_base.specs.Carried.{Unit, units, Module, Compilation, CarriedUnit, carried_units, AreImages, CarriesUnit, LinesCarried}
+use Rattle.dwc_base.specs.Carried.{Unit, units, Module, Compilation, CarriedUnit}
+use Rattle.dwc_base.specs.Forests.{carried_units}
+use Rattle.dwc_base.specs.LinesCarried.{AreImages, LinesCarried}
 
 abbrev pub output_small : List OutputSection
 output_small =
@@ -55,22 +57,22 @@ unit_out = record { header = header_out; entries = record { offset = 11; depth =
 
 -- the small module has one unit, and it is carried
 pub carried-small : carried_units compilation_small ≡ record { module_of = module_small; unit = unit_small } ∷ []
-unfolding lines_on_literals
+unfolding drafts_on_literals
 carried-small = refl
 
 pub output-read : units (output_sections Little output_small) ≡ record { items = unit_out ∷ []; fault = None }
-unfolding lines_on_literals
+unfolding drafts_on_literals
 output-read = refl
 
 abbrev pub image_small : Segment
 image_small = record { start = Symbol 0 (pos 0); rows = at_line 0 2 ∷ at_line 15 3 ∷ []; end = Some 30 }
 
 pub images-read : Rattle.dwc_base.specs.Carried.segments_of_unit (output_sections Little output_small) unit_out ≡ Ok (image_small ∷ [])
-unfolding lines_on_literals
+unfolding drafts_on_literals
 images-read = refl
 
 pub input-read : Rattle.dwc_base.specs.Carried.segments_of_unit sections_small unit_small ≡ Ok segments_small
-unfolding lines_on_literals
+unfolding drafts_on_literals
 input-read = refl
 
 -- whether the test at 15 and the one at 5 hold or not
@@ -99,13 +101,13 @@ images-small = record { input = segments_small; input_read = input-read; each = 
 
 -- the small module's units are read up to their section's end
 whole-small : All (λ m. (units m.sections).fault ≡ None) compilation_small.modules
-unfolding lines_on_literals
+unfolding drafts_on_literals
 whole-small zero d h = refl
 whole-small (suc k) d h = absurd (omega arith)
 
 -- the output carries the lines of the small module
 pub lines_carried-small : LinesCarried compilation_small output_small
-unfolding lines_on_literals
+unfolding drafts_on_literals
 lines_carried-small = record { whole = whole-small; output = unit_out ∷ []; output_read = output-read; each = (record { images = image_small ∷ []; images_read = images-read; carried = images-small }, tt) }
 
 -- with another line at byte 15 it is no image
@@ -122,11 +124,11 @@ abbrev pub compilation_64 : Compilation
 compilation_64 = record { order = Little; pointer_bytes = 8; modules = record { sections = three_sections [] (0xFF ∷ 0xFF ∷ 0xFF ∷ 0xFF ∷ []) []; functions = function_small ∷ []; compressed = None } ∷ [] }
 
 units-64 : carried_units compilation_64 ≡ []
-unfolding lines_on_literals
+unfolding drafts_on_literals
 units-64 = refl
 
 fault-64 : All (λ m. (units m.sections).fault ≡ Some (unsupported Format64 0)) compilation_64.modules
-unfolding lines_on_literals
+unfolding drafts_on_literals
 fault-64 zero d h = refl
 fault-64 (suc k) d h = absurd (omega arith)
 

@@ -4,6 +4,8 @@ use Rattle.std.specs.Prelude.{map}
 use Rattle.dwc_base.proofs.OnLiterals.{units_on_literals, lines_on_literals, files_on_literals}
 use Rattle.dwc_base.proofs.Numbers.{at_start, at_place}
 use Rattle.dwc_base.proofs.SmallModule.{abbreviations_small, info_small}
+use Rattle.dwc_base.proofs.DraftsOnLiterals.{drafts_on_literals}
+use Rattle.std.specs.List.{filter}
 use Rattle.dwc_base.proofs.Readings.{three_sections, sections_small, header_small}
 use Rattle.dwc_base.proofs.LineTables.{segments_read, at_line, a_c, line_of_a_c}
 use Rattle.dwc_base.specs.declared.records.Endian.TheVariants.{Little}
@@ -21,7 +23,9 @@ use Rattle.dwc_base.specs.Values.{Value, constant, expression, block, text, flag
 use Rattle.dwc_base.specs.Entries.{entries}
 use Rattle.dwc_base.specs.LineRows.{line_table}
 use Rattle.dwc_base.specs.Functions.{Function}
-use Rattle.dwc_base.specs.Kept.{Placed, kept_entries}
+use Rattle.dwc_base.specs.Kept.{Placed}
+use Rattle.dwc_base.specs.KeptEntries.{kept_with}
+use Rattle.dwc_base.specs.EntryRules.{is_required}
 use Rattle.dwc_base.specs.Wasm.{WasmModule, wasm_module}
 
 -- ---- unit headers
@@ -313,9 +317,14 @@ some_function = record { number = 0; symbol = Some 0; start = 2; end = 13; lengt
 abbrev pub tree : List Placed
 tree = placed 11 0 0x11 [] ∷ placed 16 1 0x2E ((0x11, Rattle.dwc_base.specs.Values.address (Constant 2)) ∷ []) ∷ placed 21 2 0x05 ((0x49, unit_reference 30) ∷ []) ∷ placed 30 1 0x24 [] ∷ placed 35 1 0x24 [] ∷ []
 
-kept-tree : map (λ p. p.entry.offset) (kept_entries (some_function ∷ []) tree) ≡ 11 ∷ 16 ∷ 21 ∷ 30 ∷ []
+abbrev pub kept_offsets : List Function → List ℕ
+kept_offsets fs = map (λ p. p.entry.offset) (kept_with tree (filter (λ p. is_required fs (three_sections [] [] []) header_small p.entry) tree))
+
+kept-tree : kept_offsets (some_function ∷ []) ≡ 11 ∷ 16 ∷ 21 ∷ 30 ∷ []
+unfolding drafts_on_literals
 kept-tree = refl
 
 -- without a function nothing is kept
-kept-nothing : map (λ p. p.entry.offset) (kept_entries [] tree) ≡ []
+kept-nothing : kept_offsets [] ≡ []
+unfolding drafts_on_literals
 kept-nothing = refl

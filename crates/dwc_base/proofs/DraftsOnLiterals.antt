@@ -8,11 +8,11 @@ use Rattle.dwc_base.specs.KeptEntries.{kept_with}
 use Rattle.dwc_base.specs.KeptModules.{kept_module}
 use Rattle.dwc_base.specs.Clones.{value_becomes, bound_becomes, attribute_becomes, attributes_become, attributes_made, entry_refusals}
 use Rattle.dwc_base.specs.CarriedDrafts.{source_of, carried_drafts}
-use Rattle.dwc_base.specs.ReachedEntries.{info_refusals, kept_refusals, module_refusals}
-use Rattle.dwc_base.specs.BuiltEntries.{function_begun}
+use Rattle.dwc_base.specs.ReachedEntries.{info_faults, kept_refusals, module_refusals}
+use Rattle.dwc_base.specs.EntryRules.{function_begun, named_faults}
 use Rattle.dwc_base.specs.DraftForests.{forest}
 use Rattle.dwc_base.specs.TreeReading.{value_said, unit_said, trees}
 
 unfoldable pub drafts_on_literals : ℕ
-unfolding lines_on_literals text_elsewhere text_named path_text root_offsets offset_of_root index_base address_from address_named texts_of_unit target_of entry_begun_at kept_with kept_module value_becomes bound_becomes attribute_becomes attributes_become attributes_made entry_refusals source_of carried_drafts info_refusals kept_refusals module_refusals function_begun forest value_said unit_said trees
+unfolding lines_on_literals text_elsewhere text_named path_text root_offsets offset_of_root index_base address_from address_named texts_of_unit target_of entry_begun_at kept_with kept_module value_becomes bound_becomes attribute_becomes attributes_become attributes_made entry_refusals source_of carried_drafts info_faults kept_refusals module_refusals function_begun named_faults forest value_said unit_said trees
 drafts_on_literals = 0

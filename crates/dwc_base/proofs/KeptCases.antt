@@ -1,12 +1,17 @@
 -- Which functions own an address, which entries are required, and which are kept with them.
 use Rattle.std.proofs.Common.{◌≡◌, ℕ, List, [], ◌∷◌, Some, None, true, false, refl}
-use Rattle.std.specs.Prelude.{Option, map, option_map}
+use Rattle.std.specs.List.{filter}
+use Rattle.std.specs.Prelude.{Bool, Option, map, option_map}
 use Rattle.dwc_base.specs.declared.records.Address.TheVariants.{Constant}
 use Rattle.dwc_base.specs.declared.constants.TheConstants.{DW_AT_low_pc, DW_AT_ranges, DW_AT_sibling, DW_FORM_data4, DW_TAG_base_type, DW_TAG_compile_unit, DW_TAG_formal_parameter, DW_TAG_lexical_block, DW_TAG_member, DW_TAG_namespace, DW_TAG_structure_type, DW_TAG_subprogram, DW_TAG_variable}
 use Rattle.dwc_base.specs.Values.{Value, address, constant, info_reference, range_reference, unit_reference}
 use Rattle.dwc_base.specs.Entries.{Entry}
 use Rattle.dwc_base.specs.Functions.{Function, owner, function_at}
-use Rattle.dwc_base.specs.Kept.{Placed, is_required, kept_entries}
+use Rattle.dwc_base.specs.Kept.{Placed}
+use Rattle.dwc_base.specs.KeptEntries.{kept_with}
+use Rattle.dwc_base.specs.EntryRules.{is_required}
+use Rattle.dwc_base.proofs.DraftsOnLiterals.{drafts_on_literals}
+use Rattle.dwc_base.proofs.Readings.{three_sections, header_small}
 
 -- ---- owners: three functions, of which the second and third start at one place and the third has no symbol
 
@@ -42,29 +47,41 @@ an_entry tag attributes = record { offset = 16; depth = 1; tag = tag; attributes
 abbrev pub begins : ℕ → ℕ × Value
 begins a = (DW_AT_low_pc, address (Constant a))
 
-required : is_required three (an_entry DW_TAG_subprogram (begins 2 ∷ [])) ≡ true
+-- whether an entry of a unit without addresses by an index is required
+abbrev pub is_required_here : Entry → Bool
+is_required_here e = is_required three (three_sections [] [] []) header_small e
+
+required : is_required_here (an_entry DW_TAG_subprogram (begins 2 ∷ [])) ≡ true
+unfolding drafts_on_literals
 required = refl
 
-not_required-unlinked : is_required three (an_entry DW_TAG_subprogram (begins 0xFFFFFFFF ∷ [])) ≡ false
+not_required-unlinked : is_required_here (an_entry DW_TAG_subprogram (begins 0xFFFFFFFF ∷ [])) ≡ false
+unfolding drafts_on_literals
 not_required-unlinked = refl
 
-not_required-no_symbol : is_required three (an_entry DW_TAG_subprogram (begins 20 ∷ [])) ≡ false
+not_required-no_symbol : is_required_here (an_entry DW_TAG_subprogram (begins 20 ∷ [])) ≡ false
+unfolding drafts_on_literals
 not_required-no_symbol = refl
 
-not_required-no_begin : is_required three (an_entry DW_TAG_subprogram []) ≡ false
+not_required-no_begin : is_required_here (an_entry DW_TAG_subprogram []) ≡ false
+unfolding drafts_on_literals
 not_required-no_begin = refl
 
-not_required-constant : is_required three (an_entry DW_TAG_subprogram ((DW_AT_low_pc, constant DW_FORM_data4 2) ∷ [])) ≡ false
+not_required-constant : is_required_here (an_entry DW_TAG_subprogram ((DW_AT_low_pc, constant DW_FORM_data4 2) ∷ [])) ≡ false
+unfolding drafts_on_literals
 not_required-constant = refl
 
-not_required-other_tag : is_required three (an_entry DW_TAG_lexical_block (begins 2 ∷ [])) ≡ false
+not_required-other_tag : is_required_here (an_entry DW_TAG_lexical_block (begins 2 ∷ [])) ≡ false
+unfolding drafts_on_literals
 not_required-other_tag = refl
 
-not_required-ranges : is_required three (an_entry DW_TAG_subprogram (begins 2 ∷ (DW_AT_ranges, range_reference 0) ∷ [])) ≡ false
+not_required-ranges : is_required_here (an_entry DW_TAG_subprogram (begins 2 ∷ (DW_AT_ranges, range_reference 0) ∷ [])) ≡ false
+unfolding drafts_on_literals
 not_required-ranges = refl
 
 -- of two begins the first counts
-not_required-second_begin : is_required three (an_entry DW_TAG_subprogram (begins 0 ∷ begins 2 ∷ [])) ≡ false
+not_required-second_begin : is_required_here (an_entry DW_TAG_subprogram (begins 0 ∷ begins 2 ∷ [])) ≡ false
+unfolding drafts_on_literals
 not_required-second_begin = refl
 
 -- ---- kept entries
@@ -77,7 +94,7 @@ abbrev pub at_unit : ℕ → ℕ → ℕ → ℕ → List (ℕ × Value) → Pla
 at_unit unit offset depth tag attributes = record { unit = unit; entry = record { offset = offset; depth = depth; tag = tag; attributes = attributes } }
 
 abbrev pub kept_offsets : List Placed → List ℕ
-kept_offsets es = map (λ p. p.entry.offset) (kept_entries three es)
+kept_offsets es = map (λ p. p.entry.offset) (kept_with es (filter (λ p. is_required_here p.entry) es))
 
 -- A variable is kept in a subprogram and in a block of one, not below a root or a namespace; a namespace is kept as the
 -- parent of what is kept.
@@ -88,6 +105,7 @@ variables =
     ∷ at_unit 0 70 3 DW_TAG_lexical_block [] ∷ at_unit 0 80 4 DW_TAG_variable [] ∷ at_unit 0 90 1 DW_TAG_namespace [] ∷ []
 
 kept-variables : kept_offsets variables ≡ 11 ∷ 30 ∷ 50 ∷ 60 ∷ 70 ∷ 80 ∷ []
+unfolding drafts_on_literals
 kept-variables = refl
 
 -- A reference into another unit keeps what it names, its parents and its members, though that unit has no subprogram; a
@@ -99,16 +117,20 @@ two_units =
     ∷ at_unit 100 130 2 DW_TAG_member ((type, unit_reference 50) ∷ (type, unit_reference 70) ∷ []) ∷ at_unit 100 150 1 DW_TAG_base_type [] ∷ []
 
 kept-two_units : kept_offsets two_units ≡ 11 ∷ 20 ∷ 111 ∷ 120 ∷ 130 ∷ 150 ∷ []
+unfolding drafts_on_literals
 kept-two_units = refl
 
 -- a reference to a place where no entry begins keeps nothing
 kept-no_target : kept_offsets (at_unit 0 11 0 DW_TAG_compile_unit [] ∷ at_unit 0 20 1 DW_TAG_subprogram (begins 2 ∷ (type, unit_reference 21) ∷ []) ∷ at_unit 0 30 1 DW_TAG_base_type [] ∷ []) ≡ 11 ∷ 20 ∷ []
+unfolding drafts_on_literals
 kept-no_target = refl
 
 -- the parent is the last earlier entry of depth one less: the second subprogram's parameter keeps the second alone
 kept-parent : kept_offsets (at_unit 0 11 0 DW_TAG_compile_unit [] ∷ at_unit 0 20 1 DW_TAG_subprogram [] ∷ at_unit 0 30 1 DW_TAG_subprogram (begins 2 ∷ []) ∷ at_unit 0 40 2 DW_TAG_formal_parameter [] ∷ []) ≡ 11 ∷ 30 ∷ 40 ∷ []
+unfolding drafts_on_literals
 kept-parent = refl
 
 -- entries that refer to one another in a circle are kept only from a required one on
 kept-circle : kept_offsets (at_unit 0 11 0 DW_TAG_compile_unit [] ∷ at_unit 0 20 1 DW_TAG_structure_type ((type, unit_reference 30) ∷ []) ∷ at_unit 0 30 1 DW_TAG_structure_type ((type, unit_reference 20) ∷ []) ∷ []) ≡ []
+unfolding drafts_on_literals
 kept-circle = refl

@@ -6,7 +6,6 @@ pub mod LineTables
 pub mod CarriedSmall
 pub mod Cases
 pub mod Variants
-pub mod BuiltForms
 pub mod Walks
 pub mod Items
 pub mod Widths
@@ -47,3 +46,10 @@ pub mod TreeInputs
 pub mod ReferenceCases
 pub mod TextCases
 pub mod AttributeCases
+pub mod RefusalCases
+pub mod ForestLaws
+pub mod ForestTargets
+pub mod OnLists
+pub mod SmallLists
+pub mod RunCases
+pub mod ListCases

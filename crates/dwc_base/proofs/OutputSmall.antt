@@ -6,6 +6,8 @@ use Rattle.std.proofs.lemmas.List.Kept.{AllPairs-cons}
 use Rattle.dwc_base.specs.declared.records.Endian.TheVariants.{Little}
 use Rattle.dwc_base.specs.Outputs.{OutputSection, output_sections}
 use Rattle.dwc_base.specs.Carried.{Unit, units}
+use Rattle.dwc_base.specs.TreeLaws.{HasAllTargets, HasTextsOnce}
+use Rattle.dwc_base.proofs.DraftsOnLiterals.{drafts_on_literals}
 use Rattle.dwc_base.specs.OutputForm.{HaveTargetForm, HasDistinctNames}
 use Rattle.dwc_base.specs.OutputCarried.{OutputCarried}
 use Rattle.dwc_base.proofs.CarriedSmall.{unit_out, output-read, output_small, compilation_small, lines_carried-small}
@@ -49,12 +51,21 @@ names-small =
     (AllPairs-cons Differ second (third ∷ []) (All-cons (Differ second) third [] (λ e. apart-3 (ap letter e)) (All-nil (Differ second)))
     (AllPairs-cons Differ third [] (All-nil (Differ third)) none-differ))
 
+pub targets-small : HasAllTargets (tree_small ∷ [])
+targets-small = refl
+
+pub texts-small : HasTextsOnce (output_sections Little output_small)
+unfolding drafts_on_literals
+texts-small = refl
+
 output_carried-small : OutputCarried compilation_small output_small
 output_carried-small = record {
   lines = lines_carried-small;
   wanted = tree_small ∷ [];
   is_forest = forest-small;
   trees = carries-small;
+  targets = targets-small;
+  texts = texts-small;
   form = form-small;
   names = names-small;
   relocated = related-small;

@@ -6,7 +6,7 @@ use Rattle.dwc_base.specs.declared.records.Address.TheVariants.{Symbol}
 use Rattle.dwc_base.specs.Sections.{Sections}
 use Rattle.dwc_base.specs.Outputs.{function}
 use Rattle.dwc_base.specs.Trees.{address, constant, text, line_table, entry, Tree}
-use Rattle.dwc_base.specs.BuiltEntries.{forest_built, first_refusal_built}
+use Rattle.dwc_base.specs.Forests.{trees_made, first_refusal}
 use Rattle.dwc_base.specs.TreeReading.{CarriesTrees}
 use Rattle.dwc_base.proofs.DraftsOnLiterals.{drafts_on_literals}
 use Rattle.dwc_base.proofs.TreeInputs.{an_input, a_compilation, an_entry, a_section}
@@ -18,11 +18,11 @@ input-row = an_input (0x01 ∷ 0x11 ∷ 0x01 ∷ 0x10 ∷ 0x17 ∷ 0x00 ∷ 0x00
 abbrev wanted-row : List Tree
 wanted-row = (an_entry 0 0x11 ((0x10, line_table) ∷ []) ∷ an_entry 1 0x2E ((0x11, address (Symbol 0 (pos 0))) ∷ (0x12, constant 0x0F 30) ∷ (0x03, text (0x66 ∷ [])) ∷ (0x49, entry 0 2) ∷ []) ∷ an_entry 1 0x24 ((0x03, text (0x69 ∷ 0x6E ∷ 0x74 ∷ [])) ∷ []) ∷ []) ∷ []
 
-forest-row : forest_built (a_compilation Little input-row) ≡ wanted-row
+forest-row : trees_made (a_compilation Little input-row) ≡ wanted-row
 unfolding drafts_on_literals
 forest-row = refl
 
-not_refused-row : first_refusal_built (a_compilation Little input-row) ≡ None
+not_refused-row : first_refusal (a_compilation Little input-row) ≡ None
 unfolding drafts_on_literals
 not_refused-row = refl
 
@@ -37,11 +37,11 @@ input-nowhere = an_input (0x01 ∷ 0x11 ∷ 0x01 ∷ 0x10 ∷ 0x17 ∷ 0x00 ∷ 
 abbrev wanted-nowhere : List Tree
 wanted-nowhere = (an_entry 0 0x11 ((0x10, line_table) ∷ []) ∷ an_entry 1 0x2E ((0x11, address (Symbol 0 (pos 0))) ∷ (0x12, constant 0x0F 30) ∷ (0x03, text (0x66 ∷ [])) ∷ []) ∷ []) ∷ []
 
-forest-nowhere : forest_built (a_compilation Little input-nowhere) ≡ wanted-nowhere
+forest-nowhere : trees_made (a_compilation Little input-nowhere) ≡ wanted-nowhere
 unfolding drafts_on_literals
 forest-nowhere = refl
 
-not_refused-nowhere : first_refusal_built (a_compilation Little input-nowhere) ≡ None
+not_refused-nowhere : first_refusal (a_compilation Little input-nowhere) ≡ None
 unfolding drafts_on_literals
 not_refused-nowhere = refl
 
@@ -56,11 +56,11 @@ input-across = an_input (0x01 ∷ 0x11 ∷ 0x01 ∷ 0x10 ∷ 0x17 ∷ 0x00 ∷ 0
 abbrev wanted-across : List Tree
 wanted-across = (an_entry 0 0x11 ((0x10, line_table) ∷ []) ∷ an_entry 1 0x2E ((0x11, address (Symbol 0 (pos 0))) ∷ (0x12, constant 0x0F 30) ∷ (0x49, entry 1 1) ∷ []) ∷ an_entry 1 0x24 ((0x03, text (0x69 ∷ 0x6E ∷ 0x74 ∷ [])) ∷ []) ∷ []) ∷ (an_entry 0 0x11 ([]) ∷ an_entry 1 0x13 ((0x03, text (0x53 ∷ [])) ∷ []) ∷ an_entry 2 0x0D ((0x49, entry 0 2) ∷ (0x1D, entry 1 1) ∷ []) ∷ []) ∷ []
 
-forest-across : forest_built (a_compilation Little input-across) ≡ wanted-across
+forest-across : trees_made (a_compilation Little input-across) ≡ wanted-across
 unfolding drafts_on_literals
 forest-across = refl
 
-not_refused-across : first_refusal_built (a_compilation Little input-across) ≡ None
+not_refused-across : first_refusal (a_compilation Little input-across) ≡ None
 unfolding drafts_on_literals
 not_refused-across = refl
 
@@ -75,11 +75,11 @@ input-past_unit = an_input (0x01 ∷ 0x11 ∷ 0x01 ∷ 0x10 ∷ 0x17 ∷ 0x00 �
 abbrev wanted-past_unit : List Tree
 wanted-past_unit = (an_entry 0 0x11 ((0x10, line_table) ∷ []) ∷ an_entry 1 0x2E ((0x11, address (Symbol 0 (pos 0))) ∷ (0x12, constant 0x0F 30) ∷ []) ∷ []) ∷ (an_entry 0 0x11 ([]) ∷ an_entry 1 0x2E ((0x11, address (Symbol 0 (pos 0))) ∷ (0x12, constant 0x0F 30) ∷ []) ∷ []) ∷ []
 
-forest-past_unit : forest_built (a_compilation Little input-past_unit) ≡ wanted-past_unit
+forest-past_unit : trees_made (a_compilation Little input-past_unit) ≡ wanted-past_unit
 unfolding drafts_on_literals
 forest-past_unit = refl
 
-not_refused-past_unit : first_refusal_built (a_compilation Little input-past_unit) ≡ None
+not_refused-past_unit : first_refusal (a_compilation Little input-past_unit) ≡ None
 unfolding drafts_on_literals
 not_refused-past_unit = refl
 
@@ -94,11 +94,11 @@ input-to_partial = an_input (0x01 ∷ 0x11 ∷ 0x01 ∷ 0x10 ∷ 0x17 ∷ 0x00 �
 abbrev wanted-to_partial : List Tree
 wanted-to_partial = (an_entry 0 0x11 ((0x10, line_table) ∷ []) ∷ an_entry 1 0x2E ((0x11, address (Symbol 0 (pos 0))) ∷ (0x12, constant 0x0F 30) ∷ (0x03, text (0x66 ∷ [])) ∷ []) ∷ []) ∷ []
 
-forest-to_partial : forest_built (a_compilation Little input-to_partial) ≡ wanted-to_partial
+forest-to_partial : trees_made (a_compilation Little input-to_partial) ≡ wanted-to_partial
 unfolding drafts_on_literals
 forest-to_partial = refl
 
-not_refused-to_partial : first_refusal_built (a_compilation Little input-to_partial) ≡ None
+not_refused-to_partial : first_refusal (a_compilation Little input-to_partial) ≡ None
 unfolding drafts_on_literals
 not_refused-to_partial = refl
 
@@ -113,11 +113,11 @@ input-root_alone = an_input (0x01 ∷ 0x11 ∷ 0x01 ∷ 0x10 ∷ 0x17 ∷ 0x00 �
 abbrev wanted-root_alone : List Tree
 wanted-root_alone = (an_entry 0 0x11 ((0x10, line_table) ∷ []) ∷ an_entry 1 0x2E ((0x11, address (Symbol 0 (pos 0))) ∷ (0x12, constant 0x0F 30) ∷ (0x31, entry 1 0) ∷ []) ∷ []) ∷ (an_entry 0 0x11 ((0x03, text (0x75 ∷ [])) ∷ []) ∷ []) ∷ []
 
-forest-root_alone : forest_built (a_compilation Little input-root_alone) ≡ wanted-root_alone
+forest-root_alone : trees_made (a_compilation Little input-root_alone) ≡ wanted-root_alone
 unfolding drafts_on_literals
 forest-root_alone = refl
 
-not_refused-root_alone : first_refusal_built (a_compilation Little input-root_alone) ≡ None
+not_refused-root_alone : first_refusal (a_compilation Little input-root_alone) ≡ None
 unfolding drafts_on_literals
 not_refused-root_alone = refl
 
@@ -132,11 +132,11 @@ input-to_itself = an_input (0x01 ∷ 0x11 ∷ 0x01 ∷ 0x10 ∷ 0x17 ∷ 0x00 �
 abbrev wanted-to_itself : List Tree
 wanted-to_itself = (an_entry 0 0x11 ((0x10, line_table) ∷ []) ∷ an_entry 1 0x2E ((0x11, address (Symbol 0 (pos 0))) ∷ (0x12, constant 0x0F 30) ∷ (0x31, entry 0 1) ∷ (0x47, entry 0 1) ∷ (0x18, entry 0 1) ∷ (0x64, entry 0 1) ∷ []) ∷ []) ∷ []
 
-forest-to_itself : forest_built (a_compilation Little input-to_itself) ≡ wanted-to_itself
+forest-to_itself : trees_made (a_compilation Little input-to_itself) ≡ wanted-to_itself
 unfolding drafts_on_literals
 forest-to_itself = refl
 
-not_refused-to_itself : first_refusal_built (a_compilation Little input-to_itself) ≡ None
+not_refused-to_itself : first_refusal (a_compilation Little input-to_itself) ≡ None
 unfolding drafts_on_literals
 not_refused-to_itself = refl
 
@@ -151,11 +151,11 @@ input-sibling = an_input (0x01 ∷ 0x11 ∷ 0x01 ∷ 0x10 ∷ 0x17 ∷ 0x00 ∷ 
 abbrev wanted-sibling : List Tree
 wanted-sibling = (an_entry 0 0x11 ((0x10, line_table) ∷ []) ∷ an_entry 1 0x2E ((0x11, address (Symbol 0 (pos 0))) ∷ (0x12, constant 0x0F 30) ∷ []) ∷ []) ∷ []
 
-forest-sibling : forest_built (a_compilation Little input-sibling) ≡ wanted-sibling
+forest-sibling : trees_made (a_compilation Little input-sibling) ≡ wanted-sibling
 unfolding drafts_on_literals
 forest-sibling = refl
 
-not_refused-sibling : first_refusal_built (a_compilation Little input-sibling) ≡ None
+not_refused-sibling : first_refusal (a_compilation Little input-sibling) ≡ None
 unfolding drafts_on_literals
 not_refused-sibling = refl
 
@@ -170,11 +170,11 @@ input-order = an_input (0x01 ∷ 0x11 ∷ 0x01 ∷ 0x10 ∷ 0x17 ∷ 0x00 ∷ 0x
 abbrev wanted-order : List Tree
 wanted-order = (an_entry 0 0x11 ((0x10, line_table) ∷ []) ∷ an_entry 1 0x2E ((0x11, address (Symbol 0 (pos 0))) ∷ (0x12, constant 0x0F 30) ∷ (0x03, text (0x66 ∷ [])) ∷ (0x3B, constant 0x0B 7) ∷ []) ∷ []) ∷ []
 
-forest-order : forest_built (a_compilation Little input-order) ≡ wanted-order
+forest-order : trees_made (a_compilation Little input-order) ≡ wanted-order
 unfolding drafts_on_literals
 forest-order = refl
 
-not_refused-order : first_refusal_built (a_compilation Little input-order) ≡ None
+not_refused-order : first_refusal (a_compilation Little input-order) ≡ None
 unfolding drafts_on_literals
 not_refused-order = refl
 
@@ -189,11 +189,11 @@ input-two_functions = an_input (0x01 ∷ 0x11 ∷ 0x01 ∷ 0x10 ∷ 0x17 ∷ 0x0
 abbrev wanted-two_functions : List Tree
 wanted-two_functions = (an_entry 0 0x11 ((0x10, line_table) ∷ []) ∷ an_entry 1 0x2E ((0x11, address (Symbol 0 (pos 0))) ∷ (0x12, constant 0x0F 30) ∷ []) ∷ an_entry 2 0x05 ((0x03, text (0x70 ∷ [])) ∷ []) ∷ an_entry 1 0x39 ([]) ∷ an_entry 2 0x2E ((0x11, address (Symbol 0 (pos 0))) ∷ (0x12, constant 0x0F 30) ∷ []) ∷ an_entry 3 0x34 ([]) ∷ an_entry 3 0x0B ([]) ∷ an_entry 4 0x34 ((0x03, text (0x76 ∷ [])) ∷ []) ∷ []) ∷ []
 
-forest-two_functions : forest_built (a_compilation Little input-two_functions) ≡ wanted-two_functions
+forest-two_functions : trees_made (a_compilation Little input-two_functions) ≡ wanted-two_functions
 unfolding drafts_on_literals
 forest-two_functions = refl
 
-not_refused-two_functions : first_refusal_built (a_compilation Little input-two_functions) ≡ None
+not_refused-two_functions : first_refusal (a_compilation Little input-two_functions) ≡ None
 unfolding drafts_on_literals
 not_refused-two_functions = refl
 

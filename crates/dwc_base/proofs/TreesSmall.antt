@@ -1,6 +1,6 @@
 -- The tree of the small module, and that an output for it carries that tree and no other.
 use Rattle.std.proofs.Common.{◌≡◌, pos, [], ◌∷◌, Ok, Err, refl}
-use Rattle.dwc_base.proofs.OnLiterals.{trees_on_literals}
+use Rattle.dwc_base.proofs.DraftsOnLiterals.{drafts_on_literals}
 use Rattle.dwc_base.proofs.CarriedSmall.{output_small, compilation_small, compilation_64}
 use Rattle.dwc_base.specs.declared.records.Endian.TheVariants.{Little}
 use Rattle.dwc_base.specs.declared.records.Address.TheVariants.{Symbol}
@@ -18,19 +18,19 @@ tree_small =
     ∷ record { depth = 1; tag = 0x2E; attributes = (0x11, address (Symbol 0 (pos 0))) ∷ (0x12, constant 0x0F 30) ∷ [] } ∷ []
 
 pub forest-small : forest compilation_small ≡ Ok (tree_small ∷ [])
-unfolding trees_on_literals
+unfolding drafts_on_literals
 forest-small = refl
 
 pub carries-small : CarriesTrees Little (tree_small ∷ []) output_small
-unfolding trees_on_literals
+unfolding drafts_on_literals
 carries-small = refl
 
 -- an output without sections says no trees
 carries-nothing : CarriesTrees Little [] []
-unfolding trees_on_literals
+unfolding drafts_on_literals
 carries-nothing = refl
 
 -- the 64-bit format is refused
 forest-64 : forest compilation_64 ≡ Err (of_place (unsupported Format64 0))
-unfolding trees_on_literals
+unfolding drafts_on_literals
 forest-64 = refl

@@ -1,13 +1,14 @@
 -- Variants of the small module, and how long the sections of its output can be.
 use Rattle.std.proofs.Common.{◌≡◌, ℕ, List, [], ◌∷◌, None, refl}
 use Rattle.std.specs.Prelude.{map}
-use Rattle.dwc_base.proofs.OnLiterals.{lines_on_literals}
+use Rattle.dwc_base.proofs.DraftsOnLiterals.{drafts_on_literals}
 use Rattle.dwc_base.proofs.SmallModule.{abbreviations_small, info_small, line_small}
 use Rattle.dwc_base.proofs.Readings.{three_sections}
 use Rattle.dwc_base.proofs.LineTables.{function_small}
 use Rattle.dwc_base.specs.declared.section_name.SectionName.TheVariants.{Line, Abbrev, Info}
 use Rattle.dwc_base.specs.declared.records.Endian.TheVariants.{Little}
-use Rattle.dwc_base.specs.Carried.{Module, carried_units_of}
+use Rattle.dwc_base.specs.Carried.{Module}
+use Rattle.dwc_base.specs.Forests.{carried_units_of}
 use Rattle.dwc_base.specs.OutputCarried.{widest}
 
 abbrev pub module_with : List ℕ → List ℕ → List ℕ → Module
@@ -21,8 +22,8 @@ line_9 = 0x30 ∷ 0x00 ∷ 0x00 ∷ 0x00 ∷ 0x04 ∷ 0x00 ∷ 0x1B ∷ 0x00 ∷
 abbrev pub info_0 : List ℕ
 info_0 = 0x16 ∷ 0x00 ∷ 0x00 ∷ 0x00 ∷ 0x04 ∷ 0x00 ∷ 0x00 ∷ 0x00 ∷ 0x00 ∷ 0x00 ∷ 0x04 ∷ 0x01 ∷ 0x00 ∷ 0x00 ∷ 0x00 ∷ 0x00 ∷ 0x02 ∷ 0x00 ∷ 0x00 ∷ 0x00 ∷ 0x00 ∷ 0x0B ∷ 0x00 ∷ 0x00 ∷ 0x00 ∷ 0x00 ∷ []
 
-not_carried : map (λ u. u.header.offset) (carried_units_of (module_with abbreviations_small info_0 line_9)) ≡ []
-unfolding lines_on_literals
+not_carried : map (λ u. u.unit.header.offset) (carried_units_of (module_with abbreviations_small info_0 line_9)) ≡ []
+unfolding drafts_on_literals
 not_carried = refl
 
 -- below the root an entry of the root's shape, and behind it a code that is not declared
@@ -44,9 +45,9 @@ abbrev pub widths_of_module : Module → List ℕ
 widths_of_module m = map (λ name. widest name (record { order = Little; pointer_bytes = 8; modules = m ∷ [] })) (Abbrev ∷ Info ∷ Line ∷ [])
 
 widths-no_lines : widths_of_module (module_with abbreviations_no_lines info_no_lines []) ≡ 132 ∷ 59 ∷ 0 ∷ []
-unfolding lines_on_literals
+unfolding drafts_on_literals
 widths-no_lines = refl
 
 widths-lines : widths_of_module (module_with abbreviations_small info_small line_small) ≡ 152 ∷ 63 ∷ 271 ∷ []
-unfolding lines_on_literals
+unfolding drafts_on_literals
 widths-lines = refl

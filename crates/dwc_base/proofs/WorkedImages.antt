@@ -7,7 +7,8 @@ use Rattle.std.proofs.lemmas.List.Elements.{All-nil, All-cons}
 use Rattle.dwc_base.specs.declared.records.Address.TheVariants.{Constant, Symbol}
 use Rattle.dwc_base.specs.LineRows.{Segment, Row, RowContents, row_in_force}
 use Rattle.dwc_base.specs.Images.{row_for_byte, IsImage, IsImageOf, function_of_segment, start_of_segment, is_carried_segment}
-use Rattle.dwc_base.specs.Carried.{CarriedUnit, AreImages, segments_of_unit}
+use Rattle.dwc_base.specs.Carried.{CarriedUnit, segments_of_unit}
+use Rattle.dwc_base.specs.LinesCarried.{AreImages}
 use Rattle.dwc_base.proofs.OnLiterals.{lines_on_literals}
 use Rattle.dwc_base.proofs.SmallModule.{abbreviations_small, info_small}
 use Rattle.dwc_base.proofs.Readings.{three_sections}

@@ -1,6 +1,6 @@
 -- Which units and segments of an input are carried, and what it means that an output carries the lines.
-use Rattle.std.specs.Prelude.{◌≡◌, ℕ, ◌==◌, List, [], ◌∷◌, map, Bool, false, ◌&&◌, Option, Some, None, Result, Ok, All}
-use Rattle.std.specs.List.{filter, list_any, flat_map, AllZip}
+use Rattle.std.specs.Prelude.{ℕ, ◌==◌, List, [], ◌∷◌, map, Bool, false, ◌&&◌, Option, Some, None, Result, Ok}
+use Rattle.std.specs.List.{list_any, flat_map}
 use Rattle.dwc_base.specs.declared.records.Endian.{Endian}
 use Rattle.dwc_base.specs.Reading.{◌>>=◌}
 use Rattle.dwc_base.specs.Listing.{Listing, only_fault, with_first}
@@ -11,9 +11,7 @@ use Rattle.dwc_base.specs.Indexed.{text_base}
 use Rattle.dwc_base.specs.Entries.{Entry, entries, attribute}
 use Rattle.dwc_base.specs.LineRows.{LineTable, line_table, Segment, segments}
 use Rattle.dwc_base.specs.Functions.{Function}
-use Rattle.dwc_base.specs.Images.{is_carried_segment, IsImageOf}
-use Rattle.dwc_base.specs.Kept.{Placed, kept_entries}
-use Rattle.dwc_base.specs.Outputs.{OutputSection, output_sections}
+use Rattle.dwc_base.specs.Kept.{Placed}
 use Rattle.dwc_base.specs.declared.constants.TheConstants.{DW_AT_stmt_list, DW_TAG_compile_unit}
 
 -- a unit as it is read: its header and its entries
@@ -95,35 +93,7 @@ has_root_tag tag u = go (root u)
 abbrev pub is_carried_unit : List Placed → Unit → Bool
 is_carried_unit kept u = has_root_tag DW_TAG_compile_unit u && list_any (λ p. p.unit == u.header.offset) kept
 
--- the carried units of a module, in order
-abbrev pub carried_units_of : Module → List Unit
-carried_units_of m = filter (is_carried_unit (kept_entries m.functions (placed_entries (units m.sections).items))) (units m.sections).items
-
 -- a carried unit with its module
 pub record CarriedUnit : Type 0 where
   pub module_of : Module
   pub unit : Unit
-
--- the carried units of an input, module by module
-abbrev pub carried_units : Compilation → List CarriedUnit
-carried_units c = flat_map (λ m. map (λ u. record { module_of = m; unit = u }) (carried_units_of m)) c.modules
-
--- Some segments of an output are, one to one and in order, images of the carried ones among the segments of a unit.
-pub record AreImages (u : CarriedUnit) (images : List Segment) : Type 0 where
-  pub input : List Segment
-  pub input_read : segments_of_unit u.module_of.sections u.unit ≡ Ok input
-  pub each : AllZip (IsImageOf u.module_of.functions) (filter (is_carried_segment u.module_of.functions) input) images
-
--- a unit of the output carries the lines of a unit of the input
-pub record CarriesUnit (output : Sections) (u : CarriedUnit) (v : Unit) : Type 0 where
-  pub images : List Segment
-  pub images_read : segments_of_unit output v ≡ Ok images
-  pub carried : AreImages u images
-
--- The lines of an input are carried by an output: the input's units are read up to their section's end, and the output's
--- units are, in order, one for each carried unit, whose segments are the images of that unit's carried segments.
-pub record LinesCarried (c : Compilation) (s : List OutputSection) : Type 0 where
-  pub whole : All (λ m. (units m.sections).fault ≡ None) c.modules
-  pub output : List Unit
-  pub output_read : units (output_sections c.order s) ≡ record { items = output; fault = None }
-  pub each : AllZip (CarriesUnit (output_sections c.order s)) (carried_units c) output

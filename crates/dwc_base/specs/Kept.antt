@@ -1,27 +1,15 @@
 -- Which entries of a module are kept. (This project's own rule.)
-use Rattle.std.specs.Prelude.{ℕ, zero, suc, ◌+◌, ◌==◌, List, [], ◌∷◌, length, Bool, false, not, ◌&&◌, ◌||◌, Option, Some, None, is_some, is_none}
+use Rattle.std.specs.Prelude.{ℕ, zero, suc, ◌+◌, ◌==◌, List, [], ◌∷◌, Bool, false, not, ◌&&◌, ◌||◌, Option, Some, None}
 use Rattle.std.specs.List.{filter, list_any, take_while}
-use Rattle.dwc_base.specs.declared.records.Address.TheVariants.{Constant}
-use Rattle.dwc_base.specs.Values.{Value, address, unit_reference, info_reference, is_one_of}
-use Rattle.dwc_base.specs.Entries.{Entry, attribute}
-use Rattle.dwc_base.specs.Functions.{Function, function_at}
+use Rattle.dwc_base.specs.Values.{Value, unit_reference, info_reference, is_one_of}
+use Rattle.dwc_base.specs.Entries.{Entry}
 use Rattle.dwc_base.specs.Wasm.{last_of}
-use Rattle.dwc_base.specs.declared.constants.TheConstants.{DW_AT_low_pc, DW_AT_ranges, DW_AT_sibling, DW_TAG_call_site, DW_TAG_call_site_parameter, DW_TAG_catch_block, DW_TAG_constant, DW_TAG_enumerator, DW_TAG_formal_parameter, DW_TAG_inheritance, DW_TAG_inlined_subroutine, DW_TAG_label, DW_TAG_lexical_block, DW_TAG_member, DW_TAG_namespace, DW_TAG_subprogram, DW_TAG_subrange_type, DW_TAG_template_type_parameter, DW_TAG_template_value_parameter, DW_TAG_try_block, DW_TAG_unspecified_parameters, DW_TAG_variable, DW_TAG_variant, DW_TAG_variant_part, DW_TAG_with_stmt}
+use Rattle.dwc_base.specs.declared.constants.TheConstants.{DW_AT_sibling, DW_TAG_call_site, DW_TAG_call_site_parameter, DW_TAG_catch_block, DW_TAG_constant, DW_TAG_enumerator, DW_TAG_formal_parameter, DW_TAG_inheritance, DW_TAG_inlined_subroutine, DW_TAG_label, DW_TAG_lexical_block, DW_TAG_member, DW_TAG_namespace, DW_TAG_subrange_type, DW_TAG_template_type_parameter, DW_TAG_template_value_parameter, DW_TAG_try_block, DW_TAG_unspecified_parameters, DW_TAG_variable, DW_TAG_variant, DW_TAG_variant_part, DW_TAG_with_stmt}
 
 -- an entry with the offset of its unit
 pub record Placed : Type 0 where
   pub unit : ℕ
   pub entry : Entry
-
--- whether a value is an address in a function with a symbol; in the input an address is a number
-abbrev pub is_translatable : List Function → Option Value → Bool
-is_translatable fs (Some (address (Constant a))) = is_some (function_at fs a)
-is_translatable fs _ = false
-
--- A subprogram without ranges that begins in a function with a symbol is required. One with ranges of a class that is
--- no range list is not; what a range list requires is not stated yet, and such input is not read.
-abbrev pub is_required : List Function → Entry → Bool
-is_required fs e = (e.tag == DW_TAG_subprogram) && is_none (attribute DW_AT_ranges e) && is_translatable fs (attribute DW_AT_low_pc e)
 
 -- whether two entries stand at one offset
 abbrev pub same_place : Placed → Placed → Bool
@@ -75,7 +63,3 @@ kept_step es kept = filter (λ f. is_among kept f || list_any (λ e. keeps es e 
 abbrev pub steps_of : ℕ → List Placed → List Placed → List Placed
 steps_of zero es kept = kept
 steps_of (suc n) es kept = kept_step es (steps_of n es kept)
-
--- The kept entries: as many steps from the required ones as there are entries.
-abbrev pub kept_entries : List Function → List Placed → List Placed
-kept_entries fs es = steps_of (length es) es (filter (λ e. is_required fs e.entry) es)

@@ -19,11 +19,9 @@ pub mod Kept
 pub mod Outputs
 pub mod Carried
 pub mod Refusals
-pub mod BuiltForm
 pub mod Widest
 pub mod Trees
 pub mod TreeReading
-pub mod Forests
 pub mod Lebs
 pub mod Cursors
 pub mod Translations
@@ -33,7 +31,6 @@ pub mod Fields
 pub mod OutputForm
 pub mod TreeLaws
 pub mod WidestTrees
-pub mod OutputCarried
 pub mod Drafts
 pub mod Targets
 pub mod KeptEntries
@@ -42,4 +39,10 @@ pub mod Clones
 pub mod CarriedDrafts
 pub mod DraftForests
 pub mod ReachedEntries
-pub mod BuiltEntries
+pub mod Runs
+pub mod RawLists
+pub mod Lists
+pub mod EntryRules
+pub mod Forests
+pub mod LinesCarried
+pub mod OutputCarried

@@ -1,25 +1,30 @@
 -- What it means that an output carries an input: its lines, its entries and no others, and the form that every reader and linker
 -- relies on. (DWARF 4, chapters 2 and 6 and section 7.5.)
-use Rattle.std.specs.Prelude.{◌≡◌, ℕ, List, map, Ok}
+use Rattle.std.specs.Prelude.{◌≡◌, ℕ, List, sum_by, Ok}
 use Rattle.dwc_base.specs.declared.section_name.SectionName.{SectionName}
 use Rattle.dwc_base.specs.declared.section_name.SectionName.TheVariants.{Line}
 use Rattle.dwc_base.specs.Outputs.{OutputSection, output_sections}
-use Rattle.dwc_base.specs.Carried.{units, Compilation, carried_units, LinesCarried}
+use Rattle.dwc_base.specs.Carried.{units, Compilation}
+use Rattle.dwc_base.specs.Forests.{carried_units, trees_made, forest}
+use Rattle.dwc_base.specs.LinesCarried.{LinesCarried}
 use Rattle.dwc_base.specs.Trees.{Tree}
 use Rattle.dwc_base.specs.TreeReading.{CarriesTrees}
-use Rattle.dwc_base.specs.Forests.{tree_of_unit, forest}
+use Rattle.dwc_base.specs.TreeLaws.{HasAllTargets, HasTextsOnce}
 use Rattle.dwc_base.specs.OutputForm.{HaveTargetForm, HasDistinctNames}
 use Rattle.dwc_base.specs.Fields.{AreRelocated}
-use Rattle.dwc_base.specs.Widest.{widest_lines}
+use Rattle.dwc_base.specs.Widest.{widest_lines_of}
 use Rattle.dwc_base.specs.WidestTrees.{widest_of_trees}
 
--- An output carries an input, of which nothing is refused: its lines; the trees of its forest, and no others; in units of version 4
--- with addresses of the target's size; in sections of names of their own, whose relocations are those of the fields in them.
+-- An output carries an input, of which nothing is refused: its lines; the trees of its forest, and no others, whose references all name
+-- entries of these trees; equal texts in one place; in units of version 4 with addresses of the target's size; in sections of names of
+-- their own, whose relocations are those of the fields in them.
 pub record OutputCarried (c : Compilation) (sections : List OutputSection) : Type 0 where
   pub lines : LinesCarried c sections
   pub wanted : List Tree
   pub is_forest : forest c ≡ Ok wanted
   pub trees : CarriesTrees c.order wanted sections
+  pub targets : HasAllTargets wanted
+  pub texts : HasTextsOnce (output_sections c.order sections)
   pub form : HaveTargetForm c.pointer_bytes (units (output_sections c.order sections)).items
   pub names : HasDistinctNames sections
   pub relocated : AreRelocated c.order sections
@@ -27,5 +32,5 @@ pub record OutputCarried (c : Compilation) (sections : List OutputSection) : Typ
 -- How long a section of the output of an input can be at most: the line tables with the images of the carried sequences, and what
 -- says the trees of the carried units.
 abbrev pub widest : SectionName → Compilation → ℕ
-widest Line c = widest_lines c
-widest name c = widest_of_trees name (map tree_of_unit (carried_units c))
+widest Line c = sum_by widest_lines_of (carried_units c)
+widest name c = widest_of_trees name (trees_made c)

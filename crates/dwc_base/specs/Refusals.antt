@@ -1,15 +1,12 @@
 -- The places of an input that are read, in their order, and the first of them that is refused. (This project's own order.)
-use Rattle.std.specs.Prelude.{ℕ, List, [], ◌∷◌, map, true, false, Option, Some, None, option_map, Result, Ok, Err}
-use Rattle.std.specs.List.{filter_map, flat_map}
-use Rattle.dwc_base.specs.declared.faults.Kind.TheVariants.{Compressed}
-use Rattle.dwc_base.specs.Sections.{Sections, Fault, unsupported}
+use Rattle.std.specs.Prelude.{ℕ, List, [], ◌∷◌, true, false, Option, Some, None, Result, Ok, Err}
+use Rattle.dwc_base.specs.Sections.{Sections, Fault}
 use Rattle.dwc_base.specs.Units.{UnitHeader}
 use Rattle.dwc_base.specs.Indexed.{text_base}
 use Rattle.dwc_base.specs.Entries.{Entry, attribute}
 use Rattle.dwc_base.specs.LineRows.{LineTable, line_table}
 use Rattle.dwc_base.specs.LineFiles.{has_all_files}
-use Rattle.dwc_base.specs.Carried.{Unit, root, line_offset, Module, Compilation, carried_units_of}
-use Rattle.dwc_base.specs.BuiltForm.{info_fault}
+use Rattle.dwc_base.specs.Carried.{Unit, root, line_offset}
 use Rattle.dwc_base.specs.declared.constants.TheConstants.{DW_AT_stmt_list}
 
 -- A place that cannot be read or is of a refused kind; or a line table, by its offset, that names a file or a directory
@@ -37,21 +34,7 @@ table_offset (Some e) = line_offset (attribute DW_AT_stmt_list e)
 abbrev pub unit_refusal : Sections → Unit → Option Refusal
 unit_refusal s u = lines_refusal s u.header (table_offset (root u))
 
--- What is refused of a module, in the order of reading: a compressed section; of each unit its header, its abbreviation
--- table and its entries; and then of each carried unit its line table.
-abbrev pub module_refusals : Module → List Refusal
-module_refusals m =
-    filter_map (λ r. r) (option_map (λ place. of_place (unsupported Compressed place)) m.compressed ∷ option_map of_place (info_fault m.sections) ∷ map (unit_refusal m.sections) (carried_units_of m))
-
--- what is refused of an input, module by module
-abbrev pub refusals : Compilation → List Refusal
-refusals c = flat_map module_refusals c.modules
-
 -- the first of a list
 abbrev pub first_of : {A : Type 0} → List A → Option A
 first_of [] = None
 first_of (x ∷ xs) = Some x
-
--- the refusal of an input: the first in the order of reading
-abbrev pub first_refusal : Compilation → Option Refusal
-first_refusal c = first_of (refusals c)

@@ -7,7 +7,7 @@ use Rattle.dwc_base.specs.LineRows.{LineTable, Segment, segments}
 use Rattle.dwc_base.specs.Sections.{Fault}
 use Rattle.dwc_base.specs.Functions.{Function, recorded_sources}
 use Rattle.dwc_base.specs.Images.{row_of_source, start_of_segment, function_of_segment, is_carried_segment}
-use Rattle.dwc_base.specs.Carried.{Compilation, CarriedUnit, carried_units, table_of_unit}
+use Rattle.dwc_base.specs.Carried.{CarriedUnit, table_of_unit}
 
 -- a number of variable length, and an address
 abbrev pub variable_bytes : ℕ
@@ -52,7 +52,3 @@ widest_table fs (Ok (Some t)) = widest_header t.header.directories t.files + sum
 -- how long the line table of a carried unit can be at most
 abbrev pub widest_lines_of : CarriedUnit → ℕ
 widest_lines_of u = widest_table u.module_of.functions (table_of_unit u.module_of.sections u.unit)
-
--- how long the line tables of an output can be at most
-abbrev pub widest_lines : Compilation → ℕ
-widest_lines c = sum_by widest_lines_of (carried_units c)

@@ -284,3 +284,39 @@ pub const DW_LNCT_directory_index: u16 = 0x02;
 pub const DW_CHILDREN_no: u8 = 0x00;
 
 pub const DW_CHILDREN_yes: u8 = 0x01;
+
+// Kinds of entries of range lists from version 5 on. (DWARF 5, section 7.25.)
+pub const DW_RLE_end_of_list: u8 = 0x00;
+
+pub const DW_RLE_base_addressx: u8 = 0x01;
+
+pub const DW_RLE_startx_endx: u8 = 0x02;
+
+pub const DW_RLE_startx_length: u8 = 0x03;
+
+pub const DW_RLE_offset_pair: u8 = 0x04;
+
+pub const DW_RLE_base_address: u8 = 0x05;
+
+pub const DW_RLE_start_end: u8 = 0x06;
+
+pub const DW_RLE_start_length: u8 = 0x07;
+
+// Kinds of entries of location lists from version 5 on. (DWARF 5, section 7.7.3.)
+pub const DW_LLE_end_of_list: u8 = 0x00;
+
+pub const DW_LLE_base_addressx: u8 = 0x01;
+
+pub const DW_LLE_startx_endx: u8 = 0x02;
+
+pub const DW_LLE_startx_length: u8 = 0x03;
+
+pub const DW_LLE_offset_pair: u8 = 0x04;
+
+pub const DW_LLE_default_location: u8 = 0x05;
+
+pub const DW_LLE_base_address: u8 = 0x06;
+
+pub const DW_LLE_start_end: u8 = 0x07;
+
+pub const DW_LLE_start_length: u8 = 0x08;

@@ -1,0 +1,150 @@
+-- Every reference of the trees of an input goes to an entry that is there.
+use Rattle.std.proofs.Common.{◌≡◌, ℕ, List, [], ◌∷◌, ◌++◌, map, Option, Some, None, Bool, true, false, Result, Ok, Err, refl, ◌==◌}
+use Rattle.std.specs.Prelude.{◌&&◌, if◌then◌else◌, option_map, is_some, filter_map}
+use Rattle.dwc_base.specs.declared.constants.TheConstants.{DW_AT_endianity, DW_AT_stmt_list, DW_FORM_data1, DW_FORM_udata, DW_END_little, DW_TAG_base_type}
+use Rattle.dwc_base.specs.declared.section_name.SectionName.TheVariants.{Info}
+use Rattle.dwc_base.specs.declared.faults.What.TheVariants.{Text}
+use Rattle.dwc_base.specs.Reading.{◌>>=◌}
+use Rattle.dwc_base.specs.Sections.{Fault, reported}
+use Rattle.dwc_base.specs.Values as Values
+use Rattle.dwc_base.specs.Values.{Value}
+use Rattle.dwc_base.specs.Kept.{Placed}
+use Rattle.dwc_base.specs.Carried.{Module, Compilation, Unit}
+use Rattle.dwc_base.specs.Functions.{Function}
+use Rattle.dwc_base.specs.Refusals.{Refusal, of_place}
+use Rattle.dwc_base.specs.Trees.{constant, flag, block, text, line_table}
+use Rattle.dwc_base.specs.Drafts.{DraftValue, done, goes_to, made_of, itself}
+use Rattle.dwc_base.specs.Texts.{text_named}
+use Rattle.dwc_base.specs.Targets.{target_of}
+use Rattle.dwc_base.specs.TreeLaws.{HasAllTargets}
+use Rattle.dwc_base.specs.KeptModules.{carried_in, kept_in}
+use Rattle.dwc_base.specs.Clones.{UnitSource, is_dropped_name, is_bound_name, is_file_name, constant_form, file_number, constant_becomes, text_drafted, text_becomes, value_becomes, nothing_unless, bound_becomes, table_becomes, attribute_becomes, attributes_become, if_made, endianity, attributes_made}
+use Rattle.dwc_base.specs.CarriedDrafts.{source_of, draft_of, unit_drafts, carried_drafts}
+use Rattle.dwc_base.specs.EntryRules.{not_built, function_begun, function_bounds, code_rules}
+use Rattle.dwc_base.specs.Forests.{kept_of, is_big, module_drafts, trees_made}
+use Rattle.dwc_base.proofs.ForestLaws.{some_same, none_is, Each, each_filter_map, each_both, SaysNoPlace, EntrySaysNoPlace, UnitSaysNoPlace, ModuleSaysNoPlace, references-go}
+
+-- what something becomes, if it becomes something, says no place itself
+abbrev MakesNoPlace : ℕ → Result (Option DraftValue) Refusal → Type 0
+MakesNoPlace name r = (y : ℕ × DraftValue) → if_made name r ≡ Some y → SaysNoPlace y
+
+nothing-made : (name : ℕ) → MakesNoPlace name (Ok None)
+nothing-made name y is = absurd (none_is y is)
+
+refused-made : (name : ℕ) (refusal : Refusal) → MakesNoPlace name (Err refusal)
+refused-made name refusal y is = absurd (none_is y is)
+
+value-made : (name : ℕ) (v : DraftValue) → SaysNoPlace (name, v) → MakesNoPlace name (Ok (Some v))
+value-made name v says y is = some_same SaysNoPlace (name, v) y is says
+
+constant-made : (name : ℕ) (s : UnitSource) (form bits : ℕ) → MakesNoPlace name (Ok (option_map done (constant_becomes s name form bits)))
+constant-made name s form bits = go (is_file_name name) (file_number s.version s.table bits)
+  where
+    go : (is_file : Bool) (number : Option ℕ) → MakesNoPlace name (Ok (option_map done (if is_file then option_map (constant DW_FORM_udata) number else Some (constant (constant_form form) bits))))
+    go false number = value-made name (done (constant (constant_form form) bits)) refl
+    go true None = nothing-made name
+    go true (Some n) = value-made name (done (constant DW_FORM_udata n)) refl
+
+text-made : (name : ℕ) (r : Result (Option (List ℕ)) Fault) → MakesNoPlace name (text_drafted of_place r)
+text-made name (Err fault) = refused-made name (of_place fault)
+text-made name (Ok None) = nothing-made name
+text-made name (Ok (Some bytes)) = value-made name (done (text bytes)) refl
+
+reference-made : (name : ℕ) (o : Option Placed) → MakesNoPlace name (Ok (option_map (λ f. goes_to (made_of f.entry.offset itself)) o))
+reference-made name None = nothing-made name
+reference-made name (Some f) = value-made name (goes_to (made_of f.entry.offset itself)) tt
+
+module _ (m : Module) (u : Unit) (s : UnitSource) (e : Placed) where
+  value-becomes : (name : ℕ) (v : Value) → MakesNoPlace name (value_becomes (code_rules m u) s e name v)
+  unfolding value_becomes
+  value-becomes name (Values.constant form bits) = constant-made name s form bits
+  value-becomes name (Values.flag b) = value-made name (done (flag b)) refl
+  value-becomes name (Values.block bytes) = value-made name (done (block bytes)) refl
+  value-becomes name (Values.text bytes) = text-made name (reported Text Info e.entry.offset (text_named s.texts (Values.text bytes)))
+  value-becomes name (Values.text_reference form n) = text-made name (reported Text Info e.entry.offset (text_named s.texts (Values.text_reference form n)))
+  value-becomes name (Values.unit_reference n) = reference-made name (target_of s.entries e (Values.unit_reference n))
+  value-becomes name (Values.info_reference n) = reference-made name (target_of s.entries e (Values.info_reference n))
+  value-becomes name (Values.line_reference n) = nothing-made name
+  value-becomes name Values.dropped = nothing-made name
+  value-becomes name (Values.address a) = refused-made name (of_place (not_built e.entry))
+  value-becomes name (Values.address_index n) = refused-made name (of_place (not_built e.entry))
+  value-becomes name (Values.expression bytes) = refused-made name (of_place (not_built e.entry))
+  value-becomes name (Values.range_reference n) = refused-made name (of_place (not_built e.entry))
+  value-becomes name (Values.range_index n) = refused-made name (of_place (not_built e.entry))
+  value-becomes name (Values.location_reference n) = refused-made name (of_place (not_built e.entry))
+  value-becomes name (Values.location_index n) = refused-made name (of_place (not_built e.entry))
+
+  bound-becomes : (before : List (ℕ × Value)) (a : ℕ × Value) → MakesNoPlace a.0 (bound_becomes (code_rules m u) s e before a)
+  unfolding bound_becomes
+  bound-becomes before a = go (text_becomes (code_rules m u) s e a.1) ((code_rules m u).refused_bound e before a)
+    where
+      go : (r : Result (Option DraftValue) Refusal) (o : Option Refusal) → MakesNoPlace a.0 (r >>= λ read. nothing_unless o)
+      go (Err refusal) o = refused-made a.0 refusal
+      go (Ok read) None = nothing-made a.0
+      go (Ok read) (Some refusal) = refused-made a.0 refusal
+
+  attribute-becomes : (before : List (ℕ × Value)) (a : ℕ × Value) → MakesNoPlace a.0 (attribute_becomes (code_rules m u) s e before a)
+  unfolding attribute_becomes
+  attribute-becomes before a = go (is_dropped_name a.0) (a.0 == DW_AT_stmt_list) (is_bound_name a.0)
+    where
+      table : (b : Bool) → MakesNoPlace a.0 (Ok (if b then Some (done line_table) else None))
+      table true = value-made a.0 (done line_table) refl
+      table false = nothing-made a.0
+
+      go : (dropped lines bound : Bool) → MakesNoPlace a.0 (elim dropped [
+        | true ↦ Ok None
+        | false ↦ elim lines [
+          | true ↦ Ok (table_becomes s e)
+          | false ↦ elim bound [ true ↦ bound_becomes (code_rules m u) s e before a | false ↦ value_becomes (code_rules m u) s e a.0 a.1 ]
+        ]
+      ])
+      go true lines bound = nothing-made a.0
+      go false true bound = table ((e.entry.depth == 0) && is_some s.table)
+      go false false true = bound-becomes before a
+      go false false false = value-becomes a.0 a.1
+
+  attributes-become : (before others : List (ℕ × Value)) → Each (λ a. (y : ℕ × DraftValue) → if_made a.0 a.1 ≡ Some y → SaysNoPlace y) (attributes_become (code_rules m u) s e before others)
+  unfolding attributes_become
+  attributes-become before [] = tt
+  attributes-become before (a ∷ others) = (attribute-becomes before a, attributes-become (before ++ (a ∷ [])) others)
+
+  bounds-no-place : (o : Option Function) → Each SaysNoPlace (function_bounds o)
+  bounds-no-place None = tt
+  bounds-no-place (Some f) = (refl, (refl, tt))
+
+  endianity-no-place : (big_endian : Bool) → Each SaysNoPlace (endianity big_endian e)
+  endianity-no-place big_endian = go (big_endian && (e.entry.tag == DW_TAG_base_type))
+    where
+      go : (b : Bool) → Each SaysNoPlace (if b then (DW_AT_endianity, done (constant DW_FORM_data1 DW_END_little)) ∷ [] else [])
+      go true = (refl, tt)
+      go false = tt
+
+  entry-no-place : (big_endian : Bool) → EntrySaysNoPlace (draft_of (code_rules m u) s big_endian e)
+  unfolding attributes_made
+  entry-no-place big_endian =
+      let bounds = function_bounds (function_begun m.functions m.sections u.header e.entry) in
+      let others = filter_map (λ a. if_made a.0 a.1) (attributes_become (code_rules m u) s e [] e.entry.attributes) in
+      each_both SaysNoPlace (bounds ++ others) (endianity big_endian e)
+      (each_both SaysNoPlace bounds others (bounds-no-place (function_begun m.functions m.sections u.header e.entry))
+      (each_filter_map (λ a. if_made a.0 a.1) SaysNoPlace (attributes_become (code_rules m u) s e [] e.entry.attributes) (attributes-become [] e.entry.attributes)))
+      (endianity-no-place big_endian)
+
+unit-no-place : (m : Module) (u : Unit) (s : UnitSource) (big_endian : Bool) (es : List Placed) → UnitSaysNoPlace (unit_drafts (code_rules m u) s big_endian es)
+unit-no-place m u s big_endian [] = tt
+unit-no-place m u s big_endian (e ∷ es) = (entry-no-place m u s e big_endian, unit-no-place m u s big_endian es)
+
+module-no-place : (big_endian : Bool) (m : Module) → ModuleSaysNoPlace (module_drafts big_endian m)
+unfolding carried_drafts
+module-no-place big_endian m = go (carried_in (kept_of m))
+  where
+    go : (us : List Unit) → Each UnitSaysNoPlace (map (λ u. unit_drafts (code_rules m u) (source_of (kept_of m) u) big_endian (kept_in (kept_of m) u)) us)
+    go [] = tt
+    go (u ∷ us) = (unit-no-place m u (source_of (kept_of m) u) big_endian (kept_in (kept_of m) u), go us)
+
+modules-no-place : (big_endian : Bool) (ms : List Module) → Each ModuleSaysNoPlace (map (module_drafts big_endian) ms)
+modules-no-place big_endian [] = tt
+modules-no-place big_endian (m ∷ ms) = (module-no-place big_endian m, modules-no-place big_endian ms)
+
+-- Every reference of the trees that are made of an input goes to an entry of these trees.
+pub made-targets : (c : Compilation) → HasAllTargets (trees_made c)
+made-targets c = references-go (map (module_drafts (is_big c.order)) c.modules) (modules-no-place (is_big c.order) c.modules)

@@ -1,0 +1,29 @@
+-- What it means that an output carries the lines of an input. (DWARF 4, section 6.2; this project's own rule.)
+use Rattle.std.specs.Prelude.{◌≡◌, List, None, All, Ok}
+use Rattle.std.specs.List.{filter, AllZip}
+use Rattle.dwc_base.specs.Sections.{Sections}
+use Rattle.dwc_base.specs.LineRows.{Segment}
+use Rattle.dwc_base.specs.Images.{is_carried_segment, IsImageOf}
+use Rattle.dwc_base.specs.Carried.{Unit, units, segments_of_unit, Compilation, CarriedUnit}
+use Rattle.dwc_base.specs.Forests.{carried_units}
+use Rattle.dwc_base.specs.Outputs.{OutputSection, output_sections}
+
+-- Some segments of an output are, one to one and in order, images of the carried ones among the segments of a unit.
+pub record AreImages (u : CarriedUnit) (images : List Segment) : Type 0 where
+  pub input : List Segment
+  pub input_read : segments_of_unit u.module_of.sections u.unit ≡ Ok input
+  pub each : AllZip (IsImageOf u.module_of.functions) (filter (is_carried_segment u.module_of.functions) input) images
+
+-- a unit of the output carries the lines of a unit of the input
+pub record CarriesUnit (output : Sections) (u : CarriedUnit) (v : Unit) : Type 0 where
+  pub images : List Segment
+  pub images_read : segments_of_unit output v ≡ Ok images
+  pub carried : AreImages u images
+
+-- The lines of an input are carried by an output: the input's units are read up to their section's end, and the output's
+-- units are, in order, one for each carried unit, whose segments are the images of that unit's carried segments.
+pub record LinesCarried (c : Compilation) (s : List OutputSection) : Type 0 where
+  pub whole : All (λ m. (units m.sections).fault ≡ None) c.modules
+  pub output : List Unit
+  pub output_read : units (output_sections c.order s) ≡ record { items = output; fault = None }
+  pub each : AllZip (CarriesUnit (output_sections c.order s)) (carried_units c) output
