@@ -1,12 +1,14 @@
 -- The entries and functions of the plain program, seen as those of the definitions.
-use Rattle.std.specs.Prelude.{ℕ, suc, ◌==◌, List, [], map, Bool, not, ◌&&◌, ◌||◌, if◌then◌else◌, Option, Some, None, option_map}
+use Rattle.std.specs.Prelude.{ℕ, suc, ◌==◌, List, [], map, Bool, false, not, ◌&&◌, ◌||◌, if◌then◌else◌, Option, Some, None, option_map, is_some, is_none}
 use Rattle.std.specs.List.{filter, find, list_any, take_while}
 use Rattle.dwc_base.specs.declared.records.Address.TheVariants.{Constant}
 use Rattle.dwc_base.specs.Values.{Value, address, unit_reference, info_reference, dropped}
-use Rattle.dwc_base.specs.Functions.{Function}
-use Rattle.dwc_base.specs.Kept.{Placed, is_required, is_among, keeps, names_entry, same_place}
+use Rattle.dwc_base.specs.Entries.{Entry, attribute}
+use Rattle.dwc_base.specs.Functions.{Function, function_at}
+use Rattle.dwc_base.specs.Kept.{Placed, is_among, keeps, names_entry, same_place}
+use Rattle.dwc_base.specs.KeptEntries.{kept_with}
 use Rattle.dwc_base.specs.Wasm.{last_of}
-use Rattle.dwc_base.specs.declared.constants.TheConstants.{DW_AT_sibling}
+use Rattle.dwc_base.specs.declared.constants.TheConstants.{DW_AT_low_pc, DW_AT_ranges, DW_AT_sibling, DW_TAG_subprogram}
 use Rattle.dwc_plain.specs.declared.entries.PlainFunction.{PlainFunction}
 use Rattle.dwc_plain.specs.declared.entries.PlainValue.{PlainValue}
 use Rattle.dwc_plain.specs.declared.entries.PlainValue.TheVariants.{Address, UnitReference, InfoReference, Other}
@@ -28,9 +30,22 @@ attribute_view a = (a.0, value_view a.1)
 abbrev pub entry_view : PlainEntry → Placed
 entry_view e = record { unit = e.unit; entry = record { offset = e.offset; depth = e.depth; tag = e.tag; attributes = map attribute_view e.attributes.now } }
 
+-- whether a value is an address in a function with a symbol
+abbrev pub is_translatable : List Function → Option Value → Bool
+is_translatable fs (Some (address (Constant a))) = is_some (function_at fs a)
+is_translatable fs _ = false
+
+-- a subprogram without ranges that begins in a function with a symbol, by an address in place
+abbrev pub is_required : List Function → Entry → Bool
+is_required fs e = (e.tag == DW_TAG_subprogram) && is_none (attribute DW_AT_ranges e) && is_translatable fs (attribute DW_AT_low_pc e)
+
 -- the required ones among some entries
 abbrev pub required_entries : List Function → List Placed → List Placed
 required_entries fs es = filter (λ e. is_required fs e.entry) es
+
+-- the entries that are kept with the required ones
+abbrev pub kept_entries : List Function → List Placed → List Placed
+kept_entries fs es = kept_with es (required_entries fs es)
 
 -- whether an entry is kept by one of some
 abbrev pub kept_by : List Placed → List Placed → Placed → Bool

@@ -2,8 +2,8 @@
 ghost use Rattle.std.specs.Prelude.{◌≡◌, ◌==◌, map, option_map, is_some, suc};
 ghost use Rattle.dwc_base.specs.Functions.{owner_with, owner, function_at};
 ghost use Rattle.dwc_base.specs.Entries.{attribute};
-ghost use Rattle.dwc_base.specs.Kept.{is_required, names_entry, refers_to, is_part_tag, is_part_of};
-ghost use Rattle.dwc_plain.specs.PlainEntries.{function_view, value_view, entry_view};
+ghost use Rattle.dwc_base.specs.Kept.{names_entry, refers_to, is_part_tag, is_part_of};
+ghost use Rattle.dwc_plain.specs.PlainEntries.{function_view, value_view, entry_view, is_required};
 
 use dwc_base::constants::*;
 

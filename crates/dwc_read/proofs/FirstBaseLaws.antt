@@ -19,7 +19,7 @@ use Rattle.dwc_base.specs.Entries.{Entry, Found, entry_at, declared_entry_at, at
 use Rattle.dwc_base.specs.Refusals.{first_of}
 use Rattle.dwc_base.specs.Indexed.{address_indexed, root_offsets}
 use Rattle.dwc_base.proofs.EntryWalk.{entries_from-none, entries_from-end, entries_from-fault, entries_from-siblings, entries_from-entry}
-use Rattle.dwc_read.specs.Bases.{first_base_of}
+use Rattle.dwc_base.specs.Lists.{first_base_of}
 use Rattle.dwc_read.specs.ValuesSeen.{first_value}
 use Rattle.dwc_read.specs.RootValues.{said, said_address, first_among, named_offsets, said_by_root}
 use Rattle.dwc_read.proofs.EntriesLaws.{entries-table, entries-fault}

@@ -14,7 +14,7 @@ use Rattle.dwc_base.specs.Values.{constant, text, text_reference}
 use Rattle.dwc_base.specs.Indexed.{index_base, address_in_unit, text_in_unit}
 use Rattle.dwc_base.proofs.Numbers.{at_place}
 use Rattle.dwc_base.proofs.OnLiterals.{trees_on_literals}
-use Rattle.dwc_read.specs.Bases.{first_base_of}
+use Rattle.dwc_base.specs.Lists.{first_base_of}
 
 -- A unit of version 5 at 7, whose root has a declaration and some bytes.
 abbrev unit_5 : ℕ → List ℕ → UnitHeader

@@ -17,7 +17,7 @@ use Rattle.dwc_base.specs.Values.{Value, Form, encoding_of, form_behind, is_loca
 use Rattle.dwc_base.specs.Entries.{attributes_at}
 use Rattle.dwc_base.specs.Indexed.{as_section_offset}
 use Rattle.dwc_read.specs.ValuesSeen.{first_value}
-use Rattle.dwc_read.specs.Bases.{address_among}
+use Rattle.dwc_base.specs.Lists.{address_among}
 use Rattle.dwc_read.specs.RootValues.{said, said_address, named_offsets}
 use Rattle.dwc_read.proofs.RootLaws.{named_offsets-first, named_offsets-flaw}
 

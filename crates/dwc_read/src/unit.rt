@@ -64,7 +64,7 @@ impl<'d> Unit<'d> {
     ghost use Rattle.dwc_base.specs.Cursors.{slice_bytes};
     ghost use Rattle.dwc_base.specs.Indexed.{index_base as base_of_indexes, address_in_unit, text_in_unit};
     ghost use Rattle.dwc_base.specs.Sections.{fault_of};
-    ghost use Rattle.dwc_read.specs.Bases.{first_base_of};
+    ghost use Rattle.dwc_base.specs.Lists.{first_base_of};
     ghost use Rattle.dwc_read.specs.Faults.{fault_seen};
     ghost use Rattle.dwc_read.specs.ValuesSeen.{value_view};
 
