@@ -166,7 +166,7 @@ no_place_goes ts (locations ls) h = refl
 abbrev AreIn : (Goal → Option (ℕ × ℕ)) → List Tree → Type 0
 AreIn places ts = (g : Goal) (p : ℕ × ℕ) → places g ≡ Some p → IsWithin ts p
 
-placed_goes : (ts : List Tree) (name : ℕ) (o : Option (ℕ × ℕ)) → ((p : ℕ × ℕ) → o ≡ Some p → IsWithin ts p) → (y : ℕ × TreeValue) → option_map (λ p. (name, entry p.0 p.1)) o ≡ Some y → Goes ts y
+placed_goes : (ts : List Tree) (name : ℕ) (o : Option (ℕ × ℕ)) → ((p : ℕ × ℕ) → o ≡ Some p → IsWithin ts p) → (y : ℕ × TreeValue) → option_map (λ v. (name, v)) (option_map (λ p. entry p.0 p.1) o) ≡ Some y → Goes ts y
 placed_goes ts name None h y is = absurd (none_is y is)
 placed_goes ts name (Some p) h y is = some_same (Goes ts) (name, entry p.0 p.1) y is (lt-ltb p.1 (size_of_unit ts p.0) (h p refl))
 

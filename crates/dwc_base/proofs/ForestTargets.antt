@@ -5,7 +5,8 @@ use Rattle.dwc_base.specs.declared.constants.TheConstants.{DW_AT_endianity, DW_A
 use Rattle.dwc_base.specs.declared.section_name.SectionName.TheVariants.{Info}
 use Rattle.dwc_base.specs.declared.faults.What.TheVariants.{Text}
 use Rattle.dwc_base.specs.Reading.{◌>>=◌}
-use Rattle.dwc_base.specs.Sections.{Fault, reported}
+use Rattle.dwc_base.specs.Sections.{Sections, Fault, reported}
+use Rattle.dwc_base.specs.Units.{UnitHeader}
 use Rattle.dwc_base.specs.Values as Values
 use Rattle.dwc_base.specs.Values.{Value}
 use Rattle.dwc_base.specs.Kept.{Placed}
@@ -21,7 +22,7 @@ use Rattle.dwc_base.specs.KeptModules.{carried_in, kept_in}
 use Rattle.dwc_base.specs.Clones.{UnitSource, is_dropped_name, is_bound_name, is_file_name, constant_form, file_number, constant_becomes, text_drafted, text_becomes, value_becomes, nothing_unless, bound_becomes, table_becomes, attribute_becomes, attributes_become, if_made, endianity, attributes_made}
 use Rattle.dwc_base.specs.CarriedDrafts.{source_of, draft_of, unit_drafts, carried_drafts}
 use Rattle.dwc_base.specs.EntryRules.{not_built, function_begun, function_bounds, code_rules}
-use Rattle.dwc_base.specs.Forests.{kept_of, is_big, module_drafts, trees_made}
+use Rattle.dwc_base.specs.Forests.{kept_of, rules_of, is_big, module_drafts, trees_made}
 use Rattle.dwc_base.proofs.ForestLaws.{some_same, none_is, Each, each_filter_map, each_both, SaysNoPlace, EntrySaysNoPlace, UnitSaysNoPlace, ModuleSaysNoPlace, references-go}
 
 -- what something becomes, if it becomes something, says no place itself
@@ -54,8 +55,8 @@ reference-made : (name : ℕ) (o : Option Placed) → MakesNoPlace name (Ok (opt
 reference-made name None = nothing-made name
 reference-made name (Some f) = value-made name (goes_to (made_of f.entry.offset itself)) tt
 
-module _ (m : Module) (u : Unit) (s : UnitSource) (e : Placed) where
-  value-becomes : (name : ℕ) (v : Value) → MakesNoPlace name (value_becomes (code_rules m u) s e name v)
+module _ (fs : List Function) (sections : Sections) (h : UnitHeader) (s : UnitSource) (e : Placed) where
+  value-becomes : (name : ℕ) (v : Value) → MakesNoPlace name (value_becomes (code_rules fs sections h) s e name v)
   unfolding value_becomes
   value-becomes name (Values.constant form bits) = constant-made name s form bits
   value-becomes name (Values.flag b) = value-made name (done (flag b)) refl
@@ -74,16 +75,16 @@ module _ (m : Module) (u : Unit) (s : UnitSource) (e : Placed) where
   value-becomes name (Values.location_reference n) = refused-made name (of_place (not_built e.entry))
   value-becomes name (Values.location_index n) = refused-made name (of_place (not_built e.entry))
 
-  bound-becomes : (before : List (ℕ × Value)) (a : ℕ × Value) → MakesNoPlace a.0 (bound_becomes (code_rules m u) s e before a)
+  bound-becomes : (before : List (ℕ × Value)) (a : ℕ × Value) → MakesNoPlace a.0 (bound_becomes (code_rules fs sections h) s e before a)
   unfolding bound_becomes
-  bound-becomes before a = go (text_becomes (code_rules m u) s e a.1) ((code_rules m u).refused_bound e before a)
+  bound-becomes before a = go (text_becomes (code_rules fs sections h) s e a.1) ((code_rules fs sections h).refused_bound e before a)
     where
       go : (r : Result (Option DraftValue) Refusal) (o : Option Refusal) → MakesNoPlace a.0 (r >>= λ read. nothing_unless o)
       go (Err refusal) o = refused-made a.0 refusal
       go (Ok read) None = nothing-made a.0
       go (Ok read) (Some refusal) = refused-made a.0 refusal
 
-  attribute-becomes : (before : List (ℕ × Value)) (a : ℕ × Value) → MakesNoPlace a.0 (attribute_becomes (code_rules m u) s e before a)
+  attribute-becomes : (before : List (ℕ × Value)) (a : ℕ × Value) → MakesNoPlace a.0 (attribute_becomes (code_rules fs sections h) s e before a)
   unfolding attribute_becomes
   attribute-becomes before a = go (is_dropped_name a.0) (a.0 == DW_AT_stmt_list) (is_bound_name a.0)
     where
@@ -95,7 +96,7 @@ module _ (m : Module) (u : Unit) (s : UnitSource) (e : Placed) where
         | true ↦ Ok None
         | false ↦ elim lines [
           | true ↦ Ok (table_becomes s e)
-          | false ↦ elim bound [ true ↦ bound_becomes (code_rules m u) s e before a | false ↦ value_becomes (code_rules m u) s e a.0 a.1 ]
+          | false ↦ elim bound [ true ↦ bound_becomes (code_rules fs sections h) s e before a | false ↦ value_becomes (code_rules fs sections h) s e a.0 a.1 ]
         ]
       ])
       go true lines bound = nothing-made a.0
@@ -103,7 +104,7 @@ module _ (m : Module) (u : Unit) (s : UnitSource) (e : Placed) where
       go false false true = bound-becomes before a
       go false false false = value-becomes a.0 a.1
 
-  attributes-become : (before others : List (ℕ × Value)) → Each (λ a. (y : ℕ × DraftValue) → if_made a.0 a.1 ≡ Some y → SaysNoPlace y) (attributes_become (code_rules m u) s e before others)
+  attributes-become : (before others : List (ℕ × Value)) → Each (λ a. (y : ℕ × DraftValue) → if_made a.0 a.1 ≡ Some y → SaysNoPlace y) (attributes_become (code_rules fs sections h) s e before others)
   unfolding attributes_become
   attributes-become before [] = tt
   attributes-become before (a ∷ others) = (attribute-becomes before a, attributes-become (before ++ (a ∷ [])) others)
@@ -119,25 +120,25 @@ module _ (m : Module) (u : Unit) (s : UnitSource) (e : Placed) where
       go true = (refl, tt)
       go false = tt
 
-  entry-no-place : (big_endian : Bool) → EntrySaysNoPlace (draft_of (code_rules m u) s big_endian e)
+  entry-no-place : (big_endian : Bool) → EntrySaysNoPlace (draft_of (code_rules fs sections h) s big_endian e)
   unfolding attributes_made
   entry-no-place big_endian =
-      let bounds = function_bounds (function_begun m.functions m.sections u.header e.entry) in
-      let others = filter_map (λ a. if_made a.0 a.1) (attributes_become (code_rules m u) s e [] e.entry.attributes) in
+      let bounds = function_bounds (function_begun fs sections h e.entry) in
+      let others = filter_map (λ a. if_made a.0 a.1) (attributes_become (code_rules fs sections h) s e [] e.entry.attributes) in
       each_both SaysNoPlace (bounds ++ others) (endianity big_endian e)
-      (each_both SaysNoPlace bounds others (bounds-no-place (function_begun m.functions m.sections u.header e.entry))
-      (each_filter_map (λ a. if_made a.0 a.1) SaysNoPlace (attributes_become (code_rules m u) s e [] e.entry.attributes) (attributes-become [] e.entry.attributes)))
+      (each_both SaysNoPlace bounds others (bounds-no-place (function_begun fs sections h e.entry))
+      (each_filter_map (λ a. if_made a.0 a.1) SaysNoPlace (attributes_become (code_rules fs sections h) s e [] e.entry.attributes) (attributes-become [] e.entry.attributes)))
       (endianity-no-place big_endian)
 
-unit-no-place : (m : Module) (u : Unit) (s : UnitSource) (big_endian : Bool) (es : List Placed) → UnitSaysNoPlace (unit_drafts (code_rules m u) s big_endian es)
+unit-no-place : (m : Module) (u : Unit) (s : UnitSource) (big_endian : Bool) (es : List Placed) → UnitSaysNoPlace (unit_drafts (rules_of m u) s big_endian es)
 unit-no-place m u s big_endian [] = tt
-unit-no-place m u s big_endian (e ∷ es) = (entry-no-place m u s e big_endian, unit-no-place m u s big_endian es)
+unit-no-place m u s big_endian (e ∷ es) = (entry-no-place m.functions m.sections u.header s e big_endian, unit-no-place m u s big_endian es)
 
 module-no-place : (big_endian : Bool) (m : Module) → ModuleSaysNoPlace (module_drafts big_endian m)
 unfolding carried_drafts
 module-no-place big_endian m = go (carried_in (kept_of m))
   where
-    go : (us : List Unit) → Each UnitSaysNoPlace (map (λ u. unit_drafts (code_rules m u) (source_of (kept_of m) u) big_endian (kept_in (kept_of m) u)) us)
+    go : (us : List Unit) → Each UnitSaysNoPlace (map (λ u. unit_drafts (rules_of m u) (source_of (kept_of m) u) big_endian (kept_in (kept_of m) u)) us)
     go [] = tt
     go (u ∷ us) = (unit-no-place m u (source_of (kept_of m) u) big_endian (kept_in (kept_of m) u), go us)
 

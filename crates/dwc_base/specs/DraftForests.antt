@@ -45,12 +45,13 @@ place_of_goal number m (own_entry place) = place_in number place m.own
 -- ---- trees
 
 -- what a value says where goals are at places; one that goes nowhere says nothing
+abbrev pub settled_value : (Goal → Option (ℕ × ℕ)) → DraftValue → Option TreeValue
+settled_value places (done v) = Some v
+settled_value places (goes_to goal) = option_map (λ p. entry p.0 p.1) (places goal)
+
+-- the same of an attribute
 abbrev pub settled : (Goal → Option (ℕ × ℕ)) → ℕ × DraftValue → Option (ℕ × TreeValue)
-settled places a = go a.1
-  where
-    go : DraftValue → Option (ℕ × TreeValue)
-    go (done v) = Some (a.0, v)
-    go (goes_to goal) = option_map (λ p. (a.0, entry p.0 p.1)) (places goal)
+settled places a = option_map (λ v. (a.0, v)) (settled_value places a.1)
 
 -- an entry; what goes nowhere is dropped before names are set
 abbrev pub settled_entry : (Goal → Option (ℕ × ℕ)) → Draft → TreeEntry

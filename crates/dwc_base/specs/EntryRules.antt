@@ -14,7 +14,6 @@ use Rattle.dwc_base.specs.Values.{Value, expression, range_reference, range_inde
 use Rattle.dwc_base.specs.Entries.{Entry, attribute}
 use Rattle.dwc_base.specs.Indexed.{address_named}
 use Rattle.dwc_base.specs.Functions.{Function, function_at}
-use Rattle.dwc_base.specs.Carried.{Unit, Module}
 use Rattle.dwc_base.specs.Refusals.{Refusal, of_place}
 use Rattle.dwc_base.specs.Trees as Trees
 use Rattle.dwc_base.specs.Drafts.{DraftValue, done}
@@ -86,11 +85,11 @@ abbrev pub bound_fault : List Function → Sections → UnitHeader → Entry →
 bound_fault fs s h e v = elim (is_some (function_begun fs s h e) && not (is_expression v)) [ true ↦ indexed_fault s h e v | false ↦ Some (not_built e) ]
 
 -- The rules for the code of a unit's entries.
-abbrev pub code_rules : Module → Unit → CodeRules Refusal
-code_rules m u = record {
+abbrev pub code_rules : List Function → Sections → UnitHeader → CodeRules Refusal
+code_rules fs s h = record {
   of_fault = of_place;
-  bounds = λ e. function_bounds (function_begun m.functions m.sections u.header e.entry);
-  refused_bound = λ e before a. option_map of_place (bound_fault m.functions m.sections u.header e.entry a.1);
+  bounds = λ e. function_bounds (function_begun fs s h e.entry);
+  refused_bound = λ e before a. option_map of_place (bound_fault fs s h e.entry a.1);
   other = λ e a. Err (of_place (not_built e.entry));
   behind = λ e. [];
 }

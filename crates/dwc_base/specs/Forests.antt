@@ -3,9 +3,10 @@ use Rattle.std.specs.Prelude.{List, map, Bool, true, false, Option, Some, None, 
 use Rattle.std.specs.List.{flat_map}
 use Rattle.dwc_base.specs.declared.records.Endian.{Endian}
 use Rattle.dwc_base.specs.declared.records.Endian.TheVariants.{Little, Big}
-use Rattle.dwc_base.specs.Carried.{Module, Compilation, CarriedUnit}
+use Rattle.dwc_base.specs.Carried.{Unit, Module, Compilation, CarriedUnit}
 use Rattle.dwc_base.specs.Refusals.{Refusal, of_place, unit_refusal, first_of}
 use Rattle.dwc_base.specs.KeptModules.{KeptModule, kept_module, carried_in}
+use Rattle.dwc_base.specs.Clones.{CodeRules}
 use Rattle.dwc_base.specs.CarriedDrafts.{carried_drafts}
 use Rattle.dwc_base.specs.DraftForests.{ModuleDrafts}
 use Rattle.dwc_base.specs.DraftForests as Drafts
@@ -27,9 +28,13 @@ carried_units c = flat_map carried_units_of c.modules
 
 -- ---- refusals
 
+-- the rules for the code of a unit of a module
+abbrev pub rules_of : Module → Unit → CodeRules Refusal
+rules_of m u = code_rules m.functions m.sections u.header
+
 -- what is refused of a module
 abbrev pub module_refusals : Module → List Refusal
-module_refusals m = Reached.module_refusals of_place (named_faults m.sections) (unit_refusal m.sections) (code_rules m) (kept_of m)
+module_refusals m = Reached.module_refusals of_place (named_faults m.sections) (unit_refusal m.sections) (rules_of m) (kept_of m)
 
 -- what is refused of an input, module by module
 abbrev pub refusals : Compilation → List Refusal
@@ -48,7 +53,7 @@ is_big Big = true
 
 -- what is made of the carried units of a module
 abbrev pub module_drafts : Bool → Module → ModuleDrafts
-module_drafts big_endian m = record { own = None; carried = carried_drafts (code_rules m) big_endian (kept_of m) }
+module_drafts big_endian m = record { own = None; carried = carried_drafts (rules_of m) big_endian (kept_of m) }
 
 -- the trees of the carried units of an input
 abbrev pub trees_made : Compilation → List Tree
