@@ -15,6 +15,11 @@ fault_seen (Read what section offset) = Some (unreadable what section offset)
 fault_seen (Unsupported kind offset) = Some (unsupported kind offset)
 fault_seen OutOfMemory = None
 
+-- a fault told at another offset
+abbrev pub fault_at : ℕ → Fault → Fault
+fault_at offset (unreadable what section place) = unreadable what section offset
+fault_at offset (unsupported kind place) = unsupported kind offset
+
 -- A call that answers the next item of a listing was refused: for want of memory, and nothing has changed, or for the
 -- fault that comes next, and that comes again.
 abbrev pub RefusesNext : {F A : Type 0} → Listing F A → Listing F A → Option F → Type 0

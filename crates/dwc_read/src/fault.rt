@@ -27,6 +27,29 @@ pub enum ReadFault {
     OutOfMemory,
 }
 
+impl ReadFault {
+    ghost use Rattle.std.specs.Prelude.{◌≡◌, option_map};
+    ghost use Rattle.dwc_read.specs.Faults.{fault_seen, fault_at};
+
+    /// The same, told at another offset: who reads an entry tells what it names at the entry's offset.
+    pub fn at(self, place: u64) -> ReadFault
+        ensures { fault_seen result ≡ option_map (fault_at place) (fault_seen self) }
+    {
+        match self {
+            ReadFault::Read { what, section, .. } => ReadFault::Read {
+                what,
+                section,
+                offset: place,
+            },
+            ReadFault::Unsupported { what, .. } => ReadFault::Unsupported {
+                what,
+                offset: place,
+            },
+            ReadFault::OutOfMemory => ReadFault::OutOfMemory,
+        }
+    }
+}
+
 impl<T: Drop> From<AllocFailed<T>> for ReadFault {
     ghost use Rattle.std.specs.Prelude.{◌≡◌};
     ghost use Rattle.dwc_read.specs.declared.fault.ReadFault.TheVariants.{OutOfMemory};
