@@ -15,7 +15,9 @@ use std::rc::Rc;
 /// An entry of a unit, by the number that was given to it.
 #[derive(Clone, Copy, Debug, PartialEq, Eq)]
 pub struct UnitEntryId {
-    pub(crate) index: usize,
+    /// Entries of a unit are numbered from 0, the root, in the order in which their numbers were given, so that an entry that is
+    /// still to be added can be named.
+    pub index: usize,
 }
 
 /// An entry as it was added: the place of its parent in the order of addition (its own for the root), its tag and attributes.
@@ -203,7 +205,8 @@ fn known_place(places: &[Option<usize>], id: UnitEntryId) -> usize
 /// A unit of a table, by its number.
 #[derive(Clone, Copy, Debug, PartialEq, Eq)]
 pub struct UnitId {
-    pub(crate) index: usize,
+    /// Units are numbered from 0 in the order in which they were added, so that a unit that is still to be added can be named.
+    pub index: usize,
 }
 
 /// Units in their order.
@@ -232,6 +235,13 @@ impl UnitTable {
         let index = self.units.len();
         self.units.push(unit)?;
         Ok(UnitId { index })
+    }
+
+    /// How many units there are, which is the number of the unit that is added next.
+    pub fn len(&self) -> usize
+        ensures { result ≡ length self.now.units.items }
+    {
+        self.units.len()
     }
 
     /// A unit of the table.
