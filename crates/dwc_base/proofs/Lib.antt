@@ -53,3 +53,8 @@ pub mod OnLists
 pub mod SmallLists
 pub mod RunCases
 pub mod ListCases
+pub mod ReadValuesParts
+pub mod ReadValuesForms
+pub mod ReadValuesTables
+pub mod ReadValuesEntries
+pub mod ReadValuesTexts

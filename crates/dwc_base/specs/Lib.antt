@@ -46,3 +46,4 @@ pub mod EntryRules
 pub mod Forests
 pub mod LinesCarried
 pub mod OutputCarried
+pub mod ReadValues
