@@ -1,5 +1,5 @@
 -- The sections that are spelled of given units are read back as those units: `reads-back`.
-use Rattle.std.proofs.Common.{◌≡◌, ℕ, zero, suc, ◌+◌, ◌^◌, ◌<◌, ◌≤◌, ◌⊎◌, inl, inr, refl, sym, ap, subst, ◌∙◌, arith, List, [], ◌∷◌, ◌++◌, append-nil, length, length-append, map, get_or, lit<, lit≤, Option, Some, None, Ok, Bool, true, false, cond, ltb}
+use Rattle.std.proofs.Common.{◌≡◌, ℕ, zero, suc, ◌+◌, ◌^◌, ◌<◌, ◌≤◌, ◌⊎◌, inl, inr, refl, sym, ap, subst, ◌∙◌, arith, List, [], ◌∷◌, ◌++◌, append-nil, length, length-append, map, get_or, lit<, lit≤, Option, Some, None, Ok, Bool, true, false, cond, ltb, Vec, Global}
 use Rattle.std.proofs.Math.Facts.{sfits_to_z}
 use Rattle.std.proofs.lemmas.Int.{ints}
 use Rattle.dwc_base.specs.Reading.{is_64_bit}
@@ -29,7 +29,7 @@ use Rattle.dwc_write.specs.SpelledSections.{WrittenUnit, placed_unit_bytes, tabl
 use Rattle.dwc_write.specs.SpelledRelocations.{info_relocations, lines_relocations}
 use Rattle.dwc_write.specs.declared.attributes.Attribute.{Attribute}
 use Rattle.dwc_write.specs.declared.attributes.AttributeValue.{AttributeValue}
-use Rattle.dwc_write.specs.declared.attributes.AttributeValue.TheVariants.{Address, Constant, Flag, StringRef, LineProgramRef, UnitRef, DebugInfoRef}
+use Rattle.dwc_write.specs.declared.attributes.AttributeValue.TheVariants.{Address, Constant, Flag, Block, StringRef, LineProgramRef, UnitRef, DebugInfoRef}
 use Rattle.dwc_write.specs.declared.attributes.DebugInfoRef.TheVariants.{Entry as entry_of}
 use Rattle.dwc_write.specs.declared.abbreviations.AttributeForm.{AttributeForm}
 use Rattle.dwc_write.specs.GivenLines.{GivenLines, FitsLines, FitsSequences, FitsGivenSequence}
@@ -56,6 +56,7 @@ form-same : (p : Places) (v : AttributeValue) → form_number (written_of p v) �
 form-same p (Address a) = refl
 form-same p (Constant form bits) = refl
 form-same p (Flag b) = refl
+form-same p (Block bytes) = refl
 form-same p (StringRef id) = refl
 form-same p LineProgramRef = refl
 form-same p (UnitRef id) = refl
@@ -83,6 +84,10 @@ constant-fits size false false false true f bits small = omega (arith, small)
 constant-fits size false false false false true bits small = signed-fits size bits small
 constant-fits size false false false false false bits small = small
 
+-- a list that is held is not longer than a length can say
+pub vec-short : (bytes : Vec ℕ Global) → length bytes.items < 2 ^ 64
+vec-short bytes = let long = bytes.ok.0 in let room = bytes.ok.1 in let small = bytes.small in omega (arith, long, room, small)
+
 value-fits : (size : ℕ) (p : Places) (a : Attribute) → AreShort p → FitsAttribute size a → FitsWritten size (written_of p a.value)
 value-fits size p a near fits = go a.value fits.value
   where
@@ -90,6 +95,7 @@ value-fits size p a near fits = go a.value fits.value
     go (Address x) h = field-address size x h
     go (Constant form bits) h = constant-fits size (form == DW_FORM_data1) (form == DW_FORM_data2) (form == DW_FORM_data4) (form == DW_FORM_data8) (form == DW_FORM_sdata) bits h.1
     go (Flag b) h = tt
+    go (Block bytes) h = vec-short bytes
     go (StringRef id) h = let short = near.text id.index in omega (arith, short)
     go LineProgramRef h = let short = near.line in omega (arith, short)
     go (UnitRef id) h = let short = near.entry id.index in omega (arith, short)
@@ -227,6 +233,7 @@ form-small : (v : AttributeValue) → form_number (written_of no_places v) < 2 ^
 form-small (Address a) = lit< tt
 form-small (Constant form bits) = constant-small (form == DW_FORM_data1) (form == DW_FORM_data2) (form == DW_FORM_data4) (form == DW_FORM_data8) (form == DW_FORM_sdata) bits
 form-small (Flag b) = lit< tt
+form-small (Block bytes) = lit< tt
 form-small (StringRef id) = lit< tt
 form-small LineProgramRef = lit< tt
 form-small (UnitRef id) = lit< tt
@@ -244,6 +251,7 @@ form-some : (v : AttributeValue) → 0 < form_number (written_of no_places v)
 form-some (Address a) = lit< tt
 form-some (Constant form bits) = constant-some (form == DW_FORM_data1) (form == DW_FORM_data2) (form == DW_FORM_data4) (form == DW_FORM_data8) (form == DW_FORM_sdata) bits
 form-some (Flag b) = lit< tt
+form-some (Block bytes) = lit< tt
 form-some (StringRef id) = lit< tt
 form-some LineProgramRef = lit< tt
 form-some (UnitRef id) = lit< tt
@@ -398,6 +406,7 @@ value-named : (p : Places) (v : AttributeValue) → line_offset (Some (written_v
 value-named p (Address a) = refl
 value-named p (Constant form bits) = constant-unnamed DW_AT_stmt_list (form == DW_FORM_data1) (form == DW_FORM_data2) (form == DW_FORM_data4) (form == DW_FORM_data8) (form == DW_FORM_sdata) bits
 value-named p (Flag b) = refl
+value-named p (Block bytes) = refl
 value-named p (StringRef id) = refl
 value-named p LineProgramRef = refl
 value-named p (UnitRef id) = refl

@@ -11,6 +11,7 @@ use Rattle.dwc_base.specs.declared.section_name.SectionName.TheVariants.{Abbrev,
 use Rattle.dwc_base.specs.declared.constants.TheConstants.{DW_FORM_data1, DW_FORM_data2, DW_FORM_data4, DW_FORM_data8, DW_FORM_sdata}
 use Rattle.dwc_base.specs.Sections.{Sections}
 use Rattle.dwc_base.specs.Units.{UnitHeader}
+use Rattle.dwc_base.specs.Values as Values
 use Rattle.dwc_base.specs.Carried.{Unit, units, root}
 use Rattle.dwc_base.specs.Outputs.{OutputRelocation, output_sections}
 use Rattle.dwc_base.specs.Fields.{field_of_value, fields_of_unit, fields_of_lines, fields_of_section, relocations_of_fields, IsRelocated, AreRelocated}
@@ -58,6 +59,7 @@ value-related size p a fits h version place = go a.value fits.value
     go (given.Address (Symbol symbol addend)) fit = refl
     go (given.Constant form bits) fit = constant-related h place a.name (form == DW_FORM_data1) (form == DW_FORM_data2) (form == DW_FORM_data4) (form == DW_FORM_data8) (form == DW_FORM_sdata) bits
     go (given.Flag b) fit = refl
+    go (given.Block bytes) fit = ap (λ b. relocations_of_fields (field_of_value h place (if b then Values.expression bytes.items else Values.block bytes.items))) fit
     go (given.StringRef id) fit = refl
     go given.LineProgramRef fit = rw (fit) refl
     go (given.UnitRef id) fit = refl

@@ -1,23 +1,23 @@
 -- The texts that given units say are those of the numbers that they name, each once: `strings-said`.
-use Rattle.std.proofs.Common.{◌≡◌, ◌≢◌, ◌⊎◌, inl, inr, ℕ, suc, ◌<◌, ◌≤◌, refl, sym, ap, subst, ◌∙◌, arith, List, [], ◌∷◌, ◌++◌, fold, length, map, get_or, Bool, true, false, ltb, Option, Some, None}
+use Rattle.std.proofs.Common.{◌≡◌, ◌⊎◌, inl, inr, ℕ, suc, ◌<◌, refl, sym, ap, subst, ◌∙◌, arith, List, [], ◌∷◌, ◌++◌, fold, length, map, Bool, true, false, ltb, Option, Some, None}
 use Rattle.std.specs.Prelude.{◌==◌, ◌||◌, if◌then◌else◌}
-use Rattle.std.specs.List.{All, AllPairs, filter_map, flat_map, list_any}
+use Rattle.std.specs.List.{All, filter_map, flat_map, list_any}
 use Rattle.std.specs.Str.{bytes_eq}
 use Rattle.std.proofs.lemmas.Bool.{eq-eqb, eqb-true, ltb-false, ltb-true}
 use Rattle.std.proofs.lemmas.List.{map-append}
 use Rattle.std.proofs.lemmas.List.Elements.{All-head, All-nil, All-push, All-tail, filter_map-append}
 use Rattle.std.proofs.lemmas.Slice.Eq.{bytes_eq-Decides}
-use Rattle.dwc_base.specs.Trees.{TreeValue, Tree}
+use Rattle.dwc_base.specs.Trees.{TreeValue}
 use Rattle.dwc_base.specs.TreeLaws.{distinct_texts, text_said, texts_ended, values_of, with_new_text}
 use Rattle.dwc_base.specs.TreeReading.{entry_or_nothing}
 use Rattle.dwc_write.specs.declared.attributes.Attribute.{Attribute}
 use Rattle.dwc_write.specs.declared.attributes.AttributeValue.{AttributeValue}
-use Rattle.dwc_write.specs.declared.attributes.AttributeValue.TheVariants.{Address, Constant, Flag, StringRef, LineProgramRef, UnitRef, DebugInfoRef}
+use Rattle.dwc_write.specs.declared.attributes.AttributeValue.TheVariants.{Address, Constant, Flag, Block, StringRef, LineProgramRef, UnitRef, DebugInfoRef}
 use Rattle.dwc_write.specs.declared.attributes.DebugInfoRef.TheVariants.{Entry as entry_of}
 use Rattle.dwc_write.specs.GivenUnits.{GivenEntry, OrderedUnit}
-use Rattle.dwc_write.specs.GivenTrees.{given_said, attribute_said, tree_entry, given_tree, trees_from, given_trees}
+use Rattle.dwc_write.specs.GivenTrees.{given_said, attribute_said, tree_entry, trees_from, given_trees}
 use Rattle.dwc_write.specs.TextTables.{AreTexts}
-use Rattle.dwc_write.specs.UsedTexts.{HaveTexts, strings_bytes, text_numbered, text_of_value, texts_named, texts_of_attributes, texts_of_entries, texts_used, with_number, with_numbers}
+use Rattle.dwc_write.specs.UsedTexts.{HaveTexts, strings_bytes, text_numbered, text_of_value, texts_named, texts_of_attributes, texts_of_entries, with_number, with_numbers}
 use Rattle.dwc_base.specs.declared.section_name.SectionName.{SectionName}
 use Rattle.dwc_base.specs.declared.faults.Limit.TheVariants.{Section}
 use Rattle.dwc_write.specs.declared.error.WriteError.{WriteError}
@@ -43,6 +43,7 @@ module _ (texts : List (List ℕ)) (us : List OrderedUnit) where
       go (Address a) h = h
       go (Constant form bits) h = h
       go (Flag b) h = h
+      go (Block bytes) h = h
       go (StringRef id) h = ap (λ ts. text_numbered texts id.index ∷ ts) h
       go LineProgramRef h = h
       go (UnitRef id) h = nothing-said _ (values number u xs) ∙ h

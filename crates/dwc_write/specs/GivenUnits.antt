@@ -4,14 +4,15 @@ use Rattle.std.specs.List.{All, flat_map}
 use Rattle.std.specs.Int.{w64, cast_signed}
 use Rattle.dwc_base.specs.declared.constants.TheConstants.{DW_TAG_compile_unit, DW_AT_stmt_list, DW_FORM_data1, DW_FORM_data2, DW_FORM_data4, DW_FORM_data8, DW_FORM_sdata, DW_FORM_udata, DW_FORM_implicit_const}
 use Rattle.dwc_base.specs.Abbreviations.{AttributeSpec, Declaration}
+use Rattle.dwc_base.specs.Values.{is_expression_name}
 use Rattle.dwc_write.specs.declared.attributes.Attribute.{Attribute}
 use Rattle.dwc_write.specs.declared.abbreviations.AttributeForm.{AttributeForm}
 use Rattle.dwc_write.specs.declared.attributes.AttributeValue.{AttributeValue}
-use Rattle.dwc_write.specs.declared.attributes.AttributeValue.TheVariants.{Address, Constant, Flag, StringRef, LineProgramRef, UnitRef, DebugInfoRef}
+use Rattle.dwc_write.specs.declared.attributes.AttributeValue.TheVariants.{Address, Constant, Flag, Block, StringRef, LineProgramRef, UnitRef, DebugInfoRef}
 use Rattle.dwc_write.specs.declared.attributes.DebugInfoRef.TheVariants.{Entry}
 use Rattle.dwc_write.specs.Spelled.{uleb_bytes}
 use Rattle.dwc_write.specs.SpelledTables.{flag_of}
-use Rattle.dwc_write.specs.SpelledUnits.{Written, as_addr, as_data1, as_data2, as_data4, as_data8, as_udata, as_sdata, as_flag, as_strp, as_ref4, as_ref_addr, as_sec_offset, form_number, WrittenAttribute, WrittenEntry}
+use Rattle.dwc_write.specs.SpelledUnits.{Written, as_addr, as_data1, as_data2, as_data4, as_data8, as_udata, as_sdata, as_flag, as_block, as_strp, as_ref4, as_ref_addr, as_sec_offset, form_number, WrittenAttribute, WrittenEntry}
 use Rattle.dwc_write.specs.Writers.{FitsField}
 use Rattle.dwc_write.specs.GivenLines.{GivenLines}
 
@@ -92,6 +93,7 @@ abbrev pub written_of : Places → AttributeValue → Written
 written_of places (Address a) = as_addr a
 written_of places (Constant form bits) = constant_of form bits
 written_of places (Flag b) = as_flag b
+written_of places (Block bytes) = as_block bytes.items
 written_of places (StringRef id) = as_strp (places.text id.index)
 written_of places LineProgramRef = as_sec_offset places.line
 written_of places (UnitRef id) = as_ref4 (places.entry id.index)
@@ -104,11 +106,12 @@ is_constant_form form = (form == DW_FORM_data1) || ((form == DW_FORM_data2) || (
 abbrev pub constant_bound : ℕ → ℕ
 constant_bound form = if form == DW_FORM_data1 then 256 ^ 1 else (if form == DW_FORM_data2 then 256 ^ 2 else (if form == DW_FORM_data4 then 256 ^ 4 else 2 ^ 64))
 
--- A value fits its form, an address the unit's size, and a line table has its own name.
+-- A value fits its form, an address the unit's size, a block has no name of an expression, and a line table has its own name.
 abbrev pub FitsValue : ℕ → ℕ → AttributeValue → Type 0
 FitsValue size name (Address a) = FitsField size a
 FitsValue size name (Constant form bits) = (is_constant_form form ≡ true) × (bits < constant_bound form)
 FitsValue size name (Flag b) = Unit {0}
+FitsValue size name (Block bytes) = is_expression_name name ≡ false
 FitsValue size name (StringRef id) = Unit {0}
 FitsValue size name LineProgramRef = name ≡ DW_AT_stmt_list
 FitsValue size name (UnitRef id) = Unit {0}

@@ -9,8 +9,9 @@ ghost use Rattle.dwc_write.specs.AttributePlaces.{place_from};
 use crate::{StringId, UnitEntryId, UnitId};
 use dwc_base::Address;
 use dwc_base::constants::{
-    DW_FORM_addr, DW_FORM_data1, DW_FORM_data2, DW_FORM_data4, DW_FORM_data8, DW_FORM_flag,
-    DW_FORM_ref_addr, DW_FORM_ref4, DW_FORM_sdata, DW_FORM_sec_offset, DW_FORM_strp, DW_FORM_udata,
+    DW_FORM_addr, DW_FORM_block, DW_FORM_data1, DW_FORM_data2, DW_FORM_data4, DW_FORM_data8,
+    DW_FORM_flag, DW_FORM_ref_addr, DW_FORM_ref4, DW_FORM_sdata, DW_FORM_sec_offset, DW_FORM_strp,
+    DW_FORM_udata,
 };
 use std::alloc::{AllocError, Global};
 use std::collections::BTreeMap;
@@ -25,6 +26,8 @@ pub enum AttributeValue {
     Constant { form: u16, bits: u64 },
     /// `DW_FORM_flag`.
     Flag(bool),
+    /// Bytes of any length, by `DW_FORM_block`. Under the names of expressions a block is read as one.
+    Block(Vec<u8>),
     /// A text of the table of strings, by `DW_FORM_strp`.
     StringRef(StringId),
     /// The line program of the unit, by `DW_FORM_sec_offset`.
@@ -176,6 +179,7 @@ pub(crate) fn form_of(value: &AttributeValue) -> u16
         AttributeValue::Address(_) => DW_FORM_addr,
         AttributeValue::Constant { form, bits } => constant_form(*form, *bits),
         AttributeValue::Flag(_) => DW_FORM_flag,
+        AttributeValue::Block(_) => DW_FORM_block,
         AttributeValue::StringRef(_) => DW_FORM_strp,
         AttributeValue::LineProgramRef => DW_FORM_sec_offset,
         AttributeValue::UnitRef(_) => DW_FORM_ref4,

@@ -1,7 +1,7 @@
 //! Units with their entries, as they are written. (DWARF 4, section 7.5.)
 ghost use Rattle.std.specs.Prelude.{◌≡◌, ◌++◌, ◌∷◌, [], ◌+◌, ◌<◌, ◌≤◌, ◌⊎◌, OnOk, map, length, get_or, replicate};
 ghost use Rattle.std.specs.List.{All, flat_map};
-ghost use Rattle.dwc_write.specs.Spelled.{number_bytes, uleb_bytes};
+ghost use Rattle.dwc_write.specs.Spelled.{block_bytes, number_bytes, uleb_bytes};
 ghost use Rattle.dwc_write.specs.SpelledUnits.{attribute_bytes, entry_bytes, shaped, written_bytes};
 ghost use Rattle.dwc_write.specs.SpelledRelocations.{entries_relocations, value_relocations, values_relocations};
 ghost use Rattle.dwc_write.specs.GivenUnits.{FitsAttribute, FitsEntry as FitsGivenEntry, FitsOperand, constant_of, first_uses, shapes_of, written_attribute, written_entries, written_of};
@@ -212,8 +212,7 @@ fn write_values(
         (values_relocations info.old.order spelling.now.size (length info.old.body) (map (written_attribute (spelling_places spelling.now)) attributes.now)) }
 {
     for i in 0..attributes.len() {
-        let attribute = &attributes[i];
-        write_value(info, scratch, spelling, &attribute.value)?;
+        write_value(info, scratch, spelling, &attributes[i].value)?;
     }
     Ok(())
 }
@@ -239,6 +238,7 @@ fn write_value(
             info.put_bytes(scratch)
         }
         AttributeValue::Flag(flag) => info.put_bytes(&[u8::from(*flag)]),
+        AttributeValue::Block(bytes) => write_block(info, scratch, bytes),
         AttributeValue::StringRef(id) => {
             info.put_offset(spelling.text_offset_of(*id), SectionName::Str)
         }
@@ -250,6 +250,20 @@ fn write_value(
             info.put_offset(spelling.section_offset_of(*unit, *id), SectionName::Info)
         }
     }
+}
+
+// Bytes behind their length.
+fn write_block(
+    info: &mut WriterRelocate,
+    scratch: &mut Vec<u8>,
+    bytes: &[u8],
+) -> Result<(), WriteError>
+    ensures { Writes info.old info.new result (block_bytes bytes.now) [] }
+{
+    scratch.clear();
+    put_uleb(scratch, bytes.len() as u64)?;
+    info.put_bytes(scratch)?;
+    info.put_bytes(bytes)
 }
 
 // A constant in its form.

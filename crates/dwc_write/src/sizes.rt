@@ -2,7 +2,7 @@
 ghost use Rattle.std.specs.Prelude.{◌≡◌, ◌≤◌, ◌⊎◌, length, negsuc, pos};
 ghost use Rattle.dwc_base.specs.declared.records.Endian.{Endian};
 ghost use Rattle.dwc_write.specs.GivenUnits.{constant_of, no_places, written_of};
-ghost use Rattle.dwc_write.specs.Spelled.{sleb_bytes, uleb_bytes};
+ghost use Rattle.dwc_write.specs.Spelled.{block_bytes, sleb_bytes, uleb_bytes};
 ghost use Rattle.dwc_write.specs.SpelledUnits.{written_bytes};
 
 use crate::AttributeValue;
@@ -64,11 +64,19 @@ pub fn value_size(value: &AttributeValue, size: u8) -> usize
         AttributeValue::Address(_) => usize::from(size),
         AttributeValue::Constant { form, bits } => usize::from(constant_size(*form, *bits)),
         AttributeValue::Flag(_) => 1,
+        AttributeValue::Block(bytes) => block_size(bytes),
         AttributeValue::StringRef(_) => 4,
         AttributeValue::LineProgramRef => 4,
         AttributeValue::UnitRef(_) => 4,
         AttributeValue::DebugInfoRef(_) => 4,
     }
+}
+
+// How many bytes a block has with its length.
+fn block_size(bytes: &[u8]) -> usize
+    ensures { result ≡ length (block_bytes bytes.now) }
+{
+    usize::from(uleb_length(bytes.len() as u64)) + bytes.len()
 }
 
 // How many bytes a constant has in its form.
