@@ -13,7 +13,7 @@ use Rattle.dwc_write.specs.SpelledUnits.{form_number, as_data1, as_data2, as_dat
 use Rattle.dwc_write.specs.SpelledRelocations.{entry_relocations}
 use Rattle.dwc_write.specs.declared.attributes.Attribute.{Attribute}
 use Rattle.dwc_write.specs.declared.attributes.AttributeValue.{AttributeValue}
-use Rattle.dwc_write.specs.declared.attributes.AttributeValue.TheVariants.{Address, Constant, Flag, Block, StringRef, LineProgramRef, UnitRef, DebugInfoRef}
+use Rattle.dwc_write.specs.declared.attributes.AttributeValue.TheVariants.{Address, Constant, Flag, Block, Exprloc, StringRef, LineProgramRef, UnitRef, DebugInfoRef}
 use Rattle.dwc_write.specs.declared.attributes.DebugInfoRef.TheVariants.{Entry}
 use Rattle.dwc_write.specs.declared.abbreviations.AttributeForm.{AttributeForm}
 use Rattle.dwc_write.specs.GivenUnits.{GivenEntry, Places, no_places, EntryShape, IsPlainShape, form_of, forms_of, first_depth, shape_of, shapes_of, same_forms, same_flag, same_shape, place_in, with_use, first_uses, code_in, written_attribute, written_entries, written_of}
@@ -112,6 +112,7 @@ value-plain (Address x) = refl
 value-plain (Constant form bits) = constant-plain (form == DW_FORM_data1) (form == DW_FORM_data2) (form == DW_FORM_data4) (form == DW_FORM_data8) (form == DW_FORM_sdata) bits
 value-plain (Flag b) = refl
 value-plain (Block bytes) = refl
+value-plain (Exprloc e) = refl
 value-plain (StringRef id) = refl
 value-plain LineProgramRef = refl
 value-plain (UnitRef id) = refl

@@ -17,7 +17,7 @@ use Rattle.dwc_write.specs.SpelledUnits.{written_bytes, attribute_bytes, next_de
 use Rattle.dwc_write.specs.SpelledSections.{placed_unit_bytes, info_bytes, lines_bytes}
 use Rattle.dwc_write.specs.declared.attributes.Attribute.{Attribute}
 use Rattle.dwc_write.specs.declared.attributes.AttributeValue.{AttributeValue}
-use Rattle.dwc_write.specs.declared.attributes.AttributeValue.TheVariants.{Address, Constant, Flag, Block, StringRef, LineProgramRef, UnitRef, DebugInfoRef}
+use Rattle.dwc_write.specs.declared.attributes.AttributeValue.TheVariants.{Address, Constant, Flag, Block, Exprloc, StringRef, LineProgramRef, UnitRef, DebugInfoRef}
 use Rattle.dwc_write.specs.declared.attributes.DebugInfoRef.TheVariants.{Entry as entry_of}
 use Rattle.dwc_write.specs.GivenUnits.{GivenEntry, OrderedUnit, Places, no_places, EntryShape, place_of, shape_of, code_in, numbered, shapes_in, written_of, written_attribute, written_entries}
 use Rattle.dwc_write.specs.GivenTrees.{place_in_order}
@@ -33,6 +33,7 @@ module _ (order : Endian) (size : ℕ) where
   value-length p (Constant form bits) = refl
   value-length p (Flag b) = refl
   value-length p (Block bytes) = refl
+  value-length p (Exprloc e) = refl
   value-length p (StringRef id) = number_bytes-length order 4 (p.text id.index) ∙ sym (number_bytes-length order 4 0)
   value-length p LineProgramRef = number_bytes-length order 4 p.line ∙ sym (number_bytes-length order 4 0)
   value-length p (UnitRef id) = number_bytes-length order 4 (p.entry id.index) ∙ sym (number_bytes-length order 4 0)

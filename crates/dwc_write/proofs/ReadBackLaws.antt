@@ -29,7 +29,7 @@ use Rattle.dwc_write.specs.SpelledSections.{WrittenUnit, placed_unit_bytes, tabl
 use Rattle.dwc_write.specs.SpelledRelocations.{info_relocations, lines_relocations}
 use Rattle.dwc_write.specs.declared.attributes.Attribute.{Attribute}
 use Rattle.dwc_write.specs.declared.attributes.AttributeValue.{AttributeValue}
-use Rattle.dwc_write.specs.declared.attributes.AttributeValue.TheVariants.{Address, Constant, Flag, Block, StringRef, LineProgramRef, UnitRef, DebugInfoRef}
+use Rattle.dwc_write.specs.declared.attributes.AttributeValue.TheVariants.{Address, Constant, Flag, Block, Exprloc, StringRef, LineProgramRef, UnitRef, DebugInfoRef}
 use Rattle.dwc_write.specs.declared.attributes.DebugInfoRef.TheVariants.{Entry as entry_of}
 use Rattle.dwc_write.specs.declared.abbreviations.AttributeForm.{AttributeForm}
 use Rattle.dwc_write.specs.GivenLines.{GivenLines, FitsLines, FitsSequences, FitsGivenSequence}
@@ -57,6 +57,7 @@ form-same p (Address a) = refl
 form-same p (Constant form bits) = refl
 form-same p (Flag b) = refl
 form-same p (Block bytes) = refl
+form-same p (Exprloc e) = refl
 form-same p (StringRef id) = refl
 form-same p LineProgramRef = refl
 form-same p (UnitRef id) = refl
@@ -96,6 +97,7 @@ value-fits size p a near fits = go a.value fits.value
     go (Constant form bits) h = constant-fits size (form == DW_FORM_data1) (form == DW_FORM_data2) (form == DW_FORM_data4) (form == DW_FORM_data8) (form == DW_FORM_sdata) bits h.1
     go (Flag b) h = tt
     go (Block bytes) h = vec-short bytes
+    go (Exprloc e) h = vec-short e.bytes
     go (StringRef id) h = let short = near.text id.index in omega (arith, short)
     go LineProgramRef h = let short = near.line in omega (arith, short)
     go (UnitRef id) h = let short = near.entry id.index in omega (arith, short)
@@ -234,6 +236,7 @@ form-small (Address a) = lit< tt
 form-small (Constant form bits) = constant-small (form == DW_FORM_data1) (form == DW_FORM_data2) (form == DW_FORM_data4) (form == DW_FORM_data8) (form == DW_FORM_sdata) bits
 form-small (Flag b) = lit< tt
 form-small (Block bytes) = lit< tt
+form-small (Exprloc e) = lit< tt
 form-small (StringRef id) = lit< tt
 form-small LineProgramRef = lit< tt
 form-small (UnitRef id) = lit< tt
@@ -252,6 +255,7 @@ form-some (Address a) = lit< tt
 form-some (Constant form bits) = constant-some (form == DW_FORM_data1) (form == DW_FORM_data2) (form == DW_FORM_data4) (form == DW_FORM_data8) (form == DW_FORM_sdata) bits
 form-some (Flag b) = lit< tt
 form-some (Block bytes) = lit< tt
+form-some (Exprloc e) = lit< tt
 form-some (StringRef id) = lit< tt
 form-some LineProgramRef = lit< tt
 form-some (UnitRef id) = lit< tt
@@ -407,6 +411,7 @@ value-named p (Address a) = refl
 value-named p (Constant form bits) = constant-unnamed DW_AT_stmt_list (form == DW_FORM_data1) (form == DW_FORM_data2) (form == DW_FORM_data4) (form == DW_FORM_data8) (form == DW_FORM_sdata) bits
 value-named p (Flag b) = refl
 value-named p (Block bytes) = refl
+value-named p (Exprloc e) = refl
 value-named p (StringRef id) = refl
 value-named p LineProgramRef = refl
 value-named p (UnitRef id) = refl

@@ -23,7 +23,7 @@ use Rattle.dwc_base.specs.declared.faults.What.TheVariants.{Text}
 use Rattle.dwc_base.specs.declared.section_name.SectionName.TheVariants.{Info, Str}
 use Rattle.dwc_write.specs.declared.attributes.Attribute.{Attribute}
 use Rattle.dwc_write.specs.declared.attributes.AttributeValue.{AttributeValue}
-use Rattle.dwc_write.specs.declared.attributes.AttributeValue.TheVariants.{Address, Constant, Flag, Block, StringRef, LineProgramRef, UnitRef, DebugInfoRef}
+use Rattle.dwc_write.specs.declared.attributes.AttributeValue.TheVariants.{Address, Constant, Flag, Block, Exprloc, StringRef, LineProgramRef, UnitRef, DebugInfoRef}
 use Rattle.dwc_write.specs.declared.attributes.DebugInfoRef.TheVariants.{Entry as entry_of}
 use Rattle.dwc_write.specs.SpelledUnits.{as_data1, as_data2, as_data4, as_data8, as_udata, as_sdata, written_value, shaped, header_length}
 use Rattle.dwc_write.specs.SpelledTables.{table_bytes}
@@ -83,6 +83,7 @@ module _ (lists : ListReading) (texts : List (List ℕ)) (us : List OrderedUnit)
       go (Constant form bits) h t = ap (value_said lists r e) (constant-read a.name form bits h.0 h.1)
       go (Flag b) h t = refl
       go (Block bytes) h t = ap (λ b. value_said lists r e (if b then Values.expression bytes.items else Values.block bytes.items)) h
+      go (Exprloc x) h t = refl
       go (StringRef id) h t = ap (λ x. read_as text_or_nothing (reported Text Info e.offset (x >>= λ bytes. Ok (Some bytes)))) (All-head Readable id.index [] t)
       go LineProgramRef h t = rw (h) refl
       go (UnitRef id) h t = ap Ok (named.entry id.index)

@@ -60,6 +60,7 @@ value-related size p a fits h version place = go a.value fits.value
     go (given.Constant form bits) fit = constant-related h place a.name (form == DW_FORM_data1) (form == DW_FORM_data2) (form == DW_FORM_data4) (form == DW_FORM_data8) (form == DW_FORM_sdata) bits
     go (given.Flag b) fit = refl
     go (given.Block bytes) fit = ap (λ b. relocations_of_fields (field_of_value h place (if b then Values.expression bytes.items else Values.block bytes.items))) fit
+    go (given.Exprloc e) fit = refl
     go (given.StringRef id) fit = refl
     go given.LineProgramRef fit = rw (fit) refl
     go (given.UnitRef id) fit = refl

@@ -1,5 +1,5 @@
 -- The sections of given units are no longer than their widest sizes: `within-widest`.
-use Rattle.std.proofs.Common.{◌≡◌, ℕ, suc, ◌+◌, ◌-◌, ◌*◌, ◌^◌, ◌<◌, ◌≤◌, ◌⊎◌, inl, inr, refl, sym, ap, subst, ◌∙◌, arith, lit<, List, [], ◌∷◌, ◌++◌, length, length-append, map, replicate, Option, Some, None, Bool, true, false, ltb, refl}
+use Rattle.std.proofs.Common.{◌≡◌, ℕ, suc, ◌+◌, ◌-◌, ◌*◌, ◌^◌, ◌<◌, ◌≤◌, ◌⊎◌, inl, inr, refl, sym, ap, subst, ◌∙◌, arith, lit<, List, [], ◌∷◌, ◌++◌, length, length-append, map, replicate, Option, Some, None, Bool, true, false, ltb, refl, Vec, Global}
 use Rattle.std.specs.Prelude.{ℤ, pos, negsuc, nat_abs, ◌-ℤ◌, ◌==◌, ◌||◌, not, nat_lt, if◌then◌else◌, sum_by, FitsSigned}
 use Rattle.std.specs.List.{All, flat_map}
 use Rattle.std.specs.Int.{w64, cast_signed}
@@ -19,7 +19,7 @@ use Rattle.dwc_base.specs.Abbreviations.{Declaration}
 use Rattle.dwc_base.specs.LineHeaders.{LineFile}
 use Rattle.dwc_base.specs.Widest.{variable_bytes, widest_declaration, widest_header, widest_image, widest_row}
 use Rattle.dwc_base.specs.WidestTrees.{constant_bytes}
-use Rattle.dwc_write.specs.Spelled.{uleb_bytes, sleb_bytes, number_bytes, text_bytes}
+use Rattle.dwc_write.specs.Spelled.{block_bytes, uleb_bytes, sleb_bytes, number_bytes, text_bytes}
 use Rattle.dwc_write.specs.SpelledAddresses.{address_bytes, stored}
 use Rattle.dwc_write.specs.SpelledTables.{FitsSpec, implicit_bytes, spec_bytes, declaration_bytes, flag_of, table_bytes}
 use Rattle.dwc_write.specs.SpelledUnits.{as_data1, as_data2, as_data4, as_data8, as_sdata, as_udata, written_bytes, attribute_bytes, next_depth, shaped, entry_bytes, entries_bytes, unit_body}
@@ -28,7 +28,7 @@ use Rattle.dwc_write.specs.SpelledSections.{WrittenTable, placed_unit_bytes, tab
 use Rattle.dwc_write.specs.SpelledRelocations.{sequence_bytes}
 use Rattle.dwc_write.specs.declared.attributes.Attribute.{Attribute}
 use Rattle.dwc_write.specs.declared.attributes.AttributeValue.{AttributeValue}
-use Rattle.dwc_write.specs.declared.attributes.AttributeValue.TheVariants.{Address, Constant, Flag, Block, StringRef, LineProgramRef, UnitRef, DebugInfoRef}
+use Rattle.dwc_write.specs.declared.attributes.AttributeValue.TheVariants.{Address, Constant, Flag, Block, Exprloc, StringRef, LineProgramRef, UnitRef, DebugInfoRef}
 use Rattle.dwc_write.specs.declared.attributes.DebugInfoRef.TheVariants.{Entry as entry_of}
 use Rattle.dwc_write.specs.declared.abbreviations.AttributeForm.{AttributeForm}
 use Rattle.dwc_write.specs.GivenLines.{FitsLines, FitsSequences, FitsGivenSequence}
@@ -152,6 +152,9 @@ constant-widest order size form bits known small =
     go false n false o false p false q false r true is known small = of_form _ DW_FORM_udata is (uleb-10 bits small)
     go false n false o false p false q false r false s known small = absurd (cc)
 
+block-widest : (bytes : Vec ℕ Global) → length (block_bytes bytes.items) ≤ variable_bytes + length bytes.items
+block-widest bytes = omega (arith, uleb-10 (length bytes.items) (vec-short bytes), length-append (uleb_bytes (length bytes.items)) bytes.items)
+
 value-widest : (order : Endian) (size : ℕ) (p : Places) (x : Attribute) → size ≤ 8 → FitsAttribute size x → length (written_bytes order size (written_of p x.value)) ≤ widest_value x.value
 value-widest order size p x short fits = go x.value fits.value
   where
@@ -159,7 +162,8 @@ value-widest order size p x short fits = go x.value fits.value
     go (Address a) h = omega (arith, short, number_bytes-length order size (stored a))
     go (Constant form bits) h = constant-widest order size form bits h.0 h.1
     go (Flag b) h = omega arith
-    go (Block bytes) h = omega (arith, uleb-10 (length bytes.items) (vec-short bytes), length-append (uleb_bytes (length bytes.items)) bytes.items)
+    go (Block bytes) h = block-widest bytes
+    go (Exprloc e) h = block-widest e.bytes
     go (StringRef id) h = omega (arith, number_bytes-length order 4 (p.text id.index))
     go LineProgramRef h = omega (arith, number_bytes-length order 4 p.line)
     go (UnitRef id) h = omega (arith, number_bytes-length order 4 (p.entry id.index))

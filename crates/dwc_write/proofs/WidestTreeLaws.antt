@@ -10,7 +10,7 @@ use Rattle.dwc_base.specs.Trees.{Tree}
 use Rattle.dwc_base.specs.TreeReading.{entry_or_nothing}
 use Rattle.dwc_base.specs.WidestTrees as trees
 use Rattle.dwc_write.specs.declared.attributes.AttributeValue.{AttributeValue}
-use Rattle.dwc_write.specs.declared.attributes.AttributeValue.TheVariants.{Address, Constant, Flag, Block, StringRef, LineProgramRef, UnitRef, DebugInfoRef}
+use Rattle.dwc_write.specs.declared.attributes.AttributeValue.TheVariants.{Address, Constant, Flag, Block, Exprloc, StringRef, LineProgramRef, UnitRef, DebugInfoRef}
 use Rattle.dwc_write.specs.declared.attributes.DebugInfoRef.TheVariants.{Entry as entry_of}
 use Rattle.dwc_write.specs.GivenUnits.{GivenEntry, OrderedUnit, first_depth}
 use Rattle.dwc_write.specs.GivenTrees.{given_said, attribute_said, tree_entry, given_tree, trees_from}
@@ -32,6 +32,7 @@ module _ (texts : List (List ℕ)) (us : List OrderedUnit) (number : ℕ) (u : O
   value-said (Constant form bits) = refl
   value-said (Flag b) = refl
   value-said (Block bytes) = refl
+  value-said (Exprloc e) = refl
   value-said (StringRef id) = refl
   value-said LineProgramRef = refl
   value-said (UnitRef id) = reference-said _

@@ -8,11 +8,11 @@ use Rattle.dwc_base.specs.Values.{is_expression_name}
 use Rattle.dwc_write.specs.declared.attributes.Attribute.{Attribute}
 use Rattle.dwc_write.specs.declared.abbreviations.AttributeForm.{AttributeForm}
 use Rattle.dwc_write.specs.declared.attributes.AttributeValue.{AttributeValue}
-use Rattle.dwc_write.specs.declared.attributes.AttributeValue.TheVariants.{Address, Constant, Flag, Block, StringRef, LineProgramRef, UnitRef, DebugInfoRef}
+use Rattle.dwc_write.specs.declared.attributes.AttributeValue.TheVariants.{Address, Constant, Flag, Block, Exprloc, StringRef, LineProgramRef, UnitRef, DebugInfoRef}
 use Rattle.dwc_write.specs.declared.attributes.DebugInfoRef.TheVariants.{Entry}
 use Rattle.dwc_write.specs.Spelled.{uleb_bytes}
 use Rattle.dwc_write.specs.SpelledTables.{flag_of}
-use Rattle.dwc_write.specs.SpelledUnits.{Written, as_addr, as_data1, as_data2, as_data4, as_data8, as_udata, as_sdata, as_flag, as_block, as_strp, as_ref4, as_ref_addr, as_sec_offset, form_number, WrittenAttribute, WrittenEntry}
+use Rattle.dwc_write.specs.SpelledUnits.{Written, as_addr, as_data1, as_data2, as_data4, as_data8, as_udata, as_sdata, as_flag, as_block, as_exprloc, as_strp, as_ref4, as_ref_addr, as_sec_offset, form_number, WrittenAttribute, WrittenEntry}
 use Rattle.dwc_write.specs.Writers.{FitsField}
 use Rattle.dwc_write.specs.GivenLines.{GivenLines}
 
@@ -94,6 +94,7 @@ written_of places (Address a) = as_addr a
 written_of places (Constant form bits) = constant_of form bits
 written_of places (Flag b) = as_flag b
 written_of places (Block bytes) = as_block bytes.items
+written_of places (Exprloc e) = as_exprloc e.bytes.items
 written_of places (StringRef id) = as_strp (places.text id.index)
 written_of places LineProgramRef = as_sec_offset places.line
 written_of places (UnitRef id) = as_ref4 (places.entry id.index)
@@ -112,6 +113,7 @@ FitsValue size name (Address a) = FitsField size a
 FitsValue size name (Constant form bits) = (is_constant_form form ≡ true) × (bits < constant_bound form)
 FitsValue size name (Flag b) = Unit {0}
 FitsValue size name (Block bytes) = is_expression_name name ≡ false
+FitsValue size name (Exprloc e) = Unit {0}
 FitsValue size name (StringRef id) = Unit {0}
 FitsValue size name LineProgramRef = name ≡ DW_AT_stmt_list
 FitsValue size name (UnitRef id) = Unit {0}

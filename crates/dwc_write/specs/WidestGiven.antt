@@ -6,7 +6,7 @@ use Rattle.dwc_base.specs.declared.section_name.SectionName.TheVariants.{Abbrev,
 use Rattle.dwc_base.specs.Widest.{variable_bytes, address_bytes, widest_declaration, widest_header, widest_image}
 use Rattle.dwc_base.specs.WidestTrees.{constant_bytes, widest_of_trees}
 use Rattle.dwc_write.specs.declared.attributes.AttributeValue.{AttributeValue}
-use Rattle.dwc_write.specs.declared.attributes.AttributeValue.TheVariants.{Address, Constant, Flag, Block, StringRef, LineProgramRef, UnitRef, DebugInfoRef}
+use Rattle.dwc_write.specs.declared.attributes.AttributeValue.TheVariants.{Address, Constant, Flag, Block, Exprloc, StringRef, LineProgramRef, UnitRef, DebugInfoRef}
 use Rattle.dwc_write.specs.declared.error.WriteError.{WriteError}
 use Rattle.dwc_write.specs.declared.error.WriteError.TheVariants.{TooLarge, OutOfMemory}
 use Rattle.dwc_base.specs.declared.faults.Limit.TheVariants.{Section}
@@ -20,6 +20,7 @@ widest_value (Address a) = address_bytes
 widest_value (Constant form bits) = constant_bytes form
 widest_value (Flag b) = 1
 widest_value (Block bytes) = variable_bytes + length bytes.items
+widest_value (Exprloc e) = variable_bytes + length e.bytes.items
 widest_value (StringRef id) = 4
 widest_value LineProgramRef = 4
 widest_value (UnitRef id) = 4

@@ -10,8 +10,8 @@ use crate::{StringId, UnitEntryId, UnitId};
 use dwc_base::Address;
 use dwc_base::constants::{
     DW_FORM_addr, DW_FORM_block, DW_FORM_data1, DW_FORM_data2, DW_FORM_data4, DW_FORM_data8,
-    DW_FORM_flag, DW_FORM_ref_addr, DW_FORM_ref4, DW_FORM_sdata, DW_FORM_sec_offset, DW_FORM_strp,
-    DW_FORM_udata,
+    DW_FORM_exprloc, DW_FORM_flag, DW_FORM_ref_addr, DW_FORM_ref4, DW_FORM_sdata,
+    DW_FORM_sec_offset, DW_FORM_strp, DW_FORM_udata,
 };
 use std::alloc::{AllocError, Global};
 use std::collections::BTreeMap;
@@ -28,6 +28,8 @@ pub enum AttributeValue {
     Flag(bool),
     /// Bytes of any length, by `DW_FORM_block`. Under the names of expressions a block is read as one.
     Block(Vec<u8>),
+    /// An expression, by `DW_FORM_exprloc`.
+    Exprloc(Expression),
     /// A text of the table of strings, by `DW_FORM_strp`.
     StringRef(StringId),
     /// The line program of the unit, by `DW_FORM_sec_offset`.
@@ -36,6 +38,28 @@ pub enum AttributeValue {
     UnitRef(UnitEntryId),
     /// An entry of any unit, by `DW_FORM_ref_addr`.
     DebugInfoRef(DebugInfoRef),
+}
+
+/// A DWARF expression, as its bytes. (DWARF 4, sections 2.5 and 7.7.)
+#[derive(Debug, Drop)]
+pub struct Expression {
+    bytes: Vec<u8>,
+}
+
+impl Expression {
+    /// The expression of some bytes. They are not looked into.
+    pub fn new(bytes: Vec<u8>) -> Expression
+        ensures { result ≡ record { bytes = bytes } }
+    {
+        Expression { bytes }
+    }
+
+    /// Its bytes.
+    pub fn as_slice(&self) -> &[u8]
+        ensures { result.now ≡ self.now.bytes.items }
+    {
+        self.bytes.as_slice()
+    }
 }
 
 /// What is named by its offset in `.debug_info`.
@@ -180,6 +204,7 @@ pub(crate) fn form_of(value: &AttributeValue) -> u16
         AttributeValue::Constant { form, bits } => constant_form(*form, *bits),
         AttributeValue::Flag(_) => DW_FORM_flag,
         AttributeValue::Block(_) => DW_FORM_block,
+        AttributeValue::Exprloc(_) => DW_FORM_exprloc,
         AttributeValue::StringRef(_) => DW_FORM_strp,
         AttributeValue::LineProgramRef => DW_FORM_sec_offset,
         AttributeValue::UnitRef(_) => DW_FORM_ref4,

@@ -239,6 +239,7 @@ fn write_value(
         }
         AttributeValue::Flag(flag) => info.put_bytes(&[u8::from(*flag)]),
         AttributeValue::Block(bytes) => write_block(info, scratch, bytes),
+        AttributeValue::Exprloc(expression) => write_block(info, scratch, expression.as_slice()),
         AttributeValue::StringRef(id) => {
             info.put_offset(spelling.text_offset_of(*id), SectionName::Str)
         }

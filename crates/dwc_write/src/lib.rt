@@ -20,7 +20,7 @@ mod text_layout;
 mod units;
 mod writer;
 
-pub use attributes::{AttributeValue, DebugInfoRef};
+pub use attributes::{AttributeValue, DebugInfoRef, Expression};
 pub use error::WriteError;
 pub use lines::LineProgram;
 pub use sections::write_sections;

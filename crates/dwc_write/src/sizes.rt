@@ -65,6 +65,7 @@ pub fn value_size(value: &AttributeValue, size: u8) -> usize
         AttributeValue::Constant { form, bits } => usize::from(constant_size(*form, *bits)),
         AttributeValue::Flag(_) => 1,
         AttributeValue::Block(bytes) => block_size(bytes),
+        AttributeValue::Exprloc(expression) => block_size(expression.as_slice()),
         AttributeValue::StringRef(_) => 4,
         AttributeValue::LineProgramRef => 4,
         AttributeValue::UnitRef(_) => 4,
