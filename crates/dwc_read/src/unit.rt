@@ -66,6 +66,7 @@ impl<'d> Unit<'d> {
     ghost use Rattle.dwc_base.specs.Sections.{fault_of};
     ghost use Rattle.dwc_base.specs.Lists.{first_base_of};
     ghost use Rattle.dwc_read.specs.Faults.{fault_seen};
+    ghost use Rattle.dwc_read.specs.Bases.{address_of_value};
     ghost use Rattle.dwc_read.specs.ValuesSeen.{value_view};
 
     // The unit of a header, with what stands at the offset of its abbreviation table.
@@ -234,6 +235,21 @@ impl<'d> Unit<'d> {
         match address_indexed(&self.sections, &self.header, self.addresses, index) {
             Ok(address) => Ok(address),
             Err(flaw) => Err(self.unreadable(flaw, What::AddressValue)),
+        }
+    }
+
+    /// The address that a value is, in place or by its index among the unit's; None for a value that is no address.
+    ///
+    /// Answers `Read` with the unit's offset where the address at the index cannot be read, as [`Unit::address`] does.
+    #[tactic(auto, unfolding(dwc_base::specs::Indexed::address_named))]
+    pub fn address_of(&self, value: &AttributeValue<'d>) -> Result<Option<Address>, ReadFault>
+        ensures address { GivesOrFault (λ a. a) (address_of_value self.now.sections self.now.header (value_view value.now)) result }
+        ensures memory { result ≢ Err ReadFault.OutOfMemory }
+    {
+        match value {
+            AttributeValue::Addr(address) => Ok(Some(*address)),
+            AttributeValue::AddrIndex(index) => Ok(Some(self.address(*index)?)),
+            _ => Ok(None),
         }
     }
 
