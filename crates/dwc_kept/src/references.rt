@@ -26,8 +26,8 @@ fn offset_in_unit(unit: u64, end: u64, place: u64) -> Option<u32>
     }
 }
 
-// The offset that a value names, in a unit from an offset up to another.
-fn named_offset(unit: u64, end: u64, value: AttributeValue<'_>) -> Option<u32>
+/// The offset that a value names, in a unit from an offset up to another.
+pub fn named_offset(unit: u64, end: u64, value: AttributeValue<'_>) -> Option<u32>
     ensures { result ≡ named_offset unit end (value_view value.entry) }
 {
     match value {
