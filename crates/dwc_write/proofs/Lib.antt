@@ -43,6 +43,9 @@ pub mod WidestLaws
 pub mod WidestTreeLaws
 pub mod WideLaws
 pub mod ReferenceSmall
+pub mod AddedInOrder
+pub mod AddedInOrderUnits
+pub mod AddedInOrderTrees
 mod TextSets
 mod TextLaws
 mod ReadTexts

@@ -25,3 +25,4 @@ pub mod ReadBack
 pub mod SmallGiven
 pub mod WidestGiven
 pub mod GivenTrees
+pub mod AddedInOrder
