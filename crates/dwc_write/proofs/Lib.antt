@@ -46,6 +46,7 @@ pub mod ReferenceSmall
 pub mod AddedInOrder
 pub mod AddedInOrderUnits
 pub mod AddedInOrderTrees
+pub mod AddedInOrderValues
 mod TextSets
 mod TextLaws
 mod ReadTexts
