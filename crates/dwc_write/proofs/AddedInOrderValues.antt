@@ -5,7 +5,7 @@ use Rattle.std.specs.Prelude.{◌==◌, if◌then◌else◌}
 use Rattle.std.specs.List.{All, AllZip, flat_map}
 use Rattle.std.proofs.lemmas.Bool.{eq-eqb, eqb-true, eqb-false, ne_eqb}
 use Rattle.std.proofs.lemmas.List.{get_or_append_left}
-use Rattle.std.proofs.lemmas.List.Elements.{All-cons, All-head, All-nil, All-tail}
+use Rattle.std.proofs.lemmas.List.Elements.{All-head}
 use Rattle.dwc_base.specs.Trees as Trees
 use Rattle.dwc_base.specs.Trees.{TreeEntry, TreeValue, text}
 use Rattle.dwc_write.specs.declared.attributes.Attribute.{Attribute}
@@ -15,17 +15,10 @@ use Rattle.dwc_write.specs.declared.attributes.DebugInfoRef.TheVariants.{Entry}
 use Rattle.dwc_write.specs.GivenUnits.{Addition, GivenUnit, ordered, set_attribute}
 use Rattle.dwc_write.specs.UsedTexts.{text_of_value, texts_named, texts_of_attributes, texts_of_entries}
 use Rattle.dwc_write.specs.AddedInOrder.{IsInOrder, attribute_meant, entries_with, entry_meant, tree_meant, trees_meant, value_meant}
+use Rattle.dwc_write.proofs.ReadValues.{All-back, All-front}
 use Rattle.dwc_write.proofs.AddedInOrder.{in-order-listed}
 
 -- ---- more texts
-
-All-front : {X : Type 0} (P : X → Type 0) (xs ys : List X) → All P (xs ++ ys) → All P xs
-All-front P [] ys all = All-nil P
-All-front P (x ∷ xs) ys all = All-cons P x xs (All-head P x (xs ++ ys) all) (All-front P xs ys (All-tail P x (xs ++ ys) all))
-
-All-behind : {X : Type 0} (P : X → Type 0) (xs ys : List X) → All P (xs ++ ys) → All P ys
-All-behind P [] ys all = all
-All-behind P (x ∷ xs) ys all = All-behind P xs ys (All-tail P x (xs ++ ys) all)
 
 -- A value means the same with more texts, where the one that it names is there.
 pub value-meant-more : (texts more : List (List ℕ)) (number : ℕ) (v : AttributeValue) → All (λ n. n < length texts) (text_of_value v) → value_meant (texts ++ more) number v ≡ value_meant texts number v
@@ -42,7 +35,7 @@ pub attributes-meant-more : (texts more : List (List ℕ)) (number : ℕ) (xs : 
 attributes-meant-more texts more number [] known = refl
 attributes-meant-more texts more number (x ∷ xs) known =
     ap (λ v. (x.name, v) ∷ map (attribute_meant (texts ++ more) number) xs) (value-meant-more texts more number x.value (All-front (λ n. n < length texts) (text_of_value x.value) (texts_of_attributes xs) known))
-    ∙ ap (λ ys. attribute_meant texts number x ∷ ys) (attributes-meant-more texts more number xs (All-behind (λ n. n < length texts) (text_of_value x.value) (texts_of_attributes xs) known))
+    ∙ ap (λ ys. attribute_meant texts number x ∷ ys) (attributes-meant-more texts more number xs (All-back (λ n. n < length texts) (text_of_value x.value) (texts_of_attributes xs) known))
 
 pub entry-meant-more : (texts more : List (List ℕ)) (number depth : ℕ) (e : Addition) → All (λ n. n < length texts) (texts_of_attributes e.attributes) → entry_meant (texts ++ more) number depth e ≡ entry_meant texts number depth e
 entry-meant-more texts more number depth e known =
@@ -55,7 +48,7 @@ tree-meant-more texts more number (d ∷ ds) [] known = refl
 tree-meant-more texts more number (d ∷ ds) (e ∷ es) known =
     let behind = flat_map (λ (x : Addition). texts_of_attributes x.attributes) es in
     ap (λ t. t ∷ tree_meant (texts ++ more) number ds es) (entry-meant-more texts more number d e (All-front (λ n. n < length texts) (texts_of_attributes e.attributes) behind known))
-    ∙ ap (λ ts. entry_meant texts number d e ∷ ts) (tree-meant-more texts more number ds es (All-behind (λ n. n < length texts) (texts_of_attributes e.attributes) behind known))
+    ∙ ap (λ ts. entry_meant texts number d e ∷ ts) (tree-meant-more texts more number ds es (All-back (λ n. n < length texts) (texts_of_attributes e.attributes) behind known))
 
 pub trees-meant-more : (texts more : List (List ℕ)) (number : ℕ) (dss : List (List ℕ)) (us : List GivenUnit) → All (λ n. n < length texts) (flat_map (λ u. flat_map (λ e. texts_of_attributes e.attributes) u.additions) us) → trees_meant (texts ++ more) number dss us ≡ trees_meant texts number dss us
 trees-meant-more texts more number [] us known = refl
@@ -64,7 +57,7 @@ trees-meant-more texts more number (ds ∷ dss) (u ∷ us) known =
     let here = flat_map (λ (e : Addition). texts_of_attributes e.attributes) u.additions in
     let behind = flat_map (λ (v : GivenUnit). flat_map (λ e. texts_of_attributes e.attributes) v.additions) us in
     ap (λ t. t ∷ trees_meant (texts ++ more) (suc number) dss us) (tree-meant-more texts more number ds u.additions (All-front (λ n. n < length texts) here behind known))
-    ∙ ap (λ ts. tree_meant texts number ds u.additions ∷ ts) (trees-meant-more texts more (suc number) dss us (All-behind (λ n. n < length texts) here behind known))
+    ∙ ap (λ ts. tree_meant texts number ds u.additions ∷ ts) (trees-meant-more texts more (suc number) dss us (All-back (λ n. n < length texts) here behind known))
 
 -- Units in file order name the texts that their entries name.
 listed-texts : (place : ℕ) (ds : List ℕ) (es : List Addition) → length ds ≡ length es → texts_of_entries (entries_with place ds es) ≡ flat_map (λ e. texts_of_attributes e.attributes) es

@@ -51,3 +51,4 @@ mod TextSets
 mod TextLaws
 mod ReadTexts
 mod SaidTexts
+mod TextsOnce

@@ -6,6 +6,7 @@ ghost use Rattle.dwc_base.specs.Carried.{units};
 ghost use Rattle.dwc_base.specs.Fields.{AreRelocated};
 ghost use Rattle.dwc_base.specs.OutputForm.{HasDistinctNames, HaveTargetForm};
 ghost use Rattle.dwc_base.specs.Outputs.{output_sections, section_view};
+ghost use Rattle.dwc_base.specs.TreeLaws.{HasTextsOnce};
 ghost use Rattle.dwc_base.specs.TreeReading.{CarriesTrees};
 ghost use Rattle.dwc_write.specs.declared.error.WriteError.TheVariants.{OutOfMemory};
 ghost use Rattle.dwc_write.specs.GivenLines.{FitsLines};
@@ -53,6 +54,7 @@ pub fn write_sections(
     ensures rise { IfOk result (λ s. All DoRelocationsRise (map section_view s.items)) }
     ensures read { IfOk result (λ s. ReadsBack order (map ordered dwarf.units.units.items) (map section_view s.items)) }
     ensures trees { IfOk result (λ s. CarriesTrees order (given_trees dwarf.strings (map ordered dwarf.units.units.items)) (map section_view s.items)) }
+    ensures texts_once { IfOk result (λ s. HasTextsOnce (output_sections order (map section_view s.items))) }
     ensures form { IfOk result (λ s. (size : ℕ) → All (λ u. u.address_size ≡ size) dwarf.units.units.items → HaveTargetForm size (units (output_sections order (map section_view s.items))).items) }
     ensures names { IfOk result (λ s. HasDistinctNames (map section_view s.items)) }
     ensures relocated { IfOk result (λ s. AreRelocated order (map section_view s.items)) }

@@ -1,10 +1,11 @@
-use Rattle.std.proofs.Common.{◌≡◌, ℕ, ◌≤◌, refl, ap, sym, subst, ◌∙◌, List, [], map}
+use Rattle.std.proofs.Common.{◌≡◌, ℕ, ap, sym, subst, ◌∙◌, List, [], map}
 use Rattle.std.specs.List.{All}
 use Rattle.std.proofs.lemmas.List.Elements.{All-map}
 use Rattle.std.proofs.lemmas.Result.{err_from_is_err_and}
 use Rattle.dwc_base.specs.Fields.{AreRelocated}
 use Rattle.dwc_base.specs.OutputForm.{HasDistinctNames}
-use Rattle.dwc_base.specs.Outputs.{OutputSection, section_view}
+use Rattle.dwc_base.specs.Outputs.{OutputSection, output_sections, section_view}
+use Rattle.dwc_base.specs.TreeLaws.{HasTextsOnce}
 use Rattle.dwc_base.specs.TreeReading.{CarriesTrees}
 use Rattle.dwc_write.specs.GivenTrees.{given_trees}
 use Rattle.dwc_write.specs.ReadBack.{ReadsBack}
@@ -21,6 +22,7 @@ use Rattle.dwc_write.specs.UsedTexts.{texts_bytes, texts_used}
 use Rattle.dwc_write.specs.WidestGiven.{IsWideRefusal}
 use Rattle.dwc_write.proofs.ReadTexts.{all-placed, laid-short, text-places-are}
 use Rattle.dwc_write.proofs.SaidTexts.{texts-widely}
+use Rattle.dwc_write.proofs.TextsOnce.{texts-once}
 use Rattle.dwc_write.proofs.WideLaws.{err-exit}
 use Rattle.dwc_write.proofs.OutputLaws.{all-appended, refusal-of-all, if-ok-both, if-ok-weaker, output-sections, sections-rise}
 use Rattle.dwc_write.proofs.OutputForms.{distinct-names}
@@ -123,6 +125,17 @@ returns-clause-trees c =
     let texts : AreTexts table = subst AreTexts c.drop-2.view_is c.drop-2.invariant in
     let P : List OutputSection → Type 0 = λ ss. CarriesTrees c.args.order (given_trees table us) ss in
     if-ok-both c.gather.result _ _ _ (λ s is sound. subst P (sym is) (carries-trees c.args.order table us c.requires.units c.requires.texts texts.plain fits lines (subst Q is sound))) (returns-clause-sections c) (returns-clause-sound c)
+
+pub returns-clause-texts_once : goal.returns-clause-texts_once
+returns-clause-texts_once c =
+    let us = map ordered c.args.dwarf.units.units.items in
+    let table = c.args.dwarf.strings in
+    let fits = rw (c.as_slice-units.ensures.value) at c.in_ok-sections.ensures.fits in
+    let lines = rw (c.as_slice-units.ensures.value) at c.in_ok-sections.ensures.lines in
+    let Q : List OutputSection → Type 0 = λ ss. All (IsSound c.args.order) ss in
+    let texts : AreTexts table = subst AreTexts c.drop-2.view_is c.drop-2.invariant in
+    let P : List OutputSection → Type 0 = λ ss. HasTextsOnce (output_sections c.args.order ss) in
+    if-ok-both c.gather.result _ _ _ (λ s is sound. subst P (sym is) (texts-once c.args.order table us c.requires.units c.requires.texts texts fits lines (subst Q is sound))) (returns-clause-sections c) (returns-clause-sound c)
 
 pub returns-clause-form : goal.returns-clause-form
 returns-clause-form c =
