@@ -117,8 +117,8 @@ module _ (texts : List (List ℕ)) (dss : List (List ℕ)) (us : List GivenUnit)
   units-in-order number [] (v ∷ vs) all there go = absurd all
   units-in-order number (ds ∷ css) [] all there go = absurd all
   units-in-order number (ds ∷ css) (v ∷ vs) all there go =
-      let both = and_parts _ _ go in
       let here : slice_get (map ordered us) number ≡ Some (ordered v) = ap (slice_get (map ordered us)) (omega arith) ∙ there 0 in
+      let both = and_parts _ _ go in
       ap (λ t. t ∷ trees_from texts (map ordered us) (suc number) (map ordered vs)) (unit-in-order number ds v all.0 here both.0)
       ∙ ap (λ ts. tree_meant texts number ds v.additions ∷ ts) (units-in-order (suc number) css vs all.1 (λ i. ap (slice_get (map ordered us)) (omega arith) ∙ there (suc i)) both.1)
 
