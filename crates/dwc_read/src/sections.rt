@@ -81,10 +81,11 @@ impl<'d> Sections<'d> {
     pub fn bytes(&self, name: SectionName) -> &'d [u8]
         ensures bytes { result.now ≡ self.now.bytes name }
         ensures length { length result.now < 2 ^ 32 }
+        ensures below { All (λ b. b < 256) (self.now.bytes name) }
     {
         match self.held {
-            Held::Module(sections) => sections.get(name),
-            Held::Output(sections) => body_of(sections, name.text()),
+            Held::Module(sections) => all_below_256(sections.get(name)),
+            Held::Output(sections) => all_below_256(body_of(sections, name.text())),
         }
     }
 
@@ -97,6 +98,14 @@ impl<'d> Sections<'d> {
             Held::Output(sections) => relocations_of(sections, name.text()),
         }
     }
+}
+
+// The same bytes. That each is below 256 is known of what a call is given.
+fn all_below_256(bytes: &[u8]) -> &[u8]
+    ensures same { result.now ≡ bytes.now }
+    ensures below { All (λ b. b < 256) bytes.now }
+{
+    bytes
 }
 
 // The first section of a name.

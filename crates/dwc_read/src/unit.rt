@@ -1,5 +1,5 @@
 //! A unit of `.debug_info`.
-ghost use Rattle.std.specs.Prelude.{◌≡◌, ◌<◌, ◌^◌, length, take, IsTrue, IfOk};
+ghost use Rattle.std.specs.Prelude.{◌≡◌, ◌<◌, ◌^◌, length, take, All, IsTrue, IfOk};
 ghost use Rattle.dwc_base.specs.FieldSizes.{is_field_size};
 
 use crate::bases::bases_of_unit;
@@ -172,6 +172,7 @@ impl<'d> Unit<'d> {
     pub fn section(&self, name: SectionName) -> &'d [u8]
         ensures bytes { result.now ≡ self.now.sections.bytes name }
         ensures length { length result.now < 2 ^ 32 }
+        ensures below { All (λ b. b < 256) (self.now.sections.bytes name) }
     {
         self.sections.bytes(name)
     }
