@@ -9,7 +9,7 @@ use Rattle.dwc_base.specs.declared.faults.Flaw.TheVariants.{Malformed, Refused}
 use Rattle.dwc_base.specs.declared.faults.Kind.TheVariants.{AddressSize, Format64, TypeUnit, Version}
 use Rattle.dwc_base.specs.declared.section_name.SectionName.TheVariants.{Info}
 use Rattle.dwc_base.specs.Reading.{Unread, Read, ◌>>=◌, number_at, uleb_at}
-use Rattle.dwc_base.specs.Listing.{Listing, only_fault}
+use Rattle.dwc_base.specs.Listing.{Listing, only_fault, with_first}
 use Rattle.dwc_base.specs.Sections.{Sections, Fault, section_from}
 use Rattle.dwc_base.specs.Abbreviations.{AttributeSpec, Declaration, declaration_of, abbreviation_table}
 use Rattle.dwc_base.specs.Units.{UnitHeader, sized_part_at, header_to_4, header_of_5, dwo_id_at, unit_header_at, unit_headers_from, unit_headers}
@@ -208,3 +208,12 @@ attribute-read name e v is found = go e.attributes is.values found
             let is : x.1 ≡ v = cc in
             subst (IsReadValue name) is (subst (λ n. IsReadValue n x.1) (eqb-true x.0 name same) (All-head (λ a. IsReadValue a.0 a.1) x xs all))
         first false other at rest = rest at
+
+-- ---- one by one
+
+-- What holds of all that is listed holds of the first, and of the others.
+pub first-listed : {F A : Type 0} (P : A → Type 0) (x : A) (old new : Listing F A) → old ≡ with_first x new → All P old.items → P x
+first-listed {F} {A} P x old new e h = All-head P x new.items (subst (λ (l : Listing F A). All P l.items) e h)
+
+pub others-listed : {F A : Type 0} (P : A → Type 0) (x : A) (old new : Listing F A) → old ≡ with_first x new → All P old.items → All P new.items
+others-listed {F} {A} P x old new e h = All-tail P x new.items (subst (λ (l : Listing F A). All P l.items) e h)

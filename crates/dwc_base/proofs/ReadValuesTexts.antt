@@ -1,11 +1,18 @@
 -- A text that a value names has no zero byte.
-use Rattle.std.proofs.Common.{◌≡◌, ℕ, ◌<◌, List, Option, Some, None, Ok}
+use Rattle.std.proofs.Common.{◌≡◌, ℕ, ◌<◌, ap, List, Option, Some, None, Result, Ok, Err}
 use Rattle.std.specs.Prelude.{drop}
 use Rattle.std.specs.List.{All}
 use Rattle.std.specs.Option.{IfSome}
 use Rattle.dwc_base.specs.declared.records.Endian.{Endian}
 use Rattle.dwc_base.specs.Reading.{◌>>=◌, text_at}
 use Rattle.dwc_base.specs.Values.{Value, address, address_index, constant, flag, block, expression, text, text_reference, line_reference, range_reference, range_index, location_reference, location_index, unit_reference, info_reference, dropped}
+use Rattle.dwc_base.specs.declared.faults.Flaw.{Flaw}
+use Rattle.dwc_base.specs.declared.faults.Flaw.TheVariants.{EndsEarly}
+use Rattle.dwc_base.specs.declared.faults.What.TheVariants.{Text}
+use Rattle.dwc_base.specs.declared.section_name.SectionName.TheVariants.{Info}
+use Rattle.dwc_base.specs.Sections.{Sections, Fault, reported}
+use Rattle.dwc_base.specs.Units.{UnitHeader}
+use Rattle.dwc_base.specs.Indexed.{texts_of_unit, text_in_unit}
 use Rattle.dwc_base.specs.Texts.{TextSource, text_in, offset_of_text, texts_of_form, text_elsewhere, text_named}
 use Rattle.dwc_base.specs.ReadValues.{IsReadValue}
 use Rattle.dwc_base.proofs.ReadValuesParts.{Holds, Holds-bind, Holds-behind, Holds-at, text_at-plain}
@@ -51,3 +58,15 @@ text_named-plain src name dropped i = record { held = tt }
 -- The text that a value names which was read under a name.
 pub text-read : (src : TextSource) (name : ℕ) (v : Value) (bytes : List ℕ) → IsReadValue name v → text_named src v ≡ Ok (Some bytes) → All (λ b. 0 < b) bytes
 text-read src name v bytes i e = Holds-at (Some bytes) (text_named-plain src name v i) e
+
+-- The same by the call of a unit, which tells the unit's place where there is no text.
+pub text_in_unit-read : (s : Sections) (h : UnitHeader) (name : ℕ) (v : Value) (bytes : List ℕ) → IsReadValue name v → text_in_unit s h v ≡ Ok (Some bytes) → All (λ b. 0 < b) bytes
+text_in_unit-read s h name v bytes i e = go (text_named (texts_of_unit s h) v) (text_named-plain (texts_of_unit s h) name v i) e
+  where
+    go : (r : Result (Option (List ℕ)) Flaw) → Holds (λ o. IfSome o IsPlain) r → reported Text Info h.offset r ≡ Ok (Some bytes) → IsPlain bytes
+    go (Ok o) k e = Holds-at {P = λ o. IfSome o IsPlain} {r = Ok o} (Some bytes) k (ap again e)
+      where
+        again : Result (Option (List ℕ)) Fault → Result (Option (List ℕ)) Flaw
+        again (Ok x) = Ok x
+        again (Err fault) = Err EndsEarly
+    go (Err flaw) k e = absurd (cc)
