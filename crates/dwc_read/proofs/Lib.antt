@@ -14,3 +14,4 @@ pub mod BasesLaws
 pub mod LowPcLaws
 pub mod FirstBaseLaws
 pub mod IndexCases
+pub mod ReadValueLaws
