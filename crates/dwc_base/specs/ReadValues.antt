@@ -15,8 +15,8 @@ is_constant_form form =
 abbrev pub constant_bound : ℕ → ℕ
 constant_bound form = if form == DW_FORM_data1 then 256 ^ 1 else (if form == DW_FORM_data2 then 256 ^ 2 else (if form == DW_FORM_data4 then 256 ^ 4 else 2 ^ 64))
 
--- A value that was read under a name: a constant fits its form, a block under the name of an expression is one, and a text in
--- place ends before its first 0.
+-- A value that was read under a name: a constant fits its form, a block stands under no name whose blocks are expressions, and
+-- a text in place has no zero byte.
 abbrev pub IsReadValue : ℕ → Value → Type 0
 IsReadValue name (constant form bits) = (is_constant_form form ≡ true) × (bits < constant_bound form)
 IsReadValue name (block bytes) = is_expression_name name ≡ false
