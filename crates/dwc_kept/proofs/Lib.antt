@@ -16,3 +16,5 @@ pub mod ReadLaws
 pub mod StandingLaws
 pub mod GraphLaws
 pub mod RequiredLaws
+pub mod KeptDepths
+pub mod KeptStanding

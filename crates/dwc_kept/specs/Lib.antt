@@ -4,3 +4,4 @@ pub mod UnitOffsets
 pub mod ReadEntries
 pub mod ReadingSeen
 pub mod ReadGraphs
+pub mod KeptUnits
