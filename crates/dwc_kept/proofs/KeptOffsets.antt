@@ -11,7 +11,7 @@ use Rattle.dwc_kept.proofs.KeptLaws.{place-in, in-place}
 use Rattle.dwc_kept.proofs.MarkLaws.{same-truth, marks-are-kept}
 
 -- two tests that agree on a list
-filter-same : {A : Type 0} (f g : A → Bool) (xs : List A) → ((x : A) → IsIn x xs → f x ≡ g x) → filter f xs ≡ filter g xs
+pub filter-same : {A : Type 0} (f g : A → Bool) (xs : List A) → ((x : A) → IsIn x xs → f x ≡ g x) → filter f xs ≡ filter g xs
 filter-same f g [] h = refl
 filter-same {A} f g (x ∷ xs) h =
     ap (λ b. cond {A = List A} b (x ∷ filter f xs) (filter f xs)) (h x (inl refl))
@@ -54,7 +54,7 @@ steps-filter zero [] required few apart within = go required within
 steps-filter zero (e ∷ es) required few apart within = absurd (omega (arith, few))
 steps-filter (suc n) es required few apart within = step-filter es (steps_of n es required) apart
 
-kept-filter : (es required : List Placed) → AllPairs (λ e f. e.entry.offset ≢ f.entry.offset) es → ((e : Placed) → IsIn e required → IsIn e es) → filter (λ e. has_place (kept_with es required) e.entry.offset) es ≡ kept_with es required
+pub kept-filter : (es required : List Placed) → AllPairs (λ e f. e.entry.offset ≢ f.entry.offset) es → ((e : Placed) → IsIn e required → IsIn e es) → filter (λ e. has_place (kept_with es required) e.entry.offset) es ≡ kept_with es required
 unfolding kept_with
 kept-filter es required = steps-filter (length es) es required refl
 

@@ -18,3 +18,4 @@ pub mod GraphLaws
 pub mod RequiredLaws
 pub mod KeptDepths
 pub mod KeptStanding
+pub mod KeptInUnits
