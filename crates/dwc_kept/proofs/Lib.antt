@@ -19,3 +19,5 @@ pub mod RequiredLaws
 pub mod KeptDepths
 pub mod KeptStanding
 pub mod KeptInUnits
+pub mod KeptTrees
+pub mod KeptPlaces
