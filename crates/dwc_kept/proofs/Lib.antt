@@ -21,3 +21,4 @@ pub mod KeptStanding
 pub mod KeptInUnits
 pub mod KeptTrees
 pub mod KeptPlaces
+pub mod KeptReferences
