@@ -22,3 +22,4 @@ pub mod KeptInUnits
 pub mod KeptTrees
 pub mod KeptPlaces
 pub mod KeptReferences
+pub mod KeptUnitLaws
