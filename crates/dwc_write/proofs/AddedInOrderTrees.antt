@@ -9,7 +9,7 @@ use Rattle.dwc_base.specs.TreeLaws.{HasAllTargets, goes_somewhere, values_of}
 use Rattle.dwc_base.specs.TreeReading.{entry_or_nothing}
 use Rattle.dwc_write.specs.declared.attributes.Attribute.{Attribute}
 use Rattle.dwc_write.specs.declared.attributes.AttributeValue.{AttributeValue}
-use Rattle.dwc_write.specs.declared.attributes.AttributeValue.TheVariants.{Address, Constant, Flag, StringRef, LineProgramRef, UnitRef, DebugInfoRef}
+use Rattle.dwc_write.specs.declared.attributes.AttributeValue.TheVariants.{Address, Constant, Flag, Block, Exprloc, StringRef, LineProgramRef, UnitRef, DebugInfoRef}
 use Rattle.dwc_write.specs.declared.attributes.DebugInfoRef.TheVariants.{Entry}
 use Rattle.dwc_write.specs.GivenUnits.{Addition, GivenUnit, entry_at, ordered}
 use Rattle.dwc_write.specs.GivenTrees.{attribute_said, given_said, given_tree, given_trees, place_in_order, tree_entry, trees_from}
@@ -78,6 +78,8 @@ module _ (texts : List (List ℕ)) (dss : List (List ℕ)) (us : List GivenUnit)
   value-in-order number u (Address a) here goes = refl
   value-in-order number u (Constant form bits) here goes = refl
   value-in-order number u (Flag b) here goes = refl
+  value-in-order number u (Block bytes) here goes = refl
+  value-in-order number u (Exprloc e) here goes = refl
   value-in-order number u (StringRef id) here goes = refl
   value-in-order number u LineProgramRef here goes = refl
   value-in-order number u (UnitRef id) here goes =

@@ -1,13 +1,12 @@
 -- Texts that stand in `.debug_str` are read at their offsets: `text-read`. Where all of a table stand: `text-places-are`.
-use Rattle.std.proofs.Common.{◌≡◌, ◌≢◌, ℕ, zero, suc, ◌+◌, ◌<◌, ◌≤◌, refl, sym, ap, subst, ◌∙◌, arith, List, [], ◌∷◌, ◌++◌, append_assoc, length, length-append, map, drop, get_or, Bool, true, false, ltb, Option, Some, None, Ok}
-use Rattle.std.specs.Prelude.{◌-◌, ◌==◌, ◌||◌, if◌then◌else◌, is_some}
-use Rattle.std.specs.List.{All, flat_map, list_any, range_with_len}
+use Rattle.std.proofs.Common.{◌≡◌, ℕ, zero, suc, ◌+◌, ◌<◌, ◌≤◌, refl, sym, ap, ◌∙◌, arith, List, [], ◌∷◌, ◌++◌, append_assoc, length, length-append, drop, Bool, true, false, ltb, Option, Some, None, Ok}
+use Rattle.std.specs.Prelude.{◌-◌, ◌==◌, ◌||◌, if◌then◌else◌}
+use Rattle.std.specs.List.{All, list_any}
 use Rattle.std.specs.Option.{unwrap_or}
 use Rattle.std.proofs.lemmas.Bool.{eq-eqb, eqb-true, ltb-true, ltb-false}
 use Rattle.std.proofs.lemmas.List.{ext_get_or}
-use Rattle.std.proofs.lemmas.List.Elements.{All-cons, All-head, All-tail, All-nil}
+use Rattle.std.proofs.lemmas.List.Elements.{All-cons, All-nil}
 use Rattle.std.proofs.lemmas.List.FromFn.{get_or-map-range_with_len, length-map-range_with_len}
-use Rattle.std.proofs.Math.Seq.{drop-append_seam}
 use Rattle.dwc_base.specs.declared.records.Endian.{Endian}
 use Rattle.dwc_base.specs.Reading as reading
 use Rattle.dwc_base.specs.Reading.{◌>>=◌}
@@ -17,11 +16,10 @@ use Rattle.dwc_write.specs.declared.text_layout.TextLayout.{TextLayout}
 use Rattle.dwc_write.specs.TextTables.{IsText}
 use Rattle.dwc_write.specs.GivenUnits.{OrderedUnit, place_of}
 use Rattle.dwc_write.specs.Layouts.{AllPlaces, UnitPlaces, offset_of_text}
-use Rattle.dwc_write.specs.UsedTexts.{with_number, with_numbers, text_numbered, texts_bytes, strings_bytes, texts_named, texts_used, place_of_text, text_places}
+use Rattle.dwc_write.specs.UsedTexts.{with_number, with_numbers, text_numbered, texts_bytes, strings_bytes, texts_used, place_of_text, text_places}
 use Rattle.dwc_write.specs.TextViews.{IsTextLayout}
 use Rattle.dwc_write.specs.Writers.{most_bytes}
 use Rattle.dwc_write.proofs.ReadParts.{text_at-front}
-use Rattle.dwc_write.proofs.TextLaws.{any-placed}
 use Rattle.dwc_write.proofs.UnitLaws.{place_get}
 
 -- ---- where texts stand

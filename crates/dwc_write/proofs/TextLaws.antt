@@ -1,8 +1,8 @@
 -- Texts that are laid out in the order of first use: one more text, and the texts of one part behind another.
-use Rattle.std.proofs.Common.{◌≡◌, ◌≢◌, ℕ, zero, suc, ◌+◌, ◌<◌, ◌≤◌, refl, sym, ap, subst, ◌∙◌, arith, List, [], ◌∷◌, ◌++◌, append_assoc, append-nil, length, length-append, map, drop, get_or, fold, replicate, Bool, true, false, ltb, Option, Some, None, Ok, Err}
+use Rattle.std.proofs.Common.{◌≡◌, ◌≢◌, ℕ, zero, suc, ◌+◌, ◌<◌, ◌≤◌, refl, sym, ap, subst, ◌∙◌, arith, List, [], ◌∷◌, ◌++◌, append_assoc, append-nil, length, length-append, map, drop, get_or, replicate, Bool, true, false, Option, Some, None, Err}
 use Rattle.std.specs.Prelude.{Result, IfErr, ◌==◌, ◌||◌, if◌then◌else◌, is_some, slice_set}
 use Rattle.std.specs.List.{All, flat_map, list_any}
-use Rattle.std.specs.Option.{option_or, unwrap_or}
+use Rattle.std.specs.Option.{option_or}
 use Rattle.std.proofs.lemmas.Bool.{eqb-false, eqb-true}
 use Rattle.std.proofs.lemmas.List.{drop_all, length-replicate, length-set, map-append}
 use Rattle.std.proofs.lemmas.List.Elements.{All-push, All-nil}

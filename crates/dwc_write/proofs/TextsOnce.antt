@@ -24,7 +24,7 @@ use Rattle.dwc_base.specs.Values.{Value, is_expression_name, is_location_name, i
 use Rattle.dwc_base.specs.Values as Values
 use Rattle.dwc_write.specs.declared.attributes.Attribute.{Attribute}
 use Rattle.dwc_write.specs.declared.attributes.AttributeValue.{AttributeValue}
-use Rattle.dwc_write.specs.declared.attributes.AttributeValue.TheVariants.{Address, Constant, Flag, StringRef, LineProgramRef, UnitRef, DebugInfoRef}
+use Rattle.dwc_write.specs.declared.attributes.AttributeValue.TheVariants.{Address, Constant, Flag, Block, Exprloc, StringRef, LineProgramRef, UnitRef, DebugInfoRef}
 use Rattle.dwc_write.specs.declared.attributes.DebugInfoRef.TheVariants.{Entry as entry_of}
 use Rattle.dwc_write.specs.SpelledUnits.{Written, as_addr, as_data1, as_data2, as_data4, as_data8, as_udata, as_sdata, as_flag, as_block, as_exprloc, as_strp, as_ref4, as_ref_addr, as_sec_offset, header_length, shaped, written_value}
 use Rattle.dwc_write.specs.SpelledTables.{table_bytes}
@@ -113,6 +113,8 @@ module _ (texts : List (List ℕ)) (offsets : List (Option ℕ)) (source : TextS
   value-place name (Address a) rest readable = ap (λ o. cons_option o rest) (no-place source name (as_addr a) tt)
   value-place name (Constant form bits) rest readable = ap (λ o. cons_option o rest) (no-place source name (constant_of form bits) (constant-none form bits))
   value-place name (Flag b) rest readable = ap (λ o. cons_option o rest) (no-place source name (as_flag b) tt)
+  value-place name (Block bytes) rest readable = ap (λ o. cons_option o rest) (no-place source name (as_block bytes.items) tt)
+  value-place name (Exprloc e) rest readable = ap (λ o. cons_option o rest) (no-place source name (as_exprloc e.bytes.items) tt)
   value-place name LineProgramRef rest readable = ap (λ o. cons_option o rest) (no-place source name (as_sec_offset p.line) tt)
   value-place name (UnitRef id) rest readable = ap (λ o. cons_option o rest) (no-place source name (as_ref4 (p.entry id.index)) tt)
   value-place name (DebugInfoRef (entry_of unit id)) rest readable = ap (λ o. cons_option o rest) (no-place source name (as_ref_addr (p.entry_of unit.index id.index)) tt)

@@ -1,9 +1,9 @@
 -- Units whose entries were added in file order: what they are to be, and what they say. (DWARF 4, section 2.3)
 use Rattle.std.specs.Prelude.{◌≡◌, ℕ, suc, ◌<◌, ◌≤◌, List, [], ◌∷◌, ◌++◌, map, length, get_or, Some}
-use Rattle.dwc_base.specs.Trees.{TreeValue, address, constant, flag, text, line_table, entry, TreeEntry, Tree}
+use Rattle.dwc_base.specs.Trees.{TreeValue, address, constant, flag, block, expression, text, line_table, entry, TreeEntry, Tree}
 use Rattle.dwc_write.specs.declared.attributes.Attribute.{Attribute}
 use Rattle.dwc_write.specs.declared.attributes.AttributeValue.{AttributeValue}
-use Rattle.dwc_write.specs.declared.attributes.AttributeValue.TheVariants.{Address, Constant, Flag, StringRef, LineProgramRef, UnitRef, DebugInfoRef}
+use Rattle.dwc_write.specs.declared.attributes.AttributeValue.TheVariants.{Address, Constant, Flag, Block, Exprloc, StringRef, LineProgramRef, UnitRef, DebugInfoRef}
 use Rattle.dwc_write.specs.declared.attributes.DebugInfoRef.TheVariants.{Entry}
 use Rattle.dwc_write.specs.GivenUnits.{Addition, GivenEntry, GivenUnit, entry_at, places_from}
 use Rattle.dwc_write.specs.FileOrders.{no_addition}
@@ -47,6 +47,8 @@ abbrev pub value_meant : List (List ℕ) → ℕ → AttributeValue → TreeValu
 value_meant texts number (Address a) = address a
 value_meant texts number (Constant form bits) = constant form bits
 value_meant texts number (Flag b) = flag b
+value_meant texts number (Block bytes) = block bytes.items
+value_meant texts number (Exprloc e) = expression e.bytes.items
 value_meant texts number (StringRef id) = text (text_numbered texts id.index)
 value_meant texts number LineProgramRef = line_table
 value_meant texts number (UnitRef id) = entry number id.index

@@ -3,7 +3,7 @@ use Rattle.std.specs.List.{All}
 use Rattle.dwc_write.specs.declared.layout.UnitLayout.{UnitLayout}
 use Rattle.dwc_write.specs.FileOrders.{looked_up}
 use Rattle.dwc_write.specs.GivenUnits.{GivenUnit, FitsEntry, FitsOrdered, in_file_order, ordered}
-use Rattle.dwc_write.specs.LayoutViews.{IsLaidOut, places_view, whole_view}
+use Rattle.dwc_write.specs.LayoutViews.{IsLaidOut, whole_view}
 use Rattle.dwc_write.specs.Layouts.{offsets_by_number, written_lines}
 use Rattle.dwc_write.specs.GivenLines.{GivenLines}
 use Rattle.dwc_write.specs.SpelledRelocations.{lines_relocations}

@@ -1,4 +1,4 @@
-use Rattle.std.proofs.Common.{◌≡◌, ℕ, ◌<◌, ◌++◌, ◌∷◌, [], List, ap, sym, subst, ◌∙◌, add-one, map, length, get_or}
+use Rattle.std.proofs.Common.{◌≡◌, ℕ, ◌++◌, ◌∷◌, [], List, ap, subst, ◌∙◌, add-one, map, length, get_or}
 use Rattle.std.proofs.lemmas.Result.{err_from_is_err_and}
 use Rattle.dwc_write.specs.UsedTexts.{text_numbered, texts_bytes}
 use Rattle.dwc_write.specs.Writers.{Refuses, appended}
