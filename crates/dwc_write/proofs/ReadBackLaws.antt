@@ -85,7 +85,7 @@ constant-fits size false false false true f bits small = omega (arith, small)
 constant-fits size false false false false true bits small = signed-fits size bits small
 constant-fits size false false false false false bits small = small
 
--- a list that is held is not longer than a length can say
+-- What a `Vec` holds is shorter than 2^64, so a block's length can be read.
 pub vec-short : (bytes : Vec ℕ Global) → length bytes.items < 2 ^ 64
 vec-short bytes = let long = bytes.ok.0 in let room = bytes.ok.1 in let small = bytes.small in omega (arith, long, room, small)
 

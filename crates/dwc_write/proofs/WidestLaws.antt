@@ -152,6 +152,7 @@ constant-widest order size form bits known small =
     go false n false o false p false q false r true is known small = of_form _ DW_FORM_udata is (uleb-10 bits small)
     go false n false o false p false q false r false s known small = absurd (cc)
 
+-- bytes behind their length
 block-widest : (bytes : Vec ℕ Global) → length (block_bytes bytes.items) ≤ variable_bytes + length bytes.items
 block-widest bytes = omega (arith, uleb-10 (length bytes.items) (vec-short bytes), length-append (uleb_bytes (length bytes.items)) bytes.items)
 
