@@ -1,43 +1,47 @@
 -- What is read of the entries of a module is their graph.
-use Rattle.std.proofs.Common.{◌≡◌, ℕ, zero, suc, ◌+◌, ◌-◌, ◌^◌, ◌<◌, ◌≤◌, ◌⊎◌, ◌≢◌, List, [], ◌∷◌, ◌++◌, length, get_or, map, take, refl, ap, sym, subst, ◌∙◌, inl, inr, arith, append_assoc, Bool, true, false, cond, Option, Some, None, All}
+use Rattle.std.proofs.Common.{◌≡◌, ℕ, zero, suc, ◌+◌, ◌-◌, ◌^◌, ◌<◌, ◌≤◌, ◌⊎◌, ◌≢◌, List, [], ◌∷◌, ◌++◌, length, get_or, map, take, refl, ap, ap₂, sym, subst, ◌∙◌, inl, inr, arith, append_assoc, Bool, true, false, cond, Option, Some, None, All}
 use Rattle.std.specs.Prelude.{◌==◌, ◌&&◌, ◌||◌, not, nat_lt, if◌then◌else◌, option_map, AllPairs}
 use Rattle.std.specs.Option.{option_or}
-use Rattle.std.specs.List.{filter, filter_map, list_any, take_while, cons_option, prefix_len}
+use Rattle.std.specs.List.{filter, flat_map, filter_map, list_any, take_while, cons_option, prefix_len}
 use Rattle.std.proofs.lemmas.Bool.{eqb-true, eq-eqb, ne_eqb, cases_Bool, cases_order, cases_eq, ltb-true, ltb-false, and_from, and_parts, and_left, and_right, not_from_false}
 use Rattle.std.proofs.lemmas.List.{length_push, length-map, get_or_append_left, get_or_push, append-nil, map-append, take-append-le, take-map, take_all, length-take, get_or-take, same_lists}
 use Rattle.dwc_base.specs.Values.{Value, address, address_index, constant, flag, block, expression, text, text_reference, line_reference, range_reference, range_index, location_reference, location_index, unit_reference, info_reference, dropped}
 use Rattle.dwc_base.specs.Entries.{Entry, entries}
-use Rattle.dwc_base.specs.Sections.{Sections}
+use Rattle.dwc_base.specs.Sections.{Sections, Fault}
 use Rattle.dwc_base.specs.Units.{UnitHeader, unit_headers}
 use Rattle.dwc_base.specs.Functions.{Function}
 use Rattle.dwc_base.specs.Wasm.{last_of}
-use Rattle.dwc_base.specs.Kept.{Placed, same_place, parent_of, is_parent, names_entry, refers_to, is_part_tag, is_part_of, keeps, is_required}
+use Rattle.dwc_base.specs.Kept.{Placed, same_place, parent_of, is_parent, names_entry, refers_to, is_part_tag, is_part_of, keeps}
+use Rattle.dwc_base.specs.EntryRules.{is_required}
+use Rattle.dwc_base.specs.declared.records.Endian.TheVariants.{Little}
+use Rattle.dwc_base.specs.Listing.{Listing}
 use Rattle.dwc_base.specs.declared.constants.TheConstants.{DW_AT_sibling, DW_TAG_constant, DW_TAG_namespace, DW_TAG_variable}
 use Rattle.dwc_kept.specs.declared.last_at.LastAt.{LastAt}
 use Rattle.dwc_kept.specs.EntryGraphs.{Node, no_node, node, is_number, keeps_number, IsGraphOf}
 use Rattle.dwc_kept.specs.ReadEntries.{ReadSoFar, none_read, last_above, with_last_at, node_below, is_part_below, small_offset, named_offset, attribute_offset, with_entry_read, with_entries_read, with_units_read}
 use Rattle.dwc_kept.specs.ReadGraphs.{Standing, standing, placed, IsModuleGraph}
 use Rattle.dwc_kept.specs.ReadingSeen.{IsRead}
-use Rattle.dwc_base.specs.Carried.{units}
+use Rattle.dwc_base.specs.Carried.{Unit, units_of_headers, units}
 use Rattle.dwc_kept.proofs.LastLaws.{last-here, last-other}
+use Rattle.dwc_kept.proofs.ReadLaws.{first-unit, first-fault}
 use Rattle.dwc_kept.proofs.MarkLaws.{same-truth}
 use Rattle.dwc_kept.proofs.StandingLaws.{InOrder, in-order, placed-standing, unit-offsets, offsets-unit}
 
 -- ---- one entry after another
 
-with_all : List Function → List Standing → ReadSoFar → ReadSoFar
-with_all fs [] r = r
-with_all fs (q ∷ qs) r = with_all fs qs (with_entry_read fs q.unit q.end q.entry r)
+with_all : (UnitHeader → Entry → Bool) → List Standing → ReadSoFar → ReadSoFar
+with_all needed [] r = r
+with_all needed (q ∷ qs) r = with_all needed qs (with_entry_read (needed q.header) q.header q.entry r)
 
-all-unit : (fs : List Function) (unit end : ℕ) (es : List Entry) (rest : List Standing) (r : ReadSoFar) → with_all fs (map (λ e. record { unit = unit; end = end; entry = e }) es ++ rest) r ≡ with_all fs rest (with_entries_read fs unit end es r)
+all-unit : (needed : UnitHeader → Entry → Bool) (h : UnitHeader) (es : List Entry) (rest : List Standing) (r : ReadSoFar) → with_all needed (map (λ e. record { header = h; entry = e }) es ++ rest) r ≡ with_all needed rest (with_entries_read (needed h) h es r)
 unfolding with_all
-all-unit fs unit end [] rest r = refl
-all-unit fs unit end (e ∷ es) rest r = all-unit fs unit end es rest (with_entry_read fs unit end e r)
+all-unit needed h [] rest r = refl
+all-unit needed h (e ∷ es) rest r = all-unit needed h es rest (with_entry_read (needed h) h e r)
 
-all-units : (fs : List Function) (s : Sections) (hs : List UnitHeader) (r : ReadSoFar) → with_units_read fs s hs r ≡ with_all fs (standing s hs) r
+all-units : (needed : UnitHeader → Entry → Bool) (s : Sections) (hs : List UnitHeader) (r : ReadSoFar) → with_units_read needed s hs r ≡ with_all needed (standing s hs) r
 unfolding with_all
-all-units fs s [] r = refl
-all-units fs s (h ∷ hs) r = all-units fs s hs (with_entries_read fs h.offset h.end (entries s h).items r) ∙ sym (all-unit fs h.offset h.end (entries s h).items (standing s hs) r)
+all-units needed s [] r = refl
+all-units needed s (h ∷ hs) r = all-units needed s hs (with_entries_read (needed h) h (entries s h).items r) ∙ sym (all-unit needed h (entries s h).items (standing s hs) r)
 
 -- the last entry at a depth, of some that are numbered from a number on
 pub last_from : ℕ → List Standing → ℕ → Option LastAt
@@ -62,27 +66,27 @@ above qs zero = None
 above qs (suc depth) = last_from 0 qs depth
 
 -- What was read describes some entries.
-pub record Describes (fs : List Function) (qs : List Standing) (r : ReadSoFar) : Type 0 where
+pub record Describes (needed : UnitHeader → Entry → Bool) (qs : List Standing) (r : ReadSoFar) : Type 0 where
   pub counted : length r.nodes ≡ length qs
-  pub nodes : (i : ℕ) (d : Standing) → i < length qs → node r.nodes i ≡ node_below (get_or qs i d).unit (get_or qs i d).end (above (take i qs) (get_or qs i d).entry.depth) (get_or qs i d).entry
+  pub nodes : (i : ℕ) (d : Standing) → i < length qs → node r.nodes i ≡ node_below (get_or qs i d).header.offset (get_or qs i d).header.end (above (take i qs) (get_or qs i d).entry.depth) (get_or qs i d).entry
   pub lasts : (depth : ℕ) → get_or r.lasts depth None ≡ last_from 0 qs depth
-  pub required : r.required ≡ map (λ q. is_required fs q.entry) qs
+  pub required : r.required ≡ map (λ q. needed q.header q.entry) qs
 
-module _ (fs : List Function) where
-  describes-none : Describes fs [] none_read
+module _ (needed : UnitHeader → Entry → Bool) where
+  describes-none : Describes needed [] none_read
   unfolding last_from
   describes-none = record { counted = refl; nodes = λ i d less. absurd (omega (arith, less)); lasts = λ depth. refl; required = refl }
 
-  describes-push : (qs : List Standing) (q : Standing) (r : ReadSoFar) → Describes fs qs r → Describes fs (qs ++ q ∷ []) (with_entry_read fs q.unit q.end q.entry r)
+  describes-push : (qs : List Standing) (q : Standing) (r : ReadSoFar) → Describes needed qs r → Describes needed (qs ++ q ∷ []) (with_entry_read (needed q.header) q.header q.entry r)
   describes-push qs q r is = record {
     counted = omega (arith, length_push r.nodes new, length_push qs q, is.counted);
     nodes = λ i d less. nodes i d less (cases_order i (length qs));
     lasts = λ depth. lasts depth (cases_eq depth q.entry.depth);
-    required = ap (λ bs. bs ++ is_required fs q.entry ∷ []) is.required ∙ sym (map-append (λ q. is_required fs q.entry) qs (q ∷ []));
+    required = ap (λ bs. bs ++ needed q.header q.entry ∷ []) is.required ∙ sym (map-append (λ q. needed q.header q.entry) qs (q ∷ []));
   }
     where
       new : Node
-      new = node_below q.unit q.end (last_above r.lasts q.entry.depth) q.entry
+      new = node_below q.header.offset q.header.end (last_above r.lasts q.entry.depth) q.entry
 
       above-same : (depth : ℕ) → last_above r.lasts depth ≡ above qs depth
       above-same zero = refl
@@ -103,28 +107,28 @@ module _ (fs : List Function) where
           ∙ sym (push depth ∙ ap (λ b. cond b (Some own) (last_from 0 qs depth)) (ne_eqb q.entry.depth depth (λ e. d (sym e))))
 
       nodes : (i : ℕ) (d : Standing) → i < length (qs ++ q ∷ []) → (i ≡ length qs) ⊎ ((i < length qs) ⊎ (length qs < i))
-          → node (r.nodes ++ new ∷ []) i ≡ node_below (get_or (qs ++ q ∷ []) i d).unit (get_or (qs ++ q ∷ []) i d).end (above (take i (qs ++ q ∷ [])) (get_or (qs ++ q ∷ []) i d).entry.depth) (get_or (qs ++ q ∷ []) i d).entry
+          → node (r.nodes ++ new ∷ []) i ≡ node_below (get_or (qs ++ q ∷ []) i d).header.offset (get_or (qs ++ q ∷ []) i d).header.end (above (take i (qs ++ q ∷ [])) (get_or (qs ++ q ∷ []) i d).entry.depth) (get_or (qs ++ q ∷ []) i d).entry
       nodes i d less (inl e) =
           let here : get_or (qs ++ q ∷ []) i d ≡ q = get_or_push qs q d i (sym e) in
           let before : take i (qs ++ q ∷ []) ≡ qs = take-append-le i qs (q ∷ []) (omega (arith, e)) ∙ take_all i qs (omega (arith, e)) in
           get_or_push r.nodes new no_node i (omega (arith, is.counted, e))
-          ∙ ap (λ o. node_below q.unit q.end o q.entry) (above-same q.entry.depth)
-          ∙ ap (λ xs. node_below q.unit q.end (above xs q.entry.depth) q.entry) (sym before)
-          ∙ ap (λ (x : Standing). node_below x.unit x.end (above (take i (qs ++ q ∷ [])) x.entry.depth) x.entry) (sym here)
+          ∙ ap (λ o. node_below q.header.offset q.header.end o q.entry) (above-same q.entry.depth)
+          ∙ ap (λ xs. node_below q.header.offset q.header.end (above xs q.entry.depth) q.entry) (sym before)
+          ∙ ap (λ (x : Standing). node_below x.header.offset x.header.end (above (take i (qs ++ q ∷ [])) x.entry.depth) x.entry) (sym here)
       nodes i d less (inr (inl below)) =
           let here : get_or (qs ++ q ∷ []) i d ≡ get_or qs i d = get_or_append_left qs (q ∷ []) d i below in
           get_or_append_left r.nodes (new ∷ []) no_node i (omega (arith, below, is.counted)) ∙ is.nodes i d below
-          ∙ ap (λ xs. node_below (get_or qs i d).unit (get_or qs i d).end (above xs (get_or qs i d).entry.depth) (get_or qs i d).entry) (sym (take-append-le i qs (q ∷ []) (omega (arith, below))))
-          ∙ ap (λ (x : Standing). node_below x.unit x.end (above (take i (qs ++ q ∷ [])) x.entry.depth) x.entry) (sym here)
+          ∙ ap (λ xs. node_below (get_or qs i d).header.offset (get_or qs i d).header.end (above xs (get_or qs i d).entry.depth) (get_or qs i d).entry) (sym (take-append-le i qs (q ∷ []) (omega (arith, below))))
+          ∙ ap (λ (x : Standing). node_below x.header.offset x.header.end (above (take i (qs ++ q ∷ [])) x.entry.depth) x.entry) (sym here)
       nodes i d less (inr (inr high)) = absurd (omega (arith, less, high, length_push qs q))
 
-  describes-all : (before qs : List Standing) (r : ReadSoFar) → Describes fs before r → Describes fs (before ++ qs) (with_all fs qs r)
+  describes-all : (before qs : List Standing) (r : ReadSoFar) → Describes needed before r → Describes needed (before ++ qs) (with_all needed qs r)
   unfolding with_all
-  describes-all before [] r is = subst (λ xs. Describes fs xs r) (sym (append-nil before)) is
-  describes-all before (q ∷ qs) r is = subst (λ xs. Describes fs xs (with_all fs qs (with_entry_read fs q.unit q.end q.entry r))) (append_assoc before (q ∷ []) qs) (describes-all (before ++ q ∷ []) qs (with_entry_read fs q.unit q.end q.entry r) (describes-push before q r is))
+  describes-all before [] r is = subst (λ xs. Describes needed xs r) (sym (append-nil before)) is
+  describes-all before (q ∷ qs) r is = subst (λ xs. Describes needed xs (with_all needed qs (with_entry_read (needed q.header) q.header q.entry r))) (append_assoc before (q ∷ []) qs) (describes-all (before ++ q ∷ []) qs (with_entry_read (needed q.header) q.header q.entry r) (describes-push before q r is))
 
-  pub described : (s : Sections) → Describes fs (standing s (unit_headers s).items) (with_units_read fs s (unit_headers s).items none_read)
-  described s = subst (Describes fs (standing s (unit_headers s).items)) (sym (all-units fs s (unit_headers s).items none_read)) (describes-all [] (standing s (unit_headers s).items) none_read describes-none)
+  pub described : (s : Sections) → Describes needed (standing s (unit_headers s).items) (with_units_read needed s (unit_headers s).items none_read)
+  described s = subst (Describes needed (standing s (unit_headers s).items)) (sym (all-units needed s (unit_headers s).items none_read)) (describes-all [] (standing s (unit_headers s).items) none_read describes-none)
 
 -- ---- parents
 
@@ -256,17 +260,20 @@ module _ (unit end place other : ℕ) (to : other ≡ unit → (unit ≤ place) 
 
 -- ---- the graph
 
-abbrev no_standing : Standing
-no_standing = record { unit = 0; end = 0; entry = record { offset = 0; depth = 0; tag = 0; attributes = [] } }
+abbrev no_header : UnitHeader
+no_header = record { offset = 0; end = 0; version = 0; address_size = 0; unit_type = 0; abbreviations = 0; dwo_id = None; content = record { order = Little; place = 0; left = [] } }
 
-module _ (fs : List Function) (qs : List Standing) (order : InOrder qs) (r : ReadSoFar) (read : Describes fs qs r) (small : All (λ n. n.offset < 2 ^ 32) r.nodes) where
+abbrev no_standing : Standing
+no_standing = record { header = no_header; entry = record { offset = 0; depth = 0; tag = 0; attributes = [] } }
+
+module _ (needed : UnitHeader → Entry → Bool) (qs : List Standing) (order : InOrder qs) (r : ReadSoFar) (read : Describes needed qs r) (small : All (λ n. n.offset < 2 ^ 32) r.nodes) where
   abbrev q_at : ℕ → Standing
   q_at i = get_or qs i no_standing
 
   abbrev p_at : ℕ → Placed
   p_at i = placed (get_or qs i no_standing)
 
-  node-is : (i : ℕ) → i < length qs → node r.nodes i ≡ node_below (q_at i).unit (q_at i).end (above (take i qs) (q_at i).entry.depth) (q_at i).entry
+  node-is : (i : ℕ) → i < length qs → node r.nodes i ≡ node_below (q_at i).header.offset (q_at i).header.end (above (take i qs) (q_at i).entry.depth) (q_at i).entry
   node-is i less = read.nodes i no_standing less
 
   -- entries in front of an entry stand at other offsets
@@ -341,16 +348,16 @@ module _ (fs : List Function) (qs : List Standing) (order : InOrder qs) (r : Rea
   node-offset : (j : ℕ) → j < length qs → (node r.nodes j).offset ≡ (q_at j).entry.offset
   node-offset j b = ap (λ n. n.offset) (node-is j b)
 
-  targets-same : (i j : ℕ) → i < length qs → j < length qs → list_any (λ o. o == (q_at j).entry.offset) (filter_map (attribute_offset (q_at i).unit (q_at i).end) (q_at i).entry.attributes) ≡ refers_to (p_at i) (p_at j)
+  targets-same : (i j : ℕ) → i < length qs → j < length qs → list_any (λ o. o == (q_at j).entry.offset) (filter_map (attribute_offset (q_at i).header.offset (q_at i).header.end) (q_at i).entry.attributes) ≡ refers_to (p_at i) (p_at j)
   targets-same i j a b =
-      names-all (q_at i).unit (q_at i).end (q_at j).entry.offset (q_at j).unit (unit-offsets qs order i j no_standing a b) (offsets-unit qs order i j no_standing a b)
+      names-all (q_at i).header.offset (q_at i).header.end (q_at j).entry.offset (q_at j).header.offset (unit-offsets qs order i j no_standing a b) (offsets-unit qs order i j no_standing a b)
       (omega (arith, small j no_node (omega (arith, b, read.counted)), node-offset j b)) (p_at i) (p_at j) refl refl refl (q_at i).entry.attributes
 
   keeps-same : (i j : ℕ) → i < length qs → j < length qs → keeps_number r.nodes i j ≡ keeps (map placed qs) (p_at i) (p_at j)
   keeps-same i j a b =
       ap (λ n. is_number j n.parent || list_any (λ offset. offset == (node r.nodes j).offset) n.targets || (is_number i (node r.nodes j).parent && (node r.nodes j).is_part)) (node-is i a)
-      ∙ ap (λ n. is_number j (option_map (λ l. l.number) (above (take i qs) (q_at i).entry.depth)) || list_any (λ offset. offset == n.offset) (filter_map (attribute_offset (q_at i).unit (q_at i).end) (q_at i).entry.attributes) || (is_number i n.parent && n.is_part)) (node-is j b)
-      ∙ ap (λ t. t || list_any (λ offset. offset == (q_at j).entry.offset) (filter_map (attribute_offset (q_at i).unit (q_at i).end) (q_at i).entry.attributes)
+      ∙ ap (λ n. is_number j (option_map (λ l. l.number) (above (take i qs) (q_at i).entry.depth)) || list_any (λ offset. offset == n.offset) (filter_map (attribute_offset (q_at i).header.offset (q_at i).header.end) (q_at i).entry.attributes) || (is_number i n.parent && n.is_part)) (node-is j b)
+      ∙ ap (λ t. t || list_any (λ offset. offset == (q_at j).entry.offset) (filter_map (attribute_offset (q_at i).header.offset (q_at i).header.end) (q_at i).entry.attributes)
       || (is_number i (option_map (λ l. l.number) (above (take j qs) (q_at j).entry.depth)) && is_part_below (above (take j qs) (q_at j).entry.depth) (q_at j).entry.tag)) (parent-same i j a b)
       ∙ ap (λ t. is_parent (map placed qs) (p_at i) (p_at j) || t || (is_number i (option_map (λ l. l.number) (above (take j qs) (q_at j).entry.depth)) && is_part_below (above (take j qs) (q_at j).entry.depth) (q_at j).entry.tag)) (targets-same i j a b)
       ∙ ap (λ t. is_parent (map placed qs) (p_at i) (p_at j) || refers_to (p_at i) (p_at j) || t) (part-same i j a b)
@@ -384,17 +391,46 @@ module _ (fs : List Function) (qs : List Standing) (order : InOrder qs) (r : Rea
       ap (λ (p : Placed). p.entry.offset) (sym (placed-at qs i d no_standing (omega (arith, below, b)))) ∙ same ∙ ap (λ (p : Placed). p.entry.offset) (placed-at qs j d no_standing b) in
       absurd (omega (arith, here, first.offsets))
 
+-- a unit of a header, with its entries
+abbrev pub unit_read : Sections → UnitHeader → Unit
+unit_read s h = record { header = h; entries = (entries s h).items }
+
+-- where units have no fault, they are those of their headers
+units-headers : (s : Sections) (hs : List UnitHeader) (last : Option Fault) → (units_of_headers s hs last).fault ≡ None → (units_of_headers s hs last).items ≡ map (unit_read s) hs
+units-headers s [] last none = refl
+units-headers s (h ∷ hs) last none = go (entries s h).fault refl (λ k. units-headers s hs last k)
+  where
+    go : (o : Option Fault) → (entries s h).fault ≡ o → ((units_of_headers s hs last).fault ≡ None → (units_of_headers s hs last).items ≡ map (unit_read s) hs) → (units_of_headers s (h ∷ hs) last).items ≡ map (unit_read s) (h ∷ hs)
+    go (Some fault) is rest = absurd (clash (sym (ap (λ (l : Listing Fault Unit). l.fault) (first-fault s h hs last fault is)) ∙ none))
+      where
+        clash : Some fault ≡ None → ⊥
+        clash e = cc
+    go None is rest =
+        let first = first-unit s h hs last is in
+        ap (λ (l : Listing Fault Unit). l.items) first ∙ ap (λ us. unit_read s h ∷ us) (rest (sym (ap (λ (l : Listing Fault Unit). l.fault) first) ∙ none))
+
+pub units-are : (s : Sections) → (units s).fault ≡ None → (units s).items ≡ map (unit_read s) (unit_headers s).items
+unfolding units
+units-are s none = units-headers s (unit_headers s).items (unit_headers s).fault none
+
 -- What is read of a module without a fault is the graph of its entries, and which of them are required.
-pub module-graph : (fs : List Function) (s : Sections) (r : ReadSoFar) → (units s).fault ≡ None → IsRead (with_units_read fs s (unit_headers s).items none_read) r → IsModuleGraph fs s r.nodes r.required
+pub module-graph : (fs : List Function) (s : Sections) (r : ReadSoFar) → (units s).fault ≡ None → IsRead (with_units_read (is_required fs s) s (unit_headers s).items none_read) r → IsModuleGraph fs s r.nodes r.required
 module-graph fs s r none read = record {
-  graph = subst (λ es. IsGraphOf es r.nodes) (sym (placed-standing s none)) (graph-of fs (standing s (unit_headers s).items) (in-order s) r about read.small);
-  required_are = about.required ∙ required-placed (standing s (unit_headers s).items) ∙ ap (map (λ e. is_required fs e.entry)) (sym (placed-standing s none));
-  apart = subst (AllPairs (λ e f. e.entry.offset ≢ f.entry.offset)) (sym (placed-standing s none)) (all-apart fs (standing s (unit_headers s).items) (in-order s) r about read.small);
+  graph = subst (λ es. IsGraphOf es r.nodes) (sym (placed-standing s none)) (graph-of (is_required fs s) (standing s (unit_headers s).items) (in-order s) r about read.small);
+  required_are = about.required ∙ sym (ap (flat_map (λ u. map (is_required fs s u.header) u.entries)) (units-are s none) ∙ required-standing (unit_headers s).items);
+  apart = subst (AllPairs (λ e f. e.entry.offset ≢ f.entry.offset)) (sym (placed-standing s none)) (all-apart (is_required fs s) (standing s (unit_headers s).items) (in-order s) r about read.small);
+  small = read.small;
 }
   where
-    about : Describes fs (standing s (unit_headers s).items) r
-    about = subst (Describes fs (standing s (unit_headers s).items)) (sym read.is) (described fs s)
+    about : Describes (is_required fs s) (standing s (unit_headers s).items) r
+    about = subst (Describes (is_required fs s) (standing s (unit_headers s).items)) (sym read.is) (described (is_required fs s) s)
 
-    required-placed : (qs : List Standing) → map (λ q. is_required fs q.entry) qs ≡ map (λ e. is_required fs e.entry) (map placed qs)
-    required-placed [] = refl
-    required-placed (q ∷ qs) = ap (λ bs. is_required fs q.entry ∷ bs) (required-placed qs)
+    required-unit : (h : UnitHeader) (es : List Entry) → map (is_required fs s h) es ≡ map (λ (q : Standing). is_required fs s q.header q.entry) (map (λ e. record { header = h; entry = e }) es)
+    required-unit h [] = refl
+    required-unit h (e ∷ es) = ap (λ bs. is_required fs s h e ∷ bs) (required-unit h es)
+
+    required-standing : (hs : List UnitHeader) → flat_map (λ u. map (is_required fs s u.header) u.entries) (map (unit_read s) hs) ≡ map (λ q. is_required fs s q.header q.entry) (standing s hs)
+    required-standing [] = refl
+    required-standing (h ∷ hs) =
+        ap₂ (λ xs ys. xs ++ ys) (required-unit h (entries s h).items) (required-standing hs)
+        ∙ sym (map-append (λ (q : Standing). is_required fs s q.header q.entry) (map (λ e. record { header = h; entry = e }) (entries s h).items) (standing s hs))

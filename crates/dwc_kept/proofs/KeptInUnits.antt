@@ -137,7 +137,7 @@ pub record AreKept (m : KeptModule) : Type 0 where
   pub kept : filter (λ p. has_place m.kept p.entry.offset) m.entries ≡ m.kept
   pub closed : (e f : Placed) → IsIn e m.entries → IsIn f m.entries → has_place m.kept e.entry.offset ≡ true → keeps m.entries e f ≡ true → has_place m.kept f.entry.offset ≡ true
 
-passing-in : (t : Unit → Entry → Bool) (us : List Unit) (p : Placed) → IsIn p (entries_passing t us) → IsIn p (placed_entries us)
+pub passing-in : (t : Unit → Entry → Bool) (us : List Unit) (p : Placed) → IsIn p (entries_passing t us) → IsIn p (placed_entries us)
 passing-in t [] p i = absurd i
 passing-in t (u ∷ us) p i = go (in-append (placed_at u.header.offset (filter (t u) u.entries)) (entries_passing t us) p i) (passing-in t us p)
   where

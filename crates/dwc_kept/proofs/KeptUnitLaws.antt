@@ -1,22 +1,20 @@
 -- The laws of the kept entries of units, for modules whose units are read without a fault, whatever is required of them.
-use Rattle.std.proofs.Common.{◌≡◌, ℕ, ◌^◌, ◌<◌, List, [], ◌∷◌, ◌++◌, length, map, refl, ap, ap₂, sym, ◌∙◌, Bool, Some, None, All}
+use Rattle.std.proofs.Common.{◌≡◌, ℕ, ◌^◌, ◌<◌, List, ◌∷◌, length, map, refl, Bool, Some, None, All}
 use Rattle.std.specs.Prelude.{◌==◌, nat_lt, AllPairs, option_and_then}
 use Rattle.std.specs.List.{filter, list_any}
-use Rattle.std.proofs.lemmas.List.Elements.{filter-append}
 use Rattle.dwc_base.specs.Trees.{place_among}
 use Rattle.dwc_base.specs.Values.{Value}
 use Rattle.dwc_base.specs.Entries.{Entry}
 use Rattle.dwc_base.specs.Carried.{Unit, Module, placed_entries, units, root}
-use Rattle.dwc_base.specs.Kept.{Placed, is_required}
-use Rattle.dwc_base.specs.KeptEntries.{kept_with}
-use Rattle.dwc_base.specs.KeptModules.{kept_module, kept_in, entries_passing}
+use Rattle.dwc_base.specs.Kept.{Placed}
+use Rattle.dwc_base.specs.KeptModules.{kept_module, kept_in}
+use Rattle.dwc_base.specs.Forests.{kept_of}
 use Rattle.dwc_base.specs.Targets.{target_of}
 use Rattle.dwc_kept.specs.ReadEntries.{named_offset}
 use Rattle.dwc_kept.specs.ReadGraphs.{kept_offsets}
 use Rattle.dwc_kept.specs.KeptUnits.{offsets_kept, kept_of_unit, is_in_unit, IsTree, AreEntryOffsets}
 use Rattle.dwc_kept.proofs.InLists.{IsIn}
-use Rattle.dwc_kept.proofs.KeptStanding.{placed_at}
-use Rattle.dwc_kept.proofs.KeptInUnits.{AreKept, are-kept, filter-map, in-unit, within-unit, offsets-order, some-in-unit, unit-lists}
+use Rattle.dwc_kept.proofs.KeptInUnits.{AreKept, are-kept, in-unit, within-unit, offsets-order, some-in-unit, unit-lists}
 use Rattle.dwc_kept.proofs.KeptTrees.{unit-kept, root-kept}
 use Rattle.dwc_kept.proofs.KeptReferences.{target-place}
 
@@ -65,13 +63,7 @@ module _ (required : Unit → Entry → Bool) (m : Module) where
         → AreEntryOffsets (kept_module required m) (map (λ u. map (λ e. e.offset) (kept_of_unit (offsets_kept (kept_module required m)) u)) us)
     kept-lists us among small = unit-lists (kept_module required m) are us among small
 
--- The offsets of the entries kept with the required ones of a module's functions.
-pub offsets-same : (m : Module) → offsets_kept (kept_module (λ u e. is_required m.functions e) m) ≡ kept_offsets m.functions m.sections
-unfolding kept_module kept_with
-offsets-same m = ap (λ es. map (λ e. e.entry.offset) (kept_with (placed_entries (units m.sections).items) es)) (passing (units m.sections).items)
-  where
-    passing : (us : List Unit) → entries_passing (λ u e. is_required m.functions e) us ≡ filter (λ p. is_required m.functions p.entry) (placed_entries us)
-    passing [] = refl
-    passing (u ∷ us) =
-        ap₂ (λ xs ys. xs ++ ys) (sym (filter-map (λ e. record { unit = u.header.offset; entry = e }) (λ p. is_required m.functions p.entry) u.entries)) (passing us)
-        ∙ sym (filter-append (λ p. is_required m.functions p.entry) (placed_at u.header.offset u.entries) (placed_entries us))
+-- The offsets of the kept entries of a module are those that its reading answers.
+pub offsets-same : (m : Module) → offsets_kept (kept_of m) ≡ kept_offsets m.functions m.sections
+unfolding kept_module
+offsets-same m = refl

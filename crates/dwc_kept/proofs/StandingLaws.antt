@@ -21,7 +21,7 @@ placed-units : (s : Sections) (hs : List UnitHeader) (last : Option Fault) → (
 placed-units s [] last none = refl
 placed-units s (h ∷ hs) last none = go (entries s h).fault refl (λ k. placed-units s hs last k)
   where
-    placed-map : (es : List Entry) → map (λ e. record { unit = h.offset; entry = e }) es ≡ map placed (map (λ e. record { unit = h.offset; end = h.end; entry = e }) es)
+    placed-map : (es : List Entry) → map (λ e. record { unit = h.offset; entry = e }) es ≡ map placed (map (λ e. record { header = h; entry = e }) es)
     placed-map [] = refl
     placed-map (e ∷ es) = ap (λ (ps : List Placed). record { unit = h.offset; entry = e } ∷ ps) (placed-map es)
 
@@ -35,7 +35,7 @@ placed-units s (h ∷ hs) last none = go (entries s h).fault refl (λ k. placed-
         ap (λ (l : Listing Fault Unit). placed_entries l.items) first
         ∙ ap (λ ps. map (λ e. record { unit = h.offset; entry = e }) (entries s h).items ++ ps) (rest (sym (ap (λ (l : Listing Fault Unit). l.fault) first) ∙ none))
         ∙ ap (λ ps. ps ++ map placed (standing s hs)) (placed-map (entries s h).items)
-        ∙ sym (map-append placed (map (λ e. record { unit = h.offset; end = h.end; entry = e }) (entries s h).items) (standing s hs))
+        ∙ sym (map-append placed (map (λ e. record { header = h; entry = e }) (entries s h).items) (standing s hs))
 
 pub placed-standing : (s : Sections) → (units s).fault ≡ None → placed_entries (units s).items ≡ map placed (standing s (unit_headers s).items)
 unfolding units
@@ -45,13 +45,13 @@ placed-standing s none = placed-units s (unit_headers s).items (unit_headers s).
 
 -- an entry stands in its unit
 pub record IsInside (q : Standing) : Type 0 where
-  pub low : q.unit ≤ q.entry.offset
-  pub high : q.entry.offset < q.end
+  pub low : q.header.offset ≤ q.entry.offset
+  pub high : q.entry.offset < q.header.end
 
 -- an entry stands in front of another, in the same unit or in one in front of it
 pub record IsFirst (p q : Standing) : Type 0 where
   pub offsets : p.entry.offset < q.entry.offset
-  pub units : ((p.unit ≡ q.unit) × (p.end ≡ q.end)) ⊎ (p.end ≤ q.unit)
+  pub units : ((p.header.offset ≡ q.header.offset) × (p.header.end ≡ q.header.end)) ⊎ (p.header.end ≤ q.header.offset)
 
 Ordered : List Standing → Type 0
 Ordered [] = Prim.Unit {0}
@@ -59,22 +59,22 @@ Ordered (q ∷ qs) = IsInside q × ((p : Standing) → IsIn p qs → IsFirst q p
 
 -- entries that stand from a place on
 StandBehind : ℕ → List Standing → Type 0
-StandBehind from qs = (p : Standing) → IsIn p qs → (from ≤ p.unit) × IsInside p
+StandBehind from qs = (p : Standing) → IsIn p qs → (from ≤ p.header.offset) × IsInside p
 
-module _ (unit end : ℕ) where
+module _ (u : UnitHeader) where
   stand : List Entry → List Standing
-  stand es = map (λ e. record { unit = unit; end = end; entry = e }) es
+  stand es = map (λ e. record { header = u; entry = e }) es
 
   -- entries of a unit from a place on
-  rise-in : (from : ℕ) (es : List Entry) (p : Standing) → RiseIn from end es → IsIn p (stand es) → (from ≤ p.entry.offset) × (p.entry.offset < end) × (p.unit ≡ unit) × (p.end ≡ end)
+  rise-in : (from : ℕ) (es : List Entry) (p : Standing) → RiseIn from u.end es → IsIn p (stand es) → (from ≤ p.entry.offset) × (p.entry.offset < u.end) × (p.header.offset ≡ u.offset) × (p.header.end ≡ u.end)
   unfolding stand
   rise-in from [] p h i = absurd i
   rise-in from (e ∷ es) p h (inl same) =
       let here : p.entry.offset ≡ e.offset = ap (λ (q : Standing). q.entry.offset) same in
-      (omega (arith, here, h.0), omega (arith, here, h.1), ap (λ (q : Standing). q.unit) same, ap (λ (q : Standing). q.end) same)
+      (omega (arith, here, h.0), omega (arith, here, h.1), ap (λ (q : Standing). q.header.offset) same, ap (λ (q : Standing). q.header.end) same)
   rise-in from (e ∷ es) p h (inr i) = let found = rise-in (suc e.offset) es p h.2 i in (omega (arith, found.0, h.0), found.1, found.2, found.3)
 
-  ordered-unit : (from : ℕ) (es : List Entry) (rest : List Standing) → unit ≤ from → RiseIn from end es → StandBehind end rest → Ordered rest → Ordered (stand es ++ rest)
+  ordered-unit : (from : ℕ) (es : List Entry) (rest : List Standing) → u.offset ≤ from → RiseIn from u.end es → StandBehind u.end rest → Ordered rest → Ordered (stand es ++ rest)
   unfolding stand Ordered StandBehind
   ordered-unit from [] rest low h behind ordered = ordered
   ordered-unit from (e ∷ es) rest low h behind ordered = (
@@ -83,23 +83,23 @@ module _ (unit end : ℕ) where
     ordered-unit (suc e.offset) es rest (omega (arith, low, h.0)) h.2 behind ordered,
   )
     where
-      first : (p : Standing) → IsIn p (stand es) ⊎ IsIn p rest → IsFirst (record { unit = unit; end = end; entry = e }) p
+      first : (p : Standing) → IsIn p (stand es) ⊎ IsIn p rest → IsFirst (record { header = u; entry = e }) p
       first p (inl i) = let found = rise-in (suc e.offset) es p h.2 i in record { offsets = omega (arith, found.0); units = inl (sym found.2, sym found.3) }
       first p (inr i) = let found = behind p i in record { offsets = omega (arith, h.1, found.0, (found.1).low); units = inr found.0 }
 
 standing-behind : (s : Sections) (from : ℕ) (hs : List UnitHeader) → StandFrom s from hs → StandBehind from (standing s hs)
 unfolding StandBehind stand
 standing-behind s from [] h p i = absurd i
-standing-behind s from (u ∷ us) h p i = go (in-append (stand u.offset u.end (entries s u).items) (standing s us) p i) (standing-behind s u.end us h.3)
+standing-behind s from (u ∷ us) h p i = go (in-append (stand u (entries s u).items) (standing s us) p i) (standing-behind s u.end us h.3)
   where
-    go : IsIn p (stand u.offset u.end (entries s u).items) ⊎ IsIn p (standing s us) → ((q : Standing) → IsIn q (standing s us) → (u.end ≤ q.unit) × IsInside q) → (from ≤ p.unit) × IsInside p
-    go (inl i) rest = let found = rise-in u.offset u.end u.offset (entries s u).items p h.2 i in (omega (arith, found.2, h.0), record { low = omega (arith, found.0, found.2); high = omega (arith, found.1, found.3) })
+    go : IsIn p (stand u (entries s u).items) ⊎ IsIn p (standing s us) → ((q : Standing) → IsIn q (standing s us) → (u.end ≤ q.header.offset) × IsInside q) → (from ≤ p.header.offset) × IsInside p
+    go (inl i) rest = let found = rise-in u u.offset (entries s u).items p h.2 i in (omega (arith, found.2, h.0), record { low = omega (arith, found.0, found.2); high = omega (arith, found.1, found.3) })
     go (inr i) rest = let found = rest p i in (omega (arith, h.0, h.1, found.0), found.1)
 
 standing-ordered : (s : Sections) (from : ℕ) (hs : List UnitHeader) → StandFrom s from hs → Ordered (standing s hs)
 unfolding Ordered stand
 standing-ordered s from [] h = tt
-standing-ordered s from (u ∷ us) h = ordered-unit u.offset u.end u.offset (entries s u).items (standing s us) (omega arith) h.2 (standing-behind s u.end us h.3) (standing-ordered s u.end us h.3)
+standing-ordered s from (u ∷ us) h = ordered-unit u u.offset (entries s u).items (standing s us) (omega arith) h.2 (standing-behind s u.end us h.3) (standing-ordered s u.end us h.3)
 
 -- The same by their numbers.
 pub record InOrder (qs : List Standing) : Type 0 where
@@ -128,7 +128,7 @@ in-order s =
 
 module _ (qs : List Standing) (order : InOrder qs) where
   -- an entry is in the unit of another where it stands between that unit's ends
-  pub unit-offsets : (i j : ℕ) (d : Standing) → i < length qs → j < length qs → (get_or qs j d).unit ≡ (get_or qs i d).unit → ((get_or qs i d).unit ≤ (get_or qs j d).entry.offset) × ((get_or qs j d).entry.offset < (get_or qs i d).end)
+  pub unit-offsets : (i j : ℕ) (d : Standing) → i < length qs → j < length qs → (get_or qs j d).header.offset ≡ (get_or qs i d).header.offset → ((get_or qs i d).header.offset ≤ (get_or qs j d).entry.offset) × ((get_or qs j d).entry.offset < (get_or qs i d).header.end)
   unit-offsets i j d a b same = (omega (arith, same, (order.inside j d b).low), go (cases_order i j))
     where
       own : IsInside (get_or qs i d)
@@ -137,34 +137,34 @@ module _ (qs : List Standing) (order : InOrder qs) where
       other : IsInside (get_or qs j d)
       other = order.inside j d b
 
-      later : i < j → ((get_or qs i d).unit ≡ (get_or qs j d).unit) × ((get_or qs i d).end ≡ (get_or qs j d).end) ⊎ ((get_or qs i d).end ≤ (get_or qs j d).unit) → (get_or qs j d).entry.offset < (get_or qs i d).end
+      later : i < j → ((get_or qs i d).header.offset ≡ (get_or qs j d).header.offset) × ((get_or qs i d).header.end ≡ (get_or qs j d).header.end) ⊎ ((get_or qs i d).header.end ≤ (get_or qs j d).header.offset) → (get_or qs j d).entry.offset < (get_or qs i d).header.end
       later less (inl u) = omega (arith, u.1, other.high)
       later less (inr u) = absurd (omega (arith, u, same, own.low, own.high))
 
-      earlier : j < i → ((get_or qs j d).unit ≡ (get_or qs i d).unit) × ((get_or qs j d).end ≡ (get_or qs i d).end) ⊎ ((get_or qs j d).end ≤ (get_or qs i d).unit) → (get_or qs j d).entry.offset < (get_or qs i d).end
+      earlier : j < i → ((get_or qs j d).header.offset ≡ (get_or qs i d).header.offset) × ((get_or qs j d).header.end ≡ (get_or qs i d).header.end) ⊎ ((get_or qs j d).header.end ≤ (get_or qs i d).header.offset) → (get_or qs j d).entry.offset < (get_or qs i d).header.end
       earlier less (inl u) = omega (arith, u.1, other.high)
       earlier less (inr u) = absurd (omega (arith, u, same, other.low, other.high))
 
-      go : (i ≡ j) ⊎ ((i < j) ⊎ (j < i)) → (get_or qs j d).entry.offset < (get_or qs i d).end
-      go (inl e) = subst (λ k. (get_or qs k d).entry.offset < (get_or qs i d).end) e own.high
+      go : (i ≡ j) ⊎ ((i < j) ⊎ (j < i)) → (get_or qs j d).entry.offset < (get_or qs i d).header.end
+      go (inl e) = subst (λ k. (get_or qs k d).entry.offset < (get_or qs i d).header.end) e own.high
       go (inr (inl less)) = later less (order.first i j d less b).units
       go (inr (inr less)) = earlier less (order.first j i d less a).units
 
-  pub offsets-unit : (i j : ℕ) (d : Standing) → i < length qs → j < length qs → (get_or qs i d).unit ≤ (get_or qs j d).entry.offset → (get_or qs j d).entry.offset < (get_or qs i d).end → (get_or qs j d).unit ≡ (get_or qs i d).unit
+  pub offsets-unit : (i j : ℕ) (d : Standing) → i < length qs → j < length qs → (get_or qs i d).header.offset ≤ (get_or qs j d).entry.offset → (get_or qs j d).entry.offset < (get_or qs i d).header.end → (get_or qs j d).header.offset ≡ (get_or qs i d).header.offset
   offsets-unit i j d a b low high = go (cases_order i j)
     where
       other : IsInside (get_or qs j d)
       other = order.inside j d b
 
-      later : ((get_or qs i d).unit ≡ (get_or qs j d).unit) × ((get_or qs i d).end ≡ (get_or qs j d).end) ⊎ ((get_or qs i d).end ≤ (get_or qs j d).unit) → (get_or qs j d).unit ≡ (get_or qs i d).unit
+      later : ((get_or qs i d).header.offset ≡ (get_or qs j d).header.offset) × ((get_or qs i d).header.end ≡ (get_or qs j d).header.end) ⊎ ((get_or qs i d).header.end ≤ (get_or qs j d).header.offset) → (get_or qs j d).header.offset ≡ (get_or qs i d).header.offset
       later (inl u) = sym u.0
       later (inr u) = absurd (omega (arith, u, other.low, high))
 
-      earlier : ((get_or qs j d).unit ≡ (get_or qs i d).unit) × ((get_or qs j d).end ≡ (get_or qs i d).end) ⊎ ((get_or qs j d).end ≤ (get_or qs i d).unit) → (get_or qs j d).unit ≡ (get_or qs i d).unit
+      earlier : ((get_or qs j d).header.offset ≡ (get_or qs i d).header.offset) × ((get_or qs j d).header.end ≡ (get_or qs i d).header.end) ⊎ ((get_or qs j d).header.end ≤ (get_or qs i d).header.offset) → (get_or qs j d).header.offset ≡ (get_or qs i d).header.offset
       earlier (inl u) = u.0
       earlier (inr u) = absurd (omega (arith, u, other.high, low))
 
-      go : (i ≡ j) ⊎ ((i < j) ⊎ (j < i)) → (get_or qs j d).unit ≡ (get_or qs i d).unit
-      go (inl e) = ap (λ k. (get_or qs k d).unit) (sym e)
+      go : (i ≡ j) ⊎ ((i < j) ⊎ (j < i)) → (get_or qs j d).header.offset ≡ (get_or qs i d).header.offset
+      go (inl e) = ap (λ k. (get_or qs k d).header.offset) (sym e)
       go (inr (inl less)) = later (order.first i j d less b).units
       go (inr (inr less)) = earlier (order.first j i d less a).units

@@ -5,3 +5,4 @@ pub mod ReadEntries
 pub mod ReadingSeen
 pub mod ReadGraphs
 pub mod KeptUnits
+pub mod ReadUnits

@@ -5,8 +5,7 @@ use Rattle.dwc_base.specs.Sections.{Sections, Fault}
 use Rattle.dwc_base.specs.Units.{UnitHeader}
 use Rattle.dwc_base.specs.Values.{Value, unit_reference, info_reference}
 use Rattle.dwc_base.specs.Entries.{Entry, entries}
-use Rattle.dwc_base.specs.Functions.{Function}
-use Rattle.dwc_base.specs.Kept.{is_required, is_part_tag}
+use Rattle.dwc_base.specs.Kept.{is_part_tag}
 use Rattle.dwc_base.specs.declared.constants.TheConstants.{DW_AT_sibling, DW_TAG_constant, DW_TAG_namespace, DW_TAG_variable}
 use Rattle.dwc_read.specs.declared.fault.ReadFault.{ReadFault}
 use Rattle.dwc_read.specs.Faults.{fault_seen}
@@ -61,22 +60,22 @@ is_part_below (Some parent) tag = is_part_tag tag || (((tag == DW_TAG_variable) 
 abbrev pub node_below : ℕ → ℕ → Option LastAt → Entry → Node
 node_below unit end parent e = record { offset = e.offset; parent = option_map (λ p. p.number) parent; targets = filter_map (attribute_offset unit end) e.attributes; is_part = is_part_below parent e.tag }
 
--- an entry is read: a root or a namespace is an outer one, of which no variable is a part
-abbrev pub with_entry_read : List Function → ℕ → ℕ → Entry → ReadSoFar → ReadSoFar
-with_entry_read fs unit end e r = record {
-  nodes = r.nodes ++ node_below unit end (last_above r.lasts e.depth) e ∷ [];
+-- an entry of a unit is read, and a test says whether it is required: a root or a namespace is an outer one, of which no variable is a part
+abbrev pub with_entry_read : (Entry → Bool) → UnitHeader → Entry → ReadSoFar → ReadSoFar
+with_entry_read needed h e r = record {
+  nodes = r.nodes ++ node_below h.offset h.end (last_above r.lasts e.depth) e ∷ [];
   lasts = with_last_at r.lasts e.depth (record { number = length r.nodes; is_outer = (e.depth == 0) || (e.tag == DW_TAG_namespace) });
-  required = r.required ++ is_required fs e ∷ [];
+  required = r.required ++ needed e ∷ [];
 }
 
 -- the entries of a unit are read, and those of some units
-abbrev pub with_entries_read : List Function → ℕ → ℕ → List Entry → ReadSoFar → ReadSoFar
-with_entries_read fs unit end [] r = r
-with_entries_read fs unit end (e ∷ es) r = with_entries_read fs unit end es (with_entry_read fs unit end e r)
+abbrev pub with_entries_read : (Entry → Bool) → UnitHeader → List Entry → ReadSoFar → ReadSoFar
+with_entries_read needed h [] r = r
+with_entries_read needed h (e ∷ es) r = with_entries_read needed h es (with_entry_read needed h e r)
 
-abbrev pub with_units_read : List Function → Sections → List UnitHeader → ReadSoFar → ReadSoFar
-with_units_read fs s [] r = r
-with_units_read fs s (h ∷ hs) r = with_units_read fs s hs (with_entries_read fs h.offset h.end (entries s h).items r)
+abbrev pub with_units_read : (UnitHeader → Entry → Bool) → Sections → List UnitHeader → ReadSoFar → ReadSoFar
+with_units_read needed s [] r = r
+with_units_read needed s (h ∷ hs) r = with_units_read needed s hs (with_entries_read (needed h) h (entries s h).items r)
 
 -- the last entries are among those that were read
 abbrev pub AreAmong : ReadSoFar → Type 0
@@ -97,3 +96,18 @@ TellsFirst first (Some fault) = first ≡ Some fault
 abbrev pub ReadsOrTells : {X : Type 0} → (X → Type 0) → Option Fault → Result X ReadFault → Type 0
 ReadsOrTells has first (Ok x) = (first ≡ None) × has x
 ReadsOrTells has first (Err e) = TellsFirst first (fault_seen e)
+
+-- The same of what is answered without more to say of it.
+abbrev pub MeetsOrTells : {X : Type 0} → Option Fault → Result X ReadFault → Type 0
+MeetsOrTells first (Ok x) = first ≡ None
+MeetsOrTells first (Err e) = TellsFirst first (fault_seen e)
+
+-- the tag of the first of some entries, a unit's root
+abbrev pub first_tag : List Entry → Option ℕ
+first_tag [] = None
+first_tag (e ∷ es) = Some e.tag
+
+-- whether it is a tag
+abbrev pub is_tag : ℕ → Option ℕ → Bool
+is_tag tag None = false
+is_tag tag (Some t) = t == tag

@@ -1,35 +1,38 @@
 -- The entries of a module one after another, each with the place of its unit, and the graph of them.
-use Rattle.std.specs.Prelude.{◌≡◌, ◌≢◌, AllPairs, ℕ, List, map, Bool}
+use Rattle.std.specs.Prelude.{◌≡◌, ◌≢◌, ◌<◌, ◌^◌, All, AllPairs, ℕ, List, map, Bool}
 use Rattle.std.specs.List.{flat_map}
 use Rattle.dwc_base.specs.Sections.{Sections}
 use Rattle.dwc_base.specs.Units.{UnitHeader}
 use Rattle.dwc_base.specs.Entries.{Entry, entries}
 use Rattle.dwc_base.specs.Functions.{Function}
 use Rattle.dwc_base.specs.Carried.{placed_entries, units}
-use Rattle.dwc_base.specs.Kept.{Placed, is_required, kept_entries}
+use Rattle.dwc_base.specs.Kept.{Placed}
+use Rattle.dwc_base.specs.KeptEntries.{kept_with}
+use Rattle.dwc_base.specs.KeptModules.{entries_passing}
+use Rattle.dwc_base.specs.EntryRules.{is_required}
 use Rattle.dwc_kept.specs.EntryGraphs.{Node, IsGraphOf}
 
--- an entry, and where its unit begins and ends
+-- an entry, and the header of its unit
 pub record Standing : Type 0 where
-  pub unit : ℕ
-  pub end : ℕ
+  pub header : UnitHeader
   pub entry : Entry
 
 -- the entries of some units
 abbrev pub standing : Sections → List UnitHeader → List Standing
-standing s hs = flat_map (λ h. map (λ e. record { unit = h.offset; end = h.end; entry = e }) (entries s h).items) hs
+standing s hs = flat_map (λ h. map (λ e. record { header = h; entry = e }) (entries s h).items) hs
 
 -- the entry with the offset of its unit
 abbrev pub placed : Standing → Placed
-placed q = record { unit = q.unit; entry = q.entry }
+placed q = record { unit = q.header.offset; entry = q.entry }
 
 -- A graph and tests are those of the entries of a module: nodes at their offsets, of which no two are the same, that keep what they keep,
 -- and for each whether it is required.
 pub record IsModuleGraph (fs : List Function) (s : Sections) (ns : List Node) (required : List Bool) : Type 0 where
   pub graph : IsGraphOf (placed_entries (units s).items) ns
-  pub required_are : required ≡ map (λ e. is_required fs e.entry) (placed_entries (units s).items)
+  pub required_are : required ≡ flat_map (λ u. map (is_required fs s u.header) u.entries) (units s).items
   pub apart : AllPairs (λ e f. e.entry.offset ≢ f.entry.offset) (placed_entries (units s).items)
+  pub small : All (λ n. n.offset < 2 ^ 32) ns
 
 -- the offsets of the entries of a module that are kept, in file order
 abbrev pub kept_offsets : List Function → Sections → List ℕ
-kept_offsets fs s = map (λ e. e.entry.offset) (kept_entries fs (placed_entries (units s).items))
+kept_offsets fs s = map (λ e. e.entry.offset) (kept_with (placed_entries (units s).items) (entries_passing (λ u. is_required fs s u.header) (units s).items))

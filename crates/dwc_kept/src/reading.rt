@@ -1,9 +1,10 @@
 //! What is kept of the entries of a module as they are read, one after another.
-ghost use Rattle.std.specs.Prelude.{◌≡◌, ◌^◌, ◌<◌, ◌≤◌, ◌||◌, ◌==◌, ◌++◌, ◌∷◌, [], length, map, option_map, OnOk, IsOkUnless, IfSome, All};
+ghost use Rattle.std.specs.Prelude.{◌≡◌, ◌^◌, ◌<◌, ◌≤◌, ◌||◌, ◌==◌, ◌++◌, ◌∷◌, [], length, map, option_map, OnOk, IfSome, All};
 ghost use Rattle.dwc_base.specs.declared.constants.TheConstants.{DW_TAG_namespace};
-ghost use Rattle.dwc_read.specs.declared.fault.ReadFault.TheVariants.{OutOfMemory};
+ghost use Rattle.dwc_base.specs.EntryRules.{is_required, named_faults};
+ghost use Rattle.dwc_base.specs.Refusals.{first_of};
 ghost use Rattle.dwc_read.specs.EntriesSeen.{entry_view};
-ghost use Rattle.dwc_kept.specs.ReadEntries.{ReadSoFar, none_read, last_above, with_last_at, with_entry_read, AreAmong, StandBefore};
+ghost use Rattle.dwc_kept.specs.ReadEntries.{ReadSoFar, none_read, last_above, with_last_at, with_entry_read, AreAmong, StandBefore, MeetsOrTells};
 ghost use Rattle.dwc_kept.specs.ReadingSeen.{reading_view};
 
 use crate::graph::EntryGraph;
@@ -13,7 +14,7 @@ use crate::references::name_offsets;
 use crate::required::is_required;
 use dwc_addr::AddressTransform;
 use dwc_base::constants::DW_TAG_namespace;
-use dwc_read::{Entry, ReadFault};
+use dwc_read::{Entry, ReadFault, Unit};
 use std::alloc::{AllocError, Global};
 
 /// What is kept of the entries that were read: their graph, the last entry at each depth, and which of them are required.
@@ -83,23 +84,23 @@ fn number_of(last: Option<LastAt>) -> Option<u32>
     }
 }
 
-/// Adds an entry of a unit, which stands from an offset up to another.
+/// Adds an entry of a unit.
 ///
 /// # Errors
-/// `OutOfMemory` alone.
+/// What [`is_required`] answers; else `OutOfMemory` alone.
 pub(crate) fn add_entry(
     reading: &mut Reading,
     transform: &AddressTransform,
-    unit: u64,
-    end: u64,
+    unit: &Unit<'_>,
     entry: &Entry<'_>,
 ) -> Result<(), ReadFault>
     requires among { AreAmong (reading_view reading.old) }
     requires before { StandBefore (entry_view entry.now).offset (reading_view reading.old) }
-    ensures added { OnOk result (reading_view reading.new ≡ with_entry_read transform.now unit end (entry_view entry.now) (reading_view reading.old)) }
+    ensures added { OnOk result (reading_view reading.new ≡ with_entry_read (is_required transform.now unit.now.sections unit.now.header) unit.now.header (entry_view entry.now) (reading_view reading.old)) }
     ensures small { OnOk result ((entry_view entry.now).offset < 2 ^ 32) }
-    ensures memory { IsOkUnless result OutOfMemory }
+    ensures fault { MeetsOrTells (first_of (named_faults unit.now.sections unit.now.header (entry_view entry.now))) result }
 {
+    let is_required = is_required(unit, entry, transform)?;
     let Ok(offset) = u32::try_from(entry.offset) else {
         return Err(ReadFault::OutOfMemory);
     };
@@ -108,13 +109,18 @@ pub(crate) fn add_entry(
     };
     let depth = depth_of(entry);
     let parent = last_above(&reading.lasts, depth);
-    name_offsets(unit, end, entry.attrs(), &mut reading.targets)?;
+    name_offsets(
+        unit.offset(),
+        unit.end(),
+        entry.attrs(),
+        &mut reading.targets,
+    )?;
     let is_part = is_part_below(parent, entry.tag);
     reading
         .graph
         .push(offset, number_of(parent), is_part, &reading.targets)?;
     let is_outer = is_outer(depth, entry.tag);
     put_last(&mut reading.lasts, depth, LastAt { number, is_outer })?;
-    reading.required.push(is_required(entry, transform))?;
+    reading.required.push(is_required)?;
     Ok(())
 }

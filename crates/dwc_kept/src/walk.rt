@@ -1,115 +1,118 @@
 //! Reads the entries of a module once, and keeps what each of them keeps.
 ghost use Rattle.std.specs.Prelude.{◌≡◌, ◌<◌, ◌^◌};
+ghost use Rattle.std.specs.List.{AllZip};
 ghost use Rattle.dwc_base.specs.Entries.{entries as entries_of};
+ghost use Rattle.dwc_base.specs.EntryRules.{is_required, named_faults};
+ghost use Rattle.dwc_base.specs.ReachedEntries.{listing_faults, info_faults};
+ghost use Rattle.dwc_base.specs.Refusals.{first_of};
 ghost use Rattle.dwc_base.specs.Units.{unit_headers};
-ghost use Rattle.dwc_base.specs.Carried.{units as units_of};
 ghost use Rattle.dwc_kept.specs.UnitOffsets.{RiseIn};
-ghost use Rattle.dwc_kept.specs.ReadEntries.{with_entries_read, with_units_read, none_read, AreAmong, StandBefore, ReadsOrTells};
-ghost use Rattle.dwc_kept.specs.ReadGraphs.{IsModuleGraph, kept_offsets};
+ghost use Rattle.dwc_kept.specs.ReadEntries.{with_entries_read, with_units_read, none_read, AreAmong, StandBefore, ReadsOrTells, first_tag};
+ghost use Rattle.dwc_kept.specs.ReadGraphs.{IsModuleGraph};
 ghost use Rattle.dwc_kept.specs.ReadingSeen.{reading_view, HasRead, IsRead};
+ghost use Rattle.dwc_kept.specs.ReadUnits.{IsReadUnit};
 
 use crate::graph::EntryGraph;
-use crate::kept::Kept;
+use crate::read_unit::{ReadUnit, is_compile_unit};
 use crate::reading::{Reading, add_entry, none_read};
 use dwc_addr::AddressTransform;
 use dwc_read::{Entries, ReadFault, Sections, Unit, Units};
 use std::alloc::Global;
 
-// Adds the entries that are still to come, of a unit that stands from an offset up to another.
+// Adds the entries of a unit that are still to come, and answers the tag of the first.
 fn add_entries(
     entries: &mut Entries<'_>,
     transform: &AddressTransform,
-    unit: u64,
-    end: u64,
+    unit: &Unit<'_>,
     reading: &mut Reading,
-) -> Result<(), ReadFault>
+) -> Result<Option<u16>, ReadFault>
     requires among { AreAmong (reading_view reading.old) }
-    requires before { StandBefore unit (reading_view reading.old) }
+    requires before { StandBefore unit.now.header.offset (reading_view reading.old) }
     requires small { StandBefore (2 ^ 32) (reading_view reading.old) }
-    requires some { unit < end }
-    requires rise { RiseIn unit end entries.old.left.items }
-    ensures { ReadsOrTells (λ done. HasRead (with_entries_read transform.now unit end entries.old.left.items (reading_view reading.old)) end (reading_view reading.new)) entries.old.left.fault result }
+    requires some { unit.now.header.offset < unit.now.header.end }
+    requires rise { RiseIn unit.now.header.offset unit.now.header.end entries.old.left.items }
+    ensures { ReadsOrTells (λ tag. HasRead (with_entries_read (is_required transform.now unit.now.sections unit.now.header) unit.now.header entries.old.left.items (reading_view reading.old)) unit.now.header.end (reading_view reading.new) × (tag ≡ first_tag entries.old.left.items)) (first_of (listing_faults (named_faults unit.now.sections unit.now.header) entries.old.left)) result }
 {
+    let mut root_tag = None;
     while entries.advance()? {
-        add_entry(reading, transform, unit, end, entries.current())?;
+        let entry = entries.current();
+        add_entry(reading, transform, unit, entry)?;
+        root_tag = root_tag.or(Some(entry.tag));
     }
-    Ok(())
+    Ok(root_tag)
 }
 
-// Adds the entries of a unit.
+// Adds the entries of a unit, and answers the tag of its root.
 fn add_unit(
     alloc: Global,
     unit: &Unit<'_>,
     transform: &AddressTransform,
     reading: &mut Reading,
-) -> Result<(), ReadFault>
+) -> Result<Option<u16>, ReadFault>
     requires among { AreAmong (reading_view reading.old) }
     requires before { StandBefore unit.now.header.offset (reading_view reading.old) }
     requires small { StandBefore (2 ^ 32) (reading_view reading.old) }
     requires some { unit.now.header.offset < unit.now.header.end }
     requires rise { RiseIn unit.now.header.offset unit.now.header.end (entries_of unit.now.sections unit.now.header).items }
-    ensures { ReadsOrTells (λ done. HasRead (with_entries_read transform.now unit.now.header.offset unit.now.header.end (entries_of unit.now.sections unit.now.header).items (reading_view reading.old)) unit.now.header.end (reading_view reading.new)) (entries_of unit.now.sections unit.now.header).fault result }
+    ensures { ReadsOrTells (λ tag. HasRead (with_entries_read (is_required transform.now unit.now.sections unit.now.header) unit.now.header (entries_of unit.now.sections unit.now.header).items (reading_view reading.old)) unit.now.header.end (reading_view reading.new) × (tag ≡ first_tag (entries_of unit.now.sections unit.now.header).items)) (first_of (listing_faults (named_faults unit.now.sections unit.now.header) (entries_of unit.now.sections unit.now.header))) result }
 {
     let mut entries = unit.entries(alloc)?;
-    add_entries(&mut entries, transform, unit.offset(), unit.end(), reading)
+    add_entries(&mut entries, transform, unit, reading)
 }
 
-/// What is kept of all entries of a module, in file order.
-///
-/// Answers the first fault in the order of reading: of each unit its header, its abbreviation table, and then its entries.
-pub(crate) fn read_entries(
-    alloc: Global,
-    sections: Sections<'_>,
-    transform: &AddressTransform,
-) -> Result<Reading, ReadFault>
-    ensures { ReadsOrTells (λ r. IsRead (with_units_read transform.now sections.entry (unit_headers sections.entry).items none_read) (reading_view r)) (units_of sections.entry).fault result }
-{
-    let mut units = Units::new(sections);
-    let mut reading = none_read(alloc);
-    while let Some(unit) = units.next_unit(alloc)? {
-        add_unit(alloc, &unit, transform, &mut reading)?;
-    }
-    Ok(reading)
-}
-
-/// The graph of the entries of a module, and for each entry in file order whether it is required.
+/// What is kept of the entries of a module as they are read, and its units.
 #[derive(Drop)]
-pub struct ModuleGraph {
+pub(crate) struct ReadModule<'d> {
+    pub reading: Reading,
+    pub units: Vec<ReadUnit<'d>>,
+}
+
+/// What is kept of all entries of a module, in file order, and its units.
+///
+/// Answers the first fault in the order of reading: of each unit its header, its abbreviation table, and then its entries, each with what
+/// it names before the next one is read.
+pub(crate) fn read_entries<'d>(
+    alloc: Global,
+    sections: Sections<'d>,
+    transform: &AddressTransform,
+) -> Result<ReadModule<'d>, ReadFault>
+    ensures { ReadsOrTells (λ m. IsRead (with_units_read (is_required transform.now sections.entry) sections.entry (unit_headers sections.entry).items none_read) (reading_view m.reading) × AllZip (IsReadUnit sections.entry) (unit_headers sections.entry).items m.units.items) (first_of (info_faults (named_faults sections.entry) sections.entry)) result }
+{
+    let mut headers = Units::new(sections);
+    let mut reading = none_read(alloc);
+    let mut units = Vec::new(alloc);
+    while let Some(unit) = headers.next_unit(alloc)? {
+        let root_tag = add_unit(alloc, &unit, transform, &mut reading)?;
+        let is_compile_unit = is_compile_unit(root_tag);
+        units.push(ReadUnit {
+            unit,
+            is_compile_unit,
+        })?;
+    }
+    Ok(ReadModule { reading, units })
+}
+
+/// The graph of the entries of a module, and for each entry in file order whether it is required; and the module's units.
+#[derive(Drop)]
+pub(crate) struct ModuleGraph<'d> {
     pub graph: EntryGraph,
     pub required: Vec<bool>,
+    pub units: Vec<ReadUnit<'d>>,
 }
 
 /// The graph of the entries of a module, which are read once, and which of them are required: a subprogram without ranges that
 /// begins in a function with a symbol.
-///
-/// # Errors
-/// `Read` and `Unsupported` for the first fault in the order of reading: of each unit its header, its abbreviation table, and then its
-/// entries. `OutOfMemory` for want of memory.
-pub fn graph_of(
+pub(crate) fn graph_of<'d>(
     alloc: Global,
-    sections: Sections<'_>,
+    sections: Sections<'d>,
     transform: &AddressTransform,
-) -> Result<ModuleGraph, ReadFault>
-    ensures { ReadsOrTells (λ m. IsModuleGraph transform.now sections.entry m.graph m.required.items) (units_of sections.entry).fault result }
+) -> Result<ModuleGraph<'d>, ReadFault>
+    ensures { ReadsOrTells (λ m. IsModuleGraph transform.now sections.entry m.graph m.required.items × AllZip (IsReadUnit sections.entry) (unit_headers sections.entry).items m.units.items) (first_of (info_faults (named_faults sections.entry) sections.entry)) result }
 {
-    let reading = read_entries(alloc, sections, transform)?;
+    let ReadModule { reading, units } = read_entries(alloc, sections, transform)?;
     Ok(ModuleGraph {
         graph: reading.graph,
         required: reading.required,
+        units,
     })
-}
-
-/// The entries of a module that are kept: the least set that holds the required ones and all that its entries keep.
-///
-/// # Errors
-/// As [`graph_of`].
-pub fn kept_entries(
-    alloc: Global,
-    sections: Sections<'_>,
-    transform: &AddressTransform,
-) -> Result<Kept, ReadFault>
-    ensures { ReadsOrTells (λ kept. kept ≡ kept_offsets transform.now sections.entry) (units_of sections.entry).fault result }
-{
-    let read = graph_of(alloc, sections, transform)?;
-    Ok(Kept::new(alloc, &read.graph, &read.required)?)
 }

@@ -1,11 +1,12 @@
 use Rattle.std.proofs.Common.{length}
+use Rattle.dwc_base.specs.EntryRules.{is_required, named_faults}
 use Rattle.dwc_kept.specs.ReadingSeen.{reading_view}
 use Rattle.dwc_kept.proofs.ReadLaws.{UnitsSoFar}
 use Rattle.dwc_kept.proofs.walk.read_entries.Given as goal
 
 -- the units that are left lead from what is read to all that is to be read
-abbrev pub invariant-loop-reading : goal.invariant-loop-reading
-invariant-loop-reading l = UnitsSoFar l.transform l.fn.sections l.units (reading_view l.reading)
+abbrev pub invariant-loop-units : goal.invariant-loop-units
+invariant-loop-units l = UnitsSoFar (is_required l.transform l.fn.sections) (named_faults l.fn.sections) l.fn.sections l.headers (reading_view l.reading) l.units.items
 
-abbrev pub decreases-loop-reading : goal.decreases-loop-reading
-decreases-loop-reading l = length l.units.headers.items
+abbrev pub decreases-loop-units : goal.decreases-loop-units
+decreases-loop-units l = length l.headers.headers.items
