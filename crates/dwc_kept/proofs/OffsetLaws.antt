@@ -1,10 +1,10 @@
 -- Lists of offsets: those that are marked, in rising order, and whether one is among them.
-use Rattle.std.proofs.Common.{◌≡◌, ℕ, zero, suc, ◌+◌, ◌<◌, ◌≤◌, ◌⊎◌, List, [], ◌∷◌, ◌++◌, length, get_or, drop, map, refl, ap, sym, ◌∙◌, inl, inr, arith, append_assoc, Bool, true, false, cond}
-use Rattle.std.specs.Prelude.{◌==◌, nat_lt}
-use Rattle.std.specs.List.{list_any}
+use Rattle.std.proofs.Common.{◌≡◌, ℕ, zero, suc, ◌+◌, ◌<◌, ◌≤◌, ◌⊎◌, List, [], ◌∷◌, ◌++◌, length, get_or, drop, take, length-take, map, refl, ap, sym, ◌∙◌, inl, inr, arith, append_assoc, Bool, true, false, cond}
+use Rattle.std.specs.Prelude.{◌==◌, ◌&&◌, nat_le, nat_lt}
+use Rattle.std.specs.List.{filter, list_any}
 use Rattle.std.specs.List.Sorted.{IsNonDecreasingBy, IsPartitionPoint}
-use Rattle.std.proofs.lemmas.Bool.{eq-eqb, eqb-true, ltb-true, ltb-false, cases_order, cases_Bool}
-use Rattle.std.proofs.lemmas.List.{drop_more, get_or_default}
+use Rattle.std.proofs.lemmas.Bool.{eq-eqb, eqb-true, ltb-true, ltb-false, le-leb, leb-true, false_from_ne_true, cases_order, cases_Bool}
+use Rattle.std.proofs.lemmas.List.{drop_more, get_or_default, get_or-take}
 use Rattle.dwc_kept.specs.declared.graph_entry.GraphEntry.{GraphEntry}
 use Rattle.dwc_kept.specs.EntryGraphs.{marked_of}
 use Rattle.dwc_kept.specs.GraphEntries.{no_entry, entry, nodes_seen, AreRising}
@@ -112,3 +112,49 @@ module _ (xs : List ℕ) (offset i : ℕ) (order : IsNonDecreasingBy (λ x. x) x
       go : (list_any (λ x. x == offset) xs ≡ true) ⊎ (list_any (λ x. x == offset) xs ≡ false) → false ≡ list_any (λ x. x == offset) xs
       go (inl h) = absurd (omega (arith, past, (among-here h).0))
       go (inr h) = sym h
+
+-- ---- those between two
+
+-- a test that passes up to a place and not from there on, and one that passes from a place on alone
+front-passes : (t : ℕ → Bool) (xs : List ℕ) (j : ℕ) → IsPartitionPoint (λ x. t x ≡ true) (λ x. t x ≡ false) xs j → filter t xs ≡ take j xs
+front-passes t [] zero at = refl
+front-passes t [] (suc j) at = refl
+front-passes t (x ∷ xs) zero at = ap (λ b. cond {A = List ℕ} b (x ∷ filter t xs) (filter t xs)) (at.1 0 x (omega arith) (omega arith)) ∙ front-passes t xs zero ((λ k d low high. absurd (omega (arith, low, high))), λ k d low high. at.1 (suc k) d (omega arith) (omega (arith, high)))
+front-passes t (x ∷ xs) (suc j) at =
+    ap (λ b. cond {A = List ℕ} b (x ∷ filter t xs) (filter t xs)) (at.0 0 x (omega arith) (omega arith))
+    ∙ ap (λ ys. x ∷ ys) (front-passes t xs j ((λ k d low high. at.0 (suc k) d (omega arith) (omega (arith, high))), λ k d low high. at.1 (suc k) d (omega (arith, low)) (omega (arith, high))))
+
+back-passes : (t : ℕ → Bool) (xs : List ℕ) (i : ℕ) → IsPartitionPoint (λ x. t x ≡ false) (λ x. t x ≡ true) xs i → filter t xs ≡ drop i xs
+back-passes t [] zero at = refl
+back-passes t [] (suc i) at = refl
+back-passes t (x ∷ xs) zero at =
+    ap (λ b. cond {A = List ℕ} b (x ∷ filter t xs) (filter t xs)) (at.1 0 x (omega arith) (omega arith))
+    ∙ ap (λ ys. x ∷ ys) (back-passes t xs zero ((λ k d low high. absurd (omega (arith, low, high))), λ k d low high. at.1 (suc k) d (omega arith) (omega (arith, high))))
+back-passes t (x ∷ xs) (suc i) at = ap (λ b. cond {A = List ℕ} b (x ∷ filter t xs) (filter t xs)) (at.0 0 x (omega arith) (omega arith)) ∙ back-passes t xs i ((λ k d low high. at.0 (suc k) d (omega arith) (omega (arith, high))), λ k d low high. at.1 (suc k) d (omega (arith, low)) (omega (arith, high)))
+
+filter-both : (s t : ℕ → Bool) (xs : List ℕ) → filter (λ x. s x && t x) xs ≡ filter s (filter t xs)
+filter-both s t [] = refl
+filter-both s t (x ∷ xs) = ap (λ ys. cond {A = List ℕ} (s x && t x) (x ∷ ys) ys) (filter-both s t xs) ∙ go (s x) (t x) refl
+  where
+    go : (a b : Bool) → s x ≡ a → cond {A = List ℕ} (a && b) (x ∷ filter s (filter t xs)) (filter s (filter t xs)) ≡ filter s (cond {A = List ℕ} b (x ∷ filter t xs) (filter t xs))
+    go true true e = sym (ap (λ c. cond {A = List ℕ} c (x ∷ filter s (filter t xs)) (filter s (filter t xs))) e)
+    go false true e = sym (ap (λ c. cond {A = List ℕ} c (x ∷ filter s (filter t xs)) (filter s (filter t xs))) e)
+    go true false e = refl
+    go false false e = refl
+
+pub front-order : (xs : List ℕ) (n : ℕ) → IsNonDecreasingBy (λ x. x) xs → IsNonDecreasingBy (λ x. x) (take n xs)
+front-order xs n order i j d le less =
+    let inside : j < length xs = omega (arith, less, length-take n xs) in
+    let low : j < n = omega (arith, less, length-take n xs) in
+    let here : get_or xs i d ≤ get_or xs j d = order i j d le inside in
+    omega (arith, here, get_or-take n xs i d (omega (arith, le, low)), get_or-take n xs j d low)
+
+pub between-is : (xs ys : List ℕ) (start end last first : ℕ) → IsPartitionPoint (λ x. nat_lt x end ≡ true) (λ x. nat_lt x end ≡ false) xs last → ys ≡ take last xs → IsPartitionPoint (λ x. nat_lt x start ≡ true) (λ x. nat_lt x start ≡ false) ys first
+    → drop first ys ≡ filter (λ x. nat_le start x && nat_lt x end) xs
+between-is xs ys start end last first high front low =
+    sym (back-passes (λ x. nat_le start x) ys first ((λ k d a b. below (get_or ys k d) (low.0 k d a b)), λ k d a b. le-leb start (get_or ys k d) (ltb-false (get_or ys k d) start (low.1 k d a b))))
+    ∙ ap (filter (λ x. nat_le start x)) (front ∙ sym (front-passes (λ x. nat_lt x end) xs last high))
+    ∙ sym (filter-both (λ x. nat_le start x) (λ x. nat_lt x end) xs)
+  where
+    below : (x : ℕ) → nat_lt x start ≡ true → nat_le start x ≡ false
+    below x h = false_from_ne_true (nat_le start x) (λ t. absurd (omega (arith, ltb-true x start h, leb-true start x t)))

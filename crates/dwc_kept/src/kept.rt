@@ -1,6 +1,6 @@
 //! The offsets of the entries that are kept.
-ghost use Rattle.std.specs.Prelude.{◌≡◌, ◌==◌, length, map, IfOk};
-ghost use Rattle.std.specs.List.{list_any};
+ghost use Rattle.std.specs.Prelude.{◌≡◌, ◌==◌, ◌&&◌, nat_le, nat_lt, length, map, IfOk};
+ghost use Rattle.std.specs.List.{filter, list_any};
 ghost use Rattle.std.specs.List.Sorted.{IsNonDecreasingBy};
 ghost use Rattle.dwc_kept.specs.EntryGraphs.{marked_of, AreKeptOffsets};
 ghost use Rattle.dwc_kept.specs.GraphEntries.{AreRising};
@@ -48,6 +48,13 @@ impl Kept {
         holds(&self.offsets, offset)
     }
 
+    /// The offsets from one on and below another, in rising order; none where the first is above the second.
+    pub fn between(&self, start: u64, end: u64) -> &[u32]
+        ensures { result.now ≡ filter (λ offset. nat_le start offset && nat_lt offset end) self.now }
+    {
+        between(&self.offsets, start, end)
+    }
+
     /// The offsets, in rising order.
     pub fn offsets(&self) -> &[u32]
         ensures { result.now ≡ self.now }
@@ -81,4 +88,16 @@ fn holds(offsets: &[u32], offset: u64) -> bool
 {
     let place = offsets.partition_point(|kept| u64::from(*kept) < offset);
     place < offsets.len() && u64::from(offsets[place]) == offset
+}
+
+// Those of some offsets, which do not fall, that are at least one and below another.
+fn between(offsets: &[u32], start: u64, end: u64) -> &[u32]
+    requires { IsNonDecreasingBy (λ offset. offset) offsets.now }
+    ensures { result.now ≡ filter (λ offset. nat_le start offset && nat_lt offset end) offsets.now }
+{
+    let last = offsets.partition_point(|kept| u64::from(*kept) < end);
+    let (before_end, _) = offsets.split_at(last);
+    let first = before_end.partition_point(|kept| u64::from(*kept) < start);
+    let (_, inside) = before_end.split_at(first);
+    inside
 }
