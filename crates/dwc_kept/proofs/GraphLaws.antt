@@ -21,6 +21,7 @@ use Rattle.dwc_kept.specs.EntryGraphs.{Node, no_node, node, is_number, keeps_num
 use Rattle.dwc_kept.specs.ReadEntries.{ReadSoFar, none_read, last_above, with_last_at, node_below, is_part_below, small_offset, named_offset, attribute_offset, with_entry_read, with_entries_read, with_units_read}
 use Rattle.dwc_kept.specs.ReadGraphs.{Standing, standing, placed, IsModuleGraph}
 use Rattle.dwc_kept.specs.ReadingSeen.{IsRead}
+use Rattle.dwc_kept.specs.ReadUnits.{unit_read}
 use Rattle.dwc_base.specs.Carried.{Unit, units_of_headers, units}
 use Rattle.dwc_kept.proofs.LastLaws.{last-here, last-other}
 use Rattle.dwc_kept.proofs.ReadLaws.{first-unit, first-fault}
@@ -390,10 +391,6 @@ module _ (needed : UnitHeader → Entry → Bool) (qs : List Standing) (order : 
       let here : (q_at i).entry.offset ≡ (q_at j).entry.offset =
       ap (λ (p : Placed). p.entry.offset) (sym (placed-at qs i d no_standing (omega (arith, below, b)))) ∙ same ∙ ap (λ (p : Placed). p.entry.offset) (placed-at qs j d no_standing b) in
       absurd (omega (arith, here, first.offsets))
-
--- a unit of a header, with its entries
-abbrev pub unit_read : Sections → UnitHeader → Unit
-unit_read s h = record { header = h; entries = (entries s h).items }
 
 -- where units have no fault, they are those of their headers
 units-headers : (s : Sections) (hs : List UnitHeader) (last : Option Fault) → (units_of_headers s hs last).fault ≡ None → (units_of_headers s hs last).items ≡ map (unit_read s) hs

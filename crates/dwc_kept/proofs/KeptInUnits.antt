@@ -4,7 +4,7 @@ use Rattle.std.specs.Prelude.{◌==◌, ◌||◌, nat_lt, AllPairs}
 use Rattle.std.specs.List.{filter, list_any}
 use Rattle.std.proofs.lemmas.Bool.{eq-eqb, ne_eqb, lt-ltb}
 use Rattle.std.proofs.lemmas.List.{length-map}
-use Rattle.std.proofs.lemmas.List.Elements.{filter-append, All-nil, All-cons, All-map}
+use Rattle.std.proofs.lemmas.List.Elements.{filter-append, All-nil, All-cons}
 use Rattle.dwc_base.specs.Entries.{Entry}
 use Rattle.dwc_base.specs.Carried.{Unit, Module, placed_entries, units}
 use Rattle.dwc_base.specs.Kept.{Placed, keeps}
@@ -219,11 +219,11 @@ module _ (m : KeptModule) (are : AreKept m) where
       ∙ ap (λ ps. nat_lt 0 (length ps)) (in-unit u i)
       ∙ ap (nat_lt 0) (length-map (kept_of_unit (offsets_kept m) u) (λ e. record { unit = u.header.offset; entry = e }))
 
-  -- The offsets of kept entries, unit by unit, are offsets of entries of the module.
-  pub unit-lists : (us : List Unit) → ((u : Unit) → IsIn u us → IsIn u m.units) → All (λ offset. offset < 2 ^ 32) (offsets_kept m) → AreEntryOffsets m (map (λ u. map (λ e. e.offset) (kept_of_unit (offsets_kept m) u)) us)
-  unit-lists us among small = record {
-    of_entries = All-map (All (λ offset. has_place m.entries offset ≡ true)) _ us (all-from _ us (λ u i. subst (All (λ offset. has_place m.entries offset ≡ true)) (within-unit u (among u i)) (all-from _ _ (λ o j. of_entry o (in-filter (is_in_unit u.header) (offsets_kept m) o j).0))));
-    small = All-map (All (λ offset. offset < 2 ^ 32)) _ us (all-from _ us (λ u i. subst (All (λ offset. offset < 2 ^ 32)) (within-unit u (among u i)) (all-from _ _ (λ o j. is_small o (in-filter (is_in_unit u.header) (offsets_kept m) o j).0))));
+  -- Lists of offsets of kept entries are of offsets of entries of the module.
+  pub kept-offsets : (lists : List (List ℕ)) → ((os : List ℕ) → IsIn os lists → (o : ℕ) → IsIn o os → IsIn o (offsets_kept m)) → All (λ offset. offset < 2 ^ 32) (offsets_kept m) → AreEntryOffsets m lists
+  kept-offsets lists among small = record {
+    of_entries = all-from (All (λ offset. has_place m.entries offset ≡ true)) lists (λ os i. all-from (λ offset. has_place m.entries offset ≡ true) os (λ o j. of_entry o (among os i o j)));
+    small = all-from (All (λ offset. offset < 2 ^ 32)) lists (λ os i. all-from (λ offset. offset < 2 ^ 32) os (λ o j. is_small o (among os i o j)));
   }
     where
       all-from : {A : Type 0} (P : A → Type 0) (xs : List A) → ((x : A) → IsIn x xs → P x) → All P xs

@@ -14,7 +14,7 @@ use Rattle.dwc_kept.specs.ReadEntries.{named_offset}
 use Rattle.dwc_kept.specs.ReadGraphs.{kept_offsets}
 use Rattle.dwc_kept.specs.KeptUnits.{offsets_kept, kept_of_unit, is_in_unit, IsTree, AreEntryOffsets}
 use Rattle.dwc_kept.proofs.InLists.{IsIn}
-use Rattle.dwc_kept.proofs.KeptInUnits.{AreKept, are-kept, in-unit, within-unit, offsets-order, some-in-unit, unit-lists}
+use Rattle.dwc_kept.proofs.KeptInUnits.{AreKept, are-kept, in-unit, within-unit, offsets-order, some-in-unit, kept-offsets}
 use Rattle.dwc_kept.proofs.KeptTrees.{unit-kept, root-kept}
 use Rattle.dwc_kept.proofs.KeptReferences.{target-place}
 
@@ -58,10 +58,9 @@ module _ (required : Unit → Entry → Bool) (m : Module) where
           ≡ option_and_then (λ offset. place_among (λ k. k == offset) number lists) (named_offset u.header.offset u.header.end v)
       reference-found lists offsets number e own v = target-place (kept_module required m) are lists offsets number u i e own v
 
-    -- The offsets of kept entries, unit by unit, are offsets of entries.
-    pub kept-lists : (us : List Unit) → ((u : Unit) → IsIn u us → IsIn u (kept_module required m).units) → All (λ offset. offset < 2 ^ 32) (offsets_kept (kept_module required m))
-        → AreEntryOffsets (kept_module required m) (map (λ u. map (λ e. e.offset) (kept_of_unit (offsets_kept (kept_module required m)) u)) us)
-    kept-lists us among small = unit-lists (kept_module required m) are us among small
+    -- Lists of offsets of kept entries are of offsets of entries.
+    pub kept-lists : (lists : List (List ℕ)) → ((os : List ℕ) → IsIn os lists → (o : ℕ) → IsIn o os → IsIn o (offsets_kept (kept_module required m))) → All (λ offset. offset < 2 ^ 32) (offsets_kept (kept_module required m)) → AreEntryOffsets (kept_module required m) lists
+    kept-lists lists among small = kept-offsets (kept_module required m) are lists among small
 
 -- The offsets of the kept entries of a module are those that its reading answers.
 pub offsets-same : (m : Module) → offsets_kept (kept_of m) ≡ kept_offsets m.functions m.sections

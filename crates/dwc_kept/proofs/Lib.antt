@@ -23,3 +23,4 @@ pub mod KeptTrees
 pub mod KeptPlaces
 pub mod KeptReferences
 pub mod KeptUnitLaws
+pub mod KeptModuleLaws
