@@ -10,16 +10,18 @@ use Rattle.dwc_base.specs.Listing.{Listing, no_items, only_fault, with_first}
 use Rattle.dwc_base.specs.Sections.{Sections, Fault}
 use Rattle.dwc_base.specs.Units.{UnitHeader, unit_headers}
 use Rattle.dwc_base.specs.Entries.{Entry, entries}
-use Rattle.dwc_base.specs.Refusals.{first_of}
+use Rattle.dwc_base.specs.Refusals.{first_of, table_offset}
 use Rattle.dwc_base.specs.ReachedEntries.{listing_faults, info_faults}
-use Rattle.dwc_base.specs.Carried.{Unit, units_of_headers, units, has_root_tag}
+use Rattle.dwc_base.specs.Carried.{Unit, units_of_headers, units, has_root_tag, root}
 use Rattle.dwc_base.specs.declared.constants.TheConstants.{DW_TAG_compile_unit}
 use Rattle.dwc_read.specs.Views.{UnitView, UnitsView}
 use Rattle.dwc_kept.specs.EntryGraphs.{Node}
 use Rattle.dwc_kept.specs.declared.last_at.LastAt.{LastAt}
 use Rattle.dwc_kept.specs.declared.read_unit.ReadUnit.{ReadUnit}
 use Rattle.dwc_kept.specs.UnitOffsets.{RiseIn, StandFrom}
-use Rattle.dwc_kept.specs.ReadEntries.{ReadSoFar, none_read, with_entry_read, with_entries_read, with_units_read, AreAmong, StandBefore, TellsFirst, first_tag, is_tag}
+use Rattle.dwc_kept.specs.declared.read_unit.RootEntry.{RootEntry}
+use Rattle.dwc_kept.specs.RootsSaid.{root_said, first_said, has_tag, table_named}
+use Rattle.dwc_kept.specs.ReadEntries.{ReadSoFar, none_read, with_entry_read, with_entries_read, with_units_read, AreAmong, StandBefore, TellsFirst}
 use Rattle.dwc_kept.specs.ReadingSeen.{HasRead, IsRead}
 use Rattle.dwc_kept.specs.ReadUnits.{IsReadUnit}
 use Rattle.dwc_kept.proofs.LastLaws.{last-here, last-other}
@@ -69,11 +71,11 @@ module _ (needed : Entry → Bool) (named : Entry → List Fault) (u : UnitHeade
   pub entry-before : (e : Entry) (r : ReadSoFar) (limit : ℕ) → StandBefore limit r → e.offset < limit → StandBefore limit (with_entry_read needed u e r)
   entry-before e r limit before less = All-push (λ (n : Node). n.offset < limit) r.nodes _ before less
 
-  -- what is read of a listing of entries so far, with the tag of the first
-  pub record EntriesSoFar (all : Listing Fault Entry) (first : ReadSoFar) (left : Listing Fault Entry) (now : ReadSoFar) (tag : Option ℕ) : Type 0 where
+  -- what is read of a listing of entries so far, with what the first says
+  pub record EntriesSoFar (all : Listing Fault Entry) (first : ReadSoFar) (left : Listing Fault Entry) (now : ReadSoFar) (tag : Option RootEntry) : Type 0 where
     pub from : ℕ
     pub fault : first_of (listing_faults named left) ≡ first_of (listing_faults named all)
-    pub root : option_or tag (first_tag left.items) ≡ first_tag all.items
+    pub root : option_or tag (first_said left.items) ≡ first_said all.items
     pub rest : with_entries_read needed u left.items now ≡ with_entries_read needed u all.items first
     pub among : AreAmong now
     pub before_next : StandBefore from now
@@ -95,7 +97,7 @@ module _ (needed : Entry → Bool) (named : Entry → List Fault) (u : UnitHeade
   }
 
   -- the next entry of what is left
-  pub entry-next : (all : Listing Fault Entry) (first : ReadSoFar) (left next : Listing Fault Entry) (now : ReadSoFar) (tag : Option ℕ) (e : Entry) → EntriesSoFar all first left now tag → left ≡ with_first e next → StandBefore e.offset now
+  pub entry-next : (all : Listing Fault Entry) (first : ReadSoFar) (left next : Listing Fault Entry) (now : ReadSoFar) (tag : Option RootEntry) (e : Entry) → EntriesSoFar all first left now tag → left ≡ with_first e next → StandBefore e.offset now
   entry-next all first left next now tag e so_far is =
       let rise : RiseIn so_far.from u.end (e ∷ next.items) = subst (λ (l : Listing Fault Entry). RiseIn so_far.from u.end l.items) is so_far.rise in
       All-weaker (λ (n : Node). n.offset < so_far.from) (λ n. n.offset < e.offset) (λ n h. omega (arith, h, rise.0)) now.nodes so_far.before_next
@@ -104,14 +106,14 @@ module _ (needed : Entry → Bool) (named : Entry → List Fault) (u : UnitHeade
   next-faults : (e : Entry) (left next : Listing Fault Entry) → left ≡ with_first e next → listing_faults named left ≡ named e ++ listing_faults named next
   next-faults e left next is = ap (listing_faults named) is ∙ append_assoc (named e) (flat_map named next.items) (option_to_list next.fault)
 
-  pub entries-go : (all : Listing Fault Entry) (first : ReadSoFar) (left next : Listing Fault Entry) (now new : ReadSoFar) (tag new_tag : Option ℕ) (e : Entry) → EntriesSoFar all first left now tag → left ≡ with_first e next → new ≡ with_entry_read needed u e now → e.offset < 2 ^ 32
-      → first_of (named e) ≡ None → new_tag ≡ option_or tag (Some e.tag) → EntriesSoFar all first next new new_tag
+  pub entries-go : (all : Listing Fault Entry) (first : ReadSoFar) (left next : Listing Fault Entry) (now new : ReadSoFar) (tag new_tag : Option RootEntry) (e : Entry) → EntriesSoFar all first left now tag → left ≡ with_first e next → new ≡ with_entry_read needed u e now → e.offset < 2 ^ 32
+      → first_of (named e) ≡ None → new_tag ≡ option_or tag (Some (root_said e)) → EntriesSoFar all first next new new_tag
   entries-go all first left next now new tag new_tag e so_far is read small no_fault tag_is =
       let rise : RiseIn so_far.from u.end (e ∷ next.items) = subst (λ (l : Listing Fault Entry). RiseIn so_far.from u.end l.items) is so_far.rise in
       subst (λ r. EntriesSoFar all first next r new_tag) (sym read) (record {
         from = suc e.offset;
         fault = sym (ap first_of (next-faults e left next is) ∙ first-behind (named e) (listing_faults named next) no_fault) ∙ so_far.fault;
-        root = ap (λ t. option_or t (first_tag next.items)) tag_is ∙ root tag (first_tag next.items) e.tag ∙ sym (ap (λ (l : Listing Fault Entry). option_or tag (first_tag l.items)) is) ∙ so_far.root;
+        root = ap (λ t. option_or t (first_said next.items)) tag_is ∙ root_kept tag (first_said next.items) (root_said e) ∙ sym (ap (λ (l : Listing Fault Entry). option_or tag (first_said l.items)) is) ∙ so_far.root;
         rest = sym (ap (λ (l : Listing Fault Entry). with_entries_read needed u l.items now) is) ∙ so_far.rest;
         among = entry-among e now so_far.among;
         before_next = entry-before e now (suc e.offset) (All-weaker (λ (n : Node). n.offset < so_far.from) (λ n. n.offset < suc e.offset) (λ n h. omega (arith, h, rise.0)) now.nodes so_far.before_next) (omega arith);
@@ -120,28 +122,28 @@ module _ (needed : Entry → Bool) (named : Entry → List Fault) (u : UnitHeade
         rise = rise.2;
       })
     where
-      root : (t o : Option ℕ) (n : ℕ) → option_or (option_or t (Some n)) o ≡ option_or t (Some n)
-      root None o n = refl
-      root (Some m) o n = refl
+      root_kept : (t o : Option RootEntry) (n : RootEntry) → option_or (option_or t (Some n)) o ≡ option_or t (Some n)
+      root_kept None o n = refl
+      root_kept (Some m) o n = refl
 
-  pub entries-end : (all : Listing Fault Entry) (first : ReadSoFar) (left : Listing Fault Entry) (now : ReadSoFar) (tag : Option ℕ) → EntriesSoFar all first left now tag → left ≡ no_items
-      → (first_of (listing_faults named all) ≡ None) × (HasRead (with_entries_read needed u all.items first) u.end now × (tag ≡ first_tag all.items))
+  pub entries-end : (all : Listing Fault Entry) (first : ReadSoFar) (left : Listing Fault Entry) (now : ReadSoFar) (tag : Option RootEntry) → EntriesSoFar all first left now tag → left ≡ no_items
+      → (first_of (listing_faults named all) ≡ None) × (HasRead (with_entries_read needed u all.items first) u.end now × (tag ≡ first_said all.items))
   entries-end all first left now tag so_far is = (
     sym so_far.fault ∙ ap (λ (l : Listing Fault Entry). first_of (listing_faults named l)) is,
     (
       record { is = sym (ap (λ (l : Listing Fault Entry). with_entries_read needed u l.items now) is) ∙ so_far.rest; among = so_far.among; before = so_far.before_end; small = so_far.small },
-      sym (or-none tag) ∙ sym (ap (λ (l : Listing Fault Entry). option_or tag (first_tag l.items)) is) ∙ so_far.root,
+      sym (or-none tag) ∙ sym (ap (λ (l : Listing Fault Entry). option_or tag (first_said l.items)) is) ∙ so_far.root,
     ),
   )
     where
-      or-none : (o : Option ℕ) → option_or o None ≡ o
+      or-none : (o : Option RootEntry) → option_or o None ≡ o
       or-none None = refl
       or-none (Some n) = refl
 
-  pub entries-fault : (all : Listing Fault Entry) (first : ReadSoFar) (left : Listing Fault Entry) (now : ReadSoFar) (tag : Option ℕ) (fault : Fault) → EntriesSoFar all first left now tag → left ≡ only_fault fault → first_of (listing_faults named all) ≡ Some fault
+  pub entries-fault : (all : Listing Fault Entry) (first : ReadSoFar) (left : Listing Fault Entry) (now : ReadSoFar) (tag : Option RootEntry) (fault : Fault) → EntriesSoFar all first left now tag → left ≡ only_fault fault → first_of (listing_faults named all) ≡ Some fault
   entries-fault all first left now tag fault so_far is = sym so_far.fault ∙ ap (λ (l : Listing Fault Entry). first_of (listing_faults named l)) is
 
-  pub entry-tells : (all : Listing Fault Entry) (first : ReadSoFar) (left next : Listing Fault Entry) (now : ReadSoFar) (tag : Option ℕ) (e : Entry) (o : Option Fault) → EntriesSoFar all first left now tag → left ≡ with_first e next
+  pub entry-tells : (all : Listing Fault Entry) (first : ReadSoFar) (left next : Listing Fault Entry) (now : ReadSoFar) (tag : Option RootEntry) (e : Entry) (o : Option Fault) → EntriesSoFar all first left now tag → left ≡ with_first e next
       → TellsFirst (first_of (named e)) o → TellsFirst (first_of (listing_faults named all)) o
   entry-tells all first left next now tag e o so_far is = tells-in _ _ o (λ fault h. sym so_far.fault ∙ ap first_of (next-faults e left next is) ∙ first-in (named e) (listing_faults named next) fault h)
 
@@ -182,13 +184,23 @@ pub info-whole : (named : UnitHeader → Entry → List Fault) (s : Sections) �
 unfolding info_faults units
 info-whole named s h = headers-whole named s (unit_headers s).items (unit_headers s).fault (first-none _ h)
 
--- A unit that was read, by the tag of its root.
-pub is-read-unit : (s : Sections) (v : UnitView) (tag : Option ℕ) (b : Bool) → v.sections ≡ s → tag ≡ first_tag (entries s v.header).items → b ≡ is_tag DW_TAG_compile_unit tag → IsReadUnit s v.header (record { unit = v; is_compile_unit = b })
-is-read-unit s v tag b same root is = record { sections = same; header = refl; tag = is ∙ ap (is_tag DW_TAG_compile_unit) root ∙ go (entries s v.header).items }
+-- A unit that was read, by what its root says.
+pub is-read-unit : (s : Sections) (v : UnitView) (said : Option RootEntry) (b : Bool) (offset : Option ℕ) → v.sections ≡ s → said ≡ first_said (entries s v.header).items → b ≡ has_tag DW_TAG_compile_unit said → offset ≡ table_named said
+    → IsReadUnit s v.header (record { unit = v; is_compile_unit = b; line_table = offset })
+is-read-unit s v said b offset same first is named = record {
+  sections = same;
+  header = refl;
+  tag = is ∙ ap (has_tag DW_TAG_compile_unit) first ∙ tagged (entries s v.header).items;
+  lines = named ∙ ap table_named first ∙ lined (entries s v.header).items;
+}
   where
-    go : (es : List Entry) → is_tag DW_TAG_compile_unit (first_tag es) ≡ has_root_tag DW_TAG_compile_unit (record { header = v.header; entries = es })
-    go [] = refl
-    go (e ∷ es) = refl
+    tagged : (es : List Entry) → has_tag DW_TAG_compile_unit (first_said es) ≡ has_root_tag DW_TAG_compile_unit (record { header = v.header; entries = es })
+    tagged [] = refl
+    tagged (e ∷ es) = refl
+
+    lined : (es : List Entry) → table_named (first_said es) ≡ table_offset (root (record { header = v.header; entries = es }))
+    lined [] = refl
+    lined (e ∷ es) = refl
 
 module _ (needed : UnitHeader → Entry → Bool) (named : UnitHeader → Entry → List Fault) (s : Sections) where
   -- what is read of the units of some sections so far

@@ -1,3 +1,4 @@
+pub mod RootsSaid
 pub mod EntryGraphs
 pub mod GraphEntries
 pub mod UnitOffsets

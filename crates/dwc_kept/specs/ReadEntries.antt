@@ -101,13 +101,3 @@ ReadsOrTells has first (Err e) = TellsFirst first (fault_seen e)
 abbrev pub MeetsOrTells : {X : Type 0} → Option Fault → Result X ReadFault → Type 0
 MeetsOrTells first (Ok x) = first ≡ None
 MeetsOrTells first (Err e) = TellsFirst first (fault_seen e)
-
--- the tag of the first of some entries, a unit's root
-abbrev pub first_tag : List Entry → Option ℕ
-first_tag [] = None
-first_tag (e ∷ es) = Some e.tag
-
--- whether it is a tag
-abbrev pub is_tag : ℕ → Option ℕ → Bool
-is_tag tag None = false
-is_tag tag (Some t) = t == tag

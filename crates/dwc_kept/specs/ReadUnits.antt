@@ -5,7 +5,8 @@ use Rattle.dwc_base.specs.Sections.{Sections}
 use Rattle.dwc_base.specs.Units.{UnitHeader, unit_headers}
 use Rattle.dwc_base.specs.Entries.{entries}
 use Rattle.dwc_base.specs.Functions.{Function}
-use Rattle.dwc_base.specs.Carried.{Unit, units, has_root_tag}
+use Rattle.dwc_base.specs.Carried.{Unit, units, root, has_root_tag}
+use Rattle.dwc_base.specs.Refusals.{table_offset}
 use Rattle.dwc_base.specs.declared.constants.TheConstants.{DW_TAG_compile_unit}
 use Rattle.dwc_kept.specs.declared.read_unit.ReadUnit.{ReadUnit}
 use Rattle.dwc_kept.specs.declared.kept_units.KeptModule.{KeptModule}
@@ -16,11 +17,12 @@ use Rattle.dwc_kept.specs.ReadGraphs.{kept_offsets}
 abbrev pub unit_read : Sections → UnitHeader → Unit
 unit_read s h = record { header = h; entries = (entries s h).items }
 
--- A unit of a header that was read, with whether its root is a compile unit.
+-- A unit of a header that was read, with whether its root is a compile unit, and the line table that the root names.
 pub record IsReadUnit (s : Sections) (h : UnitHeader) (r : ReadUnit) : Type 0 where
   pub sections : r.unit.sections ≡ s
   pub header : r.unit.header ≡ h
   pub tag : r.is_compile_unit ≡ has_root_tag DW_TAG_compile_unit (unit_read s h)
+  pub lines : r.line_table ≡ table_offset (root (unit_read s h))
 
 -- The units of a module that is read without a fault, and the offsets of its kept entries.
 pub record IsKeptModule (fs : List Function) (s : Sections) (m : KeptModule) : Type 0 where

@@ -7,54 +7,55 @@ ghost use Rattle.dwc_base.specs.ReachedEntries.{listing_faults, info_faults};
 ghost use Rattle.dwc_base.specs.Refusals.{first_of};
 ghost use Rattle.dwc_base.specs.Units.{unit_headers};
 ghost use Rattle.dwc_kept.specs.UnitOffsets.{RiseIn};
-ghost use Rattle.dwc_kept.specs.ReadEntries.{with_entries_read, with_units_read, none_read, AreAmong, StandBefore, ReadsOrTells, first_tag};
+ghost use Rattle.dwc_kept.specs.ReadEntries.{with_entries_read, with_units_read, none_read, AreAmong, StandBefore, ReadsOrTells};
 ghost use Rattle.dwc_kept.specs.ReadGraphs.{IsModuleGraph};
 ghost use Rattle.dwc_kept.specs.ReadingSeen.{reading_view, HasRead, IsRead};
 ghost use Rattle.dwc_kept.specs.ReadUnits.{IsReadUnit};
+ghost use Rattle.dwc_kept.specs.RootsSaid.{first_said};
 
 use crate::graph::EntryGraph;
-use crate::read_unit::{ReadUnit, is_compile_unit};
+use crate::read_unit::{ReadUnit, RootEntry, is_compile_unit, root_or, table_named};
 use crate::reading::{Reading, add_entry, none_read};
 use dwc_addr::AddressTransform;
 use dwc_read::{Entries, ReadFault, Sections, Unit, Units};
 use std::alloc::Global;
 
-// Adds the entries of a unit that are still to come, and answers the tag of the first.
+// Adds the entries of a unit that are still to come, and answers what the first says.
 fn add_entries(
     entries: &mut Entries<'_>,
     transform: &AddressTransform,
     unit: &Unit<'_>,
     reading: &mut Reading,
-) -> Result<Option<u16>, ReadFault>
+) -> Result<Option<RootEntry>, ReadFault>
     requires among { AreAmong (reading_view reading.old) }
     requires before { StandBefore unit.now.header.offset (reading_view reading.old) }
     requires small { StandBefore (2 ^ 32) (reading_view reading.old) }
     requires some { unit.now.header.offset < unit.now.header.end }
     requires rise { RiseIn unit.now.header.offset unit.now.header.end entries.old.left.items }
-    ensures { ReadsOrTells (λ tag. HasRead (with_entries_read (is_required transform.now unit.now.sections unit.now.header) unit.now.header entries.old.left.items (reading_view reading.old)) unit.now.header.end (reading_view reading.new) × (tag ≡ first_tag entries.old.left.items)) (first_of (listing_faults (named_faults unit.now.sections unit.now.header) entries.old.left)) result }
+    ensures { ReadsOrTells (λ root. HasRead (with_entries_read (is_required transform.now unit.now.sections unit.now.header) unit.now.header entries.old.left.items (reading_view reading.old)) unit.now.header.end (reading_view reading.new) × (root ≡ first_said entries.old.left.items)) (first_of (listing_faults (named_faults unit.now.sections unit.now.header) entries.old.left)) result }
 {
-    let mut root_tag = None;
+    let mut root = None;
     while entries.advance()? {
         let entry = entries.current();
         add_entry(reading, transform, unit, entry)?;
-        root_tag = root_tag.or(Some(entry.tag));
+        root = root_or(root, entry);
     }
-    Ok(root_tag)
+    Ok(root)
 }
 
-// Adds the entries of a unit, and answers the tag of its root.
+// Adds the entries of a unit, and answers what its root says.
 fn add_unit(
     alloc: Global,
     unit: &Unit<'_>,
     transform: &AddressTransform,
     reading: &mut Reading,
-) -> Result<Option<u16>, ReadFault>
+) -> Result<Option<RootEntry>, ReadFault>
     requires among { AreAmong (reading_view reading.old) }
     requires before { StandBefore unit.now.header.offset (reading_view reading.old) }
     requires small { StandBefore (2 ^ 32) (reading_view reading.old) }
     requires some { unit.now.header.offset < unit.now.header.end }
     requires rise { RiseIn unit.now.header.offset unit.now.header.end (entries_of unit.now.sections unit.now.header).items }
-    ensures { ReadsOrTells (λ tag. HasRead (with_entries_read (is_required transform.now unit.now.sections unit.now.header) unit.now.header (entries_of unit.now.sections unit.now.header).items (reading_view reading.old)) unit.now.header.end (reading_view reading.new) × (tag ≡ first_tag (entries_of unit.now.sections unit.now.header).items)) (first_of (listing_faults (named_faults unit.now.sections unit.now.header) (entries_of unit.now.sections unit.now.header))) result }
+    ensures { ReadsOrTells (λ root. HasRead (with_entries_read (is_required transform.now unit.now.sections unit.now.header) unit.now.header (entries_of unit.now.sections unit.now.header).items (reading_view reading.old)) unit.now.header.end (reading_view reading.new) × (root ≡ first_said (entries_of unit.now.sections unit.now.header).items)) (first_of (listing_faults (named_faults unit.now.sections unit.now.header) (entries_of unit.now.sections unit.now.header))) result }
 {
     let mut entries = unit.entries(alloc)?;
     add_entries(&mut entries, transform, unit, reading)
@@ -82,11 +83,13 @@ pub(crate) fn read_entries<'d>(
     let mut reading = none_read(alloc);
     let mut units = Vec::new(alloc);
     while let Some(unit) = headers.next_unit(alloc)? {
-        let root_tag = add_unit(alloc, &unit, transform, &mut reading)?;
-        let is_compile_unit = is_compile_unit(root_tag);
+        let root = add_unit(alloc, &unit, transform, &mut reading)?;
+        let is_compile_unit = is_compile_unit(root);
+        let line_table = table_named(root);
         units.push(ReadUnit {
             unit,
             is_compile_unit,
+            line_table,
         })?;
     }
     Ok(ReadModule { reading, units })

@@ -6,7 +6,7 @@ use Rattle.dwc_kept.proofs.walk.add_entries.Given as goal
 
 -- the entries that are left lead from what is read to all that is to be read
 abbrev pub invariant-loop-entries : goal.invariant-loop-entries
-invariant-loop-entries l = EntriesSoFar (is_required l.transform l.unit.sections l.unit.header) (named_faults l.unit.sections l.unit.header) l.unit.header l.initial.entries.left (reading_view l.initial.reading) l.entries.left (reading_view l.reading) l.root_tag
+invariant-loop-entries l = EntriesSoFar (is_required l.transform l.unit.sections l.unit.header) (named_faults l.unit.sections l.unit.header) l.unit.header l.initial.entries.left (reading_view l.initial.reading) l.entries.left (reading_view l.reading) l.root
 
 abbrev pub decreases-loop-entries : goal.decreases-loop-entries
 decreases-loop-entries l = length l.entries.left.items
