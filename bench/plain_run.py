@@ -1,66 +1,15 @@
 """What a run prints, worked out anew from the files that it reads: a plain reading of WebAssembly, of the map and of DWARF,
-and a plain writing of the output. It knows valid inputs alone, in the form that is built so far, and is as slow as it is short.
+and a plain writing of the output. It knows valid inputs alone, of what is built so far, and is as slow as it is short.
 """
 
 import json
 from dataclasses import dataclass, field, replace
 
-TAG_COMPILE_UNIT, TAG_SUBPROGRAM = 0x11, 0x2E
-AT_STMT_LIST, AT_LOW_PC, AT_HIGH_PC, AT_STR_OFFSETS_BASE = 0x10, 0x11, 0x12, 0x72
-USUAL_TEXT_BASE = 8  # behind the header of `.debug_str_offsets`
+from plain_entries import Reader, Unit, kept_offsets, read_table, read_units, sleb, uleb
+from plain_entries import TAG_COMPILE_UNIT
+from plain_trees import tree_of, write_tree
+
 DROPPED = (0, 0xFFFFFFFF)
-
-
-class Reader:
-    def __init__(self, data, at=0):
-        self.data, self.at = data, at
-
-    def take(self, count):
-        if self.at + count > len(self.data):
-            raise ValueError("the bytes end early")
-        self.at += count
-        return self.data[self.at - count : self.at]
-
-    def number(self, size):
-        return int.from_bytes(self.take(size), "little")
-
-    def leb(self):
-        """The bits of a number of variable length, how many they are, and whether the highest of them is set."""
-        value, bits = 0, 0
-        while True:
-            byte = self.number(1)
-            value |= (byte & 0x7F) << bits
-            bits += 7
-            if byte < 0x80:
-                return value, bits, byte & 0x40 != 0
-
-    def uleb(self):
-        value, _, _ = self.leb()
-        return value
-
-    def sleb(self):
-        value, bits, is_negative = self.leb()
-        return value - (1 << bits) if is_negative else value
-
-    def text(self):
-        end = self.data.index(0, self.at)
-        return self.take(end + 1 - self.at)[:-1]
-
-
-def uleb(n):
-    out = bytearray()
-    while n >= 0x80:
-        out.append(n & 0x7F | 0x80)
-        n >>= 7
-    return bytes(out) + bytes([n])
-
-
-def sleb(n):
-    out = bytearray()
-    while not -64 <= n < 64:
-        out.append(n & 0x7F | 0x80)
-        n >>= 7
-    return bytes(out) + bytes([n & 0x7F])
 
 
 # ---- what is read
@@ -111,67 +60,6 @@ def function_at(functions, address):
     return owner if owner.symbol is not None else None
 
 
-def read_table(data, offset):
-    """Tag, children and attributes of each code of an abbreviation table; of equal codes the first counts."""
-    reader, table = Reader(data, offset), {}
-    while code := reader.uleb():
-        tag, children, attributes = reader.uleb(), reader.number(1), []
-        while (pair := (reader.uleb(), reader.uleb())) != (0, 0):
-            attributes.append(pair)
-        table.setdefault(code, (tag, children, attributes))
-    return table
-
-
-@dataclass
-class Unit:
-    version: int
-    address_size: int
-    tag: int
-    line_table: int | None
-    subprograms: list  # of the begin and the length
-    text_base: int = USUAL_TEXT_BASE
-
-
-def read_units(sections):
-    data = sections.get(".debug_info", b"")
-    at, units = 0, []
-    while at < len(data):
-        reader = Reader(data, at)
-        at += 4 + reader.number(4)
-        version = reader.number(2)
-        if version == 5:
-            kind, size = reader.number(1), reader.number(1)
-            table = reader.number(4)
-            reader.take(8 if kind in (4, 5) else 0)
-        else:
-            table, size = reader.number(4), reader.number(1)
-        units.append(read_entries(reader, at, version, size, read_table(sections[".debug_abbrev"], table)))
-    return units
-
-
-def read_entries(reader, end, version, size, table):
-    sizes = {0x01: size, 0x06: 4, 0x17: 4}
-    depth, root, subprograms = 0, None, []
-    while reader.at < end:
-        code = reader.uleb()
-        if code == 0:
-            depth -= 1
-            if depth <= 0:
-                break
-            continue
-        tag, children, attributes = table[code]
-        values = {name: reader.number(sizes[form]) for name, form in attributes}
-        if root is None:
-            base = values.get(AT_STR_OFFSETS_BASE, USUAL_TEXT_BASE)
-            root = Unit(version, size, tag, values.get(AT_STMT_LIST), subprograms, base)
-            if not children:
-                break
-        else:
-            subprograms.append((values[AT_LOW_PC], values[AT_HIGH_PC]))
-        depth += children
-    return root
-
-
 @dataclass
 class Row:
     offset: int = 0
@@ -199,8 +87,9 @@ class Table:
     steps: list = field(default_factory=list)  # each start, row and end, in order
 
 
-def read_line_table(sections, unit):
-    reader = Reader(sections[".debug_line"], unit.line_table)
+def read_line_table(sections, unit, offset):
+    """The line table at an offset, as a unit reads it."""
+    reader = Reader(sections[".debug_line"], offset)
     end = reader.number(4) + reader.at
     table = Table(reader.number(2))
     size = unit.address_size
@@ -348,8 +237,8 @@ def listed_lines(module):
     first = sections[".debug_info"]
     version = int.from_bytes(first[4:6], "little")
     size = first[7] if version == 5 else first[10]
-    base = read_units(sections)[0].text_base if ".debug_abbrev" in sections else USUAL_TEXT_BASE
-    table = read_line_table(sections, Unit(version, size, TAG_COMPILE_UNIT, 0, [], base))
+    unit = read_units(sections)[0] if ".debug_abbrev" in sections else Unit(0, 0, version, size)
+    table = read_line_table(sections, unit, 0)
     lines = [["table", table.version]]
     lines += [["directory", i, name.decode()] for i, name in enumerate(table.directories, 1)]
     lines += [["file", i, *pair] for i, pair in enumerate(table.files, 0 if table.version == 5 else 1)]
@@ -396,7 +285,7 @@ def listed_unit(module, names):
             continue
         tag, children, attributes = table[code]
         lines.append(f"{at:#x} {depth} {tag:#x}")
-        lines += [f"  {name:#x} {listed_value(reader, name, form, size, names)}" for name, form in attributes]
+        lines += [f"  {name:#x} {listed_value(reader, name, form, size, names)}" for name, form, _ in attributes]
         depth += children
     return "".join(line + "\n" for line in lines)
 
@@ -433,7 +322,15 @@ class Writer:
     def __init__(self, target):
         self.order = "big" if target.get("big_endian", False) else "little"
         self.size = target.get("pointer_bytes", 8)
-        self.abbrev, self.info, self.line = map(Section, (".debug_abbrev", ".debug_info", ".debug_line"))
+        names = (".debug_abbrev", ".debug_info", ".debug_line", ".debug_str")
+        self.abbrev, self.info, self.line, self.str = map(Section, names)
+        self.texts = {}  # where each text stands
+
+    def text(self, section, text):
+        if text not in self.texts:
+            self.texts[text] = len(self.str.body)
+            self.str.body += text + b"\0"
+        self.offset(section, self.str, self.texts[text])
 
     def number(self, value, size):
         return value.to_bytes(size, self.order)
@@ -452,27 +349,6 @@ class Writer:
         section.body += bytes(4)
         write()
         section.body[at : at + 4] = self.number(len(section.body) - at - 4, 4)
-
-    def unit(self, functions, table):
-        table_at = len(self.abbrev.body)
-        root = bytes([AT_STMT_LIST, 0x17, 0, 0]) if table else bytes(2)
-        self.abbrev.body += bytes([1, TAG_COMPILE_UNIT, 1]) + root
-        self.abbrev.body += bytes([2, TAG_SUBPROGRAM, 0, AT_LOW_PC, 0x01, AT_HIGH_PC, 0x0F, 0, 0, 0])
-        line_at = len(self.line.body)
-
-        def write():
-            self.info.body += self.number(4, 2)
-            self.offset(self.info, self.abbrev, table_at)
-            self.info.body += bytes([self.size, 1])
-            if table:
-                self.offset(self.info, self.line, line_at)
-            for function in functions:
-                self.info.body.append(2)
-                self.address(self.info, function)
-                self.info.body += uleb(function.length)
-            self.info.body.append(0)
-
-        self.sized(self.info, write)
 
     def line_table(self, table, images):
         names = b"".join(name + b"\0" for name in table.directories) + b"\0"
@@ -508,24 +384,32 @@ class Writer:
         body += bytes([0, 1, 1])
 
 
+def carried_units(sections, functions):
+    """The carried units of a module, each with the entries of it that are kept."""
+    units = read_units(sections)
+    kept = kept_offsets(sections, units, lambda address: function_at(functions, address))
+    pairs = [(unit, [e for e in unit.entries if e.offset in kept]) for unit in units if unit.root.tag == TAG_COMPILE_UNIT]
+    return [(unit, entries) for unit, entries in pairs if entries]
+
+
 def printed_text(map_bytes, modules):
     """The text that a run on a map and modules prints."""
     files = [read_wasm(data) for data in modules]
     target, maps = read_map(map_bytes, [code for code, _ in files])
-    writer = Writer(target)
+    writer, units = Writer(target), []
     for (_, sections), functions in zip(files, maps):
-        for unit in read_units(sections):
-            carry_unit(writer, sections, functions, unit)
-    return "".join(s.printed() for s in (writer.abbrev, writer.info, writer.line) if s.body)
+        carried = carried_units(sections, functions)
+        places = {e.offset: (len(units) + i, j) for i, (_, entries) in enumerate(carried) for j, e in enumerate(entries)}
+        for unit, entries in carried:
+            table = None if unit.line_table is None else read_line_table(sections, unit, unit.line_table)
+            at = lambda address: function_at(functions, address)
+            units.append((tree_of(sections, unit, entries, table, places, at, target), len(writer.line.body)))
+            write_lines(writer, table, functions)
+    write_tree(writer, units)
+    return "".join(s.printed() for s in (writer.abbrev, writer.info, writer.line, writer.str) if s.body)
 
 
-def carry_unit(writer, sections, functions, unit):
-    kept = [function_at(functions, begin) for begin, _ in unit.subprograms]
-    kept = [function for function in kept if function is not None]
-    if unit.tag != TAG_COMPILE_UNIT or not kept:
-        return
-    table = read_line_table(sections, unit) if unit.line_table is not None else None
-    writer.unit(kept, table)
+def write_lines(writer, table, functions):
     if table:
         images = [(function_at(functions, start), start, rows) for start, rows in table.segments]
         images = [(f, image_of(start, rows, f)) for f, start, rows in images if f is not None]
@@ -554,10 +438,10 @@ def check_bytes(map_bytes, modules):
     files = [read_wasm(data) for data in modules]
     _, maps = read_map(map_bytes, [code for code, _ in files])
     for (_, sections), functions in zip(files, maps):
-        for unit in read_units(sections):
-            if unit.line_table is None or not any(function_at(functions, begin) for begin, _ in unit.subprograms):
+        for unit, _ in carried_units(sections, functions):
+            if unit.line_table is None:
                 continue
-            for start, rows in read_line_table(sections, unit).segments:
+            for start, rows in read_line_table(sections, unit, unit.line_table).segments:
                 function = function_at(functions, start)
                 image = image_of(start, rows, function) if function else []
                 for byte in range(function.length if image else 0):
