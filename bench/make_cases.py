@@ -13,6 +13,7 @@ import os
 import sys
 
 import check_cases
+import entry_cases
 import plain_run
 from form_cases import FORMS, REFUSED_FORMS
 from make_modules import custom, functions_module, map_of as map_of_modules, sleb, u32, uleb
@@ -52,6 +53,7 @@ def line_table(program=PROGRAM, version=4, names=ONE_FILE, sizes=(4, 0), paramet
 
 
 def module(abbreviations=ABBREVIATIONS, info=None, line=None, others=(), front=FRONT):
+    """A module with these sections; of two of one name the later counts."""
     info = unit() if info is None else info
     line = line_table() if line is None else line
     sections = [(".debug_abbrev", abbreviations), (".debug_info", info), (".debug_line", line), *others]
@@ -387,7 +389,7 @@ def versions(cases):
     data4 = ABBREVIATIONS.replace(b"\x10\x17", b"\x10\x06")
     for version in (2, 3):
         cases.carried(f"a line table by data4 in version {version}", MAP, module(data4, unit(version=version)))
-    cases.refused_module("a line table by data4 in version 4", 11, "Unsupported NotBuilt 0", module(data4))
+    cases.carried("a line table by data4 in version 4 is a constant", MAP, module(data4), rows=[])
     skeleton = sized(bytes.fromhex("0500 04 04 00000000 0100000000000000") + ENTRIES)
     cases.carried("a skeleton unit", MAP, module(info=skeleton))
     cases.carried("a partial unit", MAP, module(info=unit(version=5, kind=3)))
@@ -412,11 +414,11 @@ def shapes(cases):
     two = bytes.fromhex("01 00000000 02 02000000 0B000000 02 05000000 01000000 00")
     cases.carried("two subprograms in one function", MAP, module(info=unit(two)))
     named = ROOT + bytes.fromhex("02 2E 00 0308 1101 1206 0000 00")
-    cases.refused_module("a name, which is not built", 11, "Unsupported NotBuilt 0", module(named))
+    cases.carried("a name that no entry has", MAP, module(named, unit(bytes.fromhex("01 00000000 00"))), text="")
     leaf = changed(ABBREVIATIONS, 2, b"\0")
-    cases.refused_module("a root without children, which is not built", 11, "Unsupported NotBuilt 0", module(leaf))
+    cases.carried("a root without children", MAP, module(leaf), text="")
     twice = module(info=unit(bytes.fromhex("01 00000000 01 00000000 00")))
-    cases.refused_module("a root below the root, which is not built", 11, "Unsupported NotBuilt 16", twice)
+    cases.carried("a compile unit below the root", MAP, twice, text="")
 
 
 BODY = bytes.fromhex("00 010101010101010101 0B")
@@ -439,6 +441,12 @@ def targets(cases):
             cases.carried(f"two functions, {name}", map_of([first, second], **told), two, rows=rows_of_two)
             modules = map_of([function()], [function(symbol=1)], **told)
             cases.carried(f"two modules, {name}", modules, SMALL, module(info=unit(version=5)))
+
+
+def entry_run_cases():
+    cases = Cases("entries.txt")
+    entry_cases.entry_cases(cases, module, lambda **target: map_of([function()], **target))
+    return cases
 
 
 # ---- line tables
@@ -745,7 +753,7 @@ MORE_OPCODES = {
 
 
 def main():
-    made = [words_cases(), map_cases(), unit_run_cases(), line_cases(), listing_cases()]
+    made = [words_cases(), map_cases(), unit_run_cases(), entry_run_cases(), line_cases(), listing_cases()]
     if "--check" in sys.argv[1:]:
         check_cases.check([output for cases in made for output in cases.outputs])
         return

@@ -193,7 +193,8 @@ def value_of(reader, unit, name, form, implicit):
     if form == 0x17:
         return section_offset(name, reader.number(4))
     if form in (0x22, 0x23):
-        return ("list index", reader.uleb())
+        names = LOCATION_NAMES if form == 0x22 else (AT_RANGES, AT_START_SCOPE)
+        return ("list index" if name in names else "dropped", reader.uleb())
     return ("dropped", reader.take({0x1E: 16, 0x20: 8}[form]))
 
 
