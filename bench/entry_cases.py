@@ -254,8 +254,8 @@ def refused_cases(refused):
         refused(f"{what} is not built", 11, f"Unsupported NotBuilt {at}", root(Entry(SUBPROGRAM, BEGIN, attribute)))
     refused("a text before what is not built", 10, f"Read Text .debug_info {at}", root(subprogram(name(STRP, u32(0)), (0x02, 0x18, b"\x01\x30"))))
     refused("what is not built before a text", 11, f"Unsupported NotBuilt {at}", root(subprogram((0x02, 0x18, b"\x01\x30"), name(STRP, u32(0)))))
-    refused("a text of the second unit behind the first", 10, "Read Text .debug_info 43", root(subprogram()), root(subprogram(name(STRP, u32(0)))))
+    refused("a text of the second unit behind the first", 10, "Read Text .debug_info 42", root(subprogram()), root(subprogram(name(STRP, u32(0)))))
     refused("a file that is not there behind no line table", 12, "InvalidFileIndex 0", root(subprogram(name(STRP, u32(0)))), sections=[(".debug_line", BAD_LINES)])
 
 
-BAD_LINES = bytes.fromhex("38000000 0400 1B000000 01 01 01 FB 0E 0D 000101010100000001000001 00 612E6300000000 00 0005020200000001 04 09 01 020503 0101 0203 000101")
+BAD_LINES = bytes.fromhex("36000000 0400 1B000000 01 01 01 FB 0E 0D 000101010100000001000001 00 612E6300000000 00 0005020200000001 04 09 01 020503 0101 0203 000101")

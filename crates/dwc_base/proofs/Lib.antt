@@ -58,3 +58,7 @@ pub mod ReadValuesForms
 pub mod ReadValuesTables
 pub mod ReadValuesEntries
 pub mod ReadValuesTexts
+pub mod InLists
+pub mod ReadEnds
+pub mod ValueEnds
+pub mod UnitOffsets

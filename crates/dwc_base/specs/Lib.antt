@@ -47,3 +47,4 @@ pub mod Forests
 pub mod LinesCarried
 pub mod OutputCarried
 pub mod ReadValues
+pub mod UnitOffsets

@@ -10,9 +10,9 @@ use Rattle.dwc_base.specs.Carried.{Unit, Module, placed_entries, units}
 use Rattle.dwc_base.specs.Kept.{Placed, keeps}
 use Rattle.dwc_base.specs.KeptEntries.{has_place}
 use Rattle.dwc_base.specs.KeptModules.{KeptModule, kept_module, kept_in, entries_passing}
-use Rattle.dwc_kept.specs.UnitOffsets.{RiseIn}
+use Rattle.dwc_base.specs.UnitOffsets.{RiseIn}
 use Rattle.dwc_kept.specs.KeptUnits.{offsets_kept, stands_at, kept_of_unit, is_in_unit, AreEntryOffsets}
-use Rattle.dwc_kept.proofs.InLists.{IsIn, in-at, in-append, append-left, append-right, in-filter}
+use Rattle.dwc_base.proofs.InLists.{IsIn, in-at, in-append, append-left, append-right, in-filter}
 use Rattle.dwc_kept.proofs.KeptLaws.{in-place, kept-closed}
 use Rattle.dwc_kept.proofs.KeptOffsets.{filter-same, kept-filter}
 use Rattle.dwc_kept.proofs.KeptStanding.{UnitsStand, read-stand, unit-from, placed_at, in-unit-same}

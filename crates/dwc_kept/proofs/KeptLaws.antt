@@ -5,7 +5,7 @@ use Rattle.std.specs.List.{filter, list_any}
 use Rattle.std.proofs.lemmas.Bool.{eq-eqb, eqb-true, or_left, or_right, or_cases, not_from_false, false_from_ne_true, cases_Bool}
 use Rattle.dwc_base.specs.Kept.{Placed, same_place, is_among, keeps, kept_step, steps_of}
 use Rattle.dwc_base.specs.KeptEntries.{kept_with, has_place, KeptAreLeast}
-use Rattle.dwc_kept.proofs.InLists.{IsIn, contains-in, in-contains, any-in, in-any, in-filter, filter-in, filter-few, none-passes, fewer-or-same, distinct-same}
+use Rattle.dwc_base.proofs.InLists.{IsIn, contains-in, in-contains, any-in, in-any, in-filter, filter-in, filter-few, none-passes, fewer-or-same, distinct-same}
 
 -- an entry that is among some, by its place
 pub place-in : (ks : List Placed) (place : ℕ) → has_place ks place ≡ true → (e : Placed) × IsIn e ks × (e.entry.offset ≡ place)

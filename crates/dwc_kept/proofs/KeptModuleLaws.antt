@@ -19,7 +19,7 @@ use Rattle.dwc_kept.specs.declared.read_unit.ReadUnit.{ReadUnit}
 use Rattle.dwc_kept.specs.KeptUnits.{offsets_kept, kept_of_unit, is_in_unit, IsTree, AreEntryOffsets}
 use Rattle.dwc_kept.specs.ReadEntries.{named_offset}
 use Rattle.dwc_kept.specs.ReadUnits.{unit_read, IsReadUnit, IsKeptModule, is_carried_read}
-use Rattle.dwc_kept.proofs.InLists.{IsIn, in-filter}
+use Rattle.dwc_base.proofs.InLists.{IsIn, in-filter}
 use Rattle.dwc_kept.proofs.GraphLaws.{units-are}
 use Rattle.dwc_kept.proofs.KeptUnitLaws.{kept-parts, kept-in-unit, kept-tree, kept-root, kept-within, kept-some, reference-found, kept-lists, offsets-same}
 

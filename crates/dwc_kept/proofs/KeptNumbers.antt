@@ -6,7 +6,7 @@ use Rattle.std.proofs.lemmas.Bool.{eqb-true, eqb-false, eq-eqb, ne_eqb, and_part
 use Rattle.dwc_kept.specs.declared.graph_entry.GraphEntry.{GraphEntry}
 use Rattle.dwc_kept.specs.EntryGraphs.{Node, node, is_number, keeps_number}
 use Rattle.dwc_kept.specs.GraphEntries.{entry, targets_of, node_seen, nodes_seen, is_part_number, AreEntries, number_at, parts_below, kept_numbers}
-use Rattle.dwc_kept.proofs.InLists.{IsIn, any-in, in-any, in-append, append-left, append-right, in-filter_map, filter_map-in}
+use Rattle.dwc_base.proofs.InLists.{IsIn, any-in, in-any, in-append, append-left, append-right, in-filter_map, filter_map-in}
 use Rattle.dwc_kept.proofs.NumberLaws.{number-found, number-some}
 
 pub nodes-length : (number : ℕ) (es : List GraphEntry) (ts : List ℕ) → length (nodes_seen number es ts) ≡ length es

@@ -6,7 +6,7 @@ use Rattle.std.proofs.lemmas.List.{length-map}
 use Rattle.dwc_base.specs.Kept.{Placed, is_among, keeps, kept_step, steps_of}
 use Rattle.dwc_base.specs.KeptEntries.{kept_with, has_place}
 use Rattle.dwc_kept.specs.EntryGraphs.{Node, is_marked, OffsetsAreKept, marked_of}
-use Rattle.dwc_kept.proofs.InLists.{IsIn, contains-in, in-contains, in-filter, filter-in, distinct-same}
+use Rattle.dwc_base.proofs.InLists.{IsIn, contains-in, in-contains, in-filter, filter-in, distinct-same}
 use Rattle.dwc_kept.proofs.KeptLaws.{place-in, in-place}
 use Rattle.dwc_kept.proofs.MarkLaws.{same-truth, marks-are-kept}
 

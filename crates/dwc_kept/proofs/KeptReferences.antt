@@ -14,7 +14,7 @@ use Rattle.dwc_base.specs.KeptModules.{KeptModule}
 use Rattle.dwc_base.specs.Targets.{target_of}
 use Rattle.dwc_kept.specs.ReadEntries.{small_offset, named_offset}
 use Rattle.dwc_kept.specs.KeptUnits.{is_in_unit, AreEntryOffsets}
-use Rattle.dwc_kept.proofs.InLists.{IsIn}
+use Rattle.dwc_base.proofs.InLists.{IsIn}
 use Rattle.dwc_kept.proofs.KeptLaws.{place-in}
 use Rattle.dwc_kept.proofs.MarkLaws.{same-truth}
 use Rattle.dwc_kept.proofs.KeptStanding.{in-unit-same}

@@ -8,12 +8,12 @@ use Rattle.dwc_base.specs.Units.{UnitHeader, unit_headers}
 use Rattle.dwc_base.specs.Entries.{Entry, entries}
 use Rattle.dwc_base.specs.Carried.{Unit, placed_entries, units_of_headers, units}
 use Rattle.dwc_base.specs.Kept.{Placed}
-use Rattle.dwc_kept.specs.UnitOffsets.{RiseIn, StandFrom}
+use Rattle.dwc_base.specs.UnitOffsets.{RiseIn, StandFrom}
 use Rattle.dwc_kept.specs.KeptUnits.{is_in_unit, IsTree}
-use Rattle.dwc_kept.proofs.InLists.{IsIn, in-append}
+use Rattle.dwc_base.proofs.InLists.{IsIn, in-append}
 use Rattle.dwc_kept.proofs.MarkLaws.{same-truth}
 use Rattle.dwc_kept.proofs.ReadLaws.{first-unit, first-fault}
-use Rattle.dwc_kept.proofs.UnitOffsets.{units-stand}
+use Rattle.dwc_base.proofs.UnitOffsets.{units-stand}
 use Rattle.dwc_kept.proofs.KeptDepths.{depths_of, unit-tree}
 
 -- Units one behind another, from a place on, each with entries that stand in it at the depths of a tree.

@@ -12,7 +12,7 @@ use Rattle.dwc_base.specs.Kept.{Placed, same_place, parent_of, is_parent, refers
 use Rattle.dwc_base.specs.KeptEntries.{has_place}
 use Rattle.dwc_base.specs.KeptModules.{KeptModule}
 use Rattle.dwc_kept.specs.KeptUnits.{offsets_kept, stands_at, kept_of_unit, AreBelow, IsTree}
-use Rattle.dwc_kept.proofs.InLists.{IsIn, append-right}
+use Rattle.dwc_base.proofs.InLists.{IsIn, append-right}
 use Rattle.dwc_kept.proofs.KeptOffsets.{filter-same}
 use Rattle.dwc_kept.proofs.KeptDepths.{depths_of}
 use Rattle.dwc_kept.proofs.KeptStanding.{placed_at, tree-of}

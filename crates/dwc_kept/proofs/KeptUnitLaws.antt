@@ -13,7 +13,7 @@ use Rattle.dwc_base.specs.Targets.{target_of}
 use Rattle.dwc_kept.specs.ReadEntries.{named_offset}
 use Rattle.dwc_kept.specs.ReadGraphs.{kept_offsets}
 use Rattle.dwc_kept.specs.KeptUnits.{offsets_kept, kept_of_unit, is_in_unit, IsTree, AreEntryOffsets}
-use Rattle.dwc_kept.proofs.InLists.{IsIn}
+use Rattle.dwc_base.proofs.InLists.{IsIn}
 use Rattle.dwc_kept.proofs.KeptInUnits.{AreKept, are-kept, in-unit, within-unit, offsets-order, some-in-unit, kept-offsets}
 use Rattle.dwc_kept.proofs.KeptTrees.{unit-kept, root-kept}
 use Rattle.dwc_kept.proofs.KeptReferences.{target-place}

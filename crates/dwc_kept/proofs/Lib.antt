@@ -1,4 +1,3 @@
-pub mod InLists
 pub mod KeptLaws
 pub mod MarkLaws
 pub mod NumberLaws
@@ -8,9 +7,6 @@ pub mod MarkWalks
 pub mod PushLaws
 pub mod OffsetLaws
 pub mod KeptOffsets
-pub mod ReadEnds
-pub mod ValueEnds
-pub mod UnitOffsets
 pub mod LastLaws
 pub mod ReadLaws
 pub mod StandingLaws

@@ -7,7 +7,7 @@ use Rattle.std.proofs.lemmas.List.{get_or-set_same, get_or-set_other, length-set
 use Rattle.dwc_kept.specs.declared.graph_entry.GraphEntry.{GraphEntry}
 use Rattle.dwc_kept.specs.EntryGraphs.{is_marked, Holds, IsClosedIn, AreLeastMarks, keeps_number}
 use Rattle.dwc_kept.specs.GraphEntries.{nodes_seen, AreEntries, Marking, mark, mark_all, kept_numbers, numbers_from}
-use Rattle.dwc_kept.proofs.InLists.{IsIn, append-left, append-right, in-at}
+use Rattle.dwc_base.proofs.InLists.{IsIn, append-left, append-right, in-at}
 use Rattle.dwc_kept.proofs.KeptNumbers.{nodes-length, keeps-marked, marked-keeps}
 
 pub mark_all-append : (is js : List ℕ) (m : Marking) → mark_all (is ++ js) m ≡ mark_all js (mark_all is m)

@@ -8,7 +8,7 @@ use Rattle.std.proofs.lemmas.List.{drop_more, get_or_default, get_or-take}
 use Rattle.dwc_kept.specs.declared.graph_entry.GraphEntry.{GraphEntry}
 use Rattle.dwc_kept.specs.EntryGraphs.{marked_of}
 use Rattle.dwc_kept.specs.GraphEntries.{no_entry, entry, nodes_seen, AreRising}
-use Rattle.dwc_kept.proofs.InLists.{at-in, in-at, any-in, in-any}
+use Rattle.dwc_base.proofs.InLists.{at-in, in-at, any-in, in-any}
 use Rattle.dwc_kept.proofs.MarkLaws.{same-truth}
 
 pub nodes-offsets : (number : ℕ) (es : List GraphEntry) (ts : List ℕ) → map (λ e. e.offset) es ≡ map (λ n. n.offset) (nodes_seen number es ts)

@@ -18,14 +18,14 @@ use Rattle.dwc_read.specs.Views.{UnitView, UnitsView}
 use Rattle.dwc_kept.specs.EntryGraphs.{Node}
 use Rattle.dwc_kept.specs.declared.last_at.LastAt.{LastAt}
 use Rattle.dwc_kept.specs.declared.read_unit.ReadUnit.{ReadUnit}
-use Rattle.dwc_kept.specs.UnitOffsets.{RiseIn, StandFrom}
+use Rattle.dwc_base.specs.UnitOffsets.{RiseIn, StandFrom}
 use Rattle.dwc_kept.specs.declared.read_unit.RootEntry.{RootEntry}
 use Rattle.dwc_kept.specs.RootsSaid.{root_said, first_said, has_tag, table_named}
 use Rattle.dwc_kept.specs.ReadEntries.{ReadSoFar, none_read, with_entry_read, with_entries_read, with_units_read, AreAmong, StandBefore, TellsFirst}
 use Rattle.dwc_kept.specs.ReadingSeen.{HasRead, IsRead}
 use Rattle.dwc_kept.specs.ReadUnits.{IsReadUnit}
 use Rattle.dwc_kept.proofs.LastLaws.{last-here, last-other}
-use Rattle.dwc_kept.proofs.UnitOffsets.{units-stand}
+use Rattle.dwc_base.proofs.UnitOffsets.{units-stand}
 
 -- ---- one entry
 

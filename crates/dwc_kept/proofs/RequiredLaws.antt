@@ -15,7 +15,7 @@ use Rattle.dwc_base.specs.KeptEntries.{has_place}
 use Rattle.dwc_base.specs.KeptModules.{entries_passing}
 use Rattle.dwc_kept.specs.EntryGraphs.{Node, SayWhich, AreKeptOffsets, marked_of}
 use Rattle.dwc_kept.specs.ReadGraphs.{IsModuleGraph, kept_offsets}
-use Rattle.dwc_kept.proofs.InLists.{IsIn, in-at, contains-in, in-contains}
+use Rattle.dwc_base.proofs.InLists.{IsIn, in-at, contains-in, in-contains}
 use Rattle.dwc_kept.proofs.KeptLaws.{place-in, in-place}
 use Rattle.dwc_kept.proofs.MarkLaws.{same-truth}
 use Rattle.dwc_kept.proofs.KeptOffsets.{offsets-are-kept}

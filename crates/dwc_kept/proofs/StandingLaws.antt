@@ -8,11 +8,11 @@ use Rattle.dwc_base.specs.Units.{UnitHeader, unit_headers}
 use Rattle.dwc_base.specs.Entries.{Entry, entries}
 use Rattle.dwc_base.specs.Carried.{Unit, placed_entries, units_of_headers, units}
 use Rattle.dwc_base.specs.Kept.{Placed}
-use Rattle.dwc_kept.specs.UnitOffsets.{RiseIn, StandFrom}
+use Rattle.dwc_base.specs.UnitOffsets.{RiseIn, StandFrom}
 use Rattle.dwc_kept.specs.ReadGraphs.{Standing, standing, placed}
-use Rattle.dwc_kept.proofs.InLists.{IsIn, at-in, in-append}
+use Rattle.dwc_base.proofs.InLists.{IsIn, at-in, in-append}
 use Rattle.dwc_kept.proofs.ReadLaws.{first-unit, first-fault}
-use Rattle.dwc_kept.proofs.UnitOffsets.{units-stand}
+use Rattle.dwc_base.proofs.UnitOffsets.{units-stand}
 
 -- ---- their units
 

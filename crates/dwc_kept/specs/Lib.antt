@@ -1,7 +1,6 @@
 pub mod RootsSaid
 pub mod EntryGraphs
 pub mod GraphEntries
-pub mod UnitOffsets
 pub mod ReadEntries
 pub mod ReadingSeen
 pub mod ReadGraphs

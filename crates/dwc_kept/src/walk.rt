@@ -6,7 +6,7 @@ ghost use Rattle.dwc_base.specs.EntryRules.{is_required, named_faults};
 ghost use Rattle.dwc_base.specs.ReachedEntries.{listing_faults, info_faults};
 ghost use Rattle.dwc_base.specs.Refusals.{first_of};
 ghost use Rattle.dwc_base.specs.Units.{unit_headers};
-ghost use Rattle.dwc_kept.specs.UnitOffsets.{RiseIn};
+ghost use Rattle.dwc_base.specs.UnitOffsets.{RiseIn};
 ghost use Rattle.dwc_kept.specs.ReadEntries.{with_entries_read, with_units_read, none_read, AreAmong, StandBefore, ReadsOrTells};
 ghost use Rattle.dwc_kept.specs.ReadGraphs.{IsModuleGraph};
 ghost use Rattle.dwc_kept.specs.ReadingSeen.{reading_view, HasRead, IsRead};

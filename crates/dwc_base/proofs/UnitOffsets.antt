@@ -12,9 +12,9 @@ use Rattle.dwc_base.proofs.Takes.{unit_header_at-leaves}
 use Rattle.dwc_base.proofs.TakesValues.{entry_at-leaves}
 use Rattle.dwc_base.proofs.EntryWalk.{entries_from-none, entries_from-end, entries_from-fault, entries_from-siblings, entries_from-entry}
 use Rattle.dwc_base.proofs.UnitWalk.{unit_headers_from-end, unit_headers_from-item, unit_headers_from-fault}
-use Rattle.dwc_kept.specs.UnitOffsets.{RiseIn, StandFrom}
-use Rattle.dwc_kept.proofs.ReadEnds.{IsWithin, HeaderIs, UnitWithin, unit_header_at-within}
-use Rattle.dwc_kept.proofs.ValueEnds.{FoundAt, entry_at-within}
+use Rattle.dwc_base.specs.UnitOffsets.{RiseIn, StandFrom}
+use Rattle.dwc_base.proofs.ReadEnds.{IsWithin, HeaderIs, UnitWithin, unit_header_at-within}
+use Rattle.dwc_base.proofs.ValueEnds.{FoundAt, entry_at-within}
 
 pub rise-weaker : (from low end : ℕ) (es : List Entry) → low ≤ from → RiseIn from end es → RiseIn low end es
 rise-weaker from low end [] le h = tt
@@ -100,6 +100,9 @@ headers-stand s (suc m) from u less le =
         subst (λ (l : Listing Fault UnitHeader). StandFrom s from l.items) (sym (unit_headers_from-item u v h (omega (arith, n)) read))
         (omega (arith, le, is.begins), omega (arith, is.begins, is.ends, few, inside.ends), unit-rise s h content, subst (λ e. StandFrom s e (unit_headers_from v).items) (sym is.ends) (rest v few))
 
--- The units of a section stand so.
+-- The units from any place on stand so, and those of a section.
+pub units-from-stand : (s : Sections) (u : Unread) → StandFrom s 0 (unit_headers_from u).items
+units-from-stand s u = headers-stand s (suc (length u.left)) 0 u (omega arith) (omega arith)
+
 pub units-stand : (s : Sections) → StandFrom s 0 (unit_headers s).items
-units-stand s = headers-stand s (suc (length (section_from s Info 0).left)) 0 (section_from s Info 0) (omega arith) (omega arith)
+units-stand s = units-from-stand s (section_from s Info 0)

@@ -14,7 +14,7 @@ use Rattle.dwc_base.specs.Units.{UnitHeader}
 use Rattle.dwc_base.specs.Values.{Value, Size, fixed, variable, Form, addr, indexed_addr, blocks, exprloc, data_of, sdata, implicit, flag_byte, flag_present, string, string_elsewhere, reference, ref_addr, sec_offset, indexed_location, indexed_range, passed_over, supplementary, form_of, sized_number_at, block_at, formed_value_at, form_behind, form_code_at, encoded_value_at, encoding_of, value_at}
 use Rattle.dwc_base.specs.Entries.{Found, attributes_at, declared_entry_at, entry_at}
 use Rattle.dwc_base.specs.declared.constants.TheConstants.{DW_FORM_implicit_const, DW_FORM_indirect}
-use Rattle.dwc_kept.proofs.ReadEnds.{IsWithin, LeavesWithin, Within, within-bind, within-seen, passed-within, bytes_at-within, number_at-within, uleb_at-within, address_at-within}
+use Rattle.dwc_base.proofs.ReadEnds.{IsWithin, LeavesWithin, Within, within-bind, within-seen, passed-within, bytes_at-within, number_at-within, uleb_at-within, address_at-within}
 
 -- a signed LEB128 number takes no more bytes than there are
 sleb_value-count : (bytes : List ℕ) (n : ℤ) (count : ℕ) → sleb_value bytes ≡ Some (n, count) → count ≤ length bytes
