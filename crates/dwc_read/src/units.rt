@@ -1,5 +1,6 @@
 //! The units of `.debug_info`, one after another.
 ghost use Rattle.std.specs.Prelude.{◌≡◌, IfOk, IfSome};
+ghost use Rattle.dwc_base.specs.UnitOffsets.{StandFrom};
 ghost use Rattle.dwc_base.specs.Units.{unit_headers};
 ghost use Rattle.dwc_read.specs.Faults.{GivesNextOrMemory};
 
@@ -47,6 +48,14 @@ impl<'d> Units<'d> {
             headers,
             last_table: None,
         }
+    }
+
+    /// The sections that the units stand in, one behind another.
+    pub fn sections(&self) -> &Sections<'d>
+        ensures sections { result.now ≡ self.now.sections }
+        ensures stand { StandFrom self.now.sections 0 self.now.headers.items }
+    {
+        &self.sections
     }
 
     /// The next unit, if there is one, with its abbreviation table. (DWARF 4 and 5, sections 7.5.1 and 7.5.3.) The table that was
