@@ -19,14 +19,15 @@ use Rattle.dwc_base.specs.declared.constants.TheConstants.{DW_AT_sibling, DW_TAG
 use Rattle.dwc_kept.specs.declared.last_at.LastAt.{LastAt}
 use Rattle.dwc_kept.specs.EntryGraphs.{Node, no_node, node, is_number, keeps_number, IsGraphOf}
 use Rattle.dwc_kept.specs.ReadEntries.{ReadSoFar, none_read, last_above, with_last_at, node_below, is_part_below, small_offset, named_offset, attribute_offset, with_entry_read, with_entries_read, with_units_read}
-use Rattle.dwc_kept.specs.ReadGraphs.{Standing, standing, placed, IsModuleGraph}
+use Rattle.dwc_kept.specs.ReadGraphs.{Standing, standing, placed, IsModuleGraph, units_of}
 use Rattle.dwc_kept.specs.ReadingSeen.{IsRead}
 use Rattle.dwc_kept.specs.ReadUnits.{unit_read}
-use Rattle.dwc_base.specs.Carried.{Unit, units_of_headers, units}
+use Rattle.dwc_base.specs.Carried.{Unit, placed_entries, units_of_headers, units}
+use Rattle.dwc_base.specs.UnitOffsets.{StandFrom}
 use Rattle.dwc_kept.proofs.LastLaws.{last-here, last-other}
 use Rattle.dwc_kept.proofs.ReadLaws.{first-unit, first-fault}
 use Rattle.dwc_kept.proofs.MarkLaws.{same-truth}
-use Rattle.dwc_kept.proofs.StandingLaws.{InOrder, in-order, placed-standing, unit-offsets, offsets-unit}
+use Rattle.dwc_kept.proofs.StandingLaws.{InOrder, in-order, placed-units, unit-offsets, offsets-unit}
 
 -- ---- one entry after another
 
@@ -128,8 +129,8 @@ module _ (needed : UnitHeader → Entry → Bool) where
   describes-all before [] r is = subst (λ xs. Describes needed xs r) (sym (append-nil before)) is
   describes-all before (q ∷ qs) r is = subst (λ xs. Describes needed xs (with_all needed qs (with_entry_read (needed q.header) q.header q.entry r))) (append_assoc before (q ∷ []) qs) (describes-all (before ++ q ∷ []) qs (with_entry_read (needed q.header) q.header q.entry r) (describes-push before q r is))
 
-  pub described : (s : Sections) → Describes needed (standing s (unit_headers s).items) (with_units_read needed s (unit_headers s).items none_read)
-  described s = subst (Describes needed (standing s (unit_headers s).items)) (sym (all-units needed s (unit_headers s).items none_read)) (describes-all [] (standing s (unit_headers s).items) none_read describes-none)
+  pub described : (s : Sections) (hs : List UnitHeader) → Describes needed (standing s hs) (with_units_read needed s hs none_read)
+  described s hs = subst (Describes needed (standing s hs)) (sym (all-units needed s hs none_read)) (describes-all [] (standing s hs) none_read describes-none)
 
 -- ---- parents
 
@@ -410,17 +411,20 @@ pub units-are : (s : Sections) → (units s).fault ≡ None → (units s).items 
 unfolding units
 units-are s none = units-headers s (unit_headers s).items (unit_headers s).fault none
 
--- What is read of a module without a fault is the graph of its entries, and which of them are required.
-pub module-graph : (fs : List Function) (s : Sections) (r : ReadSoFar) → (units s).fault ≡ None → IsRead (with_units_read (is_required fs s) s (unit_headers s).items none_read) r → IsModuleGraph fs s r.nodes r.required
-module-graph fs s r none read = record {
-  graph = subst (λ es. IsGraphOf es r.nodes) (sym (placed-standing s none)) (graph-of (is_required fs s) (standing s (unit_headers s).items) (in-order s) r about read.small);
-  required_are = about.required ∙ sym (ap (flat_map (λ u. map (is_required fs s u.header) u.entries)) (units-are s none) ∙ required-standing (unit_headers s).items);
-  apart = subst (AllPairs (λ e f. e.entry.offset ≢ f.entry.offset)) (sym (placed-standing s none)) (all-apart (is_required fs s) (standing s (unit_headers s).items) (in-order s) r about read.small);
+-- What is read of units without a fault is the graph of their entries, and which of them are required.
+pub module-graph : (fs : List Function) (s : Sections) (all : Listing Fault UnitHeader) (r : ReadSoFar) → (units_of_headers s all.items all.fault).fault ≡ None → StandFrom s 0 all.items → IsRead (with_units_read (is_required fs s) s all.items none_read) r → IsModuleGraph fs s (units_of s all) r.nodes r.required
+module-graph fs s all r none stands read = record {
+  graph = subst (λ es. IsGraphOf es r.nodes) (sym placed_are) (graph-of (is_required fs s) (standing s all.items) (in-order s all.items stands) r about read.small);
+  required_are = about.required ∙ sym (ap (flat_map (λ u. map (is_required fs s u.header) u.entries)) (units-headers s all.items all.fault none) ∙ required-standing all.items);
+  apart = subst (AllPairs (λ e f. e.entry.offset ≢ f.entry.offset)) (sym placed_are) (all-apart (is_required fs s) (standing s all.items) (in-order s all.items stands) r about read.small);
   small = read.small;
 }
   where
-    about : Describes (is_required fs s) (standing s (unit_headers s).items) r
-    about = subst (Describes (is_required fs s) (standing s (unit_headers s).items)) (sym read.is) (described (is_required fs s) s)
+    placed_are : placed_entries (units_of s all) ≡ map placed (standing s all.items)
+    placed_are = placed-units s all.items all.fault none
+
+    about : Describes (is_required fs s) (standing s all.items) r
+    about = subst (Describes (is_required fs s) (standing s all.items)) (sym read.is) (described (is_required fs s) s all.items)
 
     required-unit : (h : UnitHeader) (es : List Entry) → map (is_required fs s h) es ≡ map (λ (q : Standing). is_required fs s q.header q.entry) (map (λ e. record { header = h; entry = e }) es)
     required-unit h [] = refl

@@ -20,3 +20,4 @@ pub mod KeptPlaces
 pub mod KeptReferences
 pub mod KeptUnitLaws
 pub mod KeptModuleLaws
+pub mod KeptReadings

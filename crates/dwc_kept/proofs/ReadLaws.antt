@@ -8,11 +8,11 @@ use Rattle.std.proofs.lemmas.List.{length_push}
 use Rattle.std.proofs.lemmas.List.Elements.{All-push, All-weaker, All-nil}
 use Rattle.dwc_base.specs.Listing.{Listing, no_items, only_fault, with_first}
 use Rattle.dwc_base.specs.Sections.{Sections, Fault}
-use Rattle.dwc_base.specs.Units.{UnitHeader, unit_headers}
+use Rattle.dwc_base.specs.Units.{UnitHeader}
 use Rattle.dwc_base.specs.Entries.{Entry, entries}
 use Rattle.dwc_base.specs.Refusals.{first_of, table_offset}
-use Rattle.dwc_base.specs.ReachedEntries.{listing_faults, info_faults}
-use Rattle.dwc_base.specs.Carried.{Unit, units_of_headers, units, has_root_tag, root}
+use Rattle.dwc_base.specs.ReachedEntries.{listing_faults}
+use Rattle.dwc_base.specs.Carried.{Unit, units_of_headers, has_root_tag, root}
 use Rattle.dwc_base.specs.declared.constants.TheConstants.{DW_TAG_compile_unit}
 use Rattle.dwc_read.specs.Views.{UnitView, UnitsView}
 use Rattle.dwc_kept.specs.EntryGraphs.{Node}
@@ -21,11 +21,10 @@ use Rattle.dwc_kept.specs.declared.read_unit.ReadUnit.{ReadUnit}
 use Rattle.dwc_base.specs.UnitOffsets.{RiseIn, StandFrom}
 use Rattle.dwc_kept.specs.declared.read_unit.RootEntry.{RootEntry}
 use Rattle.dwc_kept.specs.RootsSaid.{root_said, first_said, has_tag, table_named}
-use Rattle.dwc_kept.specs.ReadEntries.{ReadSoFar, none_read, with_entry_read, with_entries_read, with_units_read, AreAmong, StandBefore, TellsFirst}
+use Rattle.dwc_kept.specs.ReadEntries.{ReadSoFar, none_read, with_entry_read, with_entries_read, with_units_read, AreAmong, StandBefore, TellsFirst, headers_faults}
 use Rattle.dwc_kept.specs.ReadingSeen.{HasRead, IsRead}
 use Rattle.dwc_kept.specs.ReadUnits.{IsReadUnit}
 use Rattle.dwc_kept.proofs.LastLaws.{last-here, last-other}
-use Rattle.dwc_base.proofs.UnitOffsets.{units-stand}
 
 -- ---- one entry
 
@@ -156,10 +155,6 @@ first-unit s h hs last e = rw e refl
 pub first-fault : (s : Sections) (h : UnitHeader) (hs : List UnitHeader) (last : Option Fault) (fault : Fault) → (entries s h).fault ≡ Some fault → units_of_headers s (h ∷ hs) last ≡ only_fault fault
 first-fault s h hs last fault e = rw e refl
 
--- what cannot be read of the units of some headers
-abbrev pub headers_faults : (UnitHeader → Entry → List Fault) → Sections → Listing Fault UnitHeader → List Fault
-headers_faults named s hs = flat_map (λ h. listing_faults (named h) (entries s h)) hs.items ++ option_to_list hs.fault
-
 no-fault : (named : Entry → List Fault) (es : Listing Fault Entry) → listing_faults named es ≡ [] → es.fault ≡ None
 no-fault named es h = go es.fault (flat_map named es.items) h
   where
@@ -179,10 +174,9 @@ headers-whole named s (x ∷ hs) last h =
     let parts = append-none (listing_faults (named x) (entries s x)) _ (sym (append_assoc (listing_faults (named x) (entries s x)) (flat_map (λ h. listing_faults (named h) (entries s h)) hs) (option_to_list last)) ∙ h) in
     ap (λ (l : Listing Fault Unit). l.fault) (first-unit s x hs last (no-fault (named x) (entries s x) parts.0)) ∙ headers-whole named s hs last parts.1
 
--- Where nothing of a section cannot be read, its units have no fault.
-pub info-whole : (named : UnitHeader → Entry → List Fault) (s : Sections) → first_of (info_faults named s) ≡ None → (units s).fault ≡ None
-unfolding info_faults units
-info-whole named s h = headers-whole named s (unit_headers s).items (unit_headers s).fault (first-none _ h)
+-- Where nothing of some units cannot be read, they have no fault.
+pub headers-no-fault : (named : UnitHeader → Entry → List Fault) (s : Sections) (hs : Listing Fault UnitHeader) → first_of (headers_faults named s hs) ≡ None → (units_of_headers s hs.items hs.fault).fault ≡ None
+headers-no-fault named s hs h = headers-whole named s hs.items hs.fault (first-none _ h)
 
 -- A unit that was read, by what its root says.
 pub is-read-unit : (s : Sections) (v : UnitView) (said : Option RootEntry) (b : Bool) (offset : Option ℕ) → v.sections ≡ s → said ≡ first_said (entries s v.header).items → b ≡ has_tag DW_TAG_compile_unit said → offset ≡ table_named said
@@ -202,22 +196,21 @@ is-read-unit s v said b offset same first is named = record {
     lined [] = refl
     lined (e ∷ es) = refl
 
-module _ (needed : UnitHeader → Entry → Bool) (named : UnitHeader → Entry → List Fault) (s : Sections) where
+module _ (needed : UnitHeader → Entry → Bool) (named : UnitHeader → Entry → List Fault) (s : Sections) (all : Listing Fault UnitHeader) where
   -- what is read of the units of some sections so far
   pub record UnitsSoFar (left : UnitsView) (now : ReadSoFar) (read : List ReadUnit) : Type 0 where
     pub from : ℕ
     pub sections : left.sections ≡ s
-    pub fault : first_of (headers_faults named s left.headers) ≡ first_of (info_faults named s)
-    pub rest : with_units_read needed s left.headers.items now ≡ with_units_read needed s (unit_headers s).items none_read
+    pub fault : first_of (headers_faults named s left.headers) ≡ first_of (headers_faults named s all)
+    pub rest : with_units_read needed s left.headers.items now ≡ with_units_read needed s all.items none_read
     pub among : AreAmong now
     pub before : StandBefore from now
     pub small : StandBefore (2 ^ 32) now
     pub stand : StandFrom s from left.headers.items
-    pub units : (more : List ReadUnit) → AllZip (IsReadUnit s) left.headers.items more → AllZip (IsReadUnit s) (unit_headers s).items (read ++ more)
+    pub units : (more : List ReadUnit) → AllZip (IsReadUnit s) left.headers.items more → AllZip (IsReadUnit s) all.items (read ++ more)
 
-  pub units-begin : (left : UnitsView) (now : ReadSoFar) (read : List ReadUnit) → left ≡ record { sections = s; headers = unit_headers s } → now ≡ none_read → read ≡ [] → UnitsSoFar left now read
-  unfolding info_faults
-  units-begin left now read is none empty = subst (UnitsSoFar left now) (sym empty) (subst (λ (l : UnitsView). UnitsSoFar l now []) (sym is) (subst (λ r. UnitsSoFar (record { sections = s; headers = unit_headers s }) r []) (sym none) (record {
+  pub units-begin : (left : UnitsView) (now : ReadSoFar) (read : List ReadUnit) → left ≡ record { sections = s; headers = all } → now ≡ none_read → read ≡ [] → StandFrom s 0 all.items → UnitsSoFar left now read
+  units-begin left now read is none empty stand = subst (UnitsSoFar left now) (sym empty) (subst (λ (l : UnitsView). UnitsSoFar l now []) (sym is) (subst (λ r. UnitsSoFar (record { sections = s; headers = all }) r []) (sym none) (record {
     from = 0;
     sections = refl;
     fault = refl;
@@ -225,7 +218,7 @@ module _ (needed : UnitHeader → Entry → Bool) (named : UnitHeader → Entry 
     among = λ depth. tt;
     before = All-nil (λ (n : Node). n.offset < 0);
     small = All-nil (λ (n : Node). n.offset < 2 ^ 32);
-    stand = units-stand s;
+    stand = stand;
     units = λ more zip. zip;
   })))
 
@@ -249,23 +242,23 @@ module _ (needed : UnitHeader → Entry → Bool) (named : UnitHeader → Entry 
     before = has_read.before;
     small = has_read.small;
     stand = (unit-stands left new_left.headers now read h so_far is).3;
-    units = λ more zip. subst (AllZip (IsReadUnit s) (unit_headers s).items) (sym (append_assoc read (r ∷ []) more) ∙ ap (λ rs. rs ++ more) (sym read_is)) (so_far.units (r ∷ more) (subst (λ (l : Listing Fault UnitHeader). AllZip (IsReadUnit s) l.items (r ∷ more)) (sym is) (is_unit, zip)));
+    units = λ more zip. subst (AllZip (IsReadUnit s) all.items) (sym (append_assoc read (r ∷ []) more) ∙ ap (λ rs. rs ++ more) (sym read_is)) (so_far.units (r ∷ more) (subst (λ (l : Listing Fault UnitHeader). AllZip (IsReadUnit s) l.items (r ∷ more)) (sym is) (is_unit, zip)));
   }
 
   pub units-end : (left : UnitsView) (now : ReadSoFar) (read : List ReadUnit) → UnitsSoFar left now read → left.headers ≡ no_items
-      → (first_of (info_faults named s) ≡ None) × (IsRead (with_units_read needed s (unit_headers s).items none_read) now × AllZip (IsReadUnit s) (unit_headers s).items read)
+      → (first_of (headers_faults named s all) ≡ None) × (IsRead (with_units_read needed s all.items none_read) now × AllZip (IsReadUnit s) all.items read)
   units-end left now read so_far is = (
     sym so_far.fault ∙ ap (λ (l : Listing Fault UnitHeader). first_of (headers_faults named s l)) is,
     (
       record { is = sym (ap (λ (l : Listing Fault UnitHeader). with_units_read needed s l.items now) is) ∙ so_far.rest; small = so_far.small },
-      subst (AllZip (IsReadUnit s) (unit_headers s).items) (append-nil read) (so_far.units [] (subst (λ (l : Listing Fault UnitHeader). AllZip (IsReadUnit s) l.items []) (sym is) tt)),
+      subst (AllZip (IsReadUnit s) all.items) (append-nil read) (so_far.units [] (subst (λ (l : Listing Fault UnitHeader). AllZip (IsReadUnit s) l.items []) (sym is) tt)),
     ),
   )
 
   -- a fault of the next header, and one of the next unit's entries, are the first one
-  pub header-fault : (left : UnitsView) (now : ReadSoFar) (read : List ReadUnit) (fault : Fault) → UnitsSoFar left now read → left.headers ≡ only_fault fault → first_of (info_faults named s) ≡ Some fault
+  pub header-fault : (left : UnitsView) (now : ReadSoFar) (read : List ReadUnit) (fault : Fault) → UnitsSoFar left now read → left.headers ≡ only_fault fault → first_of (headers_faults named s all) ≡ Some fault
   header-fault left now read fault so_far is = sym so_far.fault ∙ ap (λ (l : Listing Fault UnitHeader). first_of (headers_faults named s l)) is
 
   pub unit-tells : (left : UnitsView) (next : Listing Fault UnitHeader) (now : ReadSoFar) (read : List ReadUnit) (h : UnitHeader) (o : Option Fault) → UnitsSoFar left now read → left.headers ≡ with_first h next
-      → TellsFirst (first_of (listing_faults (named h) (entries s h))) o → TellsFirst (first_of (info_faults named s)) o
+      → TellsFirst (first_of (listing_faults (named h) (entries s h))) o → TellsFirst (first_of (headers_faults named s all)) o
   unit-tells left next now read h o so_far is = tells-in _ _ o (λ fault e. sym so_far.fault ∙ ap first_of (next-unit-faults h left.headers next is) ∙ first-in (listing_faults (named h) (entries s h)) (headers_faults named s next) fault e)

@@ -9,12 +9,12 @@ use Rattle.dwc_base.specs.Sections.{Sections}
 use Rattle.dwc_base.specs.Entries.{Entry}
 use Rattle.dwc_base.specs.EntryRules.{is_required}
 use Rattle.dwc_base.specs.Functions.{Function}
-use Rattle.dwc_base.specs.Carried.{Unit, placed_entries, units}
+use Rattle.dwc_base.specs.Carried.{Unit, placed_entries}
 use Rattle.dwc_base.specs.Kept.{Placed}
 use Rattle.dwc_base.specs.KeptEntries.{has_place}
 use Rattle.dwc_base.specs.KeptModules.{entries_passing}
 use Rattle.dwc_kept.specs.EntryGraphs.{Node, SayWhich, AreKeptOffsets, marked_of}
-use Rattle.dwc_kept.specs.ReadGraphs.{IsModuleGraph, kept_offsets}
+use Rattle.dwc_kept.specs.ReadGraphs.{IsModuleGraph, offsets_kept_of}
 use Rattle.dwc_base.proofs.InLists.{IsIn, in-at, contains-in, in-contains}
 use Rattle.dwc_kept.proofs.KeptLaws.{place-in, in-place}
 use Rattle.dwc_kept.proofs.MarkLaws.{same-truth}
@@ -114,18 +114,17 @@ module _ (t : Unit → Entry → Bool) where
 
 -- ---- the module
 
-module _ (fs : List Function) (s : Sections) (ns : List Node) (required : List Bool) (m : IsModuleGraph fs s ns required) where
+module _ (fs : List Function) (s : Sections) (us : List Unit) (ns : List Node) (required : List Bool) (m : IsModuleGraph fs s us ns required) where
   -- as many tests as nodes
   pub as-many-required : length required ≡ length ns
   unfolding flags_of
   as-many-required =
-      ap length m.required_are ∙ as-many (λ u. is_required fs s u.header) (units s).items
-      ∙ sym (sym (length-map ns (λ n. n.offset)) ∙ ap length m.graph.offsets ∙ length-map (placed_entries (units s).items) (λ e. e.entry.offset))
+      ap length m.required_are ∙ as-many (λ u. is_required fs s u.header) us
+      ∙ sym (sym (length-map ns (λ n. n.offset)) ∙ ap length m.graph.offsets ∙ length-map (placed_entries us) (λ e. e.entry.offset))
 
-  pub module-kept : (offsets : List ℕ) → AreKeptOffsets ns required offsets → offsets ≡ kept_offsets fs s
+  pub module-kept : (offsets : List ℕ) → AreKeptOffsets ns required offsets → offsets ≡ offsets_kept_of fs s us
   unfolding flags_of
   module-kept offsets kept =
-      let us = (units s).items in
       let t : Unit → Entry → Bool = λ u. is_required fs s u.header in
       offsets-are-kept (placed_entries us) ns (entries_passing t us) required offsets m.apart
       (λ e c. in-contains (placed_entries us) e (passing-in t us e (contains-in (entries_passing t us) e c))) m.graph

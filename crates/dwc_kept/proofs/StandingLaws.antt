@@ -4,20 +4,19 @@ use Rattle.std.proofs.lemmas.Bool.{cases_order}
 use Rattle.std.proofs.lemmas.List.{map-append}
 use Rattle.dwc_base.specs.Listing.{Listing}
 use Rattle.dwc_base.specs.Sections.{Sections, Fault}
-use Rattle.dwc_base.specs.Units.{UnitHeader, unit_headers}
+use Rattle.dwc_base.specs.Units.{UnitHeader}
 use Rattle.dwc_base.specs.Entries.{Entry, entries}
-use Rattle.dwc_base.specs.Carried.{Unit, placed_entries, units_of_headers, units}
+use Rattle.dwc_base.specs.Carried.{Unit, placed_entries, units_of_headers}
 use Rattle.dwc_base.specs.Kept.{Placed}
 use Rattle.dwc_base.specs.UnitOffsets.{RiseIn, StandFrom}
 use Rattle.dwc_kept.specs.ReadGraphs.{Standing, standing, placed}
 use Rattle.dwc_base.proofs.InLists.{IsIn, at-in, in-append}
 use Rattle.dwc_kept.proofs.ReadLaws.{first-unit, first-fault}
-use Rattle.dwc_base.proofs.UnitOffsets.{units-stand}
 
 -- ---- their units
 
 -- where units have no fault, their entries are those that stand there
-placed-units : (s : Sections) (hs : List UnitHeader) (last : Option Fault) → (units_of_headers s hs last).fault ≡ None → placed_entries (units_of_headers s hs last).items ≡ map placed (standing s hs)
+pub placed-units : (s : Sections) (hs : List UnitHeader) (last : Option Fault) → (units_of_headers s hs last).fault ≡ None → placed_entries (units_of_headers s hs last).items ≡ map placed (standing s hs)
 placed-units s [] last none = refl
 placed-units s (h ∷ hs) last none = go (entries s h).fault refl (λ k. placed-units s hs last k)
   where
@@ -36,10 +35,6 @@ placed-units s (h ∷ hs) last none = go (entries s h).fault refl (λ k. placed-
         ∙ ap (λ ps. map (λ e. record { unit = h.offset; entry = e }) (entries s h).items ++ ps) (rest (sym (ap (λ (l : Listing Fault Unit). l.fault) first) ∙ none))
         ∙ ap (λ ps. ps ++ map placed (standing s hs)) (placed-map (entries s h).items)
         ∙ sym (map-append placed (map (λ e. record { header = h; entry = e }) (entries s h).items) (standing s hs))
-
-pub placed-standing : (s : Sections) → (units s).fault ≡ None → placed_entries (units s).items ≡ map placed (standing s (unit_headers s).items)
-unfolding units
-placed-standing s none = placed-units s (unit_headers s).items (unit_headers s).fault none
 
 -- ---- their order
 
@@ -119,10 +114,10 @@ ordered-first (q ∷ qs) h i zero d below less = absurd (omega (arith, below))
 ordered-first (q ∷ qs) h zero (suc j) d below less = h.1 (get_or qs j d) (at-in qs j d (omega (arith, less)))
 ordered-first (q ∷ qs) h (suc i) (suc j) d below less = ordered-first qs h.2 i j d (omega (arith, below)) (omega (arith, less))
 
-pub in-order : (s : Sections) → InOrder (standing s (unit_headers s).items)
-in-order s =
-    let ordered = standing-ordered s 0 (unit_headers s).items (units-stand s) in
-    record { inside = ordered-inside (standing s (unit_headers s).items) ordered; first = ordered-first (standing s (unit_headers s).items) ordered }
+pub in-order : (s : Sections) (hs : List UnitHeader) → StandFrom s 0 hs → InOrder (standing s hs)
+in-order s hs stands =
+    let ordered = standing-ordered s 0 hs stands in
+    record { inside = ordered-inside (standing s hs) ordered; first = ordered-first (standing s hs) ordered }
 
 -- ---- units by offsets
 

@@ -1,7 +1,9 @@
 -- What is kept of the entries of a module as they are read, one after another.
-use Rattle.std.specs.Prelude.{◌≡◌, ℕ, zero, suc, ◌+◌, ◌-◌, ◌<◌, ◌^◌, ◌==◌, List, [], ◌∷◌, ◌++◌, length, get_or, Bool, false, nat_lt, not, ◌&&◌, ◌||◌, if◌then◌else◌, Option, Some, None, option_map, IfSome, All, Result, Ok, Err}
-use Rattle.std.specs.List.{filter_map}
+use Rattle.std.specs.Prelude.{◌≡◌, ℕ, zero, suc, ◌+◌, ◌-◌, ◌<◌, ◌^◌, ◌==◌, List, [], ◌∷◌, ◌++◌, length, get_or, Bool, false, nat_lt, not, ◌&&◌, ◌||◌, if◌then◌else◌, Option, Some, None, option_map, option_to_list, IfSome, All, Result, Ok, Err}
+use Rattle.std.specs.List.{filter_map, flat_map}
 use Rattle.dwc_base.specs.Sections.{Sections, Fault}
+use Rattle.dwc_base.specs.Listing.{Listing}
+use Rattle.dwc_base.specs.ReachedEntries.{listing_faults}
 use Rattle.dwc_base.specs.Units.{UnitHeader}
 use Rattle.dwc_base.specs.Values.{Value, unit_reference, info_reference}
 use Rattle.dwc_base.specs.Entries.{Entry, entries}
@@ -101,3 +103,7 @@ ReadsOrTells has first (Err e) = TellsFirst first (fault_seen e)
 abbrev pub MeetsOrTells : {X : Type 0} → Option Fault → Result X ReadFault → Type 0
 MeetsOrTells first (Ok x) = first ≡ None
 MeetsOrTells first (Err e) = TellsFirst first (fault_seen e)
+
+-- what cannot be read of the units of some headers
+abbrev pub headers_faults : (UnitHeader → Entry → List Fault) → Sections → Listing Fault UnitHeader → List Fault
+headers_faults named s hs = flat_map (λ h. listing_faults (named h) (entries s h)) hs.items ++ option_to_list hs.fault

@@ -1,11 +1,12 @@
 -- The entries of a module one after another, each with the place of its unit, and the graph of them.
 use Rattle.std.specs.Prelude.{◌≡◌, ◌≢◌, ◌<◌, ◌^◌, All, AllPairs, ℕ, List, map, Bool}
 use Rattle.std.specs.List.{flat_map}
-use Rattle.dwc_base.specs.Sections.{Sections}
+use Rattle.dwc_base.specs.Sections.{Sections, Fault}
+use Rattle.dwc_base.specs.Listing.{Listing}
 use Rattle.dwc_base.specs.Units.{UnitHeader}
 use Rattle.dwc_base.specs.Entries.{Entry, entries}
 use Rattle.dwc_base.specs.Functions.{Function}
-use Rattle.dwc_base.specs.Carried.{placed_entries, units}
+use Rattle.dwc_base.specs.Carried.{Unit, placed_entries, units_of_headers, units}
 use Rattle.dwc_base.specs.Kept.{Placed}
 use Rattle.dwc_base.specs.KeptEntries.{kept_with}
 use Rattle.dwc_base.specs.KeptModules.{entries_passing}
@@ -25,14 +26,21 @@ standing s hs = flat_map (λ h. map (λ e. record { header = h; entry = e }) (en
 abbrev pub placed : Standing → Placed
 placed q = record { unit = q.header.offset; entry = q.entry }
 
--- A graph and tests are those of the entries of a module: nodes at their offsets, of which no two are the same, that keep what they keep,
--- and for each whether it is required.
-pub record IsModuleGraph (fs : List Function) (s : Sections) (ns : List Node) (required : List Bool) : Type 0 where
-  pub graph : IsGraphOf (placed_entries (units s).items) ns
-  pub required_are : required ≡ flat_map (λ u. map (is_required fs s u.header) u.entries) (units s).items
-  pub apart : AllPairs (λ e f. e.entry.offset ≢ f.entry.offset) (placed_entries (units s).items)
+-- A graph and tests are those of the entries of some units: nodes at their offsets, of which no two are the same, that keep what they
+-- keep, and for each whether it is required.
+pub record IsModuleGraph (fs : List Function) (s : Sections) (us : List Unit) (ns : List Node) (required : List Bool) : Type 0 where
+  pub graph : IsGraphOf (placed_entries us) ns
+  pub required_are : required ≡ flat_map (λ u. map (is_required fs s u.header) u.entries) us
+  pub apart : AllPairs (λ e f. e.entry.offset ≢ f.entry.offset) (placed_entries us)
   pub small : All (λ n. n.offset < 2 ^ 32) ns
 
--- the offsets of the entries of a module that are kept, in file order
+-- the units of a listing of headers
+abbrev pub units_of : Sections → Listing Fault UnitHeader → List Unit
+units_of s hs = (units_of_headers s hs.items hs.fault).items
+
+-- the offsets of the entries of some units that are kept, in file order, and those of a module
+abbrev pub offsets_kept_of : List Function → Sections → List Unit → List ℕ
+offsets_kept_of fs s us = map (λ e. e.entry.offset) (kept_with (placed_entries us) (entries_passing (λ u. is_required fs s u.header) us))
+
 abbrev pub kept_offsets : List Function → Sections → List ℕ
-kept_offsets fs s = map (λ e. e.entry.offset) (kept_with (placed_entries (units s).items) (entries_passing (λ u. is_required fs s u.header) (units s).items))
+kept_offsets fs s = offsets_kept_of fs s (units s).items

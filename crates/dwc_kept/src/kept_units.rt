@@ -1,15 +1,17 @@
 //! The units of a module, and the offsets of its entries that are kept.
+ghost use Rattle.std.specs.Prelude.{◌≡◌};
 ghost use Rattle.dwc_base.specs.EntryRules.{named_faults};
 ghost use Rattle.dwc_base.specs.ReachedEntries.{info_faults};
 ghost use Rattle.dwc_base.specs.Refusals.{first_of};
-ghost use Rattle.dwc_kept.specs.ReadEntries.{ReadsOrTells};
-ghost use Rattle.dwc_kept.specs.ReadUnits.{IsKeptModule};
+ghost use Rattle.dwc_kept.specs.ReadEntries.{ReadsOrTells, headers_faults};
+ghost use Rattle.dwc_kept.specs.ReadGraphs.{offsets_kept_of, units_of};
+ghost use Rattle.dwc_kept.specs.ReadUnits.{IsKeptAmong, IsKeptModule};
 
 use crate::kept::Kept;
 use crate::read_unit::ReadUnit;
 use crate::walk::graph_of;
 use dwc_addr::AddressTransform;
-use dwc_read::{ReadFault, Sections};
+use dwc_read::{ReadFault, Sections, Units};
 use std::alloc::Global;
 
 /// The units of a module in file order, and its entries that are kept: the least set that holds the required ones and all that its
@@ -18,6 +20,22 @@ use std::alloc::Global;
 pub struct KeptModule<'d> {
     pub units: Vec<ReadUnit<'d>>,
     pub kept: Kept,
+}
+
+// The units that are still to come, whose entries are read once, and those of their entries that are kept.
+fn keep<'d>(
+    alloc: Global,
+    units: Units<'d>,
+    transform: &AddressTransform,
+) -> Result<KeptModule<'d>, ReadFault>
+    ensures { ReadsOrTells (λ m. IsKeptAmong transform.now units.entry.sections units.entry.headers m) (first_of (headers_faults (named_faults units.entry.sections) units.entry.sections units.entry.headers)) result }
+{
+    let read = graph_of(alloc, units, transform)?;
+    let kept = Kept::new(alloc, &read.graph, &read.required)?;
+    Ok(KeptModule {
+        units: read.units,
+        kept,
+    })
 }
 
 /// The units of a module, whose entries are read once, and those of its entries that are kept. A subprogram without ranges that begins in
@@ -34,10 +52,21 @@ pub fn kept_module<'d>(
 ) -> Result<KeptModule<'d>, ReadFault>
     ensures { ReadsOrTells (λ m. IsKeptModule transform.now sections.entry m) (first_of (info_faults (named_faults sections.entry) sections.entry)) result }
 {
-    let read = graph_of(alloc, sections, transform)?;
-    let kept = Kept::new(alloc, &read.graph, &read.required)?;
-    Ok(KeptModule {
-        units: read.units,
-        kept,
-    })
+    keep(alloc, Units::new(sections), transform)
+}
+
+/// The entries that are kept of the units that are still to come: the least set that holds the required ones among them and all that its
+/// entries keep, as [`kept_module`] has it for all units of a module.
+///
+/// # Errors
+/// As [`kept_module`].
+pub fn build_dependencies(
+    alloc: Global,
+    units: Units<'_>,
+    transform: &AddressTransform,
+) -> Result<Kept, ReadFault>
+    ensures { ReadsOrTells (λ kept. kept ≡ offsets_kept_of transform.now units.entry.sections (units_of units.entry.sections units.entry.headers)) (first_of (headers_faults (named_faults units.entry.sections) units.entry.sections units.entry.headers)) result }
+{
+    let read = keep(alloc, units, transform)?;
+    Ok(read.kept)
 }

@@ -20,7 +20,7 @@ mod walk;
 pub use begun::function_begun;
 pub use graph::{EntryGraph, closure};
 pub use kept::Kept;
-pub use kept_units::{KeptModule, kept_module};
+pub use kept_units::{KeptModule, build_dependencies, kept_module};
 pub use laws::{kept_are_least, marks_are_kept, offsets_are_kept};
 pub use read_unit::ReadUnit;
 pub use references::named_offset;

@@ -3,12 +3,11 @@ ghost use Rattle.std.specs.Prelude.{◌≡◌, ◌<◌, ◌^◌};
 ghost use Rattle.std.specs.List.{AllZip};
 ghost use Rattle.dwc_base.specs.Entries.{entries as entries_of};
 ghost use Rattle.dwc_base.specs.EntryRules.{is_required, named_faults};
-ghost use Rattle.dwc_base.specs.ReachedEntries.{listing_faults, info_faults};
+ghost use Rattle.dwc_base.specs.ReachedEntries.{listing_faults};
 ghost use Rattle.dwc_base.specs.Refusals.{first_of};
-ghost use Rattle.dwc_base.specs.Units.{unit_headers};
-ghost use Rattle.dwc_base.specs.UnitOffsets.{RiseIn};
-ghost use Rattle.dwc_kept.specs.ReadEntries.{with_entries_read, with_units_read, none_read, AreAmong, StandBefore, ReadsOrTells};
-ghost use Rattle.dwc_kept.specs.ReadGraphs.{IsModuleGraph};
+ghost use Rattle.dwc_base.specs.UnitOffsets.{RiseIn, StandFrom};
+ghost use Rattle.dwc_kept.specs.ReadEntries.{with_entries_read, with_units_read, none_read, AreAmong, StandBefore, ReadsOrTells, headers_faults};
+ghost use Rattle.dwc_kept.specs.ReadGraphs.{IsModuleGraph, units_of};
 ghost use Rattle.dwc_kept.specs.ReadingSeen.{reading_view, HasRead, IsRead};
 ghost use Rattle.dwc_kept.specs.ReadUnits.{IsReadUnit};
 ghost use Rattle.dwc_kept.specs.RootsSaid.{first_said};
@@ -17,7 +16,7 @@ use crate::graph::EntryGraph;
 use crate::read_unit::{ReadUnit, RootEntry, is_compile_unit, root_or, table_named};
 use crate::reading::{Reading, add_entry, none_read};
 use dwc_addr::AddressTransform;
-use dwc_read::{Entries, ReadFault, Sections, Unit, Units};
+use dwc_read::{Entries, ReadFault, Unit, Units};
 use std::alloc::Global;
 
 // Adds the entries of a unit that are still to come, and answers what the first says.
@@ -68,18 +67,19 @@ pub(crate) struct ReadModule<'d> {
     pub units: Vec<ReadUnit<'d>>,
 }
 
-/// What is kept of all entries of a module, in file order, and its units.
+/// What is kept of all entries of the units that are still to come, in file order, and these units.
 ///
 /// Answers the first fault in the order of reading: of each unit its header, its abbreviation table, and then its entries, each with what
 /// it names before the next one is read.
 pub(crate) fn read_entries<'d>(
     alloc: Global,
-    sections: Sections<'d>,
+    headers: Units<'d>,
     transform: &AddressTransform,
 ) -> Result<ReadModule<'d>, ReadFault>
-    ensures { ReadsOrTells (λ m. IsRead (with_units_read (is_required transform.now sections.entry) sections.entry (unit_headers sections.entry).items none_read) (reading_view m.reading) × AllZip (IsReadUnit sections.entry) (unit_headers sections.entry).items m.units.items) (first_of (info_faults (named_faults sections.entry) sections.entry)) result }
+    requires { StandFrom headers.sections 0 headers.headers.items }
+    ensures { ReadsOrTells (λ m. IsRead (with_units_read (is_required transform.now headers.entry.sections) headers.entry.sections headers.entry.headers.items none_read) (reading_view m.reading) × AllZip (IsReadUnit headers.entry.sections) headers.entry.headers.items m.units.items) (first_of (headers_faults (named_faults headers.entry.sections) headers.entry.sections headers.entry.headers)) result }
 {
-    let mut headers = Units::new(sections);
+    let mut headers = headers;
     let mut reading = none_read(alloc);
     let mut units = Vec::new(alloc);
     while let Some(unit) = headers.next_unit(alloc)? {
@@ -95,7 +95,7 @@ pub(crate) fn read_entries<'d>(
     Ok(ReadModule { reading, units })
 }
 
-/// The graph of the entries of a module, and for each entry in file order whether it is required; and the module's units.
+/// The graph of the entries of some units, and for each entry in file order whether it is required; and the units.
 #[derive(Drop)]
 pub(crate) struct ModuleGraph<'d> {
     pub graph: EntryGraph,
@@ -103,16 +103,18 @@ pub(crate) struct ModuleGraph<'d> {
     pub units: Vec<ReadUnit<'d>>,
 }
 
-/// The graph of the entries of a module, which are read once, and which of them are required: a subprogram without ranges that
-/// begins in a function with a symbol.
+/// The graph of the entries of the units that are still to come, which are read once, and which of them are required: a subprogram without
+/// ranges that begins in a function with a symbol.
 pub(crate) fn graph_of<'d>(
     alloc: Global,
-    sections: Sections<'d>,
+    headers: Units<'d>,
     transform: &AddressTransform,
 ) -> Result<ModuleGraph<'d>, ReadFault>
-    ensures { ReadsOrTells (λ m. IsModuleGraph transform.now sections.entry m.graph m.required.items × AllZip (IsReadUnit sections.entry) (unit_headers sections.entry).items m.units.items) (first_of (info_faults (named_faults sections.entry) sections.entry)) result }
+    ensures { ReadsOrTells (λ m. IsModuleGraph transform.now headers.entry.sections (units_of headers.entry.sections headers.entry.headers) m.graph m.required.items × AllZip (IsReadUnit headers.entry.sections) headers.entry.headers.items m.units.items) (first_of (headers_faults (named_faults headers.entry.sections) headers.entry.sections headers.entry.headers)) result }
 {
-    let ReadModule { reading, units } = read_entries(alloc, sections, transform)?;
+    // What this ensures of the units is what `read_entries` asks of them.
+    headers.sections();
+    let ReadModule { reading, units } = read_entries(alloc, headers, transform)?;
     Ok(ModuleGraph {
         graph: reading.graph,
         required: reading.required,

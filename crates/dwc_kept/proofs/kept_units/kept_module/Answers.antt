@@ -1,25 +1,5 @@
-use Rattle.std.proofs.Common.{◌∙◌, ap, subst, length, List, Bool}
-use Rattle.dwc_base.specs.EntryRules.{named_faults}
-use Rattle.dwc_kept.specs.EntryGraphs.{AreKeptOffsets}
-use Rattle.dwc_kept.proofs.ReadLaws.{info-whole}
-use Rattle.dwc_kept.proofs.RequiredLaws.{as-many-required, module-kept, module-small}
+use Rattle.dwc_kept.proofs.KeptReadings.{keep-all}
 use Rattle.dwc_kept.proofs.kept_units.kept_module.Goals as goal
 
-pub new-requires : goal.new-requires
-new-requires c = ap length c.deref.ensures.value ∙ as-many-required c.args.transform.now c.args.sections c.in_ok-read.read.graph c.in_ok-read.read.required.items c.in_ok-read.ensures.1.0
-
 pub returns : goal.returns
-returns c =
-    let fs = c.args.transform.now in
-    let s = c.args.sections in
-    let read = c.in_ok-read.read in
-    let graph = c.in_ok-read.ensures.1.0 in
-    let kept = subst (λ (required : List Bool). AreKeptOffsets read.graph required c.in_ok-kept.kept) c.deref.ensures.value c.in_ok-kept.ensures in (
-      c.in_ok-read.ensures.0,
-      record {
-        whole = info-whole (named_faults s) s c.in_ok-read.ensures.0;
-        kept = module-kept fs s read.graph read.required.items graph c.in_ok-kept.kept kept;
-        units = c.in_ok-read.ensures.1.1;
-        small = module-small fs s read.graph read.required.items graph c.in_ok-kept.kept kept;
-      },
-    )
+returns c = keep-all c.args.transform.now c.args.sections c.new.result c.keep.result c.new.ensures c.keep.ensures
