@@ -13,11 +13,19 @@ Hostile ones:
 
 - units: N units without line tables, of a subprogram each, that share one abbreviation table of N declarations.
 - shapes: one unit of N subprograms, each of a shape of its own among N.
-- attributes: one entry of N attributes. It is refused so far.
+- attributes: one entry of N attributes.
 - subprograms: one unit of N subprograms, all at the begin of one function.
 - one_function: N segments of one row each, all at the begin of one function of N sources.
 - shared_table: 1,000 units of a subprogram each, which name one line table of N rows.
 - two_tables: the same where the units name two line tables of N rows in turn.
+
+Entries of any kind:
+
+- entries: N units of 500 kept entries, with names in `.debug_str` and references within and between units, forward and back.
+- named_by_all: N entries that all refer to one.
+- chain: N entries, each of which is kept by the one before it alone.
+- long_text: N entries whose names are one text of N bytes.
+- nested: N blocks, one in another.
 """
 
 import argparse
@@ -307,6 +315,90 @@ def two_tables_module(rows):
     return one_function(BODY, info, line, ABBREVIATIONS, [[0, 0], [5, 8]])
 
 
+# ---- entries of any kind
+
+# Declarations by their numbers: a root, a subprogram, and behind them entries that have children or none, a name by strp or none, and a
+# type within the unit (ref4) or in another (ref_addr).
+ENTRY_TABLE = bytes.fromhex(
+    "01 1101 0000  02 2E01 1101 1206 0000  03 0500 030E 4913 0000  04 1300 030E 4913 0000  05 1300 030E 4910 0000  06 0B01 0000  00"
+)
+PARAMETER, STRUCTURE, STRUCTURE_ELSEWHERE, NESTED_BLOCK = 3, 4, 5, 6
+FIRST_ENTRY = 11 + 1  # behind the header of version 4 and the root
+SUBPROGRAM_SIZE = 1 + 4 + 4
+NAMED_SIZE = 1 + 4 + 4  # of a parameter, and of a structure
+
+
+def named(number, name, target):
+    return bytes([number]) + u32(name) + u32(target)
+
+
+def unit_around(start, parameters, entries):
+    """A unit of a subprogram with parameters, and entries behind it."""
+    return unit_of(bytes([1, 2]) + u32(start) + u32(BODY) + parameters + b"\0" + entries)
+
+
+def one_function_with_texts(info, texts):
+    wasm, functions = one_function(BODY, info, no_lines, ENTRY_TABLE, [[0, 0]])
+    return wasm + custom(".debug_str", texts), functions
+
+
+ENTRIES_OF_A_UNIT = 500
+
+
+def entries_module(units):
+    count = ENTRIES_OF_A_UNIT - 3
+    texts = b"".join(b"name_of_entry_%04d\0" % i for i in range(ENTRIES_OF_A_UNIT))
+    text_size = len(texts) // ENTRIES_OF_A_UNIT
+    first = FIRST_ENTRY + SUBPROGRAM_SIZE + NAMED_SIZE + 1
+    size = first + count * NAMED_SIZE + 1
+
+    def entry(unit, i):
+        name, place = i * text_size, first + (i + 1) % count * NAMED_SIZE
+        if i % 10:
+            return named(STRUCTURE, name, place)
+        other = (unit + (1 if i % 20 else -1)) % units
+        return named(STRUCTURE_ELSEWHERE, name, other * size + place)
+
+    def info(start):
+        parameter = named(PARAMETER, 0, first)
+        return b"".join(unit_around(start, parameter, b"".join(entry(u, i) for i in range(count))) for u in range(units))
+
+    return one_function_with_texts(info, texts)
+
+
+def named_by_all_module(count):
+    first = FIRST_ENTRY + SUBPROGRAM_SIZE + count * NAMED_SIZE + 1
+
+    def info(start):
+        return unit_around(start, named(PARAMETER, 0, first) * count, named(STRUCTURE, 0, first))
+
+    return one_function_with_texts(info, b"x\0")
+
+
+def chain_module(count):
+    first = FIRST_ENTRY + SUBPROGRAM_SIZE + NAMED_SIZE + 1
+
+    def info(start):
+        links = b"".join(named(STRUCTURE, 0, first + (i + 1) % count * NAMED_SIZE) for i in range(count))
+        return unit_around(start, named(PARAMETER, 0, first), links)
+
+    return one_function_with_texts(info, b"x\0")
+
+
+def long_text_module(count):
+    def info(start):
+        return unit_around(start, named(PARAMETER, 0, 0) * count, b"")
+
+    return one_function_with_texts(info, b"x" * count + b"\0")
+
+
+def nested_module(count):
+    def info(start):
+        return unit_around(start, bytes([NESTED_BLOCK]) * count + b"\0" * count, b"")
+
+    return one_function_with_texts(info, b"x\0")
+
+
 # The kinds of modules, each with what makes the modules of a size.
 KINDS = {
     "functions": lambda n: [functions_module(n)],
@@ -319,6 +411,11 @@ KINDS = {
     "one_function": lambda n: [one_function_module(n)],
     "shared_table": lambda n: [shared_table_module(n)],
     "two_tables": lambda n: [two_tables_module(n)],
+    "entries": lambda n: [entries_module(n)],
+    "named_by_all": lambda n: [named_by_all_module(n)],
+    "chain": lambda n: [chain_module(n)],
+    "long_text": lambda n: [long_text_module(n)],
+    "nested": lambda n: [nested_module(n)],
 }
 
 # The sizes of each kind, unless they are given.
@@ -333,6 +430,11 @@ SIZES = {
     "one_function": [50000, 100000],
     "shared_table": [500000, 1000000],
     "two_tables": [5000, 10000],
+    "entries": [400, 4000],
+    "named_by_all": [50000, 100000],
+    "chain": [50000, 100000],
+    "long_text": [50000, 100000],
+    "nested": [50000, 100000],
 }
 
 
