@@ -21,3 +21,4 @@ pub mod KeptReferences
 pub mod KeptUnitLaws
 pub mod KeptModuleLaws
 pub mod KeptReadings
+pub mod KeptGoals
