@@ -1,0 +1,239 @@
+-- The values that the last entry of a unit is given, one behind another, and what the attributes of an entry become.
+use Rattle.std.proofs.Common.{◌≡◌, ℕ, ◌<◌, refl, sym, ap, subst, ◌∙◌, arith, List, [], ◌∷◌, ◌++◌, ◌+◌, drop, get_or, length, length-append, map, Option, Some, None, Result, Ok, Err}
+use Rattle.std.specs.Prelude.{◌==◌, ◌&&◌, OnOk, pos, filter_map, option_map, option_to_list, Bool, true, false, if◌then◌else◌}
+use Rattle.std.specs.List.{All, cons_option}
+use Rattle.std.proofs.lemmas.Bool.{eq-eqb}
+use Rattle.std.proofs.lemmas.List.{append-nil, append_assoc, drop_more, get_or-map, length-map}
+use Rattle.std.proofs.lemmas.List.Elements.{All-append, All-nil}
+use Rattle.std.proofs.lemmas.List.Sums.{fold-append}
+use Rattle.dwc_base.specs.declared.constants.TheConstants.{DW_AT_endianity, DW_AT_high_pc, DW_AT_low_pc, DW_END_little, DW_FORM_data1, DW_FORM_udata, DW_TAG_base_type}
+use Rattle.dwc_base.specs.declared.records.Address.TheVariants.{Symbol}
+use Rattle.dwc_base.specs.Sections.{Fault}
+use Rattle.dwc_base.specs.Functions.{Function}
+use Rattle.dwc_base.specs.EntryRules.{function_bounds}
+use Rattle.dwc_base.specs.Values.{Value}
+use Rattle.dwc_base.specs.Kept.{Placed}
+use Rattle.dwc_base.specs.Refusals.{Refusal, of_place, first_of}
+use Rattle.dwc_base.specs.Trees.{TreeValue, address, constant, set_attribute}
+use Rattle.dwc_base.specs.Clones.{UnitSource, attribute_becomes, attributes_become, endianity, if_made, if_refused}
+use Rattle.dwc_base.specs.Drafts.{DraftValue, Goal, done}
+use Rattle.dwc_base.specs.DraftForests.{settled, settled_value}
+use Rattle.dwc_read.specs.declared.value.AttributeValue.{AttributeValue as InputValue}
+use Rattle.dwc_read.specs.ValuesSeen.{attribute_view}
+use Rattle.dwc_write.specs.declared.attributes.Attribute.{Attribute}
+use Rattle.dwc_write.specs.declared.attributes.AttributeValue.{AttributeValue}
+use Rattle.dwc_write.specs.declared.attributes.AttributeValue.TheVariants.{Address, Constant}
+use Rattle.dwc_write.specs.declared.units.UnitEntryId.{UnitEntryId}
+use Rattle.dwc_write.specs.GivenUnits as GivenUnits
+use Rattle.dwc_write.specs.GivenUnits.{Addition, GivenUnit, place_of, set_in, set_in_addition, with_additions, with_value}
+use Rattle.dwc_write.specs.UsedTexts.{text_of_value, texts_of_attributes}
+use Rattle.dwc_write.specs.AddedInOrder.{attribute_meant, value_meant}
+use Rattle.dwc_write.proofs.ReadValues.{All-back, All-front}
+use Rattle.dwc_write.proofs.AddedInOrderUnits.{entry-set}
+use Rattle.dwc_write.proofs.AddedInOrderValues.{attributes-meant-more, set-meant}
+use Rattle.dwc_clone.specs.declared.source.CloneSource.{CloneSource}
+use Rattle.dwc_clone.specs.OutputPlaces.{goal_place}
+use Rattle.dwc_clone.specs.MadeValues.{Grows, HasTexts, IsMade, RefusesSo, SaysMore, wanted_value}
+use Rattle.dwc_clone.specs.ClonedUnits.{clone_rules, TellsFirst}
+use Rattle.dwc_clone.specs.ClonedEntries.{AreSet, IsGiven, IsLast, set_behind, values_refused, values_wanted, with_made}
+
+-- ---- tables of texts
+
+pub grows-not : (t : List (List ℕ)) → Grows t t
+grows-not t = record { more = []; is = sym (append-nil t) }
+
+pub grows-on : (t0 t1 t2 : List (List ℕ)) → Grows t0 t1 → Grows t1 t2 → Grows t0 t2
+grows-on t0 t1 t2 first second = record {
+  more = first.more ++ second.more;
+  is = second.is ∙ ap (λ t. t ++ second.more) first.is ∙ append_assoc t0 first.more second.more;
+}
+
+-- Texts of a table are texts of one that has grown.
+pub texts-on : (t0 t1 : List (List ℕ)) (ns : List ℕ) → Grows t0 t1 → All (λ n. n < length t0) ns → All (λ n. n < length t1) ns
+texts-on t0 t1 ns grows all k d within =
+    let low = all k d within in
+    let many = ap length grows.is ∙ length-append t0 grows.more in
+    omega (arith, low, many)
+
+-- Attributes mean the same with a table that has grown.
+pub meant-on : (number : ℕ) (t0 t1 : List (List ℕ)) (xs : List Attribute) → Grows t0 t1 → All (λ n. n < length t0) (texts_of_attributes xs) → map (attribute_meant t1 number) xs ≡ map (attribute_meant t0 number) xs
+meant-on number t0 t1 xs grows known = ap (λ t. map (attribute_meant t number) xs) grows.is ∙ attributes-meant-more t0 grows.more number xs known
+
+-- ---- values that are given
+
+set-texts : (P : ℕ → Type 0) (name : ℕ) (v : AttributeValue) (xs : List Attribute) → All P (text_of_value v) → All P (texts_of_attributes xs) → All P (texts_of_attributes (GivenUnits.set_attribute name v xs))
+set-texts P name v [] has all = All-append P (text_of_value v) [] has all
+set-texts P name v (x ∷ xs) has all = go (x.name == name) (set-texts P name v xs has (All-back P (text_of_value x.value) (texts_of_attributes xs) all))
+  where
+    go : (b : Bool) → All P (texts_of_attributes (GivenUnits.set_attribute name v xs)) → All P (texts_of_attributes (if b then record { name = name; value = v } ∷ xs else x ∷ GivenUnits.set_attribute name v xs))
+    go true others = All-append P (text_of_value v) (texts_of_attributes xs) has (All-back P (text_of_value x.value) (texts_of_attributes xs) all)
+    go false others = All-append P (text_of_value x.value) (texts_of_attributes (GivenUnits.set_attribute name v xs)) (All-front P (text_of_value x.value) (texts_of_attributes xs) all) others
+
+-- The last entry is given one value, or none.
+pub given-value : (number : ℕ) (t0 t1 : List (List ℕ)) (id : UnitEntryId) (base : GivenUnit) (e : Addition) (u : GivenUnit) (name : ℕ) (v : AttributeValue) → IsLast t0 id base e u → Grows t0 t1 → HasTexts t1 v
+    → IsGiven number t0 t1 ((name, value_meant t1 number v) ∷ []) base e (with_value id.index name v u)
+given-value number t0 t1 id base e u name v last grows has = record {
+  grows = grows;
+  given = set_in_addition name v e;
+  is = ap (with_value id.index name v) last.is ∙ entry-set base e id.index name v last.number;
+  parent = refl;
+  tag = refl;
+  means = set-meant t1 number name v e.attributes ∙ ap (λ xs. set_attribute (name, value_meant t1 number v) xs) (meant-on number t0 t1 e.attributes grows last.names);
+  texts = set-texts (λ n. n < length t1) name v e.attributes has (texts-on t0 t1 (texts_of_attributes e.attributes) grows last.names);
+}
+
+pub given-none : (number : ℕ) (t0 t1 : List (List ℕ)) (id : UnitEntryId) (base : GivenUnit) (e : Addition) (u : GivenUnit) → IsLast t0 id base e u → Grows t0 t1 → IsGiven number t0 t1 [] base e u
+given-none number t0 t1 id base e u last grows = record {
+  grows = grows;
+  given = e;
+  is = last.is;
+  parent = refl;
+  tag = refl;
+  means = meant-on number t0 t1 e.attributes grows last.names;
+  texts = texts-on t0 t1 (texts_of_attributes e.attributes) grows last.names;
+}
+
+-- It is the last entry then, and may be given more.
+pub given-last : (number : ℕ) (t0 t1 : List (List ℕ)) (values : List (ℕ × TreeValue)) (id : UnitEntryId) (base : GivenUnit) (e : Addition) (u0 u : GivenUnit) → IsLast t0 id base e u0 → (g : IsGiven number t0 t1 values base e u) → IsLast t1 id base g.given u
+given-last number t0 t1 values id base e u0 u last g = record { number = last.number; is = g.is; names = g.texts }
+
+pub given-on : (number : ℕ) (t0 t1 t2 : List (List ℕ)) (values more : List (ℕ × TreeValue)) (base : GivenUnit) (e : Addition) (u1 u2 : GivenUnit) → (g : IsGiven number t0 t1 values base e u1) → IsGiven number t1 t2 more base g.given u2
+    → IsGiven number t0 t2 (values ++ more) base e u2
+given-on number t0 t1 t2 values more base e u1 u2 g h = record {
+  grows = grows-on t0 t1 t2 g.grows h.grows;
+  given = h.given;
+  is = h.is;
+  parent = h.parent ∙ g.parent;
+  tag = h.tag ∙ g.tag;
+  means = h.means ∙ ap (λ said. set_behind said more) g.means ∙ sym (fold-append (λ before a. set_attribute a before) (map (attribute_meant t0 number) e.attributes) values more);
+  texts = h.texts;
+}
+
+-- A name with what it says, if that is something; what is made of a value is given so.
+abbrev pub named : ℕ → Option TreeValue → List (ℕ × TreeValue)
+named name v = option_to_list (option_map (λ x. (name, x)) v)
+
+pub given-made : (c : CloneSource) (number : ℕ) (t0 t1 : List (List ℕ)) (id : UnitEntryId) (base : GivenUnit) (e : Addition) (u : GivenUnit) (name : ℕ) (draft : Option DraftValue) (v : Option AttributeValue) → IsLast t0 id base e u → SaysMore c.places.now number name t0 t1 draft v
+    → IsGiven number t0 t1 (named name (wanted_value c.places.now draft)) base e (with_made id.index name v u)
+given-made c number t0 t1 id base e u name draft None last more =
+    subst (λ w. IsGiven number t0 t1 (named name w) base e u) more.says.means (given-none number t0 t1 id base e u last more.grows)
+given-made c number t0 t1 id base e u name draft (Some v) last more =
+    subst (λ w. IsGiven number t0 t1 (named name w) base e (with_value id.index name v u)) more.says.means (given-value number t0 t1 id base e u name v last more.grows more.says.texts)
+
+-- Values that are set leave the numbers of entries as they were.
+pub value-places : (id name : ℕ) (v : AttributeValue) (u : GivenUnit) → (with_value id name v u).places ≡ u.places
+value-places id name v u = go (place_of id u.places)
+  where
+    SamePlaces : GivenUnit → Type 0
+    SamePlaces w = w.places ≡ u.places
+
+    go : (p : Option ℕ) → SamePlaces (elim p [ None ↦ u | Some place ↦ with_additions (set_in place name v u.additions) u ])
+    go None = refl
+    go (Some place) = refl
+
+pub made-places : (id name : ℕ) (v : Option AttributeValue) (u : GivenUnit) → (with_made id name v u).places ≡ u.places
+made-places id name None u = refl
+made-places id name (Some v) u = value-places id name v u
+
+-- ---- attributes of an entry, in their order
+
+-- The attributes from one on are that one and those behind it.
+pub attributes-drop : (xs : List (ℕ × InputValue)) (i : ℕ) (d : ℕ × InputValue) → i < length xs → drop i (map attribute_view xs) ≡ attribute_view (get_or xs i d) ∷ drop (i + 1) (map attribute_view xs)
+attributes-drop xs i d within =
+    drop_more (map attribute_view xs) i (attribute_view d) (subst (λ n. i < n) (sym (length-map xs attribute_view)) within)
+    ∙ ap (λ a. a ∷ drop (i + 1) (map attribute_view xs)) (get_or-map attribute_view xs i d (attribute_view d) within)
+
+-- What is set of the attributes of an entry: what was set so far, and what the attributes that are left are to say, make all.
+pub record AreSetSoFar (c : CloneSource) (number : ℕ) (s : UnitSource) (p : Placed) (t0 t1 : List (List ℕ)) (base : GivenUnit) (e : Addition) (u : GivenUnit) (left : List (ℕ × Value)) : Type 0 where
+  pub before : List (ℕ × Value)
+  pub values : List (ℕ × TreeValue)
+  pub given : IsGiven number t0 t1 values base e u
+  pub whole : values ++ values_wanted c s p before left ≡ values_wanted c s p [] p.entry.attributes
+  pub refused : values_refused c s p before left ≡ values_refused c s p [] p.entry.attributes
+
+pub set-start : (c : CloneSource) (number : ℕ) (s : UnitSource) (p : Placed) (t : List (List ℕ)) (id : UnitEntryId) (base : GivenUnit) (e : Addition) (u : GivenUnit) → IsLast t id base e u → AreSetSoFar c number s p t t base e u p.entry.attributes
+set-start c number s p t id base e u last = record { before = []; values = []; given = given-none number t t id base e u last (grows-not t); whole = refl; refused = refl }
+
+-- an attribute in front of others
+wanted-more : (c : CloneSource) (s : UnitSource) (p : Placed) (before : List (ℕ × Value)) (a : ℕ × Value) (left : List (ℕ × Value)) (draft : Option DraftValue) → attribute_becomes (clone_rules c) s p before a ≡ Ok draft
+    → values_wanted c s p before (a ∷ left) ≡ named a.0 (wanted_value c.places.now draft) ++ values_wanted c s p (before ++ a ∷ []) left
+unfolding attributes_become
+wanted-more c s p before a left draft is = ap (λ r. filter_map (settled (goal_place c.places.now)) (cons_option (if_made a.0 r) made)) is ∙ go draft
+  where
+    made : List (ℕ × DraftValue)
+    made = filter_map (λ x. if_made x.0 x.1) (attributes_become (clone_rules c) s p (before ++ a ∷ []) left)
+
+    at : (v : Option TreeValue) (xs : List (ℕ × TreeValue)) → cons_option (option_map (λ x. (a.0, x)) v) xs ≡ named a.0 v ++ xs
+    at None xs = refl
+    at (Some v) xs = refl
+
+    go : (d : Option DraftValue) → filter_map (settled (goal_place c.places.now)) (cons_option (if_made {E = Refusal} a.0 (Ok d)) made) ≡ named a.0 (wanted_value c.places.now d) ++ filter_map (settled (goal_place c.places.now)) made
+    go None = refl
+    go (Some v) = at (settled_value (goal_place c.places.now) v) (filter_map (settled (goal_place c.places.now)) made)
+
+refused-not : (c : CloneSource) (s : UnitSource) (p : Placed) (before : List (ℕ × Value)) (a : ℕ × Value) (left : List (ℕ × Value)) (draft : Option DraftValue) → attribute_becomes (clone_rules c) s p before a ≡ Ok draft
+    → values_refused c s p before (a ∷ left) ≡ values_refused c s p (before ++ a ∷ []) left
+unfolding attributes_become
+refused-not c s p before a left draft is = ap (λ r. cons_option (if_refused r) (values_refused c s p (before ++ a ∷ []) left)) is
+
+refused-here : (c : CloneSource) (s : UnitSource) (p : Placed) (before : List (ℕ × Value)) (a : ℕ × Value) (left : List (ℕ × Value)) (refusal : Refusal) → attribute_becomes (clone_rules c) s p before a ≡ Err refusal
+    → first_of (values_refused c s p before (a ∷ left)) ≡ Some refusal
+unfolding attributes_become
+refused-here c s p before a left refusal is = ap (λ r. first_of (cons_option (if_refused r) (values_refused c s p (before ++ a ∷ []) left))) is
+
+pub set-more : (c : CloneSource) (number : ℕ) (s : UnitSource) (p : Placed) (t0 t1 t2 : List (List ℕ)) (id : UnitEntryId) (base : GivenUnit) (e : Addition) (u0 u : GivenUnit) (a : ℕ × Value) (left : List (ℕ × Value)) (v : Option AttributeValue)
+    → IsLast t0 id base e u0 → (so : AreSetSoFar c number s p t0 t1 base e u (a ∷ left)) → IsMade (SaysMore c.places.now number a.0 t1 t2) (attribute_becomes (clone_rules c) s p so.before a) v
+    → AreSetSoFar c number s p t0 t2 base e (with_made id.index a.0 v u) left
+set-more c number s p t0 t1 t2 id base e u0 u a left v last so made =
+    let draft = made.drafted in
+    let one = named a.0 (wanted_value c.places.now draft) in
+    record {
+      before = so.before ++ a ∷ [];
+      values = so.values ++ one;
+      given = given-on number t0 t1 t2 so.values one base e u (with_made id.index a.0 v u) so.given
+          (given-made c number t1 t2 id base so.given.given u a.0 draft v (given-last number t0 t1 so.values id base e u0 u last so.given) made.made);
+      whole = append_assoc so.values one _ ∙ ap (λ xs. so.values ++ xs) (sym (wanted-more c s p so.before a left draft made.is)) ∙ so.whole;
+      refused = sym (refused-not c s p so.before a left draft made.is) ∙ so.refused;
+    }
+
+pub set-refused : (c : CloneSource) (number : ℕ) (s : UnitSource) (p : Placed) (t0 t1 : List (List ℕ)) (base : GivenUnit) (e : Addition) (u : GivenUnit) (a : ℕ × Value) (left : List (ℕ × Value)) (fault : Option Fault)
+    → (so : AreSetSoFar c number s p t0 t1 base e u (a ∷ left)) → RefusesSo (attribute_becomes (clone_rules c) s p so.before a) fault → TellsFirst (values_refused c s p [] p.entry.attributes) fault
+set-refused c number s p t0 t1 base e u a left None so told = tt
+set-refused c number s p t0 t1 base e u a left (Some fault) so told = ap first_of (sym so.refused) ∙ refused-here c s p so.before a left (of_place fault) told
+
+pub set-end : (c : CloneSource) (number : ℕ) (s : UnitSource) (p : Placed) (t0 t1 : List (List ℕ)) (base : GivenUnit) (e : Addition) (u : GivenUnit) → AreSetSoFar c number s p t0 t1 base e u [] → AreSet c number s p t0 t1 base e u
+unfolding attributes_become
+set-end c number s p t0 t1 base e u so = record {
+  given = subst (λ values. IsGiven number t0 t1 values base e u) (sym (append-nil so.values) ∙ so.whole) so.given;
+  accepted = sym so.refused;
+}
+
+-- ---- bounds and byte order
+
+-- What holds where a call succeeds.
+pub on-ok : {A F P Q : Type 0} (r : Result A F) → (P → Q) → OnOk r P → OnOk r Q
+on-ok (Ok x) f p = f p
+on-ok (Err e) f p = tt
+
+pub bounds-given : (number : ℕ) (texts : List (List ℕ)) (places : Goal → Option (ℕ × ℕ)) (id : UnitEntryId) (base : GivenUnit) (e : Addition) (u : GivenUnit) (f : Function) (symbol : ℕ) → f.number ≡ symbol → IsLast texts id base e u
+    → IsGiven number texts texts (filter_map (settled places) (function_bounds (Some f))) base e (with_value id.index DW_AT_high_pc (Constant DW_FORM_udata f.length) (with_value id.index DW_AT_low_pc (Address (Symbol symbol (pos 0))) u))
+bounds-given number texts places id base e u f symbol is last =
+    let low = Address (Symbol symbol (pos 0)) in
+    let high = Constant DW_FORM_udata f.length in
+    let first = given-value number texts texts id base e u DW_AT_low_pc low last (grows-not texts) (All-nil (λ n. n < length texts)) in
+    let second = given-value number texts texts id base first.given _ DW_AT_high_pc high (given-last number texts texts _ id base e u _ last first) (grows-not texts) (All-nil (λ n. n < length texts)) in
+    subst (λ n. IsGiven number texts texts ((DW_AT_low_pc, address (Symbol n (pos 0))) ∷ (DW_AT_high_pc, constant DW_FORM_udata f.length) ∷ []) base e (with_value id.index DW_AT_high_pc high (with_value id.index DW_AT_low_pc low u))) (sym is)
+    (given-on number texts texts texts _ _ base e _ _ first second)
+
+pub endianity-given : (number : ℕ) (texts : List (List ℕ)) (id : UnitEntryId) (base : GivenUnit) (e : Addition) (u : GivenUnit) → IsLast texts id base e u
+    → IsGiven number texts texts ((DW_AT_endianity, constant DW_FORM_data1 DW_END_little) ∷ []) base e (with_value id.index DW_AT_endianity (Constant DW_FORM_data1 DW_END_little) u)
+endianity-given number texts id base e u last = given-value number texts texts id base e u DW_AT_endianity (Constant DW_FORM_data1 DW_END_little) last (grows-not texts) (All-nil (λ n. n < length texts))
+
+pub endianity-there : (big_endian : Bool) (p : Placed) (tag : ℕ) → p.entry.tag ≡ tag → big_endian ≡ true → tag ≡ DW_TAG_base_type → endianity big_endian p ≡ (DW_AT_endianity, done (constant DW_FORM_data1 DW_END_little)) ∷ []
+endianity-there big_endian p tag is big base =
+    let little : List (ℕ × DraftValue) = (DW_AT_endianity, done (constant DW_FORM_data1 DW_END_little)) ∷ [] in
+    ap (λ b. if b && (p.entry.tag == DW_TAG_base_type) then little else []) big ∙ ap (λ b. if b then little else []) (eq-eqb p.entry.tag DW_TAG_base_type (is ∙ base))
+
+-- What holds of a call that succeeded.
+pub succeeded : {A F P : Type 0} (r : Result A F) (x : A) → r ≡ Ok x → OnOk r P → P
+succeeded {A} {F} {P} r x is holds = subst (λ w. OnOk w P) is holds

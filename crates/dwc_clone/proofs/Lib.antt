@@ -1,0 +1,9 @@
+pub mod PlaceLaws
+pub mod TextLaws
+pub mod ReferenceLaws
+pub mod BoundLaws
+pub mod ValueLaws
+pub mod EntryValues
+pub mod EntryPaths
+pub mod EntriesAdded
+pub mod UnitEntries

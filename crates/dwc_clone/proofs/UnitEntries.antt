@@ -1,0 +1,105 @@
+-- The kept entries of a unit that are cloned so far, and those that are still to come.
+use Rattle.std.proofs.Common.{◌≡◌, ◌≢◌, ℕ, ◌+◌, ◌<◌, ◌≤◌, refl, sym, ap, subst, ◌∙◌, List, [], ◌∷◌, ◌++◌, length, drop, get_or, map, Bool, true, false, Option, Some, None, Ok}
+use Rattle.std.specs.Prelude.{if◌then◌else◌}
+use Rattle.std.specs.List.{flat_map}
+use Rattle.std.proofs.lemmas.Bool.{eq-eqb, ne_eqb}
+use Rattle.std.proofs.lemmas.List.{append-nil, append_assoc, drop_all, drop_more, map-append}
+use Rattle.std.proofs.lemmas.List.Elements.{All-nil}
+use Rattle.std.proofs.lemmas.List.Concat.{flat_map-append}
+use Rattle.dwc_base.specs.Entries.{Entry}
+use Rattle.dwc_base.specs.Listing.{Listing, no_items, with_first}
+use Rattle.dwc_base.specs.Sections.{Fault}
+use Rattle.dwc_base.specs.Clones.{UnitSource, entry_refusals}
+use Rattle.dwc_base.specs.Refusals.{Refusal, first_of, of_place}
+use Rattle.dwc_kept.specs.KeptUnits.{IsTree}
+use Rattle.dwc_read.specs.Places.{GoesOn}
+use Rattle.dwc_write.specs.declared.units.UnitEntryId.{UnitEntryId}
+use Rattle.dwc_write.specs.GivenUnits.{GivenUnit, IsAdded, new_unit}
+use Rattle.dwc_clone.specs.declared.source.CloneSource.{CloneSource}
+use Rattle.dwc_clone.specs.ClonedUnits.{AreClonable, IsCloned, TellsFirst, clone_refusals, clone_rules, depths_of, picked}
+use Rattle.dwc_clone.specs.ClonedEntries.{AreKnown, AreMadeSoFar, CanFollow, placed_entry}
+
+-- ---- the entries at offsets
+
+pub picked-here : (ks : List ℕ) (i d : ℕ) (e : Entry) (es : List Entry) → i < length ks → e.offset ≡ get_or ks i d → picked (drop i ks) (e ∷ es) ≡ e ∷ picked (drop (i + 1) ks) es
+picked-here ks i d e es within is =
+    ap (λ xs. picked xs (e ∷ es)) (drop_more ks i d within)
+    ∙ ap (λ b. if b then e ∷ picked (drop (i + 1) ks) es else picked (get_or ks i d ∷ drop (i + 1) ks) es) (eq-eqb e.offset (get_or ks i d) is)
+
+pub picked-not : (ks : List ℕ) (i d : ℕ) (e : Entry) (es : List Entry) → i < length ks → e.offset ≢ get_or ks i d → picked (drop i ks) (e ∷ es) ≡ picked (drop i ks) es
+picked-not ks i d e es within apart =
+    ap (λ xs. picked xs (e ∷ es)) (drop_more ks i d within)
+    ∙ ap (λ b. if b then e ∷ picked (drop (i + 1) ks) es else picked (get_or ks i d ∷ drop (i + 1) ks) es) (ne_eqb e.offset (get_or ks i d) apart)
+    ∙ ap (λ xs. picked xs es) (sym (drop_more ks i d within))
+
+pub picked-none : (ks : List ℕ) → picked ks [] ≡ []
+picked-none [] = refl
+picked-none (k ∷ ks) = refl
+
+pub picked-past : (ks : List ℕ) (i : ℕ) (es : List Entry) → length ks ≤ i → picked (drop i ks) es ≡ []
+picked-past ks i es past = ap (λ xs. picked xs es) (drop_all i ks past)
+
+-- ---- entries that are cloned
+
+-- What is cloned of some entries, and what is left of them.
+pub record AreClonedSoFar (c : CloneSource) (number : ℕ) (s : UnitSource) (all : List Entry) (old now : List (List ℕ)) (begun u : GivenUnit) (parents : List UnitEntryId) (left : List Entry) : Type 0 where
+  pub es : List Entry
+  pub made : AreMadeSoFar c number s es old now begun u parents
+  pub follow : CanFollow parents left
+  pub whole : es ++ left ≡ all
+
+pub cloned-start : (c : CloneSource) (number : ℕ) (s : UnitSource) (all : List Entry) (old : List (List ℕ)) (begun : GivenUnit) (ps : List UnitEntryId) → ps ≡ [] → AreClonable all → AreClonedSoFar c number s all old old begun begun ps all
+cloned-start c number s all old begun ps none can = record {
+  es = [];
+  made = (refl, refl, none);
+  follow = subst (λ qs. CanFollow qs all) (sym none) (subst (λ es. CanFollow [] es) (sym can.are) (tree.0, can.tag, tree.1));
+  whole = refl;
+}
+  where
+    tree : IsTree (depths_of (can.root ∷ can.others))
+    tree = subst (λ es. IsTree (depths_of es)) can.are can.tree
+
+pub cloned-more : (c : CloneSource) (number : ℕ) (s : UnitSource) (all : List Entry) (old t0 t1 : List (List ℕ)) (begun u0 u1 : GivenUnit) (ps qs : List UnitEntryId) (e : Entry) (left : List Entry)
+    → (so : AreClonedSoFar c number s all old t0 begun u0 ps (e ∷ left)) → AreMadeSoFar c number s (so.es ++ e ∷ []) old t1 begun u1 qs × CanFollow qs left → AreClonedSoFar c number s all old t1 begun u1 qs left
+cloned-more c number s all old t0 t1 begun u0 u1 ps qs e left so made = record { es = so.es ++ e ∷ []; made = made.0; follow = made.1; whole = append_assoc so.es (e ∷ []) left ∙ so.whole }
+
+accepted : (c : CloneSource) (number : ℕ) (s : UnitSource) (es : List Entry) (old now : List (List ℕ)) (begun u : GivenUnit) (ps : List UnitEntryId) → AreMadeSoFar c number s es old now begun u ps → clone_refusals c s es ≡ []
+accepted c number s [] old now begun u ps made = refl
+accepted c number s (e ∷ es) old now begun u ps made = made.unit.accepted
+
+pub cloned-refused : (c : CloneSource) (number : ℕ) (s : UnitSource) (all : List Entry) (old now : List (List ℕ)) (begun u : GivenUnit) (ps : List UnitEntryId) (e : Entry) (left : List Entry) (fault : Option Fault)
+    → AreClonedSoFar c number s all old now begun u ps (e ∷ left) → TellsFirst (entry_refusals (clone_rules c) s (placed_entry c e)) fault → TellsFirst (clone_refusals c s all) fault
+cloned-refused c number s all old now begun u ps e left None so told = tt
+cloned-refused c number s all old now begun u ps e left (Some fault) so told =
+    let f = entry_refusals (clone_rules c) s in
+    ap (λ xs. first_of (clone_refusals c s xs)) (sym so.whole)
+    ∙ ap (λ xs. first_of (flat_map f xs)) (map-append (placed_entry c) so.es (e ∷ left))
+    ∙ ap first_of (flat_map-append f (map (placed_entry c) so.es) (map (placed_entry c) (e ∷ left)))
+    ∙ ap (λ xs. first_of (xs ++ (f (placed_entry c e) ++ flat_map f (map (placed_entry c) left)))) (accepted c number s so.es old now begun u ps so.made)
+    ∙ front (f (placed_entry c e)) (flat_map f (map (placed_entry c) left)) told
+  where
+    front : (xs ys : List Refusal) → first_of xs ≡ Some (of_place fault) → first_of (xs ++ ys) ≡ Some (of_place fault)
+    front [] ys is = absurd (cc)
+    front (x ∷ xs) ys is = is
+
+pub cloned-end : (c : CloneSource) (number : ℕ) (s : UnitSource) (all : List Entry) (old now : List (List ℕ)) (begun u : GivenUnit) (ps : List UnitEntryId) (left : List Entry)
+    → AreClonedSoFar c number s all old now begun u ps left → left ≡ [] → AreClonable all → IsCloned c number s all old now begun u
+cloned-end c number s all old now begun u ps left so none can =
+    let is : so.es ≡ can.root ∷ can.others = sym (append-nil so.es) ∙ ap (λ xs. so.es ++ xs) (sym none) ∙ so.whole ∙ can.are in
+    subst (λ es. IsCloned c number s es old now begun u) (sym can.are) (whole (subst (λ es. AreMadeSoFar c number s es old now begun u ps) is so.made))
+  where
+    whole : AreMadeSoFar c number s (can.root ∷ can.others) old now begun u ps → IsCloned c number s (can.root ∷ can.others) old now begun u
+    whole made = made.unit
+
+-- ---- one step of reading
+
+-- An entry that was gone on to stands in front of what is left.
+pub gone-on : (old new : Listing Fault Entry) (e : Entry) (b : Bool) → GoesOn old new e (Ok b) → b ≡ true → old ≡ with_first e new
+gone-on old new e b next is = subst (λ x. GoesOn old new e (Ok x)) is next
+
+pub gone-not : (old new : Listing Fault Entry) (e : Entry) (b : Bool) → GoesOn old new e (Ok b) → b ≡ false → old ≡ no_items
+gone-not old new e b next is = (subst (λ x. GoesOn old new e (Ok x)) is next).0
+
+-- A unit that was begun has a root.
+pub begun-known : (u : GivenUnit) (ps : List UnitEntryId) → u ≡ new_unit u.address_size u.lines → ps ≡ [] → AreKnown ps u
+begun-known u ps is none = subst (λ qs. AreKnown qs u) (sym none) (record { root = subst (IsAdded 0) (sym is) refl; others = All-nil (λ (p : UnitEntryId). IsAdded p.index u) })

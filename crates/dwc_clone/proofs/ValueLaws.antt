@@ -1,0 +1,75 @@
+-- What values become, and what is made of them says.
+use Rattle.std.proofs.Common.{◌≡◌, ℕ, Bor, refl, sym, ap, subst, ◌∙◌, List, Bool, true, false, Option, None, Result, Ok, ◌⊎◌, inl, inr}
+use Rattle.std.specs.Prelude.{◌==◌}
+use Rattle.dwc_base.specs.declared.section_name.SectionName.TheVariants.{Info}
+use Rattle.dwc_base.specs.declared.faults.What.TheVariants.{Text as TextRead}
+use Rattle.dwc_base.specs.declared.constants.TheConstants.{DW_AT_stmt_list}
+use Rattle.dwc_base.specs.Sections.{Sections, reported}
+use Rattle.dwc_base.specs.Units.{UnitHeader}
+use Rattle.dwc_base.specs.Values.{Value}
+use Rattle.dwc_base.specs.Texts.{TextSource, text_named}
+use Rattle.dwc_base.specs.Functions.{Function}
+use Rattle.dwc_base.specs.Kept.{Placed}
+use Rattle.dwc_base.specs.Refusals.{Refusal, of_place}
+use Rattle.dwc_base.specs.Drafts.{DraftValue}
+use Rattle.dwc_base.specs.EntryRules.{code_rules}
+use Rattle.dwc_base.specs.Clones.{CodeRules, UnitSource, attribute_becomes, bound_becomes, is_bound_name, is_dropped_name, table_becomes, text_becomes, text_drafted, value_becomes}
+use Rattle.dwc_read.specs.declared.value.AttributeValue.TheVariants as input
+use Rattle.dwc_read.specs.declared.value.AttributeValue as values
+use Rattle.dwc_read.specs.ValuesSeen.{value_view}
+use Rattle.dwc_write.specs.declared.attributes.AttributeValue.{AttributeValue}
+use Rattle.dwc_clone.specs.declared.places.EmittedEntry.{EmittedEntry}
+use Rattle.dwc_clone.specs.MadeValues.{IsMade, Says, SaysMore}
+use Rattle.dwc_clone.proofs.TextLaws.{Grows-same}
+
+-- What is made says what is to be said, and no text is added.
+pub made-same : (places : List EmittedEntry) (number name : ℕ) (table : List (List ℕ)) (read : Result (Option DraftValue) Refusal) (draft : Option DraftValue) (v : Option AttributeValue) → read ≡ Ok draft → Says places number name table draft v → IsMade (SaysMore places number name table table) read v
+made-same places number name table read draft v is says = record { drafted = draft; is = is; made = record { grows = Grows-same table; says = says } }
+
+-- Nothing is made.
+pub made-none : (places : List EmittedEntry) (number name : ℕ) (table : List (List ℕ)) (read : Result (Option DraftValue) Refusal) → read ≡ Ok None → IsMade (SaysMore places number name table table) read None
+made-none places number name table read is = made-same places number name table read None None is (record { means = refl; fits = λ size. tt; texts = tt })
+
+-- ---- values of several kinds
+
+module _ (fs : List Function) (sections : Sections) (h : UnitHeader) (s : UnitSource) (e : Placed) (name : ℕ) where
+  -- A text becomes what is read of it.
+  pub text-becomes : (v : values.AttributeValue) (texts : TextSource) (here : ℕ) → ((x : Bor (List ℕ)) × (v ≡ input.Text x)) ⊎ ((x : ℕ) × (y : ℕ) × (v ≡ input.TextRef x y)) → s.texts ≡ texts → e.entry.offset ≡ here → value_becomes (code_rules fs sections h) s e name (value_view v) ≡ text_drafted of_place (reported TextRead Info here (text_named texts (value_view v)))
+  unfolding value_becomes
+  text-becomes v texts here kind same at = go kind ∙ (ap (λ (t : TextSource). text_drafted of_place (reported TextRead Info e.entry.offset (text_named t (value_view v)))) same ∙ ap (λ (n : ℕ). text_drafted of_place (reported TextRead Info n (text_named texts (value_view v)))) at)
+    where
+      goal : values.AttributeValue → Type 0
+      goal v = value_becomes (code_rules fs sections h) s e name (value_view v) ≡ text_becomes (code_rules fs sections h) s e (value_view v)
+
+      go : ((x : Bor (List ℕ)) × (v ≡ input.Text x)) ⊎ ((x : ℕ) × (y : ℕ) × (v ≡ input.TextRef x y)) → goal v
+      go (inl p) = subst goal (sym p.1) refl
+      go (inr p) = subst goal (sym p.2) refl
+
+  -- A reference to a line table, and a value that is passed over, go.
+  pub gone-becomes : (v : values.AttributeValue) → ((x : ℕ) × (v ≡ input.LineRef x)) ⊎ (v ≡ input.Dropped) → value_becomes (code_rules fs sections h) s e name (value_view v) ≡ Ok None
+  unfolding value_becomes
+  gone-becomes v (inl p) = ap (λ v. value_becomes (code_rules fs sections h) s e name (value_view v)) p.1
+  gone-becomes v (inr p) = ap (λ v. value_becomes (code_rules fs sections h) s e name (value_view v)) p
+
+-- ---- attributes
+
+module _ (rules : CodeRules Refusal) (s : UnitSource) (e : Placed) (before : List (ℕ × Value)) (a : ℕ × Value) where
+  -- what an attribute becomes, by what its name is
+  abbrev by_name : Bool → Bool → Bool → Result (Option DraftValue) Refusal
+  by_name dropped table bound = elim dropped [ true ↦ Ok None | false ↦ elim table [ true ↦ Ok (table_becomes s e) | false ↦ elim bound [ true ↦ bound_becomes rules s e before a | false ↦ value_becomes rules s e a.0 a.1 ] ] ]
+
+  becomes-by_name : (dropped table bound : Bool) → is_dropped_name a.0 ≡ dropped → (a.0 == DW_AT_stmt_list) ≡ table → is_bound_name a.0 ≡ bound → attribute_becomes rules s e before a ≡ by_name dropped table bound
+  unfolding attribute_becomes
+  becomes-by_name dropped table bound d t b = ap (λ x. by_name x (a.0 == DW_AT_stmt_list) (is_bound_name a.0)) d ∙ (ap (λ x. by_name dropped x (is_bound_name a.0)) t ∙ ap (by_name dropped table) b)
+
+  pub attribute-dropped : is_dropped_name a.0 ≡ true → attribute_becomes rules s e before a ≡ Ok None
+  attribute-dropped d = becomes-by_name true (a.0 == DW_AT_stmt_list) (is_bound_name a.0) d refl refl
+
+  pub attribute-table : is_dropped_name a.0 ≡ false → (a.0 == DW_AT_stmt_list) ≡ true → attribute_becomes rules s e before a ≡ Ok (table_becomes s e)
+  attribute-table d t = becomes-by_name false true (is_bound_name a.0) d t refl
+
+  pub attribute-bound : is_dropped_name a.0 ≡ false → (a.0 == DW_AT_stmt_list) ≡ false → is_bound_name a.0 ≡ true → attribute_becomes rules s e before a ≡ bound_becomes rules s e before a
+  attribute-bound d t b = becomes-by_name false false true d t b
+
+  pub attribute-value : is_dropped_name a.0 ≡ false → (a.0 == DW_AT_stmt_list) ≡ false → is_bound_name a.0 ≡ false → attribute_becomes rules s e before a ≡ value_becomes rules s e a.0 a.1
+  attribute-value d t b = becomes-by_name false false false d t b

@@ -1,0 +1,53 @@
+use Rattle.std.proofs.Common.{◌≡◌, ◌≤◌, ◌+◌, refl, drop, get_or, map, sym, subst, ap, ◌∙◌}
+use Rattle.std.specs.Prelude.{OnOk}
+use Rattle.std.proofs.lemmas.List.{drop_all, length-map}
+use Rattle.std.proofs.lemmas.Result.{err_from_is_err_and}
+use Rattle.dwc_base.specs.declared.records.Address.TheVariants.{Constant}
+use Rattle.dwc_read.specs.declared.value.AttributeValue.TheVariants.{Addr}
+use Rattle.dwc_read.specs.ValuesSeen.{attribute_view}
+use Rattle.dwc_read.specs.EntriesSeen.{entry_view}
+use Rattle.dwc_read.proofs.ReadValueLaws.{attrs-read}
+use Rattle.dwc_clone.specs.ClonedEntries.{placed_entry, with_made}
+use Rattle.dwc_clone.proofs.EntryValues.{AreSetSoFar, attributes-drop, made-places, set-end, set-more, set-refused, set-start}
+use Rattle.dwc_clone.proofs.entry.set_attributes.Goals as goal
+
+pub loop-attribute-init : goal.loop-attribute-init
+loop-attribute-init c = record {
+  places = refl;
+  set = λ number s base e source last.
+      let p = placed_entry c.args.source.now (entry_view c.args.entry.now) in
+      subst (λ xs. AreSetSoFar c.args.source.now number s p c.args.strings.now c.args.strings.now base e c.args.unit.now xs) (sym c.attrs-attributes.ensures) (set-start c.args.source.now number s p c.args.strings.now c.args.id base e c.args.unit.now last);
+}
+
+pub output_attribute-requires-clause-read : goal.output_attribute-requires-clause-read
+output_attribute-requires-clause-read c = (attrs-read c.attrs-attributes.result.now (entry_view c.args.entry.now) c.requires.read c.attrs-attributes.ensures c.loop-attribute.attribute-index _ c.loop-attribute-test.true).1
+
+pub returns-in_err-value-clause-given : goal.returns-in_err-value-clause-given
+returns-in_err-value-clause-given c number s base e source last =
+    let p = placed_entry c.args.source.now (entry_view c.args.entry.now) in
+    let so = subst (λ xs. AreSetSoFar c.args.source.now number s p c.args.strings.now c.loop-attribute.strings base e c.loop-attribute.unit xs) (attributes-drop c.attrs-attributes.result.now c.loop-attribute.attribute-index _ c.loop-attribute-test.true) (c.loop-attribute.invariant.set number s base e source last) in
+    let q = err_from_is_err_and c.from_residual.result c.from_residual.ensures.1 in
+    rw (q.1, q.2) (set-refused c.args.source.now number s p c.args.strings.now c.loop-attribute.strings base e c.loop-attribute.unit _ _ _ so (c.in_err-value.ensures.made number s p so.before source refl refl))
+
+pub set_made-requires-clause-fits : goal.set_made-requires-clause-fits
+set_made-requires-clause-fits c = c.in_ok-value.ensures.fits c.loop-attribute.unit.address_size
+
+pub loop-attribute-preserved : goal.loop-attribute-preserved
+loop-attribute-preserved c =
+    let name = (get_or c.attrs-attributes.result.now c.loop-attribute.attribute-index (0, Addr (Constant 0))).0 in
+    let now = subst (λ r. OnOk r (c.set_made.new.unit ≡ with_made c.args.id.index name c.in_ok-value.value c.loop-attribute.unit)) c.in_ok-of_memory.ensures c.set_made.ensures in
+    record {
+      places = ap (λ u. u.places) now ∙ made-places c.args.id.index name c.in_ok-value.value c.loop-attribute.unit ∙ c.loop-attribute.invariant.places;
+      set = λ number s base e source last.
+          let p = placed_entry c.args.source.now (entry_view c.args.entry.now) in
+          let so = subst (λ xs. AreSetSoFar c.args.source.now number s p c.args.strings.now c.loop-attribute.strings base e c.loop-attribute.unit xs) (attributes-drop c.attrs-attributes.result.now c.loop-attribute.attribute-index _ c.loop-attribute-test.true) (c.loop-attribute.invariant.set number s base e source last) in
+          subst (λ u. AreSetSoFar c.args.source.now number s p c.args.strings.now c.output_attribute.new.strings base e u (drop (c.loop-attribute.attribute-index + 1) (map attribute_view c.attrs-attributes.result.now))) (sym now)
+          (set-more c.args.source.now number s p c.args.strings.now c.loop-attribute.strings c.output_attribute.new.strings c.args.id base e c.args.unit.now c.loop-attribute.unit _ _ c.in_ok-value.value last so (c.in_ok-value.ensures.made number s p so.before source refl refl));
+    }
+
+pub returns-clause-given : goal.returns-clause-given
+returns-clause-given c number s base e source last =
+    let p = placed_entry c.args.source.now (entry_view c.args.entry.now) in
+    let none = drop_all c.loop-attribute.attribute-index (map attribute_view c.attrs-attributes.result.now) (subst (λ n. n ≤ c.loop-attribute.attribute-index) (sym (length-map c.attrs-attributes.result.now attribute_view)) c.loop-attribute-test.false) in
+    set-end c.args.source.now number s p c.args.strings.now c.loop-attribute.strings base e c.loop-attribute.unit
+    (subst (λ xs. AreSetSoFar c.args.source.now number s p c.args.strings.now c.loop-attribute.strings base e c.loop-attribute.unit xs) none (c.loop-attribute.invariant.set number s base e source last))

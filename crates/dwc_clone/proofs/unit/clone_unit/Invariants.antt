@@ -1,0 +1,23 @@
+use Rattle.std.proofs.Common.{◌≡◌, ℕ, drop, length}
+use Rattle.std.specs.List.{All}
+use Rattle.dwc_base.specs.Entries.{entries as entries_of}
+use Rattle.dwc_base.specs.Clones.{UnitSource}
+use Rattle.dwc_base.specs.ReadValues.{IsReadEntry}
+use Rattle.dwc_clone.specs.Sources.{IsSource}
+use Rattle.dwc_clone.specs.ClonedUnits.{picked, AreClonable}
+use Rattle.dwc_clone.specs.ClonedEntries.{AreKnown}
+use Rattle.dwc_clone.proofs.UnitEntries.{AreClonedSoFar}
+use Rattle.dwc_clone.proofs.unit.clone_unit.Given as goal
+
+-- the kept entries that are cloned so far, and those that are picked of the entries to come, are all
+abbrev pub invariant-loop-next : goal.invariant-loop-next
+invariant-loop-next l = record {
+  known : AreKnown l.parents.items l.unit;
+  read : All IsReadEntry l.entries.left.items;
+  fault : l.entries.left.fault ≡ (entries_of l.source.unit.now.sections l.source.unit.now.header).fault;
+  cloned : (number : ℕ) (s : UnitSource) → IsSource l.source number s → AreClonable (picked l.kept (entries_of l.source.unit.now.sections l.source.unit.now.header).items)
+      → AreClonedSoFar l.source number s (picked l.kept (entries_of l.source.unit.now.sections l.source.unit.now.header).items) l.fn.strings l.strings l.fn.begun l.unit l.parents.items (picked (drop l.next l.kept) l.entries.left.items);
+}
+
+abbrev pub decreases-loop-next : goal.decreases-loop-next
+decreases-loop-next l = length l.entries.left.items

@@ -1,0 +1,78 @@
+-- The unit of the output that is made of the kept entries of a unit.
+use Rattle.std.specs.Prelude.{◌≡◌, ℕ, ◌<◌, ◌==◌, List, [], ◌∷◌, map, length, if◌then◌else◌, All, Option, Some, None, Result, Ok, Err}
+use Rattle.std.specs.List.{flat_map}
+use Rattle.dwc_base.specs.declared.constants.TheConstants.{DW_TAG_compile_unit}
+use Rattle.dwc_base.specs.Sections.{Fault}
+use Rattle.dwc_base.specs.Entries.{Entry}
+use Rattle.dwc_base.specs.ReadValues.{IsReadEntry}
+use Rattle.dwc_base.specs.Kept.{Placed}
+use Rattle.dwc_base.specs.Refusals.{Refusal, of_place, first_of}
+use Rattle.dwc_base.specs.Trees.{Tree}
+use Rattle.dwc_base.specs.Clones.{UnitSource, CodeRules, entry_refusals}
+use Rattle.dwc_base.specs.CarriedDrafts.{unit_drafts}
+use Rattle.dwc_base.specs.DraftForests.{settled_unit}
+use Rattle.dwc_base.specs.EntryRules.{code_rules}
+use Rattle.dwc_read.specs.declared.fault.ReadFault.{ReadFault}
+use Rattle.dwc_read.specs.Faults.{fault_seen}
+use Rattle.dwc_kept.specs.KeptUnits.{IsTree}
+use Rattle.dwc_write.specs.GivenUnits.{GivenUnit}
+use Rattle.dwc_write.specs.UsedTexts.{texts_of_attributes}
+use Rattle.dwc_write.specs.AddedInOrder.{IsInOrder, tree_meant}
+use Rattle.dwc_clone.specs.declared.source.CloneSource.{CloneSource}
+use Rattle.dwc_clone.specs.OutputPlaces.{goal_place}
+use Rattle.dwc_clone.specs.MadeValues.{Grows}
+
+-- the entries at some offsets, both in file order
+abbrev pub picked : List ℕ → List Entry → List Entry
+picked [] es = []
+picked (k ∷ ks) [] = []
+picked (k ∷ ks) (e ∷ es) = if e.offset == k then e ∷ picked ks es else picked (k ∷ ks) es
+
+-- entries of a unit with the offset of the unit
+abbrev pub placed_in : ℕ → List Entry → List Placed
+placed_in unit es = map (λ e. record { unit = unit; entry = e }) es
+
+abbrev pub depths_of : List Entry → List ℕ
+depths_of es = map (λ e. e.depth) es
+
+-- the rules for the code of the unit that is cloned
+abbrev pub clone_rules : CloneSource → CodeRules Refusal
+clone_rules c = code_rules c.transform.now c.unit.now.sections c.unit.now.header
+
+-- what is refused of some entries of the unit, in order
+abbrev pub clone_refusals : CloneSource → UnitSource → List Entry → List Refusal
+clone_refusals c s es = flat_map (entry_refusals (clone_rules c) s) (placed_in c.unit.now.header.offset es)
+
+-- what they are to say
+abbrev pub clone_wanted : CloneSource → UnitSource → List Entry → Tree
+clone_wanted c s es = settled_unit (goal_place c.places.now) (unit_drafts (clone_rules c) s c.big_endian (placed_in c.unit.now.header.offset es))
+
+-- Entries that can be cloned: they were read, they are a tree in file order, and the root is a compile unit.
+pub record AreClonable (es : List Entry) : Type 0 where
+  pub root : Entry
+  pub others : List Entry
+  pub are : es ≡ root ∷ others
+  pub tag : root.tag ≡ DW_TAG_compile_unit
+  pub tree : IsTree (depths_of es)
+  pub read : All IsReadEntry es
+
+-- A unit of the output, of a number, is made of some entries: nothing of them is refused; they were added in their order; they say what
+-- they are to say, with a table of texts that has grown; and the line program and the address size are those of the unit that was begun.
+pub record IsCloned (c : CloneSource) (number : ℕ) (s : UnitSource) (es : List Entry) (old new : List (List ℕ)) (begun u : GivenUnit) : Type 0 where
+  pub grows : Grows old new
+  pub accepted : clone_refusals c s es ≡ []
+  pub size : u.address_size ≡ begun.address_size
+  pub lines : u.lines ≡ begun.lines
+  pub order : IsInOrder (depths_of es) u
+  pub says : tree_meant new number (depths_of es) u.additions ≡ clone_wanted c s es
+  pub texts : All (λ e. All (λ n. n < length new) (texts_of_attributes e.attributes)) u.additions
+
+-- A refusal is for want of memory, or is the first of some.
+abbrev pub TellsFirst : List Refusal → Option Fault → Type 0
+TellsFirst refusals None = Prim.Unit {0}
+TellsFirst refusals (Some fault) = first_of refusals ≡ Some (of_place fault)
+
+-- That unit, or the first refusal.
+abbrev pub GivesCloned : CloneSource → ℕ → UnitSource → List Entry → List (List ℕ) → List (List ℕ) → GivenUnit → Result GivenUnit ReadFault → Type 0
+GivesCloned c number s es old new begun (Ok u) = IsCloned c number s es old new begun u
+GivesCloned c number s es old new begun (Err e) = TellsFirst (clone_refusals c s es) (fault_seen e)

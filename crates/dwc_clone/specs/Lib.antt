@@ -1,0 +1,5 @@
+pub mod OutputPlaces
+pub mod Sources
+pub mod MadeValues
+pub mod ClonedUnits
+pub mod ClonedEntries

@@ -1,0 +1,81 @@
+-- What is made of the values of attributes, and of attributes in order.
+use Rattle.std.specs.Prelude.{◌≡◌, ℕ, ◌<◌, List, ◌++◌, length, All, IfSome, Option, Some, None, option_map, option_and_then, Result, Ok, Err}
+use Rattle.dwc_base.specs.Sections.{Fault}
+use Rattle.dwc_base.specs.Refusals.{Refusal, of_place}
+use Rattle.dwc_base.specs.Trees.{TreeValue}
+use Rattle.dwc_base.specs.Drafts.{DraftValue}
+use Rattle.dwc_base.specs.DraftForests.{settled_value}
+use Rattle.dwc_base.specs.Values.{Value}
+use Rattle.dwc_kept.specs.ReadEntries.{named_offset}
+use Rattle.dwc_read.specs.declared.fault.ReadFault.{ReadFault}
+use Rattle.dwc_read.specs.Faults.{fault_seen}
+use Rattle.dwc_write.specs.declared.attributes.AttributeValue.{AttributeValue}
+use Rattle.dwc_write.specs.declared.attributes.AttributeValue.TheVariants.{UnitRef, DebugInfoRef}
+use Rattle.dwc_write.specs.declared.attributes.DebugInfoRef.TheVariants.{Entry}
+use Rattle.dwc_write.specs.GivenUnits.{FitsValue}
+use Rattle.dwc_write.specs.UsedTexts.{text_of_value}
+use Rattle.dwc_write.specs.AddedInOrder.{value_meant}
+use Rattle.dwc_clone.specs.declared.places.EmittedEntry.{EmittedEntry}
+use Rattle.dwc_clone.specs.declared.source.CloneSource.{CloneSource}
+use Rattle.dwc_clone.specs.OutputPlaces.{goal_place, place_of}
+
+-- ---- answers
+
+-- A refusal is for want of memory, or for what is refused of the input.
+abbrev pub RefusesSo : {A : Type 0} → Result A Refusal → Option Fault → Type 0
+RefusesSo read None = Unit {0}
+RefusesSo read (Some fault) = read ≡ Err (of_place fault)
+
+-- Something becomes what is answered; or what is refused of it is told.
+pub record IsMade {A X : Type 0} (has : A → X → Type 0) (read : Result A Refusal) (x : X) : Type 0 where
+  pub drafted : A
+  pub is : read ≡ Ok drafted
+  pub made : has drafted x
+
+abbrev pub GivesMade : {A X : Type 0} → (A → X → Type 0) → Result A Refusal → Result X ReadFault → Type 0
+GivesMade has read (Ok x) = IsMade has read x
+GivesMade has read (Err e) = RefusesSo read (fault_seen e)
+
+-- the fault that an answer tells; want of memory is none
+abbrev pub fault_told : {A : Type 0} → Result A ReadFault → Option Fault
+fault_told (Ok x) = None
+fault_told (Err e) = fault_seen e
+
+-- ---- values
+
+-- A table of texts has what it had, and may have more behind it.
+pub record Grows (old new : List (List ℕ)) : Type 0 where
+  pub more : List (List ℕ)
+  pub is : new ≡ old ++ more
+
+-- the texts that a value names are in a table
+abbrev pub HasTexts : List (List ℕ) → AttributeValue → Type 0
+HasTexts texts v = All (λ n. n < length texts) (text_of_value v)
+
+-- what a draft's value is to say, where the module's entries stand at some places
+abbrev pub wanted_value : List EmittedEntry → Option DraftValue → Option TreeValue
+wanted_value places draft = option_and_then (settled_value (goal_place places)) draft
+
+-- A value of the output, or none, says what a draft's value is to say, in the unit of a number, under a name.
+pub record Says (places : List EmittedEntry) (number name : ℕ) (table : List (List ℕ)) (draft : Option DraftValue) (v : Option AttributeValue) : Type 0 where
+  pub means : option_map (value_meant table number) v ≡ wanted_value places draft
+  pub fits : (size : ℕ) → IfSome v (FitsValue size name)
+  pub texts : IfSome v (HasTexts table)
+
+-- The same, with a table of texts that has grown.
+pub record SaysMore (places : List EmittedEntry) (number name : ℕ) (old new : List (List ℕ)) (draft : Option DraftValue) (v : Option AttributeValue) : Type 0 where
+  pub grows : Grows old new
+  pub says : Says places number name new draft v
+
+-- ---- references
+
+-- a reference to an entry at a place of the output: of its own unit, and of any unit
+abbrev pub own_reference : ℕ × ℕ → AttributeValue
+own_reference p = UnitRef (record { index = p.1 })
+
+abbrev pub any_reference : ℕ × ℕ → AttributeValue
+any_reference p = DebugInfoRef (Entry (record { index = p.0 }) (record { index = p.1 }))
+
+-- where the entry stands in the output that a value goes to
+abbrev pub target_place : CloneSource → Value → Option (ℕ × ℕ)
+target_place c v = option_and_then (place_of c.places.now) (named_offset c.unit.now.header.offset c.unit.now.header.end v)

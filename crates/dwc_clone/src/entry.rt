@@ -1,0 +1,179 @@
+//! Clones the kept entries of a unit, one after another.
+ghost use Rattle.std.specs.Prelude.{◌≡◌, ℕ, List, [], ◌∷◌, ◌++◌, take, Option, option_map, is_some, IfSome, IfOk, OnOk, IsSome, filter_map};
+ghost use Rattle.dwc_base.specs.Entries as Entries;
+ghost use Rattle.dwc_base.specs.Drafts.{Goal};
+ghost use Rattle.dwc_base.specs.DraftForests.{settled};
+ghost use Rattle.dwc_base.specs.Clones.{UnitSource, endianity};
+ghost use Rattle.dwc_base.specs.EntryRules.{function_begun, function_bounds};
+ghost use Rattle.dwc_base.specs.Kept.{Placed};
+ghost use Rattle.dwc_base.specs.ReadValues.{IsReadEntry};
+ghost use Rattle.dwc_addr.specs.Transforms.{function_view};
+ghost use Rattle.dwc_read.specs.EntriesSeen.{entry_view};
+ghost use Rattle.dwc_write.specs.GivenUnits.{Addition, GivenUnit, FitsValue, IsAdded, new_unit};
+ghost use Rattle.dwc_clone.specs.Sources.{IsSource};
+ghost use Rattle.dwc_clone.specs.ClonedEntries.{AddsBelow, AreKnown, AreMadeSoFar, CanFollow, GivesEntry, GivesSet, IsGiven, IsLast, OfMemory, last_parent, placed_entry, with_made};
+
+use crate::CloneSource;
+use crate::attribute::output_attribute;
+use dwc_addr::FunctionMap;
+use dwc_base::Address;
+use dwc_base::constants::{
+    DW_AT_endianity, DW_AT_high_pc, DW_AT_low_pc, DW_END_little, DW_FORM_data1, DW_FORM_udata,
+    DW_TAG_base_type,
+};
+use dwc_kept::function_begun;
+use dwc_read::{Entry, ReadFault};
+use dwc_write::{AttributeValue, StringTable, Unit, UnitEntryId, WriteError};
+use std::alloc::Global;
+use std::vec::Vec;
+
+// The depth of an entry below the root.
+fn depth_of(entry: &Entry<'_>) -> usize
+    ensures { result ≡ (entry_view entry.now).depth }
+{
+    entry.depth as usize
+}
+
+// Adds the next entry in file order, of a depth: below the last entry of the depth above it. `parents` are the last entry and those
+// that it stands below, by their depths.
+fn add_entry(
+    unit: &mut Unit,
+    parents: &mut Vec<UnitEntryId>,
+    depth: usize,
+    tag: u16,
+) -> Result<UnitEntryId, WriteError>
+    requires known { AreKnown parents.old.items unit.old }
+    ensures known { OnOk result (AreKnown parents.new.items unit.new) }
+    ensures added { IfOk result (λ id. IsAdded id.index unit.new) }
+    ensures parents { IfOk result (λ id. parents.new.items ≡ take depth parents.old.items ++ id ∷ []) }
+    ensures unit { IfOk result (λ id. AddsBelow (last_parent depth parents.old.items) tag unit.old unit.new id) }
+{
+    parents.truncate(depth);
+    let id = match parents.last() {
+        None => unit.root(),
+        Some(parent) => unit.add(*parent, tag)?,
+    };
+    parents.push(id)?;
+    Ok(id)
+}
+
+// A subprogram that begins in a function begins with it, and is as long. (DWARF 4, section 2.17.2.)
+fn set_bounds(
+    unit: &mut Unit,
+    id: UnitEntryId,
+    function: Option<&FunctionMap>,
+) -> Result<(), WriteError>
+    requires known { IsAdded id.index unit.old }
+    requires symbol { IfSome function (λ f. IsSome f.now.symbol) }
+    ensures places { OnOk result (unit.new.places ≡ unit.old.places) }
+    ensures given { (number : ℕ) (texts : List (List ℕ)) (places : Goal → Option (ℕ × ℕ)) (base : GivenUnit) (e : Addition) → IsLast texts id base e unit.old → OnOk result (IsGiven number texts texts (filter_map (settled places) (function_bounds (option_map (λ f. function_view f.now) function.entry))) base e unit.new) }
+{
+    let Some(function) = function else {
+        return Ok(());
+    };
+    let begin = Address::Symbol {
+        symbol: function.symbol.unwrap(),
+        addend: 0,
+    };
+    let length = AttributeValue::Constant {
+        form: DW_FORM_udata,
+        bits: function.len as u64,
+    };
+    unit.set(id, DW_AT_low_pc, AttributeValue::Address(begin))?;
+    unit.set(id, DW_AT_high_pc, length)
+}
+
+// On a target with the highest byte first a base type says that it has the byte order of wasm. (DWARF 4, section 5.1.)
+fn set_endianity(
+    unit: &mut Unit,
+    id: UnitEntryId,
+    big_endian: bool,
+    tag: u16,
+) -> Result<(), WriteError>
+    requires known { IsAdded id.index unit.old }
+    ensures given { (number : ℕ) (texts : List (List ℕ)) (places : Goal → Option (ℕ × ℕ)) (base : GivenUnit) (e : Addition) (p : Placed) → IsLast texts id base e unit.old → p.entry.tag ≡ tag → OnOk result (IsGiven number texts texts (filter_map (settled places) (endianity big_endian p)) base e unit.new) }
+    ensures places { OnOk result (unit.new.places ≡ unit.old.places) }
+{
+    if !big_endian || tag != DW_TAG_base_type {
+        return Ok(());
+    }
+    let little = AttributeValue::Constant {
+        form: DW_FORM_data1,
+        bits: u64::from(DW_END_little),
+    };
+    unit.set(id, DW_AT_endianity, little)
+}
+
+// Gives an entry what is made of a value, if something is.
+fn set_made(
+    unit: &mut Unit,
+    id: UnitEntryId,
+    name: u16,
+    value: Option<AttributeValue>,
+) -> Result<(), WriteError>
+    requires known { IsAdded id.index unit.old }
+    requires fits { IfSome value (FitsValue unit.old.address_size name) }
+    ensures { OnOk result (unit.new ≡ with_made id.index name value unit.old) }
+{
+    match value {
+        None => Ok(()),
+        Some(value) => unit.set(id, name, value),
+    }
+}
+
+// Gives an entry what the attributes of another become, in their order.
+fn set_attributes(
+    alloc: Global,
+    source: &CloneSource<'_, '_>,
+    begins: bool,
+    entry: &Entry<'_>,
+    unit: &mut Unit,
+    id: UnitEntryId,
+    strings: &mut StringTable,
+) -> Result<(), ReadFault>
+    requires begins { begins ≡ is_some (function_begun source.now.transform.now source.now.unit.now.sections source.now.unit.now.header (entry_view entry.now)) }
+    requires read { IsReadEntry (entry_view entry.now) }
+    requires known { IsAdded id.index unit.old }
+    ensures places { OnOk result (unit.new.places ≡ unit.old.places) }
+    ensures given { (number : ℕ) (s : UnitSource) (base : GivenUnit) (e : Addition) → IsSource source.now number s → IsLast strings.old id base e unit.old → GivesSet source.now number s (placed_entry source.now (entry_view entry.now)) strings.old strings.new base e unit.new result }
+{
+    let attributes = entry.attrs();
+    for attribute in attributes {
+        let value = output_attribute(alloc, source, begins, entry, attribute, strings)?;
+        of_memory(set_made(unit, id, attribute.0, value))?;
+    }
+    Ok(())
+}
+
+// What a call of the writer answers, which is refused for want of memory alone.
+fn of_memory<T: Drop>(written: Result<T, WriteError>) -> Result<T, ReadFault>
+    ensures { OfMemory written result }
+{
+    match written {
+        Ok(value) => Ok(value),
+        Err(_) => Err(ReadFault::OutOfMemory),
+    }
+}
+
+/// Adds the entry of the output that a kept entry becomes, the next one in file order.
+pub(crate) fn clone_entry(
+    alloc: Global,
+    source: &CloneSource<'_, '_>,
+    entry: &Entry<'_>,
+    parents: &mut Vec<UnitEntryId>,
+    unit: &mut Unit,
+    strings: &mut StringTable,
+) -> Result<(), ReadFault>
+    requires read { IsReadEntry (entry_view entry.now) }
+    requires known { AreKnown parents.old.items unit.old }
+    ensures known { OnOk result (AreKnown parents.new.items unit.new) }
+    ensures cloned { (number : ℕ) (s : UnitSource) (es others : List Entries.Entry) (old : List (List ℕ)) (begun : GivenUnit) → IsSource source.now number s → begun ≡ new_unit begun.address_size begun.lines → AreMadeSoFar source.now number s es old strings.old begun unit.old parents.old.items → CanFollow parents.old.items (entry_view entry.now ∷ others) → GivesEntry source.now number s es (entry_view entry.now) others old strings.new begun unit.new parents.new.items result }
+{
+    let depth = depth_of(entry);
+    let id = of_memory(add_entry(unit, parents, depth, entry.tag))?;
+    let function = function_begun(source.unit, entry, source.transform);
+    of_memory(set_bounds(unit, id, function))?;
+    let begins = function.is_some();
+    set_attributes(alloc, source, begins, entry, unit, id, strings)?;
+    of_memory(set_endianity(unit, id, source.big_endian, entry.tag))
+}

@@ -1,0 +1,18 @@
+//! Clones the kept entries of a unit into a unit of the output: what each attribute becomes, and the entries that references go to.
+#![tactic(auto)]
+
+mod attribute;
+mod entry;
+mod files;
+mod names;
+mod places;
+mod reference;
+mod source;
+mod text;
+mod unit;
+mod value;
+
+pub use files::UnitFiles;
+pub use places::{OutputPlace, Places};
+pub use source::CloneSource;
+pub use unit::clone_unit;

@@ -1,0 +1,44 @@
+//! Names of attributes that decide alone what becomes of a value.
+ghost use Rattle.std.specs.Prelude.{◌≡◌};
+ghost use Rattle.dwc_base.specs.Clones.{is_dropped_name, is_bound_name, is_file_name};
+
+use dwc_base::constants::{
+    DW_AT_GNU_locviews, DW_AT_addr_base, DW_AT_call_file, DW_AT_decl_file, DW_AT_dwo_name,
+    DW_AT_high_pc, DW_AT_loclists_base, DW_AT_low_pc, DW_AT_macro_info, DW_AT_macros, DW_AT_ranges,
+    DW_AT_rnglists_base, DW_AT_sibling, DW_AT_str_offsets_base,
+};
+
+/// Whether an attribute of a name goes: what speaks of a place in the input, or of sections that are not carried.
+pub(crate) fn is_dropped_name(name: u16) -> bool
+    ensures { result ≡ is_dropped_name name }
+{
+    match name {
+        DW_AT_sibling
+        | DW_AT_macro_info
+        | DW_AT_str_offsets_base
+        | DW_AT_addr_base
+        | DW_AT_rnglists_base
+        | DW_AT_loclists_base
+        | DW_AT_dwo_name
+        | DW_AT_macros
+        | DW_AT_GNU_locviews => true,
+        _ => false,
+    }
+}
+
+/// Whether an attribute of a name bounds its entry's code. (DWARF 4 and 5, section 2.17.)
+pub(crate) fn is_bound_name(name: u16) -> bool
+    ensures { result ≡ is_bound_name name }
+{
+    match name {
+        DW_AT_low_pc | DW_AT_high_pc | DW_AT_ranges => true,
+        _ => false,
+    }
+}
+
+/// Whether a constant of a name numbers a file. (DWARF 4 and 5, sections 2.14 and 3.3.8.)
+pub(crate) fn is_file_name(name: u16) -> bool
+    ensures { result ≡ is_file_name name }
+{
+    name == DW_AT_decl_file || name == DW_AT_call_file
+}

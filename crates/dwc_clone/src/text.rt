@@ -1,0 +1,29 @@
+//! The texts of entries.
+ghost use Rattle.std.specs.Prelude.{◌≡◌, ◌≢◌, Err, option_map};
+ghost use Rattle.dwc_base.specs.declared.section_name.SectionName.TheVariants.{Info};
+ghost use Rattle.dwc_base.specs.declared.faults.What.TheVariants.{Text};
+ghost use Rattle.dwc_base.specs.Cursors.{slice_bytes};
+ghost use Rattle.dwc_base.specs.Sections.{reported};
+ghost use Rattle.dwc_base.specs.Texts.{text_named};
+ghost use Rattle.dwc_base.specs.Indexed.{texts_of_unit};
+ghost use Rattle.dwc_read.specs.Faults.{GivesOrFault};
+ghost use Rattle.dwc_read.specs.ValuesSeen.{value_view};
+
+use dwc_read::{AttributeValue, ReadFault, Unit};
+
+/// The text that a value of the entry at an offset names; None for a value that is no text.
+///
+/// Answers `Read` with that offset where the text cannot be read.
+pub(crate) fn text_of<'d>(
+    unit: &Unit<'d>,
+    offset: u64,
+    value: AttributeValue<'d>,
+) -> Result<Option<&'d [u8]>, ReadFault>
+    ensures text { GivesOrFault (option_map slice_bytes) (reported Text Info offset (text_named (texts_of_unit unit.now.sections unit.now.header) (value_view value.entry))) result }
+    ensures memory { result ≢ Err ReadFault.OutOfMemory }
+{
+    match unit.name_of(&value) {
+        Ok(text) => Ok(text),
+        Err(fault) => Err(fault.at(offset)),
+    }
+}

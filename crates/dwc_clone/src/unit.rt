@@ -1,0 +1,46 @@
+//! Clones the kept entries of a unit.
+ghost use Rattle.std.specs.Prelude.{◌≡◌, ℕ, None, All};
+ghost use Rattle.dwc_base.specs.Entries.{entries as entries_of};
+ghost use Rattle.dwc_base.specs.Clones.{UnitSource};
+ghost use Rattle.dwc_base.specs.ReadValues.{IsReadEntry};
+ghost use Rattle.dwc_write.specs.GivenUnits.{new_unit};
+ghost use Rattle.dwc_clone.specs.Sources.{IsSource};
+ghost use Rattle.dwc_clone.specs.ClonedUnits.{picked, AreClonable, GivesCloned};
+
+use crate::CloneSource;
+use crate::entry::clone_entry;
+use dwc_read::ReadFault;
+use dwc_write::{StringTable, Unit};
+use std::alloc::Global;
+
+/// The unit of the output that is made of the kept entries of a unit: `begun`, which has a root alone, with one entry for each of those
+/// at `kept`, the offsets in `.debug_info` of the unit's kept entries in file order. The unit's entries are read once, up to the last
+/// kept one. Texts are added to `strings`.
+///
+/// # Errors
+/// What is refused first of the kept entries, in file order, attribute by attribute: `Read` with the entry's offset where a text, or an
+/// address by an index, cannot be read; `Unsupported` `NotBuilt` with it for what is not built yet. `OutOfMemory` for want of memory.
+pub fn clone_unit(
+    alloc: Global,
+    source: &CloneSource<'_, '_>,
+    kept: &[u32],
+    begun: Unit,
+    strings: &mut StringTable,
+) -> Result<Unit, ReadFault>
+    requires begun { begun ≡ new_unit begun.address_size begun.lines }
+    requires read { All IsReadEntry (entries_of source.now.unit.now.sections source.now.unit.now.header).items }
+    ensures { (number : ℕ) (s : UnitSource) → IsSource source.now number s → (entries_of source.now.unit.now.sections source.now.unit.now.header).fault ≡ None → AreClonable (picked kept.now (entries_of source.now.unit.now.sections source.now.unit.now.header).items) → GivesCloned source.now number s (picked kept.now (entries_of source.now.unit.now.sections source.now.unit.now.header).items) strings.old strings.new begun result }
+{
+    let mut unit = begun;
+    let mut parents = Vec::new(alloc);
+    let mut entries = source.unit.entries(alloc)?;
+    let mut next = 0;
+    while next < kept.len() && entries.advance()? {
+        let entry = entries.current();
+        if entry.offset == u64::from(kept[next]) {
+            clone_entry(alloc, source, entry, &mut parents, &mut unit, strings)?;
+            next += 1;
+        }
+    }
+    Ok(unit)
+}
