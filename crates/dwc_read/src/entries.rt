@@ -98,6 +98,13 @@ impl<'d> Entries<'d> {
         &self.entry
     }
 
+    /// The entry that was read last, given away.
+    pub fn into_current(self) -> Entry<'d>
+        ensures { entry_view result ≡ self.entry.current }
+    {
+        self.entry
+    }
+
     /// The declarations of the unit's abbreviation table, in their order. (DWARF 4 and 5, section 7.5.3.)
     pub fn declarations(&self) -> &[Declaration]
         ensures { map declaration_view result.now ≡ self.now.table }
