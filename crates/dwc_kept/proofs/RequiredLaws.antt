@@ -11,12 +11,12 @@ use Rattle.dwc_base.specs.EntryRules.{is_required}
 use Rattle.dwc_base.specs.Functions.{Function}
 use Rattle.dwc_base.specs.Carried.{Unit, placed_entries}
 use Rattle.dwc_base.specs.Kept.{Placed}
-use Rattle.dwc_base.specs.KeptEntries.{has_place}
+use Rattle.dwc_base.specs.KeptEntries.{has_place, kept_with}
 use Rattle.dwc_base.specs.KeptModules.{entries_passing}
 use Rattle.dwc_kept.specs.EntryGraphs.{Node, SayWhich, AreKeptOffsets, marked_of}
-use Rattle.dwc_kept.specs.ReadGraphs.{IsModuleGraph, offsets_kept_of}
+use Rattle.dwc_kept.specs.ReadGraphs.{IsModuleGraph, offsets_kept_of, AreLeastOffsets}
 use Rattle.dwc_base.proofs.InLists.{IsIn, in-at, contains-in, in-contains}
-use Rattle.dwc_kept.proofs.KeptLaws.{place-in, in-place}
+use Rattle.dwc_kept.proofs.KeptLaws.{place-in, in-place, are-least}
 use Rattle.dwc_kept.proofs.MarkLaws.{same-truth}
 use Rattle.dwc_kept.proofs.KeptOffsets.{offsets-are-kept}
 use Rattle.dwc_kept.proofs.KeptInUnits.{passing-in}
@@ -131,6 +131,16 @@ module _ (fs : List Function) (s : Sections) (us : List Unit) (ns : List Node) (
       (λ i d less. ap (λ bs. get_or bs i false) m.required_are
       ∙ say-which (placed_entries us) (flat_map (λ u. map (is_required fs s u.header) u.entries) us) m.apart i d less
       ∙ ap (λ ps. has_place ps (get_or (placed_entries us) i d).entry.offset) (passing-picked t us)) kept
+
+  -- The kept offsets are those of the least set.
+  pub least-offsets : (offsets : List ℕ) → offsets ≡ offsets_kept_of fs s us → AreLeastOffsets fs s us offsets
+  least-offsets offsets is =
+      let t : Unit → Entry → Bool = λ u. is_required fs s u.header in
+      record {
+        kept = kept_with (placed_entries us) (entries_passing t us);
+        offsets_are = is;
+        least = are-least (placed_entries us) (entries_passing t us) m.apart (λ e c. in-contains (placed_entries us) e (passing-in t us e (contains-in (entries_passing t us) e c)));
+      }
 
   marked-in : (xs : List ℕ) (marks : List Bool) (x : ℕ) → IsIn x (marked_of xs marks) → IsIn x xs
   marked-in [] marks x i = absurd i

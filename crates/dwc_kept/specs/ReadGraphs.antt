@@ -8,7 +8,7 @@ use Rattle.dwc_base.specs.Entries.{Entry, entries}
 use Rattle.dwc_base.specs.Functions.{Function}
 use Rattle.dwc_base.specs.Carried.{Unit, placed_entries, units_of_headers, units}
 use Rattle.dwc_base.specs.Kept.{Placed}
-use Rattle.dwc_base.specs.KeptEntries.{kept_with}
+use Rattle.dwc_base.specs.KeptEntries.{kept_with, AreLeast}
 use Rattle.dwc_base.specs.KeptModules.{entries_passing}
 use Rattle.dwc_base.specs.EntryRules.{is_required}
 use Rattle.dwc_kept.specs.EntryGraphs.{Node, IsGraphOf}
@@ -44,3 +44,9 @@ offsets_kept_of fs s us = map (λ e. e.entry.offset) (kept_with (placed_entries 
 
 abbrev pub kept_offsets : List Function → Sections → List ℕ
 kept_offsets fs s = offsets_kept_of fs s (units s).items
+
+-- Some offsets are those of the least closed set of entries of some units that holds the required ones.
+pub record AreLeastOffsets (fs : List Function) (s : Sections) (us : List Unit) (offsets : List ℕ) : Type 0 where
+  pub kept : List Placed
+  pub offsets_are : offsets ≡ map (λ e. e.entry.offset) kept
+  pub least : AreLeast (placed_entries us) (entries_passing (λ u. is_required fs s u.header) us) kept

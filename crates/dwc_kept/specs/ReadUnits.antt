@@ -12,7 +12,7 @@ use Rattle.dwc_base.specs.declared.constants.TheConstants.{DW_TAG_compile_unit}
 use Rattle.dwc_kept.specs.declared.read_unit.ReadUnit.{ReadUnit}
 use Rattle.dwc_kept.specs.declared.kept_units.KeptModule.{KeptModule}
 use Rattle.dwc_kept.specs.KeptUnits.{is_in_unit}
-use Rattle.dwc_kept.specs.ReadGraphs.{units_of, offsets_kept_of, kept_offsets}
+use Rattle.dwc_kept.specs.ReadGraphs.{units_of, offsets_kept_of, kept_offsets, AreLeastOffsets}
 
 -- the unit of a header, with its entries
 abbrev pub unit_read : Sections → UnitHeader → Unit
@@ -29,6 +29,7 @@ pub record IsReadUnit (s : Sections) (h : UnitHeader) (r : ReadUnit) : Type 0 wh
 pub record IsKeptAmong (fs : List Function) (s : Sections) (hs : Listing Fault UnitHeader) (m : KeptModule) : Type 0 where
   pub whole : (units_of_headers s hs.items hs.fault).fault ≡ None
   pub kept : m.kept ≡ offsets_kept_of fs s (units_of s hs)
+  pub least : AreLeastOffsets fs s (units_of s hs) m.kept
   pub units : AllZip (IsReadUnit s) hs.items m.units.items
   pub small : All (λ offset. offset < 2 ^ 32) m.kept
 

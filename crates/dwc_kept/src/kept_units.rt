@@ -1,10 +1,10 @@
 //! The units of a module, and the offsets of its entries that are kept.
-ghost use Rattle.std.specs.Prelude.{◌≡◌};
+ghost use Rattle.std.specs.Prelude.{◌≡◌, IfOk};
 ghost use Rattle.dwc_base.specs.EntryRules.{named_faults};
 ghost use Rattle.dwc_base.specs.ReachedEntries.{info_faults};
 ghost use Rattle.dwc_base.specs.Refusals.{first_of};
 ghost use Rattle.dwc_kept.specs.ReadEntries.{ReadsOrTells, headers_faults};
-ghost use Rattle.dwc_kept.specs.ReadGraphs.{offsets_kept_of, units_of};
+ghost use Rattle.dwc_kept.specs.ReadGraphs.{offsets_kept_of, units_of, AreLeastOffsets};
 ghost use Rattle.dwc_kept.specs.ReadUnits.{IsKeptAmong, IsKeptModule};
 
 use crate::kept::Kept;
@@ -65,7 +65,8 @@ pub fn build_dependencies(
     units: Units<'_>,
     transform: &AddressTransform,
 ) -> Result<Kept, ReadFault>
-    ensures { ReadsOrTells (λ kept. kept ≡ offsets_kept_of transform.now units.entry.sections (units_of units.entry.sections units.entry.headers)) (first_of (headers_faults (named_faults units.entry.sections) units.entry.sections units.entry.headers)) result }
+    ensures kept { ReadsOrTells (λ kept. kept ≡ offsets_kept_of transform.now units.entry.sections (units_of units.entry.sections units.entry.headers)) (first_of (headers_faults (named_faults units.entry.sections) units.entry.sections units.entry.headers)) result }
+    ensures least { IfOk result (λ kept. AreLeastOffsets transform.now units.entry.sections (units_of units.entry.sections units.entry.headers) kept) }
 {
     let read = keep(alloc, units, transform)?;
     Ok(read.kept)

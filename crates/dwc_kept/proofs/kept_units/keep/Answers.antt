@@ -3,7 +3,7 @@ use Rattle.dwc_base.specs.EntryRules.{named_faults}
 use Rattle.dwc_kept.specs.EntryGraphs.{AreKeptOffsets}
 use Rattle.dwc_kept.specs.ReadGraphs.{units_of}
 use Rattle.dwc_kept.proofs.ReadLaws.{headers-no-fault}
-use Rattle.dwc_kept.proofs.RequiredLaws.{as-many-required, module-kept, module-small}
+use Rattle.dwc_kept.proofs.RequiredLaws.{as-many-required, module-kept, module-small, least-offsets}
 use Rattle.dwc_kept.proofs.kept_units.keep.Goals as goal
 
 pub new-requires : goal.new-requires
@@ -18,11 +18,13 @@ returns c =
     let us = units_of s c.args.units.headers in
     let read = c.in_ok-read.read in
     let graph = c.in_ok-read.ensures.1.0 in
-    let kept = subst (λ (required : List Bool). AreKeptOffsets read.graph required c.in_ok-kept.kept) c.deref.ensures.value c.in_ok-kept.ensures in (
+    let kept = subst (λ (required : List Bool). AreKeptOffsets read.graph required c.in_ok-kept.kept) c.deref.ensures.value c.in_ok-kept.ensures in
+    let same = module-kept fs s us read.graph read.required.items graph c.in_ok-kept.kept kept in (
       c.in_ok-read.ensures.0,
       record {
         whole = headers-no-fault (named_faults s) s c.args.units.headers c.in_ok-read.ensures.0;
-        kept = module-kept fs s us read.graph read.required.items graph c.in_ok-kept.kept kept;
+        kept = same;
+        least = least-offsets fs s us read.graph read.required.items graph c.in_ok-kept.kept same;
         units = c.in_ok-read.ensures.1.1;
         small = module-small fs s us read.graph read.required.items graph c.in_ok-kept.kept kept;
       },
