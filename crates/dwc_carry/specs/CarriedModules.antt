@@ -1,12 +1,16 @@
 -- What is made of the modules of an input.
-use Rattle.std.specs.Prelude.{◌≡◌, ℕ, List, [], ◌∷◌, ◌++◌, map, None, Result, All}
+use Rattle.std.specs.Prelude.{◌≡◌, ℕ, List, [], ◌∷◌, ◌++◌, map, length, Bool, None, Result, All}
 use Rattle.std.specs.List.{flat_map}
 use Rattle.dwc_base.specs.declared.wasm.ModuleTranslation.{ModuleTranslation}
 use Rattle.dwc_base.specs.Translations.{translation_sections}
 use Rattle.dwc_base.specs.Functions.{Function}
-use Rattle.dwc_base.specs.Carried.{units, Module, CarriedUnit, carried_units_of}
-use Rattle.dwc_base.specs.Refusals.{module_refusals, first_of}
+use Rattle.dwc_base.specs.Carried.{units, Module}
+use Rattle.dwc_base.specs.Refusals.{first_of}
+use Rattle.dwc_base.specs.DraftForests.{trees_from}
+use Rattle.dwc_base.specs.Forests.{carried_units_of, module_refusals, module_drafts}
+use Rattle.dwc_write.specs.declared.units.Dwarf.{Dwarf}
 use Rattle.dwc_write.specs.GivenUnits.{GivenUnit}
+use Rattle.dwc_clone.specs.MadeValues.{Grows}
 use Rattle.dwc_carry.specs.declared.error.DebugError.{DebugError}
 use Rattle.dwc_carry.specs.Refusals.{ReadsOr}
 use Rattle.dwc_carry.specs.MadeUnits.{AreMadeOf}
@@ -21,27 +25,19 @@ transformed_modules [] fss = []
 transformed_modules (t ∷ ts) [] = []
 transformed_modules (t ∷ ts) (fs ∷ fss) = transformed_module t fs ∷ transformed_modules ts fss
 
--- the carried units of a module
-abbrev pub carried_in : Module → List CarriedUnit
-carried_in m = map (λ u. record { module_of = m; unit = u }) (carried_units_of m)
-
--- Units are added that are made of the carried units of a module, whose units are read to their end.
-pub record AddsModule (size : ℕ) (m : Module) (old new : List GivenUnit) : Type 0 where
+-- Units are added that are made of the carried units of modules, whose units are read to their ends, and that are to say the trees of
+-- these; the table of texts has grown.
+pub record AddsModules (size : ℕ) (big_endian : Bool) (ms : List Module) (old new : List GivenUnit) (before after : List (List ℕ)) : Type 0 where
   pub made : List GivenUnit
   pub added : new ≡ old ++ made
-  pub each : AreMadeOf size (carried_in m) made
-  pub whole : (units m.sections).fault ≡ None
-
--- They are added, or the first refusal is answered.
-abbrev pub GivesModule : ℕ → Module → List GivenUnit → List GivenUnit → Result (Unit {0}) DebugError → Type 0
-GivesModule size m old new result = ReadsOr (λ done. AddsModule size m old new) (first_of (module_refusals m)) result
-
--- The same of modules in order.
-pub record AddsModules (size : ℕ) (ms : List Module) (old new : List GivenUnit) : Type 0 where
-  pub made : List GivenUnit
-  pub added : new ≡ old ++ made
-  pub each : AreMadeOf size (flat_map carried_in ms) made
+  pub grows : Grows before after
+  pub each : AreMadeOf size after (length old) (flat_map carried_units_of ms) (trees_from (length old) (map (module_drafts big_endian) ms)) made
   pub whole : All (λ m. (units m.sections).fault ≡ None) ms
 
-abbrev pub GivesModules : ℕ → List Module → List GivenUnit → List GivenUnit → Result (Unit {0}) DebugError → Type 0
-GivesModules size ms old new result = ReadsOr (λ done. AddsModules size ms old new) (first_of (flat_map module_refusals ms)) result
+-- They are added, or the first refusal is answered.
+abbrev pub GivesModules : ℕ → Bool → List Module → Dwarf → Dwarf → Result (Unit {0}) DebugError → Type 0
+GivesModules size big_endian ms old new result = ReadsOr (λ done. AddsModules size big_endian ms old.units.units.items new.units.units.items old.strings new.strings) (first_of (flat_map module_refusals ms)) result
+
+-- the same of one module
+abbrev pub GivesModule : ℕ → Bool → Module → Dwarf → Dwarf → Result (Unit {0}) DebugError → Type 0
+GivesModule size big_endian m old new result = GivesModules size big_endian (m ∷ []) old new result

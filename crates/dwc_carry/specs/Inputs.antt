@@ -7,7 +7,7 @@ use Rattle.dwc_base.specs.declared.wasm.ModuleTranslation.{ModuleTranslation}
 use Rattle.dwc_base.specs.Translations.{translation_sections}
 use Rattle.dwc_base.specs.Functions.{functions_of}
 use Rattle.dwc_base.specs.Carried.{Module, Compilation}
-use Rattle.dwc_base.specs.Refusals.{first_refusal}
+use Rattle.dwc_base.specs.Forests.{first_refusal}
 use Rattle.dwc_clif.specs.AddressMaps.{address_map_view}
 use Rattle.dwc_addr.specs.Numbers.{Compiled}
 use Rattle.dwc_addr.specs.Compilations.{CompilationValue}

@@ -6,12 +6,12 @@ use Rattle.dwc_write.specs.declared.units.UnitId.{UnitId}
 use Rattle.dwc_write.specs.GivenUnits.{GivenUnit}
 use Rattle.dwc_carry.specs.UnitPrograms.{CarriesTableAt}
 use Rattle.dwc_carry.specs.declared.last_lines.LastLines.{LastLines}
-use Rattle.dwc_carry.specs.declared.read_units.ReadUnit.{ReadUnit}
+use Rattle.dwc_clone.specs.declared.files.UnitFiles.{UnitFiles}
 
 -- The line program of its unit among those of the output, all of one address size, carries the table at its offset.
 pub record IsCarriedIn (fs : List Function) (size : ℕ) (s : Sections) (us : List GivenUnit) (last : LastLines) : Type 0 where
   pub within : last.unit.index < length us
-  pub carries : (u : GivenUnit) → u ≡ slice_index_or us last.unit.index u → (u.address_size ≡ size) × CarriesTableAt fs s last.address_size last.base size last.offset u.lines
+  pub carries : (u : GivenUnit) → u ≡ slice_index_or us last.unit.index u → (u.address_size ≡ size) × CarriesTableAt fs s last.address_size last.base size last.offset last.files u.lines
 
 -- The same of the table that was carried last, where there is one.
 abbrev pub IsLast : List Function → ℕ → Sections → List GivenUnit → Option LastLines → Type 0
@@ -19,14 +19,6 @@ IsLast fs size s us None = Unit {0}
 IsLast fs size s us (Some last) = IsCarriedIn fs size s us last
 
 -- the table that was carried last, behind a unit of an address size and a base of texts by an index, which names a table or none
-abbrev pub last_after : Option ℕ → ℕ → ℕ → UnitId → Option LastLines → Option LastLines
-last_after None address_size base unit last = last
-last_after (Some offset) address_size base unit last = Some (record { offset = offset; address_size = address_size; base = base; unit = unit })
-
--- units that were read of the same sections
-abbrev pub AreOf : Sections → List ReadUnit → Type 0
-AreOf s rs = All (λ r. r.unit.sections ≡ s) rs
-
-pub record AreOfOne (rs : List ReadUnit) : Type 0 where
-  pub sections : Sections
-  pub each : AreOf sections rs
+abbrev pub last_after : Option ℕ → ℕ → ℕ → UnitFiles → UnitId → Option LastLines → Option LastLines
+last_after None address_size base files unit last = last
+last_after (Some offset) address_size base files unit last = Some (record { offset = offset; address_size = address_size; base = base; files = files; unit = unit })

@@ -3,12 +3,14 @@ use Rattle.std.specs.Prelude.{◌≡◌, ℕ, List, [], map, None, Result, Ok, V
 use Rattle.std.specs.Global.{Global}
 use Rattle.dwc_base.specs.declared.records.Endian.{Endian}
 use Rattle.dwc_base.specs.Functions.{Function}
-use Rattle.dwc_base.specs.Carried.{units, Module, Compilation, carried_units}
+use Rattle.dwc_base.specs.Carried.{units, Module, Compilation}
 use Rattle.dwc_addr.specs.declared.transform.AddressTransform.{AddressTransform}
 use Rattle.dwc_addr.specs.Compilations.{CompilationValue}
 use Rattle.dwc_addr.specs.Transforms.{kept_function}
 use Rattle.dwc_write.specs.declared.units.Dwarf.{Dwarf}
-use Rattle.dwc_base.specs.Forests.{forest}
+use Rattle.dwc_base.specs.Forests.{carried_units, trees_made, forest}
+use Rattle.dwc_base.specs.TreeLaws.{HasAllTargets}
+use Rattle.dwc_write.specs.UsedTexts.{HaveTexts}
 use Rattle.dwc_write.specs.GivenTrees.{given_trees}
 use Rattle.dwc_write.specs.GivenUnits.{GivenUnit, ordered}
 use Rattle.dwc_carry.specs.declared.error.DebugError.{DebugError}
@@ -24,13 +26,14 @@ all_kept ms = map (λ m. map kept_function m.functions) ms
 abbrev pub GivesTransforms : CompilationValue → Result (Vec AddressTransform Global) DebugError → Type 0
 GivesTransforms c result = GivesOr (λ (ts : Vec AddressTransform Global). ts.items ≡ all_kept (modules_from 0 c.translations c.functions)) (maps_refusal c) result
 
--- Units that are made of all carried units of an input, whose modules are read to their ends, and that say the trees of its forest
--- with a table of texts, which is empty.
-pub record IsTransformed (size : ℕ) (c : Compilation) (texts : List (List ℕ)) (us : List GivenUnit) : Type 0 where
-  pub made : AreMadeOf size (carried_units c) us
+-- Units that are made of all carried units of an input, whose modules are read to their ends, and that say the trees of its forest with
+-- a table of texts, which has all that they name.
+pub record IsTransformed (size : ℕ) (c : Compilation) (table : List (List ℕ)) (us : List GivenUnit) : Type 0 where
+  pub made : AreMadeOf size table 0 (carried_units c) (trees_made c) us
   pub whole : All (λ m. (units m.sections).fault ≡ None) c.modules
-  pub no_texts : texts ≡ []
-  pub trees : forest c ≡ Ok (given_trees texts (map ordered us))
+  pub texts : HaveTexts table (map ordered us)
+  pub trees : forest c ≡ Ok (given_trees table (map ordered us))
+  pub targets : HasAllTargets (given_trees table (map ordered us))
 
 -- The units and the texts that they name, or a refusal.
 abbrev pub GivesDwarf : Endian → ℕ → CompilationValue → Result Dwarf DebugError → Type 0

@@ -1,4 +1,4 @@
--- What the line program of a carried unit carries.
+-- What the line program of a carried unit carries, and which files its entries name.
 use Rattle.std.specs.Prelude.{◌≡◌, ℕ, List, true, Option, Some, None, Result, Ok}
 use Rattle.dwc_base.specs.Sections.{Sections}
 use Rattle.dwc_base.specs.Units.{UnitHeader}
@@ -8,27 +8,32 @@ use Rattle.dwc_base.specs.LineRows.{LineTable, line_table}
 use Rattle.dwc_base.specs.LineFiles.{has_all_files}
 use Rattle.dwc_base.specs.Refusals.{lines_refusal}
 use Rattle.dwc_write.specs.GivenLines.{GivenLines, no_lines}
-use Rattle.dwc_write.specs.GivenUnits.{GivenUnit, new_unit}
+use Rattle.dwc_write.specs.GivenUnits.{new_unit}
+use Rattle.dwc_image.specs.CarriedLines.{CarriesTable}
+use Rattle.dwc_clone.specs.declared.files.UnitFiles.{UnitFiles}
+use Rattle.dwc_clone.specs.Sources.{AreFiles}
+use Rattle.dwc_carry.specs.declared.begun_unit.BegunUnit.{BegunUnit}
 use Rattle.dwc_carry.specs.declared.error.DebugError.{DebugError}
 use Rattle.dwc_carry.specs.Refusals.{ReadsOr}
-use Rattle.dwc_image.specs.CarriedLines.{CarriesTable}
 
--- A line program carries the line table at an offset, read for a unit of an address size whose texts by an index begin at a base, all of whose files and directories are there.
-pub record CarriesTableAt (fs : List Function) (s : Sections) (address_size base size offset : ℕ) (lines : GivenLines) : Type 0 where
+-- A line program carries the line table at an offset, read for a unit of an address size whose texts by an index begin at a base, all of
+-- whose files and directories are there, and the files are its own.
+pub record CarriesTableAt (fs : List Function) (s : Sections) (address_size base size offset : ℕ) (files : UnitFiles) (lines : GivenLines) : Type 0 where
   pub table : LineTable
   pub is_read : line_table s address_size base offset ≡ Ok table
-  pub files : has_all_files table ≡ true
+  pub all_there : has_all_files table ≡ true
   pub carries : CarriesTable table fs size lines
+  pub files_are : AreFiles files table.header.version (Some table)
 
 -- A line program carries the line table that the root of a unit names; there is none where it names none.
-abbrev pub CarriesNamed : List Function → Sections → UnitHeader → ℕ → Option ℕ → GivenLines → Type 0
-CarriesNamed fs s h size None lines = lines ≡ no_lines None
-CarriesNamed fs s h size (Some offset) lines = CarriesTableAt fs s h.address_size (text_base s h) size offset lines
+abbrev pub CarriesNamed : List Function → Sections → UnitHeader → ℕ → Option ℕ → UnitFiles → GivenLines → Type 0
+CarriesNamed fs s h size None files lines = AreFiles files h.version None × (lines ≡ no_lines None)
+CarriesNamed fs s h size (Some offset) files lines = CarriesTableAt fs s h.address_size (text_base s h) size offset files lines
 
--- A new unit, with the line program that carries what a root names.
-abbrev pub IsBegun : List Function → Sections → UnitHeader → ℕ → Option ℕ → GivenUnit → Type 0
-IsBegun fs s h size offset u = CarriesNamed fs s h size offset u.lines × (u ≡ new_unit size u.lines)
+-- A new unit, with the line program that carries what a root names, and the files of that.
+abbrev pub IsBegun : List Function → Sections → UnitHeader → ℕ → Option ℕ → BegunUnit → Type 0
+IsBegun fs s h size offset b = CarriesNamed fs s h size offset b.files b.unit.lines × (b.unit ≡ new_unit size b.unit.lines)
 
 -- That unit, or the refusal of the line table.
-abbrev pub GivesBegun : List Function → Sections → UnitHeader → ℕ → Option ℕ → Result GivenUnit DebugError → Type 0
+abbrev pub GivesBegun : List Function → Sections → UnitHeader → ℕ → Option ℕ → Result BegunUnit DebugError → Type 0
 GivesBegun fs s h size offset result = ReadsOr (IsBegun fs s h size offset) (lines_refusal s h offset) result

@@ -8,42 +8,60 @@ use crate::DebugError;
 use crate::last_lines::LastLines;
 use dwc_addr::AddressTransform;
 use dwc_base::{Encoding, SectionName};
+use dwc_clone::UnitFiles;
 use dwc_image::carried_lines;
-use dwc_read::Unit;
+use dwc_kept::ReadUnit;
 use dwc_tabs::LineTable;
-use dwc_write::{LineProgram, UnitTable};
+use dwc_write::{LineProgram, Unit, UnitTable};
 use std::alloc::Global;
 
-/// A new unit of the output, whose line program carries the line table at an offset; it has no program where the unit's root
-/// names no table. `last` is the line table that was carried last, in a unit of `units`: where it is the same, that unit's program
-/// is shared.
+/// A new unit of the output, and the files that its entries name.
+#[derive(Drop)]
+pub(crate) struct BegunUnit {
+    pub unit: Unit,
+    pub files: UnitFiles,
+}
+
+/// A new unit of the output, whose line program carries the line table that the root of a unit names; it has no program where that
+/// names none. `last` is the line table that was carried last, in a unit of `units`: where it is the same, that unit's program is shared.
 pub(crate) fn begun_unit(
     alloc: Global,
-    unit: &Unit<'_>,
-    line_table: Option<u64>,
+    read: &ReadUnit<'_>,
     last: Option<LastLines>,
     units: &UnitTable,
     transform: &AddressTransform,
     encoding: Encoding,
-) -> Result<dwc_write::Unit, DebugError>
+) -> Result<BegunUnit, DebugError>
     requires version { encoding.version ≡ 4 }
     requires size { (encoding.address_size ≡ 4) ⊎ (encoding.address_size ≡ 8) }
     requires functions { AreKept transform.now }
-    requires known { IsLast transform.now encoding.address_size unit.now.sections units.now.units.items last }
-    ensures { GivesBegun transform.now unit.now.sections unit.now.header encoding.address_size line_table result }
+    requires known { IsLast transform.now encoding.address_size read.now.unit.sections units.now.units.items last }
+    ensures { GivesBegun transform.now read.now.unit.sections read.now.unit.header encoding.address_size read.now.line_table result }
 {
-    let Some(offset) = line_table else {
+    let Some(offset) = read.line_table else {
         let none = LineProgram::none(alloc);
-        return Ok(dwc_write::Unit::new(alloc, encoding, none)?);
+        let files = UnitFiles {
+            version: read.unit.encoding().version,
+            count: None,
+        };
+        let unit = Unit::new(alloc, encoding, none)?;
+        return Ok(BegunUnit { unit, files });
     };
     if let Some(known) = last
         && known.offset == offset
-        && known.address_size == unit.address_size()
-        && known.base == unit.index_base(SectionName::StrOffsets)
+        && known.address_size == read.unit.address_size()
+        && known.base == read.unit.index_base(SectionName::StrOffsets)
     {
-        return Ok(dwc_write::Unit::sharing(alloc, units.get(known.unit))?);
+        let unit = Unit::sharing(alloc, units.get(known.unit))?;
+        let files = known.files;
+        return Ok(BegunUnit { unit, files });
     }
-    let table = LineTable::read(alloc, unit, offset)?;
+    let table = LineTable::read(alloc, &read.unit, offset)?;
+    let files = UnitFiles {
+        version: table.version(),
+        count: Some(table.file_count()),
+    };
     let lines = carried_lines(alloc, &table, transform, encoding)?;
-    Ok(dwc_write::Unit::new(alloc, encoding, lines)?)
+    let unit = Unit::new(alloc, encoding, lines)?;
+    Ok(BegunUnit { unit, files })
 }

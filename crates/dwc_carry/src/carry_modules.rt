@@ -5,25 +5,28 @@ ghost use Rattle.dwc_carry.specs.CarriedModules.{transformed_module, transformed
 
 use crate::DebugError;
 use crate::carry_units::carry_units;
-use crate::read_units::read_units;
+use crate::module_places::module_places;
+use crate::output_form::OutputForm;
 use dwc_addr::AddressTransform;
-use dwc_base::{Encoding, Kind, ModuleTranslation};
+use dwc_base::{Kind, ModuleTranslation};
+use dwc_kept::kept_module;
 use dwc_read::Sections;
-use dwc_write::UnitTable;
+use dwc_write::Dwarf;
 use std::alloc::Global;
 
-// Adds the units of the output that carry those of a module.
+// Adds the units of the output that carry those of a module: its entries are read once to find those that are kept, and once more, unit
+// by unit, to be cloned.
 fn carry_module(
     alloc: Global,
     translation: &ModuleTranslation<'_>,
     transform: &AddressTransform,
-    encoding: Encoding,
-    units: &mut UnitTable,
+    form: OutputForm,
+    dwarf: &mut Dwarf,
 ) -> Result<(), DebugError>
-    requires version { encoding.version ≡ 4 }
-    requires size { (encoding.address_size ≡ 4) ⊎ (encoding.address_size ≡ 8) }
+    requires version { form.encoding.version ≡ 4 }
+    requires size { (form.encoding.address_size ≡ 4) ⊎ (form.encoding.address_size ≡ 8) }
     requires functions { AreKept transform.now }
-    ensures { GivesModule encoding.address_size (transformed_module translation.now transform.now) units.old.units.items units.new.units.items result }
+    ensures { GivesModule form.encoding.address_size form.big_endian (transformed_module translation.now transform.now) dwarf.old dwarf.new result }
 {
     if let Some(offset) = translation.compressed {
         return Err(DebugError::Unsupported {
@@ -31,8 +34,9 @@ fn carry_module(
             offset,
         });
     }
-    let read = read_units(alloc, Sections::of_module(translation), transform)?;
-    carry_units(alloc, &read, transform, encoding, units)
+    let module = kept_module(alloc, Sections::of_module(translation), transform)?;
+    let places = module_places(alloc, &module, dwarf.units.len())?;
+    carry_units(alloc, &module, &places, transform, form, dwarf)
 }
 
 /// Adds the units of the output that carry those of modules, in order, each module with its transform.
@@ -43,17 +47,17 @@ pub(crate) fn carry_modules(
     alloc: Global,
     translations: &[ModuleTranslation<'_>],
     transforms: &[AddressTransform],
-    encoding: Encoding,
-    units: &mut UnitTable,
+    form: OutputForm,
+    dwarf: &mut Dwarf,
 ) -> Result<(), DebugError>
-    requires version { encoding.version ≡ 4 }
-    requires size { (encoding.address_size ≡ 4) ⊎ (encoding.address_size ≡ 8) }
+    requires version { form.encoding.version ≡ 4 }
+    requires size { (form.encoding.address_size ≡ 4) ⊎ (form.encoding.address_size ≡ 8) }
     requires each { length transforms.now ≡ length translations.now }
     requires functions { All AreKept transforms.now }
-    ensures { GivesModules encoding.address_size (transformed_modules translations.now transforms.now) units.old.units.items units.new.units.items result }
+    ensures { GivesModules form.encoding.address_size form.big_endian (transformed_modules translations.now transforms.now) dwarf.old dwarf.new result }
 {
     for i in 0..translations.len() {
-        carry_module(alloc, &translations[i], &transforms[i], encoding, units)?;
+        carry_module(alloc, &translations[i], &transforms[i], form, dwarf)?;
     }
     Ok(())
 }

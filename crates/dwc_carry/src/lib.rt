@@ -2,19 +2,19 @@
 #![tactic(auto)]
 
 mod begun_unit;
-mod built_form;
 mod carry_modules;
 mod carry_units;
+mod dependencies;
+mod die_ref;
 mod emit;
 mod error;
-mod known_table;
 mod last_lines;
-mod output_unit;
-mod read_entries;
-mod read_units;
-mod subprogram;
+mod module_places;
+mod output_form;
 mod transform;
 
+pub use dependencies::build_dependencies;
+pub use die_ref::resolve_die_ref;
 pub use emit::emit_dwarf;
 pub use error::DebugError;
 pub use transform::transform_dwarf;

@@ -4,14 +4,15 @@ ghost use Rattle.dwc_carry.specs.Transformed.{GivesTransforms, GivesDwarf};
 
 use crate::DebugError;
 use crate::carry_modules::carry_modules;
+use crate::output_form::OutputForm;
 use dwc_addr::{AddressTransform, Compilation};
-use dwc_base::{Encoding, StaticModuleIndex};
+use dwc_base::{Encoding, Endian, StaticModuleIndex};
 use dwc_clif::TargetIsa;
 use dwc_write::{Dwarf, StringTable, UnitTable};
 use std::alloc::Global;
 
 /// The units of DWARF that carry those of a compilation, for a target: module by module and in order, one for each compile unit
-/// of which an entry is kept. They name no text, so the table of texts is empty. The compilation is left as it is.
+/// of which an entry is kept, with an entry for each kept one. The compilation is left as it is.
 ///
 /// # Errors
 /// `BadAddressMap` exactly where a function's address map breaks a rule: the first module, its first such function, and the
@@ -26,15 +27,28 @@ pub fn transform_dwarf(
     ensures unchanged { compilation.new ≡ compilation.old }
 {
     let transforms = transforms(alloc, compilation)?;
-    let encoding = Encoding {
-        version: 4,
-        address_size: isa.pointer_bytes(),
+    let form = output_form(isa);
+    let mut dwarf = Dwarf {
+        units: UnitTable::new(alloc),
+        strings: StringTable::new(alloc),
     };
-    let mut units = UnitTable::new(alloc);
     let translations = compilation.translations();
-    carry_modules(alloc, translations, &transforms, encoding, &mut units)?;
-    let strings = StringTable::new(alloc);
-    Ok(Dwarf { units, strings })
+    carry_modules(alloc, translations, &transforms, form, &mut dwarf)?;
+    Ok(dwarf)
+}
+
+// The form of the output for a target: units of version 4 with addresses of the target's size.
+fn output_form(isa: &dyn TargetIsa) -> OutputForm {
+    OutputForm {
+        encoding: Encoding {
+            version: 4,
+            address_size: isa.pointer_bytes(),
+        },
+        big_endian: match isa.endianness() {
+            Endian::Little => false,
+            Endian::Big => true,
+        },
+    }
 }
 
 // The transforms of the modules of a compilation, in order.

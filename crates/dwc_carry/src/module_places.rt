@@ -1,0 +1,41 @@
+//! Where the entries of a module stand in the output.
+ghost use Rattle.std.specs.Prelude.{◌≡◌, IfOk};
+ghost use Rattle.dwc_carry.specs.ModulePlaces.{carried_offsets, emitted, numbered_lists};
+
+use dwc_clone::Places;
+use dwc_kept::{KeptModule, ReadUnit};
+use std::alloc::{AllocError, Global};
+
+/// The offsets of the kept entries of a unit of a module, in file order, if the unit is carried: its root is a compile unit, and an entry
+/// of it is kept. None otherwise.
+pub(crate) fn carried_entries<'m>(
+    read_module: &'m KeptModule<'_>,
+    read: &ReadUnit<'_>,
+) -> &'m [u32]
+    ensures { result.now ≡ carried_offsets read_module.now.kept read.now }
+{
+    if !read.is_compile_unit {
+        return &[];
+    }
+    read_module.kept.between(read.unit.offset(), read.unit.end())
+}
+
+/// Where the kept entries of the carried units of a module stand in the output, of which the first such unit has a number there.
+pub(crate) fn module_places(
+    alloc: Global,
+    read_module: &KeptModule<'_>,
+    first: usize,
+) -> Result<Places, AllocError>
+    ensures { IfOk result (λ places. places ≡ numbered_lists first (emitted read_module.now.kept read_module.now.units.items)) }
+{
+    let mut places = Places::new(alloc);
+    let mut number = first;
+    for i in 0..read_module.units.len() {
+        let kept = carried_entries(read_module, &read_module.units[i]);
+        if kept.len() > 0 {
+            places.add_unit(number, kept)?;
+            number += 1;
+        }
+    }
+    Ok(places)
+}
