@@ -1,5 +1,5 @@
 -- What is emitted of a compilation, from what is transformed and what is written.
-use Rattle.std.proofs.Common.{◌≡◌, ℕ, List, map, arith, None, Ok, Err, Vec, All, ◌≤◌, sym, subst}
+use Rattle.std.proofs.Common.{◌≡◌, ℕ, List, map, arith, None, Ok, Err, Vec, All, ◌≤◌, subst}
 use Rattle.std.specs.Global.{Global}
 use Rattle.dwc_base.specs.declared.records.Endian.{Endian}
 use Rattle.dwc_base.specs.declared.output.DwarfSection.{DwarfSection}
@@ -7,13 +7,15 @@ use Rattle.dwc_base.specs.declared.section_name.SectionName.{SectionName}
 use Rattle.dwc_base.specs.declared.section_name.SectionName.TheVariants.{Abbrev, Addr, Info, Line, LineStr, Loc, Loclists, Ranges, Rnglists, Str, StrOffsets, CuIndex, Frame}
 use Rattle.dwc_base.specs.Outputs.{output_sections, section_view}
 use Rattle.dwc_base.specs.TreeReading.{CarriesTrees}
-use Rattle.dwc_base.specs.Forests.{tree_of_unit}
+use Rattle.dwc_base.specs.Forests.{carried_units, trees_made}
+use Rattle.dwc_base.specs.TreeLaws.{HasTextsOnce}
+use Rattle.dwc_base.proofs.ForestTargets.{made-targets}
 use Rattle.dwc_base.specs.OutputCarried.{widest}
 use Rattle.dwc_base.specs.OutputForm.{HaveTargetForm, HasDistinctNames}
 use Rattle.dwc_base.specs.Fields.{AreRelocated}
 use Rattle.dwc_base.specs.WidestTrees.{widest_of_trees}
 use Rattle.dwc_write.specs.GivenTrees.{given_trees}
-use Rattle.dwc_base.specs.Carried.{units, carried_units}
+use Rattle.dwc_base.specs.Carried.{units}
 use Rattle.dwc_addr.specs.Compilations.{CompilationValue}
 use Rattle.dwc_write.specs.declared.error.WriteError.{WriteError}
 use Rattle.dwc_write.specs.declared.error.WriteError.TheVariants as write
@@ -28,7 +30,7 @@ use Rattle.dwc_carry.specs.Refusals.{Told, refused, limit, memory, told, IsCause
 use Rattle.dwc_carry.specs.Inputs.{input_of, refusal_of}
 use Rattle.dwc_carry.specs.Transformed.{IsTransformed}
 use Rattle.dwc_carry.specs.Emits.{IsTooLong, Emits}
-use Rattle.dwc_carry.proofs.CompositionLaws.{lines-carried, made-sizes, made-texts, made-trees, widest-given, made-writable}
+use Rattle.dwc_carry.proofs.CompositionLaws.{lines-carried, made-sizes, made-trees, widest-given, made-writable}
 
 module _ (order : Endian) (size : ℕ) (c : CompilationValue) where
   -- the input is refused
@@ -43,25 +45,27 @@ module _ (order : Endian) (size : ℕ) (c : CompilationValue) where
   module _ (texts : List (List ℕ)) (us : List GivenUnit) (accepted : refusal_of order size c ≡ None) (t : IsTransformed size (input_of order size c) texts us) where
     -- the units can be written
     pub transformed-writable : AreWritable (map ordered us)
-    transformed-writable = made-writable size (carried_units (input_of order size c)) us t.made
+    transformed-writable = made-writable size texts 0 (carried_units (input_of order size c)) (trees_made (input_of order size c)) us t.made
 
     -- and all that they name is in the table of texts
     pub transformed-texts : HaveTexts texts (map ordered us)
-    transformed-texts = made-texts texts size (carried_units (input_of order size c)) us t.made
+    transformed-texts = t.texts
 
     -- what is written is emitted
-    pub emits-sections : (s : Vec DwarfSection Global) → ReadsBack order (map ordered us) (map section_view s.items) → CarriesTrees order (given_trees texts (map ordered us)) (map section_view s.items)
+    pub emits-sections : (s : Vec DwarfSection Global) → ReadsBack order (map ordered us) (map section_view s.items) → CarriesTrees order (given_trees texts (map ordered us)) (map section_view s.items) → HasTextsOnce (output_sections order (map section_view s.items))
         → ((n : ℕ) → All (λ u. u.address_size ≡ n) us → HaveTargetForm n (units (output_sections order (map section_view s.items))).items)
         → HasDistinctNames (map section_view s.items) → AreRelocated order (map section_view s.items) → All (IsSound order) (map section_view s.items) → Emits order size c (Ok s)
-    emits-sections s back says form names relocated sound = (
+    emits-sections s back says once form names relocated sound = (
       accepted,
       record {
         output = record {
-          lines = lines-carried size (input_of order size c) us (map section_view s.items) back t.made t.whole;
+          lines = lines-carried size texts (input_of order size c) (trees_made (input_of order size c)) us (map section_view s.items) back t.made t.whole;
           wanted = given_trees texts (map ordered us);
           is_forest = t.trees;
           trees = says;
-          form = form size (made-sizes size (carried_units (input_of order size c)) us t.made);
+          targets = t.targets;
+          texts = once;
+          form = form size (made-sizes size texts 0 (carried_units (input_of order size c)) (trees_made (input_of order size c)) us t.made);
           names = names;
           relocated = relocated;
         };
@@ -73,11 +77,13 @@ module _ (order : Endian) (size : ℕ) (c : CompilationValue) where
     said-widest : (name : SectionName) → widest_said name texts (map ordered us) ≤ widest name (input_of order size c)
     said-widest = go
       where
-        same : (name : SectionName) → widest_of_trees name (given_trees texts (map ordered us)) ≤ widest_of_trees name (map tree_of_unit (carried_units (input_of order size c)))
-        same name = subst (λ ts. widest_of_trees name (given_trees texts (map ordered us)) ≤ widest_of_trees name ts) (sym (made-trees texts size (carried_units (input_of order size c)) us t.made)) (omega arith)
+        same : (name : SectionName) → widest_of_trees name (given_trees texts (map ordered us)) ≤ widest_of_trees name (trees_made (input_of order size c))
+        same name =
+            let input = input_of order size c in
+            subst (λ ts. widest_of_trees name (given_trees texts (map ordered us)) ≤ widest_of_trees name ts) (made-trees size texts (carried_units input) (trees_made input) us t.made (made-targets input)) (omega arith)
 
         go : (name : SectionName) → widest_said name texts (map ordered us) ≤ widest name (input_of order size c)
-        go Line = widest-given size (input_of order size c) us t.made
+        go Line = widest-given size texts 0 (input_of order size c) (trees_made (input_of order size c)) us t.made
         go Abbrev = same Abbrev
         go Addr = same Addr
         go Info = same Info

@@ -2,7 +2,9 @@ pub mod CompositionLaws
 pub mod EmitLaws
 pub mod KeptModules
 pub mod LastLaws
+pub mod MadeLaws
 pub mod ModuleLoopLaws
 pub mod ResolvedLaws
+pub mod RefusalLaws
 pub mod TransferLaws
 pub mod TransformLaws

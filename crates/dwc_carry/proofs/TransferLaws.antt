@@ -1,23 +1,26 @@
--- What is kept of functions is enough for images, for carried segments and for required entries.
+-- What is kept of functions is enough for images, for carried segments, for required entries and for the rules for code.
 use Rattle.std.proofs.Common.{◌≡◌, List, [], ◌∷◌, map, refl, ap, sym, ◌∙◌, ◌+◌, length, Bool, true, false, Option, Some, None, Result, Ok, Err}
-use Rattle.std.specs.Prelude.{ℕ, sum_by, option_map, is_some, if◌then◌else◌, ◌==◌, ◌++◌}
-use Rattle.std.specs.List.{filter, filter_map, list_any, AllZip}
+use Rattle.std.specs.Prelude.{ℕ, sum_by, option_map, is_some, is_none, not, ◌&&◌, if◌then◌else◌, ◌==◌}
+use Rattle.std.specs.List.{filter, list_any, AllZip}
 use Rattle.dwc_base.specs.declared.records.Address.{Address}
 use Rattle.dwc_base.specs.declared.records.Address.TheVariants.{Constant, Symbol}
 use Rattle.dwc_base.specs.Functions.{Function, recorded_sources, function_at, owner, with_symbol, is_unlinked}
 use Rattle.std.proofs.Common.{subst, pos}
 use Rattle.std.specs.Option.{option_or, unwrap_or}
-use Rattle.dwc_base.specs.Sections.{Fault}
+use Rattle.dwc_base.specs.Sections.{Sections, Fault}
 use Rattle.dwc_base.specs.LineRows.{LineTable, Segment, segments}
 use Rattle.dwc_base.specs.Widest.{widest_header, widest_image, most_rows, widest_table}
 use Rattle.dwc_base.specs.Images.{IsImage, IsImageOf, is_carried_segment, function_of_segment, start_of_segment, row_of_source, row_of_last, row_of_first}
+use Rattle.dwc_base.specs.declared.faults.Flaw.{Flaw}
+use Rattle.dwc_base.specs.Units.{UnitHeader}
 use Rattle.dwc_base.specs.Entries.{Entry, attribute}
-use Rattle.dwc_base.specs.Values.{Value, address}
-use Rattle.dwc_base.specs.Kept.{is_translatable, is_required}
-use Rattle.dwc_base.specs.declared.constants.TheConstants.{DW_AT_high_pc, DW_AT_low_pc, DW_FORM_udata, DW_TAG_subprogram}
+use Rattle.dwc_base.specs.Values.{Value}
+use Rattle.dwc_base.specs.Indexed.{address_named}
+use Rattle.dwc_base.specs.Refusals.{of_place}
+use Rattle.dwc_base.specs.declared.constants.TheConstants.{DW_AT_high_pc, DW_AT_low_pc, DW_AT_ranges, DW_FORM_udata, DW_TAG_subprogram}
 use Rattle.dwc_base.specs.Trees as trees
-use Rattle.dwc_base.specs.Trees.{set_in_order}
-use Rattle.dwc_base.specs.Forests.{function_of_value, function_begun, function_bounds, attribute_becomes, if_made, entry_made}
+use Rattle.dwc_base.specs.Drafts.{done}
+use Rattle.dwc_base.specs.EntryRules.{function_of_address, function_of_value, function_begun, is_required, not_built, indexed_fault, function_bounds, is_expression, bound_fault, code_rules}
 use Rattle.dwc_addr.specs.Transforms.{kept_function}
 use Rattle.dwc_addr.proofs.KeptLaws.{recorded_sources-kept, function_at-kept}
 
@@ -91,14 +94,6 @@ module _ (fs : List Function) where
   some-kept None = refl
   some-kept (Some f) = refl
 
-  translatable-kept : (o : Option Value) → is_translatable (map kept_function fs) o ≡ is_translatable fs o
-  translatable-kept (Some (address (Constant a))) = ap (λ o. is_some o) (function_at-kept fs a) ∙ some-kept (function_at fs a)
-  translatable-kept _ = refl
-
-  -- and the same entries are required
-  pub required-kept : (e : Entry) → is_required (map kept_function fs) e ≡ is_required fs e
-  required-kept e = rw (translatable-kept (attribute DW_AT_low_pc e)) refl
-
   -- a function that an address is in has a symbol
   at-symbol : (a : ℕ) (f : Function) → function_at fs a ≡ Some f → is_some f.symbol ≡ true
   at-symbol a f h = go (is_unlinked a) (owner fs a) h
@@ -119,25 +114,71 @@ module _ (fs : List Function) where
   number-kept f None h = absurd (cc)
   number-kept f (Some s) h = refl
 
-  -- the bounds of an entry are those of the function that it begins in
-  bounds-kept : (o : Option Value) → function_bounds (function_of_value (map kept_function fs) o) ≡ function_bounds (function_of_value fs o)
-  bounds-kept (Some (address (Constant a))) = ap function_bounds (function_at-kept fs a) ∙ go (function_at fs a) refl
-    where
-      go : (o : Option Function) → function_at fs a ≡ o → function_bounds (option_map kept_function o) ≡ function_bounds o
-      go None is = refl
-      go (Some f) is = ap (λ n. (DW_AT_low_pc, trees.address (Symbol n (pos 0))) ∷ (DW_AT_high_pc, trees.constant DW_FORM_udata f.length) ∷ []) (number-kept f f.symbol (at-symbol a f is))
-  bounds-kept _ = refl
+  -- so a function that an entry begins in is kept
+  address-kept : (read : Result (Option Address) Flaw) → function_of_address (map kept_function fs) read ≡ option_map kept_function (function_of_address fs read)
+  address-kept (Ok (Some (Constant a))) = function_at-kept fs a
+  address-kept (Ok (Some (Symbol n a))) = refl
+  address-kept (Ok None) = refl
+  address-kept (Err flaw) = refl
 
-  begun-kept : (e : Entry) → function_bounds (function_begun (map kept_function fs) e) ≡ function_bounds (function_begun fs e)
-  begun-kept e = go (e.tag == DW_TAG_subprogram)
-    where
-      go : (b : Bool) → function_bounds (elim b [ true ↦ function_of_value (map kept_function fs) (attribute DW_AT_low_pc e) | false ↦ None ]) ≡ function_bounds (elim b [ true ↦ function_of_value fs (attribute DW_AT_low_pc e) | false ↦ None ])
-      go true = bounds-kept (attribute DW_AT_low_pc e)
-      go false = refl
+  address-symbol : (read : Result (Option Address) Flaw) (f : Function) → function_of_address fs read ≡ Some f → is_some f.symbol ≡ true
+  address-symbol (Ok (Some (Constant a))) f e = at-symbol a f e
+  address-symbol (Ok (Some (Symbol n a))) f e = absurd (cc)
+  address-symbol (Ok None) f e = absurd (cc)
+  address-symbol (Err flaw) f e = absurd (cc)
 
-  -- so the same is made of an entry
-  pub entry_made-kept : (has_table : Bool) (e : Entry) → entry_made (map kept_function fs) has_table e ≡ entry_made fs has_table e
-  entry_made-kept has_table e = λ i. record { depth = e.depth; tag = e.tag; attributes = set_in_order (begun-kept e i ++ filter_map (λ a. if_made a.0 (attribute_becomes has_table e a)) e.attributes) }
+  module _ (s : Sections) (h : UnitHeader) where
+    value-kept : (o : Option Value) → function_of_value s h (map kept_function fs) o ≡ option_map kept_function (function_of_value s h fs o)
+    value-kept None = refl
+    value-kept (Some v) = address-kept (address_named s h v)
+
+    value-symbol : (o : Option Value) (f : Function) → function_of_value s h fs o ≡ Some f → is_some f.symbol ≡ true
+    value-symbol None f e = absurd (cc)
+    value-symbol (Some v) f e = address-symbol (address_named s h v) f e
+
+    begun-kept : (e : Entry) → function_begun (map kept_function fs) s h e ≡ option_map kept_function (function_begun fs s h e)
+    unfolding function_begun
+    begun-kept e = go (e.tag == DW_TAG_subprogram)
+      where
+        go : (b : Bool) → (elim b [ true ↦ function_of_value s h (map kept_function fs) (attribute DW_AT_low_pc e) | false ↦ None ]) ≡ option_map kept_function (elim b [ true ↦ function_of_value s h fs (attribute DW_AT_low_pc e) | false ↦ None ])
+        go true = value-kept (attribute DW_AT_low_pc e)
+        go false = refl
+
+    begun-symbol : (e : Entry) (f : Function) → function_begun fs s h e ≡ Some f → is_some f.symbol ≡ true
+    unfolding function_begun
+    begun-symbol e f = go (e.tag == DW_TAG_subprogram)
+      where
+        go : (b : Bool) → ◌≡◌ {A = Option Function} (elim b [ true ↦ function_of_value s h fs (attribute DW_AT_low_pc e) | false ↦ None ]) (Some f) → is_some f.symbol ≡ true
+        go true is = value-symbol (attribute DW_AT_low_pc e) f is
+        go false is = absurd (cc)
+
+    begins-kept : (e : Entry) → is_some (function_begun (map kept_function fs) s h e) ≡ is_some (function_begun fs s h e)
+    begins-kept e = ap (λ o. is_some o) (begun-kept e) ∙ some-kept (function_begun fs s h e)
+
+    -- the same entries are required
+    pub required-kept : (e : Entry) → is_required (map kept_function fs) s h e ≡ is_required fs s h e
+    required-kept e = ap (λ b. is_none (attribute DW_AT_ranges e) && b) (begins-kept e)
+
+    -- the bounds of an entry are those of the function that it begins in
+    bounds-of : (o : Option Function) → ((f : Function) → o ≡ Some f → is_some f.symbol ≡ true) → function_bounds (option_map kept_function o) ≡ function_bounds o
+    bounds-of None known = refl
+    bounds-of (Some f) known = ap (λ n. (DW_AT_low_pc, done (trees.address (Symbol n (pos 0)))) ∷ (DW_AT_high_pc, done (trees.constant DW_FORM_udata f.length)) ∷ []) (number-kept f f.symbol (known f refl))
+
+    bounds-kept : (e : Entry) → function_bounds (function_begun (map kept_function fs) s h e) ≡ function_bounds (function_begun fs s h e)
+    bounds-kept e = ap function_bounds (begun-kept e) ∙ bounds-of (function_begun fs s h e) (λ f is. begun-symbol e f is)
+
+    fault-kept : (e : Entry) (v : Value) → bound_fault (map kept_function fs) s h e v ≡ bound_fault fs s h e v
+    fault-kept e v = ap (λ b. elim (b && not (is_expression v)) [ true ↦ indexed_fault s h e v | false ↦ Some (not_built e) ]) (begins-kept e)
+
+    -- so the rules for code are the same
+    pub rules-kept : code_rules (map kept_function fs) s h ≡ code_rules fs s h
+    rules-kept = λ i. record {
+      of_fault = of_place;
+      bounds = λ e. bounds-kept e.entry i;
+      refused_bound = λ e before a. option_map of_place (fault-kept e.entry a.1 i);
+      other = λ e a. Err (of_place (not_built e.entry));
+      behind = λ e. [];
+    }
 
   -- An image of a segment in what is kept of a function is one in the function.
   image-kept : (q : Segment) (start : ℕ) (f : Function) (image : Segment) → is_some f.symbol ≡ true → IsImage q start (kept_function f) image → IsImage q start f image

@@ -10,9 +10,13 @@ use Rattle.dwc_base.specs.declared.records.Endian.{Endian}
 use Rattle.dwc_base.specs.declared.records.MapFault.{MapFault}
 use Rattle.dwc_base.specs.declared.wasm.ModuleTranslation.{ModuleTranslation}
 use Rattle.dwc_base.specs.Functions.{Function, functions_of}
-use Rattle.dwc_base.specs.Carried.{Module, Compilation, carried_units}
-use Rattle.dwc_base.specs.Forests.{tree_of_unit, forest}
-use Rattle.dwc_base.specs.Refusals.{Refusal, module_refusals, first_of, first_refusal}
+use Rattle.dwc_base.specs.Carried.{Module, Compilation, units}
+use Rattle.dwc_base.specs.DraftForests.{ModuleDrafts, trees_from}
+use Rattle.dwc_base.specs.Forests.{carried_units, carried_units_of, first_refusal, forest, is_big, module_drafts, module_refusals, trees_made}
+use Rattle.dwc_base.specs.Refusals.{Refusal, first_of}
+use Rattle.dwc_base.specs.Trees.{Tree}
+use Rattle.dwc_base.specs.TreeLaws.{HasAllTargets}
+use Rattle.dwc_base.proofs.ForestTargets.{made-targets}
 use Rattle.dwc_clif.specs.AddressMaps.{address_map_view}
 use Rattle.dwc_addr.specs.declared.error.AddrError.{AddrError}
 use Rattle.dwc_addr.specs.declared.error.AddrError.TheVariants as addr
@@ -24,12 +28,12 @@ use Rattle.dwc_carry.specs.declared.error.DebugError.{DebugError}
 use Rattle.dwc_image.specs.CarriedLines.{AreKept}
 use Rattle.dwc_carry.specs.Refusals.{InputRefusal, bad_address_map, in_reading, of_maps, Refuses}
 use Rattle.dwc_carry.specs.MadeUnits.{AreMadeOf}
-use Rattle.dwc_carry.specs.CarriedModules.{transformed_modules, carried_in, AddsModules}
+use Rattle.dwc_carry.specs.CarriedModules.{transformed_modules, AddsModules}
 use Rattle.dwc_carry.specs.Inputs.{module_view, modules_from, input_of, bad_map_from, bad_map, maps_refusal}
 use Rattle.dwc_carry.specs.Transformed.{all_kept, IsTransformed}
-use Rattle.dwc_carry.proofs.CarriedReadLaws.{unmapped, refuses-more}
-use Rattle.dwc_carry.proofs.CompositionLaws.{made-trees}
-use Rattle.dwc_carry.proofs.KeptModules.{kept_module, all-refusals, all-made, all-whole}
+use Rattle.dwc_carry.proofs.RefusalLaws.{unmapped, refuses-more}
+use Rattle.dwc_carry.proofs.CompositionLaws.{made-texts, made-trees, trees-of-modules}
+use Rattle.dwc_carry.proofs.KeptModules.{kept_module, all-drafts, all-refusals, all-made, all-whole}
 
 -- the refusal of a bad map
 abbrev map_refusal : Option (ℕ × (ℕ × MapFault)) → Option InputRefusal
@@ -143,8 +147,20 @@ transformed-kept number (t ∷ ts) [] = refl
 transformed-kept number (t ∷ ts) (fs ∷ fss) = ap (λ ms. kept_module (module_view number t fs) ∷ ms) (transformed-kept (number + length fs) ts fss)
 
 -- the forest of an input of which nothing is refused
-forest-is : (c : Compilation) → first_refusal c ≡ None → forest c ≡ Ok (map tree_of_unit (carried_units c))
-forest-is c none = rw (none, forest) refl
+forest-is : (c : Compilation) → first_refusal c ≡ None → forest c ≡ Ok (trees_made c)
+forest-is c none = ap (λ (o : Option Refusal). elim o [ Some refusal ↦ Err refusal | None ↦ Ok (trees_made c) ]) none
+
+-- Units that are made of its carried units are what it is transformed to.
+transformed-of : (size : ℕ) (c : Compilation) (texts : List (List ℕ)) (us : List GivenUnit) → first_refusal c ≡ None → AreMadeOf size texts 0 (carried_units c) (trees_made c) us → All (λ m. (units m.sections).fault ≡ None) c.modules → IsTransformed size c texts us
+transformed-of size c texts us none made whole =
+    let same = made-trees size texts (carried_units c) (trees_made c) us made (made-targets c) in
+    record {
+      made = made;
+      whole = whole;
+      texts = made-texts size texts 0 (carried_units c) (trees_made c) us made;
+      trees = forest-is c none ∙ ap (λ (ts : List Tree). Ok ts) (sym same);
+      targets = subst HasAllTargets (sym same) (made-targets c);
+    }
 
 module _ (c : CompilationValue) where
   -- what is refused of the modules, in order
@@ -171,18 +187,19 @@ module _ (c : CompilationValue) where
   maps-refused e h = refuses-more (maps_refusal c) input_refusal e (λ r is. ap (λ o. option_or o (refusals_in (modules_from 0 c.translations c.functions))) is) h
 
   -- the input is accepted, and the units that are added are those of it
-  pub input-transformed : (order : Endian) (size : ℕ) (texts : List (List ℕ)) (us : List GivenUnit) → texts ≡ [] → maps_refusal c ≡ None → (refusals_in transformed ≡ None) × AddsModules size transformed [] us
+  pub input-transformed : (order : Endian) (size : ℕ) (before texts : List (List ℕ)) (us : List GivenUnit) → maps_refusal c ≡ None → (refusals_in transformed ≡ None) × AddsModules size (is_big order) transformed [] us before texts
       → (input_refusal ≡ None) × IsTransformed size (input_of order size c) texts us
-  input-transformed order size texts us empty good (none, h) =
+  input-transformed order size before texts us good (none, h) =
       let ms = modules_from 0 c.translations c.functions in
-      let k : AddsModules size (map kept_module ms) [] us = subst (λ xs. AddsModules size xs [] us) (transformed-kept 0 c.translations c.functions) h in
+      let k : AddsModules size (is_big order) (map kept_module ms) [] us before texts = subst (λ xs. AddsModules size (is_big order) xs [] us before texts) (transformed-kept 0 c.translations c.functions) h in
       let accepted : input_refusal ≡ None = sym (input-refusals good) ∙ none in
-      let made : AreMadeOf size (flat_map carried_in ms) us = subst (AreMadeOf size (flat_map carried_in ms)) (sym k.added) (all-made size ms k.made k.each) in (
+      let trees : trees_from 0 (map (module_drafts (is_big order)) (map kept_module ms)) ≡ trees_made (input_of order size c) =
+      ap (λ (ds : List ModuleDrafts). trees_from 0 ds) (all-drafts (is_big order) ms) ∙ sym (trees-of-modules (input_of order size c)) in
+      let made : AreMadeOf size texts 0 (flat_map carried_units_of ms) (trees_made (input_of order size c)) us =
+      subst (AreMadeOf size texts 0 (flat_map carried_units_of ms) (trees_made (input_of order size c))) (sym k.added)
+      (subst (λ ts. AreMadeOf size texts 0 (flat_map carried_units_of ms) ts k.made) trees
+      (all-made size texts ms 0 (trees_from 0 (map (module_drafts (is_big order)) (map kept_module ms))) k.made k.each)) in (
         accepted,
-        record {
-          made = made;
-          whole = all-whole ms k.whole;
-          no_texts = empty;
-          trees = forest-is (input_of order size c) (unmapped in_reading (first_refusal (input_of order size c)) (neither (maps_refusal c) (refusals_in ms) accepted).1) ∙ ap Ok (made-trees texts size (flat_map carried_in ms) us made);
-        },
+        transformed-of size (input_of order size c) texts us
+            (unmapped in_reading (first_refusal (input_of order size c)) (neither (maps_refusal c) (refusals_in ms) accepted).1) made (all-whole ms k.whole),
       )

@@ -1,5 +1,6 @@
 //! The DWARF of a compilation, before it is written.
-ghost use Rattle.std.specs.Prelude.{◌≡◌};
+ghost use Rattle.std.specs.Prelude.{◌≡◌, ◌⊎◌};
+ghost use Rattle.dwc_base.specs.Forests.{is_big};
 ghost use Rattle.dwc_carry.specs.Transformed.{GivesTransforms, GivesDwarf};
 
 use crate::DebugError;
@@ -38,7 +39,12 @@ pub fn transform_dwarf(
 }
 
 // The form of the output for a target: units of version 4 with addresses of the target's size.
-fn output_form(isa: &dyn TargetIsa) -> OutputForm {
+fn output_form(isa: &dyn TargetIsa) -> OutputForm
+    ensures version { result.encoding.version ≡ 4 }
+    ensures address_size { result.encoding.address_size ≡ pointer_size isa.now }
+    ensures size { (result.encoding.address_size ≡ 4) ⊎ (result.encoding.address_size ≡ 8) }
+    ensures order { result.big_endian ≡ is_big (byte_order isa.now) }
+{
     OutputForm {
         encoding: Encoding {
             version: 4,

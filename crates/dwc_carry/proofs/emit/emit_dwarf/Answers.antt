@@ -16,5 +16,6 @@ returns-in_err-write_sections-clause-sections g c =
 pub returns-clause-sections : goal.returns-clause-sections
 returns-clause-sections g c =
     emits-sections _ _ c.args.compilation.now c.in_ok-dwarf.dwarf.strings c.in_ok-dwarf.dwarf.units.units.items c.in_ok-dwarf.ensures.units.0 c.in_ok-dwarf.ensures.units.1 c.in_ok-write_sections.field-0
-    (rw c.endianness.ensures at c.in_ok-write_sections.ensures.read) (rw c.endianness.ensures at c.in_ok-write_sections.ensures.trees) (rw c.endianness.ensures at c.in_ok-write_sections.ensures.form)
+    (rw c.endianness.ensures at c.in_ok-write_sections.ensures.read) (rw c.endianness.ensures at c.in_ok-write_sections.ensures.trees) (rw c.endianness.ensures at c.in_ok-write_sections.ensures.texts_once)
+    (rw c.endianness.ensures at c.in_ok-write_sections.ensures.form)
     c.in_ok-write_sections.ensures.names (rw c.endianness.ensures at c.in_ok-write_sections.ensures.relocated) (rw c.endianness.ensures at c.in_ok-write_sections.ensures.sound)

@@ -25,5 +25,5 @@ returns-in_err-transforms-clause-units g c =
 
 pub returns-clause-units : goal.returns-clause-units
 returns-clause-units g c =
-    input-transformed c.args.compilation.now _ _ _ c.carry_modules.new.units.units.items c.new-strings.ensures c.in_ok-transforms.ensures.0
-    (rw (c.deref.ensures.value, c.in_ok-transforms.ensures.1, c.translations-translations.ensures.translations, c.new-units.ensures, c.pointer_bytes.ensures.0) at c.in_ok-carry_modules.ensures)
+    input-transformed c.args.compilation.now _ _ _ c.carry_modules.new.dwarf.strings c.carry_modules.new.dwarf.units.units.items c.in_ok-transforms.ensures.0
+    (rw (c.deref.ensures.value, c.in_ok-transforms.ensures.1, c.translations-translations.ensures.translations, c.new.ensures, c.output_form-form.ensures.address_size, c.output_form-form.ensures.order) at c.in_ok-carry_modules.ensures)

@@ -1,0 +1,119 @@
+-- Units that are made of carried units: with more texts, and others behind them.
+use Rattle.std.proofs.Common.{◌≡◌, ℕ, suc, ◌+◌, ◌<◌, arith, refl, ap, sym, ◌∙◌, subst, List, [], ◌∷◌, ◌++◌, length, All}
+use Rattle.std.specs.List.{flat_map, AllZip}
+use Rattle.std.proofs.lemmas.List.{append-nil, append_assoc, length-append}
+use Rattle.std.proofs.lemmas.List.Elements.{All-nil, All-cons, All-head, All-tail}
+use Rattle.dwc_base.specs.Carried.{CarriedUnit}
+use Rattle.dwc_base.specs.Trees.{Tree}
+use Rattle.dwc_write.specs.GivenUnits.{Addition, GivenUnit}
+use Rattle.dwc_write.specs.UsedTexts.{texts_of_attributes}
+use Rattle.dwc_write.specs.AddedInOrder.{IsInOrder, trees_meant}
+use Rattle.dwc_write.proofs.AddedInOrderValues.{tree-meant-more}
+use Rattle.dwc_clone.specs.MadeValues.{Grows}
+use Rattle.dwc_carry.specs.MadeUnits.{IsMadeOf, AreMadeOf}
+
+-- ---- tables of texts that grow
+
+pub grows-same : (texts : List (List ℕ)) → Grows texts texts
+grows-same texts = record { more = []; is = sym (append-nil texts) }
+
+pub grows-twice : (a b c : List (List ℕ)) → Grows a b → Grows b c → Grows a c
+grows-twice a b c h k = record { more = h.more ++ k.more; is = k.is ∙ ap (λ ts. ts ++ k.more) h.is ∙ append_assoc a h.more k.more }
+
+-- ---- numbers of texts
+
+pub all-both : {A : Type 0} (P : A → Type 0) (xs ys : List A) → All P xs → All P ys → All P (xs ++ ys)
+all-both P [] ys h k = k
+all-both P (x ∷ xs) ys h k = All-cons P x (xs ++ ys) (All-head P x xs h) (all-both P xs ys (All-tail P x xs h) k)
+
+-- what all of each list have, all of the lists behind one another have
+pub all-flat : {A B : Type 0} (P : B → Type 0) (f : A → List B) (xs : List A) → All (λ x. All P (f x)) xs → All P (flat_map f xs)
+all-flat P f [] h = All-nil P
+all-flat {A} P f (x ∷ xs) h =
+    let Q : A → Type 0 = λ y. All P (f y) in
+    all-both P (f x) (flat_map f xs) (All-head Q x xs h) (all-flat P f xs (All-tail Q x xs h))
+
+pub all-more : {A : Type 0} (P Q : A → Type 0) → ((x : A) → P x → Q x) → (xs : List A) → All P xs → All Q xs
+all-more P Q more [] h = All-nil Q
+all-more P Q more (x ∷ xs) h = All-cons Q x xs (more x (All-head P x xs h)) (all-more P Q more xs (All-tail P x xs h))
+
+-- ---- one unit
+
+abbrev pub texts_of_entry : Addition → List ℕ
+texts_of_entry e = texts_of_attributes e.attributes
+
+-- what names texts of a table names texts of a larger one
+texts-more : (texts more : List (List ℕ)) (es : List Addition) → All (λ e. All (λ n. n < length texts) (texts_of_attributes e.attributes)) es → All (λ e. All (λ n. n < length (texts ++ more)) (texts_of_attributes e.attributes)) es
+texts-more texts more es h =
+    let P : ℕ → Type 0 = λ n. n < length texts in
+    let Q : ℕ → Type 0 = λ n. n < length (texts ++ more) in
+    all-more (λ (e : Addition). All P (texts_of_entry e)) (λ (e : Addition). All Q (texts_of_entry e))
+    (λ e has. all-more P Q (λ n less. omega (arith, less, length-append texts more)) (texts_of_entry e) has) es h
+
+made-with : (size : ℕ) (texts more : List (List ℕ)) (number : ℕ) (c : CarriedUnit) (t : Tree) (u : GivenUnit) → IsMadeOf size texts number c t u → IsMadeOf size (texts ++ more) number c t u
+made-with size texts more number c t u h = record {
+  input = h.input;
+  input_read = h.input_read;
+  images = h.images;
+  depths = h.depths;
+  order = h.order;
+  says = tree-meant-more texts more number h.depths u.additions (all-flat (λ n. n < length texts) texts_of_entry u.additions h.texts) ∙ h.says;
+  texts = texts-more texts more u.additions h.texts;
+  writable = h.writable;
+  widest = h.widest;
+}
+
+-- ---- units in order
+
+made-more-with : (size : ℕ) (texts more : List (List ℕ)) (number : ℕ) (cs : List CarriedUnit) (ts : List Tree) (us : List GivenUnit) → AreMadeOf size texts number cs ts us → AreMadeOf size (texts ++ more) number cs ts us
+made-more-with size texts more number [] [] [] h = h
+made-more-with size texts more number [] [] (u ∷ us) h = absurd h
+made-more-with size texts more number [] (t ∷ ts) us h = absurd h
+made-more-with size texts more number (c ∷ cs) [] us h = absurd h
+made-more-with size texts more number (c ∷ cs) (t ∷ ts) [] h = absurd h
+made-more-with size texts more number (c ∷ cs) (t ∷ ts) (u ∷ us) h = (made-with size texts more number c t u h.0, made-more-with size texts more (suc number) cs ts us h.1)
+
+-- Units say the same with more texts.
+pub made-grown : (size : ℕ) (old new : List (List ℕ)) (number : ℕ) (cs : List CarriedUnit) (ts : List Tree) (us : List GivenUnit) → Grows old new → AreMadeOf size old number cs ts us → AreMadeOf size new number cs ts us
+made-grown size old new number cs ts us grows h = subst (λ texts. AreMadeOf size texts number cs ts us) (sym grows.is) (made-more-with size old grows.more number cs ts us h)
+
+-- There is one for each tree.
+pub made-length : (size : ℕ) (texts : List (List ℕ)) (number : ℕ) (cs : List CarriedUnit) (ts : List Tree) (us : List GivenUnit) → AreMadeOf size texts number cs ts us → length ts ≡ length us
+made-length size texts number [] [] [] h = refl
+made-length size texts number [] [] (u ∷ us) h = absurd h
+made-length size texts number [] (t ∷ ts) us h = absurd h
+made-length size texts number (c ∷ cs) [] us h = absurd h
+made-length size texts number (c ∷ cs) (t ∷ ts) [] h = absurd h
+made-length size texts number (c ∷ cs) (t ∷ ts) (u ∷ us) h = ap suc (made-length size texts (suc number) cs ts us h.1)
+
+-- others behind them
+pub made-both : (size : ℕ) (texts : List (List ℕ)) (number next : ℕ) (cs ds : List CarriedUnit) (ts ws : List Tree) (us vs : List GivenUnit) → next ≡ number + length us
+    → AreMadeOf size texts number cs ts us → AreMadeOf size texts next ds ws vs → AreMadeOf size texts number (cs ++ ds) (ts ++ ws) (us ++ vs)
+made-both size texts number next [] ds [] ws [] vs is h k =
+    let same : next ≡ number = omega (arith, is) in
+    subst (λ n. AreMadeOf size texts n ds ws vs) same k
+made-both size texts number next [] ds [] ws (u ∷ us) vs is h k = absurd h
+made-both size texts number next [] ds (t ∷ ts) ws us vs is h k = absurd h
+made-both size texts number next (c ∷ cs) ds [] ws us vs is h k = absurd h
+made-both size texts number next (c ∷ cs) ds (t ∷ ts) ws [] vs is h k = absurd h
+made-both size texts number next (c ∷ cs) ds (t ∷ ts) ws (u ∷ us) vs is h k = (h.0, made-both size texts (suc number) next cs ds ts ws us vs (omega (arith, is)) h.1 k)
+
+-- Their entries are in file order, and say the trees.
+pub record SayInOrder (texts : List (List ℕ)) (number : ℕ) (ts : List Tree) (us : List GivenUnit) : Type 0 where
+  pub depths : List (List ℕ)
+  pub orders : AllZip IsInOrder depths us
+  pub says : trees_meant texts number depths us ≡ ts
+
+pub made-in-order : (size : ℕ) (texts : List (List ℕ)) (number : ℕ) (cs : List CarriedUnit) (ts : List Tree) (us : List GivenUnit) → AreMadeOf size texts number cs ts us → SayInOrder texts number ts us
+made-in-order size texts number [] [] [] h = record { depths = []; orders = tt; says = refl }
+made-in-order size texts number [] [] (u ∷ us) h = absurd h
+made-in-order size texts number [] (t ∷ ts) us h = absurd h
+made-in-order size texts number (c ∷ cs) [] us h = absurd h
+made-in-order size texts number (c ∷ cs) (t ∷ ts) [] h = absurd h
+made-in-order size texts number (c ∷ cs) (t ∷ ts) (u ∷ us) h =
+    let rest = made-in-order size texts (suc number) cs ts us h.1 in
+    record {
+      depths = h.0.depths ∷ rest.depths;
+      orders = (h.0.order, rest.orders);
+      says = ap (λ x. x ∷ trees_meant texts (suc number) rest.depths us) h.0.says ∙ ap (λ xs. t ∷ xs) rest.says;
+    }
