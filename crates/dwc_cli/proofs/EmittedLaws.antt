@@ -16,7 +16,8 @@ use Rattle.dwc_base.specs.Functions.{AddressMap, map_fault, functions_of}
 use Rattle.dwc_base.specs.Wasm.{WasmModule, module_sections}
 use Rattle.dwc_base.specs.Translations.{translation_sections, IsTranslation}
 use Rattle.dwc_base.specs.Carried.{Module, Compilation}
-use Rattle.dwc_base.specs.Refusals.{Refusal, first_refusal}
+use Rattle.dwc_base.specs.Refusals.{Refusal}
+use Rattle.dwc_base.specs.Forests.{first_refusal}
 use Rattle.dwc_base.specs.OutputCarried.{OutputCarried, widest}
 use Rattle.dwc_write.specs.Writers.{IsSound}
 use Rattle.dwc_base.proofs.Translated.{translation_sections-is}

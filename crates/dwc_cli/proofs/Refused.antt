@@ -10,7 +10,8 @@ use Rattle.dwc_base.specs.declared.section_name.SectionName.{SectionName}
 use Rattle.dwc_base.specs.declared.faults.What.TheVariants.{Entry as EntryRead, UnitHeader as HeaderRead}
 use Rattle.dwc_base.specs.declared.faults.Kind.TheVariants.{Format64, Compressed}
 use Rattle.dwc_base.specs.Sections.{unsupported, unreadable}
-use Rattle.dwc_base.specs.Refusals.{Refusal, of_place, missing_file, first_refusal}
+use Rattle.dwc_base.specs.Refusals.{Refusal, of_place, missing_file}
+use Rattle.dwc_base.specs.Forests.{first_refusal}
 use Rattle.dwc_base.specs.OutputCarried.{widest}
 use Rattle.dwc_base.specs.Wasm.{WasmModule}
 use Rattle.dwc_base.proofs.SmallModule.{file_small}

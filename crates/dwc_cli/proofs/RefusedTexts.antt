@@ -9,8 +9,9 @@ use Rattle.dwc_base.specs.Sections.{unsupported}
 use Rattle.dwc_base.specs.LineRows.{Segment}
 use Rattle.dwc_base.specs.Images.{IsImageOf, is_carried_segment}
 use Rattle.dwc_base.specs.Outputs.{OutputSection, output_sections, function}
-use Rattle.dwc_base.specs.Carried.{Module, units, segments_of_unit, carried_units, CarriesUnit, LinesCarried}
-use Rattle.dwc_base.specs.Refusals.{first_refusal}
+use Rattle.dwc_base.specs.Carried.{Module, units, segments_of_unit}
+use Rattle.dwc_base.specs.Forests.{carried_units, first_refusal}
+use Rattle.dwc_base.specs.LinesCarried.{CarriesUnit, LinesCarried}
 use Rattle.dwc_base.proofs.LineTables.{at_line, function_small, segments_small}
 use Rattle.dwc_base.proofs.CarriedSmall.{module_small, unit_small, unit_out, image_small, image-small}
 use Rattle.dwc_base.proofs.WorkedImages.{Zipped, segment, image, image_in, not_image-at}
@@ -28,7 +29,6 @@ use Rattle.dwc_cli.proofs.Refused.{small-read}
 use Rattle.std.proofs.lemmas.List.Elements.{All-nil}
 use Rattle.dwc_base.specs.OutputCarried.{OutputCarried}
 use Rattle.dwc_base.specs.Fields.{IsRelocated}
-use Rattle.dwc_base.proofs.OnLiterals.{trees_on_literals}
 use Rattle.dwc_base.proofs.OutputSmall.{HasForm, none-differ}
 
 -- ---- the sections that a text stands for
@@ -246,12 +246,14 @@ whole-bare zero d h = refl
 whole-bare (suc k) d h = absurd (omega arith)
 
 carried-bare : OutputCarried (compilation_of (read_of file_bare)) []
-unfolding whole_on_literals trees_on_literals
+unfolding whole_on_literals
 carried-bare = record {
   lines = record { whole = whole-bare; output = []; output_read = refl; each = tt };
   wanted = [];
   is_forest = refl;
   trees = refl;
+  targets = refl;
+  texts = refl;
   form = All-nil HasForm;
   names = none-differ;
   relocated = All-nil (IsRelocated (output_sections Little []));

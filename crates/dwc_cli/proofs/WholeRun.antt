@@ -1,17 +1,20 @@
 -- The small module from its bytes and its map's bytes to the printed text.
 use Rattle.std.proofs.Common.{◌≡◌, ℕ, zero, suc, arith, List, [], ◌∷◌, map, Some, None, Option, refl}
 use Rattle.std.specs.Prelude.{All}
-use Rattle.dwc_base.proofs.OnLiterals.{lines_on_literals, files_on_literals, trees_on_literals}
+use Rattle.dwc_base.proofs.OnLiterals.{files_on_literals}
+use Rattle.dwc_base.proofs.DraftsOnLiterals.{drafts_on_literals}
 use Rattle.dwc_base.proofs.SmallModule.{file_small}
 use Rattle.dwc_base.proofs.LineTables.{function_small, segments_small}
 use Rattle.dwc_base.proofs.CarriedSmall.{unit_small, unit_out, image_small, output-read, images-read, image-small}
 use Rattle.dwc_base.specs.declared.section_name.SectionName.TheVariants.{Abbrev, Info, Line}
 use Rattle.dwc_base.specs.Functions.{Function}
-use Rattle.dwc_base.specs.Carried.{Unit, units, carried_units, LinesCarried}
-use Rattle.dwc_base.specs.Refusals.{Refusal, missing_file, first_refusal}
+use Rattle.dwc_base.specs.Carried.{Unit, units}
+use Rattle.dwc_base.specs.Forests.{carried_units, first_refusal}
+use Rattle.dwc_base.specs.LinesCarried.{LinesCarried}
+use Rattle.dwc_base.specs.Refusals.{Refusal, missing_file}
 use Rattle.dwc_base.specs.OutputCarried.{OutputCarried, widest}
 use Rattle.dwc_base.proofs.TreesSmall.{tree_small, carries-small as trees_carried-small}
-use Rattle.dwc_base.proofs.OutputSmall.{form-small, names-small}
+use Rattle.dwc_base.proofs.OutputSmall.{form-small, names-small, targets-small, texts-small}
 use Rattle.dwc_base.proofs.FieldCases.{related-small}
 use Rattle.dwc_cli.specs.Inputs.{Input, Loaded, loaded, compilation_of}
 use Rattle.dwc_cli.proofs.OnLiterals.{map_on_literals}
@@ -20,7 +23,7 @@ use Rattle.dwc_cli.specs.RunStatus.{Carries}
 use Rattle.dwc_cli.proofs.Examples.{map_bytes_small, map_small, output_small}
 
 unfoldable pub whole_on_literals : ℕ
-unfolding lines_on_literals files_on_literals map_on_literals loaded
+unfolding drafts_on_literals files_on_literals map_on_literals loaded
 whole_on_literals = 0
 
 abbrev pub input_small : Input
@@ -84,12 +87,14 @@ lines_carried-small = record {
 
 -- the wanted output carries the whole small input
 pub output_carried-small : OutputCarried (compilation_of read_small) output_small
-unfolding whole_on_literals trees_on_literals
+unfolding whole_on_literals
 output_carried-small = record {
   lines = lines_carried-small;
   wanted = tree_small ∷ [];
   is_forest = refl;
   trees = trees_carried-small;
+  targets = targets-small;
+  texts = texts-small;
   form = form-small;
   names = names-small;
   relocated = related-small;

@@ -8,7 +8,8 @@ use Rattle.dwc_base.specs.declared.section_name.SectionName.{SectionName}
 use Rattle.dwc_base.specs.Sections.{unreadable, unsupported}
 use Rattle.dwc_base.specs.Wasm.{WasmModule}
 use Rattle.dwc_base.specs.Outputs.{OutputSection}
-use Rattle.dwc_base.specs.Refusals.{Refusal, of_place, missing_file, first_refusal}
+use Rattle.dwc_base.specs.Refusals.{Refusal, of_place, missing_file}
+use Rattle.dwc_base.specs.Forests.{first_refusal}
 use Rattle.dwc_base.specs.OutputCarried.{OutputCarried, widest}
 use Rattle.dwc_cli.specs.MapFile.{map_of_bytes}
 use Rattle.dwc_cli.specs.Inputs.{Paths, paths_of, all_paths, Input, all_files, wasm_modules, defined_counts, Loaded, loaded, compilation_of, shared_in, bad_map}
