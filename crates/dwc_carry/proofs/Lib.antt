@@ -6,5 +6,8 @@ pub mod MadeLaws
 pub mod ModuleLoopLaws
 pub mod ResolvedLaws
 pub mod RefusalLaws
+pub mod ModulePlaceLaws
+pub mod PlaceLaws
 pub mod TransferLaws
 pub mod TransformLaws
+pub mod UnitsInOrder

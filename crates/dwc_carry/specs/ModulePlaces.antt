@@ -1,7 +1,11 @@
 -- Where the entries of a module stand in the output.
 use Rattle.std.specs.Prelude.{ℕ, suc, List, [], ◌∷◌, ◌++◌, map, length, Bool, nat_lt, if◌then◌else◌}
 use Rattle.std.specs.List.{filter}
+use Rattle.dwc_base.specs.Sections.{Sections}
+use Rattle.dwc_base.specs.Functions.{Function}
 use Rattle.dwc_kept.specs.declared.read_unit.ReadUnit.{ReadUnit}
+use Rattle.dwc_kept.specs.declared.kept_units.KeptModule.{KeptModule}
+use Rattle.dwc_kept.specs.ReadUnits.{IsKeptModule}
 use Rattle.dwc_kept.specs.KeptUnits.{is_in_unit}
 use Rattle.dwc_clone.specs.declared.places.EmittedEntry.{EmittedEntry}
 use Rattle.dwc_clone.specs.OutputPlaces.{numbered}
@@ -22,3 +26,9 @@ emitted kept rs = filter has_some (map (carried_offsets kept) rs)
 abbrev pub numbered_lists : ℕ → List (List ℕ) → List EmittedEntry
 numbered_lists number [] = []
 numbered_lists number (os ∷ lists) = numbered number 0 os ++ numbered_lists (suc number) lists
+
+-- The units and the kept entries are those of a module.
+pub record IsKept (m : KeptModule) : Type 0 where
+  pub functions : List Function
+  pub sections : Sections
+  pub is : IsKeptModule functions sections m
