@@ -1,8 +1,10 @@
+pub mod CauseLaws
 pub mod CompositionLaws
 pub mod EmitLaws
 pub mod KeptModules
 pub mod LastLaws
 pub mod MadeLaws
+pub mod LinesNamed
 pub mod ModuleLoopLaws
 pub mod ResolvedLaws
 pub mod RefusalLaws
@@ -10,4 +12,8 @@ pub mod ModulePlaceLaws
 pub mod PlaceLaws
 pub mod TransferLaws
 pub mod TransformLaws
+pub mod UnitGives
+pub mod UnitLoopLaws
+pub mod UnitMade
+pub mod UnitSources
 pub mod UnitsInOrder

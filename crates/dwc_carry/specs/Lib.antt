@@ -4,6 +4,7 @@ pub mod MadeUnits
 pub mod UnitPrograms
 pub mod LastLines
 pub mod ModulePlaces
+pub mod CarriedUnits
 pub mod CarriedModules
 pub mod Inputs
 pub mod Transformed

@@ -1,6 +1,14 @@
 //! The units of the output, from those of a module.
-ghost use Rattle.std.specs.Prelude.{◌≡◌, ◌⊎◌};
+ghost use Rattle.std.specs.Prelude.{◌≡◌, ◌⊎◌, ℕ, length, All};
+ghost use Rattle.dwc_base.specs.Carried.{Module};
+ghost use Rattle.dwc_base.specs.Entries.{entries as entries_of};
+ghost use Rattle.dwc_base.specs.ReadValues.{IsReadEntry};
+ghost use Rattle.dwc_kept.specs.declared.kept_units.KeptModule.{KeptModule as KeptModuleValue};
+ghost use Rattle.dwc_kept.specs.ReadUnits.{unit_read};
 ghost use Rattle.dwc_image.specs.CarriedLines.{AreKept};
+ghost use Rattle.dwc_carry.specs.LastLines.{IsLast};
+ghost use Rattle.dwc_carry.specs.ModulePlaces.{emitted, numbered_lists};
+ghost use Rattle.dwc_carry.specs.CarriedUnits.{IsOfModule, HasModule, IsUnitOf, GivesUnit, GivesUnits};
 
 use crate::DebugError;
 use crate::begun_unit::{BegunUnit, begun_unit};
@@ -24,7 +32,14 @@ fn carry_unit(
     transform: &AddressTransform,
     form: OutputForm,
     dwarf: &mut Dwarf,
-) -> Result<Option<LastLines>, DebugError> {
+) -> Result<Option<LastLines>, DebugError>
+    requires version { form.encoding.version ≡ 4 }
+    requires size { (form.encoding.address_size ≡ 4) ⊎ (form.encoding.address_size ≡ 8) }
+    requires functions { AreKept transform.now }
+    requires known { IsLast transform.now form.encoding.address_size read.now.unit.sections dwarf.old.units.units.items last }
+    requires read { All IsReadEntry (entries_of read.now.unit.sections read.now.unit.header).items }
+    ensures { (c : Module) (m : KeptModuleValue) (first : ℕ) → IsUnitOf c transform.now m first (length dwarf.old.units.units.items) places.now kept.now read.now → GivesUnit form.encoding.address_size form.big_endian c first (unit_read c.sections read.now.unit.header) dwarf.old dwarf.new result }
+{
     let BegunUnit { unit, files } = begun_unit(
         alloc,
         read,
@@ -58,7 +73,14 @@ pub(crate) fn carry_units(
     transform: &AddressTransform,
     form: OutputForm,
     dwarf: &mut Dwarf,
-) -> Result<(), DebugError> {
+) -> Result<(), DebugError>
+    requires version { form.encoding.version ≡ 4 }
+    requires size { (form.encoding.address_size ≡ 4) ⊎ (form.encoding.address_size ≡ 8) }
+    requires functions { AreKept transform.now }
+    requires read { HasModule transform.now read_module.now }
+    requires places { places.now ≡ numbered_lists (length dwarf.old.units.units.items) (emitted read_module.now.kept read_module.now.units.items) }
+    ensures { (c : Module) → IsOfModule c transform.now read_module.now → GivesUnits form.encoding.address_size form.big_endian c dwarf.old dwarf.new result }
+{
     let mut last = None;
     for i in 0..read_module.units.len() {
         let read = &read_module.units[i];

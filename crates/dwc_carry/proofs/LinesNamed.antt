@@ -1,0 +1,271 @@
+-- A unit of the output names a line table exactly where the root that it is made of names one that can be read.
+use Rattle.std.proofs.Common.{◌≡◌, ℕ, List, [], ◌∷◌, ◌++◌, length, map, refl, ap, ap₂, sym, subst, ◌∙◌, arith, Bool, true, false, cond, Option, Some, None, Result, Ok, Err, All}
+use Rattle.std.specs.Prelude.{pos, ◌==◌, ◌||◌, ◌&&◌, is_some, if◌then◌else◌, fold, option_map}
+use Rattle.std.specs.List.{filter_map, cons_option, list_any}
+use Rattle.std.proofs.lemmas.Bool.{eqb-true}
+use Rattle.std.proofs.lemmas.List.Folds.{list_any-append}
+use Rattle.std.proofs.lemmas.List.Elements.{All-nil, All-cons, All-head, All-tail, All-append}
+use Rattle.dwc_base.specs.declared.constants.TheConstants.{DW_AT_stmt_list, DW_AT_low_pc, DW_AT_high_pc, DW_AT_endianity, DW_TAG_base_type, DW_FORM_data1, DW_FORM_udata, DW_END_little}
+use Rattle.dwc_base.specs.declared.records.Address.TheVariants.{Symbol}
+use Rattle.dwc_base.specs.Values.{Value}
+use Rattle.dwc_base.specs.Functions.{Function}
+use Rattle.dwc_base.specs.Kept.{Placed}
+use Rattle.dwc_base.specs.Trees.{TreeValue, address, constant, line_table, Tree, set_attribute}
+use Rattle.dwc_base.specs.Drafts.{Goal, DraftValue, done}
+use Rattle.dwc_base.specs.DraftForests.{settled_value, settled, settled_entry}
+use Rattle.dwc_base.specs.Clones.{UnitSource, CodeRules, table_becomes, attribute_becomes, attributes_become, if_made, endianity, attributes_made}
+use Rattle.dwc_base.specs.CarriedDrafts.{draft_of}
+use Rattle.dwc_base.specs.Refusals.{Refusal}
+use Rattle.dwc_base.specs.Sections.{Sections}
+use Rattle.dwc_base.specs.Units.{UnitHeader}
+use Rattle.dwc_base.specs.EntryRules.{code_rules, function_bounds, function_begun}
+use Rattle.dwc_write.specs.declared.attributes.Attribute.{Attribute}
+use Rattle.dwc_write.specs.declared.attributes.AttributeValue.{AttributeValue}
+use Rattle.dwc_write.specs.declared.attributes.AttributeValue.TheVariants.{Address, Constant, Flag, Block, Exprloc, StringRef, LineProgramRef, UnitRef, DebugInfoRef}
+use Rattle.dwc_write.specs.declared.attributes.DebugInfoRef.TheVariants.{Entry}
+use Rattle.dwc_write.specs.GivenUnits.{Addition, in_file_order, is_lines, names_lines_in, names_lines}
+use Rattle.dwc_write.specs.AddedInOrder.{value_meant, attribute_meant, tree_meant}
+
+-- whether a value is a line table, and whether one stands under its name
+abbrev is_table : TreeValue → Bool
+is_table line_table = true
+is_table _ = false
+
+abbrev pub says_lines : List (ℕ × TreeValue) → Bool
+says_lines [] = false
+says_lines (a ∷ others) = if a.0 == DW_AT_stmt_list then is_table a.1 else says_lines others
+
+abbrev pub tree_says : Tree → Bool
+tree_says [] = false
+tree_says (e ∷ es) = says_lines e.attributes
+
+-- whether something stands under that name
+abbrev pub has_lines : {A : Type 0} → List (ℕ × A) → Bool
+has_lines xs = list_any (λ a. a.0 == DW_AT_stmt_list) xs
+
+-- ---- attributes of the output
+
+lines-meant : (texts : List (List ℕ)) (number : ℕ) (v : AttributeValue) → is_lines v ≡ is_table (value_meant texts number v)
+lines-meant texts number (Address a) = refl
+lines-meant texts number (Constant form bits) = refl
+lines-meant texts number (Flag b) = refl
+lines-meant texts number (Block bytes) = refl
+lines-meant texts number (Exprloc e) = refl
+lines-meant texts number (StringRef id) = refl
+lines-meant texts number LineProgramRef = refl
+lines-meant texts number (UnitRef id) = refl
+lines-meant texts number (DebugInfoRef (Entry unit id)) = refl
+
+names-meant : (texts : List (List ℕ)) (number : ℕ) (xs : List Attribute) → names_lines_in xs ≡ says_lines (map (attribute_meant texts number) xs)
+names-meant texts number [] = refl
+names-meant texts number (a ∷ xs) = ap₂ (λ b c. cond {A = Bool} (a.name == DW_AT_stmt_list) b c) (lines-meant texts number a.value) (names-meant texts number xs)
+
+pub tree-names : (texts : List (List ℕ)) (number : ℕ) (ds : List ℕ) (es : List Addition) → length ds ≡ length es → names_lines (in_file_order es) ≡ tree_says (tree_meant texts number ds es)
+tree-names texts number [] [] same = refl
+tree-names texts number [] (e ∷ es) same = absurd (omega (arith, same))
+tree-names texts number (d ∷ ds) [] same = absurd (omega (arith, same))
+tree-names texts number (d ∷ ds) (e ∷ es) same = names-meant texts number e.attributes
+
+-- ---- attributes set in order
+
+abbrev IsNamedTable : ℕ × TreeValue → Type 0
+IsNamedTable a = a.0 ≡ DW_AT_stmt_list → a.1 ≡ line_table
+
+says-named : (xs : List (ℕ × TreeValue)) → All IsNamedTable xs → says_lines xs ≡ has_lines xs
+says-named [] h = refl
+says-named (a ∷ xs) h = go (a.0 == DW_AT_stmt_list) refl (says-named xs (All-tail IsNamedTable a xs h))
+  where
+    go : (b : Bool) → (a.0 == DW_AT_stmt_list) ≡ b → says_lines xs ≡ has_lines xs → cond {A = Bool} b (is_table a.1) (says_lines xs) ≡ (b || has_lines xs)
+    go true is more = ap is_table (All-head IsNamedTable a xs h (eqb-true a.0 DW_AT_stmt_list is))
+    go false is more = more
+
+or-same : (a b h : Bool) → a ≡ b → (a || h) ≡ (a || (b || h))
+or-same true b h e = refl
+or-same false true h e = absurd (cc)
+or-same false false h e = refl
+
+or-swap : (a b h : Bool) → (b || (a || h)) ≡ (a || (b || h))
+or-swap true true h = refl
+or-swap true false h = refl
+or-swap false true h = refl
+or-swap false false h = refl
+
+set-has : (a : ℕ × TreeValue) (xs : List (ℕ × TreeValue)) → has_lines (set_attribute a xs) ≡ ((a.0 == DW_AT_stmt_list) || has_lines xs)
+set-has a [] = refl
+set-has a (b ∷ xs) = go (a.0 == b.0) refl (set-has a xs)
+  where
+    go : (same : Bool) → (a.0 == b.0) ≡ same → has_lines (set_attribute a xs) ≡ ((a.0 == DW_AT_stmt_list) || has_lines xs)
+        → has_lines (cond {A = List (ℕ × TreeValue)} same (a ∷ xs) (b ∷ set_attribute a xs)) ≡ ((a.0 == DW_AT_stmt_list) || ((b.0 == DW_AT_stmt_list) || has_lines xs))
+    go true is more = or-same (a.0 == DW_AT_stmt_list) (b.0 == DW_AT_stmt_list) (has_lines xs) (ap (λ n. n == DW_AT_stmt_list) (eqb-true a.0 b.0 is))
+    go false is more = ap (λ c. (b.0 == DW_AT_stmt_list) || c) more ∙ or-swap (a.0 == DW_AT_stmt_list) (b.0 == DW_AT_stmt_list) (has_lines xs)
+
+set-tables : (a : ℕ × TreeValue) (xs : List (ℕ × TreeValue)) → IsNamedTable a → All IsNamedTable xs → All IsNamedTable (set_attribute a xs)
+set-tables a [] one h = All-cons IsNamedTable a [] one (All-nil IsNamedTable)
+set-tables a (b ∷ xs) one h = go (a.0 == b.0) (set-tables a xs one (All-tail IsNamedTable b xs h))
+  where
+    go : (same : Bool) → All IsNamedTable (set_attribute a xs) → All IsNamedTable (cond {A = List (ℕ × TreeValue)} same (a ∷ xs) (b ∷ set_attribute a xs))
+    go true more = All-cons IsNamedTable a xs one (All-tail IsNamedTable b xs h)
+    go false more = All-cons IsNamedTable b (set_attribute a xs) (All-head IsNamedTable b xs h) more
+
+or-assoc : (a b c : Bool) → ((a || b) || c) ≡ (b || (a || c))
+or-assoc true true c = refl
+or-assoc true false c = refl
+or-assoc false true c = refl
+or-assoc false false c = refl
+
+or-false : (b : Bool) → b ≡ (b || false)
+or-false true = refl
+or-false false = refl
+
+order-says : (before xs : List (ℕ × TreeValue)) → All IsNamedTable before → All IsNamedTable xs → says_lines (fold (λ ys a. set_attribute a ys) before xs) ≡ (has_lines before || has_lines xs)
+order-says before [] h k = says-named before h ∙ or-false (has_lines before)
+order-says before (a ∷ xs) h k =
+    order-says (set_attribute a before) xs (set-tables a before (All-head IsNamedTable a xs k) h) (All-tail IsNamedTable a xs k)
+    ∙ ap (λ b. b || has_lines xs) (set-has a before)
+    ∙ or-assoc (a.0 == DW_AT_stmt_list) (has_lines before) (has_lines xs)
+
+-- ---- drafts
+
+abbrev IsNamedDraft : ℕ × DraftValue → Type 0
+IsNamedDraft a = a.0 ≡ DW_AT_stmt_list → a.1 ≡ done line_table
+
+-- what stands for drafts where goals are at places
+abbrev StandsFor : List (ℕ × DraftValue) → List (ℕ × TreeValue) → Type 0
+StandsFor ds xs = All IsNamedTable xs × (has_lines xs ≡ has_lines ds)
+
+settle-one : (n : ℕ) (o : Option TreeValue) (ds : List (ℕ × DraftValue)) (v : DraftValue) (xs : List (ℕ × TreeValue)) → (n ≡ DW_AT_stmt_list → o ≡ Some line_table) → StandsFor ds xs → StandsFor ((n, v) ∷ ds) (cons_option (option_map (λ w. (n, w)) o) xs)
+settle-one n (Some w) ds v xs is h = (All-cons IsNamedTable (n, w) xs (λ e. some-same (is e)) h.0, ap (λ b. (n == DW_AT_stmt_list) || b) h.1)
+  where
+    some-same : Some w ≡ Some line_table → w ≡ line_table
+    some-same e = cc
+settle-one n None ds v xs is h = (h.0, h.1 ∙ go (n == DW_AT_stmt_list) refl)
+  where
+    clash : ◌≡◌ {A = Option TreeValue} None (Some line_table) → ⊥
+    clash e = cc
+
+    go : (b : Bool) → (n == DW_AT_stmt_list) ≡ b → has_lines ds ≡ (b || has_lines ds)
+    go true e = absurd (clash (is (eqb-true n DW_AT_stmt_list e)))
+    go false e = refl
+
+settle-all : (places : Goal → Option (ℕ × ℕ)) (ds : List (ℕ × DraftValue)) → All IsNamedDraft ds → StandsFor ds (filter_map (settled places) ds)
+settle-all places [] h = (All-nil IsNamedTable, refl)
+settle-all places (d ∷ ds) h = settle-one d.0 (settled_value places d.1) ds d.1 (filter_map (settled places) ds) (λ e. ap (settled_value places) (All-head IsNamedDraft d ds h e)) (settle-all places ds (All-tail IsNamedDraft d ds h))
+
+-- ---- what attributes become
+
+-- the line table, where there is one
+abbrev table_if : Bool → Option DraftValue
+table_if b = if b then Some (done line_table) else None
+
+-- drafts have a line table where there is one and some attributes name it
+abbrev HaveLines : Bool → Bool → List (ℕ × DraftValue) → Type 0
+HaveLines b h ds = All IsNamedDraft ds × (has_lines ds ≡ (b && h))
+
+become-one : (b h : Bool) (n : ℕ) (r : Result (Option DraftValue) Refusal) (ds : List (ℕ × DraftValue)) → (n ≡ DW_AT_stmt_list → r ≡ Ok (table_if b)) → HaveLines b h ds → HaveLines b ((n == DW_AT_stmt_list) || h) (cons_option (if_made n r) ds)
+become-one b h n (Err e) ds is k = (k.0, k.1 ∙ go (n == DW_AT_stmt_list) refl)
+  where
+    clash : ◌≡◌ {A = Result (Option DraftValue) Refusal} (Err e) (Ok (table_if b)) → ⊥
+    clash x = cc
+
+    go : (c : Bool) → (n == DW_AT_stmt_list) ≡ c → (b && h) ≡ (b && (c || h))
+    go true x = absurd (clash (is (eqb-true n DW_AT_stmt_list x)))
+    go false x = refl
+become-one true h n (Ok None) ds is k = (k.0, k.1 ∙ go (n == DW_AT_stmt_list) refl)
+  where
+    clash : ◌≡◌ {A = Result (Option DraftValue) Refusal} (Ok None) (Ok (Some (done line_table))) → ⊥
+    clash x = cc
+
+    go : (c : Bool) → (n == DW_AT_stmt_list) ≡ c → h ≡ (c || h)
+    go true x = absurd (clash (is (eqb-true n DW_AT_stmt_list x)))
+    go false x = refl
+become-one false h n (Ok None) ds is k = k
+become-one true h n (Ok (Some v)) ds is k = (All-cons IsNamedDraft (n, v) ds (λ e. same (is e)) k.0, ap (λ c. (n == DW_AT_stmt_list) || c) k.1)
+  where
+    same : ◌≡◌ {A = Result (Option DraftValue) Refusal} (Ok (Some v)) (Ok (Some (done line_table))) → v ≡ done line_table
+    same x = cc
+become-one false h n (Ok (Some v)) ds is k = (All-cons IsNamedDraft (n, v) ds (λ e. absurd (clash (is e))) k.0, go (n == DW_AT_stmt_list) refl)
+  where
+    clash : ◌≡◌ {A = Result (Option DraftValue) Refusal} (Ok (Some v)) (Ok None) → ⊥
+    clash x = cc
+
+    go : (c : Bool) → (n == DW_AT_stmt_list) ≡ c → (c || has_lines ds) ≡ false
+    go true x = absurd (clash (is (eqb-true n DW_AT_stmt_list x)))
+    go false x = k.1
+
+and-false : (b : Bool) → false ≡ (b && false)
+and-false true = refl
+and-false false = refl
+
+module _ (rules : CodeRules Refusal) (s : UnitSource) (e : Placed) (root : e.entry.depth ≡ 0) where
+  root-table : table_becomes s e ≡ table_if (is_some s.table)
+  root-table = ap (λ d. cond {A = Option DraftValue} ((d == 0) && is_some s.table) (Some (done line_table)) None) root
+
+  lines-become : (before : List (ℕ × Value)) (n : ℕ) (v : Value) → n ≡ DW_AT_stmt_list → attribute_becomes rules s e before (n, v) ≡ Ok (table_if (is_some s.table))
+  unfolding attribute_becomes
+  lines-become before n v is = subst (λ k. attribute_becomes rules s e before (k, v) ≡ Ok (table_if (is_some s.table))) (sym is) (ap Ok root-table)
+
+  become-all : (before as' : List (ℕ × Value)) → HaveLines (is_some s.table) (has_lines as') (filter_map (λ a. if_made a.0 a.1) (attributes_become rules s e before as'))
+  unfolding attributes_become
+  become-all before [] = (All-nil IsNamedDraft, and-false (is_some s.table))
+  become-all before (a ∷ as') = become-one (is_some s.table) (has_lines as') a.0 (attribute_becomes rules s e before a) _ (lines-become before a.0 a.1) (become-all (before ++ (a ∷ [])) as')
+
+-- ---- the root
+
+-- drafts that are no line table
+abbrev AreOther : List (ℕ × DraftValue) → Type 0
+AreOther ds = All IsNamedDraft ds × (has_lines ds ≡ false)
+
+other-one : (n : ℕ) (v : DraftValue) (ds : List (ℕ × DraftValue)) → (n ≡ DW_AT_stmt_list → ⊥) → All IsNamedDraft ds → All IsNamedDraft ((n, v) ∷ ds)
+other-one n v ds other h = All-cons IsNamedDraft (n, v) ds (λ e. absurd (other e)) h
+
+bounds-other : (o : Option Function) → AreOther (function_bounds o)
+bounds-other None = (All-nil IsNamedDraft, refl)
+bounds-other (Some f) = (other-one DW_AT_low_pc (done (address (Symbol f.number (pos 0)))) ((DW_AT_high_pc, done (constant DW_FORM_udata f.length)) ∷ []) low (other-one DW_AT_high_pc (done (constant DW_FORM_udata f.length)) [] high (All-nil IsNamedDraft)), refl)
+  where
+    low : DW_AT_low_pc ≡ DW_AT_stmt_list → ⊥
+    low e = omega (arith, e)
+
+    high : DW_AT_high_pc ≡ DW_AT_stmt_list → ⊥
+    high e = omega (arith, e)
+
+endianity-other : (big_endian : Bool) (e : Placed) → AreOther (endianity big_endian e)
+endianity-other big_endian e = go (big_endian && (e.entry.tag == DW_TAG_base_type))
+  where
+    other : DW_AT_endianity ≡ DW_AT_stmt_list → ⊥
+    other x = omega (arith, x)
+
+    go : (b : Bool) → AreOther (if b then (DW_AT_endianity, done (constant DW_FORM_data1 DW_END_little)) ∷ [] else [])
+    go true = (other-one DW_AT_endianity (done (constant DW_FORM_data1 DW_END_little)) [] other (All-nil IsNamedDraft), refl)
+    go false = (All-nil IsNamedDraft, refl)
+
+-- The entry that is made of a root says that it has a line table where its unit has one and its root names it.
+pub root-says : (fs : List Function) (t : Sections) (h : UnitHeader) (s : UnitSource) (big_endian : Bool) (places : Goal → Option (ℕ × ℕ)) (e : Placed) → e.entry.depth ≡ 0
+    → says_lines (settled_entry places (draft_of (code_rules fs t h) s big_endian e)).attributes ≡ (is_some s.table && has_lines e.entry.attributes)
+unfolding attributes_made
+root-says fs t h s big_endian places e root =
+    order-says [] (filter_map (settled places) all) (All-nil IsNamedTable) stands.0
+    ∙ stands.1
+    ∙ list_any-append (λ a. a.0 == DW_AT_stmt_list) (bounds ++ made) last
+    ∙ ap (λ b. has_lines (bounds ++ made) || b) (endianity-other big_endian e).1
+    ∙ sym (or-false (has_lines (bounds ++ made)))
+    ∙ list_any-append (λ a. a.0 == DW_AT_stmt_list) bounds made
+    ∙ ap (λ b. b || has_lines made) (bounds-other (function_begun fs t h e.entry)).1
+    ∙ become.1
+  where
+    bounds : List (ℕ × DraftValue)
+    bounds = function_bounds (function_begun fs t h e.entry)
+
+    made : List (ℕ × DraftValue)
+    made = filter_map (λ a. if_made a.0 a.1) (attributes_become (code_rules fs t h) s e [] e.entry.attributes)
+
+    last : List (ℕ × DraftValue)
+    last = endianity big_endian e
+
+    all : List (ℕ × DraftValue)
+    all = bounds ++ made ++ last
+
+    become : HaveLines (is_some s.table) (has_lines e.entry.attributes) made
+    become = become-all (code_rules fs t h) s e root [] e.entry.attributes
+
+    stands : StandsFor all (filter_map (settled places) all)
+    stands = settle-all places all (All-append IsNamedDraft (bounds ++ made) last (All-append IsNamedDraft bounds made (bounds-other (function_begun fs t h e.entry)).0 become.0) (endianity-other big_endian e).0)

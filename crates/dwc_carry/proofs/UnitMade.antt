@@ -1,0 +1,276 @@
+-- The unit of the output that is made of a carried unit of a module, and what is refused of it.
+use Rattle.std.proofs.Common.{◌≡◌, ℕ, ◌≤◌, List, [], ◌∷◌, ◌++◌, refl, ap, ap₂, sym, subst, ◌∙◌, arith, Bool, true, false, Option, Some, None, Ok}
+use Rattle.std.specs.Prelude.{◌==◌, ◌||◌, ◌&&◌, is_some, option_map, option_to_list, if◌then◌else◌, Result}
+use Rattle.std.specs.List.{filter, filter_map, flat_map, cons_option, list_any, find, AllZip}
+use Rattle.dwc_base.specs.declared.constants.TheConstants.{DW_AT_stmt_list}
+use Rattle.dwc_base.specs.Reading.{◌>>=◌}
+use Rattle.dwc_base.specs.Sections.{Sections, Fault}
+use Rattle.dwc_base.specs.Units.{UnitHeader}
+use Rattle.dwc_base.specs.Values.{Value}
+use Rattle.dwc_base.specs.Entries.{Entry, entries, attribute}
+use Rattle.dwc_base.specs.Indexed.{text_base}
+use Rattle.dwc_base.specs.LineRows.{LineTable, line_table}
+use Rattle.dwc_base.specs.Images.{is_carried_segment, IsImageOf}
+use Rattle.dwc_base.specs.Carried.{Unit, Module, root, line_offset, table_of_root, table_of_unit, segments_of, segments_of_unit}
+use Rattle.dwc_base.specs.Refusals.{Refusal, table_offset, lines_refusal, unit_refusal, first_of}
+use Rattle.dwc_base.specs.Widest.{widest_table}
+use Rattle.dwc_base.specs.Drafts.{Goal, DraftValue, done, goes_to, Draft}
+use Rattle.dwc_base.specs.DraftForests.{settled_value, settled, settled_unit, place_of_goal}
+use Rattle.dwc_base.specs.Trees.{Tree, entry, TreeValue, set_in_order}
+use Rattle.dwc_base.specs.Clones.{entry_refusals}
+use Rattle.dwc_base.specs.KeptModules.{kept_module, kept_in}
+use Rattle.dwc_base.specs.CarriedDrafts.{readable_table, source_of, unit_drafts}
+use Rattle.dwc_base.specs.ReachedEntries.{kept_refusals}
+use Rattle.dwc_base.specs.EntryRules.{code_rules}
+use Rattle.dwc_base.specs.Forests.{kept_of, rules_of, module_drafts}
+use Rattle.dwc_read.specs.declared.fault.ReadFault.{ReadFault}
+use Rattle.dwc_read.specs.Faults.{fault_seen}
+use Rattle.dwc_kept.specs.declared.kept_units.KeptModule.{KeptModule}
+use Rattle.dwc_kept.specs.KeptUnits.{IsTree}
+use Rattle.dwc_kept.specs.ReadUnits.{unit_read}
+use Rattle.dwc_kept.specs.declared.read_unit.ReadUnit.{ReadUnit}
+use Rattle.dwc_kept.proofs.InLists.{contains-in}
+use Rattle.dwc_kept.proofs.KeptModuleLaws.{read-unit, read-entries}
+use Rattle.dwc_base.specs.Functions.{Function}
+use Rattle.dwc_clone.specs.declared.places.EmittedEntry.{EmittedEntry}
+use Rattle.dwc_clone.specs.declared.source.CloneSource.{CloneSource}
+use Rattle.dwc_clone.specs.OutputPlaces.{goal_place}
+use Rattle.dwc_clone.specs.Sources.{AreFiles}
+use Rattle.dwc_clone.specs.ClonedUnits.{picked, placed_in, depths_of, clone_rules, clone_refusals, clone_wanted, IsCloned, TellsFirst}
+use Rattle.dwc_write.specs.GivenLines.{GivenLines}
+use Rattle.dwc_write.specs.GivenUnits.{GivenUnit, names_lines, in_file_order}
+use Rattle.dwc_write.specs.ReadBack.{given_segments}
+use Rattle.dwc_write.specs.WidestGiven.{widest_table_for}
+use Rattle.dwc_carry.specs.declared.error.DebugError.{DebugError}
+use Rattle.dwc_carry.specs.Refusals.{in_reading, of_reading, RefusesReading}
+use Rattle.dwc_carry.specs.UnitPrograms.{CarriesNamed}
+use Rattle.dwc_carry.specs.MadeUnits.{IsMadeOf}
+use Rattle.dwc_carry.specs.CarriedUnits.{IsUnitOf, wanted_of, refusals_of}
+use Rattle.dwc_carry.proofs.CauseLaws.{unmapped, reading-more, first-behind, clone-told}
+use Rattle.dwc_carry.proofs.PlaceLaws.{goal-places}
+use Rattle.dwc_carry.proofs.LinesNamed.{tree_says, has_lines, tree-names, root-says}
+use Rattle.dwc_carry.proofs.UnitSources.{read_of, unit-in, unit-is, picked-are, clonable, first-root}
+
+-- ---- what trees say where goals are at the same places
+
+value-same : (p q : Goal → Option (ℕ × ℕ)) → ((g : Goal) → p g ≡ q g) → (v : DraftValue) → settled_value p v ≡ settled_value q v
+value-same p q same (done v) = refl
+value-same p q same (goes_to g) = ap (option_map (λ (x : ℕ × ℕ). entry x.0 x.1)) (same g)
+
+attributes-same : (p q : Goal → Option (ℕ × ℕ)) → ((g : Goal) → p g ≡ q g) → (xs : List (ℕ × DraftValue)) → filter_map (settled p) xs ≡ filter_map (settled q) xs
+attributes-same p q same [] = refl
+attributes-same p q same (x ∷ xs) = ap₂ (λ (o : Option TreeValue) (ys : List (ℕ × TreeValue)). cons_option (option_map (λ v. (x.0, v)) o) ys) (value-same p q same x.1) (attributes-same p q same xs)
+
+unit-same : (p q : Goal → Option (ℕ × ℕ)) → ((g : Goal) → p g ≡ q g) → (ds : List Draft) → settled_unit p ds ≡ settled_unit q ds
+unit-same p q same [] = refl
+unit-same p q same (d ∷ ds) = ap₂ (λ (as' : List (ℕ × TreeValue)) (es : Tree). record { depth = d.depth; tag = d.tag; attributes = set_in_order as' } ∷ es) (attributes-same p q same d.attributes) (unit-same p q same ds)
+
+-- ---- the line table that a root names
+
+named : Sections → UnitHeader → Option ℕ → Result (Option LineTable) Fault
+named s h None = Ok None
+named s h (Some offset) = line_table s h.address_size (text_base s h) offset >>= λ t. Ok (Some t)
+
+table-named : (s : Sections) (u : Unit) → table_of_unit s u ≡ named s u.header (table_offset (root u))
+unfolding table_of_unit named
+table-named s u = go (root u)
+  where
+    inner : (o : Option ℕ) → (let t : Result (Option LineTable) Fault = elim o [ None ↦ Ok None | Some offset ↦ (line_table s u.header.address_size (text_base s u.header) offset >>= λ t. Ok (Some t)) ] in t) ≡ named s u.header o
+    inner None = refl
+    inner (Some offset) = refl
+
+    go : (o : Option Entry) → table_of_root s u o ≡ named s u.header (table_offset o)
+    go None = refl
+    go (Some e) = inner (line_offset (attribute DW_AT_stmt_list e))
+
+found-any : {A : Type 0} (t : A → Bool) (xs : List A) (x : A) → find t xs ≡ Some x → list_any t xs ≡ true
+found-any t [] x h = absurd (clash h)
+  where
+    clash : None ≡ Some x → ⊥
+    clash e = cc
+found-any {A} t (y ∷ xs) x h = go (t y) h (found-any t xs x)
+  where
+    go : (b : Bool) → (let o : Option A = if b then Some y else find t xs in o) ≡ Some x → (find t xs ≡ Some x → list_any t xs ≡ true) → (b || list_any t xs) ≡ true
+    go true e rest = refl
+    go false e rest = rest e
+
+-- a root that names a table has an attribute of that name
+offset-has : (e : Entry) (offset : ℕ) → line_offset (attribute DW_AT_stmt_list e) ≡ Some offset → has_lines e.attributes ≡ true
+offset-has e offset h = go (find (λ (a : ℕ × Value). a.0 == DW_AT_stmt_list) e.attributes) refl h
+  where
+    clash : ◌≡◌ {A = Option ℕ} None (Some offset) → ⊥
+    clash x = cc
+
+    go : (o : Option (ℕ × Value)) → find (λ (a : ℕ × Value). a.0 == DW_AT_stmt_list) e.attributes ≡ o → line_offset (option_map (λ (a : ℕ × Value). a.1) o) ≡ Some offset → has_lines e.attributes ≡ true
+    go None is k = absurd (clash k)
+    go (Some a) is k = found-any (λ (a : ℕ × Value). a.0 == DW_AT_stmt_list) e.attributes a is
+
+first-listed : (o : Option Refusal) (r : Refusal) → o ≡ Some r → first_of (option_to_list o) ≡ Some r
+first-listed None r is = is
+first-listed (Some x) r is = is
+
+-- a line table is refused
+pub begun-refused : (c : Module) (fs : List Function) (m : KeptModule) (first number : ℕ) (places : List EmittedEntry) (kept : List ℕ) (r : ReadUnit) → IsUnitOf c fs m first number places kept r
+    → (e : DebugError) → RefusesReading (lines_refusal r.unit.sections r.unit.header r.line_table) e → RefusesReading (first_of (refusals_of c (unit_read c.sections r.unit.header))) e
+begun-refused c fs m first number places kept r of e met =
+    let is = read-unit c m (of.module_is).is r (contains-in m.units.items r of.one) in
+    let same : lines_refusal r.unit.sections r.unit.header r.line_table ≡ unit_refusal c.sections (unit_read c.sections r.unit.header) =
+    ap (λ s. lines_refusal s r.unit.header r.line_table) is.sections ∙ ap (lines_refusal c.sections r.unit.header) is.lines in
+    reading-more (lines_refusal r.unit.sections r.unit.header r.line_table) (first_of (refusals_of c (unit_read c.sections r.unit.header))) e
+    (λ x at. first-behind (option_to_list (unit_refusal c.sections (unit_read c.sections r.unit.header))) (kept_refusals (rules_of c) (kept_of c) (unit_read c.sections r.unit.header)) x (first-listed (unit_refusal c.sections (unit_read c.sections r.unit.header)) x (sym same ∙ at))) met
+
+-- What is known of the line table of a carried unit, and of the program that carries it.
+record KnownTable (c : Module) (u : Unit) (lines : GivenLines) : Type 0 where
+  t : Option LineTable
+  is_read : table_of_unit c.sections u ≡ Ok t
+  images : AllZip (IsImageOf c.functions) (filter (is_carried_segment c.functions) (segments_of t)) (given_segments lines)
+  widest : widest_table_for lines.address_size lines ≤ widest_table c.functions (Ok t)
+  ended : lines.begun ≡ None
+  sized : is_some t ≡ is_some lines.address_size
+  there : (e : Entry) → root u ≡ Some e → (is_some t && has_lines e.attributes) ≡ is_some t
+
+module _ (k : CloneSource) (compile : Bool) (table : Option ℕ) (c : Module) (m : KeptModule) (first number : ℕ) (kept : List ℕ)
+    (of : IsUnitOf c k.transform.now m first number k.places.now kept (read_of k compile table)) where
+  abbrev h : UnitHeader
+  h = k.unit.now.header
+
+  abbrev u : Unit
+  u = unit_read c.sections k.unit.now.header
+
+  abbrev es : List Entry
+  es = picked kept (entries k.unit.now.sections k.unit.now.header).items
+
+  same-sections : k.unit.now.sections ≡ c.sections
+  same-sections = (unit-is k compile table c m first number kept of).sections
+
+  same-functions : k.transform.now ≡ c.functions
+  same-functions = sym (of.module_is).functions
+
+  table-is : table ≡ table_offset (root u)
+  table-is = (unit-is k compile table c m first number kept of).lines
+
+  module _ (size : ℕ) (lines : GivenLines) where
+    -- the program is of the module's functions and sections
+    carried-there : CarriesNamed k.transform.now k.unit.now.sections h size table k.files lines → CarriesNamed c.functions c.sections h size (table_offset (root u)) k.files lines
+    carried-there carries =
+        subst (λ o. CarriesNamed c.functions c.sections h size o k.files lines) table-is
+        (subst (λ s. CarriesNamed c.functions s h size table k.files lines) same-sections
+        (subst (λ fs. CarriesNamed fs k.unit.now.sections h size table k.files lines) same-functions carries))
+
+    from-lines : (o : Option ℕ) → table_offset (root u) ≡ o → CarriesNamed c.functions c.sections h size o k.files lines → KnownTable c u lines × AreFiles k.files h.version (readable_table (table_of_unit c.sections u))
+    unfolding named
+    from-lines None is carries =
+        let read : table_of_unit c.sections u ≡ Ok None = table-named c.sections u ∙ ap (named c.sections h) is in (
+          record {
+            t = None;
+            is_read = read;
+            images = subst (λ g. AllZip (IsImageOf c.functions) [] (given_segments g)) (sym carries.1) tt;
+            widest = subst (λ (g : GivenLines). widest_table_for g.address_size g ≤ 0) (sym carries.1) (omega arith);
+            ended = ap (λ (g : GivenLines). g.begun) carries.1;
+            sized = sym (ap (λ (g : GivenLines). is_some g.address_size) carries.1);
+            there = λ e at. refl;
+          },
+          subst (λ t. AreFiles k.files h.version (readable_table t)) (sym read) carries.0,
+        )
+    from-lines (Some offset) is carries =
+        let t = carries.table in
+        let read : table_of_unit c.sections u ≡ Ok (Some t) = table-named c.sections u ∙ ap (named c.sections h) is ∙ ap (λ l. l >>= λ x. Ok (Some x)) carries.is_read in (
+          record {
+            t = Some t;
+            is_read = read;
+            images = carries.carries.images;
+            widest = carries.carries.widest;
+            ended = carries.carries.ended;
+            sized = sym (ap is_some carries.carries.address_size);
+            there = λ e at. offset-has e offset (sym (ap table_offset at) ∙ is);
+          },
+          subst (λ x. AreFiles k.files h.version (readable_table x)) (sym read) carries.files_are,
+        )
+
+    pub files-known : CarriesNamed k.transform.now k.unit.now.sections h size table k.files lines → AreFiles k.files h.version (source_of (kept_of c) u).table
+    unfolding source_of kept_module
+    files-known carries = (from-lines (table_offset (root u)) refl (carried-there carries)).1
+
+    table-known : CarriesNamed k.transform.now k.unit.now.sections h size table k.files lines → KnownTable c u lines
+    table-known carries = (from-lines (table_offset (root u)) refl (carried-there carries)).0
+
+  -- ---- what is to be said, and what is refused
+
+  entries-are : placed_in h.offset es ≡ kept_in (kept_of c) u
+  entries-are =
+      ap (placed_in h.offset) (picked-are k compile table c m first number kept of)
+      ∙ sym (read-entries c m (of.module_is).is (read_of k compile table) (unit-in k compile table c m first number kept of))
+
+  rules-are : clone_rules k ≡ rules_of c u
+  rules-are = ap₂ (λ fs s. code_rules fs s h) same-functions same-sections
+
+  wanted-is : clone_wanted k (source_of (kept_of c) u) es ≡ wanted_of k.big_endian c first u
+  wanted-is =
+      ap (λ es'. settled_unit (goal_place k.places.now) (unit_drafts (clone_rules k) (source_of (kept_of c) u) k.big_endian es')) entries-are
+      ∙ ap (λ rules. settled_unit (goal_place k.places.now) (unit_drafts rules (source_of (kept_of c) u) k.big_endian (kept_in (kept_of c) u))) rules-are
+      ∙ unit-same (goal_place k.places.now) (place_of_goal first (module_drafts k.big_endian c)) (λ g. ap (λ ps. goal_place ps g) of.places_are ∙ goal-places c m (of.module_is).is k.big_endian first g) (unit_drafts (rules_of c u) (source_of (kept_of c) u) k.big_endian (kept_in (kept_of c) u))
+
+  kept-refused : clone_refusals k (source_of (kept_of c) u) es ≡ kept_refusals (rules_of c) (kept_of c) u
+  unfolding kept_refusals
+  kept-refused =
+      ap (flat_map (entry_refusals (clone_rules k) (source_of (kept_of c) u))) entries-are
+      ∙ ap (λ rules. flat_map (entry_refusals rules (source_of (kept_of c) u)) (kept_in (kept_of c) u)) rules-are
+
+  lines-refused : lines_refusal k.unit.now.sections h table ≡ unit_refusal c.sections u
+  lines-refused = ap (λ s. lines_refusal s h table) same-sections ∙ ap (lines_refusal c.sections h) table-is
+
+  refusals-are : option_map in_reading (lines_refusal k.unit.now.sections h table) ≡ None → refusals_of c u ≡ clone_refusals k (source_of (kept_of c) u) es
+  refusals-are none =
+      ap (λ o. option_to_list o ++ kept_refusals (rules_of c) (kept_of c) u) (sym lines-refused ∙ unmapped in_reading (lines_refusal k.unit.now.sections h table) none)
+      ∙ sym kept-refused
+
+  pub clone-refused : (e : ReadFault) → option_map in_reading (lines_refusal k.unit.now.sections h table) ≡ None → TellsFirst (clone_refusals k (source_of (kept_of c) u) es) (fault_seen e) → RefusesReading (first_of (refusals_of c u)) (of_reading e)
+  clone-refused e none tells = subst (λ rs. RefusesReading (first_of rs) (of_reading e)) (sym (refusals-are none)) (clone-told (clone_refusals k (source_of (kept_of c) u) es) e tells)
+
+  -- ---- the unit
+
+  module _ (size : ℕ) (old new : List (List ℕ)) (begun made : GivenUnit) (sized : begun.address_size ≡ size) (carries : CarriesNamed k.transform.now k.unit.now.sections h size table k.files begun.lines)
+      (cloned : IsCloned k number (source_of (kept_of c) u) es old new begun made) where
+    known : KnownTable c u begun.lines
+    known = table-known size begun.lines carries
+
+    root-tree : (x : Entry) (others : List Entry) → IsTree (depths_of (x ∷ others)) → x.depth ≡ 0
+    root-tree x others tree = tree.0
+
+    source-table : (source_of (kept_of c) u).table ≡ known.t
+    unfolding source_of kept_module
+    source-table = ap readable_table known.is_read
+
+    names : names_lines (in_file_order made.additions) ≡ is_some made.lines.address_size
+    names =
+        let fit = clonable k compile table c m first number kept of in
+        let at : root u ≡ Some fit.root = first-root k compile table c m first number kept of fit.root fit.others (sym (picked-are k compile table c m first number kept of) ∙ fit.are) in
+        tree-names new number (depths_of es) made.additions (cloned.order).order.counted
+        ∙ ap tree_says cloned.says
+        ∙ ap (λ xs. tree_says (clone_wanted k (source_of (kept_of c) u) xs)) fit.are
+        ∙ root-says k.transform.now k.unit.now.sections h (source_of (kept_of c) u) k.big_endian (goal_place k.places.now) (record { unit = h.offset; entry = fit.root }) (root-tree fit.root fit.others (subst (λ (xs : List Entry). IsTree (depths_of xs)) fit.are fit.tree))
+        ∙ ap (λ t. is_some t && has_lines fit.root.attributes) source-table
+        ∙ known.there fit.root at
+        ∙ known.sized
+        ∙ sym (ap (λ (g : GivenLines). is_some g.address_size) cloned.lines)
+
+    pub made-of : IsMadeOf size new number (record { module_of = c; unit = u }) (wanted_of k.big_endian c first u) made
+    unfolding segments_of_unit
+    made-of = record {
+      input = segments_of known.t;
+      input_read = ap (λ x. x >>= λ t. Ok (segments_of t)) known.is_read;
+      images = subst (λ g. AllZip (IsImageOf c.functions) (filter (is_carried_segment c.functions) (segments_of known.t)) (given_segments g)) (sym cloned.lines) known.images;
+      depths = depths_of es;
+      order = cloned.order;
+      says = cloned.says ∙ wanted-is;
+      texts = cloned.texts;
+      writable = record {
+        size = cloned.size ∙ sized;
+        ended = ap (λ (g : GivenLines). g.begun) cloned.lines ∙ known.ended;
+        named = names;
+      };
+      widest = subst (λ (g : GivenLines). widest_table_for g.address_size g ≤ widest_table c.functions (table_of_unit c.sections u)) (sym cloned.lines) (subst (λ t. widest_table_for begun.lines.address_size begun.lines ≤ widest_table c.functions t) (sym known.is_read) known.widest);
+    }
+
+    pub accepted : option_map in_reading (lines_refusal k.unit.now.sections h table) ≡ None → option_map in_reading (first_of (refusals_of c u)) ≡ None
+    accepted none = ap (λ (rs : List Refusal). option_map in_reading (first_of rs)) (refusals-are none ∙ cloned.accepted)

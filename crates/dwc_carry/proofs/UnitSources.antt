@@ -1,0 +1,239 @@
+-- What a unit of a module is cloned with is as the definitions have it, and its kept entries can be cloned.
+use Rattle.std.proofs.Common.{◌≡◌, ℕ, suc, ◌<◌, List, [], ◌∷◌, length, map, refl, ap, sym, subst, ◌∙◌, inl, inr, arith, Bool, true, false, cond, Option, Some, None, All}
+use Rattle.std.specs.Prelude.{◌==◌, if◌then◌else◌, option_and_then}
+use Rattle.std.specs.List.{filter, AllZip}
+use Rattle.std.proofs.lemmas.Bool.{eq-eqb, eqb-true, ne_eqb}
+use Rattle.std.proofs.lemmas.List.{length-map}
+use Rattle.std.proofs.lemmas.List.Elements.{All-head, All-tail, All-cons}
+use Rattle.dwc_base.specs.declared.constants.TheConstants.{DW_TAG_compile_unit}
+use Rattle.dwc_base.specs.Sections.{Sections, Fault}
+use Rattle.dwc_base.specs.Listing.{Listing}
+use Rattle.dwc_base.specs.Units.{UnitHeader, unit_headers}
+use Rattle.dwc_base.specs.Entries.{Entry, entries}
+use Rattle.dwc_base.specs.ReadValues.{IsReadEntry}
+use Rattle.dwc_base.specs.Carried.{Unit, Module, units, units_of_headers, root, has_root_tag}
+use Rattle.dwc_base.specs.EntryRules.{is_required}
+use Rattle.dwc_base.specs.Indexed.{texts_of_unit}
+use Rattle.dwc_base.specs.Kept.{Placed}
+use Rattle.dwc_base.specs.Functions.{Function}
+use Rattle.dwc_base.specs.Targets.{target_of}
+use Rattle.dwc_base.specs.Trees.{place_among}
+use Rattle.dwc_base.specs.KeptModules.{kept_module}
+use Rattle.dwc_base.specs.CarriedDrafts.{source_of}
+use Rattle.dwc_base.specs.Forests.{kept_of}
+use Rattle.dwc_base.proofs.ReadValuesEntries.{entries-read}
+use Rattle.dwc_kept.specs.declared.read_unit.ReadUnit.{ReadUnit}
+use Rattle.dwc_kept.specs.declared.kept_units.KeptModule.{KeptModule}
+use Rattle.dwc_kept.specs.UnitOffsets.{RiseIn}
+use Rattle.dwc_kept.specs.KeptUnits.{is_in_unit, stands_at, kept_of_unit, IsTree, AreEntryOffsets}
+use Rattle.dwc_kept.specs.ReadEntries.{named_offset}
+use Rattle.dwc_kept.specs.ReadUnits.{unit_read, IsReadUnit, IsKeptModule, is_carried_read}
+use Rattle.dwc_kept.proofs.InLists.{IsIn, contains-in}
+use Rattle.dwc_kept.proofs.ReadLaws.{first-unit, first-fault}
+use Rattle.dwc_kept.proofs.KeptStanding.{UnitsStand}
+use Rattle.dwc_kept.proofs.KeptInUnits.{are-kept}
+use Rattle.dwc_kept.proofs.KeptModuleLaws.{read-unit, read-in, read-within, read-tree, read-root, read-reference, read-lists}
+use Rattle.dwc_clone.specs.declared.source.CloneSource.{CloneSource}
+use Rattle.dwc_clone.specs.Sources.{AreFiles, IsSource}
+use Rattle.dwc_clone.specs.OutputPlaces.{place_of}
+use Rattle.dwc_clone.specs.ClonedUnits.{picked, depths_of, AreClonable}
+use Rattle.dwc_carry.specs.ModulePlaces.{emitted}
+use Rattle.dwc_carry.specs.CarriedUnits.{IsOfModule, IsUnitOf}
+use Rattle.dwc_carry.proofs.UnitsInOrder.{emitted-carried}
+use Rattle.dwc_carry.proofs.PlaceLaws.{lists-among}
+
+-- ---- lists
+
+all-in : {A : Type 0} (P : A → Type 0) (xs : List A) (x : A) → All P xs → IsIn x xs → P x
+all-in P [] x h i = absurd i
+all-in P (y ∷ xs) x h (inl e) = subst P (sym e) (All-head P y xs h)
+all-in P (y ∷ xs) x h (inr i) = all-in P xs x (All-tail P y xs h) i
+
+all-passing : {A : Type 0} (P : A → Type 0) (t : A → Bool) (xs : List A) → All P xs → All P (filter t xs)
+all-passing P t [] h = h
+all-passing {A} P t (x ∷ xs) h = go (t x) (all-passing P t xs (All-tail P x xs h))
+  where
+    go : (b : Bool) → All P (filter t xs) → All P (cond {A = List A} b (x ∷ filter t xs) (filter t xs))
+    go true more = All-cons P x (filter t xs) (All-head P x xs h) more
+    go false more = more
+
+-- ---- units
+
+header-in : (s : Sections) (hs : List UnitHeader) (rs : List ReadUnit) (r : ReadUnit) → AllZip (IsReadUnit s) hs rs → IsIn r rs → IsIn r.unit.header hs
+header-in s [] [] r zip i = absurd i
+header-in s [] (x ∷ rs) r zip i = absurd zip
+header-in s (h ∷ hs) [] r zip i = absurd zip
+header-in s (h ∷ hs) (x ∷ rs) r zip (inl e) = inl (ap (λ (y : ReadUnit). y.unit.header) e ∙ (zip.0).header)
+header-in s (h ∷ hs) (x ∷ rs) r zip (inr i) = inr (header-in s hs rs r zip.1 i)
+
+-- where units have no fault, the entries of none of them have one
+fault-none : (s : Sections) (hs : List UnitHeader) (last : Option Fault) (k : UnitHeader) → (units_of_headers s hs last).fault ≡ None → IsIn k hs → (entries s k).fault ≡ None
+fault-none s [] last k none i = absurd i
+fault-none s (h ∷ hs) last k none i = go (entries s h).fault refl (λ n j. fault-none s hs last k n j) i
+  where
+    clash : (fault : Fault) → Some fault ≡ None → ⊥
+    clash fault e = cc
+
+    go : (o : Option Fault) → (entries s h).fault ≡ o → ((units_of_headers s hs last).fault ≡ None → IsIn k hs → (entries s k).fault ≡ None) → IsIn k (h ∷ hs) → (entries s k).fault ≡ None
+    go (Some fault) is rest j = absurd (clash fault (sym (ap (λ (l : Listing Fault Unit). l.fault) (first-fault s h hs last fault is)) ∙ none))
+    go None is rest (inl e) = ap (λ x. (entries s x).fault) e ∙ is
+    go None is rest (inr j) = rest (sym (ap (λ (l : Listing Fault Unit). l.fault) (first-unit s h hs last is)) ∙ none) j
+
+whole-fault : (s : Sections) (k : UnitHeader) → (units s).fault ≡ None → IsIn k (unit_headers s).items → (entries s k).fault ≡ None
+unfolding units
+whole-fault s k none i = fault-none s (unit_headers s).items (unit_headers s).fault k none i
+
+unit-rises : (from : ℕ) (us : List Unit) (u : Unit) → UnitsStand from us → IsIn u us → RiseIn u.header.offset u.header.end u.entries
+unit-rises from [] u h i = absurd i
+unit-rises from (v ∷ vs) u h (inl e) = subst (λ w. RiseIn w.header.offset w.header.end w.entries) (sym e) h.2
+unit-rises from (v ∷ vs) u h (inr i) = unit-rises v.header.end vs u h.4 i
+
+-- ---- the entries at the offsets of those that pass a test
+
+kept-above : (t : Entry → Bool) (from end : ℕ) (es : List Entry) → RiseIn from end es → (k : ℕ) → k < from → (ks : List ℕ) (others : List ℕ) → map (λ (e : Entry). e.offset) (filter t es) ≡ ks → ks ≡ k ∷ others → ⊥
+kept-above t from end [] rise k less ks others is e = clash (sym e ∙ sym is)
+  where
+    clash : k ∷ others ≡ [] → ⊥
+    clash x = cc
+kept-above t from end (x ∷ es) rise k less ks others is e = go (t x) refl (kept-above t (suc x.offset) end es rise.2 k (omega (arith, less, rise.0)))
+  where
+    first-same : x.offset ∷ map (λ (e : Entry). e.offset) (filter t es) ≡ k ∷ others → x.offset ≡ k
+    first-same y = cc
+
+    go : (b : Bool) → t x ≡ b → ((ls ms : List ℕ) → map (λ (e : Entry). e.offset) (filter t es) ≡ ls → ls ≡ k ∷ ms → ⊥) → ⊥
+    go true at rest =
+        let same = first-same (sym (ap (λ b. map (λ (e : Entry). e.offset) (cond {A = List Entry} b (x ∷ filter t es) (filter t es))) at) ∙ is ∙ e) in
+        absurd (omega (arith, same, less, rise.0))
+    go false at rest = rest ks others (sym (ap (λ b. map (λ (e : Entry). e.offset) (cond {A = List Entry} b (x ∷ filter t es) (filter t es))) at) ∙ is) e
+
+picked-passing : (t : Entry → Bool) (from end : ℕ) (es : List Entry) → RiseIn from end es → picked (map (λ (e : Entry). e.offset) (filter t es)) es ≡ filter t es
+picked-passing t from end [] rise = refl
+picked-passing t from end (x ∷ es) rise = go (t x) (picked-passing t (suc x.offset) end es rise.2)
+  where
+    passed : (ks : List ℕ) → map (λ (e : Entry). e.offset) (filter t es) ≡ ks → picked ks es ≡ filter t es → picked ks (x ∷ es) ≡ filter t es
+    passed [] is h = sym (none (filter t es) is)
+      where
+        none : (fs : List Entry) → map (λ (e : Entry). e.offset) fs ≡ [] → fs ≡ []
+        none [] e = refl
+        none (f ∷ fs) e = absurd (clash e)
+          where
+            clash : f.offset ∷ map (λ (g : Entry). g.offset) fs ≡ [] → ⊥
+            clash y = cc
+    passed (k ∷ ks) is h =
+        ap (λ b. cond {A = List Entry} b (x ∷ picked ks es) (picked (k ∷ ks) es)) (ne_eqb x.offset k (λ e. kept-above t (suc x.offset) end es rise.2 k (omega (arith, e)) (k ∷ ks) ks is refl)) ∙ h
+
+    go : (b : Bool) → picked (map (λ (e : Entry). e.offset) (filter t es)) es ≡ filter t es
+        → picked (map (λ (e : Entry). e.offset) (cond {A = List Entry} b (x ∷ filter t es) (filter t es))) (x ∷ es) ≡ cond {A = List Entry} b (x ∷ filter t es) (filter t es)
+    go true h =
+        ap (λ b. cond {A = List Entry} b (x ∷ picked (map (λ (e : Entry). e.offset) (filter t es)) es) (picked (x.offset ∷ map (λ (e : Entry). e.offset) (filter t es)) es)) (eq-eqb x.offset x.offset refl)
+        ∙ ap (λ ys. x ∷ ys) h
+    go false h = passed (map (λ (e : Entry). e.offset) (filter t es)) refl h
+
+-- ---- a root's tag
+
+tag-of : (h : UnitHeader) (es : List Entry) (first : Entry) → root (record { header = h; entries = es }) ≡ Some first → has_root_tag DW_TAG_compile_unit (record { header = h; entries = es }) ≡ (first.tag == DW_TAG_compile_unit)
+tag-of h [] first e = absurd (clash e)
+  where
+    clash : ◌≡◌ {A = Option Entry} None (Some first) → ⊥
+    clash x = cc
+tag-of h (x ∷ es) first e = ap (λ (y : Entry). y.tag == DW_TAG_compile_unit) (same e)
+  where
+    same : ◌≡◌ {A = Option Entry} (Some x) (Some first) → x ≡ first
+    same y = cc
+
+option-same : {A B : Type 0} (f g : A → Option B) (o : Option A) → ((x : A) → f x ≡ g x) → option_and_then f o ≡ option_and_then g o
+option-same f g None same = refl
+option-same f g (Some x) same = same x
+
+-- a unit with offsets is a compile unit
+compiled : (kept os : List ℕ) (h : UnitHeader) (b : Bool) → os ≡ (if b then filter (is_in_unit h) kept else []) → 0 < length os → (b ≡ true) × (os ≡ filter (is_in_unit h) kept)
+compiled kept os h true is some = (refl, is)
+compiled kept os h false is some = absurd (omega (arith, some, ap length is))
+
+-- ---- one unit of a module
+
+-- The unit that is cloned, as it was read.
+abbrev pub read_of : CloneSource → Bool → Option ℕ → ReadUnit
+read_of k compile table = record { unit = k.unit.now; is_compile_unit = compile; line_table = table }
+
+module _ (k : CloneSource) (compile : Bool) (table : Option ℕ) (c : Module) (m : KeptModule) (first number : ℕ) (kept : List ℕ)
+    (of : IsUnitOf c k.transform.now m first number k.places.now kept (read_of k compile table)) where
+  abbrev pub unit_of : Unit
+  unit_of = unit_read c.sections k.unit.now.header
+
+  abbrev is : IsKeptModule c.functions c.sections m
+  is = (of.module_is).is
+
+  pub unit-in : IsIn (read_of k compile table) m.units.items
+  unit-in = contains-in m.units.items (read_of k compile table) of.one
+
+  pub unit-is : IsReadUnit c.sections k.unit.now.header (read_of k compile table)
+  unit-is = read-unit c m is (read_of k compile table) unit-in
+
+  compile-is : (compile ≡ true) × (kept ≡ filter (is_in_unit k.unit.now.header) m.kept)
+  compile-is = compiled m.kept kept k.unit.now.header compile of.offsets of.some
+
+  offsets-are : kept ≡ map (λ (e : Entry). e.offset) (kept_of_unit m.kept unit_of)
+  offsets-are = compile-is.1 ∙ read-within c m is (read_of k compile table) unit-in
+
+  header-there : IsIn k.unit.now.header (unit_headers c.sections).items
+  header-there = header-in c.sections (unit_headers c.sections).items m.units.items (read_of k compile table) is.units unit-in
+
+  pub no-fault : (entries k.unit.now.sections k.unit.now.header).fault ≡ None
+  no-fault = ap (λ s. (entries s k.unit.now.header).fault) unit-is.sections ∙ whole-fault c.sections k.unit.now.header is.whole header-there
+
+  rises : RiseIn k.unit.now.header.offset k.unit.now.header.end (entries c.sections k.unit.now.header).items
+  rises = unit-rises 0 (kept_of c).units unit_of (are-kept (λ u. is_required c.functions c.sections u.header) c is.whole).stand (read-in c m is (read_of k compile table) unit-in)
+
+  -- The entries at the offsets are the unit's kept ones.
+  pub picked-are : picked kept (entries k.unit.now.sections k.unit.now.header).items ≡ kept_of_unit m.kept unit_of
+  picked-are =
+      ap (λ s. picked kept (entries s k.unit.now.header).items) unit-is.sections
+      ∙ ap (λ os. picked os (entries c.sections k.unit.now.header).items) offsets-are
+      ∙ picked-passing (stands_at m.kept) k.unit.now.header.offset k.unit.now.header.end (entries c.sections k.unit.now.header).items rises
+
+  all-read : All IsReadEntry (entries c.sections k.unit.now.header).items
+  all-read = all-in (λ h. All IsReadEntry (entries c.sections h).items) (unit_headers c.sections).items k.unit.now.header (entries-read c.sections (of.module_is).bytes) header-there
+
+  pub clonable : AreClonable (picked kept (entries k.unit.now.sections k.unit.now.header).items)
+  clonable = subst AreClonable (sym picked-are) (go (kept_of_unit m.kept unit_of) refl)
+    where
+      go : (es : List Entry) → kept_of_unit m.kept unit_of ≡ es → AreClonable es
+      go [] e = absurd (omega (arith, of.some, ap length offsets-are, length-map (kept_of_unit m.kept unit_of) (λ (x : Entry). x.offset), ap length e))
+      go (x ∷ others) e = record {
+        root = x;
+        others = others;
+        are = refl;
+        tag = eqb-true x.tag DW_TAG_compile_unit (sym (tag-of k.unit.now.header (entries c.sections k.unit.now.header).items x (read-root c m is (read_of k compile table) unit-in x others e)) ∙ sym unit-is.tag ∙ compile-is.0);
+        tree = subst (λ (es : List Entry). IsTree (depths_of es)) e (read-tree c m is (read_of k compile table) unit-in);
+        read = subst (All IsReadEntry) e (all-passing IsReadEntry (stands_at m.kept) (entries c.sections k.unit.now.header).items all-read);
+      }
+
+  -- The root of the unit is the first of its kept entries.
+  pub first-root : (root : Entry) (others : List Entry) → kept_of_unit m.kept unit_of ≡ root ∷ others → Rattle.dwc_base.specs.Carried.root unit_of ≡ Some root
+  first-root root others e = read-root c m is (read_of k compile table) unit-in root others e
+
+  lists-are : AreEntryOffsets (kept_of c) (emitted m.kept m.units.items)
+  lists-are = subst (AreEntryOffsets (kept_of c)) (sym (emitted-carried m.kept m.units.items)) (read-lists c m is (filter (is_carried_read m.kept) m.units.items))
+
+  place-is : (o : ℕ) → place_of k.places.now o ≡ place_among (λ j. j == o) first (emitted m.kept m.units.items)
+  place-is o = ap (λ ps. place_of ps o) of.places_are ∙ lists-among first (emitted m.kept m.units.items) o
+
+  pub source-is : AreFiles k.files k.unit.now.header.version (source_of (kept_of c) unit_of).table → IsSource k number (source_of (kept_of c) unit_of)
+  unfolding source_of kept_module
+  source-is files = record {
+    version = refl;
+    texts = ap (λ s. texts_of_unit s k.unit.now.header) (sym unit-is.sections);
+    files = files;
+    targets = λ e v own.
+        option-same (λ (f : Placed). place_of k.places.now f.entry.offset) (λ f. place_among (λ j. j == f.entry.offset) first (emitted m.kept m.units.items)) (target_of (kept_of c).entries e v) (λ f. place-is f.entry.offset)
+        ∙ read-reference c m is (read_of k compile table) unit-in (emitted m.kept m.units.items) lists-are first e own v
+        ∙ option-same (λ offset. place_among (λ j. j == offset) first (emitted m.kept m.units.items)) (place_of k.places.now) (named_offset k.unit.now.header.offset k.unit.now.header.end v) (λ offset. sym (place-is offset));
+    own = of.own;
+  }
+
+-- The entries of a unit of a module were read.
+pub entries-of-read : (c : Module) (fs : List Function) (m : KeptModule) (r : ReadUnit) → IsOfModule c fs m → IsIn r m.units.items → All IsReadEntry (entries r.unit.sections r.unit.header).items
+entries-of-read c fs m r of i =
+    subst (λ s. All IsReadEntry (entries s r.unit.header).items) (sym (read-unit c m of.is r i).sections)
+    (all-in (λ h. All IsReadEntry (entries c.sections h).items) (unit_headers c.sections).items r.unit.header (entries-read c.sections of.bytes) (header-in c.sections (unit_headers c.sections).items m.units.items r of.is.units i))

@@ -1,0 +1,93 @@
+use Rattle.std.proofs.Common.{◌<◌, ◌≤◌, ◌+◌, ◌∷◌, arith, drop, length, sym, subst, refl}
+use Rattle.std.proofs.lemmas.List.{drop_all}
+use Rattle.std.proofs.lemmas.Result.{err_from_is_err_and}
+use Rattle.dwc_base.specs.Carried.{Module}
+use Rattle.dwc_kept.proofs.KeptModuleLaws.{read-unit}
+use Rattle.dwc_carry.specs.LastLines.{IsLast}
+use Rattle.dwc_carry.specs.CarriedUnits.{IsOfModule}
+use Rattle.dwc_carry.proofs.UnitLoopLaws.{UnitsSoFar, units-begin, units-done, units-none, units-some, units-refused, refused-all, unit-there, units-left, unit-next, of-itself}
+use Rattle.dwc_carry.proofs.UnitSources.{entries-of-read}
+use Rattle.dwc_carry.proofs.carry_units.carry_units.Goals.{then-kept-gt0+in_ok-last, else-kept-gt0}
+use Rattle.dwc_carry.proofs.carry_units.carry_units.Goals as goal
+
+pub loop-i-init : goal.loop-i-init
+loop-i-init c = record {
+  added = λ d of. units-begin d c.args.read_module.now c.args.form.encoding.address_size c.args.form.big_endian (length c.args.dwarf.now.units.units.items) c.args.dwarf.now refl (of-itself d c.args.transform.now c.args.read_module.now of);
+  known = λ d of. tt;
+}
+
+pub carry_unit-requires-clause-known : goal.carry_unit-requires-clause-known
+carry_unit-requires-clause-known c =
+    let m = c.args.read_module.now in
+    let r = c.index-read.result.now in
+    let less : c.loop-i.i < length m.units.items = omega (arith, c.loop-i-test.true, c.len-i-end.ensures, m.units.ok) in
+    let d = c.requires.read.of in
+    let of = c.requires.read.is in
+    subst (λ s. IsLast c.args.transform.now c.args.form.encoding.address_size s c.loop-i.dwarf.units.units.items c.loop-i.last) (sym (read-unit d m of.is r (unit-there c.args.transform.now m c.loop-i.i r less c.index-read.ensures)).sections) (c.loop-i.invariant.known d of)
+
+pub carry_unit-requires-clause-read : goal.carry_unit-requires-clause-read
+carry_unit-requires-clause-read c =
+    let m = c.args.read_module.now in
+    let r = c.index-read.result.now in
+    let less : c.loop-i.i < length m.units.items = omega (arith, c.loop-i-test.true, c.len-i-end.ensures, m.units.ok) in
+    entries-of-read c.requires.read.of c.args.transform.now m r c.requires.read.is (unit-there c.args.transform.now m c.loop-i.i r less c.index-read.ensures)
+
+pub returns-in_err-last : goal.returns-in_err-last
+returns-in_err-last c = λ d of.
+    let m = c.args.read_module.now in
+    let r = c.index-read.result.now in
+    let fs = c.args.transform.now in
+    let size = c.args.form.encoding.address_size in
+    let big = c.args.form.big_endian in
+    let old = c.args.dwarf.now in
+    let new = c.loop-i.dwarf in
+    let less : c.loop-i.i < length m.units.items = omega (arith, c.loop-i-test.true, c.len-i-end.ensures, m.units.ok) in
+    let first = length old.units.units.items in
+    let here : UnitsSoFar d m size big first m.units.items old new (r ∷ drop (c.loop-i.i + 1) m.units.items) =
+    subst (UnitsSoFar d m size big first m.units.items old new) (units-left fs m c.loop-i.i r less c.index-read.ensures) (c.loop-i.invariant.added d of) in
+    let one = unit-next fs m c.loop-i.i r less c.index-read.ensures d size big first old new c.args.places.now c.carried_entries-kept.result.now of c.carried_entries-kept.ensures c.if-kept-gt0.true c.requires.places here in
+    let some = subst (λ xs. 0 < length xs) c.carried_entries-kept.ensures c.if-kept-gt0.true in
+    let p = err_from_is_err_and c.from_residual.result c.from_residual.ensures.1 in
+    rw (p.1, p.2)
+    (refused-all d m size big first m.units.items old new refl (of-itself d fs m of) c.in_err-last.field-0.0
+    (units-refused d m size big first m.units.items old new r (drop (c.loop-i.i + 1) m.units.items) here some c.in_err-last.field-0.0 (c.in_err-last.ensures d m first one)))
+
+pub loop-i-preserved : goal.loop-i-preserved
+loop-i-preserved c =
+    let m = c.args.read_module.now in
+    let r = c.index-read.result.now in
+    let fs = c.args.transform.now in
+    let size = c.args.form.encoding.address_size in
+    let big = c.args.form.big_endian in
+    let old = c.args.dwarf.now in
+    let new = c.loop-i.dwarf in
+    let less : c.loop-i.i < length m.units.items = omega (arith, c.loop-i-test.true, c.len-i-end.ensures, m.units.ok) in
+    let first = length old.units.units.items in
+    let rest = drop (c.loop-i.i + 1) m.units.items in
+    let here = λ (d : Module) (of : IsOfModule d fs m). subst (UnitsSoFar d m size big first m.units.items old new) (units-left fs m c.loop-i.i r less c.index-read.ensures) (c.loop-i.invariant.added d of) in
+    let one = λ (d : Module) (of : IsOfModule d fs m) (some : 0 < length c.carried_entries-kept.result.now).
+    unit-next fs m c.loop-i.i r less c.index-read.ensures d size big first old new c.args.places.now c.carried_entries-kept.result.now of c.carried_entries-kept.ensures some c.requires.places (here d of) in
+    elim c.if-kept-gt0.branch [
+      | then-kept-gt0+in_ok-last w ↦
+          let some = subst (λ xs. 0 < length xs) c.carried_entries-kept.ensures w.if-kept-gt0.true in
+          record {
+            added = λ d of. let given = w.in_ok-last.ensures d m first (one d of w.if-kept-gt0.true) in rw w.dwarf-is (units-some d m size big first m.units.items old new r rest (here d of) some w.carry_unit.new.dwarf given.0 given.1.0);
+            known = λ d of. let given = w.in_ok-last.ensures d m first (one d of w.if-kept-gt0.true) in
+                rw (w.dwarf-is, w.last-is) (subst (λ gs. IsLast gs size d.sections w.carry_unit.new.dwarf.units.units.items w.in_ok-last.last) of.functions given.1.1);
+          }
+      | else-kept-gt0 w ↦ record {
+        added = λ d of. rw w.dwarf-is (units-none d m size big first m.units.items old new r rest (here d of) (subst (λ xs. length xs ≤ 0) c.carried_entries-kept.ensures w.if-kept-gt0.false));
+        known = λ d of. rw (w.dwarf-is, w.last-is) (c.loop-i.invariant.known d of);
+      }
+    ]
+
+pub returns : goal.returns
+returns c = λ d of.
+    let m = c.args.read_module.now in
+    let size = c.args.form.encoding.address_size in
+    let big = c.args.form.big_endian in
+    let old = c.args.dwarf.now in
+    let new = c.loop-i.dwarf in
+    let first = length old.units.units.items in
+    let past : length m.units.items ≤ c.loop-i.i = omega (arith, c.loop-i-test.false, c.len-i-end.ensures, m.units.ok) in
+    units-done d m size big first m.units.items old new (subst (UnitsSoFar d m size big first m.units.items old new) (drop_all c.loop-i.i m.units.items past) (c.loop-i.invariant.added d of)) refl refl (of-itself d c.args.transform.now m of)
