@@ -5,6 +5,7 @@ pub mod KeptModules
 pub mod LastLaws
 pub mod MadeLaws
 pub mod LinesNamed
+pub mod ModuleGives
 pub mod ModuleLoopLaws
 pub mod ResolvedLaws
 pub mod RefusalLaws

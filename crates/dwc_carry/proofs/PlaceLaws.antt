@@ -21,7 +21,7 @@ use Rattle.dwc_kept.specs.declared.read_unit.ReadUnit.{ReadUnit}
 use Rattle.dwc_kept.specs.declared.kept_units.KeptModule.{KeptModule}
 use Rattle.dwc_kept.specs.KeptUnits.{kept_of_unit}
 use Rattle.dwc_kept.specs.ReadUnits.{unit_read, IsKeptModule, is_carried_read}
-use Rattle.dwc_kept.proofs.InLists.{IsIn, in-filter}
+use Rattle.dwc_base.proofs.InLists.{IsIn, in-filter}
 use Rattle.dwc_kept.proofs.KeptModuleLaws.{read-within, read-entries, carried-read}
 use Rattle.dwc_clone.specs.declared.places.EmittedEntry.{EmittedEntry}
 use Rattle.dwc_clone.specs.OutputPlaces.{numbered, offsets_of, place_of, goal_place}

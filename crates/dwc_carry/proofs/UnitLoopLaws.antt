@@ -16,7 +16,7 @@ use Rattle.dwc_kept.specs.declared.read_unit.ReadUnit.{ReadUnit}
 use Rattle.dwc_kept.specs.declared.kept_units.KeptModule.{KeptModule}
 use Rattle.dwc_kept.specs.KeptUnits.{is_in_unit}
 use Rattle.dwc_kept.specs.ReadUnits.{unit_read, is_carried_read}
-use Rattle.dwc_kept.proofs.InLists.{IsIn, at-in, in-contains}
+use Rattle.dwc_base.proofs.InLists.{IsIn, at-in, in-contains}
 use Rattle.dwc_kept.proofs.KeptModuleLaws.{carried-read}
 use Rattle.dwc_clone.specs.declared.places.EmittedEntry.{EmittedEntry}
 use Rattle.dwc_clone.specs.OutputPlaces.{place_of}

@@ -29,7 +29,7 @@ use Rattle.dwc_kept.specs.declared.kept_units.KeptModule.{KeptModule}
 use Rattle.dwc_kept.specs.KeptUnits.{IsTree}
 use Rattle.dwc_kept.specs.ReadUnits.{unit_read}
 use Rattle.dwc_kept.specs.declared.read_unit.ReadUnit.{ReadUnit}
-use Rattle.dwc_kept.proofs.InLists.{contains-in}
+use Rattle.dwc_base.proofs.InLists.{contains-in}
 use Rattle.dwc_kept.proofs.KeptModuleLaws.{read-unit, read-entries}
 use Rattle.dwc_base.specs.Functions.{Function}
 use Rattle.dwc_clone.specs.declared.places.EmittedEntry.{EmittedEntry}

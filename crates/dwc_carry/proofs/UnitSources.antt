@@ -24,11 +24,11 @@ use Rattle.dwc_base.specs.Forests.{kept_of}
 use Rattle.dwc_base.proofs.ReadValuesEntries.{entries-read}
 use Rattle.dwc_kept.specs.declared.read_unit.ReadUnit.{ReadUnit}
 use Rattle.dwc_kept.specs.declared.kept_units.KeptModule.{KeptModule}
-use Rattle.dwc_kept.specs.UnitOffsets.{RiseIn}
+use Rattle.dwc_base.specs.UnitOffsets.{RiseIn}
 use Rattle.dwc_kept.specs.KeptUnits.{is_in_unit, stands_at, kept_of_unit, IsTree, AreEntryOffsets}
 use Rattle.dwc_kept.specs.ReadEntries.{named_offset}
 use Rattle.dwc_kept.specs.ReadUnits.{unit_read, IsReadUnit, IsKeptModule, is_carried_read}
-use Rattle.dwc_kept.proofs.InLists.{IsIn, contains-in}
+use Rattle.dwc_base.proofs.InLists.{IsIn, contains-in}
 use Rattle.dwc_kept.proofs.ReadLaws.{first-unit, first-fault}
 use Rattle.dwc_kept.proofs.KeptStanding.{UnitsStand}
 use Rattle.dwc_kept.proofs.KeptInUnits.{are-kept}

@@ -11,9 +11,9 @@ use Rattle.dwc_base.specs.EntryRules.{is_required}
 use Rattle.dwc_kept.specs.declared.read_unit.ReadUnit.{ReadUnit}
 use Rattle.dwc_kept.specs.declared.kept_units.KeptModule.{KeptModule}
 use Rattle.dwc_kept.specs.KeptUnits.{is_in_unit}
-use Rattle.dwc_kept.specs.UnitOffsets.{StandFrom}
+use Rattle.dwc_base.specs.UnitOffsets.{StandFrom}
 use Rattle.dwc_kept.specs.ReadUnits.{IsReadUnit, IsKeptModule, is_carried_read}
-use Rattle.dwc_kept.proofs.UnitOffsets.{units-stand}
+use Rattle.dwc_base.proofs.UnitOffsets.{units-stand}
 use Rattle.dwc_kept.proofs.KeptUnitLaws.{kept-rise}
 use Rattle.dwc_kept.proofs.KeptModuleLaws.{read-kept}
 use Rattle.dwc_carry.specs.ModulePlaces.{carried_offsets, has_some, emitted}

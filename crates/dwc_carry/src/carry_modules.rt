@@ -1,5 +1,7 @@
 //! The units of the output, from the modules of an input.
-ghost use Rattle.std.specs.Prelude.{◌≡◌, ◌⊎◌, length, All};
+ghost use Rattle.std.specs.Prelude.{◌≡◌, ◌⊎◌, ◌<◌, length, All};
+ghost use Rattle.dwc_base.specs.declared.section_name.SectionName.TheVariants.{Info};
+ghost use Rattle.dwc_base.specs.Translations.{translation_sections};
 ghost use Rattle.dwc_image.specs.CarriedLines.{AreKept};
 ghost use Rattle.dwc_carry.specs.CarriedModules.{transformed_module, transformed_modules, GivesModule, GivesModules};
 
@@ -8,11 +10,21 @@ use crate::carry_units::carry_units;
 use crate::module_places::module_places;
 use crate::output_form::OutputForm;
 use dwc_addr::AddressTransform;
-use dwc_base::{Kind, ModuleTranslation};
+use dwc_base::{Kind, ModuleTranslation, SectionName};
 use dwc_kept::kept_module;
 use dwc_read::Sections;
 use dwc_write::Dwarf;
 use std::alloc::Global;
+
+// The sections of a module, whose `.debug_info` is bytes.
+fn sections_of<'d>(translation: &ModuleTranslation<'d>) -> Sections<'d>
+    ensures sections { result ≡ translation_sections translation.now }
+    ensures bytes { All (λ b. b < 256) ((translation_sections translation.now).bytes Info) }
+{
+    let sections = Sections::of_module(translation);
+    let _ = sections.bytes(SectionName::Info);
+    sections
+}
 
 // Adds the units of the output that carry those of a module: its entries are read once to find those that are kept, and once more, unit
 // by unit, to be cloned.
@@ -34,7 +46,7 @@ fn carry_module(
             offset,
         });
     }
-    let module = kept_module(alloc, Sections::of_module(translation), transform)?;
+    let module = kept_module(alloc, sections_of(translation), transform)?;
     let places = module_places(alloc, &module, dwarf.units.len())?;
     carry_units(alloc, &module, &places, transform, form, dwarf)
 }
