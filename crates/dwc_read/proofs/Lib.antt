@@ -15,3 +15,4 @@ pub mod LowPcLaws
 pub mod FirstBaseLaws
 pub mod IndexCases
 pub mod ReadValueLaws
+pub mod TextPlaceLaws

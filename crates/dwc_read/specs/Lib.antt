@@ -16,3 +16,4 @@ pub mod Elsewhere
 pub mod RootValues
 pub mod Bases
 pub mod Lent
+pub mod TextPlaces

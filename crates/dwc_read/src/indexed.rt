@@ -6,10 +6,11 @@ ghost use Rattle.dwc_base.specs.LineHeaders.{text_in as found_text};
 ghost use Rattle.dwc_base.specs.Texts.{offset_of_text as text_offset, text_elsewhere as text_of_form, text_named as named_text};
 ghost use Rattle.dwc_read.specs.Elsewhere.{UnreadFrom, texts_from};
 ghost use Rattle.dwc_read.specs.Headers.{header_view};
+ghost use Rattle.dwc_read.specs.TextPlaces.{place_elsewhere, text_place_named};
 ghost use Rattle.dwc_read.specs.ValuesSeen.{value_view};
 
 use crate::header::Header;
-use crate::{AttributeValue, Sections};
+use crate::{AttributeValue, Sections, TextPlace};
 use dwc_base::constants::{DW_FORM_line_strp, DW_FORM_strp};
 use dwc_base::fields::address;
 use dwc_base::{Address, Cursor, Endian, Flaw, SectionName};
@@ -124,6 +125,53 @@ pub fn text_named<'d>(
         AttributeValue::Text(bytes) => Ok(Some(bytes)),
         AttributeValue::TextRef { form, bits } => {
             Ok(Some(text_elsewhere(sections, base, form, bits)?))
+        }
+        _ => Ok(None),
+    }
+}
+
+// Where the text stands that a number of a form names.
+#[tactic(auto, unfolding(crate::specs::TextPlaces::place_elsewhere))]
+fn text_place_elsewhere(
+    sections: &Sections<'_>,
+    base: u64,
+    form: u16,
+    number: u64,
+) -> Result<TextPlace, Flaw>
+    ensures { GivesLast (λ p. p) (place_elsewhere (texts_from sections.now base) form number) result }
+{
+    match form {
+        DW_FORM_strp => Ok(TextPlace {
+            section: SectionName::Str,
+            offset: number,
+        }),
+        DW_FORM_line_strp => Ok(TextPlace {
+            section: SectionName::LineStr,
+            offset: number,
+        }),
+        _ => {
+            let offset = offset_of_text(sections, base, number)?;
+            Ok(TextPlace {
+                section: SectionName::Str,
+                offset: u64::from(offset),
+            })
+        }
+    }
+}
+
+// Where the text stands that a value names, the offsets of a unit's texts beginning at a base; None for a text in place, and for a value
+// that is no text.
+#[tactic(auto, unfolding(crate::specs::TextPlaces::text_place_named))]
+pub fn text_place(
+    sections: &Sections<'_>,
+    base: u64,
+    value: AttributeValue<'_>,
+) -> Result<Option<TextPlace>, Flaw>
+    ensures { GivesLast (λ p. p) (text_place_named (texts_from sections.now base) (value_view value.entry)) result }
+{
+    match value {
+        AttributeValue::TextRef { form, bits } => {
+            Ok(Some(text_place_elsewhere(sections, base, form, bits)?))
         }
         _ => Ok(None),
     }

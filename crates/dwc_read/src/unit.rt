@@ -5,11 +5,11 @@ ghost use Rattle.dwc_base.specs.FieldSizes.{is_field_size};
 use crate::bases::bases_of_unit;
 use crate::fault::reported;
 use crate::header::Header;
-use crate::indexed::{address_indexed, text_named};
+use crate::indexed::{address_indexed, text_named, text_place};
 use crate::lone::{lone_entry as read_alone, no_entry};
 use crate::table::Table;
 use crate::unit_table::{UnitTable, shared};
-use crate::{AttributeValue, Entries, Entry, ReadFault, Sections};
+use crate::{AttributeValue, Entries, Entry, ReadFault, Sections, TextPlace};
 use dwc_base::fields::address;
 use dwc_base::{Address, Cursor, Encoding, Endian, Flaw, Relocations, SectionName, What};
 use std::alloc::{AllocError, Global};
@@ -67,6 +67,7 @@ impl<'d> Unit<'d> {
     ghost use Rattle.dwc_base.specs.Lists.{first_base_of};
     ghost use Rattle.dwc_read.specs.Faults.{fault_seen};
     ghost use Rattle.dwc_read.specs.Bases.{address_of_value};
+    ghost use Rattle.dwc_read.specs.TextPlaces.{text_place_in_unit};
     ghost use Rattle.dwc_read.specs.ValuesSeen.{value_view};
 
     // The unit of a header, with what stands at the offset of its abbreviation table.
@@ -267,6 +268,23 @@ impl<'d> Unit<'d> {
     {
         match text_named(&self.sections, self.texts, *value) {
             Ok(text) => Ok(text),
+            Err(flaw) => Err(self.unreadable(flaw, What::Text)),
+        }
+    }
+
+    /// Where the text that a value names stands elsewhere: at an offset of `.debug_str` or `.debug_line_str`, for a text by an index the
+    /// offset that `.debug_str_offsets` says. (DWARF 5, sections 7.5.5 and 7.26.) None for a text in place, and for a value that is no text.
+    /// The text itself is not read.
+    ///
+    /// Answers `Read` with the unit's offset where the offset at an index passes the end of `.debug_str_offsets`, as [`Unit::name_of`]
+    /// does.
+    #[tactic(auto, unfolding(crate::specs::Bases::HasBases))]
+    pub fn text_place(&self, value: &AttributeValue<'d>) -> Result<Option<TextPlace>, ReadFault>
+        ensures place { GivesOrFault (λ p. p) (text_place_in_unit self.now.sections self.now.header (value_view value.now)) result }
+        ensures memory { result ≢ Err ReadFault.OutOfMemory }
+    {
+        match text_place(&self.sections, self.texts, *value) {
+            Ok(place) => Ok(place),
             Err(flaw) => Err(self.unreadable(flaw, What::Text)),
         }
     }
