@@ -7,3 +7,4 @@ pub mod EntryValues
 pub mod EntryPaths
 pub mod EntriesAdded
 pub mod UnitEntries
+pub mod KnownLaws

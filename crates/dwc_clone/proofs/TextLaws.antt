@@ -43,12 +43,12 @@ pub Grows-same : (table : List (List ℕ)) → Grows table table
 Grows-same table = record { more = []; is = sym (append-nil table) }
 
 -- A table has a text that was added at its first place, and has no less than before.
-record IsAdded (t : List ℕ) (old new : List (List ℕ)) (place : ℕ) : Type 0 where
+pub record IsAdded (t : List ℕ) (old new : List (List ℕ)) (place : ℕ) : Type 0 where
   pub inside : place < length new
   pub is : text_numbered new place ≡ t
   pub grows : Grows old new
 
-added : (t : List ℕ) (old : List (List ℕ)) → IsAdded t old (with_new_text old t) (position_or_len (bytes_eq t) old)
+pub added : (t : List ℕ) (old : List (List ℕ)) → IsAdded t old (with_new_text old t) (position_or_len (bytes_eq t) old)
 added t [] = record { inside = omega arith; is = refl; grows = record { more = t ∷ []; is = refl } }
 added t (x ∷ xs) = go (bytes_eq t x) (bytes_eq-Decides t x) (list_any (bytes_eq t) xs) (added t xs)
   where

@@ -3,3 +3,4 @@ pub mod Sources
 pub mod MadeValues
 pub mod ClonedUnits
 pub mod ClonedEntries
+pub mod KnownTexts

@@ -12,12 +12,13 @@ ghost use Rattle.dwc_read.specs.EntriesSeen.{entry_view};
 ghost use Rattle.dwc_write.specs.GivenUnits.{FitsValue};
 ghost use Rattle.dwc_clone.specs.declared.places.EmittedEntry.{EmittedEntry};
 ghost use Rattle.dwc_clone.specs.Sources.{AreFiles, IsSource};
+ghost use Rattle.dwc_clone.specs.KnownTexts.{KnowsTexts};
 ghost use Rattle.dwc_clone.specs.MadeValues.{GivesMade, Says, SaysMore, fault_told};
 
-use crate::CloneSource;
 use crate::names::{is_bound_name, is_dropped_name};
 use crate::text::text_of;
 use crate::value::{not_built, output_value};
+use crate::{CloneSource, KnownTexts};
 use dwc_base::constants::DW_AT_stmt_list;
 use dwc_read::{AttributeValue as InputValue, Entry, ReadFault, Unit};
 use dwc_write::{AttributeValue, StringTable};
@@ -84,7 +85,7 @@ fn line_table(source: &CloneSource<'_, '_>, entry: &Entry<'_>) -> Option<Attribu
 }
 
 /// What an attribute of an entry becomes; None where it goes. `begins` tells whether the entry is a subprogram that begins in a function
-/// with a symbol. Texts are added to `strings`.
+/// with a symbol. Texts are added to `strings`, and noted in `known`, by which they are found when they are named again.
 ///
 /// Answers `Read` with the entry's offset where a text, or an address by an index, cannot be read, and `Unsupported` `NotBuilt` with it
 /// for a bound of an entry that does not begin in a function, an address, a list and an expression.
@@ -95,11 +96,14 @@ pub(crate) fn output_attribute(
     entry: &Entry<'_>,
     attribute: &(u16, InputValue<'_>),
     strings: &mut StringTable,
+    known: &mut KnownTexts,
 ) -> Result<Option<AttributeValue>, ReadFault>
     requires begins { begins ≡ is_some (function_begun source.now.transform.now source.now.unit.now.sections source.now.unit.now.header (entry_view entry.now)) }
     requires read { IsReadValue attribute.now.0 (value_view attribute.now.1) }
+    requires known { KnowsTexts source.now.unit.now.sections strings.old known.old }
     ensures made { (number : ℕ) (s : UnitSource) (e : Placed) (before : List (ℕ × Value)) → IsSource source.now number s → e.unit ≡ source.now.unit.now.header.offset → e.entry ≡ entry_view entry.now → GivesMade (SaysMore source.now.places.now number attribute.now.0 strings.old strings.new) (attribute_becomes (code_rules source.now.transform.now source.now.unit.now.sections source.now.unit.now.header) s e before (attribute_view attribute.now)) result }
     ensures fits { IfOk result (λ v. (size : ℕ) → IfSome v (FitsValue size attribute.now.0)) }
+    ensures known { KnowsTexts source.now.unit.now.sections strings.new known.new }
 {
     let (name, value) = *attribute;
     if is_dropped_name(name) {
@@ -112,5 +116,5 @@ pub(crate) fn output_attribute(
         check_bound(source, begins, entry.offset, value)?;
         return Ok(None);
     }
-    output_value(alloc, source, entry.offset, name, value, strings)
+    output_value(alloc, source, entry.offset, name, value, strings, known)
 }

@@ -4,6 +4,7 @@
 mod attribute;
 mod entry;
 mod files;
+mod known_texts;
 mod names;
 mod places;
 mod reference;
@@ -13,6 +14,7 @@ mod unit;
 mod value;
 
 pub use files::UnitFiles;
+pub use known_texts::KnownTexts;
 pub use places::{OutputPlace, Places};
 pub use source::CloneSource;
 pub use unit::clone_unit;

@@ -7,9 +7,10 @@ ghost use Rattle.dwc_base.specs.Sections.{reported};
 ghost use Rattle.dwc_base.specs.Texts.{text_named};
 ghost use Rattle.dwc_base.specs.Indexed.{texts_of_unit};
 ghost use Rattle.dwc_read.specs.Faults.{GivesOrFault};
+ghost use Rattle.dwc_read.specs.TextPlaces.{text_place_named};
 ghost use Rattle.dwc_read.specs.ValuesSeen.{value_view};
 
-use dwc_read::{AttributeValue, ReadFault, Unit};
+use dwc_read::{AttributeValue, ReadFault, TextPlace, Unit};
 
 /// The text that a value of the entry at an offset names; None for a value that is no text.
 ///
@@ -24,6 +25,23 @@ pub(crate) fn text_of<'d>(
 {
     match unit.name_of(&value) {
         Ok(text) => Ok(text),
+        Err(fault) => Err(fault.at(offset)),
+    }
+}
+
+/// Where the text that a value of the entry at an offset names stands elsewhere; None for a text in place, and for a value that is no
+/// text.
+///
+/// Answers `Read` with that offset where the place cannot be read, and so the text cannot be.
+pub(crate) fn text_place_of<'d>(
+    unit: &Unit<'d>,
+    offset: u64,
+    value: AttributeValue<'d>,
+) -> Result<Option<TextPlace>, ReadFault>
+    ensures place { GivesOrFault (λ p. p) (reported Text Info offset (text_place_named (texts_of_unit unit.now.sections unit.now.header) (value_view value.entry))) result }
+{
+    match unit.text_place(&value) {
+        Ok(place) => Ok(place),
         Err(fault) => Err(fault.at(offset)),
     }
 }

@@ -19,12 +19,13 @@ ghost use Rattle.dwc_read.specs.Faults.{fault_seen};
 ghost use Rattle.dwc_write.specs.GivenUnits.{FitsValue};
 ghost use Rattle.dwc_clone.specs.declared.places.EmittedEntry.{EmittedEntry};
 ghost use Rattle.dwc_clone.specs.Sources.{AreFiles, IsSource};
+ghost use Rattle.dwc_clone.specs.KnownTexts.{KnowsTexts};
 ghost use Rattle.dwc_clone.specs.MadeValues.{GivesMade, Says, SaysMore, any_reference, own_reference, target_place};
 
 use crate::names::is_file_name;
 use crate::reference::target_place;
-use crate::text::text_of;
-use crate::{CloneSource, UnitFiles};
+use crate::text::{text_of, text_place_of};
+use crate::{CloneSource, KnownTexts, UnitFiles};
 use dwc_base::Kind;
 use dwc_base::constants::{DW_FORM_implicit_const, DW_FORM_sdata, DW_FORM_udata};
 use dwc_read::{AttributeValue as InputValue, ReadFault};
@@ -61,24 +62,32 @@ fn constant(files: UnitFiles, name: u16, form: u16, bits: u64) -> Option<Attribu
     })
 }
 
-// What a text of the entry at an offset becomes.
+// What a text of the entry at an offset becomes. One that is known by its place is not read again.
 fn text(
     source: &CloneSource<'_, '_>,
     offset: u64,
     name: u16,
     value: InputValue<'_>,
     strings: &mut StringTable,
+    known: &mut KnownTexts,
 ) -> Result<Option<AttributeValue>, ReadFault>
     requires read { IsReadValue name (value_view value) }
+    requires known { KnowsTexts source.now.unit.now.sections strings.old known.old }
     ensures made { (places : List EmittedEntry) (number : ℕ) → GivesMade (SaysMore places number name strings.old strings.new) (text_drafted of_place (reported Text Info offset (text_named (texts_of_unit source.now.unit.now.sections source.now.unit.now.header) (value_view value.entry)))) result }
     ensures fits { IfOk result (λ v. (size : ℕ) → IfSome v (FitsValue size name)) }
+    ensures known { KnowsTexts source.now.unit.now.sections strings.new known.new }
 {
+    let place = text_place_of(source.unit, offset, value)?;
+    if let Some(id) = known.find(place) {
+        return Ok(Some(AttributeValue::StringRef(id)));
+    }
     let Some(text) = text_of(source.unit, offset, value)? else {
         return Ok(None);
     };
     let Ok(id) = strings.add(text) else {
         return Err(ReadFault::OutOfMemory);
     };
+    known.note(place, id)?;
     Ok(Some(AttributeValue::StringRef(id)))
 }
 
@@ -110,7 +119,7 @@ fn block(alloc: Global, bytes: &[u8]) -> Result<AttributeValue, ReadFault>
 }
 
 /// What a value of the entry at an offset becomes, under a name that does not decide alone; None where it goes. Texts are added to
-/// `strings`.
+/// `strings`, and noted in `known`, by which they are found when they are named again.
 ///
 /// Answers `Read` with the entry's offset where a text cannot be read, and `Unsupported` `NotBuilt` with it for an address, a list
 /// and an expression.
@@ -121,17 +130,20 @@ pub(crate) fn output_value(
     name: u16,
     value: InputValue<'_>,
     strings: &mut StringTable,
+    known: &mut KnownTexts,
 ) -> Result<Option<AttributeValue>, ReadFault>
     requires read { IsReadValue name (value_view value) }
+    requires known { KnowsTexts source.now.unit.now.sections strings.old known.old }
     ensures made { (number : ℕ) (s : UnitSource) (e : Placed) → IsSource source.now number s → e.unit ≡ source.now.unit.now.header.offset → e.entry.offset ≡ offset → GivesMade (SaysMore source.now.places.now number name strings.old strings.new) (value_becomes (code_rules source.now.transform.now source.now.unit.now.sections source.now.unit.now.header) s e name (value_view value.entry)) result }
     ensures fits { IfOk result (λ v. (size : ℕ) → IfSome v (FitsValue size name)) }
+    ensures known { KnowsTexts source.now.unit.now.sections strings.new known.new }
 {
     match value {
         InputValue::Constant { form, bits } => Ok(constant(source.files, name, form, bits)),
         InputValue::Flag(flag) => Ok(Some(AttributeValue::Flag(flag))),
         InputValue::Block(bytes) => Ok(Some(block(alloc, bytes)?)),
         InputValue::Text(_) | InputValue::TextRef { .. } => {
-            text(source, offset, name, value, strings)
+            text(source, offset, name, value, strings, known)
         }
         InputValue::UnitRef(_) => Ok(unit_reference(source, value)),
         InputValue::InfoRef(_) => Ok(info_reference(source, value)),

@@ -1,0 +1,61 @@
+//! The texts of a module that are in the table of texts already.
+ghost use Rattle.std.specs.Prelude.{◌≡◌, ℕ, List, IfSome, option_and_then};
+ghost use Rattle.dwc_base.specs.Sections.{Sections};
+ghost use Rattle.dwc_read.specs.TextPlaces.{text_at_place};
+ghost use Rattle.dwc_clone.specs.KnownTexts.{IsNumbered, KnowsTexts, noted};
+
+use dwc_base::SectionName;
+use dwc_read::TextPlace;
+use dwc_write::StringId;
+use std::alloc::{AllocError, Global};
+use std::collections::BTreeMap;
+
+/// The texts of a module that are in the table of texts already: the number of each by the offset where it stands in `.debug_str` or
+/// `.debug_line_str`. So a text is read once, however many entries name it.
+#[derive(Drop)]
+pub struct KnownTexts {
+    strings: BTreeMap<u64, StringId>,
+    line_strings: BTreeMap<u64, StringId>,
+}
+
+impl KnownTexts {
+    /// No texts yet.
+    pub fn new(alloc: Global) -> KnownTexts
+        ensures { (s : Sections) (texts : List (List ℕ)) → KnowsTexts s texts result }
+    {
+        KnownTexts {
+            strings: BTreeMap::new(alloc),
+            line_strings: BTreeMap::new(alloc),
+        }
+    }
+
+    /// The number of the text at a place, if it is known; None for a text in place.
+    pub(crate) fn find(&self, place: Option<TextPlace>) -> Option<StringId>
+        ensures { result ≡ option_and_then (noted self.now) place }
+    {
+        let place = place?;
+        match place.section {
+            SectionName::Str => self.strings.get(&place.offset).copied(),
+            SectionName::LineStr => self.line_strings.get(&place.offset).copied(),
+            _ => None,
+        }
+    }
+
+    /// Notes the number of the text at a place; a text in place is not noted.
+    ///
+    /// # Errors
+    /// `AllocError` for want of memory.
+    pub(crate) fn note(&mut self, place: Option<TextPlace>, id: StringId) -> Result<(), AllocError>
+        ensures { (s : Sections) (texts : List (List ℕ)) → KnowsTexts s texts self.old → IfSome place (λ p. IsNumbered texts (text_at_place s p) id) → KnowsTexts s texts self.new }
+    {
+        let Some(place) = place else {
+            return Ok(());
+        };
+        match place.section {
+            SectionName::Str => self.strings.insert(place.offset, id)?,
+            SectionName::LineStr => self.line_strings.insert(place.offset, id)?,
+            _ => None,
+        };
+        Ok(())
+    }
+}
