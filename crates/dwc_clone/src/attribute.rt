@@ -16,7 +16,7 @@ ghost use Rattle.dwc_clone.specs.KnownTexts.{KnowsTexts};
 ghost use Rattle.dwc_clone.specs.MadeValues.{GivesMade, Says, SaysMore, fault_told};
 
 use crate::names::{is_bound_name, is_dropped_name};
-use crate::text::text_of;
+use crate::text::check_text;
 use crate::value::{not_built, output_value};
 use crate::{CloneSource, KnownTexts};
 use dwc_base::constants::DW_AT_stmt_list;
@@ -30,10 +30,12 @@ fn check_bound(
     begins: bool,
     offset: u64,
     value: InputValue<'_>,
+    known: &mut KnownTexts,
 ) -> Result<(), ReadFault>
-    ensures { (s : UnitSource) (e : Placed) (before : List (ℕ × Value)) (name : ℕ) → s.texts ≡ texts_of_unit source.now.unit.now.sections source.now.unit.now.header → begins ≡ is_some (function_begun source.now.transform.now source.now.unit.now.sections source.now.unit.now.header e.entry) → e.entry.offset ≡ offset → GivesMade (λ draft done. draft ≡ None) (bound_becomes (code_rules source.now.transform.now source.now.unit.now.sections source.now.unit.now.header) s e before (name, value_view value.entry)) result }
+    ensures made { (texts : List (List ℕ)) → KnowsTexts source.now.unit.now.sections texts known.old → (s : UnitSource) (e : Placed) (before : List (ℕ × Value)) (name : ℕ) → s.texts ≡ texts_of_unit source.now.unit.now.sections source.now.unit.now.header → begins ≡ is_some (function_begun source.now.transform.now source.now.unit.now.sections source.now.unit.now.header e.entry) → e.entry.offset ≡ offset → GivesMade (λ draft done. draft ≡ None) (bound_becomes (code_rules source.now.transform.now source.now.unit.now.sections source.now.unit.now.header) s e before (name, value_view value.entry)) result }
+    ensures known { (texts : List (List ℕ)) → KnowsTexts source.now.unit.now.sections texts known.old → KnowsTexts source.now.unit.now.sections texts known.new }
 {
-    text_of(source.unit, offset, value)?;
+    check_text(source.unit, offset, value, known)?;
     check_built(source, begins, offset, value)
 }
 
@@ -113,7 +115,7 @@ pub(crate) fn output_attribute(
         return Ok(line_table(source, entry));
     }
     if is_bound_name(name) {
-        check_bound(source, begins, entry.offset, value)?;
+        check_bound(source, begins, entry.offset, value, known)?;
         return Ok(None);
     }
     output_value(alloc, source, entry.offset, name, value, strings, known)

@@ -1,8 +1,8 @@
-//! The texts of a module that are in the table of texts already.
+//! The texts of a module that were read already.
 ghost use Rattle.std.specs.Prelude.{◌≡◌, ℕ, List, IfSome, option_and_then};
 ghost use Rattle.dwc_base.specs.Sections.{Sections};
 ghost use Rattle.dwc_read.specs.TextPlaces.{text_at_place};
-ghost use Rattle.dwc_clone.specs.KnownTexts.{IsNumbered, KnowsTexts, noted};
+ghost use Rattle.dwc_clone.specs.KnownTexts.{IsKnown, KnowsTexts, noted};
 
 use dwc_base::SectionName;
 use dwc_read::TextPlace;
@@ -10,12 +10,12 @@ use dwc_write::StringId;
 use std::alloc::{AllocError, Global};
 use std::collections::BTreeMap;
 
-/// The texts of a module that are in the table of texts already: the number of each by the offset where it stands in `.debug_str` or
-/// `.debug_line_str`. So a text is read once, however many entries name it.
+/// The texts of a module that were read already, by the offset where each stands in `.debug_str` or `.debug_line_str`, with its number in
+/// the table of texts, if it was added there. So a text is read once, however many entries name it.
 #[derive(Drop)]
 pub struct KnownTexts {
-    strings: BTreeMap<u64, StringId>,
-    line_strings: BTreeMap<u64, StringId>,
+    strings: BTreeMap<u64, Option<StringId>>,
+    line_strings: BTreeMap<u64, Option<StringId>>,
 }
 
 impl KnownTexts {
@@ -29,8 +29,8 @@ impl KnownTexts {
         }
     }
 
-    /// The number of the text at a place, if it is known; None for a text in place.
-    pub(crate) fn find(&self, place: Option<TextPlace>) -> Option<StringId>
+    /// What is known of the text at a place that was read: its number, if it was added to the table. None for a text in place.
+    pub(crate) fn find(&self, place: Option<TextPlace>) -> Option<Option<StringId>>
         ensures { result ≡ option_and_then (noted self.now) place }
     {
         let place = place?;
@@ -41,12 +41,16 @@ impl KnownTexts {
         }
     }
 
-    /// Notes the number of the text at a place; a text in place is not noted.
+    /// Notes that the text at a place was read, and its number, if it was added to the table. A text in place is not noted.
     ///
     /// # Errors
     /// `AllocError` for want of memory.
-    pub(crate) fn note(&mut self, place: Option<TextPlace>, id: StringId) -> Result<(), AllocError>
-        ensures { (s : Sections) (texts : List (List ℕ)) → KnowsTexts s texts self.old → IfSome place (λ p. IsNumbered texts (text_at_place s p) id) → KnowsTexts s texts self.new }
+    pub(crate) fn note(
+        &mut self,
+        place: Option<TextPlace>,
+        id: Option<StringId>,
+    ) -> Result<(), AllocError>
+        ensures { (s : Sections) (texts : List (List ℕ)) → KnowsTexts s texts self.old → IfSome place (λ p. IsKnown texts (text_at_place s p) id) → KnowsTexts s texts self.new }
     {
         let Some(place) = place else {
             return Ok(());

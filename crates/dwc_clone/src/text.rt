@@ -1,5 +1,5 @@
 //! The texts of entries.
-ghost use Rattle.std.specs.Prelude.{◌≡◌, ◌≢◌, Err, option_map};
+ghost use Rattle.std.specs.Prelude.{◌≡◌, ◌≢◌, ℕ, List, Err, option_map};
 ghost use Rattle.dwc_base.specs.declared.section_name.SectionName.TheVariants.{Info};
 ghost use Rattle.dwc_base.specs.declared.faults.What.TheVariants.{Text};
 ghost use Rattle.dwc_base.specs.Cursors.{slice_bytes};
@@ -9,7 +9,9 @@ ghost use Rattle.dwc_base.specs.Indexed.{texts_of_unit};
 ghost use Rattle.dwc_read.specs.Faults.{GivesOrFault};
 ghost use Rattle.dwc_read.specs.TextPlaces.{text_place_named};
 ghost use Rattle.dwc_read.specs.ValuesSeen.{value_view};
+ghost use Rattle.dwc_clone.specs.KnownTexts.{IsReadOrFault, KnowsTexts};
 
+use crate::KnownTexts;
 use dwc_read::{AttributeValue, ReadFault, TextPlace, Unit};
 
 /// The text that a value of the entry at an offset names; None for a value that is no text.
@@ -44,4 +46,25 @@ pub(crate) fn text_place_of<'d>(
         Ok(place) => Ok(place),
         Err(fault) => Err(fault.at(offset)),
     }
+}
+
+/// Reads the text that a value of the entry at an offset names, unless it is known by its place.
+///
+/// Answers `Read` with that offset where the text cannot be read.
+pub(crate) fn check_text<'d>(
+    unit: &Unit<'d>,
+    offset: u64,
+    value: AttributeValue<'d>,
+    known: &mut KnownTexts,
+) -> Result<(), ReadFault>
+    ensures text { (texts : List (List ℕ)) → KnowsTexts unit.now.sections texts known.old → IsReadOrFault (reported Text Info offset (text_named (texts_of_unit unit.now.sections unit.now.header) (value_view value.entry))) result }
+    ensures known { (texts : List (List ℕ)) → KnowsTexts unit.now.sections texts known.old → KnowsTexts unit.now.sections texts known.new }
+{
+    let place = text_place_of(unit, offset, value)?;
+    if known.find(place).is_some() {
+        return Ok(());
+    }
+    text_of(unit, offset, value)?;
+    known.note(place, None)?;
+    Ok(())
 }

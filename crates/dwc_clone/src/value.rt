@@ -62,7 +62,7 @@ fn constant(files: UnitFiles, name: u16, form: u16, bits: u64) -> Option<Attribu
     })
 }
 
-// What a text of the entry at an offset becomes. One that is known by its place is not read again.
+// What a text of the entry at an offset becomes. One that was added already is found by its place, and not read again.
 fn text(
     source: &CloneSource<'_, '_>,
     offset: u64,
@@ -78,7 +78,7 @@ fn text(
     ensures known { KnowsTexts source.now.unit.now.sections strings.new known.new }
 {
     let place = text_place_of(source.unit, offset, value)?;
-    if let Some(id) = known.find(place) {
+    if let Some(Some(id)) = known.find(place) {
         return Ok(Some(AttributeValue::StringRef(id)));
     }
     let Some(text) = text_of(source.unit, offset, value)? else {
@@ -87,7 +87,7 @@ fn text(
     let Ok(id) = strings.add(text) else {
         return Err(ReadFault::OutOfMemory);
     };
-    known.note(place, id)?;
+    known.note(place, Some(id))?;
     Ok(Some(AttributeValue::StringRef(id)))
 }
 

@@ -44,7 +44,7 @@ returns-in_err-check_bound-clause-made c = λ number s e before source unit entr
     let begins = c.requires.begins ∙ ap (λ x. is_some (function_begun c.args.source.now.transform.now u.sections u.header x)) (sym entry) in
     let at = ap (λ (x : Entry). x.offset) entry in
     let p = err_from_is_err_and c.from_residual.result c.from_residual.ensures.1 in
-    rw (p.1, p.2) (subst (λ read. RefusesSo read (fault_seen c.in_err-check_bound.field-0.0)) (sym is) (c.in_err-check_bound.ensures s e before a.0 source.texts begins at))
+    rw (p.1, p.2) (subst (λ read. RefusesSo read (fault_seen c.in_err-check_bound.field-0.0)) (sym is) (c.in_err-check_bound.ensures.made c.args.strings.now c.requires.known s e before a.0 source.texts begins at))
 
 pub returns-then-is_bound_name-clause-made : goal.returns-then-is_bound_name-clause-made
 returns-then-is_bound_name-clause-made c = λ number s e before source unit entry.
@@ -57,7 +57,7 @@ returns-then-is_bound_name-clause-made c = λ number s e before source unit entr
     let is = attribute-bound rules s e before a kept other bound in
     let begins = c.requires.begins ∙ ap (λ x. is_some (function_begun c.args.source.now.transform.now u.sections u.header x)) (sym entry) in
     let at = ap (λ (x : Entry). x.offset) entry in
-    let read = c.in_ok-check_bound.ensures s e before a.0 source.texts begins at in
+    let read = c.in_ok-check_bound.ensures.made c.args.strings.now c.requires.known s e before a.0 source.texts begins at in
     made-none c.args.source.now.places.now number a.0 c.args.strings.now _ (is ∙ (read.is ∙ ap Ok read.made))
 
 pub returns-clause-made : goal.returns-clause-made
