@@ -11,10 +11,11 @@ ghost use Rattle.dwc_addr.specs.Transforms.{function_view};
 ghost use Rattle.dwc_read.specs.EntriesSeen.{entry_view};
 ghost use Rattle.dwc_write.specs.GivenUnits.{Addition, GivenUnit, FitsValue, IsAdded, new_unit};
 ghost use Rattle.dwc_clone.specs.Sources.{IsSource};
+ghost use Rattle.dwc_clone.specs.KnownTexts.{KnowsTexts};
 ghost use Rattle.dwc_clone.specs.ClonedEntries.{AddsBelow, AreKnown, AreMadeSoFar, CanFollow, GivesEntry, GivesSet, IsGiven, IsLast, OfMemory, last_parent, placed_entry, with_made};
 
-use crate::CloneSource;
 use crate::attribute::output_attribute;
+use crate::{CloneSource, KnownTexts};
 use dwc_addr::FunctionMap;
 use dwc_base::Address;
 use dwc_base::constants::{
@@ -130,16 +131,19 @@ fn set_attributes(
     unit: &mut Unit,
     id: UnitEntryId,
     strings: &mut StringTable,
+    known: &mut KnownTexts,
 ) -> Result<(), ReadFault>
     requires begins { begins ≡ is_some (function_begun source.now.transform.now source.now.unit.now.sections source.now.unit.now.header (entry_view entry.now)) }
     requires read { IsReadEntry (entry_view entry.now) }
     requires known { IsAdded id.index unit.old }
+    requires texts { KnowsTexts source.now.unit.now.sections strings.old known.old }
     ensures places { OnOk result (unit.new.places ≡ unit.old.places) }
+    ensures texts { KnowsTexts source.now.unit.now.sections strings.new known.new }
     ensures given { (number : ℕ) (s : UnitSource) (base : GivenUnit) (e : Addition) → IsSource source.now number s → IsLast strings.old id base e unit.old → GivesSet source.now number s (placed_entry source.now (entry_view entry.now)) strings.old strings.new base e unit.new result }
 {
     let attributes = entry.attrs();
     for attribute in attributes {
-        let value = output_attribute(alloc, source, begins, entry, attribute, strings)?;
+        let value = output_attribute(alloc, source, begins, entry, attribute, strings, known)?;
         of_memory(set_made(unit, id, attribute.0, value))?;
     }
     Ok(())
@@ -163,10 +167,13 @@ pub(crate) fn clone_entry(
     parents: &mut Vec<UnitEntryId>,
     unit: &mut Unit,
     strings: &mut StringTable,
+    known: &mut KnownTexts,
 ) -> Result<(), ReadFault>
     requires read { IsReadEntry (entry_view entry.now) }
     requires known { AreKnown parents.old.items unit.old }
+    requires texts { KnowsTexts source.now.unit.now.sections strings.old known.old }
     ensures known { OnOk result (AreKnown parents.new.items unit.new) }
+    ensures texts { KnowsTexts source.now.unit.now.sections strings.new known.new }
     ensures cloned { (number : ℕ) (s : UnitSource) (es others : List Entries.Entry) (old : List (List ℕ)) (begun : GivenUnit) → IsSource source.now number s → begun ≡ new_unit begun.address_size begun.lines → AreMadeSoFar source.now number s es old strings.old begun unit.old parents.old.items → CanFollow parents.old.items (entry_view entry.now ∷ others) → GivesEntry source.now number s es (entry_view entry.now) others old strings.new begun unit.new parents.new.items result }
 {
     let depth = depth_of(entry);
@@ -174,6 +181,6 @@ pub(crate) fn clone_entry(
     let function = function_begun(source.unit, entry, source.transform);
     of_memory(set_bounds(unit, id, function))?;
     let begins = function.is_some();
-    set_attributes(alloc, source, begins, entry, unit, id, strings)?;
+    set_attributes(alloc, source, begins, entry, unit, id, strings, known)?;
     of_memory(set_endianity(unit, id, source.big_endian, entry.tag))
 }

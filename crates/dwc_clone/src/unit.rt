@@ -5,17 +5,18 @@ ghost use Rattle.dwc_base.specs.Clones.{UnitSource};
 ghost use Rattle.dwc_base.specs.ReadValues.{IsReadEntry};
 ghost use Rattle.dwc_write.specs.GivenUnits.{new_unit};
 ghost use Rattle.dwc_clone.specs.Sources.{IsSource};
+ghost use Rattle.dwc_clone.specs.KnownTexts.{KnowsTexts};
 ghost use Rattle.dwc_clone.specs.ClonedUnits.{picked, AreClonable, GivesCloned};
 
-use crate::CloneSource;
 use crate::entry::clone_entry;
+use crate::{CloneSource, KnownTexts};
 use dwc_read::ReadFault;
 use dwc_write::{StringTable, Unit};
 use std::alloc::Global;
 
 /// The unit of the output that is made of the kept entries of a unit: `begun`, which has a root alone, with one entry for each of those
 /// at `kept`, the offsets in `.debug_info` of the unit's kept entries in file order. The unit's entries are read once, up to the last
-/// kept one. Texts are added to `strings`.
+/// kept one. Texts are added to `strings`, and noted in `known`, by which they are found when they are named again.
 ///
 /// # Errors
 /// What is refused first of the kept entries, in file order, attribute by attribute: `Read` with the entry's offset where a text, or an
@@ -26,10 +27,13 @@ pub fn clone_unit(
     kept: &[u32],
     begun: Unit,
     strings: &mut StringTable,
+    known: &mut KnownTexts,
 ) -> Result<Unit, ReadFault>
     requires begun { begun ≡ new_unit begun.address_size begun.lines }
     requires read { All IsReadEntry (entries_of source.now.unit.now.sections source.now.unit.now.header).items }
-    ensures { (number : ℕ) (s : UnitSource) → IsSource source.now number s → (entries_of source.now.unit.now.sections source.now.unit.now.header).fault ≡ None → AreClonable (picked kept.now (entries_of source.now.unit.now.sections source.now.unit.now.header).items) → GivesCloned source.now number s (picked kept.now (entries_of source.now.unit.now.sections source.now.unit.now.header).items) strings.old strings.new begun result }
+    requires texts { KnowsTexts source.now.unit.now.sections strings.old known.old }
+    ensures texts { KnowsTexts source.now.unit.now.sections strings.new known.new }
+    ensures cloned { (number : ℕ) (s : UnitSource) → IsSource source.now number s → (entries_of source.now.unit.now.sections source.now.unit.now.header).fault ≡ None → AreClonable (picked kept.now (entries_of source.now.unit.now.sections source.now.unit.now.header).items) → GivesCloned source.now number s (picked kept.now (entries_of source.now.unit.now.sections source.now.unit.now.header).items) strings.old strings.new begun result }
 {
     let mut unit = begun;
     let mut parents = Vec::new(alloc);
@@ -38,7 +42,15 @@ pub fn clone_unit(
     while next < kept.len() && entries.advance()? {
         let entry = entries.current();
         if entry.offset == u64::from(kept[next]) {
-            clone_entry(alloc, source, entry, &mut parents, &mut unit, strings)?;
+            clone_entry(
+                alloc,
+                source,
+                entry,
+                &mut parents,
+                &mut unit,
+                strings,
+                known,
+            )?;
             next += 1;
         }
     }

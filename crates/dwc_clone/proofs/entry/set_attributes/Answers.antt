@@ -14,6 +14,7 @@ use Rattle.dwc_clone.proofs.entry.set_attributes.Goals as goal
 pub loop-attribute-init : goal.loop-attribute-init
 loop-attribute-init c = record {
   places = refl;
+  texts = c.requires.texts;
   set = λ number s base e source last.
       let p = placed_entry c.args.source.now (entry_view c.args.entry.now) in
       subst (λ xs. AreSetSoFar c.args.source.now number s p c.args.strings.now c.args.strings.now base e c.args.unit.now xs) (sym c.attrs-attributes.ensures) (set-start c.args.source.now number s p c.args.strings.now c.args.id base e c.args.unit.now last);
@@ -38,6 +39,7 @@ loop-attribute-preserved c =
     let now = subst (λ r. OnOk r (c.set_made.new.unit ≡ with_made c.args.id.index name c.in_ok-value.value c.loop-attribute.unit)) c.in_ok-of_memory.ensures c.set_made.ensures in
     record {
       places = ap (λ u. u.places) now ∙ made-places c.args.id.index name c.in_ok-value.value c.loop-attribute.unit ∙ c.loop-attribute.invariant.places;
+      texts = c.in_ok-value.ensures.known;
       set = λ number s base e source last.
           let p = placed_entry c.args.source.now (entry_view c.args.entry.now) in
           let so = subst (λ xs. AreSetSoFar c.args.source.now number s p c.args.strings.now c.loop-attribute.strings base e c.loop-attribute.unit xs) (attributes-drop c.attrs-attributes.result.now c.loop-attribute.attribute-index _ c.loop-attribute-test.true) (c.loop-attribute.invariant.set number s base e source last) in

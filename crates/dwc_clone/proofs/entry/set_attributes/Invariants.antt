@@ -4,6 +4,7 @@ use Rattle.dwc_read.specs.ValuesSeen.{attribute_view}
 use Rattle.dwc_read.specs.EntriesSeen.{entry_view}
 use Rattle.dwc_write.specs.GivenUnits.{Addition, GivenUnit}
 use Rattle.dwc_clone.specs.Sources.{IsSource}
+use Rattle.dwc_clone.specs.KnownTexts.{KnowsTexts}
 use Rattle.dwc_clone.specs.ClonedEntries.{IsLast, placed_entry}
 use Rattle.dwc_clone.proofs.EntryValues.{AreSetSoFar}
 use Rattle.dwc_clone.proofs.entry.set_attributes.Given as goal
@@ -12,6 +13,7 @@ use Rattle.dwc_clone.proofs.entry.set_attributes.Given as goal
 abbrev pub invariant-loop-attribute : goal.invariant-loop-attribute
 invariant-loop-attribute l = record {
   places : l.unit.places ≡ l.fn.unit.places;
+  texts : KnowsTexts l.source.unit.now.sections l.strings l.known;
   set : (number : ℕ) (s : UnitSource) (base : GivenUnit) (e : Addition) → IsSource l.source number s → IsLast l.fn.strings l.id base e l.fn.unit
       → AreSetSoFar l.source number s (placed_entry l.source (entry_view l.entry)) l.fn.strings l.strings base e l.unit (drop l.attribute-index (map attribute_view l.attributes));
 }

@@ -17,6 +17,7 @@ loop-next-init c =
     let all = entries_of c.args.source.now.unit.now.sections c.args.source.now.unit.now.header in
     record {
       known = begun-known c.args.begun c.new-parents.result.items c.requires.begun c.new-parents.ensures.items;
+      texts = c.requires.texts;
       read = subst (λ (l : Listing Fault Entry). All IsReadEntry l.items) (sym c.in_ok-entries.ensures.start) c.requires.read;
       fault = ap (λ (l : Listing Fault Entry). l.fault) c.in_ok-entries.ensures.start;
       cloned = λ number s source can.
@@ -30,8 +31,8 @@ clone_entry-requires-clause-read c =
     let read = subst (λ (l : Listing Fault Entry). All IsReadEntry l.items) front c.loop-next.invariant.read in
     subst IsReadEntry (sym c.current-entry.ensures) (All-head IsReadEntry c.advance.new.self.current c.advance.new.self.left.items read)
 
-pub returns-in_err-clone_entry : goal.returns-in_err-clone_entry
-returns-in_err-clone_entry c number s source none can =
+pub returns-in_err-clone_entry-clause-cloned : goal.returns-in_err-clone_entry-clause-cloned
+returns-in_err-clone_entry-clause-cloned c number s source none can =
     let src = c.args.source.now in
     let kept = c.args.kept.now in
     let next = c.loop-next.next in
@@ -61,6 +62,7 @@ loop-next-preserved-then-entry-from c =
     let here = first ∙ picked-here kept next 0 e new.items c.loop-next-test.true (c.if-entry-from.true ∙ c.from.ensures) in
     record {
       known = c.in_ok-clone_entry.ensures.known;
+      texts = c.in_ok-clone_entry.ensures.texts;
       read = All-tail IsReadEntry c.advance.new.self.current new.items (subst (λ (l : Listing Fault Entry). All IsReadEntry l.items) front c.loop-next.invariant.read);
       fault = sym (ap (λ (l : Listing Fault Entry). l.fault) front) ∙ c.loop-next.invariant.fault;
       cloned = λ number s source can.
@@ -83,14 +85,15 @@ loop-next-preserved c =
     let past = first ∙ picked-not kept next 0 e new.items c.loop-next-test.true (λ same. c.if-entry-from.false (same ∙ sym c.from.ensures)) in
     record {
       known = c.loop-next.invariant.known;
+      texts = c.loop-next.invariant.texts;
       read = All-tail IsReadEntry c.advance.new.self.current new.items (subst (λ (l : Listing Fault Entry). All IsReadEntry l.items) front c.loop-next.invariant.read);
       fault = sym (ap (λ (l : Listing Fault Entry). l.fault) front) ∙ c.loop-next.invariant.fault;
       cloned = λ number s source can.
           subst (λ es. AreClonedSoFar src number s all c.args.strings.now c.loop-next.strings c.args.begun c.loop-next.unit c.loop-next.parents.items es) past (c.loop-next.invariant.cloned number s source can);
     }
 
-pub returns : goal.returns
-returns c number s source none can =
+pub returns-clause-cloned : goal.returns-clause-cloned
+returns-clause-cloned c number s source none can =
     let so = c.loop-next.invariant.cloned number s source can in
     let all = entries_of c.args.source.now.unit.now.sections c.args.source.now.unit.now.header in
     cloned-end c.args.source.now number s (picked c.args.kept.now all.items) c.args.strings.now c.loop-next.strings c.args.begun c.loop-next.unit c.loop-next.parents.items _ so

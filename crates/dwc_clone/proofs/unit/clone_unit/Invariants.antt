@@ -5,6 +5,7 @@ use Rattle.dwc_base.specs.Clones.{UnitSource}
 use Rattle.dwc_base.specs.ReadValues.{IsReadEntry}
 use Rattle.dwc_clone.specs.Sources.{IsSource}
 use Rattle.dwc_clone.specs.ClonedUnits.{picked, AreClonable}
+use Rattle.dwc_clone.specs.KnownTexts.{KnowsTexts}
 use Rattle.dwc_clone.specs.ClonedEntries.{AreKnown}
 use Rattle.dwc_clone.proofs.UnitEntries.{AreClonedSoFar}
 use Rattle.dwc_clone.proofs.unit.clone_unit.Given as goal
@@ -13,6 +14,7 @@ use Rattle.dwc_clone.proofs.unit.clone_unit.Given as goal
 abbrev pub invariant-loop-next : goal.invariant-loop-next
 invariant-loop-next l = record {
   known : AreKnown l.parents.items l.unit;
+  texts : KnowsTexts l.source.unit.now.sections l.strings l.known;
   read : All IsReadEntry l.entries.left.items;
   fault : l.entries.left.fault ≡ (entries_of l.source.unit.now.sections l.source.unit.now.header).fault;
   cloned : (number : ℕ) (s : UnitSource) → IsSource l.source number s → AreClonable (picked l.kept (entries_of l.source.unit.now.sections l.source.unit.now.header).items)
