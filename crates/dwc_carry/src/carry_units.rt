@@ -6,6 +6,7 @@ ghost use Rattle.dwc_base.specs.ReadValues.{IsReadEntry};
 ghost use Rattle.dwc_kept.specs.declared.kept_units.KeptModule.{KeptModule as KeptModuleValue};
 ghost use Rattle.dwc_kept.specs.ReadUnits.{unit_read};
 ghost use Rattle.dwc_image.specs.CarriedLines.{AreKept};
+ghost use Rattle.dwc_clone.specs.KnownTexts.{KnowsTexts};
 ghost use Rattle.dwc_carry.specs.LastLines.{IsLast};
 ghost use Rattle.dwc_carry.specs.ModulePlaces.{emitted, numbered_lists};
 ghost use Rattle.dwc_carry.specs.CarriedUnits.{IsOfModule, HasModule, IsUnitOf, GivesUnit, GivesUnits};
@@ -16,7 +17,7 @@ use crate::last_lines::{LastLines, last_after};
 use crate::module_places::carried_entries;
 use crate::output_form::OutputForm;
 use dwc_addr::AddressTransform;
-use dwc_clone::{CloneSource, Places, clone_unit};
+use dwc_clone::{CloneSource, KnownTexts, Places, clone_unit};
 use dwc_kept::{KeptModule, ReadUnit};
 use dwc_write::Dwarf;
 use std::alloc::Global;
@@ -32,13 +33,16 @@ fn carry_unit(
     transform: &AddressTransform,
     form: OutputForm,
     dwarf: &mut Dwarf,
+    known: &mut KnownTexts,
 ) -> Result<Option<LastLines>, DebugError>
     requires version { form.encoding.version ≡ 4 }
     requires size { (form.encoding.address_size ≡ 4) ⊎ (form.encoding.address_size ≡ 8) }
     requires functions { AreKept transform.now }
     requires known { IsLast transform.now form.encoding.address_size read.now.unit.sections dwarf.old.units.units.items last }
     requires read { All IsReadEntry (entries_of read.now.unit.sections read.now.unit.header).items }
-    ensures { (c : Module) (m : KeptModuleValue) (first : ℕ) → IsUnitOf c transform.now m first (length dwarf.old.units.units.items) places.now kept.now read.now → GivesUnit form.encoding.address_size form.big_endian c first (unit_read c.sections read.now.unit.header) dwarf.old dwarf.new result }
+    requires texts { KnowsTexts read.now.unit.sections dwarf.old.strings known.old }
+    ensures texts { KnowsTexts read.now.unit.sections dwarf.new.strings known.new }
+    ensures added { (c : Module) (m : KeptModuleValue) (first : ℕ) → IsUnitOf c transform.now m first (length dwarf.old.units.units.items) places.now kept.now read.now → GivesUnit form.encoding.address_size form.big_endian c first (unit_read c.sections read.now.unit.header) dwarf.old dwarf.new result }
 {
     let BegunUnit { unit, files } = begun_unit(
         alloc,
@@ -55,13 +59,13 @@ fn carry_unit(
         files,
         big_endian: form.big_endian,
     };
-    let unit = clone_unit(alloc, &source, kept, unit, &mut dwarf.strings)?;
+    let unit = clone_unit(alloc, &source, kept, unit, &mut dwarf.strings, known)?;
     let id = dwarf.units.add(unit)?;
     Ok(last_after(read, files, id, last))
 }
 
 /// Adds the units of the output that carry those of a module, in order; those that are not carried have none. A line table that units
-/// behind one another name is read and carried once.
+/// behind one another name is read and carried once, and so is a text, whichever units name it.
 ///
 /// # Errors
 /// What is refused first of the carried units in order: of each its line table, and then its kept entries. `OutOfMemory` for want of
@@ -82,11 +86,14 @@ pub(crate) fn carry_units(
     ensures { (c : Module) → IsOfModule c transform.now read_module.now → GivesUnits form.encoding.address_size form.big_endian c dwarf.old dwarf.new result }
 {
     let mut last = None;
+    let mut known = KnownTexts::new(alloc);
     for i in 0..read_module.units.len() {
         let read = &read_module.units[i];
         let kept = carried_entries(read_module, read);
         if kept.len() > 0 {
-            last = carry_unit(alloc, read, kept, places, last, transform, form, dwarf)?;
+            last = carry_unit(
+                alloc, read, kept, places, last, transform, form, dwarf, &mut known,
+            )?;
         }
     }
     Ok(())

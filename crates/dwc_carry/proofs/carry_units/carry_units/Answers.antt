@@ -3,6 +3,7 @@ use Rattle.std.proofs.lemmas.List.{drop_all}
 use Rattle.std.proofs.lemmas.Result.{err_from_is_err_and}
 use Rattle.dwc_base.specs.Carried.{Module}
 use Rattle.dwc_kept.proofs.KeptModuleLaws.{read-unit}
+use Rattle.dwc_clone.specs.KnownTexts.{KnowsTexts}
 use Rattle.dwc_carry.specs.LastLines.{IsLast}
 use Rattle.dwc_carry.specs.CarriedUnits.{IsOfModule}
 use Rattle.dwc_carry.proofs.UnitLoopLaws.{UnitsSoFar, units-begin, units-done, units-none, units-some, units-refused, refused-all, unit-there, units-left, unit-next, of-itself}
@@ -14,6 +15,7 @@ pub loop-i-init : goal.loop-i-init
 loop-i-init c = record {
   added = λ d of. units-begin d c.args.read_module.now c.args.form.encoding.address_size c.args.form.big_endian (length c.args.dwarf.now.units.units.items) c.args.dwarf.now refl (of-itself d c.args.transform.now c.args.read_module.now of);
   known = λ d of. tt;
+  texts = λ d of. c.new-known.ensures d.sections c.args.dwarf.now.strings;
 }
 
 pub carry_unit-requires-clause-known : goal.carry_unit-requires-clause-known
@@ -24,6 +26,15 @@ carry_unit-requires-clause-known c =
     let d = c.requires.read.of in
     let of = c.requires.read.is in
     subst (λ s. IsLast c.args.transform.now c.args.form.encoding.address_size s c.loop-i.dwarf.units.units.items c.loop-i.last) (sym (read-unit d m of.is r (unit-there c.args.transform.now m c.loop-i.i r less c.index-read.ensures)).sections) (c.loop-i.invariant.known d of)
+
+pub carry_unit-requires-clause-texts : goal.carry_unit-requires-clause-texts
+carry_unit-requires-clause-texts c =
+    let m = c.args.read_module.now in
+    let r = c.index-read.result.now in
+    let less : c.loop-i.i < length m.units.items = omega (arith, c.loop-i-test.true, c.len-i-end.ensures, m.units.ok) in
+    let d = c.requires.read.of in
+    let of = c.requires.read.is in
+    subst (λ s. KnowsTexts s c.loop-i.dwarf.strings c.loop-i.known) (sym (read-unit d m of.is r (unit-there c.args.transform.now m c.loop-i.i r less c.index-read.ensures)).sections) (c.loop-i.invariant.texts d of)
 
 pub carry_unit-requires-clause-read : goal.carry_unit-requires-clause-read
 carry_unit-requires-clause-read c =
@@ -50,7 +61,7 @@ returns-in_err-last c = λ d of.
     let p = err_from_is_err_and c.from_residual.result c.from_residual.ensures.1 in
     rw (p.1, p.2)
     (refused-all d m size big first m.units.items old new refl (of-itself d fs m of) c.in_err-last.field-0.0
-    (units-refused d m size big first m.units.items old new r (drop (c.loop-i.i + 1) m.units.items) here some c.in_err-last.field-0.0 (c.in_err-last.ensures d m first one)))
+    (units-refused d m size big first m.units.items old new r (drop (c.loop-i.i + 1) m.units.items) here some c.in_err-last.field-0.0 (c.in_err-last.ensures.added d m first one)))
 
 pub loop-i-preserved : goal.loop-i-preserved
 loop-i-preserved c =
@@ -71,13 +82,15 @@ loop-i-preserved c =
       | then-kept-gt0+in_ok-last w ↦
           let some = subst (λ xs. 0 < length xs) c.carried_entries-kept.ensures w.if-kept-gt0.true in
           record {
-            added = λ d of. let given = w.in_ok-last.ensures d m first (one d of w.if-kept-gt0.true) in rw w.dwarf-is (units-some d m size big first m.units.items old new r rest (here d of) some w.carry_unit.new.dwarf given.0 given.1.0);
-            known = λ d of. let given = w.in_ok-last.ensures d m first (one d of w.if-kept-gt0.true) in
+            added = λ d of. let given = w.in_ok-last.ensures.added d m first (one d of w.if-kept-gt0.true) in rw w.dwarf-is (units-some d m size big first m.units.items old new r rest (here d of) some w.carry_unit.new.dwarf given.0 given.1.0);
+            known = λ d of. let given = w.in_ok-last.ensures.added d m first (one d of w.if-kept-gt0.true) in
                 rw (w.dwarf-is, w.last-is) (subst (λ gs. IsLast gs size d.sections w.carry_unit.new.dwarf.units.units.items w.in_ok-last.last) of.functions given.1.1);
+            texts = λ d of. rw (w.dwarf-is, w.known-is) (subst (λ s. KnowsTexts s w.carry_unit.new.dwarf.strings w.carry_unit.new.known) (read-unit d m of.is r (unit-there fs m c.loop-i.i r less c.index-read.ensures)).sections w.in_ok-last.ensures.texts);
           }
       | else-kept-gt0 w ↦ record {
         added = λ d of. rw w.dwarf-is (units-none d m size big first m.units.items old new r rest (here d of) (subst (λ xs. length xs ≤ 0) c.carried_entries-kept.ensures w.if-kept-gt0.false));
         known = λ d of. rw (w.dwarf-is, w.last-is) (c.loop-i.invariant.known d of);
+        texts = λ d of. rw (w.dwarf-is, w.known-is) (c.loop-i.invariant.texts d of);
       }
     ]
 

@@ -1,5 +1,6 @@
 use Rattle.std.proofs.Common.{drop, length}
 use Rattle.dwc_base.specs.Carried.{Module}
+use Rattle.dwc_clone.specs.KnownTexts.{KnowsTexts}
 use Rattle.dwc_carry.specs.LastLines.{IsLast}
 use Rattle.dwc_carry.specs.CarriedUnits.{IsOfModule}
 use Rattle.dwc_carry.proofs.UnitLoopLaws.{UnitsSoFar}
@@ -10,4 +11,5 @@ abbrev pub invariant-loop-i : goal.invariant-loop-i
 invariant-loop-i l = record {
   added : (c : Module) → IsOfModule c l.transform l.read_module → UnitsSoFar c l.read_module l.form.encoding.address_size l.form.big_endian (length l.fn.dwarf.units.units.items) l.read_module.units.items l.fn.dwarf l.dwarf (drop l.i l.read_module.units.items);
   known : (c : Module) → IsOfModule c l.transform l.read_module → IsLast l.transform l.form.encoding.address_size c.sections l.dwarf.units.units.items l.last;
+  texts : (c : Module) → IsOfModule c l.transform l.read_module → KnowsTexts c.sections l.dwarf.strings l.known;
 }
