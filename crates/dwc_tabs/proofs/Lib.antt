@@ -6,3 +6,4 @@ pub mod TableLaws
 pub mod EntryLaws
 pub mod FileLaws
 pub mod RowLaws
+pub mod RangeLaws

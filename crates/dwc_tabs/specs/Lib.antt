@@ -4,3 +4,4 @@ pub mod Steps
 pub mod Programs
 pub mod Faults
 pub mod Tables
+pub mod RangeLists

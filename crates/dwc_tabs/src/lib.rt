@@ -8,6 +8,8 @@ mod instruction;
 mod parameters;
 mod path;
 mod program;
+mod range_entries;
+mod range_entry;
 mod registers;
 mod source;
 mod step;
@@ -16,5 +18,7 @@ mod unread;
 
 pub use fault::TabFault;
 pub use header::LineFile;
+pub use range_entries::RangeEntries;
+pub use range_entry::RangeEntry;
 pub use step::LineStep;
 pub use table::{LineTable, Rows};

@@ -1,0 +1,162 @@
+//! One entry of a range list. (DWARF 4, section 2.17.3; DWARF 5, section 7.25.)
+ghost use Rattle.std.specs.Prelude.{◌≡◌, ◌-◌, ◌*◌, ◌^◌, IsTrue, option_map};
+ghost use Rattle.dwc_base.specs.Cursors.{Gives};
+ghost use Rattle.dwc_base.specs.FieldSizes.{is_field_size};
+ghost use Rattle.dwc_base.specs.RawLists.{is_number as is_the_number, entry_of_pair, pair_at as raw_pair_at, kind_and_entry_at, range_kinds};
+ghost use Rattle.dwc_tabs.specs.RangeLists.{entry_view, entry_of_code_at, range_entry_at};
+
+use dwc_base::constants::{
+    DW_RLE_base_address, DW_RLE_base_addressx, DW_RLE_end_of_list, DW_RLE_offset_pair,
+    DW_RLE_start_end, DW_RLE_start_length, DW_RLE_startx_endx, DW_RLE_startx_length,
+};
+use dwc_base::fields::address;
+use dwc_base::{Address, Cursor, Flaw, Relocations};
+
+/// An entry of a range list with its operands as they stand, an address by an index as its index.
+#[derive(Clone, Copy, Debug, PartialEq, Eq)]
+pub enum RangeEntry {
+    /// `DW_RLE_base_addressx`: the index of an address.
+    BaseAddressx(u64),
+    /// `DW_RLE_startx_endx`: the indexes of two addresses.
+    StartxEndx(u64, u64),
+    /// `DW_RLE_startx_length`: the index of an address, and a length in bytes.
+    StartxLength(u64, u64),
+    /// `DW_RLE_offset_pair`: two offsets from the base.
+    OffsetPair(u64, u64),
+    /// `DW_RLE_base_address`.
+    BaseAddress(Address),
+    /// `DW_RLE_start_end`.
+    StartEnd(Address, Address),
+    /// `DW_RLE_start_length`: an address, and a length in bytes.
+    StartLength(Address, u64),
+    /// A pair of addresses of a list up to version 4.
+    Pair(Address, Address),
+    /// The selection of a base in a list up to version 4.
+    Base(Address),
+}
+
+// Whether an address is a number.
+fn is_number(number: u64, address: Address) -> bool
+    ensures { result ≡ is_the_number number address }
+{
+    match address {
+        Address::Constant(value) => value == number,
+        Address::Symbol { .. } => false,
+    }
+}
+
+// The greatest address of so many bytes.
+fn greatest_address(size: u8) -> u64
+    requires { IsTrue (is_field_size size) }
+    ensures { result ≡ 2 ^ (8 * size) - 1 }
+{
+    match size {
+        1 => 0xFF,
+        2 => 0xFFFF,
+        4 => 0xFFFF_FFFF,
+        _ => 0xFFFF_FFFF_FFFF_FFFF,
+    }
+}
+
+// Two addresses of a list up to version 4: two zeros end it, and the greatest address selects the other as a base.
+fn entry_of_addresses(size: u8, begin: Address, end: Address) -> Option<RangeEntry>
+    requires { IsTrue (is_field_size size) }
+    ensures { option_map entry_view result ≡ entry_of_pair size begin end }
+{
+    if is_number(0, begin) && is_number(0, end) {
+        return None;
+    }
+    if is_number(greatest_address(size), begin) {
+        return Some(RangeEntry::Base(end));
+    }
+    Some(RangeEntry::Pair(begin, end))
+}
+
+// An entry of a list up to version 4; None at its end.
+#[tactic(auto, unfolding(dwc_base::specs::RawLists::pair_at))]
+fn pair(
+    relocations: &Relocations<'_>,
+    size: u8,
+    cursor: &mut Cursor<'_>,
+) -> Result<Option<RangeEntry>, Flaw>
+    requires { IsTrue (is_field_size size) }
+    ensures { Gives (option_map entry_view) (raw_pair_at relocations.now size cursor.old) cursor.new result }
+{
+    let begin = address(relocations, size, cursor)?;
+    let end = address(relocations, size, cursor)?;
+    Ok(entry_of_addresses(size, begin, end))
+}
+
+// The operands of an entry from version 5 on, by its code; None at the end of the list.
+#[tactic(auto, unfolding(crate::specs::RangeLists::entry_of_code_at, dwc_base::specs::RawLists::entry_of_kind_at))]
+fn entry_of_code(
+    relocations: &Relocations<'_>,
+    size: u8,
+    code: u8,
+    cursor: &mut Cursor<'_>,
+) -> Result<Option<RangeEntry>, Flaw>
+    requires { IsTrue (is_field_size size) }
+    ensures { Gives (option_map entry_view) (entry_of_code_at relocations.now size code cursor.old) cursor.new result }
+{
+    match code {
+        DW_RLE_end_of_list => Ok(None),
+        DW_RLE_base_addressx => Ok(Some(RangeEntry::BaseAddressx(cursor.uleb()?))),
+        DW_RLE_startx_endx => {
+            let start = cursor.uleb()?;
+            Ok(Some(RangeEntry::StartxEndx(start, cursor.uleb()?)))
+        }
+        DW_RLE_startx_length => {
+            let start = cursor.uleb()?;
+            Ok(Some(RangeEntry::StartxLength(start, cursor.uleb()?)))
+        }
+        DW_RLE_offset_pair => {
+            let begin = cursor.uleb()?;
+            Ok(Some(RangeEntry::OffsetPair(begin, cursor.uleb()?)))
+        }
+        DW_RLE_base_address => {
+            let base = address(relocations, size, cursor)?;
+            Ok(Some(RangeEntry::BaseAddress(base)))
+        }
+        DW_RLE_start_end => {
+            let start = address(relocations, size, cursor)?;
+            let end = address(relocations, size, cursor)?;
+            Ok(Some(RangeEntry::StartEnd(start, end)))
+        }
+        DW_RLE_start_length => {
+            let start = address(relocations, size, cursor)?;
+            Ok(Some(RangeEntry::StartLength(start, cursor.uleb()?)))
+        }
+        _ => Err(Flaw::Malformed),
+    }
+}
+
+// An entry from version 5 on; None at the end of the list.
+#[tactic(auto, unfolding(dwc_base::specs::RawLists::kind_and_entry_at, crate::specs::RangeLists::entry_of_code_at))]
+fn kind_and_entry(
+    relocations: &Relocations<'_>,
+    size: u8,
+    cursor: &mut Cursor<'_>,
+) -> Result<Option<RangeEntry>, Flaw>
+    requires { IsTrue (is_field_size size) }
+    ensures { Gives (option_map entry_view) (kind_and_entry_at range_kinds relocations.now size cursor.old) cursor.new result }
+{
+    let code = cursor.u8()?;
+    Ok(entry_of_code(relocations, size, code, cursor)?)
+}
+
+/// An entry of a list, which is of pairs up to version 4; None at its end.
+#[tactic(auto, unfolding(crate::specs::RangeLists::range_entry_at))]
+pub fn range_entry(
+    in_pairs: bool,
+    relocations: &Relocations<'_>,
+    size: u8,
+    cursor: &mut Cursor<'_>,
+) -> Result<Option<RangeEntry>, Flaw>
+    requires { IsTrue (is_field_size size) }
+    ensures { Gives (option_map entry_view) (range_entry_at in_pairs relocations.now size cursor.old) cursor.new result }
+{
+    if in_pairs {
+        return Ok(pair(relocations, size, cursor)?);
+    }
+    Ok(kind_and_entry(relocations, size, cursor)?)
+}
