@@ -7,3 +7,4 @@ pub mod EntryLaws
 pub mod FileLaws
 pub mod RowLaws
 pub mod RangeLaws
+pub mod RangeEndLaws

@@ -5,3 +5,4 @@ pub mod Programs
 pub mod Faults
 pub mod Tables
 pub mod RangeLists
+pub mod RangeEnds

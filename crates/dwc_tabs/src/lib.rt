@@ -1,15 +1,19 @@
-//! Line tables: a table is read and checked once, and its rows are given one at a time. (DWARF 4 and 5, section 6.2.)
+//! Line tables: a table is read and checked once, and its rows are given one at a time. (DWARF 4 and 5, section 6.2.) Range lists:
+//! their entries as they stand, and the intervals that these stand for. (DWARF 4, section 2.17.3; DWARF 5, sections 2.17.3 and 7.25.)
 #![tactic(auto)]
 
 mod entries;
 mod fault;
 mod header;
 mod instruction;
+mod list_fault;
 mod parameters;
 mod path;
 mod program;
+mod range_ends;
 mod range_entries;
 mod range_entry;
+mod ranges;
 mod registers;
 mod source;
 mod step;
@@ -18,7 +22,9 @@ mod unread;
 
 pub use fault::TabFault;
 pub use header::LineFile;
+pub use list_fault::ListFault;
 pub use range_entries::RangeEntries;
 pub use range_entry::RangeEntry;
+pub use ranges::Ranges;
 pub use step::LineStep;
 pub use table::{LineTable, Rows};

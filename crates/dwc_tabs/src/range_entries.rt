@@ -151,7 +151,35 @@ impl<'d> RangeEntries<'d> {
                 Ok(offset) => Ok(RangeEntries::at(unit, false, offset)),
                 Err(flaw) => Err(list_fault(flaw, SectionName::Info, unit.offset())),
             },
+            // No other value is asked for.
             _ => Err(list_fault(Flaw::Malformed, SectionName::Info, unit.offset())),
+        }
+    }
+
+    // The section that the list stands in.
+    pub fn section(&self) -> SectionName
+        ensures { result ≡ self.now.place.section }
+    {
+        section_of_lists(self.in_pairs)
+    }
+
+    // The offset of the list's first byte there.
+    pub fn offset(&self) -> u64
+        ensures { result ≡ self.now.place.offset }
+    {
+        self.offset
+    }
+
+    // The same entries once more.
+    pub fn again(&self) -> RangeEntries<'d>
+        ensures { result ≡ self.now }
+    {
+        RangeEntries {
+            in_pairs: self.in_pairs,
+            relocations: self.relocations.again(),
+            address_size: self.address_size,
+            offset: self.offset,
+            cursor: self.cursor.fork(),
         }
     }
 
