@@ -157,21 +157,21 @@ impl<'d> RangeEntries<'d> {
     }
 
     // The section that the list stands in.
-    pub fn section(&self) -> SectionName
+    pub(crate) fn section(&self) -> SectionName
         ensures { result ≡ self.now.place.section }
     {
         section_of_lists(self.in_pairs)
     }
 
     // The offset of the list's first byte there.
-    pub fn offset(&self) -> u64
+    pub(crate) fn offset(&self) -> u64
         ensures { result ≡ self.now.place.offset }
     {
         self.offset
     }
 
     // The same entries once more.
-    pub fn again(&self) -> RangeEntries<'d>
+    pub(crate) fn again(&self) -> RangeEntries<'d>
         ensures { result ≡ self.now }
     {
         RangeEntries {
