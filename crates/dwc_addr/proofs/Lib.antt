@@ -1,6 +1,6 @@
 pub mod CompilationLaws
+pub mod EntryLaws
 pub mod ItemLaws
-pub mod KeptLaws
 pub mod OwnerLaws
 pub mod SharedCases
 pub mod StartLaws

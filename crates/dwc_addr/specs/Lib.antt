@@ -1,5 +1,6 @@
 pub mod CompilationTexts
 pub mod Compilations
+pub mod Gaps
 pub mod Numbers
 pub mod Runs
 pub mod Starts

@@ -2,8 +2,9 @@
 use Rattle.std.specs.Prelude.{◌≡◌, ℕ, suc, ◌+◌, ◌-◌, ◌%◌, ◌^◌, List, [], ◌∷◌, map, Option, Some, None, option_map, Result, Ok, Err}
 use Rattle.std.specs.Option.{unwrap_or, option_or}
 use Rattle.dwc_base.specs.declared.records.MapFault.{MapFault}
-use Rattle.dwc_base.specs.Functions.{AddressMap, Function, Recorded, map_fault, functions_of, recorded_sources}
+use Rattle.dwc_base.specs.Functions.{AddressMap, Function, map_fault, functions_of}
 use Rattle.dwc_addr.specs.declared.function_map.FunctionMap.{FunctionMap}
+use Rattle.dwc_addr.specs.Gaps.{merged}
 use Rattle.dwc_addr.specs.Runs.{recorded_view}
 use Rattle.dwc_addr.specs.declared.error.AddrError.{AddrError}
 use Rattle.dwc_addr.specs.declared.error.AddrError.TheVariants.{BadAddressMap, OutOfMemory}
@@ -17,10 +18,6 @@ abbrev pub first_bad_map : ℕ → ℕ → List AddressMap → Option (ℕ × Ma
 first_bad_map code_offset place [] = None
 first_bad_map code_offset place (m ∷ ms) = option_or (option_map (λ why. (place, why)) (map_fault code_offset m)) (first_bad_map code_offset (suc place) ms)
 
--- a recorded source as an entry of an address map
-abbrev pub entry_of_source : Recorded → ℕ × Option ℕ
-entry_of_source e = (e.native, Some e.wasm)
-
 -- a function as it is kept
 abbrev pub function_view : FunctionMap → Function
 function_view f = record {
@@ -29,27 +26,12 @@ function_view f = record {
   start = f.wasm_start;
   end = f.wasm_end;
   length = f.len;
-  entries = map entry_of_source (map recorded_view f.addresses.items);
-}
-
--- the number of a function that has a symbol
-abbrev pub linked_number : Function → Option ℕ
-linked_number f = option_map (λ symbol. f.number) f.symbol
-
--- What is kept of a function: its number, where it has a symbol, its bounds, and its entries that have a source.
-abbrev pub kept_function : Function → Function
-kept_function f = record {
-  number = unwrap_or (linked_number f) 0;
-  symbol = linked_number f;
-  start = f.start;
-  end = f.end;
-  length = f.length;
-  entries = map entry_of_source (recorded_sources f);
+  entries = merged f.gaps.items 0 (map recorded_view f.addresses.items);
 }
 
 -- No map is bad and the functions, seen by `view`, are those of the maps; or the first bad map is named; or memory was
 -- wanting.
 abbrev pub Transforms : {A : Type 0} → (A → List Function) → ℕ → ℕ → ℕ → List AddressMap → Result A AddrError → Type 0
-Transforms view m code_offset first maps (Ok t) = (first_bad_map code_offset 0 maps ≡ None) × (view t ≡ map kept_function (functions_of code_offset first maps))
+Transforms view m code_offset first maps (Ok t) = (first_bad_map code_offset 0 maps ≡ None) × (view t ≡ functions_of code_offset first maps)
 Transforms view m code_offset first maps (Err (BadAddressMap n func why)) = (n ≡ m) × (first_bad_map code_offset 0 maps ≡ Some (func, why))
 Transforms view m code_offset first maps (Err OutOfMemory) = Unit {0}

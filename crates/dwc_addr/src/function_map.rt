@@ -4,6 +4,15 @@ ghost use Rattle.dwc_addr.specs.Runs.{recorded_view, run_starts};
 
 use crate::address_map::{AddressMap, GeneratedAddress, WasmAddress};
 
+/// An entry of an address map that has no source.
+#[derive(Clone, Copy, Debug, PartialEq, Eq)]
+pub struct Gap {
+    /// How many entries that have a source stand in front of it.
+    pub before: usize,
+    /// Where the code without a source begins.
+    pub generated: GeneratedAddress,
+}
+
 /// A defined function.
 #[derive(Drop)]
 pub struct FunctionMap {
@@ -19,6 +28,8 @@ pub struct FunctionMap {
     pub wasm_end: WasmAddress,
     /// The entries of its address map that have a source, in order.
     pub addresses: Vec<AddressMap>,
+    /// The entries of its address map that have none, in order.
+    pub gaps: Vec<Gap>,
     /// The places of the entries whose source lies below that of the entry before. Between two of them the sources do not
     /// fall.
     pub later_runs: Vec<usize>,

@@ -19,7 +19,7 @@ pub use address_map::{AddressMap, GeneratedAddress, WasmAddress};
 pub use compilation::Compilation;
 pub use compilation_error::CompilationError;
 pub use error::AddrError;
-pub use function_map::FunctionMap;
+pub use function_map::{FunctionMap, Gap};
 pub use linkage_names::LinkageNames;
 pub use maps::{get_wasm_code_offset, map_fault};
 pub use memory_offset::ModuleMemoryOffset;

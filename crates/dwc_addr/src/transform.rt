@@ -4,7 +4,8 @@ ghost use Rattle.std.specs.Option.{unwrap_or};
 ghost use Rattle.std.specs.List.{filter_map};
 ghost use Rattle.dwc_base.specs.Functions.{function_of, owner, function_at, wasm_entry, recorded_entry};
 ghost use Rattle.dwc_clif.specs.AddressMaps.{address_map_view, entry_view};
-ghost use Rattle.dwc_addr.specs.Transforms.{function_view, kept_function, Transforms};
+ghost use Rattle.dwc_addr.specs.Gaps.{gaps_of};
+ghost use Rattle.dwc_addr.specs.Transforms.{function_view, Transforms};
 ghost use Rattle.dwc_addr.specs.Numbers.{first_number};
 ghost use Rattle.dwc_addr.specs.Compilations.{functions_at, code_offset_at};
 ghost use Rattle.dwc_addr.specs.Runs.{recorded_view, run_starts};
@@ -14,15 +15,14 @@ use crate::Compilation;
 use crate::address_map::{AddressMap, WasmAddress};
 use crate::by_start::{owner_place, start_table};
 use crate::error::AddrError;
-use crate::function_map::FunctionMap;
+use crate::function_map::{FunctionMap, Gap};
 use crate::maps::map_fault;
 use dwc_base::{DefinedFuncIndex, FilePos, StaticModuleIndex, SymbolId};
 use dwc_clif::{CompiledFunctionMetadata, InstructionAddressMap};
 use std::alloc::{AllocError, Global};
 use std::marker::Model;
 
-/// The defined functions of a module, found by wasm offset. A contract sees the list of them, each without the entries that
-/// have no source.
+/// The defined functions of a module, found by wasm offset. A contract sees the list of them.
 #[derive(Drop)]
 pub struct AddressTransform {
     functions: Vec<FunctionMap>,
@@ -192,10 +192,11 @@ fn function_map(
     symbol: Option<SymbolId>,
     metadata: &CompiledFunctionMetadata,
 ) -> Result<FunctionMap, AllocError>
-    ensures { IfOk result (λ f. function_view f ≡ kept_function (function_of code_section_offset number (address_map_view (symbol, metadata.now)))) }
+    ensures { IfOk result (λ f. function_view f ≡ function_of code_section_offset number (address_map_view (symbol, metadata.now))) }
 {
     let map = &metadata.address_map;
     let addresses = sources(alloc, code_section_offset, &map.instructions)?;
+    let gaps = gaps(alloc, &map.instructions)?;
     let later_runs = later_runs(alloc, &addresses)?;
     Ok(FunctionMap {
         symbol: symbol.map(|_| number),
@@ -204,6 +205,7 @@ fn function_map(
         wasm_start: start_offset(map.start_srcloc, code_section_offset),
         wasm_end: start_offset(map.end_srcloc, code_section_offset),
         addresses,
+        gaps,
         later_runs,
     })
 }
@@ -234,6 +236,23 @@ fn sources(
         }
     }
     Ok(found)
+}
+
+// The entries that have no source.
+fn gaps(alloc: Global, entries: &[InstructionAddressMap]) -> Result<Vec<Gap>, AllocError>
+    ensures { IfOk result (λ gaps. gaps.items ≡ gaps_of 0 (map entry_view entries.now)) }
+{
+    let mut gaps = Vec::new(alloc);
+    let mut before = 0;
+    for entry in entries {
+        if entry.srcloc.file_offset().is_some() {
+            before += 1;
+        } else {
+            let generated = entry.code_offset as usize;
+            gaps.push(Gap { before, generated })?;
+        }
+    }
+    Ok(gaps)
 }
 
 // The places of the sources that lie below the one before.

@@ -43,7 +43,8 @@ abbrev pub map_fault : ℕ → AddressMap → Option MapFault
 map_fault code_offset m = if m.body_offset == 0 then bounds_fault code_offset m m.start m.end else Some BodyOffset
 
 -- A defined function, its offsets in the wasm counted from the contents of the code section. `number` counts the
--- functions of all modules, and names the function in addresses of the output.
+-- functions of all modules, and names the function in addresses of the output; it is 0 where the function has no symbol.
+-- `symbol` is the number where it has one.
 pub record Function : Type 0 where
   pub number : ℕ
   pub symbol : Option ℕ
@@ -59,8 +60,8 @@ wasm_entry code_offset e = (e.0, option_map (λ source. source - code_offset) e.
 -- the function of a map that is good
 abbrev pub function_of : ℕ → ℕ → AddressMap → Function
 function_of code_offset number m = record {
-  number = number;
-  symbol = m.symbol;
+  number = unwrap_or (option_map (λ s. number) m.symbol) 0;
+  symbol = option_map (λ s. number) m.symbol;
   start = unwrap_or m.start 0 - code_offset;
   end = unwrap_or m.end 0 - code_offset;
   length = m.body_len;

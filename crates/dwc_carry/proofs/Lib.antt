@@ -1,7 +1,6 @@
 pub mod CauseLaws
 pub mod CompositionLaws
 pub mod EmitLaws
-pub mod KeptModules
 pub mod LastLaws
 pub mod MadeLaws
 pub mod LinesNamed
@@ -11,7 +10,6 @@ pub mod ResolvedLaws
 pub mod RefusalLaws
 pub mod ModulePlaceLaws
 pub mod PlaceLaws
-pub mod TransferLaws
 pub mod TransformLaws
 pub mod UnitGives
 pub mod UnitLoopLaws

@@ -11,8 +11,7 @@ use Rattle.dwc_base.specs.declared.records.MapFault.{MapFault}
 use Rattle.dwc_base.specs.declared.wasm.ModuleTranslation.{ModuleTranslation}
 use Rattle.dwc_base.specs.Functions.{Function, functions_of}
 use Rattle.dwc_base.specs.Carried.{Module, Compilation, units}
-use Rattle.dwc_base.specs.DraftForests.{ModuleDrafts, trees_from}
-use Rattle.dwc_base.specs.Forests.{carried_units, carried_units_of, first_refusal, forest, is_big, module_drafts, module_refusals, trees_made}
+use Rattle.dwc_base.specs.Forests.{carried_units, carried_units_of, first_refusal, forest, is_big, module_refusals, trees_made}
 use Rattle.dwc_base.specs.Refusals.{Refusal, first_of}
 use Rattle.dwc_base.specs.Trees.{Tree}
 use Rattle.dwc_base.specs.TreeLaws.{HasAllTargets}
@@ -22,7 +21,7 @@ use Rattle.dwc_addr.specs.declared.error.AddrError.{AddrError}
 use Rattle.dwc_addr.specs.declared.error.AddrError.TheVariants as addr
 use Rattle.dwc_addr.specs.Numbers.{Compiled, function_count, first_number}
 use Rattle.dwc_addr.specs.Compilations.{CompilationValue, functions_at, code_offset_at, IsCounted}
-use Rattle.dwc_addr.specs.Transforms.{kept_function, first_bad_map, Transforms}
+use Rattle.dwc_addr.specs.Transforms.{first_bad_map, Transforms}
 use Rattle.dwc_write.specs.GivenUnits.{GivenUnit}
 use Rattle.dwc_carry.specs.declared.error.DebugError.{DebugError}
 use Rattle.dwc_image.specs.CarriedLines.{AreKept}
@@ -30,10 +29,9 @@ use Rattle.dwc_carry.specs.Refusals.{InputRefusal, bad_address_map, in_reading, 
 use Rattle.dwc_carry.specs.MadeUnits.{AreMadeOf}
 use Rattle.dwc_carry.specs.CarriedModules.{transformed_modules, AddsModules}
 use Rattle.dwc_carry.specs.Inputs.{module_view, modules_from, input_of, bad_map_from, bad_map, maps_refusal}
-use Rattle.dwc_carry.specs.Transformed.{all_kept, IsTransformed}
+use Rattle.dwc_carry.specs.Transformed.{all_functions, IsTransformed}
 use Rattle.dwc_carry.proofs.RefusalLaws.{unmapped, refuses-more}
 use Rattle.dwc_carry.proofs.CompositionLaws.{made-texts, made-trees, trees-of-modules}
-use Rattle.dwc_carry.proofs.KeptModules.{kept_module, all-drafts, all-refusals, all-made, all-whole}
 
 -- the refusal of a bad map
 abbrev map_refusal : Option (ℕ × (ℕ × MapFault)) → Option InputRefusal
@@ -52,12 +50,12 @@ count-more (fs ∷ fss) (suc i) less = omega (arith, count-more fss i (omega (ar
 
 -- The transforms so far, and those of the modules that are left, are all; and no map so far is bad.
 pub record TransformsSoFar (ts : List ModuleTranslation) (fss : List (List Compiled)) (i : ℕ) (done : List (List Function)) : Type 0 where
-  pub functions : done ++ all_kept (modules_from (first_number fss i) (drop i ts) (drop i fss)) ≡ all_kept (modules_from 0 ts fss)
+  pub functions : done ++ all_functions (modules_from (first_number fss i) (drop i ts) (drop i fss)) ≡ all_functions (modules_from 0 ts fss)
   pub bad : bad_map_from i (drop i ts) (drop i fss) ≡ bad_map_from 0 ts fss
 
 -- the same with the next module in front
 record AtNext (ts : List ModuleTranslation) (fss : List (List Compiled)) (i code : ℕ) (done : List (List Function)) : Type 0 where
-  functions : done ++ (map kept_function (functions_of code (first_number fss i) (map address_map_view (get_or fss i []))) ∷ all_kept (modules_from (first_number fss (i + 1)) (drop (i + 1) ts) (drop (i + 1) fss))) ≡ all_kept (modules_from 0 ts fss)
+  functions : done ++ (functions_of code (first_number fss i) (map address_map_view (get_or fss i [])) ∷ all_functions (modules_from (first_number fss (i + 1)) (drop (i + 1) ts) (drop (i + 1) fss))) ≡ all_functions (modules_from 0 ts fss)
   bad : option_or (option_map (λ bad. (i, bad)) (first_bad_map code 0 (map address_map_view (get_or fss i [])))) (bad_map_from (i + 1) (drop (i + 1) ts) (drop (i + 1) fss)) ≡ bad_map_from 0 ts fss
 
 with-first : (ts : List ModuleTranslation) (fss : List (List Compiled)) (i : ℕ) (t : ModuleTranslation) (done : List (List Function)) → i < length ts → length fss ≡ length ts
@@ -79,12 +77,12 @@ at-next (t ∷ ts) fss i done less same h = with-first (t ∷ ts) fss i t done l
 module _ (c : CompilationValue) (same : length c.functions ≡ length c.translations) where
   -- a transform more
   pub transforms-more : (i : ℕ) (done : List (List Function)) (f : List Function) → i < length c.translations → TransformsSoFar c.translations c.functions i done
-      → (first_bad_map (code_offset_at c i) 0 (map address_map_view (functions_at c i)) ≡ None) × (f ≡ map kept_function (functions_of (code_offset_at c i) (first_number c.functions i) (map address_map_view (functions_at c i))))
+      → (first_bad_map (code_offset_at c i) 0 (map address_map_view (functions_at c i)) ≡ None) × (f ≡ functions_of (code_offset_at c i) (first_number c.functions i) (map address_map_view (functions_at c i)))
       → TransformsSoFar c.translations c.functions (i + 1) (done ++ f ∷ [])
   transforms-more i done f less h made =
       let next = at-next c.translations c.functions i done less same h in
       record {
-        functions = append_assoc done (f ∷ []) _ ∙ ap (λ g. done ++ (g ∷ all_kept (modules_from (first_number c.functions (i + 1)) (drop (i + 1) c.translations) (drop (i + 1) c.functions)))) made.1 ∙ next.functions;
+        functions = append_assoc done (f ∷ []) _ ∙ ap (λ g. done ++ (g ∷ all_functions (modules_from (first_number c.functions (i + 1)) (drop (i + 1) c.translations) (drop (i + 1) c.functions)))) made.1 ∙ next.functions;
         bad = sym (ap (λ o. option_or (option_map (λ (bad : ℕ × MapFault). (i, bad)) o) (bad_map_from (i + 1) (drop (i + 1) c.translations) (drop (i + 1) c.functions))) made.0) ∙ next.bad;
       }
 
@@ -97,7 +95,7 @@ module _ (c : CompilationValue) (same : length c.functions ≡ length c.translat
   transforms-refused i done addr.OutOfMemory less h refused = tt
 
   -- behind the last one
-  pub transforms-done : (i : ℕ) (done : List (List Function)) → length c.translations ≤ i → TransformsSoFar c.translations c.functions i done → (maps_refusal c ≡ None) × (done ≡ all_kept (modules_from 0 c.translations c.functions))
+  pub transforms-done : (i : ℕ) (done : List (List Function)) → length c.translations ≤ i → TransformsSoFar c.translations c.functions i done → (maps_refusal c ≡ None) × (done ≡ all_functions (modules_from 0 c.translations c.functions))
   transforms-done i done past h =
       let a = drop_all i c.translations past in
       let bad = rw a at h.bad in
@@ -112,19 +110,19 @@ counted-same c h = sym (length-map c.functions length) ∙ ap length h.defined �
 
 -- ---- with all transforms
 
-kept-length : (number : ℕ) (ts : List ModuleTranslation) (fss : List (List Compiled)) → length fss ≡ length ts → length (all_kept (modules_from number ts fss)) ≡ length ts
+kept-length : (number : ℕ) (ts : List ModuleTranslation) (fss : List (List Compiled)) → length fss ≡ length ts → length (all_functions (modules_from number ts fss)) ≡ length ts
 kept-length number [] fss same = refl
 kept-length number (t ∷ ts) [] same = absurd (omega (arith, same))
 kept-length number (t ∷ ts) (fs ∷ fss) same = ap suc (kept-length (number + length fs) ts fss (omega (arith, same)))
 
-pub all-length : (c : CompilationValue) → length c.functions ≡ length c.translations → length (all_kept (modules_from 0 c.translations c.functions)) ≡ length c.translations
+pub all-length : (c : CompilationValue) → length c.functions ≡ length c.translations → length (all_functions (modules_from 0 c.translations c.functions)) ≡ length c.translations
 all-length c same = kept-length 0 c.translations c.functions same
 
 neither : {A : Type 0} (o p : Option A) → option_or o p ≡ None → (o ≡ None) × (p ≡ None)
 neither None p h = (refl, h)
 neither (Some x) p h = absurd (cc)
 
-kept-all : (number place : ℕ) (ts : List ModuleTranslation) (fss : List (List Compiled)) → bad_map_from place ts fss ≡ None → All AreKept (all_kept (modules_from number ts fss))
+kept-all : (number place : ℕ) (ts : List ModuleTranslation) (fss : List (List Compiled)) → bad_map_from place ts fss ≡ None → All AreKept (all_functions (modules_from number ts fss))
 kept-all number place [] fss good = All-nil AreKept
 kept-all number place (t ∷ ts) [] good = All-nil AreKept
 kept-all number place (t ∷ ts) (fs ∷ fss) good =
@@ -138,13 +136,14 @@ kept-all number place (t ∷ ts) (fs ∷ fss) good =
     }) (kept-all (number + length fs) (suc place) ts fss two.1)
 
 -- the functions of all transforms are kept of good maps
-pub all-kept : (c : CompilationValue) → maps_refusal c ≡ None → All AreKept (all_kept (modules_from 0 c.translations c.functions))
+pub all-kept : (c : CompilationValue) → maps_refusal c ≡ None → All AreKept (all_functions (modules_from 0 c.translations c.functions))
 all-kept c good = kept-all 0 0 c.translations c.functions (unmapped _ (bad_map c) good)
 
-transformed-kept : (number : ℕ) (ts : List ModuleTranslation) (fss : List (List Compiled)) → transformed_modules ts (all_kept (modules_from number ts fss)) ≡ map kept_module (modules_from number ts fss)
-transformed-kept number [] fss = refl
-transformed-kept number (t ∷ ts) [] = refl
-transformed-kept number (t ∷ ts) (fs ∷ fss) = ap (λ ms. kept_module (module_view number t fs) ∷ ms) (transformed-kept (number + length fs) ts fss)
+-- modules with their transforms are those of the input
+transformed-same : (number : ℕ) (ts : List ModuleTranslation) (fss : List (List Compiled)) → transformed_modules ts (all_functions (modules_from number ts fss)) ≡ modules_from number ts fss
+transformed-same number [] fss = refl
+transformed-same number (t ∷ ts) [] = refl
+transformed-same number (t ∷ ts) (fs ∷ fss) = ap (λ ms. module_view number t fs ∷ ms) (transformed-same (number + length fs) ts fss)
 
 -- the forest of an input of which nothing is refused
 forest-is : (c : Compilation) → first_refusal c ≡ None → forest c ≡ Ok (trees_made c)
@@ -168,7 +167,7 @@ module _ (c : CompilationValue) where
   refusals_in ms = option_map in_reading (first_of (flat_map module_refusals ms))
 
   abbrev transformed : List Module
-  transformed = transformed_modules c.translations (all_kept (modules_from 0 c.translations c.functions))
+  transformed = transformed_modules c.translations (all_functions (modules_from 0 c.translations c.functions))
 
   abbrev input_refusal : Option InputRefusal
   input_refusal = option_or (maps_refusal c) (refusals_in (modules_from 0 c.translations c.functions))
@@ -176,7 +175,7 @@ module _ (c : CompilationValue) where
   -- what is refused of the modules with their transforms is refused of the input, whose maps are good
   input-refusals : maps_refusal c ≡ None → refusals_in transformed ≡ input_refusal
   input-refusals good =
-      ap (λ (refusals : List Refusal). option_map in_reading (first_of refusals)) (ap (flat_map module_refusals) (transformed-kept 0 c.translations c.functions) ∙ all-refusals (modules_from 0 c.translations c.functions))
+      ap (λ (refusals : List Refusal). option_map in_reading (first_of refusals)) (ap (flat_map module_refusals) (transformed-same 0 c.translations c.functions))
       ∙ ap (λ o. option_or o (refusals_in (modules_from 0 c.translations c.functions))) (sym good)
 
   pub input-refused : (e : DebugError) → maps_refusal c ≡ None → Refuses (refusals_in transformed) e → Refuses input_refusal e
@@ -191,15 +190,12 @@ module _ (c : CompilationValue) where
       → (input_refusal ≡ None) × IsTransformed size (input_of order size c) texts us
   input-transformed order size before texts us good (none, h) =
       let ms = modules_from 0 c.translations c.functions in
-      let k : AddsModules size (is_big order) (map kept_module ms) [] us before texts = subst (λ xs. AddsModules size (is_big order) xs [] us before texts) (transformed-kept 0 c.translations c.functions) h in
+      let k : AddsModules size (is_big order) ms [] us before texts = subst (λ xs. AddsModules size (is_big order) xs [] us before texts) (transformed-same 0 c.translations c.functions) h in
       let accepted : input_refusal ≡ None = sym (input-refusals good) ∙ none in
-      let trees : trees_from 0 (map (module_drafts (is_big order)) (map kept_module ms)) ≡ trees_made (input_of order size c) =
-      ap (λ (ds : List ModuleDrafts). trees_from 0 ds) (all-drafts (is_big order) ms) ∙ sym (trees-of-modules (input_of order size c)) in
       let made : AreMadeOf size texts 0 (flat_map carried_units_of ms) (trees_made (input_of order size c)) us =
       subst (AreMadeOf size texts 0 (flat_map carried_units_of ms) (trees_made (input_of order size c))) (sym k.added)
-      (subst (λ ts. AreMadeOf size texts 0 (flat_map carried_units_of ms) ts k.made) trees
-      (all-made size texts ms 0 (trees_from 0 (map (module_drafts (is_big order)) (map kept_module ms))) k.made k.each)) in (
+      (subst (λ ts. AreMadeOf size texts 0 (flat_map carried_units_of ms) ts k.made) (sym (trees-of-modules (input_of order size c))) k.each) in (
         accepted,
         transformed-of size (input_of order size c) texts us
-            (unmapped in_reading (first_refusal (input_of order size c)) (neither (maps_refusal c) (refusals_in ms) accepted).1) made (all-whole ms k.whole),
+            (unmapped in_reading (first_refusal (input_of order size c)) (neither (maps_refusal c) (refusals_in ms) accepted).1) made k.whole,
       )

@@ -6,7 +6,6 @@ use Rattle.dwc_base.specs.Functions.{Function}
 use Rattle.dwc_base.specs.Carried.{units, Module, Compilation}
 use Rattle.dwc_addr.specs.declared.transform.AddressTransform.{AddressTransform}
 use Rattle.dwc_addr.specs.Compilations.{CompilationValue}
-use Rattle.dwc_addr.specs.Transforms.{kept_function}
 use Rattle.dwc_write.specs.declared.units.Dwarf.{Dwarf}
 use Rattle.dwc_base.specs.Forests.{carried_units, trees_made, forest}
 use Rattle.dwc_base.specs.TreeLaws.{HasAllTargets}
@@ -18,13 +17,13 @@ use Rattle.dwc_carry.specs.Refusals.{GivesOr}
 use Rattle.dwc_carry.specs.Inputs.{modules_from, input_of, maps_refusal, refusal_of}
 use Rattle.dwc_carry.specs.MadeUnits.{AreMadeOf}
 
--- what transforms keep of the functions of modules
-abbrev pub all_kept : List Module → List (List Function)
-all_kept ms = map (λ m. map kept_function m.functions) ms
+-- the functions of modules
+abbrev pub all_functions : List Module → List (List Function)
+all_functions ms = map (λ m. m.functions) ms
 
 -- the transforms of all modules, or the refusal of the first bad map
 abbrev pub GivesTransforms : CompilationValue → Result (Vec AddressTransform Global) DebugError → Type 0
-GivesTransforms c result = GivesOr (λ (ts : Vec AddressTransform Global). ts.items ≡ all_kept (modules_from 0 c.translations c.functions)) (maps_refusal c) result
+GivesTransforms c result = GivesOr (λ (ts : Vec AddressTransform Global). ts.items ≡ all_functions (modules_from 0 c.translations c.functions)) (maps_refusal c) result
 
 -- Units that are made of all carried units of an input, whose modules are read to their ends, and that say the trees of its forest with
 -- a table of texts, which has all that they name.

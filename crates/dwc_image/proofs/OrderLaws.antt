@@ -7,8 +7,7 @@ use Rattle.std.proofs.lemmas.List.Elements.{All-nil, All-cons, All-head, All-tai
 use Rattle.dwc_base.specs.declared.records.MapFault.{MapFault}
 use Rattle.dwc_base.specs.declared.records.MapFault.TheVariants.{BodyOffset, BeforeCodeSection, Reversed, CodeFalls, CodePastBody, SourceOutside}
 use Rattle.dwc_base.specs.Functions.{AddressMap, Function, Recorded, recorded_entry, wasm_entry, map_fault, bounds_fault, entry_fault, is_source_within, function_of, functions_of}
-use Rattle.dwc_addr.specs.Transforms.{kept_function}
-use Rattle.dwc_addr.proofs.KeptLaws.{recorded_sources-kept, all-good}
+use Rattle.dwc_addr.proofs.EntryLaws.{all-good}
 use Rattle.dwc_image.specs.ImageRows.{RisesFrom, IsOrdered}
 use Rattle.dwc_image.specs.CarriedLines.{AreKept}
 use Rattle.dwc_image.proofs.LookupLaws.{RisesFrom-weaker}
@@ -78,17 +77,8 @@ functions_of-ordered : (code_offset number : ℕ) (ms : List AddressMap) → All
 functions_of-ordered code_offset number [] h = All-nil IsOrdered
 functions_of-ordered code_offset number (m ∷ ms) h = All-cons IsOrdered _ _ (function_of-ordered code_offset number m (All-head (λ (a : AddressMap). map_fault code_offset a ≡ None) m ms h)) (functions_of-ordered code_offset (number + 1) ms (All-tail (λ (a : AddressMap). map_fault code_offset a ≡ None) m ms h))
 
--- what is kept of a function is ordered too
-ordered-kept : (f : Function) → IsOrdered f → IsOrdered (kept_function f)
-ordered-kept f h = record { rises = rw (recorded_sources-kept f) h.rises; within = rw (recorded_sources-kept f) h.within }
-
-all_ordered-kept : (fs : List Function) → All IsOrdered fs → All IsOrdered (map kept_function fs)
-all_ordered-kept [] h = All-nil IsOrdered
-all_ordered-kept (f ∷ fs) h = All-cons IsOrdered _ _ (ordered-kept f (All-head IsOrdered f fs h)) (all_ordered-kept fs (All-tail IsOrdered f fs h))
-
 -- The functions of a transform whose maps are good are ordered.
 pub kept-ordered : (fs : List Function) → AreKept fs → All IsOrdered fs
 kept-ordered fs h =
     let maps : List AddressMap = h.maps in
-    let all = all_ordered-kept (functions_of h.code_offset h.first_number maps) (functions_of-ordered h.code_offset h.first_number maps (all-good h.code_offset 0 maps h.good)) in
-    rw h.kept all
+    rw h.kept (functions_of-ordered h.code_offset h.first_number maps (all-good h.code_offset 0 maps h.good))

@@ -11,7 +11,7 @@ use Rattle.dwc_base.specs.Functions.{Function, recorded_sources, function_at}
 use Rattle.dwc_addr.specs.declared.function_map.FunctionMap.{FunctionMap}
 use Rattle.dwc_addr.specs.Runs.{recorded_view}
 use Rattle.dwc_addr.specs.Transforms.{function_view}
-use Rattle.dwc_addr.proofs.KeptLaws.{sources-of_sources}
+use Rattle.dwc_addr.proofs.EntryLaws.{recorded-merged}
 use Rattle.dwc_write.specs.SpelledLines.{WrittenSequence}
 use Rattle.dwc_write.specs.GivenLines.{GivenLines, BegunSequence, with_begun, row_behind, with_end, last_offset, IsAtOrBehind, HasRow, CanAppend, CanEnd}
 use Rattle.dwc_image.specs.ImageRows.{RisesFrom, IsOrdered, move_row, is_repeated, placed_at, with_found, image_rows}
@@ -102,7 +102,7 @@ grows-on function found more a b c h k = record { begun = k.begun; same = k.same
 
 -- the recorded sources of a function as it is kept
 pub sources-view : (m : FunctionMap) → recorded_sources (function_view m) ≡ map recorded_view m.addresses.items
-sources-view m = sources-of_sources (map recorded_view m.addresses.items)
+sources-view m = recorded-merged m.gaps.items 0 (map recorded_view m.addresses.items)
 
 -- what is written of a segment that is in a function
 pub sequence-found : (fs : List Function) (a : ℕ) (rows image : List LineRow) (m : FunctionMap) → function_at fs a ≡ Some (function_view m) → image ≡ image_rows rows a None (map recorded_view m.addresses.items)

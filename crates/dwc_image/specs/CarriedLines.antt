@@ -7,7 +7,7 @@ use Rattle.dwc_base.specs.Sections.{Sections}
 use Rattle.dwc_base.specs.LineRows.{LineTable, LineStep, start, row, end, segments, line_table}
 use Rattle.dwc_base.specs.LineFiles.{has_all_files}
 use Rattle.dwc_base.specs.Functions.{Function, AddressMap, functions_of}
-use Rattle.dwc_addr.specs.Transforms.{first_bad_map, kept_function}
+use Rattle.dwc_addr.specs.Transforms.{first_bad_map}
 use Rattle.dwc_base.specs.Images.{is_carried_segment, IsImageOf}
 use Rattle.dwc_base.specs.Widest.{widest_table}
 use Rattle.dwc_write.specs.WidestGiven.{widest_table_for}
@@ -56,7 +56,7 @@ pub record AreKept (fs : List Function) : Type 0 where
   pub first_number : ℕ
   pub maps : List AddressMap
   pub good : first_bad_map code_offset 0 maps ≡ None
-  pub kept : fs ≡ map kept_function (functions_of code_offset first_number maps)
+  pub kept : fs ≡ functions_of code_offset first_number maps
 
 -- A line program has the directories and files of a table in order, and its sequences are, one to one and in order, images of
 -- the carried segments of the table. At its widest it is no longer than the table.
