@@ -39,6 +39,7 @@ pub mod PathCases
 pub mod StandardCodes
 pub mod TreesSmall
 pub mod FieldCases
+pub mod RangeOutputs
 pub mod WidestCases
 pub mod OutputSmall
 pub mod DraftsOnLiterals
@@ -62,3 +63,6 @@ pub mod InLists
 pub mod ReadEnds
 pub mod ValueEnds
 pub mod UnitOffsets
+pub mod RangeCases
+pub mod ScopeCases
+pub mod ScopeLaws

@@ -4,9 +4,9 @@ use Rattle.dwc_base.proofs.DraftsOnLiterals.{drafts_on_literals}
 use Rattle.dwc_base.proofs.SmallModule.{abbreviations_small, info_small, line_small}
 use Rattle.dwc_base.proofs.Variants.{module_with, info_0, line_9, abbreviations_variable}
 use Rattle.dwc_base.specs.declared.records.Endian.TheVariants.{Little}
-use Rattle.dwc_base.specs.declared.faults.What.TheVariants.{LineTable as LineTableRead, Abbreviation, UnitHeader as UnitHeaderRead, Entry as EntryRead}
+use Rattle.dwc_base.specs.declared.faults.What.TheVariants.{LineTable as LineTableRead, Abbreviation, UnitHeader as UnitHeaderRead, Entry as EntryRead, RangeList}
 use Rattle.dwc_base.specs.declared.faults.Kind.TheVariants.{Compressed, NotBuilt}
-use Rattle.dwc_base.specs.declared.section_name.SectionName.TheVariants.{Line, Abbrev, Info}
+use Rattle.dwc_base.specs.declared.section_name.SectionName.TheVariants.{Line, Abbrev, Info, Ranges}
 use Rattle.dwc_base.specs.Sections.{unreadable, unsupported}
 use Rattle.dwc_base.specs.Carried.{Module}
 use Rattle.dwc_base.specs.Refusals.{Refusal, of_place, missing_file}
@@ -62,11 +62,12 @@ root_subprogram : refusal_of (module_with abbreviations_small (0x11 ∷ 0x00 ∷
 unfolding drafts_on_literals
 root_subprogram = refl
 
--- A subprogram whose `ranges` are a list is not built, where it is read: before a line table, and whether or not it is kept.
+-- The range list of a subprogram that cannot be read is told at the list, where the entry is read: before a line table, and whether
+-- or not the entry is kept.
 abbrev pub abbreviations_ranges : List ℕ
 abbreviations_ranges = 0x01 ∷ 0x11 ∷ 0x01 ∷ 0x10 ∷ 0x17 ∷ 0x00 ∷ 0x00 ∷ 0x02 ∷ 0x2E ∷ 0x00 ∷ 0x55 ∷ 0x17 ∷ 0x00 ∷ 0x00 ∷ 0x00 ∷ []
 
-range_list : refusal_of (module_with abbreviations_ranges (0x12 ∷ 0x00 ∷ 0x00 ∷ 0x00 ∷ 0x04 ∷ 0x00 ∷ 0x00 ∷ 0x00 ∷ 0x00 ∷ 0x00 ∷ 0x04 ∷ 0x01 ∷ 0x00 ∷ 0x00 ∷ 0x00 ∷ 0x00 ∷ 0x02 ∷ 0x00 ∷ 0x00 ∷ 0x00 ∷ 0x00 ∷ 0x00 ∷ []) (0x38 ∷ 0x00 ∷ []) ∷ []) ≡ Some (of_place (unsupported NotBuilt 16))
+range_list : refusal_of (module_with abbreviations_ranges (0x12 ∷ 0x00 ∷ 0x00 ∷ 0x00 ∷ 0x04 ∷ 0x00 ∷ 0x00 ∷ 0x00 ∷ 0x00 ∷ 0x00 ∷ 0x04 ∷ 0x01 ∷ 0x00 ∷ 0x00 ∷ 0x00 ∷ 0x00 ∷ 0x02 ∷ 0x00 ∷ 0x00 ∷ 0x00 ∷ 0x00 ∷ 0x00 ∷ []) (0x38 ∷ 0x00 ∷ []) ∷ []) ≡ Some (of_place (unreadable RangeList Ranges 0))
 unfolding drafts_on_literals
 range_list = refl
 

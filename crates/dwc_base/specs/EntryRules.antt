@@ -1,19 +1,24 @@
--- What of code is built so far: a subprogram that begins in a function with a symbol. What else has an address, a list or an
--- expression is refused as not built, at its entry. (DWARF 4 and 5, section 2.17; this project's own rules.)
-use Rattle.std.specs.Prelude.{ℕ, ◌==◌, pos, List, [], ◌∷◌, Bool, true, false, not, ◌&&◌, if◌then◌else◌, Option, Some, None, option_map, option_and_then, option_to_list, is_some, is_none, Result, Ok, Err}
+-- What of code is built so far: which entries are required, by a begin or by a range list; and of the kept ones a subprogram
+-- whose `low_pc` is in a function with a symbol. What else has an address, a list or an expression is refused as not built, at
+-- its entry. (DWARF 4 and 5, section 2.17; this project's own rules.)
+use Rattle.std.specs.Prelude.{ℕ, ◌==◌, pos, List, [], ◌∷◌, Bool, true, false, not, ◌&&◌, Option, Some, None, option_map, is_some, Result, Ok, Err}
 use Rattle.dwc_base.specs.declared.records.Address.{Address}
-use Rattle.dwc_base.specs.declared.records.Address.TheVariants.{Constant, Symbol}
+use Rattle.dwc_base.specs.declared.records.Address.TheVariants.{Symbol}
 use Rattle.dwc_base.specs.declared.section_name.SectionName.TheVariants.{Info}
 use Rattle.dwc_base.specs.declared.faults.What.TheVariants.{AddressValue}
 use Rattle.dwc_base.specs.declared.faults.Kind.TheVariants.{NotBuilt}
 use Rattle.dwc_base.specs.declared.faults.Flaw.{Flaw}
-use Rattle.dwc_base.specs.declared.constants.TheConstants.{DW_AT_high_pc, DW_AT_low_pc, DW_AT_ranges, DW_FORM_udata, DW_TAG_subprogram}
+use Rattle.dwc_base.specs.declared.constants.TheConstants.{DW_AT_high_pc, DW_AT_low_pc, DW_FORM_udata, DW_TAG_subprogram}
 use Rattle.dwc_base.specs.Sections.{Sections, Fault, fault_of, unsupported}
 use Rattle.dwc_base.specs.Units.{UnitHeader}
-use Rattle.dwc_base.specs.Values.{Value, expression, range_reference, range_index}
+use Rattle.dwc_base.specs.Values.{Value, expression}
 use Rattle.dwc_base.specs.Entries.{Entry, attribute}
 use Rattle.dwc_base.specs.Indexed.{address_named}
-use Rattle.dwc_base.specs.Functions.{Function, function_at}
+use Rattle.dwc_base.specs.Functions.{Function}
+use Rattle.dwc_base.specs.Lists.{list_source}
+use Rattle.dwc_base.specs.RangeKept.{function_of_address}
+use Rattle.dwc_base.specs.RangeKept as RangeKept
+use Rattle.dwc_base.specs.RangeRefusals.{subprogram_faults}
 use Rattle.dwc_base.specs.Refusals.{Refusal, of_place}
 use Rattle.dwc_base.specs.Trees as Trees
 use Rattle.dwc_base.specs.Drafts.{DraftValue, done}
@@ -21,25 +26,31 @@ use Rattle.dwc_base.specs.Clones.{CodeRules}
 
 -- ---- which subprograms begin in a function
 
--- the function at an address that was read; an address of the input is a number
-abbrev pub function_of_address : List Function → Result (Option Address) Flaw → Option Function
-function_of_address fs (Ok (Some (Constant a))) = function_at fs a
-function_of_address fs _ = None
+-- the function that an address that was read is in, if there is one
+abbrev pub function_among : List Function → Result (Option Address) Flaw → Option Function
+function_among fs (Ok (Some a)) = function_of_address fs a
+function_among fs _ = None
 
 -- the function at the address that a value is, if it is one
 abbrev pub function_of_value : Sections → UnitHeader → List Function → Option Value → Option Function
 function_of_value s h fs None = None
-function_of_value s h fs (Some v) = function_of_address fs (address_named s h v)
+function_of_value s h fs (Some v) = function_among fs (address_named s h v)
 
 -- The function with a symbol that a subprogram's first `low_pc` is in, in place or by an index; none for other entries.
 unfoldable pub function_begun : List Function → Sections → UnitHeader → Entry → Option Function
 function_begun fs s h e = elim (e.tag == DW_TAG_subprogram) [ true ↦ function_of_value s h fs (attribute DW_AT_low_pc e) | false ↦ None ]
 
--- A subprogram without `ranges` that begins in a function is required.
-abbrev pub is_required : List Function → Sections → UnitHeader → Entry → Bool
-is_required fs s h e = is_none (attribute DW_AT_ranges e) && is_some (function_begun fs s h e)
+-- ---- what is read of an entry to know whether it is required
 
--- ---- what is refused when an entry is read
+-- whether an entry of a unit is required, by its begin or by its range list
+abbrev pub is_required : List Function → Sections → UnitHeader → Entry → Bool
+is_required fs s h e = RangeKept.is_required (list_source s h) fs e
+
+-- What an entry of a unit names that cannot be read, when it is read to know which entries are required.
+unfoldable pub named_faults : Sections → UnitHeader → Entry → List Fault
+named_faults s h e = subprogram_faults (list_source s h) e
+
+-- ---- what is refused of an address
 
 -- what is not built is told at its entry
 abbrev pub not_built : Entry → Fault
@@ -53,20 +64,6 @@ address_fault e (Err flaw) = Some (fault_of AddressValue Info e.offset flaw)
 -- an address by an index that cannot be read, at its entry
 abbrev pub indexed_fault : Sections → UnitHeader → Entry → Value → Option Fault
 indexed_fault s h e v = address_fault e (address_named s h v)
-
--- whether a value is a range list
-abbrev pub is_range_list : Option Value → Bool
-is_range_list (Some (range_reference n)) = true
-is_range_list (Some (range_index n)) = true
-is_range_list _ = false
-
--- a subprogram's range list, and else the address that it begins at
-abbrev pub subprogram_fault : Sections → UnitHeader → Entry → Option Fault
-subprogram_fault s h e = if is_range_list (attribute DW_AT_ranges e) then Some (not_built e) else option_and_then (indexed_fault s h e) (attribute DW_AT_low_pc e)
-
--- What an entry names that cannot be read, when it is read to know which entries are required.
-unfoldable pub named_faults : Sections → UnitHeader → Entry → List Fault
-named_faults s h e = elim (e.tag == DW_TAG_subprogram) [ true ↦ option_to_list (subprogram_fault s h e) | false ↦ [] ]
 
 -- ---- what is built of kept entries
 

@@ -42,6 +42,12 @@ pub mod ReachedEntries
 pub mod Runs
 pub mod RawLists
 pub mod Lists
+pub mod RangeKept
+pub mod RangeAttributes
+pub mod RangeRefusals
+pub mod RangeRules
+pub mod Scopes
+pub mod ScopesCarried
 pub mod EntryRules
 pub mod Forests
 pub mod LinesCarried

@@ -13,6 +13,9 @@ use Rattle.dwc_base.specs.Values.{Value}
 use Rattle.dwc_base.specs.Entries.{Entry}
 use Rattle.dwc_base.specs.Carried.{Unit, units}
 use Rattle.dwc_base.specs.Outputs.{OutputSection, output_sections}
+use Rattle.dwc_base.specs.declared.faults.Flaw.{Flaw}
+use Rattle.dwc_base.specs.RawLists.{ListPlace, list_named}
+use Rattle.dwc_base.specs.Lists.{ListRefusal, of_place, long_range, list_source, ranges_of_value}
 use Rattle.dwc_base.specs.Texts.{TextSource, text_named}
 use Rattle.dwc_base.specs.Indexed.{address_named, texts_of_unit}
 use Rattle.dwc_base.specs.Trees.{Interval, Location, TreeValue, address, constant, flag, block, expression, text, line_table, ranges, locations, entry, nothing, TreeEntry, Tree, place_among}
@@ -22,9 +25,30 @@ pub record ListReading : Type 0 where
   pub ranges_at : UnitHeader → Entry → Value → Result (List Interval) Fault
   pub locations_at : UnitHeader → Entry → Value → Result (List Location) Fault
 
--- Lists are not read: a list that is named cannot be.
-abbrev pub no_lists : ListReading
-no_lists = record { ranges_at = λ h e v. Err (unreadable RangeList Info e.offset); locations_at = λ h e v. Err (unreadable LocationList Info e.offset) }
+-- A refusal of a list as a fault. Where a start plus a length is no address the list cannot be read, which is told at its place.
+abbrev pub refusal_read : Fault → ListRefusal → Fault
+refusal_read list (of_place fault) = fault
+refusal_read list long_range = list
+
+-- all items of a list, or its refusal
+abbrev pub list_read : {A : Type 0} → Fault → List A → Option ListRefusal → Result (List A) Fault
+list_read list items None = Ok items
+list_read list items (Some refusal) = Err (refusal_read list refusal)
+
+-- a range list that cannot be read: told at its place, or at the entry's where it has none
+abbrev pub unreadable_ranges : Entry → Option (Result ListPlace Flaw) → Fault
+unreadable_ranges e (Some (Ok l)) = unreadable RangeList l.section l.offset
+unreadable_ranges e _ = unreadable RangeList Info e.offset
+
+-- The intervals of the range list that a value of an entry names.
+unfoldable pub ranges_read : Sections → UnitHeader → Entry → Value → Result (List Interval) Fault
+ranges_read s h e v =
+    let given = ranges_of_value (list_source s h) e.offset v in
+    list_read (unreadable_ranges e (list_named (list_source s h) v)) given.items given.fault
+
+-- How the lists of an output are read. Location lists are not read yet.
+abbrev pub output_lists : Sections → ListReading
+output_lists s = record { ranges_at = ranges_read s; locations_at = λ h e v. Err (unreadable LocationList Info e.offset) }
 
 -- What the values of a unit are read with: the sections, its number among the units, its header, its texts, and all units.
 pub record ReadingUnit : Type 0 where
@@ -113,4 +137,4 @@ trees lists s = listing_said lists s (units s)
 
 -- An output carries some trees: its sections, read again, say these units in this order, and no others.
 abbrev pub CarriesTrees : Endian → List Tree → List OutputSection → Type 0
-CarriesTrees order wanted s = trees no_lists (output_sections order s) ≡ Ok wanted
+CarriesTrees order wanted s = trees (output_lists (output_sections order s)) (output_sections order s) ≡ Ok wanted

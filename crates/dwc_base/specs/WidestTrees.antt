@@ -3,11 +3,11 @@
 use Rattle.std.specs.Prelude.{ℕ, ◌+◌, ◌*◌, List, [], ◌∷◌, length, nat_lt, sum_by, if◌then◌else◌}
 use Rattle.std.specs.Option.{unwrap_or}
 use Rattle.dwc_base.specs.declared.section_name.SectionName.{SectionName}
-use Rattle.dwc_base.specs.declared.section_name.SectionName.TheVariants.{Abbrev, Info, Str}
+use Rattle.dwc_base.specs.declared.section_name.SectionName.TheVariants.{Abbrev, Info, Ranges, Str}
 use Rattle.dwc_base.specs.declared.constants.TheConstants.{DW_FORM_data1, DW_FORM_data2, DW_FORM_data4, DW_FORM_data8}
 use Rattle.dwc_base.specs.Reading.{coded}
 use Rattle.dwc_base.specs.Trees.{TreeValue, address, constant, flag, block, expression, text, line_table, ranges, locations, entry, nothing, TreeEntry, Tree}
-use Rattle.dwc_base.specs.TreeLaws.{distinct_texts, texts_ended}
+use Rattle.dwc_base.specs.TreeLaws.{distinct_texts, texts_ended, values_of}
 use Rattle.dwc_base.specs.Widest.{variable_bytes, address_bytes, widest_declaration}
 
 -- the size of a constant by its form; all others have a variable length
@@ -50,9 +50,19 @@ widest_unit t = 11 + (sum_by widest_entry t + lists_of_children t * variable_byt
 abbrev pub widest_declarations : Tree → ℕ
 widest_declarations t = sum_by (λ e. widest_declaration (length e.attributes)) t + variable_bytes
 
--- How long a section with entries, abbreviations or texts can be at most.
+-- two addresses: an interval, or the end of a list
+abbrev pub pair_bytes : ℕ
+pair_bytes = address_bytes + address_bytes
+
+-- a range list with its end (DWARF 4, section 2.17.3)
+abbrev pub widest_ranges : TreeValue → ℕ
+widest_ranges (ranges is) = length is * pair_bytes + pair_bytes
+widest_ranges _ = 0
+
+-- How long a section with entries, abbreviations, range lists or texts can be at most.
 abbrev pub widest_of_trees : SectionName → List Tree → ℕ
 widest_of_trees Info ts = sum_by widest_unit ts
 widest_of_trees Abbrev ts = sum_by widest_declarations ts
+widest_of_trees Ranges ts = sum_by (λ t. sum_by widest_ranges (values_of t)) ts
 widest_of_trees Str ts = length (texts_ended (distinct_texts ts))
 widest_of_trees name ts = 0

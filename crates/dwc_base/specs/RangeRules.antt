@@ -1,0 +1,70 @@
+-- What the attributes of a kept entry become that speak of code, but for expressions and location lists: the rules that the
+-- making of entries is handed. (This project's own rules.)
+use Rattle.std.specs.Prelude.{ℕ, List, [], map, Bool, true, false, if◌then◌else◌, Option, Some, None, option_map, Result, Ok, Err}
+use Rattle.dwc_base.specs.declared.faults.Kind.TheVariants.{NotBuilt}
+use Rattle.dwc_base.specs.declared.faults.What.TheVariants.{AddressValue}
+use Rattle.dwc_base.specs.declared.section_name.SectionName.TheVariants.{Info}
+use Rattle.dwc_base.specs.Listing.{Listing}
+use Rattle.dwc_base.specs.Sections.{fault_of, unsupported}
+use Rattle.dwc_base.specs.Values.{Value, address, address_index, expression, range_reference, range_index}
+use Rattle.dwc_base.specs.Entries.{Entry}
+use Rattle.dwc_base.specs.Functions.{Function}
+use Rattle.dwc_base.specs.Carried.{Unit, Module}
+use Rattle.dwc_base.specs.Trees.{Interval, TreeValue}
+use Rattle.dwc_base.specs.Drafts.{DraftValue, done}
+use Rattle.dwc_base.specs.RawLists.{ListSource}
+use Rattle.dwc_base.specs.Lists.{list_source, ListRefusal, of_place, ranges_of_value}
+use Rattle.dwc_base.specs.RangeAttributes.{carried_address, carried_ranges, range_attributes}
+use Rattle.dwc_base.specs.RangeRefusals.{bound_refusal}
+use Rattle.dwc_base.specs.Clones.{CodeRules}
+
+-- ---- rules
+
+-- all items of a listing, where it has no fault
+abbrev pub all_items : {F A : Type 0} → Listing F A → Result (List A) F
+all_items xs = elim xs.fault [ None ↦ Ok xs.items | Some fault ↦ Err fault ]
+
+-- a value that something becomes, as one of an entry whose references still go to goals
+abbrev pub drafted : TreeValue → Option DraftValue
+drafted v = Some (done v)
+
+-- what the intervals of a list become
+abbrev pub list_becomes : List Function → Result (List Interval) ListRefusal → Result (Option DraftValue) ListRefusal
+list_becomes fs (Ok is) = Ok (drafted (carried_ranges fs is))
+list_becomes fs (Err refusal) = Err refusal
+
+-- What an address, or a range list, becomes of an entry at an offset. A location list and an expression are not built yet.
+unfoldable pub code_becomes : ListSource → List Function → ℕ → Value → Result (Option DraftValue) ListRefusal
+code_becomes s fs offset (address a) = Ok (drafted (carried_address fs a))
+code_becomes s fs offset (address_index i) = elim (s.indexed i) [ Ok a ↦ Ok (drafted (carried_address fs a)) | Err flaw ↦ Err (of_place (fault_of AddressValue Info offset flaw)) ]
+code_becomes s fs offset (range_reference n) = list_becomes fs (all_items (ranges_of_value s offset (range_reference n)))
+code_becomes s fs offset (range_index i) = list_becomes fs (all_items (ranges_of_value s offset (range_index i)))
+code_becomes s fs offset v = Err (of_place (unsupported NotBuilt offset))
+
+-- whether a value is an expression
+abbrev pub is_expression : Value → Bool
+is_expression (expression bytes) = true
+is_expression _ = false
+
+-- the refusal of a bound; one that is an expression is not built yet
+abbrev pub bound_refused : ListSource → List Function → Entry → List (ℕ × Value) → ℕ × Value → Option ListRefusal
+bound_refused s fs e before a = if is_expression a.1 then Some (of_place (unsupported NotBuilt e.offset)) else bound_refusal s fs e before a
+
+-- a result whose refusal is told as another
+abbrev pub told_as : {A E F : Type 0} → (E → F) → Result A E → Result A F
+told_as told (Ok x) = Ok x
+told_as told (Err refusal) = Err (told refusal)
+
+-- The rules for the code of a unit's entries, `told` being what a refusal is told as.
+abbrev pub range_rules : {E : Type 0} → (ListRefusal → E) → ListSource → List Function → CodeRules E
+range_rules told s fs = record {
+  of_fault = λ fault. told (of_place fault);
+  bounds = λ e. map (λ a. (a.0, done a.1)) (range_attributes s fs e.entry);
+  refused_bound = λ e before a. option_map told (bound_refused s fs e.entry before a);
+  other = λ e a. told_as told (code_becomes s fs e.entry.offset a.1);
+  behind = λ e. [];
+}
+
+-- the same for a unit of a module
+abbrev pub range_rules_of_unit : {E : Type 0} → (ListRefusal → E) → Module → Unit → CodeRules E
+range_rules_of_unit told m u = range_rules told (list_source m.sections u.header) m.functions
