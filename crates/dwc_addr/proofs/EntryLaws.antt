@@ -1,15 +1,18 @@
 -- The entries of a map are kept whole: the sources among them are those that are kept, and all come back in order.
 use Rattle.std.proofs.Common.{◌≡◌, ℕ, suc, ◌<◌, refl, ap, ◌∙◌, arith, List, [], ◌∷◌, ◌++◌, map, Option, Some, None}
-use Rattle.std.specs.Prelude.{◌==◌, option_map, All}
+use Rattle.std.specs.Prelude.{nat_lt, ◌==◌, if◌then◌else◌, option_map, Bool, true, false, All}
 use Rattle.std.specs.List.{filter, filter_map}
 use Rattle.std.specs.Option.{option_or}
-use Rattle.std.proofs.lemmas.Bool.{eq-eqb, ne_eqb}
+use Rattle.std.proofs.lemmas.Bool.{eq-eqb, ne_eqb, ltb-false}
 use Rattle.std.proofs.lemmas.List.Elements.{All-nil, All-cons}
 use Rattle.dwc_base.specs.declared.records.MapFault.{MapFault}
-use Rattle.dwc_base.specs.Functions.{AddressMap, Recorded, recorded_entry, wasm_entry, map_fault}
+use Rattle.dwc_base.specs.declared.records.MapFault.TheVariants.{BodyOffset, BeforeCodeSection, Reversed, CodeFalls, CodePastBody, SourceOutside}
+use Rattle.dwc_base.specs.Functions.{AddressMap, Recorded, recorded_entry, wasm_entry, map_fault, bounds_fault, entry_fault, is_source_within}
 use Rattle.dwc_addr.specs.declared.function_map.Gap.{Gap}
 use Rattle.dwc_addr.specs.Gaps.{gaps_of, entry_of_source, merged}
+use Rattle.dwc_addr.specs.Rising.{RisesFrom}
 use Rattle.dwc_addr.specs.Transforms.{first_bad_map}
+use Rattle.dwc_addr.proofs.RisingLaws.{RisesFrom-weaker}
 
 -- ---- the sources among all entries
 
@@ -64,6 +67,12 @@ pub entries-merged : (code_offset : ℕ) (es : List (ℕ × Option ℕ)) (gaps :
     → merged gaps 0 sources ≡ map (wasm_entry code_offset) es
 entries-merged code_offset es gaps sources kept found = rw (kept, found, ← gaps-counted code_offset 0 es) (merged-all 0 (map (wasm_entry code_offset) es))
 
+-- the gaps of entries in their order
+pub gaps-rise : (before : ℕ) (es : List (ℕ × Option ℕ)) → RisesFrom (λ g. g.before) before (gaps_of before es)
+gaps-rise before [] = tt
+gaps-rise before ((native, None) ∷ es) = (omega arith, gaps-rise before es)
+gaps-rise before ((native, Some source) ∷ es) = RisesFrom-weaker (λ g. g.before) before (suc before) _ (omega arith) (gaps-rise (suc before) es)
+
 -- ---- good maps
 
 -- where no map is the first bad one, all are good
@@ -75,3 +84,42 @@ all-good code_offset place (m ∷ ms) = go (map_fault code_offset m) refl (all-g
         → ◌≡◌ {A = Option (ℕ × MapFault)} (option_or (option_map (λ why. (place, why)) o) (first_bad_map code_offset (suc place) ms)) None → All (λ m. map_fault code_offset m ≡ None) (m ∷ ms)
     go None is more h = All-cons (λ (n : AddressMap). map_fault code_offset n ≡ None) m ms is (more h)
     go (Some why) is more h = absurd (cc)
+
+-- the code offsets of a good map's entries do not fall
+entries-rise : (start end len code : ℕ) (es : List (ℕ × Option ℕ)) → entry_fault start end len code es ≡ None → RisesFrom (λ e. e.0) code es
+entries-rise start end len code [] = λ h. tt
+entries-rise start end len code (e ∷ es) = go (nat_lt e.0 code) (nat_lt len e.0) (is_source_within start end e.1) refl (entries-rise start end len e.0 es)
+  where
+    go : (a b c : Bool) → nat_lt e.0 code ≡ a → (entry_fault start end len e.0 es ≡ None → RisesFrom (λ e. e.0) e.0 es)
+        → ◌≡◌ {A = Option MapFault} (if a then Some CodeFalls else (if b then Some CodePastBody else (if c then entry_fault start end len e.0 es else Some SourceOutside))) None
+        → RisesFrom (λ e. e.0) code (e ∷ es)
+    go true b c is more h = absurd (cc)
+    go false true c is more h = absurd (cc)
+    go false false false is more h = absurd (cc)
+    go false false true is more h = (ltb-false e.0 code is, more h)
+
+-- what holds of entries without a fault holds of those of a good map
+pub good-so : (P : Type 0) (code_offset : ℕ) (m : AddressMap) → ((start end : ℕ) → entry_fault start end m.body_len 0 m.entries ≡ None → P) → map_fault code_offset m ≡ None → P
+good-so P code_offset m so h = go (m.body_offset == 0) m.start m.end h
+  where
+    inner : (start end : ℕ) (a b : Bool) → ◌≡◌ {A = Option MapFault} (if a then Some BeforeCodeSection else (if b then Some Reversed else entry_fault start end m.body_len 0 m.entries)) None → P
+    inner start end true b h = absurd (cc)
+    inner start end false true h = absurd (cc)
+    inner start end false false h = so start end h
+
+    go : (a : Bool) (start end : Option ℕ) → ◌≡◌ {A = Option MapFault} (if a then bounds_fault code_offset m start end else Some BodyOffset) None → P
+    go false start end h = absurd (cc)
+    go true None end h = absurd (cc)
+    go true (Some start) None h = absurd (cc)
+    go true (Some start) (Some end) h = inner start end (nat_lt start code_offset) (nat_lt end start) h
+
+good-rises : (code_offset : ℕ) (m : AddressMap) → map_fault code_offset m ≡ None → RisesFrom (λ e. e.0) 0 m.entries
+good-rises code_offset m h = good-so (RisesFrom (λ e. e.0) 0 m.entries) code_offset m (λ start end. entries-rise start end m.body_len 0 m.entries) h
+
+-- nor do they with their sources counted otherwise
+wasm-rises : (code_offset low : ℕ) (es : List (ℕ × Option ℕ)) → RisesFrom (λ e. e.0) low es → RisesFrom (λ e. e.0) low (map (wasm_entry code_offset) es)
+wasm-rises code_offset low [] h = tt
+wasm-rises code_offset low (e ∷ es) h = (h.0, wasm-rises code_offset e.0 es h.1)
+
+pub good-entries : (code_offset : ℕ) (m : AddressMap) → map_fault code_offset m ≡ None → RisesFrom (λ e. e.0) 0 (map (wasm_entry code_offset) m.entries)
+good-entries code_offset m h = wasm-rises code_offset 0 m.entries (good-rises code_offset m h)

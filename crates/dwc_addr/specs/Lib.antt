@@ -2,7 +2,11 @@ pub mod CompilationTexts
 pub mod Compilations
 pub mod Gaps
 pub mod Numbers
+pub mod PositionPlaces
+pub mod Rising
+pub mod RunViews
 pub mod Runs
 pub mod Starts
 pub mod SymbolIndexes
 pub mod Transforms
+pub mod Translations

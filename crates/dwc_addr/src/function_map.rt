@@ -1,5 +1,7 @@
 //! A defined function as an address transform keeps it.
-ghost use Rattle.std.specs.Prelude.{◌≡◌, ◌<◌, ◌^◌, map};
+ghost use Rattle.std.specs.Prelude.{◌≡◌, ◌<◌, ◌^◌, map, All};
+ghost use Rattle.std.specs.List.Sorted.{IsNonDecreasingBy};
+ghost use Rattle.dwc_addr.specs.Gaps.{merged};
 ghost use Rattle.dwc_addr.specs.Runs.{recorded_view, run_starts};
 
 use crate::address_map::{AddressMap, GeneratedAddress, WasmAddress};
@@ -36,5 +38,10 @@ pub struct FunctionMap {
     ghost begins: { offset ≡ 0 },
     ghost short: { len < 2 ^ 32 },
     ghost starts_low: { wasm_start < 2 ^ 32 },
+    // The code offsets of all entries do not fall, nor do the places of those without a source.
+    ghost rises: { IsNonDecreasingBy (λ e. e.0) (merged gaps.items 0 (map recorded_view addresses.items)) },
+    ghost apart: { IsNonDecreasingBy (λ g. g.before) gaps.items },
+    ghost low: { All (λ e. e.generated < 2 ^ 32) addresses.items },
+    ghost gaps_low: { All (λ g. g.generated < 2 ^ 32) gaps.items },
     ghost split: { later_runs.items ≡ run_starts 0 0 (map recorded_view addresses.items) },
 }

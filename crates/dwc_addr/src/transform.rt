@@ -1,8 +1,8 @@
 //! The functions of a module as its DWARF names them: by wasm offsets, which count from the contents of the code section.
-ghost use Rattle.std.specs.Prelude.{◌≡◌, ◌-◌, ◌+◌, ◌<◌, ◌≤◌, ◌^◌, ℕ, length, map, slice_get, option_map, Some, IfOk, IfSome, IsSome, vec_len};
+ghost use Rattle.std.specs.Prelude.{◌≡◌, ◌-◌, ◌+◌, ◌<◌, ◌≤◌, ◌^◌, ℕ, length, map, slice_get, option_map, Some, None, All, IfOk, IfSome, IsSome, vec_len};
 ghost use Rattle.std.specs.Option.{unwrap_or};
 ghost use Rattle.std.specs.List.{filter_map};
-ghost use Rattle.dwc_base.specs.Functions.{function_of, owner, function_at, wasm_entry, recorded_entry};
+ghost use Rattle.dwc_base.specs.Functions.{map_fault as first_fault, function_of, owner, function_at, wasm_entry, recorded_entry};
 ghost use Rattle.dwc_clif.specs.AddressMaps.{address_map_view, entry_view};
 ghost use Rattle.dwc_addr.specs.Gaps.{gaps_of};
 ghost use Rattle.dwc_addr.specs.Transforms.{function_view, Transforms};
@@ -192,6 +192,7 @@ fn function_map(
     symbol: Option<SymbolId>,
     metadata: &CompiledFunctionMetadata,
 ) -> Result<FunctionMap, AllocError>
+    requires { first_fault code_section_offset (address_map_view (symbol, metadata.now)) ≡ None }
     ensures { IfOk result (λ f. function_view f ≡ function_of code_section_offset number (address_map_view (symbol, metadata.now))) }
 {
     let map = &metadata.address_map;
@@ -225,7 +226,8 @@ fn sources(
     code_section_offset: u64,
     entries: &[InstructionAddressMap],
 ) -> Result<Vec<AddressMap>, AllocError>
-    ensures { IfOk result (λ found. map recorded_view found.items ≡ filter_map recorded_entry (map (wasm_entry code_section_offset) (map entry_view entries.now))) }
+    ensures low { IfOk result (λ found. All (λ e. e.generated < 2 ^ 32) found.items) }
+    ensures found { IfOk result (λ found. map recorded_view found.items ≡ filter_map recorded_entry (map (wasm_entry code_section_offset) (map entry_view entries.now))) }
 {
     let mut found = Vec::with_capacity(alloc, entries.len())?;
     for entry in entries {
@@ -240,7 +242,8 @@ fn sources(
 
 // The entries that have no source.
 fn gaps(alloc: Global, entries: &[InstructionAddressMap]) -> Result<Vec<Gap>, AllocError>
-    ensures { IfOk result (λ gaps. gaps.items ≡ gaps_of 0 (map entry_view entries.now)) }
+    ensures low { IfOk result (λ gaps. All (λ g. g.generated < 2 ^ 32) gaps.items) }
+    ensures gaps { IfOk result (λ gaps. gaps.items ≡ gaps_of 0 (map entry_view entries.now)) }
 {
     let mut gaps = Vec::new(alloc);
     let mut before = 0;

@@ -1,13 +1,28 @@
 use Rattle.std.proofs.Common.{◌∙◌, ap, rules, map}
 use Rattle.std.specs.List.{filter_map}
 use Rattle.dwc_base.specs.Functions.{recorded_entry, wasm_entry}
-use Rattle.dwc_clif.specs.AddressMaps.{entry_view}
+use Rattle.dwc_clif.specs.AddressMaps.{address_map_view, entry_view}
 use Rattle.dwc_addr.specs.Gaps.{gaps_of}
-use Rattle.dwc_addr.proofs.EntryLaws.{entries-merged}
+use Rattle.dwc_addr.specs.Runs.{recorded_view, run_starts}
+use Rattle.dwc_addr.proofs.EntryLaws.{entries-merged, gaps-rise, good-entries}
+use Rattle.dwc_addr.proofs.RisingLaws.{RisesFrom-non_decreasing}
 use Rattle.dwc_addr.proofs.transform.function_map.Goals as goal
+
+pub invariant_of-result-clause-rises : goal.invariant_of-result-clause-rises
+invariant_of-result-clause-rises c =
+    let sources = c.in_ok-addresses.ensures.found ∙ ap (λ es. filter_map recorded_entry (map (wasm_entry c.args.code_section_offset) (map entry_view es))) c.deref.ensures.value in
+    let gaps = c.in_ok-gaps.ensures.gaps ∙ ap (λ es. gaps_of 0 (map entry_view es)) c.deref-2.ensures.value in
+    rw (entries-merged c.args.code_section_offset (map entry_view c.args.metadata.now.address_map.instructions.items) _ _ gaps sources)
+    (RisesFrom-non_decreasing (λ e. e.0) 0 _ (good-entries c.args.code_section_offset (address_map_view (c.args.symbol, c.args.metadata.now)) c.requires))
+
+pub invariant_of-result-clause-apart : goal.invariant_of-result-clause-apart
+invariant_of-result-clause-apart c = rw c.in_ok-gaps.ensures.gaps (RisesFrom-non_decreasing (λ g. g.before) 0 _ (gaps-rise 0 (map entry_view c.deref-2.result.now)))
+
+pub invariant_of-result-clause-split : goal.invariant_of-result-clause-split
+invariant_of-result-clause-split c = c.in_ok-later_runs.ensures ∙ ap (λ es. run_starts 0 0 (map recorded_view es)) c.deref-3.ensures.value
 
 pub returns : goal.returns
 returns c =
-    let sources = c.in_ok-addresses.ensures ∙ ap (λ es. filter_map recorded_entry (map (wasm_entry c.args.code_section_offset) (map entry_view es))) c.deref.ensures.value in
-    let gaps = c.in_ok-gaps.ensures ∙ ap (λ es. gaps_of 0 (map entry_view es)) c.deref-2.ensures.value in
+    let sources = c.in_ok-addresses.ensures.found ∙ ap (λ es. filter_map recorded_entry (map (wasm_entry c.args.code_section_offset) (map entry_view es))) c.deref.ensures.value in
+    let gaps = c.in_ok-gaps.ensures.gaps ∙ ap (λ es. gaps_of 0 (map entry_view es)) c.deref-2.ensures.value in
     rw (entries-merged c.args.code_section_offset (map entry_view c.args.metadata.now.address_map.instructions.items) _ _ gaps sources) (search rules)

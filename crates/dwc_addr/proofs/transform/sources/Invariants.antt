@@ -1,4 +1,4 @@
-use Rattle.std.proofs.Common.{◌≡◌, ◌++◌, map, drop}
+use Rattle.std.proofs.Common.{◌≡◌, ◌<◌, ◌^◌, ◌++◌, map, drop, All}
 use Rattle.std.specs.List.{filter_map}
 use Rattle.dwc_base.specs.Functions.{wasm_entry, recorded_entry}
 use Rattle.dwc_clif.specs.AddressMaps.{entry_view}
@@ -8,5 +8,6 @@ use Rattle.dwc_addr.proofs.transform.sources.Given as goal
 -- the sources so far, and those of the entries that are left, are all
 abbrev pub invariant-loop-entry : goal.invariant-loop-entry
 invariant-loop-entry l =
-    map recorded_view l.found.items ++ filter_map recorded_entry (map (wasm_entry l.code_section_offset) (map entry_view (drop l.entry-index l.entries)))
-    ≡ filter_map recorded_entry (map (wasm_entry l.code_section_offset) (map entry_view l.entries))
+    (map recorded_view l.found.items ++ filter_map recorded_entry (map (wasm_entry l.code_section_offset) (map entry_view (drop l.entry-index l.entries)))
+    ≡ filter_map recorded_entry (map (wasm_entry l.code_section_offset) (map entry_view l.entries)))
+    × All (λ e. e.generated < 2 ^ 32) l.found.items

@@ -1,0 +1,7 @@
+use Rattle.std.proofs.Common.{◌≡◌}
+use Rattle.dwc_addr.specs.Translations.{ranges_from}
+use Rattle.dwc_addr.proofs.ranges.range_behind.Given as goal
+
+-- the runs that are left have the ranges of all from the first one on
+abbrev pub invariant-loop-place : goal.invariant-loop-place
+invariant-loop-place l = ranges_from l.function l.start l.end l.place ≡ ranges_from l.function l.start l.end l.number

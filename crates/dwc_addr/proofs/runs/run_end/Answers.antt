@@ -1,0 +1,33 @@
+use Rattle.std.proofs.Common.{◌<◌, arith, length}
+use Rattle.dwc_addr.proofs.RunLaws.{end-inside, end-is}
+use Rattle.dwc_addr.proofs.runs.run_end.Goals as goal
+
+pub overflow_sub-behind : goal.overflow_sub-behind
+overflow_sub-behind c =
+    let m = c.args.function.now in
+    let less : c.args.number < length m.later_runs.items = omega (arith, m.later_runs.ok, c.requires, c.len.ensures, c.if-number-len.false) in
+    omega (arith, (end-inside m c.args.number c.index-behind.result.now less c.index-behind.ensures).0)
+
+pub index-last-requires : goal.index-last-requires
+index-last-requires c =
+    let m = c.args.function.now in
+    let less : c.args.number < length m.later_runs.items = omega (arith, m.later_runs.ok, c.requires, c.len.ensures, c.if-number-len.false) in
+    omega (arith, m.addresses.ok, (end-inside m c.args.number c.index-behind.result.now less c.index-behind.ensures).1)
+
+pub index-requires : goal.index-requires
+index-requires c =
+    let m = c.args.function.now in
+    let less : c.args.number < length m.later_runs.items = omega (arith, m.later_runs.ok, c.requires, c.len.ensures, c.if-number-len.false) in
+    omega (arith, m.addresses.ok, (end-inside m c.args.number c.index-behind.result.now less c.index-behind.ensures).1)
+
+pub returns-clause-end : goal.returns-clause-end
+returns-clause-end c =
+    let m = c.args.function.now in
+    let less : c.args.number < length m.later_runs.items = omega (arith, m.later_runs.ok, c.requires, c.len.ensures, c.if-number-len.false) in
+    end-is m c.args.number c.index-behind.result.now c.index-last.result.now c.index.result.now less c.index-behind.ensures c.index-last.ensures c.index.ensures
+
+pub returns-clause-low : goal.returns-clause-low
+returns-clause-low c =
+    let m = c.args.function.now in
+    let less : c.args.number < length m.later_runs.items = omega (arith, m.later_runs.ok, c.requires, c.len.ensures, c.if-number-len.false) in
+    rw c.index.ensures (m.low c.index-behind.result.now c.index.result.now (end-inside m c.args.number c.index-behind.result.now less c.index-behind.ensures).1)

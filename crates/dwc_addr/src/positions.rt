@@ -1,0 +1,148 @@
+//! Where a run begins and ceases to have the code of a wasm offset, by halves.
+ghost use Rattle.std.specs.Prelude.{◌≡◌, ◌+◌, ◌-◌, ◌<◌, ◌≤◌, ◌^◌, ◌==◌, ◌&&◌, nat_lt, length, take, drop, All, IfSome, slice_index_or, option_map, if◌then◌else◌, Some, None};
+ghost use Rattle.std.specs.List.{find};
+ghost use Rattle.std.specs.List.Sorted.{IsNonDecreasingBy};
+ghost use Rattle.dwc_base.specs.Runs.{Position, start_in as begin_in, end_in as cease_in};
+ghost use Rattle.dwc_addr.specs.RunViews.{positions_of, run_view, IsRunOf};
+ghost use Rattle.dwc_addr.specs.PositionPlaces.{IsCountBelow, IsCountUpTo, start_at as begin_at, start_or as begin_or};
+
+use crate::address_map::{AddressMap, GeneratedAddress, WasmAddress};
+use crate::function_map::{FunctionMap, Gap};
+use crate::run::Run;
+
+// Where the first entry begins that has no source and in front of which so many with one stand.
+fn gap_behind(gaps: &[Gap], before: usize) -> Option<GeneratedAddress>
+    requires apart { IsNonDecreasingBy (λ g. g.before) gaps.now }
+    requires low { All (λ g. g.generated < 2 ^ 32) gaps.now }
+    ensures found { result ≡ option_map (λ g. g.generated) (find (λ g. g.before == before) gaps.now) }
+    ensures low { IfSome result (λ native. native < 2 ^ 32) }
+{
+    let first = gaps.partition_point(|gap| gap.before < before);
+    let gap = gaps.get(first)?;
+    if gap.before != before {
+        return None;
+    }
+    Some(gap.generated)
+}
+
+// Where the native code of a source ends: where the next entry begins, with or without a source, or with the function.
+fn native_end(function: &FunctionMap, place: usize) -> GeneratedAddress
+    requires { place < length function.now.addresses.items }
+    ensures end { (d : Position) → result ≡ (slice_index_or (positions_of function.now) place d).end }
+    ensures low { result < 2 ^ 32 }
+{
+    match gap_behind(&function.gaps, place + 1) {
+        Some(native) => native,
+        None => start_or(&function.addresses, place + 1, function.len),
+    }
+}
+
+// Where the source at a place begins; else another native offset.
+fn start_or(sources: &[AddressMap], place: usize, other: GeneratedAddress) -> GeneratedAddress
+    requires low { All (λ e. e.generated < 2 ^ 32) sources.now }
+    requires other_low { other < 2 ^ 32 }
+    ensures start { result ≡ begin_or sources.now place other }
+    ensures low { result < 2 ^ 32 }
+{
+    match sources.get(place) {
+        Some(source) => source.generated,
+        None => other,
+    }
+}
+
+// Where the source at a place begins, if there is one with a wasm offset.
+fn start_at(sources: &[AddressMap], place: usize, addr: WasmAddress) -> Option<GeneratedAddress>
+    requires { All (λ e. e.generated < 2 ^ 32) sources.now }
+    ensures start { result ≡ begin_at sources.now place addr }
+    ensures low { IfSome result (λ native. native < 2 ^ 32) }
+{
+    let source = sources.get(place)?;
+    if source.wasm != addr {
+        return None;
+    }
+    Some(source.generated)
+}
+
+// How many sources lie below a wasm offset.
+fn count_below(sources: &[AddressMap], addr: WasmAddress) -> usize
+    requires { IsNonDecreasingBy (λ e. e.wasm) sources.now }
+    ensures { IsCountBelow (λ e. e.wasm) sources.now addr result }
+{
+    sources.partition_point(|source| source.wasm < addr)
+}
+
+// How many do not lie above one.
+fn count_up_to(sources: &[AddressMap], addr: WasmAddress) -> usize
+    requires { IsNonDecreasingBy (λ e. e.wasm) sources.now }
+    ensures { IsCountUpTo (λ e. e.wasm) sources.now addr result }
+{
+    sources.partition_point(|source| source.wasm <= addr)
+}
+
+// How many sources begin below a native offset.
+fn begun_below(sources: &[AddressMap], native: GeneratedAddress) -> usize
+    requires { IsNonDecreasingBy (λ e. e.generated) sources.now }
+    ensures { IsCountBelow (λ e. e.generated) sources.now native result }
+{
+    sources.partition_point(|source| source.generated < native)
+}
+
+// How many do not begin above one.
+fn begun_up_to(sources: &[AddressMap], native: GeneratedAddress) -> usize
+    requires { IsNonDecreasingBy (λ e. e.generated) sources.now }
+    ensures { IsCountUpTo (λ e. e.generated) sources.now native result }
+{
+    sources.partition_point(|source| source.generated <= native)
+}
+
+// The sources of a run.
+fn sources_of<'f>(function: &'f FunctionMap, run: &Run) -> &'f [AddressMap]
+    requires { IsRunOf function.now run.now }
+    ensures sources { result.now ≡ take (run.now.behind - run.now.first) (drop run.now.first function.now.addresses.items) }
+    ensures wasm { IsNonDecreasingBy (λ e. e.wasm) result.now }
+    ensures native { IsNonDecreasingBy (λ e. e.generated) result.now }
+    ensures low { All (λ e. e.generated < 2 ^ 32) result.now }
+    ensures size { length result.now ≡ run.now.behind - run.now.first }
+{
+    &function.addresses[run.first..run.behind]
+}
+
+// Where a run begins to have the code from a wasm offset on: the start of the first position at it; else the end of the last position
+// below it; else the run's own start. Sources that begin at one native offset are one position.
+pub(crate) fn start_in(function: &FunctionMap, run: &Run, addr: WasmAddress) -> GeneratedAddress
+    requires { IsRunOf function.now run.now }
+    ensures start { result ≡ begin_in addr (run_view function.now run.now) }
+    ensures low { result < 2 ^ 32 }
+{
+    let sources = sources_of(function, run);
+    let count = count_below(sources, addr);
+    if count == 0 {
+        return start_at(sources, 0, addr).unwrap_or(run.start);
+    }
+    let behind = begun_up_to(sources, sources[count - 1].generated);
+    match start_at(sources, behind, addr) {
+        Some(start) => start,
+        None => native_end(function, run.first + behind - 1),
+    }
+}
+
+// Where a run ceases to have the code before a wasm offset: the end of the last position at it; else the start of the first position
+// above it; else the run's own end.
+pub(crate) fn end_in(function: &FunctionMap, run: &Run, addr: WasmAddress) -> GeneratedAddress
+    requires { IsRunOf function.now run.now }
+    ensures end { result ≡ cease_in addr (run_view function.now run.now) }
+    ensures low { result < 2 ^ 32 }
+{
+    let sources = sources_of(function, run);
+    let count = count_up_to(sources, addr);
+    if count == 0 {
+        return start_or(sources, 0, run.end);
+    }
+    let native = sources[count - 1].generated;
+    let first = begun_below(sources, native);
+    let behind = begun_up_to(sources, native);
+    if sources[first].wasm == addr {
+        return native_end(function, run.first + behind - 1);
+    }
+    start_or(sources, behind, run.end)
+}
