@@ -1,5 +1,5 @@
 -- Entries as code writes them: codes by first use, one entry behind another, and a unit with its header.
-use Rattle.std.proofs.Common.{◌≡◌, ℕ, zero, suc, ◌+◌, ◌<◌, ◌≤◌, refl, sym, ap, ◌∙◌, arith, List, [], ◌∷◌, ◌++◌, append_assoc, length, length-append, map, drop, get_or, Bool, true, false, ltb, Err}
+use Rattle.std.proofs.Common.{◌≡◌, ℕ, zero, suc, ◌+◌, ◌<◌, ◌≤◌, refl, sym, ap, subst, ◌∙◌, arith, List, [], ◌∷◌, ◌++◌, append_assoc, length, length-append, map, drop, get_or, Bool, true, false, ltb, Err}
 use Rattle.std.specs.Prelude.{◌-◌, ◌==◌, if◌then◌else◌, nat_lt, Result}
 use Rattle.std.specs.List.{All, flat_map}
 use Rattle.std.proofs.lemmas.Bool.{eq-eqb, ltb-true, ltb-false}
@@ -9,18 +9,21 @@ use Rattle.std.specs.Int.{w64, cast_signed}
 use Rattle.dwc_base.specs.declared.constants.TheConstants.{DW_FORM_implicit_const, DW_FORM_data1, DW_FORM_data2, DW_FORM_data4, DW_FORM_data8, DW_FORM_sdata}
 use Rattle.dwc_base.specs.Outputs.{OutputRelocation}
 use Rattle.dwc_write.specs.Spelled.{at_places}
-use Rattle.dwc_write.specs.SpelledUnits.{form_number, as_data1, as_data2, as_data4, as_data8, as_sdata, as_udata, Shaped, next_depth, shaped, entry_bytes}
-use Rattle.dwc_write.specs.SpelledRelocations.{entry_relocations}
+use Rattle.dwc_write.specs.SpelledUnits.{form_number, as_data1, as_data2, as_data4, as_data8, as_sdata, as_udata, Shaped, attribute_bytes, next_depth, shaped, entry_bytes}
+use Rattle.dwc_write.specs.SpelledRelocations.{entry_relocations, value_relocations}
 use Rattle.dwc_write.specs.declared.attributes.Attribute.{Attribute}
 use Rattle.dwc_write.specs.declared.attributes.AttributeValue.{AttributeValue}
-use Rattle.dwc_write.specs.declared.attributes.AttributeValue.TheVariants.{Address, Constant, Flag, Block, Exprloc, StringRef, LineProgramRef, UnitRef, DebugInfoRef}
+use Rattle.dwc_write.specs.declared.attributes.AttributeValue.TheVariants.{Address, Constant, Flag, Block, Exprloc, StringRef, LineProgramRef, RangeListRef, UnitRef, DebugInfoRef}
 use Rattle.dwc_write.specs.declared.attributes.DebugInfoRef.TheVariants.{Entry}
 use Rattle.dwc_write.specs.declared.abbreviations.AttributeForm.{AttributeForm}
-use Rattle.dwc_write.specs.GivenUnits.{GivenEntry, Places, no_places, EntryShape, IsPlainShape, form_of, forms_of, first_depth, shape_of, shapes_of, same_forms, same_flag, same_shape, place_in, with_use, first_uses, code_in, written_attribute, written_entries, written_of}
+use Rattle.dwc_write.specs.GivenUnits.{GivenEntry, Places, no_places, EntryShape, IsPlainShape, form_of, forms_of, first_depth, shape_of, shapes_of, same_forms, same_flag, same_shape, place_in, with_use, first_uses, code_in, written_attribute, written_attributes, written_entries, written_of}
 use Rattle.dwc_write.specs.Layouts.{codes_of}
+use Rattle.dwc_write.specs.RangeLists.{behind_attributes, behind_value, nowhere}
 use Rattle.dwc_write.specs.declared.error.WriteError.{WriteError}
 use Rattle.dwc_write.specs.Writers.{Writing, Refuses, Writes, appended}
-use Rattle.dwc_write.proofs.WritesLaws.{whole, whole-more, whole-refused}
+use Rattle.dwc_write.proofs.WritesLaws.{whole, whole-done, whole-more, whole-refused}
+use Rattle.dwc_write.proofs.PairLaws.{drop-more}
+use Rattle.std.proofs.lemmas.List.{drop_all}
 
 -- ---- a shape is the same as itself, and keeps its place among more
 
@@ -107,7 +110,7 @@ constant-plain false false false true f bits = refl
 constant-plain false false false false true bits = refl
 constant-plain false false false false false bits = refl
 
-value-plain : (v : AttributeValue) → (form_number (written_of no_places v) == DW_FORM_implicit_const) ≡ false
+value-plain : (v : AttributeValue) → (form_number (written_of no_places 0 v) == DW_FORM_implicit_const) ≡ false
 value-plain (Address x) = refl
 value-plain (Constant form bits) = constant-plain (form == DW_FORM_data1) (form == DW_FORM_data2) (form == DW_FORM_data4) (form == DW_FORM_data8) (form == DW_FORM_sdata) bits
 value-plain (Flag b) = refl
@@ -115,6 +118,7 @@ value-plain (Block bytes) = refl
 value-plain (Exprloc e) = refl
 value-plain (StringRef id) = refl
 value-plain LineProgramRef = refl
+value-plain (RangeListRef list) = refl
 value-plain (UnitRef id) = refl
 value-plain (DebugInfoRef (Entry unit id)) = refl
 
@@ -137,16 +141,17 @@ uses-plain known (e ∷ es) all = uses-plain (with_use (shape_of e es) known) es
 -- ---- one entry behind another
 
 -- the depth that follows
-pub next-first : (p : Places) (shapes : List EntryShape) (es : List GivenEntry) → next_depth (written_entries p shapes es) ≡ first_depth es
-next-first p shapes [] = refl
-next-first p shapes (e ∷ es) = refl
+pub next-first : (next : ℕ → List Attribute → ℕ) (p : Places) (ranges : ℕ) (shapes : List EntryShape) (es : List GivenEntry) → next_depth (written_entries next p ranges shapes es) ≡ first_depth es
+next-first next p ranges shapes [] = refl
+next-first next p ranges shapes (e ∷ es) = refl
 
 -- an entry as it is written, with the depth that follows
-abbrev pub entry_with : Places → ℕ → GivenEntry → List GivenEntry → Shaped
-entry_with p code e behind = record { entry = record { depth = e.depth; code = code; tag = e.tag; attributes = map (written_attribute p) e.attributes }; has_children = nat_lt e.depth (first_depth behind); ends = e.depth - first_depth behind }
+abbrev pub entry_with : (ℕ → List Attribute → ℕ) → Places → ℕ → ℕ → GivenEntry → List GivenEntry → Shaped
+entry_with next p ranges code e behind = record { entry = record { depth = e.depth; code = code; tag = e.tag; attributes = written_attributes next p ranges e.attributes }; has_children = nat_lt e.depth (first_depth behind); ends = e.depth - first_depth behind }
 
-pub shaped-more : (p : Places) (shapes : List EntryShape) (e : GivenEntry) (es : List GivenEntry) → shaped (written_entries p shapes (e ∷ es)) ≡ entry_with p (code_in shapes (shape_of e es)) e es ∷ shaped (written_entries p shapes es)
-shaped-more p shapes e es = rw (next-first p shapes es) refl
+pub shaped-more : (next : ℕ → List Attribute → ℕ) (p : Places) (ranges : ℕ) (shapes : List EntryShape) (e : GivenEntry) (es : List GivenEntry)
+    → shaped (written_entries next p ranges shapes (e ∷ es)) ≡ entry_with next p ranges (code_in shapes (shape_of e es)) e es ∷ shaped (written_entries next p (next ranges e.attributes) shapes es)
+shaped-more next p ranges shapes e es = rw (next-first next p (next ranges e.attributes) shapes es) refl
 
 -- ---- the same of entries that are seen by f, at an index
 
@@ -159,42 +164,42 @@ seen-more f (e ∷ es) (suc i) d within = seen-more f es i d (omega arith)
 pub code-at : {A : Type 0} (f : A → GivenEntry) (es : List A) (codes : List ℕ) (i : ℕ) (d : A) → i < length es → codes ≡ codes_of (map f es) → get_or codes i 0 ≡ code_in (first_uses [] (shapes_of (map f es))) (shape_of (f (get_or es i d)) (map f (drop (suc i) es)))
 code-at {A} f es codes i d within are = ap (λ (xs : List ℕ). get_or xs i 0) are ∙ go (first_uses [] (shapes_of (map f es))) es i within
   where
-    go : (uses : List EntryShape) (xs : List A) (n : ℕ) → n < length xs → get_or (map (λ w. w.code) (written_entries no_places uses (map f xs))) n 0 ≡ code_in uses (shape_of (f (get_or xs n d)) (map f (drop (suc n) xs)))
+    go : (uses : List EntryShape) (xs : List A) (n : ℕ) → n < length xs → get_or (map (λ w. w.code) (written_entries nowhere no_places 0 uses (map f xs))) n 0 ≡ code_in uses (shape_of (f (get_or xs n d)) (map f (drop (suc n) xs)))
     go uses [] n h = absurd (omega arith)
     go uses (x ∷ xs) zero h = refl
     go uses (x ∷ xs) (suc n) h = go uses xs n (omega arith)
 
-pub codes-long : (p : Places) (uses : List EntryShape) (es : List GivenEntry) → length (map (λ w. w.code) (written_entries p uses es)) ≡ length es
-codes-long p uses [] = refl
-codes-long p uses (e ∷ es) = ap suc (codes-long p uses es)
+pub codes-long : (uses : List EntryShape) (es : List GivenEntry) → length (map (λ w. w.code) (written_entries nowhere no_places 0 uses es)) ≡ length es
+codes-long uses [] = refl
+codes-long uses (e ∷ es) = ap suc (codes-long uses es)
 
 -- an entry more
-pub loop-entries : {A : Type 0} (f : A → GivenEntry) (order : Endian) (size : ℕ) (p : Places) (es : List A) (i : ℕ) (d : A) (uses : List EntryShape) (w v all : Writing) (code : ℕ) → i < length es
-    → whole (entry_bytes order size) (entry_relocations order size) (shaped (written_entries p uses (map f (drop i es)))) w ≡ all
+pub loop-entries : {A : Type 0} (f : A → GivenEntry) (order : Endian) (size : ℕ) (next : ℕ → List Attribute → ℕ) (p : Places) (ranges after : ℕ) (es : List A) (i : ℕ) (d : A) (uses : List EntryShape) (w v all : Writing) (code : ℕ) → i < length es → after ≡ next ranges (f (get_or es i d)).attributes
+    → whole (entry_bytes order size) (entry_relocations order size) (shaped (written_entries next p ranges uses (map f (drop i es)))) w ≡ all
     → code ≡ code_in uses (shape_of (f (get_or es i d)) (map f (drop (suc i) es)))
-    → v ≡ appended (entry_bytes order size (entry_with p code (f (get_or es i d)) (map f (drop (suc i) es)))) (entry_relocations order size (length w.body) (entry_with p code (f (get_or es i d)) (map f (drop (suc i) es)))) w
-    → whole (entry_bytes order size) (entry_relocations order size) (shaped (written_entries p uses (map f (drop (suc i) es)))) v ≡ all
-loop-entries f order size p es i d uses w v all code within invariant is step =
+    → v ≡ appended (entry_bytes order size (entry_with next p ranges code (f (get_or es i d)) (map f (drop (suc i) es)))) (entry_relocations order size (length w.body) (entry_with next p ranges code (f (get_or es i d)) (map f (drop (suc i) es)))) w
+    → whole (entry_bytes order size) (entry_relocations order size) (shaped (written_entries next p after uses (map f (drop (suc i) es)))) v ≡ all
+loop-entries f order size next p ranges after es i d uses w v all code within onwards invariant is step =
     let e = f (get_or es i d) in
     let behind = map f (drop (suc i) es) in
     let more = seen-more f es i d within in
     let P : List Shaped → Writing = λ xs. whole (entry_bytes order size) (entry_relocations order size) xs w in
-    let here = ap (λ k. P (entry_with p k e behind ∷ shaped (written_entries p uses behind))) is ∙ ap P (sym (shaped-more p uses e behind)) ∙ ap (λ xs. P (shaped (written_entries p uses xs))) (sym more) ∙ invariant in
-    whole-more (entry_bytes order size) (entry_relocations order size) (entry_with p code e behind) (shaped (written_entries p uses behind)) w v all here step
+    let here = ap (λ k. P (entry_with next p ranges k e behind ∷ shaped (written_entries next p (next ranges e.attributes) uses behind))) is ∙ ap P (sym (shaped-more next p ranges uses e behind)) ∙ ap (λ xs. P (shaped (written_entries next p ranges uses xs))) (sym more) ∙ invariant in
+    rw (onwards) (whole-more (entry_bytes order size) (entry_relocations order size) (entry_with next p ranges code e behind) (shaped (written_entries next p (next ranges e.attributes) uses behind)) w v all here step)
 
 -- an entry that is refused
-pub loop-entries-refused : {A : Type 0} (f : A → GivenEntry) (order : Endian) (size : ℕ) (p : Places) (es : List A) (i : ℕ) (d : A) (uses : List EntryShape) (all : List Shaped) (w a now : Writing) (code : ℕ) (result : Result (Unit {0}) WriteError) (error : WriteError) (rs : List OutputRelocation) → i < length es
-    → whole (entry_bytes order size) (entry_relocations order size) (shaped (written_entries p uses (map f (drop i es)))) w ≡ whole (entry_bytes order size) (entry_relocations order size) all a
+pub loop-entries-refused : {A : Type 0} (f : A → GivenEntry) (order : Endian) (size : ℕ) (next : ℕ → List Attribute → ℕ) (p : Places) (ranges : ℕ) (es : List A) (i : ℕ) (d : A) (uses : List EntryShape) (all : List Shaped) (w a now : Writing) (code : ℕ) (result : Result (Unit {0}) WriteError) (error : WriteError) (rs : List OutputRelocation) → i < length es
+    → whole (entry_bytes order size) (entry_relocations order size) (shaped (written_entries next p ranges uses (map f (drop i es)))) w ≡ whole (entry_bytes order size) (entry_relocations order size) all a
     → code ≡ code_in uses (shape_of (f (get_or es i d)) (map f (drop (suc i) es)))
-    → ((e : WriteError) × (result ≡ Err e) × (e ≡ error)) → Refuses error w (length (entry_bytes order size (entry_with p code (f (get_or es i d)) (map f (drop (suc i) es)))))
+    → ((e : WriteError) × (result ≡ Err e) × (e ≡ error)) → Refuses error w (length (entry_bytes order size (entry_with next p ranges code (f (get_or es i d)) (map f (drop (suc i) es)))))
     → Writes a now result (flat_map (entry_bytes order size) all) rs
-loop-entries-refused f order size p es i d uses all w a now code result error rs within invariant is met refused =
+loop-entries-refused f order size next p ranges es i d uses all w a now code result error rs within invariant is met refused =
     let e = f (get_or es i d) in
     let behind = map f (drop (suc i) es) in
     let more = seen-more f es i d within in
     let P : List Shaped → Writing = λ xs. whole (entry_bytes order size) (entry_relocations order size) xs w in
-    let here = ap (λ k. P (entry_with p k e behind ∷ shaped (written_entries p uses behind))) is ∙ ap P (sym (shaped-more p uses e behind)) ∙ ap (λ xs. P (shaped (written_entries p uses xs))) (sym more) ∙ invariant in
-    let later = whole-refused (entry_bytes order size) (entry_relocations order size) (entry_with p code e behind) (shaped (written_entries p uses behind)) all w a error here refused in
+    let here = ap (λ k. P (entry_with next p ranges k e behind ∷ shaped (written_entries next p (next ranges e.attributes) uses behind))) is ∙ ap P (sym (shaped-more next p ranges uses e behind)) ∙ ap (λ xs. P (shaped (written_entries next p ranges uses xs))) (sym more) ∙ invariant in
+    let later = whole-refused (entry_bytes order size) (entry_relocations order size) (entry_with next p ranges code e behind) (shaped (written_entries next p (next ranges e.attributes) uses behind)) all w a error here refused in
     let is_err : result ≡ Err error = met.1 ∙ ap Err met.2 in
     rw (is_err) later
 
@@ -203,36 +208,83 @@ loop-entries-refused f order size p es i d uses all w a now code result error rs
 -- an entry more, whose shape is used: codes by first use, offsets, and how long the entries are
 pub record IsStep (order : Endian) (size : ℕ) (known uses : List EntryShape) (codes offsets : List ℕ) (place : ℕ) (all : List ℕ) (starts : List ℕ) (total : ℕ) (es : List GivenEntry) : Type 0 where
   pub used : first_uses known (shapes_of es) ≡ uses
-  pub coded : codes ++ map (λ w. w.code) (written_entries no_places uses es) ≡ all
-  pub placed : offsets ++ at_places (entry_bytes order size) (λ p x. p ∷ []) place (shaped (written_entries no_places uses es)) ≡ starts
-  pub long : place + length (flat_map (entry_bytes order size) (shaped (written_entries no_places uses es))) ≡ total
+  pub coded : codes ++ map (λ w. w.code) (written_entries nowhere no_places 0 uses es) ≡ all
+  pub placed : offsets ++ at_places (entry_bytes order size) (λ p x. p ∷ []) place (shaped (written_entries nowhere no_places 0 uses es)) ≡ starts
+  pub long : place + length (flat_map (entry_bytes order size) (shaped (written_entries nowhere no_places 0 uses es))) ≡ total
 
 pub step-more : (order : Endian) (size : ℕ) (known now uses : List EntryShape) (codes offsets : List ℕ) (place next code : ℕ) (all starts : List ℕ) (total : ℕ) (e : GivenEntry) (es : List GivenEntry) → IsStep order size known uses codes offsets place all starts total (e ∷ es)
-    → now ≡ with_use (shape_of e es) known → code ≡ code_in known (shape_of e es) → next ≡ place + length (entry_bytes order size (entry_with no_places code e es))
+    → now ≡ with_use (shape_of e es) known → code ≡ code_in known (shape_of e es) → next ≡ place + length (entry_bytes order size (entry_with nowhere no_places 0 code e es))
     → IsStep order size now uses (codes ++ code ∷ []) (offsets ++ place ∷ []) next all starts total es
 step-more order size known now uses codes offsets place next code all starts total e es step grown is on =
     let s = shape_of e es in
     let final : code_in uses s ≡ code = ap (λ us. code_in us s) (sym step.used) ∙ code-stays s known (shapes_of es) ∙ sym is in
-    let rest = shaped (written_entries no_places uses es) in
-    let here = entry_with no_places code e es in
-    let shape_is : shaped (written_entries no_places uses (e ∷ es)) ≡ here ∷ rest = shaped-more no_places uses e es ∙ ap (λ k. entry_with no_places k e es ∷ rest) final in
+    let rest = shaped (written_entries nowhere no_places 0 uses es) in
+    let here = entry_with nowhere no_places 0 code e es in
+    let shape_is : shaped (written_entries nowhere no_places 0 uses (e ∷ es)) ≡ here ∷ rest = shaped-more nowhere no_places 0 uses e es ∙ ap (λ k. entry_with nowhere no_places 0 k e es ∷ rest) final in
     let placed = ap (λ xs. offsets ++ at_places (entry_bytes order size) (λ p x. p ∷ []) place xs) (sym shape_is) ∙ step.placed in
     let long = ap (λ xs. place + length (flat_map (entry_bytes order size) xs)) (sym shape_is) ∙ step.long in
     record {
       used = rw (grown) (step.used);
-      coded = append_assoc codes (code ∷ []) _ ∙ ap (λ k. codes ++ k ∷ map (λ w. w.code) (written_entries no_places uses es)) (sym final) ∙ step.coded;
+      coded = append_assoc codes (code ∷ []) _ ∙ ap (λ k. codes ++ k ∷ map (λ w. w.code) (written_entries nowhere no_places 0 uses es)) (sym final) ∙ step.coded;
       placed = append_assoc offsets (place ∷ []) _ ∙ ap (λ p. offsets ++ place ∷ at_places (entry_bytes order size) (λ q x. q ∷ []) p rest) on ∙ placed;
       long = omega (arith, on, long, length-append (entry_bytes order size here) (flat_map (entry_bytes order size) rest));
     }
 
 -- the end that is refused
 pub step-refused : (order : Endian) (size : ℕ) (known uses : List EntryShape) (codes offsets : List ℕ) (place code : ℕ) (all starts : List ℕ) (total : ℕ) (e : GivenEntry) (es : List GivenEntry) → IsStep order size known uses codes offsets place all starts total (e ∷ es)
-    → code ≡ code_in known (shape_of e es) → place + length (entry_bytes order size (entry_with no_places code e es)) ≤ total
+    → code ≡ code_in known (shape_of e es) → place + length (entry_bytes order size (entry_with nowhere no_places 0 code e es)) ≤ total
 step-refused order size known uses codes offsets place code all starts total e es step is =
     let s = shape_of e es in
     let final : code_in uses s ≡ code = ap (λ us. code_in us s) (sym step.used) ∙ code-stays s known (shapes_of es) ∙ sym is in
-    let rest = shaped (written_entries no_places uses es) in
-    let here = entry_with no_places code e es in
-    let shape_is : shaped (written_entries no_places uses (e ∷ es)) ≡ here ∷ rest = shaped-more no_places uses e es ∙ ap (λ k. entry_with no_places k e es ∷ rest) final in
+    let rest = shaped (written_entries nowhere no_places 0 uses es) in
+    let here = entry_with nowhere no_places 0 code e es in
+    let shape_is : shaped (written_entries nowhere no_places 0 uses (e ∷ es)) ≡ here ∷ rest = shaped-more nowhere no_places 0 uses e es ∙ ap (λ k. entry_with nowhere no_places 0 k e es ∷ rest) final in
     let long = ap (λ xs. place + length (flat_map (entry_bytes order size) xs)) (sym shape_is) ∙ step.long in
     omega (arith, long, length-append (entry_bytes order size here) (flat_map (entry_bytes order size) rest))
+
+-- while nothing has a place, each attribute is written alone
+pub unplaced-attributes : (xs : List Attribute) → map (written_attribute no_places 0) xs ≡ written_attributes nowhere no_places 0 xs
+unplaced-attributes [] = refl
+unplaced-attributes (x ∷ xs) = ap (λ ys. written_attribute no_places 0 x ∷ ys) (unplaced-attributes xs)
+
+-- ---- values one behind another, of which the next range list stands at a place
+
+-- what is there, with what is still to be written
+abbrev pub values_left : ℕ → Places → Endian → ℕ → List Attribute → Writing → Writing
+values_left size p order place xs w = whole (attribute_bytes order size) (λ q x. value_relocations size q x.value) (written_attributes (behind_attributes size) p place xs) w
+
+module _ (size : ℕ) (p : Places) (xs : List Attribute) (i : ℕ) (d : Attribute) (place start : ℕ) (a w : Writing) where
+  pub values-order : values_left size p a.order place (drop i xs) w ≡ values_left size p a.order start xs a → w.order ≡ a.order
+  values-order invariant = ap (λ (v : Writing). v.order) invariant
+
+  -- a value more
+  pub values-more : (v : Writing) (after : ℕ) → i < length xs → values_left size p a.order place (drop i xs) w ≡ values_left size p a.order start xs a → after ≡ behind_value size place (get_or xs i d).value
+      → v ≡ appended (attribute_bytes w.order size (written_attribute p place (get_or xs i d))) (value_relocations size (length w.body) (written_of p place (get_or xs i d).value)) w
+      → values_left size p a.order after (drop (suc i) xs) v ≡ values_left size p a.order start xs a
+  values-more v after within invariant onwards step =
+      let x = get_or xs i d in
+      let here = ap (λ ys. values_left size p a.order place ys w) (sym (drop-more xs i d within)) ∙ invariant in
+      let P : Endian → Type 0 = λ o. v ≡ appended (attribute_bytes o size (written_attribute p place x)) (value_relocations size (length w.body) (written_of p place x.value)) w in
+      rw (onwards)
+      (whole-more (attribute_bytes a.order size) (λ q y. value_relocations size q y.value) (written_attribute p place x) (written_attributes (behind_attributes size) p (behind_value size place x.value) (drop (suc i) xs)) w v _ here (subst P (values-order invariant) step))
+
+  -- a value that is refused
+  pub values-refused : (now : Writing) (result : Result (Unit {0}) WriteError) (error : WriteError) (rs : List OutputRelocation) → i < length xs → values_left size p a.order place (drop i xs) w ≡ values_left size p a.order start xs a
+      → ((e : WriteError) × (result ≡ Err e) × (e ≡ error)) → Refuses error w (length (attribute_bytes w.order size (written_attribute p place (get_or xs i d))))
+      → Writes a now result (flat_map (attribute_bytes a.order size) (written_attributes (behind_attributes size) p start xs)) rs
+  values-refused now result error rs within invariant met refused =
+      let x = get_or xs i d in
+      let here = ap (λ ys. values_left size p a.order place ys w) (sym (drop-more xs i d within)) ∙ invariant in
+      let P : Endian → Type 0 = λ o. Refuses error w (length (attribute_bytes o size (written_attribute p place x))) in
+      let later = whole-refused (attribute_bytes a.order size) (λ q y. value_relocations size q y.value) (written_attribute p place x) (written_attributes (behind_attributes size) p (behind_value size place x.value) (drop (suc i) xs)) (written_attributes (behind_attributes size) p start xs) w a error here (subst P (values-order invariant) refused) in
+      let is_err : result ≡ Err error = met.1 ∙ ap Err met.2 in
+      rw (is_err) later
+
+  pub values-done : length xs ≤ i → values_left size p a.order place (drop i xs) w ≡ values_left size p a.order start xs a → w ≡ values_left size p a.order start xs a
+  values-done past invariant =
+      let none : drop i xs ≡ [] = drop_all i xs past in
+      whole-done (attribute_bytes a.order size) (λ q x. value_relocations size q x.value) w _ (ap (λ ys. values_left size p a.order place ys w) (sym none) ∙ invariant)
+
+  -- the next list stands behind
+  pub next-place : (after : ℕ) → i < length xs → behind_attributes size place (drop i xs) ≡ behind_attributes size start xs → after ≡ behind_value size place (get_or xs i d).value → behind_attributes size after (drop (suc i) xs) ≡ behind_attributes size start xs
+  next-place after within invariant onwards = rw (onwards) (ap (behind_attributes size place) (sym (drop-more xs i d within)) ∙ invariant)

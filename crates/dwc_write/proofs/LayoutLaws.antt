@@ -8,8 +8,11 @@ use Rattle.dwc_base.specs.declared.faults.Limit.TheVariants.{Section}
 use Rattle.dwc_write.specs.declared.error.WriteError.{WriteError}
 use Rattle.dwc_write.specs.declared.error.WriteError.TheVariants.{TooLarge, OutOfMemory}
 use Rattle.dwc_write.specs.Spelled.{at_places}
-use Rattle.dwc_write.specs.SpelledUnits.{shaped}
-use Rattle.dwc_write.specs.GivenUnits.{EntryShape, GivenEntry, OrderedUnit, Places, size_of, written_entries}
+use Rattle.dwc_write.specs.SpelledUnits.{WrittenAttribute, shaped}
+use Rattle.dwc_write.specs.GivenUnits.{EntryShape, GivenEntry, OrderedUnit, no_places, size_of, written_attribute, written_attributes, written_entries}
+use Rattle.dwc_write.specs.declared.attributes.Attribute.{Attribute}
+use Rattle.dwc_write.proofs.EntriesLaws.{unplaced-attributes}
+use Rattle.dwc_write.specs.RangeLists.{nowhere}
 use Rattle.dwc_write.specs.Layouts.{UnitPlaces, offset_among, offset_if_added, offsets_by_number, places_of_units, unit_length}
 use Rattle.dwc_write.specs.LayoutViews.{Advances, AdvancesOrMemory, offset_known, places_view}
 use Rattle.dwc_write.specs.declared.layout.UnitLayout.{UnitLayout}
@@ -60,9 +63,9 @@ pub offsets-many : {A : Type 0} (spell : A → List ℕ) (place : ℕ) (xs : Lis
 offsets-many spell place [] = refl
 offsets-many spell place (x ∷ xs) = ap suc (offsets-many spell (place + length (spell x)) xs)
 
-pub shaped-many : (p : Places) (shapes : List EntryShape) (es : List GivenEntry) → length (shaped (written_entries p shapes es)) ≡ length es
-shaped-many p shapes [] = refl
-shaped-many p shapes (e ∷ es) = ap suc (shaped-many p shapes es)
+pub shaped-many : (shapes : List EntryShape) (es : List GivenEntry) → length (shaped (written_entries nowhere no_places 0 shapes es)) ≡ length es
+shaped-many shapes [] = refl
+shaped-many shapes (e ∷ es) = ap suc (shaped-many shapes es)
 
 -- ---- units one behind another
 
@@ -136,3 +139,10 @@ pub unit-within : (order : Endian) (size : ℕ) (us : List OrderedUnit) (i : ℕ
 unit-within order size [] i u d within at = absurd (omega arith)
 unit-within order size (v ∷ us) zero u d within at = omega (arith, ap (unit_length order size) at, sum_by-cons (unit_length order size) v us)
 unit-within order size (v ∷ us) (suc i) u d within at = omega (arith, unit-within order size us i u d (omega arith) at, sum_by-cons (unit_length order size) v us)
+
+-- the same of attributes while nothing has a place
+pub unplaced-more : (spell : WrittenAttribute → List ℕ) (xs : List Attribute) (i : ℕ) (d : Attribute) → i < length xs
+    → length (flat_map spell (written_attributes nowhere no_places 0 (drop i xs))) ≡ length (spell (written_attribute no_places 0 (get_or xs i d))) + length (flat_map spell (written_attributes nowhere no_places 0 (drop (suc i) xs)))
+unplaced-more spell xs i d within =
+    let same : (ys : List Attribute) → length (flat_map spell (map (written_attribute no_places 0) ys)) ≡ length (flat_map spell (written_attributes nowhere no_places 0 ys)) = λ ys. ap (λ zs. length (flat_map spell zs)) (unplaced-attributes ys) in
+    omega (arith, same (drop i xs), same (drop (suc i) xs), spelled-more spell (written_attribute no_places 0) xs i d within)

@@ -22,6 +22,13 @@ pub mod RowLaws
 pub mod UnitLaws
 pub mod AttributeLaws
 pub mod WritesLaws
+pub mod PairLaws
+pub mod ReadLists
+pub mod RelatedLists
+pub mod ListPlaces
+pub mod WidestLists
+pub mod ListsGiven
+pub mod RelatedListsGiven
 pub mod SequenceLaws
 pub mod ShapeLaws
 pub mod ShapeSets

@@ -6,7 +6,7 @@ use Rattle.std.specs.List.{All, flat_map}
 use Rattle.std.proofs.lemmas.List.Elements.{All-head, All-tail, All-cons, All-nil, All-weaker}
 use Rattle.dwc_base.specs.declared.records.Endian.{Endian}
 use Rattle.dwc_base.specs.declared.section_name.SectionName.{SectionName}
-use Rattle.dwc_base.specs.declared.section_name.SectionName.TheVariants.{Abbrev, Info, Line, Str}
+use Rattle.dwc_base.specs.declared.section_name.SectionName.TheVariants.{Abbrev, Info, Line, Ranges, Str}
 use Rattle.dwc_base.specs.Outputs.{OutputRelocation, OutputSection}
 use Rattle.dwc_write.specs.declared.error.WriteError.{WriteError}
 use Rattle.dwc_write.specs.declared.error.WriteError.TheVariants.{TooLarge, OutOfMemory}
@@ -16,47 +16,55 @@ use Rattle.dwc_write.specs.SpelledTables.{table_bytes}
 use Rattle.dwc_write.specs.SpelledSections.{placed_unit_bytes, tables_bytes, info_bytes, one_table_bytes, lines_bytes}
 use Rattle.dwc_write.specs.SpelledRelocations.{unit_relocations, info_relocations, one_table_relocations, lines_relocations, RelocationsRise, DoRelocationsRise}
 use Rattle.dwc_write.proofs.ReadRelocations.{info-rise, lines-rise, rise-above}
-use Rattle.dwc_write.specs.GivenUnits.{GivenEntry, OrderedUnit, Places, IsWritable, size_of, AreWritable}
+use Rattle.dwc_write.specs.GivenUnits.{GivenEntry, OrderedUnit, Places, IsWritable, size_of, AreWritable, pairs_of_entries, pairs_of_units}
+use Rattle.dwc_write.specs.RangeLists.{pair_bytes, pair_relocations, pairs_bytes, pairs_relocations}
+use Rattle.dwc_write.proofs.RelatedLists.{pairs-rise}
 use Rattle.dwc_write.specs.Layouts.{AllPlaces, offsets_by_number, places_in, written_lines, written_unit, written_units, written_tables}
 use Rattle.dwc_write.specs.UsedTexts.{strings_bytes}
 use Rattle.dwc_write.specs.Writers.{Writing, Refuses, Writes, IsSound, appended, most_bytes}
-use Rattle.dwc_write.specs.SpelledOutput.{section_unless_empty, sections_of, sections_placed, units_placed, all_places, spelled_sections, unit_of, WritesUnit, WrittenSections, places_there, unit_in, with_unit, RefusesUnit, WritesOne, empty_section, with_units, all_units, IsRefusalAmong, IsRefusal, bytes_of, abbrev_bytes, all_info_bytes, all_lines_bytes, section_bytes}
+use Rattle.dwc_write.specs.SpelledOutput.{section_unless_empty, sections_of, sections_placed, units_placed, all_places, spelled_sections, unit_of, WritesUnit, WrittenSections, places_there, unit_in, with_unit, RefusesUnit, WritesOne, empty_section, with_units, all_units, IsRefusalAmong, IsRefusal, bytes_of, abbrev_bytes, all_info_bytes, all_lines_bytes, all_ranges_bytes, all_ranges_relocations, section_bytes}
 use Rattle.dwc_write.proofs.WritesLaws.{refused-longer, refused-later, appended-twice, appended-nothing}
 
 -- ---- one unit
 
 -- a call on .debug_info is refused
-pub info-refused : (result : Result (Unit {0}) WriteError) (e : WriteError) (a a' i i' : Writing) (size : ℕ) (places : Places) (es : List GivenEntry) (n : ℕ) → ((error : WriteError) × (result ≡ Err error) × (error ≡ e)) → Refuses e i n
-    → n ≤ length (placed_unit_bytes i.order size (unit_of (length a.body) places es)) → WritesUnit a a' i i' result size places es
-info-refused result e a a' i i' size places es n p refused less =
+pub info-refused : (result : Result (Unit {0}) WriteError) (e : WriteError) (a a' i i' : Writing) (size ranges : ℕ) (places : Places) (es : List GivenEntry) (n : ℕ) → ((error : WriteError) × (result ≡ Err error) × (error ≡ e)) → Refuses e i n
+    → n ≤ length (placed_unit_bytes i.order size (unit_of size ranges (length a.body) places es)) → WritesUnit a a' i i' result size ranges places es
+info-refused result e a a' i i' size ranges places es n p refused less =
     let is : result ≡ Err e = p.1 ∙ ap Err p.2 in
-    let later : Refuses e i (length (placed_unit_bytes i.order size (unit_of (length a.body) places es))) = refused-longer e i n _ refused less in
+    let later : Refuses e i (length (placed_unit_bytes i.order size (unit_of size ranges (length a.body) places es))) = refused-longer e i n _ refused less in
     rw (is) (inr later)
 
-pub info-refused-later : (result : Result (Unit {0}) WriteError) (e : WriteError) (a a' i i' b : Writing) (x : List ℕ) (r : List OutputRelocation) (size : ℕ) (places : Places) (es : List GivenEntry) (n : ℕ) → ((error : WriteError) × (result ≡ Err error) × (error ≡ e)) → b ≡ appended x r i → Refuses e b n
-    → length x + n ≤ length (placed_unit_bytes i.order size (unit_of (length a.body) places es)) → WritesUnit a a' i i' result size places es
-info-refused-later result e a a' i i' b x r size places es n p grown refused less =
+pub info-refused-later : (result : Result (Unit {0}) WriteError) (e : WriteError) (a a' i i' b : Writing) (x : List ℕ) (r : List OutputRelocation) (size ranges : ℕ) (places : Places) (es : List GivenEntry) (n : ℕ) → ((error : WriteError) × (result ≡ Err error) × (error ≡ e)) → b ≡ appended x r i → Refuses e b n
+    → length x + n ≤ length (placed_unit_bytes i.order size (unit_of size ranges (length a.body) places es)) → WritesUnit a a' i i' result size ranges places es
+info-refused-later result e a a' i i' b x r size ranges places es n p grown refused less =
     let is : result ≡ Err e = p.1 ∙ ap Err p.2 in
-    let later : Refuses e i (length (placed_unit_bytes i.order size (unit_of (length a.body) places es))) = refused-later e i b x r n _ grown refused less in
+    let later : Refuses e i (length (placed_unit_bytes i.order size (unit_of size ranges (length a.body) places es))) = refused-later e i b x r n _ grown refused less in
     rw (is) (inr later)
 
 -- the last call, on .debug_abbrev
-pub unit-result : (a a' i i' : Writing) (result : Result (Unit {0}) WriteError) (size : ℕ) (places : Places) (es : List GivenEntry) (bytes : List ℕ) → Writes a a' result bytes [] → bytes ≡ table_bytes (unit_of (length a.body) places es).table
-    → i' ≡ appended (placed_unit_bytes i.order size (unit_of (length a.body) places es)) (unit_relocations i.order size (length i.body) (unit_of (length a.body) places es)) i → WritesUnit a a' i i' result size places es
-unit-result a a' i i' (Ok done) size places es bytes written table info = (written ∙ ap (λ bs. appended bs [] a) table, info)
-unit-result a a' i i' (Err e) size places es bytes written table info = inl (refused-longer e a _ _ written (omega (arith, ap length table)))
+pub unit-result : (a a' i i' : Writing) (result : Result (Unit {0}) WriteError) (size ranges : ℕ) (places : Places) (es : List GivenEntry) (bytes : List ℕ) → Writes a a' result bytes [] → bytes ≡ table_bytes (unit_of size ranges (length a.body) places es).table
+    → i' ≡ appended (placed_unit_bytes i.order size (unit_of size ranges (length a.body) places es)) (unit_relocations i.order size (length i.body) (unit_of size ranges (length a.body) places es)) i → WritesUnit a a' i i' result size ranges places es
+unit-result a a' i i' (Ok done) size ranges places es bytes written table info = (written ∙ ap (λ bs. appended bs [] a) table, info)
+unit-result a a' i i' (Err e) size ranges places es bytes written table info = inl (refused-longer e a _ _ written (omega (arith, ap length table)))
 
 -- a unit behind its line table
 pub one-refused : (result : Result (Unit {0}) WriteError) (e : WriteError) (units : AllPlaces) (w w' : WrittenSections) (u : OrderedUnit) → ((error : WriteError) × (result ≡ Err error) × (error ≡ e)) → Refuses e w.line_section (length (lines_bytes w.line_section.order u.address_size (written_lines u.lines))) → WritesOne units w w' result u
 one-refused result e units w w' u p refused =
     let is : result ≡ Err e = p.1 ∙ ap Err p.2 in
-    rw (is) (inr (inr refused))
+    rw (is) (inr (inr (inl refused)))
 
-pub one-written : (result : Result (Unit {0}) WriteError) (units : AllPlaces) (w w' : WrittenSections) (u : OrderedUnit) (a' i' l' : Writing) → l' ≡ appended (lines_bytes w.line_section.order u.address_size (written_lines u.lines)) (lines_relocations w.line_section.order u.address_size (length w.line_section.body) (written_lines u.lines)) w.line_section
-    → WritesUnit w.abbrev_section a' w.info_section i' result u.address_size (places_there units w u) u.entries → w' ≡ record { abbrev_section = a'; info_section = i'; line_section = l' } → WritesOne units w w' result u
-one-written (Ok done) units w w' u a' i' l' lines unit is = is ∙ rw (unit.0, unit.1, lines) refl
-one-written (Err e) units w w' u a' i' l' lines (inl refused) is = inl refused
-one-written (Err e) units w w' u a' i' l' lines (inr refused) is = inr (inl refused)
+pub one-refused-lists : (result : Result (Unit {0}) WriteError) (e : WriteError) (units : AllPlaces) (w w' : WrittenSections) (u : OrderedUnit) → ((error : WriteError) × (result ≡ Err error) × (error ≡ e)) → Refuses e w.ranges_section (length (pairs_bytes w.ranges_section.order u.address_size (pairs_of_entries u.entries))) → WritesOne units w w' result u
+one-refused-lists result e units w w' u p refused =
+    let is : result ≡ Err e = p.1 ∙ ap Err p.2 in
+    rw (is) (inr (inr (inr refused)))
+
+pub one-written : (result : Result (Unit {0}) WriteError) (units : AllPlaces) (w w' : WrittenSections) (u : OrderedUnit) (a' i' l' v' : Writing) → l' ≡ appended (lines_bytes w.line_section.order u.address_size (written_lines u.lines)) (lines_relocations w.line_section.order u.address_size (length w.line_section.body) (written_lines u.lines)) w.line_section
+    → v' ≡ appended (pairs_bytes w.ranges_section.order u.address_size (pairs_of_entries u.entries)) (pairs_relocations w.ranges_section.order u.address_size (length w.ranges_section.body) (pairs_of_entries u.entries)) w.ranges_section
+    → WritesUnit w.abbrev_section a' w.info_section i' result u.address_size (length w.ranges_section.body) (places_there units w u) u.entries → w' ≡ record { abbrev_section = a'; info_section = i'; line_section = l'; ranges_section = v' } → WritesOne units w w' result u
+one-written (Ok done) units w w' u a' i' l' v' lines lists unit is = is ∙ rw (unit.0, unit.1, lines, lists) refl
+one-written (Err e) units w w' u a' i' l' v' lines lists (inl refused) is = inl refused
+one-written (Err e) units w w' u a' i' l' v' lines lists (inr refused) is = inr (inl refused)
 
 -- ---- all of them
 
@@ -68,21 +76,23 @@ units-more order units (u ∷ us) all (suc i) d w w' within invariant step = uni
 
 -- ---- the bytes of all
 
-three-equal : {a b i j l m : Writing} → a ≡ b → i ≡ j → l ≡ m → ◌≡◌ {A = WrittenSections} (record { abbrev_section = a; info_section = i; line_section = l }) (record { abbrev_section = b; info_section = j; line_section = m })
-three-equal {a} {b} {i} {j} {l} {m} p q r = rw (p, q, r) refl
+four-equal : {a b i j l m v w : Writing} → a ≡ b → i ≡ j → l ≡ m → v ≡ w → ◌≡◌ {A = WrittenSections} (record { abbrev_section = a; info_section = i; line_section = l; ranges_section = v }) (record { abbrev_section = b; info_section = j; line_section = m; ranges_section = w })
+four-equal {a} {b} {i} {j} {l} {m} {v} {w} p q r t = rw (p, q, r, t) refl
 
 module _ (order : Endian) (size : ℕ) (units : AllPlaces) where
   -- sections of this order
   record AreOf (w : WrittenSections) : Type 0 where
     info : w.info_section.order ≡ order
     line : w.line_section.order ≡ order
+    ranges : w.ranges_section.order ≡ order
 
-  -- what units append to three sections
+  -- what units append to their sections
   abbrev pub appended_units : List OrderedUnit → WrittenSections → WrittenSections
   appended_units us w = record {
-    abbrev_section = appended (tables_bytes (written_units order size units (length w.abbrev_section.body) (length w.line_section.body) us)) [] w.abbrev_section;
-    info_section = appended (info_bytes order size (written_units order size units (length w.abbrev_section.body) (length w.line_section.body) us)) (info_relocations order size (length w.info_section.body) (written_units order size units (length w.abbrev_section.body) (length w.line_section.body) us)) w.info_section;
+    abbrev_section = appended (tables_bytes (written_units order size units (length w.abbrev_section.body) (length w.line_section.body) (length w.ranges_section.body) us)) [] w.abbrev_section;
+    info_section = appended (info_bytes order size (written_units order size units (length w.abbrev_section.body) (length w.line_section.body) (length w.ranges_section.body) us)) (info_relocations order size (length w.info_section.body) (written_units order size units (length w.abbrev_section.body) (length w.line_section.body) (length w.ranges_section.body) us)) w.info_section;
     line_section = appended (lines_bytes order size (written_tables us)) (lines_relocations order size (length w.line_section.body) (written_tables us)) w.line_section;
+    ranges_section = appended (pairs_bytes order size (pairs_of_units us)) (pairs_relocations order size (length w.ranges_section.body) (pairs_of_units us)) w.ranges_section;
   }
 
   flat_map-both : {A : Type 0} (f : A → List ℕ) (xs ys : List A) → flat_map f (xs ++ ys) ≡ flat_map f xs ++ flat_map f ys
@@ -97,25 +107,32 @@ module _ (order : Endian) (size : ℕ) (units : AllPlaces) where
       ∙ ap (λ p. (at place x ++ at_places spell at (place + length (spell x)) xs) ++ at_places spell at p ys) (omega (arith, length-append (spell x) (flat_map spell xs)))
 
   with_units-appended : (us : List OrderedUnit) (w : WrittenSections) → AreOf w → All (λ u. u.address_size ≡ size) us → with_units units us w ≡ appended_units us w
-  with_units-appended [] w of sized = three-equal (appended-nothing w.abbrev_section) (appended-nothing w.info_section) (appended-nothing w.line_section)
+  with_units-appended [] w of sized = four-equal (appended-nothing w.abbrev_section) (appended-nothing w.info_section) (appended-nothing w.line_section) (appended-nothing w.ranges_section)
   with_units-appended (u ∷ us) w of sized =
       let a = w.abbrev_section in
       let i = w.info_section in
       let l = w.line_section in
+      let v = w.ranges_section in
       let unit = unit_in units w u in
       let table = table_bytes unit.table in
       let same : u.address_size ≡ size = All-head (λ (v : OrderedUnit). v.address_size ≡ size) u us sized in
-      let others = with_units-appended us (with_unit units u w) (record { info = of.info; line = of.line }) (All-tail (λ (v : OrderedUnit). v.address_size ≡ size) u us sized) in
-      let there : unit ≡ written_unit (places_in units (offsets_by_number order size u) (length l.body)) (length a.body) u =
-      ap (λ o. written_unit (places_in units (offsets_by_number o u.address_size u) (length l.body)) (length a.body) u) of.info ∙ ap (λ n. written_unit (places_in units (offsets_by_number order n u) (length l.body)) (length a.body) u) same in
+      let others = with_units-appended us (with_unit units u w) (record { info = of.info; line = of.line; ranges = of.ranges }) (All-tail (λ (v : OrderedUnit). v.address_size ≡ size) u us sized) in
+      let there : unit ≡ written_unit size (length v.body) (places_in units (offsets_by_number order size u) (length l.body)) (length a.body) u =
+      ap (λ o. written_unit u.address_size (length v.body) (places_in units (offsets_by_number o u.address_size u) (length l.body)) (length a.body) u) of.info ∙ ap (λ n. written_unit n (length v.body) (places_in units (offsets_by_number order n u) (length l.body)) (length a.body) u) same in
       let lines : lines_bytes l.order u.address_size (written_lines u.lines) ≡ lines_bytes order size (written_lines u.lines) = ap (λ o. lines_bytes o u.address_size (written_lines u.lines)) of.line ∙ ap (λ n. lines_bytes order n (written_lines u.lines)) same in
       let placed : placed_unit_bytes i.order u.address_size unit ≡ placed_unit_bytes order size unit = ap (λ o. placed_unit_bytes o u.address_size unit) of.info ∙ ap (λ n. placed_unit_bytes order n unit) same in
       let at_table : length (a.body ++ table) ≡ length a.body + length table = length-append a.body table in
       let at_lines : length (l.body ++ lines_bytes l.order u.address_size (written_lines u.lines)) ≡ length l.body + length (lines_bytes order size (written_lines u.lines)) = length-append l.body _ ∙ ap (λ bytes. length l.body + length bytes) lines in
-      let rest = written_units order size units (length a.body + length table) (length l.body + length (lines_bytes order size (written_lines u.lines))) us in
-      let rest_is : written_units order size units (length (a.body ++ table)) (length (l.body ++ lines_bytes l.order u.address_size (written_lines u.lines))) us ≡ rest =
-      ap (λ p. written_units order size units p (length (l.body ++ lines_bytes l.order u.address_size (written_lines u.lines))) us) at_table ∙ ap (λ q. written_units order size units (length a.body + length table) q us) at_lines in
-      others ∙ three-equal
+      let ps = pairs_of_entries u.entries in
+      let lists : pairs_bytes v.order u.address_size ps ≡ pairs_bytes order size ps = ap (λ o. pairs_bytes o u.address_size ps) of.ranges ∙ ap (λ n. pairs_bytes order n ps) same in
+      let at_lists : length (v.body ++ pairs_bytes v.order u.address_size ps) ≡ length v.body + length (pairs_bytes order size ps) = length-append v.body _ ∙ ap (λ bytes. length v.body + length bytes) lists in
+      let line_end = length (l.body ++ lines_bytes l.order u.address_size (written_lines u.lines)) in
+      let lists_end = length (v.body ++ pairs_bytes v.order u.address_size ps) in
+      let rest = written_units order size units (length a.body + length table) (length l.body + length (lines_bytes order size (written_lines u.lines))) (length v.body + length (pairs_bytes order size ps)) us in
+      let rest_is : written_units order size units (length (a.body ++ table)) line_end lists_end us ≡ rest =
+      ap (λ p. written_units order size units p line_end lists_end us) at_table ∙ ap (λ q. written_units order size units (length a.body + length table) q lists_end us) at_lines
+      ∙ ap (λ q. written_units order size units (length a.body + length table) (length l.body + length (lines_bytes order size (written_lines u.lines))) q us) at_lists in
+      others ∙ four-equal
       (ap (λ ws. appended (tables_bytes ws) [] (appended table [] a)) rest_is ∙ step-section a table (tables_bytes rest) [] (λ p. []))
       (ap (λ ws. appended (info_bytes order size ws) (info_relocations order size (length (i.body ++ placed_unit_bytes i.order u.address_size unit)) ws) (appended (placed_unit_bytes i.order u.address_size unit) (unit_relocations i.order u.address_size (length i.body) unit) i)) rest_is
       ∙ step-section i (placed_unit_bytes i.order u.address_size unit) (info_bytes order size rest) (unit_relocations i.order u.address_size (length i.body) unit) (λ p. info_relocations order size p rest)
@@ -127,6 +144,11 @@ module _ (order : Endian) (size : ℕ) (units : AllPlaces) where
       ∙ ap (λ n. appended (lines_bytes order n (written_lines u.lines) ++ lines_bytes order size (written_tables us)) (lines_relocations order n (length l.body) (written_lines u.lines) ++ lines_relocations order size (length l.body + length (lines_bytes order n (written_lines u.lines))) (written_tables us)) l) same
       ∙ ap (λ bytes. appended bytes (lines_relocations order size (length l.body) (written_lines u.lines) ++ lines_relocations order size (length l.body + length (lines_bytes order size (written_lines u.lines))) (written_tables us)) l) (sym (flat_map-both (one_table_bytes order size) (written_lines u.lines) (written_tables us)))
       ∙ ap (λ rs. appended (lines_bytes order size (written_tables (u ∷ us))) rs l) (sym (places-both (one_table_bytes order size) (one_table_relocations order size) (written_lines u.lines) (written_tables us) (length l.body))))
+      (step-section v (pairs_bytes v.order u.address_size ps) (pairs_bytes order size (pairs_of_units us)) (pairs_relocations v.order u.address_size (length v.body) ps) (λ p. pairs_relocations order size p (pairs_of_units us))
+      ∙ ap (λ o. appended (pairs_bytes o u.address_size ps ++ pairs_bytes order size (pairs_of_units us)) (pairs_relocations o u.address_size (length v.body) ps ++ pairs_relocations order size (length v.body + length (pairs_bytes o u.address_size ps)) (pairs_of_units us)) v) of.ranges
+      ∙ ap (λ n. appended (pairs_bytes order n ps ++ pairs_bytes order size (pairs_of_units us)) (pairs_relocations order n (length v.body) ps ++ pairs_relocations order size (length v.body + length (pairs_bytes order n ps)) (pairs_of_units us)) v) same
+      ∙ ap (λ bytes. appended bytes (pairs_relocations order size (length v.body) ps ++ pairs_relocations order size (length v.body + length (pairs_bytes order size ps)) (pairs_of_units us)) v) (sym (flat_map-both (pair_bytes order size) ps (pairs_of_units us)))
+      ∙ ap (λ rs. appended (pairs_bytes order size (pairs_of_units (u ∷ us))) rs v) (sym (places-both (pair_bytes order size) (pair_relocations order size) ps (pairs_of_units us) (length v.body))))
     where
       step-section : (a : Writing) (x y : List ℕ) (r : List OutputRelocation) (s : ℕ → List OutputRelocation) → appended y (s (length (a.body ++ x))) (appended x r a) ≡ appended (x ++ y) (r ++ s (length a.body + length x)) a
       step-section a x y r s = appended-twice a (appended x r a) _ x y r (s (length (a.body ++ x))) refl refl ∙ ap (λ p. appended (x ++ y) (r ++ s p) a) (length-append a.body x)
@@ -137,11 +159,11 @@ writable-sizes us fits = All-weaker (IsWritable (size_of us)) (λ u. u.address_s
 
 -- what is appended to empty sections
 abbrev pub all_of : Endian → AllPlaces → List OrderedUnit → WrittenSections
-all_of order units us = appended_units order (size_of us) units us (record { abbrev_section = empty_section order Abbrev; info_section = empty_section order Info; line_section = empty_section order Line })
+all_of order units us = appended_units order (size_of us) units us (record { abbrev_section = empty_section order Abbrev; info_section = empty_section order Info; line_section = empty_section order Line; ranges_section = empty_section order Ranges })
 
 -- The sections of all units are the ones that are spelled.
 pub all-appended : (order : Endian) (units : AllPlaces) (us : List OrderedUnit) → AreWritable us → all_units order units us ≡ all_of order units us
-all-appended order units us fits = with_units-appended order (size_of us) units us _ (record { info = refl; line = refl }) (writable-sizes us fits)
+all-appended order units us fits = with_units-appended order (size_of us) units us _ (record { info = refl; line = refl; ranges = refl }) (writable-sizes us fits)
 
 -- ---- a refusal
 
@@ -153,9 +175,11 @@ record Grown (w v : WrittenSections) : Type 0 where
   info_more : length w.info_section.body ≤ length v.info_section.body
   line_name : w.line_section.name ≡ v.line_section.name
   line_more : length w.line_section.body ≤ length v.line_section.body
+  ranges_name : w.ranges_section.name ≡ v.ranges_section.name
+  ranges_more : length w.ranges_section.body ≤ length v.ranges_section.body
 
 grown-units : (units : AllPlaces) (us : List OrderedUnit) (w : WrittenSections) → Grown w (with_units units us w)
-grown-units units [] w = record { abbrev_name = refl; abbrev_more = omega arith; info_name = refl; info_more = omega arith; line_name = refl; line_more = omega arith }
+grown-units units [] w = record { abbrev_name = refl; abbrev_more = omega arith; info_name = refl; info_more = omega arith; line_name = refl; line_more = omega arith; ranges_name = refl; ranges_more = omega arith }
 grown-units units (u ∷ us) w =
     let on = grown-units units us (with_unit units u w) in
     record {
@@ -165,6 +189,8 @@ grown-units units (u ∷ us) w =
       info_more = let h = on.info_more in omega (arith, h, length-append w.info_section.body (placed_unit_bytes w.info_section.order u.address_size (unit_in units w u)));
       line_name = on.line_name;
       line_more = let h = on.line_more in omega (arith, h, length-append w.line_section.body (lines_bytes w.line_section.order u.address_size (written_lines u.lines)));
+      ranges_name = on.ranges_name;
+      ranges_more = let h = on.ranges_more in omega (arith, h, length-append w.ranges_section.body (pairs_bytes w.ranges_section.order u.address_size (pairs_of_entries u.entries)));
     }
 
 pub section-refused : (order : Endian) (units : AllPlaces) (us : List OrderedUnit) (e : WriteError) (a b : Writing) (name : SectionName) (x : List ℕ) → Refuses e a (length x) → a.name ≡ b.name → length (a.body ++ x) ≤ length b.body → b.name ≡ name → b.body ≡ bytes_of order units us name → IsRefusalAmong order units us e
@@ -189,7 +215,8 @@ units-refused order units us i d w e within fits invariant refused =
     go : RefusesUnit e units w (get_or us i d) → Grown (with_unit units (get_or us i d) w) (all_of order units us) → IsRefusalAmong order units us e
     go (inl refused) grown = section-refused order units us e w.abbrev_section (all_of order units us).abbrev_section Abbrev (table_bytes (unit_in units w (get_or us i d)).table) refused grown.abbrev_name grown.abbrev_more refl refl
     go (inr (inl refused)) grown = section-refused order units us e w.info_section (all_of order units us).info_section Info (placed_unit_bytes w.info_section.order (get_or us i d).address_size (unit_in units w (get_or us i d))) refused grown.info_name grown.info_more refl refl
-    go (inr (inr refused)) grown = section-refused order units us e w.line_section (all_of order units us).line_section Line (lines_bytes w.line_section.order (get_or us i d).address_size (written_lines (get_or us i d).lines)) refused grown.line_name grown.line_more refl refl
+    go (inr (inr (inr refused))) grown = section-refused order units us e w.ranges_section (all_of order units us).ranges_section Ranges (pairs_bytes w.ranges_section.order (get_or us i d).address_size (pairs_of_entries (get_or us i d).entries)) refused grown.ranges_name grown.ranges_more refl refl
+    go (inr (inr (inl refused))) grown = section-refused order units us e w.line_section (all_of order units us).line_section Line (lines_bytes w.line_section.order (get_or us i d).address_size (written_lines (get_or us i d).lines)) refused grown.line_name grown.line_more refl refl
 
 -- among their own places it is the refusal of the units
 pub refusal-of-all : (order : Endian) (units : AllPlaces) (texts : List (List ℕ)) (us : List OrderedUnit) (e : WriteError) → units ≡ all_places order texts us → IsRefusalAmong order units us e → IsRefusal order texts us e
@@ -200,6 +227,7 @@ refusal-of-all order units texts us (TooLarge (Section name)) placed refused = g
     go Abbrev large = large
     go Info large = large
     go Line large = large
+    go Ranges large = large
     go Str large = absurd (omega (arith, large))
     go _ large = large
 
@@ -211,15 +239,16 @@ units-exit order units us result e p refused =
 
 -- ---- what is gathered
 
-pub gathered : (order x y z w : Endian) (none one two three four : List OutputSection) → none ≡ [] → (All (IsSound x) none → All (IsSound x) one) → (All (IsSound y) one → All (IsSound y) two) → (All (IsSound z) two → All (IsSound z) three) → (All (IsSound w) three → All (IsSound w) four) → x ≡ order → y ≡ order → z ≡ order → w ≡ order
-    → All (IsSound order) four
-gathered order x y z w none one two three four empty first second third fourth a b c d =
+pub gathered : (order x y z v w : Endian) (none one two three four five : List OutputSection) → none ≡ [] → (All (IsSound x) none → All (IsSound x) one) → (All (IsSound y) one → All (IsSound y) two) → (All (IsSound z) two → All (IsSound z) three) → (All (IsSound v) three → All (IsSound v) four) → (All (IsSound w) four → All (IsSound w) five) → x ≡ order → y ≡ order → z ≡ order → v ≡ order → w ≡ order
+    → All (IsSound order) five
+gathered order x y z v w none one two three four five empty first second third fourth fifth a b c d e =
     let start : All (IsSound x) none = rw (empty) (All-nil (IsSound x)) in
     let P : List OutputSection → Endian → Type 0 = λ ss o. All (IsSound o) ss in
     let one_sound : All (IsSound y) one = subst (P one) (a ∙ sym b) (first start) in
     let two_sound : All (IsSound z) two = subst (P two) (b ∙ sym c) (second one_sound) in
-    let three_sound : All (IsSound w) three = subst (P three) (c ∙ sym d) (third two_sound) in
-    subst (P four) d (fourth three_sound)
+    let three_sound : All (IsSound v) three = subst (P three) (c ∙ sym d) (third two_sound) in
+    let four_sound : All (IsSound w) four = subst (P four) (d ∙ sym e) (fourth three_sound) in
+    subst (P five) e (fifth four_sound)
 
 -- ---- for a loop over units, and for its end
 
@@ -264,7 +293,8 @@ sections-rise order texts us =
     let lines : RelocationsRise 0 (length (all_lines_bytes order us)) (lines_relocations order size 0 (written_tables us)) = from-0 (length (all_lines_bytes order us)) _ (lines-rise order size 0 (written_tables us)) in
     let P : List OutputSection → Type 0 = λ ss. All DoRelocationsRise ss in
     let last = subst P (append-nil _) (part-rises Str (strings_bytes texts us) [] [] (omega arith) (All-nil DoRelocationsRise)) in
-    let behind = part-rises Line (all_lines_bytes order us) (lines_relocations order size 0 (written_tables us)) _ lines last in
+    let lists : RelocationsRise 0 (length (all_ranges_bytes order us)) (all_ranges_relocations order us) = from-0 (length (all_ranges_bytes order us)) _ (pairs-rise order size 0 (pairs_of_units us)) in
+    let behind = part-rises Line (all_lines_bytes order us) (lines_relocations order size 0 (written_tables us)) _ lines (part-rises Ranges (all_ranges_bytes order us) (all_ranges_relocations order us) _ lists last) in
     part-rises Abbrev (abbrev_bytes order units us) [] _ (omega arith) (part-rises Info (all_info_bytes order units us) (info_relocations order size 0 ws) _ info behind)
   where
     from-0 : (n : ℕ) (rs : List OutputRelocation) → RelocationsRise 0 (0 + n) rs → RelocationsRise 0 n rs

@@ -70,7 +70,7 @@ form-given a u = go a.value
     go (as_strp n) = refl
     go (as_ref4 n) = refl
     go (as_ref_addr n) = refl
-    go (as_sec_offset n) = refl
+    go (as_sec_offset section n) = refl
 
 module _ (s : Sections) (h : UnitHeader) (version : h.version ≡ 4) where
   abbrev order : Endian

@@ -28,7 +28,8 @@ use Rattle.dwc_write.specs.SpelledRelocations.{sequence_bytes, sequence_relocati
 use Rattle.dwc_write.specs.SpelledTables.{table_bytes}
 use Rattle.dwc_write.specs.Writers.{address_relocations}
 use Rattle.dwc_write.specs.GivenLines.{GivenLines}
-use Rattle.dwc_write.specs.GivenUnits.{GivenEntry, OrderedUnit, Places, IsTree, names_lines, IsWritable, FitsOrdered, shapes_in, written_attribute, written_entries}
+use Rattle.dwc_write.specs.GivenUnits.{GivenEntry, OrderedUnit, Places, FitsEntry, IsTree, names_lines, IsWritable, FitsOrdered, shapes_in, written_attributes, written_entries, pairs_of_entries}
+use Rattle.dwc_write.specs.RangeLists.{behind_attributes, pairs_bytes}
 use Rattle.dwc_write.specs.Layouts.{AllPlaces, offsets_by_number, places_in, written_lines, written_unit, written_units, written_tables}
 use Rattle.dwc_write.proofs.ReadNumbers.{number_bytes-length}
 use Rattle.dwc_write.proofs.ReadParts.{Spells-uleb_bytes}
@@ -169,33 +170,34 @@ module _ (s : Sections) (size : ℕ) where
       let here : fields_of_line_table s h.address_size base l ≡ Ok (table_fields s.order size l t) = ap (λ m. fields_of_line_table s m base l) sized ∙ All-head (IsFound s size) (record { offset = l; table = t }) _ found base in
       rw (fields_of_lines, names, here) (sym (append-nil (table_fields s.order size l t)))
 
-  unit-found : (place a : ℕ) (p : Places) (u : OrderedUnit) (rest : List WrittenTable) → FitsOrdered u → IsWritable size u → All (IsFound s size) (placed_tables s.order size p.line (written_lines u.lines ++ rest))
-      → fields_of_lines s (read_unit s.order size place (written_unit p a u)).header (root (read_unit s.order size place (written_unit p a u))) ≡ tables_fields s.order size p.line (written_lines u.lines)
-  unit-found place a p u rest fits writable found = at-root u.entries fits.tree writable.named
+  unit-found : (place a r : ℕ) (p : Places) (u : OrderedUnit) (rest : List WrittenTable) → FitsOrdered u → IsWritable size u → All (IsFound s size) (placed_tables s.order size p.line (written_lines u.lines ++ rest))
+      → fields_of_lines s (read_unit s.order size place (written_unit size r p a u)).header (root (read_unit s.order size place (written_unit size r p a u))) ≡ tables_fields s.order size p.line (written_lines u.lines)
+  unit-found place a r p u rest fits writable found = at-root u.entries fits.tree fits.entries writable.named
     where
-      at-root : (es : List GivenEntry) → IsTree es → names_lines es ≡ is_some u.lines.address_size
-          → fields_of_lines s (read_unit s.order size place (written_unit p a u)).header (root (record { header = (read_unit s.order size place (written_unit p a u)).header; entries = read_entries s.order size (place + header_length) (written_entries p (shapes_in u) es) })) ≡ tables_fields s.order size p.line (written_lines u.lines)
-      at-root [] tree named = absurd tree
-      at-root (e ∷ es) tree named =
-          let names = ap (λ xs. line_offset (found_in xs)) (attributes-read p e.attributes) ∙ lines-named p e.attributes ∙ ap (named_offset p.line) named in
+      at-root : (es : List GivenEntry) → IsTree es → All (FitsEntry u.address_size) es → names_lines es ≡ is_some u.lines.address_size
+          → fields_of_lines s (read_unit s.order size place (written_unit size r p a u)).header (root (record { header = (read_unit s.order size place (written_unit size r p a u)).header; entries = read_entries s.order size (place + header_length) (written_entries (behind_attributes size) p r (shapes_in u) es) })) ≡ tables_fields s.order size p.line (written_lines u.lines)
+      at-root [] tree all named = absurd tree
+      at-root (e ∷ es) tree all named =
+          let names = ap (λ xs. line_offset (found_in xs)) (attributes-read (behind_attributes size) p r e.attributes) ∙ lines-named u.address_size (behind_attributes size) p r e.attributes (All-head (FitsEntry u.address_size) e es all).attributes ∙ ap (named_offset p.line) named in
           let P : List WrittenTable → Type 0 = λ ts. All (IsFound s size) (placed_tables s.order size p.line (ts ++ rest)) in
-          let h = (read_unit s.order size place (written_unit p a u)).header in
-          let entry : Entry = record { offset = place + header_length; depth = e.depth; tag = e.tag; attributes = map (λ (x : WrittenAttribute). (x.name, written_value x.name x.value)) (map (written_attribute p) e.attributes) } in
+          let h = (read_unit s.order size place (written_unit size r p a u)).header in
+          let entry : Entry = record { offset = place + header_length; depth = e.depth; tag = e.tag; attributes = map (λ (x : WrittenAttribute). (x.name, written_value x.name x.value)) (written_attributes (behind_attributes size) p r e.attributes) } in
           root-found h entry p.line u.lines rest u.lines.address_size refl names (subst P (lines-are u.lines) found) ∙ ap (tables_fields s.order size p.line) (sym (lines-are u.lines))
 
   -- The fields of the line tables that the units name are those of all tables.
-  pub unit_lines-found : (units : AllPlaces) (us : List OrderedUnit) (place a l : ℕ) → All (IsWritable size) us → All FitsOrdered us → All (IsFound s size) (placed_tables s.order size l (written_tables us))
-      → flat_map (λ u. fields_of_lines s u.header (root u)) (read_units s.order size place (written_units s.order size units a l us)) ≡ tables_fields s.order size l (written_tables us)
-  unit_lines-found units [] place a l writable fits found = refl
-  unit_lines-found units (u ∷ us) place a l writable fits found =
+  pub unit_lines-found : (units : AllPlaces) (us : List OrderedUnit) (place a l r : ℕ) → All (IsWritable size) us → All FitsOrdered us → All (IsFound s size) (placed_tables s.order size l (written_tables us))
+      → flat_map (λ u. fields_of_lines s u.header (root u)) (read_units s.order size place (written_units s.order size units a l r us)) ≡ tables_fields s.order size l (written_tables us)
+  unit_lines-found units [] place a l r writable fits found = refl
+  unit_lines-found units (u ∷ us) place a l r writable fits found =
       let p = places_in units (offsets_by_number s.order size u) l in
-      let unit = written_unit p a u in
+      let unit = written_unit size r p a u in
+      let lists_at = r + length (pairs_bytes s.order size (pairs_of_entries u.entries)) in
       let own = written_lines u.lines in
       let rest = written_tables us in
       let next = l + length (lines_bytes s.order size own) in
       let split = at_places-append (one_table_bytes s.order size) (λ q t. record { offset = q; table = t } ∷ []) own rest l in
       let behind = All-back (IsFound s size) (placed_tables s.order size l own) _ (subst (All (IsFound s size)) split found) in
-      let first = unit-found place a p u rest (All-head FitsOrdered u us fits) (All-head (IsWritable size) u us writable) found in
-      let more = unit_lines-found units us (place + length (placed_unit_bytes s.order size unit)) (a + length (table_bytes unit.table)) next (All-tail (IsWritable size) u us writable) (All-tail FitsOrdered u us fits) behind in
-      let others = flat_map (λ v. fields_of_lines s v.header (root v)) (read_units s.order size (place + length (placed_unit_bytes s.order size unit)) (written_units s.order size units (a + length (table_bytes unit.table)) next us)) in
+      let first = unit-found place a r p u rest (All-head FitsOrdered u us fits) (All-head (IsWritable size) u us writable) found in
+      let more = unit_lines-found units us (place + length (placed_unit_bytes s.order size unit)) (a + length (table_bytes unit.table)) next lists_at (All-tail (IsWritable size) u us writable) (All-tail FitsOrdered u us fits) behind in
+      let others = flat_map (λ v. fields_of_lines s v.header (root v)) (read_units s.order size (place + length (placed_unit_bytes s.order size unit)) (written_units s.order size units (a + length (table_bytes unit.table)) next lists_at us)) in
       ap (λ fs. fs ++ others) first ∙ ap (λ fs. tables_fields s.order size l own ++ fs) more ∙ sym (at_places-append (one_table_bytes s.order size) (table_fields s.order size) own rest l)

@@ -64,7 +64,7 @@ lengths a b c = simp (length-append) (omega arith)
 unit-lengths : (a b c : List ℕ) (size : ℕ) (d : List ℕ) → length (a ++ (b ++ (c ++ (size ∷ d)))) ≡ length a + (length b + (length c + (1 + length d)))
 unit-lengths a b c size d = simp (length-append) (omega arith)
 
-address-rise : (place size : ℕ) (a : Address) → RelocationsRise place (place + size) (address_relocations place size a)
+pub address-rise : (place size : ℕ) (a : Address) → RelocationsRise place (place + size) (address_relocations place size a)
 address-rise place size (Constant n) = omega arith
 address-rise place size (Symbol symbol addend) = (omega arith, omega arith)
 
@@ -75,7 +75,7 @@ value-rise order size place a = go a.value
     go (as_addr x) = rw (number_bytes-length order size (stored x)) (address-rise place size x)
     go (as_strp n) = (omega arith, omega (arith, number_bytes-length order 4 n))
     go (as_ref_addr n) = (omega arith, omega (arith, number_bytes-length order 4 n))
-    go (as_sec_offset n) = (omega arith, omega (arith, number_bytes-length order 4 n))
+    go (as_sec_offset section n) = (omega arith, omega (arith, number_bytes-length order 4 n))
     go _ = omega arith
 
 entry-rise : (order : Endian) (size place : ℕ) (x : Shaped) → RelocationsRise place (place + length (entry_bytes order size x)) (entry_relocations order size place x)
@@ -141,7 +141,7 @@ lines-rise order size place ts = rise-places (one_table_bytes order size) (one_t
 
 -- ---- those of functions are the ones of address fields
 
-places-functions : {A : Type 0} (spell : A → List ℕ) (at : ℕ → A → List OutputRelocation) (fields : ℕ → A → List AddressField) → ((p : ℕ) (x : A) → filter_map function_relocation (at p x) ≡ relocations_of (fields p x)) → (xs : List A) (place : ℕ)
+pub places-functions : {A : Type 0} (spell : A → List ℕ) (at : ℕ → A → List OutputRelocation) (fields : ℕ → A → List AddressField) → ((p : ℕ) (x : A) → filter_map function_relocation (at p x) ≡ relocations_of (fields p x)) → (xs : List A) (place : ℕ)
     → filter_map function_relocation (at_places spell at place xs) ≡ relocations_of (at_places spell fields place xs)
 places-functions spell at fields each [] place = refl
 places-functions spell at fields each (x ∷ xs) place =
@@ -150,7 +150,7 @@ places-functions spell at fields each (x ∷ xs) place =
     ∙ ap (λ rs. relocations_of (fields place x) ++ rs) (places-functions spell at fields each xs (place + length (spell x)))
     ∙ sym (filter_map-append relocation_for (fields place x) (at_places spell fields (place + length (spell x)) xs))
 
-address-functions : (place size : ℕ) (a : Address) → filter_map function_relocation (address_relocations place size a) ≡ relocations_of (record { offset = place; size = size; address = a } ∷ [])
+pub address-functions : (place size : ℕ) (a : Address) → filter_map function_relocation (address_relocations place size a) ≡ relocations_of (record { offset = place; size = size; address = a } ∷ [])
 address-functions place size (Constant n) = refl
 address-functions place size (Symbol symbol addend) = refl
 
@@ -160,7 +160,7 @@ value-functions order size place a = go a.value
     go : (w : Written) → filter_map function_relocation (value_relocations size place w) ≡ relocations_of (value_fields size place w)
     go (as_addr x) = address-functions place size x
     go (as_ref_addr n) = refl
-    go (as_sec_offset n) = refl
+    go (as_sec_offset section n) = refl
     go _ = refl
 
 unit-functions : (order : Endian) (size place : ℕ) (u : WrittenUnit) → filter_map function_relocation (unit_relocations order size place u) ≡ relocations_of (unit_fields order size place u)

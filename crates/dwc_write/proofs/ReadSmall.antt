@@ -23,7 +23,7 @@ use Rattle.dwc_write.specs.SpelledAddresses.{relocations_of}
 use Rattle.dwc_base.proofs.CarriedSmall.{output_small}
 
 abbrev pub root_written : WrittenEntry
-root_written = record { depth = 0; code = 1; tag = 0x11; attributes = record { name = 0x10; value = as_sec_offset 0 } ∷ [] }
+root_written = record { depth = 0; code = 1; tag = 0x11; attributes = record { name = 0x10; value = as_sec_offset Line 0 } ∷ [] }
 
 abbrev pub function_written : WrittenEntry
 function_written = record { depth = 1; code = 2; tag = 0x2E; attributes = record { name = 0x11; value = as_addr (Symbol 0 (pos 0)) } ∷ record { name = 0x12; value = as_udata 30 } ∷ [] }

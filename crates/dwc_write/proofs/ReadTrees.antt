@@ -1,5 +1,5 @@
 -- The sections that are spelled of given units say their trees, in units of version 4: `carries-trees`, `target-form`.
-use Rattle.std.proofs.Common.{◌≡◌, ℕ, suc, ◌+◌, ◌^◌, ◌<◌, refl, sym, ap, subst, ◌∙◌, arith, List, [], ◌∷◌, length, map, Ok, Bool, true, false, Option, Some}
+use Rattle.std.proofs.Common.{◌≡◌, ℕ, suc, ◌+◌, ◌^◌, ◌<◌, refl, sym, ap, subst, ◌∙◌, arith, List, [], ◌∷◌, ◌++◌, append-nil, length, length-append, map, Ok, Bool, true, false, Option, Some}
 use Rattle.std.specs.Prelude.{◌==◌, ◌||◌, if◌then◌else◌, option_map, option_and_then, slice_get, position}
 use Rattle.std.specs.List.{All, AllZip}
 use Rattle.std.specs.Int.{w64, cast_signed}
@@ -14,33 +14,40 @@ use Rattle.dwc_base.specs.Entries.{Entry}
 use Rattle.dwc_base.specs.Carried.{Unit as ReadUnit, units}
 use Rattle.dwc_base.specs.Outputs.{OutputSection, output_sections}
 use Rattle.dwc_base.specs.OutputForm.{HaveTargetForm}
-use Rattle.dwc_base.specs.TreeReading.{ListReading, ReadingUnit, each_read, read_as, entry_or_nothing, text_or_nothing, entry_in_unit, entry_in_section, value_said, entry_said, unit_said, units_said, trees, no_lists, CarriesTrees}
+use Rattle.dwc_base.specs.Trees as trees
+use Rattle.dwc_write.specs.RangeLists.{behind_attributes, pairs_bytes, pairs_fields}
+use Rattle.dwc_write.proofs.ReadLists.{range-offset}
+use Rattle.dwc_write.proofs.ListsGiven.{IsListRead, AreListsRead, AreAllListsRead, StandThere, stand-front, stand-back, entries-listed}
+use Rattle.dwc_write.proofs.RelatedLists.{fields-rise, pairs-functions}
+use Rattle.dwc_write.proofs.ReadAddresses.{rising-held}
+use Rattle.dwc_write.specs.SpelledAddresses.{IsHeld}
+use Rattle.dwc_base.specs.TreeReading.{ListReading, ReadingUnit, each_read, read_as, entry_or_nothing, text_or_nothing, entry_in_unit, entry_in_section, value_said, entry_said, unit_said, units_said, trees, output_lists, CarriesTrees}
 use Rattle.dwc_base.specs.Indexed.{texts_of_unit}
 use Rattle.dwc_base.specs.LineHeaders.{text_in}
 use Rattle.dwc_base.specs.Reading.{◌>>=◌}
 use Rattle.dwc_base.specs.Texts.{text_elsewhere, text_named}
 use Rattle.dwc_base.specs.declared.faults.What.TheVariants.{Text}
-use Rattle.dwc_base.specs.declared.section_name.SectionName.TheVariants.{Info, Str}
+use Rattle.dwc_base.specs.declared.section_name.SectionName.TheVariants.{Info, Ranges, Str}
 use Rattle.dwc_write.specs.declared.attributes.Attribute.{Attribute}
 use Rattle.dwc_write.specs.declared.attributes.AttributeValue.{AttributeValue}
-use Rattle.dwc_write.specs.declared.attributes.AttributeValue.TheVariants.{Address, Constant, Flag, Block, Exprloc, StringRef, LineProgramRef, UnitRef, DebugInfoRef}
+use Rattle.dwc_write.specs.declared.attributes.AttributeValue.TheVariants.{Address, Constant, Flag, Block, Exprloc, StringRef, LineProgramRef, RangeListRef, UnitRef, DebugInfoRef}
 use Rattle.dwc_write.specs.declared.attributes.DebugInfoRef.TheVariants.{Entry as entry_of}
 use Rattle.dwc_write.specs.SpelledUnits.{as_data1, as_data2, as_data4, as_data8, as_udata, as_sdata, written_value, shaped, header_length}
 use Rattle.dwc_write.specs.SpelledTables.{table_bytes}
-use Rattle.dwc_write.specs.SpelledSections.{placed_unit_bytes, lines_bytes, read_units}
+use Rattle.dwc_write.specs.SpelledSections.{placed_unit_bytes, lines_bytes, read_unit, read_units}
 use Rattle.dwc_write.specs.GivenLines.{FitsLines}
-use Rattle.dwc_write.specs.GivenUnits.{GivenEntry, OrderedUnit, Places, AreWritable, size_of, shapes_in, constant_of, written_of, is_constant_form, constant_bound, FitsValue, FitsAttribute, FitsEntry, FitsOrdered}
+use Rattle.dwc_write.specs.GivenUnits.{GivenEntry, OrderedUnit, Places, AreWritable, size_of, shapes_in, pairs_of_entries, pairs_of_units, constant_of, written_of, is_constant_form, constant_bound, FitsValue, FitsAttribute, FitsEntry, FitsOrdered}
 use Rattle.dwc_write.specs.GivenTrees.{place_in_order, place_in_units, given_said, attribute_said, tree_entry, given_tree, trees_from, given_trees}
 use Rattle.dwc_write.specs.TextTables.{IsText}
 use Rattle.dwc_write.specs.UsedTexts.{HaveTexts, text_numbered, text_of_value, text_places, texts_named, texts_of_attributes, texts_of_entries}
 use Rattle.dwc_write.specs.Layouts.{AllPlaces, offset_of_text, unit_length, offsets_by_number, places_of_units, places_in, written_unit, written_lines, written_units}
 use Rattle.dwc_write.specs.SpelledOutput.{units_placed, all_places, spelled_sections}
 use Rattle.dwc_write.specs.Writers.{IsSound}
-use Rattle.dwc_write.specs.ReadBack.{read_contents, given_value, given_contents, IsReadUnit, ReadsBack}
+use Rattle.dwc_write.specs.ReadBack.{read_contents, given_values, given_contents, IsReadUnit, ReadsBack}
 use Rattle.dwc_write.proofs.ReadTexts.{all-used, text-read}
 use Rattle.dwc_write.proofs.ReadValues.{All-back, All-front}
 use Rattle.dwc_write.proofs.PlacedEntries.{placed-length, offsets-same, offsets-moved, offsets-read, StandsAt, StandFrom, in-unit, in-section}
-use Rattle.dwc_write.proofs.ReadBackLaws.{places-contents, contents-given, are-spelled, units-read-back}
+use Rattle.dwc_write.proofs.ReadBackLaws.{places-contents, contents-given, are-spelled, positive, units-read-back}
 
 -- ---- values
 
@@ -74,90 +81,105 @@ module _ (lists : ListReading) (texts : List (List ℕ)) (us : List OrderedUnit)
   Readable n = text_in r.texts.order r.texts.strings (p.text n) ≡ Ok (text_numbered texts n)
 
   -- a value says what was given
-  value-given : (size : ℕ) (e : Entry) (a : Attribute) → FitsAttribute size a → All Readable (text_of_value a.value) → value_said lists r e (written_value a.name (written_of p a.value)) ≡ Ok (given_said texts us r.number u a.value)
+  value-given : (size : ℕ) (e : Entry) (ranges : ℕ) (a : Attribute) → FitsAttribute size a → All Readable (text_of_value a.value) → IsListRead lists r.unit.header ranges a.value → value_said lists r e (written_value a.name (written_of p ranges a.value)) ≡ Ok (given_said texts us r.number u a.value)
   unfolding value_said text_named text_elsewhere
-  value-given size e a fits readable = go a.value fits.value readable
+  value-given size e ranges a fits readable listed = go a.value fits.value readable listed
     where
-      go : (v : AttributeValue) → FitsValue size a.name v → All Readable (text_of_value v) → value_said lists r e (written_value a.name (written_of p v)) ≡ Ok (given_said texts us r.number u v)
-      go (Address x) h t = refl
-      go (Constant form bits) h t = ap (value_said lists r e) (constant-read a.name form bits h.0 h.1)
-      go (Flag b) h t = refl
-      go (Block bytes) h t = ap (λ b. value_said lists r e (if b then Values.expression bytes.items else Values.block bytes.items)) h
-      go (Exprloc x) h t = refl
-      go (StringRef id) h t = ap (λ x. read_as text_or_nothing (reported Text Info e.offset (x >>= λ bytes. Ok (Some bytes)))) (All-head Readable id.index [] t)
-      go LineProgramRef h t = rw (h) refl
-      go (UnitRef id) h t = ap Ok (named.entry id.index)
-      go (DebugInfoRef (entry_of unit id)) h t = ap Ok (named.entry_of unit.index id.index)
+      go : (v : AttributeValue) → FitsValue size a.name v → All Readable (text_of_value v) → IsListRead lists r.unit.header ranges v → value_said lists r e (written_value a.name (written_of p ranges v)) ≡ Ok (given_said texts us r.number u v)
+      go (Address x) h t l = refl
+      go (Constant form bits) h t l = ap (value_said lists r e) (constant-read a.name form bits h.0 h.1)
+      go (Flag b) h t l = refl
+      go (Block bytes) h t l = ap (λ b. value_said lists r e (if b then Values.expression bytes.items else Values.block bytes.items)) h
+      go (Exprloc x) h t l = refl
+      go (StringRef id) h t l = ap (λ x. read_as text_or_nothing (reported Text Info e.offset (x >>= λ bytes. Ok (Some bytes)))) (All-head Readable id.index [] t)
+      go LineProgramRef h t l = rw (h) refl
+      go (RangeListRef list) h t l = ap (value_said lists r e) (range-offset a.name ranges h.0) ∙ ap (read_as trees.ranges) (l e)
+      go (UnitRef id) h t l = ap Ok (named.entry id.index)
+      go (DebugInfoRef (entry_of unit id)) h t l = ap Ok (named.entry_of unit.index id.index)
 
-  values-given : (size : ℕ) (e : Entry) (xs : List Attribute) → All (FitsAttribute size) xs → All Readable (texts_of_attributes xs) → each_read (λ a. read_as (λ v. (a.0, v)) (value_said lists r e a.1)) (map (given_value p) xs) ≡ Ok (map (attribute_said texts us r.number u) xs)
-  values-given size e [] fits readable = refl
-  values-given size e (x ∷ xs) fits readable =
-      let here = value-given size e x (All-head (FitsAttribute size) x xs fits) (All-front Readable (text_of_value x.value) (texts_of_attributes xs) readable) in
-      let others = values-given size e xs (All-tail (FitsAttribute size) x xs fits) (All-back Readable (text_of_value x.value) (texts_of_attributes xs) readable) in
-      rw (here, others) refl
+  module _ (next : ℕ → List Attribute → ℕ) where
+    values-given : (size : ℕ) (e : Entry) (ranges : ℕ) (xs : List Attribute) → All (FitsAttribute size) xs → All Readable (texts_of_attributes xs) → AreListsRead lists r.unit.header next ranges xs → each_read (λ a. read_as (λ v. (a.0, v)) (value_said lists r e a.1)) (given_values next p ranges xs) ≡ Ok (map (attribute_said texts us r.number u) xs)
+    values-given size e ranges [] fits readable listed = refl
+    values-given size e ranges (x ∷ xs) fits readable listed =
+        let here = value-given size e ranges x (All-head (FitsAttribute size) x xs fits) (All-front Readable (text_of_value x.value) (texts_of_attributes xs) readable) listed.0 in
+        let others = values-given size e (next ranges (x ∷ [])) xs (All-tail (FitsAttribute size) x xs fits) (All-back Readable (text_of_value x.value) (texts_of_attributes xs) readable) listed.1 in
+        rw (here, others) refl
 
-  -- an entry, by what stands beside its offset
-  entry-given : (size : ℕ) (e : Entry) (g : GivenEntry) → FitsEntry size g → All Readable (texts_of_attributes g.attributes) → read_contents e ≡ given_contents p g → entry_said lists r e ≡ Ok (tree_entry texts us r.number u g)
-  entry-given size e g fits readable same =
-      let depth : e.depth ≡ g.depth = ap (λ c. c.depth) same in
-      let tag : e.tag ≡ g.tag = ap (λ c. c.tag) same in
-      let attributes : e.attributes ≡ map (given_value p) g.attributes = ap (λ c. c.attributes) same in
-      let values = ap (each_read (λ a. read_as (λ v. (a.0, v)) (value_said lists r e a.1))) attributes ∙ values-given size e g.attributes fits.attributes readable in
-      rw (values, depth, tag) refl
+    -- an entry, by what stands beside its offset
+    entry-given : (size : ℕ) (e : Entry) (ranges : ℕ) (g : GivenEntry) → FitsEntry size g → All Readable (texts_of_attributes g.attributes) → AreListsRead lists r.unit.header next ranges g.attributes → read_contents e ≡ record { depth = g.depth; tag = g.tag; attributes = given_values next p ranges g.attributes }
+        → entry_said lists r e ≡ Ok (tree_entry texts us r.number u g)
+    entry-given size e ranges g fits readable listed same =
+        let depth : e.depth ≡ g.depth = ap (λ c. c.depth) same in
+        let tag : e.tag ≡ g.tag = ap (λ c. c.tag) same in
+        let attributes : e.attributes ≡ given_values next p ranges g.attributes = ap (λ c. c.attributes) same in
+        let values = ap (each_read (λ a. read_as (λ v. (a.0, v)) (value_said lists r e a.1))) attributes ∙ values-given size e ranges g.attributes fits.attributes readable listed in
+        rw (values, depth, tag) refl
 
-  entries-given : (size : ℕ) (es : List Entry) (gs : List GivenEntry) → All (FitsEntry size) gs → All Readable (texts_of_entries gs) → map read_contents es ≡ map (given_contents p) gs → each_read (entry_said lists r) es ≡ Ok (map (tree_entry texts us r.number u) gs)
-  entries-given size [] [] fits readable same = refl
-  entries-given size [] (g ∷ gs) fits readable same = absurd (cc)
-  entries-given size (e ∷ es) [] fits readable same = absurd (cc)
-  entries-given size (e ∷ es) (g ∷ gs) fits readable same =
-      let one : read_contents e ≡ given_contents p g = cc in
-      let rest : map read_contents es ≡ map (given_contents p) gs = cc in
-      let here = entry-given size e g (All-head (FitsEntry size) g gs fits) (All-front Readable (texts_of_attributes g.attributes) (texts_of_entries gs) readable) one in
-      let others = entries-given size es gs (All-tail (FitsEntry size) g gs fits) (All-back Readable (texts_of_attributes g.attributes) (texts_of_entries gs) readable) rest in
-      rw (here, others) refl
+    entries-given : (size : ℕ) (es : List Entry) (ranges : ℕ) (gs : List GivenEntry) → All (FitsEntry size) gs → All Readable (texts_of_entries gs) → AreAllListsRead lists r.unit.header next ranges gs → map read_contents es ≡ given_contents next p ranges gs → each_read (entry_said lists r) es ≡ Ok (map (tree_entry texts us r.number u) gs)
+    entries-given size [] ranges [] fits readable listed same = refl
+    entries-given size [] ranges (g ∷ gs) fits readable listed same = absurd (cc)
+    entries-given size (e ∷ es) ranges [] fits readable listed same = absurd (cc)
+    entries-given size (e ∷ es) ranges (g ∷ gs) fits readable listed same =
+        let one : read_contents e ≡ record { depth = g.depth; tag = g.tag; attributes = given_values next p ranges g.attributes } = cc in
+        let rest : map read_contents es ≡ given_contents next p (next ranges g.attributes) gs = cc in
+        let here = entry-given size e ranges g (All-head (FitsEntry size) g gs fits) (All-front Readable (texts_of_attributes g.attributes) (texts_of_entries gs) readable) listed.0 one in
+        let others = entries-given size es (next ranges g.attributes) gs (All-tail (FitsEntry size) g gs fits) (All-back Readable (texts_of_attributes g.attributes) (texts_of_entries gs) readable) listed.1 rest in
+        rw (here, others) refl
 
 -- ---- units
 
 -- A unit that is read at a place says, beside its entries' offsets, what was given, in a unit among others that have some places.
-record IsPlacedUnit (order : Endian) (size : ℕ) (units : AllPlaces) (start : ℕ) (u : OrderedUnit) (v : ReadUnit) : Type 0 where
+record IsPlacedUnit (order : Endian) (size : ℕ) (units : AllPlaces) (start ranges : ℕ) (u : OrderedUnit) (v : ReadUnit) : Type 0 where
   line : ℕ
-  contents : map read_contents v.entries ≡ map (given_contents (places_in units (offsets_by_number order size u) line)) u.entries
+  contents : map read_contents v.entries ≡ given_contents (behind_attributes size) (places_in units (offsets_by_number order size u) line) ranges u.entries
   stands : StandsAt order size start u v
 
-abbrev ArePlaced : Endian → ℕ → AllPlaces → ℕ → List OrderedUnit → List ReadUnit → Type 0
-ArePlaced order size units start [] [] = Unit {0}
-ArePlaced order size units start [] (v ∷ vs) = ⊥
-ArePlaced order size units start (u ∷ us) [] = ⊥
-ArePlaced order size units start (u ∷ us) (v ∷ vs) = IsPlacedUnit order size units start u v × ArePlaced order size units (start + unit_length order size u) us vs
+-- where the lists of the next unit stand
+abbrev lists_behind : Endian → ℕ → ℕ → OrderedUnit → ℕ
+lists_behind order size ranges u = ranges + length (pairs_bytes order size (pairs_of_entries u.entries))
 
-placed-stand : (order : Endian) (size : ℕ) (units : AllPlaces) (start : ℕ) (us : List OrderedUnit) (vs : List ReadUnit) → ArePlaced order size units start us vs → StandFrom order size start us vs
-placed-stand order size units start [] [] placed = tt
-placed-stand order size units start [] (v ∷ vs) placed = absurd placed
-placed-stand order size units start (u ∷ us) [] placed = absurd placed
-placed-stand order size units start (u ∷ us) (v ∷ vs) placed = (placed.0.stands, placed-stand order size units (start + unit_length order size u) us vs placed.1)
+abbrev ArePlaced : Endian → ℕ → AllPlaces → ℕ → ℕ → List OrderedUnit → List ReadUnit → Type 0
+ArePlaced order size units start ranges [] [] = Unit {0}
+ArePlaced order size units start ranges [] (v ∷ vs) = ⊥
+ArePlaced order size units start ranges (u ∷ us) [] = ⊥
+ArePlaced order size units start ranges (u ∷ us) (v ∷ vs) = IsPlacedUnit order size units start ranges u v × ArePlaced order size units (start + unit_length order size u) (lists_behind order size ranges u) us vs
+
+placed-stand : (order : Endian) (size : ℕ) (units : AllPlaces) (start ranges : ℕ) (us : List OrderedUnit) (vs : List ReadUnit) → ArePlaced order size units start ranges us vs → StandFrom order size start us vs
+placed-stand order size units start ranges [] [] placed = tt
+placed-stand order size units start ranges [] (v ∷ vs) placed = absurd placed
+placed-stand order size units start ranges (u ∷ us) [] placed = absurd placed
+placed-stand order size units start ranges (u ∷ us) (v ∷ vs) placed = (placed.0.stands, placed-stand order size units (start + unit_length order size u) (lists_behind order size ranges u) us vs placed.1)
 
 -- units that are spelled one behind another are read so
-read-placed : (order : Endian) (size : ℕ) (units : AllPlaces) (place a l : ℕ) (us : List OrderedUnit) → ArePlaced order size units place us (read_units order size place (written_units order size units a l us))
-read-placed order size units place a l [] = tt
-read-placed order size units place a l (u ∷ us) =
+read-placed : (order : Endian) (size : ℕ) (units : AllPlaces) (place a l r : ℕ) (us : List OrderedUnit) → ArePlaced order size units place r us (read_units order size place (written_units order size units a l r us))
+read-placed order size units place a l r [] = tt
+read-placed order size units place a l r (u ∷ us) =
     let p = places_in units (offsets_by_number order size u) l in
-    let unit = written_unit p a u in
+    let unit = written_unit size r p a u in
+    let ranges_at = r + length (pairs_bytes order size (pairs_of_entries u.entries)) in
     let xs = shaped unit.entries in
     let table_at = a + length (table_bytes unit.table) in
     let line_at = l + length (lines_bytes order size (written_lines u.lines)) in
     let next = place + length (placed_unit_bytes order size unit) in
-    let P : ℕ → Type 0 = λ n. ArePlaced order size units n us (read_units order size next (written_units order size units table_at line_at us)) in
-    let same : next ≡ place + unit_length order size u = ap (λ n. place + n) (placed-length order size p a u) in (
+    let P : ℕ → Type 0 = λ n. ArePlaced order size units n ranges_at us (read_units order size next (written_units order size units table_at line_at ranges_at us)) in
+    let same : next ≡ place + unit_length order size u = ap (λ n. place + n) (placed-length order size r p a u) in (
       record {
         line = l;
-        contents = places-contents order size xs (place + header_length) ∙ contents-given p (shapes_in u) u.entries;
+        contents = places-contents order size xs (place + header_length) ∙ contents-given (behind_attributes size) p r (shapes_in u) u.entries;
         stands = record {
           begins = refl;
-          offsets = offsets-read order size xs (place + header_length) ∙ offsets-moved order size place xs header_length ∙ ap (map (λ o. place + o)) (offsets-same order size p (shapes_in u) u.entries header_length);
+          offsets = offsets-read order size xs (place + header_length) ∙ offsets-moved order size place xs header_length ∙ ap (map (λ o. place + o)) (offsets-same order size (behind_attributes size) p r (shapes_in u) u.entries header_length);
         };
       },
-      subst P same (read-placed order size units next table_at line_at us),
+      subst P same (read-placed order size units next table_at line_at ranges_at us),
     )
+
+-- the lists of units are read
+abbrev AreUnitsListed : ListReading → Endian → ℕ → ℕ → List OrderedUnit → List ReadUnit → Type 0
+AreUnitsListed lists order size ranges [] [] = Unit {0}
+AreUnitsListed lists order size ranges [] (v ∷ vs) = ⊥
+AreUnitsListed lists order size ranges (u ∷ us) [] = ⊥
+AreUnitsListed lists order size ranges (u ∷ us) (v ∷ vs) = AreAllListsRead lists v.header (behind_attributes size) ranges u.entries × AreUnitsListed lists order size (lists_behind order size ranges u) us vs
 
 module _ (lists : ListReading) (s : Sections) (order : Endian) (size : ℕ) (texts : List (List ℕ)) (offsets : List (Option ℕ)) (given : List OrderedUnit) (all : List ReadUnit) (stand : StandFrom order size 0 given all) where
   abbrev places : AllPlaces
@@ -166,9 +188,9 @@ module _ (lists : ListReading) (s : Sections) (order : Endian) (size : ℕ) (tex
   abbrev ReadableThere : ℕ → Type 0
   ReadableThere n = text_in s.order (s.bytes Str) (offset_of_text offsets n) ≡ Ok (text_numbered texts n)
 
-  unit-given : (number start : ℕ) (u : OrderedUnit) (v : ReadUnit) → FitsOrdered u → All ReadableThere (texts_of_entries u.entries) → IsPlacedUnit order size places start u v → unit_said lists s all number v ≡ Ok (given_tree texts given number u)
+  unit-given : (number start ranges : ℕ) (u : OrderedUnit) (v : ReadUnit) → FitsOrdered u → All ReadableThere (texts_of_entries u.entries) → IsPlacedUnit order size places start ranges u v → AreAllListsRead lists v.header (behind_attributes size) ranges u.entries → unit_said lists s all number v ≡ Ok (given_tree texts given number u)
   unfolding unit_said texts_of_unit
-  unit-given number start u v fits readable placed =
+  unit-given number start ranges u v fits readable placed listed =
       let r : ReadingUnit = record { sections = s; number = number; unit = v; texts = texts_of_unit s v.header; units = all } in
       let p = places_in places (offsets_by_number order size u) placed.line in
       let own : (id : ℕ) → entry_in_unit r (p.entry id) ≡ entry_or_nothing (option_map (λ place. (number, place)) (place_in_order u id)) =
@@ -176,16 +198,38 @@ module _ (lists : ListReading) (s : Sections) (order : Endian) (size : ℕ) (tex
       ∙ ap (λ q. entry_or_nothing (option_map (λ place. (number, place)) q)) (in-unit order size start id u v placed.stands) in
       let any : (unit id : ℕ) → entry_in_section r (p.entry_of unit id) ≡ entry_or_nothing (place_in_units given unit id) =
       λ unit id. ap entry_or_nothing (in-section order size 0 0 given all unit id stand ∙ ap (λ m. option_map (λ place. (m, place)) (option_and_then (λ w. place_in_order w id) (slice_get given unit))) (omega arith)) in
-      entries-given lists texts given u p r (record { entry = own; entry_of = any }) u.address_size v.entries u.entries fits.entries readable placed.contents
+      entries-given lists texts given u p r (record { entry = own; entry_of = any }) (behind_attributes size) u.address_size v.entries ranges u.entries fits.entries readable listed placed.contents
 
-  units-given : (us : List OrderedUnit) (vs : List ReadUnit) (number start : ℕ) → All FitsOrdered us → All ReadableThere (texts_named us) → ArePlaced order size places start us vs → units_said lists s all number vs ≡ Ok (trees_from texts given number us)
-  units-given [] [] number start fits readable placed = refl
-  units-given [] (v ∷ vs) number start fits readable placed = absurd placed
-  units-given (u ∷ us) [] number start fits readable placed = absurd placed
-  units-given (u ∷ us) (v ∷ vs) number start fits readable placed =
-      let here = unit-given number start u v (All-head FitsOrdered u us fits) (All-front ReadableThere (texts_of_entries u.entries) (texts_named us) readable) placed.0 in
-      let others = units-given us vs (suc number) (start + unit_length order size u) (All-tail FitsOrdered u us fits) (All-back ReadableThere (texts_of_entries u.entries) (texts_named us) readable) placed.1 in
+  units-given : (us : List OrderedUnit) (vs : List ReadUnit) (number start ranges : ℕ) → All FitsOrdered us → All ReadableThere (texts_named us) → ArePlaced order size places start ranges us vs → AreUnitsListed lists order size ranges us vs → units_said lists s all number vs ≡ Ok (trees_from texts given number us)
+  units-given [] [] number start ranges fits readable placed listed = refl
+  units-given [] (v ∷ vs) number start ranges fits readable placed listed = absurd placed
+  units-given (u ∷ us) [] number start ranges fits readable placed listed = absurd placed
+  units-given (u ∷ us) (v ∷ vs) number start ranges fits readable placed listed =
+      let here = unit-given number start ranges u v (All-head FitsOrdered u us fits) (All-front ReadableThere (texts_of_entries u.entries) (texts_named us) readable) placed.0 listed.0 in
+      let others = units-given us vs (suc number) (start + unit_length order size u) (lists_behind order size ranges u) (All-tail FitsOrdered u us fits) (All-back ReadableThere (texts_of_entries u.entries) (texts_named us) readable) placed.1 listed.1 in
       rw (here, others) refl
+
+-- the lists of units that are spelled one behind another are read
+units-listed : (s : Sections) (size : ℕ) (units : AllPlaces) (place a l r : ℕ) (us : List OrderedUnit) (front rest : List ℕ) → 0 < size → r ≡ length front → All (λ u. u.address_size ≡ size) us → All FitsOrdered us
+    → s.bytes Ranges ≡ front ++ (pairs_bytes s.order size (pairs_of_units us) ++ rest) → All (IsHeld (s.relocations Ranges)) (pairs_fields s.order size (length front) (pairs_of_units us))
+    → AreUnitsListed (output_lists s) s.order size r us (read_units s.order size place (written_units s.order size units a l r us))
+units-listed s size units place a l r [] front rest some same sized fits bytes held = tt
+units-listed s size units place a l r (u ∷ us) front rest some same sized fits bytes held =
+    let p = places_in units (offsets_by_number s.order size u) l in
+    let unit = written_unit size r p a u in
+    let h = (read_unit s.order size place unit).header in
+    let ps = pairs_of_entries u.entries in
+    let qs = pairs_of_units us in
+    let there : StandThere s h refl some front rest (ps ++ qs) = record { bytes = bytes; held = held } in
+    let back = stand-back s h refl some front rest ps qs there in
+    let E : ℕ → Type 0 = λ n. All (FitsEntry n) u.entries in
+    let entries = subst E (All-head (λ (v : OrderedUnit). v.address_size ≡ size) u us sized) (All-head FitsOrdered u us fits).entries in
+    let P : ℕ → Type 0 = λ n. AreAllListsRead (output_lists s) h (behind_attributes size) n u.entries in
+    let next : lists_behind s.order size r u ≡ length (front ++ pairs_bytes s.order size ps) = ap (λ n. n + length (pairs_bytes s.order size ps)) same ∙ sym (length-append front (pairs_bytes s.order size ps)) in (
+      subst P (sym same) (entries-listed s h refl some front _ u.entries entries (stand-front s h refl some front rest ps qs there)),
+      units-listed s size units (place + length (placed_unit_bytes s.order size unit)) (a + length (table_bytes unit.table)) (l + length (lines_bytes s.order size (written_lines u.lines))) (lists_behind s.order size r u) us (front ++ pairs_bytes s.order size ps) rest some next
+          (All-tail (λ (v : OrderedUnit). v.address_size ≡ size) u us sized) (All-tail FitsOrdered u us fits) back.bytes back.held,
+    )
 
 -- The sections that are spelled of given units say their trees.
 pub carries-trees : (order : Endian) (texts : List (List ℕ)) (us : List OrderedUnit) → AreWritable us → HaveTexts texts us → All IsText texts → All FitsOrdered us → All (λ u. FitsLines u.lines) us → All (IsSound order) (spelled_sections order texts us) → CarriesTrees order (given_trees texts us) (spelled_sections order texts us)
@@ -198,9 +242,16 @@ carries-trees order texts us writable known plain fits lines sound =
     let readable : All (λ n. P n ((output_sections order (spelled_sections order texts us)).bytes Str)) (texts_named us) =
     λ k d within. subst (P _) (sym spelled.holds.strings_are) (text-read order texts us _ plain (known k d within) (all-used (texts_named us) [] k d within)) in
     let vs = read_units order size 0 (units_placed order places us) in
-    let placed = read-placed order size places 0 0 0 us in
+    let placed = read-placed order size places 0 0 0 0 us in
     let read = units-read-back order texts us spelled in
-    let said = units-given no_lists (output_sections order (spelled_sections order texts us)) order size texts (text_places texts us) us vs (placed-stand order size places 0 us vs placed) us vs 0 0 fits readable placed in
+    let o = output_sections order (spelled_sections order texts us) in
+    let some = positive size spelled.known in
+    let ps = pairs_of_units us in
+    let held_by = rising-held 0 _ (pairs_fields order size 0 ps) (fields-rise order size some.0 0 ps) in
+    let relocations_are = spelled.holds.ranges_relocations_are ∙ pairs-functions order size 0 ps in
+    let held : All (IsHeld (o.relocations Ranges)) (pairs_fields order size 0 ps) = rw (relocations_are) held_by in
+    let listed = units-listed o size places 0 0 0 0 us [] [] some.0 refl spelled.sized fits (spelled.holds.ranges_are ∙ sym (append-nil _)) held in
+    let said = units-given (output_lists (output_sections order (spelled_sections order texts us))) (output_sections order (spelled_sections order texts us)) order size texts (text_places texts us) us vs (placed-stand order size places 0 0 us vs placed) us vs 0 0 0 fits readable placed listed in
     rw (read) said
 
 -- ---- the form of the units

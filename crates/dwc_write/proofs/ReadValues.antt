@@ -83,7 +83,7 @@ module _ (s : Sections) (h : UnitHeader) (version : h.version ≡ 4) where
       go (as_strp n) fits held = seen _ (here place (Spells-number_bytes order 4 n fits))
       go (as_ref4 n) fits held = seen _ (here place (Spells-number_bytes order 4 n fits))
       go (as_ref_addr n) fits held = rw (version) (seen _ (here place (Spells-number_bytes order 4 n fits)))
-      go (as_sec_offset n) fits held = seen _ (here place (Spells-number_bytes order 4 n fits))
+      go (as_sec_offset section n) fits held = seen _ (here place (Spells-number_bytes order 4 n fits))
 
   -- and so are the values of an entry, one behind another
   pub attributes-read : (order : Endian) (xs : List WrittenAttribute) (place : ℕ) → All (λ a. FitsWritten h.address_size a.value) xs

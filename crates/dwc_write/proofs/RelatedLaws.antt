@@ -1,5 +1,5 @@
 -- The sections that are spelled of given units have the relocations of their fields, and no others: `are-relocated`.
-use Rattle.std.proofs.Common.{◌≡◌, ℕ, ◌+◌, ◌≤◌, refl, sym, ap, ◌∙◌, arith, List, [], ◌∷◌, append-nil, map, None, Bool, true, false, length}
+use Rattle.std.proofs.Common.{◌≡◌, ℕ, ◌+◌, ◌≤◌, refl, sym, ap, ◌∙◌, arith, List, [], ◌∷◌, append-nil, None, Bool, true, false, length, ◌<◌, ◌++◌, subst, length-append}
 use Rattle.std.specs.Prelude.{◌==◌, if◌then◌else◌}
 use Rattle.std.specs.List.{All, AllPairs, flat_map}
 use Rattle.std.specs.Int.{w64, cast_signed}
@@ -7,28 +7,36 @@ use Rattle.std.proofs.lemmas.List.Elements.{All-head, All-tail, All-cons, All-ni
 use Rattle.std.proofs.lemmas.List.Kept.{AllPairs-cons}
 use Rattle.dwc_base.specs.declared.records.Endian.{Endian}
 use Rattle.dwc_base.specs.declared.records.Address.TheVariants.{Constant, Symbol}
-use Rattle.dwc_base.specs.declared.section_name.SectionName.TheVariants.{Abbrev, Info, Line, Str}
+use Rattle.dwc_base.specs.declared.section_name.SectionName.TheVariants.{Abbrev, Info, Line, Ranges, Str}
 use Rattle.dwc_base.specs.declared.constants.TheConstants.{DW_FORM_data1, DW_FORM_data2, DW_FORM_data4, DW_FORM_data8, DW_FORM_sdata}
 use Rattle.dwc_base.specs.Sections.{Sections}
 use Rattle.dwc_base.specs.Units.{UnitHeader}
 use Rattle.dwc_base.specs.Values as Values
 use Rattle.dwc_base.specs.Carried.{Unit, units, root}
 use Rattle.dwc_base.specs.Outputs.{OutputRelocation, output_sections}
-use Rattle.dwc_base.specs.Fields.{field_of_value, fields_of_unit, fields_of_lines, fields_of_section, relocations_of_fields, IsRelocated, AreRelocated}
+use Rattle.dwc_base.specs.Fields.{field_of_value, fields_of_unit, fields_of_lines, fields_of_lists, fields_of_section, relocations_of_fields, IsRelocated, AreRelocated}
 use Rattle.dwc_write.specs.declared.attributes.Attribute.{Attribute}
 use Rattle.dwc_write.specs.declared.attributes.AttributeValue.{AttributeValue}
 use Rattle.dwc_write.specs.declared.attributes.AttributeValue.TheVariants as given
 use Rattle.dwc_write.specs.declared.attributes.DebugInfoRef.TheVariants.{Entry as entry_of}
 use Rattle.dwc_write.specs.SpelledTables.{table_bytes}
 use Rattle.dwc_write.specs.SpelledAddresses.{IsHeld}
-use Rattle.dwc_write.specs.SpelledUnits.{as_data1, as_data2, as_data4, as_data8, as_udata, as_sdata, written_value, Shaped, shaped}
-use Rattle.dwc_write.specs.SpelledSections.{lines_bytes, info_fields, lines_fields, read_units}
+use Rattle.dwc_write.specs.SpelledUnits.{as_data1, as_data2, as_data4, as_data8, as_udata, as_sdata, written_value, Shaped, shaped, header_length}
+use Rattle.dwc_write.specs.SpelledSections.{placed_unit_bytes, lines_bytes, info_fields, lines_fields, read_unit, read_units}
 use Rattle.dwc_write.specs.SpelledRelocations.{value_relocations, info_relocations, lines_relocations, RelocationsRise}
 use Rattle.dwc_write.specs.GivenLines.{FitsLines}
-use Rattle.dwc_write.specs.GivenUnits.{GivenEntry, OrderedUnit, Places, EntryShape, written_of, FitsValue, FitsAttribute, FitsEntry, FitsOrdered, size_of, AreWritable, shapes_in, numbered, written_attribute, written_entries}
-use Rattle.dwc_write.specs.Layouts.{AllPlaces, offsets_by_number, places_in, written_lines, written_units, written_tables}
+use Rattle.dwc_write.specs.GivenUnits.{GivenEntry, OrderedUnit, Places, EntryShape, written_of, FitsValue, FitsAttribute, FitsEntry, FitsOrdered, size_of, AreWritable, shapes_in, numbered, written_attribute, written_attributes, written_entries, pairs_of_entries, pairs_of_units}
+use Rattle.dwc_write.specs.RangeLists.{behind_attributes, pair_bytes, pair_relocations, pairs_bytes, pairs_fields, pairs_relocations}
+use Rattle.dwc_write.specs.ReadBack.{given_contents}
+use Rattle.dwc_write.proofs.ReadRelocations.{at_places-append}
+use Rattle.dwc_write.proofs.ReadLists.{range-offset}
+use Rattle.dwc_write.proofs.RelatedListsGiven.{both-related, entries-lists}
+use Rattle.dwc_write.proofs.ListsGiven.{StandThere, stand-back, stand-front}
+use Rattle.dwc_write.proofs.RelatedLists.{fields-rise, pairs-functions}
+use Rattle.dwc_write.proofs.RelatedLists as lists
+use Rattle.dwc_write.specs.Layouts.{AllPlaces, offsets_by_number, places_in, written_lines, written_unit, written_units, written_tables}
 use Rattle.dwc_write.specs.UsedTexts.{strings_bytes}
-use Rattle.dwc_write.specs.SpelledOutput.{abbrev_bytes, all_info_bytes, all_lines_bytes, units_placed, all_places, spelled_sections}
+use Rattle.dwc_write.specs.SpelledOutput.{abbrev_bytes, all_info_bytes, all_lines_bytes, all_ranges_bytes, all_ranges_relocations, units_placed, all_places, spelled_sections}
 use Rattle.dwc_write.specs.Writers.{IsSound}
 use Rattle.dwc_write.proofs.ReadAddresses.{rising-held}
 use Rattle.dwc_write.proofs.ReadRelocations as relocations
@@ -36,7 +44,7 @@ use Rattle.dwc_write.proofs.ReadRelocations.{info-functions, lines-functions, ri
 use Rattle.dwc_write.proofs.ReadSections.{info-rise, lines-rise, tables-read}
 use Rattle.dwc_write.proofs.ReadFields.{IsRelatedValue, IsRelatedUnit, info-related}
 use Rattle.dwc_write.proofs.ReadLineFields.{tables-found, unit_lines-found, lines-related}
-use Rattle.dwc_write.proofs.ReadBackLaws.{tables-from, positive, are-spelled, units-read-back}
+use Rattle.dwc_write.proofs.ReadBackLaws.{tables-from, positive, places-contents, contents-given, are-spelled, units-read-back}
 use Rattle.dwc_write.proofs.OutputForms.{all-written, last-written}
 
 -- ---- given values
@@ -51,10 +59,10 @@ constant-related h place name false false false true f bits = refl
 constant-related h place name false false false false true bits = refl
 constant-related h place name false false false false false bits = refl
 
-value-related : (size : ℕ) (p : Places) (a : Attribute) → FitsAttribute size a → IsRelatedValue (written_attribute p a)
-value-related size p a fits h version place = go a.value fits.value
+value-related : (size : ℕ) (p : Places) (ranges : ℕ) (a : Attribute) → FitsAttribute size a → IsRelatedValue (written_attribute p ranges a)
+value-related size p ranges a fits h version place = go a.value fits.value
   where
-    go : (v : AttributeValue) → FitsValue size a.name v → relocations_of_fields (field_of_value h place (written_value a.name (written_of p v))) ≡ value_relocations h.address_size place (written_of p v)
+    go : (v : AttributeValue) → FitsValue size a.name v → relocations_of_fields (field_of_value h place (written_value a.name (written_of p ranges v))) ≡ value_relocations h.address_size place (written_of p ranges v)
     go (given.Address (Constant n)) fit = refl
     go (given.Address (Symbol symbol addend)) fit = refl
     go (given.Constant form bits) fit = constant-related h place a.name (form == DW_FORM_data1) (form == DW_FORM_data2) (form == DW_FORM_data4) (form == DW_FORM_data8) (form == DW_FORM_sdata) bits
@@ -63,24 +71,25 @@ value-related size p a fits h version place = go a.value fits.value
     go (given.Exprloc e) fit = refl
     go (given.StringRef id) fit = refl
     go given.LineProgramRef fit = rw (fit) refl
+    go (given.RangeListRef list) fit = ap (λ v. relocations_of_fields (field_of_value h place v)) (range-offset a.name ranges fit.0) ∙ rw (version) refl
     go (given.UnitRef id) fit = refl
     go (given.DebugInfoRef (entry_of unit id)) fit = rw (version) refl
 
-values-related : (size : ℕ) (p : Places) (xs : List Attribute) → All (FitsAttribute size) xs → All IsRelatedValue (map (written_attribute p) xs)
-values-related size p [] fits = All-nil _
-values-related size p (x ∷ xs) fits =
-    All-cons IsRelatedValue (written_attribute p x) (map (written_attribute p) xs) (value-related size p x (All-head (FitsAttribute size) x xs fits)) (values-related size p xs (All-tail (FitsAttribute size) x xs fits))
+values-related : (size : ℕ) (next : ℕ → List Attribute → ℕ) (p : Places) (ranges : ℕ) (xs : List Attribute) → All (FitsAttribute size) xs → All IsRelatedValue (written_attributes next p ranges xs)
+values-related size next p ranges [] fits = All-nil _
+values-related size next p ranges (x ∷ xs) fits =
+    All-cons IsRelatedValue (written_attribute p ranges x) (written_attributes next p (next ranges (x ∷ [])) xs) (value-related size p ranges x (All-head (FitsAttribute size) x xs fits)) (values-related size next p (next ranges (x ∷ [])) xs (All-tail (FitsAttribute size) x xs fits))
 
-entries-related : (size : ℕ) (p : Places) (uses : List EntryShape) (es : List GivenEntry) → All (FitsEntry size) es → All (λ x. All IsRelatedValue x.entry.attributes) (shaped (written_entries p uses es))
-entries-related size p uses [] fits = All-nil _
-entries-related size p uses (e ∷ es) fits =
-    All-cons (λ (x : Shaped). All IsRelatedValue x.entry.attributes) _ (shaped (written_entries p uses es)) (values-related size p e.attributes (All-head (FitsEntry size) e es fits).attributes) (entries-related size p uses es (All-tail (FitsEntry size) e es fits))
+entries-related : (size : ℕ) (next : ℕ → List Attribute → ℕ) (p : Places) (ranges : ℕ) (uses : List EntryShape) (es : List GivenEntry) → All (FitsEntry size) es → All (λ x. All IsRelatedValue x.entry.attributes) (shaped (written_entries next p ranges uses es))
+entries-related size next p ranges uses [] fits = All-nil _
+entries-related size next p ranges uses (e ∷ es) fits =
+    All-cons (λ (x : Shaped). All IsRelatedValue x.entry.attributes) _ (shaped (written_entries next p (next ranges e.attributes) uses es)) (values-related size next p ranges e.attributes (All-head (FitsEntry size) e es fits).attributes) (entries-related size next p (next ranges e.attributes) uses es (All-tail (FitsEntry size) e es fits))
 
-units-related : (s : Sections) (order : Endian) (size : ℕ) (units : AllPlaces) (us : List OrderedUnit) (a l : ℕ) → All FitsOrdered us → All (IsRelatedUnit s size) (written_units order size units a l us)
-units-related s order size units [] a l fits = All-nil _
-units-related s order size units (u ∷ us) a l fits =
-    All-cons (IsRelatedUnit s size) _ _ (entries-related u.address_size (places_in units (offsets_by_number order size u) l) (shapes_in u) u.entries (All-head FitsOrdered u us fits).entries)
-    (units-related s order size units us (a + length (table_bytes (numbered 1 (shapes_in u)))) (l + length (lines_bytes order size (written_lines u.lines))) (All-tail FitsOrdered u us fits))
+units-related : (s : Sections) (order : Endian) (size : ℕ) (units : AllPlaces) (us : List OrderedUnit) (a l r : ℕ) → All FitsOrdered us → All (IsRelatedUnit s size) (written_units order size units a l r us)
+units-related s order size units [] a l r fits = All-nil _
+units-related s order size units (u ∷ us) a l r fits =
+    All-cons (IsRelatedUnit s size) _ _ (entries-related u.address_size (behind_attributes size) (places_in units (offsets_by_number order size u) l) r (shapes_in u) u.entries (All-head FitsOrdered u us fits).entries)
+    (units-related s order size units us (a + length (table_bytes (numbered 1 (shapes_in u)))) (l + length (lines_bytes order size (written_lines u.lines))) (r + length (pairs_bytes order size (pairs_of_entries u.entries))) (All-tail FitsOrdered u us fits))
 
 -- ---- one behind another
 
@@ -94,7 +103,39 @@ pairs-rise low high [] rise = none-behind
     none-behind i j d less within = absurd (omega arith)
 pairs-rise low high (r ∷ rs) rise = AllPairs-cons Behind r rs (rise-from (r.offset + r.size) high rs rise.1) (pairs-rise (r.offset + r.size) high rs rise.1)
 
+-- ---- the lists of units
+
+units-lists : (s : Sections) (size : ℕ) (units : AllPlaces) (place a l r : ℕ) (us : List OrderedUnit) (front rest : List ℕ) → 0 < size → r ≡ length front → All (λ u. u.address_size ≡ size) us → All FitsOrdered us
+    → s.bytes Ranges ≡ front ++ (pairs_bytes s.order size (pairs_of_units us) ++ rest) → All (IsHeld (s.relocations Ranges)) (pairs_fields s.order size (length front) (pairs_of_units us))
+    → relocations_of_fields (flat_map (λ u. flat_map (fields_of_lists s u.header) u.entries) (read_units s.order size place (written_units s.order size units a l r us))) ≡ pairs_relocations s.order size (length front) (pairs_of_units us)
+units-lists s size units place a l r [] front rest some same sized fits bytes held = refl
+units-lists s size units place a l r (u ∷ us) front rest some same sized fits bytes held =
+    let p = places_in units (offsets_by_number s.order size u) l in
+    let unit = written_unit size r p a u in
+    let v = read_unit s.order size place unit in
+    let h = v.header in
+    let ps = pairs_of_entries u.entries in
+    let qs = pairs_of_units us in
+    let own = pairs_bytes s.order size ps in
+    let there : StandThere s h refl some front rest (ps ++ qs) = record { bytes = bytes; held = held } in
+    let back = stand-back s h refl some front rest ps qs there in
+    let E : ℕ → Type 0 = λ n. All (FitsEntry n) u.entries in
+    let entries = subst E (All-head (λ (v : OrderedUnit). v.address_size ≡ size) u us sized) (All-head FitsOrdered u us fits).entries in
+    let contents = places-contents s.order size (shaped unit.entries) (place + header_length) ∙ contents-given (behind_attributes size) p r (shapes_in u) u.entries ∙ ap (λ n. given_contents (behind_attributes size) p n u.entries) same in
+    let here = entries-lists s h refl some p front _ v.entries u.entries contents entries (stand-front s h refl some front rest ps qs there) in
+    let next : r + length own ≡ length (front ++ own) = ap (λ n. n + length own) same ∙ sym (length-append front own) in
+    let others = units-lists s size units (place + length (placed_unit_bytes s.order size unit)) (a + length (table_bytes unit.table)) (l + length (lines_bytes s.order size (written_lines u.lines))) (r + length own) us (front ++ own) rest some next
+    (All-tail (λ (v : OrderedUnit). v.address_size ≡ size) u us sized) (All-tail FitsOrdered u us fits) back.bytes back.held in
+    let more = flat_map (λ u. flat_map (fields_of_lists s u.header) u.entries) (read_units s.order size (place + length (placed_unit_bytes s.order size unit)) (written_units s.order size units (a + length (table_bytes unit.table)) (l + length (lines_bytes s.order size (written_lines u.lines))) (r + length own) us)) in
+    both-related (flat_map (fields_of_lists s h) v.entries) more ∙ ap (λ rs. rs ++ relocations_of_fields more) here ∙ ap (λ rs. pairs_relocations s.order size (length front) ps ++ rs) others
+    ∙ ap (λ n. pairs_relocations s.order size (length front) ps ++ pairs_relocations s.order size n qs) (length-append front own)
+    ∙ sym (at_places-append (pair_bytes s.order size) (pair_relocations s.order size) ps qs (length front))
+
 -- ---- the sections
+
+fields-of_ranges : (s : Sections) (us : List Unit) → units s ≡ record { items = us; fault = None } → fields_of_section s Ranges ≡ flat_map (λ u. flat_map (fields_of_lists s u.header) u.entries) us
+unfolding fields_of_section
+fields-of_ranges s us read = ap (λ l. flat_map (λ u. flat_map (fields_of_lists s u.header) u.entries) l.items) read
 
 fields-of_info : (s : Sections) (us : List Unit) → units s ≡ record { items = us; fault = None } → fields_of_section s Info ≡ flat_map (fields_of_unit s) us
 unfolding fields_of_section
@@ -133,13 +174,20 @@ are-relocated order texts us writable fits lines sound =
     let info_held : All (IsHeld (s.relocations Info)) (info_fields order size 0 ws) = rw (info_is) info_rising in
     let lines_held : All (IsHeld (s.relocations Line)) (lines_fields order size 0 ts) = rw (lines_is) lines_rising in
     let read = units-read-back order texts us spelled in
-    let tables = tables-read s order size 0 ws [] units_fit (tables-from order size units us 0 0) (holds.abbrev_is ∙ sym (append-nil _)) in
+    let tables = tables-read s order size 0 ws [] units_fit (tables-from order size units us 0 0 0) (holds.abbrev_is ∙ sym (append-nil _)) in
     let of_info : q ≡ relocations_of_fields (fields_of_section s Info) =
-    info-related s size ws units_fit tables info_held holds.info_is (units-related s order size units us 0 0 fits) ∙ ap relocations_of_fields (sym (fields-of_info s (read_units order size 0 ws) read)) in
+    info-related s size ws units_fit tables info_held holds.info_is (units-related s order size units us 0 0 0 fits) ∙ ap relocations_of_fields (sym (fields-of_info s (read_units order size 0 ws) read)) in
     let found = tables-found s size 0 ts [] some.1 spelled.tables_fit lines_held (holds.line_is ∙ sym (append-nil _)) in
     let of_lines : r ≡ relocations_of_fields (fields_of_section s Line) =
-    sym (ap relocations_of_fields (fields-of_line s (read_units order size 0 ws) read ∙ unit_lines-found s size units us 0 0 0 writable fits found) ∙ lines-related order size ts 0) in
+    sym (ap relocations_of_fields (fields-of_line s (read_units order size 0 ws) read ∙ unit_lines-found s size units us 0 0 0 0 writable fits found) ∙ lines-related order size ts 0) in
+    let ps = pairs_of_units us in
+    let ranges_are = holds.ranges_relocations_are ∙ pairs-functions order size 0 ps in
+    let ranges_rising = rising-held 0 _ (pairs_fields order size 0 ps) (fields-rise order size some.0 0 ps) in
+    let ranges_held : All (IsHeld (s.relocations Ranges)) (pairs_fields order size 0 ps) = rw (ranges_are) ranges_rising in
+    let of_ranges : all_ranges_relocations order us ≡ relocations_of_fields (fields_of_section s Ranges) =
+    sym (ap relocations_of_fields (fields-of_ranges s (read_units order size 0 ws) read) ∙ units-lists s size units 0 0 0 0 us [] [] some.0 refl spelled.sized fits (holds.ranges_are ∙ sym (append-nil _)) ranges_held) in
     all-written (IsRelocated s) Abbrev (abbrev_bytes order units us) [] _ (record { name = Abbrev; named = refl; fields = no-fields s; rising = pairs-rise 0 0 [] (omega arith) })
     (all-written (IsRelocated s) Info (all_info_bytes order units us) q _ (record { name = Info; named = refl; fields = of_info; rising = pairs-rise 0 _ q (relocations.info-rise order size 0 ws) })
     (all-written (IsRelocated s) Line (all_lines_bytes order us) r _ (record { name = Line; named = refl; fields = of_lines; rising = pairs-rise 0 _ r (relocations.lines-rise order size 0 ts) })
-    (last-written (IsRelocated s) Str (strings_bytes texts us) [] (record { name = Str; named = refl; fields = no-text-fields s; rising = pairs-rise 0 0 [] (omega arith) }))))
+    (all-written (IsRelocated s) Ranges (all_ranges_bytes order us) (all_ranges_relocations order us) _ (record { name = Ranges; named = refl; fields = of_ranges; rising = pairs-rise 0 _ (all_ranges_relocations order us) (lists.pairs-rise order size 0 ps) })
+    (last-written (IsRelocated s) Str (strings_bytes texts us) [] (record { name = Str; named = refl; fields = no-text-fields s; rising = pairs-rise 0 0 [] (omega arith) })))))

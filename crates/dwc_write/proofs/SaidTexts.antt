@@ -12,7 +12,7 @@ use Rattle.dwc_base.specs.TreeLaws.{distinct_texts, text_said, texts_ended, valu
 use Rattle.dwc_base.specs.TreeReading.{entry_or_nothing}
 use Rattle.dwc_write.specs.declared.attributes.Attribute.{Attribute}
 use Rattle.dwc_write.specs.declared.attributes.AttributeValue.{AttributeValue}
-use Rattle.dwc_write.specs.declared.attributes.AttributeValue.TheVariants.{Address, Constant, Flag, Block, Exprloc, StringRef, LineProgramRef, UnitRef, DebugInfoRef}
+use Rattle.dwc_write.specs.declared.attributes.AttributeValue.TheVariants.{Address, Constant, Flag, Block, Exprloc, StringRef, LineProgramRef, RangeListRef, UnitRef, DebugInfoRef}
 use Rattle.dwc_write.specs.declared.attributes.DebugInfoRef.TheVariants.{Entry as entry_of}
 use Rattle.dwc_write.specs.GivenUnits.{GivenEntry, OrderedUnit}
 use Rattle.dwc_write.specs.GivenTrees.{given_said, attribute_said, tree_entry, trees_from, given_trees}
@@ -47,6 +47,7 @@ module _ (texts : List (List ℕ)) (us : List OrderedUnit) where
       go (Exprloc e) h = h
       go (StringRef id) h = ap (λ ts. text_numbered texts id.index ∷ ts) h
       go LineProgramRef h = h
+      go (RangeListRef list) h = h
       go (UnitRef id) h = nothing-said _ (values number u xs) ∙ h
       go (DebugInfoRef (entry_of unit id)) h = nothing-said _ (values number u xs) ∙ h
 

@@ -7,14 +7,15 @@ use Rattle.std.proofs.lemmas.List.Sums.{sum_by-take-le}
 use Rattle.dwc_base.specs.declared.records.Endian.{Endian}
 use Rattle.dwc_base.specs.declared.records.Endian.TheVariants.{Little}
 use Rattle.dwc_base.specs.declared.section_name.SectionName.{SectionName}
-use Rattle.dwc_base.specs.declared.section_name.SectionName.TheVariants.{Abbrev, Info, Line}
+use Rattle.dwc_base.specs.declared.section_name.SectionName.TheVariants.{Abbrev, Info, Line, Ranges}
 use Rattle.dwc_write.specs.declared.error.WriteError.{WriteError}
 use Rattle.dwc_write.specs.declared.error.WriteError.TheVariants.{TooLarge, OutOfMemory}
 use Rattle.dwc_base.specs.declared.faults.Limit.TheVariants.{Section}
 use Rattle.dwc_write.specs.SpelledTables.{table_bytes}
 use Rattle.dwc_write.specs.SpelledSections.{placed_unit_bytes, lines_bytes}
 use Rattle.dwc_write.specs.GivenLines.{FitsLines}
-use Rattle.dwc_write.specs.GivenUnits.{OrderedUnit, FitsOrdered, IsWritable, AreWritable, size_of}
+use Rattle.dwc_write.specs.GivenUnits.{OrderedUnit, FitsOrdered, IsWritable, AreWritable, size_of, pairs_of_entries}
+use Rattle.dwc_write.specs.RangeLists.{pairs_bytes}
 use Rattle.dwc_write.specs.Layouts.{AllPlaces, unit_length, written_lines}
 use Rattle.dwc_write.specs.SpelledOutput.{WrittenSections, unit_in, with_unit, with_units, all_units, RefusesUnit, IsRefusal, IsRefusalAmong, all_info_bytes, all_places, section_bytes}
 use Rattle.dwc_write.specs.LayoutViews.{Advances, IsTooLong}
@@ -59,8 +60,10 @@ widely-refused order units texts us i d w e within fits given lines done refused
         section-refused order units (take (suc i) us) e w.abbrev_section (all_of order units (take (suc i) us)).abbrev_section Abbrev (table_bytes (unit_in units w (get_or us i d)).table) refused (ap (λ (v : WrittenSections). v.abbrev_section.name) is) (omega (arith, ap (λ (v : WrittenSections). length v.abbrev_section.body) is)) refl refl
     go (inr (inl refused)) is =
         section-refused order units (take (suc i) us) e w.info_section (all_of order units (take (suc i) us)).info_section Info (placed_unit_bytes w.info_section.order (get_or us i d).address_size (unit_in units w (get_or us i d))) refused (ap (λ (v : WrittenSections). v.info_section.name) is) (omega (arith, ap (λ (v : WrittenSections). length v.info_section.body) is)) refl refl
-    go (inr (inr refused)) is =
+    go (inr (inr (inl refused))) is =
         section-refused order units (take (suc i) us) e w.line_section (all_of order units (take (suc i) us)).line_section Line (lines_bytes w.line_section.order (get_or us i d).address_size (written_lines (get_or us i d).lines)) refused (ap (λ (v : WrittenSections). v.line_section.name) is) (omega (arith, ap (λ (v : WrittenSections). length v.line_section.body) is)) refl refl
+    go (inr (inr (inr refused))) is =
+        section-refused order units (take (suc i) us) e w.ranges_section (all_of order units (take (suc i) us)).ranges_section Ranges (pairs_bytes w.ranges_section.order (get_or us i d).address_size (pairs_of_entries (get_or us i d).entries)) refused (ap (λ (v : WrittenSections). v.ranges_section.name) is) (omega (arith, ap (λ (v : WrittenSections). length v.ranges_section.body) is)) refl refl
 
     wide : (e : WriteError) → IsRefusalAmong order units (take (suc i) us) e → IsWideRefusal texts us e
     wide OutOfMemory large = tt
@@ -74,10 +77,10 @@ pub layout-widest : (texts : List (List ℕ)) (us : List OrderedUnit) (i : ℕ) 
 layout-widest texts us i writable fits large =
     let vs = take (suc i) us in
     let sized : All (λ u. u.address_size ≡ size_of us) vs = all-take (λ u. u.address_size ≡ size_of us) us (suc i) (All-weaker (IsWritable (size_of us)) (λ u. u.address_size ≡ size_of us) (λ u h. h.size) us writable) in
-    omega (arith, large, info-length Little (size_of us) no_units 0 0 vs, info-within Little (size_of us) 0 0 no_units vs sized fits, sum_by-take-le (widest_unit Info) us (suc i), widest-said Info texts us)
+    omega (arith, large, info-length Little (size_of us) no_units 0 0 0 vs, info-within Little (size_of us) 0 0 0 no_units vs sized fits, sum_by-take-le (widest_unit Info) us (suc i), widest-said Info texts us)
 
 pub layout-large : (order : Endian) (texts : List (List ℕ)) (us : List OrderedUnit) (i : ℕ) → most_bytes < sum_by (unit_length order (size_of us)) (take (suc i) us) → most_bytes < length (all_info_bytes order (all_places order texts us) us)
-layout-large order texts us i large = omega (arith, large, sum_by-take-le (unit_length order (size_of us)) us (suc i), info-length order (size_of us) (all_places order texts us) 0 0 us)
+layout-large order texts us i large = omega (arith, large, sum_by-take-le (unit_length order (size_of us)) us (suc i), info-length order (size_of us) (all_places order texts us) 0 0 0 us)
 
 -- a refusal of such a length
 pub too-long : (e : WriteError) (place more : ℕ) → Advances (Err e) place more → IsTooLong e (place + more)

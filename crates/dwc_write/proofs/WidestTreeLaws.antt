@@ -2,19 +2,22 @@
 use Rattle.std.proofs.Common.{◌≡◌, ℕ, suc, ◌≤◌, ◌+◌, ◌*◌, refl, sym, ap, ◌∙◌, arith, List, [], ◌∷◌, map, length, Option, Some, None}
 use Rattle.std.specs.Prelude.{nat_lt, sum_by, if◌then◌else◌}
 use Rattle.std.proofs.lemmas.List.{length-map}
-use Rattle.std.proofs.lemmas.List.Sums.{sum_by-cons}
+use Rattle.std.proofs.lemmas.List.Sums.{sum_by-append, sum_by-cons}
 use Rattle.dwc_base.specs.declared.section_name.SectionName.{SectionName}
 use Rattle.dwc_base.specs.declared.section_name.SectionName.TheVariants.{Abbrev, Addr, Info, Line, LineStr, Loc, Loclists, Ranges, Rnglists, Str, StrOffsets, CuIndex, Frame}
 use Rattle.dwc_base.specs.Widest.{variable_bytes, widest_declaration}
 use Rattle.dwc_base.specs.Trees.{Tree}
+use Rattle.dwc_base.specs.TreeLaws.{values_of}
 use Rattle.dwc_base.specs.TreeReading.{entry_or_nothing}
 use Rattle.dwc_base.specs.WidestTrees as trees
+use Rattle.dwc_write.specs.RangeLists.{interval_of}
+use Rattle.dwc_write.specs.declared.attributes.Attribute.{Attribute}
 use Rattle.dwc_write.specs.declared.attributes.AttributeValue.{AttributeValue}
-use Rattle.dwc_write.specs.declared.attributes.AttributeValue.TheVariants.{Address, Constant, Flag, Block, Exprloc, StringRef, LineProgramRef, UnitRef, DebugInfoRef}
+use Rattle.dwc_write.specs.declared.attributes.AttributeValue.TheVariants.{Address, Constant, Flag, Block, Exprloc, StringRef, LineProgramRef, RangeListRef, UnitRef, DebugInfoRef}
 use Rattle.dwc_write.specs.declared.attributes.DebugInfoRef.TheVariants.{Entry as entry_of}
 use Rattle.dwc_write.specs.GivenUnits.{GivenEntry, OrderedUnit, first_depth}
 use Rattle.dwc_write.specs.GivenTrees.{given_said, attribute_said, tree_entry, given_tree, trees_from}
-use Rattle.dwc_write.specs.WidestGiven.{widest_value, widest_entry, lists_of, widest_unit, widest_given, widest_said}
+use Rattle.dwc_write.specs.WidestGiven.{widest_list, widest_value, widest_entry, lists_of, widest_unit, widest_given, widest_said}
 
 -- sums over what is the same of each
 sums-same : {A B : Type 0} (view : A → B) (f : A → ℕ) (g : B → ℕ) → ((x : A) → f x ≡ g (view x)) → (xs : List A) → sum_by f xs ≡ sum_by g (map view xs)
@@ -26,6 +29,11 @@ reference-said : (p : Option (ℕ × ℕ)) → 4 ≡ trees.widest_value (entry_o
 reference-said None = refl
 reference-said (Some p) = refl
 
+-- a reference is no list
+no-list : (p : Option (ℕ × ℕ)) → 0 ≡ trees.widest_ranges (entry_or_nothing p)
+no-list None = refl
+no-list (Some p) = refl
+
 module _ (texts : List (List ℕ)) (us : List OrderedUnit) (number : ℕ) (u : OrderedUnit) where
   value-said : (v : AttributeValue) → widest_value v ≡ trees.widest_value (given_said texts us number u v)
   value-said (Address a) = refl
@@ -35,6 +43,7 @@ module _ (texts : List (List ℕ)) (us : List OrderedUnit) (number : ℕ) (u : O
   value-said (Exprloc e) = refl
   value-said (StringRef id) = refl
   value-said LineProgramRef = refl
+  value-said (RangeListRef list) = refl
   value-said (UnitRef id) = reference-said _
   value-said (DebugInfoRef (entry_of unit id)) = reference-said _
 
@@ -58,6 +67,37 @@ module _ (texts : List (List ℕ)) (us : List OrderedUnit) (number : ℕ) (u : O
       ap (λ n. 11 + (n + lists_of u.entries * variable_bytes)) (sums-same (tree_entry texts us number u) widest_entry trees.widest_entry entry-said u.entries)
       ∙ ap (λ n. 11 + (sum_by trees.widest_entry (given_tree texts us number u) + n * variable_bytes)) (lists-said u.entries)
 
+  list-said : (v : AttributeValue) → widest_list v ≡ trees.widest_ranges (given_said texts us number u v)
+  list-said (RangeListRef list) = ap (λ n. n * trees.pair_bytes + trees.pair_bytes) (sym (length-map list.ranges.items interval_of))
+  list-said (Address a) = refl
+  list-said (Constant form bits) = refl
+  list-said (Flag b) = refl
+  list-said (Block bytes) = refl
+  list-said (Exprloc e) = refl
+  list-said (StringRef id) = refl
+  list-said LineProgramRef = refl
+  list-said (UnitRef id) = no-list _
+  list-said (DebugInfoRef (entry_of unit id)) = no-list _
+
+  attributes-lists : (xs : List Attribute) → sum_by (λ a. widest_list a.value) xs ≡ sum_by trees.widest_ranges (map (λ a. a.1) (map (attribute_said texts us number u) xs))
+  attributes-lists [] = refl
+  attributes-lists (x ∷ xs) =
+      omega (arith, list-said x.value, attributes-lists xs, sum_by-cons (λ (a : Attribute). widest_list a.value) x xs, sum_by-cons trees.widest_ranges (given_said texts us number u x.value) (map (λ a. a.1) (map (attribute_said texts us number u) xs)))
+
+  entries-lists : (es : List GivenEntry) → sum_by (λ e. sum_by (λ a. widest_list a.value) e.attributes) es ≡ sum_by trees.widest_ranges (values_of (map (tree_entry texts us number u) es))
+  entries-lists [] = refl
+  entries-lists (e ∷ es) =
+      omega (
+        arith,
+        attributes-lists e.attributes,
+        entries-lists es,
+        sum_by-cons (λ (g : GivenEntry). sum_by (λ a. widest_list a.value) g.attributes) e es,
+        sum_by-append trees.widest_ranges (map (λ a. a.1) (map (attribute_said texts us number u) e.attributes)) (values_of (map (tree_entry texts us number u) es)),
+      )
+
+  ranges-said : widest_unit Ranges u ≡ sum_by trees.widest_ranges (values_of (given_tree texts us number u))
+  ranges-said = entries-lists u.entries
+
   abbreviations-said : widest_unit Abbrev u ≡ trees.widest_declarations (given_tree texts us number u)
   abbreviations-said = ap (λ n. n + variable_bytes) (sums-same (tree_entry texts us number u) (λ e. widest_declaration (length e.attributes)) (λ e. widest_declaration (length e.attributes)) declaration-said u.entries)
 
@@ -78,7 +118,7 @@ widest-said Addr texts us = omega (arith, nothing-given Addr us (λ u. refl))
 widest-said LineStr texts us = omega (arith, nothing-given LineStr us (λ u. refl))
 widest-said Loc texts us = omega (arith, nothing-given Loc us (λ u. refl))
 widest-said Loclists texts us = omega (arith, nothing-given Loclists us (λ u. refl))
-widest-said Ranges texts us = omega (arith, nothing-given Ranges us (λ u. refl))
+widest-said Ranges texts us = omega (arith, trees-said texts (widest_unit Ranges) (λ t. sum_by trees.widest_ranges (values_of t)) us (ranges-said texts us) 0 us)
 widest-said Rnglists texts us = omega (arith, nothing-given Rnglists us (λ u. refl))
 widest-said Str texts us = omega (arith, nothing-given Str us (λ u. refl))
 widest-said StrOffsets texts us = omega (arith, nothing-given StrOffsets us (λ u. refl))

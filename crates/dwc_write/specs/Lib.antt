@@ -6,6 +6,7 @@ pub mod SpelledLines
 pub mod SpelledSections
 pub mod Writers
 pub mod GivenLines
+pub mod RangeLists
 pub mod LineViews
 pub mod NameViews
 pub mod TextTables

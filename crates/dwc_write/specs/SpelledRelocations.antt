@@ -2,7 +2,7 @@
 -- `ReadRelocations`.
 use Rattle.std.specs.Prelude.{ℕ, ◌+◌, ◌≤◌, List, [], ◌∷◌, length}
 use Rattle.dwc_base.specs.declared.records.Endian.{Endian}
-use Rattle.dwc_base.specs.declared.section_name.SectionName.TheVariants.{Abbrev, Info, Line, Str}
+use Rattle.dwc_base.specs.declared.section_name.SectionName.TheVariants.{Abbrev, Info, Str}
 use Rattle.dwc_base.specs.Outputs.{OutputRelocation, OutputSection}
 use Rattle.dwc_write.specs.Spelled.{uleb_bytes, at_places}
 use Rattle.dwc_write.specs.SpelledAddresses.{address_bytes}
@@ -17,7 +17,7 @@ abbrev pub value_relocations : ℕ → ℕ → Written → List OutputRelocation
 value_relocations size place (as_addr a) = address_relocations place size a
 value_relocations size place (as_strp n) = offset_relocation place 4 Str n ∷ []
 value_relocations size place (as_ref_addr n) = offset_relocation place 4 Info n ∷ []
-value_relocations size place (as_sec_offset n) = offset_relocation place 4 Line n ∷ []
+value_relocations size place (as_sec_offset name n) = offset_relocation place 4 name n ∷ []
 value_relocations size place _ = []
 
 abbrev pub values_relocations : Endian → ℕ → ℕ → List WrittenAttribute → List OutputRelocation

@@ -5,6 +5,7 @@ use Rattle.std.specs.List.{All, flat_map}
 use Rattle.std.specs.Int.{w64, cast_unsigned}
 use Rattle.dwc_base.specs.declared.records.Endian.{Endian}
 use Rattle.dwc_base.specs.declared.records.Address.{Address}
+use Rattle.dwc_base.specs.declared.section_name.SectionName.{SectionName}
 use Rattle.dwc_base.specs.Reading.{is_64_bit}
 use Rattle.dwc_base.specs.Abbreviations.{AttributeSpec, Declaration, declaration_of}
 use Rattle.dwc_base.specs.Units.{UnitHeader}
@@ -17,7 +18,7 @@ use Rattle.dwc_write.specs.SpelledAddresses.{AddressField, address_bytes, FitsAd
 
 -- ---- values: a further form is one more case in each of these
 
--- a value as a writer gives it, by its form; references and offsets are numbers
+-- a value as a writer gives it, by its form; references and offsets are numbers, an offset in a section with its name
 pub data Written : Type 0 where
   as_addr : Address → Written
   as_data1 : ℕ → Written
@@ -32,7 +33,7 @@ pub data Written : Type 0 where
   as_strp : ℕ → Written
   as_ref4 : ℕ → Written
   as_ref_addr : ℕ → Written
-  as_sec_offset : ℕ → Written
+  as_sec_offset : SectionName → ℕ → Written
 
 abbrev pub form_number : Written → ℕ
 form_number (as_addr a) = 0x01
@@ -48,7 +49,7 @@ form_number (as_exprloc bytes) = 0x18
 form_number (as_strp n) = 0x0E
 form_number (as_ref4 n) = 0x13
 form_number (as_ref_addr n) = 0x10
-form_number (as_sec_offset n) = 0x17
+form_number (as_sec_offset name n) = 0x17
 
 abbrev pub written_bytes : Endian → ℕ → Written → List ℕ
 written_bytes order size (as_addr a) = address_bytes order size a
@@ -64,7 +65,7 @@ written_bytes order size (as_exprloc bytes) = block_bytes bytes
 written_bytes order size (as_strp n) = number_bytes order 4 n
 written_bytes order size (as_ref4 n) = number_bytes order 4 n
 written_bytes order size (as_ref_addr n) = number_bytes order 4 n
-written_bytes order size (as_sec_offset n) = number_bytes order 4 n
+written_bytes order size (as_sec_offset name n) = number_bytes order 4 n
 
 -- a value fits its form
 abbrev pub FitsWritten : ℕ → Written → Type 0
@@ -81,7 +82,7 @@ FitsWritten size (as_exprloc bytes) = length bytes < 2 ^ 64
 FitsWritten size (as_strp n) = n < 256 ^ 4
 FitsWritten size (as_ref4 n) = n < 256 ^ 4
 FitsWritten size (as_ref_addr n) = n < 256 ^ 4
-FitsWritten size (as_sec_offset n) = n < 256 ^ 4
+FitsWritten size (as_sec_offset section n) = n < 256 ^ 4
 
 -- the value that a reader of version 4 finds under a name
 abbrev pub written_value : ℕ → Written → Value
@@ -98,7 +99,7 @@ written_value name (as_exprloc bytes) = expression bytes
 written_value name (as_strp n) = text_reference 0x0E n
 written_value name (as_ref4 n) = unit_reference n
 written_value name (as_ref_addr n) = info_reference n
-written_value name (as_sec_offset n) = section_offset name n
+written_value name (as_sec_offset section n) = section_offset name n
 
 -- the fields of addresses in a value at a place
 abbrev pub value_fields : ℕ → ℕ → Written → List AddressField

@@ -2,11 +2,11 @@
 -- bytes and addresses 8, each entry has a declaration of its own, and each row all its instructions.
 use Rattle.std.specs.Prelude.{ℕ, ◌+◌, ◌*◌, ◌<◌, List, [], ◌∷◌, length, sum_by, nat_lt, if◌then◌else◌, Option, Some, None}
 use Rattle.dwc_base.specs.declared.section_name.SectionName.{SectionName}
-use Rattle.dwc_base.specs.declared.section_name.SectionName.TheVariants.{Abbrev, Info, Line}
+use Rattle.dwc_base.specs.declared.section_name.SectionName.TheVariants.{Abbrev, Info, Line, Ranges}
 use Rattle.dwc_base.specs.Widest.{variable_bytes, address_bytes, widest_declaration, widest_header, widest_image}
-use Rattle.dwc_base.specs.WidestTrees.{constant_bytes, widest_of_trees}
+use Rattle.dwc_base.specs.WidestTrees.{constant_bytes, pair_bytes, widest_of_trees}
 use Rattle.dwc_write.specs.declared.attributes.AttributeValue.{AttributeValue}
-use Rattle.dwc_write.specs.declared.attributes.AttributeValue.TheVariants.{Address, Constant, Flag, Block, Exprloc, StringRef, LineProgramRef, UnitRef, DebugInfoRef}
+use Rattle.dwc_write.specs.declared.attributes.AttributeValue.TheVariants.{Address, Constant, Flag, Block, Exprloc, StringRef, LineProgramRef, RangeListRef, UnitRef, DebugInfoRef}
 use Rattle.dwc_write.specs.declared.error.WriteError.{WriteError}
 use Rattle.dwc_write.specs.declared.error.WriteError.TheVariants.{TooLarge, OutOfMemory}
 use Rattle.dwc_base.specs.declared.faults.Limit.TheVariants.{Section}
@@ -23,8 +23,14 @@ widest_value (Block bytes) = variable_bytes + length bytes.items
 widest_value (Exprloc e) = variable_bytes + length e.bytes.items
 widest_value (StringRef id) = 4
 widest_value LineProgramRef = 4
+widest_value (RangeListRef list) = 4
 widest_value (UnitRef id) = 4
 widest_value (DebugInfoRef reference) = 4
+
+-- a range list with its end
+abbrev pub widest_list : AttributeValue → ℕ
+widest_list (RangeListRef list) = length list.ranges.items * pair_bytes + pair_bytes
+widest_list _ = 0
 
 -- a code and the values
 abbrev pub widest_entry : GivenEntry → ℕ
@@ -44,6 +50,7 @@ abbrev pub widest_unit : SectionName → OrderedUnit → ℕ
 widest_unit Abbrev u = sum_by (λ e. widest_declaration (length e.attributes)) u.entries + variable_bytes
 widest_unit Info u = 11 + (sum_by widest_entry u.entries + lists_of u.entries * variable_bytes)
 widest_unit Line u = widest_table_for u.lines.address_size u.lines
+widest_unit Ranges u = sum_by (λ e. sum_by (λ a. widest_list a.value) e.attributes) u.entries
 widest_unit name u = 0
 
 -- how long a section can be at most

@@ -6,7 +6,7 @@ ghost use Rattle.dwc_write.specs.SpelledUnits.{form_number};
 ghost use Rattle.dwc_write.specs.GivenUnits.{constant_of, no_places, set_attribute, written_of};
 ghost use Rattle.dwc_write.specs.AttributePlaces.{place_from};
 
-use crate::{StringId, UnitEntryId, UnitId};
+use crate::{RangeList, StringId, UnitEntryId, UnitId};
 use dwc_base::Address;
 use dwc_base::constants::{
     DW_FORM_addr, DW_FORM_block, DW_FORM_data1, DW_FORM_data2, DW_FORM_data4, DW_FORM_data8,
@@ -34,6 +34,8 @@ pub enum AttributeValue {
     StringRef(StringId),
     /// The line program of the unit, by `DW_FORM_sec_offset`.
     LineProgramRef,
+    /// A range list, by `DW_FORM_sec_offset`, under the names `DW_AT_ranges` and `DW_AT_start_scope`. Each stands once for each value.
+    RangeListRef(RangeList),
     /// An entry of the same unit, by `DW_FORM_ref4`. One that is only reserved is named by 0, where no entry begins.
     UnitRef(UnitEntryId),
     /// An entry of any unit, by `DW_FORM_ref_addr`.
@@ -197,7 +199,7 @@ fn place_in(attributes: &[Attribute], name: u16) -> Option<usize>
 
 // The form of a value.
 pub(crate) fn form_of(value: &AttributeValue) -> u16
-    ensures { result ≡ form_number (written_of no_places value.now) }
+    ensures { result ≡ form_number (written_of no_places 0 value.now) }
 {
     match value {
         AttributeValue::Address(_) => DW_FORM_addr,
@@ -207,6 +209,7 @@ pub(crate) fn form_of(value: &AttributeValue) -> u16
         AttributeValue::Exprloc(_) => DW_FORM_exprloc,
         AttributeValue::StringRef(_) => DW_FORM_strp,
         AttributeValue::LineProgramRef => DW_FORM_sec_offset,
+        AttributeValue::RangeListRef(_) => DW_FORM_sec_offset,
         AttributeValue::UnitRef(_) => DW_FORM_ref4,
         AttributeValue::DebugInfoRef(_) => DW_FORM_ref_addr,
     }

@@ -4,13 +4,14 @@ ghost use Rattle.std.specs.List.{All, flat_map};
 ghost use Rattle.dwc_write.specs.Spelled.{block_bytes, number_bytes, uleb_bytes};
 ghost use Rattle.dwc_write.specs.SpelledUnits.{attribute_bytes, entry_bytes, shaped, written_bytes};
 ghost use Rattle.dwc_write.specs.SpelledRelocations.{entries_relocations, value_relocations, values_relocations};
-ghost use Rattle.dwc_write.specs.GivenUnits.{FitsAttribute, FitsEntry as FitsGivenEntry, FitsOperand, constant_of, first_uses, shapes_of, written_attribute, written_entries, written_of};
+ghost use Rattle.dwc_write.specs.GivenUnits.{FitsAttribute, FitsEntry as FitsGivenEntry, FitsOperand, constant_of, first_uses, shapes_of, behind_entries, written_attributes, written_entries, written_of};
 ghost use Rattle.dwc_write.specs.FileOrders.{looked_up};
 ghost use Rattle.dwc_write.specs.LayoutViews.{places_view, spelling_places};
 ghost use Rattle.dwc_write.specs.Layouts.{AreShort, codes_of, offset_in_section, offset_of_text};
 ghost use Rattle.dwc_write.specs.UnitViews.{addition_view};
 ghost use Rattle.dwc_write.specs.ShapeViews.{shape_view};
 ghost use Rattle.dwc_write.specs.SpelledOutput.{WritesUnit};
+ghost use Rattle.dwc_write.specs.RangeLists.{behind_attributes};
 ghost use Rattle.dwc_base.specs.declared.section_name.SectionName.TheVariants.{Abbrev};
 ghost use Rattle.dwc_write.specs.Writers.{Writes, most_bytes, offset_relocation};
 
@@ -19,6 +20,7 @@ use crate::append::{bytes_2, bytes_4, put_sized, put_sleb, put_uleb};
 use crate::attributes::Attribute;
 use crate::file_order::{FilePlace, depth_of_first};
 use crate::layout::UnitLayout;
+use crate::lists::{behind_attributes, behind_value};
 use crate::units::Entry;
 use crate::{
     AttributeValue, DebugInfoRef, StringId, UnitEntryId, UnitId, WriteError, WriterRelocate,
@@ -30,12 +32,14 @@ use dwc_base::{Endian, SectionName};
 use std::alloc::AllocError;
 
 // How the values of a unit are written: the order of bytes, the size of an address, and where what they name stands: the unit's
-// line table, its entries by their numbers, the entries of all units, and texts by their numbers.
+// line table, its range lists with their end, its entries by their numbers, the entries of all units, and texts by their numbers.
 #[derive(Clone, Copy)]
 pub struct Spelling<'a> {
     pub order: Endian,
     pub size: u8,
     pub line_offset: usize,
+    pub ranges: usize,
+    pub ranges_end: usize,
     pub offsets: &'a [usize],
     pub units: &'a [UnitLayout],
     pub texts: &'a [Option<usize>],
@@ -94,10 +98,11 @@ pub fn write_unit(
     requires size { (spelling.now.size ≡ 4) ⊎ (spelling.now.size ≡ 8) }
     requires short { AreShort (spelling_places spelling.now) }
     requires fits { All (FitsGivenEntry spelling.now.size) (map (looked_up (map addition_view entries.now)) layout.now.order.items) }
+    requires lists { behind_entries spelling.now.size spelling.now.ranges (map (looked_up (map addition_view entries.now)) layout.now.order.items) ≤ most_bytes }
     requires known { All (λ f. f.index < length entries.now) layout.now.order.items }
     requires codes { layout.now.codes.items ≡ codes_of (map (looked_up (map addition_view entries.now)) layout.now.order.items) }
     requires shapes { map shape_view layout.now.shapes.keys ≡ first_uses [] (shapes_of (map (looked_up (map addition_view entries.now)) layout.now.order.items)) }
-    ensures { WritesUnit tables.old tables.new info.old info.new result spelling.now.size (spelling_places spelling.now) (map (looked_up (map addition_view entries.now)) layout.now.order.items) }
+    ensures { WritesUnit tables.old tables.new info.old info.new result spelling.now.size spelling.now.ranges (spelling_places spelling.now) (map (looked_up (map addition_view entries.now)) layout.now.order.items) }
 {
     let place = info.place();
     write_header(info, spelling, tables.place())?;
@@ -146,18 +151,21 @@ fn write_entries(
     requires size { (spelling.now.size ≡ 4) ⊎ (spelling.now.size ≡ 8) }
     requires short { AreShort (spelling_places spelling.now) }
     requires fits { All (FitsGivenEntry spelling.now.size) (map (looked_up (map addition_view entries.now)) order.now) }
+    requires lists { behind_entries spelling.now.size spelling.now.ranges (map (looked_up (map addition_view entries.now)) order.now) ≤ most_bytes }
     requires known { All (λ f. f.index < length entries.now) order.now }
     requires codes { codes.now ≡ codes_of (map (looked_up (map addition_view entries.now)) order.now) }
     ensures { Writes info.old info.new result
-        (flat_map (entry_bytes info.old.order spelling.now.size) (shaped (written_entries (spelling_places spelling.now) (first_uses [] (shapes_of (map (looked_up (map addition_view entries.now)) order.now))) (map (looked_up (map addition_view entries.now)) order.now))))
-        (entries_relocations info.old.order spelling.now.size (length info.old.body) (shaped (written_entries (spelling_places spelling.now) (first_uses [] (shapes_of (map (looked_up (map addition_view entries.now)) order.now))) (map (looked_up (map addition_view entries.now)) order.now)))) }
+        (flat_map (entry_bytes info.old.order spelling.now.size) (shaped (written_entries (behind_attributes spelling.now.size) (spelling_places spelling.now) spelling.now.ranges (first_uses [] (shapes_of (map (looked_up (map addition_view entries.now)) order.now))) (map (looked_up (map addition_view entries.now)) order.now))))
+        (entries_relocations info.old.order spelling.now.size (length info.old.body) (shaped (written_entries (behind_attributes spelling.now.size) (spelling_places spelling.now) spelling.now.ranges (first_uses [] (shapes_of (map (looked_up (map addition_view entries.now)) order.now))) (map (looked_up (map addition_view entries.now)) order.now)))) }
 {
+    let mut ranges = spelling.ranges;
     for i in 0..order.len() {
         let depth = order[i].depth;
         let entry = &entries[order[i].index];
         let attributes = entry.attributes.as_slice();
         let ends = depth.saturating_sub(depth_of_first(&order[i + 1..]));
-        write_entry(info, scratch, spelling, codes[i], attributes, ends)?;
+        write_entry(info, scratch, spelling, ranges, codes[i], attributes, ends)?;
+        ranges = behind_attributes(ranges, spelling.size, attributes);
     }
     Ok(())
 }
@@ -167,6 +175,7 @@ pub fn write_entry(
     info: &mut WriterRelocate,
     scratch: &mut Vec<u8>,
     spelling: &Spelling<'_>,
+    ranges: usize,
     code: u64,
     attributes: &[Attribute],
     ends: usize,
@@ -175,14 +184,15 @@ pub fn write_entry(
     requires size { (spelling.now.size ≡ 4) ⊎ (spelling.now.size ≡ 8) }
     requires short { AreShort (spelling_places spelling.now) }
     requires fits { All (FitsAttribute spelling.now.size) attributes.now }
+    requires lists { behind_attributes spelling.now.size ranges attributes.now ≤ most_bytes }
     ensures { Writes info.old info.new result
-        (uleb_bytes code ++ (flat_map (attribute_bytes info.old.order spelling.now.size) (map (written_attribute (spelling_places spelling.now)) attributes.now) ++ replicate ends 0))
-        (values_relocations info.old.order spelling.now.size (length info.old.body + length (uleb_bytes code)) (map (written_attribute (spelling_places spelling.now)) attributes.now)) }
+        (uleb_bytes code ++ (flat_map (attribute_bytes info.old.order spelling.now.size) (written_attributes (behind_attributes spelling.now.size) (spelling_places spelling.now) ranges attributes.now) ++ replicate ends 0))
+        (values_relocations info.old.order spelling.now.size (length info.old.body + length (uleb_bytes code)) (written_attributes (behind_attributes spelling.now.size) (spelling_places spelling.now) ranges attributes.now)) }
 {
     scratch.clear();
     put_uleb(scratch, code)?;
     info.put_bytes(scratch)?;
-    write_values(info, scratch, spelling, attributes)?;
+    write_values(info, scratch, spelling, ranges, attributes)?;
     write_ends(info, ends)
 }
 
@@ -196,39 +206,46 @@ fn write_ends(info: &mut WriterRelocate, count: usize) -> Result<(), WriteError>
     Ok(())
 }
 
-// The values of attributes, one behind another.
+// The values of attributes, one behind another. The first range list stands at an offset.
 fn write_values(
     info: &mut WriterRelocate,
     scratch: &mut Vec<u8>,
     spelling: &Spelling<'_>,
+    ranges: usize,
     attributes: &[Attribute],
 ) -> Result<(), WriteError>
     requires order { spelling.now.order ≡ info.old.order }
     requires size { (spelling.now.size ≡ 4) ⊎ (spelling.now.size ≡ 8) }
     requires short { AreShort (spelling_places spelling.now) }
     requires fits { All (FitsAttribute spelling.now.size) attributes.now }
+    requires lists { behind_attributes spelling.now.size ranges attributes.now ≤ most_bytes }
     ensures { Writes info.old info.new result
-        (flat_map (attribute_bytes info.old.order spelling.now.size) (map (written_attribute (spelling_places spelling.now)) attributes.now))
-        (values_relocations info.old.order spelling.now.size (length info.old.body) (map (written_attribute (spelling_places spelling.now)) attributes.now)) }
+        (flat_map (attribute_bytes info.old.order spelling.now.size) (written_attributes (behind_attributes spelling.now.size) (spelling_places spelling.now) ranges attributes.now))
+        (values_relocations info.old.order spelling.now.size (length info.old.body) (written_attributes (behind_attributes spelling.now.size) (spelling_places spelling.now) ranges attributes.now)) }
 {
+    let mut place = ranges;
     for i in 0..attributes.len() {
-        write_value(info, scratch, spelling, &attributes[i].value)?;
+        let value = &attributes[i].value;
+        write_value(info, scratch, spelling, place, value)?;
+        place = behind_value(place, spelling.size, value);
     }
     Ok(())
 }
 
-// A value in its form.
+// A value in its form; a range list stands at an offset.
 fn write_value(
     info: &mut WriterRelocate,
     scratch: &mut Vec<u8>,
     spelling: &Spelling<'_>,
+    ranges: usize,
     value: &AttributeValue,
 ) -> Result<(), WriteError>
     requires order { spelling.now.order ≡ info.old.order }
     requires size { (spelling.now.size ≡ 4) ⊎ (spelling.now.size ≡ 8) }
     requires short { AreShort (spelling_places spelling.now) }
     requires fits { FitsOperand spelling.now.size value.now }
-    ensures { Writes info.old info.new result (written_bytes info.old.order spelling.now.size (written_of (spelling_places spelling.now) value.now)) (value_relocations spelling.now.size (length info.old.body) (written_of (spelling_places spelling.now) value.now)) }
+    requires lists { ranges ≤ most_bytes }
+    ensures { Writes info.old info.new result (written_bytes info.old.order spelling.now.size (written_of (spelling_places spelling.now) ranges value.now)) (value_relocations spelling.now.size (length info.old.body) (written_of (spelling_places spelling.now) ranges value.now)) }
 {
     match value {
         AttributeValue::Address(address) => info.put_address(*address, spelling.size),
@@ -244,6 +261,7 @@ fn write_value(
             info.put_offset(spelling.text_offset_of(*id), SectionName::Str)
         }
         AttributeValue::LineProgramRef => info.put_offset(spelling.line_offset, SectionName::Line),
+        AttributeValue::RangeListRef(_) => info.put_offset(ranges, SectionName::Ranges),
         AttributeValue::UnitRef(id) => {
             info.put_bytes(&bytes_4(spelling.order, spelling.offset_of(*id) as u32))
         }

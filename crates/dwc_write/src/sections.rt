@@ -25,6 +25,7 @@ ghost use Rattle.dwc_write.specs.Writers.{IsSound, most_bytes};
 
 use crate::entries::{Spelling, write_unit};
 use crate::layout::{UnitLayout, lay_out};
+use crate::lists::write_lists;
 use crate::tables::write_lines;
 use crate::text_layout::{lay_out_texts, write_texts};
 use crate::{Dwarf, Unit, WriteError, WriterRelocate};
@@ -37,10 +38,11 @@ pub(crate) struct Sections {
     pub(crate) abbrev: WriterRelocate,
     pub(crate) info: WriterRelocate,
     pub(crate) line: WriterRelocate,
+    pub(crate) ranges: WriterRelocate,
 }
 
-/// The sections `.debug_abbrev`, `.debug_info`, `.debug_line` and `.debug_str` of some units of version 4, in this order; those
-/// that are empty are left out. Each text that an entry names stands once, in the order of first use, and no other. `TooLarge` is answered only where a section would have more than 2^31 - 1 bytes, and
+/// The sections `.debug_abbrev`, `.debug_info`, `.debug_line`, `.debug_ranges` and `.debug_str` of some units of version 4, in this
+/// order; those that are empty are left out. Each text that an entry names stands once, in the order of first use, and no other. `TooLarge` is answered only where a section would have more than 2^31 - 1 bytes, and
 /// `OutOfMemory` for want of memory. (DWARF 4, sections 6.2 and 7.5.)
 pub fn write_sections(
     alloc: Global,
@@ -94,6 +96,7 @@ fn write_units(
         abbrev: WriterRelocate::new(alloc, order, SectionName::Abbrev)?,
         info: WriterRelocate::with_room(alloc, order, SectionName::Info, room)?,
         line: WriterRelocate::new(alloc, order, SectionName::Line)?,
+        ranges: WriterRelocate::new(alloc, order, SectionName::Ranges)?,
     };
     let mut scratch = Vec::new(alloc);
     for i in 0..units.len() {
@@ -142,10 +145,14 @@ fn write_one(
     let line_offset = sections.line.place();
     write_lines(&mut sections.line, scratch, order, size, &unit.lines)?;
     let layout = &layouts[place];
+    let ranges = sections.ranges.place();
+    write_lists(&mut sections.ranges, size, &unit.entries, &layout.order)?;
     let spelling = Spelling {
         order,
         size,
         line_offset,
+        ranges,
+        ranges_end: sections.ranges.place(),
         offsets: &layout.offsets,
         units: layouts,
         texts,
@@ -167,14 +174,20 @@ fn gather(
     strings: WriterRelocate,
 ) -> Result<Vec<DwarfSection>, WriteError>
     ensures sections { IfOk result (λ s. map section_view s.items ≡ sections_of (sections_view sections) strings) }
-    ensures sound { (order : Endian) → sections.abbrev.order ≡ order → sections.info.order ≡ order → sections.line.order ≡ order → strings.order ≡ order → IfOk result (λ s. All (IsSound order) (map section_view s.items)) }
+    ensures sound { (order : Endian) → sections.abbrev.order ≡ order → sections.info.order ≡ order → sections.line.order ≡ order → sections.ranges.order ≡ order → strings.order ≡ order → IfOk result (λ s. All (IsSound order) (map section_view s.items)) }
     ensures memory { IsOkUnless result OutOfMemory }
 {
-    let Sections { abbrev, info, line } = sections;
-    let mut list = Vec::with_capacity(alloc, 4)?;
+    let Sections {
+        abbrev,
+        info,
+        line,
+        ranges,
+    } = sections;
+    let mut list = Vec::with_capacity(alloc, 5)?;
     push_section(&mut list, abbrev)?;
     push_section(&mut list, info)?;
     push_section(&mut list, line)?;
+    push_section(&mut list, ranges)?;
     push_section(&mut list, strings)?;
     Ok(list)
 }

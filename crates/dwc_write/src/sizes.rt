@@ -58,7 +58,7 @@ fn sleb_length_from_0(value: u64) -> u8
 // How many bytes a value has, in a unit of a size of addresses.
 pub fn value_size(value: &AttributeValue, size: u8) -> usize
     requires { (size ≡ 4) ⊎ (size ≡ 8) }
-    ensures { (order : Endian) → result ≡ length (written_bytes order size (written_of no_places value.now)) }
+    ensures { (order : Endian) → result ≡ length (written_bytes order size (written_of no_places 0 value.now)) }
 {
     match value {
         AttributeValue::Address(_) => usize::from(size),
@@ -68,6 +68,7 @@ pub fn value_size(value: &AttributeValue, size: u8) -> usize
         AttributeValue::Exprloc(expression) => block_size(expression.as_slice()),
         AttributeValue::StringRef(_) => 4,
         AttributeValue::LineProgramRef => 4,
+        AttributeValue::RangeListRef(_) => 4,
         AttributeValue::UnitRef(_) => 4,
         AttributeValue::DebugInfoRef(_) => 4,
     }

@@ -1,13 +1,12 @@
-use Rattle.std.proofs.Common.{◌≡◌, drop, map}
-use Rattle.dwc_write.specs.SpelledUnits.{attribute_bytes}
-use Rattle.dwc_write.specs.SpelledRelocations.{value_relocations}
-use Rattle.dwc_write.specs.GivenUnits.{written_attribute}
+use Rattle.std.proofs.Common.{◌≡◌, drop}
 use Rattle.dwc_write.specs.LayoutViews.{spelling_places}
-use Rattle.dwc_write.proofs.WritesLaws.{whole}
+use Rattle.dwc_write.specs.RangeLists.{behind_attributes}
+use Rattle.dwc_write.proofs.EntriesLaws.{values_left}
 use Rattle.dwc_write.proofs.entries.write_values.Given as goal
 
--- what is there, with the values that are left, is the whole
+-- what is there, with the values that are left, is the whole; the next range list stands behind the others
 abbrev pub invariant-loop-i : goal.invariant-loop-i
-invariant-loop-i l =
-    whole (attribute_bytes l.initial.info.order l.spelling.size) (λ p a. value_relocations l.spelling.size p a.value) (drop l.i (map (written_attribute (spelling_places l.spelling)) l.attributes)) l.info
-    ≡ whole (attribute_bytes l.initial.info.order l.spelling.size) (λ p a. value_relocations l.spelling.size p a.value) (map (written_attribute (spelling_places l.spelling)) l.attributes) l.initial.info
+invariant-loop-i l = record {
+  values : values_left l.spelling.size (spelling_places l.spelling) l.initial.info.order l.place (drop l.i l.attributes) l.info ≡ values_left l.spelling.size (spelling_places l.spelling) l.initial.info.order l.ranges l.attributes l.initial.info;
+  lists : behind_attributes l.spelling.size l.place (drop l.i l.attributes) ≡ behind_attributes l.spelling.size l.ranges l.attributes;
+}

@@ -1,7 +1,6 @@
 use Rattle.std.proofs.Common.{arith, add-one}
 use Rattle.dwc_write.specs.SpelledUnits.{attribute_bytes}
-use Rattle.dwc_write.specs.GivenUnits.{no_places, written_attribute}
-use Rattle.dwc_write.proofs.LayoutLaws.{spelled-more}
+use Rattle.dwc_write.proofs.LayoutLaws.{unplaced-more}
 use Rattle.dwc_write.proofs.layout.behind_values.Goals as goal
 
 pub loop-i-preserved : goal.loop-i-preserved
@@ -10,5 +9,5 @@ loop-i-preserved c =
     (record {
       short = c.in_ok-behind.ensures.1;
       rest = λ order.
-          omega (arith, c.in_ok-behind.ensures.0, c.value_size.ensures order, c.loop-i.invariant.rest order, spelled-more (attribute_bytes order c.args.size) (written_attribute no_places) c.args.attributes.now c.loop-i.i c.index-attributes-i.result c.loop-i-test.true);
+          omega (arith, c.in_ok-behind.ensures.0, c.value_size.ensures order, c.loop-i.invariant.rest order, unplaced-more (attribute_bytes order c.args.size) c.args.attributes.now c.loop-i.i c.index-attributes-i.result c.loop-i-test.true);
     })

@@ -96,7 +96,7 @@ returns-clause-sound c =
     let us = map ordered c.args.dwarf.units.units.items in
     let table = c.args.dwarf.strings in
     let all = (rw (c.as_slice-units.ensures.value) at c.in_ok-sections.ensures.ok) ∙ all-appended c.args.order _ us c.requires.units in
-    c.gather.ensures.sound c.args.order (ap (λ (w : WrittenSections). w.abbrev_section.order) all) (ap (λ (w : WrittenSections). w.info_section.order) all) (ap (λ (w : WrittenSections). w.line_section.order) all) (ap (λ (w : Writing). w.order) c.in_ok-strings.ensures.ok)
+    c.gather.ensures.sound c.args.order (ap (λ (w : WrittenSections). w.abbrev_section.order) all) (ap (λ (w : WrittenSections). w.info_section.order) all) (ap (λ (w : WrittenSections). w.line_section.order) all) (ap (λ (w : WrittenSections). w.ranges_section.order) all) (ap (λ (w : Writing). w.order) c.in_ok-strings.ensures.ok)
 
 pub returns-clause-rise : goal.returns-clause-rise
 returns-clause-rise c =
