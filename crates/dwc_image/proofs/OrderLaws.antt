@@ -10,7 +10,7 @@ use Rattle.dwc_base.specs.Functions.{AddressMap, Function, Recorded, recorded_en
 use Rattle.dwc_addr.proofs.EntryLaws.{all-good}
 use Rattle.dwc_image.specs.ImageRows.{RisesFrom, IsOrdered}
 use Rattle.dwc_image.specs.CarriedLines.{AreKept}
-use Rattle.dwc_image.proofs.LookupLaws.{RisesFrom-weaker}
+use Rattle.dwc_addr.proofs.RisingLaws.{RisesFrom-weaker}
 
 -- entries without a fault, and with their sources seen in another way
 record EntriesOrdered (len code : ℕ) (es : List (ℕ × Option ℕ)) : Type 0 where

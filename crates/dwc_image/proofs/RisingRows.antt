@@ -15,7 +15,7 @@ use Rattle.dwc_base.specs.Listing.{Listing}
 use Rattle.dwc_base.specs.Reading.{Unread, ◌>>=◌}
 use Rattle.dwc_base.specs.Sections.{Sections, section_from, reported}
 use Rattle.dwc_image.specs.ImageRows.{RisesFrom, RowsRise}
-use Rattle.dwc_image.proofs.LookupLaws.{RisesFrom-weaker, RisesFrom-non_decreasing, RisesFrom-seen}
+use Rattle.dwc_addr.proofs.RisingLaws.{RisesFrom-weaker, RisesFrom-non_decreasing, RisesFrom-seen}
 
 -- The rows of a segment of a table that was read stand in the order of their offsets.
 rows_before-rise : (t : LineTable) (h : LineHeader) (is : List Instruction) (r : Registers) → RisesFrom (λ q. q.offset) r.offset (rows_before t (map step_of (effects h r is)))

@@ -5,7 +5,8 @@ use Rattle.std.specs.Prelude.{nat_le, ◌==◌, if◌then◌else◌, option_map,
 use Rattle.std.proofs.lemmas.List.Elements.{All-nil, All-cons, All-head, All-tail}
 use Rattle.dwc_base.specs.Functions.{Recorded}
 use Rattle.dwc_image.specs.ImageRows.{last_at, RisesFrom, found_at, is_repeated, placed_at, with_found, rows_from}
-use Rattle.dwc_image.proofs.LookupLaws.{last_at-map, RisesFrom-weaker}
+use Rattle.dwc_addr.proofs.RisingLaws.{RisesFrom-weaker}
+use Rattle.dwc_image.proofs.LookupLaws.{last_at-map}
 
 module _ {R : Type 0} (n : R → ℕ) (move : ℕ → R → R) (moves : (k : ℕ) (r : R) → n (move k r) ≡ k) (rows : List R) (start : ℕ) where
   -- the rows lie in the function

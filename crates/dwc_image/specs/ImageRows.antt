@@ -5,17 +5,13 @@ use Rattle.dwc_base.specs.declared.records.Address.TheVariants.{Symbol}
 use Rattle.dwc_base.specs.declared.records.LineRow.{LineRow}
 use Rattle.dwc_base.specs.LineRows.{Row, Segment}
 use Rattle.dwc_base.specs.Functions.{Function, Recorded, recorded_sources}
+pub use Rattle.dwc_addr.specs.Rising.{RisesFrom}
 use Rattle.dwc_base.specs.Images.{function_of_segment, start_of_segment}
 
 -- The last thing of a list, in order, whose number is at most o.
 abbrev pub last_at : {X : Type 0} → (X → ℕ) → List X → ℕ → Option X
 last_at n [] o = None
 last_at n (x ∷ xs) o = option_or (last_at n xs o) (if nat_le (n x) o then Some x else None)
-
--- the number does not fall along a list, from a number on
-abbrev pub RisesFrom : {X : Type 0} → (X → ℕ) → ℕ → List X → Type 0
-RisesFrom n low [] = Unit {0}
-RisesFrom n low (x ∷ xs) = (low ≤ n x) × RisesFrom n (n x) xs
 
 -- Rows of any kind, by their offsets: that which is in force at a recorded source, none below the start.
 abbrev pub found_at : {R : Type 0} → (R → ℕ) → List R → ℕ → Recorded → Option R
