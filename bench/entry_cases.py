@@ -107,6 +107,8 @@ def entry_cases(cases, module, small_map):
     value_cases(carried)
     file_cases(carried)
     refused_cases(refused)
+    list_cases(carried)
+    refused_lists(refused)
 
 
 NAMED_TEXT = """section .debug_abbrev 28
@@ -235,9 +237,6 @@ def refused_cases(refused):
     addresses = [(".debug_addr", bytes(8) + u32(2) + b"\0\0\0")]
     indexed = lambda index: Entry(SUBPROGRAM, (LOW_PC, 0x1B, index), LENGTH)
     refused("an index of an address past its section", 10, "Read AddressValue .debug_info 17", (root(indexed(b"\x01")), 5, 4), sections=addresses)
-    ranged = Entry(SUBPROGRAM, (RANGES, SEC_OFFSET, bytes(4)))
-    refused("a subprogram with a range list", 11, f"Unsupported NotBuilt {at}", root(ranged))
-    refused("a range list before an entry that cannot be read", 11, f"Unsupported NotBuilt {at}", root(ranged, Entry(VARIABLE, (NAME, 0x7F, b""))))
     refused("an entry that cannot be read", 10, "Read Entry .debug_info 25", root(subprogram(), Entry(VARIABLE, (NAME, 0x7F, b""))))
     low = (LINES, (LOW_PC, ADDR, u32(2)))
     refused("a root with a begin", 11, "Unsupported NotBuilt 11", root(subprogram(), attributes=low))
@@ -256,6 +255,108 @@ def refused_cases(refused):
     refused("what is not built before a text", 11, f"Unsupported NotBuilt {at}", root(subprogram((0x02, 0x18, b"\x01\x30"), name(STRP, u32(0)))))
     refused("a text of the second unit behind the first", 10, "Read Text .debug_info 42", root(subprogram()), root(subprogram(name(STRP, u32(0)))))
     refused("a file that is not there behind no line table", 12, "InvalidFileIndex 0", root(subprogram(name(STRP, u32(0)))), sections=[(".debug_line", BAD_LINES)])
+
+
+# ---- range lists of subprograms
+
+LISTED = (RANGES, SEC_OFFSET, bytes(4))
+GREATEST = 0xFFFFFFFF  # as the first of two addresses, it selects the second as a base
+ADDRESSES = (".debug_addr", bytes(8) + u32(1) + u32(5))
+
+
+def pairs(*pairs):
+    """`.debug_ranges` of one list, which ends."""
+    return (".debug_ranges", b"".join(u32(begin) + u32(end) for begin, end in pairs) + bytes(8))
+
+
+def kinds(contents):
+    """`.debug_rnglists` of one list."""
+    return (".debug_rnglists", contents)
+
+
+def at_low_pc(low_pc, *attributes):
+    return Entry(SUBPROGRAM, (LOW_PC, ADDR, u32(low_pc)), LENGTH, *attributes)
+
+
+def list_cases(carried):
+    """Which lists show that a subprogram is of code. It is carried by its `low_pc`; beside it stands one that is carried whatever the list is."""
+    beside = subprogram((NAME, STRING, b"beside\0"))
+    for name, low_pc, list_of_pairs in [
+        ("of code", 2, [(5, 6), (10, 11)]),
+        ("of no code, beside a begin of code", 2, [(0, 6)]),
+        ("that is empty", 2, []),
+        ("of code, beside a begin of none", 1, [(5, 6)]),
+        ("behind a second base, of code", 2, [(GREATEST, 1), (GREATEST, 5), (0, 6)]),
+        ("behind a base of no code", 2, [(GREATEST, 1), (5, 6)]),
+        ("before a base of no code", 2, [(5, 6), (GREATEST, 1)]),
+        ("between two bases", 1, [(0, 1), (GREATEST, 5), (GREATEST, 1), (5, 6)]),
+        ("and of bases alone", 1, [(GREATEST, 5)]),
+    ]:
+        carried(f"a list of pairs {name}", root(beside, at_low_pc(low_pc, LISTED)), sections=[pairs(*list_of_pairs)])
+    for index, begin in ((0, 1), (1, 1), (1, 5)):
+        indexed = Entry(SUBPROGRAM, (LOW_PC, 0x1B, bytes([index])), LENGTH, LISTED)
+        carried(f"a pair from {begin} beside a begin by the index {index}", root(beside, indexed), sections=[ADDRESSES, pairs((begin, 6))])
+    eight = Entry(SUBPROGRAM, (LOW_PC, ADDR, u32(2) + bytes(4)), LENGTH, (RANGES, DATA4, bytes(4)))
+    carried("a list of pairs of eight bytes in version 3", (root(eight, attributes=()), 3, 8), sections=[(".debug_ranges", bytes.fromhex("FF" * 8 + "05" + "00" * 7 + "01" + "00" * 31))])
+    carried("ranges that are no list", root(beside, at_low_pc(2, (RANGES, DATA1, b"\0"))))
+    carried("of two lists the first counts", root(beside, at_low_pc(2, (RANGES, SEC_OFFSET, u32(8)), LISTED)), sections=[pairs((5, 6))])
+    carried("a list of a type that is not kept is not read", root(beside, Entry(BASE_TYPE, LISTED)))
+    five = lambda *attributes: (root(beside, at_low_pc(2, *attributes)), 5, 4)
+    for name, contents in [
+        ("of two offsets", b"\x04\x00\x03"),
+        ("of a base by an index and two offsets", b"\x01\x01\x04\x00\x03"),
+        ("of two indexes, by the first", b"\x02\x01\x00"),
+        ("of two indexes, not by the second", b"\x02\x00\x01"),
+        ("of an index and a length", b"\x03\x01\x00"),
+        ("of a base and two offsets", b"\x05" + u32(5) + b"\x04\x00\x03"),
+        ("of two addresses", b"\x06" + u32(5) + u32(6)),
+        ("of two addresses, not by the second", b"\x06" + u32(1) + u32(6)),
+        ("of an address behind a base of no code", b"\x05" + u32(1) + b"\x07" + u32(5) + b"\x00"),
+        ("of an address and a length that is too great", b"\x07" + u32(5) + uleb((1 << 64) - 1)),
+        ("without entries", b""),
+    ]:
+        carried(f"a list {name}", five(LISTED), sections=[ADDRESSES, kinds(contents + b"\0")])
+    lists = kinds(bytes(12) + u32(8) + u32(12) + b"\x04\x00\x03\x00\x03\x01\x01\x00")
+    for index in (0, 1):
+        carried(f"a list by the index {index}", five((RANGES, 0x23, bytes([index]))), sections=[ADDRESSES, lists])
+    based = root(beside, at_low_pc(2, (RANGES, 0x23, b"\x00")), attributes=(LINES, (0x74, SEC_OFFSET, u32(16))))
+    carried("a list by an index, from a base", (based, 5, 4), sections=[ADDRESSES, kinds(bytes(16) + u32(4) + b"\x03\x01\x01\x00")])
+
+
+def refused_lists(refused):
+    """What is refused of range lists of subprograms: first what cannot be read of the list, told there, and then the begin beside it."""
+    listed, cut = Entry(SUBPROGRAM, LISTED), (".debug_ranges", u32(5) + u32(6))
+    at_list, at_kinds = "Read RangeList .debug_ranges 0", "Read RangeList .debug_rnglists 0"
+    refused("a subprogram that its list requires is not built", 11, "Unsupported NotBuilt 16", root(listed), sections=[pairs((5, 6))])
+    refused("a subprogram that its list of version 5 requires is not built", 11, "Unsupported NotBuilt 17", (root(listed), 5, 4), sections=[kinds(b"\x06" + u32(5) + u32(6) + b"\0")])
+    refused("a subprogram that its list requires, beside a begin of none", 11, "Unsupported NotBuilt 16", root(at_low_pc(1, LISTED)), sections=[pairs((GREATEST, 5), (0, 1))])
+    by_index = Entry(SUBPROGRAM, (LOW_PC, 0x1B, b"\x00"), LISTED)
+    refused("a subprogram that its list requires, beside a begin of none by an index", 11, "Unsupported NotBuilt 16", root(by_index), sections=[ADDRESSES, pairs((5, 6))])
+    refused("a list of a block that is kept is not built", 11, "Unsupported NotBuilt 25", root(subprogram(children=[Entry(BLOCK, LISTED)])))
+    refused("a list of a section that is not there", 10, at_list, root(listed))
+    refused("a list without its end", 10, at_list, root(listed), sections=[cut])
+    refused("a list that is cut in an address", 10, at_list, root(listed), sections=[(".debug_ranges", bytes(7))])
+    refused("a list past its section", 10, "Read RangeList .debug_ranges 40", root(Entry(SUBPROGRAM, (RANGES, SEC_OFFSET, u32(40)))), sections=[pairs((5, 6))])
+    refused("a list that cannot be read of a subprogram that begins in a function", 10, at_list, root(subprogram(LISTED)), sections=[cut])
+    refused("a list that cannot be read of a unit that is not carried", 10, at_list, root(subprogram()), root(listed, tag=0x3C), sections=[cut])
+    refused("a list before a line table", 10, at_list, root(subprogram(), listed), sections=[cut, (".debug_line", b"\x38\0")])
+    refused("a list before an entry that cannot be read", 10, at_list, root(listed, Entry(VARIABLE, (NAME, 0x7F, b""))), sections=[cut])
+    refused("a kind of entry that is none", 10, at_kinds, (root(listed), 5, 4), sections=[kinds(b"\x08\0")])
+    for name, contents in [
+        ("a base", b"\x01\x02"),
+        ("a start and an end", b"\x02\x02\x00"),
+        ("an end", b"\x02\x01\x02"),
+        ("a start and a length", b"\x03\x02\x01"),
+        ("a start behind one that shows code", b"\x03\x01\x01\x03\x02\x01"),
+    ]:
+        refused(f"{name} by an index that cannot be read", 10, at_kinds, (root(listed), 5, 4), sections=[ADDRESSES, kinds(contents + b"\0")])
+    indexed = (root(Entry(SUBPROGRAM, (RANGES, 0x23, b"\x01"))), 5, 4)
+    refused("an index of a list past its section", 10, "Read RangeList .debug_info 17", indexed, sections=[kinds(bytes(12) + u32(4) + b"\0\0\0")])
+    refused("a list by an index past its section", 10, "Read RangeList .debug_rnglists 112", indexed, sections=[kinds(bytes(16) + u32(100) + bytes(4))])
+    begin = Entry(SUBPROGRAM, (LOW_PC, 0x1B, b"\x02"), LISTED)
+    refused("a list before the begin beside it", 10, at_list, root(begin), sections=[ADDRESSES, cut])
+    refused("a begin that cannot be read beside a list", 10, "Read AddressValue .debug_info 16", root(begin), sections=[ADDRESSES, pairs((5, 6))])
+    refused("a begin that cannot be read beside an empty list", 10, "Read AddressValue .debug_info 16", root(begin), sections=[ADDRESSES, pairs()])
 
 
 BAD_LINES = bytes.fromhex("36000000 0400 1B000000 01 01 01 FB 0E 0D 000101010100000001000001 00 612E6300000000 00 0005020200000001 04 09 01 020503 0101 0203 000101")

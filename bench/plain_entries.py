@@ -4,12 +4,12 @@ from dataclasses import dataclass, field
 
 TAG_COMPILE_UNIT, TAG_SUBPROGRAM, TAG_NAMESPACE, TAG_VARIABLE, TAG_CONSTANT, TAG_BASE_TYPE = 0x11, 0x2E, 0x39, 0x34, 0x27, 0x24
 AT_SIBLING, AT_STMT_LIST, AT_LOW_PC, AT_HIGH_PC, AT_RANGES, AT_START_SCOPE = 0x01, 0x10, 0x11, 0x12, 0x55, 0x2C
-AT_DECL_FILE, AT_CALL_FILE, AT_ENDIANITY, AT_STR_OFFSETS_BASE, AT_ADDR_BASE = 0x3A, 0x58, 0x65, 0x72, 0x73
+AT_DECL_FILE, AT_CALL_FILE, AT_ENDIANITY, AT_STR_OFFSETS_BASE, AT_ADDR_BASE, AT_RNGLISTS_BASE = 0x3A, 0x58, 0x65, 0x72, 0x73, 0x74
 LOCATION_NAMES = (0x02, 0x19, 0x2A, 0x38, 0x40, 0x46, 0x48, 0x4A, 0x4D)
 EXPRESSION_NAMES = LOCATION_NAMES + (0x0B, 0x0D, 0x22, 0x2E, 0x2F, 0x37, 0x4E, 0x4F, 0x50, 0x51)
-DROPPED_NAMES = (AT_SIBLING, 0x43, AT_STR_OFFSETS_BASE, AT_ADDR_BASE, 0x74, 0x8C, 0x76, 0x79, 0x2137)
+DROPPED_NAMES = (AT_SIBLING, 0x43, AT_STR_OFFSETS_BASE, AT_ADDR_BASE, AT_RNGLISTS_BASE, 0x8C, 0x76, 0x79, 0x2137)
 PART_TAGS = (0x05, 0x0A, 0x0B, 0x0D, 0x18, 0x19, 0x1C, 0x1D, 0x21, 0x22, 0x25, 0x28, 0x2F, 0x30, 0x32, 0x33, 0x48, 0x49)
-USUAL_BASE = 8  # behind the header of `.debug_str_offsets` and of `.debug_addr`
+USUAL_BASES = {AT_STR_OFFSETS_BASE: 8, AT_ADDR_BASE: 8, AT_RNGLISTS_BASE: 12}  # behind the header of the section
 
 
 class Reader:
@@ -107,7 +107,7 @@ class Unit:
 
     def base(self, name):
         value = self.root.value(name)
-        return value[-1] if value and isinstance(value[-1], int) and value[0] in ("constant", "dropped") else USUAL_BASE
+        return value[-1] if value and isinstance(value[-1], int) and value[0] in ("constant", "dropped") else USUAL_BASES[name]
 
     @property
     def text_base(self):
@@ -233,6 +233,52 @@ def begun(sections, unit, entry, function_at):
     return None if address is None else function_at(address)
 
 
+# The operands of each kind of entry of a list from version 5 on: an index of an address, a number, an address.
+KINDS = {1: "i", 2: "ii", 3: "in", 4: "nn", 5: "a", 6: "aa", 7: "an"}
+
+
+def range_entries(sections, unit, value):
+    """What the entries of the range list that a value names begin with: `base`, `pair`, `start` or `offsets`, and the first operand.
+    (DWARF 4, section 2.17.3; DWARF 5, sections 7.25 and 7.28.)"""
+    size, name = unit.address_size, ".debug_rnglists" if unit.version >= 5 or value[0] == "list index" else ".debug_ranges"
+    place = value[1]
+    if value[0] == "list index":
+        base = unit.base(AT_RNGLISTS_BASE)
+        place = base + Reader(sections[name], base + 4 * place).number(4)
+    reader = Reader(sections[name], place)
+    if name == ".debug_ranges":
+        while (pair := (reader.number(size), reader.number(size))) != (0, 0):
+            yield ("base", pair[1]) if pair[0] == (1 << 8 * size) - 1 else ("pair", pair[0])
+        return
+    read = {"i": lambda: address_of(sections, unit, ("address index", reader.uleb())), "n": reader.uleb, "a": lambda: reader.number(size)}
+    while kind := reader.number(1):
+        operands = [read[operand]() for operand in KINDS[kind]]
+        yield {1: "base", 5: "base", 4: "offsets"}.get(kind, "start"), operands[0]
+
+
+def list_shows_code(sections, unit, entry, function_at):
+    """Whether the range list of an entry shows that it is of code. A base, where one is known, decides for the pairs behind it."""
+    low_pc, shows = entry.value(AT_LOW_PC), False
+    base = function_at(low_pc[1]) is not None if low_pc and low_pc[0] == "address" else None
+    for kind, operand in range_entries(sections, unit, entry.value(AT_RANGES)):
+        is_code = kind != "offsets" and function_at(operand) is not None
+        if kind == "base":
+            base = is_code
+        elif kind == "pair" and base is not None:
+            shows |= base
+        else:
+            shows |= is_code
+    return shows
+
+
+def is_required(sections, unit, entry, function_at):
+    """Whether a subprogram is of code: by its `low_pc`, and where it has `ranges`, by these."""
+    ranges = entry.value(AT_RANGES)
+    if entry.tag != TAG_SUBPROGRAM or ranges is None:
+        return begun(sections, unit, entry, function_at) is not None
+    return ranges[0] in ("ranges", "list index") and list_shows_code(sections, unit, entry, function_at)
+
+
 def kept_offsets(sections, units, function_at):
     """The offsets of the entries that are kept: the required ones, and step by step what these keep."""
     everything = {e.offset: (u, e) for u in units for e in u.entries}
@@ -247,7 +293,7 @@ def kept_offsets(sections, units, function_at):
                 inner = entry.tag in (TAG_VARIABLE, TAG_CONSTANT) and not (above.depth == 0 or above.tag == TAG_NAMESPACE)
                 if entry.tag in PART_TAGS or inner:
                     parts.setdefault(above.offset, []).append(entry.offset)
-    kept, work = set(), [o for o, (u, e) in everything.items() if begun(sections, u, e, function_at) and e.value(AT_RANGES) is None]
+    kept, work = set(), [o for o, (u, e) in everything.items() if is_required(sections, u, e, function_at)]
     while work:
         offset = work.pop()
         if offset in kept or offset not in everything:

@@ -47,6 +47,8 @@ def tree_of(sections, unit, entries, table, places, function_at, target):
         if function:
             attributes[AT_LOW_PC] = ("address", function)
             attributes[AT_HIGH_PC] = ("constant", 0x0F, function.length)
+        elif any(name in (AT_LOW_PC, AT_HIGH_PC, AT_RANGES) for name, _ in entry.attributes):
+            raise ValueError("a bound is not built")
         for name, value in entry.attributes:
             made = value_made(sections, unit, entry, table, places, name, value)
             if made is not None:

@@ -21,7 +21,7 @@ use Rattle.dwc_base.specs.Units.{UnitHeader}
 use Rattle.dwc_base.specs.EntryRules.{code_rules, function_bounds, function_begun}
 use Rattle.dwc_write.specs.declared.attributes.Attribute.{Attribute}
 use Rattle.dwc_write.specs.declared.attributes.AttributeValue.{AttributeValue}
-use Rattle.dwc_write.specs.declared.attributes.AttributeValue.TheVariants.{Address, Constant, Flag, Block, Exprloc, StringRef, LineProgramRef, UnitRef, DebugInfoRef}
+use Rattle.dwc_write.specs.declared.attributes.AttributeValue.TheVariants.{Address, Constant, Flag, Block, Exprloc, StringRef, LineProgramRef, RangeListRef, UnitRef, DebugInfoRef}
 use Rattle.dwc_write.specs.declared.attributes.DebugInfoRef.TheVariants.{Entry}
 use Rattle.dwc_write.specs.GivenUnits.{Addition, in_file_order, is_lines, names_lines_in, names_lines}
 use Rattle.dwc_write.specs.AddedInOrder.{value_meant, attribute_meant, tree_meant}
@@ -53,6 +53,7 @@ lines-meant texts number (Block bytes) = refl
 lines-meant texts number (Exprloc e) = refl
 lines-meant texts number (StringRef id) = refl
 lines-meant texts number LineProgramRef = refl
+lines-meant texts number (RangeListRef list) = refl
 lines-meant texts number (UnitRef id) = refl
 lines-meant texts number (DebugInfoRef (Entry unit id)) = refl
 

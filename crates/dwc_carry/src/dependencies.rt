@@ -12,15 +12,15 @@ use dwc_kept::Kept;
 use dwc_read::Units;
 use std::alloc::Global;
 
-/// The entries that are kept of the units that are still to come. A subprogram without ranges that begins in a function with a symbol is
-/// required; an entry keeps its parent, the entries that its attributes other than `DW_AT_sibling` refer to, and those of its
-/// children that are parts of it. What is kept is the least set of entries that holds the required ones and all that its entries
-/// keep.
+/// The entries that are kept of the units that are still to come. A subprogram that begins in a function with a symbol is required, one
+/// with `ranges` where these are a range list that shows code of such functions; an entry keeps its parent, the entries that its attributes
+/// other than `DW_AT_sibling` refer to, and those of its children that are parts of it. What is kept is the least set of entries that
+/// holds the required ones and all that its entries keep.
 ///
 /// # Errors
 /// `Read` and `Unsupported` for the first fault in the order of reading: of each unit its header, its abbreviation table, and then its
-/// entries, each with the address that a subprogram begins at before the next entry is read. `Unsupported` `NotBuilt` for a subprogram
-/// with a range list. `OutOfMemory` for want of memory.
+/// entries, each with what it names before the next entry is read: the range list of a subprogram, told at the list, with the addresses
+/// by an index in it, and then the address by an index that it begins at, told at the entry. `OutOfMemory` for want of memory.
 pub fn build_dependencies(
     alloc: Global,
     units: Units<'_>,

@@ -9,6 +9,7 @@ pub mod OffsetLaws
 pub mod KeptOffsets
 pub mod LastLaws
 pub mod ReadLaws
+pub mod RangeCodeLaws
 pub mod StandingLaws
 pub mod GraphLaws
 pub mod RequiredLaws

@@ -6,3 +6,4 @@ pub mod ReadingSeen
 pub mod ReadGraphs
 pub mod KeptUnits
 pub mod ReadUnits
+pub mod RangeCode

@@ -38,13 +38,13 @@ fn keep<'d>(
     })
 }
 
-/// The units of a module, whose entries are read once, and those of its entries that are kept. A subprogram without ranges that begins in
-/// a function with a symbol is required.
+/// The units of a module, whose entries are read once, and those of its entries that are kept. A subprogram that begins in a function with
+/// a symbol is required; one with `ranges`, where these are a range list that shows code of such functions.
 ///
 /// # Errors
 /// `Read` and `Unsupported` for the first fault in the order of reading: of each unit its header, its abbreviation table, and then its
-/// entries, each with the address that a subprogram begins at before the next entry is read. `Unsupported` `NotBuilt` for a subprogram
-/// with a range list. `OutOfMemory` for want of memory.
+/// entries, each with what it names before the next entry is read: the range list of a subprogram, told at the list, with the addresses
+/// by an index in it, and then the address by an index that it begins at, told at the entry. `OutOfMemory` for want of memory.
 pub fn kept_module<'d>(
     alloc: Global,
     sections: Sections<'d>,

@@ -11,6 +11,7 @@ mod last_at;
 mod laws;
 mod marks;
 mod parts;
+mod range_code;
 mod read_unit;
 mod reading;
 mod references;

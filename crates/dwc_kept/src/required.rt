@@ -1,60 +1,23 @@
 //! Which entries are required, and what cannot be read to know it.
-ghost use Rattle.std.specs.Prelude.{◌≡◌, option_and_then};
-ghost use Rattle.dwc_base.specs.Entries.{attribute};
-ghost use Rattle.dwc_base.specs.EntryRules.{indexed_fault, is_range_list, is_required, subprogram_fault, named_faults};
+ghost use Rattle.std.specs.Prelude.{◌≡◌};
+ghost use Rattle.dwc_base.specs.EntryRules.{is_required, named_faults};
 ghost use Rattle.dwc_base.specs.Refusals.{first_of};
 ghost use Rattle.dwc_read.specs.EntriesSeen.{entry_view};
-ghost use Rattle.dwc_kept.specs.ReadEntries.{MeetsOrTells, ReadsOrTells};
+ghost use Rattle.dwc_kept.specs.ReadEntries.{ReadsOrTells};
 
-use crate::begun::function_begun;
+use crate::range_code::{begins_in_code, ranges_show_code};
 use dwc_addr::AddressTransform;
-use dwc_base::Kind;
-use dwc_base::constants::{DW_AT_low_pc, DW_AT_ranges, DW_TAG_subprogram};
-use dwc_read::{AttributeValue, Entry, ReadFault, Unit};
+use dwc_base::constants::DW_TAG_subprogram;
+use dwc_read::{Entry, ReadFault, Unit};
 
-// Whether an entry has a range list.
-fn has_range_list(entry: &Entry<'_>) -> bool
-    ensures { result ≡ is_range_list (attribute DW_AT_ranges (entry_view entry.now)) }
-{
-    match entry.attr(DW_AT_ranges) {
-        Some(AttributeValue::RangeRef(_)) => true,
-        Some(AttributeValue::RangeIndex(_)) => true,
-        _ => false,
-    }
-}
-
-// Reads the address that an entry begins at; what cannot be read is told at the entry.
-fn check_low_pc(unit: &Unit<'_>, entry: &Entry<'_>) -> Result<(), ReadFault>
-    ensures { MeetsOrTells (option_and_then (indexed_fault unit.now.sections unit.now.header (entry_view entry.now)) (attribute DW_AT_low_pc (entry_view entry.now))) result }
-{
-    let Some(low_pc) = entry.attr(DW_AT_low_pc) else {
-        return Ok(());
-    };
-    match unit.address_of(&low_pc) {
-        Ok(_) => Ok(()),
-        Err(fault) => Err(fault.at(entry.offset)),
-    }
-}
-
-// Reads what says whether a subprogram is required: a range list is not built, and the address that it begins at must be there.
-fn check_subprogram(unit: &Unit<'_>, entry: &Entry<'_>) -> Result<(), ReadFault>
-    ensures { MeetsOrTells (subprogram_fault unit.now.sections unit.now.header (entry_view entry.now)) result }
-{
-    if has_range_list(entry) {
-        return Err(ReadFault::Unsupported {
-            what: Kind::NotBuilt,
-            offset: entry.offset,
-        });
-    }
-    check_low_pc(unit, entry)
-}
-
-/// Whether an entry is required: a subprogram without ranges that begins in a function with a symbol.
+/// Whether an entry is required: a subprogram that begins in a function with a symbol; one with `ranges`, where these are a list that shows
+/// code of such functions. An entry of a list shows code by its start, and a pair of a list up to version 4 by the base where one is
+/// known: the one that was selected, else the `low_pc` beside the list.
 ///
 /// # Errors
-/// `Unsupported` `NotBuilt` at the entry for a subprogram with a range list; `Read` there where the address by an index that a subprogram
-/// begins at cannot be read.
-#[tactic(auto, unfolding(dwc_base::specs::EntryRules::named_faults, dwc_base::specs::EntryRules::function_begun))]
+/// `Read` and `Unsupported` for the first that cannot be read of a subprogram: its range list whole, as [`ranges_show_code`] tells it, and
+/// then the address by an index that it begins at.
+#[tactic(auto, unfolding(dwc_base::specs::EntryRules::named_faults, dwc_base::specs::RangeKept::is_required))]
 pub(crate) fn is_required(
     unit: &Unit<'_>,
     entry: &Entry<'_>,
@@ -65,6 +28,7 @@ pub(crate) fn is_required(
     if entry.tag != DW_TAG_subprogram {
         return Ok(false);
     }
-    check_subprogram(unit, entry)?;
-    Ok(entry.attr(DW_AT_ranges).is_none() && function_begun(unit, entry, transform).is_some())
+    let shows_code = ranges_show_code(unit, entry, transform)?;
+    let begins_in_code = begins_in_code(unit, entry, transform)?;
+    Ok(shows_code.unwrap_or(begins_in_code))
 }

@@ -103,8 +103,8 @@ pub(crate) struct ModuleGraph<'d> {
     pub units: Vec<ReadUnit<'d>>,
 }
 
-/// The graph of the entries of the units that are still to come, which are read once, and which of them are required: a subprogram without
-/// ranges that begins in a function with a symbol.
+/// The graph of the entries of the units that are still to come, which are read once, and which of them are required: subprograms of
+/// functions with a symbol, by where they begin or by their range lists.
 pub(crate) fn graph_of<'d>(
     alloc: Global,
     headers: Units<'d>,

@@ -156,15 +156,15 @@ impl<'d> RangeEntries<'d> {
         }
     }
 
-    // The section that the list stands in.
-    pub(crate) fn section(&self) -> SectionName
+    /// The section that the list stands in.
+    pub fn section(&self) -> SectionName
         ensures { result ≡ self.now.place.section }
     {
         section_of_lists(self.in_pairs)
     }
 
-    // The offset of the list's first byte there.
-    pub(crate) fn offset(&self) -> u64
+    /// The offset of the list's first byte there.
+    pub fn offset(&self) -> u64
         ensures { result ≡ self.now.place.offset }
     {
         self.offset
