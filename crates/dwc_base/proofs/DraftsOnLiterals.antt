@@ -1,5 +1,6 @@
 -- The definitions that stay shut, as a set: a proof that computes on literals names it on its `unfolding` line.
 use Rattle.std.proofs.Common.{ℕ}
+use Rattle.std.specs.Int.{int_wrap}
 use Rattle.dwc_base.proofs.OnLiterals.{lines_on_literals}
 use Rattle.dwc_base.specs.Texts.{text_elsewhere, text_named, path_text}
 use Rattle.dwc_base.specs.Indexed.{root_offsets, offset_of_root, index_base, address_from, address_named, texts_of_unit}
@@ -10,12 +11,26 @@ use Rattle.dwc_base.specs.Clones.{value_becomes, bound_becomes, attribute_become
 use Rattle.dwc_base.specs.CarriedDrafts.{source_of, carried_drafts}
 use Rattle.dwc_base.specs.ReachedEntries.{info_faults, kept_refusals, module_refusals}
 use Rattle.dwc_base.specs.RawLists.{list_named, pair_at, entry_of_kind_at, kind_and_entry_at, raw_entry_at, raw_ranges}
-use Rattle.dwc_base.specs.Lists.{first_base_of, list_source}
+use Rattle.dwc_base.specs.Lists.{first_base_of, list_source, interval_given, base_behind, intervals_given, ranges_at, ranges_of_value}
+use Rattle.dwc_base.specs.Runs.{runs, native_offset, translated, native_ranges, native_in_function, native}
+use Rattle.dwc_base.specs.RangeAttributes.{begun_function, extent, native_of_intervals, range_attributes}
+use Rattle.dwc_base.specs.RangeRefusals.{bound_refusal}
+use Rattle.dwc_base.specs.RangeRules.{code_becomes}
 use Rattle.dwc_base.specs.RangeKept.{list_shows_code, is_required}
-use Rattle.dwc_base.specs.EntryRules.{function_begun, named_faults}
+use Rattle.dwc_base.specs.EntryRules.{named_faults}
 use Rattle.dwc_base.specs.DraftForests.{forest}
 use Rattle.dwc_base.specs.TreeReading.{value_said, unit_said, trees}
 
+-- what runs and translations are made of
+unfoldable pub runs_on_literals : ℕ
+unfolding runs native_offset translated native_ranges native_in_function native
+runs_on_literals = 0
+
+-- and what is made of range lists
+unfoldable pub ranges_given_on_literals : ℕ
+unfolding runs_on_literals interval_given base_behind intervals_given ranges_at ranges_of_value begun_function extent native_of_intervals range_attributes bound_refusal code_becomes int_wrap
+ranges_given_on_literals = 0
+
 unfoldable pub drafts_on_literals : ℕ
-unfolding lines_on_literals text_elsewhere text_named path_text root_offsets offset_of_root index_base address_from address_named texts_of_unit target_of entry_begun_at kept_with kept_module value_becomes bound_becomes attribute_becomes attributes_become attributes_made entry_refusals source_of carried_drafts info_faults kept_refusals module_refusals list_named pair_at entry_of_kind_at kind_and_entry_at raw_entry_at raw_ranges first_base_of list_source list_shows_code is_required function_begun named_faults forest value_said unit_said trees
+unfolding lines_on_literals ranges_given_on_literals text_elsewhere text_named path_text root_offsets offset_of_root index_base address_from address_named texts_of_unit target_of entry_begun_at kept_with kept_module value_becomes bound_becomes attribute_becomes attributes_become attributes_made entry_refusals source_of carried_drafts info_faults kept_refusals module_refusals list_named pair_at entry_of_kind_at kind_and_entry_at raw_entry_at raw_ranges first_base_of list_source list_shows_code is_required named_faults forest value_said unit_said trees
 drafts_on_literals = 0

@@ -103,7 +103,7 @@ abbrev pub Each : {A : Type 0} → (A → Type 0) → List A → Type 0
 Each P [] = Unit {0}
 Each P (x ∷ xs) = P x × Each P xs
 
-each_chosen : {A : Type 0} (P : A → Type 0) (xs ys : List A) (b : Bool) → Each P xs → Each P ys → Each P (if b then xs else ys)
+pub each_chosen : {A : Type 0} (P : A → Type 0) (xs ys : List A) (b : Bool) → Each P xs → Each P ys → Each P (if b then xs else ys)
 each_chosen P xs ys true h k = h
 each_chosen P xs ys false h k = k
 

@@ -1,11 +1,22 @@
 -- Every reference of the trees of an input goes to an entry that is there.
-use Rattle.std.proofs.Common.{◌≡◌, ℕ, List, [], ◌∷◌, ◌++◌, map, Option, Some, None, Bool, true, false, Result, Ok, Err, refl, ◌==◌}
+use Rattle.std.proofs.Common.{◌≡◌, ℕ, pos, List, [], ◌∷◌, ◌++◌, map, Option, Some, None, Bool, true, false, Result, Ok, Err, refl, ◌==◌}
 use Rattle.std.specs.Prelude.{◌&&◌, if◌then◌else◌, option_map, is_some, filter_map}
-use Rattle.dwc_base.specs.declared.constants.TheConstants.{DW_AT_endianity, DW_AT_stmt_list, DW_FORM_data1, DW_FORM_udata, DW_END_little, DW_TAG_base_type}
+use Rattle.dwc_base.specs.declared.constants.TheConstants.{DW_AT_endianity, DW_AT_low_pc, DW_AT_ranges, DW_AT_stmt_list, DW_FORM_data1, DW_FORM_udata, DW_END_little, DW_TAG_base_type, DW_TAG_compile_unit}
+use Rattle.dwc_base.specs.declared.records.Address.{Address}
+use Rattle.dwc_base.specs.declared.records.Address.TheVariants.{Constant, Symbol}
 use Rattle.dwc_base.specs.declared.section_name.SectionName.TheVariants.{Info}
-use Rattle.dwc_base.specs.declared.faults.What.TheVariants.{Text}
+use Rattle.dwc_base.specs.declared.faults.Flaw.{Flaw}
+use Rattle.dwc_base.specs.declared.faults.Kind.TheVariants.{NotBuilt}
+use Rattle.dwc_base.specs.declared.faults.What.TheVariants.{AddressValue, Text}
+use Rattle.dwc_base.specs.Listing.{Listing}
+use Rattle.dwc_base.specs.Entries.{Entry}
+use Rattle.dwc_base.specs.RawLists.{ListSource}
+use Rattle.dwc_base.specs.Lists as Lists
+use Rattle.dwc_base.specs.Lists.{ListRefusal, list_source, ranges_of_value}
+use Rattle.dwc_base.specs.RangeAttributes.{begun_function, Extent, intervals, position, nowhere, extent, native_of_intervals, carried_address, carried_ranges, bounds, length_of, said_intervals, said_extent, range_attributes}
+use Rattle.dwc_base.specs.RangeRules.{all_items, drafted, list_becomes, code_becomes, told_as}
 use Rattle.dwc_base.specs.Reading.{◌>>=◌}
-use Rattle.dwc_base.specs.Sections.{Sections, Fault, reported}
+use Rattle.dwc_base.specs.Sections.{Sections, Fault, fault_of, reported, unsupported}
 use Rattle.dwc_base.specs.Units.{UnitHeader}
 use Rattle.dwc_base.specs.Values as Values
 use Rattle.dwc_base.specs.Values.{Value}
@@ -13,17 +24,17 @@ use Rattle.dwc_base.specs.Kept.{Placed}
 use Rattle.dwc_base.specs.Carried.{Module, Compilation, Unit}
 use Rattle.dwc_base.specs.Functions.{Function}
 use Rattle.dwc_base.specs.Refusals.{Refusal, of_place}
-use Rattle.dwc_base.specs.Trees.{constant, flag, block, text, line_table}
+use Rattle.dwc_base.specs.Trees.{Interval, TreeValue, address as address_of_tree, constant, flag, block, text, line_table, ranges}
 use Rattle.dwc_base.specs.Drafts.{DraftValue, done, goes_to, made_of, itself}
 use Rattle.dwc_base.specs.Texts.{text_named}
 use Rattle.dwc_base.specs.Targets.{target_of}
-use Rattle.dwc_base.specs.TreeLaws.{HasAllTargets}
+use Rattle.dwc_base.specs.TreeLaws.{HasAllTargets, goes_somewhere}
 use Rattle.dwc_base.specs.KeptModules.{carried_in, kept_in}
 use Rattle.dwc_base.specs.Clones.{UnitSource, is_dropped_name, is_bound_name, is_file_name, constant_form, file_number, constant_becomes, text_drafted, text_becomes, value_becomes, nothing_unless, bound_becomes, table_becomes, attribute_becomes, attributes_become, if_made, endianity, attributes_made}
 use Rattle.dwc_base.specs.CarriedDrafts.{source_of, draft_of, unit_drafts, carried_drafts}
-use Rattle.dwc_base.specs.EntryRules.{not_built, function_begun, function_bounds, code_rules}
+use Rattle.dwc_base.specs.EntryRules.{of_list, code_rules}
 use Rattle.dwc_base.specs.Forests.{kept_of, rules_of, is_big, module_drafts, trees_made}
-use Rattle.dwc_base.proofs.ForestLaws.{some_same, none_is, Each, each_filter_map, each_both, SaysNoPlace, EntrySaysNoPlace, UnitSaysNoPlace, ModuleSaysNoPlace, references-go}
+use Rattle.dwc_base.proofs.ForestLaws.{some_same, none_is, Each, each_chosen, each_mapped, each_filter_map, each_both, SaysNoPlace, EntrySaysNoPlace, UnitSaysNoPlace, ModuleSaysNoPlace, references-go}
 
 -- what something becomes, if it becomes something, says no place itself
 abbrev MakesNoPlace : ℕ → Result (Option DraftValue) Refusal → Type 0
@@ -55,6 +66,69 @@ reference-made : (name : ℕ) (o : Option Placed) → MakesNoPlace name (Ok (opt
 reference-made name None = nothing-made name
 reference-made name (Some f) = value-made name (goes_to (made_of f.entry.offset itself)) tt
 
+-- ---- code
+
+-- What speaks of code refers to no entry.
+abbrev IsNoReference : ℕ × TreeValue → Type 0
+IsNoReference a = goes_somewhere [] a.1 ≡ true
+
+address-made : (name : ℕ) (fs : List Function) (offset : ℕ) (r : Result Address Flaw) → MakesNoPlace name (told_as of_list (elim r [ Ok a ↦ Ok (drafted (carried_address fs a)) | Err flaw ↦ Err (Lists.of_place (fault_of AddressValue Info offset flaw)) ]))
+address-made name fs offset (Ok a) = value-made name (done (carried_address fs a)) refl
+address-made name fs offset (Err flaw) = refused-made name (of_place (fault_of AddressValue Info offset flaw))
+
+list-made : (name : ℕ) (fs : List Function) (xs : Listing ListRefusal Interval) → MakesNoPlace name (told_as of_list (list_becomes fs (all_items xs)))
+list-made name fs xs = go xs.fault
+  where
+    go : (o : Option ListRefusal) → MakesNoPlace name (told_as of_list (list_becomes fs (elim o [ None ↦ Ok xs.items | Some refusal ↦ Err refusal ])))
+    go None = value-made name (done (carried_ranges fs xs.items)) refl
+    go (Some refusal) = refused-made name (of_list refusal)
+
+-- What is not built is refused.
+unbuilt-made : (name offset : ℕ) → MakesNoPlace name (told_as of_list (Err (Lists.of_place (unsupported NotBuilt offset))))
+unbuilt-made name offset = refused-made name (of_place (unsupported NotBuilt offset))
+
+code-made : (fs : List Function) (s : ListSource) (offset name : ℕ) (v : Value) → MakesNoPlace name (told_as of_list (code_becomes s fs offset v))
+unfolding code_becomes
+code-made fs s offset name (Values.address a) = value-made name (done (carried_address fs a)) refl
+code-made fs s offset name (Values.address_index i) = address-made name fs offset (s.indexed i)
+code-made fs s offset name (Values.range_reference n) = list-made name fs (ranges_of_value s offset (Values.range_reference n))
+code-made fs s offset name (Values.range_index i) = list-made name fs (ranges_of_value s offset (Values.range_index i))
+code-made fs s offset name (Values.constant form bits) = unbuilt-made name offset
+code-made fs s offset name (Values.flag b) = unbuilt-made name offset
+code-made fs s offset name (Values.block bytes) = unbuilt-made name offset
+code-made fs s offset name (Values.text bytes) = unbuilt-made name offset
+code-made fs s offset name (Values.text_reference form n) = unbuilt-made name offset
+code-made fs s offset name (Values.unit_reference n) = unbuilt-made name offset
+code-made fs s offset name (Values.info_reference n) = unbuilt-made name offset
+code-made fs s offset name (Values.line_reference n) = unbuilt-made name offset
+code-made fs s offset name Values.dropped = unbuilt-made name offset
+code-made fs s offset name (Values.expression bytes) = unbuilt-made name offset
+code-made fs s offset name (Values.location_reference n) = unbuilt-made name offset
+code-made fs s offset name (Values.location_index n) = unbuilt-made name offset
+
+intervals-name-none : (tag : ℕ) (is : List Interval) → Each IsNoReference (said_intervals tag is)
+intervals-name-none tag [] = (refl, tt)
+intervals-name-none tag (i ∷ j ∷ is) = (refl, tt)
+intervals-name-none tag (i ∷ []) = each_chosen IsNoReference ((DW_AT_ranges, ranges (i ∷ [])) ∷ []) (bounds i.begin (length_of i)) (tag == DW_TAG_compile_unit) (refl, tt) (refl, (refl, tt))
+
+position-names-none : (fs : List Function) (a : Address) (b : Bool) → IsNoReference (DW_AT_low_pc, if b then address_of_tree (Constant 0) else carried_address fs a)
+position-names-none fs a true = refl
+position-names-none fs a false = refl
+
+extent-names-none : (fs : List Function) (tag : ℕ) (x : Extent) → Each IsNoReference (said_extent fs tag x)
+extent-names-none fs tag nowhere = tt
+extent-names-none fs tag (intervals []) = tt
+extent-names-none fs tag (intervals (i ∷ is)) = intervals-name-none tag (native_of_intervals fs (i ∷ is))
+extent-names-none fs tag (position a) = (position-names-none fs a (tag == DW_TAG_compile_unit), tt)
+
+attributes-name-none : (fs : List Function) (s : ListSource) (e : Entry) → Each IsNoReference (range_attributes s fs e)
+unfolding range_attributes
+attributes-name-none fs s e = go (begun_function s fs e)
+  where
+    go : (o : Option Function) → Each IsNoReference (elim o [ Some f ↦ bounds (Symbol f.number (pos 0)) f.length | None ↦ said_extent fs e.tag (extent s e) ])
+    go (Some f) = (refl, (refl, tt))
+    go None = extent-names-none fs e.tag (extent s e)
+
 module _ (fs : List Function) (sections : Sections) (h : UnitHeader) (s : UnitSource) (e : Placed) where
   value-becomes : (name : ℕ) (v : Value) → MakesNoPlace name (value_becomes (code_rules fs sections h) s e name v)
   unfolding value_becomes
@@ -67,13 +141,13 @@ module _ (fs : List Function) (sections : Sections) (h : UnitHeader) (s : UnitSo
   value-becomes name (Values.info_reference n) = reference-made name (target_of s.entries e (Values.info_reference n))
   value-becomes name (Values.line_reference n) = nothing-made name
   value-becomes name Values.dropped = nothing-made name
-  value-becomes name (Values.address a) = refused-made name (of_place (not_built e.entry))
-  value-becomes name (Values.address_index n) = refused-made name (of_place (not_built e.entry))
-  value-becomes name (Values.expression bytes) = refused-made name (of_place (not_built e.entry))
-  value-becomes name (Values.range_reference n) = refused-made name (of_place (not_built e.entry))
-  value-becomes name (Values.range_index n) = refused-made name (of_place (not_built e.entry))
-  value-becomes name (Values.location_reference n) = refused-made name (of_place (not_built e.entry))
-  value-becomes name (Values.location_index n) = refused-made name (of_place (not_built e.entry))
+  value-becomes name (Values.address a) = code-made fs (list_source sections h) e.entry.offset name (Values.address a)
+  value-becomes name (Values.address_index n) = code-made fs (list_source sections h) e.entry.offset name (Values.address_index n)
+  value-becomes name (Values.expression bytes) = code-made fs (list_source sections h) e.entry.offset name (Values.expression bytes)
+  value-becomes name (Values.range_reference n) = code-made fs (list_source sections h) e.entry.offset name (Values.range_reference n)
+  value-becomes name (Values.range_index n) = code-made fs (list_source sections h) e.entry.offset name (Values.range_index n)
+  value-becomes name (Values.location_reference n) = code-made fs (list_source sections h) e.entry.offset name (Values.location_reference n)
+  value-becomes name (Values.location_index n) = code-made fs (list_source sections h) e.entry.offset name (Values.location_index n)
 
   bound-becomes : (before : List (ℕ × Value)) (a : ℕ × Value) → MakesNoPlace a.0 (bound_becomes (code_rules fs sections h) s e before a)
   unfolding bound_becomes
@@ -109,9 +183,8 @@ module _ (fs : List Function) (sections : Sections) (h : UnitHeader) (s : UnitSo
   attributes-become before [] = tt
   attributes-become before (a ∷ others) = (attribute-becomes before a, attributes-become (before ++ (a ∷ [])) others)
 
-  bounds-no-place : (o : Option Function) → Each SaysNoPlace (function_bounds o)
-  bounds-no-place None = tt
-  bounds-no-place (Some f) = (refl, (refl, tt))
+  bounds-no-place : Each SaysNoPlace ((code_rules fs sections h).bounds e)
+  bounds-no-place = each_mapped (λ a. (a.0, done a.1)) IsNoReference SaysNoPlace (λ a is. is) (range_attributes (list_source sections h) fs e.entry) (attributes-name-none fs (list_source sections h) e.entry)
 
   endianity-no-place : (big_endian : Bool) → Each SaysNoPlace (endianity big_endian e)
   endianity-no-place big_endian = go (big_endian && (e.entry.tag == DW_TAG_base_type))
@@ -123,10 +196,10 @@ module _ (fs : List Function) (sections : Sections) (h : UnitHeader) (s : UnitSo
   entry-no-place : (big_endian : Bool) → EntrySaysNoPlace (draft_of (code_rules fs sections h) s big_endian e)
   unfolding attributes_made
   entry-no-place big_endian =
-      let bounds = function_bounds (function_begun fs sections h e.entry) in
+      let bounds = (code_rules fs sections h).bounds e in
       let others = filter_map (λ a. if_made a.0 a.1) (attributes_become (code_rules fs sections h) s e [] e.entry.attributes) in
       each_both SaysNoPlace (bounds ++ others) (endianity big_endian e)
-      (each_both SaysNoPlace bounds others (bounds-no-place (function_begun fs sections h e.entry))
+      (each_both SaysNoPlace bounds others bounds-no-place
       (each_filter_map (λ a. if_made a.0 a.1) SaysNoPlace (attributes_become (code_rules fs sections h) s e [] e.entry.attributes) (attributes-become [] e.entry.attributes)))
       (endianity-no-place big_endian)
 

@@ -20,7 +20,7 @@ use Rattle.dwc_base.specs.RangeKept.{is_required}
 use Rattle.dwc_base.specs.RangeAttributes.{range_attributes}
 use Rattle.dwc_base.specs.Clones.{entry_refusals}
 use Rattle.dwc_base.specs.RangeRules.{range_rules, code_becomes}
-use Rattle.dwc_base.specs.RangeRefusals.{subprogram_faults, long_function}
+use Rattle.dwc_base.specs.RangeRefusals.{subprogram_faults, is_long}
 use Rattle.dwc_base.proofs.OnLists.{ranges_on_literals}
 use Rattle.dwc_base.proofs.SmallLists.{source_of, no_texts}
 use Rattle.dwc_base.proofs.RunCases.{a_function}
@@ -287,5 +287,5 @@ unfolding ranges_on_literals
 not-built = refl
 
 -- a function of 2 ^ 31 bytes is too long, if it has a symbol
-lengths : map long_function (a_function 3 (Some 0) 2 13 0x7FFFFFFF [] ∷ a_function 4 (Some 0) 2 13 0x80000000 [] ∷ a_function 5 None 2 13 0x80000000 [] ∷ []) ≡ None ∷ Some 4 ∷ None ∷ []
+lengths : map is_long (a_function 3 (Some 0) 2 13 0x7FFFFFFF [] ∷ a_function 4 (Some 0) 2 13 0x80000000 [] ∷ a_function 5 None 2 13 0x80000000 [] ∷ []) ≡ false ∷ true ∷ false ∷ []
 lengths = refl

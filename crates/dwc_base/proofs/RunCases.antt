@@ -5,7 +5,7 @@ use Rattle.dwc_base.specs.declared.records.Address.TheVariants.{Symbol}
 use Rattle.dwc_base.specs.Functions.{Function}
 use Rattle.dwc_base.specs.Trees.{Interval}
 use Rattle.dwc_base.specs.Runs.{Run, runs, start_in, end_in, native_offset, translated, native_ranges, native_in_function, native, interval_of}
-use Rattle.dwc_base.proofs.OnLists.{runs_on_literals}
+use Rattle.dwc_base.proofs.DraftsOnLiterals.{runs_on_literals}
 
 -- a function from wasm 10 to 20, of 30 bytes, and one whose sources fall at its last entry
 abbrev pub a_function : ℕ → Option ℕ → ℕ → ℕ → ℕ → List (ℕ × Option ℕ) → Function

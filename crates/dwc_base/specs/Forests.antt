@@ -1,10 +1,12 @@
 -- The trees that an output is to say, and why an input is refused. (This project's own rules.)
-use Rattle.std.specs.Prelude.{List, map, Bool, true, false, Option, Some, None, Result, Ok, Err}
-use Rattle.std.specs.List.{flat_map}
+use Rattle.std.specs.Prelude.{List, ◌++◌, map, Bool, true, false, if◌then◌else◌, Option, Some, None, Result, Ok, Err}
+use Rattle.std.specs.List.{filter_map, flat_map}
 use Rattle.dwc_base.specs.declared.records.Endian.{Endian}
 use Rattle.dwc_base.specs.declared.records.Endian.TheVariants.{Little, Big}
 use Rattle.dwc_base.specs.Carried.{Unit, Module, Compilation, CarriedUnit}
-use Rattle.dwc_base.specs.Refusals.{Refusal, of_place, unit_refusal, first_of}
+use Rattle.dwc_base.specs.Functions.{Function}
+use Rattle.dwc_base.specs.RangeRefusals.{is_long}
+use Rattle.dwc_base.specs.Refusals.{Refusal, of_place, long_function, unit_refusal, first_of}
 use Rattle.dwc_base.specs.KeptModules.{KeptModule, kept_module, carried_in}
 use Rattle.dwc_base.specs.Clones.{CodeRules}
 use Rattle.dwc_base.specs.CarriedDrafts.{carried_drafts}
@@ -36,11 +38,15 @@ rules_of m u = code_rules m.functions m.sections u.header
 abbrev pub module_refusals : Module → List Refusal
 module_refusals m = Reached.module_refusals of_place (named_faults m.sections) (unit_refusal m.sections) (rules_of m) (kept_of m)
 
--- what is refused of an input, module by module
-abbrev pub refusals : Compilation → List Refusal
-refusals c = flat_map module_refusals c.modules
+-- what is refused of functions with a symbol that are too long
+abbrev pub function_refusals : List Function → List Refusal
+function_refusals fs = filter_map (λ f. if is_long f then Some long_function else None) fs
 
--- the refusal of an input: the first in the order of reading
+-- what is refused of an input: of the functions of all modules, and then of what is read, module by module
+abbrev pub refusals : Compilation → List Refusal
+refusals c = flat_map (λ m. function_refusals m.functions) c.modules ++ flat_map module_refusals c.modules
+
+-- the refusal of an input: the first of these
 abbrev pub first_refusal : Compilation → Option Refusal
 first_refusal c = first_of (refusals c)
 

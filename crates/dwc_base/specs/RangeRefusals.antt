@@ -100,6 +100,6 @@ bound_refusal s fs e before a = option_or (option_map of_place (index_fault s e.
 abbrev pub longest_function : ℕ
 longest_function = 2 ^ 31 - 1
 
--- the number of a function with a symbol that is longer
-abbrev pub long_function : Function → Option ℕ
-long_function f = if is_some f.symbol && nat_lt longest_function f.length then Some f.number else None
+-- whether a function with a symbol is longer
+abbrev pub is_long : Function → Bool
+is_long f = is_some f.symbol && nat_lt longest_function f.length

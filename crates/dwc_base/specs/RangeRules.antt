@@ -9,11 +9,10 @@ use Rattle.dwc_base.specs.Sections.{fault_of, unsupported}
 use Rattle.dwc_base.specs.Values.{Value, address, address_index, expression, range_reference, range_index}
 use Rattle.dwc_base.specs.Entries.{Entry}
 use Rattle.dwc_base.specs.Functions.{Function}
-use Rattle.dwc_base.specs.Carried.{Unit, Module}
 use Rattle.dwc_base.specs.Trees.{Interval, TreeValue}
 use Rattle.dwc_base.specs.Drafts.{DraftValue, done}
 use Rattle.dwc_base.specs.RawLists.{ListSource}
-use Rattle.dwc_base.specs.Lists.{list_source, ListRefusal, of_place, ranges_of_value}
+use Rattle.dwc_base.specs.Lists.{ListRefusal, of_place, ranges_of_value}
 use Rattle.dwc_base.specs.RangeAttributes.{carried_address, carried_ranges, range_attributes}
 use Rattle.dwc_base.specs.RangeRefusals.{bound_refusal}
 use Rattle.dwc_base.specs.Clones.{CodeRules}
@@ -64,7 +63,3 @@ range_rules told s fs = record {
   other = λ e a. told_as told (code_becomes s fs e.entry.offset a.1);
   behind = λ e. [];
 }
-
--- the same for a unit of a module
-abbrev pub range_rules_of_unit : {E : Type 0} → (ListRefusal → E) → Module → Unit → CodeRules E
-range_rules_of_unit told m u = range_rules told (list_source m.sections u.header) m.functions

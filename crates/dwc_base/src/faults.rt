@@ -43,6 +43,10 @@ pub enum Kind {
 pub enum Limit {
     /// A section of more than 2^31 - 1 bytes.
     Section(SectionName),
+    /// An address behind a function's symbol by more than 2^31 - 1 bytes.
+    Addend,
+    /// A range of the input whose start plus its length is no address.
+    Range,
 }
 
 /// Why bytes do not spell what is read: they end too early, a number of variable length does not fit 64 bits, the grammar
