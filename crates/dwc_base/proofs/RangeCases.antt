@@ -20,7 +20,8 @@ use Rattle.dwc_base.specs.RangeKept.{is_required}
 use Rattle.dwc_base.specs.RangeAttributes.{range_attributes}
 use Rattle.dwc_base.specs.Clones.{entry_refusals}
 use Rattle.dwc_base.specs.RangeRules.{range_rules, code_becomes}
-use Rattle.dwc_base.specs.RangeRefusals.{subprogram_faults, is_long}
+use Rattle.dwc_base.specs.RangeRefusals.{subprogram_faults}
+use Rattle.dwc_base.specs.Addends.{is_long}
 use Rattle.dwc_base.proofs.OnLists.{ranges_on_literals}
 use Rattle.dwc_base.proofs.SmallLists.{source_of, no_texts}
 use Rattle.dwc_base.proofs.RunCases.{a_function}

@@ -5,7 +5,7 @@ use Rattle.dwc_base.specs.declared.records.Endian.{Endian}
 use Rattle.dwc_base.specs.declared.records.Endian.TheVariants.{Little, Big}
 use Rattle.dwc_base.specs.Carried.{Unit, Module, Compilation, CarriedUnit}
 use Rattle.dwc_base.specs.Functions.{Function}
-use Rattle.dwc_base.specs.RangeRefusals.{is_long}
+use Rattle.dwc_base.specs.Addends.{is_long}
 use Rattle.dwc_base.specs.Refusals.{Refusal, of_place, long_function, unit_refusal, first_of}
 use Rattle.dwc_base.specs.KeptModules.{KeptModule, kept_module, carried_in}
 use Rattle.dwc_base.specs.Clones.{CodeRules}

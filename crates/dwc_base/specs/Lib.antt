@@ -40,6 +40,7 @@ pub mod CarriedDrafts
 pub mod DraftForests
 pub mod ReachedEntries
 pub mod Runs
+pub mod Addends
 pub mod RawLists
 pub mod Lists
 pub mod RangeKept

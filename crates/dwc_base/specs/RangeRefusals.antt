@@ -1,5 +1,5 @@
 -- What the reading of lists and intervals refuses, in the order of reading. (This project's own order.)
-use Rattle.std.specs.Prelude.{ℕ, ◌-◌, ◌^◌, ◌==◌, List, [], ◌∷◌, ◌++◌, map, Bool, nat_lt, not, ◌&&◌, if◌then◌else◌, Option, Some, None, option_map, option_and_then, option_to_list, is_some, Result, Ok, Err}
+use Rattle.std.specs.Prelude.{ℕ, ◌==◌, List, [], ◌∷◌, ◌++◌, map, Bool, not, ◌&&◌, if◌then◌else◌, Option, Some, None, option_map, option_and_then, option_to_list, is_some, Result, Ok, Err}
 use Rattle.std.specs.Option.{option_or}
 use Rattle.std.specs.List.{filter_map, flat_map, list_any}
 use Rattle.dwc_base.specs.declared.section_name.SectionName.TheVariants.{Info}
@@ -93,13 +93,3 @@ extent_refusal s e before a = option_or (if a.0 == DW_AT_ranges then (ranges_of_
 -- what else it says of the extent, unless the entry begins in a function by its low_pc.
 unfoldable pub bound_refusal : ListSource → List Function → Entry → List (ℕ × Value) → ℕ × Value → Option ListRefusal
 bound_refusal s fs e before a = option_or (option_map of_place (index_fault s e.offset a.1)) (if begins_by_low_pc s fs e then None else extent_refusal s e before a)
-
--- ---- lengths of functions
-
--- the most bytes of a function with a symbol, whose ends are addends of 32 signed bits
-abbrev pub longest_function : ℕ
-longest_function = 2 ^ 31 - 1
-
--- whether a function with a symbol is longer
-abbrev pub is_long : Function → Bool
-is_long f = is_some f.symbol && nat_lt longest_function f.length

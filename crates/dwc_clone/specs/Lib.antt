@@ -1,3 +1,5 @@
+pub mod Errors
+pub mod NativeExtents
 pub mod OutputPlaces
 pub mod Sources
 pub mod MadeValues

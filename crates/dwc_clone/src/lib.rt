@@ -3,16 +3,20 @@
 
 mod attribute;
 mod entry;
+mod error;
+mod extent;
 mod files;
 mod known_texts;
 mod names;
 mod places;
+mod ranges;
 mod reference;
 mod source;
 mod text;
 mod unit;
 mod value;
 
+pub use error::CloneError;
 pub use files::UnitFiles;
 pub use known_texts::KnownTexts;
 pub use places::{OutputPlace, Places};

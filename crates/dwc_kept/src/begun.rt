@@ -1,44 +1,73 @@
-//! The functions that subprograms begin in.
-ghost use Rattle.std.specs.Prelude.{◌≡◌, option_map, IfSome, IsSome};
-ghost use Rattle.dwc_base.specs.Entries.{attribute};
-ghost use Rattle.dwc_base.specs.EntryRules.{function_of_value, function_begun};
+//! The functions that subprograms begin in. (DWARF 4 and 5, section 2.17.)
+ghost use Rattle.std.specs.Prelude.{◌≡◌, ℕ, option_map, option_and_then, IfSome, IsSome};
+ghost use Rattle.dwc_base.specs.Lists.{list_source};
+ghost use Rattle.dwc_base.specs.RangeAttributes.{address_said, begin_of, begun_function, listed_intervals};
+ghost use Rattle.dwc_base.specs.Refusals.{first_of};
 ghost use Rattle.dwc_addr.specs.Transforms.{function_view};
 ghost use Rattle.dwc_read.specs.EntriesSeen.{entry_view};
 
 use dwc_addr::{AddressTransform, FunctionMap};
 use dwc_base::Address;
-use dwc_base::constants::{DW_AT_low_pc, DW_TAG_subprogram};
+use dwc_base::constants::{DW_AT_low_pc, DW_AT_ranges, DW_TAG_subprogram};
 use dwc_read::{Entry, Unit};
+use dwc_tabs::{Ranges, is_range_list};
 
-// The function with a symbol that the first `low_pc` of an entry is in.
-fn function_of_low_pc<'t>(
-    unit: &Unit<'_>,
-    entry: &Entry<'_>,
-    transform: &'t AddressTransform,
-) -> Option<&'t FunctionMap>
-    ensures symbol { IfSome result (λ f. IsSome f.now.symbol) }
-    ensures found { option_map (λ f. function_view f.now) result ≡ function_of_value unit.now.sections unit.now.header transform.now (attribute DW_AT_low_pc (entry_view entry.now)) }
+/// The address that the first attribute of a name says, in place or by an index. None where there is no such attribute, or it is no address
+/// or one that cannot be read.
+pub fn address_said(unit: &Unit<'_>, entry: &Entry<'_>, name: u16) -> Option<Address>
+    ensures { result ≡ address_said (list_source unit.now.sections unit.now.header) name (entry_view entry.now) }
 {
-    let low_pc = entry.attr(DW_AT_low_pc)?;
-    match unit.address_of(&low_pc) {
-        Ok(Some(Address::Constant(address))) => transform.func_at(address),
+    let value = entry.attr(name)?;
+    match unit.address_of(&value) {
+        Ok(address) => address,
+        Err(_) => None,
+    }
+}
+
+// The begin of the first interval of the range list of an entry, if it has one that can be read so far.
+fn first_listed(unit: &Unit<'_>, entry: &Entry<'_>) -> Option<Address>
+    ensures { result ≡ option_map (λ i. i.begin) (option_and_then first_of (listed_intervals (list_source unit.now.sections unit.now.header) (entry_view entry.now))) }
+{
+    let ranges = entry.attr(DW_AT_ranges)?;
+    if !is_range_list(&ranges) {
+        return None;
+    }
+    let mut list = match Ranges::new(unit, ranges) {
+        Ok(list) => list,
+        Err(_) => return None,
+    };
+    match list.next_range() {
+        Ok(Some((begin, _))) => Some(begin),
         _ => None,
     }
 }
 
-/// The function with a symbol that a subprogram's first `low_pc` is in, in place or by an index; None for other entries. An address that
-/// cannot be read is in none. (DWARF 4 and 5, section 2.17.)
-#[tactic(auto, unfolding(dwc_base::specs::EntryRules::function_begun))]
+// The address that an entry begins at: its first `low_pc`; without one, the begin of the first interval of its range list.
+fn begin_of(unit: &Unit<'_>, entry: &Entry<'_>) -> Option<Address>
+    ensures { result ≡ begin_of (list_source unit.now.sections unit.now.header) (entry_view entry.now) }
+{
+    match address_said(unit, entry, DW_AT_low_pc) {
+        Some(address) => Some(address),
+        None => first_listed(unit, entry),
+    }
+}
+
+/// The function with a symbol that a subprogram begins in, by its first `low_pc`, in place or by an index; without such an address, by the
+/// first interval of its range list. None for other entries. What cannot be read is in no function.
+#[tactic(auto, unfolding(dwc_base::specs::RangeAttributes::begun_function))]
 pub fn function_begun<'t>(
     unit: &Unit<'_>,
     entry: &Entry<'_>,
     transform: &'t AddressTransform,
 ) -> Option<&'t FunctionMap>
     ensures symbol { IfSome result (λ f. IsSome f.now.symbol) }
-    ensures found { option_map (λ f. function_view f.now) result ≡ function_begun transform.now unit.now.sections unit.now.header (entry_view entry.now) }
+    ensures found { option_map (λ f. function_view f.now) result ≡ begun_function (list_source unit.now.sections unit.now.header) transform.now (entry_view entry.now) }
 {
     if entry.tag != DW_TAG_subprogram {
         return None;
     }
-    function_of_low_pc(unit, entry, transform)
+    match begin_of(unit, entry) {
+        Some(Address::Constant(address)) => transform.func_at(address),
+        _ => None,
+    }
 }

@@ -18,7 +18,7 @@ mod references;
 mod required;
 mod walk;
 
-pub use begun::function_begun;
+pub use begun::{address_said, function_begun};
 pub use graph::{EntryGraph, closure};
 pub use kept::Kept;
 pub use kept_units::{KeptModule, build_dependencies, kept_module};

@@ -6,7 +6,6 @@ ghost use Rattle.dwc_base.specs.Entries.{attribute};
 ghost use Rattle.dwc_base.specs.Lists.{list_source};
 ghost use Rattle.dwc_base.specs.RangeKept.{base_beside, begins_in_code, can_translate, list_shows_code, some_shows_code};
 ghost use Rattle.dwc_base.specs.RangeRefusals.{index_fault, list_faults};
-ghost use Rattle.dwc_base.specs.RawLists.{is_range_list};
 ghost use Rattle.dwc_base.specs.Refusals.{first_of};
 ghost use Rattle.dwc_base.specs.Values.{address_index};
 ghost use Rattle.dwc_read.specs.EntriesSeen.{entry_view};
@@ -20,7 +19,7 @@ use dwc_addr::AddressTransform;
 use dwc_base::constants::{DW_AT_low_pc, DW_AT_ranges};
 use dwc_base::{Address, SectionName, What};
 use dwc_read::{AttributeValue, Entry, ReadFault, Unit};
-use dwc_tabs::{RangeEntries, RangeEntry};
+use dwc_tabs::{RangeEntries, RangeEntry, is_range_list};
 
 // What was seen of a list so far: whether its base is in a function, if one is known, and whether an entry shows that it is of code.
 #[derive(Clone, Copy)]
@@ -154,17 +153,6 @@ fn base_beside(transform: &AddressTransform, low_pc: Option<AttributeValue<'_>>)
     match low_pc {
         Some(AttributeValue::Addr(address)) => Some(can_translate(transform, address)),
         _ => None,
-    }
-}
-
-// Whether a value is a range list.
-fn is_range_list(value: &AttributeValue<'_>) -> bool
-    ensures { result ≡ is_range_list (value_view value.now) }
-{
-    match value {
-        AttributeValue::RangeRef(_) => true,
-        AttributeValue::RangeIndex(_) => true,
-        _ => false,
     }
 }
 

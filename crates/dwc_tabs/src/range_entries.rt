@@ -1,7 +1,7 @@
 //! The entries of range lists, as they stand. (DWARF 4, section 2.17.3; DWARF 5, sections 2.17.3, 7.25 and 7.28.)
 ghost use Rattle.std.specs.Prelude.{◌≡◌, ◌+◌, ◌*◌, ◌<◌, ◌^◌, length, false, Some, SomeIff};
 ghost use Rattle.dwc_base.specs.Cursors.{GivesLast};
-ghost use Rattle.dwc_base.specs.RawLists.{place_indexed, raw_ranges};
+ghost use Rattle.dwc_base.specs.RawLists.{is_range_list as names_range_list, place_indexed, raw_ranges};
 ghost use Rattle.dwc_base.specs.Lists.{list_source};
 ghost use Rattle.dwc_base.specs.Sections.{fault_of};
 ghost use Rattle.dwc_base.specs.declared.faults.What.TheVariants.{RangeList as RangeListRead};
@@ -9,6 +9,7 @@ ghost use Rattle.dwc_base.specs.declared.section_name.SectionName.TheVariants.{R
 ghost use Rattle.dwc_base.specs.Indexed.{index_base};
 ghost use Rattle.std.specs.Option.{unwrap_or};
 ghost use Rattle.dwc_read.specs.Faults.{fault_seen};
+ghost use Rattle.dwc_read.specs.ValuesSeen.{value_view};
 ghost use Rattle.dwc_tabs.specs.RangeLists.{section_of_lists as section_of, unread_at as found_at, distance_at as distance_found, place_of_list};
 
 use crate::range_entry::{RangeEntry, range_entry};
@@ -38,6 +39,17 @@ impl<'d> Model for RangeEntries<'d> {
     ghost view = { λ e. record { place = place_of_list e.in_pairs e.offset; left = entries_left e.in_pairs e.relocations e.address_size e.offset e.cursor } };
 
     ghost invariant = { λ e. IsTrue (is_field_size e.address_size) };
+}
+
+/// Whether a value names a range list, by its offset or by an index.
+pub fn is_range_list(value: &AttributeValue<'_>) -> bool
+    ensures { result ≡ names_range_list (value_view value.now) }
+{
+    match value {
+        AttributeValue::RangeRef(_) => true,
+        AttributeValue::RangeIndex(_) => true,
+        _ => false,
+    }
 }
 
 // The section of lists of pairs, or of those from version 5 on.

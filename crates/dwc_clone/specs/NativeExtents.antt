@@ -1,0 +1,51 @@
+-- Range lists and extents of the input, as they are in the native code.
+use Rattle.std.specs.Prelude.{◌≡◌, ℕ, List, [], ◌∷◌, ◌++◌, map, Bool, is_some, All, Option, Some, None, option_map, Result, Ok, Err}
+use Rattle.dwc_base.specs.declared.records.Address.{Address}
+use Rattle.dwc_base.specs.declared.constants.TheConstants.{DW_AT_low_pc}
+use Rattle.dwc_base.specs.Functions.{Function}
+use Rattle.dwc_base.specs.Listing.{Listing}
+use Rattle.dwc_base.specs.Refusals.{Refusal, first_of}
+use Rattle.dwc_base.specs.Trees.{Interval, TreeValue, address as address_of_tree}
+use Rattle.dwc_base.specs.Lists.{ListRefusal}
+use Rattle.dwc_base.specs.RangeAttributes.{native_of_intervals, said_intervals}
+use Rattle.dwc_write.specs.RangeLists.{FitsRange, interval_of}
+use Rattle.dwc_write.specs.Writers.{FitsField}
+use Rattle.dwc_tabs.specs.RangeEnds.{refusal_view}
+use Rattle.dwc_clone.specs.declared.error.CloneError.{CloneError}
+use Rattle.dwc_clone.specs.declared.ranges.NativeRanges.{NativeRanges}
+use Rattle.dwc_clone.specs.declared.extent.NativeExtent.{NativeExtent}
+use Rattle.dwc_clone.specs.declared.extent.NativeExtent.TheVariants.{Intervals, Position, Nowhere}
+use Rattle.dwc_clone.specs.Errors.{refusal_told}
+
+-- Ranges, each by its begin and its length, say some intervals, and fit the fields of each size.
+pub record AreRanges (rs : List (Address × ℕ)) (is : List Interval) : Type 0 where
+  pub say : map interval_of rs ≡ is
+  pub fit : (size : ℕ) → All (FitsRange size) rs
+
+-- What a range list is in the native code: whether it has intervals, their translations one after another, and why it is refused.
+pub record IsNative (fs : List Function) (listed : Listing ListRefusal Interval) (r : NativeRanges) : Type 0 where
+  pub some : r.listed ≡ is_some (first_of listed.items)
+  pub ranges : AreRanges r.ranges.items (native_of_intervals fs listed.items)
+  pub fault : option_map refusal_view r.fault ≡ listed.fault
+
+-- what an error tells is the refusal of something; want of memory tells nothing
+abbrev pub IsTold : Option Refusal → Option Refusal → Type 0
+IsTold refusal None = Unit {0}
+IsTold refusal (Some told) = refusal ≡ Some told
+
+-- Something is not refused, or its refusal is told.
+abbrev pub TellsRefusal : Option Refusal → Result (Unit {0}) CloneError → Type 0
+TellsRefusal refusal (Ok done) = refusal ≡ None
+TellsRefusal refusal (Err e) = IsTold refusal (refusal_told e)
+
+-- what the extent of an entry of a tag is said by
+abbrev pub said_by : ℕ → NativeExtent → List (ℕ × TreeValue)
+said_by tag (Intervals rs) = said_intervals tag (map interval_of rs.items)
+said_by tag (Position a) = (DW_AT_low_pc, address_of_tree a) ∷ []
+said_by tag Nowhere = []
+
+-- its addresses fit the fields of each size
+abbrev pub FitsExtent : NativeExtent → Type 0
+FitsExtent (Intervals rs) = (size : ℕ) → All (FitsRange size) rs.items
+FitsExtent (Position a) = (size : ℕ) → FitsField size a
+FitsExtent Nowhere = Unit {0}

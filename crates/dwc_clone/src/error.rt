@@ -1,0 +1,100 @@
+//! Why the entries of a unit are not cloned.
+ghost use Rattle.std.specs.Prelude.{◌≡◌};
+
+use dwc_base::{Kind, SectionName, What};
+use dwc_read::ReadFault;
+use dwc_tabs::ListFault;
+use dwc_write::WriteError;
+use std::alloc::{AllocError, AllocFailed};
+use thiserror::Error;
+
+/// Why the entries of a unit are not cloned.
+#[derive(Clone, Copy, Debug, PartialEq, Eq, Error)]
+pub enum CloneError {
+    /// The bytes at `offset` of a section are no such thing of DWARF.
+    #[error("Read {what:?} {name} {offset}", name = section.text())]
+    Read {
+        what: What,
+        section: SectionName,
+        offset: u64,
+    },
+    /// What stands at `offset` is of a kind that is refused, or not built yet.
+    #[error("Unsupported {what:?} {offset}")]
+    Unsupported {
+        what: Kind,
+        offset: u64,
+    },
+    /// A start plus a length is no address.
+    #[error("TooLarge Range")]
+    TooLarge,
+    #[error("out of memory")]
+    OutOfMemory,
+}
+
+impl From<ReadFault> for CloneError {
+    ghost use Rattle.std.specs.Prelude.{◌≡◌};
+    ghost use Rattle.dwc_clone.specs.Errors.{of_reading};
+
+    ghost from_gives = { λ fault e. e ≡ of_reading fault };
+
+    fn from(fault: ReadFault) -> CloneError {
+        match fault {
+            ReadFault::Read {
+                what,
+                section,
+                offset,
+            } => CloneError::Read {
+                what,
+                section,
+                offset,
+            },
+            ReadFault::Unsupported { what, offset } => CloneError::Unsupported { what, offset },
+            ReadFault::OutOfMemory => CloneError::OutOfMemory,
+        }
+    }
+}
+
+impl From<ListFault> for CloneError {
+    ghost use Rattle.std.specs.Prelude.{◌≡◌};
+    ghost use Rattle.dwc_clone.specs.Errors.{of_list};
+
+    ghost from_gives = { λ fault e. e ≡ of_list fault };
+
+    fn from(fault: ListFault) -> CloneError {
+        match fault {
+            ListFault::Read {
+                what,
+                section,
+                offset,
+            } => CloneError::Read {
+                what,
+                section,
+                offset,
+            },
+            ListFault::Unsupported { what, offset } => CloneError::Unsupported { what, offset },
+            ListFault::TooLarge => CloneError::TooLarge,
+        }
+    }
+}
+
+impl From<AllocError> for CloneError {
+    ghost use Rattle.std.specs.Prelude.{◌≡◌};
+    ghost use Rattle.dwc_clone.specs.declared.error.CloneError.TheVariants.{OutOfMemory};
+
+    ghost from_gives = { λ _ e. e ≡ OutOfMemory };
+
+    fn from(_: AllocError) -> CloneError {
+        CloneError::OutOfMemory
+    }
+}
+
+impl<T: Drop> From<AllocFailed<T>> for CloneError {
+    ghost use Rattle.std.specs.Prelude.{◌≡◌};
+    ghost use Rattle.dwc_clone.specs.declared.error.CloneError.TheVariants.{OutOfMemory};
+
+    ghost from_gives = { λ _ e. e ≡ OutOfMemory };
+
+    fn from(_: AllocFailed<T>) -> CloneError {
+        CloneError::OutOfMemory
+    }
+}
