@@ -126,7 +126,7 @@ Holds P None = Unit {0}
 Holds P (Some p) = P p
 
 module _ (P : Position → Type 0) (test : Position → Bool) where
-  found-holds : (js : List Position) → AllByRecursion P js → Holds P (find test js)
+  pub found-holds : (js : List Position) → AllByRecursion P js → Holds P (find test js)
   found-holds [] h = tt
   found-holds (j ∷ js) h = go (test j) (found-holds js h.1)
     where
@@ -134,7 +134,7 @@ module _ (P : Position → Type 0) (test : Position → Bool) where
       go true more = h.0
       go false more = more
 
-  passing-hold : (js : List Position) → AllByRecursion P js → AllByRecursion P (filter test js)
+  pub passing-hold : (js : List Position) → AllByRecursion P js → AllByRecursion P (filter test js)
   passing-hold [] h = tt
   passing-hold (j ∷ js) h = go (test j) (passing-hold js h.1)
     where
@@ -142,7 +142,7 @@ module _ (P : Position → Type 0) (test : Position → Bool) where
       go true more = (h.0, more)
       go false more = more
 
-last-holds : (P : Position → Type 0) (js : List Position) → AllByRecursion P js → Holds P (last_of js)
+pub last-holds : (P : Position → Type 0) (js : List Position) → AllByRecursion P js → Holds P (last_of js)
 last-holds P [] h = tt
 last-holds P (j ∷ js) h = go (last_of js) (last-holds P js h.1)
   where
@@ -210,10 +210,10 @@ wasm-to : (code_offset low len : ℕ) (es : List (ℕ × Option ℕ)) → Entrie
 wasm-to code_offset low len [] h = h
 wasm-to code_offset low len (e ∷ es) h = (h.0, wasm-to code_offset e.0 len es h.1)
 
-good-to : (code_offset : ℕ) (m : AddressMap) → map_fault code_offset m ≡ None → EntriesTo 0 m.body_len (map (wasm_entry code_offset) m.entries)
+pub good-to : (code_offset : ℕ) (m : AddressMap) → map_fault code_offset m ≡ None → EntriesTo 0 m.body_len (map (wasm_entry code_offset) m.entries)
 good-to code_offset m h = wasm-to code_offset 0 m.body_len m.entries (good-so (EntriesTo 0 m.body_len m.entries) code_offset m (λ start end. entries-to start end m.body_len 0 m.entries (omega arith)) h)
 
-good-runs : (f : Function) → EntriesTo 0 f.length f.entries → RunSpan 0 f.length (runs f)
+pub good-runs : (f : Function) → EntriesTo 0 f.length f.entries → RunSpan 0 f.length (runs f)
 unfolding runs
 good-runs f h = runs-span f f.start 0 (pieces (source_positions f.length f.entries)) (omega arith) (pieces-spans 0 f.length (source_positions f.length f.entries) (positions-span 0 f.length f.entries h))
 

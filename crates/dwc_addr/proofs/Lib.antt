@@ -1,3 +1,4 @@
+pub mod AddendLaws
 pub mod AscendLaws
 pub mod CompilationLaws
 pub mod EntryLaws
