@@ -1,13 +1,14 @@
 //! Why something is not written.
-use dwc_base::Limit;
+use dwc_base::SectionName;
 use std::alloc::{AllocError, AllocFailed};
 use thiserror::Error;
 
 /// Why something is not written.
 #[derive(Debug, Drop, Error)]
 pub enum WriteError {
-    #[error("too large: {what:?}")]
-    TooLarge { what: Limit },
+    /// A section would be longer than 2^31 - 1 bytes.
+    #[error("too large: {section:?}")]
+    TooLarge { section: SectionName },
     #[error("out of memory")]
     OutOfMemory,
 }

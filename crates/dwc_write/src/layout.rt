@@ -23,7 +23,7 @@ use crate::sizes::{uleb_length, value_size};
 use crate::units::Entry;
 use crate::writer::MOST_BYTES;
 use crate::{Unit, WriteError};
-use dwc_base::{Limit, SectionName};
+use dwc_base::SectionName;
 use indexmap::IndexSet;
 use std::alloc::{AllocError, Global};
 
@@ -174,7 +174,7 @@ fn advanced(place: usize, more: usize) -> Result<usize, WriteError>
 {
     if more > MOST_BYTES - place {
         return Err(WriteError::TooLarge {
-            what: Limit::Section(SectionName::Info),
+            section: SectionName::Info,
         });
     }
     Ok(place + more)

@@ -8,12 +8,11 @@ ghost use Rattle.dwc_write.specs.Spelled.{number_bytes, sized_bytes};
 ghost use Rattle.dwc_write.specs.Writers.{FitsField, IsClear, IsSize, IsSound, IsTooLarge, Writes, address_relocations, most_bytes, offset_relocation, overwritten};
 ghost use Rattle.dwc_write.specs.SpelledAddresses.{address_bytes};
 ghost use Rattle.dwc_write.specs.declared.error.WriteError.TheVariants.{TooLarge, OutOfMemory};
-ghost use Rattle.dwc_base.specs.declared.faults.Limit.TheVariants.{Section};
 
 use crate::WriteError;
 use crate::append::{bytes_4, put_sized, replace, replace_sized};
 use dwc_base::{
-    Address, DwarfSection, DwarfSectionReloc, DwarfSectionRelocTarget, Endian, Limit, SectionName,
+    Address, DwarfSection, DwarfSectionReloc, DwarfSectionRelocTarget, Endian, SectionName,
 };
 use std::alloc::{AllocError, Global};
 use std::marker::Model;
@@ -183,9 +182,7 @@ impl WriterRelocate {
         ensures { Writes self.old self.new result (sized_bytes self.old.order bytes.now) [] }
     {
         if bytes.len() > MOST_BYTES {
-            return Err(WriteError::TooLarge {
-                what: Limit::Section(self.name),
-            });
+            return Err(WriteError::TooLarge { section: self.name });
         }
         let length = bytes_4(self.order, bytes.len() as u32);
         self.put_bytes(&length)?;
@@ -314,13 +311,11 @@ impl Writer for WriterRelocate {
 fn check_room(len: usize, more: usize, name: SectionName) -> Result<(), WriteError>
     requires { len ≤ most_bytes }
     ensures large { IsTooLarge result name ↔ most_bytes < len + more }
-    ensures only { IsOkUnless result (TooLarge (Section name)) }
+    ensures only { IsOkUnless result (TooLarge name) }
     ensures ok { OnOk result (len + more ≤ most_bytes) }
 {
     if more > MOST_BYTES - len {
-        return Err(WriteError::TooLarge {
-            what: Limit::Section(name),
-        });
+        return Err(WriteError::TooLarge { section: name });
     }
     Ok(())
 }
