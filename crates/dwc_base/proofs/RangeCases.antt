@@ -282,8 +282,8 @@ subprogram-sums = refl
 abbrev pub unbuilt : ListRefusal
 unbuilt = of_place (unsupported NotBuilt 16)
 
-not-built : refused_of DW_TAG_variable ((DW_AT_location, expression []) ∷ (DW_AT_frame_base, expression []) ∷ (DW_AT_location, location_reference 0) ∷ (DW_AT_location, location_index 0) ∷ (DW_AT_sibling, expression []) ∷ (DW_AT_location, constant DW_FORM_data4 0) ∷ (DW_AT_low_pc, expression []) ∷ [])
-    ≡ unbuilt ∷ unbuilt ∷ unbuilt ∷ unbuilt ∷ unbuilt ∷ []
+not-built : refused_of DW_TAG_variable ((DW_AT_location, expression []) ∷ (DW_AT_frame_base, expression []) ∷ (DW_AT_location, location_reference 0) ∷ (DW_AT_location, location_index 0) ∷ (DW_AT_sibling, expression []) ∷ (DW_AT_location, constant DW_FORM_data4 0) ∷ (DW_AT_low_pc, expression []) ∷ (DW_AT_ranges, location_index 0) ∷ [])
+    ≡ unbuilt ∷ unbuilt ∷ unbuilt ∷ unbuilt ∷ unbuilt ∷ unbuilt ∷ []
 unfolding ranges_on_literals
 not-built = refl
 

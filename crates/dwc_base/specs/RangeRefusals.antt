@@ -85,9 +85,9 @@ has_bounds attributes = has_name DW_AT_low_pc attributes && has_name DW_AT_high_
 abbrev pub is_later_bound : List (ℕ × Value) → ℕ × Value → Bool
 is_later_bound before a = has_bounds (a ∷ before) && not (has_bounds before)
 
--- what is refused of a bound behind some others: its list, or the interval of both bounds at the later of them
+-- what is refused of a bound behind some others: its range list, or the interval of both bounds at the later of them
 abbrev pub extent_refusal : ListSource → Entry → List (ℕ × Value) → ℕ × Value → Option ListRefusal
-extent_refusal s e before a = option_or (if a.0 == DW_AT_ranges then (ranges_of_value s e.offset a.1).fault else None) (if is_later_bound before a then bounds_refusal s e else None)
+extent_refusal s e before a = option_or (if (a.0 == DW_AT_ranges) && is_range_list a.1 then (ranges_of_value s e.offset a.1).fault else None) (if is_later_bound before a then bounds_refusal s e else None)
 
 -- What is refused of `low_pc`, `high_pc` or `ranges` of a kept entry, behind some others: an address by an index; and
 -- what else it says of the extent, unless the entry begins in a function by its low_pc.

@@ -11,7 +11,7 @@ use Rattle.dwc_base.specs.Entries.{Entry}
 use Rattle.dwc_base.specs.Functions.{Function}
 use Rattle.dwc_base.specs.Trees.{Interval, TreeValue}
 use Rattle.dwc_base.specs.Drafts.{DraftValue, done}
-use Rattle.dwc_base.specs.RawLists.{ListSource}
+use Rattle.dwc_base.specs.RawLists.{ListSource, is_location_list}
 use Rattle.dwc_base.specs.Lists.{ListRefusal, of_place, ranges_of_value}
 use Rattle.dwc_base.specs.RangeAttributes.{carried_address, carried_ranges, range_attributes}
 use Rattle.dwc_base.specs.RangeRefusals.{bound_refusal}
@@ -40,14 +40,14 @@ code_becomes s fs offset (range_reference n) = list_becomes fs (all_items (range
 code_becomes s fs offset (range_index i) = list_becomes fs (all_items (ranges_of_value s offset (range_index i)))
 code_becomes s fs offset v = Err (of_place (unsupported NotBuilt offset))
 
--- whether a value is an expression
-abbrev pub is_expression : Value → Bool
-is_expression (expression bytes) = true
-is_expression _ = false
+-- whether a value is an expression or a location list, which are not built yet
+abbrev pub is_unbuilt : Value → Bool
+is_unbuilt (expression bytes) = true
+is_unbuilt v = is_location_list v
 
--- the refusal of a bound; one that is an expression is not built yet
+-- the refusal of a bound; one that is not built is told at its entry
 abbrev pub bound_refused : ListSource → List Function → Entry → List (ℕ × Value) → ℕ × Value → Option ListRefusal
-bound_refused s fs e before a = if is_expression a.1 then Some (of_place (unsupported NotBuilt e.offset)) else bound_refusal s fs e before a
+bound_refused s fs e before a = if is_unbuilt a.1 then Some (of_place (unsupported NotBuilt e.offset)) else bound_refusal s fs e before a
 
 -- a result whose refusal is told as another
 abbrev pub told_as : {A E F : Type 0} → (E → F) → Result A E → Result A F

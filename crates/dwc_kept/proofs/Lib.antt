@@ -23,3 +23,4 @@ pub mod KeptUnitLaws
 pub mod KeptModuleLaws
 pub mod KeptReadings
 pub mod KeptGoals
+pub mod BegunLaws

@@ -17,10 +17,22 @@ use dwc_tabs::{Ranges, is_range_list};
 pub fn address_said(unit: &Unit<'_>, entry: &Entry<'_>, name: u16) -> Option<Address>
     ensures { result ≡ address_said (list_source unit.now.sections unit.now.header) name (entry_view entry.now) }
 {
-    let value = entry.attr(name)?;
+    let Some(value) = entry.attr(name) else {
+        return None;
+    };
     match unit.address_of(&value) {
         Ok(address) => address,
         Err(_) => None,
+    }
+}
+
+// Where the next interval of a list begins, if there is one.
+fn first_begin(list: &mut Ranges<'_, '_>) -> Option<Address>
+    ensures { result ≡ option_map (λ i. i.begin) (first_of list.old.items) }
+{
+    match list.next_range() {
+        Ok(Some((begin, _))) => Some(begin),
+        Ok(None) | Err(_) => None,
     }
 }
 
@@ -28,17 +40,18 @@ pub fn address_said(unit: &Unit<'_>, entry: &Entry<'_>, name: u16) -> Option<Add
 fn first_listed(unit: &Unit<'_>, entry: &Entry<'_>) -> Option<Address>
     ensures { result ≡ option_map (λ i. i.begin) (option_and_then first_of (listed_intervals (list_source unit.now.sections unit.now.header) (entry_view entry.now))) }
 {
-    let ranges = entry.attr(DW_AT_ranges)?;
+    let Some(ranges) = entry.attr(DW_AT_ranges) else {
+        return None;
+    };
     if !is_range_list(&ranges) {
         return None;
     }
-    let mut list = match Ranges::new(unit, ranges) {
-        Ok(list) => list,
-        Err(_) => return None,
-    };
-    match list.next_range() {
-        Ok(Some((begin, _))) => Some(begin),
-        _ => None,
+    match Ranges::new(unit, ranges) {
+        Ok(list) => {
+            let mut list = list;
+            first_begin(&mut list)
+        }
+        Err(_) => None,
     }
 }
 
