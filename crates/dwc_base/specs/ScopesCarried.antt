@@ -1,8 +1,8 @@
 -- What it means that an output carries the scopes of an input: its entries cover the native code whose source is in
 -- theirs. (A law on the definitions of translation.)
-use Rattle.std.specs.Prelude.{◌≡◌, ◌≢◌, ℕ, ◌<◌, ◌≤◌, ◌==◌, ◌+◌, pos, ◌+ℤ◌, int_le, int_lt, List, [], ◌∷◌, Bool, true, false, ◌&&◌, ◌||◌, nat_le, if◌then◌else◌, Option, Some, None, option_map, option_and_then, AllPairs, Contains, All}
+use Rattle.std.specs.Prelude.{◌≡◌, ◌≢◌, ℕ, ◌<◌, ◌≤◌, ◌==◌, ◌+◌, pos, ◌+ℤ◌, int_le, int_lt, List, [], ◌∷◌, Bool, true, false, ◌&&◌, ◌||◌, nat_le, if◌then◌else◌, Option, Some, None, option_map, option_and_then, is_some, AllPairs, Contains, All}
 use Rattle.std.specs.Option.{option_or}
-use Rattle.std.specs.List.{filter_map, find, list_any, AllZip}
+use Rattle.std.specs.List.{filter, filter_map, find, list_any, AllZip}
 use Rattle.dwc_base.specs.declared.records.Address.{Address}
 use Rattle.dwc_base.specs.declared.records.Address.TheVariants.{Constant, Symbol}
 use Rattle.dwc_base.specs.Entries.{Entry}
@@ -79,21 +79,23 @@ pub record IsInSome (scope : List (ℕ × ℕ)) (source : ℕ) : Type 0 where
   pub from : interval.0 ≤ source
   pub to : source ≤ interval.1
 
--- an interval lies in the native code of a function among some
+-- an interval lies in the native code of a function with a symbol among some
 pub record IsInOneOf (fs : List Function) (i : Interval) : Type 0 where
   pub function : Function
   pub among : Contains fs function
+  pub named : is_some function.symbol ≡ true
   pub range : ℕ × ℕ
   pub told : i ≡ record { begin = Symbol function.number (pos range.0); end = Symbol function.number (pos range.1) }
   pub within : (range.0 ≤ range.1) × (range.1 ≤ function.length)
 
--- Intervals of an output keep a scope of the input, in the functions of a module: they lie in these functions; they cover no byte whose source lies
--- outside all its closed intervals; and of each interval every byte of its function whose source is from its begin to
--- before its end. Nothing is said of a function in which two sources stand at one native offset.
+-- Intervals of an output keep a scope of the input, in the functions of a module that have a symbol: they lie in these functions; they
+-- cover no byte whose source lies outside all its closed intervals; and of each interval every byte of its function whose source
+-- is from its begin to before its end. Nothing is said of a function in which two sources stand at one native offset.
 pub record KeepsScope (fs : List Function) (scope : List (ℕ × ℕ)) (is : List Interval) : Type 0 where
   pub inside : All (IsInOneOf fs) is
   pub no_more :
-      (f : Function) (byte source : ℕ) → Contains fs f → HasDistinctSources f → cover_byte is f.number byte ≡ true → source_of_byte f byte ≡ Some source → IsInSome scope source
+      (f : Function) (byte source : ℕ) → Contains fs f → is_some f.symbol ≡ true → HasDistinctSources f → cover_byte is f.number byte ≡ true →
+      source_of_byte f byte ≡ Some source → IsInSome scope source
   pub no_less :
       (interval : ℕ × ℕ) (f : Function) (byte source : ℕ) → Contains scope interval → function_at fs interval.0 ≡ Some f → HasDistinctSources f → byte < f.length →
       source_of_byte f byte ≡ Some source → interval.0 ≤ source → source < interval.1 → cover_byte is f.number byte ≡ true
@@ -123,8 +125,11 @@ UnitCarriesScopes drafted u tree =
 abbrev pub ScopesCarried : (CarriedUnit → List Draft) → List CarriedUnit → List Tree → Type 0
 ScopesCarried drafted us trees = AllZip (UnitCarriesScopes drafted) us trees
 
--- The law on functions with good maps and with numbers of their own: what intervals of the input are translated to keeps
--- them as a scope.
+-- Functions have good maps, and those with a symbol have numbers of their own.
+pub record AreNumbered (fs : List Function) : Type 0 where
+  pub good : All HasGoodMap fs
+  pub apart : AllPairs (λ f g. f.number ≢ g.number) (filter (λ f. is_some f.symbol) fs)
+
+-- The law on such functions: what intervals of the input are translated to keeps them as a scope.
 abbrev pub TranslationsKeepScopes : List Function → Type 0
-TranslationsKeepScopes fs =
-    All HasGoodMap fs → AllPairs (λ f g. f.number ≢ g.number) fs → (is : List Interval) → KeepsScope fs (filter_map wasm_interval is) (native_of_intervals fs is)
+TranslationsKeepScopes fs = AreNumbered fs → (is : List Interval) → KeepsScope fs (filter_map wasm_interval is) (native_of_intervals fs is)
