@@ -28,7 +28,7 @@ abbrev pub EntriesTo : ℕ → ℕ → List (ℕ × Option ℕ) → Type 0
 EntriesTo low len [] = low ≤ len
 EntriesTo low len (e ∷ es) = (low ≤ e.0) × EntriesTo e.0 len es
 
-entries-first : (low len : ℕ) (es : List (ℕ × Option ℕ)) → EntriesTo low len es → low ≤ native_end len es
+pub entries-first : (low len : ℕ) (es : List (ℕ × Option ℕ)) → EntriesTo low len es → low ≤ native_end len es
 entries-first low len [] h = h
 entries-first low len (e ∷ es) h = h.0
 
@@ -36,7 +36,7 @@ entries-begun : (low len : ℕ) (es : List (ℕ × Option ℕ)) → EntriesTo lo
 entries-begun low len [] h = omega arith
 entries-begun low len (e ∷ es) h = (omega arith, h.1)
 
-positions-span : (low len : ℕ) (es : List (ℕ × Option ℕ)) → EntriesTo low len es → Span low len (source_positions len es)
+pub positions-span : (low len : ℕ) (es : List (ℕ × Option ℕ)) → EntriesTo low len es → Span low len (source_positions len es)
 positions-span low len [] h = h
 positions-span low len ((offset, None) ∷ es) h = span-weaker low offset len _ h.0 (positions-span offset len es h.1)
 positions-span low len ((offset, Some source) ∷ es) h = (h.0, entries-first offset len es h.1, positions-span (native_end len es) len es (entries-begun offset len es h.1))
@@ -68,7 +68,7 @@ front-spans low high p ((q ∷ qs) ∷ rs ∷ pss) le some h = go (nat_lt q.wasm
     go true = ((le, some, h.0.0), (from-first p.end (first_native rs) q qs h.0, h.1))
     go false = ((le, some, h.0), h.1)
 
-pieces-spans : (low high : ℕ) (ps : List Position) → Span low high ps → Spans low high (pieces ps)
+pub pieces-spans : (low high : ℕ) (ps : List Position) → Span low high ps → Spans low high (pieces ps)
 pieces-spans low high [] h = h
 pieces-spans low high (p ∷ ps) h = front-spans low high p (pieces ps) h.0 h.1 (pieces-spans p.end high ps h.2)
 
@@ -76,11 +76,11 @@ pieces-spans low high (p ∷ ps) h = front-spans low high p (pieces ps) h.0 h.1 
 abbrev pub Inside : ℕ → ℕ → Position → Type 0
 Inside low high p = (low ≤ p.start) × (low ≤ p.end) × (p.start ≤ high) × (p.end ≤ high)
 
-span-through : (low high : ℕ) (ps : List Position) → Span low high ps → low ≤ high
+pub span-through : (low high : ℕ) (ps : List Position) → Span low high ps → low ≤ high
 span-through low high [] h = h
 span-through low high (p ∷ ps) h = omega (arith, h.0, h.1, span-through p.end high ps h.2)
 
-span-inside : (base low high : ℕ) (ps : List Position) → base ≤ low → Span low high ps → AllByRecursion (Inside base high) ps
+pub span-inside : (base low high : ℕ) (ps : List Position) → base ≤ low → Span low high ps → AllByRecursion (Inside base high) ps
 span-inside base low high [] le h = tt
 span-inside base low high (p ∷ ps) le h =
     let through = span-through p.end high ps h.2 in
@@ -160,12 +160,12 @@ end-most low high (Some x) p h k = h.3
 end-most low high None (Some y) h k = k.2
 end-most low high None None h k = omega arith
 
-range-start : (a : ℕ) (r : Run) → AllByRecursion (Inside r.start r.end) r.positions → r.start ≤ start_in a r
+pub range-start : (a : ℕ) (r : Run) → AllByRecursion (Inside r.start r.end) r.positions → r.start ≤ start_in a r
 range-start a r h =
     start-least r.start r.end (find (λ p. p.wasm == a) r.positions) (last_of (filter (λ p. nat_lt p.wasm a) r.positions))
     (found-holds (Inside r.start r.end) (λ p. p.wasm == a) r.positions h) (last-holds (Inside r.start r.end) _ (passing-hold (Inside r.start r.end) (λ p. nat_lt p.wasm a) r.positions h))
 
-range-end : (a : ℕ) (r : Run) → AllByRecursion (Inside r.start r.end) r.positions → end_in a r ≤ r.end
+pub range-end : (a : ℕ) (r : Run) → AllByRecursion (Inside r.start r.end) r.positions → end_in a r ≤ r.end
 range-end a r h =
     end-most r.start r.end (last_of (filter (λ p. p.wasm == a) r.positions)) (find (λ p. nat_lt a p.wasm) r.positions)
     (last-holds (Inside r.start r.end) _ (passing-hold (Inside r.start r.end) (λ p. p.wasm == a) r.positions h)) (found-holds (Inside r.start r.end) (λ p. nat_lt a p.wasm) r.positions h)

@@ -40,7 +40,7 @@ some-front p ((q ∷ qs) ∷ pss) h = go (nat_lt q.wasm p.wasm) h
     go true h = absurd (cc)
     go false h = absurd (cc)
 
-some-pieces : (ps : List Position) → pieces ps ≡ [] → ⊥
+pub some-pieces : (ps : List Position) → pieces ps ≡ [] → ⊥
 some-pieces [] h = absurd (cc)
 some-pieces (p ∷ ps) h = some-front p (pieces ps) h
 

@@ -1,10 +1,13 @@
 pub mod AddendLaws
 pub mod AscendLaws
+pub mod ByteLaws
 pub mod CompilationLaws
 pub mod EntryLaws
 pub mod HasLaws
 pub mod ItemLaws
 pub mod JoinedLaws
+pub mod KeepCases
+pub mod KeepLaws
 pub mod NativeLaws
 pub mod OwnerLaws
 pub mod PartLaws
@@ -13,6 +16,7 @@ pub mod PositionLaws
 pub mod RisingLaws
 pub mod RunLaws
 pub mod SharedCases
+pub mod SourceLaws
 pub mod StartLaws
 pub mod SymbolLaws
 pub mod TextLaws

@@ -1,8 +1,10 @@
 //! What the definition of translation means.
-ghost use Rattle.std.specs.Prelude.{List};
-ghost use Rattle.dwc_base.specs.Functions.{Function};
+ghost use Rattle.std.specs.Prelude.{◌≡◌, ℕ, List, None};
+ghost use Rattle.dwc_base.specs.Functions.{AddressMap, Function, functions_of};
 ghost use Rattle.dwc_base.specs.Addends.{HaveAddends, TranslationsAreSaid};
 ghost use Rattle.dwc_base.specs.Runs.{TranslationsAscend, RunsHaveAll};
+ghost use Rattle.dwc_base.specs.ScopesCarried.{AreNumbered, TranslationsKeepScopes};
+ghost use Rattle.dwc_addr.specs.Transforms.{first_bad_map};
 
 /// Says, and does nothing: where the address maps of functions are good, an interval is translated to intervals that are nonempty, ascending
 /// and disjoint, and lie in the function that it begins in.
@@ -19,4 +21,13 @@ pub fn runs_have_all()
 /// what addresses and intervals are translated to.
 pub fn translations_are_said()
     ensures { (fs : List Function) → HaveAddends fs → TranslationsAreSaid fs }
+{}
+
+/// Says, and does nothing: what intervals are translated to keeps them as a scope. In a function with a symbol in which no two sources stand
+/// at one native offset, it covers each byte whose source is from the begin of an interval that begins in the function to before that
+/// interval's end, and none whose source is outside all intervals, their ends included. This holds where address maps are good and
+/// functions with a symbol have numbers of their own, and so of the functions of a transform, whose address maps are all good.
+pub fn translations_keep_scopes()
+    ensures keep { (fs : List Function) → TranslationsKeepScopes fs }
+    ensures made { (code_offset number : ℕ) (maps : List AddressMap) → first_bad_map code_offset 0 maps ≡ None → AreNumbered (functions_of code_offset number maps) }
 {}

@@ -26,7 +26,9 @@ pub use compilation::Compilation;
 pub use compilation_error::CompilationError;
 pub use error::AddrError;
 pub use function_map::{FunctionMap, Gap};
-pub use laws::{runs_have_all, translations_are_said, translations_ascend};
+pub use laws::{
+    runs_have_all, translations_are_said, translations_ascend, translations_keep_scopes,
+};
 pub use linkage_names::LinkageNames;
 pub use maps::{get_wasm_code_offset, map_fault};
 pub use memory_offset::ModuleMemoryOffset;
