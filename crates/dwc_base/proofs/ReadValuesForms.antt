@@ -54,13 +54,13 @@ form-is code form e = coded-row IsFormOf forms code form forms-are e
 -- ---- values
 
 section_offset-read : (name n : ℕ) → IsReadValue name (section_offset name n)
-section_offset-read name n = go (is_location_name name) (name == DW_AT_stmt_list) (is_range_name name)
+section_offset-read name n = go (is_location_name name) (name == DW_AT_stmt_list) (is_range_name name) refl
   where
-    go : (a b c : Bool) → IsReadValue name (if a then location_reference n else (if b then line_reference n else (if c then range_reference n else dropped)))
-    go true b c = tt
-    go false true c = tt
-    go false false true = tt
-    go false false false = tt
+    go : (a b c : Bool) → is_range_name name ≡ c → IsReadValue name (if a then location_reference n else (if b then line_reference n else (if c then range_reference n else dropped)))
+    go true b c e = tt
+    go false true c e = tt
+    go false false true e = e
+    go false false false e = tt
 
 constant_value-read : (version name code n : ℕ) → is_constant_form code ≡ true → n < constant_bound code → IsReadValue name (constant_value version name code n)
 constant_value-read version name code n known small = go ((code == DW_FORM_data4) && nat_lt version 4 && (is_location_name name || (name == DW_AT_stmt_list) || is_range_name name))
@@ -84,11 +84,11 @@ location_index-read name n = go (is_location_name name)
     go false = tt
 
 range_index-read : (name n : ℕ) → IsReadValue name (if is_range_name name then range_index n else dropped)
-range_index-read name n = go (is_range_name name)
+range_index-read name n = go (is_range_name name) refl
   where
-    go : (b : Bool) → IsReadValue name (if b then range_index n else dropped)
-    go true = tt
-    go false = tt
+    go : (b : Bool) → is_range_name name ≡ b → IsReadValue name (if b then range_index n else dropped)
+    go true e = e
+    go false e = tt
 
 sized_number_at-below : (size : Size) (u : Unread) → AreBytes u.left → Holds (InBytes (λ n. n < size_bound size)) (sized_number_at size u)
 unfolding sized_number_at

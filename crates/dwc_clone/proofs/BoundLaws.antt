@@ -1,30 +1,60 @@
 -- What is refused of bounds.
-use Rattle.std.proofs.Common.{◌≡◌, subst, ℕ, refl, sym, ap, ◌∙◌, List, Option, Some, None, Result, Ok, Err}
-use Rattle.std.specs.Prelude.{◌≢◌, option_map}
+use Rattle.std.proofs.Common.{◌≡◌, subst, ℕ, refl, sym, ap, ap₂, ◌∙◌, List, [], ◌∷◌, ◌++◌, Bool, true, false, Option, Some, None, Result, Ok, Err}
+use Rattle.std.specs.Prelude.{not, ◌&&◌, ◌||◌, ◌==◌, if◌then◌else◌, option_map}
+use Rattle.std.specs.Option.{option_or}
+use Rattle.std.proofs.lemmas.List.Folds.{list_any-append}
+use Rattle.dwc_base.specs.declared.records.Address.{Address}
 use Rattle.dwc_base.specs.declared.section_name.SectionName.{SectionName}
 use Rattle.dwc_base.specs.declared.section_name.SectionName.TheVariants.{Info}
+use Rattle.dwc_base.specs.declared.constants.TheConstants.{DW_AT_high_pc, DW_AT_low_pc}
+use Rattle.dwc_base.specs.declared.faults.Kind.TheVariants.{NotBuilt}
 use Rattle.dwc_base.specs.declared.faults.What.{What}
 use Rattle.dwc_base.specs.declared.faults.What.TheVariants.{AddressValue, Text}
 use Rattle.dwc_base.specs.declared.faults.Flaw.{Flaw}
 use Rattle.dwc_base.specs.declared.faults.Flaw.TheVariants.{EndsEarly, TooWide, Malformed, Refused}
-use Rattle.dwc_base.specs.declared.records.Address.{Address}
-use Rattle.dwc_base.specs.Sections.{Fault, Sections, fault_of, reported, unreadable, unsupported}
+use Rattle.dwc_base.specs.Reading.{◌>>=◌}
+use Rattle.dwc_base.specs.Sections.{Fault, Sections, fault_of, reported, unsupported}
 use Rattle.dwc_base.specs.Units.{UnitHeader}
-use Rattle.dwc_base.specs.Values.{Value}
+use Rattle.dwc_base.specs.Values.{Value, address, address_index, constant, flag, block, text, text_reference, unit_reference, info_reference, line_reference, dropped, expression, range_reference, range_index, location_reference, location_index}
+use Rattle.dwc_base.specs.Entries.{Entry}
 use Rattle.dwc_base.specs.Texts.{TextSource, text_named}
 use Rattle.dwc_base.specs.Functions.{Function}
+use Rattle.dwc_base.specs.Indexed.{address_indexed, address_named}
 use Rattle.dwc_base.specs.Kept.{Placed}
-use Rattle.dwc_base.specs.Entries.{Entry}
-use Rattle.dwc_base.specs.Indexed.{address_named}
-use Rattle.dwc_base.specs.Refusals.{of_place}
-use Rattle.dwc_base.specs.EntryRules.{address_fault, bound_fault, code_rules, indexed_fault}
+use Rattle.dwc_base.specs.Drafts.{DraftValue}
+use Rattle.dwc_base.specs.RawLists.{ListSource}
+use Rattle.dwc_base.specs.Lists.{ListRefusal, list_source}
+use Rattle.dwc_base.specs.Lists as Lists
+use Rattle.dwc_base.specs.Refusals.{Refusal, of_place}
+use Rattle.dwc_base.specs.RangeRefusals.{begins_by_low_pc, bound_refusal, extent_refusal, flaw_in, has_name, index_fault, is_later_bound}
+use Rattle.dwc_base.specs.RangeRules.{bound_refused, is_unbuilt}
+use Rattle.dwc_base.specs.EntryRules.{code_rules, of_list}
 use Rattle.dwc_base.specs.Clones.{UnitSource, bound_becomes, nothing_unless, text_drafted}
-use Rattle.dwc_base.specs.Reading.{◌>>=◌}
-use Rattle.dwc_read.specs.declared.fault.ReadFault.{ReadFault}
-use Rattle.dwc_read.specs.declared.fault.ReadFault.TheVariants.{Read, Unsupported, OutOfMemory}
-use Rattle.dwc_read.specs.Faults.{Refuses, fault_at, fault_seen}
 use Rattle.dwc_read.specs.Bases.{address_of_value}
-use Rattle.dwc_clone.specs.MadeValues.{GivesMade, RefusesSo, fault_told}
+use Rattle.dwc_read.specs.Faults.{Refuses, fault_at}
+use Rattle.dwc_clone.specs.declared.bounds.BoundsSeen.{BoundsSeen}
+use Rattle.dwc_clone.specs.declared.error.CloneError.{CloneError}
+use Rattle.dwc_clone.specs.BoundsSeen.{bounds_among}
+use Rattle.dwc_clone.specs.Errors.{refusal_told}
+use Rattle.dwc_clone.specs.MadeValues.{GivesMade, RefusesSo}
+use Rattle.dwc_clone.specs.NativeExtents.{IsTold, TellsRefusal}
+
+-- ---- both bounds
+
+name-behind : (n : ℕ) (before : List (ℕ × Value)) (a : ℕ × Value) → has_name n (before ++ a ∷ []) ≡ has_name n (a ∷ before)
+name-behind n before a = list_any-append (λ b. b.0 == n) before (a ∷ []) ∙ turned (has_name n before) (a.0 == n)
+  where
+    turned : (b c : Bool) → (b || (c || false)) ≡ (c || b)
+    turned true true = refl
+    turned true false = refl
+    turned false true = refl
+    turned false false = refl
+
+-- The later bound is the one behind which both are, and before which they are not.
+pub later-is : (seen behind : BoundsSeen) (before : List (ℕ × Value)) (a : ℕ × Value) → seen ≡ bounds_among before → behind ≡ bounds_among (before ++ a ∷ []) → is_later_bound before a ≡ ((behind.low && behind.high) && not (seen.low && seen.high))
+later-is seen behind before a seen-is behind-is =
+    ap₂ (λ low high. (low && high) && not (has_name DW_AT_low_pc before && has_name DW_AT_high_pc before)) (sym (name-behind DW_AT_low_pc before a)) (sym (name-behind DW_AT_high_pc before a))
+    ∙ ap₂ (λ (x y : BoundsSeen). (x.low && x.high) && not (y.low && y.high)) (sym behind-is) (sym seen-is)
 
 -- ---- addresses
 
@@ -34,60 +64,125 @@ at-fault what section here there TooWide = refl
 at-fault what section here there Malformed = refl
 at-fault what section here there (Refused kind) = refl
 
--- An address that is read for a unit has no fault at an entry.
-pub address-read : (s : Sections) (h : UnitHeader) (e : Entry) (v : Value) (a : Option Address) → address_of_value s h v ≡ Ok a → None ≡ indexed_fault s h e v
-address-read s h e v a same = go (address_named s h v) same
-  where
-    go : (r : Result (Option Address) Flaw) → reported AddressValue Info h.offset r ≡ Ok a → None ≡ address_fault e r
-    go (Ok x) same = refl
-    go (Err flaw) same = absurd (cc)
+module _ (s : Sections) (h : UnitHeader) (offset : ℕ) where
+  -- the fault of an address by an index is that of the address that a value is
+  fault-named : (v : Value) → index_fault (list_source s h) offset v ≡ option_map (fault_of AddressValue Info offset) (flaw_in (address_named s h v))
+  unfolding address_named list_source
+  fault-named (address a) = refl
+  fault-named (address_index i) = go (address_indexed s h i)
+    where
+      go : (r : Result Address Flaw) → option_map (fault_of AddressValue Info offset) (flaw_in r) ≡ option_map (fault_of AddressValue Info offset) (flaw_in (r >>= λ a. Ok (Some a)))
+      go (Ok a) = refl
+      go (Err flaw) = refl
+  fault-named (constant form bits) = refl
+  fault-named (flag b) = refl
+  fault-named (block bytes) = refl
+  fault-named (text bytes) = refl
+  fault-named (text_reference form n) = refl
+  fault-named (unit_reference n) = refl
+  fault-named (info_reference n) = refl
+  fault-named (line_reference n) = refl
+  fault-named dropped = refl
+  fault-named (expression bytes) = refl
+  fault-named (range_reference n) = refl
+  fault-named (range_index n) = refl
+  fault-named (location_reference n) = refl
+  fault-named (location_index n) = refl
 
--- One that is not is told at the entry.
-address-refused : (s : Sections) (h : UnitHeader) (e : Entry) (v : Value) (fault : Fault) → address_of_value s h v ≡ Err fault → Some (fault_at e.offset fault) ≡ indexed_fault s h e v
-address-refused s h e v fault same = go (address_named s h v) same
-  where
-    go : (r : Result (Option Address) Flaw) → reported AddressValue Info h.offset r ≡ Err fault → Some (fault_at e.offset fault) ≡ address_fault e r
-    go (Ok x) same = absurd (cc)
-    go (Err flaw) same =
-        let is : fault_of AddressValue Info h.offset flaw ≡ fault = cc in
-        ap Some (ap (fault_at e.offset) (sym is) ∙ at-fault AddressValue Info h.offset e.offset flaw)
+  -- An address that is read for a unit has no fault at an entry.
+  pub address-read : (v : Value) (a : Option Address) → address_of_value s h v ≡ Ok a → option_map of_place (index_fault (list_source s h) offset v) ≡ None
+  address-read v a same = ap (option_map of_place) (fault-named v) ∙ go (address_named s h v) same
+    where
+      go : (r : Result (Option Address) Flaw) → reported AddressValue Info h.offset r ≡ Ok a → option_map of_place (option_map (fault_of AddressValue Info offset) (flaw_in r)) ≡ None
+      go (Ok b) same = refl
+      go (Err flaw) same = absurd (cc)
 
-pub address-told : (s : Sections) (h : UnitHeader) (e : Entry) (v : Value) (here : ℕ) (fault : ReadFault) → e.offset ≡ here → fault ≢ OutOfMemory → Refuses (address_of_value s h v) (fault_seen fault) → option_map (fault_at here) (fault_seen fault) ≡ indexed_fault s h e v
-address-told s h e v here fault at known refused = rw (sym at) (go fault known refused)
-  where
-    go : (fault : ReadFault) → fault ≢ OutOfMemory → Refuses (address_of_value s h v) (fault_seen fault) → option_map (fault_at e.offset) (fault_seen fault) ≡ indexed_fault s h e v
-    go (Read what section offset) known refused = address-refused s h e v (unreadable what section offset) refused
-    go (Unsupported kind offset) known refused = address-refused s h e v (unsupported kind offset) refused
-    go OutOfMemory known refused = absurd (known refl)
+  -- One that is not is told at the entry.
+  pub address-told : (v : Value) (seen : Option Fault) → Refuses (address_of_value s h v) seen → IsTold (option_map of_place (index_fault (list_source s h) offset v)) (option_map of_place (option_map (fault_at offset) seen))
+  address-told v None refused = tt
+  address-told v (Some fault) refused = ap (option_map of_place) (fault-named v ∙ go (address_named s h v) refused)
+    where
+      go : (r : Result (Option Address) Flaw) → reported AddressValue Info h.offset r ≡ Err fault → option_map (fault_of AddressValue Info offset) (flaw_in r) ≡ Some (fault_at offset fault)
+      go (Ok b) same = absurd (cc)
+      go (Err flaw) same =
+          let is : fault_of AddressValue Info h.offset flaw ≡ fault = cc in
+          ap Some (sym (at-fault AddressValue Info h.offset offset flaw) ∙ ap (fault_at offset) is)
+
+-- ---- one refusal behind another
+
+-- the first of two refusals is told
+pub told-first : (a b : Option ListRefusal) (told : Option Refusal) → IsTold (option_map of_list a) told → IsTold (option_map of_list (option_or a b)) told
+told-first a b None is = tt
+told-first None b (Some told) is = absurd (cc)
+told-first (Some refusal) b (Some told) is = is
+
+-- or else the second
+pub told-second : (a b : Option ListRefusal) (r : Result (Unit {0}) CloneError) → option_map of_list a ≡ None → TellsRefusal (option_map of_list b) r → TellsRefusal (option_map of_list (option_or a b)) r
+told-second None b r none is = is
+told-second (Some refusal) b r none is = absurd (cc)
+
+-- ---- code
+
+module _ (s : ListSource) (fs : List Function) (e : Entry) (before : List (ℕ × Value)) (a : ℕ × Value) (built : is_unbuilt a.1 ≡ false) where
+  listed-place : (o : Option Fault) → option_map of_list (option_map Lists.of_place o) ≡ option_map of_place o
+  listed-place None = refl
+  listed-place (Some fault) = refl
+
+  -- what follows the address of a bound
+  abbrev behind_address : Option ListRefusal
+  behind_address = if begins_by_low_pc s fs e then None else extent_refusal s e before a
+
+  refused-is : bound_refused s fs e before a ≡ option_or (option_map Lists.of_place (index_fault s e.offset a.1)) behind_address
+  unfolding bound_refusal
+  refused-is = ap (λ b. if b then Some (Lists.of_place (unsupported NotBuilt e.offset)) else bound_refusal s fs e before a) built
+
+  -- The address of a bound that is built is refused first.
+  pub code-unread : (told : Option Refusal) → IsTold (option_map of_place (index_fault s e.offset a.1)) told → IsTold (option_map of_list (bound_refused s fs e before a)) told
+  code-unread told is =
+      subst (λ o. IsTold (option_map of_list o) told) (sym refused-is)
+      (told-first (option_map Lists.of_place (index_fault s e.offset a.1)) behind_address told (subst (λ o. IsTold o told) (sym (listed-place (index_fault s e.offset a.1))) is))
+
+  code-behind : (r : Result (Unit {0}) CloneError) → option_map of_place (index_fault s e.offset a.1) ≡ None → TellsRefusal (option_map of_list behind_address) r → TellsRefusal (option_map of_list (bound_refused s fs e before a)) r
+  code-behind r read is =
+      subst (λ o. TellsRefusal (option_map of_list o) r) (sym refused-is)
+      (told-second (option_map Lists.of_place (index_fault s e.offset a.1)) behind_address r (listed-place (index_fault s e.offset a.1) ∙ read) is)
+
+  -- Of an entry that begins in a function by its low_pc no more is refused.
+  pub code-begins : option_map of_place (index_fault s e.offset a.1) ≡ None → true ≡ begins_by_low_pc s fs e → option_map of_list (bound_refused s fs e before a) ≡ None
+  code-begins read begins = code-behind (Ok tt) read (ap (λ b. option_map of_list (if b then None else extent_refusal s e before a)) (sym begins))
+
+  -- Of another its extent is.
+  pub code-extent : (r : Result (Unit {0}) CloneError) → option_map of_place (index_fault s e.offset a.1) ≡ None → false ≡ begins_by_low_pc s fs e → TellsRefusal (option_map of_list (extent_refusal s e before a)) r → TellsRefusal (option_map of_list (bound_refused s fs e before a)) r
+  code-extent r read begins is = code-behind r read (subst (λ b. TellsRefusal (option_map of_list (if b then None else extent_refusal s e before a)) r) begins is)
 
 -- ---- bounds
 
-module _ (fs : List Function) (sections : Sections) (h : UnitHeader) (s : UnitSource) (e : Placed) (before : List (ℕ × Value)) (name : ℕ) (v : Value) where
-  -- A bound that is no text that can be read is refused first.
-  bound-unread : (seen : Option Fault) → Refuses (reported Text Info e.entry.offset (text_named s.texts v)) seen → RefusesSo (bound_becomes (code_rules fs sections h) s e before (name, v)) seen
+module _ (fs : List Function) (sections : Sections) (h : UnitHeader) (s : UnitSource) (e : Placed) (before : List (ℕ × Value)) (a : ℕ × Value) (texts : TextSource) (entry : Entry) (same : s.texts ≡ texts) (is : e.entry ≡ entry) where
+  -- what a bound becomes whose text is read
+  abbrev becomes : Result (Option (List ℕ)) Fault → Option ListRefusal → Result (Option DraftValue) Refusal
+  becomes read refused = text_drafted of_place read >>= λ draft. nothing_unless (option_map of_list refused)
+
+  bound-is : bound_becomes (code_rules fs sections h) s e before a ≡ becomes (reported Text Info entry.offset (text_named texts a.1)) (bound_refused (list_source sections h) fs entry before a)
   unfolding bound_becomes
+  bound-is = ap₂ (λ (t : TextSource) (x : Entry). becomes (reported Text Info x.offset (text_named t a.1)) (bound_refused (list_source sections h) fs x before a)) same is
+
+  -- A bound that is a text that cannot be read is refused for it.
+  pub bound-unread : (seen : Option Fault) → Refuses (reported Text Info entry.offset (text_named texts a.1)) seen → RefusesSo (bound_becomes (code_rules fs sections h) s e before a) (option_map of_place seen)
   bound-unread None refused = tt
-  bound-unread (Some fault) refused = ap (λ r. text_drafted of_place r >>= λ read. nothing_unless (option_map of_place (bound_fault fs sections h e.entry v))) refused
+  bound-unread (Some fault) refused = bound-is ∙ ap (λ r. becomes r (bound_refused (list_source sections h) fs entry before a)) refused
 
-  -- Of one that is no text, or one that can be read, what is refused is told.
-  bound-read : (o : Option (List ℕ)) (r : Result (Unit {0}) ReadFault) → reported Text Info e.entry.offset (text_named s.texts v) ≡ Ok o → fault_told r ≡ bound_fault fs sections h e.entry v → GivesMade (λ draft done. draft ≡ None) (bound_becomes (code_rules fs sections h) s e before (name, v)) r
-  unfolding bound_becomes
-  bound-read o r read told = go r told
+  -- Of another what is refused of its code is told.
+  pub bound-told : (o : Option (List ℕ)) (r : Result (Unit {0}) CloneError) → reported Text Info entry.offset (text_named texts a.1) ≡ Ok o → TellsRefusal (option_map of_list (bound_refused (list_source sections h) fs entry before a)) r
+      → GivesMade (λ draft done. draft ≡ None) (bound_becomes (code_rules fs sections h) s e before a) r
+  bound-told o r read = go r
     where
-      is : bound_becomes (code_rules fs sections h) s e before (name, v) ≡ nothing_unless (option_map of_place (bound_fault fs sections h e.entry v))
-      is = ap (λ r. text_drafted of_place r >>= λ read. nothing_unless (option_map of_place (bound_fault fs sections h e.entry v))) read
+      now : bound_becomes (code_rules fs sections h) s e before a ≡ nothing_unless (option_map of_list (bound_refused (list_source sections h) fs entry before a))
+      now = bound-is ∙ ap (λ r. becomes r (bound_refused (list_source sections h) fs entry before a)) read
 
-      refused : (seen : Option Fault) → seen ≡ bound_fault fs sections h e.entry v → RefusesSo (bound_becomes (code_rules fs sections h) s e before (name, v)) seen
-      refused None same = tt
-      refused (Some fault) same = is ∙ ap (λ o. nothing_unless (option_map of_place o)) (sym same)
+      refused : (told : Option Refusal) → IsTold (option_map of_list (bound_refused (list_source sections h) fs entry before a)) told → RefusesSo (bound_becomes (code_rules fs sections h) s e before a) told
+      refused None told = tt
+      refused (Some refusal) told = now ∙ ap nothing_unless told
 
-      go : (r : Result (Unit {0}) ReadFault) → fault_told r ≡ bound_fault fs sections h e.entry v → GivesMade (λ draft done. draft ≡ None) (bound_becomes (code_rules fs sections h) s e before (name, v)) r
-      go (Ok done) same = record { drafted = None; is = is ∙ ap (λ o. nothing_unless (option_map of_place o)) (sym same); made = refl }
-      go (Err fault) same = refused (fault_seen fault) same
-
-  -- The same of the texts and the offset as they are known.
-  pub bound-text_refused : (texts : TextSource) (here : ℕ) (seen : Option Fault) → s.texts ≡ texts → e.entry.offset ≡ here → Refuses (reported Text Info here (text_named texts v)) seen → RefusesSo (bound_becomes (code_rules fs sections h) s e before (name, v)) seen
-  bound-text_refused texts here seen same at refused = bound-unread seen (subst (λ (n : ℕ). Refuses (reported Text Info n (text_named s.texts v)) seen) (sym at) (subst (λ (t : TextSource). Refuses (reported Text Info here (text_named t v)) seen) (sym same) refused))
-
-  pub bound-told : (texts : TextSource) (here : ℕ) (o : Option (List ℕ)) (r : Result (Unit {0}) ReadFault) → s.texts ≡ texts → e.entry.offset ≡ here → reported Text Info here (text_named texts v) ≡ Ok o → fault_told r ≡ bound_fault fs sections h e.entry v → GivesMade (λ draft done. draft ≡ None) (bound_becomes (code_rules fs sections h) s e before (name, v)) r
-  bound-told texts here o r same at read told = bound-read o r (ap (λ (n : ℕ). reported Text Info n (text_named s.texts v)) at ∙ (ap (λ (t : TextSource). reported Text Info here (text_named t v)) same ∙ read)) told
+      go : (r : Result (Unit {0}) CloneError) → TellsRefusal (option_map of_list (bound_refused (list_source sections h) fs entry before a)) r → GivesMade (λ draft done. draft ≡ None) (bound_becomes (code_rules fs sections h) s e before a) r
+      go (Ok done) none = record { drafted = None; is = now ∙ ap nothing_unless none; made = refl }
+      go (Err error) told = refused (refusal_told error) told

@@ -1,5 +1,5 @@
 -- A unit with an entry more, which is then given what the entry is to say.
-use Rattle.std.proofs.Common.{◌≡◌, ℕ, suc, ◌-◌, ◌<◌, ◌≤◌, refl, sym, ap, subst, ◌∙◌, arith, List, [], ◌∷◌, ◌++◌, length, take, map, Result, Ok, Err}
+use Rattle.std.proofs.Common.{◌≡◌, ℕ, suc, ◌-◌, ◌<◌, ◌≤◌, refl, sym, ap, subst, ◌∙◌, arith, List, [], ◌∷◌, ◌++◌, length, take, map, Option, Result, Ok, Err}
 use Rattle.std.specs.Prelude.{OnOk, filter_map}
 use Rattle.std.specs.List.{All, flat_map}
 use Rattle.std.proofs.lemmas.List.{append-nil, map-append}
@@ -7,14 +7,14 @@ use Rattle.std.proofs.lemmas.List.Concat.{flat_map-append}
 use Rattle.std.proofs.lemmas.List.Elements.{All-append, All-head, All-nil, All-push, All-tail, All-weaker, filter_map-append}
 use Rattle.dwc_base.specs.declared.constants.TheConstants.{DW_TAG_compile_unit}
 use Rattle.dwc_base.specs.Entries.{Entry}
-use Rattle.dwc_base.specs.EntryRules.{function_begun, function_bounds}
+use Rattle.dwc_base.specs.Lists.{list_source}
+use Rattle.dwc_base.specs.RangeAttributes.{range_attributes}
+use Rattle.dwc_base.specs.Drafts.{DraftValue, Goal, done}
 use Rattle.dwc_base.specs.Trees.{TreeEntry, TreeValue}
 use Rattle.dwc_base.specs.Clones.{UnitSource, attributes_become, attributes_made, endianity, entry_refusals, if_made}
 use Rattle.dwc_base.specs.CarriedDrafts.{draft_of}
 use Rattle.dwc_base.specs.DraftForests.{settled, settled_entry}
 use Rattle.dwc_kept.specs.KeptUnits.{AreBelow}
-use Rattle.dwc_read.specs.declared.fault.ReadFault.{ReadFault}
-use Rattle.dwc_read.specs.Faults.{fault_seen}
 use Rattle.dwc_write.specs.declared.error.WriteError.{WriteError}
 use Rattle.dwc_write.specs.declared.units.UnitEntryId.{UnitEntryId}
 use Rattle.dwc_write.specs.GivenUnits.{Addition, GivenUnit, new_unit}
@@ -22,7 +22,9 @@ use Rattle.dwc_write.specs.UsedTexts.{texts_of_attributes}
 use Rattle.dwc_write.specs.AddedInOrder.{IsInOrder, attribute_meant, entry_meant, tree_meant, with_entry}
 use Rattle.dwc_write.proofs.AddedInOrderUnits.{in-order-child, in-order-more, in-order-next}
 use Rattle.dwc_write.proofs.AddedInOrderValues.{tree-meant-more, tree-more}
+use Rattle.dwc_clone.specs.declared.error.CloneError.{CloneError}
 use Rattle.dwc_clone.specs.declared.source.CloneSource.{CloneSource}
+use Rattle.dwc_clone.specs.Errors.{refusal_told}
 use Rattle.dwc_clone.specs.OutputPlaces.{goal_place}
 use Rattle.dwc_clone.specs.MadeValues.{Grows}
 use Rattle.dwc_clone.specs.ClonedUnits.{TellsFirst, clone_refusals, clone_rules, clone_wanted, depths_of, placed_in}
@@ -163,10 +165,15 @@ entry-next c s number (x ∷ es) e others old now begun u0 u (p ∷ ps) id is ma
 
 -- ---- what it is given
 
--- What an entry is to say: its bounds, its attributes, and its byte order.
+-- What says where code is stays as it is.
+settled-done : (places : Goal → Option (ℕ × ℕ)) (xs : List (ℕ × TreeValue)) → filter_map (settled places) (map (λ a. (a.0, done a.1)) xs) ≡ xs
+settled-done places [] = refl
+settled-done places (x ∷ xs) = ap (λ ys. x ∷ ys) (settled-done places xs)
+
+-- What an entry is to say: where its code is, its attributes, and its byte order.
 abbrev pub values_whole : CloneSource → UnitSource → Entry → List (ℕ × TreeValue)
 values_whole c s e =
-    filter_map (settled (goal_place c.places.now)) (function_bounds (function_begun c.transform.now c.unit.now.sections c.unit.now.header e))
+    range_attributes (list_source c.unit.now.sections c.unit.now.header) c.transform.now e
     ++ values_wanted c s (placed_entry c e) [] e.attributes
     ++ filter_map (settled (goal_place c.places.now)) (endianity c.big_endian (placed_entry c e))
 
@@ -174,11 +181,12 @@ wanted-entry : (c : CloneSource) (s : UnitSource) (e : Entry) → settled_entry 
 unfolding attributes_made
 wanted-entry c s e =
     let P = settled (goal_place c.places.now) in
-    let bounds = function_bounds (function_begun c.transform.now c.unit.now.sections c.unit.now.header e) in
+    let bounds = (clone_rules c).bounds (placed_entry c e) in
+    let said = range_attributes (list_source c.unit.now.sections c.unit.now.header) c.transform.now e in
     let E : List (ℕ × TreeValue) → TreeEntry = λ values. record { depth = e.depth; tag = e.tag; attributes = set_behind [] values } in
     let last = endianity c.big_endian (placed_entry c e) in
     let made = filter_map (λ a. if_made a.0 a.1) (attributes_become (clone_rules c) s (placed_entry c e) [] e.attributes) in
-    ap E (filter_map-append P (bounds ++ made) last ∙ ap (λ xs. xs ++ filter_map P last) (filter_map-append P bounds made))
+    ap E (filter_map-append P (bounds ++ made) last ∙ ap (λ xs. xs ++ filter_map P last) (filter_map-append P bounds made ∙ ap (λ xs. xs ++ filter_map P made) (settled-done (goal_place c.places.now) said)))
 
 -- What is refused of an entry is refused of its attributes.
 pub refused-entry : (c : CloneSource) (s : UnitSource) (e : Entry) → entry_refusals (clone_rules c) s (placed_entry c e) ≡ values_refused c s (placed_entry c e) [] e.attributes
@@ -249,7 +257,7 @@ entry-made c s number es e others old t0 t1 begun u0 u ps id n given accepted =
         ∙ ap (λ x. clone_wanted c s es ++ x ∷ []) is
 
 -- What a call of a writer that ends an entry gives.
-pub gives-entry : (c : CloneSource) (number : ℕ) (s : UnitSource) (es : List Entry) (e : Entry) (others : List Entry) (old new : List (List ℕ)) (begun u : GivenUnit) (ps : List UnitEntryId) (w : Result (Unit {0}) WriteError) (r : Result (Unit {0}) ReadFault)
+pub gives-entry : (c : CloneSource) (number : ℕ) (s : UnitSource) (es : List Entry) (e : Entry) (others : List Entry) (old new : List (List ℕ)) (begun u : GivenUnit) (ps : List UnitEntryId) (w : Result (Unit {0}) WriteError) (r : Result (Unit {0}) CloneError)
     → OfMemory w r → OnOk w (AreMadeSoFar c number s (es ++ e ∷ []) old new begun u ps × CanFollow ps others) → GivesEntry c number s es e others old new begun u ps r
 gives-entry c number s es e others old new begun u ps w (Ok x) same made = subst (λ v. OnOk v (AreMadeSoFar c number s (es ++ e ∷ []) old new begun u ps × CanFollow ps others)) same made
-gives-entry c number s es e others old new begun u ps w (Err fault) same made = subst (λ f. TellsFirst (entry_refusals (clone_rules c) s (placed_entry c e)) (fault_seen f)) (sym same) tt
+gives-entry c number s es e others old new begun u ps w (Err error) same made = subst (λ f. TellsFirst (entry_refusals (clone_rules c) s (placed_entry c e)) (refusal_told f)) (sym same) tt

@@ -8,12 +8,10 @@ use Rattle.std.proofs.lemmas.List.Elements.{All-append, All-nil}
 use Rattle.std.proofs.lemmas.List.Sums.{fold-append}
 use Rattle.dwc_base.specs.declared.constants.TheConstants.{DW_AT_endianity, DW_AT_high_pc, DW_AT_low_pc, DW_END_little, DW_FORM_data1, DW_FORM_udata, DW_TAG_base_type}
 use Rattle.dwc_base.specs.declared.records.Address.TheVariants.{Symbol}
-use Rattle.dwc_base.specs.Sections.{Fault}
 use Rattle.dwc_base.specs.Functions.{Function}
-use Rattle.dwc_base.specs.EntryRules.{function_bounds}
 use Rattle.dwc_base.specs.Values.{Value}
 use Rattle.dwc_base.specs.Kept.{Placed}
-use Rattle.dwc_base.specs.Refusals.{Refusal, of_place, first_of}
+use Rattle.dwc_base.specs.Refusals.{Refusal, first_of}
 use Rattle.dwc_base.specs.Trees.{TreeValue, address, constant, set_attribute}
 use Rattle.dwc_base.specs.Clones.{UnitSource, attribute_becomes, attributes_become, endianity, if_made, if_refused}
 use Rattle.dwc_base.specs.Drafts.{DraftValue, Goal, done}
@@ -31,7 +29,9 @@ use Rattle.dwc_write.specs.AddedInOrder.{attribute_meant, value_meant}
 use Rattle.dwc_write.proofs.ReadValues.{All-back, All-front}
 use Rattle.dwc_write.proofs.AddedInOrderUnits.{entry-set}
 use Rattle.dwc_write.proofs.AddedInOrderValues.{attributes-meant-more, set-meant}
+use Rattle.dwc_clone.specs.declared.bounds.BoundsSeen.{BoundsSeen}
 use Rattle.dwc_clone.specs.declared.source.CloneSource.{CloneSource}
+use Rattle.dwc_clone.specs.BoundsSeen.{bounds_among}
 use Rattle.dwc_clone.specs.OutputPlaces.{goal_place}
 use Rattle.dwc_clone.specs.MadeValues.{Grows, HasTexts, IsMade, RefusesSo, SaysMore, wanted_value}
 use Rattle.dwc_clone.specs.ClonedUnits.{clone_rules, TellsFirst}
@@ -143,16 +143,18 @@ attributes-drop xs i d within =
     drop_more (map attribute_view xs) i (attribute_view d) (subst (λ n. i < n) (sym (length-map xs attribute_view)) within)
     ∙ ap (λ a. a ∷ drop (i + 1) (map attribute_view xs)) (get_or-map attribute_view xs i d (attribute_view d) within)
 
--- What is set of the attributes of an entry: what was set so far, and what the attributes that are left are to say, make all.
-pub record AreSetSoFar (c : CloneSource) (number : ℕ) (s : UnitSource) (p : Placed) (t0 t1 : List (List ℕ)) (base : GivenUnit) (e : Addition) (u : GivenUnit) (left : List (ℕ × Value)) : Type 0 where
+-- What is set of the attributes of an entry: what was set so far, and what the attributes that are left are to say, make all; the bounds
+-- among those before are known.
+pub record AreSetSoFar (c : CloneSource) (number : ℕ) (s : UnitSource) (p : Placed) (t0 t1 : List (List ℕ)) (base : GivenUnit) (e : Addition) (u : GivenUnit) (seen : BoundsSeen) (left : List (ℕ × Value)) : Type 0 where
   pub before : List (ℕ × Value)
+  pub bounds : seen ≡ bounds_among before
   pub values : List (ℕ × TreeValue)
   pub given : IsGiven number t0 t1 values base e u
   pub whole : values ++ values_wanted c s p before left ≡ values_wanted c s p [] p.entry.attributes
   pub refused : values_refused c s p before left ≡ values_refused c s p [] p.entry.attributes
 
-pub set-start : (c : CloneSource) (number : ℕ) (s : UnitSource) (p : Placed) (t : List (List ℕ)) (id : UnitEntryId) (base : GivenUnit) (e : Addition) (u : GivenUnit) → IsLast t id base e u → AreSetSoFar c number s p t t base e u p.entry.attributes
-set-start c number s p t id base e u last = record { before = []; values = []; given = given-none number t t id base e u last (grows-not t); whole = refl; refused = refl }
+pub set-start : (c : CloneSource) (number : ℕ) (s : UnitSource) (p : Placed) (t : List (List ℕ)) (id : UnitEntryId) (base : GivenUnit) (e : Addition) (u : GivenUnit) (seen : BoundsSeen) → seen ≡ bounds_among [] → IsLast t id base e u → AreSetSoFar c number s p t t base e u seen p.entry.attributes
+set-start c number s p t id base e u seen none last = record { before = []; bounds = none; values = []; given = given-none number t t id base e u last (grows-not t); whole = refl; refused = refl }
 
 -- an attribute in front of others
 wanted-more : (c : CloneSource) (s : UnitSource) (p : Placed) (before : List (ℕ × Value)) (a : ℕ × Value) (left : List (ℕ × Value)) (draft : Option DraftValue) → attribute_becomes (clone_rules c) s p before a ≡ Ok draft
@@ -181,14 +183,15 @@ refused-here : (c : CloneSource) (s : UnitSource) (p : Placed) (before : List (�
 unfolding attributes_become
 refused-here c s p before a left refusal is = ap (λ r. first_of (cons_option (if_refused r) (values_refused c s p (before ++ a ∷ []) left))) is
 
-pub set-more : (c : CloneSource) (number : ℕ) (s : UnitSource) (p : Placed) (t0 t1 t2 : List (List ℕ)) (id : UnitEntryId) (base : GivenUnit) (e : Addition) (u0 u : GivenUnit) (a : ℕ × Value) (left : List (ℕ × Value)) (v : Option AttributeValue)
-    → IsLast t0 id base e u0 → (so : AreSetSoFar c number s p t0 t1 base e u (a ∷ left)) → IsMade (SaysMore c.places.now number a.0 t1 t2) (attribute_becomes (clone_rules c) s p so.before a) v
-    → AreSetSoFar c number s p t0 t2 base e (with_made id.index a.0 v u) left
-set-more c number s p t0 t1 t2 id base e u0 u a left v last so made =
+pub set-more : (c : CloneSource) (number : ℕ) (s : UnitSource) (p : Placed) (t0 t1 t2 : List (List ℕ)) (id : UnitEntryId) (base : GivenUnit) (e : Addition) (u0 u : GivenUnit) (seen next : BoundsSeen) (a : ℕ × Value) (left : List (ℕ × Value)) (v : Option AttributeValue)
+    → IsLast t0 id base e u0 → (so : AreSetSoFar c number s p t0 t1 base e u seen (a ∷ left)) → next ≡ bounds_among (so.before ++ a ∷ []) → IsMade (SaysMore c.places.now number a.0 t1 t2) (attribute_becomes (clone_rules c) s p so.before a) v
+    → AreSetSoFar c number s p t0 t2 base e (with_made id.index a.0 v u) next left
+set-more c number s p t0 t1 t2 id base e u0 u seen next a left v last so behind made =
     let draft = made.drafted in
     let one = named a.0 (wanted_value c.places.now draft) in
     record {
       before = so.before ++ a ∷ [];
+      bounds = behind;
       values = so.values ++ one;
       given = given-on number t0 t1 t2 so.values one base e u (with_made id.index a.0 v u) so.given
           (given-made c number t1 t2 id base so.given.given u a.0 draft v (given-last number t0 t1 so.values id base e u0 u last so.given) made.made);
@@ -196,14 +199,14 @@ set-more c number s p t0 t1 t2 id base e u0 u a left v last so made =
       refused = sym (refused-not c s p so.before a left draft made.is) ∙ so.refused;
     }
 
-pub set-refused : (c : CloneSource) (number : ℕ) (s : UnitSource) (p : Placed) (t0 t1 : List (List ℕ)) (base : GivenUnit) (e : Addition) (u : GivenUnit) (a : ℕ × Value) (left : List (ℕ × Value)) (fault : Option Fault)
-    → (so : AreSetSoFar c number s p t0 t1 base e u (a ∷ left)) → RefusesSo (attribute_becomes (clone_rules c) s p so.before a) fault → TellsFirst (values_refused c s p [] p.entry.attributes) fault
-set-refused c number s p t0 t1 base e u a left None so told = tt
-set-refused c number s p t0 t1 base e u a left (Some fault) so told = ap first_of (sym so.refused) ∙ refused-here c s p so.before a left (of_place fault) told
+pub set-refused : (c : CloneSource) (number : ℕ) (s : UnitSource) (p : Placed) (t0 t1 : List (List ℕ)) (base : GivenUnit) (e : Addition) (u : GivenUnit) (seen : BoundsSeen) (a : ℕ × Value) (left : List (ℕ × Value)) (told : Option Refusal)
+    → (so : AreSetSoFar c number s p t0 t1 base e u seen (a ∷ left)) → RefusesSo (attribute_becomes (clone_rules c) s p so.before a) told → TellsFirst (values_refused c s p [] p.entry.attributes) told
+set-refused c number s p t0 t1 base e u seen a left None so refused = tt
+set-refused c number s p t0 t1 base e u seen a left (Some refusal) so refused = ap first_of (sym so.refused) ∙ refused-here c s p so.before a left refusal refused
 
-pub set-end : (c : CloneSource) (number : ℕ) (s : UnitSource) (p : Placed) (t0 t1 : List (List ℕ)) (base : GivenUnit) (e : Addition) (u : GivenUnit) → AreSetSoFar c number s p t0 t1 base e u [] → AreSet c number s p t0 t1 base e u
+pub set-end : (c : CloneSource) (number : ℕ) (s : UnitSource) (p : Placed) (t0 t1 : List (List ℕ)) (base : GivenUnit) (e : Addition) (u : GivenUnit) (seen : BoundsSeen) → AreSetSoFar c number s p t0 t1 base e u seen [] → AreSet c number s p t0 t1 base e u
 unfolding attributes_become
-set-end c number s p t0 t1 base e u so = record {
+set-end c number s p t0 t1 base e u seen so = record {
   given = subst (λ values. IsGiven number t0 t1 values base e u) (sym (append-nil so.values) ∙ so.whole) so.given;
   accepted = sym so.refused;
 }
@@ -214,16 +217,6 @@ set-end c number s p t0 t1 base e u so = record {
 pub on-ok : {A F P Q : Type 0} (r : Result A F) → (P → Q) → OnOk r P → OnOk r Q
 on-ok (Ok x) f p = f p
 on-ok (Err e) f p = tt
-
-pub bounds-given : (number : ℕ) (texts : List (List ℕ)) (places : Goal → Option (ℕ × ℕ)) (id : UnitEntryId) (base : GivenUnit) (e : Addition) (u : GivenUnit) (f : Function) (symbol : ℕ) → f.number ≡ symbol → IsLast texts id base e u
-    → IsGiven number texts texts (filter_map (settled places) (function_bounds (Some f))) base e (with_value id.index DW_AT_high_pc (Constant DW_FORM_udata f.length) (with_value id.index DW_AT_low_pc (Address (Symbol symbol (pos 0))) u))
-bounds-given number texts places id base e u f symbol is last =
-    let low = Address (Symbol symbol (pos 0)) in
-    let high = Constant DW_FORM_udata f.length in
-    let first = given-value number texts texts id base e u DW_AT_low_pc low last (grows-not texts) (All-nil (λ n. n < length texts)) in
-    let second = given-value number texts texts id base first.given _ DW_AT_high_pc high (given-last number texts texts _ id base e u _ last first) (grows-not texts) (All-nil (λ n. n < length texts)) in
-    subst (λ n. IsGiven number texts texts ((DW_AT_low_pc, address (Symbol n (pos 0))) ∷ (DW_AT_high_pc, constant DW_FORM_udata f.length) ∷ []) base e (with_value id.index DW_AT_high_pc high (with_value id.index DW_AT_low_pc low u))) (sym is)
-    (given-on number texts texts texts _ _ base e _ _ first second)
 
 pub endianity-given : (number : ℕ) (texts : List (List ℕ)) (id : UnitEntryId) (base : GivenUnit) (e : Addition) (u : GivenUnit) → IsLast texts id base e u
     → IsGiven number texts texts ((DW_AT_endianity, constant DW_FORM_data1 DW_END_little) ∷ []) base e (with_value id.index DW_AT_endianity (Constant DW_FORM_data1 DW_END_little) u)

@@ -1,6 +1,6 @@
 -- Texts that are found by the places where they stand.
 use Rattle.std.proofs.Common.{◌≡◌, ℕ, ◌<◌, refl, subst, sym, ap, ◌∙◌, arith, List, [], ◌++◌, length, true, is_some, Option, Some, None, Result, Ok, Err, IfSome}
-use Rattle.std.specs.Prelude.{option_and_then}
+use Rattle.std.specs.Prelude.{option_and_then, option_map}
 use Rattle.std.specs.List.{position_or_len}
 use Rattle.std.specs.Str.{bytes_eq}
 use Rattle.std.proofs.lemmas.List.{get_or_append_left, length-append}
@@ -68,7 +68,7 @@ module _ (s : Sections) (h : UnitHeader) (v : Value) (offset : ℕ) where
           let same : fault_of Text Info offset flaw ≡ fault = cc in
           ap (reported Text Info offset) (unplaced flaw refl) ∙ ap (λ f. Err f) same
 
-  pub unplaced-refused : (fault : Option Fault) → Refuses (reported Text Info offset (text_place_named (texts_of_unit s h) v)) fault → RefusesSo (text_drafted of_place (reported Text Info offset (text_named (texts_of_unit s h) v))) fault
+  pub unplaced-refused : (fault : Option Fault) → Refuses (reported Text Info offset (text_place_named (texts_of_unit s h) v)) fault → RefusesSo (text_drafted of_place (reported Text Info offset (text_named (texts_of_unit s h) v))) (option_map of_place fault)
   unplaced-refused None refused = tt
   unplaced-refused (Some fault) refused = ap (text_drafted of_place) (unplaced-told (Some fault) refused)
 

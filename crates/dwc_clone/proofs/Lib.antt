@@ -1,3 +1,4 @@
+pub mod ErrorLaws
 pub mod PlaceLaws
 pub mod TextLaws
 pub mod ReferenceLaws
@@ -8,3 +9,7 @@ pub mod EntryPaths
 pub mod EntriesAdded
 pub mod UnitEntries
 pub mod KnownLaws
+pub mod NativeRangeLaws
+pub mod NativeExtentLaws
+pub mod CodeLaws
+pub mod CodeValueLaws

@@ -10,7 +10,7 @@ use Rattle.dwc_base.specs.Entries.{Entry}
 use Rattle.dwc_base.specs.Listing.{Listing, no_items, with_first}
 use Rattle.dwc_base.specs.Sections.{Fault}
 use Rattle.dwc_base.specs.Clones.{UnitSource, entry_refusals}
-use Rattle.dwc_base.specs.Refusals.{Refusal, first_of, of_place}
+use Rattle.dwc_base.specs.Refusals.{Refusal, first_of}
 use Rattle.dwc_kept.specs.KeptUnits.{IsTree}
 use Rattle.dwc_read.specs.Places.{GoesOn}
 use Rattle.dwc_write.specs.declared.units.UnitEntryId.{UnitEntryId}
@@ -67,10 +67,10 @@ accepted : (c : CloneSource) (number : ℕ) (s : UnitSource) (es : List Entry) (
 accepted c number s [] old now begun u ps made = refl
 accepted c number s (e ∷ es) old now begun u ps made = made.unit.accepted
 
-pub cloned-refused : (c : CloneSource) (number : ℕ) (s : UnitSource) (all : List Entry) (old now : List (List ℕ)) (begun u : GivenUnit) (ps : List UnitEntryId) (e : Entry) (left : List Entry) (fault : Option Fault)
-    → AreClonedSoFar c number s all old now begun u ps (e ∷ left) → TellsFirst (entry_refusals (clone_rules c) s (placed_entry c e)) fault → TellsFirst (clone_refusals c s all) fault
+pub cloned-refused : (c : CloneSource) (number : ℕ) (s : UnitSource) (all : List Entry) (old now : List (List ℕ)) (begun u : GivenUnit) (ps : List UnitEntryId) (e : Entry) (left : List Entry) (refusal : Option Refusal)
+    → AreClonedSoFar c number s all old now begun u ps (e ∷ left) → TellsFirst (entry_refusals (clone_rules c) s (placed_entry c e)) refusal → TellsFirst (clone_refusals c s all) refusal
 cloned-refused c number s all old now begun u ps e left None so told = tt
-cloned-refused c number s all old now begun u ps e left (Some fault) so told =
+cloned-refused c number s all old now begun u ps e left (Some refusal) so told =
     let f = entry_refusals (clone_rules c) s in
     ap (λ xs. first_of (clone_refusals c s xs)) (sym so.whole)
     ∙ ap (λ xs. first_of (flat_map f xs)) (map-append (placed_entry c) so.es (e ∷ left))
@@ -78,7 +78,7 @@ cloned-refused c number s all old now begun u ps e left (Some fault) so told =
     ∙ ap (λ xs. first_of (xs ++ (f (placed_entry c e) ++ flat_map f (map (placed_entry c) left)))) (accepted c number s so.es old now begun u ps so.made)
     ∙ front (f (placed_entry c e)) (flat_map f (map (placed_entry c) left)) told
   where
-    front : (xs ys : List Refusal) → first_of xs ≡ Some (of_place fault) → first_of (xs ++ ys) ≡ Some (of_place fault)
+    front : (xs ys : List Refusal) → first_of xs ≡ Some refusal → first_of (xs ++ ys) ≡ Some refusal
     front [] ys is = absurd (cc)
     front (x ∷ xs) ys is = is
 

@@ -8,9 +8,6 @@ use Rattle.dwc_base.specs.Refusals.{Refusal}
 use Rattle.dwc_base.specs.Trees.{TreeValue, set_attribute}
 use Rattle.dwc_base.specs.Clones.{UnitSource, attributes_become, if_made, if_refused, entry_refusals}
 use Rattle.dwc_base.specs.DraftForests.{settled}
-use Rattle.dwc_read.specs.declared.fault.ReadFault.{ReadFault}
-use Rattle.dwc_read.specs.declared.fault.ReadFault.TheVariants.{OutOfMemory}
-use Rattle.dwc_read.specs.Faults.{fault_seen}
 use Rattle.dwc_kept.specs.KeptUnits.{AreBelow}
 use Rattle.dwc_write.specs.declared.attributes.AttributeValue.{AttributeValue}
 use Rattle.dwc_write.specs.declared.error.WriteError.{WriteError}
@@ -18,7 +15,10 @@ use Rattle.dwc_write.specs.declared.units.UnitEntryId.{UnitEntryId}
 use Rattle.dwc_write.specs.GivenUnits.{Addition, GivenUnit, IsAdded, with_child, with_next, with_value}
 use Rattle.dwc_write.specs.UsedTexts.{texts_of_attributes}
 use Rattle.dwc_write.specs.AddedInOrder.{attribute_meant, with_entry}
+use Rattle.dwc_clone.specs.declared.error.CloneError.{CloneError}
+use Rattle.dwc_clone.specs.declared.error.CloneError.TheVariants.{OutOfMemory}
 use Rattle.dwc_clone.specs.declared.source.CloneSource.{CloneSource}
+use Rattle.dwc_clone.specs.Errors.{refusal_told}
 use Rattle.dwc_clone.specs.OutputPlaces.{goal_place}
 use Rattle.dwc_clone.specs.MadeValues.{Grows}
 use Rattle.dwc_clone.specs.ClonedUnits.{clone_rules, depths_of, IsCloned, TellsFirst}
@@ -51,9 +51,9 @@ with_made id name None u = u
 with_made id name (Some value) u = with_value id name value u
 
 -- A call answers what a call of a writer answered; a refusal is for want of memory.
-abbrev pub OfMemory : {T : Type 0} → Result T WriteError → Result T ReadFault → Type 0
+abbrev pub OfMemory : {T : Type 0} → Result T WriteError → Result T CloneError → Type 0
 OfMemory written (Ok x) = written ≡ Ok x
-OfMemory written (Err fault) = fault ≡ OutOfMemory
+OfMemory written (Err e) = e ≡ OutOfMemory
 
 -- ---- what attributes become
 
@@ -75,9 +75,9 @@ pub record AreSet (c : CloneSource) (number : ℕ) (s : UnitSource) (p : Placed)
   pub accepted : values_refused c s p [] p.entry.attributes ≡ []
 
 -- That, or the first refusal.
-abbrev pub GivesSet : CloneSource → ℕ → UnitSource → Placed → List (List ℕ) → List (List ℕ) → GivenUnit → Addition → GivenUnit → Result (Unit {0}) ReadFault → Type 0
+abbrev pub GivesSet : CloneSource → ℕ → UnitSource → Placed → List (List ℕ) → List (List ℕ) → GivenUnit → Addition → GivenUnit → Result (Unit {0}) CloneError → Type 0
 GivesSet c number s p old new base e u (Ok done) = AreSet c number s p old new base e u
-GivesSet c number s p old new base e u (Err fault) = TellsFirst (values_refused c s p [] p.entry.attributes) (fault_seen fault)
+GivesSet c number s p old new base e u (Err error) = TellsFirst (values_refused c s p [] p.entry.attributes) (refusal_told error)
 
 -- ---- entries below their parents (DWARF 4 and 5, section 2.3)
 
@@ -125,6 +125,6 @@ AreMadeSoFar c number s [] old new begun u parents = (new ≡ old) × (u ≡ beg
 AreMadeSoFar c number s (e ∷ es) old new begun u parents = AreMade c number s (e ∷ es) old new begun u parents
 
 -- An entry was cloned behind others, and some can follow; or its first refusal is told.
-abbrev pub GivesEntry : CloneSource → ℕ → UnitSource → List Entries.Entry → Entries.Entry → List Entries.Entry → List (List ℕ) → List (List ℕ) → GivenUnit → GivenUnit → List UnitEntryId → Result (Unit {0}) ReadFault → Type 0
+abbrev pub GivesEntry : CloneSource → ℕ → UnitSource → List Entries.Entry → Entries.Entry → List Entries.Entry → List (List ℕ) → List (List ℕ) → GivenUnit → GivenUnit → List UnitEntryId → Result (Unit {0}) CloneError → Type 0
 GivesEntry c number s es e others old new begun u parents (Ok done) = AreMadeSoFar c number s (es ++ e ∷ []) old new begun u parents × CanFollow parents others
-GivesEntry c number s es e others old new begun u parents (Err fault) = TellsFirst (entry_refusals (clone_rules c) s (placed_entry c e)) (fault_seen fault)
+GivesEntry c number s es e others old new begun u parents (Err error) = TellsFirst (entry_refusals (clone_rules c) s (placed_entry c e)) (refusal_told error)

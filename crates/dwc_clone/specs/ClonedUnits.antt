@@ -2,23 +2,22 @@
 use Rattle.std.specs.Prelude.{◌≡◌, ℕ, ◌<◌, ◌==◌, List, [], ◌∷◌, map, length, if◌then◌else◌, All, Option, Some, None, Result, Ok, Err}
 use Rattle.std.specs.List.{flat_map}
 use Rattle.dwc_base.specs.declared.constants.TheConstants.{DW_TAG_compile_unit}
-use Rattle.dwc_base.specs.Sections.{Fault}
 use Rattle.dwc_base.specs.Entries.{Entry}
 use Rattle.dwc_base.specs.ReadValues.{IsReadEntry}
 use Rattle.dwc_base.specs.Kept.{Placed}
-use Rattle.dwc_base.specs.Refusals.{Refusal, of_place, first_of}
+use Rattle.dwc_base.specs.Refusals.{Refusal, first_of}
 use Rattle.dwc_base.specs.Trees.{Tree}
 use Rattle.dwc_base.specs.Clones.{UnitSource, CodeRules, entry_refusals}
 use Rattle.dwc_base.specs.CarriedDrafts.{unit_drafts}
 use Rattle.dwc_base.specs.DraftForests.{settled_unit}
 use Rattle.dwc_base.specs.EntryRules.{code_rules}
-use Rattle.dwc_read.specs.declared.fault.ReadFault.{ReadFault}
-use Rattle.dwc_read.specs.Faults.{fault_seen}
 use Rattle.dwc_kept.specs.KeptUnits.{IsTree}
 use Rattle.dwc_write.specs.GivenUnits.{GivenUnit}
 use Rattle.dwc_write.specs.UsedTexts.{texts_of_attributes}
 use Rattle.dwc_write.specs.AddedInOrder.{IsInOrder, tree_meant}
+use Rattle.dwc_clone.specs.declared.error.CloneError.{CloneError}
 use Rattle.dwc_clone.specs.declared.source.CloneSource.{CloneSource}
+use Rattle.dwc_clone.specs.Errors.{refusal_told}
 use Rattle.dwc_clone.specs.OutputPlaces.{goal_place}
 use Rattle.dwc_clone.specs.MadeValues.{Grows}
 
@@ -68,11 +67,11 @@ pub record IsCloned (c : CloneSource) (number : ℕ) (s : UnitSource) (es : List
   pub texts : All (λ e. All (λ n. n < length new) (texts_of_attributes e.attributes)) u.additions
 
 -- A refusal is for want of memory, or is the first of some.
-abbrev pub TellsFirst : List Refusal → Option Fault → Type 0
+abbrev pub TellsFirst : List Refusal → Option Refusal → Type 0
 TellsFirst refusals None = Prim.Unit {0}
-TellsFirst refusals (Some fault) = first_of refusals ≡ Some (of_place fault)
+TellsFirst refusals (Some refusal) = first_of refusals ≡ Some refusal
 
 -- That unit, or the first refusal.
-abbrev pub GivesCloned : CloneSource → ℕ → UnitSource → List Entry → List (List ℕ) → List (List ℕ) → GivenUnit → Result GivenUnit ReadFault → Type 0
+abbrev pub GivesCloned : CloneSource → ℕ → UnitSource → List Entry → List (List ℕ) → List (List ℕ) → GivenUnit → Result GivenUnit CloneError → Type 0
 GivesCloned c number s es old new begun (Ok u) = IsCloned c number s es old new begun u
-GivesCloned c number s es old new begun (Err e) = TellsFirst (clone_refusals c s es) (fault_seen e)
+GivesCloned c number s es old new begun (Err e) = TellsFirst (clone_refusals c s es) (refusal_told e)

@@ -1,5 +1,6 @@
 pub mod Errors
 pub mod NativeExtents
+pub mod BoundsSeen
 pub mod OutputPlaces
 pub mod Sources
 pub mod MadeValues

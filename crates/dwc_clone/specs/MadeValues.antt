@@ -1,30 +1,29 @@
 -- What is made of the values of attributes, and of attributes in order.
-use Rattle.std.specs.Prelude.{◌≡◌, ℕ, ◌<◌, List, ◌++◌, length, All, IfSome, Option, Some, None, option_map, option_and_then, Result, Ok, Err}
-use Rattle.dwc_base.specs.Sections.{Fault}
-use Rattle.dwc_base.specs.Refusals.{Refusal, of_place}
+use Rattle.std.specs.Prelude.{◌≡◌, ℕ, ◌<◌, List, ◌++◌, length, All, IfSome, Bool, true, false, Option, Some, None, option_map, option_and_then, Result, Ok, Err}
+use Rattle.dwc_base.specs.Refusals.{Refusal}
 use Rattle.dwc_base.specs.Trees.{TreeValue}
 use Rattle.dwc_base.specs.Drafts.{DraftValue}
 use Rattle.dwc_base.specs.DraftForests.{settled_value}
-use Rattle.dwc_base.specs.Values.{Value}
+use Rattle.dwc_base.specs.Values.{Value, address, address_index}
 use Rattle.dwc_kept.specs.ReadEntries.{named_offset}
-use Rattle.dwc_read.specs.declared.fault.ReadFault.{ReadFault}
-use Rattle.dwc_read.specs.Faults.{fault_seen}
 use Rattle.dwc_write.specs.declared.attributes.AttributeValue.{AttributeValue}
 use Rattle.dwc_write.specs.declared.attributes.AttributeValue.TheVariants.{UnitRef, DebugInfoRef}
 use Rattle.dwc_write.specs.declared.attributes.DebugInfoRef.TheVariants.{Entry}
 use Rattle.dwc_write.specs.GivenUnits.{FitsValue}
 use Rattle.dwc_write.specs.UsedTexts.{text_of_value}
 use Rattle.dwc_write.specs.AddedInOrder.{value_meant}
+use Rattle.dwc_clone.specs.declared.error.CloneError.{CloneError}
 use Rattle.dwc_clone.specs.declared.places.EmittedEntry.{EmittedEntry}
 use Rattle.dwc_clone.specs.declared.source.CloneSource.{CloneSource}
+use Rattle.dwc_clone.specs.Errors.{refusal_told}
 use Rattle.dwc_clone.specs.OutputPlaces.{goal_place, place_of}
 
 -- ---- answers
 
 -- A refusal is for want of memory, or for what is refused of the input.
-abbrev pub RefusesSo : {A : Type 0} → Result A Refusal → Option Fault → Type 0
+abbrev pub RefusesSo : {A : Type 0} → Result A Refusal → Option Refusal → Type 0
 RefusesSo read None = Unit {0}
-RefusesSo read (Some fault) = read ≡ Err (of_place fault)
+RefusesSo read (Some refusal) = read ≡ Err refusal
 
 -- Something becomes what is answered; or what is refused of it is told.
 pub record IsMade {A X : Type 0} (has : A → X → Type 0) (read : Result A Refusal) (x : X) : Type 0 where
@@ -32,14 +31,9 @@ pub record IsMade {A X : Type 0} (has : A → X → Type 0) (read : Result A Ref
   pub is : read ≡ Ok drafted
   pub made : has drafted x
 
-abbrev pub GivesMade : {A X : Type 0} → (A → X → Type 0) → Result A Refusal → Result X ReadFault → Type 0
+abbrev pub GivesMade : {A X : Type 0} → (A → X → Type 0) → Result A Refusal → Result X CloneError → Type 0
 GivesMade has read (Ok x) = IsMade has read x
-GivesMade has read (Err e) = RefusesSo read (fault_seen e)
-
--- the fault that an answer tells; want of memory is none
-abbrev pub fault_told : {A : Type 0} → Result A ReadFault → Option Fault
-fault_told (Ok x) = None
-fault_told (Err e) = fault_seen e
+GivesMade has read (Err e) = RefusesSo read (refusal_told e)
 
 -- ---- values
 
@@ -66,6 +60,12 @@ pub record Says (places : List EmittedEntry) (number name : ℕ) (table : List (
 pub record SaysMore (places : List EmittedEntry) (number name : ℕ) (old new : List (List ℕ)) (draft : Option DraftValue) (v : Option AttributeValue) : Type 0 where
   pub grows : Grows old new
   pub says : Says places number name new draft v
+
+-- whether a value is an address, in place or by an index
+abbrev pub is_address : Value → Bool
+is_address (address a) = true
+is_address (address_index i) = true
+is_address _ = false
 
 -- ---- references
 

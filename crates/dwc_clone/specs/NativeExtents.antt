@@ -1,18 +1,27 @@
 -- Range lists and extents of the input, as they are in the native code.
-use Rattle.std.specs.Prelude.{◌≡◌, ℕ, List, [], ◌∷◌, ◌++◌, map, Bool, is_some, All, Option, Some, None, option_map, Result, Ok, Err}
+use Rattle.std.specs.Prelude.{◌≡◌, ℕ, List, [], ◌∷◌, map, is_some, All, Option, Some, None, option_map, Result, Ok, Err}
 use Rattle.dwc_base.specs.declared.records.Address.{Address}
 use Rattle.dwc_base.specs.declared.constants.TheConstants.{DW_AT_low_pc}
 use Rattle.dwc_base.specs.Functions.{Function}
-use Rattle.dwc_base.specs.Listing.{Listing}
+use Rattle.dwc_base.specs.Listing.{Listing, only_fault}
+use Rattle.dwc_base.specs.Sections.{Sections}
+use Rattle.dwc_base.specs.Units.{UnitHeader}
+use Rattle.dwc_base.specs.Values.{Value, constant}
 use Rattle.dwc_base.specs.Refusals.{Refusal, first_of}
 use Rattle.dwc_base.specs.Trees.{Interval, TreeValue, address as address_of_tree}
-use Rattle.dwc_base.specs.Lists.{ListRefusal}
-use Rattle.dwc_base.specs.RangeAttributes.{native_of_intervals, said_intervals}
+use Rattle.dwc_base.specs.Lists.{ListRefusal, interval_between, interval_of_length, list_source, ranges_of_value}
+use Rattle.dwc_base.specs.RangeAttributes.{Extent, native_of_intervals, said_extent, said_intervals}
 use Rattle.dwc_write.specs.RangeLists.{FitsRange, interval_of}
 use Rattle.dwc_write.specs.Writers.{FitsField}
+use Rattle.dwc_read.specs.declared.fault.ReadFault.{ReadFault}
+use Rattle.dwc_read.specs.Faults.{fault_seen}
+use Rattle.dwc_tabs.specs.declared.list_fault.ListFault.{ListFault}
+use Rattle.dwc_tabs.specs.RangeLists.{Tells, range_list_named}
 use Rattle.dwc_tabs.specs.RangeEnds.{refusal_view}
 use Rattle.dwc_clone.specs.declared.error.CloneError.{CloneError}
 use Rattle.dwc_clone.specs.declared.ranges.NativeRanges.{NativeRanges}
+use Rattle.dwc_clone.specs.declared.extent.CodeEnd.{CodeEnd}
+use Rattle.dwc_clone.specs.declared.extent.CodeEnd.TheVariants.{At, Behind}
 use Rattle.dwc_clone.specs.declared.extent.NativeExtent.{NativeExtent}
 use Rattle.dwc_clone.specs.declared.extent.NativeExtent.TheVariants.{Intervals, Position, Nowhere}
 use Rattle.dwc_clone.specs.Errors.{refusal_told}
@@ -27,6 +36,21 @@ pub record IsNative (fs : List Function) (listed : Listing ListRefusal Interval)
   pub some : r.listed ≡ is_some (first_of listed.items)
   pub ranges : AreRanges r.ranges.items (native_of_intervals fs listed.items)
   pub fault : option_map refusal_view r.fault ≡ listed.fault
+
+-- A call finds the range list that a value of a unit names, before its first interval.
+abbrev pub FindsList : Sections → UnitHeader → Value → Result (Listing ListRefusal Interval) ReadFault → Type 0
+FindsList s h v (Ok list) = (offset : ℕ) → list ≡ ranges_of_value (list_source s h) offset v
+FindsList s h v (Err e) = Tells (range_list_named s h v) (fault_seen e)
+
+-- A call begins a list, or tells why nothing of it can be read.
+abbrev pub BeginsList : Listing ListRefusal Interval → Result (Listing ListRefusal Interval) ListFault → Type 0
+BeginsList listed (Ok list) = list ≡ listed
+BeginsList listed (Err e) = listed ≡ only_fault (refusal_view e)
+
+-- A call reads a list to its end, or tells what is refused of it.
+abbrev pub EndsList : Listing ListRefusal Interval → Result (Unit {0}) ListFault → Type 0
+EndsList listed (Ok done) = listed.fault ≡ None
+EndsList listed (Err e) = listed.fault ≡ Some (refusal_view e)
 
 -- what an error tells is the refusal of something; want of memory tells nothing
 abbrev pub IsTold : Option Refusal → Option Refusal → Type 0
@@ -49,3 +73,17 @@ abbrev pub FitsExtent : NativeExtent → Type 0
 FitsExtent (Intervals rs) = (size : ℕ) → All (FitsRange size) rs.items
 FitsExtent (Position a) = (size : ℕ) → FitsField size a
 FitsExtent Nowhere = Unit {0}
+
+-- what an entry has of the code is what its extent becomes
+abbrev pub IsExtent : List Function → ℕ → Extent → NativeExtent → Type 0
+IsExtent fs tag e x = said_by tag x ≡ said_extent fs tag e
+
+-- the value of a constant
+abbrev pub constant_said : Value → Option ℕ
+constant_said (constant form n) = Some n
+constant_said _ = None
+
+-- the interval from a begin to an end
+abbrev pub interval_up_to : Address → CodeEnd → Result (Option Interval) ListRefusal
+interval_up_to begin (At end) = Ok (interval_between begin end)
+interval_up_to begin (Behind n) = interval_of_length begin n

@@ -1,13 +1,16 @@
 //! Clones the kept entries of a unit, one after another.
-ghost use Rattle.std.specs.Prelude.{◌≡◌, ℕ, List, [], ◌∷◌, ◌++◌, take, Option, option_map, is_some, IfSome, IfOk, OnOk, IsSome, filter_map};
+ghost use Rattle.std.specs.Prelude.{◌≡◌, ℕ, List, [], ◌∷◌, ◌++◌, take, Option, is_some, IfSome, IfOk, OnOk, filter_map};
 ghost use Rattle.dwc_base.specs.Entries as Entries;
 ghost use Rattle.dwc_base.specs.Drafts.{Goal};
 ghost use Rattle.dwc_base.specs.DraftForests.{settled};
 ghost use Rattle.dwc_base.specs.Clones.{UnitSource, endianity};
-ghost use Rattle.dwc_base.specs.EntryRules.{function_begun, function_bounds};
+ghost use Rattle.dwc_base.specs.Addends.{HaveAddends};
+ghost use Rattle.dwc_base.specs.Lists.{list_source};
+ghost use Rattle.dwc_base.specs.RangeAttributes.{address_said as said_address};
+ghost use Rattle.dwc_base.specs.RangeRefusals.{begins_by_low_pc};
+ghost use Rattle.dwc_base.specs.declared.constants.TheConstants.{DW_AT_low_pc as low_pc};
 ghost use Rattle.dwc_base.specs.Kept.{Placed};
 ghost use Rattle.dwc_base.specs.ReadValues.{IsReadEntry};
-ghost use Rattle.dwc_addr.specs.Transforms.{function_view};
 ghost use Rattle.dwc_read.specs.EntriesSeen.{entry_view};
 ghost use Rattle.dwc_write.specs.GivenUnits.{Addition, GivenUnit, FitsValue, IsAdded, new_unit};
 ghost use Rattle.dwc_clone.specs.Sources.{IsSource};
@@ -15,15 +18,14 @@ ghost use Rattle.dwc_clone.specs.KnownTexts.{KnowsTexts};
 ghost use Rattle.dwc_clone.specs.ClonedEntries.{AddsBelow, AreKnown, AreMadeSoFar, CanFollow, GivesEntry, GivesSet, IsGiven, IsLast, OfMemory, last_parent, placed_entry, with_made};
 
 use crate::attribute::output_attribute;
-use crate::{CloneSource, KnownTexts};
-use dwc_addr::FunctionMap;
-use dwc_base::Address;
+use crate::bounds::{bounds_behind, no_bounds};
+use crate::code::set_code;
+use crate::{CloneError, CloneSource, KnownTexts};
 use dwc_base::constants::{
-    DW_AT_endianity, DW_AT_high_pc, DW_AT_low_pc, DW_END_little, DW_FORM_data1, DW_FORM_udata,
-    DW_TAG_base_type,
+    DW_AT_endianity, DW_AT_low_pc, DW_END_little, DW_FORM_data1, DW_TAG_base_type,
 };
-use dwc_kept::function_begun;
-use dwc_read::{Entry, ReadFault};
+use dwc_kept::{address_said, function_begun};
+use dwc_read::Entry;
 use dwc_write::{AttributeValue, StringTable, Unit, UnitEntryId, WriteError};
 use std::alloc::Global;
 use std::vec::Vec;
@@ -56,32 +58,6 @@ fn add_entry(
     };
     parents.push(id)?;
     Ok(id)
-}
-
-// A subprogram that begins in a function begins with it, and is as long. (DWARF 4, section 2.17.2.)
-fn set_bounds(
-    unit: &mut Unit,
-    id: UnitEntryId,
-    function: Option<&FunctionMap>,
-) -> Result<(), WriteError>
-    requires known { IsAdded id.index unit.old }
-    requires symbol { IfSome function (λ f. IsSome f.now.symbol) }
-    ensures places { OnOk result (unit.new.places ≡ unit.old.places) }
-    ensures given { (number : ℕ) (texts : List (List ℕ)) (places : Goal → Option (ℕ × ℕ)) (base : GivenUnit) (e : Addition) → IsLast texts id base e unit.old → OnOk result (IsGiven number texts texts (filter_map (settled places) (function_bounds (option_map (λ f. function_view f.now) function.entry))) base e unit.new) }
-{
-    let Some(function) = function else {
-        return Ok(());
-    };
-    let begin = Address::Symbol {
-        symbol: function.symbol.unwrap(),
-        addend: 0,
-    };
-    let length = AttributeValue::Constant {
-        form: DW_FORM_udata,
-        bits: function.len as u64,
-    };
-    unit.set(id, DW_AT_low_pc, AttributeValue::Address(begin))?;
-    unit.set(id, DW_AT_high_pc, length)
 }
 
 // On a target with the highest byte first a base type says that it has the byte order of wasm. (DWARF 4, section 5.1.)
@@ -132,8 +108,9 @@ fn set_attributes(
     id: UnitEntryId,
     strings: &mut StringTable,
     known: &mut KnownTexts,
-) -> Result<(), ReadFault>
-    requires begins { begins ≡ is_some (function_begun source.now.transform.now source.now.unit.now.sections source.now.unit.now.header (entry_view entry.now)) }
+) -> Result<(), CloneError>
+    requires functions { HaveAddends source.now.transform.now }
+    requires begins { begins ≡ begins_by_low_pc (list_source source.now.unit.now.sections source.now.unit.now.header) source.now.transform.now (entry_view entry.now) }
     requires read { IsReadEntry (entry_view entry.now) }
     requires known { IsAdded id.index unit.old }
     requires texts { KnowsTexts source.now.unit.now.sections strings.old known.old }
@@ -142,21 +119,32 @@ fn set_attributes(
     ensures given { (number : ℕ) (s : UnitSource) (base : GivenUnit) (e : Addition) → IsSource source.now number s → IsLast strings.old id base e unit.old → GivesSet source.now number s (placed_entry source.now (entry_view entry.now)) strings.old strings.new base e unit.new result }
 {
     let attributes = entry.attrs();
+    let mut seen = no_bounds();
     for attribute in attributes {
-        let value = output_attribute(alloc, source, begins, entry, attribute, strings, known)?;
+        let value = output_attribute(
+            alloc, source, begins, seen, entry, attribute, strings, known,
+        )?;
         of_memory(set_made(unit, id, attribute.0, value))?;
+        seen = bounds_behind(seen, attribute.0);
     }
     Ok(())
 }
 
 // What a call of the writer answers, which is refused for want of memory alone.
-fn of_memory<T: Drop>(written: Result<T, WriteError>) -> Result<T, ReadFault>
+fn of_memory<T: Drop>(written: Result<T, WriteError>) -> Result<T, CloneError>
     ensures { OfMemory written result }
 {
     match written {
         Ok(value) => Ok(value),
-        Err(_) => Err(ReadFault::OutOfMemory),
+        Err(_) => Err(CloneError::OutOfMemory),
     }
+}
+
+// Whether an entry has a `low_pc` that is an address that can be read.
+fn has_begin(source: &CloneSource<'_, '_>, entry: &Entry<'_>) -> bool
+    ensures { result ≡ is_some (said_address (list_source source.now.unit.now.sections source.now.unit.now.header) low_pc (entry_view entry.now)) }
+{
+    address_said(source.unit, entry, DW_AT_low_pc).is_some()
 }
 
 /// Adds the entry of the output that a kept entry becomes, the next one in file order.
@@ -168,7 +156,8 @@ pub(crate) fn clone_entry(
     unit: &mut Unit,
     strings: &mut StringTable,
     known: &mut KnownTexts,
-) -> Result<(), ReadFault>
+) -> Result<(), CloneError>
+    requires functions { HaveAddends source.now.transform.now }
     requires read { IsReadEntry (entry_view entry.now) }
     requires known { AreKnown parents.old.items unit.old }
     requires texts { KnowsTexts source.now.unit.now.sections strings.old known.old }
@@ -179,8 +168,8 @@ pub(crate) fn clone_entry(
     let depth = depth_of(entry);
     let id = of_memory(add_entry(unit, parents, depth, entry.tag))?;
     let function = function_begun(source.unit, entry, source.transform);
-    of_memory(set_bounds(unit, id, function))?;
-    let begins = function.is_some();
+    of_memory(set_code(alloc, source, entry, function, unit, id))?;
+    let begins = function.is_some() && has_begin(source, entry);
     set_attributes(alloc, source, begins, entry, unit, id, strings, known)?;
     of_memory(set_endianity(unit, id, source.big_endian, entry.tag))
 }

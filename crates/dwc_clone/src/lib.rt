@@ -2,6 +2,8 @@
 #![tactic(auto)]
 
 mod attribute;
+mod bounds;
+mod code;
 mod entry;
 mod error;
 mod extent;

@@ -1,20 +1,24 @@
 //! Range lists as native code. (DWARF 4, section 2.17.3; DWARF 5, section 2.17.3.)
-ghost use Rattle.std.specs.Prelude.{◌≡◌, ◌++◌, IsTrue, IsOkUnless, IfOk, OnOk, List, option_map};
+ghost use Rattle.std.specs.Prelude.{◌≡◌, ◌++◌, ◌∷◌, [], IsTrue, IfOk, OnOk, List, Some, option_map};
 ghost use Rattle.dwc_base.specs.Addends.{HaveAddends};
 ghost use Rattle.dwc_base.specs.EntryRules.{of_list};
-ghost use Rattle.dwc_base.specs.Lists.{list_source, ranges_of_value};
+ghost use Rattle.dwc_base.specs.Lists.{list_source, of_place, ranges_of_value};
 ghost use Rattle.dwc_base.specs.RangeAttributes.{native_of_intervals};
 ghost use Rattle.dwc_base.specs.RawLists.{is_range_list};
+ghost use Rattle.dwc_base.specs.Runs.{native_in_function};
+ghost use Rattle.dwc_base.specs.Sections.{Fault};
 ghost use Rattle.dwc_base.specs.Trees.{Interval};
+ghost use Rattle.dwc_addr.specs.Translations.{with_lengths};
+ghost use Rattle.dwc_read.specs.Faults.{fault_at, fault_seen};
 ghost use Rattle.dwc_read.specs.ValuesSeen.{value_view};
-ghost use Rattle.dwc_tabs.specs.RangeEnds.{interval_view};
-ghost use Rattle.dwc_clone.specs.NativeExtents.{AreRanges, IsNative, TellsRefusal};
+ghost use Rattle.dwc_tabs.specs.RangeEnds.{interval_view, refusal_view};
+ghost use Rattle.dwc_clone.specs.NativeExtents.{AreRanges, BeginsList, EndsList, FindsList, IsNative, TellsRefusal};
 
 use crate::CloneError;
-use dwc_addr::AddressTransform;
+use dwc_addr::{AddressTransform, translations_are_said};
 use dwc_base::Address;
-use dwc_read::{AttributeValue, Unit};
-use dwc_tabs::{ListFault, Ranges};
+use dwc_read::{AttributeValue, ReadFault, Unit};
+use dwc_tabs::{ListFault, RangeEntries, Ranges};
 use std::alloc::{AllocError, Global};
 
 /// What a range list of the input is in the native code.
@@ -38,7 +42,103 @@ pub(crate) fn add_native(
     requires functions { HaveAddends transform.now }
     ensures { (before : List Interval) → AreRanges ranges.old.items before → OnOk result (AreRanges ranges.new.items (before ++ native_of_intervals transform.now (interval_view (begin, end) ∷ []))) }
 {
-    todo!()
+    translations_are_said();
+    match begin {
+        Address::Constant(begin) => match end {
+            Address::Constant(end) => push_translated(transform, begin, end, ranges),
+            Address::Symbol { .. } => Ok(()),
+        },
+        Address::Symbol { .. } => Ok(()),
+    }
+}
+
+// Pushes what an interval of wasm offsets is translated to.
+fn push_translated(
+    transform: &AddressTransform,
+    begin: u64,
+    end: u64,
+    ranges: &mut Vec<(Address, u64)>,
+) -> Result<(), AllocError>
+    ensures { OnOk result (ranges.new.items ≡ ranges.old.items ++ with_lengths (native_in_function transform.now begin end)) }
+{
+    for range in transform.translate_ranges(begin, end) {
+        ranges.push(range)?;
+    }
+    Ok(())
+}
+
+// The fault of a list that cannot be found, told at the entry at an offset.
+fn told_at(fault: ReadFault, offset: u64) -> ListFault
+    ensures { (f : Fault) → fault_seen fault ≡ Some f → refusal_view result ≡ of_place (fault_at offset f) }
+{
+    match fault {
+        ReadFault::Read { what, section, .. } => ListFault::Read {
+            what,
+            section,
+            offset,
+        },
+        ReadFault::Unsupported { what, .. } => ListFault::Unsupported { what, offset },
+        // Finding a list takes no memory.
+        ReadFault::OutOfMemory => ListFault::TooLarge,
+    }
+}
+
+// The range list that a value names, which is found before its first interval is read.
+fn list_found<'u, 'd>(
+    unit: &'u Unit<'d>,
+    value: AttributeValue<'d>,
+) -> Result<Ranges<'u, 'd>, ReadFault>
+    requires list { IsTrue (is_range_list (value_view value)) }
+    ensures { FindsList unit.now.sections unit.now.header (value_view value.entry) result }
+{
+    RangeEntries::new(unit, value)?;
+    Ranges::new(unit, value)
+}
+
+// The range list that a value of the entry at an offset names, at its begin.
+fn list_begun<'u, 'd>(
+    unit: &'u Unit<'d>,
+    offset: u64,
+    value: AttributeValue<'d>,
+) -> Result<Ranges<'u, 'd>, ListFault>
+    requires list { IsTrue (is_range_list (value_view value)) }
+    ensures { BeginsList (ranges_of_value (list_source unit.now.sections unit.now.header) offset (value_view value.entry)) result }
+{
+    match list_found(unit, value) {
+        Ok(list) => Ok(list),
+        Err(fault) => Err(told_at(fault, offset)),
+    }
+}
+
+// What the intervals that are left of a list are in the native code.
+fn translated_list(
+    alloc: Global,
+    transform: &AddressTransform,
+    list: &mut Ranges<'_, '_>,
+) -> Result<NativeRanges, AllocError>
+    requires functions { HaveAddends transform.now }
+    ensures { IfOk result (IsNative transform.now list.old) }
+{
+    let mut listed = false;
+    let mut ranges = Vec::new(alloc);
+    loop {
+        match list.next_range() {
+            Ok(Some((begin, end))) => {
+                add_native(transform, begin, end, &mut ranges)?;
+                listed = true;
+            }
+            Ok(None) => return Ok(NativeRanges {
+                listed,
+                ranges,
+                fault: None,
+            }),
+            Err(fault) => return Ok(NativeRanges {
+                listed,
+                ranges,
+                fault: Some(fault),
+            }),
+        }
+    }
 }
 
 /// What the range list is in the native code that a value of the entry at an offset names. It is read once, up to its end or to what is
@@ -54,7 +154,25 @@ pub(crate) fn native_ranges(
     requires functions { HaveAddends transform.now }
     ensures { IfOk result (IsNative transform.now (ranges_of_value (list_source unit.now.sections unit.now.header) offset (value_view value.entry))) }
 {
-    todo!()
+    match list_begun(unit, offset, value) {
+        Ok(list) => {
+            let mut list = list;
+            translated_list(alloc, transform, &mut list)
+        }
+        Err(fault) => Ok(NativeRanges {
+            listed: false,
+            ranges: Vec::new(alloc),
+            fault: Some(fault),
+        }),
+    }
+}
+
+// Reads what is left of a list, up to its end.
+fn read_to_end(list: &mut Ranges<'_, '_>) -> Result<(), ListFault>
+    ensures { EndsList list.old result }
+{
+    while let Some(_) = list.next_range()? {}
+    Ok(())
 }
 
 /// Reads the range list that a value of the entry at an offset names, up to its end.
@@ -70,5 +188,7 @@ pub(crate) fn check_list(
     requires list { IsTrue (is_range_list (value_view value)) }
     ensures { TellsRefusal (option_map of_list (ranges_of_value (list_source unit.now.sections unit.now.header) offset (value_view value.entry)).fault) result }
 {
-    todo!()
+    let mut list = list_begun(unit, offset, value)?;
+    read_to_end(&mut list)?;
+    Ok(())
 }

@@ -1,6 +1,7 @@
 //! Clones the kept entries of a unit.
 ghost use Rattle.std.specs.Prelude.{◌≡◌, ℕ, None, All};
 ghost use Rattle.dwc_base.specs.Entries.{entries as entries_of};
+ghost use Rattle.dwc_base.specs.Addends.{HaveAddends};
 ghost use Rattle.dwc_base.specs.Clones.{UnitSource};
 ghost use Rattle.dwc_base.specs.ReadValues.{IsReadEntry};
 ghost use Rattle.dwc_write.specs.GivenUnits.{new_unit};
@@ -9,8 +10,7 @@ ghost use Rattle.dwc_clone.specs.KnownTexts.{KnowsTexts};
 ghost use Rattle.dwc_clone.specs.ClonedUnits.{picked, AreClonable, GivesCloned};
 
 use crate::entry::clone_entry;
-use crate::{CloneSource, KnownTexts};
-use dwc_read::ReadFault;
+use crate::{CloneError, CloneSource, KnownTexts};
 use dwc_write::{StringTable, Unit};
 use std::alloc::Global;
 
@@ -20,7 +20,8 @@ use std::alloc::Global;
 ///
 /// # Errors
 /// What is refused first of the kept entries, in file order, attribute by attribute: `Read` with the entry's offset where a text, or an
-/// address by an index, cannot be read; `Unsupported` `NotBuilt` with it for what is not built yet. `OutOfMemory` for want of memory.
+/// address by an index, cannot be read, and at a range list; `Unsupported` `NotBuilt` with the entry's offset for a location list and an
+/// expression; `TooLarge` where a start plus a length is no address. `OutOfMemory` for want of memory.
 pub fn clone_unit(
     alloc: Global,
     source: &CloneSource<'_, '_>,
@@ -28,7 +29,8 @@ pub fn clone_unit(
     begun: Unit,
     strings: &mut StringTable,
     known: &mut KnownTexts,
-) -> Result<Unit, ReadFault>
+) -> Result<Unit, CloneError>
+    requires functions { HaveAddends source.now.transform.now }
     requires begun { begun ≡ new_unit begun.address_size begun.lines }
     requires read { All IsReadEntry (entries_of source.now.unit.now.sections source.now.unit.now.header).items }
     requires texts { KnowsTexts source.now.unit.now.sections strings.old known.old }

@@ -1,11 +1,13 @@
 //! What values become, under names that do not decide alone. (DWARF 4 and 5, section 7.5.)
-ghost use Rattle.std.specs.Prelude.{◌≡◌, ℕ, ◌<◌, List, true, false, Some, IfOk, IfSome, IsOkUnless, option_map};
+ghost use Rattle.std.specs.Prelude.{◌≡◌, ℕ, ◌<◌, List, true, false, Some, IfOk, IfSome, IsOkUnless, IsTrue, option_map};
 ghost use Rattle.dwc_base.specs.declared.section_name.SectionName.TheVariants.{Info};
 ghost use Rattle.dwc_base.specs.declared.faults.What.TheVariants.{Text};
 ghost use Rattle.dwc_base.specs.declared.faults.Kind.TheVariants.{NotBuilt};
 ghost use Rattle.dwc_base.specs.Sections.{reported, unsupported};
 ghost use Rattle.dwc_base.specs.Trees as Trees;
-ghost use Rattle.dwc_base.specs.Values.{is_expression_name};
+ghost use Rattle.dwc_base.specs.Addends.{HaveAddends};
+ghost use Rattle.dwc_base.specs.RawLists.{is_range_list};
+ghost use Rattle.dwc_base.specs.Values.{is_expression_name, is_range_name};
 ghost use Rattle.dwc_base.specs.Kept.{Placed};
 ghost use Rattle.dwc_base.specs.ReadValues.{IsReadValue, is_constant_form, constant_bound};
 ghost use Rattle.dwc_base.specs.Texts.{text_named};
@@ -15,21 +17,23 @@ ghost use Rattle.dwc_base.specs.EntryRules.{code_rules};
 ghost use Rattle.dwc_base.specs.Clones.{UnitSource, constant_form, constant_becomes, text_drafted, value_becomes};
 ghost use Rattle.dwc_base.specs.Drafts.{done};
 ghost use Rattle.dwc_read.specs.ValuesSeen.{value_view};
-ghost use Rattle.dwc_read.specs.Faults.{fault_seen};
 ghost use Rattle.dwc_write.specs.GivenUnits.{FitsValue};
 ghost use Rattle.dwc_clone.specs.declared.places.EmittedEntry.{EmittedEntry};
 ghost use Rattle.dwc_clone.specs.Sources.{AreFiles, IsSource};
+ghost use Rattle.dwc_clone.specs.Errors.{refusal_told};
 ghost use Rattle.dwc_clone.specs.KnownTexts.{KnowsTexts};
-ghost use Rattle.dwc_clone.specs.MadeValues.{GivesMade, Says, SaysMore, any_reference, own_reference, target_place};
+ghost use Rattle.dwc_clone.specs.MadeValues.{GivesMade, Says, SaysMore, any_reference, is_address, own_reference, target_place};
 
+use crate::extent::carried_address;
 use crate::names::is_file_name;
+use crate::ranges::native_ranges;
 use crate::reference::target_place;
 use crate::text::{text_of, text_place_of};
-use crate::{CloneSource, KnownTexts, UnitFiles};
+use crate::{CloneError, CloneSource, KnownTexts, UnitFiles};
 use dwc_base::Kind;
 use dwc_base::constants::{DW_FORM_implicit_const, DW_FORM_sdata, DW_FORM_udata};
-use dwc_read::{AttributeValue as InputValue, ReadFault};
-use dwc_write::{AttributeValue, DebugInfoRef, StringTable, UnitEntryId, UnitId};
+use dwc_read::AttributeValue as InputValue;
+use dwc_write::{AttributeValue, DebugInfoRef, RangeList, StringTable, UnitEntryId, UnitId};
 use std::alloc::Global;
 
 // A constant's form in the output, where abbreviations hold no values.
@@ -70,7 +74,7 @@ fn text(
     value: InputValue<'_>,
     strings: &mut StringTable,
     known: &mut KnownTexts,
-) -> Result<Option<AttributeValue>, ReadFault>
+) -> Result<Option<AttributeValue>, CloneError>
     requires read { IsReadValue name (value_view value) }
     requires known { KnowsTexts source.now.unit.now.sections strings.old known.old }
     ensures made { (places : List EmittedEntry) (number : ℕ) → GivesMade (SaysMore places number name strings.old strings.new) (text_drafted of_place (reported Text Info offset (text_named (texts_of_unit source.now.unit.now.sections source.now.unit.now.header) (value_view value.entry)))) result }
@@ -85,7 +89,7 @@ fn text(
         return Ok(None);
     };
     let Ok(id) = strings.add(text) else {
-        return Err(ReadFault::OutOfMemory);
+        return Err(CloneError::OutOfMemory);
     };
     known.note(place, Some(id))?;
     Ok(Some(AttributeValue::StringRef(id)))
@@ -110,19 +114,59 @@ fn info_reference(source: &CloneSource<'_, '_>, value: InputValue<'_>) -> Option
 }
 
 // A block with its bytes.
-fn block(alloc: Global, bytes: &[u8]) -> Result<AttributeValue, ReadFault>
+fn block(alloc: Global, bytes: &[u8]) -> Result<AttributeValue, CloneError>
     ensures made { (places : List EmittedEntry) (number name : ℕ) (texts : List (List ℕ)) → is_expression_name name ≡ false → IfOk result (λ v. Says places number name texts (Some (done (Trees.block bytes.now))) (Some v)) }
     ensures fits { (size name : ℕ) → is_expression_name name ≡ false → IfOk result (FitsValue size name) }
-    ensures memory { IsOkUnless result ReadFault.OutOfMemory }
+    ensures memory { IsOkUnless result CloneError.OutOfMemory }
 {
     Ok(AttributeValue::Block(bytes.to_vec(alloc)?))
+}
+
+// What an address of the entry at an offset becomes.
+fn address(
+    source: &CloneSource<'_, '_>,
+    offset: u64,
+    value: InputValue<'_>,
+) -> Result<Option<AttributeValue>, CloneError>
+    requires functions { HaveAddends source.now.transform.now }
+    ensures made { (s : UnitSource) (e : Placed) (number name : ℕ) (texts : List (List ℕ)) → e.entry.offset ≡ offset → is_address (value_view value.entry) ≡ true → GivesMade (Says source.now.places.now number name texts) (value_becomes (code_rules source.now.transform.now source.now.unit.now.sections source.now.unit.now.header) s e name (value_view value.entry)) result }
+    ensures fits { (size name : ℕ) → IfOk result (λ v. IfSome v (FitsValue size name)) }
+{
+    match source.unit.address_of(&value) {
+        Ok(Some(address)) => {
+            let native = carried_address(source.transform, address);
+            Ok(Some(AttributeValue::Address(native)))
+        }
+        Ok(None) => Ok(None),
+        Err(fault) => Err(CloneError::from(fault.at(offset))),
+    }
+}
+
+// What a range list of the entry at an offset becomes: the list of what its intervals are translated to, which may have none.
+fn range_list(
+    alloc: Global,
+    source: &CloneSource<'_, '_>,
+    offset: u64,
+    value: InputValue<'_>,
+) -> Result<AttributeValue, CloneError>
+    requires functions { HaveAddends source.now.transform.now }
+    requires list { IsTrue (is_range_list (value_view value)) }
+    ensures made { (s : UnitSource) (e : Placed) (number name : ℕ) (texts : List (List ℕ)) → e.entry.offset ≡ offset → is_range_name name ≡ true → GivesMade (λ draft v. Says source.now.places.now number name texts draft (Some v)) (value_becomes (code_rules source.now.transform.now source.now.unit.now.sections source.now.unit.now.header) s e name (value_view value.entry)) result }
+    ensures fits { (size name : ℕ) → is_range_name name ≡ true → IfOk result (FitsValue size name) }
+{
+    let native = native_ranges(alloc, source.unit, source.transform, offset, value)?;
+    match native.fault {
+        None => Ok(AttributeValue::RangeListRef(RangeList::new(native.ranges))),
+        Some(fault) => Err(CloneError::from(fault)),
+    }
 }
 
 /// What a value of the entry at an offset becomes, under a name that does not decide alone; None where it goes. Texts are added to
 /// `strings`, and noted in `known`, by which they are found when they are named again.
 ///
-/// Answers `Read` with the entry's offset where a text cannot be read, and `Unsupported` `NotBuilt` with it for an address, a list
-/// and an expression.
+/// # Errors
+/// `Read` with the entry's offset where a text, or an address by an index, cannot be read, and at a range list; `Unsupported` `NotBuilt`
+/// with the entry's offset for a location list and an expression; `TooLarge` where a start plus a length in a list is no address.
 pub(crate) fn output_value(
     alloc: Global,
     source: &CloneSource<'_, '_>,
@@ -131,7 +175,8 @@ pub(crate) fn output_value(
     value: InputValue<'_>,
     strings: &mut StringTable,
     known: &mut KnownTexts,
-) -> Result<Option<AttributeValue>, ReadFault>
+) -> Result<Option<AttributeValue>, CloneError>
+    requires functions { HaveAddends source.now.transform.now }
     requires read { IsReadValue name (value_view value) }
     requires known { KnowsTexts source.now.unit.now.sections strings.old known.old }
     ensures made { (number : ℕ) (s : UnitSource) (e : Placed) → IsSource source.now number s → e.unit ≡ source.now.unit.now.header.offset → e.entry.offset ≡ offset → GivesMade (SaysMore source.now.places.now number name strings.old strings.new) (value_becomes (code_rules source.now.transform.now source.now.unit.now.sections source.now.unit.now.header) s e name (value_view value.entry)) result }
@@ -148,21 +193,21 @@ pub(crate) fn output_value(
         InputValue::UnitRef(_) => Ok(unit_reference(source, value)),
         InputValue::InfoRef(_) => Ok(info_reference(source, value)),
         InputValue::LineRef(_) | InputValue::Dropped => Ok(None),
-        InputValue::Addr(_)
-        | InputValue::AddrIndex(_)
-        | InputValue::Exprloc(_)
-        | InputValue::RangeRef(_)
-        | InputValue::RangeIndex(_)
-        | InputValue::LocRef(_)
-        | InputValue::LocIndex(_) => Err(not_built(offset)),
+        InputValue::Addr(_) | InputValue::AddrIndex(_) => address(source, offset, value),
+        InputValue::RangeRef(_) | InputValue::RangeIndex(_) => {
+            Ok(Some(range_list(alloc, source, offset, value)?))
+        }
+        InputValue::Exprloc(_) | InputValue::LocRef(_) | InputValue::LocIndex(_) => {
+            Err(not_built(offset))
+        }
     }
 }
 
 /// The refusal of what is not built yet, of the entry at an offset.
-pub(crate) fn not_built(offset: u64) -> ReadFault
-    ensures { fault_seen result ≡ Some (unsupported NotBuilt offset) }
+pub(crate) fn not_built(offset: u64) -> CloneError
+    ensures { refusal_told result ≡ Some (of_place (unsupported NotBuilt offset)) }
 {
-    ReadFault::Unsupported {
+    CloneError::Unsupported {
         what: Kind::NotBuilt,
         offset,
     }

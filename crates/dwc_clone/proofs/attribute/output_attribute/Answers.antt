@@ -1,26 +1,28 @@
-use Rattle.std.proofs.Common.{ℕ, IfSome, ap, sym, subst, ◌∙◌, Ok, is_some}
+use Rattle.std.proofs.Common.{ℕ, IfSome, ap, sym, subst, ◌∙◌, Ok}
 use Rattle.std.proofs.lemmas.Bool.{eq-eqb, ne_eqb}
 use Rattle.std.proofs.lemmas.Result.{err_from_is_err_and}
 use Rattle.dwc_base.specs.declared.constants.TheConstants.{DW_AT_stmt_list}
 use Rattle.dwc_base.specs.Entries.{Entry}
-use Rattle.dwc_base.specs.EntryRules.{code_rules, function_begun}
+use Rattle.dwc_base.specs.EntryRules.{code_rules}
+use Rattle.dwc_base.specs.Lists.{list_source}
+use Rattle.dwc_base.specs.RangeRefusals.{begins_by_low_pc}
 use Rattle.dwc_base.specs.Clones.{table_becomes}
-use Rattle.dwc_read.specs.Faults.{fault_seen}
 use Rattle.dwc_read.specs.ValuesSeen.{attribute_view}
 use Rattle.dwc_write.specs.GivenUnits.{FitsValue}
+use Rattle.dwc_clone.specs.Errors.{refusal_told}
 use Rattle.dwc_clone.specs.MadeValues.{GivesMade, RefusesSo, Says, SaysMore}
 use Rattle.dwc_clone.proofs.ValueLaws.{attribute-bound, attribute-dropped, attribute-table, attribute-value, made-none, made-same}
 use Rattle.dwc_clone.proofs.attribute.output_attribute.Goals as goal
 
 pub returns-then-is_dropped_name-clause-made : goal.returns-then-is_dropped_name-clause-made
-returns-then-is_dropped_name-clause-made c = λ number s e before source unit entry.
+returns-then-is_dropped_name-clause-made c = λ number s e before source unit entry seen.
     let u = c.args.source.now.unit.now in
     let rules = code_rules c.args.source.now.transform.now u.sections u.header in
     let a = attribute_view c.args.attribute.now in
     made-none c.args.source.now.places.now number a.0 c.args.strings.now _ (attribute-dropped rules s e before a (sym c.is_dropped_name.ensures ∙ c.if-is_dropped_name.true))
 
 pub returns-then-name-eq-DW_AT_stmt_list-clause-made : goal.returns-then-name-eq-DW_AT_stmt_list-clause-made
-returns-then-name-eq-DW_AT_stmt_list-clause-made c = λ number s e before source unit entry.
+returns-then-name-eq-DW_AT_stmt_list-clause-made c = λ number s e before source unit entry seen.
     let u = c.args.source.now.unit.now in
     let rules = code_rules c.args.source.now.transform.now u.sections u.header in
     let a = attribute_view c.args.attribute.now in
@@ -33,7 +35,7 @@ pub returns-then-name-eq-DW_AT_stmt_list-clause-fits : goal.returns-then-name-eq
 returns-then-name-eq-DW_AT_stmt_list-clause-fits c = λ size. subst (λ (n : ℕ). IfSome c.line_table.result (FitsValue size n)) (sym c.if-name-eq-DW_AT_stmt_list.true) (c.line_table.ensures.fits size)
 
 pub returns-in_err-check_bound-clause-made : goal.returns-in_err-check_bound-clause-made
-returns-in_err-check_bound-clause-made c = λ number s e before source unit entry.
+returns-in_err-check_bound-clause-made c = λ number s e before source unit entry seen.
     let u = c.args.source.now.unit.now in
     let rules = code_rules c.args.source.now.transform.now u.sections u.header in
     let a = attribute_view c.args.attribute.now in
@@ -41,13 +43,12 @@ returns-in_err-check_bound-clause-made c = λ number s e before source unit entr
     let other = ne_eqb c.args.attribute.now.0 DW_AT_stmt_list c.if-name-eq-DW_AT_stmt_list.false in
     let bound = sym c.is_bound_name.ensures ∙ c.if-is_bound_name.true in
     let is = attribute-bound rules s e before a kept other bound in
-    let begins = c.requires.begins ∙ ap (λ x. is_some (function_begun c.args.source.now.transform.now u.sections u.header x)) (sym entry) in
-    let at = ap (λ (x : Entry). x.offset) entry in
+    let begins = c.requires.begins ∙ ap (begins_by_low_pc (list_source u.sections u.header) c.args.source.now.transform.now) (sym entry) in
     let p = err_from_is_err_and c.from_residual.result c.from_residual.ensures.1 in
-    rw (p.1, p.2) (subst (λ read. RefusesSo read (fault_seen c.in_err-check_bound.field-0.0)) (sym is) (c.in_err-check_bound.ensures.made c.args.strings.now c.requires.known s e before a.0 source.texts begins at))
+    rw (p.1, p.2) (subst (λ read. RefusesSo read (refusal_told c.in_err-check_bound.field-0.0)) (sym is) (c.in_err-check_bound.ensures.made c.args.strings.now c.requires.known s e before source.texts entry begins seen))
 
 pub returns-then-is_bound_name-clause-made : goal.returns-then-is_bound_name-clause-made
-returns-then-is_bound_name-clause-made c = λ number s e before source unit entry.
+returns-then-is_bound_name-clause-made c = λ number s e before source unit entry seen.
     let u = c.args.source.now.unit.now in
     let rules = code_rules c.args.source.now.transform.now u.sections u.header in
     let a = attribute_view c.args.attribute.now in
@@ -55,13 +56,12 @@ returns-then-is_bound_name-clause-made c = λ number s e before source unit entr
     let other = ne_eqb c.args.attribute.now.0 DW_AT_stmt_list c.if-name-eq-DW_AT_stmt_list.false in
     let bound = sym c.is_bound_name.ensures ∙ c.if-is_bound_name.true in
     let is = attribute-bound rules s e before a kept other bound in
-    let begins = c.requires.begins ∙ ap (λ x. is_some (function_begun c.args.source.now.transform.now u.sections u.header x)) (sym entry) in
-    let at = ap (λ (x : Entry). x.offset) entry in
-    let read = c.in_ok-check_bound.ensures.made c.args.strings.now c.requires.known s e before a.0 source.texts begins at in
+    let begins = c.requires.begins ∙ ap (begins_by_low_pc (list_source u.sections u.header) c.args.source.now.transform.now) (sym entry) in
+    let read = c.in_ok-check_bound.ensures.made c.args.strings.now c.requires.known s e before source.texts entry begins seen in
     made-none c.args.source.now.places.now number a.0 c.args.strings.now _ (is ∙ (read.is ∙ ap Ok read.made))
 
 pub returns-clause-made : goal.returns-clause-made
-returns-clause-made c = λ number s e before source unit entry.
+returns-clause-made c = λ number s e before source unit entry seen.
     let u = c.args.source.now.unit.now in
     let rules = code_rules c.args.source.now.transform.now u.sections u.header in
     let a = attribute_view c.args.attribute.now in

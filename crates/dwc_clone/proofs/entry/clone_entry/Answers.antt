@@ -1,13 +1,11 @@
 use Rattle.std.proofs.Common.{◌≡◌, [], ◌∷◌, ◌++◌, take, refl, sym, subst}
-use Rattle.std.specs.Prelude.{IfOk, filter_map}
+use Rattle.std.specs.Prelude.{IfOk}
 use Rattle.std.proofs.lemmas.Result.{err_from_is_err_and}
-use Rattle.dwc_base.specs.EntryRules.{function_bounds}
-use Rattle.dwc_base.specs.DraftForests.{settled}
 use Rattle.dwc_read.specs.EntriesSeen.{entry_view}
-use Rattle.dwc_read.specs.Faults.{fault_seen}
+use Rattle.dwc_clone.specs.Errors.{refusal_told}
 use Rattle.dwc_clone.specs.OutputPlaces.{goal_place}
 use Rattle.dwc_clone.specs.ClonedUnits.{TellsFirst}
-use Rattle.dwc_clone.specs.ClonedEntries.{AddsBelow, AreMade, CanFollow, IsGiven, last_parent, placed_entry}
+use Rattle.dwc_clone.specs.ClonedEntries.{AddsBelow, AreMade, CanFollow, last_parent, placed_entry}
 use Rattle.dwc_clone.proofs.EntriesAdded.{entry-made, entry-next, gives-entry, refused-entry, so-far}
 use Rattle.dwc_clone.proofs.EntryValues.{given-last, given-on, on-ok, succeeded}
 use Rattle.dwc_clone.proofs.entry.clone_entry.Goals as goal
@@ -20,17 +18,16 @@ returns-in_err-set_attributes-clause-cloned c number s es others old begun sourc
     let id = c.in_ok-id.id in
     let parents = c.args.parents.now.items in
     let u1 = c.add_entry.new.unit in
-    let u2 = c.set_bounds.new.unit in
+    let u2 = c.set_code.new.unit in
     let adds = subst (λ d. AddsBelow (last_parent d parents) e.tag c.args.unit.now u1 id) c.depth_of-depth.ensures
     (subst (λ r. IfOk r (λ i. AddsBelow (last_parent c.depth_of-depth.result parents) e.tag c.args.unit.now u1 i)) c.in_ok-id.ensures c.add_entry.ensures.unit) in
     let next = entry-next src s number es e others old t0 begun c.args.unit.now u1 parents id is made follow adds in
     let base = next.added.base in
     let new = next.added.new in
-    let bounds = subst (λ f. IsGiven number t0 t0 (filter_map (settled (goal_place src.places.now)) (function_bounds f)) base new u2) c.function_begun-function.ensures.found
-    (succeeded c.set_bounds.result c.in_ok-of_memory.field-0 c.in_ok-of_memory.ensures (c.set_bounds.ensures.given number t0 (goal_place src.places.now) base new next.added.last)) in
+    let bounds = succeeded c.set_code.result c.in_ok-of_memory.field-0 c.in_ok-of_memory.ensures (c.set_code.ensures.given number t0 base new next.added.last) in
     let told = c.in_err-set_attributes.ensures.given number s base bounds.given source (given-last number t0 t0 _ id base new u1 u2 next.added.last bounds) in
     let q = err_from_is_err_and c.from_residual-in_err-set_attributes.result c.from_residual-in_err-set_attributes.ensures.1 in
-    rw (q.1, q.2) (subst (λ xs. TellsFirst xs (fault_seen c.in_err-set_attributes.field-0.0)) (sym (refused-entry src s e)) told)
+    rw (q.1, q.2) (subst (λ xs. TellsFirst xs (refusal_told c.in_err-set_attributes.field-0.0)) (sym (refused-entry src s e)) told)
 
 pub returns-clause-cloned : goal.returns-clause-cloned
 returns-clause-cloned c number s es others old begun source is made follow =
@@ -41,7 +38,7 @@ returns-clause-cloned c number s es others old begun source is made follow =
     let id = c.in_ok-id.id in
     let parents = c.args.parents.now.items in
     let u1 = c.add_entry.new.unit in
-    let u2 = c.set_bounds.new.unit in
+    let u2 = c.set_code.new.unit in
     let u3 = c.set_attributes.new.unit in
     let u4 = c.set_endianity.new.unit in
     let place = goal_place src.places.now in
@@ -52,8 +49,7 @@ returns-clause-cloned c number s es others old begun source is made follow =
     let next = entry-next src s number es e others old t0 begun c.args.unit.now u1 parents id is made follow adds in
     let base = next.added.base in
     let new = next.added.new in
-    let bounds = subst (λ f. IsGiven number t0 t0 (filter_map (settled place) (function_bounds f)) base new u2) c.function_begun-function.ensures.found
-    (succeeded c.set_bounds.result c.in_ok-of_memory.field-0 c.in_ok-of_memory.ensures (c.set_bounds.ensures.given number t0 place base new next.added.last)) in
+    let bounds = succeeded c.set_code.result c.in_ok-of_memory.field-0 c.in_ok-of_memory.ensures (c.set_code.ensures.given number t0 base new next.added.last) in
     let set = c.in_ok-set_attributes.ensures.given number s base bounds.given source (given-last number t0 t0 _ id base new u1 u2 next.added.last bounds) in
     let both = given-on number t0 t0 t1 _ _ base new u2 u3 bounds set.given in
     let last = given-last number t0 t1 _ id base new u1 u3 next.added.last both in

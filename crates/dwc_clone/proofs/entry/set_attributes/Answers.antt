@@ -17,7 +17,7 @@ loop-attribute-init c = record {
   texts = c.requires.texts;
   set = λ number s base e source last.
       let p = placed_entry c.args.source.now (entry_view c.args.entry.now) in
-      subst (λ xs. AreSetSoFar c.args.source.now number s p c.args.strings.now c.args.strings.now base e c.args.unit.now xs) (sym c.attrs-attributes.ensures) (set-start c.args.source.now number s p c.args.strings.now c.args.id base e c.args.unit.now last);
+      subst (λ xs. AreSetSoFar c.args.source.now number s p c.args.strings.now c.args.strings.now base e c.args.unit.now c.no_bounds-seen.result xs) (sym c.attrs-attributes.ensures) (set-start c.args.source.now number s p c.args.strings.now c.args.id base e c.args.unit.now c.no_bounds-seen.result c.no_bounds-seen.ensures last);
 }
 
 pub output_attribute-requires-clause-read : goal.output_attribute-requires-clause-read
@@ -26,9 +26,9 @@ output_attribute-requires-clause-read c = (attrs-read c.attrs-attributes.result.
 pub returns-in_err-value-clause-given : goal.returns-in_err-value-clause-given
 returns-in_err-value-clause-given c number s base e source last =
     let p = placed_entry c.args.source.now (entry_view c.args.entry.now) in
-    let so = subst (λ xs. AreSetSoFar c.args.source.now number s p c.args.strings.now c.loop-attribute.strings base e c.loop-attribute.unit xs) (attributes-drop c.attrs-attributes.result.now c.loop-attribute.attribute-index _ c.loop-attribute-test.true) (c.loop-attribute.invariant.set number s base e source last) in
+    let so = subst (λ xs. AreSetSoFar c.args.source.now number s p c.args.strings.now c.loop-attribute.strings base e c.loop-attribute.unit c.loop-attribute.seen xs) (attributes-drop c.attrs-attributes.result.now c.loop-attribute.attribute-index _ c.loop-attribute-test.true) (c.loop-attribute.invariant.set number s base e source last) in
     let q = err_from_is_err_and c.from_residual.result c.from_residual.ensures.1 in
-    rw (q.1, q.2) (set-refused c.args.source.now number s p c.args.strings.now c.loop-attribute.strings base e c.loop-attribute.unit _ _ _ so (c.in_err-value.ensures.made number s p so.before source refl refl))
+    rw (q.1, q.2) (set-refused c.args.source.now number s p c.args.strings.now c.loop-attribute.strings base e c.loop-attribute.unit c.loop-attribute.seen _ _ _ so (c.in_err-value.ensures.made number s p so.before source refl refl so.bounds))
 
 pub set_made-requires-clause-fits : goal.set_made-requires-clause-fits
 set_made-requires-clause-fits c = c.in_ok-value.ensures.fits c.loop-attribute.unit.address_size
@@ -42,14 +42,14 @@ loop-attribute-preserved c =
       texts = c.in_ok-value.ensures.known;
       set = λ number s base e source last.
           let p = placed_entry c.args.source.now (entry_view c.args.entry.now) in
-          let so = subst (λ xs. AreSetSoFar c.args.source.now number s p c.args.strings.now c.loop-attribute.strings base e c.loop-attribute.unit xs) (attributes-drop c.attrs-attributes.result.now c.loop-attribute.attribute-index _ c.loop-attribute-test.true) (c.loop-attribute.invariant.set number s base e source last) in
-          subst (λ u. AreSetSoFar c.args.source.now number s p c.args.strings.now c.output_attribute.new.strings base e u (drop (c.loop-attribute.attribute-index + 1) (map attribute_view c.attrs-attributes.result.now))) (sym now)
-          (set-more c.args.source.now number s p c.args.strings.now c.loop-attribute.strings c.output_attribute.new.strings c.args.id base e c.args.unit.now c.loop-attribute.unit _ _ c.in_ok-value.value last so (c.in_ok-value.ensures.made number s p so.before source refl refl));
+          let so = subst (λ xs. AreSetSoFar c.args.source.now number s p c.args.strings.now c.loop-attribute.strings base e c.loop-attribute.unit c.loop-attribute.seen xs) (attributes-drop c.attrs-attributes.result.now c.loop-attribute.attribute-index _ c.loop-attribute-test.true) (c.loop-attribute.invariant.set number s base e source last) in
+          subst (λ u. AreSetSoFar c.args.source.now number s p c.args.strings.now c.output_attribute.new.strings base e u c.bounds_behind-seen.result (drop (c.loop-attribute.attribute-index + 1) (map attribute_view c.attrs-attributes.result.now))) (sym now)
+          (set-more c.args.source.now number s p c.args.strings.now c.loop-attribute.strings c.output_attribute.new.strings c.args.id base e c.args.unit.now c.loop-attribute.unit c.loop-attribute.seen c.bounds_behind-seen.result _ _ c.in_ok-value.value last so (c.bounds_behind-seen.ensures so.before _ so.bounds) (c.in_ok-value.ensures.made number s p so.before source refl refl so.bounds));
     }
 
 pub returns-clause-given : goal.returns-clause-given
 returns-clause-given c number s base e source last =
     let p = placed_entry c.args.source.now (entry_view c.args.entry.now) in
     let none = drop_all c.loop-attribute.attribute-index (map attribute_view c.attrs-attributes.result.now) (subst (λ n. n ≤ c.loop-attribute.attribute-index) (sym (length-map c.attrs-attributes.result.now attribute_view)) c.loop-attribute-test.false) in
-    set-end c.args.source.now number s p c.args.strings.now c.loop-attribute.strings base e c.loop-attribute.unit
-    (subst (λ xs. AreSetSoFar c.args.source.now number s p c.args.strings.now c.loop-attribute.strings base e c.loop-attribute.unit xs) none (c.loop-attribute.invariant.set number s base e source last))
+    set-end c.args.source.now number s p c.args.strings.now c.loop-attribute.strings base e c.loop-attribute.unit c.loop-attribute.seen
+    (subst (λ xs. AreSetSoFar c.args.source.now number s p c.args.strings.now c.loop-attribute.strings base e c.loop-attribute.unit c.loop-attribute.seen xs) none (c.loop-attribute.invariant.set number s base e source last))

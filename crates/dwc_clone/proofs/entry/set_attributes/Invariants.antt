@@ -15,5 +15,5 @@ invariant-loop-attribute l = record {
   places : l.unit.places ≡ l.fn.unit.places;
   texts : KnowsTexts l.source.unit.now.sections l.strings l.known;
   set : (number : ℕ) (s : UnitSource) (base : GivenUnit) (e : Addition) → IsSource l.source number s → IsLast l.fn.strings l.id base e l.fn.unit
-      → AreSetSoFar l.source number s (placed_entry l.source (entry_view l.entry)) l.fn.strings l.strings base e l.unit (drop l.attribute-index (map attribute_view l.attributes));
+      → AreSetSoFar l.source number s (placed_entry l.source (entry_view l.entry)) l.fn.strings l.strings base e l.unit l.seen (drop l.attribute-index (map attribute_view l.attributes));
 }

@@ -1,18 +1,21 @@
-use Rattle.std.proofs.Common.{◌≡◌, ℕ, ◌<◌, ap, sym, subst, ◌∙◌, length, Some, Option, Result, Err, inl, inr, option_map, refl}
+use Rattle.std.proofs.Common.{◌≡◌, ℕ, ◌<◌, ap, sym, subst, ◌∙◌, length, Some, Option, Result, Ok, Err, option_map, refl}
+use Rattle.std.specs.Prelude.{IfOk, IfSome}
 use Rattle.std.proofs.lemmas.List.Elements.{All-nil}
+use Rattle.std.proofs.lemmas.Result.{err_from_is_err_and}
 use Rattle.dwc_base.specs.EntryRules.{code_rules}
 use Rattle.dwc_base.specs.Trees as Trees
 use Rattle.dwc_base.specs.Values as Values
-use Rattle.dwc_base.specs.declared.faults.Kind.TheVariants.{NotBuilt}
-use Rattle.dwc_base.specs.Sections.{unsupported}
-use Rattle.dwc_base.specs.Refusals.{Refusal, of_place}
 use Rattle.dwc_base.specs.Indexed.{texts_of_unit}
-use Rattle.dwc_base.specs.Drafts.{DraftValue, done}
+use Rattle.dwc_base.specs.Drafts.{done}
 use Rattle.dwc_base.specs.Clones.{constant_becomes, reference_becomes, value_becomes}
 use Rattle.dwc_base.specs.ReadValues.{IsReadValue}
-use Rattle.dwc_read.specs.declared.value.AttributeValue.{AttributeValue as InputValue}
 use Rattle.dwc_read.specs.ValuesSeen.{value_view}
+use Rattle.dwc_write.specs.declared.attributes.AttributeValue.{AttributeValue}
+use Rattle.dwc_write.specs.GivenUnits.{FitsValue}
+use Rattle.dwc_clone.specs.declared.error.CloneError.{CloneError}
 use Rattle.dwc_clone.specs.MadeValues.{GivesMade, RefusesSo, Says, SaysMore, any_reference, own_reference, target_place}
+use Rattle.dwc_clone.proofs.CodeValueLaws.{address-kind, list-kind, list-named, more-made, unbuilt-becomes}
+use Rattle.dwc_clone.proofs.TextLaws.{Grows-same}
 use Rattle.dwc_clone.proofs.ValueLaws.{gone-becomes, made-none, made-same, text-becomes}
 use Rattle.dwc_clone.proofs.ReferenceLaws.{any-says, own-says}
 use Rattle.dwc_clone.proofs.value.output_value.Goals as goal
@@ -79,27 +82,37 @@ returns-in-LineRef-clause-made c = λ number s e source unit at.
     made-none c.args.source.now.places.now number c.args.name c.args.strings.now _ (gone-becomes c.args.source.now.transform.now u.sections u.header s e c.args.name c.args.value c.in-LineRef.is)
 
 pub returns-in-Addr-clause-made : goal.returns-in-Addr-clause-made
-unfolding value_becomes
 returns-in-Addr-clause-made c = λ number s e source unit at.
+    let is = address-kind c.args.value c.in-Addr.is in
+    more-made c.args.source.now.places.now number c.args.name c.args.strings.now _ c.address.result (c.address.ensures.made s e number c.args.name c.args.strings.now at is)
+
+pub returns-in-Addr-clause-fits : goal.returns-in-Addr-clause-fits
+returns-in-Addr-clause-fits c = go c.address.result c.address.ensures.fits
+  where
+    go : (r : Result (Option AttributeValue) CloneError) → ((size name : ℕ) → IfOk r (λ v. IfSome v (FitsValue size name))) → IfOk r (λ v. (size : ℕ) → IfSome v (FitsValue size c.args.name))
+    go (Ok v) fits = λ size. fits size c.args.name
+    go (Err e) fits = tt
+
+pub range_list-requires-clause-list : goal.range_list-requires-clause-list
+range_list-requires-clause-list c = list-kind c.args.value c.in-RangeRef.is
+
+pub returns-in_err-range_list-in-RangeRef-clause-made : goal.returns-in_err-range_list-in-RangeRef-clause-made
+returns-in_err-range_list-in-RangeRef-clause-made c = λ number s e source unit at.
+    let named = list-named c.args.name c.args.value c.in-RangeRef.is c.requires.read in
+    let p = err_from_is_err_and c.from_residual-in_err-range_list-in-RangeRef.result c.from_residual-in_err-range_list-in-RangeRef.ensures.1 in
+    rw (p.1, p.2) (c.in_err-range_list-in-RangeRef.ensures.made s e number c.args.name c.args.strings.now at named)
+
+pub returns-in_ok-range_list-in-RangeRef-clause-made : goal.returns-in_ok-range_list-in-RangeRef-clause-made
+returns-in_ok-range_list-in-RangeRef-clause-made c = λ number s e source unit at.
+    let named = list-named c.args.name c.args.value c.in-RangeRef.is c.requires.read in
+    let made = c.in_ok-range_list-in-RangeRef.ensures.made s e number c.args.name c.args.strings.now at named in
+    record { drafted = made.drafted; is = made.is; made = record { grows = Grows-same c.args.strings.now; says = made.made } }
+
+pub returns-in_ok-range_list-in-RangeRef-clause-fits : goal.returns-in_ok-range_list-in-RangeRef-clause-fits
+returns-in_ok-range_list-in-RangeRef-clause-fits c = λ size. c.in_ok-range_list-in-RangeRef.ensures.fits size c.args.name (list-named c.args.name c.args.value c.in-RangeRef.is c.requires.read)
+
+pub returns-in-Exprloc-clause-made : goal.returns-in-Exprloc-clause-made
+returns-in-Exprloc-clause-made c = λ number s e source unit at.
     let u = c.args.source.now.unit.now in
-    let rules = code_rules c.args.source.now.transform.now u.sections u.header in
-    let goal : InputValue → Type 0 = λ v. value_becomes rules s e c.args.name (value_view v) ≡ Err (of_place (unsupported NotBuilt c.args.offset)) in
-    let refused : ℕ → Result (Option DraftValue) Refusal = λ n. Err (of_place (unsupported NotBuilt n)) in
-    let other = ap refused at in
-    let is : goal c.args.value = elim c.in-Addr.is [
-      | inl p ↦ subst goal (sym p.1) other
-      | inr q ↦ elim q [
-        | inl p ↦ subst goal (sym p.1) other
-        | inr q ↦ elim q [
-          | inl p ↦ subst goal (sym p.1) other
-          | inr q ↦ elim q [
-            | inl p ↦ subst goal (sym p.1) other
-            | inr q ↦ elim q [
-              | inl p ↦ subst goal (sym p.1) other
-              | inr q ↦ elim q [ inl p ↦ subst goal (sym p.1) other | inr p ↦ subst goal (sym p.1) other ]
-            ]
-          ]
-        ]
-      ]
-    ] in
-    subst (RefusesSo (value_becomes rules s e c.args.name (value_view c.args.value))) (sym c.not_built.ensures) is
+    subst (RefusesSo (value_becomes (code_rules c.args.source.now.transform.now u.sections u.header) s e c.args.name (value_view c.args.value))) (sym c.not_built.ensures)
+    (unbuilt-becomes c.args.source.now.transform.now u.sections u.header s e c.args.name c.args.value c.args.offset at c.in-Exprloc.is)

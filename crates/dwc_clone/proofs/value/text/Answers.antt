@@ -8,6 +8,7 @@ use Rattle.dwc_base.specs.Trees as Trees
 use Rattle.dwc_base.specs.Clones.{text_drafted}
 use Rattle.dwc_read.specs.Faults.{fault_seen}
 use Rattle.dwc_read.specs.ValuesSeen.{value_view}
+use Rattle.dwc_clone.proofs.ErrorLaws.{told-reading}
 use Rattle.dwc_clone.proofs.TextLaws.{reported-text-read, text-says}
 use Rattle.dwc_clone.proofs.KnownLaws.{added-known, known-says, unplaced-refused}
 use Rattle.dwc_clone.proofs.value.text.Goals as goal
@@ -16,7 +17,7 @@ pub returns-in_err-place-clause-made : goal.returns-in_err-place-clause-made
 returns-in_err-place-clause-made c = λ places number.
     let u = c.args.source.now.unit.now in
     let p = err_from_is_err_and c.from_residual.result c.from_residual.ensures.1 in
-    rw (p.1, p.2) (unplaced-refused u.sections u.header (value_view c.args.value) c.args.offset (fault_seen c.in_err-place.field-0.0) c.in_err-place.ensures.place)
+    rw (p.1, p.2, told-reading c.in_err-place.field-0.0) (unplaced-refused u.sections u.header (value_view c.args.value) c.args.offset (fault_seen c.in_err-place.field-0.0) c.in_err-place.ensures.place)
 
 pub returns-in-Some-Some-clause-made : goal.returns-in-Some-Some-clause-made
 returns-in-Some-Some-clause-made c = λ places number.

@@ -1,0 +1,14 @@
+-- What errors tell.
+use Rattle.std.proofs.Common.{◌≡◌, refl}
+use Rattle.std.specs.Prelude.{option_map}
+use Rattle.dwc_base.specs.Refusals.{of_place}
+use Rattle.dwc_read.specs.declared.fault.ReadFault.{ReadFault}
+use Rattle.dwc_read.specs.declared.fault.ReadFault.TheVariants.{Read, Unsupported, OutOfMemory}
+use Rattle.dwc_read.specs.Faults.{fault_seen}
+use Rattle.dwc_clone.specs.Errors.{of_reading, refusal_told}
+
+-- The error of a reader's refusal tells the fault that was seen.
+pub told-reading : (f : ReadFault) → refusal_told (of_reading f) ≡ option_map of_place (fault_seen f)
+told-reading (Read what section offset) = refl
+told-reading (Unsupported kind offset) = refl
+told-reading OutOfMemory = refl

@@ -1,0 +1,113 @@
+//! The attributes that say where the code of an entry is. (DWARF 4 and 5, section 2.17.)
+ghost use Rattle.std.specs.Prelude.{◌≡◌, ℕ, ◌<◌, List, OnOk, IsOkUnless, All};
+ghost use Rattle.dwc_base.specs.Addends.{HaveAddends};
+ghost use Rattle.dwc_base.specs.Lists.{list_source};
+ghost use Rattle.dwc_base.specs.RangeAttributes.{bounds, begun_function, range_attributes, said_intervals};
+ghost use Rattle.dwc_read.specs.EntriesSeen.{entry_view};
+ghost use Rattle.dwc_addr.specs.Transforms.{function_view};
+ghost use Rattle.dwc_write.specs.GivenUnits.{Addition, GivenUnit, IsAdded};
+ghost use Rattle.dwc_write.specs.RangeLists.{FitsRange, interval_of};
+ghost use Rattle.dwc_write.specs.Writers.{FitsField};
+ghost use Rattle.dwc_clone.specs.ClonedEntries.{IsGiven, IsLast};
+ghost use Rattle.dwc_clone.specs.NativeExtents.{FitsExtent, said_by};
+ghost use Rattle.std.specs.Prelude.{option_map, IfSome, IsSome, map};
+
+use crate::CloneSource;
+use crate::extent::{NativeExtent, native_extent};
+use dwc_addr::FunctionMap;
+use dwc_base::Address;
+use dwc_base::constants::{
+    DW_AT_high_pc, DW_AT_low_pc, DW_AT_ranges, DW_FORM_udata, DW_TAG_compile_unit,
+};
+use dwc_read::Entry;
+use dwc_write::{AttributeValue, RangeList, Unit, UnitEntryId, WriteError};
+use std::alloc::Global;
+
+// Gives an entry the bounds of one interval: where it begins, and how long it is.
+fn set_bounds(
+    unit: &mut Unit,
+    id: UnitEntryId,
+    begin: Address,
+    length: u64,
+) -> Result<(), WriteError>
+    requires known { IsAdded id.index unit.old }
+    requires fits { (size : ℕ) → FitsField size begin }
+    ensures places { OnOk result (unit.new.places ≡ unit.old.places) }
+    ensures given { (number : ℕ) (texts : List (List ℕ)) (base : GivenUnit) (e : Addition) → IsLast texts id base e unit.old → OnOk result (IsGiven number texts texts (bounds begin length) base e unit.new) }
+{
+    let length = AttributeValue::Constant {
+        form: DW_FORM_udata,
+        bits: length,
+    };
+    unit.set(id, DW_AT_low_pc, AttributeValue::Address(begin))?;
+    unit.set(id, DW_AT_high_pc, length)
+}
+
+// Gives an entry of a tag what says its ranges: bounds where there is one alone, but for a compile unit a list always.
+fn set_ranges(
+    unit: &mut Unit,
+    id: UnitEntryId,
+    tag: u16,
+    ranges: Vec<(Address, u64)>,
+) -> Result<(), WriteError>
+    requires known { IsAdded id.index unit.old }
+    requires fits { (size : ℕ) → All (FitsRange size) ranges.items }
+    ensures places { OnOk result (unit.new.places ≡ unit.old.places) }
+    ensures given { (number : ℕ) (texts : List (List ℕ)) (base : GivenUnit) (e : Addition) → IsLast texts id base e unit.old → OnOk result (IsGiven number texts texts (said_intervals tag (map interval_of ranges.items)) base e unit.new) }
+{
+    if ranges.len() == 1 && tag != DW_TAG_compile_unit {
+        let (begin, length) = ranges[0];
+        return set_bounds(unit, id, begin, length);
+    }
+    let list = AttributeValue::RangeListRef(RangeList::new(ranges));
+    unit.set(id, DW_AT_ranges, list)
+}
+
+// Gives an entry of a tag what says its extent.
+fn set_extent(
+    unit: &mut Unit,
+    id: UnitEntryId,
+    tag: u16,
+    extent: NativeExtent,
+) -> Result<(), WriteError>
+    requires known { IsAdded id.index unit.old }
+    requires fits { FitsExtent extent }
+    ensures places { OnOk result (unit.new.places ≡ unit.old.places) }
+    ensures given { (number : ℕ) (texts : List (List ℕ)) (base : GivenUnit) (e : Addition) → IsLast texts id base e unit.old → OnOk result (IsGiven number texts texts (said_by tag extent) base e unit.new) }
+{
+    match extent {
+        NativeExtent::Intervals(ranges) => set_ranges(unit, id, tag, ranges),
+        NativeExtent::Position(address) => {
+            unit.set(id, DW_AT_low_pc, AttributeValue::Address(address))
+        }
+        NativeExtent::Nowhere => Ok(()),
+    }
+}
+
+/// Gives an entry of the output what says where its code is: a subprogram that begins in a function has that function whole, and another
+/// entry what its extent is in the native code.
+pub(crate) fn set_code(
+    alloc: Global,
+    source: &CloneSource<'_, '_>,
+    entry: &Entry<'_>,
+    function: Option<&FunctionMap>,
+    unit: &mut Unit,
+    id: UnitEntryId,
+) -> Result<(), WriteError>
+    requires functions { HaveAddends source.now.transform.now }
+    requires known { IsAdded id.index unit.old }
+    requires symbol { IfSome function (λ f. IsSome f.now.symbol) }
+    requires begun { option_map (λ f. function_view f.now) function ≡ begun_function (list_source source.now.unit.now.sections source.now.unit.now.header) source.now.transform.now (entry_view entry.now) }
+    ensures places { OnOk result (unit.new.places ≡ unit.old.places) }
+    ensures given { (number : ℕ) (texts : List (List ℕ)) (base : GivenUnit) (e : Addition) → IsLast texts id base e unit.old → OnOk result (IsGiven number texts texts (range_attributes (list_source source.now.unit.now.sections source.now.unit.now.header) source.now.transform.now (entry_view entry.now)) base e unit.new) }
+{
+    let Some(function) = function else {
+        let extent = native_extent(alloc, source.unit, source.transform, entry)?;
+        return set_extent(unit, id, entry.tag, extent);
+    };
+    let begin = Address::Symbol {
+        symbol: function.symbol.unwrap(),
+        addend: 0,
+    };
+    set_bounds(unit, id, begin, function.len as u64)
+}
