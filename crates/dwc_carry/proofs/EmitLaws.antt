@@ -19,7 +19,6 @@ use Rattle.dwc_base.specs.Carried.{units}
 use Rattle.dwc_addr.specs.Compilations.{CompilationValue}
 use Rattle.dwc_write.specs.declared.error.WriteError.{WriteError}
 use Rattle.dwc_write.specs.declared.error.WriteError.TheVariants as write
-use Rattle.dwc_base.specs.declared.faults.Limit.TheVariants.{Section}
 use Rattle.dwc_write.specs.GivenUnits.{GivenUnit, AreWritable, ordered}
 use Rattle.dwc_write.specs.ReadBack.{ReadsBack}
 use Rattle.dwc_write.specs.UsedTexts.{HaveTexts}
@@ -37,9 +36,9 @@ module _ (order : Endian) (size : ℕ) (c : CompilationValue) where
   pub emits-refused : (e : DebugError) → Refuses (refusal_of order size c) e → Emits order size c (Err e)
   emits-refused e = go (told e)
     where
-      go : (t : Told) → IsCause (λ what. ⊥) (refusal_of order size c) t → IsCause (IsTooLong (input_of order size c)) (refusal_of order size c) t
+      go : (t : Told) → IsCause (λ name. ⊥) (refusal_of order size c) t → IsCause (IsTooLong (input_of order size c)) (refusal_of order size c) t
       go (refused r) h = h
-      go (limit what) h = absurd h.1
+      go (limit name) h = absurd h.1
       go memory h = tt
 
   module _ (texts : List (List ℕ)) (us : List GivenUnit) (accepted : refusal_of order size c ≡ None) (t : IsTransformed size (input_of order size c) texts us) where
@@ -99,5 +98,5 @@ module _ (order : Endian) (size : ℕ) (c : CompilationValue) where
 
     -- writing is refused
     pub emits-large : (e : WriteError) → IsWideRefusal texts (map ordered us) e → Emits order size c (Err (of_writing e))
-    emits-large (write.TooLarge (Section name)) large = (accepted, omega (arith, large, said-widest name))
+    emits-large (write.TooLarge name) large = (accepted, omega (arith, large, said-widest name))
     emits-large write.OutOfMemory large = tt

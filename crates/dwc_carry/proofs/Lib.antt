@@ -3,6 +3,7 @@ pub mod CompositionLaws
 pub mod EmitLaws
 pub mod LastLaws
 pub mod MadeLaws
+pub mod LengthLaws
 pub mod LinesNamed
 pub mod ModuleGives
 pub mod ModuleLoopLaws

@@ -2,15 +2,15 @@
 use Rattle.std.proofs.Common.{◌≡◌, ℕ, List, [], ◌∷◌, ◌++◌, length, map, refl, ap, ap₂, sym, subst, ◌∙◌, arith, Bool, true, false, cond, Option, Some, None, Result, Ok, Err, All}
 use Rattle.std.specs.Prelude.{pos, ◌==◌, ◌||◌, ◌&&◌, is_some, if◌then◌else◌, fold, option_map}
 use Rattle.std.specs.List.{filter_map, cons_option, list_any}
-use Rattle.std.proofs.lemmas.Bool.{eqb-true}
+use Rattle.std.proofs.lemmas.Bool.{eq-eqb, eqb-true}
 use Rattle.std.proofs.lemmas.List.Folds.{list_any-append}
 use Rattle.std.proofs.lemmas.List.Elements.{All-nil, All-cons, All-head, All-tail, All-append}
-use Rattle.dwc_base.specs.declared.constants.TheConstants.{DW_AT_stmt_list, DW_AT_low_pc, DW_AT_high_pc, DW_AT_endianity, DW_TAG_base_type, DW_FORM_data1, DW_FORM_udata, DW_END_little}
+use Rattle.dwc_base.specs.declared.constants.TheConstants.{DW_AT_stmt_list, DW_AT_ranges, DW_AT_endianity, DW_TAG_base_type, DW_TAG_compile_unit, DW_FORM_data1, DW_END_little}
 use Rattle.dwc_base.specs.declared.records.Address.TheVariants.{Symbol}
 use Rattle.dwc_base.specs.Values.{Value}
 use Rattle.dwc_base.specs.Functions.{Function}
 use Rattle.dwc_base.specs.Kept.{Placed}
-use Rattle.dwc_base.specs.Trees.{TreeValue, address, constant, line_table, Tree, set_attribute}
+use Rattle.dwc_base.specs.Trees.{Interval, TreeValue, constant, line_table, ranges, Tree, set_attribute}
 use Rattle.dwc_base.specs.Drafts.{Goal, DraftValue, done}
 use Rattle.dwc_base.specs.DraftForests.{settled_value, settled, settled_entry}
 use Rattle.dwc_base.specs.Clones.{UnitSource, CodeRules, table_becomes, attribute_becomes, attributes_become, if_made, endianity, attributes_made}
@@ -18,11 +18,16 @@ use Rattle.dwc_base.specs.CarriedDrafts.{draft_of}
 use Rattle.dwc_base.specs.Refusals.{Refusal}
 use Rattle.dwc_base.specs.Sections.{Sections}
 use Rattle.dwc_base.specs.Units.{UnitHeader}
-use Rattle.dwc_base.specs.EntryRules.{code_rules, function_bounds, function_begun}
+use Rattle.dwc_base.specs.Entries.{Entry}
+use Rattle.dwc_base.specs.Lists.{list_source}
+use Rattle.dwc_base.specs.RawLists.{ListSource}
+use Rattle.dwc_base.specs.RangeAttributes.{begun_function, Extent, intervals, position, nowhere, extent, native_of_intervals, bounds as bounds_of, length_of, said_intervals, said_extent, range_attributes}
+use Rattle.dwc_base.specs.EntryRules.{code_rules}
+use Rattle.dwc_base.proofs.ForestLaws.{Each, each_chosen}
 use Rattle.dwc_write.specs.declared.attributes.Attribute.{Attribute}
 use Rattle.dwc_write.specs.declared.attributes.AttributeValue.{AttributeValue}
 use Rattle.dwc_write.specs.declared.attributes.AttributeValue.TheVariants.{Address, Constant, Flag, Block, Exprloc, StringRef, LineProgramRef, RangeListRef, UnitRef, DebugInfoRef}
-use Rattle.dwc_write.specs.declared.attributes.DebugInfoRef.TheVariants.{Entry}
+use Rattle.dwc_write.specs.declared.attributes.DebugInfoRef.TheVariants as references
 use Rattle.dwc_write.specs.GivenUnits.{Addition, in_file_order, is_lines, names_lines_in, names_lines}
 use Rattle.dwc_write.specs.AddedInOrder.{value_meant, attribute_meant, tree_meant}
 
@@ -55,7 +60,7 @@ lines-meant texts number (StringRef id) = refl
 lines-meant texts number LineProgramRef = refl
 lines-meant texts number (RangeListRef list) = refl
 lines-meant texts number (UnitRef id) = refl
-lines-meant texts number (DebugInfoRef (Entry unit id)) = refl
+lines-meant texts number (DebugInfoRef (references.Entry unit id)) = refl
 
 names-meant : (texts : List (List ℕ)) (number : ℕ) (xs : List Attribute) → names_lines_in xs ≡ says_lines (map (attribute_meant texts number) xs)
 names-meant texts number [] = refl
@@ -219,15 +224,37 @@ AreOther ds = All IsNamedDraft ds × (has_lines ds ≡ false)
 other-one : (n : ℕ) (v : DraftValue) (ds : List (ℕ × DraftValue)) → (n ≡ DW_AT_stmt_list → ⊥) → All IsNamedDraft ds → All IsNamedDraft ((n, v) ∷ ds)
 other-one n v ds other h = All-cons IsNamedDraft (n, v) ds (λ e. absurd (other e)) h
 
-bounds-other : (o : Option Function) → AreOther (function_bounds o)
-bounds-other None = (All-nil IsNamedDraft, refl)
-bounds-other (Some f) = (other-one DW_AT_low_pc (done (address (Symbol f.number (pos 0)))) ((DW_AT_high_pc, done (constant DW_FORM_udata f.length)) ∷ []) low (other-one DW_AT_high_pc (done (constant DW_FORM_udata f.length)) [] high (All-nil IsNamedDraft)), refl)
-  where
-    low : DW_AT_low_pc ≡ DW_AT_stmt_list → ⊥
-    low e = omega (arith, e)
+-- an attribute of another name
+abbrev IsOther : ℕ × TreeValue → Type 0
+IsOther a = (a.0 == DW_AT_stmt_list) ≡ false
 
-    high : DW_AT_high_pc ≡ DW_AT_stmt_list → ⊥
-    high e = omega (arith, e)
+others-drafted : (xs : List (ℕ × TreeValue)) → Each IsOther xs → AreOther (map (λ a. (a.0, done a.1)) xs)
+others-drafted [] h = (All-nil IsNamedDraft, refl)
+others-drafted (a ∷ xs) h =
+    let more = others-drafted xs h.1 in
+    (other-one a.0 (done a.1) (map (λ a. (a.0, done a.1)) xs) (λ e. clash (sym h.0 ∙ eq-eqb a.0 DW_AT_stmt_list e)) more.0, ap₂ (λ b c. b || c) h.0 more.1)
+  where
+    clash : false ≡ true → ⊥
+    clash e = cc
+
+intervals-other : (tag : ℕ) (is : List Interval) → Each IsOther (said_intervals tag is)
+intervals-other tag [] = (refl, tt)
+intervals-other tag (i ∷ j ∷ is) = (refl, tt)
+intervals-other tag (i ∷ []) = each_chosen IsOther ((DW_AT_ranges, ranges (i ∷ [])) ∷ []) (bounds_of i.begin (length_of i)) (tag == DW_TAG_compile_unit) (refl, tt) (refl, (refl, tt))
+
+extent-other : (fs : List Function) (tag : ℕ) (x : Extent) → Each IsOther (said_extent fs tag x)
+extent-other fs tag nowhere = tt
+extent-other fs tag (intervals []) = tt
+extent-other fs tag (intervals (i ∷ is)) = intervals-other tag (native_of_intervals fs (i ∷ is))
+extent-other fs tag (position a) = (refl, tt)
+
+range-other : (fs : List Function) (s : ListSource) (e : Entry) → Each IsOther (range_attributes s fs e)
+unfolding range_attributes
+range-other fs s e = go (begun_function s fs e)
+  where
+    go : (o : Option Function) → Each IsOther (elim o [ Some f ↦ bounds_of (Symbol f.number (pos 0)) f.length | None ↦ said_extent fs e.tag (extent s e) ])
+    go (Some f) = (refl, (refl, tt))
+    go None = extent-other fs e.tag (extent s e)
 
 endianity-other : (big_endian : Bool) (e : Placed) → AreOther (endianity big_endian e)
 endianity-other big_endian e = go (big_endian && (e.entry.tag == DW_TAG_base_type))
@@ -250,11 +277,14 @@ root-says fs t h s big_endian places e root =
     ∙ ap (λ b. has_lines (bounds ++ made) || b) (endianity-other big_endian e).1
     ∙ sym (or-false (has_lines (bounds ++ made)))
     ∙ list_any-append (λ a. a.0 == DW_AT_stmt_list) bounds made
-    ∙ ap (λ b. b || has_lines made) (bounds-other (function_begun fs t h e.entry)).1
+    ∙ ap (λ b. b || has_lines made) others.1
     ∙ become.1
   where
     bounds : List (ℕ × DraftValue)
-    bounds = function_bounds (function_begun fs t h e.entry)
+    bounds = map (λ a. (a.0, done a.1)) (range_attributes (list_source t h) fs e.entry)
+
+    others : AreOther bounds
+    others = others-drafted (range_attributes (list_source t h) fs e.entry) (range-other fs (list_source t h) e.entry)
 
     made : List (ℕ × DraftValue)
     made = filter_map (λ a. if_made a.0 a.1) (attributes_become (code_rules fs t h) s e [] e.entry.attributes)
@@ -269,4 +299,4 @@ root-says fs t h s big_endian places e root =
     become = become-all (code_rules fs t h) s e root [] e.entry.attributes
 
     stands : StandsFor all (filter_map (settled places) all)
-    stands = settle-all places all (All-append IsNamedDraft (bounds ++ made) last (All-append IsNamedDraft bounds made (bounds-other (function_begun fs t h e.entry)).0 become.0) (endianity-other big_endian e).0)
+    stands = settle-all places all (All-append IsNamedDraft (bounds ++ made) last (All-append IsNamedDraft bounds made others.0 become.0) (endianity-other big_endian e).0)

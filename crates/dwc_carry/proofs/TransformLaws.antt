@@ -1,6 +1,6 @@
 -- The transforms of the modules of a compilation, and what is made of the modules with them.
 use Rattle.std.proofs.Common.{◌≡◌, ℕ, zero, suc, ◌+◌, add-one, ◌<◌, ◌≤◌, List, [], ◌∷◌, ◌++◌, map, take, drop, length, get_or, slice_get, refl, ap, sym, ◌∙◌, subst, arith, Option, Some, None, Err, All, Ok}
-use Rattle.std.specs.Prelude.{option_map}
+use Rattle.std.specs.Prelude.{false, option_map}
 use Rattle.std.specs.Option.{option_or, unwrap_or}
 use Rattle.std.specs.List.{flat_map}
 use Rattle.std.proofs.lemmas.List.{append-nil, append_assoc, drop_more, drop_all, length-map}
@@ -11,7 +11,7 @@ use Rattle.dwc_base.specs.declared.records.MapFault.{MapFault}
 use Rattle.dwc_base.specs.declared.wasm.ModuleTranslation.{ModuleTranslation}
 use Rattle.dwc_base.specs.Functions.{Function, functions_of}
 use Rattle.dwc_base.specs.Carried.{Module, Compilation, units}
-use Rattle.dwc_base.specs.Forests.{carried_units, carried_units_of, first_refusal, forest, is_big, module_refusals, trees_made}
+use Rattle.dwc_base.specs.Forests.{carried_units, carried_units_of, first_refusal, forest, function_refusals, is_big, module_refusals, trees_made}
 use Rattle.dwc_base.specs.Refusals.{Refusal, first_of}
 use Rattle.dwc_base.specs.Trees.{Tree}
 use Rattle.dwc_base.specs.TreeLaws.{HasAllTargets}
@@ -29,8 +29,9 @@ use Rattle.dwc_carry.specs.Refusals.{InputRefusal, bad_address_map, in_reading, 
 use Rattle.dwc_carry.specs.MadeUnits.{AreMadeOf}
 use Rattle.dwc_carry.specs.CarriedModules.{transformed_modules, AddsModules}
 use Rattle.dwc_carry.specs.Inputs.{module_view, modules_from, input_of, bad_map_from, bad_map, maps_refusal}
-use Rattle.dwc_carry.specs.Transformed.{all_functions, IsTransformed}
+use Rattle.dwc_carry.specs.Transformed.{all_functions, have_long, lengths_checked, IsTransformed}
 use Rattle.dwc_carry.proofs.RefusalLaws.{unmapped, refuses-more}
+use Rattle.dwc_carry.proofs.LengthLaws.{all-short, some-long, checked-long, checked-short}
 use Rattle.dwc_carry.proofs.CompositionLaws.{made-texts, made-trees, trees-of-modules}
 
 -- the refusal of a bad map
@@ -162,40 +163,68 @@ transformed-of size c texts us none made whole =
     }
 
 module _ (c : CompilationValue) where
-  -- what is refused of the modules, in order
+  -- the modules of the input, and with their transforms
+  abbrev modules : List Module
+  modules = modules_from 0 c.translations c.functions
+
+  abbrev transformed : List Module
+  transformed = transformed_modules c.translations (all_functions modules)
+
+  -- what is refused of modules as they are read, in order
   abbrev refusals_in : List Module → Option InputRefusal
   refusals_in ms = option_map in_reading (first_of (flat_map module_refusals ms))
 
-  abbrev transformed : List Module
-  transformed = transformed_modules c.translations (all_functions (modules_from 0 c.translations c.functions))
+  -- what is refused of the input behind its maps, and of it whole
+  abbrev reading_refusal : Option InputRefusal
+  reading_refusal = option_map in_reading (first_of (flat_map (λ m. function_refusals m.functions) modules ++ flat_map module_refusals modules))
 
   abbrev input_refusal : Option InputRefusal
-  input_refusal = option_or (maps_refusal c) (refusals_in (modules_from 0 c.translations c.functions))
+  input_refusal = option_or (maps_refusal c) reading_refusal
 
-  -- what is refused of the modules with their transforms is refused of the input, whose maps are good
-  input-refusals : maps_refusal c ≡ None → refusals_in transformed ≡ input_refusal
-  input-refusals good =
-      ap (λ (refusals : List Refusal). option_map in_reading (first_of refusals)) (ap (flat_map module_refusals) (transformed-same 0 c.translations c.functions))
-      ∙ ap (λ o. option_or o (refusals_in (modules_from 0 c.translations c.functions))) (sym good)
+  -- no function is too long where the check of lengths answers nothing
+  pub lengths-short : Ok tt ≡ lengths_checked (all_functions modules) → have_long (all_functions modules) ≡ false
+  lengths-short h = checked-short (all_functions modules) h
 
-  pub input-refused : (e : DebugError) → maps_refusal c ≡ None → Refuses (refusals_in transformed) e → Refuses input_refusal e
-  input-refused e good h = subst (λ o. Refuses o e) (input-refusals good) h
+  -- the functions of modules are refused as those of their transforms
+  functions-refused : (ms : List Module) → flat_map function_refusals (all_functions ms) ≡ flat_map (λ (m : Module). function_refusals m.functions) ms
+  functions-refused [] = refl
+  functions-refused (m ∷ ms) = ap (λ (rs : List Refusal). function_refusals m.functions ++ rs) (functions-refused ms)
+
+  -- what is refused of the modules with their transforms is refused of the input, whose maps are good and whose functions short
+  input-refusals : maps_refusal c ≡ None → have_long (all_functions modules) ≡ false → refusals_in transformed ≡ input_refusal
+  input-refusals good short =
+      ap (λ (refusals : List Refusal). option_map in_reading (first_of refusals))
+      (ap (flat_map module_refusals) (transformed-same 0 c.translations c.functions)
+      ∙ ap (λ (longs : List Refusal). longs ++ flat_map module_refusals modules) (sym (sym (functions-refused modules) ∙ all-short (all_functions modules) short)))
+      ∙ ap (λ o. option_or o reading_refusal) (sym good)
+
+  pub input-refused : (e : DebugError) → maps_refusal c ≡ None → have_long (all_functions modules) ≡ false → Refuses (refusals_in transformed) e → Refuses input_refusal e
+  input-refused e good short h = subst (λ o. Refuses o e) (input-refusals good short) h
 
   -- a bad map refuses the input
   pub maps-refused : (e : DebugError) → Refuses (maps_refusal c) e → Refuses input_refusal e
-  maps-refused e h = refuses-more (maps_refusal c) input_refusal e (λ r is. ap (λ o. option_or o (refusals_in (modules_from 0 c.translations c.functions))) is) h
+  maps-refused e h = refuses-more (maps_refusal c) input_refusal e (λ r is. ap (λ o. option_or o reading_refusal) is) h
+
+  -- and where no map is bad a function that is too long
+  pub lengths-refused : (e : DebugError) → maps_refusal c ≡ None → Err e ≡ lengths_checked (all_functions modules) → Refuses input_refusal e
+  lengths-refused e good h =
+      let long = checked-long (all_functions modules) e h in
+      subst (Refuses input_refusal) (sym long.1)
+      (ap (λ o. option_or o reading_refusal) good
+      ∙ ap (λ (longs : List Refusal). option_map in_reading (first_of (longs ++ flat_map module_refusals modules))) (sym (functions-refused modules))
+      ∙ ap (option_map in_reading) (some-long (all_functions modules) (flat_map module_refusals modules) long.0))
 
   -- the input is accepted, and the units that are added are those of it
-  pub input-transformed : (order : Endian) (size : ℕ) (before texts : List (List ℕ)) (us : List GivenUnit) → maps_refusal c ≡ None → (refusals_in transformed ≡ None) × AddsModules size (is_big order) transformed [] us before texts
-      → (input_refusal ≡ None) × IsTransformed size (input_of order size c) texts us
-  input-transformed order size before texts us good (none, h) =
-      let ms = modules_from 0 c.translations c.functions in
+  pub input-transformed : (order : Endian) (size : ℕ) (before texts : List (List ℕ)) (us : List GivenUnit) → maps_refusal c ≡ None → have_long (all_functions modules) ≡ false
+      → (refusals_in transformed ≡ None) × AddsModules size (is_big order) transformed [] us before texts → (input_refusal ≡ None) × IsTransformed size (input_of order size c) texts us
+  input-transformed order size before texts us good short (none, h) =
+      let ms = modules in
       let k : AddsModules size (is_big order) ms [] us before texts = subst (λ xs. AddsModules size (is_big order) xs [] us before texts) (transformed-same 0 c.translations c.functions) h in
-      let accepted : input_refusal ≡ None = sym (input-refusals good) ∙ none in
+      let accepted : input_refusal ≡ None = sym (input-refusals good short) ∙ none in
       let made : AreMadeOf size texts 0 (flat_map carried_units_of ms) (trees_made (input_of order size c)) us =
       subst (AreMadeOf size texts 0 (flat_map carried_units_of ms) (trees_made (input_of order size c))) (sym k.added)
       (subst (λ ts. AreMadeOf size texts 0 (flat_map carried_units_of ms) ts k.made) (sym (trees-of-modules (input_of order size c))) k.each) in (
         accepted,
         transformed-of size (input_of order size c) texts us
-            (unmapped in_reading (first_refusal (input_of order size c)) (neither (maps_refusal c) (refusals_in ms) accepted).1) made k.whole,
+            (unmapped in_reading (first_refusal (input_of order size c)) (neither (maps_refusal c) reading_refusal accepted).1) made k.whole,
       )

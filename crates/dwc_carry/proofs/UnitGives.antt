@@ -8,9 +8,9 @@ use Rattle.dwc_base.specs.Clones.{UnitSource}
 use Rattle.dwc_base.specs.CarriedDrafts.{source_of}
 use Rattle.dwc_base.specs.Forests.{kept_of}
 use Rattle.dwc_base.specs.Refusals.{lines_refusal, first_of}
-use Rattle.dwc_read.specs.declared.fault.ReadFault.{ReadFault}
 use Rattle.dwc_kept.specs.declared.kept_units.KeptModule.{KeptModule}
 use Rattle.dwc_kept.specs.ReadUnits.{unit_read}
+use Rattle.dwc_clone.specs.declared.error.CloneError.{CloneError}
 use Rattle.dwc_clone.specs.declared.source.CloneSource.{CloneSource}
 use Rattle.dwc_clone.specs.Sources.{IsSource}
 use Rattle.dwc_clone.specs.ClonedUnits.{picked, AreClonable, GivesCloned}
@@ -18,7 +18,7 @@ use Rattle.dwc_write.specs.declared.units.Dwarf.{Dwarf}
 use Rattle.dwc_write.specs.declared.units.UnitId.{UnitId}
 use Rattle.dwc_write.specs.GivenUnits.{GivenUnit}
 use Rattle.dwc_carry.specs.declared.last_lines.LastLines.{LastLines}
-use Rattle.dwc_carry.specs.Refusals.{in_reading, of_reading, RefusesReading}
+use Rattle.dwc_carry.specs.Refusals.{in_reading, of_cloning, RefusesReading}
 use Rattle.dwc_carry.specs.UnitPrograms.{CarriesNamed}
 use Rattle.dwc_carry.specs.LastLines.{IsLast, last_after}
 use Rattle.dwc_carry.specs.CarriedUnits.{IsUnitOf, refusals_of, wanted_of, AddsUnit}
@@ -28,7 +28,7 @@ use Rattle.dwc_carry.proofs.UnitSources.{read_of, unit-is, no-fault, clonable, s
 use Rattle.dwc_carry.proofs.UnitMade.{files-known, clone-refused, made-of, accepted}
 
 -- what cloning answers for the kept entries of a unit
-abbrev pub AnswersCloned : CloneSource → List ℕ → List (List ℕ) → List (List ℕ) → GivenUnit → Result GivenUnit ReadFault → Type 0
+abbrev pub AnswersCloned : CloneSource → List ℕ → List (List ℕ) → List (List ℕ) → GivenUnit → Result GivenUnit CloneError → Type 0
 AnswersCloned k kept old new begun result =
     (number : ℕ) (s : UnitSource) → IsSource k number s → (entries k.unit.now.sections k.unit.now.header).fault ≡ None → AreClonable (picked kept (entries k.unit.now.sections k.unit.now.header).items)
     → GivesCloned k number s (picked kept (entries k.unit.now.sections k.unit.now.header).items) old new begun result
@@ -37,14 +37,14 @@ module _ (k : CloneSource) (compile : Bool) (table : Option ℕ) (c : Module) (m
     (of : IsUnitOf c k.transform.now m first number k.places.now kept (read_of k compile table)) (size : ℕ) (old new : List (List ℕ)) (begun : GivenUnit)
     (carries : CarriesNamed k.transform.now k.unit.now.sections k.unit.now.header size table k.files begun.lines)
     (none : option_map in_reading (lines_refusal k.unit.now.sections k.unit.now.header table) ≡ None) where
-  answered : (result : Result GivenUnit ReadFault) → AnswersCloned k kept old new begun result
+  answered : (result : Result GivenUnit CloneError) → AnswersCloned k kept old new begun result
       → GivesCloned k number (source_of (kept_of c) (unit_read c.sections k.unit.now.header)) (picked kept (entries k.unit.now.sections k.unit.now.header).items) old new begun result
   answered result answers =
       answers number (source_of (kept_of c) (unit_read c.sections k.unit.now.header)) (source-is k compile table c m first number kept of (files-known k compile table c m first number kept of size begun.lines carries))
       (no-fault k compile table c m first number kept of) (clonable k compile table c m first number kept of)
 
   -- an entry is refused
-  pub entries-refused : (e : ReadFault) → AnswersCloned k kept old new begun (Err e) → RefusesReading (first_of (refusals_of c (unit_read c.sections k.unit.now.header))) (of_reading e)
+  pub entries-refused : (e : CloneError) → AnswersCloned k kept old new begun (Err e) → RefusesReading (first_of (refusals_of c (unit_read c.sections k.unit.now.header))) (of_cloning e)
   entries-refused e answers = clone-refused k compile table c m first number kept of e none (answered (Err e) answers)
 
   -- the unit is added

@@ -31,7 +31,7 @@ use Rattle.dwc_carry.specs.Refusals.{in_reading, RefusesReading}
 use Rattle.dwc_carry.specs.MadeUnits.{IsMadeOf, AreMadeOf}
 use Rattle.dwc_carry.specs.ModulePlaces.{carried_offsets, emitted, numbered_lists}
 use Rattle.dwc_carry.specs.CarriedUnits.{IsOfModule, IsUnitOf, wanted_of, refusals_of, AddsUnit, AddsUnits}
-use Rattle.dwc_carry.proofs.CauseLaws.{unmapped, reading-more, first-behind, no-first}
+use Rattle.dwc_carry.proofs.RefusalLaws.{unmapped, reading-more, first-behind, no-first}
 use Rattle.dwc_carry.proofs.UnitsInOrder.{inside, in-parts, UnitsFrom, module-stand}
 use Rattle.dwc_carry.proofs.ModulePlaceLaws.{emitted-some, emitted-none}
 use Rattle.dwc_carry.proofs.PlaceLaws.{own-place}

@@ -23,8 +23,6 @@ use Rattle.dwc_base.specs.CarriedDrafts.{readable_table, source_of, unit_drafts}
 use Rattle.dwc_base.specs.ReachedEntries.{kept_refusals}
 use Rattle.dwc_base.specs.EntryRules.{code_rules}
 use Rattle.dwc_base.specs.Forests.{kept_of, rules_of, module_drafts}
-use Rattle.dwc_read.specs.declared.fault.ReadFault.{ReadFault}
-use Rattle.dwc_read.specs.Faults.{fault_seen}
 use Rattle.dwc_kept.specs.declared.kept_units.KeptModule.{KeptModule}
 use Rattle.dwc_kept.specs.KeptUnits.{IsTree}
 use Rattle.dwc_kept.specs.ReadUnits.{unit_read}
@@ -33,7 +31,9 @@ use Rattle.dwc_base.proofs.InLists.{contains-in}
 use Rattle.dwc_kept.proofs.KeptModuleLaws.{read-unit, read-entries}
 use Rattle.dwc_base.specs.Functions.{Function}
 use Rattle.dwc_clone.specs.declared.places.EmittedEntry.{EmittedEntry}
+use Rattle.dwc_clone.specs.declared.error.CloneError.{CloneError}
 use Rattle.dwc_clone.specs.declared.source.CloneSource.{CloneSource}
+use Rattle.dwc_clone.specs.Errors.{refusal_told}
 use Rattle.dwc_clone.specs.OutputPlaces.{goal_place}
 use Rattle.dwc_clone.specs.Sources.{AreFiles}
 use Rattle.dwc_clone.specs.ClonedUnits.{picked, placed_in, depths_of, clone_rules, clone_refusals, clone_wanted, IsCloned, TellsFirst}
@@ -42,11 +42,12 @@ use Rattle.dwc_write.specs.GivenUnits.{GivenUnit, names_lines, in_file_order}
 use Rattle.dwc_write.specs.ReadBack.{given_segments}
 use Rattle.dwc_write.specs.WidestGiven.{widest_table_for}
 use Rattle.dwc_carry.specs.declared.error.DebugError.{DebugError}
-use Rattle.dwc_carry.specs.Refusals.{in_reading, of_reading, RefusesReading}
+use Rattle.dwc_carry.specs.Refusals.{in_reading, of_cloning, RefusesReading}
 use Rattle.dwc_carry.specs.UnitPrograms.{CarriesNamed}
 use Rattle.dwc_carry.specs.MadeUnits.{IsMadeOf}
 use Rattle.dwc_carry.specs.CarriedUnits.{IsUnitOf, wanted_of, refusals_of}
-use Rattle.dwc_carry.proofs.CauseLaws.{unmapped, reading-more, first-behind, clone-told}
+use Rattle.dwc_carry.proofs.RefusalLaws.{unmapped, reading-more, first-behind}
+use Rattle.dwc_carry.proofs.CauseLaws.{clone-told}
 use Rattle.dwc_carry.proofs.PlaceLaws.{goal-places}
 use Rattle.dwc_carry.proofs.LinesNamed.{tree_says, has_lines, tree-names, root-says}
 use Rattle.dwc_carry.proofs.UnitSources.{read_of, unit-in, unit-is, picked-are, clonable, first-root}
@@ -224,8 +225,8 @@ module _ (k : CloneSource) (compile : Bool) (table : Option ℕ) (c : Module) (m
       ap (λ o. option_to_list o ++ kept_refusals (rules_of c) (kept_of c) u) (sym lines-refused ∙ unmapped in_reading (lines_refusal k.unit.now.sections h table) none)
       ∙ sym kept-refused
 
-  pub clone-refused : (e : ReadFault) → option_map in_reading (lines_refusal k.unit.now.sections h table) ≡ None → TellsFirst (clone_refusals k (source_of (kept_of c) u) es) (fault_seen e) → RefusesReading (first_of (refusals_of c u)) (of_reading e)
-  clone-refused e none tells = subst (λ rs. RefusesReading (first_of rs) (of_reading e)) (sym (refusals-are none)) (clone-told (clone_refusals k (source_of (kept_of c) u) es) e tells)
+  pub clone-refused : (e : CloneError) → option_map in_reading (lines_refusal k.unit.now.sections h table) ≡ None → TellsFirst (clone_refusals k (source_of (kept_of c) u) es) (refusal_told e) → RefusesReading (first_of (refusals_of c u)) (of_cloning e)
+  clone-refused e none tells = subst (λ rs. RefusesReading (first_of rs) (of_cloning e)) (sym (refusals-are none)) (clone-told (clone_refusals k (source_of (kept_of c) u) es) e tells)
 
   -- ---- the unit
 

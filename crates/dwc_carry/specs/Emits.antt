@@ -1,8 +1,7 @@
 -- The answers of emitting DWARF for a compilation.
 use Rattle.std.specs.Prelude.{ℕ, ◌^◌, ◌≤◌, List, map, Result, Vec, All}
 use Rattle.std.specs.Global.{Global}
-use Rattle.dwc_base.specs.declared.faults.Limit.{Limit}
-use Rattle.dwc_base.specs.declared.faults.Limit.TheVariants.{Section}
+use Rattle.dwc_base.specs.declared.section_name.SectionName.{SectionName}
 use Rattle.dwc_base.specs.declared.records.Endian.{Endian}
 use Rattle.dwc_base.specs.declared.output.DwarfSection.{DwarfSection}
 use Rattle.dwc_base.specs.Outputs.{OutputSection, section_view}
@@ -20,8 +19,8 @@ pub record IsEmitted (c : Compilation) (sections : List OutputSection) : Type 0 
   pub sound : All (IsSound c.order) sections
 
 -- a section of the output could be longer than it can be
-abbrev pub IsTooLong : Compilation → Limit → Type 0
-IsTooLong c (Section name) = 2 ^ 31 ≤ widest name c
+abbrev pub IsTooLong : Compilation → SectionName → Type 0
+IsTooLong c name = 2 ^ 31 ≤ widest name c
 
 -- Sections are emitted where nothing is refused; or there is a cause: the first refusal; where nothing is refused a section that
 -- could be too long; or want of memory.

@@ -2,8 +2,9 @@
 use Rattle.std.specs.Prelude.{◌≡◌, ℕ, Option, Some, None, option_map, Result, Ok, Err}
 use Rattle.dwc_base.specs.Sections.{unreadable, unsupported}
 use Rattle.dwc_base.specs.declared.records.MapFault.{MapFault}
-use Rattle.dwc_base.specs.declared.faults.Limit.{Limit}
-use Rattle.dwc_base.specs.Refusals.{Refusal, of_place, missing_file}
+use Rattle.dwc_base.specs.declared.faults.Limit.TheVariants.{Section, Addend, Range}
+use Rattle.dwc_base.specs.declared.section_name.SectionName.{SectionName}
+use Rattle.dwc_base.specs.Refusals.{Refusal, of_place, missing_file, long_function, long_range}
 use Rattle.dwc_read.specs.declared.fault.ReadFault.{ReadFault}
 use Rattle.dwc_read.specs.declared.fault.ReadFault.TheVariants as read
 use Rattle.dwc_addr.specs.declared.error.AddrError.{AddrError}
@@ -12,6 +13,8 @@ use Rattle.dwc_tabs.specs.declared.fault.TabFault.{TabFault}
 use Rattle.dwc_tabs.specs.declared.fault.TabFault.TheVariants as tab
 use Rattle.dwc_write.specs.declared.error.WriteError.{WriteError}
 use Rattle.dwc_write.specs.declared.error.WriteError.TheVariants as write
+use Rattle.dwc_clone.specs.declared.error.CloneError.{CloneError}
+use Rattle.dwc_clone.specs.declared.error.CloneError.TheVariants as clone
 use Rattle.dwc_carry.specs.declared.error.DebugError.{DebugError}
 use Rattle.dwc_carry.specs.declared.error.DebugError.TheVariants.{Read, Unsupported, InvalidFileIndex, BadAddressMap, TooLarge, OutOfMemory}
 
@@ -32,9 +35,16 @@ of_table (tab.Unsupported kind offset) = Unsupported kind offset
 of_table (tab.InvalidFileIndex offset) = InvalidFileIndex offset
 of_table tab.OutOfMemory = OutOfMemory
 
+-- that of cloning
+abbrev pub of_cloning : CloneError → DebugError
+of_cloning (clone.Read what section offset) = Read what section offset
+of_cloning (clone.Unsupported kind offset) = Unsupported kind offset
+of_cloning clone.TooLarge = TooLarge Range
+of_cloning clone.OutOfMemory = OutOfMemory
+
 -- and that of the writer
 abbrev pub of_writing : WriteError → DebugError
-of_writing (write.TooLarge what) = TooLarge what
+of_writing (write.TooLarge name) = TooLarge (Section name)
 of_writing write.OutOfMemory = OutOfMemory
 
 -- ---- what an error tells
@@ -45,10 +55,10 @@ pub data InputRefusal : Type 0 where
   bad_address_map : ℕ → ℕ → MapFault → InputRefusal
   in_reading : Refusal → InputRefusal
 
--- a refusal, a limit that would be passed, or want of memory
+-- a refusal, a section that would be too long, or want of memory
 pub data Told : Type 0 where
   refused : InputRefusal → Told
-  limit : Limit → Told
+  limit : SectionName → Told
   memory : Told
 
 abbrev pub told : DebugError → Told
@@ -56,24 +66,26 @@ told (Read what section offset) = refused (in_reading (of_place (unreadable what
 told (Unsupported kind offset) = refused (in_reading (of_place (unsupported kind offset)))
 told (InvalidFileIndex offset) = refused (in_reading (missing_file offset))
 told (BadAddressMap m func why) = refused (bad_address_map m func why)
-told (TooLarge what) = limit what
+told (TooLarge (Section name)) = limit name
+told (TooLarge Addend) = refused (in_reading long_function)
+told (TooLarge Range) = refused (in_reading long_range)
 told OutOfMemory = memory
 
--- What is told is the refusal of an input, if there is one; a limit, where nothing is refused and that limit could be passed; or
--- want of memory, at any time.
-abbrev pub IsCause : (Limit → Type 0) → Option InputRefusal → Told → Type 0
+-- What is told is the refusal of an input, if there is one; a section, where nothing is refused and that section could be too long;
+-- or want of memory, at any time.
+abbrev pub IsCause : (SectionName → Type 0) → Option InputRefusal → Told → Type 0
 IsCause passes refusal (refused r) = refusal ≡ Some r
-IsCause passes refusal (limit what) = (refusal ≡ None) × passes what
+IsCause passes refusal (limit name) = (refusal ≡ None) × passes name
 IsCause passes refusal memory = Unit {0}
 
 -- Where nothing is refused, what is answered has a property; an error has its cause.
-abbrev pub GivesWithin : {X : Type 0} → (Limit → Type 0) → (X → Type 0) → Option InputRefusal → Result X DebugError → Type 0
+abbrev pub GivesWithin : {X : Type 0} → (SectionName → Type 0) → (X → Type 0) → Option InputRefusal → Result X DebugError → Type 0
 GivesWithin passes has refusal (Ok x) = (refusal ≡ None) × has x
 GivesWithin passes has refusal (Err e) = IsCause passes refusal (told e)
 
--- the same where no limit is
+-- the same where no section can be too long
 abbrev pub Refuses : Option InputRefusal → DebugError → Type 0
-Refuses refusal e = IsCause (λ what. ⊥) refusal (told e)
+Refuses refusal e = IsCause (λ name. ⊥) refusal (told e)
 
 abbrev pub GivesOr : {X : Type 0} → (X → Type 0) → Option InputRefusal → Result X DebugError → Type 0
 GivesOr has refusal (Ok x) = (refusal ≡ None) × has x

@@ -1,8 +1,11 @@
 -- The answers of transforming the DWARF of a compilation.
-use Rattle.std.specs.Prelude.{◌≡◌, ℕ, List, map, None, Result, Ok, Vec, All}
+use Rattle.std.specs.Prelude.{◌≡◌, ℕ, List, map, Bool, if◌then◌else◌, None, Result, Ok, Err, Vec, All}
 use Rattle.std.specs.Global.{Global}
+use Rattle.std.specs.List.{list_any}
 use Rattle.dwc_base.specs.declared.records.Endian.{Endian}
+use Rattle.dwc_base.specs.declared.faults.Limit.TheVariants.{Addend}
 use Rattle.dwc_base.specs.Functions.{Function}
+use Rattle.dwc_base.specs.Addends.{is_long}
 use Rattle.dwc_base.specs.Carried.{units, Module, Compilation}
 use Rattle.dwc_addr.specs.declared.transform.AddressTransform.{AddressTransform}
 use Rattle.dwc_addr.specs.Compilations.{CompilationValue}
@@ -13,6 +16,7 @@ use Rattle.dwc_write.specs.UsedTexts.{HaveTexts}
 use Rattle.dwc_write.specs.GivenTrees.{given_trees}
 use Rattle.dwc_write.specs.GivenUnits.{GivenUnit, ordered}
 use Rattle.dwc_carry.specs.declared.error.DebugError.{DebugError}
+use Rattle.dwc_carry.specs.declared.error.DebugError.TheVariants.{TooLarge}
 use Rattle.dwc_carry.specs.Refusals.{GivesOr}
 use Rattle.dwc_carry.specs.Inputs.{modules_from, input_of, maps_refusal, refusal_of}
 use Rattle.dwc_carry.specs.MadeUnits.{AreMadeOf}
@@ -24,6 +28,14 @@ all_functions ms = map (λ m. m.functions) ms
 -- the transforms of all modules, or the refusal of the first bad map
 abbrev pub GivesTransforms : CompilationValue → Result (Vec AddressTransform Global) DebugError → Type 0
 GivesTransforms c result = GivesOr (λ (ts : Vec AddressTransform Global). ts.items ≡ all_functions (modules_from 0 c.translations c.functions)) (maps_refusal c) result
+
+-- whether a function of some modules is too long
+abbrev pub have_long : List (List Function) → Bool
+have_long fss = list_any (list_any is_long) fss
+
+-- a function that is too long is refused
+abbrev pub lengths_checked : List (List Function) → Result (Prim.Unit {0}) DebugError
+lengths_checked fss = if have_long fss then Err (TooLarge Addend) else Ok tt
 
 -- Units that are made of all carried units of an input, whose modules are read to their ends, and that say the trees of its forest with
 -- a table of texts, which has all that they name.

@@ -1,6 +1,7 @@
 //! The units of the output, from the modules of an input.
 ghost use Rattle.std.specs.Prelude.{◌≡◌, ◌⊎◌, ◌<◌, length, All};
 ghost use Rattle.dwc_base.specs.declared.section_name.SectionName.TheVariants.{Info};
+ghost use Rattle.dwc_base.specs.Addends.{HaveAddends};
 ghost use Rattle.dwc_base.specs.Translations.{translation_sections};
 ghost use Rattle.dwc_image.specs.CarriedLines.{AreKept};
 ghost use Rattle.dwc_carry.specs.CarriedModules.{transformed_module, transformed_modules, GivesModule, GivesModules};
@@ -38,6 +39,7 @@ fn carry_module(
     requires version { form.encoding.version ≡ 4 }
     requires size { (form.encoding.address_size ≡ 4) ⊎ (form.encoding.address_size ≡ 8) }
     requires functions { AreKept transform.now }
+    requires addends { HaveAddends transform.now }
     ensures { GivesModule form.encoding.address_size form.big_endian (transformed_module translation.now transform.now) dwarf.old dwarf.new result }
 {
     if let Some(offset) = translation.compressed {
@@ -66,6 +68,7 @@ pub(crate) fn carry_modules(
     requires size { (form.encoding.address_size ≡ 4) ⊎ (form.encoding.address_size ≡ 8) }
     requires each { length transforms.now ≡ length translations.now }
     requires functions { All AreKept transforms.now }
+    requires addends { All HaveAddends transforms.now }
     ensures { GivesModules form.encoding.address_size form.big_endian (transformed_modules translations.now transforms.now) dwarf.old dwarf.new result }
 {
     for i in 0..translations.len() {

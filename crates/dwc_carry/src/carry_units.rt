@@ -1,5 +1,6 @@
 //! The units of the output, from those of a module.
 ghost use Rattle.std.specs.Prelude.{◌≡◌, ◌⊎◌, ℕ, length, All};
+ghost use Rattle.dwc_base.specs.Addends.{HaveAddends};
 ghost use Rattle.dwc_base.specs.Carried.{Module};
 ghost use Rattle.dwc_base.specs.Entries.{entries as entries_of};
 ghost use Rattle.dwc_base.specs.ReadValues.{IsReadEntry};
@@ -38,6 +39,7 @@ fn carry_unit(
     requires version { form.encoding.version ≡ 4 }
     requires size { (form.encoding.address_size ≡ 4) ⊎ (form.encoding.address_size ≡ 8) }
     requires functions { AreKept transform.now }
+    requires addends { HaveAddends transform.now }
     requires known { IsLast transform.now form.encoding.address_size read.now.unit.sections dwarf.old.units.units.items last }
     requires read { All IsReadEntry (entries_of read.now.unit.sections read.now.unit.header).items }
     requires texts { KnowsTexts read.now.unit.sections dwarf.old.strings known.old }
@@ -81,6 +83,7 @@ pub(crate) fn carry_units(
     requires version { form.encoding.version ≡ 4 }
     requires size { (form.encoding.address_size ≡ 4) ⊎ (form.encoding.address_size ≡ 8) }
     requires functions { AreKept transform.now }
+    requires addends { HaveAddends transform.now }
     requires read { HasModule transform.now read_module.now }
     requires places { places.now ≡ numbered_lists (length dwarf.old.units.units.items) (emitted read_module.now.kept read_module.now.units.items) }
     ensures { (c : Module) → IsOfModule c transform.now read_module.now → GivesUnits form.encoding.address_size form.big_endian c dwarf.old dwarf.new result }

@@ -15,9 +15,11 @@ use std::alloc::Global;
 ///
 /// # Errors
 /// `BadAddressMap` exactly where a function's address map breaks a rule: the first module, its first such function, and the
-/// first rule. Where no map does: `Read`, `Unsupported` or `InvalidFileIndex` exactly where something is refused, for the first
-/// place in the order of reading. `TooLarge` only where nothing is refused, for a section that could be longer than
-/// 2^31 - 1 bytes, each of its numbers at its widest. `OutOfMemory` for want of memory.
+/// first rule. Where no map does: `TooLarge` `Addend` exactly where a function with a symbol is longer than 2^31 - 1 bytes. Where
+/// none is: `Read`, `Unsupported`, `InvalidFileIndex`, or `TooLarge` `Range` for a range whose start plus its length is no address,
+/// exactly where something is refused, for the first place in the order of reading. `TooLarge` `Section` only where nothing is
+/// refused, for a section that could be longer than 2^31 - 1 bytes, each of its numbers at its widest. `OutOfMemory` for want of
+/// memory.
 pub fn emit_dwarf(
     alloc: Global,
     isa: &dyn TargetIsa,

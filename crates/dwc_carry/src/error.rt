@@ -3,6 +3,7 @@ ghost use Rattle.std.specs.Prelude.{◌≡◌};
 
 use dwc_addr::AddrError;
 use dwc_base::{Kind, Limit, MapFault, SectionName, What};
+use dwc_clone::CloneError;
 use dwc_read::ReadFault;
 use dwc_tabs::TabFault;
 use dwc_write::WriteError;
@@ -38,8 +39,9 @@ pub enum DebugError {
         func: u32,
         why: MapFault,
     },
-    /// A section would be longer than it can be.
-    #[error("TooLarge Section {name}", name = limited(*what).text())]
+    /// A section would be longer than it can be; a function with a symbol is longer than an addend can say; or a range of the
+    /// input ends where no address is.
+    #[error("TooLarge {limit}{name}", limit = limit_text(*what), name = section_text(*what))]
     TooLarge {
         what: Limit,
     },
@@ -47,10 +49,21 @@ pub enum DebugError {
     OutOfMemory,
 }
 
-// The section that is too large.
-fn limited(what: Limit) -> SectionName {
-    let Limit::Section(name) = what;
-    name
+// What is too large, in front of a section's name.
+fn limit_text(what: Limit) -> &'static str {
+    match what {
+        Limit::Section(_) => "Section ",
+        Limit::Addend => "Addend",
+        Limit::Range => "Range",
+    }
+}
+
+// The name of the section that is too large, if one is.
+fn section_text(what: Limit) -> &'static str {
+    match what {
+        Limit::Section(name) => name.text(),
+        Limit::Addend | Limit::Range => "",
+    }
 }
 
 // The refusal of bytes at an offset of the section of a name.
@@ -121,6 +134,26 @@ impl From<TabFault> for DebugError {
     }
 }
 
+impl From<CloneError> for DebugError {
+    ghost use Rattle.std.specs.Prelude.{◌≡◌};
+    ghost use Rattle.dwc_carry.specs.Refusals.{of_cloning};
+
+    ghost from_gives = { λ error e. e ≡ of_cloning error };
+
+    fn from(error: CloneError) -> DebugError {
+        match error {
+            CloneError::Read {
+                what,
+                section,
+                offset,
+            } => unreadable(what, section, offset),
+            CloneError::Unsupported { what, offset } => DebugError::Unsupported { what, offset },
+            CloneError::TooLarge => DebugError::TooLarge { what: Limit::Range },
+            CloneError::OutOfMemory => DebugError::OutOfMemory,
+        }
+    }
+}
+
 impl From<WriteError> for DebugError {
     ghost use Rattle.std.specs.Prelude.{◌≡◌};
     ghost use Rattle.dwc_carry.specs.Refusals.{of_writing};
@@ -129,7 +162,9 @@ impl From<WriteError> for DebugError {
 
     fn from(error: WriteError) -> DebugError {
         match error {
-            WriteError::TooLarge { what } => DebugError::TooLarge { what },
+            WriteError::TooLarge { section } => DebugError::TooLarge {
+                what: Limit::Section(section),
+            },
             WriteError::OutOfMemory => DebugError::OutOfMemory,
         }
     }

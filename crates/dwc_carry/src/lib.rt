@@ -9,6 +9,7 @@ mod die_ref;
 mod emit;
 mod error;
 mod last_lines;
+mod lengths;
 mod module_places;
 mod output_form;
 mod transform;

@@ -5,6 +5,7 @@ ghost use Rattle.dwc_carry.specs.Transformed.{GivesTransforms, GivesDwarf};
 
 use crate::DebugError;
 use crate::carry_modules::carry_modules;
+use crate::lengths::check_lengths;
 use crate::output_form::OutputForm;
 use dwc_addr::{AddressTransform, Compilation};
 use dwc_base::{Encoding, Endian, StaticModuleIndex};
@@ -17,8 +18,9 @@ use std::alloc::Global;
 ///
 /// # Errors
 /// `BadAddressMap` exactly where a function's address map breaks a rule: the first module, its first such function, and the
-/// first rule. Where no map does: `Read`, `Unsupported` or `InvalidFileIndex` exactly where something is refused, for the first
-/// place in the order of reading. `OutOfMemory` for want of memory.
+/// first rule. Where no map does: `TooLarge` `Addend` exactly where a function with a symbol is longer than 2^31 - 1 bytes. Where
+/// none is: `Read`, `Unsupported`, `InvalidFileIndex`, or `TooLarge` `Range` for a range whose start plus its length is no address,
+/// exactly where something is refused, for the first place in the order of reading. `OutOfMemory` for want of memory.
 pub fn transform_dwarf(
     alloc: Global,
     isa: &dyn TargetIsa,
@@ -28,6 +30,7 @@ pub fn transform_dwarf(
     ensures unchanged { compilation.new ≡ compilation.old }
 {
     let transforms = transforms(alloc, compilation)?;
+    check_lengths(&transforms)?;
     let form = output_form(isa);
     let mut dwarf = Dwarf {
         units: UnitTable::new(alloc),

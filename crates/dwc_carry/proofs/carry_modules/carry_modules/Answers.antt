@@ -1,6 +1,8 @@
 use Rattle.std.proofs.Common.{◌+◌, ◌∷◌, ◌≤◌, drop, length, arith, get_or, sym, ap, ◌∙◌, subst}
 use Rattle.std.proofs.lemmas.List.{drop_all}
+use Rattle.std.proofs.lemmas.List.Elements.{All-get_or}
 use Rattle.std.proofs.lemmas.Result.{err_from_is_err_and}
+use Rattle.dwc_base.specs.Addends.{HaveAddends}
 use Rattle.dwc_carry.specs.CarriedModules.{transformed_module, transformed_modules}
 use Rattle.dwc_carry.proofs.ModuleLoopLaws.{ModulesSoFar, modules-begin, modules-more, modules-length, modules-one, modules-done, modules-refused}
 use Rattle.dwc_carry.proofs.carry_modules.carry_modules.Goals as goal
@@ -59,3 +61,7 @@ returns c =
     let past : length ms ≤ c.loop-i.i = omega (arith, modules-length ts fss c.requires.each, c.loop-i-test.false) in
     modules-done size big ms old before c.loop-i.dwarf.units.units.items c.loop-i.dwarf.strings
     (subst (λ xs. ModulesSoFar size big ms old before c.loop-i.dwarf.units.units.items c.loop-i.dwarf.strings xs) (drop_all c.loop-i.i ms past) c.loop-i.invariant)
+
+pub carry_module-requires-clause-addends : goal.carry_module-requires-clause-addends
+carry_module-requires-clause-addends c =
+    subst HaveAddends (sym c.index-transforms-i.is) (All-get_or HaveAddends c.args.transforms.now c.loop-i.i c.index-transforms-i.result (omega (arith, c.requires.each, c.loop-i-test.true)) c.requires.addends)
