@@ -35,7 +35,6 @@ use Rattle.dwc_addr.specs.declared.compilation_error.CompilationError.TheVariant
 use Rattle.dwc_addr.specs.declared.memory_offset.ModuleMemoryOffset.{ModuleMemoryOffset}
 use Rattle.dwc_addr.specs.Numbers.{AreDistinct}
 use Rattle.dwc_addr.specs.Compilations.{CompilationValue, IsCounted}
-use Rattle.dwc_base.specs.declared.faults.Limit.TheVariants.{Section}
 use Rattle.dwc_carry.specs.declared.error.DebugError.{DebugError}
 use Rattle.dwc_carry.specs.Refusals as refusals
 use Rattle.dwc_carry.specs.Refusals.{Told, told, bad_address_map, in_reading}
@@ -154,7 +153,7 @@ module _ (c : CompilationValue) (order : Endian) (size : ℕ) (read : Loaded) (i
     where
       go : (t : Told) → refusals.IsCause (emits.IsTooLong (carry.input_of order size c)) (carry.refusal_of order size c) t → IsCause read (told_status t)
       go (refusals.refused r) h = inr (inl (hindrance-is none ∙ ap (option_map input_status) h))
-      go (refusals.limit (Section name)) h = inr (inr (refl, hindrance-is none ∙ ap (option_map input_status) h.0, (name, subst (λ input. 2 ^ 31 ≤ widest name input) (sym is.input) h.1)))
+      go (refusals.limit name) h = inr (inr (refl, hindrance-is none ∙ ap (option_map input_status) h.0, (name, subst (λ input. 2 ^ 31 ≤ widest name input) (sym is.input) h.1)))
       go refusals.memory h = inl refl
 
 shared-some : (read : Loaded) (functions : ℕ × ℕ) → shared_in read ≡ Some functions → hindrance read ≡ Some 21

@@ -4,7 +4,7 @@ use Rattle.std.specs.Prelude.{option_map, unwrap_or, IsSome}
 use Rattle.dwc_base.specs.declared.section_name.SectionName.{SectionName}
 use Rattle.dwc_base.specs.Outputs.{OutputSection}
 use Rattle.dwc_base.specs.Sections.{unreadable, unsupported}
-use Rattle.dwc_base.specs.Refusals.{Refusal, of_place, missing_file}
+use Rattle.dwc_base.specs.Refusals.{Refusal, of_place, missing_file, long_function, long_range}
 use Rattle.dwc_base.specs.Forests.{first_refusal}
 use Rattle.dwc_base.specs.OutputCarried.{widest}
 use Rattle.dwc_cli.specs.Inputs.{BadMap, Loaded, compilation_of, shared_in, bad_map}
@@ -39,7 +39,7 @@ pub record Hindered (shared : Option (ℕ × ℕ)) (bad : Option BadMap) (refusa
   pub map_always : IsSome bad → IsOneOf (3 ∷ 4 ∷ 9 ∷ 13 ∷ 21 ∷ []) status
   pub refusal_only : IsOneOf (10 ∷ 11 ∷ 12 ∷ []) status → option_map refusal_status refusal ≡ Some status
   pub refusal_always : (r : Refusal) → refusal ≡ Some r → IsOneOf (3 ∷ 4 ∷ 9 ∷ 13 ∷ 21 ∷ refusal_status r ∷ []) status
-  pub not_large : status ≡ 20 → ⊥
+  pub large : status ≡ 20 → option_map refusal_status refusal ≡ Some 20
   pub one_of : IsOneOf carrying_statuses status
 
 -- a status that is not among some
@@ -51,15 +51,15 @@ is_last : (r : Refusal) → IsOneOf (3 ∷ 4 ∷ 9 ∷ 13 ∷ 21 ∷ refusal_sta
 is_last r = (5, refusal_status r, omega arith, refl, refl)
 
 -- a refusal is the first hindrance
-refused : (r : Refusal) → (refusal_status r ≡ 21 → ⊥) → (refusal_status r ≡ 13 → ⊥) → (refusal_status r ≡ 20 → ⊥) → IsOneOf carrying_statuses (refusal_status r) → Hindered None None (Some r) (refusal_status r)
-refused r not_shared not_map not_large one = record {
+refused : (r : Refusal) → (refusal_status r ≡ 21 → ⊥) → (refusal_status r ≡ 13 → ⊥) → IsOneOf carrying_statuses (refusal_status r) → Hindered None None (Some r) (refusal_status r)
+refused r not_shared not_map one = record {
   shared_only = λ e. absurd (not_shared e);
   shared_always = λ some. absurd (none-is_some {A = ℕ × ℕ} None refl some);
   map_only = λ e. absurd (not_map e);
   map_always = λ some. absurd (none-is_some {A = BadMap} None refl some);
   refusal_only = λ _. refl;
   refusal_always = λ s e. subst (λ x. IsOneOf (3 ∷ 4 ∷ 9 ∷ 13 ∷ 21 ∷ refusal_status x ∷ []) (refusal_status r)) (same_some r s e) (is_last r);
-  not_large = not_large;
+  large = λ e. ap Some e;
   one_of = one;
 }
 
@@ -71,7 +71,7 @@ hindered (Some functions) bad refusal status e = subst (Hindered (Some functions
   map_always = λ _. IsOneOf-from (3 ∷ 4 ∷ 9 ∷ 13 ∷ 21 ∷ []) 21 refl;
   refusal_only = λ one. absurd (not_one (10 ∷ 11 ∷ 12 ∷ []) 21 refl one);
   refusal_always = λ r _. (4, 21, omega arith, refl, refl);
-  not_large = λ e. omega (arith, e);
+  large = λ e. absurd (omega (arith, e));
   one_of = IsOneOf-from carrying_statuses 21 refl;
 })
 hindered None (Some found) refusal status e = subst (Hindered None (Some found) refusal) (same_some 13 status e) (record {
@@ -81,12 +81,14 @@ hindered None (Some found) refusal status e = subst (Hindered None (Some found) 
   map_always = λ _. IsOneOf-from (3 ∷ 4 ∷ 9 ∷ 13 ∷ 21 ∷ []) 13 refl;
   refusal_only = λ one. absurd (not_one (10 ∷ 11 ∷ 12 ∷ []) 13 refl one);
   refusal_always = λ r _. (3, 13, omega arith, refl, refl);
-  not_large = λ e. omega (arith, e);
+  large = λ e. absurd (omega (arith, e));
   one_of = IsOneOf-from carrying_statuses 13 refl;
 })
-hindered None None (Some (of_place (unreadable what section offset))) status e = subst (Hindered None None (Some (of_place (unreadable what section offset)))) (same_some 10 status e) (refused (of_place (unreadable what section offset)) (λ e. omega (arith, e)) (λ e. omega (arith, e)) (λ e. omega (arith, e)) (IsOneOf-from carrying_statuses 10 refl))
-hindered None None (Some (of_place (unsupported kind offset))) status e = subst (Hindered None None (Some (of_place (unsupported kind offset)))) (same_some 11 status e) (refused (of_place (unsupported kind offset)) (λ e. omega (arith, e)) (λ e. omega (arith, e)) (λ e. omega (arith, e)) (IsOneOf-from carrying_statuses 11 refl))
-hindered None None (Some (missing_file offset)) status e = subst (Hindered None None (Some (missing_file offset))) (same_some 12 status e) (refused (missing_file offset) (λ e. omega (arith, e)) (λ e. omega (arith, e)) (λ e. omega (arith, e)) (IsOneOf-from carrying_statuses 12 refl))
+hindered None None (Some (of_place (unreadable what section offset))) status e = subst (Hindered None None (Some (of_place (unreadable what section offset)))) (same_some 10 status e) (refused (of_place (unreadable what section offset)) (λ e. omega (arith, e)) (λ e. omega (arith, e)) (IsOneOf-from carrying_statuses 10 refl))
+hindered None None (Some (of_place (unsupported kind offset))) status e = subst (Hindered None None (Some (of_place (unsupported kind offset)))) (same_some 11 status e) (refused (of_place (unsupported kind offset)) (λ e. omega (arith, e)) (λ e. omega (arith, e)) (IsOneOf-from carrying_statuses 11 refl))
+hindered None None (Some (missing_file offset)) status e = subst (Hindered None None (Some (missing_file offset))) (same_some 12 status e) (refused (missing_file offset) (λ e. omega (arith, e)) (λ e. omega (arith, e)) (IsOneOf-from carrying_statuses 12 refl))
+hindered None None (Some long_function) status e = subst (Hindered None None (Some long_function)) (same_some 20 status e) (refused long_function (λ e. omega (arith, e)) (λ e. omega (arith, e)) (IsOneOf-from carrying_statuses 20 refl))
+hindered None None (Some long_range) status e = subst (Hindered None None (Some long_range)) (same_some 20 status e) (refused long_range (λ e. omega (arith, e)) (λ e. omega (arith, e)) (IsOneOf-from carrying_statuses 20 refl))
 hindered None None None status e = absurd (none≢some e)
 
 -- nothing hinders
@@ -120,7 +122,7 @@ LoadedCauses-unhindered read status none other large =
         only = λ one. absurd (not_one (10 ∷ 11 ∷ 12 ∷ 13 ∷ 21 ∷ []) status other (IsOneOf-more (10 ∷ 11 ∷ 12 ∷ []) (10 ∷ 11 ∷ 12 ∷ 13 ∷ 21 ∷ []) status refl one));
         always = λ r e. absurd (none≢some (sym nothing.accepted ∙ e));
       };
-      too_large = large;
+      too_large = λ e. inr (nothing.accepted, large e);
     }
 
 -- of want of memory
@@ -147,7 +149,7 @@ said-hindered read status is =
         shared = record { only = h.shared_only; always = h.shared_always };
         address_map = record { only = h.map_only; always = h.map_always };
         refused = record { only = h.refusal_only; always = h.refusal_always };
-        too_large = λ e. absurd (h.not_large e);
+        too_large = λ e. inl (h.large e);
       };
       complete = λ valid. absurd (none≢some (sym (valid-unhindered read valid) ∙ is));
     }

@@ -1,7 +1,7 @@
 -- For each clause of a run but those on what is written: an input that meets the clause's premise, and an answer that the
 -- clause refuses.
-use Rattle.std.proofs.Common.{◌≡◌, ◌≢◌, ℕ, zero, suc, ◌+◌, ◌-◌, ◌^◌, ◌<◌, ◌≤◌, List, [], ◌∷◌, length, Some, None, Ok, Err, Result, false, refl, ap, subst, sym, ◌∙◌, arith, lit<, lit≤}
-use Rattle.std.specs.Prelude.{All, Option, is_some, IsNone, codes}
+use Rattle.std.proofs.Common.{◌≡◌, ◌≢◌, ℕ, zero, suc, ◌+◌, ◌-◌, ◌^◌, ◌<◌, ◌≤◌, List, [], ◌∷◌, length, Some, None, Ok, Err, Result, false, refl, ap, subst, sym, ◌∙◌, arith, lit<, lit≤, inl, inr}
+use Rattle.std.specs.Prelude.{◌⊎◌, All, Option, is_some, IsNone, codes, option_map}
 use Rattle.std.proofs.Math.ListN.{replicate}
 use Rattle.std.proofs.lemmas.List.{length-replicate}
 use Rattle.std.proofs.lemmas.Bool.{true≢false}
@@ -400,11 +400,19 @@ small-widest StrOffsets = lit< tt
 small-widest CuIndex = lit< tt
 small-widest Frame = lit< tt
 
+small-accepted : first_refusal (compilation_of read_small) ≡ None
+unfolding whole_on_literals
+small-accepted = refl
+
 small-too_large : Causes map_bytes_small file_small 20 → ⊥
-small-too_large h =
-    let found = (loaded_causes map_bytes_small file_small 20 read_small small-read h).too_large refl in
-    let small = small-widest found.0 in
-    omega (arith, small, found.1)
+small-too_large h = go ((loaded_causes map_bytes_small file_small 20 read_small small-read h).too_large refl)
+  where
+    clash : ◌≡◌ {A = Option ℕ} None (Some 20) → ⊥
+    clash e = cc
+
+    go : (option_map refusal_status (first_refusal (compilation_of read_small)) ≡ Some 20) ⊎ ((first_refusal (compilation_of read_small) ≡ None) × ((name : SectionName) × (2 ^ 31 ≤ widest name (compilation_of read_small)))) → ⊥
+    go (inl is) = clash (sym (ap (option_map refusal_status) small-accepted) ∙ is)
+    go (inr (accepted, found)) = let small = small-widest found.0 in omega (arith, small, found.1)
 
 -- ---- a run answers no other status
 

@@ -2,7 +2,7 @@
 use Rattle.std.proofs.Common.{◌≡◌, ℕ, zero, suc, List, [], ◌∷◌, take, false, Option, Some, refl, sym, ◌∙◌, subst, arith}
 use Rattle.std.specs.Prelude.{Any}
 use Rattle.dwc_base.specs.Sections.{unreadable, unsupported}
-use Rattle.dwc_base.specs.Refusals.{Refusal, of_place, missing_file}
+use Rattle.dwc_base.specs.Refusals.{Refusal, of_place, missing_file, long_function, long_range}
 use Rattle.dwc_cli.specs.Inputs.{Paths, paths_of, all_paths, Input, Loaded}
 use Rattle.dwc_cli.specs.RunStatus.{Files, Appended, IsOneOf, Succeeds, PrefixWritten, MissingCause, refusal_status, LoadedCauses, InputCauses, RunsWell, Rose}
 use Rattle.dwc_cli.specs.Edge.{IsLongFile, AppendsFront}
@@ -106,6 +106,8 @@ TextCauses-write input causes =
     refused_not_done (of_place (unreadable what section offset)) = refl
     refused_not_done (of_place (unsupported kind offset)) = refl
     refused_not_done (missing_file offset) = refl
+    refused_not_done long_function = refl
+    refused_not_done long_range = refl
 
     LoadedCauses-write : (read : Loaded) → LoadedCauses read 0 → LoadedCauses read 8
     LoadedCauses-write read said = record {

@@ -1,5 +1,5 @@
 -- What each status of a run says. Want of memory, status 9, may come at any time.
-use Rattle.std.specs.Prelude.{length, ◌≡◌, ℕ, ◌+◌, ◌-◌, ◌^◌, ◌<◌, ◌≤◌, min, List, [], ◌∷◌, ◌++◌, take, true, Option, Some, None, option_map, IsSome, IsNone, IfSome, Ok, Err, All, Any}
+use Rattle.std.specs.Prelude.{length, ◌≡◌, ◌⊎◌, ℕ, ◌+◌, ◌-◌, ◌^◌, ◌<◌, ◌≤◌, min, List, [], ◌∷◌, ◌++◌, take, true, Option, Some, None, option_map, IsSome, IsNone, IfSome, Ok, Err, All, Any}
 use Rattle.std.specs.Ordering.{nat_cmp}
 use Rattle.std.specs.Cmp.Lexicographic.{slice_cmp}
 use Rattle.std.specs.FinMap as map
@@ -8,7 +8,7 @@ use Rattle.dwc_base.specs.declared.section_name.SectionName.{SectionName}
 use Rattle.dwc_base.specs.Sections.{unreadable, unsupported}
 use Rattle.dwc_base.specs.Wasm.{WasmModule}
 use Rattle.dwc_base.specs.Outputs.{OutputSection}
-use Rattle.dwc_base.specs.Refusals.{Refusal, of_place, missing_file}
+use Rattle.dwc_base.specs.Refusals.{Refusal, of_place, missing_file, long_function, long_range}
 use Rattle.dwc_base.specs.Forests.{first_refusal}
 use Rattle.dwc_base.specs.OutputCarried.{OutputCarried, widest}
 use Rattle.dwc_cli.specs.MapFile.{map_of_bytes}
@@ -122,20 +122,24 @@ pub record AddressMapCause (read : Loaded) (status : ℕ) : Type 0 where
   pub only : status ≡ 13 → IsSome (bad_map read)
   pub always : IsSome (bad_map read) → IsOneOf (3 ∷ 4 ∷ 9 ∷ 13 ∷ 21 ∷ []) status
 
--- the status of a refusal: of a place that is outside the grammar, of one of a refused kind, and of a missing file
+-- the status of a refusal: of a place that is outside the grammar, of one of a refused kind, of a missing file, of a function that is too
+-- long, and of a range that ends at no address
 abbrev pub refusal_status : Refusal → ℕ
 refusal_status (of_place (unreadable what section offset)) = 10
 refusal_status (of_place (unsupported kind offset)) = 11
 refusal_status (missing_file offset) = 12
+refusal_status long_function = 20
+refusal_status long_range = 20
 
 -- 10, 11, 12: exactly where the first refusal in the order of reading is of that kind, but for what comes earlier
 pub record RefusalCause (read : Loaded) (status : ℕ) : Type 0 where
   pub only : IsOneOf (10 ∷ 11 ∷ 12 ∷ []) status → option_map refusal_status (first_refusal (compilation_of read)) ≡ Some status
   pub always : (r : Refusal) → first_refusal (compilation_of read) ≡ Some r → IsOneOf (3 ∷ 4 ∷ 9 ∷ 13 ∷ 21 ∷ refusal_status r ∷ []) status
 
--- 20: only where a section could be longer than 2 ^ 31 - 1 bytes
+-- 20: only where the first refusal is of that status; or where nothing is refused, and a section could be longer than 2 ^ 31 - 1 bytes
 abbrev pub TooLargeCause : Loaded → ℕ → Type 0
-TooLargeCause read status = status ≡ 20 → (name : SectionName) × (2 ^ 31 ≤ widest name (compilation_of read))
+TooLargeCause read status =
+    status ≡ 20 → (option_map refusal_status (first_refusal (compilation_of read)) ≡ Some 20) ⊎ ((first_refusal (compilation_of read) ≡ None) × ((name : SectionName) × (2 ^ 31 ≤ widest name (compilation_of read))))
 
 -- what is said of an input that was read, whatever the status
 pub record LoadedCauses (read : Loaded) (status : ℕ) : Type 0 where

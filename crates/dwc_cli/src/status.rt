@@ -27,7 +27,7 @@ pub enum Status {
     InvalidFileIndex = 12,
     /// A function's address map breaks a rule.
     BadAddressMap = 13,
-    /// A section would be too long.
+    /// A section or a function is too long, or a range ends at no address.
     TooLarge = 20,
     /// Two functions have one symbol.
     SharedSymbol = 21,
