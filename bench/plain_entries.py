@@ -192,9 +192,10 @@ def value_of(reader, unit, name, form, implicit):
         return ("info", reader.number(unit.address_size if unit.version == 2 else 4))
     if form == 0x17:
         return section_offset(name, reader.number(4))
-    if form in (0x22, 0x23):
-        names = LOCATION_NAMES if form == 0x22 else (AT_RANGES, AT_START_SCOPE)
-        return ("list index" if name in names else "dropped", reader.uleb())
+    if form == 0x22:
+        return ("location index" if name in LOCATION_NAMES else "dropped", reader.uleb())
+    if form == 0x23:
+        return ("range index" if name in (AT_RANGES, AT_START_SCOPE) else "dropped", reader.uleb())
     return ("dropped", reader.take({0x1E: 16, 0x20: 8}[form]))
 
 
@@ -233,35 +234,39 @@ def begun(sections, unit, entry, function_at):
     return None if address is None else function_at(address)
 
 
-# The operands of each kind of entry of a list from version 5 on: an index of an address, a number, an address.
-KINDS = {1: "i", 2: "ii", 3: "in", 4: "nn", 5: "a", 6: "aa", 7: "an"}
+# What each kind of entry of a list says from version 5 on, and its operands: an index of an address, a number, an address.
+KINDS = {1: ("base", "i"), 2: ("ends", "ii"), 3: ("length", "in"), 4: ("offsets", "nn"), 5: ("base", "a"), 6: ("ends", "aa"), 7: ("length", "an")}
+
+
+def is_range_list(value):
+    return value is not None and value[0] in ("ranges", "range index")
 
 
 def range_entries(sections, unit, value):
-    """What the entries of the range list that a value names begin with: `base`, `pair`, `start` or `offsets`, and the first operand.
-    (DWARF 4, section 2.17.3; DWARF 5, sections 7.25 and 7.28.)"""
-    size, name = unit.address_size, ".debug_rnglists" if unit.version >= 5 or value[0] == "list index" else ".debug_ranges"
+    """The entries of the range list that a value names: `base`, `pair`, `ends`, `length` or `offsets`, and the operands, of which
+    those by an index are addresses. (DWARF 4, section 2.17.3; DWARF 5, sections 7.25 and 7.28.)"""
+    size, name = unit.address_size, ".debug_rnglists" if unit.version >= 5 or value[0] == "range index" else ".debug_ranges"
     place = value[1]
-    if value[0] == "list index":
+    if value[0] == "range index":
         base = unit.base(AT_RNGLISTS_BASE)
         place = base + Reader(sections[name], base + 4 * place).number(4)
     reader = Reader(sections[name], place)
     if name == ".debug_ranges":
         while (pair := (reader.number(size), reader.number(size))) != (0, 0):
-            yield ("base", pair[1]) if pair[0] == (1 << 8 * size) - 1 else ("pair", pair[0])
+            yield ("base", pair[1]) if pair[0] == (1 << 8 * size) - 1 else ("pair", *pair)
         return
     read = {"i": lambda: address_of(sections, unit, ("address index", reader.uleb())), "n": reader.uleb, "a": lambda: reader.number(size)}
     while kind := reader.number(1):
-        operands = [read[operand]() for operand in KINDS[kind]]
-        yield {1: "base", 5: "base", 4: "offsets"}.get(kind, "start"), operands[0]
+        what, operands = KINDS[kind]
+        yield what, *[read[operand]() for operand in operands]
 
 
 def list_shows_code(sections, unit, entry, function_at):
     """Whether the range list of an entry shows that it is of code. A base, where one is known, decides for the pairs behind it."""
     low_pc, shows = entry.value(AT_LOW_PC), False
     base = function_at(low_pc[1]) is not None if low_pc and low_pc[0] == "address" else None
-    for kind, operand in range_entries(sections, unit, entry.value(AT_RANGES)):
-        is_code = kind != "offsets" and function_at(operand) is not None
+    for kind, first, *_ in range_entries(sections, unit, entry.value(AT_RANGES)):
+        is_code = kind != "offsets" and function_at(first) is not None
         if kind == "base":
             base = is_code
         elif kind == "pair" and base is not None:
@@ -276,7 +281,7 @@ def is_required(sections, unit, entry, function_at):
     ranges = entry.value(AT_RANGES)
     if entry.tag != TAG_SUBPROGRAM or ranges is None:
         return begun(sections, unit, entry, function_at) is not None
-    return ranges[0] in ("ranges", "list index") and list_shows_code(sections, unit, entry, function_at)
+    return is_range_list(ranges) and list_shows_code(sections, unit, entry, function_at)
 
 
 def kept_offsets(sections, units, function_at):

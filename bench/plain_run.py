@@ -34,8 +34,13 @@ class Function:
     number: int
     symbol: int | None
     start: int
+    end: int
     length: int
-    sources: list
+    entries: list  # pairs of a native offset and the wasm offset of its source, or None
+
+    @property
+    def sources(self):
+        return [(native, wasm) for native, wasm in self.entries if wasm is not None]
 
 
 def read_map(data, codes):
@@ -44,8 +49,8 @@ def read_map(data, codes):
     for told, code in zip(value["modules"], codes):
         functions = []
         for f in told["functions"]:
-            sources = [(native, place - code) for native, place in f["map"] if place is not None]
-            functions.append(Function(number, f["symbol"], f["start"] - code, f["body_len"], sources))
+            entries = [(native, None if place is None else place - code) for native, place in f["map"]]
+            functions.append(Function(number, f["symbol"], f["start"] - code, f["end"] - code, f["body_len"], entries))
             number += 1
         modules.append(functions)
     return value["target"], modules
@@ -322,8 +327,8 @@ class Writer:
     def __init__(self, target):
         self.order = "big" if target.get("big_endian", False) else "little"
         self.size = target.get("pointer_bytes", 8)
-        names = (".debug_abbrev", ".debug_info", ".debug_line", ".debug_str")
-        self.abbrev, self.info, self.line, self.str = map(Section, names)
+        names = (".debug_abbrev", ".debug_info", ".debug_line", ".debug_ranges", ".debug_str")
+        self.abbrev, self.info, self.line, self.ranges, self.str = map(Section, names)
         self.texts = {}  # where each text stands
 
     def text(self, section, text):
@@ -339,9 +344,18 @@ class Writer:
         section.relocations.append((len(section.body), 4, f"section {to.name}", value))
         section.body += self.number(value, 4)
 
-    def address(self, section, function):
-        section.relocations.append((len(section.body), self.size, f"func {function.number}", 0))
-        section.body += bytes(self.size)
+    def address(self, section, function, addend=0):
+        """An address of a function; without one the number 0."""
+        if function:
+            section.relocations.append((len(section.body), self.size, f"func {function.number}", addend))
+        section.body += self.number(addend, self.size)
+
+    def range_list(self, section, ranges):
+        self.offset(section, self.ranges, len(self.ranges.body))
+        for function, start, end in ranges:
+            self.address(self.ranges, function, start)
+            self.address(self.ranges, function, end)
+        self.ranges.body += bytes(2 * self.size)
 
     def sized(self, section, write):
         """What has its length in front of it."""
@@ -406,7 +420,7 @@ def printed_text(map_bytes, modules):
             units.append((tree_of(sections, unit, entries, table, places, at, target), len(writer.line.body)))
             write_lines(writer, table, functions)
     write_tree(writer, units)
-    return "".join(s.printed() for s in (writer.abbrev, writer.info, writer.line, writer.str) if s.body)
+    return "".join(s.printed() for s in (writer.abbrev, writer.info, writer.line, writer.ranges, writer.str) if s.body)
 
 
 def write_lines(writer, table, functions):

@@ -1,9 +1,11 @@
 """What the kept entries of a unit become, and how the units of an output are spelled. (DWARF 4, section 7.5.)"""
 
 from plain_entries import AT_CALL_FILE, AT_DECL_FILE, AT_ENDIANITY, AT_HIGH_PC, AT_LOW_PC, AT_RANGES, AT_STMT_LIST
-from plain_entries import DROPPED_NAMES, TAG_BASE_TYPE, begun, sleb, target_of, text_of, uleb
+from plain_entries import DROPPED_NAMES, TAG_BASE_TYPE, address_of, is_range_list, sleb, target_of, text_of, uleb
+from plain_ranges import intervals_of, range_attributes, translated_address, translated_intervals
 
 FIXED = {0x0B: 1, 0x05: 2, 0x06: 4, 0x07: 8}
+NOT_BUILT = ("expression", "locations", "location index")
 
 
 def file_number(unit, table, number):
@@ -16,13 +18,17 @@ def file_number(unit, table, number):
     return number + (version == 5) if inside else None
 
 
-def value_made(sections, unit, entry, table, places, name, value):
+def value_made(sections, unit, entry, table, places, function_at, name, value):
     """What a value becomes: a kind, and what is of that kind; None where it goes."""
     kind = value[0]
-    if name in DROPPED_NAMES or name in (AT_LOW_PC, AT_HIGH_PC, AT_RANGES) or kind in ("dropped", "line") and name != AT_STMT_LIST:
+    if name in DROPPED_NAMES:
         return None
     if name == AT_STMT_LIST:
         return ("lines",) if entry.depth == 0 and table else None
+    if kind in NOT_BUILT:
+        raise ValueError(f"{kind} is not built")
+    if name in (AT_LOW_PC, AT_HIGH_PC, AT_RANGES) or kind in ("dropped", "line"):
+        return None
     if kind == "constant" and name in (AT_DECL_FILE, AT_CALL_FILE):
         number = file_number(unit, table, value[2])
         return None if number is None else ("constant", 0x0F, number)
@@ -33,24 +39,20 @@ def value_made(sections, unit, entry, table, places, name, value):
     if kind in ("unit", "info"):
         place = places.get(target_of(unit, value))
         return None if place is None else (kind, place)
-    text = text_of(sections, unit, value)
-    if text is None:
-        raise ValueError(f"{kind} is not built")
-    return ("text", text)
+    if kind in ("address", "address index"):
+        return translated_address(address_of(sections, unit, value), function_at)
+    if is_range_list(value):
+        return ("ranges", translated_intervals(intervals_of(sections, unit, value), function_at))
+    return ("text", text_of(sections, unit, value))
 
 
 def tree_of(sections, unit, entries, table, places, function_at, target):
     """The entries of the output: depth, tag, and attributes by name."""
     tree = []
     for entry in entries:
-        attributes, function = {}, begun(sections, unit, entry, function_at)
-        if function:
-            attributes[AT_LOW_PC] = ("address", function)
-            attributes[AT_HIGH_PC] = ("constant", 0x0F, function.length)
-        elif any(name in (AT_LOW_PC, AT_HIGH_PC, AT_RANGES) for name, _ in entry.attributes):
-            raise ValueError("a bound is not built")
+        attributes = range_attributes(sections, unit, entry, function_at)
         for name, value in entry.attributes:
-            made = value_made(sections, unit, entry, table, places, name, value)
+            made = value_made(sections, unit, entry, table, places, function_at, name, value)
             if made is not None:
                 attributes[name] = made
         if target.get("big_endian", False) and entry.tag == TAG_BASE_TYPE:
@@ -63,7 +65,7 @@ def tree_of(sections, unit, entries, table, places, function_at, target):
 
 
 def form_of(value):
-    forms = {"address": 0x01, "flag": 0x0C, "block": 0x09, "text": 0x0E, "unit": 0x13, "info": 0x10, "lines": 0x17}
+    forms = {"address": 0x01, "flag": 0x0C, "block": 0x09, "text": 0x0E, "unit": 0x13, "info": 0x10, "lines": 0x17, "ranges": 0x17}
     return value[1] if value[0] == "constant" else forms[value[0]]
 
 
@@ -136,7 +138,9 @@ def write_value(writer, value, start, lines_at, laid):
     elif kind == "block":
         info.body += uleb(len(value[1])) + value[1]
     elif kind == "address":
-        writer.address(info, value[1])
+        writer.address(info, *value[1:])
+    elif kind == "ranges":
+        writer.range_list(info, value[1])
     elif kind == "text":
         writer.text(info, value[1])
     elif kind == "lines":
