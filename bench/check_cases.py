@@ -2,11 +2,13 @@
 
 import json
 import os
+import re
 import subprocess
 import sys
 import tempfile
 
 import plain_run
+from plain_entries import AT_HIGH_PC, AT_LOW_PC, AT_RANGES, Reader, read_units
 
 
 def sections_of(text):
@@ -62,6 +64,39 @@ def table_rows(table, order):
     return sequences
 
 
+def code_of(text):
+    """What the entries of printed sections say of their code, with the lowest byte of a number first: of each that says something
+    `LOW+LENGTH`, `LOW`, or `[BEGIN-END ..]` for a list."""
+    sections = {name: bytes(body) for name, body, _ in sections_of(text)}
+    entries = [(unit, entry) for unit in read_units(sections) for entry in unit.entries] if sections else []
+    return [said for unit, entry in entries if (said := entry_code(sections, unit, entry))]
+
+
+def entry_code(sections, unit, entry):
+    low_pc, high_pc, ranges = map(entry.value, (AT_LOW_PC, AT_HIGH_PC, AT_RANGES))
+    if ranges:
+        pairs = list_at(sections[".debug_ranges"], ranges[1], unit.address_size, "little")
+        return f"[{' '.join(f'{begin}-{end}' for begin, end in pairs)}]"
+    return low_pc and f"{low_pc[1]}" + (f"+{high_pc[2]}" if high_pc else "")
+
+
+def list_at(body, at, size, order):
+    """The pairs of a list of `.debug_ranges`."""
+    reader, pairs = Reader(body, at), []
+    while any(pair := tuple(int.from_bytes(reader.take(size), order) for _ in range(2))):
+        pairs.append(pair)
+    return pairs
+
+
+def lists_of(text, size, order):
+    """The offset of each list of `.debug_ranges`, with its pairs."""
+    body, at, lists = body_of(text, ".debug_ranges"), 0, []
+    while at < len(body):
+        lists.append((at, list_at(body, at, size, order)))
+        at += 2 * size * (len(lists[-1][1]) + 1)
+    return lists
+
+
 # ---- outside tools
 
 # By the byte order and the address size: the class, the order and the machine of an ELF file.
@@ -93,8 +128,65 @@ def elf(order, size, sections):
     return head + bodies + table
 
 
+def asked(tool, option, path):
+    """What a tool prints of a file; what it complains of goes with it."""
+    found = subprocess.run([tool, option, path], capture_output=True, text=True)
+    return found.stdout.splitlines(), found.stderr
+
+
+def printed_rows(lines):
+    """The rows that llvm-dwarfdump prints, as offsets and lines."""
+    rows = [line.split()[:2] for line in lines if line.startswith("0x") and "end_sequence" not in line]
+    return [(int(address, 16), int(line)) for address, line in rows]
+
+
+def printed_lists(lines):
+    """The range lists that llvm-dwarfdump or readelf prints: their offsets, and their pairs."""
+    lists = {}
+    for line in lines:
+        words = line.split()
+        if len(words) > 1 and all(len(word) >= 8 and set(word) <= HEXADECIMAL for word in words[:2]):
+            lists.setdefault(int(words[0], 16), []).append((int(words[1], 16), int(words[2], 16)))
+        elif words[1:] == ["<End", "of", "list>"]:
+            lists.setdefault(int(words[0], 16), [])
+    return list(lists.items())
+
+
+HEXADECIMAL = set("0123456789abcdef")
+
+
+def printed_code(lines):
+    """What llvm-dwarfdump prints of the code of entries, as `code_of` says it."""
+    said, entries = [], "\n".join(lines).split("DW_TAG_")[1:]
+    for entry in entries:
+        values = dict(re.findall(r"DW_AT_(low_pc|high_pc)\s+\((0x[0-9a-f]+)\)", entry))
+        low, high = (int(values.get(name, "0"), 16) for name in ("low_pc", "high_pc"))
+        if "DW_AT_ranges" in entry:
+            pairs = re.findall(r"\[(0x[0-9a-f]+), (0x[0-9a-f]+)\)", entry)
+            said.append(f"[{' '.join(f'{int(begin, 16)}-{int(end, 16)}' for begin, end in pairs)}]")
+        elif values:
+            said.append(f"{low}" + (f"+{high - low}" if "high_pc" in values else ""))
+    return said
+
+
+def complaints(text, order, size, path):
+    """What outside tools read otherwise in an output than it says, and what they complain of."""
+    lines, _ = asked("llvm-dwarfdump", "--debug-line", path)
+    units, errors = asked("llvm-dwarfdump", "--debug-info", path)
+    ranges, _ = asked("llvm-dwarfdump", "--debug-ranges", path)
+    others, _ = asked("readelf", "--debug-dump=Ranges", path)
+    lists, of_entries = lists_of(text, size, order), printed_lists(others)
+    compared = [(printed_rows(lines), [row for rows in rows_of(text) for row in rows]), (printed_lists(ranges), lists)]
+    compared.append((of_entries, [pair for pair in lists if pair[0] in dict(of_entries)]))  # readelf reads those of `ranges` alone
+    compared.append((len(of_entries), sum("DW_AT_ranges" in line for line in units)))
+    compared += [(printed_code(units), code_of(text))] if order == "little" else []
+    found = [pair for pair in compared if pair[0] != pair[1]]
+    return found + ([errors[:300]] if "error" in errors or "warning" in errors else [])
+
+
 def check(outputs):
-    """Asks llvm-dwarfdump for each output that has units: whether it verifies, and whether it prints the same rows."""
+    """Asks llvm-dwarfdump for each output that has units: whether it reads them without complaint, and the same rows, range lists
+    and bounds in them; and readelf, whether it reads the same range lists."""
     bad = 0
     for name, map_text, text in outputs:
         sections = sections_of(text)
@@ -107,13 +199,9 @@ def check(outputs):
             path = os.path.join(folder, "output.o")
             with open(path, "wb") as file:
                 file.write(elf(order, size, [(section, body) for section, body, _ in sections]))
-            printed = subprocess.run(["llvm-dwarfdump", "--debug-line", path], capture_output=True, text=True).stdout
-            found = [line.split()[:2] for line in printed.splitlines() if line.startswith("0x") and "end_sequence" not in line]
-            found = [(int(address, 16), int(line)) for address, line in found]
-            wanted = [row for rows in rows_of(text) for row in rows]
-            units = subprocess.run(["llvm-dwarfdump", "--debug-info", path], capture_output=True, text=True)
-        if found != wanted or "error" in units.stderr or "warning" in units.stderr:
+            found = complaints(text, order, size, path)
+        if found:
             bad += 1
-            print(name, found, wanted, units.stderr[:300])
+            print(name, *found)
     print(f"{len(outputs)} outputs, {bad} not as printed")
     sys.exit(1 if bad else 0)

@@ -1,11 +1,14 @@
 #!/usr/bin/env python3
 """Makes the files of crates/dwc_cases: the cases in data/, and in stdout what they must print.
 
-    make_cases.py [--check]
+    make_cases.py [--coming] [--check]
 
 What a run prints is worked out by plain_run.py, which has nothing of the program; where a status other than 0 is wanted, it and
 the line stand here by hand, and so do the printed texts and the rows of worked examples. With --check nothing is written, but
 llvm-dwarfdump and readelf are asked what they read in the outputs.
+
+With --coming the cases are those of the program that translates ranges: data/ranges.txt is written, and what will stand in the
+crate then, the files of data/ that change, args and stdout, to bench/out/coming.
 """
 
 import json
@@ -15,10 +18,12 @@ import sys
 import check_cases
 import entry_cases
 import plain_run
+import range_cases
 from form_cases import FORMS, REFUSED_FORMS
 from make_modules import custom, functions_module, map_of as map_of_modules, sleb, u32, uleb
 
-CRATE = os.path.join(os.path.dirname(__file__), "..", "crates", "dwc_cases")
+BENCH = os.path.dirname(__file__)
+CRATE, ASIDE = os.path.join(BENCH, "..", "crates", "dwc_cases"), os.path.join(BENCH, "out", "coming")
 
 # ---- the small module
 
@@ -109,14 +114,18 @@ class Cases:
         """A run that must end with a status and a line."""
         self.add("run", name, [*(f"word {word}" for word in words), *self.files(files)], f"status {status}\ndwarfcarry: {line}\n")
 
-    def carried(self, name, map_text, *modules, text=None, rows=None):
-        """A run that must end well; its text, or the rows (line and native offset) of each sequence, may be given by hand."""
+    def carried(self, name, map_text, *modules, text=None, rows=None, code=None):
+        """A run that must end well; its text, the rows (line and native offset) of each sequence, or what entries say of their code
+        may be given by hand."""
         printed = plain_run.printed_text(map_text.encode(), list(modules))
         plain_run.check_bytes(map_text.encode(), list(modules))
+        plain_run.check_scopes(map_text.encode(), list(modules))
         if text is not None and text != printed:
             sys.exit(f"{name}: {printed}")
         if rows is not None and rows != check_cases.rows_of(printed):
             sys.exit(f"{name}: {check_cases.rows_of(printed)}")
+        if code is not None and code != check_cases.code_of(printed):
+            sys.exit(f"{name}: {check_cases.code_of(printed)}")
         paths = [f"{i}.wasm" for i in range(len(modules))]
         files = [("map.json", map_text), *zip(paths, modules)]
         parts = [f"word {word}" for word in ["map.json", *paths]]
@@ -270,7 +279,7 @@ ALLOWED = [
 ]
 
 
-def map_cases():
+def map_cases(coming):
     cases = Cases("maps.txt")
     for number, (old, new) in enumerate(NO_VALUE):
         assert MAP.count(old) == 1, old
@@ -294,7 +303,9 @@ def map_cases():
     for number, (old, new, fault) in enumerate(ALLOWED):
         text = MAP.replace(old, new)
         assert text != MAP
-        if fault is None:
+        if coming and '"body_len":4294967295' in text:
+            cases.refused_module(f"map {number} with a value", 20, "TooLarge Addend", FRONT, map_text=text)
+        elif fault is None:
             cases.carried(f"map {number} with a value", text, FRONT, text="")
         else:
             cases.refused_module(f"map {number} with a value", 13, f"BadAddressMap 0 0 {fault}", FRONT, map_text=text)
@@ -443,9 +454,9 @@ def targets(cases):
             cases.carried(f"two modules, {name}", modules, SMALL, module(info=unit(version=5)))
 
 
-def entry_run_cases():
+def entry_run_cases(coming):
     cases = Cases("entries.txt")
-    entry_cases.entry_cases(cases, module, lambda **target: map_of([function()], **target))
+    entry_cases.entry_cases(cases, module, lambda **target: map_of([function()], **target), coming)
     return cases
 
 
@@ -752,19 +763,33 @@ MORE_OPCODES = {
 # ---- what they print
 
 
+def write(folder, name, lines):
+    path = os.path.join(folder, name)
+    os.makedirs(os.path.dirname(path), exist_ok=True)
+    with open(path, "w") as file:
+        file.write("".join(lines))
+
+
+def write_all(folder, made):
+    """Writes the files of a crate of cases."""
+    for cases in made:
+        write(folder, os.path.join("data", cases.name), [line + "\n" for line in cases.lines])
+    write(folder, "args", [cases.name + "\n" for cases in made])
+    write(folder, "stdout", [text for cases in made for text in cases.wanted])
+
+
 def main():
-    made = [words_cases(), map_cases(), unit_run_cases(), entry_run_cases(), line_cases(), listing_cases()]
+    coming = "--coming" in sys.argv[1:]
+    made = [words_cases(), map_cases(coming), unit_run_cases(), entry_run_cases(coming), line_cases(), listing_cases()]
+    if coming:
+        made.insert(4, range_cases.range_cases(Cases("ranges.txt"), module, map_of))
     if "--check" in sys.argv[1:]:
         check_cases.check([output for cases in made for output in cases.outputs])
-        return
-    os.makedirs(os.path.join(CRATE, "data"), exist_ok=True)
-    for cases in made:
-        with open(os.path.join(CRATE, "data", cases.name), "w") as file:
-            file.write("".join(line + "\n" for line in cases.lines))
-    with open(os.path.join(CRATE, "args"), "w") as file:
-        file.write("".join(cases.name + "\n" for cases in made))
-    with open(os.path.join(CRATE, "stdout"), "w") as file:
-        file.write("".join(text for cases in made for text in cases.wanted))
+    elif coming:
+        write_all(ASIDE, made)
+        write(CRATE, "data/ranges.txt", [line + "\n" for line in made[4].lines])
+    else:
+        write_all(CRATE, made)
 
 
 if __name__ == "__main__":

@@ -5,6 +5,7 @@ and a plain writing of the output. It knows valid inputs alone, of what is built
 import json
 from dataclasses import dataclass, field, replace
 
+import plain_ranges
 from plain_entries import Reader, Unit, kept_offsets, read_table, read_units, sleb, uleb
 from plain_entries import TAG_COMPILE_UNIT
 from plain_trees import tree_of, write_tree
@@ -447,16 +448,59 @@ def row_for_byte(start, rows, function, byte):
     return below[-1] if below else found[0][1]
 
 
+def bytes_of(function):
+    """The bytes of a function's native code; of a long one those beside which something may change."""
+    if function.length < 1000:
+        return range(function.length)
+    near = {native + d for native, _ in function.entries + [(0, None), (function.length, None)] for d in (-1, 0, 1)}
+    return sorted(b for b in near if 0 <= b < function.length)
+
+
 def check_bytes(map_bytes, modules):
     """Whether each image has, at each byte of its function, the row of that byte's source."""
+    for sections, functions, unit, _ in carried_of(map_bytes, modules):
+        if unit.line_table is None:
+            continue
+        for start, rows in read_line_table(sections, unit, unit.line_table).segments:
+            function = function_at(functions, start)
+            image = image_of(start, rows, function) if function else []
+            for byte in bytes_of(function) if image else ():
+                assert in_force(image, byte) == row_for_byte(start, rows, function, byte)
+
+
+def carried_of(map_bytes, modules):
+    """The carried units of all modules, with the sections and functions of their module, and their kept entries."""
     files = [read_wasm(data) for data in modules]
     _, maps = read_map(map_bytes, [code for code, _ in files])
     for (_, sections), functions in zip(files, maps):
-        for unit, _ in carried_units(sections, functions):
-            if unit.line_table is None:
-                continue
-            for start, rows in read_line_table(sections, unit, unit.line_table).segments:
-                function = function_at(functions, start)
-                image = image_of(start, rows, function) if function else []
-                for byte in range(function.length if image else 0):
-                    assert in_force(image, byte) == row_for_byte(start, rows, function, byte)
+        for unit, entries in carried_units(sections, functions):
+            yield sections, functions, unit, entries
+
+
+def source_of(function, byte):
+    """The source of a byte: that of the last entry at or below it."""
+    return next((wasm for native, wasm in reversed(function.entries) if native <= byte), None)
+
+
+def check_scopes(map_bytes, modules):
+    """Whether entries with intervals have the native code whose source is in these, and none whose source is outside. Said of
+    functions of which no two sources stand at one native offset, and not of subprograms that have their function whole."""
+    for sections, functions, unit, entries in carried_of(map_bytes, modules):
+        at = lambda address: function_at(functions, address)
+        for entry in entries:
+            if plain_ranges.function_begun(sections, unit, entry, at) is None:
+                intervals, _ = plain_ranges.extent(sections, unit, entry)
+                native = plain_ranges.translated_intervals(intervals, at)
+                for function in functions:
+                    check_scope(function, intervals, at, [(start, end) for owner, start, end in native if owner is function])
+
+
+def check_scope(function, intervals, at, native):
+    if len({n for n, _ in function.sources}) < len(function.sources):
+        return
+    for byte in bytes_of(function):
+        covered, source = any(start <= byte < end for start, end in native), source_of(function, byte)
+        if source is not None:
+            assert not covered or any(begin <= source <= end for begin, end in intervals)
+            inside = any(begin <= source < end and at(begin) is function for begin, end in intervals)
+            assert covered or not inside
