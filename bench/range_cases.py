@@ -1,5 +1,8 @@
 """Cases of the code that entries have: what their bounds, range lists and addresses become, and what is refused of these."""
 
+import os
+
+import plain_run
 from entry_cases import ADDR, BASE_TYPE, BLOCK, COMPILE_UNIT, DATA1, DATA2, DATA4, DATA8, GREATEST, HIGH_PC, LENGTH, LINES, LISTED, LOW_PC, NAME, PARAMETER
 from entry_cases import RANGES, SEC_OFFSET, STRING, STRP, SUBPROGRAM, TYPE, Entry, Info, kinds, pairs, root, subprogram, to
 from make_modules import section, sleb, u32, uleb
@@ -135,6 +138,7 @@ def range_cases(cases, module, map_of):
     subprogram_cases(made)
     address_cases(made)
     output_cases(made)
+    compiled_cases(made)
     refused_lists(made)
     refused_bounds(made)
     refusal_order(made)
@@ -520,6 +524,39 @@ def output_cases(made):
     made.cases.carried("lists of two modules", made.map_of(told, others), *modules)
     texts = within(block(LISTED, (NAME, STRING, b"b\0")), block((NAME, STRING, b"c\0"), low(5)))
     made.carried("texts behind lists", texts, sections=sections)
+
+
+def compiled_cases(made):
+    """A compiler's modules: calls in place, of which one has a list, functions that the linker dropped, and lists with what it leaves
+    of these. (clang -O1 -gdwarf-4 and -gdwarf-5 -gmlt -ffunction-sections, wasm-ld --gc-sections.)"""
+    for version in (4, 5):
+        with open(os.path.join(os.path.dirname(__file__), "compiled", f"ranges_{version}.hex")) as file:
+            compiled = bytes.fromhex(file.read())
+        for name, moved in (("in order", 0), ("of which a third was moved to the front", 1)):
+            told = [told_of(symbol, start, end, moved) for symbol, (start, end) in enumerate(bodies(compiled))]
+            made.cases.carried(f"a compiler's module of version {version}, with code {name}", made.map_of(told), compiled)
+
+
+def bodies(module):
+    """Where the functions of a module begin and end in the file."""
+    reader = plain_run.Reader(module, 8)
+    while reader.number(1) != 10:
+        reader.take(reader.uleb())
+    reader.uleb()
+    for _ in range(reader.uleb()):
+        size = reader.uleb()
+        reader.take(size)
+        yield reader.at - size, reader.at
+
+
+def told_of(symbol, start, end, moved):
+    """A function with a source at each third byte, each of four bytes of native code, of which the last has none. If it was moved,
+    the code of the last third of them stands in front."""
+    sources = list(range(start, end, 3))
+    middle = 2 * len(sources) // 3
+    sources = sources[middle:] + sources[:middle] if moved else sources
+    entries = [pair for i, source in enumerate(sources) for pair in ([4 * i, source], [4 * i + 3, None])]
+    return {"symbol": symbol, "start": start, "end": end, "body_len": 4 * len(sources) + 2, "map": entries}
 
 
 # ---- what is refused
