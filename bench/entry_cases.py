@@ -85,9 +85,8 @@ def to(key, name=TYPE):
     return (name, REF4, Label(key))
 
 
-def entry_cases(cases, module, small_map, coming):
-    """`module` makes a module of abbreviations, units and further sections; `small_map` makes the map of a target. `coming` are the
-    cases as they will be when ranges are translated."""
+def entry_cases(cases, module, small_map):
+    """`module` makes a module of abbreviations, units and further sections; `small_map` makes the map of a target."""
 
     def carried(name, *units, sections=(), big=False, text=None):
         made = Info(*units)
@@ -98,15 +97,6 @@ def entry_cases(cases, module, small_map, coming):
         made = Info(*units)
         cases.refused_module(name, status, line, module(made.abbrev, made.info, others=list(sections)))
 
-    def later(name, offset, *units, sections=(), then=None):
-        """What is not built yet; and then it is carried, or refused with a status and a line."""
-        if not coming:
-            refused(name, 11, f"Unsupported NotBuilt {offset}", *units, sections=sections)
-        elif then:
-            refused(name.removesuffix(" is not built"), *then, *units, sections=sections)
-        else:
-            carried(name.removesuffix(" is not built"), *units, sections=sections)
-
     strings = [(".debug_str", b"f\0int\0char\0")]
     f = (NAME, STRP, u32(0))
     integer, char = Entry(BASE_TYPE, (NAME, STRP, u32(2)), key="int"), Entry(BASE_TYPE, (NAME, STRP, u32(6)))
@@ -116,9 +106,9 @@ def entry_cases(cases, module, small_map, coming):
     reference_cases(carried)
     value_cases(carried)
     file_cases(carried)
-    refused_cases(refused, later)
+    refused_cases(carried, refused)
     list_cases(carried)
-    refused_lists(refused, later)
+    refused_lists(carried, refused)
 
 
 NAMED_TEXT = """section .debug_abbrev 28
@@ -235,7 +225,7 @@ def file_cases(carried):
 NO_LIST = (10, "Read RangeList .debug_ranges 0")  # a list of a section that is not there
 
 
-def refused_cases(refused, later):
+def refused_cases(carried, refused):
     """What is refused of entries, at the entry, and in which order."""
     at = 16  # the first entry below the root
     name = lambda form, value: (NAME, form, value)
@@ -252,23 +242,19 @@ def refused_cases(refused, later):
     refused("an index of an address past its section", 10, "Read AddressValue .debug_info 17", (root(indexed(b"\x01")), 5, 4), sections=addresses)
     refused("an entry that cannot be read", 10, "Read Entry .debug_info 25", root(subprogram(), Entry(VARIABLE, (NAME, 0x7F, b""))))
     low = (LINES, (LOW_PC, ADDR, u32(2)))
-    later("a root with a begin", 11, root(subprogram(), attributes=low))
-    later("a root with ranges", 11, root(subprogram(), attributes=(LINES, (RANGES, SEC_OFFSET, bytes(4)))), then=NO_LIST)
-    later("a block with bounds", 25, root(subprogram(children=[Entry(BLOCK, BEGIN, LENGTH)])))
-    never = (11, f"Unsupported NotBuilt {at}")
-    for what, attribute, then in [
-        ("an expression", (0x02, 0x18, b"\x01\x30"), never),
-        ("a block that is an expression", (0x02, 0x0A, b"\x01\x30"), never),
-        ("a location list", (0x02, SEC_OFFSET, bytes(4)), never),
-        ("an address", (0x2100, ADDR, u32(2)), None),
-        ("a range list under another name", (0x2C, SEC_OFFSET, bytes(4)), NO_LIST),
-        ("a length that is an expression", (HIGH_PC, 0x18, b"\x01\x30"), never),
+    carried("a root with a begin", root(subprogram(), attributes=low))
+    refused("a root with ranges", *NO_LIST, root(subprogram(), attributes=(LINES, (RANGES, SEC_OFFSET, bytes(4)))))
+    carried("a block with bounds", root(subprogram(children=[Entry(BLOCK, BEGIN, LENGTH)])))
+    with_attribute = lambda attribute: root(Entry(SUBPROGRAM, BEGIN, attribute))
+    for what, attribute in [
+        ("an expression", (0x02, 0x18, b"\x01\x30")),
+        ("a block that is an expression", (0x02, 0x0A, b"\x01\x30")),
+        ("a location list", (0x02, SEC_OFFSET, bytes(4))),
+        ("a length that is an expression", (HIGH_PC, 0x18, b"\x01\x30")),
     ]:
-        unit = root(Entry(SUBPROGRAM, BEGIN, attribute))
-        if then is never:
-            refused(f"{what} is not built", *never, unit)
-        else:
-            later(f"{what} is not built", at, unit, then=then)
+        refused(f"{what} is not built", 11, f"Unsupported NotBuilt {at}", with_attribute(attribute))
+    carried("an address", with_attribute((0x2100, ADDR, u32(2))))
+    refused("a range list under another name", *NO_LIST, with_attribute((0x2C, SEC_OFFSET, bytes(4))))
     refused("a text before what is not built", 10, f"Read Text .debug_info {at}", root(subprogram(name(STRP, u32(0)), (0x02, 0x18, b"\x01\x30"))))
     refused("what is not built before a text", 11, f"Unsupported NotBuilt {at}", root(subprogram((0x02, 0x18, b"\x01\x30"), name(STRP, u32(0)))))
     refused("a text of the second unit behind the first", 10, "Read Text .debug_info 42", root(subprogram()), root(subprogram(name(STRP, u32(0)))))
@@ -341,16 +327,16 @@ def list_cases(carried):
     carried("a list by an index, from a base", (based, 5, 4), sections=[ADDRESSES, kinds(bytes(16) + u32(4) + b"\x03\x01\x01\x00")])
 
 
-def refused_lists(refused, later):
+def refused_lists(carried, refused):
     """What is refused of range lists of subprograms: first what cannot be read of the list, told there, and then the begin beside it."""
     listed, cut = Entry(SUBPROGRAM, LISTED), (".debug_ranges", u32(5) + u32(6))
     at_list, at_kinds = "Read RangeList .debug_ranges 0", "Read RangeList .debug_rnglists 0"
-    later("a subprogram that its list requires is not built", 16, root(listed), sections=[pairs((5, 6))])
-    later("a subprogram that its list of version 5 requires is not built", 17, (root(listed), 5, 4), sections=[kinds(b"\x06" + u32(5) + u32(6) + b"\0")])
-    later("a subprogram that its list requires, beside a begin of none", 16, root(at_low_pc(1, LISTED)), sections=[pairs((GREATEST, 5), (0, 1))])
+    carried("a subprogram that its list requires", root(listed), sections=[pairs((5, 6))])
+    carried("a subprogram that its list of version 5 requires", (root(listed), 5, 4), sections=[kinds(b"\x06" + u32(5) + u32(6) + b"\0")])
+    carried("a subprogram that its list requires, beside a begin of none", root(at_low_pc(1, LISTED)), sections=[pairs((GREATEST, 5), (0, 1))])
     by_index = Entry(SUBPROGRAM, (LOW_PC, 0x1B, b"\x00"), LISTED)
-    later("a subprogram that its list requires, beside a begin of none by an index", 16, root(by_index), sections=[ADDRESSES, pairs((5, 6))])
-    later("a list of a block that is kept is not built", 25, root(subprogram(children=[Entry(BLOCK, LISTED)])), then=NO_LIST)
+    carried("a subprogram that its list requires, beside a begin of none by an index", root(by_index), sections=[ADDRESSES, pairs((5, 6))])
+    refused("a list of a block that is kept", *NO_LIST, root(subprogram(children=[Entry(BLOCK, LISTED)])))
     refused("a list of a section that is not there", 10, at_list, root(listed))
     refused("a list without its end", 10, at_list, root(listed), sections=[cut])
     refused("a list that is cut in an address", 10, at_list, root(listed), sections=[(".debug_ranges", bytes(7))])

@@ -1,14 +1,11 @@
 #!/usr/bin/env python3
 """Makes the files of crates/dwc_cases: the cases in data/, and in stdout what they must print.
 
-    make_cases.py [--coming] [--check]
+    make_cases.py [--check]
 
 What a run prints is worked out by plain_run.py, which has nothing of the program; where a status other than 0 is wanted, it and
 the line stand here by hand, and so do the printed texts and the rows of worked examples. With --check nothing is written, but
 llvm-dwarfdump and readelf are asked what they read in the outputs.
-
-With --coming the cases are those of the program that translates ranges: data/ranges.txt is written, and what will stand in the
-crate then, the files of data/ that change, args and stdout, to bench/out/coming.
 """
 
 import json
@@ -23,7 +20,7 @@ from form_cases import FORMS, REFUSED_FORMS
 from make_modules import custom, functions_module, map_of as map_of_modules, sleb, u32, uleb
 
 BENCH = os.path.dirname(__file__)
-CRATE, ASIDE = os.path.join(BENCH, "..", "crates", "dwc_cases"), os.path.join(BENCH, "out", "coming")
+CRATE = os.path.join(BENCH, "..", "crates", "dwc_cases")
 
 # ---- the small module
 
@@ -279,7 +276,7 @@ ALLOWED = [
 ]
 
 
-def map_cases(coming):
+def map_cases():
     cases = Cases("maps.txt")
     for number, (old, new) in enumerate(NO_VALUE):
         assert MAP.count(old) == 1, old
@@ -303,7 +300,7 @@ def map_cases(coming):
     for number, (old, new, fault) in enumerate(ALLOWED):
         text = MAP.replace(old, new)
         assert text != MAP
-        if coming and '"body_len":4294967295' in text:
+        if '"body_len":4294967295' in text:
             cases.refused_module(f"map {number} with a value", 20, "TooLarge Addend", FRONT, map_text=text)
         elif fault is None:
             cases.carried(f"map {number} with a value", text, FRONT, text="")
@@ -454,9 +451,9 @@ def targets(cases):
             cases.carried(f"two modules, {name}", modules, SMALL, module(info=unit(version=5)))
 
 
-def entry_run_cases(coming):
+def entry_run_cases():
     cases = Cases("entries.txt")
-    entry_cases.entry_cases(cases, module, lambda **target: map_of([function()], **target), coming)
+    entry_cases.entry_cases(cases, module, lambda **target: map_of([function()], **target))
     return cases
 
 
@@ -779,15 +776,17 @@ def write_all(folder, made):
 
 
 def main():
-    coming = "--coming" in sys.argv[1:]
-    made = [words_cases(), map_cases(coming), unit_run_cases(), entry_run_cases(coming), line_cases(), listing_cases()]
-    if coming:
-        made.insert(4, range_cases.range_cases(Cases("ranges.txt"), module, map_of))
+    made = [
+        words_cases(),
+        map_cases(),
+        unit_run_cases(),
+        entry_run_cases(),
+        range_cases.range_cases(Cases("ranges.txt"), module, map_of),
+        line_cases(),
+        listing_cases(),
+    ]
     if "--check" in sys.argv[1:]:
         check_cases.check([output for cases in made for output in cases.outputs])
-    elif coming:
-        write_all(ASIDE, made)
-        write(CRATE, "data/ranges.txt", [line + "\n" for line in made[4].lines])
     else:
         write_all(CRATE, made)
 
