@@ -399,6 +399,40 @@ def nested_module(count):
     return one_function_with_texts(info, b"x\0")
 
 
+# A compile unit, a subprogram with children, and blocks with bounds and with a range list.
+BLOCKS = bytes.fromhex("011101 1017 0000 022E01 1101 1206 0000 030B00 1101 1206 0000 040B00 5517 0000 00")
+
+
+def blocks_module(count):
+    """A function of so many recorded sources, with a block for each of them."""
+    size = 2 * count + 2
+
+    def info(start):
+        blocks = b"".join(bytes([3]) + u32(start + 2 * i) + u32(2) for i in range(count))
+        return unit_of(bytes([1]) + u32(0) + bytes([2]) + u32(start) + u32(size) + blocks + bytes([0]))
+
+    def line(start):
+        return debug_line(segment_sequence(start, 1, size))
+
+    return one_function(size, info, line, BLOCKS, [[3 * i, 2 * i] for i in range(count)], 3 * count)
+
+
+def long_list_module(count):
+    """The same, with one block whose range list has an interval for every second source."""
+    size = 2 * count + 2
+
+    def info(start):
+        return unit_of(bytes([1]) + u32(0) + bytes([2]) + u32(start) + u32(size) + bytes([4]) + u32(0) + bytes([0]))
+
+    def line(start):
+        return debug_line(segment_sequence(start, 1, size))
+
+    wasm, functions = one_function(size, info, line, BLOCKS, [[3 * i, 2 * i] for i in range(count)], 3 * count)
+    [start] = places([body_of(size)])
+    pairs = b"".join(u32(start + 4 * i) + u32(start + 4 * i + 2) for i in range(count // 2))
+    return wasm + custom(".debug_ranges", pairs + bytes(8)), functions
+
+
 # The kinds of modules, each with what makes the modules of a size.
 KINDS = {
     "functions": lambda n: [functions_module(n)],
@@ -416,6 +450,8 @@ KINDS = {
     "chain": lambda n: [chain_module(n)],
     "long_text": lambda n: [long_text_module(n)],
     "nested": lambda n: [nested_module(n)],
+    "blocks": lambda n: [blocks_module(n)],
+    "long_list": lambda n: [long_list_module(n)],
 }
 
 # The sizes of each kind, unless they are given.
@@ -435,6 +471,8 @@ SIZES = {
     "chain": [50000, 100000],
     "long_text": [50000, 100000],
     "nested": [50000, 100000],
+    "blocks": [50000, 100000],
+    "long_list": [100000, 200000],
 }
 
 
