@@ -1,7 +1,7 @@
 -- Items of lists, and what tests find and count among them.
 use Rattle.std.proofs.Common.{◌≡◌, ℕ, zero, suc, ◌<◌, ◌≤◌, ◌⊎◌, ◌≢◌, List, [], ◌∷◌, length, get_or, refl, ap, sym, subst, ◌∙◌, inl, inr, arith, Bool, true, false, cond, ◌++◌, Some, None}
-use Rattle.std.specs.Prelude.{◌||◌, Contains, AllPairs, Option}
-use Rattle.std.specs.List.{filter, list_any, filter_map, cons_option}
+use Rattle.std.specs.Prelude.{◌||◌, Contains, AllPairs, Option, map}
+use Rattle.std.specs.List.{filter, list_any, filter_map, flat_map, cons_option}
 use Rattle.std.proofs.lemmas.Bool.{or_right, cases_order}
 use Rattle.std.proofs.lemmas.List.{get_or_default}
 
@@ -160,3 +160,28 @@ module _ {A B : Type 0} (f : A → Option B) where
       go : (o : Option B) → IsIn y (filter_map f xs) → IsIn y (cons_option o (filter_map f xs))
       go None j = j
       go (Some w) j = inr j
+
+module _ {A B : Type 0} (g : A → B) where
+  pub in-map : (xs : List A) (y : B) → IsIn y (map g xs) → (x : A) × IsIn x xs × (y ≡ g x)
+  in-map [] y i = absurd i
+  in-map (x ∷ xs) y (inl same) = (x, inl refl, same)
+  in-map (x ∷ xs) y (inr i) = let found = in-map xs y i in (found.0, inr found.1, found.2)
+
+  pub map-in : (xs : List A) (x : A) → IsIn x xs → IsIn (g x) (map g xs)
+  map-in [] x i = absurd i
+  map-in (y ∷ xs) x (inl same) = inl (ap g same)
+  map-in (y ∷ xs) x (inr i) = inr (map-in xs x i)
+
+module _ {A B : Type 0} (g : A → List B) where
+  pub in-flat_map : (xs : List A) (y : B) → IsIn y (flat_map g xs) → (x : A) × IsIn x xs × IsIn y (g x)
+  in-flat_map [] y i = absurd i
+  in-flat_map (x ∷ xs) y i = go (in-append (g x) (flat_map g xs) y i) (in-flat_map xs y)
+    where
+      go : IsIn y (g x) ⊎ IsIn y (flat_map g xs) → (IsIn y (flat_map g xs) → (z : A) × IsIn z xs × IsIn y (g z)) → (z : A) × IsIn z (x ∷ xs) × IsIn y (g z)
+      go (inl j) more = (x, inl refl, j)
+      go (inr j) more = let found = more j in (found.0, inr found.1, found.2)
+
+  pub flat_map-in : (xs : List A) (x : A) (y : B) → IsIn x xs → IsIn y (g x) → IsIn y (flat_map g xs)
+  flat_map-in [] x y i j = absurd i
+  flat_map-in (z ∷ xs) x y (inl same) j = append-left (g z) (flat_map g xs) y (subst (λ w. IsIn y (g w)) same j)
+  flat_map-in (z ∷ xs) x y (inr i) j = append-right (g z) (flat_map g xs) y (flat_map-in xs x y i j)

@@ -66,3 +66,16 @@ pub mod UnitOffsets
 pub mod RangeCases
 pub mod ScopeCases
 pub mod ScopeLaws
+pub mod EntryOffsets
+pub mod ScopeAttributes
+pub mod ScopeForest
+pub mod StackLaws
+pub mod StackWalks
+pub mod OnExpressions
+pub mod OperationCases
+pub mod PartCases
+pub mod BuiltCases
+pub mod LabelRangeLaws
+pub mod LabelRangeCoverage
+pub mod LabelRangeMaximal
+pub mod LabelRangeUnique

@@ -1,6 +1,6 @@
 -- The output for the small module carries it whole: lines, entries, the form of units, names and relocations.
-use Rattle.std.proofs.Common.{◌≡◌, ◌≢◌, ℕ, List, [], ◌∷◌, get_or, refl, ap, arith}
-use Rattle.std.specs.Prelude.{AllPairs}
+use Rattle.std.proofs.Common.{◌≡◌, ◌≢◌, ℕ, List, [], ◌∷◌, get_or, refl, ap, sym, ◌∙◌, inl, inr, arith, None, false}
+use Rattle.std.specs.Prelude.{AllPairs, Contains}
 use Rattle.std.proofs.lemmas.List.Elements.{All-cons, All-nil}
 use Rattle.std.proofs.lemmas.List.Kept.{AllPairs-cons}
 use Rattle.dwc_base.specs.declared.records.Endian.TheVariants.{Little}
@@ -10,7 +10,16 @@ use Rattle.dwc_base.specs.TreeLaws.{HasAllTargets, HasTextsOnce}
 use Rattle.dwc_base.proofs.DraftsOnLiterals.{drafts_on_literals}
 use Rattle.dwc_base.specs.OutputForm.{HaveTargetForm, HasDistinctNames}
 use Rattle.dwc_base.specs.OutputCarried.{OutputCarried}
-use Rattle.dwc_base.proofs.CarriedSmall.{unit_out, output-read, output_small, compilation_small, lines_carried-small}
+use Rattle.dwc_base.specs.Entries.{Entry}
+use Rattle.dwc_base.specs.Lists.{list_source}
+use Rattle.dwc_base.specs.Forests.{carried_units, drafts_of}
+use Rattle.dwc_base.specs.ScopesCarried.{scope_to_keep, CarriesScope, ScopesCarried}
+use Rattle.dwc_base.specs.Trees.{TreeEntry}
+use Rattle.dwc_base.proofs.ForestLaws.{none_is}
+use Rattle.dwc_base.proofs.InLists.{IsIn, contains-in}
+use Rattle.dwc_base.proofs.LineTables.{function_small}
+use Rattle.dwc_base.proofs.Readings.{sections_small, header_small}
+use Rattle.dwc_base.proofs.CarriedSmall.{unit_small, unit_out, output-read, output_small, compilation_small, lines_carried-small}
 use Rattle.dwc_base.proofs.TreesSmall.{tree_small, forest-small, carries-small}
 use Rattle.dwc_base.proofs.FieldCases.{related-small}
 
@@ -58,6 +67,23 @@ pub texts-small : HasTextsOnce (output_sections Little output_small)
 unfolding drafts_on_literals
 texts-small = refl
 
+-- the root has no code, and the subprogram is its function whole
+no-scope : (e : Entry) → IsIn e unit_small.entries → scope_to_keep (list_source sections_small header_small) (function_small ∷ []) e ≡ None
+unfolding drafts_on_literals
+no-scope e (inl same) = ap (scope_to_keep (list_source sections_small header_small) (function_small ∷ [])) same
+no-scope e (inr (inl same)) = ap (scope_to_keep (list_source sections_small header_small) (function_small ∷ [])) same
+no-scope e (inr (inr none)) = absurd none
+
+carries-no_scope : (e : Entry) (out : TreeEntry) → Contains unit_small.entries e → CarriesScope (list_source sections_small header_small) (function_small ∷ []) e out
+carries-no_scope e out among = λ scope kept. absurd (none_is scope (sym (no-scope e (contains-in unit_small.entries e among)) ∙ kept))
+
+abbrev said_at : ℕ → TreeEntry
+said_at place = get_or tree_small place (record { depth = 0; tag = 0; attributes = [] })
+
+pub scopes-small : ScopesCarried (drafts_of false) (carried_units compilation_small) (tree_small ∷ [])
+unfolding drafts_on_literals
+scopes-small = (((λ e among made. carries-no_scope e (said_at 0) among), ((λ e among made. carries-no_scope e (said_at 1) among), tt)), tt)
+
 output_carried-small : OutputCarried compilation_small output_small
 output_carried-small = record {
   lines = lines_carried-small;
@@ -65,6 +91,7 @@ output_carried-small = record {
   is_forest = forest-small;
   trees = carries-small;
   targets = targets-small;
+  scopes = scopes-small;
   texts = texts-small;
   form = form-small;
   names = names-small;

@@ -16,7 +16,7 @@ use Rattle.dwc_base.specs.Wasm.{Contents, custom, imports, functions, code, othe
 use Rattle.dwc_base.specs.Translations.{custom_left, IsTranslation, Notes, noted, section_bytes, translation_sections}
 
 -- the last of some things and one more is that one
-last_of-push : {A : Type 0} (xs : List A) (x : A) → last_of (xs ++ x ∷ []) ≡ Some x
+pub last_of-push : {A : Type 0} (xs : List A) (x : A) → last_of (xs ++ x ∷ []) ≡ Some x
 last_of-push [] x = refl
 last_of-push (y ∷ ys) x = ap (λ o. Some (unwrap_or o y)) (last_of-push ys x)
 

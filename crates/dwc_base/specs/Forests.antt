@@ -7,9 +7,10 @@ use Rattle.dwc_base.specs.Carried.{Unit, Module, Compilation, CarriedUnit}
 use Rattle.dwc_base.specs.Functions.{Function}
 use Rattle.dwc_base.specs.Addends.{is_long}
 use Rattle.dwc_base.specs.Refusals.{Refusal, of_place, long_function, unit_refusal, first_of}
-use Rattle.dwc_base.specs.KeptModules.{KeptModule, kept_module, carried_in}
+use Rattle.dwc_base.specs.KeptModules.{KeptModule, kept_module, carried_in, kept_in}
 use Rattle.dwc_base.specs.Clones.{CodeRules}
-use Rattle.dwc_base.specs.CarriedDrafts.{carried_drafts}
+use Rattle.dwc_base.specs.CarriedDrafts.{source_of, unit_drafts, carried_drafts}
+use Rattle.dwc_base.specs.Drafts.{Draft}
 use Rattle.dwc_base.specs.DraftForests.{ModuleDrafts}
 use Rattle.dwc_base.specs.DraftForests as Drafts
 use Rattle.dwc_base.specs.EntryRules.{is_required, named_faults, code_rules}
@@ -56,6 +57,10 @@ first_refusal c = first_of (refusals c)
 abbrev pub is_big : Endian → Bool
 is_big Little = false
 is_big Big = true
+
+-- the entries made of the kept ones of a carried unit
+abbrev pub drafts_of : Bool → CarriedUnit → List Draft
+drafts_of big_endian u = unit_drafts (rules_of u.module_of u.unit) (source_of (kept_of u.module_of) u.unit) big_endian (kept_in (kept_of u.module_of) u.unit)
 
 -- what is made of the carried units of a module
 abbrev pub module_drafts : Bool → Module → ModuleDrafts

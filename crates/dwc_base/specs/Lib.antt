@@ -1,6 +1,7 @@
 pub mod Reading
 pub mod Listing
 pub mod Spelling
+pub mod NumberBytes
 pub mod Sections
 pub mod Abbreviations
 pub mod Units
@@ -55,3 +56,10 @@ pub mod LinesCarried
 pub mod OutputCarried
 pub mod ReadValues
 pub mod UnitOffsets
+pub mod Operations
+pub mod Parts
+pub mod Compiled
+pub mod Placed
+pub mod LabelRanges
+pub mod Built
+pub mod BuiltExpressions

@@ -1,6 +1,6 @@
 -- What is in force at an entry by itself and its ancestors: a scope, the function whose frame is meant, and a frame base.
 -- (DWARF 4 and 5, sections 2.6 and 3.3.5; this project's own rules.)
-use Rattle.std.specs.Prelude.{◌≡◌, ℕ, zero, suc, ◌==◌, ℤ, pos, ◌<ℤ◌, int_le, List, [], ◌∷◌, drop, reverse, ◌&&◌, ◌||◌, if◌then◌else◌, Option, Some, None, option_map, option_and_then, is_some, All, Bool, Contains, slice_get}
+use Rattle.std.specs.Prelude.{◌≡◌, ℕ, zero, suc, ◌≤◌, ◌==◌, ℤ, pos, ◌<ℤ◌, int_le, List, [], ◌∷◌, drop, reverse, ◌&&◌, ◌||◌, if◌then◌else◌, Option, Some, None, option_map, option_and_then, is_some, All, Bool, Contains, slice_get}
 use Rattle.std.specs.List.{filter, filter_map}
 use Rattle.dwc_base.specs.Values.{Value, expression}
 use Rattle.dwc_base.specs.Entries.{Entry, attribute}
@@ -122,8 +122,18 @@ pub record IsWalk (es kept : List Placed) : Type 0 where
   pub are : kept ≡ filter test es
   pub parents : HoldParents es kept
 
--- the stack follows a walk
+-- the offsets of entries rise from one on
+abbrev pub Rises : ℕ → List Placed → Type 0
+Rises low [] = Unit {0}
+Rises low (p ∷ ps) = (low ≤ p.entry.offset) × Rises (suc p.entry.offset) ps
+
+-- each entry is at most one deeper than the one before it, and the first is as deep as said or less
+abbrev pub Steps : ℕ → List Placed → Type 0
+Steps most [] = Unit {0}
+Steps most (p ∷ ps) = (p.entry.depth ≤ most) × Steps (suc p.entry.depth) ps
+
+-- the stack follows a walk over entries that stand in file order
 abbrev pub StackFollows : {X : Type 0} → (Entry → Option X) → List Placed → List Placed → Type 0
 StackFollows gives es kept =
-    (i : ℕ) (before e : Placed) → IsWalk es kept → slice_get kept i ≡ Some before → slice_get kept (suc i) ≡ Some e →
+    Rises 0 es → Steps 0 es → (i : ℕ) (before e : Placed) → IsWalk es kept → slice_get kept i ≡ Some before → slice_get kept (suc i) ≡ Some e →
     left_for (pos e.entry.depth) (given_by gives (lineage es before)) ≡ given_by gives (drop 1 (lineage es e))

@@ -49,13 +49,14 @@ abbrev pub bounded : Option TreeValue → Option TreeValue → List Interval
 bounded (Some (address low)) (Some (constant form n)) = record { begin = low; end = behind n low } ∷ []
 bounded _ _ = []
 
+-- those of ranges, else some others
+abbrev pub listed_or : Option TreeValue → List Interval → List Interval
+listed_or (Some (ranges is)) others = is
+listed_or _ others = others
+
 -- the intervals that an entry of an output covers: those of its ranges, else those of its bounds
 abbrev pub covered_intervals : TreeEntry → List Interval
-covered_intervals e = go (value_of_entry DW_AT_ranges e)
-  where
-    go : Option TreeValue → List Interval
-    go (Some (ranges is)) = is
-    go _ = bounded (value_of_entry DW_AT_low_pc e) (value_of_entry DW_AT_high_pc e)
+covered_intervals e = listed_or (value_of_entry DW_AT_ranges e) (bounded (value_of_entry DW_AT_low_pc e) (value_of_entry DW_AT_high_pc e))
 
 -- whether an address is in a function, at or below a byte of it; and whether it is behind the byte
 abbrev pub is_at_or_below : ℕ → ℕ → Address → Bool
@@ -100,17 +101,18 @@ pub record KeepsScope (fs : List Function) (scope : List (ℕ × ℕ)) (is : Lis
       (interval : ℕ × ℕ) (f : Function) (byte source : ℕ) → Contains scope interval → function_at fs interval.0 ≡ Some f → HasDistinctSources f → byte < f.length →
       source_of_byte f byte ≡ Some source → interval.0 ≤ source → source < interval.1 → cover_byte is f.number byte ≡ true
 
+-- the scope of an extent that is intervals
+abbrev pub scope_of_intervals : Extent → Option (List (ℕ × ℕ))
+scope_of_intervals (intervals is) = Some (scope_of_extent (intervals is))
+scope_of_intervals (position a) = None
+scope_of_intervals nowhere = None
+
 -- The intervals of an entry whose scope is to be kept; a wrapped pointer or reference has none, nor has a subprogram that
 -- begins in a function with a symbol, which is that function whole.
 abbrev pub scope_to_keep : ListSource → List Function → Entry → Option (List (ℕ × ℕ))
 scope_to_keep s fs e =
     if (e.tag == DW_TAG_pointer_type) || (e.tag == DW_TAG_reference_type) then None
-    else (elim (begun_function s fs e) [ Some f ↦ None | None ↦ go (extent s e) ])
-  where
-    go : Extent → Option (List (ℕ × ℕ))
-    go (intervals is) = Some (scope_of_extent (intervals is))
-    go (position a) = None
-    go nowhere = None
+    else (elim (begun_function s fs e) [ Some f ↦ None | None ↦ scope_of_intervals (extent s e) ])
 
 -- an entry of an output carries the scope of an entry of an input
 abbrev pub CarriesScope : ListSource → List Function → Entry → TreeEntry → Type 0
