@@ -1,6 +1,6 @@
 -- What intervals are translated to keeps them as a scope, where the address maps of the functions are good.
-use Rattle.std.proofs.Common.{◌≡◌, ℕ, ◌+◌, ◌<◌, ◌≤◌, refl, sym, ap, subst, arith, List, [], ◌∷◌, map, length, get_or, Option, Some, None, inl, inr}
-use Rattle.std.specs.Prelude.{◌⊎◌, ◌==◌, ◌≢◌, nat_lt, nat_le, ◌&&◌, if◌then◌else◌, option_map, is_some, Bool, true, false, All, AllPairs, Contains}
+use Rattle.std.proofs.Common.{◌≡◌, ℕ, ◌+◌, ◌<◌, ◌≤◌, refl, sym, subst, arith, List, [], ◌∷◌, map, length, get_or, Option, Some, None, inl, inr}
+use Rattle.std.specs.Prelude.{◌==◌, ◌≢◌, nat_lt, nat_le, ◌&&◌, if◌then◌else◌, option_map, is_some, Bool, true, false, All, AllPairs, Contains}
 use Rattle.std.specs.List.{AllByRecursion, filter, filter_map, flat_map}
 use Rattle.std.specs.Option.{unwrap_or}
 use Rattle.std.proofs.lemmas.Bool.{lt-ltb, le-leb, ltb-true, leb-true, eqb-true, eq-eqb}
@@ -11,40 +11,13 @@ use Rattle.dwc_base.specs.Trees.{Interval}
 use Rattle.dwc_base.specs.Runs.{Run, runs, start_in, end_in, meets, is_range, native_ranges, interval_of, native_in_function, as_intervals, native, Ascend, HasGoodMap}
 use Rattle.dwc_base.specs.RangeAttributes.{wasm_interval, native_of_intervals}
 use Rattle.dwc_base.specs.ScopesCarried.{source_of_byte, HasDistinctSources, is_at_or_below, is_behind, cover_byte, IsInSome, IsInOneOf, AreNumbered, TranslationsKeepScopes}
-use Rattle.dwc_base.proofs.InLists.{IsIn, at-in, contains-in, in-contains, distinct-same, any-in, in-any, in-filter, filter-in, in-append, append-left, append-right}
+use Rattle.dwc_base.proofs.InLists.{IsIn, at-in, contains-in, in-contains, distinct-same, any-in, in-any, in-filter, filter-in, in-map, map-in, in-flat_map, flat_map-in}
 use Rattle.dwc_addr.specs.Transforms.{first_bad_map}
 use Rattle.dwc_addr.proofs.EntryLaws.{all-good}
 use Rattle.dwc_addr.proofs.OwnerLaws.{function_at-among}
 use Rattle.dwc_addr.proofs.AscendLaws.{range-start, range-end, ranges-ascend_in}
 use Rattle.dwc_addr.proofs.ByteLaws.{start-sound, start-whole, end-sound, end-whole}
 use Rattle.dwc_addr.proofs.SourceLaws.{RunHas, HasIfIn, RunAt, run-at, IsPlaced, function-has, function-chain, function-placed}
-
--- ---- items of lists that are made of others
-
-module _ {A B : Type 0} (g : A → B) where
-  in-map : (xs : List A) (y : B) → IsIn y (map g xs) → (x : A) × IsIn x xs × (y ≡ g x)
-  in-map [] y i = absurd i
-  in-map (x ∷ xs) y (inl same) = (x, inl refl, same)
-  in-map (x ∷ xs) y (inr i) = let found = in-map xs y i in (found.0, inr found.1, found.2)
-
-  map-in : (xs : List A) (x : A) → IsIn x xs → IsIn (g x) (map g xs)
-  map-in [] x i = absurd i
-  map-in (y ∷ xs) x (inl same) = inl (ap g same)
-  map-in (y ∷ xs) x (inr i) = inr (map-in xs x i)
-
-module _ {A B : Type 0} (g : A → List B) where
-  in-flat_map : (xs : List A) (y : B) → IsIn y (flat_map g xs) → (x : A) × IsIn x xs × IsIn y (g x)
-  in-flat_map [] y i = absurd i
-  in-flat_map (x ∷ xs) y i = go (in-append (g x) (flat_map g xs) y i) (in-flat_map xs y)
-    where
-      go : IsIn y (g x) ⊎ IsIn y (flat_map g xs) → (IsIn y (flat_map g xs) → (z : A) × IsIn z xs × IsIn y (g z)) → (z : A) × IsIn z (x ∷ xs) × IsIn y (g z)
-      go (inl j) more = (x, inl refl, j)
-      go (inr j) more = let found = more j in (found.0, inr found.1, found.2)
-
-  flat_map-in : (xs : List A) (x : A) (y : B) → IsIn x xs → IsIn y (g x) → IsIn y (flat_map g xs)
-  flat_map-in [] x y i j = absurd i
-  flat_map-in (z ∷ xs) x y (inl same) j = append-left (g z) (flat_map g xs) y (subst (λ w. IsIn y (g w)) same j)
-  flat_map-in (z ∷ xs) x y (inr i) j = append-right (g z) (flat_map g xs) y (flat_map-in xs x y i j)
 
 all-in : {A : Type 0} (P : A → Type 0) (xs : List A) (x : A) → AllByRecursion P xs → IsIn x xs → P x
 all-in P [] x h i = absurd i

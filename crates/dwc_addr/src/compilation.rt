@@ -32,10 +32,14 @@ pub struct Compilation<'a> {
 
 impl<'a> Model for Compilation<'a> {
     ghost use Rattle.std.specs.Prelude.{◌≡◌, option_map};
+    ghost use Rattle.std.specs.Coded.{codes};
+    ghost use Rattle.dwc_clif.specs.ValueLabels.{labelled_code};
     ghost use Rattle.dwc_addr.specs.Numbers.{numbers_from, all_symbols};
     ghost use Rattle.dwc_addr.specs.Compilations.{CompilationValue, lists, IsCounted, HasDistinctSymbols};
 
     ghost Value = { CompilationValue };
+
+    ghost coded = { Prim.hlevel (codes, labelled_code) };
 
     ghost view = { λ c. record {
       translations = c.translations.now;
