@@ -1,2 +1,3 @@
 pub mod FrameCases
 pub mod RegisterLaws
+pub mod LabelLaws

@@ -1,5 +1,6 @@
 -- The records of a function of which nothing is known.
 use Rattle.std.specs.Prelude.{◌≡◌, [], None}
+use Rattle.std.specs.FinMap as finite
 use Rattle.dwc_clif.specs.declared.address_map.FunctionAddressMap.{FunctionAddressMap}
 use Rattle.dwc_clif.specs.declared.metadata.CompiledFunctionMetadata.{CompiledFunctionMetadata}
 
@@ -11,8 +12,9 @@ pub record IsEmptyMap (m : FunctionAddressMap) : Type 0 where
   pub body_offset : m.body_offset ≡ 0
   pub body_len : m.body_len ≡ 0
 
--- an empty map, and no places
+-- an empty map, no labels, and no places
 pub record IsEmptyMetadata (m : CompiledFunctionMetadata) : Type 0 where
   pub address_map : IsEmptyMap m.address_map
+  pub labels : m.value_labels_ranges ≡ finite.empty
   pub start : m.start_srcloc.offset ≡ None
   pub end : m.end_srcloc.offset ≡ None

@@ -3,3 +3,4 @@ pub mod CallFrames
 pub mod EmptyRecords
 pub mod Registers
 pub mod Targets
+pub mod ValueLabels

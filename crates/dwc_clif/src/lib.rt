@@ -9,6 +9,8 @@ mod isa;
 mod metadata;
 mod reg;
 mod table_isa;
+mod value_label;
+mod value_labels_ranges;
 
 pub use address_map::{FunctionAddressMap, InstructionAddressMap};
 pub use architecture::Architecture;
@@ -18,3 +20,5 @@ pub use isa::TargetIsa;
 pub use metadata::CompiledFunctionMetadata;
 pub use reg::Reg;
 pub use table_isa::TableIsa;
+pub use value_label::{LabelValueLoc, ValueLabel, ValueLocRange, get_vmctx_value_label};
+pub use value_labels_ranges::{Labels, ValueLabelsRanges};

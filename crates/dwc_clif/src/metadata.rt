@@ -1,7 +1,7 @@
 //! What is known of a compiled function.
 ghost use Rattle.dwc_clif.specs.EmptyRecords.{IsEmptyMetadata};
 
-use crate::FunctionAddressMap;
+use crate::{FunctionAddressMap, ValueLabelsRanges};
 use dwc_base::FilePos;
 use std::alloc::Global;
 
@@ -10,6 +10,8 @@ use std::alloc::Global;
 pub struct CompiledFunctionMetadata {
     /// Where its instructions come from.
     pub address_map: FunctionAddressMap,
+    /// Where its values lie.
+    pub value_labels_ranges: ValueLabelsRanges,
     /// Where it begins in the wasm file.
     pub start_srcloc: FilePos,
     /// Where it ends there.
@@ -17,12 +19,13 @@ pub struct CompiledFunctionMetadata {
 }
 
 impl CompiledFunctionMetadata {
-    /// That of a function of which nothing is known: an empty address map, and no places. It takes no memory.
+    /// That of a function of which nothing is known: an empty address map, no labels, and no places. It takes no memory.
     pub fn empty(alloc: Global) -> CompiledFunctionMetadata
         ensures { IsEmptyMetadata result }
     {
         CompiledFunctionMetadata {
             address_map: FunctionAddressMap::empty(alloc),
+            value_labels_ranges: ValueLabelsRanges::new(alloc),
             start_srcloc: FilePos::default(),
             end_srcloc: FilePos::default(),
         }

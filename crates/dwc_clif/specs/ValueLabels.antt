@@ -1,0 +1,37 @@
+-- Where the values of a compiled function lie, as values.
+use Rattle.std.specs.Prelude.{ℕ, List, map, Vec}
+use Rattle.std.specs.Coded.{Coded, codes, coded_list, coded_ℕ}
+use Rattle.std.specs.Ordering.{nat_cmp}
+use Rattle.std.specs.Global.{Global}
+use Rattle.std.specs.FinMap as finite
+use Rattle.dwc_base.specs.Compiled.{Place, in_register, at_frame_offset, LabelRange}
+use Rattle.dwc_clif.specs.declared.value_label.LabelValueLoc.{LabelValueLoc}
+use Rattle.dwc_clif.specs.declared.value_label.LabelValueLoc.TheVariants.{Reg, CFAOffset}
+use Rattle.dwc_clif.specs.declared.value_label.ValueLocRange.{ValueLocRange}
+
+-- a place, as the definitions have it
+abbrev pub place_view : LabelValueLoc → Place
+place_view (Reg register) = in_register register.0
+place_view (CFAOffset offset) = at_frame_offset offset
+
+-- a range
+abbrev pub range_view : ValueLocRange → LabelRange
+range_view r = record { place = place_view r.loc; start = r.start; end = r.end }
+
+-- the ranges of each label
+abbrev pub LabelledRanges : Type 0
+LabelledRanges = finite.FinMap nat_cmp (List LabelRange)
+
+range_code : Coded LabelRange
+range_code = hlevel codes
+
+pub labelled_code : Coded LabelledRanges
+labelled_code = finite.code coded_ℕ (coded_list range_code)
+
+-- a label with its ranges
+abbrev pub labelled : ℕ × Vec ValueLocRange Global → ℕ × List LabelRange
+labelled e = (e.0, map range_view (e.1).items)
+
+-- the ranges of each label, by a list with one entry for each
+abbrev pub labelled_by : List (ℕ × Vec ValueLocRange Global) → LabelledRanges
+labelled_by entries = finite.from_entries (map labelled entries)
