@@ -8,3 +8,4 @@ pub mod FileLaws
 pub mod RowLaws
 pub mod RangeLaws
 pub mod RangeEndLaws
+pub mod OperationLaws

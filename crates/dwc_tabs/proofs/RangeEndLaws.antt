@@ -136,11 +136,11 @@ module _ (s : Sections) (h : UnitHeader) (e : RangeEntriesView) (base : Address)
 -- ---- the begin of a list
 
 module _ (s : Sections) (h : UnitHeader) where
-  named-at : (v : Value) (l : ListPlace) → range_list_named s h v ≡ Some (Ok l) → ranges_of_value (list_source s h) h.offset v ≡ ranges_at (list_source s h) l
+  named-at : (v : Value) (l : ListPlace) (offset : ℕ) → range_list_named s h v ≡ Some (Ok l) → ranges_of_value (list_source s h) offset v ≡ ranges_at (list_source s h) l
   unfolding ranges_of_value
-  named-at v l = go (list_named (list_source s h) v)
+  named-at v l offset = go (list_named (list_source s h) v)
     where
-      go : (o : Option (Result ListPlace Flaw)) → option_map (reported RangeList Info h.offset) o ≡ Some (Ok l) → list_of_value RangeList h.offset (ranges_at (list_source s h)) o ≡ ranges_at (list_source s h) l
+      go : (o : Option (Result ListPlace Flaw)) → option_map (reported RangeList Info h.offset) o ≡ Some (Ok l) → list_of_value RangeList offset (ranges_at (list_source s h)) o ≡ ranges_at (list_source s h) l
       go None e = absurd (cc)
       go (Some (Err flaw)) e = absurd (cc)
       go (Some (Ok p)) e = let same : p ≡ l = cc in ap (ranges_at (list_source s h)) same
@@ -152,5 +152,5 @@ module _ (s : Sections) (h : UnitHeader) where
       ∙ ap (λ b. intervals_among (intervals_given (list_source s h) (told_at e.place.section e.place.offset) b (raw_ranges (list_source s h) e.place).items (raw_ranges (list_source s h) e.place).fault)) first
 
   -- The intervals that a list gives from its first base on are those that the value names.
-  pub given-begin : (v : Value) (e : RangeEntriesView) (base : Address) → range_list_named s h v ≡ Some (Ok e.place) → e.left ≡ raw_ranges (list_source s h) e.place → base ≡ first_base_of s h → intervals_among (given_from s h e base) ≡ ranges_of_value (list_source s h) h.offset v
-  given-begin v e base named left first = given-whole e base left first ∙ sym (named-at v e.place named)
+  pub given-begin : (v : Value) (e : RangeEntriesView) (base : Address) → range_list_named s h v ≡ Some (Ok e.place) → e.left ≡ raw_ranges (list_source s h) e.place → base ≡ first_base_of s h → (offset : ℕ) → intervals_among (given_from s h e base) ≡ ranges_of_value (list_source s h) offset v
+  given-begin v e base named left first offset = given-whole e base left first ∙ sym (named-at v e.place offset named)

@@ -6,3 +6,4 @@ pub mod Faults
 pub mod Tables
 pub mod RangeLists
 pub mod RangeEnds
+pub mod Operations

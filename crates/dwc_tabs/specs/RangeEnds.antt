@@ -53,7 +53,7 @@ GivesNextOf view old new (Ok (Some x)) = old ≡ with_first (view x) new
 GivesNextOf view old new (Ok None) = (old ≡ no_items) × (new ≡ no_items)
 GivesNextOf view old new (Err e) = (old ≡ only_fault (refusal_view e)) × (new ≡ only_fault (refusal_view e))
 
--- A call begins the intervals of the range list that a value of a unit names.
+-- A call begins the intervals of the range list that a value of a unit names, which are the same wherever they are told.
 abbrev pub BeginsRanges : Sections → UnitHeader → Value → Result (Listing ListRefusal Interval) ReadFault → Type 0
-BeginsRanges s h v (Ok r) = r ≡ ranges_of_value (list_source s h) h.offset v
+BeginsRanges s h v (Ok r) = (offset : ℕ) → r ≡ ranges_of_value (list_source s h) offset v
 BeginsRanges s h v (Err e) = Tells (range_list_named s h v) (fault_seen e)

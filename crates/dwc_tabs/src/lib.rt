@@ -1,5 +1,6 @@
 //! Line tables: a table is read and checked once, and its rows are given one at a time. (DWARF 4 and 5, section 6.2.) Range lists:
 //! their entries as they stand, and the intervals that these stand for. (DWARF 4, section 2.17.3; DWARF 5, sections 2.17.3 and 7.25.)
+//! The operations of expressions. (DWARF 4 and 5, sections 2.5 and 7.7.1.)
 #![tactic(auto)]
 
 mod entries;
@@ -7,6 +8,8 @@ mod fault;
 mod header;
 mod instruction;
 mod list_fault;
+mod operation;
+mod operations;
 mod parameters;
 mod path;
 mod program;
@@ -23,6 +26,8 @@ mod unread;
 pub use fault::TabFault;
 pub use header::LineFile;
 pub use list_fault::ListFault;
+pub use operation::Operation;
+pub use operations::Operations;
 pub use range_ends::{interval_between, interval_of_length};
 pub use range_entries::{RangeEntries, is_range_list};
 pub use range_entry::RangeEntry;
