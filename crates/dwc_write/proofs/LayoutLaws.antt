@@ -4,6 +4,7 @@ use Rattle.std.specs.Prelude.{Option, Some, None, Result, sum_by}
 use Rattle.std.specs.List.{AllZip, flat_map}
 use Rattle.std.proofs.lemmas.List.Sums.{sum_by-cons}
 use Rattle.dwc_base.specs.declared.records.Endian.{Endian}
+use Rattle.dwc_base.specs.declared.faults.Limit.TheVariants.{Section, Addend, Range}
 use Rattle.dwc_write.specs.declared.error.WriteError.{WriteError}
 use Rattle.dwc_write.specs.declared.error.WriteError.TheVariants.{TooLarge, OutOfMemory}
 use Rattle.dwc_write.specs.Spelled.{at_places}
@@ -34,15 +35,19 @@ spelled-done spell view (x ∷ xs) (suc i) past = spelled-done spell view xs i (
 -- a refusal on the way is one of the whole
 pub advance-refused : (result : Result ℕ WriteError) (e : WriteError) (behind more place total : ℕ) → ((error : WriteError) × (result ≡ Err error) × (error ≡ e)) → Advances (Err e) behind more → behind + more ≤ place + total → Advances result place total
 advance-refused result OutOfMemory behind more place total p refused less = absurd refused
-advance-refused result (TooLarge name) behind more place total p refused less =
-    let is : result ≡ Err (TooLarge name) = p.1 ∙ ap Err p.2 in
+advance-refused result (TooLarge Addend) behind more place total p refused less = absurd refused
+advance-refused result (TooLarge Range) behind more place total p refused less = absurd refused
+advance-refused result (TooLarge (Section name)) behind more place total p refused less =
+    let is : result ≡ Err (TooLarge (Section name)) = p.1 ∙ ap Err p.2 in
     let large = refused.1 in
     rw (is) (refused.0, omega (arith, large, less))
 
 pub advance-free : (result : Result ℕ WriteError) (e : WriteError) (behind more place total : ℕ) → ((error : WriteError) × (result ≡ Err error) × (error ≡ e)) → Advances (Err e) behind more → behind + more ≤ place + total → AdvancesOrMemory result place total
 advance-free result OutOfMemory behind more place total p refused less = absurd refused
-advance-free result (TooLarge name) behind more place total p refused less =
-    let is : result ≡ Err (TooLarge name) = p.1 ∙ ap Err p.2 in
+advance-free result (TooLarge Addend) behind more place total p refused less = absurd refused
+advance-free result (TooLarge Range) behind more place total p refused less = absurd refused
+advance-free result (TooLarge (Section name)) behind more place total p refused less =
+    let is : result ≡ Err (TooLarge (Section name)) = p.1 ∙ ap Err p.2 in
     let large = refused.1 in
     rw (is) (refused.0, omega (arith, large, less))
 

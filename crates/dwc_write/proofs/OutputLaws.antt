@@ -10,6 +10,7 @@ use Rattle.dwc_base.specs.declared.section_name.SectionName.TheVariants.{Abbrev,
 use Rattle.dwc_base.specs.Outputs.{OutputRelocation, OutputSection}
 use Rattle.dwc_write.specs.declared.error.WriteError.{WriteError}
 use Rattle.dwc_write.specs.declared.error.WriteError.TheVariants.{TooLarge, OutOfMemory}
+use Rattle.dwc_base.specs.declared.faults.Limit.TheVariants.{Section, Addend, Range}
 use Rattle.dwc_write.specs.Spelled.{at_places}
 use Rattle.dwc_write.specs.SpelledTables.{table_bytes}
 use Rattle.dwc_write.specs.SpelledSections.{placed_unit_bytes, tables_bytes, info_bytes, one_table_bytes, lines_bytes}
@@ -194,7 +195,9 @@ grown-units units (u ∷ us) w =
 
 pub section-refused : (order : Endian) (units : AllPlaces) (us : List OrderedUnit) (e : WriteError) (a b : Writing) (name : SectionName) (x : List ℕ) → Refuses e a (length x) → a.name ≡ b.name → length (a.body ++ x) ≤ length b.body → b.name ≡ name → b.body ≡ bytes_of order units us name → IsRefusalAmong order units us e
 section-refused order units us OutOfMemory a b name x refused named more final is = tt
-section-refused order units us (TooLarge n) a b name x refused named more final is =
+section-refused order units us (TooLarge Addend) a b name x refused named more final is = absurd refused
+section-refused order units us (TooLarge Range) a b name x refused named more final is = absurd refused
+section-refused order units us (TooLarge (Section n)) a b name x refused named more final is =
     let same : n ≡ name = refused.0 ∙ named ∙ final in
     let large = refused.1 in
     let long = ap length is in
@@ -220,7 +223,9 @@ units-refused order units us i d w e within fits invariant refused =
 -- among their own places it is the refusal of the units
 pub refusal-of-all : (order : Endian) (units : AllPlaces) (texts : List (List ℕ)) (us : List OrderedUnit) (e : WriteError) → units ≡ all_places order texts us → IsRefusalAmong order units us e → IsRefusal order texts us e
 refusal-of-all order units texts us OutOfMemory placed refused = tt
-refusal-of-all order units texts us (TooLarge name) placed refused = go name (subst (λ xs. most_bytes < length (bytes_of order xs us name)) placed refused)
+refusal-of-all order units texts us (TooLarge Addend) placed refused = absurd refused
+refusal-of-all order units texts us (TooLarge Range) placed refused = absurd refused
+refusal-of-all order units texts us (TooLarge (Section name)) placed refused = go name (subst (λ xs. most_bytes < length (bytes_of order xs us name)) placed refused)
   where
     go : (n : SectionName) → most_bytes < length (bytes_of order (all_places order texts us) us n) → most_bytes < length (section_bytes order texts us n)
     go Abbrev large = large

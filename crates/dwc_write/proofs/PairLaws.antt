@@ -9,6 +9,7 @@ use Rattle.dwc_base.specs.declared.records.Endian.{Endian}
 use Rattle.dwc_base.specs.Outputs.{OutputRelocation}
 use Rattle.dwc_write.specs.declared.error.WriteError.{WriteError}
 use Rattle.dwc_write.specs.declared.error.WriteError.TheVariants.{TooLarge, OutOfMemory}
+use Rattle.dwc_base.specs.declared.faults.Limit.TheVariants.{Section, Addend, Range}
 use Rattle.dwc_write.specs.Spelled.{at_places}
 use Rattle.dwc_write.specs.RangeLists.{pair_bytes, pair_relocations, pairs_bytes, pairs_relocations}
 use Rattle.dwc_write.specs.Writers.{Writing, Refuses, Writes, appended}
@@ -33,7 +34,9 @@ whole-part spell at ys zs w v all invariant step =
 -- some that are refused
 pub part-refused : {A : Type 0} (spell : A → List ℕ) (at : ℕ → A → List OutputRelocation) (ys zs all : List A) (w a : Writing) (e : WriteError) → whole spell at (ys ++ zs) w ≡ whole spell at all a → Refuses e w (length (flat_map spell ys)) → Refuses e a (length (flat_map spell all))
 part-refused spell at ys zs all w a OutOfMemory invariant refused = tt
-part-refused spell at ys zs all w a (TooLarge name) invariant refused =
+part-refused spell at ys zs all w a (TooLarge Addend) invariant refused = absurd refused
+part-refused spell at ys zs all w a (TooLarge Range) invariant refused = absurd refused
+part-refused spell at ys zs all w a (TooLarge (Section name)) invariant refused =
     let named : w.name ≡ a.name = ap (λ (v : Writing). v.name) invariant in
     let long = ap (λ (v : Writing). length v.body) invariant in
     let large = refused.1 in

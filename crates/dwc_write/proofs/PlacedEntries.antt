@@ -11,7 +11,8 @@ use Rattle.dwc_base.specs.declared.records.Endian.{Endian}
 use Rattle.dwc_base.specs.Entries.{Entry}
 use Rattle.dwc_base.specs.Carried.{Unit as ReadUnit}
 use Rattle.dwc_base.specs.Trees.{place_among}
-use Rattle.dwc_write.specs.Spelled.{number_bytes, uleb_bytes, at_places}
+use Rattle.dwc_base.specs.NumberBytes.{number_bytes, uleb_bytes}
+use Rattle.dwc_write.specs.Spelled.{at_places}
 use Rattle.dwc_write.specs.SpelledTables.{table_bytes}
 use Rattle.dwc_write.specs.SpelledUnits.{WrittenEntry, written_bytes, attribute_bytes, next_depth, Shaped, shaped, entry_bytes, entries_bytes, read_entry, header_length, unit_body}
 use Rattle.dwc_write.specs.SpelledSections.{placed_unit_bytes, info_bytes, lines_bytes}

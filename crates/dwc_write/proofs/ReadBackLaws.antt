@@ -20,7 +20,8 @@ use Rattle.dwc_base.specs.Values.{Value}
 use Rattle.dwc_base.specs.Entries.{Entry, attribute}
 use Rattle.dwc_base.specs.Carried.{Unit, units, root, line_offset, table_of_root, table_of_unit, segments_of_unit}
 use Rattle.dwc_base.specs.Outputs.{OutputRelocation, OutputSection, function_relocation, output_sections}
-use Rattle.dwc_write.specs.Spelled.{at_places, number_bytes}
+use Rattle.dwc_base.specs.NumberBytes.{number_bytes}
+use Rattle.dwc_write.specs.Spelled.{at_places}
 use Rattle.dwc_write.specs.SpelledTables.{FitsSpec, FitsDeclaration, AreNumbered, table_bytes}
 use Rattle.dwc_write.specs.SpelledUnits as spelled
 use Rattle.dwc_write.specs.SpelledUnits.{Written, as_addr, as_data1, as_data2, as_data4, as_data8, as_udata, as_sdata, form_number, FitsWritten, written_value, WrittenAttribute, spec_of, WrittenEntry, Shaped, next_depth, shaped, declaration_for, entry_bytes, entries_bytes, read_entry, read_entries, header_length, unit_body}

@@ -3,7 +3,7 @@
 use Rattle.std.proofs.Common.{◌≡◌, ℕ, ◌/◌, refl, arith}
 use Rattle.std.specs.Int.{w16, w32, w64, to_le_bytes, to_be_bytes}
 use Rattle.dwc_base.specs.declared.records.Endian.TheVariants.{Little, Big}
-use Rattle.dwc_write.specs.Spelled.{number_bytes}
+use Rattle.dwc_base.specs.NumberBytes.{number_bytes}
 
 pub number_bytes-le_2 : (n : ℕ) → to_le_bytes w16 n ≡ number_bytes Little 2 n
 number_bytes-le_2 n = refl

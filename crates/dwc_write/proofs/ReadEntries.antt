@@ -17,7 +17,8 @@ use Rattle.dwc_base.specs.Abbreviations.{Declaration, declaration_of, abbreviati
 use Rattle.dwc_base.specs.Units.{UnitHeader, sized_part_at, header_to_4, unit_header_at}
 use Rattle.dwc_base.specs.Entries.{Found, entry_place, place_behind, declared_entry_at, entry_at, entries_from, entries}
 use Rattle.dwc_base.specs.Spelling.{unread_at}
-use Rattle.dwc_write.specs.Spelled.{SpellsAt, number_bytes, uleb_bytes, sized_bytes}
+use Rattle.dwc_base.specs.NumberBytes.{number_bytes, uleb_bytes}
+use Rattle.dwc_write.specs.Spelled.{SpellsAt, sized_bytes}
 use Rattle.dwc_write.specs.SpelledAddresses.{IsHeld}
 use Rattle.dwc_write.specs.SpelledUnits.{WrittenEntry, Shaped, next_depth, shaped, attribute_bytes, entry_bytes, entry_fields, read_entry, entries_bytes, entries_fields, read_entries, AreBelow, IsTree, FitsEntry, unit_body, unit_bytes, read_header, header_length}
 use Rattle.dwc_write.proofs.ReadNumbers.{number_bytes-length}

@@ -19,7 +19,8 @@ use Rattle.dwc_base.specs.Indexed.{text_base}
 use Rattle.dwc_base.specs.Carried.{root, line_offset}
 use Rattle.dwc_base.specs.Fields.{Field, an_address, field_of_instruction, fields_of_instructions, fields_of_line_table, fields_of_lines, relocation_of, relocations_of_fields}
 use Rattle.dwc_base.specs.Spelling.{unread_at}
-use Rattle.dwc_write.specs.Spelled.{uleb_bytes, at_places}
+use Rattle.dwc_base.specs.NumberBytes.{uleb_bytes}
+use Rattle.dwc_write.specs.Spelled.{at_places}
 use Rattle.dwc_write.specs.SpelledAddresses.{AddressField, address_bytes, stored, IsHeld}
 use Rattle.dwc_write.specs.SpelledUnits.{written_value, WrittenAttribute, header_length, read_entries}
 use Rattle.dwc_write.specs.SpelledLines.{FitsInstruction, instruction_bytes, instruction_fields, program_bytes, program_fields, program_place, read_line_header, WrittenSequence, first_row, sequence_instructions, sequences_instructions}

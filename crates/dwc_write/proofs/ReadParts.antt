@@ -13,7 +13,8 @@ use Rattle.dwc_base.specs.declared.records.Endian.TheVariants.{Little, Big}
 use Rattle.dwc_base.specs.declared.faults.Flaw.{Flaw}
 use Rattle.dwc_base.specs.Reading.{Unread, Read, ◌>>=◌, forbid, seen_as, number, number_at, uleb_at, sleb_at, sleb_value, is_64_bit, part_at, text_at, items_at, counted_at}
 use Rattle.dwc_base.specs.Spelling.{Spells, unread_at}
-use Rattle.dwc_write.specs.Spelled.{SpellsAt, number_bytes, uleb_bytes, sleb_bytes, text_bytes, at_places}
+use Rattle.dwc_base.specs.NumberBytes.{number_bytes, uleb_bytes, sleb_bytes}
+use Rattle.dwc_write.specs.Spelled.{SpellsAt, text_bytes, at_places}
 use Rattle.dwc_base.proofs.Spellings.{Spells-number, Spells-uleb}
 use Rattle.dwc_base.proofs.Items.{Leaves, items-more, items-end}
 use Rattle.dwc_write.proofs.ReadNumbers.{number_bytes-length, number_bytes-number, uleb_bytes-value, sleb_bytes-value, sleb_value-append}

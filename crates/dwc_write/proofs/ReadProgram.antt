@@ -8,7 +8,8 @@ use Rattle.dwc_base.specs.Listing.{with_first}
 use Rattle.dwc_base.specs.Sections.{Relocation}
 use Rattle.dwc_base.specs.LineHeaders.{LineFile, LineHeader, Instruction, special, copy, advance_pc, advance_line, set_file, set_column, negate_stmt, set_basic_block, const_add_pc, fixed_advance_pc, set_prologue_end, set_epilogue_begin, set_isa, end_sequence, set_address, define_file, set_discriminator, unknown, operand_at, file_behind, extended_at, extended_instruction_at, instruction_at, instructions}
 use Rattle.dwc_base.specs.Spelling.{unread_at}
-use Rattle.dwc_write.specs.Spelled.{SpellsAt, uleb_bytes, block_bytes}
+use Rattle.dwc_base.specs.NumberBytes.{uleb_bytes}
+use Rattle.dwc_write.specs.Spelled.{SpellsAt, block_bytes}
 use Rattle.dwc_write.specs.SpelledAddresses.{stored, address_bytes, IsHeld}
 use Rattle.dwc_write.specs.SpelledLines.{file_bytes, instruction_bytes, FitsInstruction, instruction_fields, program_bytes, program_fields}
 use Rattle.dwc_write.proofs.ReadNumbers.{number_bytes-length, uleb_bytes-length}

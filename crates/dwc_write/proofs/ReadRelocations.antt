@@ -9,7 +9,8 @@ use Rattle.dwc_base.specs.declared.records.Address.TheVariants.{Constant, Symbol
 use Rattle.dwc_base.specs.declared.records.LineRow.{LineRow}
 use Rattle.dwc_base.specs.LineHeaders.{Instruction, set_address, copy, advance_pc, advance_line, set_file, set_column, negate_stmt, set_basic_block, set_prologue_end, set_epilogue_begin, set_isa, end_sequence, set_discriminator}
 use Rattle.dwc_base.specs.Outputs.{OutputRelocation, function_relocation}
-use Rattle.dwc_write.specs.Spelled.{number_bytes, uleb_bytes, at_places}
+use Rattle.dwc_base.specs.NumberBytes.{number_bytes, uleb_bytes}
+use Rattle.dwc_write.specs.Spelled.{at_places}
 use Rattle.dwc_write.specs.SpelledAddresses.{AddressField, address_bytes, stored, relocation_for, relocations_of}
 use Rattle.dwc_write.specs.SpelledUnits.{Written, as_addr, as_strp, as_ref_addr, as_sec_offset, written_bytes, value_fields, WrittenAttribute, attribute_bytes, Shaped, shaped, entry_bytes, entry_fields, entries_bytes, header_length, unit_body}
 use Rattle.dwc_write.specs.SpelledLines.{instruction_bytes, instruction_fields, line_fields_bytes, program_bytes, program_fields, program_place, WrittenSequence, first_row, when, differs, row_instructions, rows_instructions, sequence_instructions, sequences_instructions, line_body}

@@ -18,7 +18,7 @@ use Rattle.dwc_base.specs.LineRows.{line_table}
 use Rattle.dwc_base.specs.Indexed.{text_base}
 use Rattle.dwc_base.specs.Carried.{Unit as ReadUnit, units, units_of_headers, root, line_offset, table_of_root, table_of_unit, segments_of_unit}
 use Rattle.dwc_base.specs.Spelling.{unread_at}
-use Rattle.dwc_write.specs.Spelled.{number_bytes, uleb_bytes}
+use Rattle.dwc_base.specs.NumberBytes.{number_bytes, uleb_bytes}
 use Rattle.dwc_write.specs.SpelledTables.{table_bytes}
 use Rattle.dwc_write.specs.SpelledAddresses.{AddressField, address_bytes, stored, IsHeld, relocations_of, RiseWithin}
 use Rattle.dwc_write.specs.SpelledUnits.{Written, as_addr, written_bytes, value_fields, WrittenAttribute, attribute_bytes, WrittenEntry, Shaped, shaped, entry_bytes, entry_fields, entries_bytes, entries_fields, header_length, read_header, unit_body}

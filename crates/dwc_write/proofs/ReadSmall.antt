@@ -16,7 +16,7 @@ use Rattle.dwc_base.specs.declared.records.LineRow.{LineRow}
 use Rattle.dwc_base.specs.declared.section_name.SectionName.TheVariants.{Abbrev, Info, Line}
 use Rattle.dwc_base.specs.Abbreviations.{AttributeSpec, Declaration}
 use Rattle.dwc_base.specs.Outputs.{output_sections}
-use Rattle.dwc_write.specs.Spelled.{uleb_bytes, uleb_bytes_within, sleb_bytes, sleb_bytes_from_0}
+use Rattle.dwc_base.specs.NumberBytes.{uleb_bytes, uleb_bytes_within, sleb_bytes, sleb_bytes_from_0}
 use Rattle.dwc_write.specs.SpelledUnits.{as_addr, as_udata, as_sec_offset, WrittenAttribute, WrittenEntry, shaped, FitsEntry, FitsWritten}
 use Rattle.dwc_write.specs.SpelledTables.{FitsSpec, FitsDeclaration}
 use Rattle.dwc_write.specs.SpelledAddresses.{relocations_of}

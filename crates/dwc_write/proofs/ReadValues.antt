@@ -12,7 +12,8 @@ use Rattle.dwc_base.specs.Units.{UnitHeader}
 use Rattle.dwc_base.specs.Values.{variable, address, sized_number_at, block_at, formed_value_at, form_code_at, encoded_value_at, value_at}
 use Rattle.dwc_base.specs.Entries.{attributes_at}
 use Rattle.dwc_base.specs.Spelling.{Spells, unread_at}
-use Rattle.dwc_write.specs.Spelled.{SpellsAt, number_bytes, block_bytes, at_places}
+use Rattle.dwc_base.specs.NumberBytes.{number_bytes}
+use Rattle.dwc_write.specs.Spelled.{SpellsAt, block_bytes, at_places}
 use Rattle.dwc_write.specs.SpelledAddresses.{stored, address_bytes, FitsAddress, IsHeld}
 use Rattle.dwc_write.specs.SpelledUnits.{Written, as_addr, as_data1, as_data2, as_data4, as_data8, as_udata, as_sdata, as_flag, as_block, as_exprloc, as_strp, as_ref4, as_ref_addr, as_sec_offset, written_bytes, FitsWritten, written_value, value_fields, WrittenAttribute, spec_of, attribute_bytes}
 use Rattle.dwc_base.proofs.Spellings.{Spells-number, Spells-bytes}

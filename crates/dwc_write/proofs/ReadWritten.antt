@@ -6,7 +6,7 @@ use Rattle.std.proofs.lemmas.Grind.{flat_map-append}
 use Rattle.dwc_base.specs.declared.records.Endian.{Endian}
 use Rattle.dwc_base.specs.declared.records.LineRow.{LineRow}
 use Rattle.dwc_base.specs.LineHeaders.{Instruction, copy, advance_pc, advance_line, set_file, set_column, negate_stmt, set_basic_block, set_prologue_end, set_epilogue_begin, set_isa, end_sequence, set_discriminator}
-use Rattle.dwc_write.specs.Spelled.{uleb_bytes, uleb_bytes_within, sleb_bytes}
+use Rattle.dwc_base.specs.NumberBytes.{uleb_bytes, uleb_bytes_within, sleb_bytes}
 use Rattle.dwc_write.specs.SpelledLines.{when, bytes_when, differs, instruction_bytes, extended_bytes, program_bytes, row_instructions, rows_instructions}
 
 when-bytes : (order : Endian) (size : ℕ) (b : Bool) (i : Instruction) (is : List Instruction) (rest : List ℕ) → program_bytes order size is ≡ rest → program_bytes order size (when b i ++ is) ≡ bytes_when b (instruction_bytes order size i) ++ rest

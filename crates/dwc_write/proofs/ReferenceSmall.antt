@@ -5,7 +5,7 @@ use Rattle.std.specs.Prelude.{codes}
 use Rattle.dwc_base.specs.declared.records.Endian.TheVariants.{Little}
 use Rattle.dwc_base.specs.Trees.{entry, nothing, Tree}
 use Rattle.dwc_base.specs.Outputs.{OutputRelocation, section}
-use Rattle.dwc_write.specs.Spelled.{uleb_bytes, uleb_bytes_within}
+use Rattle.dwc_base.specs.NumberBytes.{uleb_bytes, uleb_bytes_within}
 use Rattle.dwc_write.specs.SpelledRelocations.{info_relocations}
 use Rattle.dwc_write.specs.declared.attributes.AttributeValue.TheVariants.{UnitRef, DebugInfoRef}
 use Rattle.dwc_write.specs.declared.attributes.DebugInfoRef.TheVariants.{Entry}

@@ -3,7 +3,7 @@ use Rattle.std.proofs.Common.{◌≡◌, ℕ, ◌+◌, ◌<◌, ◌≤◌, sym, 
 use Rattle.std.proofs.lemmas.List.{drop_all}
 use Rattle.dwc_base.specs.declared.records.Endian.{Endian}
 use Rattle.dwc_base.specs.declared.records.LineRow.{LineRow}
-use Rattle.dwc_write.specs.Spelled.{uleb_bytes}
+use Rattle.dwc_base.specs.NumberBytes.{uleb_bytes}
 use Rattle.dwc_write.specs.SpelledLines.{extended_bytes, program_bytes, rows_instructions, bytes_when}
 use Rattle.std.specs.Prelude.{not, ◌==◌, ◌-◌}
 use Rattle.dwc_write.proofs.ReadNumbers.{uleb_bytes-small}

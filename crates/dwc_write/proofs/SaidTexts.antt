@@ -19,6 +19,7 @@ use Rattle.dwc_write.specs.GivenTrees.{given_said, attribute_said, tree_entry, t
 use Rattle.dwc_write.specs.TextTables.{AreTexts}
 use Rattle.dwc_write.specs.UsedTexts.{HaveTexts, strings_bytes, text_numbered, text_of_value, texts_named, texts_of_attributes, texts_of_entries, with_number, with_numbers}
 use Rattle.dwc_base.specs.declared.section_name.SectionName.{SectionName}
+use Rattle.dwc_base.specs.declared.faults.Limit.TheVariants.{Section, Addend, Range}
 use Rattle.dwc_write.specs.declared.error.WriteError.{WriteError}
 use Rattle.dwc_write.specs.declared.error.WriteError.TheVariants.{TooLarge, OutOfMemory}
 use Rattle.dwc_write.specs.TextViews.{IsTextRefusal}
@@ -126,7 +127,9 @@ module _ (texts : List (List ℕ)) (table : AreTexts texts) where
 -- A refusal of texts is one for their widest size.
 pub texts-widely : (texts : List (List ℕ)) (us : List OrderedUnit) (e : WriteError) → AreTexts texts → HaveTexts texts us → IsTextRefusal e (length (strings_bytes texts us)) → IsWideRefusal texts us e
 texts-widely texts us OutOfMemory table known refused = tt
-texts-widely texts us (TooLarge name) table known refused =
+texts-widely texts us (TooLarge Addend) table known refused = absurd refused
+texts-widely texts us (TooLarge Range) table known refused = absurd refused
+texts-widely texts us (TooLarge (Section name)) table known refused =
     let P : SectionName → Type 0 = λ m. most_bytes < widest_said m texts us in
     let large = refused.1 in
     let said = ap length (strings-said texts table us known) in

@@ -6,7 +6,7 @@ use Rattle.std.specs.Int.{w64, cast_signed}
 use Rattle.dwc_base.specs.declared.records.Endian.{Endian}
 use Rattle.dwc_base.specs.declared.records.Address.{Address}
 use Rattle.dwc_base.specs.declared.constants.TheConstants.{DW_FORM_data1, DW_FORM_data2, DW_FORM_data4, DW_FORM_data8, DW_FORM_sdata}
-use Rattle.dwc_write.specs.Spelled.{uleb_bytes, sleb_bytes, sleb_bytes_from_0, sleb_bytes_below_0}
+use Rattle.dwc_base.specs.NumberBytes.{uleb_bytes, sleb_bytes, sleb_bytes_from_0, sleb_bytes_below_0}
 use Rattle.dwc_write.specs.SpelledAddresses.{address_bytes, stored}
 use Rattle.dwc_write.specs.SpelledUnits.{as_data1, as_data2, as_data4, as_data8, as_sdata, as_udata, written_bytes}
 use Rattle.dwc_write.specs.GivenUnits.{constant_of}

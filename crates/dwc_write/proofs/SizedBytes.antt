@@ -3,7 +3,7 @@ use Rattle.std.proofs.Common.{◌≡◌, ℕ, ◌/◌, ◌%◌, refl, ap, ap, ar
 use Rattle.std.specs.Prelude.{reverse}
 use Rattle.dwc_base.specs.declared.records.Endian.{Endian}
 use Rattle.dwc_base.specs.declared.records.Endian.TheVariants.{Little, Big}
-use Rattle.dwc_write.specs.Spelled.{low_bytes, number_bytes}
+use Rattle.dwc_base.specs.NumberBytes.{low_bytes, number_bytes}
 
 low_bytes-1 : (n : ℕ) → low_bytes 1 (n % 256) ≡ low_bytes 1 n
 low_bytes-1 n = let a : n % 256 % 256 ≡ n % 256 = omega arith in rw (a) refl

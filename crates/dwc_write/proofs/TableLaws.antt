@@ -3,7 +3,8 @@ use Rattle.std.proofs.Common.{◌≡◌, ℕ, ◌+◌, ◌≤◌, refl, sym, ap,
 use Rattle.std.specs.Prelude.{◌-◌}
 use Rattle.std.specs.List.{All, flat_map}
 use Rattle.dwc_base.specs.declared.records.Endian.{Endian}
-use Rattle.dwc_write.specs.Spelled.{number_bytes, sized_bytes}
+use Rattle.dwc_base.specs.NumberBytes.{number_bytes}
+use Rattle.dwc_write.specs.Spelled.{sized_bytes}
 use Rattle.dwc_base.specs.LineHeaders.{LineFile}
 use Rattle.dwc_write.specs.GivenLines.{GivenLines, BegunSequence}
 use Rattle.dwc_write.specs.Layouts.{written_lines}

@@ -8,6 +8,7 @@ use Rattle.std.proofs.lemmas.List.{drop_all, length-replicate, length-set, map-a
 use Rattle.std.proofs.lemmas.List.Elements.{All-push, All-nil}
 use Rattle.dwc_base.specs.TreeLaws.{texts_ended}
 use Rattle.dwc_base.specs.Outputs.{OutputRelocation}
+use Rattle.dwc_base.specs.declared.faults.Limit.TheVariants.{Section, Addend, Range}
 use Rattle.dwc_write.specs.declared.error.WriteError.{WriteError}
 use Rattle.dwc_write.specs.declared.error.WriteError.TheVariants.{TooLarge, OutOfMemory}
 use Rattle.dwc_write.specs.declared.text_layout.TextLayout.{TextLayout}
@@ -128,7 +129,9 @@ module _ (texts : List (List ℕ)) where
 
   pub behind-refused : (e : WriteError) (place n : ℕ) (text : List ℕ) → BehindText (Err e) place text → place + length (text ++ 0 ∷ []) ≡ n → IsTextRefusal e n
   behind-refused OutOfMemory place n text refused same = absurd refused
-  behind-refused (TooLarge name) place n text refused same = let large = refused.1 in (refused.0, omega (arith, large, same))
+  behind-refused (TooLarge Addend) place n text refused same = absurd refused
+  behind-refused (TooLarge Range) place n text refused same = absurd refused
+  behind-refused (TooLarge (Section name)) place n text refused same = let large = refused.1 in (refused.0, omega (arith, large, same))
 
   -- ---- texts of several numbers
 
@@ -186,7 +189,9 @@ module _ (texts : List (List ℕ)) where
 
   refused-longer : (e : WriteError) (n total : ℕ) → IsTextRefusal e n → n ≤ total → IsTextRefusal e total
   refused-longer OutOfMemory n total refused less = tt
-  refused-longer (TooLarge name) n total refused less = let large = refused.1 in (refused.0, omega (arith, large, less))
+  refused-longer (TooLarge Addend) n total refused less = absurd refused
+  refused-longer (TooLarge Range) n total refused less = absurd refused
+  refused-longer (TooLarge (Section name)) n total refused less = let large = refused.1 in (refused.0, omega (arith, large, less))
 
   pub using-refused : {A : Type 0} (f : A → List ℕ) (xs : List A) (i : ℕ) (d : A) (start l : TextLayout) (e : WriteError) → IsUsing f xs i start l → i < length xs → IsTextRefusal e (length (texts_bytes texts (with_numbers l.used.items (f (get_or xs i d)))))
       → IsTextRefusal e (length (texts_bytes texts (with_numbers start.used.items (flat_map f xs))))

@@ -5,7 +5,7 @@ use Rattle.std.specs.List.{All}
 use Rattle.dwc_base.specs.declared.records.Endian.{Endian}
 use Rattle.dwc_base.specs.declared.section_name.SectionName.TheVariants.{Abbrev}
 use Rattle.dwc_base.specs.Outputs.{OutputRelocation}
-use Rattle.dwc_write.specs.Spelled.{number_bytes}
+use Rattle.dwc_base.specs.NumberBytes.{number_bytes}
 use Rattle.dwc_write.specs.SpelledUnits.{shaped, entries_bytes, header_length, unit_body}
 use Rattle.dwc_write.specs.SpelledSections.{WrittenUnit, placed_unit_bytes}
 use Rattle.dwc_write.specs.SpelledRelocations.{RelocationsRise, entries_relocations, unit_relocations}

@@ -8,7 +8,7 @@ use Rattle.std.proofs.lemmas.List.Elements.{All-append, All-weaker, All-cons, Al
 use Rattle.std.proofs.Math.Seq.{drop-append_seam, take-append_seam, drop-append-add}
 use Rattle.dwc_base.specs.declared.records.Endian.{Endian}
 use Rattle.dwc_base.specs.Outputs.{OutputRelocation}
-use Rattle.dwc_write.specs.Spelled.{number_bytes}
+use Rattle.dwc_base.specs.NumberBytes.{number_bytes}
 use Rattle.dwc_write.specs.Writers.{IsWhole, IsClear, FitsTarget, replaced, most_bytes}
 use Rattle.dwc_write.proofs.ReadNumbers.{number_bytes-length}
 

@@ -10,6 +10,7 @@ use Rattle.dwc_base.specs.declared.section_name.SectionName.{SectionName}
 use Rattle.dwc_base.specs.declared.section_name.SectionName.TheVariants.{Abbrev, Info, Line, Ranges}
 use Rattle.dwc_write.specs.declared.error.WriteError.{WriteError}
 use Rattle.dwc_write.specs.declared.error.WriteError.TheVariants.{TooLarge, OutOfMemory}
+use Rattle.dwc_base.specs.declared.faults.Limit.TheVariants.{Section, Addend, Range}
 use Rattle.dwc_write.specs.SpelledTables.{table_bytes}
 use Rattle.dwc_write.specs.SpelledSections.{placed_unit_bytes, lines_bytes}
 use Rattle.dwc_write.specs.GivenLines.{FitsLines}
@@ -66,7 +67,9 @@ widely-refused order units texts us i d w e within fits given lines done refused
 
     wide : (e : WriteError) → IsRefusalAmong order units (take (suc i) us) e → IsWideRefusal texts us e
     wide OutOfMemory large = tt
-    wide (TooLarge name) large = omega (arith, large, within-widest order units (take (suc i) us) name (writable-taken us i fits) given lines, sum_by-take-le (widest_unit name) us (suc i), widest-said name texts us)
+    wide (TooLarge Addend) large = absurd large
+    wide (TooLarge Range) large = absurd large
+    wide (TooLarge (Section name)) large = omega (arith, large, within-widest order units (take (suc i) us) name (writable-taken us i fits) given lines, sum_by-take-le (widest_unit name) us (suc i), widest-said name texts us)
 
 abbrev no_units : AllPlaces
 no_units = record { units = []; texts = [] }
@@ -84,15 +87,21 @@ layout-large order texts us i large = omega (arith, large, sum_by-take-le (unit_
 -- a refusal of such a length
 pub too-long : (e : WriteError) (place more : ℕ) → Advances (Err e) place more → IsTooLong e (place + more)
 too-long OutOfMemory place more refused = absurd refused
-too-long (TooLarge name) place more refused = refused
+too-long (TooLarge Addend) place more refused = absurd refused
+too-long (TooLarge Range) place more refused = absurd refused
+too-long (TooLarge (Section name)) place more refused = refused
 
 pub refused-long : (order : Endian) (texts : List (List ℕ)) (us : List OrderedUnit) (e : WriteError) (n : ℕ) → IsTooLong e n → (most_bytes < n → most_bytes < length (all_info_bytes order (all_places order texts us) us)) → IsRefusal order texts us e
 refused-long order texts us OutOfMemory n long large = tt
-refused-long order texts us (TooLarge name) n long large = let P : SectionName → Type 0 = λ m. most_bytes < length (section_bytes order texts us m) in subst P (sym long.0) (large long.1)
+refused-long order texts us (TooLarge Addend) n long large = absurd long
+refused-long order texts us (TooLarge Range) n long large = absurd long
+refused-long order texts us (TooLarge (Section name)) n long large = let P : SectionName → Type 0 = λ m. most_bytes < length (section_bytes order texts us m) in subst P (sym long.0) (large long.1)
 
 pub refused-widely : (texts : List (List ℕ)) (us : List OrderedUnit) (e : WriteError) (n : ℕ) → IsTooLong e n → (most_bytes < n → most_bytes < widest_said Info texts us) → IsWideRefusal texts us e
 refused-widely texts us OutOfMemory n long large = tt
-refused-widely texts us (TooLarge name) n long large = let P : SectionName → Type 0 = λ m. most_bytes < widest_said m texts us in subst P (sym long.0) (large long.1)
+refused-widely texts us (TooLarge Addend) n long large = absurd long
+refused-widely texts us (TooLarge Range) n long large = absurd long
+refused-widely texts us (TooLarge (Section name)) n long large = let P : SectionName → Type 0 = λ m. most_bytes < widest_said m texts us in subst P (sym long.0) (large long.1)
 
 pub err-exit : {A : Type 0} (P : WriteError → Type 0) (result : Result A WriteError) (e : WriteError) → ((error : WriteError) × (result ≡ Err error) × (error ≡ e)) → P e → IfErr result P
 err-exit P result e p refused =

@@ -19,7 +19,8 @@ use Rattle.dwc_base.specs.Abbreviations.{Declaration}
 use Rattle.dwc_base.specs.LineHeaders.{LineFile}
 use Rattle.dwc_base.specs.Widest.{variable_bytes, widest_declaration, widest_header, widest_image, widest_row}
 use Rattle.dwc_base.specs.WidestTrees.{constant_bytes}
-use Rattle.dwc_write.specs.Spelled.{block_bytes, uleb_bytes, sleb_bytes, number_bytes, text_bytes}
+use Rattle.dwc_base.specs.NumberBytes.{uleb_bytes, sleb_bytes, number_bytes}
+use Rattle.dwc_write.specs.Spelled.{block_bytes, text_bytes}
 use Rattle.dwc_write.specs.SpelledAddresses.{address_bytes, stored}
 use Rattle.dwc_write.specs.SpelledTables.{FitsSpec, implicit_bytes, spec_bytes, declaration_bytes, flag_of, table_bytes}
 use Rattle.dwc_write.specs.SpelledUnits.{as_data1, as_data2, as_data4, as_data8, as_sdata, as_udata, written_bytes, attribute_bytes, next_depth, shaped, entry_bytes, entries_bytes, unit_body}

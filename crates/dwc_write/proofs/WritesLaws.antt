@@ -9,17 +9,22 @@ use Rattle.dwc_write.specs.Spelled.{at_places}
 use Rattle.dwc_base.specs.Outputs.{OutputRelocation}
 use Rattle.dwc_write.specs.declared.error.WriteError.{WriteError}
 use Rattle.dwc_write.specs.declared.error.WriteError.TheVariants.{TooLarge, OutOfMemory}
+use Rattle.dwc_base.specs.declared.faults.Limit.TheVariants.{Section, Addend, Range}
 use Rattle.dwc_write.specs.Writers.{Writing, Refuses, Writes, appended, overwritten, replaced}
 
 -- what refuses less refuses more
 pub refused-longer : (e : WriteError) (w : Writing) (n total : ℕ) → Refuses e w n → n ≤ total → Refuses e w total
 refused-longer OutOfMemory w n total refused less = tt
-refused-longer (TooLarge name) w n total refused less = (refused.0, let large = refused.1 in omega (arith, large, less))
+refused-longer (TooLarge Addend) w n total refused less = absurd refused
+refused-longer (TooLarge Range) w n total refused less = absurd refused
+refused-longer (TooLarge (Section name)) w n total refused less = (refused.0, let large = refused.1 in omega (arith, large, less))
 
 -- behind what is written, what refuses refuses the whole
 pub refused-later : (e : WriteError) (a b : Writing) (x : List ℕ) (r : List OutputRelocation) (n total : ℕ) → b ≡ appended x r a → Refuses e b n → length x + n ≤ total → Refuses e a total
 refused-later OutOfMemory a b x r n total grown refused less = tt
-refused-later (TooLarge name) a b x r n total grown refused less =
+refused-later (TooLarge Addend) a b x r n total grown refused less = absurd refused
+refused-later (TooLarge Range) a b x r n total grown refused less = absurd refused
+refused-later (TooLarge (Section name)) a b x r n total grown refused less =
     let here = rw grown at refused in
     (here.0, let large = here.1 in omega (arith, large, less, length-append a.body x))
 
@@ -73,7 +78,9 @@ whole-more spell at x xs w v all invariant step =
 
 pub whole-refused : {A : Type 0} (spell : A → List ℕ) (at : ℕ → A → List OutputRelocation) (x : A) (xs all : List A) (w a : Writing) (e : WriteError) → whole spell at (x ∷ xs) w ≡ whole spell at all a → Refuses e w (length (spell x)) → Refuses e a (length (flat_map spell all))
 whole-refused spell at x xs all w a OutOfMemory invariant refused = tt
-whole-refused spell at x xs all w a (TooLarge name) invariant refused =
+whole-refused spell at x xs all w a (TooLarge Addend) invariant refused = absurd refused
+whole-refused spell at x xs all w a (TooLarge Range) invariant refused = absurd refused
+whole-refused spell at x xs all w a (TooLarge (Section name)) invariant refused =
     let named : w.name ≡ a.name = ap (λ (v : Writing). v.name) invariant in
     let long = ap (λ (v : Writing). length v.body) invariant in
     let large = refused.1 in
@@ -135,7 +142,9 @@ ends-refused k count w a now result e more invariant p refused =
   where
     later : (e : WriteError) → Refuses e w 1 → Refuses e a (length {A = ℕ} (replicate count 0))
     later OutOfMemory refused = tt
-    later (TooLarge name) refused =
+    later (TooLarge Addend) refused = absurd refused
+    later (TooLarge Range) refused = absurd refused
+    later (TooLarge (Section name)) refused =
         let named : w.name ≡ a.name = ap (λ (v : Writing). v.name) invariant in
         let long = ap (λ (v : Writing). length v.body) invariant in
         let large = refused.1 in

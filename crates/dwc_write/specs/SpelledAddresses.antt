@@ -7,7 +7,7 @@ use Rattle.dwc_base.specs.declared.records.Endian.{Endian}
 use Rattle.dwc_base.specs.declared.records.Address.{Address}
 use Rattle.dwc_base.specs.declared.records.Address.TheVariants.{Constant, Symbol}
 use Rattle.dwc_base.specs.Sections.{Relocation}
-use Rattle.dwc_write.specs.Spelled.{number_bytes}
+use Rattle.dwc_base.specs.NumberBytes.{number_bytes}
 
 -- a field of a section that holds an address
 pub record AddressField : Type 0 where

@@ -15,6 +15,7 @@ use Rattle.dwc_write.specs.UsedTexts.{strings_bytes, text_places}
 use Rattle.dwc_write.specs.Layouts.{AllPlaces, offsets_by_number, places_of_units, places_in, written_lines, written_unit, written_units, written_tables}
 use Rattle.dwc_write.specs.Writers.{Writing, Refuses, appended, most_bytes}
 use Rattle.dwc_write.specs.declared.error.WriteError.TheVariants.{TooLarge, OutOfMemory}
+use Rattle.dwc_base.specs.declared.faults.Limit.TheVariants.{Section, Addend, Range}
 
 -- a section, where it is not empty
 abbrev pub section_unless_empty : SectionName → List ℕ → List OutputRelocation → List OutputSection
@@ -129,12 +130,16 @@ all_units order places us = with_units places us (record { abbrev_section = empt
 -- A refusal of all units that have some places: for want of memory, or for a section's size.
 abbrev pub IsRefusalAmong : Endian → AllPlaces → List OrderedUnit → WriteError → Type 0
 IsRefusalAmong order places us OutOfMemory = Unit {0}
-IsRefusalAmong order places us (TooLarge name) = most_bytes < length (bytes_of order places us name)
+IsRefusalAmong order places us (TooLarge (Section name)) = most_bytes < length (bytes_of order places us name)
+IsRefusalAmong order places us (TooLarge Addend) = ⊥
+IsRefusalAmong order places us (TooLarge Range) = ⊥
 
 -- A refusal of units and of the texts that they name.
 abbrev pub IsRefusal : Endian → List (List ℕ) → List OrderedUnit → WriteError → Type 0
 IsRefusal order texts us OutOfMemory = Unit {0}
-IsRefusal order texts us (TooLarge name) = most_bytes < length (section_bytes order texts us name)
+IsRefusal order texts us (TooLarge (Section name)) = most_bytes < length (section_bytes order texts us name)
+IsRefusal order texts us (TooLarge Addend) = ⊥
+IsRefusal order texts us (TooLarge Range) = ⊥
 
 abbrev pub sections_of : WrittenSections → Writing → List OutputSection
 sections_of w strings =

@@ -4,7 +4,8 @@ use Rattle.std.specs.Prelude.{ℕ, ◌+◌, ◌≤◌, List, [], ◌∷◌, leng
 use Rattle.dwc_base.specs.declared.records.Endian.{Endian}
 use Rattle.dwc_base.specs.declared.section_name.SectionName.TheVariants.{Abbrev, Info, Str}
 use Rattle.dwc_base.specs.Outputs.{OutputRelocation, OutputSection}
-use Rattle.dwc_write.specs.Spelled.{uleb_bytes, at_places}
+use Rattle.dwc_base.specs.NumberBytes.{uleb_bytes}
+use Rattle.dwc_write.specs.Spelled.{at_places}
 use Rattle.dwc_write.specs.SpelledAddresses.{address_bytes}
 use Rattle.dwc_write.specs.SpelledUnits.{Written, as_addr, as_strp, as_ref_addr, as_sec_offset, WrittenAttribute, attribute_bytes, Shaped, shaped, entry_bytes, header_length}
 use Rattle.dwc_write.specs.SpelledLines.{WrittenSequence, program_bytes, program_place, sequence_instructions}

@@ -3,7 +3,7 @@ use Rattle.std.specs.Prelude.{◌≡◌, ℕ, suc, ◌^◌, ◌<◌, ◌≤◌, 
 use Rattle.std.specs.List.{All, flat_map}
 use Rattle.dwc_base.specs.Reading.{is_64_bit}
 use Rattle.dwc_base.specs.Abbreviations.{AttributeSpec, Declaration}
-use Rattle.dwc_write.specs.Spelled.{uleb_bytes, sleb_bytes}
+use Rattle.dwc_base.specs.NumberBytes.{uleb_bytes, sleb_bytes}
 use Rattle.dwc_base.specs.declared.constants.TheConstants.{DW_FORM_implicit_const}
 
 -- an attribute's name and form, and the value of an implicit constant

@@ -9,6 +9,7 @@ use Rattle.dwc_write.specs.declared.attributes.AttributeValue.{AttributeValue}
 use Rattle.dwc_write.specs.declared.attributes.AttributeValue.TheVariants.{Address, Constant, Flag, Block, Exprloc, StringRef, LineProgramRef, RangeListRef, UnitRef, DebugInfoRef}
 use Rattle.dwc_write.specs.declared.error.WriteError.{WriteError}
 use Rattle.dwc_write.specs.declared.error.WriteError.TheVariants.{TooLarge, OutOfMemory}
+use Rattle.dwc_base.specs.declared.faults.Limit.TheVariants.{Section, Addend, Range}
 use Rattle.dwc_write.specs.Writers.{most_bytes}
 use Rattle.dwc_write.specs.GivenLines.{GivenLines}
 use Rattle.dwc_write.specs.GivenTrees.{given_trees}
@@ -64,4 +65,6 @@ widest_said name texts us = widest_of_trees name (given_trees texts us)
 -- A refusal of all units for want of memory, or for a section's widest size.
 abbrev pub IsWideRefusal : List (List ℕ) → List OrderedUnit → WriteError → Type 0
 IsWideRefusal texts us OutOfMemory = Unit {0}
-IsWideRefusal texts us (TooLarge name) = most_bytes < widest_said name texts us
+IsWideRefusal texts us (TooLarge (Section name)) = most_bytes < widest_said name texts us
+IsWideRefusal texts us (TooLarge Addend) = ⊥
+IsWideRefusal texts us (TooLarge Range) = ⊥

@@ -10,7 +10,8 @@ use Rattle.dwc_base.specs.Sections.{section_text}
 use Rattle.dwc_base.specs.Outputs.{RelocationTarget, function, section, OutputRelocation, OutputSection}
 use Rattle.dwc_write.specs.declared.error.WriteError.{WriteError}
 use Rattle.dwc_write.specs.declared.error.WriteError.TheVariants.{TooLarge, OutOfMemory}
-use Rattle.dwc_write.specs.Spelled.{number_bytes}
+use Rattle.dwc_base.specs.declared.faults.Limit.TheVariants.{Section, Addend, Range}
+use Rattle.dwc_base.specs.NumberBytes.{number_bytes}
 
 -- the order of its numbers, its name, its bytes so far, and its relocations in the order of the calls
 pub record Writing : Type 0 where
@@ -25,7 +26,7 @@ most_bytes = 2 ^ 31 - 1
 
 -- A section is refused for its size.
 abbrev pub IsTooLarge : {A : Type 0} → Result A WriteError → SectionName → Type 0
-IsTooLarge result name = result ≡ Err (TooLarge name)
+IsTooLarge result name = result ≡ Err (TooLarge (Section name))
 
 -- A call answers so, or is refused for want of memory.
 abbrev pub OkUnlessMemory : {A : Type 0} → Result A WriteError → (A → Type 0) → Type 0
@@ -35,7 +36,9 @@ OkUnlessMemory (Err e) P = e ≡ OutOfMemory
 -- A refusal to append so many bytes: for want of memory, or for what the section's size would be.
 abbrev pub Refuses : WriteError → Writing → ℕ → Type 0
 Refuses OutOfMemory w more = Unit {0}
-Refuses (TooLarge name) w more = (name ≡ w.name) × (most_bytes < length w.body + more)
+Refuses (TooLarge (Section name)) w more = (name ≡ w.name) × (most_bytes < length w.body + more)
+Refuses (TooLarge Addend) w more = ⊥
+Refuses (TooLarge Range) w more = ⊥
 
 -- bytes and relocations behind what is there
 abbrev pub appended : List ℕ → List OutputRelocation → Writing → Writing

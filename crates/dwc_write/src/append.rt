@@ -1,6 +1,7 @@
 //! The bytes of numbers and texts, behind what a buffer holds.
 ghost use Rattle.std.specs.Prelude.{◌≡◌, ◌++◌, ◌∷◌, [], ◌<◌, ◌^◌, OnOk, OnErr, pos, negsuc, length, ◌+◌, ◌≤◌};
-ghost use Rattle.dwc_write.specs.Spelled.{number_bytes, uleb_bytes, sleb_bytes, text_bytes};
+ghost use Rattle.dwc_base.specs.NumberBytes.{number_bytes, uleb_bytes, sleb_bytes};
+ghost use Rattle.dwc_write.specs.Spelled.{text_bytes};
 ghost use Rattle.dwc_write.specs.Writers.{IsSize, replaced};
 
 use dwc_base::Endian;

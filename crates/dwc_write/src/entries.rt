@@ -1,7 +1,8 @@
 //! Units with their entries, as they are written. (DWARF 4, section 7.5.)
 ghost use Rattle.std.specs.Prelude.{◌≡◌, ◌++◌, ◌∷◌, [], ◌+◌, ◌<◌, ◌≤◌, ◌⊎◌, OnOk, map, length, get_or, replicate};
 ghost use Rattle.std.specs.List.{All, flat_map};
-ghost use Rattle.dwc_write.specs.Spelled.{block_bytes, number_bytes, uleb_bytes};
+ghost use Rattle.dwc_base.specs.NumberBytes.{number_bytes, uleb_bytes};
+ghost use Rattle.dwc_write.specs.Spelled.{block_bytes};
 ghost use Rattle.dwc_write.specs.SpelledUnits.{attribute_bytes, entry_bytes, shaped, written_bytes};
 ghost use Rattle.dwc_write.specs.SpelledRelocations.{entries_relocations, value_relocations, values_relocations};
 ghost use Rattle.dwc_write.specs.GivenUnits.{FitsAttribute, FitsEntry as FitsGivenEntry, FitsOperand, constant_of, first_uses, shapes_of, behind_entries, written_attributes, written_entries, written_of};

@@ -1,14 +1,14 @@
 //! Why something is not written.
-use dwc_base::SectionName;
+use dwc_base::Limit;
 use std::alloc::{AllocError, AllocFailed};
 use thiserror::Error;
 
 /// Why something is not written.
 #[derive(Debug, Drop, Error)]
 pub enum WriteError {
-    /// A section would be longer than 2^31 - 1 bytes.
-    #[error("too large: {section:?}")]
-    TooLarge { section: SectionName },
+    /// A section would be longer than 2^31 - 1 bytes. The writer refuses for no other limit.
+    #[error("too large: {what:?}")]
+    TooLarge { what: Limit },
     #[error("out of memory")]
     OutOfMemory,
 }

@@ -9,7 +9,8 @@ ghost use Rattle.dwc_write.specs.LayoutViews.{Advances, AdvancesOrMemory, IsLaid
 ghost use Rattle.dwc_write.specs.Layouts.{codes_of, offset_among, offsets_by_number, places_of_units, unit_length, units_length};
 ghost use Rattle.dwc_write.specs.RangeLists.{nowhere};
 ghost use Rattle.dwc_write.specs.ShapeViews.{shape_view};
-ghost use Rattle.dwc_write.specs.Spelled.{at_places, uleb_bytes};
+ghost use Rattle.dwc_base.specs.NumberBytes.{uleb_bytes};
+ghost use Rattle.dwc_write.specs.Spelled.{at_places};
 ghost use Rattle.dwc_write.specs.SpelledOutput.{IsRefusal};
 ghost use Rattle.dwc_write.specs.SpelledUnits.{attribute_bytes, entry_bytes, header_length, shaped};
 ghost use Rattle.dwc_write.specs.UnitViews.{addition_view};
@@ -23,7 +24,7 @@ use crate::sizes::{uleb_length, value_size};
 use crate::units::Entry;
 use crate::writer::MOST_BYTES;
 use crate::{Unit, WriteError};
-use dwc_base::SectionName;
+use dwc_base::{Limit, SectionName};
 use indexmap::IndexSet;
 use std::alloc::{AllocError, Global};
 
@@ -174,7 +175,7 @@ fn advanced(place: usize, more: usize) -> Result<usize, WriteError>
 {
     if more > MOST_BYTES - place {
         return Err(WriteError::TooLarge {
-            section: SectionName::Info,
+            what: Limit::Section(SectionName::Info),
         });
     }
     Ok(place + more)

@@ -2,7 +2,7 @@
 ghost use Rattle.std.specs.Prelude.{◌≡◌, ◌++◌, ◌∷◌, [], ◌==◌, ◌+◌, ◌-◌, ◌-ℤ◌, ◌<◌, ◌≤◌, ◌^◌, OnOk, not, pos, length};
 ghost use Rattle.std.specs.List.{All};
 ghost use Rattle.dwc_base.specs.declared.records.Endian.TheVariants.{Little};
-ghost use Rattle.dwc_write.specs.Spelled.{uleb_bytes, sleb_bytes};
+ghost use Rattle.dwc_base.specs.NumberBytes.{uleb_bytes, sleb_bytes};
 ghost use Rattle.dwc_write.specs.SpelledLines.{FitsRow, RowsRise, bytes_when, differs as differ, extended_bytes, first_row, program_bytes, row_instructions, rows_instructions};
 
 use crate::append::{put_sleb, put_uleb};

@@ -2,7 +2,8 @@
 ghost use Rattle.std.specs.Prelude.{◌≡◌, ◌≤◌, ◌⊎◌, length, negsuc, pos};
 ghost use Rattle.dwc_base.specs.declared.records.Endian.{Endian};
 ghost use Rattle.dwc_write.specs.GivenUnits.{constant_of, no_places, written_of};
-ghost use Rattle.dwc_write.specs.Spelled.{block_bytes, sleb_bytes, uleb_bytes};
+ghost use Rattle.dwc_base.specs.NumberBytes.{sleb_bytes, uleb_bytes};
+ghost use Rattle.dwc_write.specs.Spelled.{block_bytes};
 ghost use Rattle.dwc_write.specs.SpelledUnits.{written_bytes};
 
 use crate::AttributeValue;

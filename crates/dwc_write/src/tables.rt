@@ -1,7 +1,8 @@
 //! Line tables, as they are written. (DWARF 4, section 6.2.4.)
 ghost use Rattle.std.specs.Prelude.{◌≡◌, ◌++◌, ◌∷◌, [], ◌+◌, ◌⊎◌, OnOk, map, length};
 ghost use Rattle.std.specs.List.{All, flat_map};
-ghost use Rattle.dwc_write.specs.Spelled.{number_bytes, sized_bytes, text_bytes};
+ghost use Rattle.dwc_base.specs.NumberBytes.{number_bytes};
+ghost use Rattle.dwc_write.specs.Spelled.{sized_bytes, text_bytes};
 ghost use Rattle.dwc_write.specs.SpelledAddresses.{address_bytes};
 ghost use Rattle.dwc_write.specs.SpelledLines.{file_bytes, line_fields_bytes};
 ghost use Rattle.dwc_write.specs.SpelledSections.{lines_bytes};

@@ -18,7 +18,7 @@ use crate::layout::UnitLayout;
 use crate::units::Entry;
 use crate::writer::MOST_BYTES;
 use crate::{AttributeValue, Unit, WriteError, WriterRelocate};
-use dwc_base::{Endian, SectionName};
+use dwc_base::{Endian, Limit, SectionName};
 use std::alloc::Global;
 
 // Texts as they will stand.
@@ -146,7 +146,7 @@ fn behind_text(place: usize, text: &[u8]) -> Result<usize, WriteError>
 {
     if text.len() >= MOST_BYTES - place {
         return Err(WriteError::TooLarge {
-            section: SectionName::Str,
+            what: Limit::Section(SectionName::Str),
         });
     }
     Ok(place + text.len() + 1)

@@ -4,15 +4,17 @@ ghost use Rattle.dwc_base.specs.Sections.{section_text};
 ghost use Rattle.std.specs.Int.{w32, w64, cast_unsigned};
 ghost use Rattle.std.specs.List.{All};
 ghost use Rattle.dwc_base.specs.Outputs.{section_view, relocation_view, function};
-ghost use Rattle.dwc_write.specs.Spelled.{number_bytes, sized_bytes};
+ghost use Rattle.dwc_base.specs.NumberBytes.{number_bytes};
+ghost use Rattle.dwc_write.specs.Spelled.{sized_bytes};
 ghost use Rattle.dwc_write.specs.Writers.{FitsField, IsClear, IsSize, IsSound, IsTooLarge, Writes, address_relocations, most_bytes, offset_relocation, overwritten};
 ghost use Rattle.dwc_write.specs.SpelledAddresses.{address_bytes};
 ghost use Rattle.dwc_write.specs.declared.error.WriteError.TheVariants.{TooLarge, OutOfMemory};
+ghost use Rattle.dwc_base.specs.declared.faults.Limit.TheVariants.{Section};
 
 use crate::WriteError;
 use crate::append::{bytes_4, put_sized, replace, replace_sized};
 use dwc_base::{
-    Address, DwarfSection, DwarfSectionReloc, DwarfSectionRelocTarget, Endian, SectionName,
+    Address, DwarfSection, DwarfSectionReloc, DwarfSectionRelocTarget, Endian, Limit, SectionName,
 };
 use std::alloc::{AllocError, Global};
 use std::marker::Model;
@@ -26,7 +28,7 @@ pub trait Writer {
     ghost use Rattle.std.specs.Prelude.{◌≡◌, ◌<◌, ◌≤◌, ◌+◌, ◌^◌, [], ◌∷◌, OnOk, IfErr, length};
     ghost use Rattle.dwc_write.specs.Writers.{Writing, appended, overwritten, address_relocations, offset_relocation, IsSize, FitsField, IsClear, IsTooLarge, Refuses, most_bytes};
     ghost use Rattle.dwc_write.specs.declared.error.WriteError.TheVariants.{OutOfMemory};
-    ghost use Rattle.dwc_write.specs.Spelled.{number_bytes};
+    ghost use Rattle.dwc_base.specs.NumberBytes.{number_bytes};
     ghost use Rattle.dwc_write.specs.SpelledAddresses.{address_bytes};
 
     ghost writing: { Self → Writing };
@@ -182,7 +184,9 @@ impl WriterRelocate {
         ensures { Writes self.old self.new result (sized_bytes self.old.order bytes.now) [] }
     {
         if bytes.len() > MOST_BYTES {
-            return Err(WriteError::TooLarge { section: self.name });
+            return Err(WriteError::TooLarge {
+                what: Limit::Section(self.name),
+            });
         }
         let length = bytes_4(self.order, bytes.len() as u32);
         self.put_bytes(&length)?;
@@ -311,11 +315,13 @@ impl Writer for WriterRelocate {
 fn check_room(len: usize, more: usize, name: SectionName) -> Result<(), WriteError>
     requires { len ≤ most_bytes }
     ensures large { IsTooLarge result name ↔ most_bytes < len + more }
-    ensures only { IsOkUnless result (TooLarge name) }
+    ensures only { IsOkUnless result (TooLarge (Section name)) }
     ensures ok { OnOk result (len + more ≤ most_bytes) }
 {
     if more > MOST_BYTES - len {
-        return Err(WriteError::TooLarge { section: name });
+        return Err(WriteError::TooLarge {
+            what: Limit::Section(name),
+        });
     }
     Ok(())
 }

@@ -1,6 +1,6 @@
 use Rattle.std.proofs.Common.{◌≡◌, ◌++◌}
 use Rattle.std.specs.Prelude.{negsuc}
-use Rattle.dwc_write.specs.Spelled.{sleb_bytes}
+use Rattle.dwc_base.specs.NumberBytes.{sleb_bytes}
 use Rattle.dwc_write.proofs.append.put_sleb_below_0.Given as goal
 
 -- what stands in the buffer, and the number that is left

@@ -1,5 +1,5 @@
 use Rattle.std.proofs.Common.{◌≡◌, ◌++◌, pos}
-use Rattle.dwc_write.specs.Spelled.{sleb_bytes}
+use Rattle.dwc_base.specs.NumberBytes.{sleb_bytes}
 use Rattle.dwc_write.proofs.append.put_sleb_from_0.Given as goal
 
 -- what stands in the buffer, and the number that is left

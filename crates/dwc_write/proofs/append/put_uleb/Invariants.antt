@@ -1,5 +1,5 @@
 use Rattle.std.proofs.Common.{◌≡◌, ◌++◌}
-use Rattle.dwc_write.specs.Spelled.{uleb_bytes}
+use Rattle.dwc_base.specs.NumberBytes.{uleb_bytes}
 use Rattle.dwc_write.proofs.append.put_uleb.Given as goal
 
 -- what stands in the buffer, and the number that is left

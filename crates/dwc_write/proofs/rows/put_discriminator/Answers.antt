@@ -1,7 +1,7 @@
 use Rattle.std.proofs.Common.{◌≡◌, arith, ap, ◌+◌}
 use Rattle.std.specs.Prelude.{eqb, false}
 use Rattle.std.proofs.lemmas.Bool.{ne_eqb}
-use Rattle.dwc_write.specs.Spelled.{uleb_bytes}
+use Rattle.dwc_base.specs.NumberBytes.{uleb_bytes}
 use Rattle.dwc_write.proofs.RowLaws.{extended-appended}
 use Rattle.dwc_write.proofs.rows.put_discriminator.Goals as goal
 

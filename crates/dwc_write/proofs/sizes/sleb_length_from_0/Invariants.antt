@@ -1,5 +1,5 @@
 use Rattle.std.proofs.Common.{◌≡◌, ◌+◌, ◌≤◌, length, pos}
-use Rattle.dwc_write.specs.Spelled.{sleb_bytes}
+use Rattle.dwc_base.specs.NumberBytes.{sleb_bytes}
 use Rattle.dwc_write.proofs.sizes.sleb_length_from_0.Given as goal
 
 -- the bytes that were counted, one of them the last, and those of the number that is left

@@ -1,5 +1,5 @@
 use Rattle.std.proofs.Common.{◌≡◌, ◌+◌, ◌≤◌, length}
-use Rattle.dwc_write.specs.Spelled.{uleb_bytes}
+use Rattle.dwc_base.specs.NumberBytes.{uleb_bytes}
 use Rattle.dwc_write.proofs.sizes.uleb_length.Given as goal
 
 -- the bytes that were counted, one of them the last, and those of the number that is left; the count is below ten while
