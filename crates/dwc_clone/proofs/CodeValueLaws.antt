@@ -1,6 +1,6 @@
 -- What addresses and range lists become.
-use Rattle.std.proofs.Common.{◌≡◌, ℕ, ◌<◌, refl, sym, ap, subst, ◌∙◌, List, map, length, Bool, true, false, Option, Some, None, Result, Ok, Err, Bor, ◌⊎◌, inl, inr}
-use Rattle.std.specs.Prelude.{option_map, IfSome}
+use Rattle.std.proofs.Common.{◌≡◌, ℕ, ◌<◌, refl, sym, ap, subst, ◌∙◌, List, length, true, Option, Some, None, Result, Ok, Err, Bor, ◌⊎◌, inl, inr}
+use Rattle.std.specs.Prelude.{option_map}
 use Rattle.std.proofs.lemmas.List.Elements.{All-nil}
 use Rattle.dwc_base.specs.declared.records.Address.{Address}
 use Rattle.dwc_base.specs.declared.section_name.SectionName.TheVariants.{Info}
@@ -11,7 +11,6 @@ use Rattle.dwc_base.specs.declared.faults.Kind.TheVariants.{NotBuilt}
 use Rattle.dwc_base.specs.declared.faults.Flaw.{Flaw}
 use Rattle.dwc_base.specs.declared.faults.Flaw.TheVariants.{EndsEarly, TooWide, Malformed, Refused}
 use Rattle.dwc_base.specs.Reading.{◌>>=◌}
-use Rattle.dwc_base.specs.Listing.{Listing}
 use Rattle.dwc_base.specs.Sections.{Sections, Fault, fault_of, reported, unsupported}
 use Rattle.dwc_base.specs.Units.{UnitHeader}
 use Rattle.dwc_base.specs.Values.{Value, is_range_name}
@@ -41,8 +40,6 @@ use Rattle.dwc_tabs.specs.declared.list_fault.ListFault.TheVariants as list
 use Rattle.dwc_tabs.specs.RangeEnds.{refusal_view}
 use Rattle.dwc_write.specs.declared.attributes.AttributeValue.{AttributeValue}
 use Rattle.dwc_write.specs.declared.attributes.AttributeValue.TheVariants as output
-use Rattle.dwc_write.specs.declared.lists.RangeList.{RangeList}
-use Rattle.dwc_write.specs.GivenUnits.{FitsValue}
 use Rattle.dwc_write.specs.Writers.{FitsField}
 use Rattle.dwc_clone.specs.declared.error.CloneError.{CloneError}
 use Rattle.dwc_clone.specs.declared.places.EmittedEntry.{EmittedEntry}

@@ -9,7 +9,7 @@ use Rattle.dwc_base.specs.declared.constants.TheConstants.{DW_TAG_compile_unit}
 use Rattle.dwc_base.specs.Entries.{Entry}
 use Rattle.dwc_base.specs.Lists.{list_source}
 use Rattle.dwc_base.specs.RangeAttributes.{range_attributes}
-use Rattle.dwc_base.specs.Drafts.{DraftValue, Goal, done}
+use Rattle.dwc_base.specs.Drafts.{Goal, done}
 use Rattle.dwc_base.specs.Trees.{TreeEntry, TreeValue}
 use Rattle.dwc_base.specs.Clones.{UnitSource, attributes_become, attributes_made, endianity, entry_refusals, if_made}
 use Rattle.dwc_base.specs.CarriedDrafts.{draft_of}

@@ -1,26 +1,24 @@
 -- The values that the last entry of a unit is given, one behind another, and what the attributes of an entry become.
 use Rattle.std.proofs.Common.{◌≡◌, ℕ, ◌<◌, refl, sym, ap, subst, ◌∙◌, arith, List, [], ◌∷◌, ◌++◌, ◌+◌, drop, get_or, length, length-append, map, Option, Some, None, Result, Ok, Err}
-use Rattle.std.specs.Prelude.{◌==◌, ◌&&◌, OnOk, pos, filter_map, option_map, option_to_list, Bool, true, false, if◌then◌else◌}
+use Rattle.std.specs.Prelude.{◌==◌, ◌&&◌, OnOk, filter_map, option_map, option_to_list, Bool, true, false, if◌then◌else◌}
 use Rattle.std.specs.List.{All, cons_option}
 use Rattle.std.proofs.lemmas.Bool.{eq-eqb}
 use Rattle.std.proofs.lemmas.List.{append-nil, append_assoc, drop_more, get_or-map, length-map}
 use Rattle.std.proofs.lemmas.List.Elements.{All-append, All-nil}
 use Rattle.std.proofs.lemmas.List.Sums.{fold-append}
-use Rattle.dwc_base.specs.declared.constants.TheConstants.{DW_AT_endianity, DW_AT_high_pc, DW_AT_low_pc, DW_END_little, DW_FORM_data1, DW_FORM_udata, DW_TAG_base_type}
-use Rattle.dwc_base.specs.declared.records.Address.TheVariants.{Symbol}
-use Rattle.dwc_base.specs.Functions.{Function}
+use Rattle.dwc_base.specs.declared.constants.TheConstants.{DW_AT_endianity, DW_END_little, DW_FORM_data1, DW_TAG_base_type}
 use Rattle.dwc_base.specs.Values.{Value}
 use Rattle.dwc_base.specs.Kept.{Placed}
 use Rattle.dwc_base.specs.Refusals.{Refusal, first_of}
-use Rattle.dwc_base.specs.Trees.{TreeValue, address, constant, set_attribute}
+use Rattle.dwc_base.specs.Trees.{TreeValue, constant, set_attribute}
 use Rattle.dwc_base.specs.Clones.{UnitSource, attribute_becomes, attributes_become, endianity, if_made, if_refused}
-use Rattle.dwc_base.specs.Drafts.{DraftValue, Goal, done}
+use Rattle.dwc_base.specs.Drafts.{DraftValue, done}
 use Rattle.dwc_base.specs.DraftForests.{settled, settled_value}
 use Rattle.dwc_read.specs.declared.value.AttributeValue.{AttributeValue as InputValue}
 use Rattle.dwc_read.specs.ValuesSeen.{attribute_view}
 use Rattle.dwc_write.specs.declared.attributes.Attribute.{Attribute}
 use Rattle.dwc_write.specs.declared.attributes.AttributeValue.{AttributeValue}
-use Rattle.dwc_write.specs.declared.attributes.AttributeValue.TheVariants.{Address, Constant}
+use Rattle.dwc_write.specs.declared.attributes.AttributeValue.TheVariants.{Constant}
 use Rattle.dwc_write.specs.declared.units.UnitEntryId.{UnitEntryId}
 use Rattle.dwc_write.specs.GivenUnits as GivenUnits
 use Rattle.dwc_write.specs.GivenUnits.{Addition, GivenUnit, place_of, set_in, set_in_addition, with_additions, with_value}

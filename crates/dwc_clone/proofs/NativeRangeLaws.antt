@@ -28,15 +28,14 @@ use Rattle.dwc_base.specs.RawLists.{ListSource, ListPlace, list_named}
 use Rattle.dwc_base.specs.Lists.{ListRefusal, of_place, list_source, list_of_value, ranges_at, ranges_of_value}
 use Rattle.dwc_base.specs.RangeAttributes.{native_of_intervals, wasm_interval}
 use Rattle.dwc_addr.specs.Translations.{with_length, with_lengths}
-use Rattle.dwc_read.specs.declared.fault.ReadFault.{ReadFault}
 use Rattle.dwc_read.specs.Faults.{fault_at}
 use Rattle.dwc_tabs.specs.declared.list_fault.ListFault.{ListFault}
 use Rattle.dwc_tabs.specs.RangeLists.{Tells, range_list_named}
-use Rattle.dwc_tabs.specs.RangeEnds.{BeginsRanges, interval_view, refusal_view}
+use Rattle.dwc_tabs.specs.RangeEnds.{interval_view, refusal_view}
 use Rattle.dwc_write.specs.RangeLists.{FitsRange, interval_of}
 use Rattle.dwc_write.specs.Writers.{FitsField}
 use Rattle.dwc_clone.specs.declared.ranges.NativeRanges.{NativeRanges}
-use Rattle.dwc_clone.specs.NativeExtents.{AreRanges, FindsList, IsNative}
+use Rattle.dwc_clone.specs.NativeExtents.{AreRanges, IsNative}
 
 -- ---- addresses
 
@@ -206,20 +205,6 @@ moved-to-entry what section offset place (Refused kind) = refl
 module _ (s : Sections) (h : UnitHeader) (v : Value) where
   abbrev src : ListSource
   src = list_source s h
-
-  -- what a list that is found gives does not depend on where it is told
-  found-anywhere : (l : ListPlace) → range_list_named s h v ≡ Some (Ok l) → (offset : ℕ) → ranges_of_value src h.offset v ≡ ranges_of_value src offset v
-  unfolding ranges_of_value
-  found-anywhere l found offset = go (list_named src v) found
-    where
-      go : (o : Option (Result ListPlace Flaw)) → option_map (reported RangeList Info h.offset) o ≡ Some (Ok l) → list_of_value RangeList h.offset (ranges_at src) o ≡ list_of_value RangeList offset (ranges_at src) o
-      go None e = absurd (cc)
-      go (Some (Err flaw)) e = absurd (cc)
-      go (Some (Ok p)) e = refl
-
-  pub list-found : (l : ListPlace) → range_list_named s h v ≡ Some (Ok l) → (r : Result (Listing ListRefusal Interval) ReadFault) → BeginsRanges s h v r → FindsList s h v r
-  list-found l found (Ok list) begins = λ offset. begins ∙ found-anywhere l found offset
-  list-found l found (Err e) tells = tells
 
   -- a list that cannot be found, told at its entry
   pub list-refused : (offset : ℕ) (o : Option Fault) (told : ListRefusal) → Tells (range_list_named s h v) o → ((f : Fault) → o ≡ Some f → told ≡ of_place (fault_at offset f)) → ranges_of_value src offset v ≡ only_fault told

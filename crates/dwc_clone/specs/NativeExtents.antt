@@ -4,19 +4,14 @@ use Rattle.dwc_base.specs.declared.records.Address.{Address}
 use Rattle.dwc_base.specs.declared.constants.TheConstants.{DW_AT_low_pc}
 use Rattle.dwc_base.specs.Functions.{Function}
 use Rattle.dwc_base.specs.Listing.{Listing, only_fault}
-use Rattle.dwc_base.specs.Sections.{Sections}
-use Rattle.dwc_base.specs.Units.{UnitHeader}
 use Rattle.dwc_base.specs.Values.{Value, constant}
 use Rattle.dwc_base.specs.Refusals.{Refusal, first_of}
 use Rattle.dwc_base.specs.Trees.{Interval, TreeValue, address as address_of_tree}
-use Rattle.dwc_base.specs.Lists.{ListRefusal, interval_between, interval_of_length, list_source, ranges_of_value}
+use Rattle.dwc_base.specs.Lists.{ListRefusal, interval_between, interval_of_length}
 use Rattle.dwc_base.specs.RangeAttributes.{Extent, native_of_intervals, said_extent, said_intervals}
 use Rattle.dwc_write.specs.RangeLists.{FitsRange, interval_of}
 use Rattle.dwc_write.specs.Writers.{FitsField}
-use Rattle.dwc_read.specs.declared.fault.ReadFault.{ReadFault}
-use Rattle.dwc_read.specs.Faults.{fault_seen}
 use Rattle.dwc_tabs.specs.declared.list_fault.ListFault.{ListFault}
-use Rattle.dwc_tabs.specs.RangeLists.{Tells, range_list_named}
 use Rattle.dwc_tabs.specs.RangeEnds.{refusal_view}
 use Rattle.dwc_clone.specs.declared.error.CloneError.{CloneError}
 use Rattle.dwc_clone.specs.declared.ranges.NativeRanges.{NativeRanges}
@@ -36,11 +31,6 @@ pub record IsNative (fs : List Function) (listed : Listing ListRefusal Interval)
   pub some : r.listed ≡ is_some (first_of listed.items)
   pub ranges : AreRanges r.ranges.items (native_of_intervals fs listed.items)
   pub fault : option_map refusal_view r.fault ≡ listed.fault
-
--- A call finds the range list that a value of a unit names, before its first interval.
-abbrev pub FindsList : Sections → UnitHeader → Value → Result (Listing ListRefusal Interval) ReadFault → Type 0
-FindsList s h v (Ok list) = (offset : ℕ) → list ≡ ranges_of_value (list_source s h) offset v
-FindsList s h v (Err e) = Tells (range_list_named s h v) (fault_seen e)
 
 -- A call begins a list, or tells why nothing of it can be read.
 abbrev pub BeginsList : Listing ListRefusal Interval → Result (Listing ListRefusal Interval) ListFault → Type 0

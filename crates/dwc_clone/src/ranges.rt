@@ -12,13 +12,13 @@ ghost use Rattle.dwc_addr.specs.Translations.{with_lengths};
 ghost use Rattle.dwc_read.specs.Faults.{fault_at, fault_seen};
 ghost use Rattle.dwc_read.specs.ValuesSeen.{value_view};
 ghost use Rattle.dwc_tabs.specs.RangeEnds.{interval_view, refusal_view};
-ghost use Rattle.dwc_clone.specs.NativeExtents.{AreRanges, BeginsList, EndsList, FindsList, IsNative, TellsRefusal};
+ghost use Rattle.dwc_clone.specs.NativeExtents.{AreRanges, BeginsList, EndsList, IsNative, TellsRefusal};
 
 use crate::CloneError;
 use dwc_addr::{AddressTransform, translations_are_said};
 use dwc_base::Address;
 use dwc_read::{AttributeValue, ReadFault, Unit};
-use dwc_tabs::{ListFault, RangeEntries, Ranges};
+use dwc_tabs::{ListFault, Ranges};
 use std::alloc::{AllocError, Global};
 
 /// What a range list of the input is in the native code.
@@ -83,18 +83,6 @@ fn told_at(fault: ReadFault, offset: u64) -> ListFault
     }
 }
 
-// The range list that a value names, which is found before its first interval is read.
-fn list_found<'u, 'd>(
-    unit: &'u Unit<'d>,
-    value: AttributeValue<'d>,
-) -> Result<Ranges<'u, 'd>, ReadFault>
-    requires list { IsTrue (is_range_list (value_view value)) }
-    ensures { FindsList unit.now.sections unit.now.header (value_view value.entry) result }
-{
-    RangeEntries::new(unit, value)?;
-    Ranges::new(unit, value)
-}
-
 // The range list that a value of the entry at an offset names, at its begin.
 fn list_begun<'u, 'd>(
     unit: &'u Unit<'d>,
@@ -104,7 +92,7 @@ fn list_begun<'u, 'd>(
     requires list { IsTrue (is_range_list (value_view value)) }
     ensures { BeginsList (ranges_of_value (list_source unit.now.sections unit.now.header) offset (value_view value.entry)) result }
 {
-    match list_found(unit, value) {
+    match Ranges::new(unit, value) {
         Ok(list) => Ok(list),
         Err(fault) => Err(told_at(fault, offset)),
     }

@@ -1,13 +1,12 @@
 -- The address that an entry begins at, as it is read.
-use Rattle.std.proofs.Common.{◌≡◌, ℕ, List, [], ◌∷◌, refl, ap, sym, ◌∙◌, Bool, true, false, Option, Some, None, Result, Ok, Err}
-use Rattle.std.specs.Prelude.{◌≢◌, if◌then◌else◌, option_map, option_and_then}
+use Rattle.std.proofs.Common.{◌≡◌, List, refl, sym, ◌∙◌, true, Option, Some, None, Result, Ok, Err}
+use Rattle.std.specs.Prelude.{◌≢◌, option_map, option_and_then}
 use Rattle.dwc_base.specs.declared.records.Address.{Address}
 use Rattle.dwc_base.specs.declared.section_name.SectionName.TheVariants.{Info}
 use Rattle.dwc_base.specs.declared.faults.What.TheVariants.{AddressValue, RangeList}
 use Rattle.dwc_base.specs.declared.faults.Flaw.{Flaw}
 use Rattle.dwc_base.specs.declared.constants.TheConstants.{DW_AT_ranges}
 use Rattle.dwc_base.specs.Reading.{◌>>=◌}
-use Rattle.dwc_base.specs.Listing.{Listing, no_items, only_fault, with_first}
 use Rattle.dwc_base.specs.Sections.{Sections, Fault, reported}
 use Rattle.dwc_base.specs.Units.{UnitHeader}
 use Rattle.dwc_base.specs.Values.{Value, address, address_index, constant, flag, block, text, text_reference, unit_reference, info_reference, line_reference, dropped, expression, range_reference, range_index, location_reference, location_index}
@@ -17,7 +16,7 @@ use Rattle.dwc_base.specs.Refusals.{first_of}
 use Rattle.dwc_base.specs.Trees.{Interval}
 use Rattle.dwc_base.specs.RawLists.{ListSource, ListPlace, list_named, is_range_list}
 use Rattle.dwc_base.specs.Lists.{list_source, address_among, list_of_value, ranges_at, ranges_of_value}
-use Rattle.dwc_base.specs.RangeAttributes.{range_list_of, listed_intervals}
+use Rattle.dwc_base.specs.RangeAttributes.{listed_intervals}
 use Rattle.dwc_read.specs.declared.fault.ReadFault.{ReadFault}
 use Rattle.dwc_read.specs.declared.fault.ReadFault.TheVariants.{Read, Unsupported, OutOfMemory}
 use Rattle.dwc_read.specs.Bases.{address_of_value}
@@ -84,27 +83,16 @@ module _ (s : Sections) (h : UnitHeader) (e : Entry) (v : Value) (named : attrib
   abbrev source : ListSource
   source = list_source s h
 
-  -- what is read of a list does not depend on where it is told
-  items-anywhere : (there here : ℕ) → (ranges_of_value source there v).items ≡ (ranges_of_value source here v).items
-  unfolding ranges_of_value
-  items-anywhere there here = go (list_named source v)
-    where
-      go : (o : Option (Result ListPlace Flaw)) → (list_of_value RangeList there (ranges_at source) o).items
-          ≡ (list_of_value RangeList here (ranges_at source) o).items
-      go None = refl
-      go (Some (Err flaw)) = refl
-      go (Some (Ok l)) = refl
-
-  pub listed-first : option_map (λ i. i.begin) (option_and_then first_of (listed_intervals source e)) ≡ first_begin (ranges_of_value source h.offset v).items
-  listed-first = rw (named, is_list) (ap first_begin (items-anywhere e.offset h.offset))
+  pub listed-first : option_map (λ i. i.begin) (option_and_then first_of (listed_intervals source e)) ≡ first_begin (ranges_of_value source e.offset v).items
+  listed-first = rw (named, is_list) refl
 
   -- A list that is not found has none.
-  pub unfound-none : (fault : Option Fault) → Tells (range_list_named s h v) fault → None ≡ first_begin (ranges_of_value source h.offset v).items
+  pub unfound-none : (fault : Option Fault) → Tells (range_list_named s h v) fault → None ≡ first_begin (ranges_of_value source e.offset v).items
   unfolding ranges_of_value
   unfound-none None tells = absurd tells
   unfound-none (Some fault) tells = go (list_named source v) tells
     where
-      go : (o : Option (Result ListPlace Flaw)) → option_map (reported RangeList Info h.offset) o ≡ Some (Err fault) → None ≡ first_begin (list_of_value RangeList h.offset (ranges_at source) o).items
+      go : (o : Option (Result ListPlace Flaw)) → option_map (reported RangeList Info h.offset) o ≡ Some (Err fault) → None ≡ first_begin (list_of_value RangeList e.offset (ranges_at source) o).items
       go None same = absurd (cc)
       go (Some (Err flaw)) same = refl
       go (Some (Ok l)) same = absurd (cc)

@@ -4,6 +4,9 @@ use Rattle.dwc_tabs.specs.RangeEnds.{refusal_view}
 use Rattle.dwc_clone.proofs.NativeRangeLaws.{list-refused}
 use Rattle.dwc_clone.proofs.ranges.list_begun.Goals as goal
 
+pub returns-in-Ok : goal.returns-in-Ok
+returns-in-Ok c = c.in-Ok.ensures c.args.offset
+
 pub returns-in-Err : goal.returns-in-Err
 returns-in-Err c =
     let u = c.args.unit.now in

@@ -14,7 +14,7 @@ returns-in-Ok c =
     let u = c.args.unit.now in
     let named : Some (value_view c.in-Some.ranges) ≡ attribute DW_AT_ranges (entry_view c.args.entry.now) = ap (option_map value_view) (sym c.in-Some.is) ∙ c.attr.ensures in
     let is_list : is_range_list (value_view c.in-Some.ranges) ≡ true = sym c.is_range_list.ensures ∙ c.if-not-is_range_list.false in
-    c.first_begin.ensures ∙ ap (λ l. first_begin l.items) c.in-Ok.ensures ∙ sym (listed-first u.sections u.header (entry_view c.args.entry.now) (value_view c.in-Some.ranges) (sym named) is_list)
+    c.first_begin.ensures ∙ ap (λ l. first_begin l.items) (c.in-Ok.ensures (entry_view c.args.entry.now).offset) ∙ sym (listed-first u.sections u.header (entry_view c.args.entry.now) (value_view c.in-Some.ranges) (sym named) is_list)
 
 pub returns-in-Err : goal.returns-in-Err
 returns-in-Err c =
