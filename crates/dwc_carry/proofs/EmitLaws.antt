@@ -2,10 +2,13 @@
 use Rattle.std.proofs.Common.{◌≡◌, ℕ, List, map, arith, None, Ok, Err, Vec, All, ◌≤◌, subst}
 use Rattle.std.specs.Global.{Global}
 use Rattle.dwc_base.specs.declared.records.Endian.{Endian}
+use Rattle.dwc_base.specs.declared.faults.Limit.TheVariants.{Section, Addend, Range}
 use Rattle.dwc_base.specs.declared.output.DwarfSection.{DwarfSection}
 use Rattle.dwc_base.specs.declared.section_name.SectionName.{SectionName}
 use Rattle.dwc_base.specs.declared.section_name.SectionName.TheVariants.{Abbrev, Addr, Info, Line, LineStr, Loc, Loclists, Ranges, Rnglists, Str, StrOffsets, CuIndex, Frame}
+use Rattle.dwc_base.specs.Functions.{Function}
 use Rattle.dwc_base.specs.Outputs.{output_sections, section_view}
+use Rattle.dwc_base.specs.ScopesCarried.{TranslationsKeepScopes}
 use Rattle.dwc_base.specs.TreeReading.{CarriesTrees}
 use Rattle.dwc_base.specs.Forests.{carried_units, trees_made}
 use Rattle.dwc_base.specs.TreeLaws.{HasTextsOnce}
@@ -30,6 +33,7 @@ use Rattle.dwc_carry.specs.Inputs.{input_of, refusal_of}
 use Rattle.dwc_carry.specs.Transformed.{IsTransformed}
 use Rattle.dwc_carry.specs.Emits.{IsTooLong, Emits}
 use Rattle.dwc_carry.proofs.CompositionLaws.{lines-carried, made-sizes, made-trees, widest-given, made-writable}
+use Rattle.dwc_carry.proofs.ScopesMade.{MapsNumber, scopes-carried}
 
 module _ (order : Endian) (size : ℕ) (c : CompilationValue) where
   -- the input is refused
@@ -53,8 +57,9 @@ module _ (order : Endian) (size : ℕ) (c : CompilationValue) where
     -- what is written is emitted
     pub emits-sections : (s : Vec DwarfSection Global) → ReadsBack order (map ordered us) (map section_view s.items) → CarriesTrees order (given_trees texts (map ordered us)) (map section_view s.items) → HasTextsOnce (output_sections order (map section_view s.items))
         → ((n : ℕ) → All (λ u. u.address_size ≡ n) us → HaveTargetForm n (units (output_sections order (map section_view s.items))).items)
-        → HasDistinctNames (map section_view s.items) → AreRelocated order (map section_view s.items) → All (IsSound order) (map section_view s.items) → Emits order size c (Ok s)
-    emits-sections s back says once form names relocated sound = (
+        → HasDistinctNames (map section_view s.items) → AreRelocated order (map section_view s.items) → All (IsSound order) (map section_view s.items)
+        → ((fs : List Function) → TranslationsKeepScopes fs) → MapsNumber → Emits order size c (Ok s)
+    emits-sections s back says once form names relocated sound keep number_maps = (
       accepted,
       record {
         output = record {
@@ -63,6 +68,7 @@ module _ (order : Endian) (size : ℕ) (c : CompilationValue) where
           is_forest = t.trees;
           trees = says;
           targets = t.targets;
+          scopes = scopes-carried number_maps order size c texts us accepted t.made keep;
           texts = once;
           form = form size (made-sizes size texts 0 (carried_units (input_of order size c)) (trees_made (input_of order size c)) us t.made);
           names = names;
@@ -98,5 +104,7 @@ module _ (order : Endian) (size : ℕ) (c : CompilationValue) where
 
     -- writing is refused
     pub emits-large : (e : WriteError) → IsWideRefusal texts (map ordered us) e → Emits order size c (Err (of_writing e))
-    emits-large (write.TooLarge name) large = (accepted, omega (arith, large, said-widest name))
+    emits-large (write.TooLarge (Section name)) large = (accepted, omega (arith, large, said-widest name))
+    emits-large (write.TooLarge Addend) large = absurd large
+    emits-large (write.TooLarge Range) large = absurd large
     emits-large write.OutOfMemory large = tt

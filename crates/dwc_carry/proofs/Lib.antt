@@ -9,6 +9,7 @@ pub mod ModuleGives
 pub mod ModuleLoopLaws
 pub mod ResolvedLaws
 pub mod RefusalLaws
+pub mod ScopesMade
 pub mod ModulePlaceLaws
 pub mod PlaceLaws
 pub mod TransformLaws
@@ -17,3 +18,4 @@ pub mod UnitLoopLaws
 pub mod UnitMade
 pub mod UnitSources
 pub mod UnitsInOrder
+pub mod StackPlaces

@@ -9,3 +9,4 @@ pub mod CarriedModules
 pub mod Inputs
 pub mod Transformed
 pub mod Emits
+pub mod StacksByDepth

@@ -44,7 +44,7 @@ of_cloning clone.OutOfMemory = OutOfMemory
 
 -- and that of the writer
 abbrev pub of_writing : WriteError → DebugError
-of_writing (write.TooLarge name) = TooLarge (Section name)
+of_writing (write.TooLarge what) = TooLarge what
 of_writing write.OutOfMemory = OutOfMemory
 
 -- ---- what an error tells

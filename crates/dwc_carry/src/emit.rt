@@ -4,7 +4,7 @@ ghost use Rattle.dwc_carry.specs.Emits.{Emits};
 
 use crate::DebugError;
 use crate::transform::transform_dwarf;
-use dwc_addr::Compilation;
+use dwc_addr::{Compilation, translations_keep_scopes};
 use dwc_base::DwarfSection;
 use dwc_clif::TargetIsa;
 use dwc_write::write_sections;
@@ -28,6 +28,7 @@ pub fn emit_dwarf(
     ensures sections { Emits (byte_order isa.now) (pointer_size isa.now) compilation.old result }
     ensures unchanged { compilation.new ≡ compilation.old }
 {
+    translations_keep_scopes();
     let dwarf = transform_dwarf(alloc, isa, compilation)?;
     Ok(write_sections(alloc, dwarf, isa.endianness())?)
 }

@@ -162,9 +162,7 @@ impl From<WriteError> for DebugError {
 
     fn from(error: WriteError) -> DebugError {
         match error {
-            WriteError::TooLarge { section } => DebugError::TooLarge {
-                what: Limit::Section(section),
-            },
+            WriteError::TooLarge { what } => DebugError::TooLarge { what },
             WriteError::OutOfMemory => DebugError::OutOfMemory,
         }
     }

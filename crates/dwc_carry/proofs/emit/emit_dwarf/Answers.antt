@@ -19,3 +19,4 @@ returns-clause-sections g c =
     (rw c.endianness.ensures at c.in_ok-write_sections.ensures.read) (rw c.endianness.ensures at c.in_ok-write_sections.ensures.trees) (rw c.endianness.ensures at c.in_ok-write_sections.ensures.texts_once)
     (rw c.endianness.ensures at c.in_ok-write_sections.ensures.form)
     c.in_ok-write_sections.ensures.names (rw c.endianness.ensures at c.in_ok-write_sections.ensures.relocated) (rw c.endianness.ensures at c.in_ok-write_sections.ensures.sound)
+    c.translations_keep_scopes.ensures.keep c.translations_keep_scopes.ensures.made

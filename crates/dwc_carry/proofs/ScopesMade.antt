@@ -1,0 +1,56 @@
+-- The functions of a compilation of which nothing is refused have good maps and numbers of their own, and the units that are made of it
+-- carry its scopes.
+use Rattle.std.proofs.Common.{◌≡◌, ℕ, suc, ◌+◌, List, [], ◌∷◌, map, length, refl, sym, subst, Option, Some, None, All}
+use Rattle.std.specs.Prelude.{option_map}
+use Rattle.std.specs.Option.{option_or}
+use Rattle.std.proofs.lemmas.List.Elements.{All-nil, All-cons}
+use Rattle.dwc_base.specs.declared.records.Endian.{Endian}
+use Rattle.dwc_base.specs.declared.wasm.ModuleTranslation.{ModuleTranslation}
+use Rattle.dwc_base.specs.Functions.{AddressMap, Function, functions_of}
+use Rattle.dwc_base.specs.Carried.{Module}
+use Rattle.dwc_base.specs.Forests.{carried_units, drafts_of, first_refusal, is_big, trees_made}
+use Rattle.dwc_base.specs.ScopesCarried.{AreNumbered, ScopesCarried, TranslationsKeepScopes}
+use Rattle.dwc_base.proofs.ForestTargets.{made-targets}
+use Rattle.dwc_base.proofs.ScopeForest.{made-scopes}
+use Rattle.dwc_clif.specs.AddressMaps.{address_map_view}
+use Rattle.dwc_addr.specs.Numbers.{Compiled}
+use Rattle.dwc_addr.specs.Compilations.{CompilationValue}
+use Rattle.dwc_addr.specs.Transforms.{first_bad_map}
+use Rattle.dwc_write.specs.GivenTrees.{given_trees}
+use Rattle.dwc_write.specs.GivenUnits.{GivenUnit, ordered}
+use Rattle.dwc_carry.specs.Refusals.{in_reading}
+use Rattle.dwc_carry.specs.MadeUnits.{AreMadeOf}
+use Rattle.dwc_carry.specs.Inputs.{module_view, modules_from, input_of, bad_map_from, bad_map, maps_refusal, refusal_of}
+use Rattle.dwc_carry.proofs.CompositionLaws.{made-trees}
+use Rattle.dwc_carry.proofs.RefusalLaws.{unmapped}
+
+-- functions of good maps have numbers of their own
+abbrev pub MapsNumber : Type 0
+MapsNumber = (code_offset number : ℕ) (maps : List AddressMap) → first_bad_map code_offset 0 maps ≡ None → AreNumbered (functions_of code_offset number maps)
+
+abbrev HasNumbers : Module → Type 0
+HasNumbers m = AreNumbered m.functions
+
+neither : {A : Type 0} (a b : Option A) → option_or a b ≡ None → (a ≡ None) × (b ≡ None)
+neither None b h = (refl, h)
+neither (Some x) b h = absurd (cc)
+
+module _ (number_maps : MapsNumber) where
+  modules-numbered : (place number : ℕ) (ts : List ModuleTranslation) (fss : List (List Compiled)) → bad_map_from place ts fss ≡ None → All HasNumbers (modules_from number ts fss)
+  modules-numbered place number [] fss h = All-nil HasNumbers
+  modules-numbered place number (t ∷ ts) [] h = All-nil HasNumbers
+  modules-numbered place number (t ∷ ts) (fs ∷ fss) h =
+      let maps = map address_map_view fs in
+      let both = neither (option_map (λ bad. (place, bad)) (first_bad_map t.code_section_offset 0 maps)) (bad_map_from (suc place) ts fss) h in
+      All-cons HasNumbers (module_view number t fs) (modules_from (number + length fs) ts fss) (number_maps t.code_section_offset number maps (unmapped (λ bad. (place, bad)) (first_bad_map t.code_section_offset 0 maps) both.0))
+      (modules-numbered (suc place) (number + length fs) ts fss both.1)
+
+  -- The units say the trees of an input of which nothing is refused, and so carry its scopes.
+  pub scopes-carried : (order : Endian) (size : ℕ) (c : CompilationValue) (texts : List (List ℕ)) (us : List GivenUnit) → refusal_of order size c ≡ None
+      → AreMadeOf size texts 0 (carried_units (input_of order size c)) (trees_made (input_of order size c)) us → ((fs : List Function) → TranslationsKeepScopes fs)
+      → ScopesCarried (drafts_of (is_big order)) (carried_units (input_of order size c)) (given_trees texts (map ordered us))
+  scopes-carried order size c texts us accepted made keep =
+      let input = input_of order size c in
+      let good : bad_map c ≡ None = unmapped _ (bad_map c) (neither (maps_refusal c) (option_map in_reading (first_refusal input)) accepted).0 in
+      subst (ScopesCarried (drafts_of (is_big order)) (carried_units input)) (sym (made-trees size texts (carried_units input) (trees_made input) us made (made-targets input)))
+      (made-scopes input (modules-numbered 0 0 c.translations c.functions good) keep)
