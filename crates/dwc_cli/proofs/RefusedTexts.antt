@@ -253,6 +253,7 @@ carried-bare = record {
   is_forest = refl;
   trees = refl;
   targets = refl;
+  scopes = tt;
   texts = refl;
   form = All-nil HasForm;
   names = none-differ;

@@ -14,7 +14,7 @@ use Rattle.dwc_base.specs.LinesCarried.{LinesCarried}
 use Rattle.dwc_base.specs.Refusals.{Refusal, missing_file}
 use Rattle.dwc_base.specs.OutputCarried.{OutputCarried, widest}
 use Rattle.dwc_base.proofs.TreesSmall.{tree_small, carries-small as trees_carried-small}
-use Rattle.dwc_base.proofs.OutputSmall.{form-small, names-small, targets-small, texts-small}
+use Rattle.dwc_base.proofs.OutputSmall.{form-small, names-small, targets-small, scopes-small, texts-small}
 use Rattle.dwc_base.proofs.FieldCases.{related-small}
 use Rattle.dwc_cli.specs.Inputs.{Input, Loaded, loaded, compilation_of}
 use Rattle.dwc_cli.proofs.OnLiterals.{map_on_literals}
@@ -94,6 +94,7 @@ output_carried-small = record {
   is_forest = refl;
   trees = trees_carried-small;
   targets = targets-small;
+  scopes = scopes-small;
   texts = texts-small;
   form = form-small;
   names = names-small;

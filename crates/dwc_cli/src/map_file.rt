@@ -10,7 +10,10 @@ use crate::json_fields::{
     whole_number,
 };
 use dwc_base::{FilePos, ModuleTranslation, SymbolId};
-use dwc_clif::{Architecture, CompiledFunctionMetadata, FunctionAddressMap, InstructionAddressMap};
+use dwc_clif::{
+    Architecture, CompiledFunctionMetadata, FunctionAddressMap, InstructionAddressMap,
+    ValueLabelsRanges,
+};
 use serde_json::Value;
 use std::alloc::{AllocError, Global};
 
@@ -180,6 +183,7 @@ fn read_function(
     };
     let metadata = CompiledFunctionMetadata {
         address_map,
+        value_labels_ranges: ValueLabelsRanges::new(alloc),
         start_srcloc: fields.start,
         end_srcloc: fields.end,
     };
