@@ -1,19 +1,15 @@
 //! Calls that no run makes: the entry that a reference goes to, what is kept of units, and the numbers of texts.
-ghost use Rattle.std.specs.Prelude.{◌≡◌, [], ◌∷◌, map, length, IfOk};
-ghost use Rattle.dwc_addr.specs.Compilations.{lists};
+ghost use Rattle.std.specs.Prelude.{◌≡◌, [], ◌∷◌, map};
 
+use crate::compiled::transform_of;
 use crate::module_file::SMALL;
-use dwc_addr::{AddressTransform, Compilation, LinkageNames, ModuleMemoryOffset};
 use dwc_base::constants::DW_TAG_subprogram;
-use dwc_base::{
-    Endian, FilePos, ModuleTranslation, StaticModuleIndex, SymbolId, Tunables, split_wasm,
-};
+use dwc_base::{ModuleTranslation, split_wasm};
 use dwc_carry::{build_dependencies, resolve_die_ref};
-use dwc_clif::{Architecture, CompiledFunctionMetadata, FunctionAddressMap, TableIsa};
 use dwc_kept::Kept;
 use dwc_read::{AttributeValue, Sections, Units};
 use dwc_write::StringTable;
-use std::alloc::{AllocError, Global};
+use std::alloc::Global;
 use std::test::Fail;
 
 // The offsets of the entries of the small module.
@@ -47,88 +43,11 @@ fn texts_have_one_number_each(rt: HostRuntime) -> Result<(), Fail> {
     Ok(())
 }
 
-const TUNABLES: Tunables = Tunables {
-    debug_symbols: true,
-    page_align: 4096,
-    internal_traps: false,
-};
-
-const NAMES: LinkageNames<'static> = LinkageNames {
-    set_memory: "set_mem",
-    resolve_memory: "resolve_mem",
-};
-
-// The function that is compiled from the small module's.
-fn compiled(alloc: Global) -> CompiledFunctionMetadata {
-    let start = FilePos::new(22);
-    let end = FilePos::new(33);
-    CompiledFunctionMetadata {
-        address_map: FunctionAddressMap {
-            instructions: Vec::new(alloc),
-            start_srcloc: start,
-            end_srcloc: end,
-            body_offset: 0,
-            body_len: 30,
-        },
-        start_srcloc: start,
-        end_srcloc: end,
-    }
-}
-
-// The functions of one module: one, which has a symbol.
-fn functions(
-    alloc: Global,
-) -> Result<Vec<Vec<(Option<SymbolId>, CompiledFunctionMetadata)>>, AllocError>
-    ensures { IfOk result (λ functions. map length (lists functions.items) ≡ 1 ∷ []) }
-{
-    let mut of_module = Vec::new(alloc);
-    of_module.push((Some(SymbolId(0)), compiled(alloc)))?;
-    let mut functions = Vec::new(alloc);
-    functions.push(of_module)?;
-    Ok(functions)
-}
-
-// The transform of a module that defines one function.
-fn transform_of<'a>(
-    alloc: Global,
-    isa: &TableIsa,
-    modules: &'a [ModuleTranslation<'a>],
-    functions: &'a [Vec<(Option<SymbolId>, CompiledFunctionMetadata)>],
-    tunables: &'a Tunables,
-    names: LinkageNames<'a>,
-) -> Result<AddressTransform, Fail>
-    requires modules { map (λ m. m.defined_funcs) modules.now ≡ 1 ∷ [] }
-    requires functions { map length (lists functions.now) ≡ 1 ∷ [] }
-{
-    let mut offsets = Vec::new(alloc);
-    offsets.push(ModuleMemoryOffset::None)?;
-    let compilation = Compilation::new(
-        alloc, isa, modules, functions, None, tunables, offsets, names, 0,
-    )?;
-    let module = StaticModuleIndex(0);
-    Ok(AddressTransform::new(alloc, &compilation, module)?)
-}
-
-// A target.
-fn target(alloc: Global) -> Result<TableIsa, AllocError> {
-    let registers = Vec::new(alloc);
-    TableIsa::new(
-        alloc,
-        Architecture::X86_64,
-        Endian::Little,
-        8,
-        registers,
-        None,
-    )
-}
-
 // What is kept of a module that defines one function.
 fn kept_of(alloc: Global, modules: &[ModuleTranslation<'_>]) -> Result<Kept, Fail>
     requires { map (λ m. m.defined_funcs) modules.now ≡ 1 ∷ [] }
 {
-    let isa = target(alloc)?;
-    let functions = functions(alloc)?;
-    let transform = transform_of(alloc, &isa, modules, &functions, &TUNABLES, NAMES)?;
+    let transform = transform_of(alloc, modules, (22, 33), &[])?;
     let units = Units::new(Sections::of_module(&modules[0]));
     Ok(build_dependencies(alloc, units, &transform)?)
 }

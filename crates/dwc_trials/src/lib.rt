@@ -5,6 +5,8 @@
 #[cfg(test)]
 mod carried;
 #[cfg(test)]
+mod compiled;
+#[cfg(test)]
 mod host;
 #[cfg(test)]
 mod module_file;
@@ -13,7 +15,11 @@ mod plain_program;
 #[cfg(test)]
 mod runs;
 #[cfg(test)]
+mod stacks;
+#[cfg(test)]
 mod targets;
+#[cfg(test)]
+mod translations;
 #[cfg(test)]
 mod units;
 #[cfg(test)]

@@ -1,0 +1,126 @@
+//! A module that defines one function, compiled.
+ghost use Rattle.std.specs.Prelude.{◌≡◌, [], ◌∷◌, map, length, IfOk};
+ghost use Rattle.dwc_addr.specs.Compilations.{lists};
+
+use dwc_addr::{AddressTransform, Compilation, LinkageNames, ModuleMemoryOffset};
+use dwc_base::{Endian, FilePos, ModuleTranslation, StaticModuleIndex, SymbolId, Tunables};
+use dwc_clif::{
+    Architecture, CompiledFunctionMetadata, FunctionAddressMap, InstructionAddressMap, TableIsa,
+    ValueLabelsRanges,
+};
+use std::alloc::{AllocError, Global};
+use std::test::Fail;
+
+const TUNABLES: Tunables = Tunables {
+    debug_symbols: true,
+    page_align: 4096,
+    internal_traps: false,
+};
+
+const NAMES: LinkageNames<'static> = LinkageNames {
+    set_memory: "set_mem",
+    resolve_memory: "resolve_mem",
+};
+
+/// An entry of an address map: the offset of the code, and its place in the wasm file.
+pub(crate) type MapEntry = (u32, Option<u32>);
+
+// A place of a file, if it is one.
+fn place(offset: Option<u32>) -> FilePos {
+    match offset {
+        Some(offset) if offset < u32::MAX => FilePos::new(offset),
+        _ => FilePos::default(),
+    }
+}
+
+// A function of 30 bytes whose source begins and ends at places of the file.
+fn compiled(
+    alloc: Global,
+    source: (u32, u32),
+    entries: &[MapEntry],
+) -> Result<CompiledFunctionMetadata, AllocError> {
+    let start = place(Some(source.0));
+    let end = place(Some(source.1));
+    let mut instructions = Vec::new(alloc);
+    for (code_offset, offset) in entries {
+        instructions.push(InstructionAddressMap {
+            srcloc: place(*offset),
+            code_offset: *code_offset,
+        })?;
+    }
+    Ok(CompiledFunctionMetadata {
+        address_map: FunctionAddressMap {
+            instructions,
+            start_srcloc: start,
+            end_srcloc: end,
+            body_offset: 0,
+            body_len: 30,
+        },
+        value_labels_ranges: ValueLabelsRanges::new(alloc),
+        start_srcloc: start,
+        end_srcloc: end,
+    })
+}
+
+// The functions of one module: one, which has a symbol.
+fn functions(
+    alloc: Global,
+    function: CompiledFunctionMetadata,
+) -> Result<Vec<Vec<(Option<SymbolId>, CompiledFunctionMetadata)>>, AllocError>
+    ensures { IfOk result (λ functions. map length (lists functions.items) ≡ 1 ∷ []) }
+{
+    let mut of_module = Vec::new(alloc);
+    of_module.push((Some(SymbolId(0)), function))?;
+    let mut functions = Vec::new(alloc);
+    functions.push(of_module)?;
+    Ok(functions)
+}
+
+// The transform of a module that defines one function.
+fn transform_over<'a>(
+    alloc: Global,
+    isa: &TableIsa,
+    modules: &'a [ModuleTranslation<'a>],
+    functions: &'a [Vec<(Option<SymbolId>, CompiledFunctionMetadata)>],
+    tunables: &'a Tunables,
+    names: LinkageNames<'a>,
+) -> Result<AddressTransform, Fail>
+    requires modules { map (λ m. m.defined_funcs) modules.now ≡ 1 ∷ [] }
+    requires functions { map length (lists functions.now) ≡ 1 ∷ [] }
+{
+    let mut offsets = Vec::new(alloc);
+    offsets.push(ModuleMemoryOffset::None)?;
+    let compilation = Compilation::new(
+        alloc, isa, modules, functions, None, tunables, offsets, names, 0,
+    )?;
+    let module = StaticModuleIndex(0);
+    Ok(AddressTransform::new(alloc, &compilation, module)?)
+}
+
+// A target.
+fn target(alloc: Global) -> Result<TableIsa, AllocError> {
+    let registers = Vec::new(alloc);
+    TableIsa::new(
+        alloc,
+        Architecture::X86_64,
+        Endian::Little,
+        8,
+        registers,
+        None,
+    )
+}
+
+/// The transform of a module that defines one function: the function has 30 bytes, its source begins and ends at places of the
+/// file, and its address map has these entries.
+pub(crate) fn transform_of(
+    alloc: Global,
+    modules: &[ModuleTranslation<'_>],
+    source: (u32, u32),
+    entries: &[MapEntry],
+) -> Result<AddressTransform, Fail>
+    requires { map (λ m. m.defined_funcs) modules.now ≡ 1 ∷ [] }
+{
+    let isa = target(alloc)?;
+    let functions = functions(alloc, compiled(alloc, source, entries)?)?;
+    transform_over(alloc, &isa, modules, &functions, &TUNABLES, NAMES)
+}

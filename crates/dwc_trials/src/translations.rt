@@ -1,0 +1,174 @@
+//! Wasm offsets and intervals as native code, of a function with one run and of one with two.
+use crate::compiled::{MapEntry, transform_of};
+use crate::module_file::SMALL;
+use dwc_addr::AddressTransform;
+use dwc_base::{Address, split_wasm};
+use std::alloc::Global;
+use std::slice;
+use std::test::Fail;
+
+// The function's source in the small module's file, where the contents of the code section begin at 20: the wasm offsets 10 to 20.
+const SOURCE: (u32, u32) = (30, 40);
+
+// The code from 5 on has the wasm offset 12, that from 15 on 17; without a source are the codes from 8 and from 23 on.
+const ONE_RUN: &[MapEntry] = &[(5, Some(32)), (8, None), (15, Some(37)), (23, None)];
+
+// The same up to 23, where code of the wasm offset 12 begins once more; without a source is the code from 26 on.
+const TWO_RUNS: &[MapEntry] = &[
+    (5, Some(32)),
+    (8, None),
+    (15, Some(37)),
+    (23, Some(32)),
+    (26, None),
+];
+
+// Wasm offsets, and the native offsets that they become.
+const OF_ONE_RUN: [(u64, Option<i64>); 10] = [
+    (0, None),
+    (9, None),
+    (10, Some(0)),
+    (12, Some(5)),
+    (13, Some(8)),
+    (18, Some(23)),
+    (20, Some(30)),
+    (25, Some(30)),
+    (0xFFFF_FFFF, None),
+    (0x1_0000_0000, Some(30)),
+];
+
+// Where two runs have an offset, the first counts.
+const OF_TWO_RUNS: [(u64, Option<i64>); 7] = [
+    (0, None),
+    (10, Some(0)),
+    (12, Some(5)),
+    (17, Some(15)),
+    (18, Some(26)),
+    (20, Some(30)),
+    (0xFFFF_FFFF, None),
+];
+
+// Intervals of wasm offsets, and the native ranges that they become, if their begin is in a function.
+const RANGES_OF_ONE_RUN: [(u64, u64, Option<&[(usize, usize)]>); 8] = [
+    (12, 17, Some(&[(5, 23)])),
+    (13, 16, Some(&[(8, 15)])),
+    (16, 16, Some(&[])),
+    (17, 12, Some(&[])),
+    (0, 20, None),
+    (9, 20, None),
+    (12, 0xFFFF_FFFF, Some(&[(5, 30)])),
+    (0xFFFF_FFFF, 0x1_0000_0000, None),
+];
+
+const RANGES_OF_TWO_RUNS: [(u64, u64, Option<&[(usize, usize)]>); 6] = [
+    (12, 20, Some(&[(5, 23), (23, 30)])),
+    (10, 12, Some(&[(0, 8)])),
+    (10, 13, Some(&[(0, 15), (23, 30)])),
+    (18, 20, Some(&[(26, 30)])),
+    (20, 10, Some(&[])),
+    (0, 0xFFFF_FFFF, None),
+];
+
+// Where the ranges begin and how long they are.
+const LENGTHS_OF_TWO_RUNS: [(u64, u64, &[(i64, u64)]); 4] = [
+    (12, 20, &[(5, 18), (23, 7)]),
+    (18, 20, &[(26, 4)]),
+    (20, 10, &[]),
+    (0, 20, &[]),
+];
+
+fn transform(alloc: Global, entries: &[MapEntry]) -> Result<AddressTransform, Fail> {
+    let module = split_wasm(alloc, SMALL)?;
+    if module.defined_funcs != 1 {
+        return Err("not one function".into());
+    }
+    transform_of(alloc, slice::from_ref(&module), SOURCE, entries)
+}
+
+fn address(addend: i64) -> Address {
+    Address::Symbol { symbol: 0, addend }
+}
+
+#[test]
+fn addresses_of_one_run(rt: HostRuntime) -> Result<(), Fail> {
+    let transform = transform(rt.alloc(), ONE_RUN)?;
+    for (offset, wanted) in &OF_ONE_RUN {
+        assert_eq!(rt;
+            transform.can_translate_address(*offset),
+            wanted.is_some(),
+            "{offset}"
+        );
+        assert_eq!(rt;
+            transform.translate(*offset),
+            wanted.map(address),
+            "{offset}"
+        );
+    }
+    Ok(())
+}
+
+#[test]
+fn addresses_of_two_runs(rt: HostRuntime) -> Result<(), Fail> {
+    let transform = transform(rt.alloc(), TWO_RUNS)?;
+    for (offset, wanted) in &OF_TWO_RUNS {
+        assert_eq!(rt;
+            transform.can_translate_address(*offset),
+            wanted.is_some(),
+            "{offset}"
+        );
+        assert_eq!(rt;
+            transform.translate(*offset),
+            wanted.map(address),
+            "{offset}"
+        );
+    }
+    Ok(())
+}
+
+// Whether an interval becomes these native ranges.
+fn becomes(
+    transform: &AddressTransform,
+    start: u64,
+    end: u64,
+    wanted: Option<&[(usize, usize)]>,
+) -> bool {
+    match (transform.translate_ranges_raw(start, end), wanted) {
+        (Some((symbol, ranges)), Some(wanted)) => symbol == 0 && ranges.eq(wanted.iter().copied()),
+        (None, None) => true,
+        _ => false,
+    }
+}
+
+#[test]
+fn ranges_of_one_run(rt: HostRuntime) -> Result<(), Fail> {
+    let transform = transform(rt.alloc(), ONE_RUN)?;
+    for (start, end, wanted) in &RANGES_OF_ONE_RUN {
+        assert!(rt; becomes(&transform, *start, *end, *wanted), "{start} {end}");
+    }
+    Ok(())
+}
+
+#[test]
+fn ranges_of_two_runs(rt: HostRuntime) -> Result<(), Fail> {
+    let transform = transform(rt.alloc(), TWO_RUNS)?;
+    for (start, end, wanted) in &RANGES_OF_TWO_RUNS {
+        assert!(rt; becomes(&transform, *start, *end, *wanted), "{start} {end}");
+    }
+    Ok(())
+}
+
+#[test]
+fn ranges_have_lengths(rt: HostRuntime) -> Result<(), Fail> {
+    let transform = transform(rt.alloc(), TWO_RUNS)?;
+    for (start, end, wanted) in &LENGTHS_OF_TWO_RUNS {
+        let mut ranges = transform.translate_ranges(*start, *end);
+        for (begin, length) in *wanted {
+            assert_eq!(rt;
+                ranges.next(),
+                Some((address(*begin), *length)),
+                "{start} {end}"
+            );
+        }
+        assert!(rt; ranges.next().is_none(), "{start} {end}");
+    }
+    Ok(())
+}
