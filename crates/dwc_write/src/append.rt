@@ -40,7 +40,10 @@ pub fn bytes_8(order: Endian, value: u64) -> [u8; 8]
     }
 }
 
-// An unsigned LEB128 number.
+/// Puts an unsigned LEB128 number behind what a buffer holds, as short as it can be. (DWARF 4, section 7.6.)
+///
+/// # Errors
+/// `AllocError` for want of memory; some of the number's bytes may have been put then.
 pub fn put_uleb(out: &mut Vec<u8>, value: u64) -> Result<(), AllocError>
     ensures { OnOk result (out.new.items ≡ out.old.items ++ uleb_bytes value) }
 {
@@ -53,7 +56,10 @@ pub fn put_uleb(out: &mut Vec<u8>, value: u64) -> Result<(), AllocError>
     Ok(())
 }
 
-// A signed LEB128 number.
+/// Puts a signed LEB128 number behind what a buffer holds, as short as it can be. (DWARF 4, section 7.6.)
+///
+/// # Errors
+/// `AllocError` for want of memory; some of the number's bytes may have been put then.
 pub fn put_sleb(out: &mut Vec<u8>, value: i64) -> Result<(), AllocError>
     ensures { OnOk result (out.new.items ≡ out.old.items ++ sleb_bytes value) }
 {

@@ -21,6 +21,7 @@ mod text_layout;
 mod units;
 mod writer;
 
+pub use append::{put_sleb, put_uleb};
 pub use attributes::{AttributeValue, DebugInfoRef, Expression};
 pub use error::WriteError;
 pub use lines::LineProgram;
