@@ -36,8 +36,8 @@ impl<'t> Model for RawRanges<'t> {
 }
 
 impl<'t> RawRanges<'t> {
-    // The next range, which has a byte.
-    fn next_range(&mut self) -> Option<(GeneratedAddress, GeneratedAddress)>
+    /// The next range, which has a byte and ends below 2^32; None behind the last.
+    pub fn next_range(&mut self) -> Option<(GeneratedAddress, GeneratedAddress)>
         ensures order { IfSome result (λ range. range.0 < range.1) }
         ensures low { IfSome result (λ range. range.1 < 2 ^ 32) }
         ensures next { YieldsFirst (λ r. r) self.old result self.new }
