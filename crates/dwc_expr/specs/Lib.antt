@@ -1,0 +1,7 @@
+pub mod Builds
+pub mod CodeRanges
+pub mod Compiles
+pub mod Errors
+pub mod Frames
+pub mod LabelRanges
+pub mod PartViews

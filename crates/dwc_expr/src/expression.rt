@@ -1,0 +1,101 @@
+//! Compiled expressions.
+ghost use Rattle.std.specs.Prelude.{◌≡◌, IfOk, map, option_map};
+ghost use Rattle.dwc_base.specs.Parts.{context_label, is_simple as is_simple_by, label_alone, single_code};
+ghost use Rattle.dwc_expr.specs.PartViews.{part_view};
+
+use crate::{CompiledExpressionPart, ExprError};
+use dwc_clif::{ValueLabel, get_vmctx_value_label};
+use dwc_write::Expression;
+use std::alloc::Global;
+use std::marker::Model;
+
+/// An expression of the input in parts, in which locals, reads of linear memory and jumps stand apart from operations that stay as
+/// they are.
+#[derive(Drop)]
+pub struct CompiledExpression {
+    pub(crate) parts: Vec<CompiledExpressionPart>,
+    // Whether its result is an address in linear memory.
+    pub(crate) need_deref: bool,
+}
+
+impl Model for CompiledExpression {
+    ghost use Rattle.std.specs.Prelude.{map};
+    ghost use Rattle.dwc_base.specs.Parts.{CompiledParts};
+    ghost use Rattle.dwc_expr.specs.PartViews.{part_view};
+
+    ghost Value = { CompiledParts };
+
+    ghost view = { λ x. record { parts = map part_view x.parts.items; need_deref = x.need_deref } };
+}
+
+impl CompiledExpression {
+    /// The place of the module's context.
+    ///
+    /// # Errors
+    /// `OutOfMemory` for want of memory.
+    pub fn vmctx(alloc: Global) -> Result<CompiledExpression, ExprError>
+        ensures { IfOk result (λ x. x ≡ label_alone context_label) }
+    {
+        CompiledExpression::from_label(alloc, get_vmctx_value_label())
+    }
+
+    /// The place of a label.
+    ///
+    /// # Errors
+    /// `OutOfMemory` for want of memory.
+    pub fn from_label(alloc: Global, label: ValueLabel) -> Result<CompiledExpression, ExprError>
+        ensures { IfOk result (λ x. x ≡ label_alone «label».0) }
+    {
+        let mut parts = Vec::with_capacity(alloc, 1)?;
+        parts.push(CompiledExpressionPart::Local {
+            label,
+            trailing: true,
+        })?;
+        Ok(CompiledExpression {
+            parts,
+            need_deref: false,
+        })
+    }
+
+    /// Whether it is operations that stay as they are alone, or nothing.
+    pub fn is_simple(&self) -> bool
+        ensures { result ≡ is_simple_by self.now }
+    {
+        match self.parts.as_slice() {
+            [] => true,
+            [CompiledExpressionPart::Code(_)] => true,
+            _ => false,
+        }
+    }
+
+    /// The expression itself where it is operations that stay as they are alone; None else.
+    ///
+    /// # Errors
+    /// `OutOfMemory` for want of memory.
+    pub fn build(&self, alloc: Global) -> Result<Option<Expression>, ExprError>
+        ensures { IfOk result (λ built. option_map (λ x. x.bytes.items) built ≡ single_code self.now.parts) }
+    {
+        match self.parts.as_slice() {
+            [CompiledExpressionPart::Code(code)] => {
+                let mut bytes = Vec::with_capacity(alloc, code.len())?;
+                bytes.extend_from_slice(code)?;
+                Ok(Some(Expression::new(bytes)))
+            }
+            _ => Ok(None),
+        }
+    }
+
+    /// Its parts.
+    pub fn parts(&self) -> &[CompiledExpressionPart]
+        ensures { map part_view result.now ≡ self.now.parts }
+    {
+        self.parts.as_slice()
+    }
+
+    /// Whether its result is an address in linear memory, which is made one of the native code behind the last part.
+    pub fn need_deref(&self) -> bool
+        ensures { result ≡ self.now.need_deref }
+    {
+        self.need_deref
+    }
+}

@@ -1,0 +1,22 @@
+//! Expressions of the input: what they compile to, where the values lie that they need, and what is built of them over the native
+//! code of a scope. (DWARF 4 and 5, sections 2.5 and 2.6.)
+#![tactic(auto)]
+
+mod built;
+mod cached_range;
+mod code_range;
+mod compile;
+mod error;
+mod expression;
+mod frame;
+mod label_ranges;
+mod part;
+
+pub use built::BuiltCompiledExpression;
+pub use cached_range::CachedValueLabelRange;
+pub use compile::compile_expression;
+pub use error::ExprError;
+pub use expression::CompiledExpression;
+pub use frame::FunctionFrameInfo;
+pub use label_ranges::{BuiltValueLabelRanges, ValueLabelRangesBuilder};
+pub use part::CompiledExpressionPart;
