@@ -1,6 +1,5 @@
 -- What building an expression over a scope answers.
-use Rattle.std.specs.Prelude.{◌≡◌, ◌×◌, ℕ, List, map, ⊤, ⊥, Option, Some, None, Result, Ok, Err}
-
+use Rattle.std.specs.Prelude.{◌≡◌, ℕ, List, map, Option, Some, None, Result, Ok, Err}
 use Rattle.std.specs.FinMap as finite
 use Rattle.dwc_base.specs.declared.records.Address.{Address}
 use Rattle.dwc_base.specs.Functions.{Function}

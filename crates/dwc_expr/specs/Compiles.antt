@@ -1,5 +1,5 @@
 -- What compiling an expression answers.
-use Rattle.std.specs.Prelude.{◌≡◌, ◌×◌, ℕ, ⊤, ⊥, Option, Result, Ok, Err}
+use Rattle.std.specs.Prelude.{◌≡◌, ℕ, ⊤, Option, Result, Ok, Err}
 use Rattle.dwc_base.specs.declared.faults.What.TheVariants.{Expression}
 use Rattle.dwc_base.specs.declared.section_name.SectionName.TheVariants.{Info}
 use Rattle.dwc_base.specs.Parts.{CompiledParts}

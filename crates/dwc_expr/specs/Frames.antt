@@ -1,5 +1,5 @@
 -- What a function tells to expressions, as the definitions have it.
-use Rattle.std.specs.Prelude.{ℕ, List, [], Option, Some, None, option_map}
+use Rattle.std.specs.Prelude.{ℕ, [], Option, option_map}
 use Rattle.std.specs.Option.{unwrap_or}
 use Rattle.std.specs.FinMap as finite
 use Rattle.dwc_base.specs.Compiled.{Memory, no_memory, defined, imported}

@@ -1,5 +1,5 @@
 -- Label ranges as they are gathered: the ranges of a scope on which the labels that were processed have unchanged places.
-use Rattle.std.specs.Prelude.{◌≡◌, ◌×◌, ◌<◌, ◌^◌, ◌++◌, ℕ, List, [], ◌∷◌, map, Bool, true, false, not, ◌&&◌, if◌then◌else◌, Option, Some, None, option_map, OnOk, OnErr, All, ⊤, ⊥, Result, Ok, Err}
+use Rattle.std.specs.Prelude.{◌≡◌, ◌<◌, ◌^◌, ◌++◌, ℕ, List, [], ◌∷◌, map, Bool, true, false, ◌&&◌, if◌then◌else◌, Option, None, option_map, All, Result, Ok, Err}
 use Rattle.std.specs.BTreeMap.{get}
 use Rattle.std.specs.Ordering.{nat_cmp}
 use Rattle.dwc_base.specs.Functions.{Function}
@@ -56,7 +56,7 @@ bounds_of r = record { function = r.func_index; start = r.start; end = r.end }
 
 -- where a range says that a label lies
 abbrev pub location_in : CachedValueLabelRange → ℕ → Option Place
-location_in r label = option_map place_view (get nat_cmp r.label_location.entries label)
+location_in r label = option_map place_view (get nat_cmp r.label_location label)
 
 -- A range says the place of each of some labels at its first byte, and of no other.
 abbrev pub SaysPlaces : Option Frame → List ℕ → CachedValueLabelRange → Type 0

@@ -39,7 +39,7 @@ impl CompiledExpression {
         frame_info: Option<&FunctionFrameInfo<'_>>,
         isa: &dyn TargetIsa,
     ) -> Result<BuiltCompiledExpression, ExprError>
-        ensures { Builds (built_over (surroundings addr_tr.now (option_map (λ f. f.now) frame_info) (dwarf_registers isa.now)) scope.now self.now) result }
+        ensures { Builds (built_over (surroundings addr_tr.now (option_map (λ f. f.now) frame_info.entry) (dwarf_registers isa.now)) scope.now self.now) result }
     {
         Err(ExprError::OutOfMemory)
     }

@@ -22,7 +22,7 @@ pub fn compile_expression(
     encoding: Encoding,
     frame_base: Option<&CompiledExpression>,
 ) -> Result<Option<CompiledExpression>, ExprError>
-    ensures { Compiles (compiled (option_map (λ x. x.now) frame_base) bytes.now) result }
+    ensures { Compiles (compiled (option_map (λ x. x.now) frame_base.entry) bytes.now) result }
 {
     Err(ExprError::OutOfMemory)
 }

@@ -20,13 +20,17 @@ pub enum ExprError {
     TooLarge,
     /// A label that is needed has a range that begins above its end.
     #[error("BadLabelRange {}", label.0)]
-    BadLabelRange { label: ValueLabel },
+    BadLabelRange {
+        label: ValueLabel,
+    },
     /// Linear memory is read where all values have places, and the module has none.
     #[error("InvalidAttributeValue")]
     InvalidAttributeValue,
     /// A value lies in a register that DWARF does not know.
     #[error("UnmappedRegister {}", register.0)]
-    UnmappedRegister { register: Reg },
+    UnmappedRegister {
+        register: Reg,
+    },
     #[error("out of memory")]
     OutOfMemory,
 }

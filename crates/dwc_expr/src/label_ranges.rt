@@ -34,11 +34,15 @@ pub struct ValueLabelRangesBuilder<'a> {
 
 impl<'a> Model for ValueLabelRangesBuilder<'a> {
     ghost use Rattle.std.specs.Prelude.{map, option_map};
+    ghost use Rattle.std.specs.Coded.{codes};
+    ghost use Rattle.dwc_clif.specs.ValueLabels.{labelled_code};
     ghost use Rattle.dwc_expr.specs.Frames.{told_frame};
     ghost use Rattle.dwc_expr.specs.LabelRanges.{Gathered, GivesRanges};
     ghost use Rattle.dwc_expr.specs.CodeRanges.{code_range_view};
 
     ghost Value = { Gathered };
+
+    ghost coded = { Prim.hlevel (codes, labelled_code) };
 
     ghost view = { λ b. record { frame = option_map (λ f. told_frame f.now) b.frame_info; has_scope = b.has_scope; scope = map code_range_view b.scope.items; labels = b.labels.items } };
 
@@ -58,7 +62,7 @@ impl<'a> ValueLabelRangesBuilder<'a> {
         frame_info: Option<&'a FunctionFrameInfo<'a>>,
         _isa: &dyn TargetIsa,
     ) -> Result<ValueLabelRangesBuilder<'a>, ExprError>
-        ensures { IfOk result (λ b. b ≡ gathered_of addr_tr.now (option_map (λ f. told_frame f.now) frame_info) scope.now) }
+        ensures { IfOk result (λ b. b ≡ gathered_of addr_tr.now (option_map (λ f. told_frame f.now) frame_info.entry) scope.now) }
     {
         Err(ExprError::OutOfMemory)
     }
@@ -76,7 +80,7 @@ impl<'a> ValueLabelRangesBuilder<'a> {
 
     /// The ranges, with the places of all labels that were processed. It takes no memory.
     pub fn into_ranges(self) -> BuiltValueLabelRanges
-        ensures { GivesRanges self.old result.ranges.items result.covers_entire_scope }
+        ensures { GivesRanges self.entry result.ranges.items result.covers_entire_scope }
     {
         BuiltValueLabelRanges {
             ranges: self.ranges,
