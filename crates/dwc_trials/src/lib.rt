@@ -7,7 +7,11 @@ mod carried;
 #[cfg(test)]
 mod compiled;
 #[cfg(test)]
+mod expressions;
+#[cfg(test)]
 mod host;
+#[cfg(test)]
+mod label_ranges;
 #[cfg(test)]
 mod module_file;
 #[cfg(test)]

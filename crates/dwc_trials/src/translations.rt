@@ -10,8 +10,8 @@ use std::test::Fail;
 // The function's source in the small module's file, where the contents of the code section begin at 20: the wasm offsets 10 to 20.
 const SOURCE: (u32, u32) = (30, 40);
 
-// The code from 5 on has the wasm offset 12, that from 15 on 17; without a source are the codes from 8 and from 23 on.
-const ONE_RUN: &[MapEntry] = &[(5, Some(32)), (8, None), (15, Some(37)), (23, None)];
+/// The code from 5 on has the wasm offset 12, that from 15 on 17; without a source are the codes from 8 and from 23 on.
+pub(crate) const ONE_RUN: &[MapEntry] = &[(5, Some(32)), (8, None), (15, Some(37)), (23, None)];
 
 // The same up to 23, where code of the wasm offset 12 begins once more; without a source is the code from 26 on.
 const TWO_RUNS: &[MapEntry] = &[
@@ -76,7 +76,8 @@ const LENGTHS_OF_TWO_RUNS: [(u64, u64, &[(i64, u64)]); 4] = [
     (0, 20, &[]),
 ];
 
-fn transform(alloc: Global, entries: &[MapEntry]) -> Result<AddressTransform, Fail> {
+/// The transform of the small module, whose function has 30 bytes and these entries.
+pub(crate) fn transform(alloc: Global, entries: &[MapEntry]) -> Result<AddressTransform, Fail> {
     let module = split_wasm(alloc, SMALL)?;
     if module.defined_funcs != 1 {
         return Err("not one function".into());
