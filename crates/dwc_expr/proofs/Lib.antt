@@ -1,0 +1,5 @@
+pub mod ListEnds
+pub mod PlaceLaws
+pub mod FlatLaws
+pub mod LocLaws
+pub mod OverlayLaws

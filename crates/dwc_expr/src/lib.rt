@@ -8,6 +8,7 @@ mod code_range;
 mod compile;
 mod error;
 mod expression;
+mod flat;
 mod frame;
 mod label_ranges;
 mod part;
