@@ -3,3 +3,5 @@ pub mod PlaceLaws
 pub mod FlatLaws
 pub mod LocLaws
 pub mod OverlayLaws
+pub mod ScopeLaws
+pub mod CodeLaws

@@ -3,6 +3,7 @@ use Rattle.std.proofs.Common.{◌≡◌, ℕ, ◌+◌, ◌<◌, ◌≤◌, ◌�
 use Rattle.std.specs.Prelude.{All, AllPairs}
 use Rattle.std.specs.Option.{unwrap_or}
 use Rattle.std.proofs.lemmas.List.{get_or_append_left, get_or_push, length_push, drop_more, drop_all}
+use Rattle.std.proofs.lemmas.List.Elements.{All-cons, All-head, All-tail}
 use Rattle.std.proofs.lemmas.List.Quantifiers.{all_pairs_push}
 use Rattle.dwc_base.specs.Wasm.{last_of}
 
@@ -41,6 +42,11 @@ ends {A} (x ∷ y ∷ ys) = go (ends (y ∷ ys))
     go : (y ∷ ys ≡ []) ⊎ Ends (y ∷ ys) → (x ∷ y ∷ ys ≡ []) ⊎ Ends (x ∷ y ∷ ys)
     go (inl e) = absurd (cc)
     go (inr e) = inr (record { front = x ∷ e.front; last = e.last; is = ap (λ zs. x ∷ zs) e.is })
+
+-- what all have of which some are a view
+pub all-of-map : {A B : Type 0} (P : B → Type 0) (f : A → B) (xs : List A) → All P (map f xs) → All (λ x. P (f x)) xs
+all-of-map P f [] h = λ k d inside. absurd (omega (arith, inside))
+all-of-map P f (x ∷ xs) h = All-cons (λ y. P (f y)) x xs (All-head P (f x) (map f xs) h) (all-of-map P f xs (All-tail P (f x) (map f xs) h))
 
 -- the next item of a list, and those behind it
 pub map-next : {A B : Type 0} (f : A → B) (xs : List A) (i : ℕ) (d : A) → i < length xs → map f (drop i xs) ≡ f (get_or xs i d) ∷ map f (drop (i + 1) xs)

@@ -4,5 +4,6 @@ pub mod Compiles
 pub mod Errors
 pub mod FlatRanges
 pub mod Frames
+pub mod JoinedScopes
 pub mod LabelRanges
 pub mod PartViews

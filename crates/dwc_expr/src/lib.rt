@@ -12,6 +12,7 @@ mod flat;
 mod frame;
 mod label_ranges;
 mod part;
+mod scope;
 
 pub use built::BuiltCompiledExpression;
 pub use cached_range::CachedValueLabelRange;
