@@ -1,6 +1,7 @@
 pub mod ListEnds
 pub mod PlaceLaws
 pub mod FlatLaws
+pub mod FlatPlaces
 pub mod LocLaws
 pub mod OverlayLaws
 pub mod ScopeLaws
