@@ -1,9 +1,15 @@
+pub mod Actions
 pub mod Builds
 pub mod CodeRanges
 pub mod Compiles
 pub mod Errors
 pub mod FlatRanges
 pub mod Frames
+pub mod JoinedParts
 pub mod JoinedScopes
 pub mod LabelRanges
+pub mod Landings
 pub mod PartViews
+pub mod Rules
+pub mod Steps
+pub mod Supported

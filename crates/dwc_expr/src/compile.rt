@@ -1,11 +1,104 @@
 //! Compiles expressions.
-ghost use Rattle.std.specs.Prelude.{option_map};
-ghost use Rattle.dwc_base.specs.Parts.{compiled};
+ghost use Rattle.std.specs.Prelude.{◌≡◌, ◌<◌, ◌≤◌, ◌^◌, All, map, option_map};
+ghost use Rattle.std.specs.List.{list_any};
+ghost use Rattle.dwc_base.specs.Parts.{compiled, holds_jump, is_jump, leaves_address, lone_local, targets};
 ghost use Rattle.dwc_expr.specs.Compiles.{Compiles};
+ghost use Rattle.dwc_expr.specs.PartViews.{part_view};
+ghost use Rattle.dwc_expr.specs.Supported.{compiled_supported};
 
-use crate::{CompiledExpression, ExprError};
+use crate::emit::parts_of_steps;
+use crate::landings::landings;
+use crate::step::Step;
+use crate::steps::read_steps;
+use crate::{CompiledExpression, CompiledExpressionPart, ExprError};
 use dwc_base::Encoding;
+use dwc_base::constants::DW_OP_stack_value;
+use dwc_clif::ValueLabel;
 use std::alloc::Global;
+
+// Whether a part is a jump.
+fn is_jump(part: &CompiledExpressionPart) -> bool
+    ensures { result ≡ is_jump (part_view part.now) }
+{
+    match part {
+        CompiledExpressionPart::Code(_) => false,
+        CompiledExpressionPart::Local { .. } => false,
+        CompiledExpressionPart::Deref => false,
+        CompiledExpressionPart::Jump { .. } => true,
+        CompiledExpressionPart::LandingPad(_) => false,
+    }
+}
+
+// Whether one of some parts is a jump.
+fn any_is_jump(parts: &[CompiledExpressionPart]) -> bool
+    ensures { result ≡ list_any is_jump (map part_view parts.now) }
+{
+    for part in parts {
+        if is_jump(part) {
+            return true;
+        }
+    }
+    false
+}
+
+// Whether some part of a frame base is a jump.
+fn holds_jump(frame_base: Option<&CompiledExpression>) -> bool
+    ensures { result ≡ holds_jump (option_map (λ x. x.now) frame_base.entry) }
+{
+    match frame_base {
+        Some(base) => any_is_jump(base.parts()),
+        None => false,
+    }
+}
+
+// The local of an expression that is one local and `stack_value`.
+fn lone_local(steps: &[Step<'_>]) -> Option<ValueLabel>
+    ensures { option_map (λ label. label.0) result ≡ lone_local steps.now }
+{
+    match steps {
+        [first, last] => {
+            if last.opcode() == DW_OP_stack_value {
+                first.local()
+            } else {
+                None
+            }
+        }
+        _ => None,
+    }
+}
+
+// Whether the result is an address: it is where there is a last operation that does not make it a value.
+fn leaves_address(steps: &[Step<'_>]) -> bool
+    ensures { result ≡ leaves_address steps.now }
+{
+    match steps.last() {
+        Some(last) => last.opcode() != DW_OP_stack_value,
+        None => false,
+    }
+}
+
+// What the operations of an expression of a length compile to, which are all supported; None where a jump goes into an operation.
+fn compile_steps(
+    alloc: Global,
+    frame_base: Option<&CompiledExpression>,
+    steps: &[Step<'_>],
+    size: usize,
+) -> Result<Option<CompiledExpression>, ExprError>
+    requires size { size < 2 ^ 63 }
+    requires inside { All (λ place. place ≤ size) (targets steps.now) }
+    ensures { Compiles (compiled_supported (option_map (λ x. x.now) frame_base.entry) size steps.now) result }
+{
+    let Some(landings) = landings(alloc, steps, size)? else {
+        return Ok(None);
+    };
+    if let Some(label) = lone_local(steps) {
+        return Ok(Some(CompiledExpression::alone(alloc, label)?));
+    }
+    Ok(Some(CompiledExpression {
+        parts: parts_of_steps(alloc, frame_base, &landings, steps, size)?,
+        need_deref: leaves_address(steps),
+    }))
+}
 
 /// What an expression of the input compiles to, on the frame base in force if there is one: its parts. None where it is not
 /// supported: where it has an operation that is not known, or that tells of the machine that the input was compiled for, a location
@@ -24,5 +117,11 @@ pub fn compile_expression(
 ) -> Result<Option<CompiledExpression>, ExprError>
     ensures { Compiles (compiled (option_map (λ x. x.now) frame_base.entry) bytes.now) result }
 {
-    Err(ExprError::OutOfMemory)
+    if holds_jump(frame_base) {
+        return Ok(None);
+    }
+    match read_steps(alloc, bytes, encoding, frame_base.is_some())? {
+        Some(steps) => compile_steps(alloc, frame_base, &steps, bytes.len()),
+        None => Ok(None),
+    }
 }

@@ -6,7 +6,7 @@ ghost use Rattle.dwc_expr.specs.PartViews.{part_view};
 use crate::{CompiledExpressionPart, ExprError};
 use dwc_clif::{ValueLabel, get_vmctx_value_label};
 use dwc_write::Expression;
-use std::alloc::Global;
+use std::alloc::{AllocError, Global};
 use std::marker::Model;
 
 /// An expression of the input in parts, in which locals, reads of linear memory and jumps stand apart from operations that stay as
@@ -44,6 +44,13 @@ impl CompiledExpression {
     /// # Errors
     /// `OutOfMemory` for want of memory.
     pub fn from_label(alloc: Global, label: ValueLabel) -> Result<CompiledExpression, ExprError>
+        ensures { IfOk result (λ x. x ≡ label_alone «label».0) }
+    {
+        Ok(CompiledExpression::alone(alloc, label)?)
+    }
+
+    // The place of a label.
+    pub(crate) fn alone(alloc: Global, label: ValueLabel) -> Result<CompiledExpression, AllocError>
         ensures { IfOk result (λ x. x ≡ label_alone «label».0) }
     {
         let mut parts = Vec::with_capacity(alloc, 1)?;

@@ -2,17 +2,24 @@
 //! code of a scope. (DWARF 4 and 5, sections 2.5 and 2.6.)
 #![tactic(auto)]
 
+mod action;
 mod built;
 mod cached_range;
 mod code_range;
 mod compile;
+mod emit;
 mod error;
 mod expression;
 mod flat;
 mod frame;
+mod joined_parts;
 mod label_ranges;
+mod landings;
 mod part;
+mod rule;
 mod scope;
+mod step;
+mod steps;
 
 pub use built::BuiltCompiledExpression;
 pub use cached_range::CachedValueLabelRange;
