@@ -1,52 +1,26 @@
 //! Compiles expressions.
-ghost use Rattle.std.specs.Prelude.{◌≡◌, ◌<◌, ◌≤◌, ◌^◌, All, map, option_map};
-ghost use Rattle.std.specs.List.{list_any};
-ghost use Rattle.dwc_base.specs.Parts.{compiled, holds_jump, is_jump, leaves_address, lone_local, targets};
+ghost use Rattle.std.specs.Prelude.{◌≡◌, ◌<◌, ◌≤◌, ◌^◌, All, option_map};
+ghost use Rattle.dwc_base.specs.Parts.{compiled, holds_jump, leaves_address, lone_local, targets};
 ghost use Rattle.dwc_expr.specs.Compiles.{Compiles};
-ghost use Rattle.dwc_expr.specs.PartViews.{part_view};
 ghost use Rattle.dwc_expr.specs.Supported.{compiled_supported};
 
 use crate::emit::parts_of_steps;
 use crate::landings::landings;
+use crate::part::any_is_jump;
 use crate::step::Step;
 use crate::steps::read_steps;
-use crate::{CompiledExpression, CompiledExpressionPart, ExprError};
+use crate::{CompiledExpression, ExprError};
 use dwc_base::Encoding;
 use dwc_base::constants::DW_OP_stack_value;
 use dwc_clif::ValueLabel;
 use std::alloc::Global;
-
-// Whether a part is a jump.
-fn is_jump(part: &CompiledExpressionPart) -> bool
-    ensures { result ≡ is_jump (part_view part.now) }
-{
-    match part {
-        CompiledExpressionPart::Code(_) => false,
-        CompiledExpressionPart::Local { .. } => false,
-        CompiledExpressionPart::Deref => false,
-        CompiledExpressionPart::Jump { .. } => true,
-        CompiledExpressionPart::LandingPad(_) => false,
-    }
-}
-
-// Whether one of some parts is a jump.
-fn any_is_jump(parts: &[CompiledExpressionPart]) -> bool
-    ensures { result ≡ list_any is_jump (map part_view parts.now) }
-{
-    for part in parts {
-        if is_jump(part) {
-            return true;
-        }
-    }
-    false
-}
 
 // Whether some part of a frame base is a jump.
 fn holds_jump(frame_base: Option<&CompiledExpression>) -> bool
     ensures { result ≡ holds_jump (option_map (λ x. x.now) frame_base.entry) }
 {
     match frame_base {
-        Some(base) => any_is_jump(base.parts()),
+        Some(base) => base.has_jump(),
         None => false,
     }
 }
@@ -94,9 +68,12 @@ fn compile_steps(
     if let Some(label) = lone_local(steps) {
         return Ok(Some(CompiledExpression::alone(alloc, label)?));
     }
+    let parts = parts_of_steps(alloc, frame_base, &landings, steps, size)?;
+    let has_jump = any_is_jump(&parts);
     Ok(Some(CompiledExpression {
-        parts: parts_of_steps(alloc, frame_base, &landings, steps, size)?,
+        parts,
         need_deref: leaves_address(steps),
+        has_jump,
     }))
 }
 

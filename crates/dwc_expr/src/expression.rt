@@ -1,7 +1,9 @@
 //! Compiled expressions.
-ghost use Rattle.std.specs.Prelude.{◌≡◌, IfOk, map, option_map};
-ghost use Rattle.dwc_base.specs.Parts.{context_label, is_simple as is_simple_by, label_alone, single_code};
+ghost use Rattle.std.specs.Prelude.{◌≡◌, IfOk, IfErr, map, option_map};
+ghost use Rattle.std.specs.List.{list_any};
+ghost use Rattle.dwc_base.specs.Parts.{context_label, is_jump, is_simple as is_simple_by, label_alone, single_code};
 ghost use Rattle.dwc_expr.specs.PartViews.{part_view};
+ghost use Rattle.dwc_expr.specs.declared.error.ExprError.TheVariants.{OutOfMemory};
 
 use crate::{CompiledExpressionPart, ExprError};
 use dwc_clif::{ValueLabel, get_vmctx_value_label};
@@ -16,16 +18,21 @@ pub struct CompiledExpression {
     pub(crate) parts: Vec<CompiledExpressionPart>,
     // Whether its result is an address in linear memory.
     pub(crate) need_deref: bool,
+    // Whether one of its parts is a jump.
+    pub(crate) has_jump: bool,
 }
 
 impl Model for CompiledExpression {
-    ghost use Rattle.std.specs.Prelude.{map};
-    ghost use Rattle.dwc_base.specs.Parts.{CompiledParts};
+    ghost use Rattle.std.specs.Prelude.{◌≡◌, map};
+    ghost use Rattle.std.specs.List.{list_any};
+    ghost use Rattle.dwc_base.specs.Parts.{CompiledParts, is_jump};
     ghost use Rattle.dwc_expr.specs.PartViews.{part_view};
 
     ghost Value = { CompiledParts };
 
     ghost view = { λ x. record { parts = map part_view x.parts.items; need_deref = x.need_deref } };
+
+    ghost invariant = { λ x. x.has_jump ≡ list_any is_jump (map part_view x.parts.items) };
 }
 
 impl CompiledExpression {
@@ -34,7 +41,8 @@ impl CompiledExpression {
     /// # Errors
     /// `OutOfMemory` for want of memory.
     pub fn vmctx(alloc: Global) -> Result<CompiledExpression, ExprError>
-        ensures { IfOk result (λ x. x ≡ label_alone context_label) }
+        ensures place { IfOk result (λ x. x ≡ label_alone context_label) }
+        ensures memory { IfErr result (λ e. e ≡ OutOfMemory) }
     {
         CompiledExpression::from_label(alloc, get_vmctx_value_label())
     }
@@ -44,7 +52,8 @@ impl CompiledExpression {
     /// # Errors
     /// `OutOfMemory` for want of memory.
     pub fn from_label(alloc: Global, label: ValueLabel) -> Result<CompiledExpression, ExprError>
-        ensures { IfOk result (λ x. x ≡ label_alone «label».0) }
+        ensures place { IfOk result (λ x. x ≡ label_alone «label».0) }
+        ensures memory { IfErr result (λ e. e ≡ OutOfMemory) }
     {
         Ok(CompiledExpression::alone(alloc, label)?)
     }
@@ -61,6 +70,7 @@ impl CompiledExpression {
         Ok(CompiledExpression {
             parts,
             need_deref: false,
+            has_jump: false,
         })
     }
 
@@ -80,7 +90,8 @@ impl CompiledExpression {
     /// # Errors
     /// `OutOfMemory` for want of memory.
     pub fn build(&self, alloc: Global) -> Result<Option<Expression>, ExprError>
-        ensures { IfOk result (λ built. option_map (λ x. x.bytes.items) built ≡ single_code self.now.parts) }
+        ensures code { IfOk result (λ built. option_map (λ x. x.bytes.items) built ≡ single_code self.now.parts) }
+        ensures memory { IfErr result (λ e. e ≡ OutOfMemory) }
     {
         match self.parts.as_slice() {
             [CompiledExpressionPart::Code(code)] => {
@@ -90,6 +101,13 @@ impl CompiledExpression {
             }
             _ => Ok(None),
         }
+    }
+
+    // Whether one of its parts is a jump.
+    pub(crate) fn has_jump(&self) -> bool
+        ensures { result ≡ list_any is_jump self.now.parts }
+    {
+        self.has_jump
     }
 
     /// Its parts.

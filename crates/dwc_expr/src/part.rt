@@ -1,4 +1,9 @@
 //! The parts of a compiled expression.
+ghost use Rattle.std.specs.Prelude.{◌≡◌, map};
+ghost use Rattle.std.specs.List.{list_any};
+ghost use Rattle.dwc_base.specs.Parts.{is_jump};
+ghost use Rattle.dwc_expr.specs.PartViews.{part_view};
+
 use dwc_clif::ValueLabel;
 
 /// A part of a compiled expression.
@@ -14,4 +19,29 @@ pub enum CompiledExpressionPart {
     Jump { conditionally: bool, target: u64 },
     /// Where jumps to an operation of the input arrive, by its place.
     LandingPad(u64),
+}
+
+// Whether a part is a jump.
+fn is_jump(part: &CompiledExpressionPart) -> bool
+    ensures { result ≡ is_jump (part_view part.now) }
+{
+    match part {
+        CompiledExpressionPart::Code(_) => false,
+        CompiledExpressionPart::Local { .. } => false,
+        CompiledExpressionPart::Deref => false,
+        CompiledExpressionPart::Jump { .. } => true,
+        CompiledExpressionPart::LandingPad(_) => false,
+    }
+}
+
+// Whether one of some parts is a jump.
+pub(crate) fn any_is_jump(parts: &[CompiledExpressionPart]) -> bool
+    ensures { result ≡ list_any is_jump (map part_view parts.now) }
+{
+    for part in parts {
+        if is_jump(part) {
+            return true;
+        }
+    }
+    false
 }

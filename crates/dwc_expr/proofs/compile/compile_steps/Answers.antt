@@ -12,5 +12,5 @@ returns c =
     let marks = c.in-Some.landings.items in
     let given = subst (GivesLandings c.args.size os) c.in-Some.is c.in_ok-landings.ensures in
     let lone : lone_local os ≡ None = sym c.lone_local.ensures ∙ ap (option_map (λ label. label.0)) c.in_default-lone_local.is in
-    supported-parts base c.args.size os given.0 marks (map part_view c.in_ok-parts_of_steps.field-0.items) c.leaves_address.result lone given.1
-    (c.in_ok-parts_of_steps.ensures ∙ ap (λ (bs : List Bool). joined (old_format base os ++ (parts_behind_marks base bs os ++ marked_pad bs c.args.size))) c.deref.ensures.value) c.leaves_address.ensures
+    supported-parts base c.args.size os given.0 marks (map part_view c.in_ok-parts.parts.items) c.leaves_address.result lone given.1
+    (c.in_ok-parts.ensures ∙ ap (λ (bs : List Bool). joined (old_format base os ++ (parts_behind_marks base bs os ++ marked_pad bs c.args.size))) c.deref.ensures.value) c.leaves_address.ensures

@@ -2,7 +2,7 @@ use Rattle.std.proofs.Common.{◌≡◌, drop, map}
 use Rattle.std.specs.List.{list_any}
 use Rattle.dwc_base.specs.Parts.{is_jump}
 use Rattle.dwc_expr.specs.PartViews.{part_view}
-use Rattle.dwc_expr.proofs.compile.any_is_jump.Given as goal
+use Rattle.dwc_expr.proofs.part.any_is_jump.Given as goal
 
 -- the parts that are left decide
 abbrev pub invariant-loop-part : goal.invariant-loop-part
