@@ -9,7 +9,10 @@ pub mod JoinedParts
 pub mod JoinedScopes
 pub mod LabelRanges
 pub mod Landings
+pub mod NarrowedRanges
+pub mod OwnPlaces
 pub mod PartViews
+pub mod PlacedParts
 pub mod Rules
 pub mod Steps
 pub mod Supported

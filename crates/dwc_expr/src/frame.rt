@@ -3,6 +3,7 @@ use dwc_addr::ModuleMemoryOffset;
 use dwc_clif::ValueLabelsRanges;
 
 /// What a function tells to the expressions of its entries.
+#[derive(Clone, Copy)]
 pub struct FunctionFrameInfo<'a> {
     /// Where its values lie, by their labels.
     pub value_ranges: &'a ValueLabelsRanges,

@@ -1,10 +1,14 @@
 //! On which ranges of the native code of a scope values lie at unchanged places. (DWARF 4 and 5, section 2.6.2, has lists of such.)
-ghost use Rattle.std.specs.Prelude.{◌≡◌, IfOk, option_map};
+ghost use Rattle.std.specs.Prelude.{◌≡◌, IfOk, IfErr, option_map};
+ghost use Rattle.dwc_expr.specs.declared.error.ExprError.TheVariants.{OutOfMemory};
 ghost use Rattle.dwc_expr.specs.Frames.{told_frame};
-ghost use Rattle.dwc_expr.specs.LabelRanges.{gathered_of, Processes, GivesRanges};
+ghost use Rattle.dwc_expr.specs.LabelRanges.{gathered_of, has_interval, Processes, GivesRanges};
 
-use crate::cached_range::CachedValueLabelRange;
+use crate::cached_range::{CachedValueLabelRange, without_places};
 use crate::code_range::CodeRange;
+use crate::narrowed::narrowed;
+use crate::native::native_ranges;
+use crate::scope::joined_scope;
 use crate::{ExprError, FunctionFrameInfo};
 use dwc_addr::AddressTransform;
 use dwc_clif::{TargetIsa, ValueLabel};
@@ -28,8 +32,7 @@ pub struct ValueLabelRangesBuilder<'a> {
     has_scope: bool,
     scope: Vec<CodeRange>,
     labels: Vec<u32>,
-    ranges: Vec<CachedValueLabelRange>,
-    covers: bool,
+    built: BuiltValueLabelRanges,
 }
 
 impl<'a> Model for ValueLabelRangesBuilder<'a> {
@@ -46,7 +49,7 @@ impl<'a> Model for ValueLabelRangesBuilder<'a> {
 
     ghost view = { λ b. record { frame = option_map (λ f. told_frame f.now) b.frame_info; has_scope = b.has_scope; scope = map code_range_view b.scope.items; labels = b.labels.items } };
 
-    ghost invariant = { λ b. GivesRanges (record { frame = option_map (λ f. told_frame f.now) b.frame_info; has_scope = b.has_scope; scope = map code_range_view b.scope.items; labels = b.labels.items }) b.ranges.items b.covers };
+    ghost invariant = { λ b. GivesRanges (record { frame = option_map (λ f. told_frame f.now) b.frame_info; has_scope = b.has_scope; scope = map code_range_view b.scope.items; labels = b.labels.items }) b.built.ranges.items b.built.covers_entire_scope };
 }
 
 impl<'a> ValueLabelRangesBuilder<'a> {
@@ -62,9 +65,23 @@ impl<'a> ValueLabelRangesBuilder<'a> {
         frame_info: Option<&'a FunctionFrameInfo<'a>>,
         _isa: &dyn TargetIsa,
     ) -> Result<ValueLabelRangesBuilder<'a>, ExprError>
-        ensures { IfOk result (λ b. b ≡ gathered_of addr_tr.now (option_map (λ f. told_frame f.now) frame_info.entry) scope.now) }
+        ensures scope { IfOk result (λ b. b ≡ gathered_of addr_tr.now (option_map (λ f. told_frame f.now) frame_info.entry) scope.now) }
+        ensures memory { IfErr result (λ e. e ≡ OutOfMemory) }
     {
-        Err(ExprError::OutOfMemory)
+        let code = native_ranges(alloc, scope, addr_tr)?;
+        let joined = joined_scope(alloc, &code)?;
+        let ranges = without_places(alloc, &joined)?;
+        let has_scope = has_interval(scope);
+        Ok(ValueLabelRangesBuilder {
+            frame_info,
+            has_scope,
+            scope: code,
+            labels: Vec::new(alloc),
+            built: BuiltValueLabelRanges {
+                ranges,
+                covers_entire_scope: has_scope,
+            },
+        })
     }
 
     /// Keeps of the ranges what has a place for one more label.
@@ -75,16 +92,27 @@ impl<'a> ValueLabelRangesBuilder<'a> {
     pub fn process_label(&mut self, label: ValueLabel) -> Result<(), ExprError>
         ensures { Processes label.0 self.old self.new result }
     {
-        Err(ExprError::OutOfMemory)
+        let alloc = *self.labels.allocator();
+        let built = narrowed(alloc, self.frame_info, label, &self.built)?;
+        self.labels.push(label.0)?;
+        self.built = built;
+        Ok(())
     }
 
     /// The ranges, with the places of all labels that were processed. It takes no memory.
     pub fn into_ranges(self) -> BuiltValueLabelRanges
         ensures { GivesRanges self.entry result.ranges.items result.covers_entire_scope }
     {
-        BuiltValueLabelRanges {
-            ranges: self.ranges,
-            covers_entire_scope: self.covers,
-        }
+        self.built
+    }
+}
+
+// Whether a scope has an interval.
+fn has_interval(scope: &[(u64, u64)]) -> bool
+    ensures { result ≡ has_interval scope.now }
+{
+    match scope {
+        [] => false,
+        _ => true,
     }
 }

@@ -1,0 +1,37 @@
+-- The parts of ranges of native code on which one more label has a place.
+use Rattle.std.specs.Prelude.{ℕ, suc, ◌≤◌, min, max, nat_lt, List, [], ◌∷◌, ◌++◌, take, if◌then◌else◌, Option, Some, None, All}
+use Rattle.std.specs.List.{filter_map}
+use Rattle.dwc_base.specs.Compiled.{Place, LabelRange}
+use Rattle.dwc_base.specs.Placed.{is_number, NativeRange}
+use Rattle.dwc_clif.specs.ValueLabels.{place_view}
+use Rattle.dwc_expr.specs.declared.cuts.Cut.{Cut}
+use Rattle.dwc_expr.specs.CodeRanges.{code_range_view}
+
+-- a part of a range: the range's number among others, the part's bytes, and the place of a label there
+pub record PlacedPart : Type 0 where
+  pub index : ℕ
+  pub bytes : NativeRange
+  pub place : Place
+
+abbrev pub cut_view : Cut → PlacedPart
+cut_view c = record { index = c.index; bytes = code_range_view c.range; place = place_view c.loc }
+
+-- the bytes that a range with a number has in a piece, if there are any
+abbrev pub cut_by : ℕ → NativeRange → LabelRange → Option PlacedPart
+cut_by index r p =
+    if nat_lt (max r.start p.start) (min r.end p.end)
+    then Some (record { index = index; bytes = record { function = r.function; start = max r.start p.start; end = min r.end p.end }; place = p.place })
+    else None
+
+-- the parts of a range by pieces of one's own function
+abbrev pub cuts_of : Option ℕ → List LabelRange → ℕ → NativeRange → List PlacedPart
+cuts_of own pieces index r = if is_number own r.function then filter_map (cut_by index r) pieces else []
+
+-- the parts of ranges, of which the first has a number
+abbrev pub cuts_from : Option ℕ → List LabelRange → ℕ → List NativeRange → List PlacedPart
+cuts_from own pieces index [] = []
+cuts_from own pieces index (r ∷ rs) = cuts_of own pieces index r ++ cuts_from own pieces (suc index) rs
+
+-- the first so many pieces end at a byte or in front of it
+abbrev pub EndBy : ℕ → ℕ → List LabelRange → Type 0
+EndBy byte count pieces = All (λ p. p.end ≤ byte) (take count pieces)
