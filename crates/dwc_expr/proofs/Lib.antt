@@ -1,13 +1,19 @@
+pub mod BuildLaws
 pub mod CodeLaws
 mod CompileLaws
+pub mod CopyLaws
 pub mod CutLaws
 pub mod CutWalkLaws
 mod EmitLaws
+pub mod ExpressionLaws
 pub mod FilledLaws
+pub mod FirstLaws
 pub mod FlatLaws
 pub mod FlatPlaces
 pub mod GatherLaws
 mod JoinedLaws
+pub mod JumpLaws
+pub mod LabelLaws
 mod LandingLaws
 pub mod ListEnds
 pub mod LocLaws
@@ -17,6 +23,10 @@ pub mod OverlayLaws
 pub mod PairLaws
 pub mod PieceLaws
 pub mod PlaceLaws
+pub mod PlaceRefusals
+pub mod RangeLaws
+pub mod RefusalLaws
 pub mod ScopeLaws
+pub mod SettingLaws
 pub mod StayLaws
 mod StepLaws

@@ -1,9 +1,20 @@
 //! Builds expressions over scopes.
-ghost use Rattle.std.specs.Prelude.{option_map};
-ghost use Rattle.dwc_base.specs.BuiltExpressions.{built_over};
+ghost use Rattle.std.specs.Prelude.{◌≡◌, true, map, option_map};
+ghost use Rattle.dwc_base.specs.BuiltExpressions.{built_over, built_on_ranges};
+ghost use Rattle.dwc_base.specs.Parts.{CompiledParts, single_code as code_alone};
+ghost use Rattle.dwc_base.specs.Placed.{built_parts, scope_ranges};
 ghost use Rattle.dwc_expr.specs.Builds.{surroundings, Builds};
+ghost use Rattle.dwc_expr.specs.LabelRanges.{has_interval};
+ghost use Rattle.dwc_expr.specs.PartViews.{part_view};
+ghost use Rattle.dwc_expr.specs.PartsToBuild.{all_parts};
 
-use crate::{CompiledExpression, ExprError, FunctionFrameInfo};
+use crate::copies::copied;
+use crate::labels::{needed_labels, ranges_of_labels};
+use crate::on_ranges::expressions_on;
+use crate::parts_to_build::{PartsToBuild, reads_memory};
+use crate::places::{check_places, lacks_memory};
+use crate::setting::memory_of;
+use crate::{CompiledExpression, CompiledExpressionPart, ExprError, FunctionFrameInfo};
 use dwc_addr::AddressTransform;
 use dwc_base::Address;
 use dwc_clif::TargetIsa;
@@ -31,6 +42,7 @@ impl CompiledExpression {
     /// some byte of the scope, and the frame's module has no memory; `UnmappedRegister` where on such a byte a value lies in a register
     /// for which the target has no number, the first in the order of bytes and then of parts. `TooLarge` where a jump would go further
     /// than 16 bits with a sign say. `OutOfMemory` for want of memory.
+    #[tactic(auto, unfolding(dwc_base::specs::BuiltExpressions::built_over))]
     pub fn build_with_locals(
         &self,
         alloc: Global,
@@ -41,6 +53,56 @@ impl CompiledExpression {
     ) -> Result<BuiltCompiledExpression, ExprError>
         ensures { Builds (built_over (surroundings addr_tr.now (option_map (λ f. f.now) frame_info.entry) (dwarf_registers isa.now)) scope.now self.now) result }
     {
-        Err(ExprError::OutOfMemory)
+        if scope.is_empty() {
+            return Ok(BuiltCompiledExpression {
+                expressions: Vec::new(alloc),
+                covers_entire_scope: false,
+            });
+        }
+        let parts = self.parts.as_slice();
+        match single_code(parts) {
+            Some(code) => Ok(copied(alloc, scope, addr_tr, code)?),
+            None => {
+                let parts = PartsToBuild {
+                    parts,
+                    then_dereference: self.need_deref,
+                };
+                build_parts(alloc, &parts, scope, addr_tr, frame_info, isa)
+            }
+        }
     }
+}
+
+// The operations of parts that are operations alone.
+fn single_code(parts: &[CompiledExpressionPart]) -> Option<&[u8]>
+    ensures { option_map (λ code. code.now) result ≡ code_alone (map part_view parts.now) }
+{
+    match parts {
+        [CompiledExpressionPart::Code(code)] => Some(code),
+        _ => None,
+    }
+}
+
+// What parts that are not operations alone become over a scope that has an interval.
+fn build_parts(
+    alloc: Global,
+    parts: &PartsToBuild<'_>,
+    scope: &[(u64, u64)],
+    addr_tr: &AddressTransform,
+    frame_info: Option<&FunctionFrameInfo<'_>>,
+    isa: &dyn TargetIsa,
+) -> Result<BuiltCompiledExpression, ExprError>
+    requires { has_interval scope.now ≡ true }
+    ensures { (x : CompiledParts) → built_parts x ≡ all_parts parts.now → Builds (built_on_ranges (surroundings addr_tr.now (option_map (λ f. f.now) frame_info.entry) (dwarf_registers isa.now)) (scope_ranges addr_tr.now scope.now) x) result }
+{
+    let labels = needed_labels(alloc, parts)?;
+    let built = ranges_of_labels(alloc, &labels, scope, addr_tr, frame_info, isa)?;
+    let memory = memory_of(frame_info);
+    let lacks_memory = lacks_memory(memory, reads_memory(parts));
+    check_places(&built.ranges, &labels, lacks_memory, isa)?;
+    let expressions = expressions_on(alloc, parts, &built.ranges, memory, isa)?;
+    Ok(BuiltCompiledExpression {
+        expressions,
+        covers_entire_scope: built.covers_entire_scope,
+    })
 }

@@ -1,0 +1,24 @@
+use Rattle.std.proofs.Common.{◌∙◌, map, sym, subst}
+use Rattle.std.proofs.lemmas.Result.{err_from_is_err_and}
+use Rattle.dwc_base.specs.Built.{Setting}
+use Rattle.dwc_expr.specs.Jumps.{unless_fit}
+use Rattle.dwc_expr.specs.PartViews.{part_view}
+use Rattle.dwc_expr.specs.RangeSettings.{setting_on}
+use Rattle.dwc_expr.specs.Refusals.{TellsFirst}
+use Rattle.dwc_expr.proofs.JumpLaws.{fits-whole, bytes-whole}
+use Rattle.dwc_expr.proofs.on_ranges.expression_on.Goals as goal
+
+pub returns-in_err-put_parts : goal.returns-in_err-put_parts
+returns-in_err-put_parts g c =
+    let s : Setting = setting_on c.args.setting.now ((goal.TargetIsa-dyn g c.args.isa.now).dwarf_registers c.args.isa.now.1) in
+    let parts = c.args.parts.now in
+    let p = err_from_is_err_and c.from_residual-in_err-put_parts.result c.from_residual-in_err-put_parts.ensures.1 in
+    rw (p.1, p.2) (subst (λ b. TellsFirst (unless_fit b) c.in_err-put_parts.field-0.0) (fits-whole s (map part_view parts.parts.now) parts.then_dereference c.new-bytes.result.items c.new-bytes.ensures.items) c.in_err-put_parts.ensures)
+
+pub returns : goal.returns
+returns g c =
+    let s : Setting = setting_on c.args.setting.now ((goal.TargetIsa-dyn g c.args.isa.now).dwarf_registers c.args.isa.now.1) in
+    let parts = c.args.parts.now in (
+      sym (fits-whole s (map part_view parts.parts.now) parts.then_dereference c.new-bytes.result.items c.new-bytes.ensures.items) ∙ c.in_ok-put_parts.ensures.0,
+      rw c.new.ensures (bytes-whole s (map part_view parts.parts.now) parts.then_dereference c.new-bytes.result.items c.new-bytes.ensures.items _ _ c.in_ok-put_parts.ensures.1 c.in_ok-put_dereference_if.ensures),
+    )

@@ -1,0 +1,14 @@
+use Rattle.std.proofs.Common.{◌≡◌, ◌+◌, ◌++◌, ◌∷◌, [], ℕ, drop, if◌then◌else◌, length, map, nat_cmp, unwrap_or}
+use Rattle.std.specs.BTreeMap.{get}
+use Rattle.dwc_base.specs.Built.{Setting, pad_offset}
+use Rattle.dwc_base.specs.Parts.{dereference}
+use Rattle.dwc_expr.specs.PartViews.{part_view}
+use Rattle.dwc_expr.specs.PartsToBuild.{all_parts}
+use Rattle.dwc_expr.specs.RangeSettings.{setting_on}
+use Rattle.dwc_expr.proofs.pads.find_pads.Given as goal
+
+-- by what is noted, and else by the parts that are left, each pad lies where it does among all
+abbrev pub invariant-loop-part : goal.invariant-loop-part
+invariant-loop-part g l =
+    let s : Setting = setting_on l.setting ((goal.TargetIsa-dyn g l.isa.now).dwarf_registers l.isa.now.1) in
+    (place : ℕ) → unwrap_or (get nat_cmp l.offsets place) (length l.bytes.items + pad_offset s place (map part_view (drop l.part-index l.parts.parts.now) ++ (if l.parts.then_dereference then dereference ∷ [] else []))) ≡ pad_offset s place (all_parts l.parts)

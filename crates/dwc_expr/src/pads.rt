@@ -1,0 +1,89 @@
+//! Where jumps arrive in the bytes of parts.
+ghost use Rattle.std.specs.Prelude.{◌≡◌, ℕ, map, IfOk, OnOk};
+ghost use Rattle.std.specs.BTreeMap.{get};
+ghost use Rattle.std.specs.Option.{option_or};
+ghost use Rattle.std.specs.Ordering.{nat_cmp};
+ghost use Rattle.dwc_expr.specs.PartsToBuild.{all_parts};
+ghost use Rattle.dwc_expr.specs.PartViews.{part_view};
+ghost use Rattle.dwc_expr.specs.Jumps.{pad_in, pad_here, FindsPads, KnowsPads};
+ghost use Rattle.dwc_expr.specs.RangeSettings.{setting_on};
+
+use crate::CompiledExpressionPart;
+use crate::bytes::{put_dereference_if, put_part};
+use crate::parts_to_build::{PartsToBuild, has_jump};
+use crate::setting::RangeSetting;
+use dwc_clif::TargetIsa;
+use std::alloc::{AllocError, Global};
+use std::collections::BTreeMap;
+
+// Where the landing pads of parts lie in their bytes, by the places of the input; and how long the bytes are.
+#[derive(Drop)]
+pub(crate) struct Pads {
+    offsets: BTreeMap<u64, usize>,
+    end: usize,
+}
+
+// The landing pads of parts. Where no part jumps none is looked for, and no memory is taken.
+pub(crate) fn pads_of(
+    alloc: Global,
+    parts: &PartsToBuild<'_>,
+    setting: &RangeSetting<'_>,
+    isa: &dyn TargetIsa,
+) -> Result<Pads, AllocError>
+    ensures { IfOk result (KnowsPads (setting_on setting.now (dwarf_registers isa.now)) (all_parts parts.now) (map part_view parts.now.parts.now)) }
+{
+    if !has_jump(parts.parts) {
+        return Ok(Pads {
+            offsets: BTreeMap::new(alloc),
+            end: 0,
+        });
+    }
+    find_pads(alloc, parts, setting, isa)
+}
+
+// Builds the parts, with jumps that go nowhere, to find the pads. A jump's length does not hang on its distance.
+fn find_pads(
+    alloc: Global,
+    parts: &PartsToBuild<'_>,
+    setting: &RangeSetting<'_>,
+    isa: &dyn TargetIsa,
+) -> Result<Pads, AllocError>
+    ensures { IfOk result (FindsPads (setting_on setting.now (dwarf_registers isa.now)) (all_parts parts.now)) }
+{
+    let mut bytes = Vec::new(alloc);
+    let mut offsets = BTreeMap::new(alloc);
+    for part in parts.parts {
+        note_pad(&mut offsets, part, bytes.len())?;
+        put_part(&mut bytes, part, 0, setting, isa)?;
+    }
+    put_dereference_if(parts.then_dereference, &mut bytes, setting, isa)?;
+    Ok(Pads {
+        offsets,
+        end: bytes.len(),
+    })
+}
+
+// Notes where a part lies, if it is the first landing pad of a place.
+fn note_pad(
+    offsets: &mut BTreeMap<u64, usize>,
+    part: &CompiledExpressionPart,
+    offset: usize,
+) -> Result<(), AllocError>
+    ensures { OnOk result ((place : ℕ) → get nat_cmp offsets.new place ≡ option_or (get nat_cmp offsets.old place) (pad_here (part_view part.now) offset place)) }
+{
+    if let CompiledExpressionPart::LandingPad(place) = part
+        && !offsets.contains_key(place)
+    {
+        offsets.insert(*place, offset)?;
+    }
+    Ok(())
+}
+
+impl Pads {
+    // Where in the bytes the landing pad of a place lies. A jump's place has one.
+    pub(crate) fn offset_of(&self, place: u64) -> usize
+        ensures { result ≡ pad_in self.now place }
+    {
+        self.offsets.get(&place).copied().unwrap_or(self.end)
+    }
+}

@@ -1,0 +1,34 @@
+//! Where parts are built.
+ghost use Rattle.std.specs.Prelude.{◌≡◌, option_map};
+ghost use Rattle.dwc_clif.specs.ValueLabels.{place_view};
+ghost use Rattle.dwc_expr.specs.Frames.{frame_view, memory_view};
+ghost use Rattle.dwc_base.specs.BuiltExpressions.{memory_of as memory_in};
+ghost use Rattle.dwc_expr.specs.LabelRanges.{location_in};
+
+use crate::{CachedValueLabelRange, FunctionFrameInfo};
+use dwc_addr::ModuleMemoryOffset;
+use dwc_clif::{LabelValueLoc, ValueLabel};
+
+// Where parts are built: a range, on which each label has one place, and the linear memory of the module.
+#[derive(Clone, Copy)]
+pub(crate) struct RangeSetting<'a> {
+    pub(crate) range: &'a CachedValueLabelRange,
+    pub(crate) memory: ModuleMemoryOffset,
+}
+
+// Where a label lies on a range.
+pub(crate) fn place_on(range: &CachedValueLabelRange, label: ValueLabel) -> Option<LabelValueLoc>
+    ensures { option_map place_view result ≡ location_in range.now label.0 }
+{
+    range.label_location.get(&label.0).copied()
+}
+
+// The linear memory of a frame's module.
+pub(crate) fn memory_of(frame_info: Option<&FunctionFrameInfo<'_>>) -> ModuleMemoryOffset
+    ensures { memory_view result ≡ memory_in (frame_view (option_map (λ f. f.now) frame_info.entry)) }
+{
+    match frame_info {
+        Some(frame_info) => frame_info.memory_offset,
+        None => ModuleMemoryOffset::None,
+    }
+}
