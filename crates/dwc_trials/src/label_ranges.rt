@@ -40,27 +40,34 @@ const IMPORTED_BEHIND: ModuleMemoryOffset = ModuleMemoryOffset::Imported {
 // A place of a label, from a native offset up to another.
 type Placed = (u32, LabelValueLoc, u32, u32);
 
-const fn register(number: u32) -> LabelValueLoc {
-    LabelValueLoc::Reg(Reg(number))
-}
+// Places in registers of the code generator, and in the frame.
+const IN_1: LabelValueLoc = LabelValueLoc::Reg(Reg(1));
 
-const fn at_frame(offset: i64) -> LabelValueLoc {
-    LabelValueLoc::CFAOffset(offset)
-}
+const IN_2: LabelValueLoc = LabelValueLoc::Reg(Reg(2));
+
+const IN_3: LabelValueLoc = LabelValueLoc::Reg(Reg(3));
+
+const IN_7: LabelValueLoc = LabelValueLoc::Reg(Reg(7));
+
+const IN_9: LabelValueLoc = LabelValueLoc::Reg(Reg(9));
+
+const AT_16: LabelValueLoc = LabelValueLoc::CFAOffset(-16);
+
+const AT_24: LabelValueLoc = LabelValueLoc::CFAOffset(-24);
 
 // Labels whose ranges end and begin within one another.
 const LABELS: &[Placed] = &[
-    (0, register(1), 0, 25),
-    (1, register(2), 5, 30),
-    (2, register(3), 0, 10),
-    (2, register(3), 20, 30),
-    (4, register(1), 0, 20),
-    (4, register(2), 5, 10),
-    (4, register(1), 10, 12),
-    (4, register(7), 12, 12),
-    (4, register(1), 20, 25),
-    (5, register(1), 9, 4),
-    (6, register(1), 40, 50),
+    (0, IN_1, 0, 25),
+    (1, IN_2, 5, 30),
+    (2, IN_3, 0, 10),
+    (2, IN_3, 20, 30),
+    (4, IN_1, 0, 20),
+    (4, IN_2, 5, 10),
+    (4, IN_1, 10, 12),
+    (4, IN_7, 12, 12),
+    (4, IN_1, 20, 25),
+    (5, IN_1, 9, 4),
+    (6, IN_1, 40, 50),
 ];
 
 // Scopes and labels, and the ranges that they have, with whether these are the whole scope.
@@ -169,7 +176,7 @@ fn a_reversed_range_is_refused(rt: HostRuntime) -> Result<(), Fail> {
     builder.process_label(ValueLabel(0))?;
     let built = builder.into_ranges();
     assert_eq!(rt; built.ranges.len(), 1);
-    assert_eq!(rt; built.ranges[0].label_location.get(&0), Some(&register(1)));
+    assert_eq!(rt; built.ranges[0].label_location.get(&0), Some(&IN_1));
     Ok(())
 }
 
@@ -184,17 +191,17 @@ const DEREFERENCED: &[u8] = &[
 ];
 
 // Local 3 in a register on the first 20 bytes, and on all; in one that DWARF does not know; and the context.
-const FIRST_20: &[Placed] = &[(3, register(1), 0, 20), (CONTEXT, register(2), 0, 30)];
+const FIRST_20: &[Placed] = &[(3, IN_1, 0, 20), (CONTEXT, IN_2, 0, 30)];
 
-const ALL_30: &[Placed] = &[(3, register(1), 0, 30), (CONTEXT, register(2), 0, 30)];
+const ALL_30: &[Placed] = &[(3, IN_1, 0, 30), (CONTEXT, IN_2, 0, 30)];
 
-const UNKNOWN: &[Placed] = &[(3, register(9), 0, 30), (CONTEXT, register(2), 0, 30)];
+const UNKNOWN: &[Placed] = &[(3, IN_9, 0, 30), (CONTEXT, IN_2, 0, 30)];
 
-const ELSEWHERE: &[Placed] = &[(3, register(1), 30, 40), (CONTEXT, register(2), 0, 30)];
+const ELSEWHERE: &[Placed] = &[(3, IN_1, 30, 40), (CONTEXT, IN_2, 0, 30)];
 
-const IN_FRAME: &[Placed] = &[(3, at_frame(-24), 0, 30), (CONTEXT, at_frame(-16), 0, 30)];
+const IN_FRAME: &[Placed] = &[(3, AT_24, 0, 30), (CONTEXT, AT_16, 0, 30)];
 
-const IN_REGISTER_40: &[Placed] = &[(3, register(3), 0, 30)];
+const IN_REGISTER_40: &[Placed] = &[(3, IN_3, 0, 30)];
 
 // Expressions, the memory of their module, where values lie, and what they become over the whole function.
 type Case = (
@@ -342,7 +349,7 @@ const REFUSED: [Refused; 4] = [
     (
         &[0x91, 0x12],
         NO_MEMORY,
-        &[(3, register(9), 9, 4)],
+        &[(3, IN_9, 9, 4)],
         ExprError::BadLabelRange {
             label: ValueLabel(3),
         },
