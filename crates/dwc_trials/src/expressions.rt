@@ -68,7 +68,9 @@ const STAYING: [&[u8]; 42] = [
     &[0x96],
     &[0x9D, 0x20, 0x80, 0x01],
     &[0x9F],
-    &[0x10, 0xFF, 0xFF, 0xFF, 0xFF, 0xFF, 0xFF, 0xFF, 0xFF, 0xFF, 0x01],
+    &[
+        0x10, 0xFF, 0xFF, 0xFF, 0xFF, 0xFF, 0xFF, 0xFF, 0xFF, 0xFF, 0x01,
+    ],
 ];
 
 // Expressions without a frame base, with their parts, and whether their result is an address.
@@ -90,17 +92,13 @@ const COMPILED: [(&[u8], &[Wanted<'static>], bool); 15] = [
         &[0xED, 0x00, 0x01, 0x40, 0x26, 0x9F],
         &[
             Wanted::Value(1),
-            Wanted::Code(&[
-                0x40, 0x23, 0x20, 0x16, 0x08, 0x20, 0x24, 0x16, 0x26, 0x9F,
-            ]),
+            Wanted::Code(&[0x40, 0x23, 0x20, 0x16, 0x08, 0x20, 0x24, 0x16, 0x26, 0x9F]),
         ],
         false,
     ),
     (
         &[0x25],
-        &[Wanted::Code(&[
-            0x23, 0x20, 0x16, 0x08, 0x20, 0x24, 0x16, 0x25,
-        ])],
+        &[Wanted::Code(&[0x23, 0x20, 0x16, 0x08, 0x20, 0x24, 0x16, 0x25])],
         true,
     ),
     (
@@ -119,11 +117,7 @@ const COMPILED: [(&[u8], &[Wanted<'static>], bool); 15] = [
         ],
         false,
     ),
-    (
-        &[0x06],
-        &[Wanted::Deref, Wanted::Code(&[0x06])],
-        true,
-    ),
+    (&[0x06], &[Wanted::Deref, Wanted::Code(&[0x06])], true),
     (
         &[0x31, 0x94, 0x01, 0x96],
         &[
@@ -153,11 +147,7 @@ const COMPILED: [(&[u8], &[Wanted<'static>], bool); 15] = [
         &[Wanted::Pad(0), Wanted::Skip(0)],
         true,
     ),
-    (
-        &[0x23, 0x05],
-        &[Wanted::Code(&[0x23, 0x05])],
-        true,
-    ),
+    (&[0x23, 0x05], &[Wanted::Code(&[0x23, 0x05])], true),
     (
         &[0xED, 0x00, 0xFD, 0xFF, 0xFF, 0xFF, 0x0F],
         &[Wanted::Value(0xFFFF_FFFD)],
@@ -231,7 +221,9 @@ const UNREADABLE: [(&[u8], u64); 8] = [
     (&[0x31, 0xED, 0x00, 0x80], 1),
     (&[0x2F, 0x00], 0),
     (
-        &[0x10, 0xFF, 0xFF, 0xFF, 0xFF, 0xFF, 0xFF, 0xFF, 0xFF, 0xFF, 0x02],
+        &[
+            0x10, 0xFF, 0xFF, 0xFF, 0xFF, 0xFF, 0xFF, 0xFF, 0xFF, 0xFF, 0x02,
+        ],
         0,
     ),
     (&[0x2F, 0x00, 0x00, 0x9D, 0x01], 3),
@@ -291,7 +283,10 @@ fn compile(
 fn operations_that_stay(rt: HostRuntime) -> Result<(), Fail> {
     for bytes in &STAYING {
         let compiled = compile(rt.alloc(), bytes, None)?;
-        assert!(rt; are_wanted(compiled.parts(), &[Wanted::Code(bytes)]), "{bytes:?}");
+        assert!(rt;
+            are_wanted(compiled.parts(), &[Wanted::Code(bytes)]),
+            "{bytes:?}"
+        );
         assert!(rt; compiled.is_simple(), "{bytes:?}");
         assert_eq!(rt; compiled.need_deref(), bytes[0] != 0x9F, "{bytes:?}");
         let built = compiled.build(rt.alloc())?.ok_or("not built")?;

@@ -111,7 +111,11 @@ fn target(alloc: Global) -> Result<TableIsa, AllocError> {
 }
 
 // The ranges of a label among places.
-fn ranges_of(alloc: Global, places: &[Placed], label: u32) -> Result<Vec<ValueLocRange>, AllocError> {
+fn ranges_of(
+    alloc: Global,
+    places: &[Placed],
+    label: u32,
+) -> Result<Vec<ValueLocRange>, AllocError> {
     let mut ranges = Vec::new(alloc);
     for (other, loc, start, end) in places {
         if *other == label {
@@ -133,7 +137,10 @@ fn labels(alloc: Global, places: &[Placed]) -> Result<ValueLabelsRanges, AllocEr
     Ok(labels)
 }
 
-fn frame(value_ranges: &ValueLabelsRanges, memory_offset: ModuleMemoryOffset) -> FunctionFrameInfo<'_> {
+fn frame(
+    value_ranges: &ValueLabelsRanges,
+    memory_offset: ModuleMemoryOffset,
+) -> FunctionFrameInfo<'_> {
     FunctionFrameInfo {
         value_ranges,
         memory_offset,
@@ -149,8 +156,13 @@ fn ranges_of_labels(rt: HostRuntime) -> Result<(), Fail> {
     let labels = labels(alloc, LABELS)?;
     let frame = frame(&labels, NO_MEMORY);
     for (scope, needed, wanted, covers) in &RANGES {
-        let mut builder =
-            ValueLabelRangesBuilder::new(alloc, scope, &transform, Some(&frame), &isa)?;
+        let mut builder = ValueLabelRangesBuilder::new(
+            alloc,
+            scope,
+            &transform,
+            Some(&frame),
+            &isa,
+        )?;
         for label in *needed {
             builder.process_label(ValueLabel(*label))?;
         }
@@ -213,10 +225,28 @@ type Case = (
 );
 
 const BUILT: [Case; 15] = [
-    (&[0x91, 0x12], MEMORY, FIRST_20, &[(0, 20, DEREFERENCED)], false),
-    (&[0x91, 0x12], MEMORY, ALL_30, &[(0, 30, DEREFERENCED)], true),
+    (
+        &[0x91, 0x12],
+        MEMORY,
+        FIRST_20,
+        &[(0, 20, DEREFERENCED)],
+        false,
+    ),
+    (
+        &[0x91, 0x12],
+        MEMORY,
+        ALL_30,
+        &[(0, 30, DEREFERENCED)],
+        true,
+    ),
     (&[0x91, 0x12], NO_MEMORY, ELSEWHERE, &[], false),
-    (&[0xED, 0x00, 0x03, 0x9F], NO_MEMORY, ALL_30, &[(0, 30, &[0x5C])], true),
+    (
+        &[0xED, 0x00, 0x03, 0x9F],
+        NO_MEMORY,
+        ALL_30,
+        &[(0, 30, &[0x5C])],
+        true,
+    ),
     (
         &[0xED, 0x00, 0x03, 0x9F],
         NO_MEMORY,
@@ -315,7 +345,13 @@ const BUILT: [Case; 15] = [
         )],
         true,
     ),
-    (&[0x31, 0x9F], NO_MEMORY, &[], &[(0, 30, &[0x31, 0x9F])], false),
+    (
+        &[0x31, 0x9F],
+        NO_MEMORY,
+        &[],
+        &[(0, 30, &[0x31, 0x9F])],
+        false,
+    ),
     (&[0x31], NO_MEMORY, &[], &[(0, 30, &[0x31])], false),
 ];
 
@@ -377,8 +413,10 @@ fn is_built(built: &BuiltCompiledExpression, wanted: Built) -> bool {
     if built.expressions.len() != wanted.len() {
         return false;
     }
-    for ((begin, length, expression), (addend, extent, bytes)) in
-        built.expressions.iter().zip(wanted)
+    for ((begin, length, expression), (addend, extent, bytes)) in built
+        .expressions
+        .iter()
+        .zip(wanted)
     {
         let address = Address::Symbol {
             symbol: 0,
