@@ -288,7 +288,11 @@ fn operations_that_stay(rt: HostRuntime) -> Result<(), Fail> {
             "{bytes:?}"
         );
         assert!(rt; compiled.is_simple(), "{bytes:?}");
-        assert_eq!(rt; compiled.need_deref(), bytes[0] != 0x9F, "{bytes:?}");
+        assert_eq!(rt;
+            compiled.need_deref(),
+            bytes.first() != Some(&0x9F),
+            "{bytes:?}"
+        );
         let built = compiled.build(rt.alloc())?.ok_or("not built")?;
         assert_eq!(rt; built.as_slice(), *bytes, "{bytes:?}");
     }

@@ -1,14 +1,14 @@
 //! On which native code of a scope values lie at unchanged places, and what expressions become there. The function has 30 bytes, and
 //! is that of one run in `translations`.
 use crate::translations::{ONE_RUN, transform};
-use dwc_addr::ModuleMemoryOffset;
+use dwc_addr::{AddressTransform, ModuleMemoryOffset};
 use dwc_base::{Address, Encoding, Endian};
 use dwc_clif::{
     Architecture, LabelValueLoc, Reg, TableIsa, ValueLabel, ValueLabelsRanges, ValueLocRange,
 };
 use dwc_expr::{
-    BuiltCompiledExpression, CompiledExpression, ExprError, FunctionFrameInfo,
-    ValueLabelRangesBuilder, compile_expression,
+    BuiltCompiledExpression, BuiltValueLabelRanges, CompiledExpression, ExprError,
+    FunctionFrameInfo, ValueLabelRangesBuilder, compile_expression,
 };
 use std::alloc::{AllocError, Global};
 use std::test::Fail;
@@ -148,28 +148,38 @@ fn frame(
     }
 }
 
+// The ranges of a scope on which labels have places.
+fn gathered(
+    alloc: Global,
+    scope: &[(u64, u64)],
+    needed: &[u32],
+    transform: &AddressTransform,
+    frame: Option<&FunctionFrameInfo<'_>>,
+) -> Result<BuiltValueLabelRanges, Fail> {
+    let isa = target(alloc)?;
+    let mut builder = ValueLabelRangesBuilder::new(alloc, scope, transform, frame, &isa)?;
+    for label in needed {
+        builder.process_label(ValueLabel(*label))?;
+    }
+    Ok(builder.into_ranges())
+}
+
+// Whether ranges have these bounds.
+fn are_bounded(built: &BuiltValueLabelRanges, wanted: &[(usize, usize)]) -> bool {
+    let bounds = built.ranges.iter().map(|r| (r.start, r.end));
+    bounds.eq(wanted.iter().copied())
+}
+
 #[test]
 fn ranges_of_labels(rt: HostRuntime) -> Result<(), Fail> {
     let alloc = rt.alloc();
     let transform = transform(alloc, ONE_RUN)?;
-    let isa = target(alloc)?;
     let labels = labels(alloc, LABELS)?;
     let frame = frame(&labels, NO_MEMORY);
     for (scope, needed, wanted, covers) in &RANGES {
-        let mut builder = ValueLabelRangesBuilder::new(
-            alloc,
-            scope,
-            &transform,
-            Some(&frame),
-            &isa,
-        )?;
-        for label in *needed {
-            builder.process_label(ValueLabel(*label))?;
-        }
-        let built = builder.into_ranges();
+        let built = gathered(alloc, scope, needed, &transform, Some(&frame))?;
         assert_eq!(rt; built.covers_entire_scope, *covers, "{scope:?} {needed:?}");
-        let bounds = built.ranges.iter().map(|r| (r.start, r.end));
-        assert!(rt; bounds.eq(wanted.iter().copied()), "{scope:?} {needed:?}");
+        assert!(rt; are_bounded(&built, wanted), "{scope:?} {needed:?}");
     }
     Ok(())
 }
