@@ -6,6 +6,8 @@ pub mod TableLaws
 pub mod EntryLaws
 pub mod FileLaws
 pub mod RowLaws
+pub mod OpenListLaws
 pub mod RangeLaws
+pub mod GivenLaws
 pub mod RangeEndLaws
 pub mod OperationLaws

@@ -1,15 +1,16 @@
 -- The intervals of range lists, as they are told one at a time. (DWARF 4, section 2.17.3; DWARF 5, section 2.17.3.)
-use Rattle.std.specs.Prelude.{◌≡◌, ℕ, Option, Some, None, Result, Ok, Err}
+use Rattle.std.specs.Prelude.{◌≡◌, ℕ, Option, Some, None, option_map, Result, Ok, Err}
 use Rattle.std.specs.List.{filter_map}
 use Rattle.dwc_base.specs.declared.records.Address.{Address}
-use Rattle.dwc_base.specs.declared.section_name.SectionName.{SectionName}
 use Rattle.dwc_base.specs.declared.faults.What.TheVariants.{RangeList}
 use Rattle.dwc_base.specs.declared.faults.Flaw.{Flaw}
 use Rattle.dwc_base.specs.Listing.{Listing, no_items, only_fault, with_first}
-use Rattle.dwc_base.specs.Sections.{Sections, Fault, fault_of, unreadable, unsupported}
+use Rattle.dwc_base.specs.Sections.{Sections, Fault, unreadable, unsupported}
+use Rattle.dwc_base.specs.Reading.{◌>>=◌}
+use Rattle.dwc_base.specs.RawLists.{ListSource, RawEntry, list_fault}
 use Rattle.dwc_base.specs.Units.{UnitHeader}
 use Rattle.dwc_base.specs.Trees.{Interval}
-use Rattle.dwc_base.specs.Lists.{ListRefusal, of_place, long_range, list_source, intervals_given, ranges_of_value}
+use Rattle.dwc_base.specs.Lists.{ListRefusal, of_place, long_range, list_source, interval_given, base_behind, intervals_given, ranges_of_value}
 use Rattle.dwc_tabs.specs.declared.list_fault.ListFault.{ListFault}
 use Rattle.dwc_tabs.specs.declared.list_fault.ListFault.TheVariants.{Read, Unsupported, TooLarge}
 use Rattle.dwc_base.specs.Values.{Value}
@@ -32,19 +33,27 @@ abbrev pub GivesOrRefusal : {X A : Type 0} → (X → A) → Result A ListRefusa
 GivesOrRefusal view read (Ok x) = read ≡ Ok (view x)
 GivesOrRefusal view read (Err e) = read ≡ Err (refusal_view e)
 
--- what cannot be read in a list is told at its first byte
-abbrev pub told_at : SectionName → ℕ → Flaw → Fault
-told_at section offset flaw = fault_of RangeList section offset flaw
+-- what an entry gives: an interval, if it gives one, and the base behind it
+abbrev pub given_view : Option (Address × Address) × Address → Option Interval × Address
+given_view p = (option_map interval_view p.0, p.1)
 
 -- ---- one call
 
--- what the entries of a list that are still to come give from a base on
-unfoldable pub given_from : Sections → UnitHeader → RangeEntriesView → Address → Listing ListRefusal (Option Interval)
-given_from s h e base = intervals_given (list_source s h) (told_at e.place.section e.place.offset) base e.left.items e.left.fault
+-- what an entry gives at a base, with the base behind it
+unfoldable pub given_at : ListSource → (Flaw → Fault) → Address → RawEntry → Result (Option Interval × Address) ListRefusal
+given_at s told base e = interval_given s told base e >>= λ interval. base_behind s told base e >>= λ next. Ok (interval, next)
 
--- the intervals among what entries give
-abbrev pub intervals_among : Listing ListRefusal (Option Interval) → Listing ListRefusal Interval
-intervals_among given = record { items = filter_map (λ i. i) given.items; fault = given.fault }
+-- what the entries that are left of a list give from a base on
+abbrev pub given_from : ListSource → (Flaw → Fault) → Listing Fault RawEntry → Address → Listing ListRefusal (Option Interval)
+given_from s told left base = intervals_given s told base left.items left.fault
+
+-- the same of a range list of a unit
+unfoldable pub ranges_given : Sections → UnitHeader → RangeEntriesView → Address → Listing ListRefusal (Option Interval)
+ranges_given s h e base = given_from (list_source s h) (list_fault RangeList e.place) e.left base
+
+-- what is given, without the entries that give nothing
+abbrev pub among_given : {A : Type 0} → Listing ListRefusal (Option A) → Listing ListRefusal A
+among_given given = record { items = filter_map (λ i. i) given.items; fault = given.fault }
 
 -- A call answers the next item of a listing: it gives the first, and leaves the others; at the end, and at a refusal, it
 -- answers the same again.

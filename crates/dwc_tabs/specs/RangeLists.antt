@@ -1,22 +1,20 @@
 -- Range lists as they are read one entry at a time. (DWARF 4, section 2.17.3; DWARF 5, sections 2.17.3 and 7.25.)
-use Rattle.std.specs.Prelude.{◌≡◌, ℕ, ◌+◌, ◌*◌, List, [], length, drop, Bool, true, false, nat_le, if◌then◌else◌, Option, Some, None, option_map, Result, Ok, Err}
-use Rattle.dwc_base.specs.declared.records.Endian.{Endian}
+use Rattle.std.specs.Prelude.{◌≡◌, ℕ, Bool, true, false, Option, Some, None, option_map, Result, Ok, Err}
 use Rattle.dwc_base.specs.declared.section_name.SectionName.{SectionName}
 use Rattle.dwc_base.specs.declared.section_name.SectionName.TheVariants.{Info, Ranges, Rnglists}
 use Rattle.dwc_base.specs.declared.faults.What.TheVariants.{RangeList}
-use Rattle.dwc_base.specs.declared.faults.Flaw.{Flaw}
-use Rattle.dwc_base.specs.declared.faults.Flaw.TheVariants.{Malformed}
-use Rattle.dwc_base.specs.Reading.{Unread, Read, ◌>>=◌, number_at, coded}
-use Rattle.dwc_base.specs.Listing.{Listing, no_items, only_fault, with_first, walk}
-use Rattle.dwc_base.specs.Sections.{Sections, Relocation, Fault, reported}
+use Rattle.dwc_base.specs.Listing.{Listing, no_items, only_fault, with_first}
+use Rattle.dwc_base.specs.Sections.{Sections, Fault, reported}
 use Rattle.dwc_base.specs.Units.{UnitHeader}
 use Rattle.dwc_base.specs.Values.{Value}
-use Rattle.dwc_base.specs.RawLists.{ListPlace, list_named, RawEntry, base_addressx, startx_endx, startx_length, offset_pair, base_address, start_end, start_length, pair, base_selection, range_kinds, pair_at, kind_and_entry_at, entry_of_kind_at, next_item, list_fault, unread_length, raw_ranges}
+use Rattle.dwc_base.specs.RawLists.{ListPlace, list_named, RawEntry, base_addressx, startx_endx, startx_length, offset_pair, base_address, start_end, start_length, pair, base_selection, range_kinds, list_fault, raw_ranges}
 use Rattle.dwc_base.specs.Lists.{list_source}
 use Rattle.dwc_read.specs.declared.fault.ReadFault.{ReadFault}
 use Rattle.dwc_read.specs.Faults.{fault_seen}
+use Rattle.dwc_tabs.specs.declared.open_list.OpenList.{OpenList}
 use Rattle.dwc_tabs.specs.declared.range_entry.RangeEntry.{RangeEntry}
 use Rattle.dwc_tabs.specs.declared.range_entry.RangeEntry.TheVariants.{BaseAddressx, StartxEndx, StartxLength, OffsetPair, BaseAddress, StartEnd, StartLength, Pair, Base}
+use Rattle.dwc_tabs.specs.OpenLists.{list_at, list_entry_at, left_of_list}
 
 -- ---- one entry
 
@@ -32,15 +30,6 @@ entry_view (StartLength start n) = start_length start n
 entry_view (Pair begin end) = pair begin end
 entry_view (Base a) = base_selection a
 
--- an entry from version 5 on, behind its code; none at the end
-unfoldable pub entry_of_code_at : List Relocation → ℕ → ℕ → Unread → Read (Option RawEntry)
-entry_of_code_at relocations size code u = elim (coded range_kinds code) [ None ↦ Err Malformed | Some kind ↦ entry_of_kind_at relocations size kind u ]
-
--- an entry of a list, of pairs up to version 4 or of kinds from version 5 on; none at the end
-unfoldable pub range_entry_at : Bool → List Relocation → ℕ → Unread → Read (Option RawEntry)
-range_entry_at true relocations size u = pair_at relocations size u
-range_entry_at false relocations size u = kind_and_entry_at range_kinds relocations size u
-
 -- ---- a list
 
 -- the section of lists of pairs, and of lists of kinds
@@ -49,19 +38,11 @@ section_of_lists true = Ranges
 section_of_lists false = Rnglists
 
 abbrev pub place_of_list : Bool → ℕ → ListPlace
-place_of_list in_pairs offset = record { section = section_of_lists in_pairs; offset = offset }
+place_of_list in_pairs offset = list_at (section_of_lists in_pairs) offset
 
--- what is left of a list that begins at an offset
-unfoldable pub entries_left : Bool → List Relocation → ℕ → ℕ → Unread → Listing Fault RawEntry
-entries_left in_pairs relocations size offset u = walk unread_length (next_item (range_entry_at in_pairs relocations size) (list_fault RangeList (place_of_list in_pairs offset))) u
-
--- what is unread of some bytes from an offset on; past their end it does not matter where that is
-abbrev pub unread_at : Endian → List ℕ → ℕ → Unread
-unread_at order bytes offset = if nat_le (length bytes) offset then record { order = order; place = 0; left = [] } else record { order = order; place = offset; left = drop offset bytes }
-
--- the number at an index of 4 bytes each behind a base, which says how far behind the base a list is (DWARF 5, section 7.28)
-unfoldable pub distance_at : Endian → List ℕ → ℕ → ℕ → Result ℕ Flaw
-distance_at order bytes base index = number_at 4 (record { order = order; place = base + 4 * index; left = drop (base + 4 * index) bytes }) >>= λ n. Ok n.0
+-- what is left of a range list
+unfoldable pub entries_left : OpenList → Listing Fault RawEntry
+entries_left l = left_of_list (list_entry_at range_kinds l.in_pairs l.relocations l.address_size) (list_fault RangeList (place_of_list l.in_pairs l.offset)) l.cursor
 
 -- a list that is being read: where it is, and its entries that are still to come
 pub record RangeEntriesView : Type 0 where

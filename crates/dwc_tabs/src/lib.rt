@@ -4,10 +4,14 @@
 #![tactic(auto)]
 
 mod entries;
+mod entry_given;
+mod entry_kind;
 mod fault;
 mod header;
 mod instruction;
 mod list_fault;
+mod list_start;
+mod open_list;
 mod operation;
 mod operations;
 mod parameters;

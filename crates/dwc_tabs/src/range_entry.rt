@@ -2,13 +2,11 @@
 ghost use Rattle.std.specs.Prelude.{◌≡◌, ◌-◌, ◌*◌, ◌^◌, IsTrue, option_map};
 ghost use Rattle.dwc_base.specs.Cursors.{Gives};
 ghost use Rattle.dwc_base.specs.FieldSizes.{is_field_size};
-ghost use Rattle.dwc_base.specs.RawLists.{is_number as is_the_number, entry_of_pair, pair_at as raw_pair_at, kind_and_entry_at, range_kinds};
-ghost use Rattle.dwc_tabs.specs.RangeLists.{entry_view, entry_of_code_at, range_entry_at};
+ghost use Rattle.dwc_base.specs.RawLists.{is_number as is_the_number, entry_of_pair, pair_at as raw_pair_at, entry_of_kind_at, kind_and_entry_at, range_kinds};
+ghost use Rattle.dwc_tabs.specs.OpenLists.{kind_view, list_entry_at};
+ghost use Rattle.dwc_tabs.specs.RangeLists.{entry_view};
 
-use dwc_base::constants::{
-    DW_RLE_base_address, DW_RLE_base_addressx, DW_RLE_end_of_list, DW_RLE_offset_pair,
-    DW_RLE_start_end, DW_RLE_start_length, DW_RLE_startx_endx, DW_RLE_startx_length,
-};
+use crate::entry_kind::{EntryKind, range_kind};
 use dwc_base::fields::address;
 use dwc_base::{Address, Cursor, Flaw, Relocations};
 
@@ -74,7 +72,7 @@ fn entry_of_addresses(size: u8, begin: Address, end: Address) -> Option<RangeEnt
 
 // An entry of a list up to version 4; None at its end.
 #[tactic(auto, unfolding(dwc_base::specs::RawLists::pair_at))]
-fn pair(
+pub(crate) fn pair(
     relocations: &Relocations<'_>,
     size: u8,
     cursor: &mut Cursor<'_>,
@@ -87,51 +85,50 @@ fn pair(
     Ok(entry_of_addresses(size, begin, end))
 }
 
-// The operands of an entry from version 5 on, by its code; None at the end of the list.
-#[tactic(auto, unfolding(crate::specs::RangeLists::entry_of_code_at, dwc_base::specs::RawLists::entry_of_kind_at))]
-fn entry_of_code(
+// The operands of an entry from version 5 on, by its kind; None at the end of the list.
+#[tactic(auto, unfolding(dwc_base::specs::RawLists::entry_of_kind_at))]
+pub(crate) fn entry_of_kind(
     relocations: &Relocations<'_>,
     size: u8,
-    code: u8,
+    kind: EntryKind,
     cursor: &mut Cursor<'_>,
 ) -> Result<Option<RangeEntry>, Flaw>
     requires { IsTrue (is_field_size size) }
-    ensures { Gives (option_map entry_view) (entry_of_code_at relocations.now size code cursor.old) cursor.new result }
+    ensures { Gives (option_map entry_view) (entry_of_kind_at relocations.now size (kind_view kind) cursor.old) cursor.new result }
 {
-    match code {
-        DW_RLE_end_of_list => Ok(None),
-        DW_RLE_base_addressx => Ok(Some(RangeEntry::BaseAddressx(cursor.uleb()?))),
-        DW_RLE_startx_endx => {
+    match kind {
+        EntryKind::EndOfList => Ok(None),
+        EntryKind::BaseAddressx => Ok(Some(RangeEntry::BaseAddressx(cursor.uleb()?))),
+        EntryKind::StartxEndx => {
             let start = cursor.uleb()?;
             Ok(Some(RangeEntry::StartxEndx(start, cursor.uleb()?)))
         }
-        DW_RLE_startx_length => {
+        EntryKind::StartxLength => {
             let start = cursor.uleb()?;
             Ok(Some(RangeEntry::StartxLength(start, cursor.uleb()?)))
         }
-        DW_RLE_offset_pair => {
+        EntryKind::OffsetPair => {
             let begin = cursor.uleb()?;
             Ok(Some(RangeEntry::OffsetPair(begin, cursor.uleb()?)))
         }
-        DW_RLE_base_address => {
+        EntryKind::BaseAddress => {
             let base = address(relocations, size, cursor)?;
             Ok(Some(RangeEntry::BaseAddress(base)))
         }
-        DW_RLE_start_end => {
+        EntryKind::StartEnd => {
             let start = address(relocations, size, cursor)?;
             let end = address(relocations, size, cursor)?;
             Ok(Some(RangeEntry::StartEnd(start, end)))
         }
-        DW_RLE_start_length => {
+        EntryKind::StartLength => {
             let start = address(relocations, size, cursor)?;
             Ok(Some(RangeEntry::StartLength(start, cursor.uleb()?)))
         }
-        _ => Err(Flaw::Malformed),
     }
 }
 
 // An entry from version 5 on; None at the end of the list.
-#[tactic(auto, unfolding(dwc_base::specs::RawLists::kind_and_entry_at, crate::specs::RangeLists::entry_of_code_at))]
+#[tactic(auto, unfolding(dwc_base::specs::RawLists::kind_and_entry_at))]
 fn kind_and_entry(
     relocations: &Relocations<'_>,
     size: u8,
@@ -141,11 +138,14 @@ fn kind_and_entry(
     ensures { Gives (option_map entry_view) (kind_and_entry_at range_kinds relocations.now size cursor.old) cursor.new result }
 {
     let code = cursor.u8()?;
-    Ok(entry_of_code(relocations, size, code, cursor)?)
+    match range_kind(code) {
+        Some(kind) => Ok(entry_of_kind(relocations, size, kind, cursor)?),
+        None => Err(Flaw::Malformed),
+    }
 }
 
 /// An entry of a list, which is of pairs up to version 4; None at its end.
-#[tactic(auto, unfolding(crate::specs::RangeLists::range_entry_at))]
+#[tactic(auto, unfolding(crate::specs::OpenLists::list_entry_at))]
 pub fn range_entry(
     in_pairs: bool,
     relocations: &Relocations<'_>,
@@ -153,7 +153,7 @@ pub fn range_entry(
     cursor: &mut Cursor<'_>,
 ) -> Result<Option<RangeEntry>, Flaw>
     requires { IsTrue (is_field_size size) }
-    ensures { Gives (option_map entry_view) (range_entry_at in_pairs relocations.now size cursor.old) cursor.new result }
+    ensures { Gives (option_map entry_view) (list_entry_at range_kinds in_pairs relocations.now size cursor.old) cursor.new result }
 {
     if in_pairs {
         return Ok(pair(relocations, size, cursor)?);

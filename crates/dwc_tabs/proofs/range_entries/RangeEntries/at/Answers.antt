@@ -1,12 +1,11 @@
-use Rattle.std.proofs.Common.{subst, IsTrue}
+use Rattle.std.proofs.Common.{ap, ◌∙◌, subst, IsTrue}
 use Rattle.dwc_base.specs.FieldSizes.{is_field_size}
-use Rattle.dwc_base.specs.Lists.{list_source}
+use Rattle.dwc_tabs.specs.RangeLists.{entries_left}
 use Rattle.dwc_tabs.proofs.RangeLaws.{entries_left-begin}
 use Rattle.dwc_tabs.proofs.range_entries.RangeEntries.at.Goals as goal
 
 pub returns-clause-left : goal.returns-clause-left
-unfolding list_source
 returns-clause-left c =
-    let known = subst (λ n. IsTrue (is_field_size n)) c.address_size.ensures.value c.address_size.ensures.known in
-    rw (c.unread_at.ensures, c.relocations.ensures, c.address_size.ensures.value, c.section.ensures.bytes, c.order.ensures, c.section_of_lists-section.ensures)
-    (entries_left-begin c.args.in_pairs (list_source c.args.unit.now.sections c.args.unit.now.header) c.args.offset known)
+    let u = c.args.unit.now in
+    let known = subst (λ l. IsTrue (is_field_size l.address_size)) c.at.ensures.list c.at.ensures.known in
+    rw (c.at.ensures.list, c.section_of_lists.ensures) (entries_left-begin c.args.in_pairs u.sections u.header c.args.offset known)

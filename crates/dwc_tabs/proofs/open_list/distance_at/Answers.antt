@@ -1,6 +1,6 @@
 use Rattle.std.proofs.Common.{◌≤◌, ◌+◌, ◌*◌, length, arith}
-use Rattle.dwc_tabs.proofs.RangeLaws.{distance-past}
-use Rattle.dwc_tabs.proofs.range_entries.distance_at.Goals as goal
+use Rattle.dwc_tabs.proofs.OpenListLaws.{distance-past}
+use Rattle.dwc_tabs.proofs.open_list.distance_at.Goals as goal
 
 pub returns-in_default : goal.returns-in_default
 returns-in_default c =
