@@ -10,4 +10,6 @@ pub mod OpenListLaws
 pub mod RangeLaws
 pub mod GivenLaws
 pub mod RangeEndLaws
+pub mod LocationLaws
+pub mod LocatedLaws
 pub mod OperationLaws

@@ -16,6 +16,7 @@ use Rattle.dwc_base.proofs.Items.{Leaves, LeavesFewer}
 use Rattle.dwc_base.proofs.Takes.{Leaves-bind, Leaves-same, number_at-leaves}
 use Rattle.dwc_base.proofs.TakesMore.{Leaves-more, Leaves-seen, uleb_at-leaves}
 use Rattle.dwc_base.proofs.Walks.{GoesOn, walk-end, walk-fault, walk-item}
+use Rattle.dwc_tabs.specs.declared.open_list.OpenList.{OpenList}
 use Rattle.dwc_tabs.specs.OpenLists.{list_entry_at, left_of_list, unread_at, distance_at, list_at}
 
 -- a field of a size that is known is not empty
@@ -61,6 +62,10 @@ list_entry-leaves kinds true relocations size u some = pair-leaves relocations s
 list_entry-leaves kinds false relocations size u some = kind_and_entry-leaves kinds relocations size u some
 
 -- ---- the walk
+
+-- a list with its cursor elsewhere
+abbrev pub at_cursor : OpenList → Unread → OpenList
+at_cursor l u = record { in_pairs = l.in_pairs; relocations = l.relocations; address_size = l.address_size; offset = l.offset; cursor = u }
 
 module _ {A : Type 0} (reader : Unread → Read (Option A)) (told : Flaw → Fault) (leaves : (u : Unread) → Leaves (reader u) (length u.left)) where
   next-shrinks : (u v : Unread) → GoesOn (next_item reader told u) v → unread_length v < unread_length u

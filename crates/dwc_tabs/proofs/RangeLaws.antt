@@ -17,11 +17,7 @@ use Rattle.dwc_base.specs.RawLists.{ListSource, ListPlace, list_named, place_ind
 use Rattle.dwc_tabs.specs.declared.open_list.OpenList.{OpenList}
 use Rattle.dwc_tabs.specs.OpenLists.{list_entry_at, left_of_list, opened_at}
 use Rattle.dwc_tabs.specs.RangeLists.{entries_left, place_of_list, section_of_lists, range_list_named}
-use Rattle.dwc_tabs.proofs.OpenListLaws.{size-some, list_entry-leaves, list_entry-empty, left-more, left-end, left-flaw, left-begin}
-
--- a list with its cursor elsewhere
-abbrev pub at_cursor : OpenList → Unread → OpenList
-at_cursor l u = record { in_pairs = l.in_pairs; relocations = l.relocations; address_size = l.address_size; offset = l.offset; cursor = u }
+use Rattle.dwc_tabs.proofs.OpenListLaws.{at_cursor, size-some, list_entry-leaves, list_entry-empty, left-more, left-end, left-flaw, left-begin}
 
 module _ (l : OpenList) (known : IsTrue (is_field_size l.address_size)) where
   -- at an entry, at the end, and at a flaw

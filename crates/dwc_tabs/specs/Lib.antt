@@ -7,4 +7,6 @@ pub mod Tables
 pub mod OpenLists
 pub mod RangeLists
 pub mod RangeEnds
+pub mod LocationLists
+pub mod Locations
 pub mod Operations

@@ -1,0 +1,24 @@
+use Rattle.std.proofs.Common.{Ok, Some, option_map, ap, sym, ◌∙◌}
+use Rattle.dwc_tabs.specs.LocationLists.{location_view, location_entry_at}
+use Rattle.dwc_tabs.proofs.LocationLaws.{locations_left-more, locations_left-end, locations_left-flaw}
+use Rattle.dwc_tabs.proofs.location_entries.LocationEntries.next_raw.Goals as goal
+
+pub returns-in-Ok-Some-clause-next : goal.returns-in-Ok-Some-clause-next
+returns-in-Ok-Some-clause-next c =
+    let l = c.self.inside.list in
+    let h = ap (location_entry_at l.in_pairs l.relocations l.address_size) (sym c.fork-ahead.ensures) ∙ c.in-Ok-Some.ensures ∙ ap (λ o. Ok (option_map location_view o, c.location_entry.new.cursor)) c.in-Ok-Some.field-0-is ∙ ap (λ x. Ok (Some (location_view x), c.location_entry.new.cursor)) (sym c.in-Ok-Some.entry-is) in
+    rw (← c.self.view_is) (locations_left-more l c.self.invariant c.location_entry.new.cursor (location_view c.in-Ok-Some.entry) h)
+
+pub returns-in-Ok-None-clause-next : goal.returns-in-Ok-None-clause-next
+returns-in-Ok-None-clause-next c =
+    let l = c.self.inside.list in
+    let h = ap (location_entry_at l.in_pairs l.relocations l.address_size) (sym c.fork-ahead.ensures) ∙ c.in-Ok-None.ensures ∙ ap (λ o. Ok (option_map location_view o, c.location_entry.new.cursor)) c.in-Ok-None.field-0-is in
+    let e = locations_left-end l c.self.invariant c.location_entry.new.cursor h in
+    rw (← c.self.view_is) (e, e)
+
+pub returns-in-Err-clause-next : goal.returns-in-Err-clause-next
+returns-in-Err-clause-next c =
+    let l = c.self.inside.list in
+    let h = ap (location_entry_at l.in_pairs l.relocations l.address_size) (sym c.fork-ahead.ensures) ∙ c.in-Err.ensures in
+    let e = locations_left-flaw l c.self.invariant c.in-Err.flaw h in
+    rw (← c.self.view_is, c.list_fault.ensures, c.section_of_locations.ensures) (e, e)
