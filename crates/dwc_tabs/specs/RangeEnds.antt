@@ -1,4 +1,5 @@
--- The intervals of range lists, as they are told one at a time. (DWARF 4, section 2.17.3; DWARF 5, section 2.17.3.)
+-- What the entries of a list give, and the intervals of range lists, as they are told one at a time. (DWARF 4, section 2.17.3; DWARF 5,
+-- section 2.17.3.)
 use Rattle.std.specs.Prelude.{◌≡◌, ℕ, Option, Some, None, option_map, Result, Ok, Err}
 use Rattle.std.specs.List.{filter_map}
 use Rattle.dwc_base.specs.declared.records.Address.{Address}

@@ -5,8 +5,7 @@ use Rattle.dwc_read.specs.Faults.{fault_seen}
 use Rattle.dwc_tabs.specs.OpenLists.{told_at_start}
 use Rattle.dwc_tabs.specs.RangeLists.{GivesNextRead, RefusesWith}
 use Rattle.dwc_tabs.specs.RangeEnds.{given_at, interval_view, refusal_view}
-use Rattle.dwc_tabs.specs.LocationLists.{location_view, placed_view}
-use Rattle.dwc_base.specs.Lists.{located}
+use Rattle.dwc_tabs.specs.LocationLists.{location_view}
 use Rattle.dwc_tabs.proofs.LocatedLaws.{located-more, located-refused, located-end, located-told}
 use Rattle.dwc_tabs.proofs.locations.next_given.Goals as goal
 

@@ -1,6 +1,5 @@
-use Rattle.std.proofs.Common.{ap, ◌∙◌, subst, IsTrue}
+use Rattle.std.proofs.Common.{subst, IsTrue}
 use Rattle.dwc_base.specs.FieldSizes.{is_field_size}
-use Rattle.dwc_tabs.specs.LocationLists.{locations_left}
 use Rattle.dwc_tabs.proofs.LocationLaws.{locations_left-begin}
 use Rattle.dwc_tabs.proofs.location_entries.LocationEntries.at.Goals as goal
 

@@ -1,6 +1,5 @@
-use Rattle.std.proofs.Common.{ap, ◌∙◌, subst, IsTrue}
+use Rattle.std.proofs.Common.{subst, IsTrue}
 use Rattle.dwc_base.specs.FieldSizes.{is_field_size}
-use Rattle.dwc_tabs.specs.RangeLists.{entries_left}
 use Rattle.dwc_tabs.proofs.RangeLaws.{entries_left-begin}
 use Rattle.dwc_tabs.proofs.range_entries.RangeEntries.at.Goals as goal
 
