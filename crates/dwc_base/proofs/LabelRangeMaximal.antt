@@ -9,7 +9,7 @@ use Rattle.std.proofs.lemmas.List.Kept.{AllPairs-cons}
 use Rattle.std.proofs.lemmas.Bool.{cases_lt, and_parts, and_from, eqb-true, eq-eqb}
 use Rattle.dwc_base.specs.Compiled.{Place, in_register, at_frame_offset}
 use Rattle.dwc_base.specs.Placed.{Frame, NativeRange, placed, same_place, all_stay}
-use Rattle.dwc_base.specs.LabelRanges.{greatest, with_byte, ranges_among, is_wanted, ranges_of_function, label_ranges, AtEachByte, AreMaximal, LabelRangesAreMaximal}
+use Rattle.dwc_base.specs.LabelRanges.{greatest, with_byte, ranges_among, is_wanted, ranges_of_function, label_ranges, AtEachByte, LabelRangesAreMaximal}
 use Rattle.dwc_base.proofs.LabelRangeLaws.{Ascend, ranges-ascend, After, ascend-after, label-ranges}
 use Rattle.dwc_base.proofs.LabelRangeCoverage.{label-ranges-complete}
 

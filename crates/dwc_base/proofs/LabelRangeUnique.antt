@@ -1,6 +1,6 @@
 -- No other ranges than the label ranges of a scope are maximal.
 use Rattle.std.proofs.Common.{◌≡◌, ℕ, suc, ◌<◌, ◌≤◌, List, [], ◌∷◌, true, false, refl, ap, sym, ◌∙◌, subst, arith, inl, inr, true≢false}
-use Rattle.std.specs.Prelude.{Bool, Option, ◌&&◌, ◌||◌, ◌⊎◌, All, AllPairs}
+use Rattle.std.specs.Prelude.{Bool, Option, ◌||◌, ◌⊎◌, All, AllPairs}
 use Rattle.std.proofs.lemmas.List.Elements.{All-head, All-tail}
 use Rattle.std.proofs.lemmas.Bool.{cases_lt, and_from, or_cases, or_left}
 use Rattle.dwc_base.specs.Placed.{Frame, NativeRange, is_byte_of, all_placed, all_stay}

@@ -54,6 +54,7 @@ pub mod OnLists
 pub mod SmallLists
 pub mod RunCases
 pub mod ListCases
+pub mod LocationCases
 pub mod ReadValuesParts
 pub mod ReadValuesForms
 pub mod ReadValuesTables

@@ -8,6 +8,7 @@ use Rattle.dwc_base.specs.Runs.{runs, native_ranges, native_in_function, native}
 use Rattle.dwc_base.specs.LabelRanges.{ranges_among}
 use Rattle.dwc_base.specs.Built.{built_bytes}
 use Rattle.dwc_base.specs.BuiltExpressions.{built_over}
+use Rattle.dwc_base.specs.LocationAttributes.{compiled_at, built_at, value_of_expression, built_for, built_for_each, value_of_locations, read_expression, read_locations, base_of_expression}
 
 unfoldable pub operations_on_literals : ℕ
 unfolding units_on_literals operand_at index_at wasm_location_at operands_at operation_at next_operation operations_from
@@ -20,3 +21,7 @@ parts_on_literals = 0
 unfoldable pub built_on_literals : ℕ
 unfolding parts_on_literals runs native_ranges native_in_function native ranges_among built_bytes built_over
 built_on_literals = 0
+
+unfoldable pub attributes_on_literals : ℕ
+unfolding built_on_literals compiled_at built_at value_of_expression built_for built_for_each value_of_locations read_expression read_locations base_of_expression
+attributes_on_literals = 0

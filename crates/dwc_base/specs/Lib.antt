@@ -44,6 +44,7 @@ pub mod Runs
 pub mod Addends
 pub mod RawLists
 pub mod Lists
+pub mod LocationAttributes
 pub mod RangeKept
 pub mod RangeAttributes
 pub mod RangeRefusals

@@ -1,6 +1,6 @@
 -- What the attributes of a kept entry become that speak of code, but for expressions and location lists: the rules that the
 -- making of entries is handed. (This project's own rules.)
-use Rattle.std.specs.Prelude.{ℕ, List, [], map, Bool, true, false, if◌then◌else◌, Option, Some, None, option_map, Result, Ok, Err}
+use Rattle.std.specs.Prelude.{ℕ, List, [], map, Bool, true, if◌then◌else◌, Option, Some, None, option_map, Result, Ok, Err}
 use Rattle.dwc_base.specs.declared.faults.Kind.TheVariants.{NotBuilt}
 use Rattle.dwc_base.specs.declared.faults.What.TheVariants.{AddressValue}
 use Rattle.dwc_base.specs.declared.section_name.SectionName.TheVariants.{Info}
