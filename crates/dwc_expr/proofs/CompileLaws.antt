@@ -44,7 +44,7 @@ targets-within has_base size (o ∷ os) ok =
 
 -- ---- through the supported operations
 
-abbrev through : Option CompiledParts → ℕ → Result (Option (List Operation)) ℕ → Result (Option CompiledParts) ℕ
+abbrev pub through : Option CompiledParts → ℕ → Result (Option (List Operation)) ℕ → Result (Option CompiledParts) ℕ
 through base size (Ok (Some os)) = compiled_supported base size os
 through base size (Ok None) = Ok None
 through base size (Err place) = Err place
@@ -70,7 +70,7 @@ module _ (base : Option CompiledParts) (bytes : List ℕ) where
   compiled-held held = ap (λ b. if b then Ok None else compiled_listing base bytes (operations bytes)) held
 
   module _ (free : holds_jump base ≡ false) where
-    compiled-through : compiled base bytes ≡ through base (length bytes) (supported_operations (is_some base) bytes)
+    pub compiled-through : compiled base bytes ≡ through base (length bytes) (supported_operations (is_some base) bytes)
     unfolding compiled supported_operations
     compiled-through = ap (λ b. if b then Ok None else compiled_listing base bytes (operations bytes)) free ∙ listing-through base bytes (operations bytes)
 

@@ -30,3 +30,4 @@ pub mod ScopeLaws
 pub mod SettingLaws
 pub mod StayLaws
 mod StepLaws
+mod WholeLaws

@@ -23,3 +23,4 @@ pub mod Refusals
 pub mod Rules
 pub mod Steps
 pub mod Supported
+pub mod WholeParts

@@ -1,8 +1,9 @@
 //! Compiles expressions.
-ghost use Rattle.std.specs.Prelude.{◌≡◌, ◌<◌, ◌≤◌, ◌^◌, All, option_map};
+ghost use Rattle.std.specs.Prelude.{◌≡◌, ◌<◌, ◌≤◌, ◌^◌, All, IfOk, IfSome, false, option_map};
 ghost use Rattle.dwc_base.specs.Parts.{compiled, holds_jump, leaves_address, lone_local, targets};
 ghost use Rattle.dwc_expr.specs.Compiles.{Compiles};
 ghost use Rattle.dwc_expr.specs.Supported.{compiled_supported};
+ghost use Rattle.dwc_expr.specs.WholeParts.{JumpsLand};
 
 use crate::emit::parts_of_steps;
 use crate::landings::landings;
@@ -51,7 +52,8 @@ fn leaves_address(steps: &[Step<'_>]) -> bool
     }
 }
 
-// What the operations of an expression of a length compile to, which are all supported; None where a jump goes into an operation.
+// What the operations of an expression of a length compile to, which are all supported; None where a jump goes into an operation. The
+// frame base has no jumps.
 fn compile_steps(
     alloc: Global,
     frame_base: Option<&CompiledExpression>,
@@ -60,6 +62,7 @@ fn compile_steps(
 ) -> Result<Option<CompiledExpression>, ExprError>
     requires size { size < 2 ^ 63 }
     requires inside { All (λ place. place ≤ size) (targets steps.now) }
+    requires free { holds_jump (option_map (λ x. x.now) frame_base) ≡ false }
     ensures { Compiles (compiled_supported (option_map (λ x. x.now) frame_base.entry) size steps.now) result }
 {
     let Some(landings) = landings(alloc, steps, size)? else {
@@ -81,7 +84,8 @@ fn compile_steps(
 /// supported: where it has an operation that is not known, or that tells of the machine that the input was compiled for, a location
 /// in WebAssembly that is no local, a jump out of the expression or into an operation, or an offset from a frame base that is not
 /// given; and where the frame base has jumps. Of such a thing and of bytes that cannot be read the first in the order of bytes
-/// decides; jumps into operations come last. (DWARF 4 and 5, section 2.5.)
+/// decides; jumps into operations come last. Each jump of what is answered goes to a place of which it has a landing pad. (DWARF 4 and
+/// 5, section 2.5.)
 ///
 /// # Errors
 /// `Read` exactly where an operation is cut short, or has an operand that does not fit 64 bits, with `.debug_info` and the place of
@@ -92,7 +96,8 @@ pub fn compile_expression(
     encoding: Encoding,
     frame_base: Option<&CompiledExpression>,
 ) -> Result<Option<CompiledExpression>, ExprError>
-    ensures { Compiles (compiled (option_map (λ x. x.now) frame_base.entry) bytes.now) result }
+    ensures parts { Compiles (compiled (option_map (λ x. x.now) frame_base.entry) bytes.now) result }
+    ensures lands { IfOk result (λ x. IfSome x (λ c. JumpsLand c.parts)) }
 {
     if holds_jump(frame_base) {
         return Ok(None);

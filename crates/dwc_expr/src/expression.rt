@@ -12,7 +12,7 @@ use std::alloc::{AllocError, Global};
 use std::marker::Model;
 
 /// An expression of the input in parts, in which locals, reads of linear memory and jumps stand apart from operations that stay as
-/// they are.
+/// they are. Each jump goes to a place of which the parts have a landing pad.
 #[derive(Drop)]
 pub struct CompiledExpression {
     pub(crate) parts: Vec<CompiledExpressionPart>,
@@ -27,12 +27,13 @@ impl Model for CompiledExpression {
     ghost use Rattle.std.specs.List.{list_any};
     ghost use Rattle.dwc_base.specs.Parts.{CompiledParts, is_jump};
     ghost use Rattle.dwc_expr.specs.PartViews.{part_view};
+    ghost use Rattle.dwc_expr.specs.WholeParts.{JumpsLand};
 
     ghost Value = { CompiledParts };
 
     ghost view = { λ x. record { parts = map part_view x.parts.items; need_deref = x.need_deref } };
 
-    ghost invariant = { λ x. x.has_jump ≡ list_any is_jump (map part_view x.parts.items) };
+    ghost invariant = { λ x. (x.has_jump ≡ list_any is_jump (map part_view x.parts.items)) × JumpsLand (map part_view x.parts.items) };
 }
 
 impl CompiledExpression {

@@ -7,13 +7,14 @@ use Rattle.dwc_expr.specs.Compiles.{Compiles}
 use Rattle.dwc_expr.specs.Steps.{held, supported_operations}
 use Rattle.dwc_expr.specs.Supported.{compiled_supported}
 use Rattle.dwc_expr.proofs.CompileLaws.{base-given, compiled-held, compiled-none, compiled-some, compiled-told, supported-within, told-too}
+use Rattle.dwc_expr.proofs.WholeLaws.{compiles-land}
 use Rattle.dwc_expr.proofs.compile.compile_expression.Goals as goal
 
-pub returns-then-holds_jump : goal.returns-then-holds_jump
-returns-then-holds_jump c = compiled-held (option_map (λ x. x.now) c.args.frame_base) c.args.bytes.now (sym c.holds_jump.ensures ∙ c.if-holds_jump.true)
+pub returns-then-holds_jump-clause-parts : goal.returns-then-holds_jump-clause-parts
+returns-then-holds_jump-clause-parts c = compiled-held (option_map (λ x. x.now) c.args.frame_base) c.args.bytes.now (sym c.holds_jump.ensures ∙ c.if-holds_jump.true)
 
-pub returns-in_err-steps : goal.returns-in_err-steps
-returns-in_err-steps c =
+pub returns-in_err-steps-clause-parts : goal.returns-in_err-steps-clause-parts
+returns-in_err-steps-clause-parts c =
     let base = option_map (λ x. x.now) c.args.frame_base in
     let bytes = c.args.bytes.now in
     let free : holds_jump base ≡ false = sym c.holds_jump.ensures ∙ c.if-holds_jump.false in
@@ -27,8 +28,8 @@ compile_steps-requires-clause-inside c =
     let is : supported_operations c.is_some.result bytes ≡ Ok (Some c.in-Some.steps.items) = c.in_ok-steps.ensures ∙ ap (λ x. Ok (held x)) c.in-Some.is in
     subst (λ (os : List Operation). All (λ place. place ≤ length bytes) (targets os)) (sym c.deref.ensures.value) (supported-within c.is_some.result bytes c.in-Some.steps.items is)
 
-pub returns-in-Some : goal.returns-in-Some
-returns-in-Some c =
+pub returns-in-Some-clause-parts : goal.returns-in-Some-clause-parts
+returns-in-Some-clause-parts c =
     let base = option_map (λ x. x.now) c.args.frame_base in
     let bytes = c.args.bytes.now in
     let free : holds_jump base ≡ false = sym c.holds_jump.ensures ∙ c.if-holds_jump.false in
@@ -37,8 +38,11 @@ returns-in-Some c =
     let same = compiled-some base bytes free c.in-Some.steps.items (ap (λ b. supported_operations b bytes) (sym given) ∙ is) ∙ ap (λ (os : List Operation). compiled_supported base (length bytes) os) (sym c.deref.ensures.value) in
     subst (λ r. Compiles r c.compile_steps.result) (sym same) c.compile_steps.ensures
 
-pub returns-in-None : goal.returns-in-None
-returns-in-None c =
+pub returns-in-Some-clause-lands : goal.returns-in-Some-clause-lands
+returns-in-Some-clause-lands c = compiles-land (option_map (λ x. x.now) c.args.frame_base) c.args.bytes.now c.compile_steps.result (returns-in-Some-clause-parts c)
+
+pub returns-in-None-clause-parts : goal.returns-in-None-clause-parts
+returns-in-None-clause-parts c =
     let base = option_map (λ x. x.now) c.args.frame_base in
     let bytes = c.args.bytes.now in
     let free : holds_jump base ≡ false = sym c.holds_jump.ensures ∙ c.if-holds_jump.false in
