@@ -1,19 +1,19 @@
 -- What is gathered stays given by ranges: before any label, and with one more label.
 use Rattle.std.proofs.Common.{◌≡◌, ℕ, ◌<◌, ◌^◌, List, [], ◌∷◌, ◌++◌, length, get_or, true, false, refl, ap, sym, subst, ◌∙◌, inl, inr, arith, Some, None}
-use Rattle.std.specs.Prelude.{Bool, Option, ◌&&◌, ◌||◌, ◌==◌, nat_lt, All, map, option_map, if◌then◌else◌}
+use Rattle.std.specs.Prelude.{Bool, Option, ◌&&◌, ◌||◌, ◌==◌, nat_lt, All, map, option_map, is_some, IsSome, if◌then◌else◌}
 use Rattle.std.specs.List.{list_any, list_all, AllZip}
 use Rattle.std.specs.Map.{lookup}
 use Rattle.std.specs.BTreeMap.{is_at}
 use Rattle.std.specs.Ordering.{nat_cmp}
-use Rattle.std.proofs.lemmas.Bool.{eqb-true}
+use Rattle.std.proofs.lemmas.Bool.{eqb-true, eq-eqb}
 use Rattle.std.proofs.lemmas.List.{get_or-map, length-map}
 use Rattle.std.proofs.lemmas.List.Folds.{list_any-append}
 use Rattle.dwc_base.specs.Values.{is_one_of}
 use Rattle.dwc_base.specs.Compiled.{LabelRange}
 use Rattle.dwc_base.specs.Placed.{Frame, NativeRange, last_place, placed, all_placed, is_number}
-use Rattle.dwc_base.specs.LabelRanges.{AreMaximal, label_ranges, all_bytes_placed, bytes_of}
+use Rattle.dwc_base.specs.LabelRanges.{AreLabelRanges, AreMaximal, AtEachByte, label_ranges, all_bytes_placed, bytes_of}
 use Rattle.dwc_base.specs.BuiltExpressions.{has_bad_range}
-use Rattle.dwc_base.proofs.InLists.{IsIn, in-map, map-in}
+use Rattle.dwc_base.proofs.InLists.{IsIn, in-any, in-map, map-in}
 use Rattle.dwc_base.proofs.LabelRangeMaximal.{label-ranges-maximal}
 use Rattle.dwc_clif.specs.declared.value_label.ValueLocRange.{ValueLocRange}
 use Rattle.dwc_clif.specs.ValueLabels.{range_view, place_view}
@@ -23,11 +23,11 @@ use Rattle.dwc_expr.specs.declared.cuts.Cut.{Cut}
 use Rattle.dwc_expr.specs.CodeRanges.{code_range_view}
 use Rattle.dwc_expr.specs.FlatRanges.{IsFlat}
 use Rattle.dwc_expr.specs.Frames.{ToldFrame, frame_of}
-use Rattle.dwc_expr.specs.LabelRanges.{Gathered, gathered_frame, with_label, bounds_of, location_in, SaysPlaces, GivesRanges}
+use Rattle.dwc_expr.specs.LabelRanges.{Gathered, gathered_frame, with_label, bounds_of, location_in, SaysPlaces, HasPlaces, GivesRanges}
 use Rattle.dwc_expr.specs.NarrowedRanges.{IsMadeOf, IsMadeIn}
 use Rattle.dwc_expr.specs.OwnPlaces.{own_function, own_ranges, place_in, are_filled}
 use Rattle.dwc_expr.specs.PlacedParts.{cut_view, cuts_from}
-use Rattle.dwc_expr.proofs.PairLaws.{all-in, in-all, all-unmapped, true-all, true-bytes}
+use Rattle.dwc_expr.proofs.PairLaws.{all-in, in-all, all-true, all-unmapped, true-all, true-bytes}
 use Rattle.dwc_expr.proofs.StayLaws.{stay-placed}
 use Rattle.dwc_expr.proofs.CutLaws.{IsPart, cuts-in, range-among}
 use Rattle.dwc_expr.proofs.NarrowLaws.{Tells, IsFine, range-fine, part-placed, narrowed-ranges, covers-more}
@@ -52,6 +52,27 @@ cuts-known own ps ranges cuts is = in-all (λ c. c.index < length ranges) cuts (
 -- ranges that give what is gathered are in order and have bytes
 pub gives-maximal : (g : Gathered) (ranges : List CachedValueLabelRange) (covers : Bool) → GivesRanges g ranges covers → AreMaximal (gathered_frame g) g.labels g.scope (map bounds_of ranges)
 gives-maximal g ranges covers h = subst (AreMaximal (gathered_frame g) g.labels g.scope) (sym h.bounds) (label-ranges-maximal (gathered_frame g) g.labels g.scope)
+
+-- and each says a place of each label
+pub gives-places : (g : Gathered) (ranges : List CachedValueLabelRange) (covers : Bool) → GivesRanges g ranges covers → All (HasPlaces g.labels) ranges
+gives-places g ranges covers h = in-all (HasPlaces g.labels) ranges (λ r i. in-all (λ label. IsSome (location_in r label)) g.labels (at r i))
+  where
+    frame : Option Frame
+    frame = gathered_frame g
+
+    known : AreLabelRanges frame g.labels g.scope (map bounds_of ranges)
+    known = (gives-maximal g ranges covers h).whole
+
+    first-placed : (r : CachedValueLabelRange) → IsIn r ranges → all_placed frame g.labels r.func_index r.start ≡ true
+    first-placed r i =
+        let some : r.start < r.end = all-in (λ r. r.start < r.end) ranges (all-unmapped bounds_of (λ r. r.start < r.end) ranges known.nonempty) r i in
+        all-in (λ r. AtEachByte (λ byte. all_placed frame g.labels r.func_index byte ≡ true) (bounds_of r)) ranges (all-unmapped bounds_of (λ r. AtEachByte (λ byte. all_placed frame g.labels r.function byte ≡ true) r) ranges known.placed) r i r.start (omega arith) some
+
+    at : (r : CachedValueLabelRange) → IsIn r ranges → (label : ℕ) → IsIn label g.labels → IsSome (location_in r label)
+    at r i label j =
+        let says : location_in r label ≡ (if is_one_of g.labels label then placed frame r.func_index r.start label else None) = all-in (SaysPlaces frame g.labels) ranges h.places r i label in
+        let among : is_one_of g.labels label ≡ true = in-any (λ l. l == label) g.labels label j (eq-eqb label label refl) in
+        ap is_some (says ∙ ap (λ b. if b then placed frame r.func_index r.start label else None) among) ∙ all-true (λ l. is_some (placed frame r.func_index r.start l)) g.labels (first-placed r i) label j
 
 -- the same where the labels are known otherwise
 pub given-labels : (frame : Option ToldFrame) (has : Bool) (scope : List NativeRange) (labels known : List ℕ) (ranges : List CachedValueLabelRange) (covers : Bool) → labels ≡ known

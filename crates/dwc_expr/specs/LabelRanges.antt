@@ -1,5 +1,5 @@
 -- Label ranges as they are gathered: the ranges of a scope on which the labels that were processed have unchanged places.
-use Rattle.std.specs.Prelude.{◌≡◌, ◌<◌, ◌^◌, ◌++◌, ℕ, List, [], ◌∷◌, map, Bool, true, false, ◌&&◌, if◌then◌else◌, Option, None, option_map, All, Result, Ok, Err}
+use Rattle.std.specs.Prelude.{◌≡◌, ◌<◌, ◌^◌, ◌++◌, ℕ, List, [], ◌∷◌, map, Bool, true, false, ◌&&◌, if◌then◌else◌, Option, None, option_map, IsSome, All, Result, Ok, Err}
 use Rattle.std.specs.BTreeMap.{get}
 use Rattle.std.specs.Ordering.{nat_cmp}
 use Rattle.dwc_base.specs.Functions.{Function}
@@ -61,6 +61,10 @@ location_in r label = option_map place_view (get nat_cmp r.label_location label)
 -- A range says the place of each of some labels at its first byte, and of no other.
 abbrev pub SaysPlaces : Option Frame → List ℕ → CachedValueLabelRange → Type 0
 SaysPlaces frame labels r = (label : ℕ) → location_in r label ≡ (if is_one_of labels label then placed frame r.func_index r.start label else None)
+
+-- A range says a place of each of some labels.
+abbrev pub HasPlaces : List ℕ → CachedValueLabelRange → Type 0
+HasPlaces labels r = All (λ label. IsSome (location_in r label)) labels
 
 -- What is gathered as ranges: the label ranges, each with its places, which begin and end below 2 ^ 32; and whether each byte of
 -- a scope with an interval has a place for each label.

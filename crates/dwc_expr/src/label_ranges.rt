@@ -1,8 +1,9 @@
 //! On which ranges of the native code of a scope values lie at unchanged places. (DWARF 4 and 5, section 2.6.2, has lists of such.)
-ghost use Rattle.std.specs.Prelude.{◌≡◌, IfOk, IfErr, option_map};
+ghost use Rattle.std.specs.Prelude.{◌≡◌, All, IfOk, IfErr, map, option_map};
+ghost use Rattle.dwc_base.specs.LabelRanges.{AreMaximal};
 ghost use Rattle.dwc_expr.specs.declared.error.ExprError.TheVariants.{OutOfMemory};
 ghost use Rattle.dwc_expr.specs.Frames.{told_frame};
-ghost use Rattle.dwc_expr.specs.LabelRanges.{gathered_of, has_interval, Processes, GivesRanges};
+ghost use Rattle.dwc_expr.specs.LabelRanges.{bounds_of, gathered_frame, gathered_of, has_interval, GivesRanges, HasPlaces, Processes};
 
 use crate::cached_range::{CachedValueLabelRange, without_places};
 use crate::code_range::CodeRange;
@@ -99,9 +100,12 @@ impl<'a> ValueLabelRangesBuilder<'a> {
         Ok(())
     }
 
-    /// The ranges, with the places of all labels that were processed. It takes no memory.
+    /// The ranges, with the places of all labels that were processed. They are the maximal ones, and each has a place for each of these
+    /// labels. It takes no memory.
     pub fn into_ranges(self) -> BuiltValueLabelRanges
-        ensures { GivesRanges self.entry result.ranges.items result.covers_entire_scope }
+        ensures given { GivesRanges self.entry result.ranges.items result.covers_entire_scope }
+        ensures placed { All (HasPlaces self.entry.labels) result.ranges.items }
+        ensures whole { AreMaximal (gathered_frame self.entry) self.entry.labels self.entry.scope (map bounds_of result.ranges.items) }
     {
         self.built
     }
