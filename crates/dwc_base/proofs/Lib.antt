@@ -55,6 +55,7 @@ pub mod SmallLists
 pub mod RunCases
 pub mod ListCases
 pub mod LocationCases
+pub mod ExpressionPlaceCases
 pub mod ReadValuesParts
 pub mod ReadValuesForms
 pub mod ReadValuesTables
