@@ -16,3 +16,4 @@ pub mod FirstBaseLaws
 pub mod IndexCases
 pub mod ReadValueLaws
 pub mod TextPlaceLaws
+pub mod ValueEndLaws

@@ -1,5 +1,5 @@
 -- An entry on its own.
-use Rattle.std.proofs.Common.{◌≡◌, ℕ, ◌≤◌, refl, ap, List, [], take, length, Ok, Err, Some, None}
+use Rattle.std.proofs.Common.{◌≡◌, refl, ap, List, [], Ok, Err, Some, None}
 use Rattle.dwc_base.specs.declared.faults.Flaw.{Flaw}
 use Rattle.dwc_base.specs.declared.faults.What.TheVariants.{Entry as EntryRead}
 use Rattle.dwc_base.specs.declared.section_name.SectionName.TheVariants.{Info}
@@ -10,8 +10,7 @@ use Rattle.dwc_base.specs.Sections.{Fault, fault_of, unreadable}
 use Rattle.dwc_base.specs.Abbreviations.{Declaration, abbreviation_table}
 use Rattle.dwc_base.specs.Entries.{Found, entry_at}
 use Rattle.dwc_read.specs.Views.{UnitView}
-use Rattle.dwc_read.proofs.AttributeLaws.{drop-past}
-use Rattle.dwc_read.specs.Lone.{unread_from, entry_with, lone_entry}
+use Rattle.dwc_read.specs.Lone.{entry_with, lone_entry}
 
 module _ (u : UnitView) (table : List Declaration) (at v : Unread) where
   -- at an entry, at the end of a list of siblings, and at a flaw
@@ -40,7 +39,6 @@ pub entry_at-empty : (u : UnitView) (table : List Declaration) (at : Unread) →
 unfolding entry_at
 entry_at-empty u table at empty = rw (uleb_at-none at (ap uleb_value empty), entry_at) refl
 
--- past the unit's end there is no entry
-pub entry_with-past : (u : UnitView) (table : List Declaration) (offset : ℕ) → length (take u.header.end (u.sections.bytes Info)) ≤ offset → entry_with u table (unread_from u offset) ≡ Err (unreadable EntryRead Info offset)
-entry_with-past u table offset past =
-    entry_with-flaw u table (unread_from u offset) (unread_from u offset) EndsEarly (entry_at-empty u table (unread_from u offset) (drop-past (take u.header.end (u.sections.bytes Info)) offset past))
+-- where nothing is unread there is no entry
+pub entry_with-empty : (u : UnitView) (table : List Declaration) (at : Unread) → at.left ≡ [] → entry_with u table at ≡ Err (unreadable EntryRead Info at.place)
+entry_with-empty u table at empty = entry_with-flaw u table at at EndsEarly (entry_at-empty u table at empty)

@@ -1,16 +1,22 @@
 -- An entry on its own: the root of a unit, or what stands at any of its places.
-use Rattle.std.specs.Prelude.{ℕ, List, take, drop, Option, Some, None, Result, Ok, Err}
+use Rattle.std.specs.Prelude.{◌≡◌, ℕ, List, [], Option, Some, None, Result, Ok, Err}
 use Rattle.dwc_base.specs.declared.section_name.SectionName.TheVariants.{Info}
 use Rattle.dwc_base.specs.declared.faults.What.TheVariants.{Entry as EntryRead}
 use Rattle.dwc_base.specs.Reading.{Unread, ◌>>=◌}
 use Rattle.dwc_base.specs.Sections.{Fault, unreadable, reported}
 use Rattle.dwc_base.specs.Abbreviations.{Declaration, abbreviation_table}
 use Rattle.dwc_base.specs.Entries.{Entry, Found, entry_at}
+use Rattle.dwc_base.specs.ExpressionPlaces.{unit_from}
 use Rattle.dwc_read.specs.Views.{UnitView}
 
 -- what is unread of a unit from an offset of .debug_info on
 abbrev pub unread_from : UnitView → ℕ → Unread
-unread_from u offset = record { order = u.sections.order; place = offset; left = drop offset (take u.header.end (u.sections.bytes Info)) }
+unread_from u offset = unit_from u.sections u.header offset
+
+-- What is unread from an offset on is a cursor's; none where nothing is.
+abbrev pub IsUnread : Unread → Option Unread → Type 0
+IsUnread u None = u.left ≡ []
+IsUnread u (Some v) = v ≡ u
 
 -- the entry that was found; the end of a list of siblings is none
 abbrev pub entry_found : ℕ → Option Found → Result Entry Fault

@@ -69,7 +69,7 @@ pub fn encoded_value<'d>(
 
 // The value of an attribute of an entry of a unit.
 #[tactic(auto, unfolding(dwc_base::specs::Values::value_at))]
-fn value<'d>(
+pub fn value<'d>(
     unit: &Unit<'d>,
     spec: AttributeSpec,
     cursor: &mut Cursor<'d>,

@@ -26,6 +26,7 @@ mod unit;
 mod unit_table;
 mod units;
 mod value;
+mod value_end;
 
 pub use abbreviation::{AttributeSpec, Declaration};
 pub use attribute::encoded_value;

@@ -9,6 +9,7 @@ use crate::indexed::{address_indexed, text_named, text_place};
 use crate::lone::{lone_entry as read_alone, no_entry};
 use crate::table::Table;
 use crate::unit_table::{UnitTable, shared};
+use crate::value_end::entry_end;
 use crate::{AttributeValue, Entries, Entry, ReadFault, Sections, TextPlace};
 use dwc_base::fields::address;
 use dwc_base::{Address, Cursor, Encoding, Endian, Flaw, Relocations, SectionName, What};
@@ -57,8 +58,9 @@ impl<'d> Unit<'d> {
     ghost use Rattle.dwc_base.specs.Entries.{entries as entries_of};
     ghost use Rattle.dwc_read.specs.Faults.{GivesOrFault};
     ghost use Rattle.dwc_read.specs.EntriesSeen.{StartsAt, entry_view};
-    ghost use Rattle.dwc_read.specs.Lone.{lone_entry, unread_from};
-    ghost use Rattle.std.specs.Prelude.{◌≢◌, Some, Err, option_map};
+    ghost use Rattle.dwc_read.specs.Lone.{lone_entry, unread_from, IsUnread};
+    ghost use Rattle.dwc_base.specs.ExpressionPlaces.{value_ends, expression_place};
+    ghost use Rattle.std.specs.Prelude.{◌≢◌, Some, Err, option_map, slice_get};
     ghost use Rattle.std.specs.Option.{unwrap_or};
     ghost use Rattle.dwc_base.specs.declared.section_name.SectionName.TheVariants.{Info};
     ghost use Rattle.dwc_base.specs.Cursors.{slice_bytes};
@@ -316,12 +318,42 @@ impl<'d> Unit<'d> {
         ensures { GivesOrFault entry_view (lone_entry self.now (unread_from self.now offset)) result }
     {
         let table = self.table()?;
+        let Some(cursor) = self.unread_from(offset) else {
+            return Err(no_entry(offset));
+        };
+        read_alone(alloc, self, &table, cursor)
+    }
+
+    /// Where an expression begins that is an attribute's value, as an offset of `.debug_info`. The attribute is told by the offset of
+    /// its entry and its number among the entry's attributes, from 0 on. 0 where there is no such attribute that can be read.
+    ///
+    /// The entry's values are read once more, up to this one.
+    pub fn expression_place(&self, offset: u64, number: usize, expression: &[u8]) -> u64
+        ensures { result ≡ expression_place self.now.sections self.now.header offset number expression.now }
+    {
+        let end = self.value_end(offset, number).unwrap_or(0);
+        end.saturating_sub(expression.len() as u64)
+    }
+
+    // Where the value of an attribute of the entry at an offset ends, by its number; None where it cannot be read.
+    fn value_end(&self, offset: u64, number: usize) -> Option<u64>
+        ensures { result ≡ slice_get (value_ends self.now.sections self.now.header offset) number }
+    {
+        match self.table.flaw {
+            None => entry_end(self, &self.table.table, number, self.unread_from(offset)?),
+            Some(_) => None,
+        }
+    }
+
+    // What is unread of the unit from an offset of `.debug_info` on; None where nothing is.
+    fn unread_from(&self, offset: u64) -> Option<Cursor<'d>>
+        ensures { IsUnread (unread_from self.now offset) result }
+    {
         let bytes = front_of(self.sections.bytes(SectionName::Info), self.header.end);
         if offset >= bytes.len() as u64 {
-            return Err(no_entry(offset));
+            return None;
         }
-        let cursor = Cursor::at(bytes, offset as u32, self.sections.order());
-        read_alone(alloc, self, &table, cursor)
+        Some(Cursor::at(bytes, offset as u32, self.sections.order()))
     }
 
     /// The entries of the unit, in file order.
