@@ -45,6 +45,7 @@ pub mod Addends
 pub mod RawLists
 pub mod Lists
 pub mod LocationAttributes
+pub mod LocationRules
 pub mod ExpressionPlaces
 pub mod RangeKept
 pub mod RangeAttributes
