@@ -64,6 +64,8 @@ pub mod ReadValuesTexts
 pub mod InLists
 pub mod ReadEnds
 pub mod ValueEnds
+pub mod UnitBytes
+pub mod ExpressionPlaceLaws
 pub mod UnitOffsets
 pub mod RangeCases
 pub mod ScopeCases
