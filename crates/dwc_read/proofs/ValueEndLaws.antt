@@ -1,16 +1,23 @@
--- Where the values of an entry's attributes end, one by one.
-use Rattle.std.proofs.Common.{◌≡◌, ℕ, suc, ◌+◌, ◌<◌, ◌≤◌, refl, ap, List, [], ◌∷◌, length, get_or, Ok, Err}
+-- Where the values of an entry's attributes end, one by one, and that its expressions stand before these ends.
+use Rattle.std.proofs.Common.{◌≡◌, ℕ, suc, ◌+◌, ◌<◌, ◌≤◌, refl, ap, subst, List, [], ◌∷◌, length, get_or, Option, Some, None, Result, Ok, Err}
 use Rattle.std.specs.Prelude.{slice_get}
 use Rattle.dwc_base.specs.declared.faults.Flaw.{Flaw}
-use Rattle.dwc_base.specs.Reading.{Unread, uleb_value}
-use Rattle.dwc_base.specs.Sections.{Sections, Fault}
+use Rattle.dwc_base.specs.declared.faults.What.TheVariants.{Entry as EntryRead}
+use Rattle.dwc_base.specs.declared.section_name.SectionName.TheVariants.{Info}
+use Rattle.dwc_base.specs.Reading.{Unread, Read, ◌>>=◌, uleb_value}
+use Rattle.dwc_base.specs.Sections.{Sections, Fault, reported}
 use Rattle.dwc_base.specs.Abbreviations.{Declaration, abbreviation_table}
 use Rattle.dwc_base.specs.Units.{UnitHeader}
 use Rattle.dwc_base.specs.Values.{Value, value_at}
+use Rattle.dwc_base.specs.Entries.{Entry, Found, entry_at}
 use Rattle.dwc_base.specs.ExpressionPlaces.{unit_from, attribute_ends, entry_ends, value_ends}
 use Rattle.dwc_base.proofs.LebLaws.{uleb_at-none}
+use Rattle.dwc_base.proofs.ReadValuesParts.{Holds}
+use Rattle.dwc_base.proofs.ExpressionPlaceLaws.{ExpressionsStand, FoundStands, entry_at-stands}
 use Rattle.dwc_read.specs.declared.abbreviation.AttributeSpec.{AttributeSpec}
+use Rattle.dwc_read.specs.Lone.{unread_from, entry_found, entry_with, lone_entry}
 use Rattle.dwc_read.specs.Tables.{spec_view}
+use Rattle.dwc_read.specs.Views.{UnitView}
 use Rattle.dwc_read.proofs.AttributeLaws.{specs_from, specs_from-next, drop-past}
 
 module _ (s : Sections) (h : UnitHeader) (specs : List AttributeSpec) (i : ℕ) (d : AttributeSpec) (u v : Unread) where
@@ -48,3 +55,20 @@ value_ends-table s h offset table read = rw (read, value_ends) refl
 pub value_ends-fault : (s : Sections) (h : UnitHeader) (offset : ℕ) (fault : Fault) → abbreviation_table s h.abbreviations ≡ Err fault → value_ends s h offset ≡ []
 unfolding value_ends
 value_ends-fault s h offset fault read = rw (read, value_ends) refl
+
+-- ---- where expressions stand
+
+-- Each expression of an entry that is read on its own has its bytes in the section at its place.
+pub lone_entry-stands : (u : UnitView) (offset : ℕ) (e : Entry) → lone_entry u (unread_from u offset) ≡ Ok e → ExpressionsStand u.sections u.header e
+unfolding lone_entry entry_with
+lone_entry-stands u offset e read = go (abbreviation_table u.sections u.header.abbreviations) refl read
+  where
+    found : (r : Read (Option Found)) → Holds (FoundStands u.sections u.header) r → (reported EntryRead Info offset r >>= λ read. entry_found offset read.0) ≡ Ok e → ExpressionsStand u.sections u.header e
+    found (Err flaw) stands is = absurd (cc)
+    found (Ok (None, v)) stands is = absurd (cc)
+    found (Ok (Some f, v)) stands is = let same : f.entry ≡ e = cc in subst (ExpressionsStand u.sections u.header) same (stands.held).0
+
+    go : (t : Result (List Declaration) Fault) → abbreviation_table u.sections u.header.abbreviations ≡ t → (t >>= λ table. entry_with u table (unread_from u offset)) ≡ Ok e → ExpressionsStand u.sections u.header e
+    go (Err fault) known is = absurd (cc)
+    go (Ok table) known is =
+        found (entry_at u.sections u.header table 0 (unread_from u offset)) (entry_at-stands u.sections u.header table known 0 (unread_from u offset) (record { same = refl })) is
