@@ -13,6 +13,7 @@ pub mod FlatPlaces
 pub mod GatherLaws
 mod JoinedLaws
 pub mod JumpLaws
+mod KnownLaws
 pub mod LabelLaws
 mod LandingLaws
 pub mod ListEnds
@@ -21,6 +22,7 @@ pub mod MadeLaws
 pub mod NarrowLaws
 pub mod OverlayLaws
 pub mod PairLaws
+mod PartWalk
 pub mod PieceLaws
 pub mod PlaceLaws
 pub mod PlaceRefusals

@@ -1,37 +1,41 @@
 -- Where jumps arrive, how far they go, and parts that have jumps.
-use Rattle.std.specs.Prelude.{◌≡◌, ℕ, ◌+◌, ◌==◌, ℤ, pos, ◌-ℤ◌, List, [], ◌∷◌, ◌++◌, length, Bool, true, false, if◌then◌else◌, Option, Some, None, Result, Ok, Err}
+use Rattle.std.specs.Prelude.{◌≡◌, ℕ, ◌+◌, ◌==◌, ℤ, pos, ◌-ℤ◌, List, [], ◌∷◌, ◌++◌, length, filter_map, All, Bool, true, false, if◌then◌else◌, Option, Some, None, Result, Ok, Err}
 use Rattle.std.specs.BTreeMap.{get}
-use Rattle.std.specs.List.{list_any}
 use Rattle.std.specs.Option.{unwrap_or}
 use Rattle.std.specs.Ordering.{nat_cmp}
 use Rattle.dwc_base.specs.BuiltExpressions.{BuildRefusal, jump_too_large}
 use Rattle.dwc_base.specs.Built.{Setting, pad_offset, jump_length, is_16_bit, bytes_from, jumps_fit_from}
-use Rattle.dwc_base.specs.Parts.{Part, jump, landing_pad, is_jump}
+use Rattle.dwc_base.specs.Parts.{Part, jump, landing_pad}
 use Rattle.dwc_expr.specs.declared.error.ExprError.{ExprError}
 use Rattle.dwc_expr.specs.declared.error.ExprError.TheVariants.{TooLarge}
 use Rattle.dwc_expr.specs.declared.pads.Pads.{Pads}
 use Rattle.dwc_expr.specs.Refusals.{TellsFirst}
+use Rattle.dwc_expr.specs.WholeParts.{jump_place, has_pad}
 
--- where the landing pad of a place lies, with the bytes' end for a place that has none
-abbrev pub pad_in : Pads → ℕ → ℕ
-pad_in pads place = unwrap_or (get nat_cmp pads.offsets place) pads.end
+-- where the landing pad of a place lies, if it is known
+abbrev pub pad_in : Pads → ℕ → Option ℕ
+pad_in pads place = get nat_cmp pads.offsets place
 
--- Each place's landing pad lies where it does in the bytes of parts.
-abbrev pub FindsPads : Setting → List Part → Pads → Type 0
-FindsPads s all pads = (place : ℕ) → pad_in pads place ≡ pad_offset s place all
+-- The landing pad of a place is known to lie where it does in the bytes of parts.
+abbrev pub KnowsPad : Setting → List Part → Pads → ℕ → Type 0
+KnowsPad s all pads place = pad_in pads place ≡ Some (pad_offset s place all)
 
--- So it is if some of the parts jump.
+-- That of each place of which some of the parts are a landing pad is known.
+abbrev pub FindsPads : Setting → List Part → List Part → Pads → Type 0
+FindsPads s all parts pads = (place : ℕ) → has_pad parts place ≡ true → KnowsPad s all pads place
+
+-- That of each place to which some of the parts jump is known.
 abbrev pub KnowsPads : Setting → List Part → List Part → Pads → Type 0
-KnowsPads s all parts pads = list_any is_jump parts ≡ true → FindsPads s all pads
+KnowsPads s all parts pads = All (KnowsPad s all pads) (filter_map jump_place parts)
 
 -- where a place's landing pad lies, if a part at an offset is it
 abbrev pub pad_here : Part → ℕ → ℕ → Option ℕ
 pad_here (landing_pad own) offset place = if own == place then Some offset else None
 pad_here _ offset place = None
 
--- how far a part at an offset jumps by some pads, 0 where it is no jump
+-- how far a part at an offset jumps to its landing pad, which is known; 0 where it is no jump
 abbrev pub distance_by : Pads → ℕ → Part → ℤ
-distance_by pads offset (jump conditionally place) = pos (pad_in pads place) -ℤ pos (offset + jump_length)
+distance_by pads offset (jump conditionally place) = pos (unwrap_or (pad_in pads place) 0) -ℤ pos (offset + jump_length)
 distance_by pads offset _ = pos 0
 
 -- a distance, if it fits 16 bits

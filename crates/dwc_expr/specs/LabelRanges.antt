@@ -1,11 +1,12 @@
 -- Label ranges as they are gathered: the ranges of a scope on which the labels that were processed have unchanged places.
-use Rattle.std.specs.Prelude.{◌≡◌, ◌<◌, ◌^◌, ◌++◌, ℕ, List, [], ◌∷◌, map, Bool, true, false, ◌&&◌, if◌then◌else◌, Option, None, option_map, IsSome, All, Result, Ok, Err}
+use Rattle.std.specs.Prelude.{◌≡◌, ◌<◌, ◌^◌, ◌++◌, ℕ, List, [], ◌∷◌, map, Bool, true, false, ◌&&◌, if◌then◌else◌, Option, None, option_map, IsSome, IfSome, All, Result, Ok, Err}
 use Rattle.std.specs.BTreeMap.{get}
 use Rattle.std.specs.Ordering.{nat_cmp}
 use Rattle.dwc_base.specs.Functions.{Function}
 use Rattle.dwc_base.specs.Values.{is_one_of}
 use Rattle.dwc_base.specs.Compiled.{Place}
-use Rattle.dwc_base.specs.Placed.{Frame, placed, NativeRange, scope_ranges}
+use Rattle.dwc_base.specs.Parts.{Part}
+use Rattle.dwc_base.specs.Placed.{Frame, placed, label_needed, NativeRange, scope_ranges}
 use Rattle.dwc_base.specs.LabelRanges.{label_ranges, all_bytes_placed}
 use Rattle.dwc_base.specs.BuiltExpressions.{has_bad_range}
 use Rattle.dwc_clif.specs.ValueLabels.{place_view}
@@ -61,6 +62,10 @@ location_in r label = option_map place_view (get nat_cmp r.label_location label)
 -- A range says the place of each of some labels at its first byte, and of no other.
 abbrev pub SaysPlaces : Option Frame → List ℕ → CachedValueLabelRange → Type 0
 SaysPlaces frame labels r = (label : ℕ) → location_in r label ≡ (if is_one_of labels label then placed frame r.func_index r.start label else None)
+
+-- The label that a part needs, if it needs one, has a place on a range.
+abbrev pub IsPlacedOn : CachedValueLabelRange → Part → Type 0
+IsPlacedOn r p = IfSome (label_needed p) (λ label. IsSome (location_in r label))
 
 -- A range says a place of each of some labels.
 abbrev pub HasPlaces : List ℕ → CachedValueLabelRange → Type 0

@@ -7,6 +7,7 @@ ghost use Rattle.dwc_expr.specs.Builds.{surroundings, Builds};
 ghost use Rattle.dwc_expr.specs.LabelRanges.{has_interval};
 ghost use Rattle.dwc_expr.specs.PartViews.{part_view};
 ghost use Rattle.dwc_expr.specs.PartsToBuild.{all_parts};
+ghost use Rattle.dwc_expr.specs.WholeParts.{JumpsLand};
 
 use crate::copies::copied;
 use crate::labels::{needed_labels, ranges_of_labels};
@@ -92,7 +93,8 @@ fn build_parts(
     frame_info: Option<&FunctionFrameInfo<'_>>,
     isa: &dyn TargetIsa,
 ) -> Result<BuiltCompiledExpression, ExprError>
-    requires { has_interval scope.now ≡ true }
+    requires scope { has_interval scope.now ≡ true }
+    requires lands { JumpsLand (map part_view parts.now.parts.now) }
     ensures { (x : CompiledParts) → built_parts x ≡ all_parts parts.now → Builds (built_on_ranges (surroundings addr_tr.now (option_map (λ f. f.now) frame_info.entry) (dwarf_registers isa.now)) (scope_ranges addr_tr.now scope.now) x) result }
 {
     let labels = needed_labels(alloc, parts)?;

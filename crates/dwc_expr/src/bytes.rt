@@ -1,5 +1,5 @@
 //! The bytes of values, places and parts, behind what a buffer holds. (DWARF 4 and 5, sections 2.5 and 2.6.1.1.)
-ghost use Rattle.std.specs.Prelude.{◌≡◌, ◌++◌, ◌∷◌, [], if◌then◌else◌, pos, OnOk, Some, option_map};
+ghost use Rattle.std.specs.Prelude.{◌≡◌, ◌++◌, ◌∷◌, [], if◌then◌else◌, pos, true, OnOk, Some};
 ghost use Rattle.std.specs.FinMap as finite;
 ghost use Rattle.std.specs.Option.{unwrap_or};
 ghost use Rattle.dwc_base.specs.Built.{base_added, base_place_bytes, frame_address, jump_bytes, location_bytes, part_bytes, plus_offset, plus_some, register_location, register_value, value_bytes};
@@ -7,6 +7,7 @@ ghost use Rattle.dwc_base.specs.Compiled.{in_register, at_frame_offset};
 ghost use Rattle.dwc_base.specs.Parts.{dereference};
 ghost use Rattle.dwc_clif.specs.ValueLabels.{place_view};
 ghost use Rattle.dwc_expr.specs.Frames.{memory_view};
+ghost use Rattle.dwc_expr.specs.LabelRanges.{IsPlacedOn};
 ghost use Rattle.dwc_expr.specs.PartViews.{part_view};
 ghost use Rattle.dwc_expr.specs.RangeSettings.{setting_on, with_registers, no_registers};
 
@@ -67,20 +68,15 @@ fn put_frame_address(out: &mut Vec<u8>, offset: i64) -> Result<(), AllocError>
     put_sleb(out, offset)
 }
 
-// The value that lies at a place. A label that is needed has one.
-fn put_value(
-    out: &mut Vec<u8>,
-    place: Option<LabelValueLoc>,
-    isa: &dyn TargetIsa,
-) -> Result<(), AllocError>
-    ensures { OnOk result (out.new.items ≡ out.old.items ++ value_bytes (with_registers (dwarf_registers isa.now)) (option_map place_view place)) }
+// The value that lies at a place.
+fn put_value(out: &mut Vec<u8>, place: LabelValueLoc, isa: &dyn TargetIsa) -> Result<(), AllocError>
+    ensures { OnOk result (out.new.items ≡ out.old.items ++ value_bytes (with_registers (dwarf_registers isa.now)) (Some (place_view place))) }
 {
     match place {
-        Some(LabelValueLoc::Reg(register)) => {
+        LabelValueLoc::Reg(register) => {
             put_register_value(out, register_number(register, isa), 0)
         }
-        Some(LabelValueLoc::CFAOffset(offset)) => put_frame_value(out, offset),
-        None => Ok(()),
+        LabelValueLoc::CFAOffset(offset) => put_frame_value(out, offset),
     }
 }
 
@@ -93,18 +89,17 @@ fn put_frame_value(out: &mut Vec<u8>, offset: i64) -> Result<(), AllocError>
     Ok(())
 }
 
-// The place itself. A label that is needed has one.
+// The place itself.
 fn put_location(
     out: &mut Vec<u8>,
-    place: Option<LabelValueLoc>,
+    place: LabelValueLoc,
     isa: &dyn TargetIsa,
 ) -> Result<(), AllocError>
-    ensures { OnOk result (out.new.items ≡ out.old.items ++ location_bytes (with_registers (dwarf_registers isa.now)) (option_map place_view place)) }
+    ensures { OnOk result (out.new.items ≡ out.old.items ++ location_bytes (with_registers (dwarf_registers isa.now)) (Some (place_view place))) }
 {
     match place {
-        Some(LabelValueLoc::Reg(register)) => put_register(out, register_number(register, isa)),
-        Some(LabelValueLoc::CFAOffset(offset)) => put_frame_address(out, offset),
-        None => Ok(()),
+        LabelValueLoc::Reg(register) => put_register(out, register_number(register, isa)),
+        LabelValueLoc::CFAOffset(offset) => put_frame_address(out, offset),
     }
 }
 
@@ -178,19 +173,18 @@ fn put_base_by_frame(
     }
 }
 
-// The same by the place of the context, which has one where it is needed.
+// The same by the place of the context.
 fn put_base_place(
     out: &mut Vec<u8>,
     memory: ModuleMemoryOffset,
-    place: Option<LabelValueLoc>,
+    place: LabelValueLoc,
     isa: &dyn TargetIsa,
 ) -> Result<(), AllocError>
-    ensures { OnOk result (out.new.items ≡ out.old.items ++ base_place_bytes (with_registers (dwarf_registers isa.now)) (memory_view memory) (option_map place_view place)) }
+    ensures { OnOk result (out.new.items ≡ out.old.items ++ base_place_bytes (with_registers (dwarf_registers isa.now)) (memory_view memory) (Some (place_view place))) }
 {
     match place {
-        Some(LabelValueLoc::Reg(register)) => put_base_by_register(out, memory, register, isa),
-        Some(LabelValueLoc::CFAOffset(offset)) => put_base_by_frame(out, memory, offset),
-        None => Ok(()),
+        LabelValueLoc::Reg(register) => put_base_by_register(out, memory, register, isa),
+        LabelValueLoc::CFAOffset(offset) => put_base_by_frame(out, memory, offset),
     }
 }
 
@@ -209,6 +203,7 @@ fn put_dereference(
     setting: &RangeSetting<'_>,
     isa: &dyn TargetIsa,
 ) -> Result<(), AllocError>
+    requires { IsPlacedOn setting.now.range.now dereference }
     ensures { OnOk result (out.new.items ≡ out.old.items ++ part_bytes (setting_on setting.now (dwarf_registers isa.now)) (pos 0) dereference) }
 {
     let context = place_on(setting.range, get_vmctx_value_label());
@@ -223,6 +218,7 @@ pub(crate) fn put_dereference_if(
     setting: &RangeSetting<'_>,
     isa: &dyn TargetIsa,
 ) -> Result<(), AllocError>
+    requires { wanted ≡ true → IsPlacedOn setting.now.range.now dereference }
     ensures { OnOk result (out.new.items ≡ out.old.items ++ (if wanted then part_bytes (setting_on setting.now (dwarf_registers isa.now)) (pos 0) dereference else [])) }
 {
     if !wanted {
@@ -231,14 +227,14 @@ pub(crate) fn put_dereference_if(
     put_dereference(out, setting, isa)
 }
 
-// The value of a label, or, trailing, its place.
+// The value of a label by its place, or, trailing, the place.
 fn put_local(
     out: &mut Vec<u8>,
-    place: Option<LabelValueLoc>,
+    place: LabelValueLoc,
     trailing: bool,
     isa: &dyn TargetIsa,
 ) -> Result<(), AllocError>
-    ensures { OnOk result (out.new.items ≡ out.old.items ++ (if trailing then location_bytes (with_registers (dwarf_registers isa.now)) (option_map place_view place) else value_bytes (with_registers (dwarf_registers isa.now)) (option_map place_view place))) }
+    ensures { OnOk result (out.new.items ≡ out.old.items ++ (if trailing then location_bytes (with_registers (dwarf_registers isa.now)) (Some (place_view place)) else value_bytes (with_registers (dwarf_registers isa.now)) (Some (place_view place)))) }
 {
     if trailing {
         put_location(out, place, isa)
@@ -270,6 +266,7 @@ pub(crate) fn put_part(
     setting: &RangeSetting<'_>,
     isa: &dyn TargetIsa,
 ) -> Result<(), AllocError>
+    requires { IsPlacedOn setting.now.range.now (part_view part.now) }
     ensures { OnOk result (out.new.items ≡ out.old.items ++ part_bytes (setting_on setting.now (dwarf_registers isa.now)) distance (part_view part.now)) }
 {
     match part {

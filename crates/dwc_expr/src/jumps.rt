@@ -1,7 +1,8 @@
 //! Jumps from part to part.
-ghost use Rattle.std.specs.Prelude.{◌≡◌, ◌<◌, ◌^◌, ◌-ℤ◌, pos};
-ghost use Rattle.dwc_expr.specs.Jumps.{distance_by, fitting, GivesDistance};
+ghost use Rattle.std.specs.Prelude.{◌≡◌, ◌<◌, ◌^◌, ◌-ℤ◌, IfSome, IsSome, pos};
+ghost use Rattle.dwc_expr.specs.Jumps.{distance_by, fitting, pad_in, GivesDistance};
 ghost use Rattle.dwc_expr.specs.PartViews.{part_view};
+ghost use Rattle.dwc_expr.specs.WholeParts.{jump_place};
 
 use crate::pads::Pads;
 use crate::{CompiledExpressionPart, ExprError};
@@ -12,13 +13,14 @@ const JUMP_LENGTH: usize = 3;
 // The greatest distance backward that 16 bits with a sign say.
 const MOST_BACK: usize = 0x8000;
 
-// How far a part at an offset of the bytes jumps from behind it, 0 where it is no jump.
+// How far a part at an offset of the bytes jumps from behind it to a landing pad that is known, 0 where it is no jump.
 pub(crate) fn jump_distance(
     part: &CompiledExpressionPart,
     offset: usize,
     pads: &Pads,
 ) -> Result<i16, ExprError>
-    requires { offset < 2 ^ 63 }
+    requires offset { offset < 2 ^ 63 }
+    requires pad { IfSome (jump_place (part_view part.now)) (λ place. IsSome (pad_in pads.now place)) }
     ensures { GivesDistance (distance_by pads.now offset (part_view part.now)) result }
 {
     match part {

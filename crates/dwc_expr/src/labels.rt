@@ -1,10 +1,10 @@
 //! The labels that parts need, and the ranges on which they have places.
-ghost use Rattle.std.specs.Prelude.{◌≡◌, ◌++◌, ◌∷◌, [], map, option_map, IfOk, OnOk};
+ghost use Rattle.std.specs.Prelude.{◌≡◌, ◌++◌, ◌∷◌, [], map, option_map, All, IfOk, OnOk};
 ghost use Rattle.std.specs.List.{filter_map};
 ghost use Rattle.std.specs.Option.{option_to_list};
 ghost use Rattle.dwc_base.specs.Placed.{label_needed as label_of};
 ghost use Rattle.dwc_expr.specs.Frames.{told_frame};
-ghost use Rattle.dwc_expr.specs.LabelRanges.{gathered_of};
+ghost use Rattle.dwc_expr.specs.LabelRanges.{gathered_of, HasPlaces};
 ghost use Rattle.dwc_expr.specs.NeededLabels.{numbers, GivesLabelRanges, HaveSameFirsts, IsSetOf, ProcessesAll};
 ghost use Rattle.dwc_expr.specs.PartViews.{part_view};
 ghost use Rattle.dwc_expr.specs.PartsToBuild.{all_parts};
@@ -105,7 +105,8 @@ pub(crate) fn ranges_of_labels(
     frame_info: Option<&FunctionFrameInfo<'_>>,
     isa: &dyn TargetIsa,
 ) -> Result<BuiltValueLabelRanges, ExprError>
-    ensures { GivesLabelRanges (gathered_of addr_tr.now (option_map (λ f. told_frame f.now) frame_info.entry) scope.now) (numbers labels.now) result }
+    ensures given { GivesLabelRanges (gathered_of addr_tr.now (option_map (λ f. told_frame f.now) frame_info.entry) scope.now) (numbers labels.now) result }
+    ensures placed { IfOk result (λ built. All (HasPlaces (numbers labels.now)) built.ranges.items) }
 {
     let mut builder = ValueLabelRangesBuilder::new(alloc, scope, addr_tr, frame_info, isa)?;
     process_labels(&mut builder, labels)?;

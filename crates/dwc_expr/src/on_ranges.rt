@@ -3,10 +3,12 @@ ghost use Rattle.std.specs.Prelude.{◌≡◌, All, map};
 ghost use Rattle.dwc_addr.specs.Translations.{with_length};
 ghost use Rattle.dwc_expr.specs.Frames.{memory_view};
 ghost use Rattle.dwc_expr.specs.Jumps.{KnowsPads, PutsParts};
-ghost use Rattle.dwc_expr.specs.PartsToBuild.{all_parts};
+ghost use Rattle.dwc_expr.specs.LabelRanges.{HasPlaces};
+ghost use Rattle.dwc_expr.specs.PartsToBuild.{all_parts, labels_needed};
 ghost use Rattle.dwc_expr.specs.PartViews.{part_view};
 ghost use Rattle.dwc_expr.specs.RangeExpressions.{BuildsOne, BuildsEach, IsLowRange};
 ghost use Rattle.dwc_expr.specs.RangeSettings.{setting_on};
+ghost use Rattle.dwc_expr.specs.WholeParts.{JumpsLand};
 
 use crate::bytes::{put_dereference_if, put_part};
 use crate::jumps::jump_distance;
@@ -20,7 +22,7 @@ use dwc_clif::TargetIsa;
 use dwc_write::Expression;
 use std::alloc::Global;
 
-// The expression of parts on each of some ranges, in order.
+// The expression of parts on each of some ranges, in order. Each jump of the parts lands, and each range has the places that they need.
 pub(crate) fn expressions_on(
     alloc: Global,
     parts: &PartsToBuild<'_>,
@@ -28,7 +30,9 @@ pub(crate) fn expressions_on(
     memory: ModuleMemoryOffset,
     isa: &dyn TargetIsa,
 ) -> Result<Vec<(Address, u64, Expression)>, ExprError>
-    requires { All IsLowRange ranges.now }
+    requires low { All IsLowRange ranges.now }
+    requires lands { JumpsLand (map part_view parts.now.parts.now) }
+    requires places { All (HasPlaces (labels_needed parts.now)) ranges.now }
     ensures { BuildsEach (all_parts parts.now) (dwarf_registers isa.now) (memory_view memory) ranges.now result }
 {
     let mut expressions = Vec::with_capacity(alloc, ranges.len())?;
@@ -60,6 +64,8 @@ fn expression_on(
     setting: &RangeSetting<'_>,
     isa: &dyn TargetIsa,
 ) -> Result<Expression, ExprError>
+    requires lands { JumpsLand (map part_view parts.now.parts.now) }
+    requires places { HasPlaces (labels_needed parts.now) setting.now.range.now }
     ensures { BuildsOne (setting_on setting.now (dwarf_registers isa.now)) (all_parts parts.now) result }
 {
     let pads = pads_of(alloc, parts, setting, isa)?;
@@ -77,7 +83,8 @@ fn put_parts(
     isa: &dyn TargetIsa,
     pads: &Pads,
 ) -> Result<(), ExprError>
-    requires { KnowsPads (setting_on setting.now (dwarf_registers isa.now)) (all_parts parts.now) (map part_view parts.now.parts.now) pads.now }
+    requires places { HasPlaces (labels_needed parts.now) setting.now.range.now }
+    requires pads { KnowsPads (setting_on setting.now (dwarf_registers isa.now)) (all_parts parts.now) (map part_view parts.now.parts.now) pads.now }
     ensures { PutsParts (setting_on setting.now (dwarf_registers isa.now)) (all_parts parts.now) (map part_view parts.now.parts.now) out.old.items out.new.items result }
 {
     for part in parts.parts {

@@ -1,41 +1,43 @@
 //! Where jumps arrive in the bytes of parts.
-ghost use Rattle.std.specs.Prelude.{◌≡◌, ℕ, map, IfOk, OnOk};
+ghost use Rattle.std.specs.Prelude.{◌≡◌, ℕ, map, IfOk, IsSome, OnOk, Some};
 ghost use Rattle.std.specs.BTreeMap.{get};
 ghost use Rattle.std.specs.Option.{option_or};
 ghost use Rattle.std.specs.Ordering.{nat_cmp};
-ghost use Rattle.dwc_expr.specs.PartsToBuild.{all_parts};
+ghost use Rattle.dwc_expr.specs.LabelRanges.{HasPlaces};
+ghost use Rattle.dwc_expr.specs.PartsToBuild.{all_parts, labels_needed};
 ghost use Rattle.dwc_expr.specs.PartViews.{part_view};
 ghost use Rattle.dwc_expr.specs.Jumps.{pad_in, pad_here, FindsPads, KnowsPads};
 ghost use Rattle.dwc_expr.specs.RangeSettings.{setting_on};
+ghost use Rattle.dwc_expr.specs.WholeParts.{JumpsLand};
 
 use crate::CompiledExpressionPart;
-use crate::bytes::{put_dereference_if, put_part};
+use crate::bytes::put_part;
 use crate::parts_to_build::{PartsToBuild, has_jump};
 use crate::setting::RangeSetting;
 use dwc_clif::TargetIsa;
 use std::alloc::{AllocError, Global};
 use std::collections::BTreeMap;
 
-// Where the landing pads of parts lie in their bytes, by the places of the input; and how long the bytes are.
+// Where the landing pads of parts lie in their bytes, by the places of the input.
 #[derive(Drop)]
 pub(crate) struct Pads {
     offsets: BTreeMap<u64, usize>,
-    end: usize,
 }
 
-// The landing pads of parts. Where no part jumps none is looked for, and no memory is taken.
+// The landing pads of parts whose jumps all land. Where no part jumps none is looked for, and no memory is taken.
 pub(crate) fn pads_of(
     alloc: Global,
     parts: &PartsToBuild<'_>,
     setting: &RangeSetting<'_>,
     isa: &dyn TargetIsa,
 ) -> Result<Pads, AllocError>
+    requires lands { JumpsLand (map part_view parts.now.parts.now) }
+    requires places { HasPlaces (labels_needed parts.now) setting.now.range.now }
     ensures { IfOk result (KnowsPads (setting_on setting.now (dwarf_registers isa.now)) (all_parts parts.now) (map part_view parts.now.parts.now)) }
 {
     if !has_jump(parts.parts) {
         return Ok(Pads {
             offsets: BTreeMap::new(alloc),
-            end: 0,
         });
     }
     find_pads(alloc, parts, setting, isa)
@@ -48,7 +50,8 @@ fn find_pads(
     setting: &RangeSetting<'_>,
     isa: &dyn TargetIsa,
 ) -> Result<Pads, AllocError>
-    ensures { IfOk result (FindsPads (setting_on setting.now (dwarf_registers isa.now)) (all_parts parts.now)) }
+    requires { HasPlaces (labels_needed parts.now) setting.now.range.now }
+    ensures { IfOk result (FindsPads (setting_on setting.now (dwarf_registers isa.now)) (all_parts parts.now) (map part_view parts.now.parts.now)) }
 {
     let mut bytes = Vec::new(alloc);
     let mut offsets = BTreeMap::new(alloc);
@@ -56,11 +59,7 @@ fn find_pads(
         note_pad(&mut offsets, part, bytes.len())?;
         put_part(&mut bytes, part, 0, setting, isa)?;
     }
-    put_dereference_if(parts.then_dereference, &mut bytes, setting, isa)?;
-    Ok(Pads {
-        offsets,
-        end: bytes.len(),
-    })
+    Ok(Pads { offsets })
 }
 
 // Notes where a part lies, if it is the first landing pad of a place.
@@ -80,10 +79,14 @@ fn note_pad(
 }
 
 impl Pads {
-    // Where in the bytes the landing pad of a place lies. A jump's place has one.
+    // Where in the bytes the landing pad of a place lies, which is known.
     pub(crate) fn offset_of(&self, place: u64) -> usize
-        ensures { result ≡ pad_in self.now place }
+        requires { IsSome (pad_in self.now place) }
+        ensures { pad_in self.now place ≡ Some result }
     {
-        self.offsets.get(&place).copied().unwrap_or(self.end)
+        match self.offsets.get(&place) {
+            Some(offset) => *offset,
+            None => unreachable!(),
+        }
     }
 }

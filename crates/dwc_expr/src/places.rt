@@ -1,11 +1,12 @@
 //! Refusals of the places at which values lie.
-ghost use Rattle.std.specs.Prelude.{◌≡◌, ◌∷◌, [], if◌then◌else◌, option_map};
+ghost use Rattle.std.specs.Prelude.{◌≡◌, ◌∷◌, [], All, Some, if◌then◌else◌};
 ghost use Rattle.std.specs.FinMap as finite;
 ghost use Rattle.std.specs.List.{flat_map};
 ghost use Rattle.std.specs.Option.{option_to_list};
 ghost use Rattle.dwc_base.specs.BuiltExpressions.{memory_refusals, register_refusal_at, without_memory};
 ghost use Rattle.dwc_clif.specs.ValueLabels.{place_view};
 ghost use Rattle.dwc_expr.specs.Frames.{memory_view};
+ghost use Rattle.dwc_expr.specs.LabelRanges.{HasPlaces};
 ghost use Rattle.dwc_expr.specs.NeededLabels.{numbers};
 ghost use Rattle.dwc_expr.specs.Refusals.{Checks, refusals_on};
 
@@ -14,14 +15,15 @@ use crate::{CachedValueLabelRange, ExprError};
 use dwc_addr::ModuleMemoryOffset;
 use dwc_clif::{LabelValueLoc, TargetIsa, ValueLabel};
 
-// Looks at the places of labels on ranges, in order: where linear memory is read that is not there, at the first range; else for
-// a register that DWARF does not know.
+// Looks at the places of labels on ranges that have one for each, in order: where linear memory is read that is not there, at the
+// first range; else for a register that DWARF does not know.
 pub(crate) fn check_places(
     ranges: &[CachedValueLabelRange],
     labels: &[ValueLabel],
     lacks_memory: bool,
     isa: &dyn TargetIsa,
 ) -> Result<(), ExprError>
+    requires { All (HasPlaces (numbers labels.now)) ranges.now }
     ensures { Checks (flat_map (refusals_on lacks_memory (numbers labels.now) (dwarf_registers isa.now)) ranges.now) result }
 {
     for range in ranges {
@@ -36,6 +38,7 @@ fn check_places_on(
     lacks_memory: bool,
     isa: &dyn TargetIsa,
 ) -> Result<(), ExprError>
+    requires { HasPlaces (numbers labels.now) range.now }
     ensures { Checks (refusals_on lacks_memory (numbers labels.now) (dwarf_registers isa.now) range.now) result }
 {
     if lacks_memory {
@@ -47,10 +50,10 @@ fn check_places_on(
     Ok(())
 }
 
-fn check_place(place: Option<LabelValueLoc>, isa: &dyn TargetIsa) -> Result<(), ExprError>
-    ensures { Checks (option_to_list (register_refusal_at (λ r. finite.get (dwarf_registers isa.now) r) (option_map place_view place))) result }
+fn check_place(place: LabelValueLoc, isa: &dyn TargetIsa) -> Result<(), ExprError>
+    ensures { Checks (option_to_list (register_refusal_at (λ r. finite.get (dwarf_registers isa.now) r) (Some (place_view place)))) result }
 {
-    if let Some(LabelValueLoc::Reg(register)) = place
+    if let LabelValueLoc::Reg(register) = place
         && isa.map_regalloc_reg_to_dwarf(register).is_none()
     {
         return Err(ExprError::UnmappedRegister { register });

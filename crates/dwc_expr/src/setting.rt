@@ -1,5 +1,5 @@
 //! Where parts are built.
-ghost use Rattle.std.specs.Prelude.{◌≡◌, option_map};
+ghost use Rattle.std.specs.Prelude.{◌≡◌, IsSome, Some, option_map};
 ghost use Rattle.dwc_clif.specs.ValueLabels.{place_view};
 ghost use Rattle.dwc_expr.specs.Frames.{frame_view, memory_view};
 ghost use Rattle.dwc_base.specs.BuiltExpressions.{memory_of as memory_in};
@@ -16,11 +16,15 @@ pub(crate) struct RangeSetting<'a> {
     pub(crate) memory: ModuleMemoryOffset,
 }
 
-// Where a label lies on a range.
-pub(crate) fn place_on(range: &CachedValueLabelRange, label: ValueLabel) -> Option<LabelValueLoc>
-    ensures { option_map place_view result ≡ location_in range.now label.0 }
+// Where a label lies on a range that has a place for it.
+pub(crate) fn place_on(range: &CachedValueLabelRange, label: ValueLabel) -> LabelValueLoc
+    requires { IsSome (location_in range.now label.0) }
+    ensures { location_in range.now label.0 ≡ Some (place_view result) }
 {
-    range.label_location.get(&label.0).copied()
+    match range.label_location.get(&label.0) {
+        Some(place) => *place,
+        None => unreachable!(),
+    }
 }
 
 // The linear memory of a frame's module.

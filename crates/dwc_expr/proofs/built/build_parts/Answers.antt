@@ -1,15 +1,17 @@
-use Rattle.std.proofs.Common.{◌≡◌, ◌∙◌, None, filter_map, flat_map, map, sym, subst}
+use Rattle.std.proofs.Common.{◌≡◌, ◌∙◌, All, None, filter_map, flat_map, map, sym, subst}
 use Rattle.std.proofs.lemmas.Result.{err_from_is_err_and}
 use Rattle.dwc_base.specs.Placed.{label_needed}
 use Rattle.dwc_base.specs.Refusals.{first_of}
 use Rattle.dwc_clif.specs.Registers.{Registers}
 use Rattle.dwc_expr.specs.Builds.{location_view}
 use Rattle.dwc_expr.specs.Frames.{memory_view}
+use Rattle.dwc_expr.specs.LabelRanges.{HasPlaces}
 use Rattle.dwc_expr.specs.NeededLabels.{HaveSameFirsts, numbers}
-use Rattle.dwc_expr.specs.PartsToBuild.{all_parts}
+use Rattle.dwc_expr.specs.PartsToBuild.{all_parts, labels_needed}
 use Rattle.dwc_expr.specs.RangeExpressions.{jumps_refused, location_on}
 use Rattle.dwc_expr.specs.Refusals.{TellsFirst, refusals_on}
 use Rattle.dwc_expr.proofs.BuildLaws.{gathered-low, out-labels, out-places, out-jumps, out-built}
+use Rattle.dwc_expr.proofs.KnownLaws.{each-place}
 use Rattle.dwc_expr.proofs.built.build_parts.Goals as goal
 
 pub returns-in_err-built : goal.returns-in_err-built
@@ -18,7 +20,12 @@ returns-in_err-built g c x is =
     let labels = c.deref.result.now in
     let firsts = subst (λ ls. HaveSameFirsts (numbers ls) (filter_map label_needed (all_parts c.args.parts.now))) (sym c.deref.ensures.value) c.in_ok-labels.ensures in
     let p = err_from_is_err_and c.from_residual-in_err-built.result c.from_residual-in_err-built.ensures.1 in
-    rw (p.1, p.2) (out-labels c.args.frame_info c.args.addr_tr.now c.args.scope.now registers (numbers labels) (all_parts c.args.parts.now) x is firsts c.in_err-built.field-0.0 c.in_err-built.ensures)
+    rw (p.1, p.2) (out-labels c.args.frame_info c.args.addr_tr.now c.args.scope.now registers (numbers labels) (all_parts c.args.parts.now) x is firsts c.in_err-built.field-0.0 c.in_err-built.ensures.given)
+
+pub check_places-requires : goal.check_places-requires
+check_places-requires g c =
+    let labels = c.deref-3.ensures.value ∙ sym c.deref.ensures.value in
+    rw (c.deref-2.ensures.value, labels) c.in_ok-built.ensures.placed
 
 pub returns-in_err-check_places : goal.returns-in_err-check_places
 returns-in_err-check_places g c x is =
@@ -31,13 +38,20 @@ returns-in_err-check_places g c x is =
     let tells = subst (λ rs. TellsFirst (flat_map (refusals_on lacks (numbers labels) registers) rs) e) c.deref-2.ensures.value (subst (λ ls. TellsFirst (flat_map (refusals_on lacks (numbers ls) registers) c.deref-2.result.now) e) (c.deref-3.ensures.value ∙ sym c.deref.ensures.value) c.in_err-check_places.ensures) in
     let p = err_from_is_err_and c.from_residual-in_err-check_places.result c.from_residual-in_err-check_places.ensures.1 in
     rw (p.1, p.2)
-    (out-places c.args.frame_info c.args.addr_tr.now c.args.scope.now registers (numbers labels) (all_parts c.args.parts.now) x is firsts built.ranges.items built.covers_entire_scope c.in_ok-built.ensures.0 c.in_ok-built.ensures.1 (memory_view c.memory_of-memory.result) c.memory_of-memory.ensures
+    (out-places c.args.frame_info c.args.addr_tr.now c.args.scope.now registers (numbers labels) (all_parts c.args.parts.now) x is firsts built.ranges.items built.covers_entire_scope c.in_ok-built.ensures.given.0 c.in_ok-built.ensures.given.1 (memory_view c.memory_of-memory.result) c.memory_of-memory.ensures
     c.reads_memory.result lacks c.reads_memory.ensures c.lacks_memory-lacks_memory.ensures e tells)
 
-pub expressions_on-requires : goal.expressions_on-requires
-expressions_on-requires g c =
+pub expressions_on-requires-clause-places : goal.expressions_on-requires-clause-places
+expressions_on-requires-clause-places g c =
+    let labels = c.deref.result.now in
+    let needed = labels_needed c.args.parts.now in
+    let firsts = subst (λ ls. HaveSameFirsts (numbers ls) needed) (sym c.deref.ensures.value) c.in_ok-labels.ensures in
+    subst (All (HasPlaces needed)) (sym c.deref-4.ensures.value) (each-place (numbers labels) needed c.in_ok-built.built.ranges.items firsts c.in_ok-built.ensures.placed)
+
+pub expressions_on-requires-clause-low : goal.expressions_on-requires-clause-low
+expressions_on-requires-clause-low g c =
     let built = c.in_ok-built.built in
-    rw c.deref-4.ensures.value (gathered-low c.args.frame_info c.args.addr_tr.now c.args.scope.now (numbers c.deref.result.now) built.ranges.items built.covers_entire_scope c.in_ok-built.ensures.1)
+    rw c.deref-4.ensures.value (gathered-low c.args.frame_info c.args.addr_tr.now c.args.scope.now (numbers c.deref.result.now) built.ranges.items built.covers_entire_scope c.in_ok-built.ensures.given.1)
 
 pub returns-in_err-expressions : goal.returns-in_err-expressions
 returns-in_err-expressions g c x is =
@@ -52,7 +66,7 @@ returns-in_err-expressions g c x is =
     let tells = subst (λ rs. TellsFirst (flat_map (jumps_refused (all_parts c.args.parts.now) registers memory) rs) e) c.deref-4.ensures.value c.in_err-expressions.ensures in
     let p = err_from_is_err_and c.from_residual-in_err-expressions.result c.from_residual-in_err-expressions.ensures.1 in
     rw (p.1, p.2)
-    (out-jumps c.args.frame_info c.args.addr_tr.now c.args.scope.now registers (numbers labels) (all_parts c.args.parts.now) x is firsts built.ranges.items built.covers_entire_scope c.in_ok-built.ensures.0 c.in_ok-built.ensures.1 memory c.memory_of-memory.ensures c.reads_memory.result lacks c.reads_memory.ensures
+    (out-jumps c.args.frame_info c.args.addr_tr.now c.args.scope.now registers (numbers labels) (all_parts c.args.parts.now) x is firsts built.ranges.items built.covers_entire_scope c.in_ok-built.ensures.given.0 c.in_ok-built.ensures.given.1 memory c.memory_of-memory.ensures c.reads_memory.result lacks c.reads_memory.ensures
     c.lacks_memory-lacks_memory.ensures placed e tells)
 
 pub returns : goal.returns
@@ -68,5 +82,5 @@ returns g c x is =
     let none = subst (λ rs. first_of (flat_map (jumps_refused parts registers memory) rs) ≡ None) c.deref-4.ensures.value c.in_ok-expressions.ensures.0 in
     let expressions = map location_view c.in_ok-expressions.expressions.items in
     let made = subst (λ rs. expressions ≡ map (location_on parts registers memory) rs) c.deref-4.ensures.value c.in_ok-expressions.ensures.1 in
-    out-built c.args.frame_info c.args.addr_tr.now c.args.scope.now registers (numbers labels) parts x is firsts built.ranges.items built.covers_entire_scope c.in_ok-built.ensures.0 c.in_ok-built.ensures.1 memory c.memory_of-memory.ensures c.reads_memory.result lacks c.reads_memory.ensures
-    c.lacks_memory-lacks_memory.ensures placed expressions none made c.requires
+    out-built c.args.frame_info c.args.addr_tr.now c.args.scope.now registers (numbers labels) parts x is firsts built.ranges.items built.covers_entire_scope c.in_ok-built.ensures.given.0 c.in_ok-built.ensures.given.1 memory c.memory_of-memory.ensures c.reads_memory.result lacks c.reads_memory.ensures
+    c.lacks_memory-lacks_memory.ensures placed expressions none made c.requires.scope

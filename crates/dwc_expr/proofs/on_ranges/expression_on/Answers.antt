@@ -6,7 +6,11 @@ use Rattle.dwc_expr.specs.PartViews.{part_view}
 use Rattle.dwc_expr.specs.RangeSettings.{setting_on}
 use Rattle.dwc_expr.specs.Refusals.{TellsFirst}
 use Rattle.dwc_expr.proofs.JumpLaws.{fits-whole, bytes-whole}
+use Rattle.dwc_expr.proofs.KnownLaws.{last-placed}
 use Rattle.dwc_expr.proofs.on_ranges.expression_on.Goals as goal
+
+pub put_dereference_if-requires : goal.put_dereference_if-requires
+put_dereference_if-requires g c = last-placed c.args.setting.now.range.now c.args.parts.now c.requires.places
 
 pub returns-in_err-put_parts : goal.returns-in_err-put_parts
 returns-in_err-put_parts g c =

@@ -19,7 +19,7 @@ loop-range-preserved g c =
     let ranges = c.args.ranges.now in
     let i = c.loop-range.range-index in
     let r = c.range-item.result in
-    let some = subst (λ (x : CachedValueLabelRange). x.start < x.end) (sym c.range-item.is) (c.requires i r c.loop-range-test.true).some in
+    let some = subst (λ (x : CachedValueLabelRange). x.start < x.end) (sym c.range-item.is) (c.requires.low i r c.loop-range-test.true).some in
     record {
       expressions = expression-more parts registers memory ranges i r c.loop-range.expressions.items _ c.extent-begin.result c.in_ok-expression.expression _ c.loop-range-test.true c.range-item.is some c.extent-begin.ensures c.in_ok-expression.ensures.1 c.in_ok-push.ensures.items c.loop-range.invariant.expressions;
       refusals = first-behind _ _ _ (split-at (jumps_refused parts registers memory) ranges i r c.loop-range-test.true c.range-item.is ∙ c.loop-range.invariant.refusals) (ap (λ b. first_of (unless_fit b)) c.in_ok-expression.ensures.0);

@@ -1,7 +1,6 @@
 use Rattle.std.proofs.Common.{◌≡◌, ◌++◌, List, drop, length, map}
 use Rattle.dwc_base.specs.Built.{Setting, bytes_from, jumps_fit_from}
 use Rattle.dwc_base.specs.Parts.{Part}
-use Rattle.dwc_expr.specs.Jumps.{KnowsPads}
 use Rattle.dwc_expr.specs.PartViews.{part_view}
 use Rattle.dwc_expr.specs.PartsToBuild.{all_parts}
 use Rattle.dwc_expr.specs.RangeSettings.{setting_on}
@@ -13,7 +12,6 @@ invariant-loop-part g l =
     let s : Setting = setting_on l.setting ((goal.TargetIsa-dyn g l.isa.now).dwarf_registers l.isa.now.1) in
     let left : List Part = map part_view (drop l.part-index l.parts.parts.now) in
     record {
-      pads : KnowsPads s (all_parts l.parts) left l.pads;
       bytes : l.out.items ++ bytes_from s (all_parts l.parts) (length l.out.items) left ≡ l.fn.out.items ++ bytes_from s (all_parts l.parts) (length l.fn.out.items) (map part_view l.parts.parts.now);
       fit : jumps_fit_from s (all_parts l.parts) (length l.out.items) left ≡ jumps_fit_from s (all_parts l.parts) (length l.fn.out.items) (map part_view l.parts.parts.now);
     }

@@ -1,11 +1,15 @@
-use Rattle.std.proofs.Common.{◌∙◌}
+use Rattle.std.proofs.Common.{◌∙◌, subst, sym}
 use Rattle.std.proofs.lemmas.Result.{err_from_is_err_and}
 use Rattle.dwc_clif.specs.Registers.{Registers}
+use Rattle.dwc_expr.specs.LabelRanges.{HasPlaces}
 use Rattle.dwc_expr.specs.NeededLabels.{numbers}
 use Rattle.dwc_expr.specs.Refusals.{refusals_on}
 use Rattle.dwc_expr.proofs.PlaceRefusals.{split-at}
 use Rattle.dwc_expr.proofs.RefusalLaws.{told-here}
 use Rattle.dwc_expr.proofs.places.check_places.Goals as goal
+
+pub check_places_on-requires : goal.check_places_on-requires
+check_places_on-requires g c = subst (HasPlaces (numbers c.args.labels.now)) (sym c.range-item.is) (c.requires c.loop-range.range-index c.range-item.result c.loop-range-test.true)
 
 pub returns-in_err-check_places_on : goal.returns-in_err-check_places_on
 returns-in_err-check_places_on g c =
