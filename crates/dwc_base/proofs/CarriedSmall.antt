@@ -21,6 +21,7 @@ use Rattle.dwc_base.specs.Outputs.{OutputSection, function, section, output_sect
 use Rattle.dwc_base.specs.Carried.{Unit, units, Module, Compilation, CarriedUnit}
 use Rattle.dwc_base.specs.Forests.{carried_units}
 use Rattle.dwc_base.specs.LinesCarried.{AreImages, LinesCarried}
+use Rattle.dwc_base.specs.Compiled.{nothing_told}
 
 abbrev pub output_small : List OutputSection
 output_small =
@@ -41,7 +42,7 @@ output_small =
     } ∷ []
 
 abbrev pub module_small : Module
-module_small = record { sections = sections_small; functions = function_small ∷ []; compressed = None }
+module_small = record { sections = sections_small; functions = function_small ∷ []; told = nothing_told; compressed = None }
 
 abbrev pub compilation_small : Compilation
 compilation_small = record { order = Little; pointer_bytes = 8; modules = module_small ∷ [] }
@@ -121,7 +122,7 @@ not_image-small h = let same : 4 ≡ 3 = ap line_in (h.agrees 15 (lit< tt)) in o
 
 -- A module in the 64-bit format has no units, but its lines are not carried by an output without sections.
 abbrev pub compilation_64 : Compilation
-compilation_64 = record { order = Little; pointer_bytes = 8; modules = record { sections = three_sections [] (0xFF ∷ 0xFF ∷ 0xFF ∷ 0xFF ∷ []) []; functions = function_small ∷ []; compressed = None } ∷ [] }
+compilation_64 = record { order = Little; pointer_bytes = 8; modules = record { sections = three_sections [] (0xFF ∷ 0xFF ∷ 0xFF ∷ 0xFF ∷ []) []; functions = function_small ∷ []; told = nothing_told; compressed = None } ∷ [] }
 
 units-64 : carried_units compilation_64 ≡ []
 unfolding drafts_on_literals

@@ -6,7 +6,6 @@ use Rattle.dwc_base.specs.declared.records.Address.{Address}
 use Rattle.dwc_base.specs.declared.records.Address.TheVariants.{Constant, Symbol}
 use Rattle.dwc_base.specs.declared.section_name.SectionName.TheVariants.{Info}
 use Rattle.dwc_base.specs.declared.faults.Flaw.{Flaw}
-use Rattle.dwc_base.specs.declared.faults.Kind.TheVariants.{NotBuilt}
 use Rattle.dwc_base.specs.declared.faults.What.TheVariants.{AddressValue, Text}
 use Rattle.dwc_base.specs.Listing.{Listing}
 use Rattle.dwc_base.specs.Entries.{Entry}
@@ -16,15 +15,14 @@ use Rattle.dwc_base.specs.Lists.{ListRefusal, list_source, ranges_of_value}
 use Rattle.dwc_base.specs.RangeAttributes.{begun_function, Extent, intervals, position, nowhere, extent, native_of_intervals, carried_address, carried_ranges, bounds, length_of, said_intervals, said_extent, range_attributes}
 use Rattle.dwc_base.specs.RangeRules.{all_items, drafted, list_becomes, code_becomes, told_as}
 use Rattle.dwc_base.specs.Reading.{◌>>=◌}
-use Rattle.dwc_base.specs.Sections.{Sections, Fault, fault_of, reported, unsupported}
-use Rattle.dwc_base.specs.Units.{UnitHeader}
+use Rattle.dwc_base.specs.Sections.{Fault, fault_of, reported}
 use Rattle.dwc_base.specs.Values as Values
 use Rattle.dwc_base.specs.Values.{Value}
 use Rattle.dwc_base.specs.Kept.{Placed}
 use Rattle.dwc_base.specs.Carried.{Module, Compilation, Unit}
 use Rattle.dwc_base.specs.Functions.{Function}
 use Rattle.dwc_base.specs.Refusals.{Refusal, of_place}
-use Rattle.dwc_base.specs.Trees.{Interval, TreeValue, address as address_of_tree, constant, flag, block, text, line_table, ranges}
+use Rattle.dwc_base.specs.Trees.{Interval, TreeValue, address as address_of_tree, constant, flag, block, text, line_table, ranges, expression, locations}
 use Rattle.dwc_base.specs.Drafts.{DraftValue, done, goes_to, made_of, itself}
 use Rattle.dwc_base.specs.Texts.{text_named}
 use Rattle.dwc_base.specs.Targets.{target_of}
@@ -32,8 +30,12 @@ use Rattle.dwc_base.specs.TreeLaws.{HasAllTargets, goes_somewhere}
 use Rattle.dwc_base.specs.KeptModules.{carried_in, kept_in}
 use Rattle.dwc_base.specs.Clones.{UnitSource, is_dropped_name, is_bound_name, is_file_name, constant_form, file_number, constant_becomes, text_drafted, text_becomes, value_becomes, nothing_unless, bound_becomes, table_becomes, attribute_becomes, attributes_become, if_made, endianity, attributes_made}
 use Rattle.dwc_base.specs.CarriedDrafts.{source_of, draft_of, unit_drafts, carried_drafts}
-use Rattle.dwc_base.specs.EntryRules.{of_list, code_rules}
+use Rattle.dwc_base.specs.LocationAttributes as LocationAttributes
+use Rattle.dwc_base.specs.LocationAttributes.{LocationRefusal, ListedExpression, value_of_expression, value_of_locations}
+use Rattle.dwc_base.specs.LocationRules.{ExpressionSource, lists_of, in_force_at, given_expression, expression_becomes, listed_by, locations_become}
+use Rattle.dwc_base.specs.EntryRules.{of_list, of_location, rules_of_source}
 use Rattle.dwc_base.specs.Forests.{kept_of, rules_of, is_big, module_drafts, trees_made}
+use Rattle.dwc_base.proofs.LocationValues.{is_nothing, is_expression, is_list, GivesLocated, expression-located, locations-located}
 use Rattle.dwc_base.proofs.ForestLaws.{some_same, none_is, Each, each_chosen, each_mapped, each_filter_map, each_both, SaysNoPlace, EntrySaysNoPlace, UnitSaysNoPlace, ModuleSaysNoPlace, references-go}
 
 -- what something becomes, if it becomes something, says no place itself
@@ -83,28 +85,53 @@ list-made name fs xs = go xs.fault
     go None = value-made name (done (carried_ranges fs xs.items)) refl
     go (Some refusal) = refused-made name (of_list refusal)
 
--- What is not built is refused.
-unbuilt-made : (name offset : ℕ) → MakesNoPlace name (told_as of_list (Err (Lists.of_place (unsupported NotBuilt offset))))
-unbuilt-made name offset = refused-made name (of_place (unsupported NotBuilt offset))
-
 code-made : (fs : List Function) (s : ListSource) (offset name : ℕ) (v : Value) → MakesNoPlace name (told_as of_list (code_becomes s fs offset v))
 unfolding code_becomes
 code-made fs s offset name (Values.address a) = value-made name (done (carried_address fs a)) refl
 code-made fs s offset name (Values.address_index i) = address-made name fs offset (s.indexed i)
 code-made fs s offset name (Values.range_reference n) = list-made name fs (ranges_of_value s offset (Values.range_reference n))
 code-made fs s offset name (Values.range_index i) = list-made name fs (ranges_of_value s offset (Values.range_index i))
-code-made fs s offset name (Values.constant form bits) = unbuilt-made name offset
-code-made fs s offset name (Values.flag b) = unbuilt-made name offset
-code-made fs s offset name (Values.block bytes) = unbuilt-made name offset
-code-made fs s offset name (Values.text bytes) = unbuilt-made name offset
-code-made fs s offset name (Values.text_reference form n) = unbuilt-made name offset
-code-made fs s offset name (Values.unit_reference n) = unbuilt-made name offset
-code-made fs s offset name (Values.info_reference n) = unbuilt-made name offset
-code-made fs s offset name (Values.line_reference n) = unbuilt-made name offset
-code-made fs s offset name Values.dropped = unbuilt-made name offset
-code-made fs s offset name (Values.expression bytes) = unbuilt-made name offset
-code-made fs s offset name (Values.location_reference n) = unbuilt-made name offset
-code-made fs s offset name (Values.location_index n) = unbuilt-made name offset
+code-made fs s offset name (Values.constant form bits) = nothing-made name
+code-made fs s offset name (Values.flag b) = nothing-made name
+code-made fs s offset name (Values.block bytes) = nothing-made name
+code-made fs s offset name (Values.text bytes) = nothing-made name
+code-made fs s offset name (Values.text_reference form n) = nothing-made name
+code-made fs s offset name (Values.unit_reference n) = nothing-made name
+code-made fs s offset name (Values.info_reference n) = nothing-made name
+code-made fs s offset name (Values.line_reference n) = nothing-made name
+code-made fs s offset name Values.dropped = nothing-made name
+code-made fs s offset name (Values.expression bytes) = nothing-made name
+code-made fs s offset name (Values.location_reference n) = nothing-made name
+code-made fs s offset name (Values.location_index n) = nothing-made name
+
+-- ---- expressions and location lists
+
+located-made : (name : ℕ) (r : Result (Option TreeValue) LocationRefusal) (tell : LocationRefusal → Refusal) → GivesLocated r → MakesNoPlace name (told_as tell (r >>= λ v. Ok (LocationAttributes.drafted v)))
+located-made name (Err refusal) tell gives = refused-made name (tell refusal)
+located-made name (Ok None) tell is_nothing = nothing-made name
+located-made name (Ok (Some _)) tell (is_expression bytes) = value-made name (done (expression bytes)) refl
+located-made name (Ok (Some _)) tell (is_list ls) = value-made name (done (locations ls)) refl
+
+located-told : (name : ℕ) (r : Result (Option TreeValue) LocationRefusal) (tell : LocationRefusal → Refusal) → GivesLocated r → MakesNoPlace name (told_as tell r >>= λ v. Ok (LocationAttributes.drafted v))
+located-told name (Err refusal) tell gives = refused-made name (tell refusal)
+located-told name (Ok None) tell is_nothing = nothing-made name
+located-told name (Ok (Some _)) tell (is_expression bytes) = value-made name (done (expression bytes)) refl
+located-told name (Ok (Some _)) tell (is_list ls) = value-made name (done (locations ls)) refl
+
+expression-made : (c : ExpressionSource) (e : Placed) (before : List (ℕ × Value)) (name : ℕ) (bytes : List ℕ) → MakesNoPlace name (told_as (of_location c.told.place) (expression_becomes c e before name bytes))
+unfolding expression_becomes
+expression-made c e before name bytes =
+    located-made name (value_of_expression name (in_force_at c e) (given_expression c e before bytes)) (of_location c.told.place) (expression-located name (in_force_at c e) (given_expression c e before bytes))
+
+locations-made : (c : ExpressionSource) (e : Placed) (name : ℕ) (v : Value) → MakesNoPlace name (locations_become of_list (of_location c.told.place) c e v)
+unfolding locations_become
+locations-made c e name v = go (told_as of_list (listed_by c e v))
+  where
+    go : (r : Result (List ListedExpression) Refusal) → MakesNoPlace name (r >>= λ xs. told_as (of_location c.told.place) (value_of_locations (in_force_at c e) xs) >>= λ value. Ok (LocationAttributes.drafted value))
+    go (Err refusal) = refused-made name refusal
+    go (Ok xs) = located-told name (value_of_locations (in_force_at c e) xs) (of_location c.told.place) (locations-located (in_force_at c e) xs)
+
+-- ---- extents
 
 intervals-name-none : (tag : ℕ) (is : List Interval) → Each IsNoReference (said_intervals tag is)
 intervals-name-none tag [] = (refl, tt)
@@ -129,36 +156,36 @@ attributes-name-none fs s e = go (begun_function s fs e)
     go (Some f) = (refl, (refl, tt))
     go None = extent-names-none fs e.tag (extent s e)
 
-module _ (fs : List Function) (sections : Sections) (h : UnitHeader) (s : UnitSource) (e : Placed) where
-  value-becomes : (name : ℕ) (v : Value) → MakesNoPlace name (value_becomes (code_rules fs sections h) s e name v)
+module _ (c : ExpressionSource) (s : UnitSource) (e : Placed) where
+  value-becomes : (before : List (ℕ × Value)) (name : ℕ) (v : Value) → MakesNoPlace name (value_becomes (rules_of_source c) s e before name v)
   unfolding value_becomes
-  value-becomes name (Values.constant form bits) = constant-made name s form bits
-  value-becomes name (Values.flag b) = value-made name (done (flag b)) refl
-  value-becomes name (Values.block bytes) = value-made name (done (block bytes)) refl
-  value-becomes name (Values.text bytes) = text-made name (reported Text Info e.entry.offset (text_named s.texts (Values.text bytes)))
-  value-becomes name (Values.text_reference form n) = text-made name (reported Text Info e.entry.offset (text_named s.texts (Values.text_reference form n)))
-  value-becomes name (Values.unit_reference n) = reference-made name (target_of s.entries e (Values.unit_reference n))
-  value-becomes name (Values.info_reference n) = reference-made name (target_of s.entries e (Values.info_reference n))
-  value-becomes name (Values.line_reference n) = nothing-made name
-  value-becomes name Values.dropped = nothing-made name
-  value-becomes name (Values.address a) = code-made fs (list_source sections h) e.entry.offset name (Values.address a)
-  value-becomes name (Values.address_index n) = code-made fs (list_source sections h) e.entry.offset name (Values.address_index n)
-  value-becomes name (Values.expression bytes) = code-made fs (list_source sections h) e.entry.offset name (Values.expression bytes)
-  value-becomes name (Values.range_reference n) = code-made fs (list_source sections h) e.entry.offset name (Values.range_reference n)
-  value-becomes name (Values.range_index n) = code-made fs (list_source sections h) e.entry.offset name (Values.range_index n)
-  value-becomes name (Values.location_reference n) = code-made fs (list_source sections h) e.entry.offset name (Values.location_reference n)
-  value-becomes name (Values.location_index n) = code-made fs (list_source sections h) e.entry.offset name (Values.location_index n)
+  value-becomes before name (Values.constant form bits) = constant-made name s form bits
+  value-becomes before name (Values.flag b) = value-made name (done (flag b)) refl
+  value-becomes before name (Values.block bytes) = value-made name (done (block bytes)) refl
+  value-becomes before name (Values.text bytes) = text-made name (reported Text Info e.entry.offset (text_named s.texts (Values.text bytes)))
+  value-becomes before name (Values.text_reference form n) = text-made name (reported Text Info e.entry.offset (text_named s.texts (Values.text_reference form n)))
+  value-becomes before name (Values.unit_reference n) = reference-made name (target_of s.entries e (Values.unit_reference n))
+  value-becomes before name (Values.info_reference n) = reference-made name (target_of s.entries e (Values.info_reference n))
+  value-becomes before name (Values.line_reference n) = nothing-made name
+  value-becomes before name Values.dropped = nothing-made name
+  value-becomes before name (Values.address a) = code-made c.functions (lists_of c) e.entry.offset name (Values.address a)
+  value-becomes before name (Values.address_index n) = code-made c.functions (lists_of c) e.entry.offset name (Values.address_index n)
+  value-becomes before name (Values.expression bytes) = expression-made c e before name bytes
+  value-becomes before name (Values.range_reference n) = code-made c.functions (lists_of c) e.entry.offset name (Values.range_reference n)
+  value-becomes before name (Values.range_index n) = code-made c.functions (lists_of c) e.entry.offset name (Values.range_index n)
+  value-becomes before name (Values.location_reference n) = locations-made c e name (Values.location_reference n)
+  value-becomes before name (Values.location_index n) = locations-made c e name (Values.location_index n)
 
-  bound-becomes : (before : List (ℕ × Value)) (a : ℕ × Value) → MakesNoPlace a.0 (bound_becomes (code_rules fs sections h) s e before a)
+  bound-becomes : (before : List (ℕ × Value)) (a : ℕ × Value) → MakesNoPlace a.0 (bound_becomes (rules_of_source c) s e before a)
   unfolding bound_becomes
-  bound-becomes before a = go (text_becomes (code_rules fs sections h) s e a.1) ((code_rules fs sections h).refused_bound e before a)
+  bound-becomes before a = go (text_becomes (rules_of_source c) s e a.1) ((rules_of_source c).refused_bound e before a)
     where
       go : (r : Result (Option DraftValue) Refusal) (o : Option Refusal) → MakesNoPlace a.0 (r >>= λ read. nothing_unless o)
       go (Err refusal) o = refused-made a.0 refusal
       go (Ok read) None = nothing-made a.0
       go (Ok read) (Some refusal) = refused-made a.0 refusal
 
-  attribute-becomes : (before : List (ℕ × Value)) (a : ℕ × Value) → MakesNoPlace a.0 (attribute_becomes (code_rules fs sections h) s e before a)
+  attribute-becomes : (before : List (ℕ × Value)) (a : ℕ × Value) → MakesNoPlace a.0 (attribute_becomes (rules_of_source c) s e before a)
   unfolding attribute_becomes
   attribute-becomes before a = go (is_dropped_name a.0) (a.0 == DW_AT_stmt_list) (is_bound_name a.0)
     where
@@ -170,21 +197,21 @@ module _ (fs : List Function) (sections : Sections) (h : UnitHeader) (s : UnitSo
         | true ↦ Ok None
         | false ↦ elim lines [
           | true ↦ Ok (table_becomes s e)
-          | false ↦ elim bound [ true ↦ bound_becomes (code_rules fs sections h) s e before a | false ↦ value_becomes (code_rules fs sections h) s e a.0 a.1 ]
+          | false ↦ elim bound [ true ↦ bound_becomes (rules_of_source c) s e before a | false ↦ value_becomes (rules_of_source c) s e before a.0 a.1 ]
         ]
       ])
       go true lines bound = nothing-made a.0
       go false true bound = table ((e.entry.depth == 0) && is_some s.table)
       go false false true = bound-becomes before a
-      go false false false = value-becomes a.0 a.1
+      go false false false = value-becomes before a.0 a.1
 
-  attributes-become : (before others : List (ℕ × Value)) → Each (λ a. (y : ℕ × DraftValue) → if_made a.0 a.1 ≡ Some y → SaysNoPlace y) (attributes_become (code_rules fs sections h) s e before others)
+  attributes-become : (before others : List (ℕ × Value)) → Each (λ a. (y : ℕ × DraftValue) → if_made a.0 a.1 ≡ Some y → SaysNoPlace y) (attributes_become (rules_of_source c) s e before others)
   unfolding attributes_become
   attributes-become before [] = tt
   attributes-become before (a ∷ others) = (attribute-becomes before a, attributes-become (before ++ (a ∷ [])) others)
 
-  bounds-no-place : Each SaysNoPlace ((code_rules fs sections h).bounds e)
-  bounds-no-place = each_mapped (λ a. (a.0, done a.1)) IsNoReference SaysNoPlace (λ a is. is) (range_attributes (list_source sections h) fs e.entry) (attributes-name-none fs (list_source sections h) e.entry)
+  bounds-no-place : Each SaysNoPlace ((rules_of_source c).bounds e)
+  bounds-no-place = each_mapped (λ a. (a.0, done a.1)) IsNoReference SaysNoPlace (λ a is. is) (range_attributes (lists_of c) c.functions e.entry) (attributes-name-none c.functions (lists_of c) e.entry)
 
   endianity-no-place : (big_endian : Bool) → Each SaysNoPlace (endianity big_endian e)
   endianity-no-place big_endian = go (big_endian && (e.entry.tag == DW_TAG_base_type))
@@ -193,19 +220,19 @@ module _ (fs : List Function) (sections : Sections) (h : UnitHeader) (s : UnitSo
       go true = (refl, tt)
       go false = tt
 
-  entry-no-place : (big_endian : Bool) → EntrySaysNoPlace (draft_of (code_rules fs sections h) s big_endian e)
+  entry-no-place : (big_endian : Bool) → EntrySaysNoPlace (draft_of (rules_of_source c) s big_endian e)
   unfolding attributes_made
   entry-no-place big_endian =
-      let bounds = (code_rules fs sections h).bounds e in
-      let others = filter_map (λ a. if_made a.0 a.1) (attributes_become (code_rules fs sections h) s e [] e.entry.attributes) in
+      let bounds = (rules_of_source c).bounds e in
+      let others = filter_map (λ a. if_made a.0 a.1) (attributes_become (rules_of_source c) s e [] e.entry.attributes) in
       each_both SaysNoPlace (bounds ++ others) (endianity big_endian e)
       (each_both SaysNoPlace bounds others bounds-no-place
-      (each_filter_map (λ a. if_made a.0 a.1) SaysNoPlace (attributes_become (code_rules fs sections h) s e [] e.entry.attributes) (attributes-become [] e.entry.attributes)))
+      (each_filter_map (λ a. if_made a.0 a.1) SaysNoPlace (attributes_become (rules_of_source c) s e [] e.entry.attributes) (attributes-become [] e.entry.attributes)))
       (endianity-no-place big_endian)
 
 unit-no-place : (m : Module) (u : Unit) (s : UnitSource) (big_endian : Bool) (es : List Placed) → UnitSaysNoPlace (unit_drafts (rules_of m u) s big_endian es)
 unit-no-place m u s big_endian [] = tt
-unit-no-place m u s big_endian (e ∷ es) = (entry-no-place m.functions m.sections u.header s e big_endian, unit-no-place m u s big_endian es)
+unit-no-place m u s big_endian (e ∷ es) = (entry-no-place (record { sections = m.sections; header = u.header; functions = m.functions; told = m.told; entries = (kept_of m).entries }) s e big_endian, unit-no-place m u s big_endian es)
 
 module-no-place : (big_endian : Bool) (m : Module) → ModuleSaysNoPlace (module_drafts big_endian m)
 unfolding carried_drafts

@@ -11,6 +11,7 @@ pub mod Items
 pub mod Widths
 pub mod Takes
 pub mod UnitWalk
+pub mod VariableCases
 pub mod Spellings
 pub mod TakesMore
 pub mod TakesValues
@@ -40,6 +41,11 @@ pub mod StandardCodes
 pub mod TreesSmall
 pub mod FieldCases
 pub mod RangeOutputs
+pub mod LocationOutputs
+pub mod LocationScopes
+pub mod LastAttributes
+pub mod LocationForest
+pub mod LocationsRefused
 pub mod WidestCases
 pub mod OutputSmall
 pub mod DraftsOnLiterals
@@ -55,6 +61,7 @@ pub mod SmallLists
 pub mod RunCases
 pub mod ListCases
 pub mod LocationCases
+pub mod LocationValues
 pub mod ExpressionPlaceCases
 pub mod ReadValuesParts
 pub mod ReadValuesForms

@@ -1,5 +1,5 @@
 -- The output for the small module carries it whole: lines, entries, the form of units, names and relocations.
-use Rattle.std.proofs.Common.{◌≡◌, ◌≢◌, ℕ, List, [], ◌∷◌, get_or, refl, ap, sym, ◌∙◌, inl, inr, arith, None, false}
+use Rattle.std.proofs.Common.{◌≡◌, ◌≢◌, ℕ, List, [], ◌∷◌, ◌++◌, get_or, refl, ap, sym, subst, ◌∙◌, inl, inr, arith, None, false, true≢false}
 use Rattle.std.specs.Prelude.{AllPairs, Contains}
 use Rattle.std.proofs.lemmas.List.Elements.{All-cons, All-nil}
 use Rattle.std.proofs.lemmas.List.Kept.{AllPairs-cons}
@@ -13,13 +13,15 @@ use Rattle.dwc_base.specs.OutputCarried.{OutputCarried}
 use Rattle.dwc_base.specs.Entries.{Entry}
 use Rattle.dwc_base.specs.Lists.{list_source}
 use Rattle.dwc_base.specs.Forests.{carried_units, drafts_of}
+use Rattle.dwc_base.specs.LocationsCarried.{CarriesLocations, LocationsCarried, expressions_of}
 use Rattle.dwc_base.specs.ScopesCarried.{scope_to_keep, CarriesScope, ScopesCarried}
 use Rattle.dwc_base.specs.Trees.{TreeEntry}
-use Rattle.dwc_base.proofs.ForestLaws.{none_is}
+use Rattle.dwc_base.specs.Values.{Value, is_location_name}
+use Rattle.dwc_base.proofs.ForestLaws.{Each, none_is}
 use Rattle.dwc_base.proofs.InLists.{IsIn, contains-in}
 use Rattle.dwc_base.proofs.LineTables.{function_small}
 use Rattle.dwc_base.proofs.Readings.{sections_small, header_small}
-use Rattle.dwc_base.proofs.CarriedSmall.{unit_small, unit_out, output-read, output_small, compilation_small, lines_carried-small}
+use Rattle.dwc_base.proofs.CarriedSmall.{module_small, unit_small, unit_out, output-read, output_small, compilation_small, lines_carried-small}
 use Rattle.dwc_base.proofs.TreesSmall.{tree_small, forest-small, carries-small}
 use Rattle.dwc_base.proofs.FieldCases.{related-small}
 
@@ -84,6 +86,27 @@ pub scopes-small : ScopesCarried (drafts_of false) (carried_units compilation_sm
 unfolding drafts_on_literals
 scopes-small = (((λ e among made. carries-no_scope e (said_at 0) among), ((λ e among made. carries-no_scope e (said_at 1) among), tt)), tt)
 
+-- none of their attributes has the name of a location
+none-named : {A : Type 0} (P : A → Type 0) (before after as' : List A) (a : A) → Each P as' → as' ≡ before ++ a ∷ after → P a
+none-named P [] after as' a each are = (subst (Each P) are each).0
+none-named P (b ∷ before) after as' a each are = none-named P before after (before ++ a ∷ after) a (subst (Each P) are each).1 refl
+
+Unnamed : ℕ × Value → Type 0
+Unnamed a = is_location_name a.0 ≡ false
+
+carries-no_location : (e : Entry) (out : TreeEntry) → Contains unit_small.entries e → CarriesLocations (expressions_of (record { module_of = module_small; unit = unit_small })) (record { unit = unit_small.header.offset; entry = e }) out
+unfolding Unnamed
+carries-no_location e out among = λ before after a plain are named last. absurd (true≢false (sym named ∙ none-named Unnamed before after e.attributes a (here e (contains-in unit_small.entries e among)) are))
+  where
+    here : (e : Entry) → IsIn e unit_small.entries → Each Unnamed e.attributes
+    here e (inl same) = rw same (refl, tt)
+    here e (inr (inl same)) = rw same (refl, (refl, tt))
+    here e (inr (inr none)) = absurd none
+
+pub locations-small : LocationsCarried (drafts_of false) (carried_units compilation_small) (tree_small ∷ [])
+unfolding drafts_on_literals
+locations-small = (((λ e among made. carries-no_location e (said_at 0) among), ((λ e among made. carries-no_location e (said_at 1) among), tt)), tt)
+
 output_carried-small : OutputCarried compilation_small output_small
 output_carried-small = record {
   lines = lines_carried-small;
@@ -92,6 +115,7 @@ output_carried-small = record {
   trees = carries-small;
   targets = targets-small;
   scopes = scopes-small;
+  locations = locations-small;
   texts = texts-small;
   form = form-small;
   names = names-small;

@@ -5,10 +5,9 @@ use Rattle.dwc_base.specs.declared.records.Address.TheVariants.{Constant, Symbol
 use Rattle.dwc_base.specs.declared.records.Endian.TheVariants.{Little}
 use Rattle.dwc_base.specs.declared.section_name.SectionName.TheVariants.{Info, Ranges, Rnglists}
 use Rattle.dwc_base.specs.declared.faults.What.TheVariants.{AddressValue, RangeList}
-use Rattle.dwc_base.specs.declared.faults.Kind.TheVariants.{NotBuilt}
-use Rattle.dwc_base.specs.declared.constants.TheConstants.{DW_AT_frame_base, DW_AT_high_pc, DW_AT_location, DW_AT_low_pc, DW_AT_ranges, DW_AT_sibling, DW_AT_start_scope, DW_FORM_data4, DW_FORM_data8, DW_FORM_udata, DW_TAG_compile_unit, DW_TAG_lexical_block, DW_TAG_subprogram, DW_TAG_variable}
-use Rattle.dwc_base.specs.Sections.{unreadable, unsupported}
-use Rattle.dwc_base.specs.Values.{Value, address, address_index, constant, expression, flag, location_index, location_reference, range_reference}
+use Rattle.dwc_base.specs.declared.constants.TheConstants.{DW_AT_high_pc, DW_AT_low_pc, DW_AT_ranges, DW_AT_sibling, DW_AT_start_scope, DW_FORM_data4, DW_FORM_data8, DW_FORM_udata, DW_TAG_compile_unit, DW_TAG_lexical_block, DW_TAG_subprogram}
+use Rattle.dwc_base.specs.Sections.{unreadable}
+use Rattle.dwc_base.specs.Values.{Value, address, address_index, constant, flag, range_reference}
 use Rattle.dwc_base.specs.Entries.{Entry}
 use Rattle.dwc_base.specs.Functions.{Function}
 use Rattle.dwc_base.specs.Trees as tree
@@ -277,15 +276,6 @@ subprogram-order = refl
 subprogram-sums : subprogram_faults (source_of 5 4 (Constant 0) [] Little Rnglists (0x07 ∷ 5 ∷ 0 ∷ 0 ∷ 0 ∷ 0xFF ∷ 0xFF ∷ 0xFF ∷ 0xFF ∷ 0xFF ∷ 0xFF ∷ 0xFF ∷ 0xFF ∷ 0xFF ∷ 0x01 ∷ 0x00 ∷ []) []) (an_entry DW_TAG_subprogram (listed 0 ∷ [])) ≡ []
 unfolding ranges_on_literals
 subprogram-sums = refl
-
--- location lists and expressions are not built yet, at the entry's offset, unless their names drop them
-abbrev pub unbuilt : ListRefusal
-unbuilt = of_place (unsupported NotBuilt 16)
-
-not-built : refused_of DW_TAG_variable ((DW_AT_location, expression []) ∷ (DW_AT_frame_base, expression []) ∷ (DW_AT_location, location_reference 0) ∷ (DW_AT_location, location_index 0) ∷ (DW_AT_sibling, expression []) ∷ (DW_AT_location, constant DW_FORM_data4 0) ∷ (DW_AT_low_pc, expression []) ∷ (DW_AT_ranges, location_index 0) ∷ [])
-    ≡ unbuilt ∷ unbuilt ∷ unbuilt ∷ unbuilt ∷ unbuilt ∷ unbuilt ∷ []
-unfolding ranges_on_literals
-not-built = refl
 
 -- a function of 2 ^ 31 bytes is too long, if it has a symbol
 lengths : map is_long (a_function 3 (Some 0) 2 13 0x7FFFFFFF [] ∷ a_function 4 (Some 0) 2 13 0x80000000 [] ∷ a_function 5 None 2 13 0x80000000 [] ∷ []) ≡ false ∷ true ∷ false ∷ []

@@ -10,7 +10,7 @@ use Rattle.dwc_base.specs.Sections.{unreadable}
 use Rattle.dwc_base.specs.Outputs.{OutputRelocation, OutputSection, function, section, output_sections}
 use Rattle.dwc_base.specs.Trees.{Tree, ranges}
 use Rattle.dwc_base.specs.TreeReading.{trees, ranges_read, output_lists, CarriesTrees}
-use Rattle.dwc_base.specs.Fields.{an_address, offset_in, fields_at, fields_of_entry, fields_of_ranges, fields_of_section, relocations_of_fields}
+use Rattle.dwc_base.specs.Fields.{an_address, offset_in, fields_at, fields_of_entry, fields_of_named, fields_of_section, relocations_of_fields}
 use Rattle.dwc_base.specs.WidestTrees.{widest_of_trees}
 
 -- a compile unit of addresses of 4 bytes with its ranges, and a block with an empty list
@@ -64,11 +64,11 @@ cut-ranges = refl
 fields-ranges : fields_of_section (output_sections Little output_ranges) Ranges ≡
     record { offset = 0; size = 4; held = an_address (Symbol 3 (pos 0)) } ∷ record { offset = 4; size = 4; held = an_address (Symbol 3 (pos 7)) }
     ∷ record { offset = 8; size = 4; held = an_address (Symbol 6 (negsuc 0)) } ∷ record { offset = 12; size = 4; held = an_address (Symbol 6 (pos 2)) } ∷ []
-unfolding lists_on_literals fields_of_section fields_of_ranges
+unfolding lists_on_literals fields_of_section fields_of_named
 fields-ranges = refl
 
 related-ranges : relocations_of_fields (fields_of_section (output_sections Little output_ranges) Ranges) ≡ relocations_ranges
-unfolding lists_on_literals fields_of_section fields_of_ranges
+unfolding lists_on_literals fields_of_section fields_of_named
 related-ranges = refl
 
 fields-of_info : fields_of_section (output_sections Little output_ranges) Info ≡

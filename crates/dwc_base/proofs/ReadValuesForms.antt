@@ -54,13 +54,13 @@ form-is code form e = coded-row IsFormOf forms code form forms-are e
 -- ---- values
 
 section_offset-read : (name n : ℕ) → IsReadValue name (section_offset name n)
-section_offset-read name n = go (is_location_name name) (name == DW_AT_stmt_list) (is_range_name name) refl
+section_offset-read name n = go (is_location_name name) (name == DW_AT_stmt_list) (is_range_name name) refl refl
   where
-    go : (a b c : Bool) → is_range_name name ≡ c → IsReadValue name (if a then location_reference n else (if b then line_reference n else (if c then range_reference n else dropped)))
-    go true b c e = tt
-    go false true c e = tt
-    go false false true e = e
-    go false false false e = tt
+    go : (a b c : Bool) → is_location_name name ≡ a → is_range_name name ≡ c → IsReadValue name (if a then location_reference n else (if b then line_reference n else (if c then range_reference n else dropped)))
+    go true b c l e = l
+    go false true c l e = tt
+    go false false true l e = e
+    go false false false l e = tt
 
 constant_value-read : (version name code n : ℕ) → is_constant_form code ≡ true → n < constant_bound code → IsReadValue name (constant_value version name code n)
 constant_value-read version name code n known small = go ((code == DW_FORM_data4) && nat_lt version 4 && (is_location_name name || (name == DW_AT_stmt_list) || is_range_name name))
@@ -77,11 +77,11 @@ block_value-read name bytes = go (is_expression_name name) refl
     go false e = e
 
 location_index-read : (name n : ℕ) → IsReadValue name (if is_location_name name then location_index n else dropped)
-location_index-read name n = go (is_location_name name)
+location_index-read name n = go (is_location_name name) refl
   where
-    go : (b : Bool) → IsReadValue name (if b then location_index n else dropped)
-    go true = tt
-    go false = tt
+    go : (b : Bool) → is_location_name name ≡ b → IsReadValue name (if b then location_index n else dropped)
+    go true e = e
+    go false e = tt
 
 range_index-read : (name n : ℕ) → IsReadValue name (if is_range_name name then range_index n else dropped)
 range_index-read name n = go (is_range_name name) refl

@@ -5,13 +5,14 @@ use Rattle.dwc_base.proofs.SmallModule.{abbreviations_small, info_small, line_sm
 use Rattle.dwc_base.proofs.RunCases.{a_function}
 use Rattle.dwc_base.proofs.Variants.{module_with, info_0, line_9, abbreviations_variable}
 use Rattle.dwc_base.specs.declared.records.Endian.TheVariants.{Little}
-use Rattle.dwc_base.specs.declared.faults.What.TheVariants.{LineTable as LineTableRead, Abbreviation, UnitHeader as UnitHeaderRead, Entry as EntryRead, RangeList}
-use Rattle.dwc_base.specs.declared.faults.Kind.TheVariants.{Compressed, NotBuilt}
-use Rattle.dwc_base.specs.declared.section_name.SectionName.TheVariants.{Line, Abbrev, Info, Ranges}
+use Rattle.dwc_base.specs.declared.faults.What.TheVariants.{LineTable as LineTableRead, Abbreviation, UnitHeader as UnitHeaderRead, Entry as EntryRead, RangeList, LocationList}
+use Rattle.dwc_base.specs.declared.faults.Kind.TheVariants.{Compressed}
+use Rattle.dwc_base.specs.declared.section_name.SectionName.TheVariants.{Line, Abbrev, Info, Ranges, Loc}
 use Rattle.dwc_base.specs.Sections.{unreadable, unsupported}
 use Rattle.dwc_base.specs.Carried.{Module}
 use Rattle.dwc_base.specs.Refusals.{Refusal, of_place, missing_file, long_function}
 use Rattle.dwc_base.specs.Forests.{first_refusal}
+use Rattle.dwc_base.specs.Compiled.{nothing_told}
 
 abbrev pub refusal_of : List Module → Option Refusal
 refusal_of ms = first_refusal (record { order = Little; pointer_bytes = 8; modules = ms })
@@ -72,8 +73,8 @@ range_list : refusal_of (module_with abbreviations_ranges (0x12 ∷ 0x00 ∷ 0x0
 unfolding drafts_on_literals
 range_list = refl
 
--- A kept root with a `low_pc`, one with `ranges` that are not there, and one with a location list: the lists are told behind the
--- line table, and what is not built at the root.
+-- A kept root with a `low_pc`, one with `ranges` that are not there, and one with a location list that is not: the lists are told
+-- behind the line table.
 abbrev pub abbreviations_begun : ℕ → ℕ → List ℕ
 abbreviations_begun name form = 0x01 ∷ 0x11 ∷ 0x01 ∷ 0x10 ∷ 0x17 ∷ name ∷ form ∷ 0x00 ∷ 0x00 ∷ 0x02 ∷ 0x2E ∷ 0x00 ∷ 0x11 ∷ 0x01 ∷ 0x12 ∷ 0x06 ∷ 0x00 ∷ 0x00 ∷ 0x00 ∷ []
 
@@ -88,7 +89,7 @@ root_ranges : refusal_of (module_with (abbreviations_begun 0x55 0x17) info_begun
 unfolding drafts_on_literals
 root_ranges = refl
 
-root_locations : refusal_of (module_with (abbreviations_begun 0x02 0x17) info_begun line_small ∷ []) ≡ Some (of_place (unsupported NotBuilt 11))
+root_locations : refusal_of (module_with (abbreviations_begun 0x02 0x17) info_begun line_small ∷ []) ≡ Some (of_place (unreadable LocationList Loc 0))
 unfolding drafts_on_literals
 root_locations = refl
 
@@ -98,7 +99,7 @@ root_behind_lines = refl
 
 -- A function that is too long comes first, of whichever module.
 long_module : Module
-long_module = record { sections = (module_with abbreviations_small info_small line_small).sections; functions = a_function 0 (Some 0) 2 13 0x80000000 [] ∷ []; compressed = None }
+long_module = record { sections = (module_with abbreviations_small info_small line_small).sections; functions = a_function 0 (Some 0) 2 13 0x80000000 [] ∷ []; told = nothing_told; compressed = None }
 
 function_first : refusal_of (module_with abbreviations_small info_small (0x38 ∷ 0x00 ∷ []) ∷ long_module ∷ []) ≡ Some long_function
 unfolding drafts_on_literals long_module

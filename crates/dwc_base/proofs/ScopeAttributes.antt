@@ -86,13 +86,13 @@ module _ (rules : CodeRules Refusal) (s : UnitSource) (e : Placed) where
         | true ↦ Ok None
         | false ↦ elim lines [
           | true ↦ Ok (table_becomes s e)
-          | false ↦ elim bound [ true ↦ bound_becomes rules s e before a | false ↦ value_becomes rules s e a.0 a.1 ]
+          | false ↦ elim bound [ true ↦ bound_becomes rules s e before a | false ↦ value_becomes rules s e before a.0 a.1 ]
         ]
       ])
       go true lines named bound is = λ y made. absurd (none_is y made)
       go false true named bound is = other-made a.0 (Ok (table_becomes s e)) (ap is_bound_name (eqb-true a.0 DW_AT_stmt_list named))
       go false false named true is = bound-made a.0 (text_becomes rules s e a.1) (rules.refused_bound e before a)
-      go false false named false is = other-made a.0 (value_becomes rules s e a.0 a.1) is
+      go false false named false is = other-made a.0 (value_becomes rules s e before a.0 a.1) is
 
   attributes-other : (before others : List (ℕ × Value)) → Each (λ a. (y : ℕ × DraftValue) → if_made a.0 a.1 ≡ Some y → IsOther y) (attributes_become rules s e before others)
   unfolding attributes_become

@@ -17,6 +17,7 @@ use Rattle.dwc_base.specs.ReachedEntries.{info_faults}
 use Rattle.dwc_base.specs.Scopes.{lineage, scope_in_force, frame_in_force, base_in_force, given_by, left_for, top_of, top_at, scope_given}
 use Rattle.dwc_base.specs.ScopesCarried.{source_of_byte, covered_intervals, cover_byte}
 use Rattle.dwc_base.specs.RangeRefusals.{subprogram_faults}
+use Rattle.dwc_base.specs.Compiled.{nothing_told}
 use Rattle.dwc_base.proofs.OnLists.{ranges_on_literals}
 use Rattle.dwc_base.proofs.SmallLists.{at_unit}
 use Rattle.dwc_base.proofs.RunCases.{two_runs}
@@ -120,7 +121,7 @@ unfolding ranges_on_literals
 unit-lists = refl
 
 -- the second shows code by its start, and keeps its root
-unit-kept : map (λ p. p.entry.offset) (kept_of (record { sections = bytes_of_unit 1 0; functions = small_functions; compressed = None })).kept ≡ 12 ∷ 24 ∷ []
+unit-kept : map (λ p. p.entry.offset) (kept_of (record { sections = bytes_of_unit 1 0; functions = small_functions; told = nothing_told; compressed = None })).kept ≡ 12 ∷ 24 ∷ []
 unfolding ranges_on_literals
 unit-kept = refl
 

@@ -7,6 +7,7 @@ use Rattle.std.proofs.lemmas.List.{append-nil}
 use Rattle.std.proofs.lemmas.List.Elements.{All-head, All-tail}
 use Rattle.dwc_base.specs.declared.constants.TheConstants.{DW_TAG_pointer_type, DW_TAG_reference_type}
 use Rattle.dwc_base.specs.Entries.{Entry}
+use Rattle.dwc_base.specs.Compiled.{ToldModule}
 use Rattle.dwc_base.specs.Functions.{Function}
 use Rattle.dwc_base.specs.Kept.{Placed}
 use Rattle.dwc_base.specs.RawLists.{ListSource}
@@ -31,11 +32,11 @@ use Rattle.dwc_base.proofs.ScopeAttributes.{attributes-behind, entry_with, cover
 
 -- ---- lists that are made of one list
 
-zip-made : {A B C D : Type 0} (R : B → D → Type 0) (f : A → B) (g : A → C) (h : C → D) (xs : List A) → ((x : A) → IsIn x xs → R (f x) (h (g x))) → AllZip R (map f xs) (map h (map g xs))
+pub zip-made : {A B C D : Type 0} (R : B → D → Type 0) (f : A → B) (g : A → C) (h : C → D) (xs : List A) → ((x : A) → IsIn x xs → R (f x) (h (g x))) → AllZip R (map f xs) (map h (map g xs))
 zip-made R f g h [] each = tt
 zip-made R f g h (x ∷ xs) each = (each x (inl refl), zip-made R f g h xs (λ y i. each y (inr i)))
 
-zip-both : {A B : Type 0} (R : A → B → Type 0) (xs : List A) (ys : List B) (zs : List A) (ws : List B) → AllZip R xs ys → AllZip R zs ws → AllZip R (xs ++ zs) (ys ++ ws)
+pub zip-both : {A B : Type 0} (R : A → B → Type 0) (xs : List A) (ys : List B) (zs : List A) (ws : List B) → AllZip R xs ys → AllZip R zs ws → AllZip R (xs ++ zs) (ys ++ ws)
 zip-both R [] [] zs ws h k = k
 zip-both R [] (y ∷ ys) zs ws h k = absurd h
 zip-both R (x ∷ xs) [] zs ws h k = absurd h
@@ -66,17 +67,17 @@ has-scope s fs e scope kept = go ((e.tag == DW_TAG_pointer_type) || (e.tag == DW
 
 module _ (fs : List Function) (keep : TranslationsKeepScopes fs) (numbered : AreNumbered fs) where
   -- The entry that is made of a kept one carries its scope.
-  entry-carries : (sections : Sections) (h : UnitHeader) (s : UnitSource) (big_endian : Bool) (places : Goal → Option (ℕ × ℕ)) (p : Placed)
-      → CarriesScope (list_source sections h) fs p.entry (settled_entry places (draft_of (code_rules fs sections h) s big_endian p))
-  entry-carries sections h s big_endian places p scope kept =
+  entry-carries : (told : ToldModule) (es : List Placed) (sections : Sections) (h : UnitHeader) (s : UnitSource) (big_endian : Bool) (places : Goal → Option (ℕ × ℕ)) (p : Placed)
+      → CarriesScope (list_source sections h) fs p.entry (settled_entry places (draft_of (code_rules told fs sections h es) s big_endian p))
+  entry-carries told es sections h s big_endian places p scope kept =
       let lists = list_source sections h in
       let has = has-scope lists fs p.entry scope kept in
       let law : KeepsScope fs (filter_map wasm_interval has.over) (native_of_intervals fs has.over) = keep numbered has.over in
-      let out : TreeEntry = settled_entry places (draft_of (code_rules fs sections h) s big_endian p) in
+      let out : TreeEntry = settled_entry places (draft_of (code_rules told fs sections h es) s big_endian p) in
       let said = extent-said lists fs p.entry has.over has.begins_nowhere has.has in
       let covered : covered_intervals out ≡ native_of_intervals fs has.over =
-      covered-behind out (range_attributes lists fs p.entry) (filter_map (settled places) (attributes_made (code_rules fs sections h) s big_endian p))
-      (attributes-behind (code_rules fs sections h) s big_endian p places (range_attributes lists fs p.entry) refl)
+      covered-behind out (range_attributes lists fs p.entry) (filter_map (settled places) (attributes_made (code_rules told fs sections h es) s big_endian p))
+      (attributes-behind (code_rules told fs sections h es) s big_endian p places (range_attributes lists fs p.entry) refl)
       ∙ ap (λ as'. covered_intervals (entry_with out as')) said
       ∙ covered-extent fs out p.entry.tag has.over law.inside in
       subst (λ is. KeepsScope fs scope is) (sym covered) (subst (λ ws. KeepsScope fs ws (native_of_intervals fs has.over)) (sym has.is) law)
@@ -84,7 +85,7 @@ module _ (fs : List Function) (keep : TranslationsKeepScopes fs) (numbered : Are
 -- ---- units and modules
 
 -- an entry is made of another one where it has that one's offset
-made-at : (offset : ℕ) (d : Draft) (own : ℕ) → d.origin ≡ Some (own, itself) → is_made_of offset itself d ≡ true → own ≡ offset
+pub made-at : (offset : ℕ) (d : Draft) (own : ℕ) → d.origin ≡ Some (own, itself) → is_made_of offset itself d ≡ true → own ≡ offset
 made-at offset d own origin made = go (own == offset) refl (rw origin at made)
   where
     go : (b : Bool) → (own == offset) ≡ b → (b && true) ≡ true → own ≡ offset
@@ -101,7 +102,7 @@ module _ (big_endian : Bool) (m : Module) (keep : TranslationsKeepScopes m.funct
       (λ p i e among made.
       let same : p.entry ≡ e = same-entry m.sections u p e (carried-read m u carried) (kept-placed m u p i) (contains-in u.entries e among) (made-at e.offset (draft p) p.entry.offset refl made) in
       subst (λ (x : Entry). CarriesScope lists m.functions x (settled_entry places (draft p))) same
-      (entry-carries m.functions keep numbered m.sections u.header (source_of (kept_of m) u) big_endian places p))
+      (entry-carries m.functions keep numbered m.told (kept_of m).entries m.sections u.header (source_of (kept_of m) u) big_endian places p))
 
   module-carries : (number : ℕ) → ScopesCarried (drafts_of big_endian) (carried_units_of m) (map (settled_unit (place_of_goal number (module_drafts big_endian m))) (units_drafted (module_drafts big_endian m)))
   unfolding carried_drafts

@@ -10,9 +10,10 @@ use Rattle.dwc_base.specs.declared.records.Endian.TheVariants.{Little}
 use Rattle.dwc_base.specs.Carried.{Module}
 use Rattle.dwc_base.specs.Forests.{carried_units_of}
 use Rattle.dwc_base.specs.OutputCarried.{widest}
+use Rattle.dwc_base.specs.Compiled.{nothing_told}
 
 abbrev pub module_with : List ℕ → List ℕ → List ℕ → Module
-module_with a i l = record { sections = three_sections a i l; functions = function_small ∷ []; compressed = None }
+module_with a i l = record { sections = three_sections a i l; functions = function_small ∷ []; told = nothing_told; compressed = None }
 
 -- a row names file 9
 abbrev pub line_9 : List ℕ

@@ -26,12 +26,12 @@ pub record UnitSource : Type 0 where
 
 -- The rules for what speaks of code, E being what they can refuse: what a fault of a place is; of `low_pc`, `high_pc` and `ranges`
 -- what is written in front, and what is refused of each where it stands, behind the attributes before it; what an address, a list or
--- an expression becomes; and what is refused of an entry behind its attributes.
+-- an expression becomes, behind those before it; and what is refused of an entry behind its attributes.
 pub record CodeRules (E : Type 0) : Type 0 where
   pub of_fault : Fault → E
   pub bounds : Placed → List (ℕ × DraftValue)
   pub refused_bound : Placed → List (ℕ × Value) → ℕ × Value → Option E
-  pub other : Placed → ℕ × Value → Result (Option DraftValue) E
+  pub other : Placed → List (ℕ × Value) → ℕ × Value → Result (Option DraftValue) E
   pub behind : Placed → List E
 
 -- ---- names
@@ -81,17 +81,17 @@ abbrev pub text_becomes : {E : Type 0} → CodeRules E → UnitSource → Placed
 text_becomes rules s e v = text_drafted rules.of_fault (reported Text Info e.entry.offset (text_named s.texts v))
 
 -- what a value becomes, under a name that does not decide alone
-unfoldable pub value_becomes : {E : Type 0} → CodeRules E → UnitSource → Placed → ℕ → Value → Result (Option DraftValue) E
-value_becomes rules s e name (Values.constant form bits) = Ok (option_map done (constant_becomes s name form bits))
-value_becomes rules s e name (Values.flag b) = Ok (Some (done (flag b)))
-value_becomes rules s e name (Values.block bytes) = Ok (Some (done (block bytes)))
-value_becomes rules s e name (Values.text bytes) = text_becomes rules s e (Values.text bytes)
-value_becomes rules s e name (Values.text_reference form n) = text_becomes rules s e (Values.text_reference form n)
-value_becomes rules s e name (Values.unit_reference n) = Ok (reference_becomes s e (Values.unit_reference n))
-value_becomes rules s e name (Values.info_reference n) = Ok (reference_becomes s e (Values.info_reference n))
-value_becomes rules s e name (Values.line_reference n) = Ok None
-value_becomes rules s e name Values.dropped = Ok None
-value_becomes rules s e name v = rules.other e (name, v)
+unfoldable pub value_becomes : {E : Type 0} → CodeRules E → UnitSource → Placed → List (ℕ × Value) → ℕ → Value → Result (Option DraftValue) E
+value_becomes rules s e before name (Values.constant form bits) = Ok (option_map done (constant_becomes s name form bits))
+value_becomes rules s e before name (Values.flag b) = Ok (Some (done (flag b)))
+value_becomes rules s e before name (Values.block bytes) = Ok (Some (done (block bytes)))
+value_becomes rules s e before name (Values.text bytes) = text_becomes rules s e (Values.text bytes)
+value_becomes rules s e before name (Values.text_reference form n) = text_becomes rules s e (Values.text_reference form n)
+value_becomes rules s e before name (Values.unit_reference n) = Ok (reference_becomes s e (Values.unit_reference n))
+value_becomes rules s e before name (Values.info_reference n) = Ok (reference_becomes s e (Values.info_reference n))
+value_becomes rules s e before name (Values.line_reference n) = Ok None
+value_becomes rules s e before name Values.dropped = Ok None
+value_becomes rules s e before name v = rules.other e before (name, v)
 
 -- nothing, unless it is refused
 abbrev pub nothing_unless : {E : Type 0} → Option E → Result (Option DraftValue) E
@@ -113,7 +113,7 @@ attribute_becomes rules s e before a =
       | true ↦ Ok None
       | false ↦ elim (a.0 == DW_AT_stmt_list) [
         | true ↦ Ok (table_becomes s e)
-        | false ↦ elim (is_bound_name a.0) [ true ↦ bound_becomes rules s e before a | false ↦ value_becomes rules s e a.0 a.1 ]
+        | false ↦ elim (is_bound_name a.0) [ true ↦ bound_becomes rules s e before a | false ↦ value_becomes rules s e before a.0 a.1 ]
       ]
     ]
 

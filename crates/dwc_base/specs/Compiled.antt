@@ -1,5 +1,6 @@
 -- What a code generator tells of where values lie. (No standard has this: it is the code generator's own.)
-use Rattle.std.specs.Prelude.{ℕ, ℤ}
+use Rattle.std.specs.Prelude.{ℕ, ◌-◌, ℤ, List, [], Option, None, slice_get}
+use Rattle.std.specs.Option.{unwrap_or}
 
 -- where a value lies: in a register of the code generator, or in memory at an offset from the canonical frame address
 pub data Place : Type 0 where
@@ -18,3 +19,19 @@ pub data Memory : Type 0 where
   no_memory : Memory
   defined : ℕ → Memory
   imported : ℕ → ℕ → Memory
+
+-- What a code generator tells of a module beside its functions: the module's place among all; where the values of each function lie,
+-- by its number and their labels; the linear memory; and the DWARF numbers of the target's registers.
+pub record ToldModule : Type 0 where
+  pub place : ℕ
+  pub values : ℕ → ℕ → List LabelRange
+  pub memory : Memory
+  pub register : ℕ → Option ℕ
+
+-- where the values lie of functions whose numbers follow one another, by these: the values of each in order, the first of them with a number
+abbrev pub values_from : ℕ → List (ℕ → List LabelRange) → ℕ → ℕ → List LabelRange
+values_from first functions number = unwrap_or (slice_get functions (number - first)) (λ label. [])
+
+-- of a module of which nothing is told
+abbrev pub nothing_told : ToldModule
+nothing_told = record { place = 0; values = λ function label. []; memory = no_memory; register = λ r. None }

@@ -1,16 +1,26 @@
 -- What of the code of a unit's entries is carried: which entries are required, what is refused to know that, and what the
 -- attributes of the kept ones become. (DWARF 4 and 5, section 2.17; this project's own rules.)
-use Rattle.std.specs.Prelude.{List, Bool}
+use Rattle.std.specs.Prelude.{ℕ, List, [], map, Bool, Option, option_map, Result}
 use Rattle.dwc_base.specs.Sections.{Sections, Fault}
 use Rattle.dwc_base.specs.Units.{UnitHeader}
+use Rattle.dwc_base.specs.Values.{Value, expression, location_reference, location_index}
 use Rattle.dwc_base.specs.Entries.{Entry}
+use Rattle.dwc_base.specs.Kept.{Placed}
 use Rattle.dwc_base.specs.Functions.{Function}
+use Rattle.dwc_base.specs.Compiled.{ToldModule}
+use Rattle.dwc_base.specs.Drafts.{DraftValue, done}
 use Rattle.dwc_base.specs.Lists.{list_source, ListRefusal}
 use Rattle.dwc_base.specs.Lists as Lists
 use Rattle.dwc_base.specs.RangeKept as RangeKept
-use Rattle.dwc_base.specs.RangeRefusals.{subprogram_faults}
-use Rattle.dwc_base.specs.RangeRules.{range_rules}
-use Rattle.dwc_base.specs.Refusals.{Refusal, of_place, long_range}
+use Rattle.dwc_base.specs.RangeAttributes.{range_attributes}
+use Rattle.dwc_base.specs.RangeRefusals.{subprogram_faults, bound_refusal}
+use Rattle.dwc_base.specs.RangeRules.{code_becomes, told_as}
+use Rattle.dwc_base.specs.BuiltExpressions.{BuildRefusal, bad_label_range, without_memory, jump_too_large}
+use Rattle.dwc_base.specs.BuiltExpressions as Builds
+use Rattle.dwc_base.specs.LocationAttributes.{LocationRefusal}
+use Rattle.dwc_base.specs.LocationAttributes as Located
+use Rattle.dwc_base.specs.LocationRules.{ExpressionSource, lists_of, expression_becomes, expression_refused, locations_become}
+use Rattle.dwc_base.specs.Refusals.{Refusal, of_place, long_range, bad_label, lacks_memory, unmapped_register, long_jump}
 use Rattle.dwc_base.specs.Clones.{CodeRules}
 
 -- whether an entry of a unit is required, by its begin or by its range list
@@ -26,6 +36,40 @@ abbrev pub of_list : ListRefusal → Refusal
 of_list (Lists.of_place fault) = of_place fault
 of_list Lists.long_range = long_range
 
--- The rules for the code of a unit's entries.
-abbrev pub code_rules : List Function → Sections → UnitHeader → CodeRules Refusal
-code_rules fs s h = range_rules of_list (list_source s h) fs
+-- what an expression is refused for that is built for the module at a place
+abbrev pub of_build : ℕ → BuildRefusal → Refusal
+of_build place (bad_label_range label) = bad_label label
+of_build place without_memory = lacks_memory place
+of_build place (Builds.unmapped_register r) = unmapped_register r
+of_build place jump_too_large = long_jump
+
+-- what one is refused for that is read and built
+abbrev pub of_location : ℕ → LocationRefusal → Refusal
+of_location place (Located.of_place fault) = of_place fault
+of_location place (Located.of_build refusal) = of_build place refusal
+
+-- What an attribute becomes that speaks of code and is no bound, behind some others: an expression, a location list, an address or
+-- a range list.
+abbrev pub code_value_becomes : ExpressionSource → Placed → List (ℕ × Value) → ℕ → Value → Result (Option DraftValue) Refusal
+code_value_becomes c e before name (expression bytes) = told_as (of_location c.told.place) (expression_becomes c e before name bytes)
+code_value_becomes c e before name (location_reference n) = locations_become of_list (of_location c.told.place) c e (location_reference n)
+code_value_becomes c e before name (location_index i) = locations_become of_list (of_location c.told.place) c e (location_index i)
+code_value_becomes c e before name v = told_as of_list (code_becomes (lists_of c) c.functions e.entry.offset v)
+
+-- what is refused of a bound behind some others; an expression in its place is read, and nothing becomes of it
+abbrev pub bound_value_refused : ExpressionSource → Placed → List (ℕ × Value) → ℕ → Value → Option Refusal
+bound_value_refused c e before name (expression bytes) = option_map (of_location c.told.place) (expression_refused c e before name bytes)
+bound_value_refused c e before name v = option_map of_list (bound_refusal (lists_of c) c.functions e.entry before (name, v))
+
+-- The rules for the code of a unit's entries, of which the module has some.
+abbrev pub rules_of_source : ExpressionSource → CodeRules Refusal
+rules_of_source c = record {
+  of_fault = of_place;
+  bounds = λ e. map (λ a. (a.0, done a.1)) (range_attributes (lists_of c) c.functions e.entry);
+  refused_bound = λ e before a. bound_value_refused c e before a.0 a.1;
+  other = λ e before a. code_value_becomes c e before a.0 a.1;
+  behind = λ e. [];
+}
+
+abbrev pub code_rules : ToldModule → List Function → Sections → UnitHeader → List Placed → CodeRules Refusal
+code_rules told fs s h es = rules_of_source (record { sections = s; header = h; functions = fs; told = told; entries = es })

@@ -1,6 +1,6 @@
 -- The fields of an output that a linker may change: addresses, and offsets in sections, as a reader comes upon them, and the
 -- relocations of them. (DWARF 4, sections 7.5.1.1, 7.5.4 and 6.2.5.3; DWARF 5, the same sections, and section 7.26.)
-use Rattle.std.specs.Prelude.{◌≡◌, ◌≤◌, ℕ, ◌+◌, ◌==◌, pos, true, false, List, [], ◌∷◌, ◌++◌, nat_lt, if◌then◌else◌, Option, Some, None, option_map, Result, Ok, Err, All, AllPairs}
+use Rattle.std.specs.Prelude.{◌≡◌, ◌≤◌, ℕ, ◌+◌, ◌==◌, pos, true, false, Bool, List, [], ◌∷◌, ◌++◌, length, map, nat_lt, if◌then◌else◌, Option, Some, None, option_map, Result, Ok, Err, All, AllPairs}
 use Rattle.std.specs.List.{flat_map, filter_map}
 use Rattle.dwc_base.specs.declared.records.Endian.{Endian}
 use Rattle.dwc_base.specs.declared.records.Address.{Address}
@@ -17,7 +17,7 @@ use Rattle.dwc_base.specs.Units.{UnitHeader}
 use Rattle.dwc_base.specs.Values.{Value, address, text_reference, line_reference, range_reference, location_reference, info_reference, form_code_at, value_at}
 use Rattle.dwc_base.specs.Entries.{Entry, attribute}
 use Rattle.dwc_base.specs.Indexed.{text_base}
-use Rattle.dwc_base.specs.RawLists.{ListSource, ListPlace, list_named, is_range_list, RawEntry, pair, base_selection, raw_ranges}
+use Rattle.dwc_base.specs.RawLists.{ListSource, ListPlace, list_named, is_location_list, is_range_list, RawEntry, pair, base_selection, raw_ranges, PlacedExpression, RawLocation, raw_locations}
 use Rattle.dwc_base.specs.Lists.{list_source}
 use Rattle.dwc_base.specs.LineHeaders.{LineHeader, line_source, Instruction, set_address, line_header_at, instruction_at, instructions}
 use Rattle.dwc_base.specs.Carried.{Unit, units, root, line_offset}
@@ -124,7 +124,8 @@ abbrev pub fields_of_lines : Sections → UnitHeader → Option Entry → List F
 fields_of_lines s h None = []
 fields_of_lines s h (Some e) = elim (line_offset (attribute DW_AT_stmt_list e)) [ None ↦ [] | Some offset ↦ fields_read (fields_of_line_table s h.address_size (text_base s h) offset) ]
 
--- ---- .debug_ranges: lists up to version 4 are pairs of addresses (DWARF 4, section 2.17.3)
+-- ---- .debug_ranges and .debug_loc: lists up to version 4 are pairs of addresses, in a location list each with an expression behind the
+-- expression's length (DWARF 4, sections 2.17.3 and 2.6.2)
 
 -- the address at a place
 abbrev pub field_of_address : ℕ → ℕ → Address → Field
@@ -136,36 +137,51 @@ fields_of_pair size place (pair begin end) = field_of_address size place begin �
 fields_of_pair size place (base_selection a) = field_of_address size (place + size) a ∷ []
 fields_of_pair size place _ = []
 
--- entries one behind another, of which the first stands at a place
-abbrev pub fields_of_pairs : ℕ → ℕ → List RawEntry → List Field
-fields_of_pairs size place [] = []
-fields_of_pairs size place (e ∷ es) = fields_of_pair size place e ++ fields_of_pairs size (place + (size + size)) es
+-- an entry of a range list has no expression
+abbrev pub without_expression : RawEntry → RawLocation
+without_expression e = record { says = e; holds = None }
 
--- those of the list at a place, if it stands in this section
+-- how many bytes an expression takes with its length
+abbrev pub held_bytes : Option PlacedExpression → ℕ
+held_bytes None = 0
+held_bytes (Some x) = 2 + length x.bytes
+
+-- entries one behind another, of which the first stands at a place
+abbrev pub fields_of_listed : ℕ → ℕ → List RawLocation → List Field
+fields_of_listed size place [] = []
+fields_of_listed size place (l ∷ ls) = fields_of_pair size place l.says ++ fields_of_listed size (place + ((size + size) + held_bytes l.holds)) ls
+
+-- those of the list at a place, if it stands in one of these sections
 abbrev pub fields_of_list : ListSource → ListPlace → SectionName → List Field
-fields_of_list source l Ranges = fields_of_pairs source.address_size l.offset (raw_ranges source l).items
+fields_of_list source l Ranges = fields_of_listed source.address_size l.offset (map without_expression (raw_ranges source l).items)
+fields_of_list source l Loc = fields_of_listed source.address_size l.offset (raw_locations source l).items
 fields_of_list source l _ = []
 
--- those of the range list that a value of a unit names, if it names one
-unfoldable pub fields_of_ranges : Sections → UnitHeader → Value → List Field
-fields_of_ranges s h v = elim (is_range_list v) [ false ↦ [] | true ↦ go (list_named (list_source s h) v) ]
+-- those of the list that a value of a unit names, if it names one and is of a kind
+unfoldable pub fields_of_named : (Value → Bool) → Sections → UnitHeader → Value → List Field
+fields_of_named kind s h v = elim (kind v) [ false ↦ [] | true ↦ go (list_named (list_source s h) v) ]
   where
     go : Option (Result ListPlace Flaw) → List Field
     go (Some (Ok l)) = fields_of_list (list_source s h) l l.section
     go _ = []
 
 -- the same of an entry
-abbrev pub fields_of_lists : Sections → UnitHeader → Entry → List Field
-fields_of_lists s h e = flat_map (λ a. fields_of_ranges s h a.1) e.attributes
+abbrev pub fields_of_lists : (Value → Bool) → Sections → UnitHeader → Entry → List Field
+fields_of_lists kind s h e = flat_map (λ a. fields_of_named kind s h a.1) e.attributes
+
+-- and of a unit
+abbrev pub lists_of_unit : (Value → Bool) → Sections → Unit → List Field
+lists_of_unit kind s u = flat_map (fields_of_lists kind s u.header) u.entries
 
 -- ---- their relocations
 
--- The fields of a section, in the order of the units; those of line tables by the units whose roots name them, those of range
--- lists by the entries that name them.
+-- The fields of a section, in the order of the units; those of line tables by the units whose roots name them, those of lists by the
+-- entries that name them.
 unfoldable pub fields_of_section : Sections → SectionName → List Field
 fields_of_section s Info = flat_map (fields_of_unit s) (units s).items
 fields_of_section s Line = flat_map (λ u. fields_of_lines s u.header (root u)) (units s).items
-fields_of_section s Ranges = flat_map (λ u. flat_map (fields_of_lists s u.header) u.entries) (units s).items
+fields_of_section s Ranges = flat_map (lists_of_unit is_range_list s) (units s).items
+fields_of_section s Loc = flat_map (lists_of_unit is_location_list s) (units s).items
 fields_of_section s name = []
 
 -- the relocation of a field at an offset: none of an address that is a number

@@ -33,7 +33,7 @@ carried_units c = flat_map carried_units_of c.modules
 
 -- the rules for the code of a unit of a module
 abbrev pub rules_of : Module → Unit → CodeRules Refusal
-rules_of m u = code_rules m.functions m.sections u.header
+rules_of m u = code_rules m.told m.functions m.sections u.header (kept_of m).entries
 
 -- what is refused of a module
 abbrev pub module_refusals : Module → List Refusal

@@ -46,6 +46,7 @@ pub mod RawLists
 pub mod Lists
 pub mod LocationAttributes
 pub mod LocationRules
+pub mod LocationsCarried
 pub mod ExpressionPlaces
 pub mod RangeKept
 pub mod RangeAttributes

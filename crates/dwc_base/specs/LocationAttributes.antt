@@ -57,16 +57,17 @@ built_at s scope x = go (built_over s scope x)
 abbrev pub are_equal_to : List ℕ → List Location → Bool
 are_equal_to bytes ls = list_all (λ l. bytes_eq l.bytes bytes) ls
 
+-- what some built expressions become under a name, of which it is known whether they cover the whole scope
+abbrev pub value_of_locations_built : ℕ → Bool → List Location → Option TreeValue
+value_of_locations_built name covers [] = None
+value_of_locations_built name covers (l ∷ ls) =
+    if covers && are_equal_to l.bytes ls then Some (expression l.bytes)
+    else (if is_location_name name then Some (locations (l ∷ ls)) else None)
+
 -- What built expressions become: nothing where there are none; the one expression where they are all the same and cover the
 -- whole scope; else a location list, where the attribute may be one.
 abbrev pub value_of_built : ℕ → BuiltExpressions → Option TreeValue
-value_of_built name b = go b.expressions
-  where
-    go : List Location → Option TreeValue
-    go [] = None
-    go (l ∷ ls) =
-        if b.covers_entire_scope && are_equal_to l.bytes ls then Some (expression l.bytes)
-        else (if is_location_name name then Some (locations (l ∷ ls)) else None)
+value_of_built name b = value_of_locations_built name b.covers_entire_scope b.expressions
 
 -- what code becomes
 abbrev pub value_of_code : List ℕ → Option TreeValue
@@ -122,13 +123,14 @@ built_for_each e (x ∷ xs) = do
   others ← built_for_each e xs
   Ok (with_locations first others)
 
+-- what the locations of all intervals become, none where no expression is supported
+abbrev pub value_of_listed : Option (List Location) → Option TreeValue
+value_of_listed None = None
+value_of_listed (Some ls) = Some (locations ls)
+
 -- What an attribute becomes whose value is a location list: the list of what is built for each interval.
 unfoldable pub value_of_locations : InForce → List ListedExpression → Result (Option TreeValue) LocationRefusal
-value_of_locations e xs = built_for_each e xs >>= λ ls. Ok (go ls)
-  where
-    go : Option (List Location) → Option TreeValue
-    go None = None
-    go (Some ls) = Some (locations ls)
+value_of_locations e xs = built_for_each e xs >>= λ ls. Ok (value_of_listed ls)
 
 -- ---- entries that are read, and not built
 

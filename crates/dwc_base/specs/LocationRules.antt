@@ -11,7 +11,7 @@ use Rattle.dwc_base.specs.Values.{Value}
 use Rattle.dwc_base.specs.Kept.{Placed}
 use Rattle.dwc_base.specs.Functions.{Function}
 use Rattle.dwc_base.specs.Drafts.{DraftValue}
-use Rattle.dwc_base.specs.Compiled.{LabelRange, Memory}
+use Rattle.dwc_base.specs.Compiled.{ToldModule}
 use Rattle.dwc_base.specs.Placed.{Frame}
 use Rattle.dwc_base.specs.RawLists.{ListSource}
 use Rattle.dwc_base.specs.Lists.{ListRefusal, ListedLocation, list_source, locations_of_value}
@@ -20,13 +20,6 @@ use Rattle.dwc_base.specs.RangeRules.{all_items, told_as}
 use Rattle.dwc_base.specs.Scopes.{lineage, scope_in_force, frame_in_force, base_in_force}
 use Rattle.dwc_base.specs.ExpressionPlaces.{expression_place}
 use Rattle.dwc_base.specs.LocationAttributes.{LocationRefusal, InForce, GivenExpression, ListedExpression, value_of_expression, value_of_locations, read_expression, base_of_expression, drafted}
-
--- What a code generator tells of a module beside its functions: where the values of each lie, by its number and their labels; the
--- linear memory; and the DWARF numbers of the target's registers.
-pub record ToldModule : Type 0 where
-  pub values : ℕ → ℕ → List LabelRange
-  pub memory : Memory
-  pub register : ℕ → Option ℕ
 
 -- What the expressions of a unit are carried with: the sections and functions of its module, what is told of that, the unit, and
 -- the entries of the module.

@@ -1,17 +1,14 @@
--- What the attributes of a kept entry become that speak of code, but for expressions and location lists: the rules that the
--- making of entries is handed. (This project's own rules.)
-use Rattle.std.specs.Prelude.{ℕ, List, [], map, Bool, true, if◌then◌else◌, Option, Some, None, option_map, Result, Ok, Err}
-use Rattle.dwc_base.specs.declared.faults.Kind.TheVariants.{NotBuilt}
+-- What the attributes of a kept entry become that speak of code, but for expressions and location lists. (This project's own rules.)
+use Rattle.std.specs.Prelude.{ℕ, List, [], map, Option, Some, None, option_map, Result, Ok, Err}
 use Rattle.dwc_base.specs.declared.faults.What.TheVariants.{AddressValue}
 use Rattle.dwc_base.specs.declared.section_name.SectionName.TheVariants.{Info}
 use Rattle.dwc_base.specs.Listing.{Listing}
-use Rattle.dwc_base.specs.Sections.{fault_of, unsupported}
-use Rattle.dwc_base.specs.Values.{Value, address, address_index, expression, range_reference, range_index}
-use Rattle.dwc_base.specs.Entries.{Entry}
+use Rattle.dwc_base.specs.Sections.{fault_of}
+use Rattle.dwc_base.specs.Values.{Value, address, address_index, range_reference, range_index}
 use Rattle.dwc_base.specs.Functions.{Function}
 use Rattle.dwc_base.specs.Trees.{Interval, TreeValue}
 use Rattle.dwc_base.specs.Drafts.{DraftValue, done}
-use Rattle.dwc_base.specs.RawLists.{ListSource, is_location_list}
+use Rattle.dwc_base.specs.RawLists.{ListSource}
 use Rattle.dwc_base.specs.Lists.{ListRefusal, of_place, ranges_of_value}
 use Rattle.dwc_base.specs.RangeAttributes.{carried_address, carried_ranges, range_attributes}
 use Rattle.dwc_base.specs.RangeRefusals.{bound_refusal}
@@ -32,34 +29,25 @@ abbrev pub list_becomes : List Function → Result (List Interval) ListRefusal �
 list_becomes fs (Ok is) = Ok (drafted (carried_ranges fs is))
 list_becomes fs (Err refusal) = Err refusal
 
--- What an address, or a range list, becomes of an entry at an offset. A location list and an expression are not built yet.
+-- What an address, or a range list, becomes of an entry at an offset; what says nothing of code becomes nothing.
 unfoldable pub code_becomes : ListSource → List Function → ℕ → Value → Result (Option DraftValue) ListRefusal
 code_becomes s fs offset (address a) = Ok (drafted (carried_address fs a))
 code_becomes s fs offset (address_index i) = elim (s.indexed i) [ Ok a ↦ Ok (drafted (carried_address fs a)) | Err flaw ↦ Err (of_place (fault_of AddressValue Info offset flaw)) ]
 code_becomes s fs offset (range_reference n) = list_becomes fs (all_items (ranges_of_value s offset (range_reference n)))
 code_becomes s fs offset (range_index i) = list_becomes fs (all_items (ranges_of_value s offset (range_index i)))
-code_becomes s fs offset v = Err (of_place (unsupported NotBuilt offset))
-
--- whether a value is an expression or a location list, which are not built yet
-abbrev pub is_unbuilt : Value → Bool
-is_unbuilt (expression bytes) = true
-is_unbuilt v = is_location_list v
-
--- the refusal of a bound; one that is not built is told at its entry
-abbrev pub bound_refused : ListSource → List Function → Entry → List (ℕ × Value) → ℕ × Value → Option ListRefusal
-bound_refused s fs e before a = if is_unbuilt a.1 then Some (of_place (unsupported NotBuilt e.offset)) else bound_refusal s fs e before a
+code_becomes s fs offset v = Ok None
 
 -- a result whose refusal is told as another
 abbrev pub told_as : {A E F : Type 0} → (E → F) → Result A E → Result A F
 told_as told (Ok x) = Ok x
 told_as told (Err refusal) = Err (told refusal)
 
--- The rules for the code of a unit's entries, `told` being what a refusal is told as.
+-- The rules for the code of a unit's entries, but for expressions and location lists, `told` being what a refusal is told as.
 abbrev pub range_rules : {E : Type 0} → (ListRefusal → E) → ListSource → List Function → CodeRules E
 range_rules told s fs = record {
   of_fault = λ fault. told (of_place fault);
   bounds = λ e. map (λ a. (a.0, done a.1)) (range_attributes s fs e.entry);
-  refused_bound = λ e before a. option_map told (bound_refused s fs e.entry before a);
-  other = λ e a. told_as told (code_becomes s fs e.entry.offset a.1);
+  refused_bound = λ e before a. option_map told (bound_refusal s fs e.entry before a);
+  other = λ e before a. told_as told (code_becomes s fs e.entry.offset a.1);
   behind = λ e. [];
 }

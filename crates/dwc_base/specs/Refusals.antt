@@ -10,13 +10,18 @@ use Rattle.dwc_base.specs.Carried.{Unit, root, line_offset}
 use Rattle.dwc_base.specs.declared.constants.TheConstants.{DW_AT_stmt_list}
 
 -- A place that cannot be read or is of a refused kind; a line table, by its offset, that names a file or a directory
--- that is not there, or one with an empty name; a function that is longer than an addend can say; or a start plus a length
--- that is no address.
+-- that is not there, or one with an empty name; a function that is longer than an addend can say; a start plus a length that is
+-- no address; or of an expression a label that has a range which begins above its end, the linear memory of the module at a place,
+-- which has none, a register without a DWARF number, or a jump that goes too far.
 pub data Refusal : Type 0 where
   of_place : Fault → Refusal
   missing_file : ℕ → Refusal
   long_function : Refusal
   long_range : Refusal
+  bad_label : ℕ → Refusal
+  lacks_memory : ℕ → Refusal
+  unmapped_register : ℕ → Refusal
+  long_jump : Refusal
 
 -- the refusal of the line table at an offset
 abbrev pub table_refusal : ℕ → Result LineTable Fault → Option Refusal

@@ -1,5 +1,6 @@
--- What holds of every output: each reference goes to an entry that is there, and equal texts stand in one place.
-use Rattle.std.specs.Prelude.{ℕ, ◌==◌, List, [], ◌∷◌, ◌++◌, map, length, Bool, true, false, nat_lt, ◌&&◌, if◌then◌else◌, slice_index_or, Option, Some, None, fold, IsTrue, Result, Ok, Err}
+-- What holds of every output: each reference goes to an entry that is there, equal texts stand in one place, and no expression of a
+-- location list is too long.
+use Rattle.std.specs.Prelude.{ℕ, ◌^◌, ◌==◌, List, [], ◌∷◌, ◌++◌, map, length, Bool, true, false, nat_lt, ◌&&◌, if◌then◌else◌, slice_index_or, Option, Some, None, fold, IsTrue, Result, Ok, Err}
 use Rattle.std.specs.List.{filter_map, flat_map, list_all, list_any}
 use Rattle.std.specs.Str.{bytes_eq}
 use Rattle.dwc_base.specs.declared.faults.Flaw.{Flaw}
@@ -9,7 +10,7 @@ use Rattle.dwc_base.specs.Values.{Value}
 use Rattle.dwc_base.specs.Carried.{Unit, units}
 use Rattle.dwc_base.specs.Texts.{TextSource, text_named}
 use Rattle.dwc_base.specs.Indexed.{texts_of_unit}
-use Rattle.dwc_base.specs.Trees.{TreeValue, entry, nothing, text, Tree}
+use Rattle.dwc_base.specs.Trees.{TreeValue, entry, locations, nothing, text, Tree}
 
 -- ---- references
 
@@ -30,6 +31,17 @@ values_of t = flat_map (λ e. map (λ a. a.1) e.attributes) t
 -- Every reference of some trees goes to an entry that is there.
 abbrev pub HasAllTargets : List Tree → Type 0
 HasAllTargets ts = IsTrue (list_all (λ t. list_all (goes_somewhere ts) (values_of t)) ts)
+
+-- ---- expressions of location lists
+
+-- whether they are short enough for a length of two bytes (DWARF 4, section 2.6.2)
+abbrev pub has_short_expressions : TreeValue → Bool
+has_short_expressions (locations ls) = list_all (λ l. nat_lt (length l.bytes) (2 ^ 16)) ls
+has_short_expressions _ = true
+
+-- the same of all of some trees
+abbrev pub have_short_expressions : List Tree → Bool
+have_short_expressions ts = list_all (λ t. list_all has_short_expressions (values_of t)) ts
 
 -- ---- texts
 

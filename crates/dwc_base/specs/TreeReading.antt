@@ -3,6 +3,7 @@ use Rattle.std.specs.Prelude.{◌≡◌, ℕ, suc, ◌+◌, ◌==◌, List, [], 
 use Rattle.dwc_base.specs.declared.records.Endian.{Endian}
 use Rattle.dwc_base.specs.declared.records.Address.{Address}
 use Rattle.dwc_base.specs.declared.section_name.SectionName.TheVariants.{Info}
+use Rattle.dwc_base.specs.declared.faults.What.{What}
 use Rattle.dwc_base.specs.declared.faults.What.TheVariants.{AddressValue, LocationList, RangeList, Text}
 use Rattle.dwc_base.specs.Reading.{◌>>=◌}
 use Rattle.dwc_base.specs.Listing.{Listing}
@@ -15,7 +16,7 @@ use Rattle.dwc_base.specs.Carried.{Unit, units}
 use Rattle.dwc_base.specs.Outputs.{OutputSection, output_sections}
 use Rattle.dwc_base.specs.declared.faults.Flaw.{Flaw}
 use Rattle.dwc_base.specs.RawLists.{ListPlace, list_named}
-use Rattle.dwc_base.specs.Lists.{ListRefusal, of_place, long_range, list_source, ranges_of_value}
+use Rattle.dwc_base.specs.Lists.{ListRefusal, of_place, long_range, list_source, ranges_of_value, ListedLocation, locations_of_value}
 use Rattle.dwc_base.specs.Texts.{TextSource, text_named}
 use Rattle.dwc_base.specs.Indexed.{address_named, texts_of_unit}
 use Rattle.dwc_base.specs.Trees.{Interval, Location, TreeValue, address, constant, flag, block, expression, text, line_table, ranges, locations, entry, nothing, TreeEntry, Tree, place_among}
@@ -35,20 +36,30 @@ abbrev pub list_read : {A : Type 0} → Fault → List A → Option ListRefusal 
 list_read list items None = Ok items
 list_read list items (Some refusal) = Err (refusal_read list refusal)
 
--- a range list that cannot be read: told at its place, or at the entry's where it has none
-abbrev pub unreadable_ranges : Entry → Option (Result ListPlace Flaw) → Fault
-unreadable_ranges e (Some (Ok l)) = unreadable RangeList l.section l.offset
-unreadable_ranges e _ = unreadable RangeList Info e.offset
+-- a list that cannot be read: told at its place, or at the entry's where it has none
+abbrev pub unreadable_list : What → Entry → Option (Result ListPlace Flaw) → Fault
+unreadable_list what e (Some (Ok l)) = unreadable what l.section l.offset
+unreadable_list what e _ = unreadable what Info e.offset
 
 -- The intervals of the range list that a value of an entry names.
 unfoldable pub ranges_read : Sections → UnitHeader → Entry → Value → Result (List Interval) Fault
 ranges_read s h e v =
     let given = ranges_of_value (list_source s h) e.offset v in
-    list_read (unreadable_ranges e (list_named (list_source s h) v)) given.items given.fault
+    list_read (unreadable_list RangeList e (list_named (list_source s h) v)) given.items given.fault
 
--- How the lists of an output are read. Location lists are not read yet.
+-- an interval of a location list with its expression, wherever that stands
+abbrev pub location_said : ListedLocation → Location
+location_said l = record { over = l.over; bytes = l.holds.bytes }
+
+-- The intervals of the location list that a value of an entry names, with their expressions.
+unfoldable pub locations_read : Sections → UnitHeader → Entry → Value → Result (List Location) Fault
+locations_read s h e v =
+    let given = locations_of_value (list_source s h) e.offset v in
+    list_read (unreadable_list LocationList e (list_named (list_source s h) v)) (map location_said given.items) given.fault
+
+-- How the lists of an output are read.
 abbrev pub output_lists : Sections → ListReading
-output_lists s = record { ranges_at = ranges_read s; locations_at = λ h e v. Err (unreadable LocationList Info e.offset) }
+output_lists s = record { ranges_at = ranges_read s; locations_at = locations_read s }
 
 -- What the values of a unit are read with: the sections, its number among the units, its header, its texts, and all units.
 pub record ReadingUnit : Type 0 where

@@ -3,7 +3,7 @@
 use Rattle.std.specs.Prelude.{ℕ, ◌+◌, ◌*◌, List, [], ◌∷◌, length, nat_lt, sum_by, if◌then◌else◌}
 use Rattle.std.specs.Option.{unwrap_or}
 use Rattle.dwc_base.specs.declared.section_name.SectionName.{SectionName}
-use Rattle.dwc_base.specs.declared.section_name.SectionName.TheVariants.{Abbrev, Info, Ranges, Str}
+use Rattle.dwc_base.specs.declared.section_name.SectionName.TheVariants.{Abbrev, Info, Loc, Ranges, Str}
 use Rattle.dwc_base.specs.declared.constants.TheConstants.{DW_FORM_data1, DW_FORM_data2, DW_FORM_data4, DW_FORM_data8}
 use Rattle.dwc_base.specs.Reading.{coded}
 use Rattle.dwc_base.specs.Trees.{TreeValue, address, constant, flag, block, expression, text, line_table, ranges, locations, entry, nothing, TreeEntry, Tree}
@@ -59,10 +59,16 @@ abbrev pub widest_ranges : TreeValue → ℕ
 widest_ranges (ranges is) = length is * pair_bytes + pair_bytes
 widest_ranges _ = 0
 
--- How long a section with entries, abbreviations, range lists or texts can be at most.
+-- a location list with its end; each interval has an expression behind a length of two bytes (DWARF 4, section 2.6.2)
+abbrev pub widest_locations : TreeValue → ℕ
+widest_locations (locations ls) = sum_by (λ l. pair_bytes + (2 + length l.bytes)) ls + pair_bytes
+widest_locations _ = 0
+
+-- How long a section with entries, abbreviations, lists or texts can be at most.
 abbrev pub widest_of_trees : SectionName → List Tree → ℕ
 widest_of_trees Info ts = sum_by widest_unit ts
 widest_of_trees Abbrev ts = sum_by widest_declarations ts
 widest_of_trees Ranges ts = sum_by (λ t. sum_by widest_ranges (values_of t)) ts
+widest_of_trees Loc ts = sum_by (λ t. sum_by widest_locations (values_of t)) ts
 widest_of_trees Str ts = length (texts_ended (distinct_texts ts))
 widest_of_trees name ts = 0

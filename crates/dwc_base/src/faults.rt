@@ -34,8 +34,6 @@ pub enum Kind {
     Compressed,
     /// An address size other than 4 and 8.
     AddressSize,
-    /// A form of input that is not read yet.
-    NotBuilt,
 }
 
 /// What can grow too large.
@@ -47,6 +45,10 @@ pub enum Limit {
     Addend,
     /// A range of the input whose start plus its length is no address.
     Range,
+    /// A jump of an expression of more than 16 bits with a sign.
+    Jump,
+    /// An expression of a location list of more than 65,535 bytes.
+    Expression,
 }
 
 /// Why bytes do not spell what is read: they end too early, a number of variable length does not fit 64 bits, the grammar
