@@ -133,8 +133,8 @@ impl<'a> Compilation<'a> {
         (symbol.map(|_| number), metadata)
     }
 
-    // The functions of a module.
-    pub(crate) fn functions_of(
+    /// The functions of a module, in order, each with its symbol, if it has one, and what is known of it.
+    pub fn functions_of(
         &self,
         module: StaticModuleIndex,
     ) -> &'a [(Option<SymbolId>, CompiledFunctionMetadata)]
@@ -145,8 +145,8 @@ impl<'a> Compilation<'a> {
         &self.functions[module.0 as usize]
     }
 
-    // The number of a module's first function.
-    pub(crate) fn first_number(&self, module: StaticModuleIndex) -> usize
+    /// The number of a module's first function among those of all modules.
+    pub fn first_number(&self, module: StaticModuleIndex) -> usize
         requires { «module».0 < length self.now.translations }
         ensures number { result ≡ first_number self.now.functions «module».0 }
         ensures few { result + length (functions_at self.now «module».0) < 2 ^ 32 }
