@@ -9,7 +9,7 @@ use Rattle.dwc_base.specs.TreeLaws.{HasAllTargets, goes_somewhere, values_of}
 use Rattle.dwc_base.specs.TreeReading.{entry_or_nothing}
 use Rattle.dwc_write.specs.declared.attributes.Attribute.{Attribute}
 use Rattle.dwc_write.specs.declared.attributes.AttributeValue.{AttributeValue}
-use Rattle.dwc_write.specs.declared.attributes.AttributeValue.TheVariants.{Address, Constant, Flag, Block, Exprloc, StringRef, LineProgramRef, RangeListRef, UnitRef, DebugInfoRef}
+use Rattle.dwc_write.specs.declared.attributes.AttributeValue.TheVariants.{Address, Constant, Flag, Block, Exprloc, StringRef, LineProgramRef, RangeListRef, LocationListRef, UnitRef, DebugInfoRef}
 use Rattle.dwc_write.specs.declared.attributes.DebugInfoRef.TheVariants.{Entry}
 use Rattle.dwc_write.specs.GivenUnits.{Addition, GivenUnit, entry_at, ordered}
 use Rattle.dwc_write.specs.GivenTrees.{attribute_said, given_said, given_tree, given_trees, place_in_order, tree_entry, trees_from}
@@ -83,6 +83,7 @@ module _ (texts : List (List ℕ)) (dss : List (List ℕ)) (us : List GivenUnit)
   value-in-order number u (StringRef id) here goes = refl
   value-in-order number u LineProgramRef here goes = refl
   value-in-order number u (RangeListRef list) here goes = refl
+  value-in-order number u (LocationListRef list) here goes = refl
   value-in-order number u (UnitRef id) here goes =
       ap (λ o. entry_or_nothing (option_map (λ place. (number, place)) o))
       (ap (option_and_then (λ x. place_in_order x id.index)) (sym here) ∙ place-there texts 0 dss us number id.index orders goes)

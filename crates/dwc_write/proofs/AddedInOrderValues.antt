@@ -10,7 +10,7 @@ use Rattle.dwc_base.specs.Trees as Trees
 use Rattle.dwc_base.specs.Trees.{TreeEntry, TreeValue, text}
 use Rattle.dwc_write.specs.declared.attributes.Attribute.{Attribute}
 use Rattle.dwc_write.specs.declared.attributes.AttributeValue.{AttributeValue}
-use Rattle.dwc_write.specs.declared.attributes.AttributeValue.TheVariants.{Address, Constant, Flag, Block, Exprloc, StringRef, LineProgramRef, RangeListRef, UnitRef, DebugInfoRef}
+use Rattle.dwc_write.specs.declared.attributes.AttributeValue.TheVariants.{Address, Constant, Flag, Block, Exprloc, StringRef, LineProgramRef, RangeListRef, LocationListRef, UnitRef, DebugInfoRef}
 use Rattle.dwc_write.specs.declared.attributes.DebugInfoRef.TheVariants.{Entry}
 use Rattle.dwc_write.specs.GivenUnits.{Addition, GivenUnit, ordered, set_attribute}
 use Rattle.dwc_write.specs.UsedTexts.{text_of_value, texts_named, texts_of_attributes, texts_of_entries}
@@ -30,6 +30,7 @@ value-meant-more texts more number (Exprloc e) known = refl
 value-meant-more texts more number (StringRef id) known = ap text (get_or_append_left texts more [] id.index (All-head (λ n. n < length texts) id.index [] known))
 value-meant-more texts more number LineProgramRef known = refl
 value-meant-more texts more number (RangeListRef list) known = refl
+value-meant-more texts more number (LocationListRef list) known = refl
 value-meant-more texts more number (UnitRef id) known = refl
 value-meant-more texts more number (DebugInfoRef (Entry unit id)) known = refl
 

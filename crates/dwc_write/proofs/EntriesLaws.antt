@@ -13,16 +13,17 @@ use Rattle.dwc_write.specs.SpelledUnits.{form_number, as_data1, as_data2, as_dat
 use Rattle.dwc_write.specs.SpelledRelocations.{entry_relocations, value_relocations}
 use Rattle.dwc_write.specs.declared.attributes.Attribute.{Attribute}
 use Rattle.dwc_write.specs.declared.attributes.AttributeValue.{AttributeValue}
-use Rattle.dwc_write.specs.declared.attributes.AttributeValue.TheVariants.{Address, Constant, Flag, Block, Exprloc, StringRef, LineProgramRef, RangeListRef, UnitRef, DebugInfoRef}
+use Rattle.dwc_write.specs.declared.attributes.AttributeValue.TheVariants.{Address, Constant, Flag, Block, Exprloc, StringRef, LineProgramRef, RangeListRef, LocationListRef, UnitRef, DebugInfoRef}
 use Rattle.dwc_write.specs.declared.attributes.DebugInfoRef.TheVariants.{Entry}
 use Rattle.dwc_write.specs.declared.abbreviations.AttributeForm.{AttributeForm}
 use Rattle.dwc_write.specs.GivenUnits.{GivenEntry, Places, no_places, EntryShape, IsPlainShape, form_of, forms_of, first_depth, shape_of, shapes_of, same_forms, same_flag, same_shape, place_in, with_use, first_uses, code_in, written_attribute, written_attributes, written_entries, written_of}
 use Rattle.dwc_write.specs.Layouts.{codes_of}
-use Rattle.dwc_write.specs.RangeLists.{behind_attributes, behind_value, nowhere}
+use Rattle.dwc_write.specs.declared.list_places.ListPlaces.{ListPlaces}
+use Rattle.dwc_write.specs.Lists.{behind_attributes, behind_value, no_lists, nowhere}
 use Rattle.dwc_write.specs.declared.error.WriteError.{WriteError}
 use Rattle.dwc_write.specs.Writers.{Writing, Refuses, Writes, appended}
 use Rattle.dwc_write.proofs.WritesLaws.{whole, whole-done, whole-more, whole-refused}
-use Rattle.dwc_write.proofs.PairLaws.{drop-more}
+use Rattle.dwc_write.proofs.ListLaws.{drop-more}
 use Rattle.std.proofs.lemmas.List.{drop_all}
 
 -- ---- a shape is the same as itself, and keeps its place among more
@@ -110,7 +111,7 @@ constant-plain false false false true f bits = refl
 constant-plain false false false false true bits = refl
 constant-plain false false false false false bits = refl
 
-value-plain : (v : AttributeValue) → (form_number (written_of no_places 0 v) == DW_FORM_implicit_const) ≡ false
+value-plain : (v : AttributeValue) → (form_number (written_of no_places no_lists v) == DW_FORM_implicit_const) ≡ false
 value-plain (Address x) = refl
 value-plain (Constant form bits) = constant-plain (form == DW_FORM_data1) (form == DW_FORM_data2) (form == DW_FORM_data4) (form == DW_FORM_data8) (form == DW_FORM_sdata) bits
 value-plain (Flag b) = refl
@@ -119,6 +120,7 @@ value-plain (Exprloc e) = refl
 value-plain (StringRef id) = refl
 value-plain LineProgramRef = refl
 value-plain (RangeListRef list) = refl
+value-plain (LocationListRef list) = refl
 value-plain (UnitRef id) = refl
 value-plain (DebugInfoRef (Entry unit id)) = refl
 
@@ -141,17 +143,17 @@ uses-plain known (e ∷ es) all = uses-plain (with_use (shape_of e es) known) es
 -- ---- one entry behind another
 
 -- the depth that follows
-pub next-first : (next : ℕ → List Attribute → ℕ) (p : Places) (ranges : ℕ) (shapes : List EntryShape) (es : List GivenEntry) → next_depth (written_entries next p ranges shapes es) ≡ first_depth es
-next-first next p ranges shapes [] = refl
-next-first next p ranges shapes (e ∷ es) = refl
+pub next-first : (next : ListPlaces → List Attribute → ListPlaces) (p : Places) (lists : ListPlaces) (shapes : List EntryShape) (es : List GivenEntry) → next_depth (written_entries next p lists shapes es) ≡ first_depth es
+next-first next p lists shapes [] = refl
+next-first next p lists shapes (e ∷ es) = refl
 
 -- an entry as it is written, with the depth that follows
-abbrev pub entry_with : (ℕ → List Attribute → ℕ) → Places → ℕ → ℕ → GivenEntry → List GivenEntry → Shaped
-entry_with next p ranges code e behind = record { entry = record { depth = e.depth; code = code; tag = e.tag; attributes = written_attributes next p ranges e.attributes }; has_children = nat_lt e.depth (first_depth behind); ends = e.depth - first_depth behind }
+abbrev pub entry_with : (ListPlaces → List Attribute → ListPlaces) → Places → ListPlaces → ℕ → GivenEntry → List GivenEntry → Shaped
+entry_with next p lists code e behind = record { entry = record { depth = e.depth; code = code; tag = e.tag; attributes = written_attributes next p lists e.attributes }; has_children = nat_lt e.depth (first_depth behind); ends = e.depth - first_depth behind }
 
-pub shaped-more : (next : ℕ → List Attribute → ℕ) (p : Places) (ranges : ℕ) (shapes : List EntryShape) (e : GivenEntry) (es : List GivenEntry)
-    → shaped (written_entries next p ranges shapes (e ∷ es)) ≡ entry_with next p ranges (code_in shapes (shape_of e es)) e es ∷ shaped (written_entries next p (next ranges e.attributes) shapes es)
-shaped-more next p ranges shapes e es = rw (next-first next p (next ranges e.attributes) shapes es) refl
+pub shaped-more : (next : ListPlaces → List Attribute → ListPlaces) (p : Places) (lists : ListPlaces) (shapes : List EntryShape) (e : GivenEntry) (es : List GivenEntry)
+    → shaped (written_entries next p lists shapes (e ∷ es)) ≡ entry_with next p lists (code_in shapes (shape_of e es)) e es ∷ shaped (written_entries next p (next lists e.attributes) shapes es)
+shaped-more next p lists shapes e es = rw (next-first next p (next lists e.attributes) shapes es) refl
 
 -- ---- the same of entries that are seen by f, at an index
 
@@ -164,42 +166,42 @@ seen-more f (e ∷ es) (suc i) d within = seen-more f es i d (omega arith)
 pub code-at : {A : Type 0} (f : A → GivenEntry) (es : List A) (codes : List ℕ) (i : ℕ) (d : A) → i < length es → codes ≡ codes_of (map f es) → get_or codes i 0 ≡ code_in (first_uses [] (shapes_of (map f es))) (shape_of (f (get_or es i d)) (map f (drop (suc i) es)))
 code-at {A} f es codes i d within are = ap (λ (xs : List ℕ). get_or xs i 0) are ∙ go (first_uses [] (shapes_of (map f es))) es i within
   where
-    go : (uses : List EntryShape) (xs : List A) (n : ℕ) → n < length xs → get_or (map (λ w. w.code) (written_entries nowhere no_places 0 uses (map f xs))) n 0 ≡ code_in uses (shape_of (f (get_or xs n d)) (map f (drop (suc n) xs)))
+    go : (uses : List EntryShape) (xs : List A) (n : ℕ) → n < length xs → get_or (map (λ w. w.code) (written_entries nowhere no_places no_lists uses (map f xs))) n 0 ≡ code_in uses (shape_of (f (get_or xs n d)) (map f (drop (suc n) xs)))
     go uses [] n h = absurd (omega arith)
     go uses (x ∷ xs) zero h = refl
     go uses (x ∷ xs) (suc n) h = go uses xs n (omega arith)
 
-pub codes-long : (uses : List EntryShape) (es : List GivenEntry) → length (map (λ w. w.code) (written_entries nowhere no_places 0 uses es)) ≡ length es
+pub codes-long : (uses : List EntryShape) (es : List GivenEntry) → length (map (λ w. w.code) (written_entries nowhere no_places no_lists uses es)) ≡ length es
 codes-long uses [] = refl
 codes-long uses (e ∷ es) = ap suc (codes-long uses es)
 
 -- an entry more
-pub loop-entries : {A : Type 0} (f : A → GivenEntry) (order : Endian) (size : ℕ) (next : ℕ → List Attribute → ℕ) (p : Places) (ranges after : ℕ) (es : List A) (i : ℕ) (d : A) (uses : List EntryShape) (w v all : Writing) (code : ℕ) → i < length es → after ≡ next ranges (f (get_or es i d)).attributes
-    → whole (entry_bytes order size) (entry_relocations order size) (shaped (written_entries next p ranges uses (map f (drop i es)))) w ≡ all
+pub loop-entries : {A : Type 0} (f : A → GivenEntry) (order : Endian) (size : ℕ) (next : ListPlaces → List Attribute → ListPlaces) (p : Places) (lists after : ListPlaces) (es : List A) (i : ℕ) (d : A) (uses : List EntryShape) (w v all : Writing) (code : ℕ) → i < length es → after ≡ next lists (f (get_or es i d)).attributes
+    → whole (entry_bytes order size) (entry_relocations order size) (shaped (written_entries next p lists uses (map f (drop i es)))) w ≡ all
     → code ≡ code_in uses (shape_of (f (get_or es i d)) (map f (drop (suc i) es)))
-    → v ≡ appended (entry_bytes order size (entry_with next p ranges code (f (get_or es i d)) (map f (drop (suc i) es)))) (entry_relocations order size (length w.body) (entry_with next p ranges code (f (get_or es i d)) (map f (drop (suc i) es)))) w
+    → v ≡ appended (entry_bytes order size (entry_with next p lists code (f (get_or es i d)) (map f (drop (suc i) es)))) (entry_relocations order size (length w.body) (entry_with next p lists code (f (get_or es i d)) (map f (drop (suc i) es)))) w
     → whole (entry_bytes order size) (entry_relocations order size) (shaped (written_entries next p after uses (map f (drop (suc i) es)))) v ≡ all
-loop-entries f order size next p ranges after es i d uses w v all code within onwards invariant is step =
+loop-entries f order size next p lists after es i d uses w v all code within onwards invariant is step =
     let e = f (get_or es i d) in
     let behind = map f (drop (suc i) es) in
     let more = seen-more f es i d within in
     let P : List Shaped → Writing = λ xs. whole (entry_bytes order size) (entry_relocations order size) xs w in
-    let here = ap (λ k. P (entry_with next p ranges k e behind ∷ shaped (written_entries next p (next ranges e.attributes) uses behind))) is ∙ ap P (sym (shaped-more next p ranges uses e behind)) ∙ ap (λ xs. P (shaped (written_entries next p ranges uses xs))) (sym more) ∙ invariant in
-    rw (onwards) (whole-more (entry_bytes order size) (entry_relocations order size) (entry_with next p ranges code e behind) (shaped (written_entries next p (next ranges e.attributes) uses behind)) w v all here step)
+    let here = ap (λ k. P (entry_with next p lists k e behind ∷ shaped (written_entries next p (next lists e.attributes) uses behind))) is ∙ ap P (sym (shaped-more next p lists uses e behind)) ∙ ap (λ xs. P (shaped (written_entries next p lists uses xs))) (sym more) ∙ invariant in
+    rw (onwards) (whole-more (entry_bytes order size) (entry_relocations order size) (entry_with next p lists code e behind) (shaped (written_entries next p (next lists e.attributes) uses behind)) w v all here step)
 
 -- an entry that is refused
-pub loop-entries-refused : {A : Type 0} (f : A → GivenEntry) (order : Endian) (size : ℕ) (next : ℕ → List Attribute → ℕ) (p : Places) (ranges : ℕ) (es : List A) (i : ℕ) (d : A) (uses : List EntryShape) (all : List Shaped) (w a now : Writing) (code : ℕ) (result : Result (Unit {0}) WriteError) (error : WriteError) (rs : List OutputRelocation) → i < length es
-    → whole (entry_bytes order size) (entry_relocations order size) (shaped (written_entries next p ranges uses (map f (drop i es)))) w ≡ whole (entry_bytes order size) (entry_relocations order size) all a
+pub loop-entries-refused : {A : Type 0} (f : A → GivenEntry) (order : Endian) (size : ℕ) (next : ListPlaces → List Attribute → ListPlaces) (p : Places) (lists : ListPlaces) (es : List A) (i : ℕ) (d : A) (uses : List EntryShape) (all : List Shaped) (w a now : Writing) (code : ℕ) (result : Result (Unit {0}) WriteError) (error : WriteError) (rs : List OutputRelocation) → i < length es
+    → whole (entry_bytes order size) (entry_relocations order size) (shaped (written_entries next p lists uses (map f (drop i es)))) w ≡ whole (entry_bytes order size) (entry_relocations order size) all a
     → code ≡ code_in uses (shape_of (f (get_or es i d)) (map f (drop (suc i) es)))
-    → ((e : WriteError) × (result ≡ Err e) × (e ≡ error)) → Refuses error w (length (entry_bytes order size (entry_with next p ranges code (f (get_or es i d)) (map f (drop (suc i) es)))))
+    → ((e : WriteError) × (result ≡ Err e) × (e ≡ error)) → Refuses error w (length (entry_bytes order size (entry_with next p lists code (f (get_or es i d)) (map f (drop (suc i) es)))))
     → Writes a now result (flat_map (entry_bytes order size) all) rs
-loop-entries-refused f order size next p ranges es i d uses all w a now code result error rs within invariant is met refused =
+loop-entries-refused f order size next p lists es i d uses all w a now code result error rs within invariant is met refused =
     let e = f (get_or es i d) in
     let behind = map f (drop (suc i) es) in
     let more = seen-more f es i d within in
     let P : List Shaped → Writing = λ xs. whole (entry_bytes order size) (entry_relocations order size) xs w in
-    let here = ap (λ k. P (entry_with next p ranges k e behind ∷ shaped (written_entries next p (next ranges e.attributes) uses behind))) is ∙ ap P (sym (shaped-more next p ranges uses e behind)) ∙ ap (λ xs. P (shaped (written_entries next p ranges uses xs))) (sym more) ∙ invariant in
-    let later = whole-refused (entry_bytes order size) (entry_relocations order size) (entry_with next p ranges code e behind) (shaped (written_entries next p (next ranges e.attributes) uses behind)) all w a error here refused in
+    let here = ap (λ k. P (entry_with next p lists k e behind ∷ shaped (written_entries next p (next lists e.attributes) uses behind))) is ∙ ap P (sym (shaped-more next p lists uses e behind)) ∙ ap (λ xs. P (shaped (written_entries next p lists uses xs))) (sym more) ∙ invariant in
+    let later = whole-refused (entry_bytes order size) (entry_relocations order size) (entry_with next p lists code e behind) (shaped (written_entries next p (next lists e.attributes) uses behind)) all w a error here refused in
     let is_err : result ≡ Err error = met.1 ∙ ap Err met.2 in
     rw (is_err) later
 
@@ -208,57 +210,57 @@ loop-entries-refused f order size next p ranges es i d uses all w a now code res
 -- an entry more, whose shape is used: codes by first use, offsets, and how long the entries are
 pub record IsStep (order : Endian) (size : ℕ) (known uses : List EntryShape) (codes offsets : List ℕ) (place : ℕ) (all : List ℕ) (starts : List ℕ) (total : ℕ) (es : List GivenEntry) : Type 0 where
   pub used : first_uses known (shapes_of es) ≡ uses
-  pub coded : codes ++ map (λ w. w.code) (written_entries nowhere no_places 0 uses es) ≡ all
-  pub placed : offsets ++ at_places (entry_bytes order size) (λ p x. p ∷ []) place (shaped (written_entries nowhere no_places 0 uses es)) ≡ starts
-  pub long : place + length (flat_map (entry_bytes order size) (shaped (written_entries nowhere no_places 0 uses es))) ≡ total
+  pub coded : codes ++ map (λ w. w.code) (written_entries nowhere no_places no_lists uses es) ≡ all
+  pub placed : offsets ++ at_places (entry_bytes order size) (λ p x. p ∷ []) place (shaped (written_entries nowhere no_places no_lists uses es)) ≡ starts
+  pub long : place + length (flat_map (entry_bytes order size) (shaped (written_entries nowhere no_places no_lists uses es))) ≡ total
 
 pub step-more : (order : Endian) (size : ℕ) (known now uses : List EntryShape) (codes offsets : List ℕ) (place next code : ℕ) (all starts : List ℕ) (total : ℕ) (e : GivenEntry) (es : List GivenEntry) → IsStep order size known uses codes offsets place all starts total (e ∷ es)
-    → now ≡ with_use (shape_of e es) known → code ≡ code_in known (shape_of e es) → next ≡ place + length (entry_bytes order size (entry_with nowhere no_places 0 code e es))
+    → now ≡ with_use (shape_of e es) known → code ≡ code_in known (shape_of e es) → next ≡ place + length (entry_bytes order size (entry_with nowhere no_places no_lists code e es))
     → IsStep order size now uses (codes ++ code ∷ []) (offsets ++ place ∷ []) next all starts total es
 step-more order size known now uses codes offsets place next code all starts total e es step grown is on =
     let s = shape_of e es in
     let final : code_in uses s ≡ code = ap (λ us. code_in us s) (sym step.used) ∙ code-stays s known (shapes_of es) ∙ sym is in
-    let rest = shaped (written_entries nowhere no_places 0 uses es) in
-    let here = entry_with nowhere no_places 0 code e es in
-    let shape_is : shaped (written_entries nowhere no_places 0 uses (e ∷ es)) ≡ here ∷ rest = shaped-more nowhere no_places 0 uses e es ∙ ap (λ k. entry_with nowhere no_places 0 k e es ∷ rest) final in
+    let rest = shaped (written_entries nowhere no_places no_lists uses es) in
+    let here = entry_with nowhere no_places no_lists code e es in
+    let shape_is : shaped (written_entries nowhere no_places no_lists uses (e ∷ es)) ≡ here ∷ rest = shaped-more nowhere no_places no_lists uses e es ∙ ap (λ k. entry_with nowhere no_places no_lists k e es ∷ rest) final in
     let placed = ap (λ xs. offsets ++ at_places (entry_bytes order size) (λ p x. p ∷ []) place xs) (sym shape_is) ∙ step.placed in
     let long = ap (λ xs. place + length (flat_map (entry_bytes order size) xs)) (sym shape_is) ∙ step.long in
     record {
       used = rw (grown) (step.used);
-      coded = append_assoc codes (code ∷ []) _ ∙ ap (λ k. codes ++ k ∷ map (λ w. w.code) (written_entries nowhere no_places 0 uses es)) (sym final) ∙ step.coded;
+      coded = append_assoc codes (code ∷ []) _ ∙ ap (λ k. codes ++ k ∷ map (λ w. w.code) (written_entries nowhere no_places no_lists uses es)) (sym final) ∙ step.coded;
       placed = append_assoc offsets (place ∷ []) _ ∙ ap (λ p. offsets ++ place ∷ at_places (entry_bytes order size) (λ q x. q ∷ []) p rest) on ∙ placed;
       long = omega (arith, on, long, length-append (entry_bytes order size here) (flat_map (entry_bytes order size) rest));
     }
 
 -- the end that is refused
 pub step-refused : (order : Endian) (size : ℕ) (known uses : List EntryShape) (codes offsets : List ℕ) (place code : ℕ) (all starts : List ℕ) (total : ℕ) (e : GivenEntry) (es : List GivenEntry) → IsStep order size known uses codes offsets place all starts total (e ∷ es)
-    → code ≡ code_in known (shape_of e es) → place + length (entry_bytes order size (entry_with nowhere no_places 0 code e es)) ≤ total
+    → code ≡ code_in known (shape_of e es) → place + length (entry_bytes order size (entry_with nowhere no_places no_lists code e es)) ≤ total
 step-refused order size known uses codes offsets place code all starts total e es step is =
     let s = shape_of e es in
     let final : code_in uses s ≡ code = ap (λ us. code_in us s) (sym step.used) ∙ code-stays s known (shapes_of es) ∙ sym is in
-    let rest = shaped (written_entries nowhere no_places 0 uses es) in
-    let here = entry_with nowhere no_places 0 code e es in
-    let shape_is : shaped (written_entries nowhere no_places 0 uses (e ∷ es)) ≡ here ∷ rest = shaped-more nowhere no_places 0 uses e es ∙ ap (λ k. entry_with nowhere no_places 0 k e es ∷ rest) final in
+    let rest = shaped (written_entries nowhere no_places no_lists uses es) in
+    let here = entry_with nowhere no_places no_lists code e es in
+    let shape_is : shaped (written_entries nowhere no_places no_lists uses (e ∷ es)) ≡ here ∷ rest = shaped-more nowhere no_places no_lists uses e es ∙ ap (λ k. entry_with nowhere no_places no_lists k e es ∷ rest) final in
     let long = ap (λ xs. place + length (flat_map (entry_bytes order size) xs)) (sym shape_is) ∙ step.long in
     omega (arith, long, length-append (entry_bytes order size here) (flat_map (entry_bytes order size) rest))
 
 -- while nothing has a place, each attribute is written alone
-pub unplaced-attributes : (xs : List Attribute) → map (written_attribute no_places 0) xs ≡ written_attributes nowhere no_places 0 xs
+pub unplaced-attributes : (xs : List Attribute) → map (written_attribute no_places no_lists) xs ≡ written_attributes nowhere no_places no_lists xs
 unplaced-attributes [] = refl
-unplaced-attributes (x ∷ xs) = ap (λ ys. written_attribute no_places 0 x ∷ ys) (unplaced-attributes xs)
+unplaced-attributes (x ∷ xs) = ap (λ ys. written_attribute no_places no_lists x ∷ ys) (unplaced-attributes xs)
 
--- ---- values one behind another, of which the next range list stands at a place
+-- ---- values one behind another, of which the next lists stand at some places
 
 -- what is there, with what is still to be written
-abbrev pub values_left : ℕ → Places → Endian → ℕ → List Attribute → Writing → Writing
+abbrev pub values_left : ℕ → Places → Endian → ListPlaces → List Attribute → Writing → Writing
 values_left size p order place xs w = whole (attribute_bytes order size) (λ q x. value_relocations size q x.value) (written_attributes (behind_attributes size) p place xs) w
 
-module _ (size : ℕ) (p : Places) (xs : List Attribute) (i : ℕ) (d : Attribute) (place start : ℕ) (a w : Writing) where
+module _ (size : ℕ) (p : Places) (xs : List Attribute) (i : ℕ) (d : Attribute) (place start : ListPlaces) (a w : Writing) where
   pub values-order : values_left size p a.order place (drop i xs) w ≡ values_left size p a.order start xs a → w.order ≡ a.order
   values-order invariant = ap (λ (v : Writing). v.order) invariant
 
   -- a value more
-  pub values-more : (v : Writing) (after : ℕ) → i < length xs → values_left size p a.order place (drop i xs) w ≡ values_left size p a.order start xs a → after ≡ behind_value size place (get_or xs i d).value
+  pub values-more : (v : Writing) (after : ListPlaces) → i < length xs → values_left size p a.order place (drop i xs) w ≡ values_left size p a.order start xs a → after ≡ behind_value size place (get_or xs i d).value
       → v ≡ appended (attribute_bytes w.order size (written_attribute p place (get_or xs i d))) (value_relocations size (length w.body) (written_of p place (get_or xs i d).value)) w
       → values_left size p a.order after (drop (suc i) xs) v ≡ values_left size p a.order start xs a
   values-more v after within invariant onwards step =
@@ -285,6 +287,6 @@ module _ (size : ℕ) (p : Places) (xs : List Attribute) (i : ℕ) (d : Attribut
       let none : drop i xs ≡ [] = drop_all i xs past in
       whole-done (attribute_bytes a.order size) (λ q x. value_relocations size q x.value) w _ (ap (λ ys. values_left size p a.order place ys w) (sym none) ∙ invariant)
 
-  -- the next list stands behind
-  pub next-place : (after : ℕ) → i < length xs → behind_attributes size place (drop i xs) ≡ behind_attributes size start xs → after ≡ behind_value size place (get_or xs i d).value → behind_attributes size after (drop (suc i) xs) ≡ behind_attributes size start xs
+  -- the next lists stand behind
+  pub next-place : (after : ListPlaces) → i < length xs → behind_attributes size place (drop i xs) ≡ behind_attributes size start xs → after ≡ behind_value size place (get_or xs i d).value → behind_attributes size after (drop (suc i) xs) ≡ behind_attributes size start xs
   next-place after within invariant onwards = rw (onwards) (ap (behind_attributes size place) (sym (drop-more xs i d within)) ∙ invariant)

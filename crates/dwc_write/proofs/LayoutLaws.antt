@@ -4,7 +4,6 @@ use Rattle.std.specs.Prelude.{Option, Some, None, Result, sum_by}
 use Rattle.std.specs.List.{AllZip, flat_map}
 use Rattle.std.proofs.lemmas.List.Sums.{sum_by-cons}
 use Rattle.dwc_base.specs.declared.records.Endian.{Endian}
-use Rattle.dwc_base.specs.declared.faults.Limit.TheVariants.{Section, Addend, Range}
 use Rattle.dwc_write.specs.declared.error.WriteError.{WriteError}
 use Rattle.dwc_write.specs.declared.error.WriteError.TheVariants.{TooLarge, OutOfMemory}
 use Rattle.dwc_write.specs.Spelled.{at_places}
@@ -12,8 +11,11 @@ use Rattle.dwc_write.specs.SpelledUnits.{WrittenAttribute, shaped}
 use Rattle.dwc_write.specs.GivenUnits.{EntryShape, GivenEntry, OrderedUnit, no_places, size_of, written_attribute, written_attributes, written_entries}
 use Rattle.dwc_write.specs.declared.attributes.Attribute.{Attribute}
 use Rattle.dwc_write.proofs.EntriesLaws.{unplaced-attributes}
-use Rattle.dwc_write.specs.RangeLists.{nowhere}
+use Rattle.dwc_write.specs.Lists.{no_lists, nowhere}
 use Rattle.dwc_write.specs.Layouts.{UnitPlaces, offset_among, offset_if_added, offsets_by_number, places_of_units, unit_length}
+use Rattle.dwc_base.specs.declared.section_name.SectionName.TheVariants.{Info}
+use Rattle.dwc_write.specs.Writers.{section_of}
+use Rattle.dwc_write.proofs.RefusalLaws.{past-limit}
 use Rattle.dwc_write.specs.LayoutViews.{Advances, AdvancesOrMemory, offset_known, places_view}
 use Rattle.dwc_write.specs.declared.layout.UnitLayout.{UnitLayout}
 
@@ -35,21 +37,15 @@ spelled-done spell view (x ∷ xs) (suc i) past = spelled-done spell view xs i (
 -- a refusal on the way is one of the whole
 pub advance-refused : (result : Result ℕ WriteError) (e : WriteError) (behind more place total : ℕ) → ((error : WriteError) × (result ≡ Err error) × (error ≡ e)) → Advances (Err e) behind more → behind + more ≤ place + total → Advances result place total
 advance-refused result OutOfMemory behind more place total p refused less = absurd refused
-advance-refused result (TooLarge Addend) behind more place total p refused less = absurd refused
-advance-refused result (TooLarge Range) behind more place total p refused less = absurd refused
-advance-refused result (TooLarge (Section name)) behind more place total p refused less =
-    let is : result ≡ Err (TooLarge (Section name)) = p.1 ∙ ap Err p.2 in
-    let large = refused.1 in
-    rw (is) (refused.0, omega (arith, large, less))
+advance-refused result (TooLarge what) behind more place total p refused less =
+    let is : result ≡ Err (TooLarge what) = p.1 ∙ ap Err p.2 in
+    rw (is) (past-limit Info _ _ (section_of what) (λ large. omega (arith, large, less)) refused)
 
 pub advance-free : (result : Result ℕ WriteError) (e : WriteError) (behind more place total : ℕ) → ((error : WriteError) × (result ≡ Err error) × (error ≡ e)) → Advances (Err e) behind more → behind + more ≤ place + total → AdvancesOrMemory result place total
 advance-free result OutOfMemory behind more place total p refused less = absurd refused
-advance-free result (TooLarge Addend) behind more place total p refused less = absurd refused
-advance-free result (TooLarge Range) behind more place total p refused less = absurd refused
-advance-free result (TooLarge (Section name)) behind more place total p refused less =
-    let is : result ≡ Err (TooLarge (Section name)) = p.1 ∙ ap Err p.2 in
-    let large = refused.1 in
-    rw (is) (refused.0, omega (arith, large, less))
+advance-free result (TooLarge what) behind more place total p refused less =
+    let is : result ≡ Err (TooLarge what) = p.1 ∙ ap Err p.2 in
+    rw (is) (past-limit Info _ _ (section_of what) (λ large. omega (arith, large, less)) refused)
 
 -- ---- offsets by numbers
 
@@ -67,7 +63,7 @@ pub offsets-many : {A : Type 0} (spell : A → List ℕ) (place : ℕ) (xs : Lis
 offsets-many spell place [] = refl
 offsets-many spell place (x ∷ xs) = ap suc (offsets-many spell (place + length (spell x)) xs)
 
-pub shaped-many : (shapes : List EntryShape) (es : List GivenEntry) → length (shaped (written_entries nowhere no_places 0 shapes es)) ≡ length es
+pub shaped-many : (shapes : List EntryShape) (es : List GivenEntry) → length (shaped (written_entries nowhere no_places no_lists shapes es)) ≡ length es
 shaped-many shapes [] = refl
 shaped-many shapes (e ∷ es) = ap suc (shaped-many shapes es)
 
@@ -146,7 +142,7 @@ unit-within order size (v ∷ us) (suc i) u d within at = omega (arith, unit-wit
 
 -- the same of attributes while nothing has a place
 pub unplaced-more : (spell : WrittenAttribute → List ℕ) (xs : List Attribute) (i : ℕ) (d : Attribute) → i < length xs
-    → length (flat_map spell (written_attributes nowhere no_places 0 (drop i xs))) ≡ length (spell (written_attribute no_places 0 (get_or xs i d))) + length (flat_map spell (written_attributes nowhere no_places 0 (drop (suc i) xs)))
+    → length (flat_map spell (written_attributes nowhere no_places no_lists (drop i xs))) ≡ length (spell (written_attribute no_places no_lists (get_or xs i d))) + length (flat_map spell (written_attributes nowhere no_places no_lists (drop (suc i) xs)))
 unplaced-more spell xs i d within =
-    let same : (ys : List Attribute) → length (flat_map spell (map (written_attribute no_places 0) ys)) ≡ length (flat_map spell (written_attributes nowhere no_places 0 ys)) = λ ys. ap (λ zs. length (flat_map spell zs)) (unplaced-attributes ys) in
-    omega (arith, same (drop i xs), same (drop (suc i) xs), spelled-more spell (written_attribute no_places 0) xs i d within)
+    let same : (ys : List Attribute) → length (flat_map spell (map (written_attribute no_places no_lists) ys)) ≡ length (flat_map spell (written_attributes nowhere no_places no_lists ys)) = λ ys. ap (λ zs. length (flat_map spell zs)) (unplaced-attributes ys) in
+    omega (arith, same (drop i xs), same (drop (suc i) xs), spelled-more spell (written_attribute no_places no_lists) xs i d within)

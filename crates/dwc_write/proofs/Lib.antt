@@ -21,12 +21,15 @@ pub mod NameLaws
 pub mod RowLaws
 pub mod UnitLaws
 pub mod AttributeLaws
+pub mod RefusalLaws
 pub mod WritesLaws
-pub mod PairLaws
+pub mod ListLaws
+pub mod ReadListed
 pub mod ReadLists
 pub mod RelatedLists
 pub mod ListPlaces
 pub mod WidestLists
+pub mod ListsFit
 pub mod ListsGiven
 pub mod RelatedListsGiven
 pub mod SequenceLaws
@@ -40,7 +43,10 @@ pub mod EntriesLaws
 pub mod UnitBytes
 pub mod OutputLaws
 pub mod PlacedEntries
+pub mod SectionsHold
 pub mod ReadBackLaws
+pub mod ListsStand
+pub mod ShortLaws
 pub mod ReadTrees
 pub mod OutputForms
 pub mod ReadFields

@@ -1,37 +1,97 @@
--- Where range lists stand: one behind another, as their bytes do.
-use Rattle.std.proofs.Common.{◌≡◌, ℕ, ◌+◌, ◌≤◌, ap, ◌∙◌, arith, List, [], ◌∷◌, ◌++◌, length, length-append}
-use Rattle.std.specs.Prelude.{◌*◌}
+-- Where lists stand: one behind another, as their bytes do.
+use Rattle.std.proofs.Common.{◌≡◌, ℕ, suc, ◌+◌, ◌<◌, ◌≤◌, refl, sym, ap, ◌∙◌, arith, List, [], ◌∷◌, ◌++◌, length, length-append, drop, get_or, map, Option, Some, None}
 use Rattle.std.proofs.lemmas.Grind.{flat_map-append}
-use Rattle.dwc_base.specs.declared.records.Address.{Address}
+use Rattle.std.proofs.lemmas.List.Sums.{sum_by-cons}
 use Rattle.dwc_base.specs.declared.records.Endian.{Endian}
 use Rattle.dwc_write.specs.declared.attributes.Attribute.{Attribute}
-use Rattle.dwc_write.specs.GivenUnits.{GivenEntry, behind_entries, pairs_of_entries}
-use Rattle.dwc_write.specs.RangeLists.{behind_attributes, behind_value, pair_bytes, pairs_bytes, pairs_of_attributes, pairs_of_value}
-use Rattle.dwc_write.proofs.RelatedLists.{pair-length}
+use Rattle.dwc_write.specs.declared.attributes.AttributeValue.{AttributeValue}
+use Rattle.dwc_write.specs.declared.list_places.ListPlaces.{ListPlaces}
+use Rattle.dwc_write.specs.GivenUnits.{GivenEntry, OrderedUnit, behind_entries, lists_of_entries}
+use Rattle.dwc_write.specs.Layouts.{behind_unit}
+use Rattle.dwc_write.specs.Lists.{ListEntry, AreWithin, behind_attributes, behind_lists, behind_value, end_of, ended, held_bytes, held_length, list_bytes, list_length, listed_bytes, listed_length, lists_of_attributes, locations_in, ranges_in}
+use Rattle.dwc_write.specs.SpelledAddresses.{address_bytes, stored}
+use Rattle.dwc_base.specs.NumberBytes.{number_bytes}
+use Rattle.dwc_write.proofs.ListLaws.{drop-more}
+use Rattle.dwc_write.proofs.ReadNumbers.{number_bytes-length}
 
--- the next list stands behind
-pub behind-most : (size ranges : ℕ) (xs : List Attribute) → ranges ≤ behind_attributes size ranges xs
-behind-most size ranges [] = omega arith
-behind-most size ranges (x ∷ xs) = omega (arith, behind-most size (behind_value size ranges x.value) xs)
+-- ---- the next lists stand behind
 
-pub behind-all : (size ranges : ℕ) (es : List GivenEntry) → ranges ≤ behind_entries size ranges es
-behind-all size ranges [] = omega arith
-behind-all size ranges (e ∷ es) = omega (arith, behind-most size ranges e.attributes, behind-all size (behind_attributes size ranges e.attributes) es)
+most-behind : (lists : AttributeValue → List ListEntry) (size place : ℕ) (xs : List Attribute) → place ≤ behind_lists lists size place xs
+most-behind lists size place [] = omega arith
+most-behind lists size place (x ∷ xs) = omega (arith, most-behind lists size (place + list_length size (lists x.value)) xs)
+
+pub within-attributes : (size : ℕ) (places : ListPlaces) (xs : List Attribute) → AreWithin (behind_attributes size places xs) → AreWithin places
+within-attributes size places xs short =
+    let ranges = short.ranges in
+    let locations = short.locations in
+    record { ranges = omega (arith, ranges, most-behind ranges_in size places.ranges xs); locations = omega (arith, locations, most-behind locations_in size places.locations xs) }
+
+pub within-entries : (size : ℕ) (places : ListPlaces) (es : List GivenEntry) → AreWithin (behind_entries size places es) → AreWithin places
+within-entries size places [] short = short
+within-entries size places (e ∷ es) short = within-attributes size places e.attributes (within-entries size (behind_attributes size places e.attributes) es short)
+
+-- behind an attribute more
+pub behind-more : (size : ℕ) (xs : List Attribute) (i : ℕ) (d : Attribute) (places after all : ListPlaces) → i < length xs → behind_attributes size places (drop i xs) ≡ all → after ≡ behind_value size places (get_or xs i d).value → behind_attributes size after (drop (suc i) xs) ≡ all
+behind-more size xs i d places after all within invariant onwards = ap (λ p. behind_attributes size p (drop (suc i) xs)) onwards ∙ ap (behind_attributes size places) (sym (drop-more xs i d within)) ∙ invariant
+
+-- the place behind an entry more
+pub listed-more : {A : Type 0} (f : A → ListEntry) (size : ℕ) (xs : List A) (i : ℕ) (d : A) → i < length xs → list_length size (ended (map f (drop i xs))) ≡ listed_length size (f (get_or xs i d)) + list_length size (ended (map f (drop (suc i) xs)))
+listed-more f size xs i d within = ap (λ ys. list_length size (ended (map f ys))) (drop-more xs i d within) ∙ sum_by-cons (listed_length size) (f (get_or xs i d)) (ended (map f (drop (suc i) xs)))
+
+-- ---- as their bytes do
+
+pub places-equal : {a b c d : ℕ} → a ≡ b → c ≡ d → ◌≡◌ {A = ListPlaces} (record { ranges = a; locations = c }) (record { ranges = b; locations = d })
+places-equal {a} {b} {c} {d} p q = rw (p, q) refl
 
 module _ (order : Endian) (size : ℕ) where
-  pub pairs-length : (ps : List (Address × ℕ)) → length (pairs_bytes order size ps) ≡ (size + size) * length ps
-  pairs-length [] = omega arith
-  pairs-length (p ∷ ps) = grind (arith, pairs-length ps, pair-length order size p, length-append (pair_bytes order size p) (pairs_bytes order size ps))
+  held-length : (o : Option (List ℕ)) → length (held_bytes order o) ≡ held_length o
+  held-length None = refl
+  held-length (Some bytes) = omega (arith, length-append (number_bytes order 2 (length bytes)) bytes, number_bytes-length order 2 (length bytes))
 
-  both-length : (ps qs : List (Address × ℕ)) → length (pairs_bytes order size (ps ++ qs)) ≡ length (pairs_bytes order size ps) + length (pairs_bytes order size qs)
-  both-length ps qs = ap length (flat_map-append (pair_bytes order size) ps qs) ∙ length-append (pairs_bytes order size ps) (pairs_bytes order size qs)
+  pub listed-length : (e : ListEntry) → length (listed_bytes order size e) ≡ listed_length size e
+  listed-length e =
+      let begin = address_bytes order size e.begin in
+      let end = address_bytes order size (end_of e) in
+      let held = held_bytes order e.holds in
+      omega (arith, length-append begin (end ++ held), length-append end held, number_bytes-length order size (stored e.begin), number_bytes-length order size (stored (end_of e)), held-length e.holds)
 
-  pub attributes-behind : (ranges : ℕ) (xs : List Attribute) → behind_attributes size ranges xs ≡ ranges + length (pairs_bytes order size (pairs_of_attributes xs))
-  attributes-behind ranges [] = omega arith
-  attributes-behind ranges (x ∷ xs) =
-      omega (arith, attributes-behind (behind_value size ranges x.value) xs, pairs-length (pairs_of_value x.value), both-length (pairs_of_value x.value) (pairs_of_attributes xs))
+  pub list-length : (es : List ListEntry) → length (list_bytes order size es) ≡ list_length size es
+  list-length [] = refl
+  list-length (e ∷ es) = omega (arith, list-length es, listed-length e, length-append (listed_bytes order size e) (list_bytes order size es), sum_by-cons (listed_length size) e es)
 
-  pub entries-behind : (ranges : ℕ) (es : List GivenEntry) → behind_entries size ranges es ≡ ranges + length (pairs_bytes order size (pairs_of_entries es))
-  entries-behind ranges [] = omega arith
-  entries-behind ranges (e ∷ es) =
-      omega (arith, entries-behind (behind_attributes size ranges e.attributes) es, attributes-behind ranges e.attributes, both-length (pairs_of_attributes e.attributes) (pairs_of_entries es))
+  pub both-length : (es fs : List ListEntry) → length (list_bytes order size (es ++ fs)) ≡ length (list_bytes order size es) + length (list_bytes order size fs)
+  both-length es fs = ap length (flat_map-append (listed_bytes order size) es fs) ∙ length-append (list_bytes order size es) (list_bytes order size fs)
+
+  pub attributes-behind : (lists : AttributeValue → List ListEntry) (place : ℕ) (xs : List Attribute) → behind_lists lists size place xs ≡ place + length (list_bytes order size (lists_of_attributes lists xs))
+  attributes-behind lists place [] = omega arith
+  attributes-behind lists place (x ∷ xs) =
+      omega (arith, attributes-behind lists (place + list_length size (lists x.value)) xs, list-length (lists x.value), both-length (lists x.value) (lists_of_attributes lists xs))
+
+  -- the places behind lists, by their bytes
+  abbrev pub places_behind : ListPlaces → List ListEntry → List ListEntry → ListPlaces
+  places_behind places rs ls = record { ranges = places.ranges + length (list_bytes order size rs); locations = places.locations + length (list_bytes order size ls) }
+
+  pub value-behind : (places : ListPlaces) (v : AttributeValue) → behind_value size places v ≡ places_behind places (ranges_in v) (locations_in v)
+  value-behind places v = places-equal (ap (λ n. places.ranges + n) (sym (list-length (ranges_in v)))) (ap (λ n. places.locations + n) (sym (list-length (locations_in v))))
+
+  pub all-behind : (places : ListPlaces) (xs : List Attribute) → behind_attributes size places xs ≡ places_behind places (lists_of_attributes ranges_in xs) (lists_of_attributes locations_in xs)
+  all-behind places xs = places-equal (attributes-behind ranges_in places.ranges xs) (attributes-behind locations_in places.locations xs)
+
+  pub entries-behind : (places : ListPlaces) (es : List GivenEntry) → behind_entries size places es ≡ places_behind places (lists_of_entries ranges_in es) (lists_of_entries locations_in es)
+  entries-behind places [] = places-equal (omega arith) (omega arith)
+  entries-behind places (e ∷ es) =
+      entries-behind (behind_attributes size places e.attributes) es
+      ∙ places-equal (omega (arith, attributes-behind ranges_in places.ranges e.attributes, both-length (lists_of_attributes ranges_in e.attributes) (lists_of_entries ranges_in es)))
+      (omega (arith, attributes-behind locations_in places.locations e.attributes, both-length (lists_of_attributes locations_in e.attributes) (lists_of_entries locations_in es)))
+
+-- Where the lists of a kind stand.
+pub record IsPlaceOf (kind : AttributeValue → List ListEntry) (size : ℕ) (at : ListPlaces → ℕ) : Type 0 where
+  pub value : (places : ListPlaces) (v : AttributeValue) → at (behind_value size places v) ≡ at places + list_length size (kind v)
+  pub attributes : (places : ListPlaces) (xs : List Attribute) → at (behind_attributes size places xs) ≡ behind_lists kind size (at places) xs
+  pub unit : (order : Endian) (places : ListPlaces) (u : OrderedUnit) → at (behind_unit order size places u) ≡ at places + length (list_bytes order size (lists_of_entries kind u.entries))
+
+pub ranges-place : (size : ℕ) → IsPlaceOf ranges_in size (λ places. places.ranges)
+ranges-place size = record { value = λ places v. refl; attributes = λ places xs. refl; unit = λ order places u. refl }
+
+pub locations-place : (size : ℕ) → IsPlaceOf locations_in size (λ places. places.locations)
+locations-place size = record { value = λ places v. refl; attributes = λ places xs. refl; unit = λ order places u. refl }

@@ -1,102 +1,160 @@
--- The range lists of units that are spelled are read where their values say.
+-- The lists of units that are spelled are read where their values say: `entries-read`, for each kind.
 use Rattle.std.proofs.Common.{◌≡◌, ℕ, ◌+◌, ◌<◌, sym, ap, subst, ◌∙◌, arith, List, [], ◌∷◌, ◌++◌, append_assoc, length, length-append, map, Ok}
 use Rattle.std.specs.List.{All}
 use Rattle.std.proofs.lemmas.Grind.{flat_map-append}
 use Rattle.std.proofs.lemmas.List.Elements.{All-head, All-tail}
-use Rattle.dwc_base.specs.declared.records.Address.{Address as RangeAddress}
-use Rattle.dwc_base.specs.declared.section_name.SectionName.TheVariants.{Ranges}
+use Rattle.dwc_base.specs.declared.section_name.SectionName.{SectionName}
+use Rattle.dwc_base.specs.declared.section_name.SectionName.TheVariants.{Loc, Ranges}
 use Rattle.dwc_base.specs.Sections.{Sections}
 use Rattle.dwc_base.specs.Units.{UnitHeader}
 use Rattle.dwc_base.specs.Entries.{Entry}
-use Rattle.dwc_base.specs.Values.{range_reference}
+use Rattle.dwc_base.specs.Values.{location_reference, range_reference}
 use Rattle.dwc_base.specs.TreeReading.{ListReading, output_lists}
 use Rattle.dwc_write.specs.declared.attributes.Attribute.{Attribute}
 use Rattle.dwc_write.specs.declared.attributes.AttributeValue.{AttributeValue}
-use Rattle.dwc_write.specs.declared.attributes.AttributeValue.TheVariants.{Address, Constant, Flag, Block, Exprloc, StringRef, LineProgramRef, RangeListRef, UnitRef, DebugInfoRef}
-use Rattle.dwc_write.specs.GivenUnits.{GivenEntry, FitsAttribute, FitsEntry, FitsValue, pairs_of_entries}
-use Rattle.dwc_write.specs.RangeLists.{behind_attributes, behind_value, interval_of, pair_bytes, pair_fields, pairs_bytes, pairs_fields, pairs_of_attributes, pairs_of_value}
+use Rattle.dwc_write.specs.declared.attributes.AttributeValue.TheVariants.{Address, Constant, Flag, Block, Exprloc, StringRef, LineProgramRef, RangeListRef, LocationListRef, UnitRef, DebugInfoRef}
+use Rattle.dwc_write.specs.declared.list_places.ListPlaces.{ListPlaces}
+use Rattle.dwc_write.specs.GivenUnits.{GivenEntry, FitsAttribute, FitsEntry, FitsValue, lists_of_entries}
+use Rattle.dwc_write.specs.RangeLists.{interval_of}
+use Rattle.dwc_write.specs.Lists.{ListEntry, IsShort, behind_lists, list_bytes, list_fields, list_length, listed_bytes, listed_fields, lists_of_attributes, location_of, locations_in, ranges_in}
 use Rattle.dwc_write.specs.SpelledAddresses.{AddressField, IsHeld}
-use Rattle.dwc_write.proofs.ListPlaces.{attributes-behind, pairs-length}
-use Rattle.dwc_write.proofs.ReadLists.{ranges-read}
+use Rattle.dwc_write.proofs.ListPlaces.{attributes-behind, list-length}
+use Rattle.dwc_write.proofs.ReadLists.{locations-read, ranges-read}
 use Rattle.dwc_write.proofs.ReadRelocations.{at_places-append}
 use Rattle.dwc_write.proofs.ReadValues.{All-back, All-front}
 
--- a range list is read where it stands
-abbrev pub IsListRead : ListReading → UnitHeader → ℕ → AttributeValue → Type 0
-IsListRead lists h ranges (RangeListRef list) = (e : Entry) → lists.ranges_at h e (range_reference ranges) ≡ Ok (map interval_of list.ranges.items)
-IsListRead lists h ranges _ = Unit {0}
+-- ---- what is read of lists
 
-abbrev pub AreListsRead : ListReading → UnitHeader → (ℕ → List Attribute → ℕ) → ℕ → List Attribute → Type 0
-AreListsRead lists h next ranges [] = Unit {0}
-AreListsRead lists h next ranges (x ∷ xs) = IsListRead lists h ranges x.value × AreListsRead lists h next (next ranges (x ∷ [])) xs
+-- a range list is read at a place
+abbrev pub IsRangeRead : ListReading → UnitHeader → ℕ → AttributeValue → Type 0
+IsRangeRead lists h place (RangeListRef list) = (e : Entry) → lists.ranges_at h e (range_reference place) ≡ Ok (map interval_of list.ranges.items)
+IsRangeRead lists h place _ = Unit {0}
 
-abbrev pub AreAllListsRead : ListReading → UnitHeader → (ℕ → List Attribute → ℕ) → ℕ → List GivenEntry → Type 0
-AreAllListsRead lists h next ranges [] = Unit {0}
-AreAllListsRead lists h next ranges (g ∷ gs) = AreListsRead lists h next ranges g.attributes × AreAllListsRead lists h next (next ranges g.attributes) gs
+-- and a location list
+abbrev pub IsLocationRead : ListReading → UnitHeader → ℕ → AttributeValue → Type 0
+IsLocationRead lists h place (LocationListRef list) = (e : Entry) → lists.locations_at h e (location_reference place) ≡ Ok (map location_of list.locations.items)
+IsLocationRead lists h place _ = Unit {0}
 
-module _ (s : Sections) (h : UnitHeader) (version : h.version ≡ 4) (some : 0 < h.address_size) where
-  -- pairs stand in the section behind what is in front of them, and their fields hold
-  pub record StandThere (front rest : List ℕ) (ps : List (RangeAddress × ℕ)) : Type 0 where
-    pub bytes : s.bytes Ranges ≡ front ++ (pairs_bytes s.order h.address_size ps ++ rest)
-    pub held : All (IsHeld (s.relocations Ranges)) (pairs_fields s.order h.address_size (length front) ps)
+-- Those of a kind of attributes, and of entries, are read from a place on.
+abbrev pub AreRead : (AttributeValue → List ListEntry) → (ℕ → AttributeValue → Type 0) → ℕ → ℕ → List Attribute → Type 0
+AreRead lists Reads size place [] = Unit {0}
+AreRead lists Reads size place (x ∷ xs) = Reads place x.value × AreRead lists Reads size (place + list_length size (lists x.value)) xs
 
-  module _ (front rest : List ℕ) (ps qs : List (RangeAddress × ℕ)) (there : StandThere front rest (ps ++ qs)) where
-    abbrev order_bytes : List (RangeAddress × ℕ) → List ℕ
-    order_bytes rs = pairs_bytes s.order h.address_size rs
+abbrev pub AreAllRead : (AttributeValue → List ListEntry) → (ℕ → AttributeValue → Type 0) → ℕ → ℕ → List GivenEntry → Type 0
+AreAllRead lists Reads size place [] = Unit {0}
+AreAllRead lists Reads size place (g ∷ gs) = AreRead lists Reads size place g.attributes × AreAllRead lists Reads size (behind_lists lists size place g.attributes) gs
 
-    both : order_bytes (ps ++ qs) ++ rest ≡ order_bytes ps ++ (order_bytes qs ++ rest)
-    both = ap (λ bs. bs ++ rest) (flat_map-append (pair_bytes s.order h.address_size) ps qs) ∙ append_assoc (order_bytes ps) (order_bytes qs) rest
+-- both kinds
+abbrev pub AreListsRead : ListReading → UnitHeader → ℕ → ListPlaces → List Attribute → Type 0
+AreListsRead lists h size places xs = AreRead ranges_in (IsRangeRead lists h) size places.ranges xs × AreRead locations_in (IsLocationRead lists h) size places.locations xs
 
-    fields : All (IsHeld (s.relocations Ranges)) (pairs_fields s.order h.address_size (length front) ps ++ pairs_fields s.order h.address_size (length front + length (order_bytes ps)) qs)
+abbrev pub AreAllListsRead : ListReading → UnitHeader → ℕ → ListPlaces → List GivenEntry → Type 0
+AreAllListsRead lists h size places gs = AreAllRead ranges_in (IsRangeRead lists h) size places.ranges gs × AreAllRead locations_in (IsLocationRead lists h) size places.locations gs
+
+-- ---- entries that stand in a section
+
+module _ (s : Sections) (size : ℕ) (name : SectionName) where
+  -- Short entries stand in the section behind what is in front of them, and their fields hold.
+  pub record StandThere (front rest : List ℕ) (es : List ListEntry) : Type 0 where
+    pub bytes : s.bytes name ≡ front ++ (list_bytes s.order size es ++ rest)
+    pub held : All (IsHeld (s.relocations name)) (list_fields s.order size (length front) es)
+    pub short : All (λ e. IsShort e.holds) es
+
+  module _ (front rest : List ℕ) (es fs : List ListEntry) (there : StandThere front rest (es ++ fs)) where
+    abbrev order_bytes : List ListEntry → List ℕ
+    order_bytes xs = list_bytes s.order size xs
+
+    both : order_bytes (es ++ fs) ++ rest ≡ order_bytes es ++ (order_bytes fs ++ rest)
+    both = ap (λ bs. bs ++ rest) (flat_map-append (listed_bytes s.order size) es fs) ∙ append_assoc (order_bytes es) (order_bytes fs) rest
+
+    fields : All (IsHeld (s.relocations name)) (list_fields s.order size (length front) es ++ list_fields s.order size (length front + length (order_bytes es)) fs)
     fields =
-        let P : List AddressField → Type 0 = λ fs. All (IsHeld (s.relocations Ranges)) fs in
-        subst P (at_places-append (pair_bytes s.order h.address_size) (pair_fields s.order h.address_size) ps qs (length front)) there.held
+        let P : List AddressField → Type 0 = λ xs. All (IsHeld (s.relocations name)) xs in
+        subst P (at_places-append (listed_bytes s.order size) (listed_fields s.order size) es fs (length front)) there.held
 
-    pub stand-front : StandThere front (order_bytes qs ++ rest) ps
+    pub stand-front : StandThere front (order_bytes fs ++ rest) es
     stand-front = record {
       bytes = there.bytes ∙ ap (λ bs. front ++ bs) both;
-      held = All-front (IsHeld (s.relocations Ranges)) (pairs_fields s.order h.address_size (length front) ps) _ fields;
+      held = All-front (IsHeld (s.relocations name)) (list_fields s.order size (length front) es) _ fields;
+      short = All-front (λ (e : ListEntry). IsShort e.holds) es fs there.short;
     }
 
-    pub stand-back : StandThere (front ++ order_bytes ps) rest qs
+    pub stand-back : StandThere (front ++ order_bytes es) rest fs
     stand-back =
-        let P : ℕ → Type 0 = λ n. All (IsHeld (s.relocations Ranges)) (pairs_fields s.order h.address_size n qs) in
+        let P : ℕ → Type 0 = λ n. All (IsHeld (s.relocations name)) (list_fields s.order size n fs) in
         record {
-          bytes = there.bytes ∙ ap (λ bs. front ++ bs) both ∙ sym (append_assoc front (order_bytes ps) (order_bytes qs ++ rest));
-          held = subst P (sym (length-append front (order_bytes ps))) (All-back (IsHeld (s.relocations Ranges)) (pairs_fields s.order h.address_size (length front) ps) _ fields);
+          bytes = there.bytes ∙ ap (λ bs. front ++ bs) both ∙ sym (append_assoc front (order_bytes es) (order_bytes fs ++ rest));
+          held = subst P (sym (length-append front (order_bytes es))) (All-back (IsHeld (s.relocations name)) (list_fields s.order size (length front) es) _ fields);
+          short = All-back (λ (e : ListEntry). IsShort e.holds) es fs there.short;
         }
 
-  value-listed : (front rest : List ℕ) (name : ℕ) (v : AttributeValue) → FitsValue h.address_size name v → StandThere front rest (pairs_of_value v) → IsListRead (output_lists s) h (length front) v
-  value-listed front rest name (RangeListRef list) fits there = λ e. ranges-read s h version some front rest list.ranges.items there.bytes fits.1 there.held e
-  value-listed front rest name (Address a) fits there = tt
-  value-listed front rest name (Constant form bits) fits there = tt
-  value-listed front rest name (Flag b) fits there = tt
-  value-listed front rest name (Block bytes) fits there = tt
-  value-listed front rest name (Exprloc x) fits there = tt
-  value-listed front rest name (StringRef id) fits there = tt
-  value-listed front rest name LineProgramRef fits there = tt
-  value-listed front rest name (UnitRef id) fits there = tt
-  value-listed front rest name (DebugInfoRef reference) fits there = tt
+  -- where the next list stands, by the bytes in front of it
+  module _ (kind : AttributeValue → List ListEntry) (front : List ℕ) where
+    pub next-value : (v : AttributeValue) → length (front ++ list_bytes s.order size (kind v)) ≡ length front + list_length size (kind v)
+    next-value v = omega (arith, length-append front (list_bytes s.order size (kind v)), list-length s.order size (kind v))
 
-  attributes-listed : (front rest : List ℕ) (xs : List Attribute) → All (FitsAttribute h.address_size) xs → StandThere front rest (pairs_of_attributes xs) → AreListsRead (output_lists s) h (behind_attributes h.address_size) (length front) xs
-  attributes-listed front rest [] fits there = tt
-  attributes-listed front rest (x ∷ xs) fits there =
-      let ps = pairs_of_value x.value in
-      let qs = pairs_of_attributes xs in
-      let next : length (front ++ pairs_bytes s.order h.address_size ps) ≡ behind_value h.address_size (length front) x.value = omega (arith, length-append front (pairs_bytes s.order h.address_size ps), pairs-length s.order h.address_size ps) in
-      let P : ℕ → Type 0 = λ n. AreListsRead (output_lists s) h (behind_attributes h.address_size) n xs in (
-        value-listed front _ x.name x.value (All-head (FitsAttribute h.address_size) x xs fits).value (stand-front front rest ps qs there),
-        subst P next (attributes-listed (front ++ pairs_bytes s.order h.address_size ps) rest xs (All-tail (FitsAttribute h.address_size) x xs fits) (stand-back front rest ps qs there)),
-      )
+    pub next-attributes : (xs : List Attribute) → length (front ++ list_bytes s.order size (lists_of_attributes kind xs)) ≡ behind_lists kind size (length front) xs
+    next-attributes xs = length-append front (list_bytes s.order size (lists_of_attributes kind xs)) ∙ sym (attributes-behind s.order size kind (length front) xs)
 
-  -- the lists of the entries of a unit
-  pub entries-listed : (front rest : List ℕ) (es : List GivenEntry) → All (FitsEntry h.address_size) es → StandThere front rest (pairs_of_entries es) → AreAllListsRead (output_lists s) h (behind_attributes h.address_size) (length front) es
-  entries-listed front rest [] fits there = tt
-  entries-listed front rest (e ∷ es) fits there =
-      let ps = pairs_of_attributes e.attributes in
-      let qs = pairs_of_entries es in
-      let next : length (front ++ pairs_bytes s.order h.address_size ps) ≡ behind_attributes h.address_size (length front) e.attributes = length-append front (pairs_bytes s.order h.address_size ps) ∙ sym (attributes-behind s.order h.address_size (length front) e.attributes) in
-      let P : ℕ → Type 0 = λ n. AreAllListsRead (output_lists s) h (behind_attributes h.address_size) n es in (
-        attributes-listed front _ e.attributes (All-head (FitsEntry h.address_size) e es fits).attributes (stand-front front rest ps qs there),
-        subst P next (entries-listed (front ++ pairs_bytes s.order h.address_size ps) rest es (All-tail (FitsEntry h.address_size) e es fits) (stand-back front rest ps qs there)),
-      )
+  -- what is read of each list is read of all
+  module _ (kind : AttributeValue → List ListEntry) (Reads : ℕ → AttributeValue → Type 0) (each : (front rest : List ℕ) (x : Attribute) → FitsAttribute size x → StandThere front rest (kind x.value) → Reads (length front) x.value) where
+    attributes-read : (front rest : List ℕ) (xs : List Attribute) → All (FitsAttribute size) xs → StandThere front rest (lists_of_attributes kind xs) → AreRead kind Reads size (length front) xs
+    attributes-read front rest [] fits there = tt
+    attributes-read front rest (x ∷ xs) fits there =
+        let es = kind x.value in
+        let fs = lists_of_attributes kind xs in
+        let P : ℕ → Type 0 = λ n. AreRead kind Reads size n xs in (
+          each front _ x (All-head (FitsAttribute size) x xs fits) (stand-front front rest es fs there),
+          subst P (next-value kind front x.value) (attributes-read (front ++ list_bytes s.order size es) rest xs (All-tail (FitsAttribute size) x xs fits) (stand-back front rest es fs there)),
+        )
+
+    pub entries-read : (front rest : List ℕ) (gs : List GivenEntry) → All (FitsEntry size) gs → StandThere front rest (lists_of_entries kind gs) → AreAllRead kind Reads size (length front) gs
+    entries-read front rest [] fits there = tt
+    entries-read front rest (g ∷ gs) fits there =
+        let es = lists_of_attributes kind g.attributes in
+        let fs = lists_of_entries kind gs in
+        let P : ℕ → Type 0 = λ n. AreAllRead kind Reads size n gs in (
+          attributes-read front _ g.attributes (All-head (FitsEntry size) g gs fits).attributes (stand-front front rest es fs there),
+          subst P (next-attributes kind front g.attributes) (entries-read (front ++ list_bytes s.order size es) rest gs (All-tail (FitsEntry size) g gs fits) (stand-back front rest es fs there)),
+        )
+
+-- ---- the lists of both kinds
+
+module _ (s : Sections) (h : UnitHeader) (version : h.version ≡ 4) (some : 0 < h.address_size) where
+  range-read : (front rest : List ℕ) (x : Attribute) → FitsAttribute h.address_size x → StandThere s h.address_size Ranges front rest (ranges_in x.value) → IsRangeRead (output_lists s) h (length front) x.value
+  range-read front rest x fits there = go x.value fits.value there
+    where
+      go : (v : AttributeValue) → FitsValue h.address_size x.name v → StandThere s h.address_size Ranges front rest (ranges_in v) → IsRangeRead (output_lists s) h (length front) v
+      go (RangeListRef list) fit stand = ranges-read s h version some front rest list.ranges.items stand.bytes fit.1 stand.held
+      go (LocationListRef list) fit stand = tt
+      go (Address a) fit stand = tt
+      go (Constant form bits) fit stand = tt
+      go (Flag b) fit stand = tt
+      go (Block bytes) fit stand = tt
+      go (Exprloc e) fit stand = tt
+      go (StringRef id) fit stand = tt
+      go LineProgramRef fit stand = tt
+      go (UnitRef id) fit stand = tt
+      go (DebugInfoRef reference) fit stand = tt
+
+  location-read : (front rest : List ℕ) (x : Attribute) → FitsAttribute h.address_size x → StandThere s h.address_size Loc front rest (locations_in x.value) → IsLocationRead (output_lists s) h (length front) x.value
+  location-read front rest x fits there = go x.value fits.value there
+    where
+      go : (v : AttributeValue) → FitsValue h.address_size x.name v → StandThere s h.address_size Loc front rest (locations_in v) → IsLocationRead (output_lists s) h (length front) v
+      go (LocationListRef list) fit stand = locations-read s h version some front rest list.locations.items stand.bytes fit.1 stand.short stand.held
+      go (RangeListRef list) fit stand = tt
+      go (Address a) fit stand = tt
+      go (Constant form bits) fit stand = tt
+      go (Flag b) fit stand = tt
+      go (Block bytes) fit stand = tt
+      go (Exprloc e) fit stand = tt
+      go (StringRef id) fit stand = tt
+      go LineProgramRef fit stand = tt
+      go (UnitRef id) fit stand = tt
+      go (DebugInfoRef reference) fit stand = tt
+
+  pub ranges-listed : (front rest : List ℕ) (gs : List GivenEntry) → All (FitsEntry h.address_size) gs → StandThere s h.address_size Ranges front rest (lists_of_entries ranges_in gs) → AreAllRead ranges_in (IsRangeRead (output_lists s) h) h.address_size (length front) gs
+  ranges-listed front rest gs fits there = entries-read s h.address_size Ranges ranges_in (IsRangeRead (output_lists s) h) range-read front rest gs fits there
+
+  pub locations-listed : (front rest : List ℕ) (gs : List GivenEntry) → All (FitsEntry h.address_size) gs → StandThere s h.address_size Loc front rest (lists_of_entries locations_in gs) → AreAllRead locations_in (IsLocationRead (output_lists s) h) h.address_size (length front) gs
+  locations-listed front rest gs fits there = entries-read s h.address_size Loc locations_in (IsLocationRead (output_lists s) h) location-read front rest gs fits there

@@ -5,6 +5,7 @@ use Rattle.std.specs.List.{All}
 use Rattle.std.proofs.lemmas.Bool.{eqb-true, eqb-false}
 use Rattle.std.proofs.lemmas.List.{get_or-map}
 use Rattle.std.proofs.lemmas.List.Elements.{All-head, All-tail, All-cons, All-nil, All-append}
+use Rattle.dwc_write.specs.declared.list_places.ListPlaces.{ListPlaces}
 use Rattle.dwc_write.specs.SpelledUnits.{shaped}
 use Rattle.dwc_write.specs.declared.attributes.Attribute.{Attribute}
 use Rattle.dwc_write.specs.GivenUnits.{Addition, EntryShape, GivenEntry, GivenUnit, Places, written_entries, entry_at, below, in_file_order, ordered, FitsAddition, FitsGivenUnit, FitsEntry, FitsOrdered, AreBelow, IsTree, IsRooted}
@@ -158,5 +159,5 @@ below-listed place (e ∷ es) some all =
     go false is root none rest = absurd (eqb-false e.parent 0 is root)
 
 -- A root that stands alone is written without children, and ends no list of them.
-pub root-alone : (next : ℕ → List Attribute → ℕ) (p : Places) (ranges : ℕ) (shapes : List EntryShape) (root : Addition) → map {B = Bool × ℕ} (λ x. (x.has_children, x.ends)) (shaped (written_entries next p ranges shapes (in_file_order (root ∷ [])))) ≡ (false, 0) ∷ []
-root-alone next p ranges shapes root = refl
+pub root-alone : (next : ListPlaces → List Attribute → ListPlaces) (p : Places) (lists : ListPlaces) (shapes : List EntryShape) (root : Addition) → map {B = Bool × ℕ} (λ x. (x.has_children, x.ends)) (shaped (written_entries next p lists shapes (in_file_order (root ∷ [])))) ≡ (false, 0) ∷ []
+root-alone next p lists shapes root = refl

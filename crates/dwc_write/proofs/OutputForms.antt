@@ -1,11 +1,13 @@
 -- What holds of each section that is written, and that their names are distinct: `distinct-names`.
-use Rattle.std.proofs.Common.{◌≡◌, ◌≢◌, ◌<◌, ℕ, List, [], ◌∷◌, ◌++◌, ap, get_or, lit<, refl, arith}
+use Rattle.std.proofs.Common.{◌≡◌, ◌≢◌, ℕ, List, [], ◌∷◌, ◌++◌, false, refl, arith}
 use Rattle.std.specs.List.{All}
+use Rattle.std.specs.Str.{bytes_eq}
+use Rattle.std.proofs.lemmas.Slice.Eq.{bytes_eq-Decides}
 use Rattle.std.proofs.lemmas.List.Elements.{All-cons, All-nil}
 use Rattle.std.proofs.lemmas.List.Kept.{AllPairs-cons}
 use Rattle.dwc_base.specs.declared.records.Endian.{Endian}
 use Rattle.dwc_base.specs.declared.section_name.SectionName.{SectionName}
-use Rattle.dwc_base.specs.declared.section_name.SectionName.TheVariants.{Abbrev, Info, Line, Ranges, Str}
+use Rattle.dwc_base.specs.declared.section_name.SectionName.TheVariants.{Abbrev, Info, Line, Loc, Ranges, Str}
 use Rattle.dwc_base.specs.Sections.{section_text}
 use Rattle.dwc_base.specs.Outputs.{OutputRelocation, OutputSection}
 use Rattle.dwc_base.specs.OutputForm.{HasDistinctNames}
@@ -36,26 +38,32 @@ distinct-last : (name : SectionName) (bytes : List ℕ) (rs : List OutputRelocat
 distinct-last name [] rs = none-differ
 distinct-last name (b ∷ bytes) rs = AllPairs-cons Differ _ [] (All-nil _) none-differ
 
--- the letters behind "debug_" differ
-other-letter : (a b : SectionName) (m n : ℕ) → get_or (section_text a) 7 0 ≡ m → get_or (section_text b) 7 0 ≡ n → m < n → section_text a ≢ section_text b
-other-letter a b m n of_a of_b less e = absurd (omega (arith, of_a, of_b, less, ap (λ xs. get_or xs 7 0) e))
+differ : (a b : SectionName) → bytes_eq (section_text a) (section_text b) ≡ false → section_text a ≢ section_text b
+differ a b not e = let same = (bytes_eq-Decides (section_text a) (section_text b)).1 e in absurd (cc)
 
--- Abbreviations, entries, line tables, range lists and texts have names of their own.
-distinct-five : (x y z v w : List ℕ) (q r t : List OutputRelocation) → HasDistinctNames (section_unless_empty Abbrev x [] ++ (section_unless_empty Info y q ++ (section_unless_empty Line z r ++ (section_unless_empty Ranges v t ++ section_unless_empty Str w []))))
-distinct-five x y z v w q r t =
+-- Abbreviations, entries, line tables, lists of both kinds and texts have names of their own.
+distinct-six : (x y z v l w : List ℕ) (q r t k : List OutputRelocation)
+    → HasDistinctNames (section_unless_empty Abbrev x [] ++ (section_unless_empty Info y q ++ (section_unless_empty Line z r ++ (section_unless_empty Ranges v t ++ (section_unless_empty Loc l k ++ section_unless_empty Str w [])))))
+distinct-six x y z v l w q r t k =
     let texts = section_unless_empty Str w [] in
-    let lists = section_unless_empty Ranges v t ++ texts in
+    let locations = section_unless_empty Loc l k ++ texts in
+    let lists = section_unless_empty Ranges v t ++ locations in
     let lines = section_unless_empty Line z r ++ lists in
     distinct-written Abbrev x [] (section_unless_empty Info y q ++ lines)
-    (all-written (λ t. section_text Abbrev ≢ t.name) Info y q lines (other-letter Abbrev Info 97 105 refl refl (lit< tt))
-    (all-written (λ t. section_text Abbrev ≢ t.name) Line z r lists (other-letter Abbrev Line 97 108 refl refl (lit< tt))
-    (all-written (λ t. section_text Abbrev ≢ t.name) Ranges v t texts (other-letter Abbrev Ranges 97 114 refl refl (lit< tt)) (last-written (λ t. section_text Abbrev ≢ t.name) Str w [] (other-letter Abbrev Str 97 115 refl refl (lit< tt))))))
+    (all-written (λ t. section_text Abbrev ≢ t.name) Info y q lines (differ Abbrev Info refl)
+    (all-written (λ t. section_text Abbrev ≢ t.name) Line z r lists (differ Abbrev Line refl)
+    (all-written (λ t. section_text Abbrev ≢ t.name) Ranges v t locations (differ Abbrev Ranges refl)
+    (all-written (λ t. section_text Abbrev ≢ t.name) Loc l k texts (differ Abbrev Loc refl) (last-written (λ t. section_text Abbrev ≢ t.name) Str w [] (differ Abbrev Str refl))))))
     (distinct-written Info y q lines
-    (all-written (λ t. section_text Info ≢ t.name) Line z r lists (other-letter Info Line 105 108 refl refl (lit< tt))
-    (all-written (λ t. section_text Info ≢ t.name) Ranges v t texts (other-letter Info Ranges 105 114 refl refl (lit< tt)) (last-written (λ t. section_text Info ≢ t.name) Str w [] (other-letter Info Str 105 115 refl refl (lit< tt)))))
+    (all-written (λ t. section_text Info ≢ t.name) Line z r lists (differ Info Line refl)
+    (all-written (λ t. section_text Info ≢ t.name) Ranges v t locations (differ Info Ranges refl)
+    (all-written (λ t. section_text Info ≢ t.name) Loc l k texts (differ Info Loc refl) (last-written (λ t. section_text Info ≢ t.name) Str w [] (differ Info Str refl)))))
     (distinct-written Line z r lists
-    (all-written (λ t. section_text Line ≢ t.name) Ranges v t texts (other-letter Line Ranges 108 114 refl refl (lit< tt)) (last-written (λ t. section_text Line ≢ t.name) Str w [] (other-letter Line Str 108 115 refl refl (lit< tt))))
-    (distinct-written Ranges v t texts (last-written (λ t. section_text Ranges ≢ t.name) Str w [] (other-letter Ranges Str 114 115 refl refl (lit< tt))) (distinct-last Str w []))))
+    (all-written (λ t. section_text Line ≢ t.name) Ranges v t locations (differ Line Ranges refl)
+    (all-written (λ t. section_text Line ≢ t.name) Loc l k texts (differ Line Loc refl) (last-written (λ t. section_text Line ≢ t.name) Str w [] (differ Line Str refl))))
+    (distinct-written Ranges v t locations
+    (all-written (λ t. section_text Ranges ≢ t.name) Loc l k texts (differ Ranges Loc refl) (last-written (λ t. section_text Ranges ≢ t.name) Str w [] (differ Ranges Str refl)))
+    (distinct-written Loc l k texts (last-written (λ t. section_text Loc ≢ t.name) Str w [] (differ Loc Str refl)) (distinct-last Str w [])))))
 
 pub distinct-names : (order : Endian) (texts : List (List ℕ)) (us : List OrderedUnit) → HasDistinctNames (spelled_sections order texts us)
-distinct-names order texts us = distinct-five _ _ _ _ _ _ _ _
+distinct-names order texts us = distinct-six _ _ _ _ _ _ _ _ _ _

@@ -1,52 +1,54 @@
--- Units behind one another in three sections: what all of them are, and that a refusal of one is a refusal of all.
-use Rattle.std.proofs.Common.{◌≡◌, ℕ, zero, suc, ◌+◌, ◌<◌, ◌≤◌, inl, inr, refl, sym, ap, subst, ◌∙◌, arith, List, [], ◌∷◌, ◌++◌, append_assoc, append-nil, length, length-append, take, drop, get_or, Ok, Err}
+-- Units behind one another in their sections: what all of them are, and that a refusal of one is a refusal of all.
+use Rattle.std.proofs.Common.{◌≡◌, ℕ, zero, suc, ◌+◌, ◌<◌, ◌≤◌, ◌⊎◌, inl, inr, refl, sym, ap, subst, ◌∙◌, arith, List, [], ◌∷◌, ◌++◌, append_assoc, append-nil, length, length-append, take, drop, get_or, Ok, Err}
 use Rattle.std.specs.Prelude.{Result, IfErr, IfOk}
 use Rattle.std.proofs.lemmas.List.{drop_all}
 use Rattle.std.specs.List.{All, flat_map}
 use Rattle.std.proofs.lemmas.List.Elements.{All-head, All-tail, All-cons, All-nil, All-weaker}
 use Rattle.dwc_base.specs.declared.records.Endian.{Endian}
 use Rattle.dwc_base.specs.declared.section_name.SectionName.{SectionName}
-use Rattle.dwc_base.specs.declared.section_name.SectionName.TheVariants.{Abbrev, Info, Line, Ranges, Str}
+use Rattle.dwc_base.specs.declared.section_name.SectionName.TheVariants.{Abbrev, Info, Line, Loc, Ranges, Str}
 use Rattle.dwc_base.specs.Outputs.{OutputRelocation, OutputSection}
 use Rattle.dwc_write.specs.declared.error.WriteError.{WriteError}
-use Rattle.dwc_write.specs.declared.error.WriteError.TheVariants.{TooLarge, OutOfMemory}
-use Rattle.dwc_base.specs.declared.faults.Limit.TheVariants.{Section, Addend, Range}
 use Rattle.dwc_write.specs.Spelled.{at_places}
 use Rattle.dwc_write.specs.SpelledTables.{table_bytes}
 use Rattle.dwc_write.specs.SpelledSections.{placed_unit_bytes, tables_bytes, info_bytes, one_table_bytes, lines_bytes}
 use Rattle.dwc_write.specs.SpelledRelocations.{unit_relocations, info_relocations, one_table_relocations, lines_relocations, RelocationsRise, DoRelocationsRise}
 use Rattle.dwc_write.proofs.ReadRelocations.{info-rise, lines-rise, rise-above}
-use Rattle.dwc_write.specs.GivenUnits.{GivenEntry, OrderedUnit, Places, IsWritable, size_of, AreWritable, pairs_of_entries, pairs_of_units}
-use Rattle.dwc_write.specs.RangeLists.{pair_bytes, pair_relocations, pairs_bytes, pairs_relocations}
-use Rattle.dwc_write.proofs.RelatedLists.{pairs-rise}
-use Rattle.dwc_write.specs.Layouts.{AllPlaces, offsets_by_number, places_in, written_lines, written_unit, written_units, written_tables}
+use Rattle.dwc_write.specs.GivenUnits.{GivenEntry, OrderedUnit, Places, IsWritable, size_of, AreWritable, behind_entries, lists_of_entries, lists_of_units}
+use Rattle.dwc_write.specs.declared.attributes.AttributeValue.{AttributeValue}
+use Rattle.dwc_write.specs.declared.list_places.ListPlaces.{ListPlaces}
+use Rattle.dwc_write.specs.Lists.{ListEntry, AreWithin, list_bytes, list_relocations, listed_bytes, listed_relocations, locations_in, ranges_in}
+use Rattle.dwc_write.proofs.ListPlaces.{entries-behind, places-equal}
+use Rattle.dwc_write.proofs.RelatedLists.{list-rise}
+use Rattle.dwc_write.specs.Layouts.{AllPlaces, offsets_by_number, places_in, behind_unit, written_lines, written_unit, written_units, written_tables}
 use Rattle.dwc_write.specs.UsedTexts.{strings_bytes}
 use Rattle.dwc_write.specs.Writers.{Writing, Refuses, Writes, IsSound, appended, most_bytes}
-use Rattle.dwc_write.specs.SpelledOutput.{section_unless_empty, sections_of, sections_placed, units_placed, all_places, spelled_sections, unit_of, WritesUnit, WrittenSections, places_there, unit_in, with_unit, RefusesUnit, WritesOne, empty_section, with_units, all_units, IsRefusalAmong, IsRefusal, bytes_of, abbrev_bytes, all_info_bytes, all_lines_bytes, all_ranges_bytes, all_ranges_relocations, section_bytes}
-use Rattle.dwc_write.proofs.WritesLaws.{refused-longer, refused-later, appended-twice, appended-nothing}
+use Rattle.dwc_write.specs.SpelledOutput.{section_unless_empty, sections_of, sections_placed, units_placed, all_places, spelled_sections, unit_of, WritesUnit, WrittenSections, places_there, lists_there, lists_bytes, with_lists, WritesLists, unit_in, with_unit, RefusesUnit, WritesOne, empty_section, with_units, all_units, IsRefusalAmong, IsRefusal, bytes_of, abbrev_bytes, all_info_bytes, all_lines_bytes, all_lists_bytes, all_lists_relocations, section_bytes}
+use Rattle.dwc_write.proofs.RefusalLaws.{past-among, past-more, refusal-weaker, size-refusal}
+use Rattle.dwc_write.proofs.WritesLaws.{refused-longer, refused-later, appended-twice, appended-nothing, length-behind}
 
 -- ---- one unit
 
 -- a call on .debug_info is refused
-pub info-refused : (result : Result (Unit {0}) WriteError) (e : WriteError) (a a' i i' : Writing) (size ranges : ℕ) (places : Places) (es : List GivenEntry) (n : ℕ) → ((error : WriteError) × (result ≡ Err error) × (error ≡ e)) → Refuses e i n
-    → n ≤ length (placed_unit_bytes i.order size (unit_of size ranges (length a.body) places es)) → WritesUnit a a' i i' result size ranges places es
-info-refused result e a a' i i' size ranges places es n p refused less =
+pub info-refused : (result : Result (Unit {0}) WriteError) (e : WriteError) (a a' i i' : Writing) (size : ℕ) (lists : ListPlaces) (places : Places) (es : List GivenEntry) (n : ℕ) → ((error : WriteError) × (result ≡ Err error) × (error ≡ e)) → Refuses e i n
+    → n ≤ length (placed_unit_bytes i.order size (unit_of size lists (length a.body) places es)) → WritesUnit a a' i i' result size lists places es
+info-refused result e a a' i i' size lists places es n p refused less =
     let is : result ≡ Err e = p.1 ∙ ap Err p.2 in
-    let later : Refuses e i (length (placed_unit_bytes i.order size (unit_of size ranges (length a.body) places es))) = refused-longer e i n _ refused less in
+    let later : Refuses e i (length (placed_unit_bytes i.order size (unit_of size lists (length a.body) places es))) = refused-longer e i n _ refused less in
     rw (is) (inr later)
 
-pub info-refused-later : (result : Result (Unit {0}) WriteError) (e : WriteError) (a a' i i' b : Writing) (x : List ℕ) (r : List OutputRelocation) (size ranges : ℕ) (places : Places) (es : List GivenEntry) (n : ℕ) → ((error : WriteError) × (result ≡ Err error) × (error ≡ e)) → b ≡ appended x r i → Refuses e b n
-    → length x + n ≤ length (placed_unit_bytes i.order size (unit_of size ranges (length a.body) places es)) → WritesUnit a a' i i' result size ranges places es
-info-refused-later result e a a' i i' b x r size ranges places es n p grown refused less =
+pub info-refused-later : (result : Result (Unit {0}) WriteError) (e : WriteError) (a a' i i' b : Writing) (x : List ℕ) (r : List OutputRelocation) (size : ℕ) (lists : ListPlaces) (places : Places) (es : List GivenEntry) (n : ℕ) → ((error : WriteError) × (result ≡ Err error) × (error ≡ e)) → b ≡ appended x r i → Refuses e b n
+    → length x + n ≤ length (placed_unit_bytes i.order size (unit_of size lists (length a.body) places es)) → WritesUnit a a' i i' result size lists places es
+info-refused-later result e a a' i i' b x r size lists places es n p grown refused less =
     let is : result ≡ Err e = p.1 ∙ ap Err p.2 in
-    let later : Refuses e i (length (placed_unit_bytes i.order size (unit_of size ranges (length a.body) places es))) = refused-later e i b x r n _ grown refused less in
+    let later : Refuses e i (length (placed_unit_bytes i.order size (unit_of size lists (length a.body) places es))) = refused-later e i b x r n _ grown refused less in
     rw (is) (inr later)
 
 -- the last call, on .debug_abbrev
-pub unit-result : (a a' i i' : Writing) (result : Result (Unit {0}) WriteError) (size ranges : ℕ) (places : Places) (es : List GivenEntry) (bytes : List ℕ) → Writes a a' result bytes [] → bytes ≡ table_bytes (unit_of size ranges (length a.body) places es).table
-    → i' ≡ appended (placed_unit_bytes i.order size (unit_of size ranges (length a.body) places es)) (unit_relocations i.order size (length i.body) (unit_of size ranges (length a.body) places es)) i → WritesUnit a a' i i' result size ranges places es
-unit-result a a' i i' (Ok done) size ranges places es bytes written table info = (written ∙ ap (λ bs. appended bs [] a) table, info)
-unit-result a a' i i' (Err e) size ranges places es bytes written table info = inl (refused-longer e a _ _ written (omega (arith, ap length table)))
+pub unit-result : (a a' i i' : Writing) (result : Result (Unit {0}) WriteError) (size : ℕ) (lists : ListPlaces) (places : Places) (es : List GivenEntry) (bytes : List ℕ) → Writes a a' result bytes [] → bytes ≡ table_bytes (unit_of size lists (length a.body) places es).table
+    → i' ≡ appended (placed_unit_bytes i.order size (unit_of size lists (length a.body) places es)) (unit_relocations i.order size (length i.body) (unit_of size lists (length a.body) places es)) i → WritesUnit a a' i i' result size lists places es
+unit-result a a' i i' (Ok done) size lists places es bytes written table info = (written ∙ ap (λ bs. appended bs [] a) table, info)
+unit-result a a' i i' (Err e) size lists places es bytes written table info = inl (refused-longer e a _ _ written (omega (arith, ap length table)))
 
 -- a unit behind its line table
 pub one-refused : (result : Result (Unit {0}) WriteError) (e : WriteError) (units : AllPlaces) (w w' : WrittenSections) (u : OrderedUnit) → ((error : WriteError) × (result ≡ Err error) × (error ≡ e)) → Refuses e w.line_section (length (lines_bytes w.line_section.order u.address_size (written_lines u.lines))) → WritesOne units w w' result u
@@ -54,17 +56,53 @@ one-refused result e units w w' u p refused =
     let is : result ≡ Err e = p.1 ∙ ap Err p.2 in
     rw (is) (inr (inr (inl refused)))
 
-pub one-refused-lists : (result : Result (Unit {0}) WriteError) (e : WriteError) (units : AllPlaces) (w w' : WrittenSections) (u : OrderedUnit) → ((error : WriteError) × (result ≡ Err error) × (error ≡ e)) → Refuses e w.ranges_section (length (pairs_bytes w.ranges_section.order u.address_size (pairs_of_entries u.entries))) → WritesOne units w w' result u
+-- and behind its lists
+pub one-refused-lists : (result : Result (Unit {0}) WriteError) (e : WriteError) (units : AllPlaces) (w w' : WrittenSections) (u : OrderedUnit) → ((error : WriteError) × (result ≡ Err error) × (error ≡ e))
+    → (Refuses e w.ranges_section (length (lists_bytes ranges_in u w.ranges_section)) ⊎ Refuses e w.locations_section (length (lists_bytes locations_in u w.locations_section))) → WritesOne units w w' result u
 one-refused-lists result e units w w' u p refused =
     let is : result ≡ Err e = p.1 ∙ ap Err p.2 in
     rw (is) (inr (inr (inr refused)))
 
-pub one-written : (result : Result (Unit {0}) WriteError) (units : AllPlaces) (w w' : WrittenSections) (u : OrderedUnit) (a' i' l' v' : Writing) → l' ≡ appended (lines_bytes w.line_section.order u.address_size (written_lines u.lines)) (lines_relocations w.line_section.order u.address_size (length w.line_section.body) (written_lines u.lines)) w.line_section
-    → v' ≡ appended (pairs_bytes w.ranges_section.order u.address_size (pairs_of_entries u.entries)) (pairs_relocations w.ranges_section.order u.address_size (length w.ranges_section.body) (pairs_of_entries u.entries)) w.ranges_section
-    → WritesUnit w.abbrev_section a' w.info_section i' result u.address_size (length w.ranges_section.body) (places_there units w u) u.entries → w' ≡ record { abbrev_section = a'; info_section = i'; line_section = l'; ranges_section = v' } → WritesOne units w w' result u
-one-written (Ok done) units w w' u a' i' l' v' lines lists unit is = is ∙ rw (unit.0, unit.1, lines, lists) refl
-one-written (Err e) units w w' u a' i' l' v' lines lists (inl refused) is = inl refused
-one-written (Err e) units w w' u a' i' l' v' lines lists (inr refused) is = inr (inl refused)
+-- the lists of a unit, of both kinds
+pub lists-written : (result : Result (Unit {0}) WriteError) (v v' k k' : Writing) (u : OrderedUnit) → v' ≡ with_lists ranges_in u v → Writes k k' result (lists_bytes locations_in u k) (list_relocations k.order u.address_size (length k.body) (lists_of_entries locations_in u.entries)) → WritesLists v v' k k' result u
+lists-written (Ok done) v v' k k' u first second = (first, second)
+lists-written (Err e) v v' k k' u first second = inr second
+
+pub ranges-refused : (result : Result (Unit {0}) WriteError) (e : WriteError) (v v' k k' : Writing) (u : OrderedUnit) → ((error : WriteError) × (result ≡ Err error) × (error ≡ e)) → Refuses e v (length (lists_bytes ranges_in u v)) → WritesLists v v' k k' result u
+ranges-refused result e v v' k k' u p refused =
+    let is : result ≡ Err e = p.1 ∙ ap Err p.2 in
+    rw (is) (inl refused)
+
+-- where the lists of a unit end, its next ones would stand
+pub lists-inside : (v v' k k' : Writing) (u : OrderedUnit) (places end : ListPlaces) → places ≡ record { ranges = length v.body; locations = length k.body } → end ≡ record { ranges = length v'.body; locations = length k'.body } → v' ≡ with_lists ranges_in u v → k' ≡ with_lists locations_in u k → AreWithin end → AreWithin (behind_entries u.address_size places u.entries)
+lists-inside v v' k k' u places end start stop ranges locations short =
+    let ranges_short = short.ranges in
+    let locations_short = short.locations in
+    record {
+      ranges = omega (
+        arith,
+        ranges_short,
+        ap (λ (p : ListPlaces). p.ranges) start,
+        ap (λ (p : ListPlaces). p.ranges) stop,
+        ap (λ (p : ListPlaces). p.ranges) (entries-behind v.order u.address_size places u.entries),
+        length-behind v v' (lists_bytes ranges_in u v) (list_relocations v.order u.address_size (length v.body) (lists_of_entries ranges_in u.entries)) ranges,
+      );
+      locations = omega (
+        arith,
+        locations_short,
+        ap (λ (p : ListPlaces). p.locations) start,
+        ap (λ (p : ListPlaces). p.locations) stop,
+        ap (λ (p : ListPlaces). p.locations) (entries-behind k.order u.address_size places u.entries),
+        length-behind k k' (lists_bytes locations_in u k) (list_relocations k.order u.address_size (length k.body) (lists_of_entries locations_in u.entries)) locations,
+      );
+    }
+
+pub one-written : (result : Result (Unit {0}) WriteError) (units : AllPlaces) (w w' : WrittenSections) (u : OrderedUnit) (a' i' l' v' k' : Writing) → l' ≡ appended (lines_bytes w.line_section.order u.address_size (written_lines u.lines)) (lines_relocations w.line_section.order u.address_size (length w.line_section.body) (written_lines u.lines)) w.line_section
+    → v' ≡ with_lists ranges_in u w.ranges_section → k' ≡ with_lists locations_in u w.locations_section
+    → WritesUnit w.abbrev_section a' w.info_section i' result u.address_size (lists_there w) (places_there units w u) u.entries → w' ≡ record { abbrev_section = a'; info_section = i'; line_section = l'; ranges_section = v'; locations_section = k' } → WritesOne units w w' result u
+one-written (Ok done) units w w' u a' i' l' v' k' lines ranges locations unit is = is ∙ rw (unit.0, unit.1, lines, ranges, locations) refl
+one-written (Err e) units w w' u a' i' l' v' k' lines ranges locations (inl refused) is = inl refused
+one-written (Err e) units w w' u a' i' l' v' k' lines ranges locations (inr refused) is = inr (inl refused)
 
 -- ---- all of them
 
@@ -76,8 +114,9 @@ units-more order units (u ∷ us) all (suc i) d w w' within invariant step = uni
 
 -- ---- the bytes of all
 
-four-equal : {a b i j l m v w : Writing} → a ≡ b → i ≡ j → l ≡ m → v ≡ w → ◌≡◌ {A = WrittenSections} (record { abbrev_section = a; info_section = i; line_section = l; ranges_section = v }) (record { abbrev_section = b; info_section = j; line_section = m; ranges_section = w })
-four-equal {a} {b} {i} {j} {l} {m} {v} {w} p q r t = rw (p, q, r, t) refl
+five-equal : {a b i j l m v w k n : Writing} → a ≡ b → i ≡ j → l ≡ m → v ≡ w → k ≡ n
+    → ◌≡◌ {A = WrittenSections} (record { abbrev_section = a; info_section = i; line_section = l; ranges_section = v; locations_section = k }) (record { abbrev_section = b; info_section = j; line_section = m; ranges_section = w; locations_section = n })
+five-equal {a} {b} {i} {j} {l} {m} {v} {w} {k} {n} p q r t x = rw (p, q, r, t, x) refl
 
 module _ (order : Endian) (size : ℕ) (units : AllPlaces) where
   -- sections of this order
@@ -85,14 +124,20 @@ module _ (order : Endian) (size : ℕ) (units : AllPlaces) where
     info : w.info_section.order ≡ order
     line : w.line_section.order ≡ order
     ranges : w.ranges_section.order ≡ order
+    locations : w.locations_section.order ≡ order
+
+  -- what lists of a kind append to their section
+  abbrev pub appended_lists : (AttributeValue → List ListEntry) → List OrderedUnit → Writing → Writing
+  appended_lists kind us w = appended (list_bytes order size (lists_of_units kind us)) (list_relocations order size (length w.body) (lists_of_units kind us)) w
 
   -- what units append to their sections
   abbrev pub appended_units : List OrderedUnit → WrittenSections → WrittenSections
   appended_units us w = record {
-    abbrev_section = appended (tables_bytes (written_units order size units (length w.abbrev_section.body) (length w.line_section.body) (length w.ranges_section.body) us)) [] w.abbrev_section;
-    info_section = appended (info_bytes order size (written_units order size units (length w.abbrev_section.body) (length w.line_section.body) (length w.ranges_section.body) us)) (info_relocations order size (length w.info_section.body) (written_units order size units (length w.abbrev_section.body) (length w.line_section.body) (length w.ranges_section.body) us)) w.info_section;
+    abbrev_section = appended (tables_bytes (written_units order size units (length w.abbrev_section.body) (length w.line_section.body) (lists_there w) us)) [] w.abbrev_section;
+    info_section = appended (info_bytes order size (written_units order size units (length w.abbrev_section.body) (length w.line_section.body) (lists_there w) us)) (info_relocations order size (length w.info_section.body) (written_units order size units (length w.abbrev_section.body) (length w.line_section.body) (lists_there w) us)) w.info_section;
     line_section = appended (lines_bytes order size (written_tables us)) (lines_relocations order size (length w.line_section.body) (written_tables us)) w.line_section;
-    ranges_section = appended (pairs_bytes order size (pairs_of_units us)) (pairs_relocations order size (length w.ranges_section.body) (pairs_of_units us)) w.ranges_section;
+    ranges_section = appended_lists ranges_in us w.ranges_section;
+    locations_section = appended_lists locations_in us w.locations_section;
   }
 
   flat_map-both : {A : Type 0} (f : A → List ℕ) (xs ys : List A) → flat_map f (xs ++ ys) ≡ flat_map f xs ++ flat_map f ys
@@ -106,33 +151,51 @@ module _ (order : Endian) (size : ℕ) (units : AllPlaces) where
       ∙ sym (append_assoc (at place x) _ _)
       ∙ ap (λ p. (at place x ++ at_places spell at (place + length (spell x)) xs) ++ at_places spell at p ys) (omega (arith, length-append (spell x) (flat_map spell xs)))
 
+  step-section : (a : Writing) (x y : List ℕ) (r : List OutputRelocation) (s : ℕ → List OutputRelocation) → appended y (s (length (a.body ++ x))) (appended x r a) ≡ appended (x ++ y) (r ++ s (length a.body + length x)) a
+  step-section a x y r s = appended-twice a (appended x r a) _ x y r (s (length (a.body ++ x))) refl refl ∙ ap (λ p. appended (x ++ y) (r ++ s p) a) (length-append a.body x)
+
+  -- the lists of a unit, and of those behind it
+  lists-step : (kind : AttributeValue → List ListEntry) (u : OrderedUnit) (us : List OrderedUnit) (v : Writing) → v.order ≡ order → u.address_size ≡ size → appended_lists kind us (with_lists kind u v) ≡ appended_lists kind (u ∷ us) v
+  lists-step kind u us v ordered_so same =
+      let es = lists_of_entries kind u.entries in
+      let fs = lists_of_units kind us in
+      step-section v (list_bytes v.order u.address_size es) (list_bytes order size fs) (list_relocations v.order u.address_size (length v.body) es) (λ p. list_relocations order size p fs)
+      ∙ ap (λ o. appended (list_bytes o u.address_size es ++ list_bytes order size fs) (list_relocations o u.address_size (length v.body) es ++ list_relocations order size (length v.body + length (list_bytes o u.address_size es)) fs) v) ordered_so
+      ∙ ap (λ n. appended (list_bytes order n es ++ list_bytes order size fs) (list_relocations order n (length v.body) es ++ list_relocations order size (length v.body + length (list_bytes order n es)) fs) v) same
+      ∙ ap (λ bytes. appended bytes (list_relocations order size (length v.body) es ++ list_relocations order size (length v.body + length (list_bytes order size es)) fs) v) (sym (flat_map-both (listed_bytes order size) es fs))
+      ∙ ap (λ rs. appended (list_bytes order size (es ++ fs)) rs v) (sym (places-both (listed_bytes order size) (listed_relocations order size) es fs (length v.body)))
+
+  -- where lists of a kind end
+  lists-end : (kind : AttributeValue → List ListEntry) (u : OrderedUnit) (v : Writing) → v.order ≡ order → u.address_size ≡ size → length (with_lists kind u v).body ≡ length v.body + length (list_bytes order size (lists_of_entries kind u.entries))
+  lists-end kind u v ordered_so same =
+      let es = lists_of_entries kind u.entries in
+      length-append v.body _ ∙ ap (λ o. length v.body + length (list_bytes o u.address_size es)) ordered_so ∙ ap (λ n. length v.body + length (list_bytes order n es)) same
+
   with_units-appended : (us : List OrderedUnit) (w : WrittenSections) → AreOf w → All (λ u. u.address_size ≡ size) us → with_units units us w ≡ appended_units us w
-  with_units-appended [] w of sized = four-equal (appended-nothing w.abbrev_section) (appended-nothing w.info_section) (appended-nothing w.line_section) (appended-nothing w.ranges_section)
+  with_units-appended [] w of sized = five-equal (appended-nothing w.abbrev_section) (appended-nothing w.info_section) (appended-nothing w.line_section) (appended-nothing w.ranges_section) (appended-nothing w.locations_section)
   with_units-appended (u ∷ us) w of sized =
       let a = w.abbrev_section in
       let i = w.info_section in
       let l = w.line_section in
-      let v = w.ranges_section in
       let unit = unit_in units w u in
       let table = table_bytes unit.table in
       let same : u.address_size ≡ size = All-head (λ (v : OrderedUnit). v.address_size ≡ size) u us sized in
-      let others = with_units-appended us (with_unit units u w) (record { info = of.info; line = of.line; ranges = of.ranges }) (All-tail (λ (v : OrderedUnit). v.address_size ≡ size) u us sized) in
-      let there : unit ≡ written_unit size (length v.body) (places_in units (offsets_by_number order size u) (length l.body)) (length a.body) u =
-      ap (λ o. written_unit u.address_size (length v.body) (places_in units (offsets_by_number o u.address_size u) (length l.body)) (length a.body) u) of.info ∙ ap (λ n. written_unit n (length v.body) (places_in units (offsets_by_number order n u) (length l.body)) (length a.body) u) same in
+      let others = with_units-appended us (with_unit units u w) (record { info = of.info; line = of.line; ranges = of.ranges; locations = of.locations }) (All-tail (λ (v : OrderedUnit). v.address_size ≡ size) u us sized) in
+      let there : unit ≡ written_unit size (lists_there w) (places_in units (offsets_by_number order size u) (length l.body)) (length a.body) u =
+      ap (λ o. written_unit u.address_size (lists_there w) (places_in units (offsets_by_number o u.address_size u) (length l.body)) (length a.body) u) of.info ∙ ap (λ n. written_unit n (lists_there w) (places_in units (offsets_by_number order n u) (length l.body)) (length a.body) u) same in
       let lines : lines_bytes l.order u.address_size (written_lines u.lines) ≡ lines_bytes order size (written_lines u.lines) = ap (λ o. lines_bytes o u.address_size (written_lines u.lines)) of.line ∙ ap (λ n. lines_bytes order n (written_lines u.lines)) same in
       let placed : placed_unit_bytes i.order u.address_size unit ≡ placed_unit_bytes order size unit = ap (λ o. placed_unit_bytes o u.address_size unit) of.info ∙ ap (λ n. placed_unit_bytes order n unit) same in
       let at_table : length (a.body ++ table) ≡ length a.body + length table = length-append a.body table in
       let at_lines : length (l.body ++ lines_bytes l.order u.address_size (written_lines u.lines)) ≡ length l.body + length (lines_bytes order size (written_lines u.lines)) = length-append l.body _ ∙ ap (λ bytes. length l.body + length bytes) lines in
-      let ps = pairs_of_entries u.entries in
-      let lists : pairs_bytes v.order u.address_size ps ≡ pairs_bytes order size ps = ap (λ o. pairs_bytes o u.address_size ps) of.ranges ∙ ap (λ n. pairs_bytes order n ps) same in
-      let at_lists : length (v.body ++ pairs_bytes v.order u.address_size ps) ≡ length v.body + length (pairs_bytes order size ps) = length-append v.body _ ∙ ap (λ bytes. length v.body + length bytes) lists in
+      let lists_end = lists_there (with_unit units u w) in
+      let at_lists : lists_end ≡ behind_unit order size (lists_there w) u = places-equal (lists-end ranges_in u w.ranges_section of.ranges same) (lists-end locations_in u w.locations_section of.locations same) in
       let line_end = length (l.body ++ lines_bytes l.order u.address_size (written_lines u.lines)) in
-      let lists_end = length (v.body ++ pairs_bytes v.order u.address_size ps) in
-      let rest = written_units order size units (length a.body + length table) (length l.body + length (lines_bytes order size (written_lines u.lines))) (length v.body + length (pairs_bytes order size ps)) us in
+      let line_at = length l.body + length (lines_bytes order size (written_lines u.lines)) in
+      let rest = written_units order size units (length a.body + length table) line_at (behind_unit order size (lists_there w) u) us in
       let rest_is : written_units order size units (length (a.body ++ table)) line_end lists_end us ≡ rest =
       ap (λ p. written_units order size units p line_end lists_end us) at_table ∙ ap (λ q. written_units order size units (length a.body + length table) q lists_end us) at_lines
-      ∙ ap (λ q. written_units order size units (length a.body + length table) (length l.body + length (lines_bytes order size (written_lines u.lines))) q us) at_lists in
-      others ∙ four-equal
+      ∙ ap (λ q. written_units order size units (length a.body + length table) line_at q us) at_lists in
+      others ∙ five-equal
       (ap (λ ws. appended (tables_bytes ws) [] (appended table [] a)) rest_is ∙ step-section a table (tables_bytes rest) [] (λ p. []))
       (ap (λ ws. appended (info_bytes order size ws) (info_relocations order size (length (i.body ++ placed_unit_bytes i.order u.address_size unit)) ws) (appended (placed_unit_bytes i.order u.address_size unit) (unit_relocations i.order u.address_size (length i.body) unit) i)) rest_is
       ∙ step-section i (placed_unit_bytes i.order u.address_size unit) (info_bytes order size rest) (unit_relocations i.order u.address_size (length i.body) unit) (λ p. info_relocations order size p rest)
@@ -144,14 +207,8 @@ module _ (order : Endian) (size : ℕ) (units : AllPlaces) where
       ∙ ap (λ n. appended (lines_bytes order n (written_lines u.lines) ++ lines_bytes order size (written_tables us)) (lines_relocations order n (length l.body) (written_lines u.lines) ++ lines_relocations order size (length l.body + length (lines_bytes order n (written_lines u.lines))) (written_tables us)) l) same
       ∙ ap (λ bytes. appended bytes (lines_relocations order size (length l.body) (written_lines u.lines) ++ lines_relocations order size (length l.body + length (lines_bytes order size (written_lines u.lines))) (written_tables us)) l) (sym (flat_map-both (one_table_bytes order size) (written_lines u.lines) (written_tables us)))
       ∙ ap (λ rs. appended (lines_bytes order size (written_tables (u ∷ us))) rs l) (sym (places-both (one_table_bytes order size) (one_table_relocations order size) (written_lines u.lines) (written_tables us) (length l.body))))
-      (step-section v (pairs_bytes v.order u.address_size ps) (pairs_bytes order size (pairs_of_units us)) (pairs_relocations v.order u.address_size (length v.body) ps) (λ p. pairs_relocations order size p (pairs_of_units us))
-      ∙ ap (λ o. appended (pairs_bytes o u.address_size ps ++ pairs_bytes order size (pairs_of_units us)) (pairs_relocations o u.address_size (length v.body) ps ++ pairs_relocations order size (length v.body + length (pairs_bytes o u.address_size ps)) (pairs_of_units us)) v) of.ranges
-      ∙ ap (λ n. appended (pairs_bytes order n ps ++ pairs_bytes order size (pairs_of_units us)) (pairs_relocations order n (length v.body) ps ++ pairs_relocations order size (length v.body + length (pairs_bytes order n ps)) (pairs_of_units us)) v) same
-      ∙ ap (λ bytes. appended bytes (pairs_relocations order size (length v.body) ps ++ pairs_relocations order size (length v.body + length (pairs_bytes order size ps)) (pairs_of_units us)) v) (sym (flat_map-both (pair_bytes order size) ps (pairs_of_units us)))
-      ∙ ap (λ rs. appended (pairs_bytes order size (pairs_of_units (u ∷ us))) rs v) (sym (places-both (pair_bytes order size) (pair_relocations order size) ps (pairs_of_units us) (length v.body))))
-    where
-      step-section : (a : Writing) (x y : List ℕ) (r : List OutputRelocation) (s : ℕ → List OutputRelocation) → appended y (s (length (a.body ++ x))) (appended x r a) ≡ appended (x ++ y) (r ++ s (length a.body + length x)) a
-      step-section a x y r s = appended-twice a (appended x r a) _ x y r (s (length (a.body ++ x))) refl refl ∙ ap (λ p. appended (x ++ y) (r ++ s p) a) (length-append a.body x)
+      (lists-step ranges_in u us w.ranges_section of.ranges same)
+      (lists-step locations_in u us w.locations_section of.locations same)
 
 -- all units have one size
 writable-sizes : (us : List OrderedUnit) → AreWritable us → All (λ u. u.address_size ≡ size_of us) us
@@ -159,11 +216,11 @@ writable-sizes us fits = All-weaker (IsWritable (size_of us)) (λ u. u.address_s
 
 -- what is appended to empty sections
 abbrev pub all_of : Endian → AllPlaces → List OrderedUnit → WrittenSections
-all_of order units us = appended_units order (size_of us) units us (record { abbrev_section = empty_section order Abbrev; info_section = empty_section order Info; line_section = empty_section order Line; ranges_section = empty_section order Ranges })
+all_of order units us = appended_units order (size_of us) units us (record { abbrev_section = empty_section order Abbrev; info_section = empty_section order Info; line_section = empty_section order Line; ranges_section = empty_section order Ranges; locations_section = empty_section order Loc })
 
 -- The sections of all units are the ones that are spelled.
 pub all-appended : (order : Endian) (units : AllPlaces) (us : List OrderedUnit) → AreWritable us → all_units order units us ≡ all_of order units us
-all-appended order units us fits = with_units-appended order (size_of us) units us _ (record { info = refl; line = refl; ranges = refl }) (writable-sizes us fits)
+all-appended order units us fits = with_units-appended order (size_of us) units us _ (record { info = refl; line = refl; ranges = refl; locations = refl }) (writable-sizes us fits)
 
 -- ---- a refusal
 
@@ -177,9 +234,11 @@ record Grown (w v : WrittenSections) : Type 0 where
   line_more : length w.line_section.body ≤ length v.line_section.body
   ranges_name : w.ranges_section.name ≡ v.ranges_section.name
   ranges_more : length w.ranges_section.body ≤ length v.ranges_section.body
+  locations_name : w.locations_section.name ≡ v.locations_section.name
+  locations_more : length w.locations_section.body ≤ length v.locations_section.body
 
 grown-units : (units : AllPlaces) (us : List OrderedUnit) (w : WrittenSections) → Grown w (with_units units us w)
-grown-units units [] w = record { abbrev_name = refl; abbrev_more = omega arith; info_name = refl; info_more = omega arith; line_name = refl; line_more = omega arith; ranges_name = refl; ranges_more = omega arith }
+grown-units units [] w = record { abbrev_name = refl; abbrev_more = omega arith; info_name = refl; info_more = omega arith; line_name = refl; line_more = omega arith; ranges_name = refl; ranges_more = omega arith; locations_name = refl; locations_more = omega arith }
 grown-units units (u ∷ us) w =
     let on = grown-units units us (with_unit units u w) in
     record {
@@ -190,19 +249,15 @@ grown-units units (u ∷ us) w =
       line_name = on.line_name;
       line_more = let h = on.line_more in omega (arith, h, length-append w.line_section.body (lines_bytes w.line_section.order u.address_size (written_lines u.lines)));
       ranges_name = on.ranges_name;
-      ranges_more = let h = on.ranges_more in omega (arith, h, length-append w.ranges_section.body (pairs_bytes w.ranges_section.order u.address_size (pairs_of_entries u.entries)));
+      ranges_more = let h = on.ranges_more in omega (arith, h, length-append w.ranges_section.body (lists_bytes ranges_in u w.ranges_section));
+      locations_name = on.locations_name;
+      locations_more = let h = on.locations_more in omega (arith, h, length-append w.locations_section.body (lists_bytes locations_in u w.locations_section));
     }
 
 pub section-refused : (order : Endian) (units : AllPlaces) (us : List OrderedUnit) (e : WriteError) (a b : Writing) (name : SectionName) (x : List ℕ) → Refuses e a (length x) → a.name ≡ b.name → length (a.body ++ x) ≤ length b.body → b.name ≡ name → b.body ≡ bytes_of order units us name → IsRefusalAmong order units us e
-section-refused order units us OutOfMemory a b name x refused named more final is = tt
-section-refused order units us (TooLarge Addend) a b name x refused named more final is = absurd refused
-section-refused order units us (TooLarge Range) a b name x refused named more final is = absurd refused
-section-refused order units us (TooLarge (Section n)) a b name x refused named more final is =
-    let same : n ≡ name = refused.0 ∙ named ∙ final in
-    let large = refused.1 in
+section-refused order units us e a b name x refused named more final is =
     let long = ap length is in
-    let P : SectionName → Type 0 = λ m. most_bytes < length (bytes_of order units us m) in
-    subst P (sym same) (omega (arith, large, more, long, length-append a.body x))
+    past-among (λ m. length (bytes_of order units us m)) name (length a.body + length x) e (λ large. omega (arith, large, more, long, length-append a.body x)) (past-more a.name name _ _ e (named ∙ final) (λ large. large) refused)
 
 -- A unit that is refused is a refusal of all.
 pub units-refused : (order : Endian) (units : AllPlaces) (us : List OrderedUnit) (i : ℕ) (d : OrderedUnit) (w : WrittenSections) (e : WriteError) → i < length us → AreWritable us → with_units units (drop i us) w ≡ all_units order units us → RefusesUnit e units w (get_or us i d) → IsRefusalAmong order units us e
@@ -217,21 +272,22 @@ units-refused order units us i d w e within fits invariant refused =
     go : RefusesUnit e units w (get_or us i d) → Grown (with_unit units (get_or us i d) w) (all_of order units us) → IsRefusalAmong order units us e
     go (inl refused) grown = section-refused order units us e w.abbrev_section (all_of order units us).abbrev_section Abbrev (table_bytes (unit_in units w (get_or us i d)).table) refused grown.abbrev_name grown.abbrev_more refl refl
     go (inr (inl refused)) grown = section-refused order units us e w.info_section (all_of order units us).info_section Info (placed_unit_bytes w.info_section.order (get_or us i d).address_size (unit_in units w (get_or us i d))) refused grown.info_name grown.info_more refl refl
-    go (inr (inr (inr refused))) grown = section-refused order units us e w.ranges_section (all_of order units us).ranges_section Ranges (pairs_bytes w.ranges_section.order (get_or us i d).address_size (pairs_of_entries (get_or us i d).entries)) refused grown.ranges_name grown.ranges_more refl refl
+    go (inr (inr (inr (inl refused)))) grown = section-refused order units us e w.ranges_section (all_of order units us).ranges_section Ranges (lists_bytes ranges_in (get_or us i d) w.ranges_section) refused grown.ranges_name grown.ranges_more refl refl
+    go (inr (inr (inr (inr refused)))) grown = section-refused order units us e w.locations_section (all_of order units us).locations_section Loc (lists_bytes locations_in (get_or us i d) w.locations_section) refused grown.locations_name grown.locations_more refl refl
     go (inr (inr (inl refused))) grown = section-refused order units us e w.line_section (all_of order units us).line_section Line (lines_bytes w.line_section.order (get_or us i d).address_size (written_lines (get_or us i d).lines)) refused grown.line_name grown.line_more refl refl
 
 -- among their own places it is the refusal of the units
 pub refusal-of-all : (order : Endian) (units : AllPlaces) (texts : List (List ℕ)) (us : List OrderedUnit) (e : WriteError) → units ≡ all_places order texts us → IsRefusalAmong order units us e → IsRefusal order texts us e
-refusal-of-all order units texts us OutOfMemory placed refused = tt
-refusal-of-all order units texts us (TooLarge Addend) placed refused = absurd refused
-refusal-of-all order units texts us (TooLarge Range) placed refused = absurd refused
-refusal-of-all order units texts us (TooLarge (Section name)) placed refused = go name (subst (λ xs. most_bytes < length (bytes_of order xs us name)) placed refused)
+refusal-of-all order units texts us e placed refused =
+    size-refusal _ (λ name. most_bytes < length (section_bytes order texts us name)) e
+    (refusal-weaker (λ name. most_bytes < length (bytes_of order units us name)) (λ name. most_bytes < length (section_bytes order texts us name)) (λ name large. go name (subst (λ xs. most_bytes < length (bytes_of order xs us name)) placed large)) e refused)
   where
     go : (n : SectionName) → most_bytes < length (bytes_of order (all_places order texts us) us n) → most_bytes < length (section_bytes order texts us n)
     go Abbrev large = large
     go Info large = large
     go Line large = large
     go Ranges large = large
+    go Loc large = large
     go Str large = absurd (omega (arith, large))
     go _ large = large
 
@@ -243,16 +299,17 @@ units-exit order units us result e p refused =
 
 -- ---- what is gathered
 
-pub gathered : (order x y z v w : Endian) (none one two three four five : List OutputSection) → none ≡ [] → (All (IsSound x) none → All (IsSound x) one) → (All (IsSound y) one → All (IsSound y) two) → (All (IsSound z) two → All (IsSound z) three) → (All (IsSound v) three → All (IsSound v) four) → (All (IsSound w) four → All (IsSound w) five) → x ≡ order → y ≡ order → z ≡ order → v ≡ order → w ≡ order
-    → All (IsSound order) five
-gathered order x y z v w none one two three four five empty first second third fourth fifth a b c d e =
+pub gathered : (order x y z v k w : Endian) (none one two three four five six : List OutputSection) → none ≡ [] → (All (IsSound x) none → All (IsSound x) one) → (All (IsSound y) one → All (IsSound y) two) → (All (IsSound z) two → All (IsSound z) three) → (All (IsSound v) three → All (IsSound v) four)
+    → (All (IsSound k) four → All (IsSound k) five) → (All (IsSound w) five → All (IsSound w) six) → x ≡ order → y ≡ order → z ≡ order → v ≡ order → k ≡ order → w ≡ order → All (IsSound order) six
+gathered order x y z v k w none one two three four five six empty first second third fourth fifth sixth a b c d e f =
     let start : All (IsSound x) none = rw (empty) (All-nil (IsSound x)) in
     let P : List OutputSection → Endian → Type 0 = λ ss o. All (IsSound o) ss in
     let one_sound : All (IsSound y) one = subst (P one) (a ∙ sym b) (first start) in
     let two_sound : All (IsSound z) two = subst (P two) (b ∙ sym c) (second one_sound) in
     let three_sound : All (IsSound v) three = subst (P three) (c ∙ sym d) (third two_sound) in
-    let four_sound : All (IsSound w) four = subst (P four) (d ∙ sym e) (fourth three_sound) in
-    subst (P five) e (fifth four_sound)
+    let four_sound : All (IsSound k) four = subst (P four) (d ∙ sym e) (fourth three_sound) in
+    let five_sound : All (IsSound w) five = subst (P five) (e ∙ sym f) (fifth four_sound) in
+    subst (P six) f (sixth five_sound)
 
 -- ---- for a loop over units, and for its end
 
@@ -297,8 +354,9 @@ sections-rise order texts us =
     let lines : RelocationsRise 0 (length (all_lines_bytes order us)) (lines_relocations order size 0 (written_tables us)) = from-0 (length (all_lines_bytes order us)) _ (lines-rise order size 0 (written_tables us)) in
     let P : List OutputSection → Type 0 = λ ss. All DoRelocationsRise ss in
     let last = subst P (append-nil _) (part-rises Str (strings_bytes texts us) [] [] (omega arith) (All-nil DoRelocationsRise)) in
-    let lists : RelocationsRise 0 (length (all_ranges_bytes order us)) (all_ranges_relocations order us) = from-0 (length (all_ranges_bytes order us)) _ (pairs-rise order size 0 (pairs_of_units us)) in
-    let behind = part-rises Line (all_lines_bytes order us) (lines_relocations order size 0 (written_tables us)) _ lines (part-rises Ranges (all_ranges_bytes order us) (all_ranges_relocations order us) _ lists last) in
+    let lists : (kind : AttributeValue → List ListEntry) → RelocationsRise 0 (length (all_lists_bytes kind order us)) (all_lists_relocations kind order us) = λ kind. from-0 (length (all_lists_bytes kind order us)) _ (list-rise order size 0 (lists_of_units kind us)) in
+    let located = part-rises Loc (all_lists_bytes locations_in order us) (all_lists_relocations locations_in order us) _ (lists locations_in) last in
+    let behind = part-rises Line (all_lines_bytes order us) (lines_relocations order size 0 (written_tables us)) _ lines (part-rises Ranges (all_lists_bytes ranges_in order us) (all_lists_relocations ranges_in order us) _ (lists ranges_in) located) in
     part-rises Abbrev (abbrev_bytes order units us) [] _ (omega arith) (part-rises Info (all_info_bytes order units us) (info_relocations order size 0 ws) _ info behind)
   where
     from-0 : (n : ℕ) (rs : List OutputRelocation) → RelocationsRise 0 (0 + n) rs → RelocationsRise 0 n rs

@@ -18,81 +18,83 @@ use Rattle.dwc_write.specs.SpelledUnits.{WrittenEntry, written_bytes, attribute_
 use Rattle.dwc_write.specs.SpelledSections.{placed_unit_bytes, info_bytes, lines_bytes}
 use Rattle.dwc_write.specs.declared.attributes.Attribute.{Attribute}
 use Rattle.dwc_write.specs.declared.attributes.AttributeValue.{AttributeValue}
-use Rattle.dwc_write.specs.declared.attributes.AttributeValue.TheVariants.{Address, Constant, Flag, Block, Exprloc, StringRef, LineProgramRef, RangeListRef, UnitRef, DebugInfoRef}
+use Rattle.dwc_write.specs.declared.attributes.AttributeValue.TheVariants.{Address, Constant, Flag, Block, Exprloc, StringRef, LineProgramRef, RangeListRef, LocationListRef, UnitRef, DebugInfoRef}
 use Rattle.dwc_write.specs.declared.attributes.DebugInfoRef.TheVariants.{Entry as entry_of}
-use Rattle.dwc_write.specs.GivenUnits.{GivenEntry, OrderedUnit, Places, no_places, EntryShape, place_of, shape_of, code_in, numbered, shapes_in, written_of, written_attribute, written_attributes, written_entries, pairs_of_entries}
-use Rattle.dwc_write.specs.RangeLists.{behind_attributes, nowhere, pairs_bytes}
+use Rattle.dwc_write.specs.GivenUnits.{GivenEntry, OrderedUnit, Places, no_places, EntryShape, place_of, shape_of, code_in, numbered, shapes_in, written_of, written_attribute, written_attributes, written_entries}
+use Rattle.dwc_write.specs.declared.list_places.ListPlaces.{ListPlaces}
+use Rattle.dwc_write.specs.Lists.{behind_attributes, no_lists, nowhere}
 use Rattle.dwc_write.specs.GivenTrees.{place_in_order}
-use Rattle.dwc_write.specs.Layouts.{AllPlaces, entry_offsets, unit_length, offset_among, offset_if_added, offsets_by_number, places_of_units, offset_in_section, places_in, written_unit, written_lines, written_units}
+use Rattle.dwc_write.specs.Layouts.{AllPlaces, entry_offsets, unit_length, offset_among, offset_if_added, offsets_by_number, places_of_units, offset_in_section, places_in, behind_unit, written_unit, written_lines, written_units}
 use Rattle.dwc_write.proofs.ReadNumbers.{number_bytes-length, uleb_bytes-small, uleb_bytes-more}
 use Rattle.dwc_write.proofs.EntriesLaws.{next-first}
 
 -- ---- lengths do not hang on places
 
 module _ (order : Endian) (size : ℕ) where
-  value-length : (p : Places) (ranges : ℕ) (v : AttributeValue) → length (written_bytes order size (written_of p ranges v)) ≡ length (written_bytes order size (written_of no_places 0 v))
-  value-length p ranges (Address a) = refl
-  value-length p ranges (Constant form bits) = refl
-  value-length p ranges (Flag b) = refl
-  value-length p ranges (Block bytes) = refl
-  value-length p ranges (Exprloc e) = refl
-  value-length p ranges (StringRef id) = number_bytes-length order 4 (p.text id.index) ∙ sym (number_bytes-length order 4 0)
-  value-length p ranges LineProgramRef = number_bytes-length order 4 p.line ∙ sym (number_bytes-length order 4 0)
-  value-length p ranges (RangeListRef list) = number_bytes-length order 4 ranges ∙ sym (number_bytes-length order 4 0)
-  value-length p ranges (UnitRef id) = number_bytes-length order 4 (p.entry id.index) ∙ sym (number_bytes-length order 4 0)
-  value-length p ranges (DebugInfoRef (entry_of unit id)) = number_bytes-length order 4 (p.entry_of unit.index id.index) ∙ sym (number_bytes-length order 4 0)
+  value-length : (p : Places) (lists : ListPlaces) (v : AttributeValue) → length (written_bytes order size (written_of p lists v)) ≡ length (written_bytes order size (written_of no_places no_lists v))
+  value-length p lists (Address a) = refl
+  value-length p lists (Constant form bits) = refl
+  value-length p lists (Flag b) = refl
+  value-length p lists (Block bytes) = refl
+  value-length p lists (Exprloc e) = refl
+  value-length p lists (StringRef id) = number_bytes-length order 4 (p.text id.index) ∙ sym (number_bytes-length order 4 0)
+  value-length p lists LineProgramRef = number_bytes-length order 4 p.line ∙ sym (number_bytes-length order 4 0)
+  value-length p lists (RangeListRef list) = number_bytes-length order 4 lists.ranges ∙ sym (number_bytes-length order 4 0)
+  value-length p lists (LocationListRef list) = number_bytes-length order 4 lists.locations ∙ sym (number_bytes-length order 4 0)
+  value-length p lists (UnitRef id) = number_bytes-length order 4 (p.entry id.index) ∙ sym (number_bytes-length order 4 0)
+  value-length p lists (DebugInfoRef (entry_of unit id)) = number_bytes-length order 4 (p.entry_of unit.index id.index) ∙ sym (number_bytes-length order 4 0)
 
   abbrev unplaced_bytes : List Attribute → List ℕ
-  unplaced_bytes xs = flat_map (attribute_bytes order size) (written_attributes nowhere no_places 0 xs)
+  unplaced_bytes xs = flat_map (attribute_bytes order size) (written_attributes nowhere no_places no_lists xs)
 
-  module _ (next : ℕ → List Attribute → ℕ) (p : Places) where
-    abbrev values_bytes : ℕ → List Attribute → List ℕ
-    values_bytes ranges xs = flat_map (attribute_bytes order size) (written_attributes next p ranges xs)
+  module _ (next : ListPlaces → List Attribute → ListPlaces) (p : Places) where
+    abbrev values_bytes : ListPlaces → List Attribute → List ℕ
+    values_bytes lists xs = flat_map (attribute_bytes order size) (written_attributes next p lists xs)
 
-    values-length : (ranges : ℕ) (xs : List Attribute) → length (values_bytes ranges xs) ≡ length (unplaced_bytes xs)
-    values-length ranges [] = refl
-    values-length ranges (x ∷ xs) =
-        let others = values_bytes (next ranges (x ∷ [])) xs in
-        omega (arith, value-length p ranges x.value, values-length (next ranges (x ∷ [])) xs, length-append (attribute_bytes order size (written_attribute p ranges x)) others, length-append (attribute_bytes order size (written_attribute no_places 0 x)) (unplaced_bytes xs))
+    values-length : (lists : ListPlaces) (xs : List Attribute) → length (values_bytes lists xs) ≡ length (unplaced_bytes xs)
+    values-length lists [] = refl
+    values-length lists (x ∷ xs) =
+        let others = values_bytes (next lists (x ∷ [])) xs in
+        omega (arith, value-length p lists x.value, values-length (next lists (x ∷ [])) xs, length-append (attribute_bytes order size (written_attribute p lists x)) others, length-append (attribute_bytes order size (written_attribute no_places no_lists x)) (unplaced_bytes xs))
 
   -- the first of some entries
-  abbrev first_shaped : (ℕ → List Attribute → ℕ) → Places → ℕ → List EntryShape → GivenEntry → List GivenEntry → Shaped
-  first_shaped next p ranges shapes e es = record {
-    entry = record { depth = e.depth; code = code_in shapes (shape_of e es); tag = e.tag; attributes = written_attributes next p ranges e.attributes };
-    has_children = nat_lt e.depth (next_depth (written_entries next p (next ranges e.attributes) shapes es));
-    ends = e.depth - next_depth (written_entries next p (next ranges e.attributes) shapes es);
+  abbrev first_shaped : (ListPlaces → List Attribute → ListPlaces) → Places → ListPlaces → List EntryShape → GivenEntry → List GivenEntry → Shaped
+  first_shaped next p lists shapes e es = record {
+    entry = record { depth = e.depth; code = code_in shapes (shape_of e es); tag = e.tag; attributes = written_attributes next p lists e.attributes };
+    has_children = nat_lt e.depth (next_depth (written_entries next p (next lists e.attributes) shapes es));
+    ends = e.depth - next_depth (written_entries next p (next lists e.attributes) shapes es);
   }
 
   abbrev first_unplaced : List EntryShape → GivenEntry → List GivenEntry → Shaped
-  first_unplaced shapes e es = first_shaped nowhere no_places 0 shapes e es
+  first_unplaced shapes e es = first_shaped nowhere no_places no_lists shapes e es
 
   abbrev unplaced_entries : List EntryShape → List GivenEntry → List WrittenEntry
-  unplaced_entries shapes es = written_entries nowhere no_places 0 shapes es
+  unplaced_entries shapes es = written_entries nowhere no_places no_lists shapes es
 
-  module _ (next : ℕ → List Attribute → ℕ) (p : Places) where
-    entry-length : (ranges : ℕ) (shapes : List EntryShape) (e : GivenEntry) (es : List GivenEntry) → length (entry_bytes order size (first_shaped next p ranges shapes e es)) ≡ length (entry_bytes order size (first_unplaced shapes e es))
-    entry-length ranges shapes e es =
+  module _ (next : ListPlaces → List Attribute → ListPlaces) (p : Places) where
+    entry-length : (lists : ListPlaces) (shapes : List EntryShape) (e : GivenEntry) (es : List GivenEntry) → length (entry_bytes order size (first_shaped next p lists shapes e es)) ≡ length (entry_bytes order size (first_unplaced shapes e es))
+    entry-length lists shapes e es =
         let zeros : ℕ → List ℕ = λ n. replicate (e.depth - n) 0 in
-        let here = next_depth (written_entries next p (next ranges e.attributes) shapes es) in
+        let here = next_depth (written_entries next p (next lists e.attributes) shapes es) in
         let there = next_depth (unplaced_entries shapes es) in
         let code = uleb_bytes (code_in shapes (shape_of e es)) in
-        let values = values_bytes next p ranges e.attributes in
-        let ends : length (zeros here) ≡ length (zeros there) = ap (λ n. length {A = ℕ} (zeros n)) (next-first next p (next ranges e.attributes) shapes es ∙ sym (next-first nowhere no_places 0 shapes es)) in
-        omega (arith, ends, values-length next p ranges e.attributes, length-append code (values ++ zeros here), length-append values (zeros here), length-append code (unplaced_bytes e.attributes ++ zeros there), length-append (unplaced_bytes e.attributes) (zeros there))
+        let values = values_bytes next p lists e.attributes in
+        let ends : length (zeros here) ≡ length (zeros there) = ap (λ n. length {A = ℕ} (zeros n)) (next-first next p (next lists e.attributes) shapes es ∙ sym (next-first nowhere no_places no_lists shapes es)) in
+        omega (arith, ends, values-length next p lists e.attributes, length-append code (values ++ zeros here), length-append values (zeros here), length-append code (unplaced_bytes e.attributes ++ zeros there), length-append (unplaced_bytes e.attributes) (zeros there))
 
-    entries-length : (ranges : ℕ) (shapes : List EntryShape) (es : List GivenEntry) → length (entries_bytes order size (written_entries next p ranges shapes es)) ≡ length (entries_bytes order size (unplaced_entries shapes es))
-    entries-length ranges shapes [] = refl
-    entries-length ranges shapes (e ∷ es) =
-        let rest = entries_bytes order size (written_entries next p (next ranges e.attributes) shapes es) in
-        omega (arith, entry-length ranges shapes e es, entries-length (next ranges e.attributes) shapes es, length-append (entry_bytes order size (first_shaped next p ranges shapes e es)) rest, length-append (entry_bytes order size (first_unplaced shapes e es)) (entries_bytes order size (unplaced_entries shapes es)))
+    entries-length : (lists : ListPlaces) (shapes : List EntryShape) (es : List GivenEntry) → length (entries_bytes order size (written_entries next p lists shapes es)) ≡ length (entries_bytes order size (unplaced_entries shapes es))
+    entries-length lists shapes [] = refl
+    entries-length lists shapes (e ∷ es) =
+        let rest = entries_bytes order size (written_entries next p (next lists e.attributes) shapes es) in
+        omega (arith, entry-length lists shapes e es, entries-length (next lists e.attributes) shapes es, length-append (entry_bytes order size (first_shaped next p lists shapes e es)) rest, length-append (entry_bytes order size (first_unplaced shapes e es)) (entries_bytes order size (unplaced_entries shapes es)))
 
   -- A unit is as long as it is while nothing has a place.
-  pub placed-length : (ranges : ℕ) (p : Places) (a : ℕ) (u : OrderedUnit) → length (placed_unit_bytes order size (written_unit size ranges p a u)) ≡ unit_length order size u
-  placed-length ranges p a u =
-      let es = written_entries (behind_attributes size) p ranges (shapes_in u) u.entries in
+  pub placed-length : (lists : ListPlaces) (p : Places) (a : ℕ) (u : OrderedUnit) → length (placed_unit_bytes order size (written_unit size lists p a u)) ≡ unit_length order size u
+  placed-length lists p a u =
+      let es = written_entries (behind_attributes size) p lists (shapes_in u) u.entries in
       let bytes = entries_bytes order size es in
       let body = unit_body order size a es in
-      omega (arith, entries-length (behind_attributes size) p ranges (shapes_in u) u.entries, number_bytes-length order 4 (length body), number_bytes-length order 2 4, number_bytes-length order 4 a, length-append (number_bytes order 4 (length body)) body, length-append (number_bytes order 2 4) (number_bytes order 4 a ++ ((size ∷ []) ++ bytes)), length-append (number_bytes order 4 a) ((size ∷ []) ++ bytes))
+      omega (arith, entries-length (behind_attributes size) p lists (shapes_in u) u.entries, number_bytes-length order 4 (length body), number_bytes-length order 2 4, number_bytes-length order 4 a, length-append (number_bytes order 4 (length body)) body, length-append (number_bytes order 2 4) (number_bytes order 4 a ++ ((size ∷ []) ++ bytes)), length-append (number_bytes order 4 a) ((size ∷ []) ++ bytes))
 
   -- ---- offsets
 
@@ -100,11 +102,11 @@ module _ (order : Endian) (size : ℕ) where
   abbrev pub offsets_from : ℕ → List Shaped → List ℕ
   offsets_from place xs = at_places (entry_bytes order size) (λ q x. q ∷ []) place xs
 
-  pub offsets-same : (next : ℕ → List Attribute → ℕ) (p : Places) (ranges : ℕ) (shapes : List EntryShape) (es : List GivenEntry) (place : ℕ) → offsets_from place (shaped (written_entries next p ranges shapes es)) ≡ offsets_from place (shaped (unplaced_entries shapes es))
-  offsets-same next p ranges shapes [] place = refl
-  offsets-same next p ranges shapes (e ∷ es) place =
-      ap (λ n. place ∷ offsets_from (place + n) (shaped (written_entries next p (next ranges e.attributes) shapes es))) (entry-length next p ranges shapes e es)
-      ∙ ap (λ os. place ∷ os) (offsets-same next p (next ranges e.attributes) shapes es (place + length (entry_bytes order size (first_unplaced shapes e es))))
+  pub offsets-same : (next : ListPlaces → List Attribute → ListPlaces) (p : Places) (lists : ListPlaces) (shapes : List EntryShape) (es : List GivenEntry) (place : ℕ) → offsets_from place (shaped (written_entries next p lists shapes es)) ≡ offsets_from place (shaped (unplaced_entries shapes es))
+  offsets-same next p lists shapes [] place = refl
+  offsets-same next p lists shapes (e ∷ es) place =
+      ap (λ n. place ∷ offsets_from (place + n) (shaped (written_entries next p (next lists e.attributes) shapes es))) (entry-length next p lists shapes e es)
+      ∙ ap (λ os. place ∷ os) (offsets-same next p (next lists e.attributes) shapes es (place + length (entry_bytes order size (first_unplaced shapes e es))))
 
   pub offsets-moved : (start : ℕ) (xs : List Shaped) (place : ℕ) → offsets_from (start + place) xs ≡ map (λ o. start + o) (offsets_from place xs)
   offsets-moved start [] place = refl
@@ -141,7 +143,7 @@ AreAbove low [] (o ∷ os) = ⊥
 AreAbove low (e ∷ es) [] = ⊥
 AreAbove low (e ∷ es) (o ∷ os) = (low < o) × AreAbove o es os
 
-entries-above : (order : Endian) (size : ℕ) (shapes : List EntryShape) (es : List GivenEntry) (low place : ℕ) → low < place → AreAbove low es (offsets_from order size place (shaped (written_entries nowhere no_places 0 shapes es)))
+entries-above : (order : Endian) (size : ℕ) (shapes : List EntryShape) (es : List GivenEntry) (low place : ℕ) → low < place → AreAbove low es (offsets_from order size place (shaped (written_entries nowhere no_places no_lists shapes es)))
 entries-above order size shapes [] low place less = tt
 entries-above order size shapes (e ∷ es) low place less =
     (less, entries-above order size shapes es place (place + length (entry_bytes order size (first_unplaced order size shapes e es))) (omega (arith, entry-some order size (first_unplaced order size shapes e es))))
@@ -179,21 +181,21 @@ added-below es os end (Some k) below = among-below k end es os below
 pub offset-within : (order : Endian) (size : ℕ) (u : OrderedUnit) (id : ℕ) → get_or (offsets_by_number order size u) id 0 ≤ unit_length order size u
 offset-within order size u id =
     let os = entry_offsets order size u in
-    let below = offsets-below order size (shaped (written_entries nowhere no_places 0 (shapes_in u) u.entries)) header_length (unit_length order size u) (omega arith) in
+    let below = offsets-below order size (shaped (written_entries nowhere no_places no_lists (shapes_in u) u.entries)) header_length (unit_length order size u) (omega arith) in
     omega (arith, by-number u.entries os u.places id, added-below u.entries os (unit_length order size u) (place_of id u.places) below)
 
 -- ---- units
 
 -- The section of units is as long as they are together.
-pub info-length : (order : Endian) (size : ℕ) (units : AllPlaces) (a l r : ℕ) (us : List OrderedUnit) → length (info_bytes order size (written_units order size units a l r us)) ≡ sum_by (unit_length order size) us
+pub info-length : (order : Endian) (size : ℕ) (units : AllPlaces) (a l : ℕ) (r : ListPlaces) (us : List OrderedUnit) → length (info_bytes order size (written_units order size units a l r us)) ≡ sum_by (unit_length order size) us
 info-length order size units a l r [] = refl
 info-length order size units a l r (u ∷ us) =
     let p = places_in units (offsets_by_number order size u) l in
     let table_at = a + length (table_bytes (numbered 1 (shapes_in u))) in
     let line_at = l + length (lines_bytes order size (written_lines u.lines)) in
-    let ranges_at = r + length (pairs_bytes order size (pairs_of_entries u.entries)) in
-    let rest = written_units order size units table_at line_at ranges_at us in
-    omega (arith, placed-length order size r p a u, info-length order size units table_at line_at ranges_at us, length-append (placed_unit_bytes order size (written_unit size r p a u)) (info_bytes order size rest), sum_by-cons (unit_length order size) u us)
+    let lists_at = behind_unit order size r u in
+    let rest = written_units order size units table_at line_at lists_at us in
+    omega (arith, placed-length order size r p a u, info-length order size units table_at line_at lists_at us, length-append (placed_unit_bytes order size (written_unit size r p a u)) (info_bytes order size rest), sum_by-cons (unit_length order size) u us)
 
 -- The offset of an entry in the section is within it.
 pub places-short : (order : Endian) (size start : ℕ) (us : List OrderedUnit) (unit id : ℕ) → offset_in_section (places_of_units order size start us) unit id ≤ start + sum_by (unit_length order size) us
@@ -277,7 +279,7 @@ module _ (order : Endian) (size : ℕ) where
   offsets-above u = entries-above order size (shapes_in u) u.entries 10 header_length (omega arith)
 
   offsets-inside : (u : OrderedUnit) → All (λ o. o < unit_length order size u) (entry_offsets order size u)
-  offsets-inside u = offsets-below order size (shaped (written_entries nowhere no_places 0 (shapes_in u) u.entries)) header_length (unit_length order size u) (omega arith)
+  offsets-inside u = offsets-below order size (shaped (written_entries nowhere no_places no_lists (shapes_in u) u.entries)) header_length (unit_length order size u) (omega arith)
 
   -- entries that are read, by their offsets
   by-offset : (start n : ℕ) (u : OrderedUnit) (v : ReadUnit) → StandsAt order size start u v → position (λ e. e.offset == n) v.entries ≡ position (λ o. o == n) (map (λ o. start + o) (entry_offsets order size u))

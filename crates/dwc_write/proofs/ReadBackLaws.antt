@@ -4,13 +4,13 @@ use Rattle.std.proofs.Math.Facts.{sfits_to_z}
 use Rattle.std.proofs.lemmas.Int.{ints}
 use Rattle.dwc_base.specs.Reading.{is_64_bit}
 use Rattle.std.specs.Prelude.{ℤ, pos, ◌-ℤ◌, int_lt, int_le, FitsSigned, ◌==◌, ◌&&◌, if◌then◌else◌, is_some, option_map, option_and_then, slice_get, nat_lt}
-use Rattle.std.specs.List.{All, AllZip, flat_map, filter_map, find}
+use Rattle.std.specs.List.{All, AllZip, flat_map, find}
 use Rattle.std.specs.Int.{w64, cast_signed}
 use Rattle.std.proofs.lemmas.Bool.{eqb-true}
 use Rattle.std.proofs.lemmas.List.Elements.{All-head, All-tail, All-cons, All-nil, All-append, All-weaker, All-map}
 use Rattle.dwc_base.specs.declared.records.Endian.{Endian}
 use Rattle.dwc_base.specs.declared.section_name.SectionName.{SectionName}
-use Rattle.dwc_base.specs.declared.section_name.SectionName.TheVariants.{Abbrev, Info, Line, Ranges, Str}
+use Rattle.dwc_base.specs.declared.section_name.SectionName.TheVariants.{Abbrev, Info, Line, Loc, Ranges, Str}
 use Rattle.dwc_base.specs.declared.constants.TheConstants.{DW_AT_stmt_list, DW_FORM_data1, DW_FORM_data2, DW_FORM_data4, DW_FORM_data8, DW_FORM_sdata}
 use Rattle.dwc_base.specs.Abbreviations.{Declaration, declaration_of}
 use Rattle.dwc_base.specs.declared.records.LineRow.{LineRow}
@@ -19,7 +19,7 @@ use Rattle.dwc_base.specs.Sections.{Sections}
 use Rattle.dwc_base.specs.Values.{Value}
 use Rattle.dwc_base.specs.Entries.{Entry, attribute}
 use Rattle.dwc_base.specs.Carried.{Unit, units, root, line_offset, table_of_root, table_of_unit, segments_of_unit}
-use Rattle.dwc_base.specs.Outputs.{OutputRelocation, OutputSection, function_relocation, output_sections}
+use Rattle.dwc_base.specs.Outputs.{OutputRelocation, OutputSection, output_sections}
 use Rattle.dwc_base.specs.NumberBytes.{number_bytes}
 use Rattle.dwc_write.specs.Spelled.{at_places}
 use Rattle.dwc_write.specs.SpelledTables.{FitsSpec, FitsDeclaration, AreNumbered, table_bytes}
@@ -30,25 +30,24 @@ use Rattle.dwc_write.specs.SpelledSections.{WrittenUnit, placed_unit_bytes, tabl
 use Rattle.dwc_write.specs.SpelledRelocations.{info_relocations, lines_relocations}
 use Rattle.dwc_write.specs.declared.attributes.Attribute.{Attribute}
 use Rattle.dwc_write.specs.declared.attributes.AttributeValue.{AttributeValue}
-use Rattle.dwc_write.specs.declared.attributes.AttributeValue.TheVariants.{Address, Constant, Flag, Block, Exprloc, StringRef, LineProgramRef, RangeListRef, UnitRef, DebugInfoRef}
+use Rattle.dwc_write.specs.declared.attributes.AttributeValue.TheVariants.{Address, Constant, Flag, Block, Exprloc, StringRef, LineProgramRef, RangeListRef, LocationListRef, UnitRef, DebugInfoRef}
 use Rattle.dwc_write.specs.declared.attributes.DebugInfoRef.TheVariants.{Entry as entry_of}
 use Rattle.dwc_write.specs.declared.abbreviations.AttributeForm.{AttributeForm}
 use Rattle.dwc_write.specs.GivenLines.{GivenLines, FitsLines, FitsSequences, FitsGivenSequence}
-use Rattle.dwc_write.specs.GivenUnits.{GivenEntry, OrderedUnit, Places, no_places, IsOfSize, written_of, FitsValue, FitsAttribute, AreBelow, IsTree, FitsEntry, FitsOrdered, is_lines, names_lines_in, names_lines, IsWritable, size_of, AreWritable, EntryShape, form_of, forms_of, shape_of, shapes_of, same_forms, same_flag, same_shape, place_in, with_use, first_uses, code_in, spec_of_form, numbered, shapes_in, written_attribute, written_attributes, written_entries, behind_entries, pairs_of_entries, pairs_of_units}
-use Rattle.dwc_write.specs.Layouts.{AllPlaces, AreShort, offset_of_text, offsets_by_number, offset_in_section, places_in, unit_length, written_unit, written_lines, written_units, written_tables}
+use Rattle.dwc_write.specs.GivenUnits.{GivenEntry, OrderedUnit, Places, no_places, IsOfSize, written_of, FitsValue, FitsAttribute, AreBelow, IsTree, FitsEntry, FitsOrdered, is_lines, names_lines_in, names_lines, IsWritable, size_of, AreWritable, EntryShape, form_of, forms_of, shape_of, shapes_of, same_forms, same_flag, same_shape, place_in, with_use, first_uses, code_in, spec_of_form, numbered, shapes_in, written_attribute, written_attributes, written_entries, behind_entries, lists_of_entries, lists_of_units}
+use Rattle.dwc_write.specs.Layouts.{AllPlaces, AreShort, offset_of_text, offsets_by_number, offset_in_section, places_in, unit_length, behind_unit, written_unit, written_lines, written_units, written_tables}
 use Rattle.dwc_write.specs.UsedTexts.{strings_bytes}
-use Rattle.dwc_write.specs.SpelledOutput.{section_unless_empty, abbrev_bytes, all_info_bytes, all_lines_bytes, all_ranges_bytes, all_ranges_relocations, units_placed, all_places, spelled_sections}
+use Rattle.dwc_write.specs.SpelledOutput.{section_unless_empty, abbrev_bytes, all_info_bytes, all_lines_bytes, all_lists_bytes, all_lists_relocations, units_placed, all_places, spelled_sections}
 use Rattle.dwc_write.specs.ReadBack.{given_file, given_row, given_segments, given_segment, Contents, read_contents, given_contents, given_value, given_values, IsReadUnit, ReadsBack}
 use Rattle.dwc_write.specs.Writers.{IsSound, most_bytes}
 use Rattle.dwc_write.proofs.ReadNumbers.{number_bytes-length}
 use Rattle.dwc_write.proofs.ReadTexts.{offset-bound}
 use Rattle.dwc_write.proofs.ReadTables.{numbered-found}
 use Rattle.dwc_write.proofs.ReadRelocations.{info-functions, lines-functions, at_places-append}
-use Rattle.std.proofs.lemmas.Grind.{flat_map-append}
-use Rattle.dwc_base.specs.declared.records.Address.{Address as RangeAddress}
-use Rattle.dwc_write.specs.RangeLists.{behind_attributes, behind_value, pair_bytes, pairs_bytes, pairs_relocations}
-use Rattle.dwc_write.proofs.RelatedLists.{pair-length}
-use Rattle.dwc_write.proofs.ListPlaces.{behind-most, behind-all, entries-behind}
+use Rattle.dwc_write.specs.declared.list_places.ListPlaces.{ListPlaces}
+use Rattle.dwc_write.specs.Lists.{ListEntry, AreWithin, behind_attributes, behind_value, list_bytes, list_relocations, listed_bytes, locations_in, no_lists, ranges_in}
+use Rattle.dwc_write.proofs.ListPlaces.{both-length, entries-behind, listed-length, places_behind, within-attributes, within-entries}
+use Rattle.dwc_write.proofs.SectionsHold.{Holds, sections-hold}
 use Rattle.dwc_write.proofs.ReadValues.{All-back}
 use Rattle.dwc_write.proofs.ReadSections.{IsReadAt, units-read, lines-read, segments-read}
 use Rattle.dwc_write.proofs.LineLaws.{field-address}
@@ -58,21 +57,22 @@ use Rattle.dwc_write.proofs.PlacedEntries.{placed-length, offset-within, places-
 -- ---- values
 
 -- a form does not hang on places
-form-same : (p : Places) (ranges : ℕ) (v : AttributeValue) → form_number (written_of p ranges v) ≡ form_number (written_of no_places 0 v)
-form-same p ranges (Address a) = refl
-form-same p ranges (Constant form bits) = refl
-form-same p ranges (Flag b) = refl
-form-same p ranges (Block bytes) = refl
-form-same p ranges (Exprloc e) = refl
-form-same p ranges (StringRef id) = refl
-form-same p ranges LineProgramRef = refl
-form-same p ranges (RangeListRef list) = refl
-form-same p ranges (UnitRef id) = refl
-form-same p ranges (DebugInfoRef (entry_of unit id)) = refl
+form-same : (p : Places) (lists : ListPlaces) (v : AttributeValue) → form_number (written_of p lists v) ≡ form_number (written_of no_places no_lists v)
+form-same p lists (Address a) = refl
+form-same p lists (Constant form bits) = refl
+form-same p lists (Flag b) = refl
+form-same p lists (Block bytes) = refl
+form-same p lists (Exprloc e) = refl
+form-same p lists (StringRef id) = refl
+form-same p lists LineProgramRef = refl
+form-same p lists (RangeListRef list) = refl
+form-same p lists (LocationListRef list) = refl
+form-same p lists (UnitRef id) = refl
+form-same p lists (DebugInfoRef (entry_of unit id)) = refl
 
-forms-same : (next : ℕ → List Attribute → ℕ) (p : Places) (ranges : ℕ) (xs : List Attribute) → map spec_of (written_attributes next p ranges xs) ≡ map spec_of_form (forms_of xs)
-forms-same next p ranges [] = refl
-forms-same next p ranges (x ∷ xs) = ap (λ (f : ℕ). record { name = x.name; form = f; implicit = pos 0 } ∷ map spec_of (written_attributes next p (next ranges (x ∷ [])) xs)) (form-same p ranges x.value) ∙ ap (λ ys. spec_of_form (form_of x) ∷ ys) (forms-same next p (next ranges (x ∷ [])) xs)
+forms-same : (next : ListPlaces → List Attribute → ListPlaces) (p : Places) (lists : ListPlaces) (xs : List Attribute) → map spec_of (written_attributes next p lists xs) ≡ map spec_of_form (forms_of xs)
+forms-same next p lists [] = refl
+forms-same next p lists (x ∷ xs) = ap (λ (f : ℕ). record { name = x.name; form = f; implicit = pos 0 } ∷ map spec_of (written_attributes next p (next lists (x ∷ [])) xs)) (form-same p lists x.value) ∙ ap (λ ys. spec_of_form (form_of x) ∷ ys) (forms-same next p (next lists (x ∷ [])) xs)
 
 signed-64 : (z : ℤ) → FitsSigned w64 z → is_64_bit z ≡ true
 signed-64 z fits =
@@ -96,10 +96,10 @@ constant-fits size false false false false false bits small = small
 pub vec-short : (bytes : Vec ℕ Global) → length bytes.items < 2 ^ 64
 vec-short bytes = let long = bytes.ok.0 in let room = bytes.ok.1 in let small = bytes.small in omega (arith, long, room, small)
 
-value-fits : (size : ℕ) (p : Places) (ranges : ℕ) (a : Attribute) → AreShort p → ranges ≤ most_bytes → FitsAttribute size a → FitsWritten size (written_of p ranges a.value)
-value-fits size p ranges a near short_list fits = go a.value fits.value
+value-fits : (size : ℕ) (p : Places) (lists : ListPlaces) (a : Attribute) → AreShort p → AreWithin lists → FitsAttribute size a → FitsWritten size (written_of p lists a.value)
+value-fits size p lists a near short_list fits = go a.value fits.value
   where
-    go : (v : AttributeValue) → FitsValue size a.name v → FitsWritten size (written_of p ranges v)
+    go : (v : AttributeValue) → FitsValue size a.name v → FitsWritten size (written_of p lists v)
     go (Address x) h = field-address size x h
     go (Constant form bits) h = constant-fits size (form == DW_FORM_data1) (form == DW_FORM_data2) (form == DW_FORM_data4) (form == DW_FORM_data8) (form == DW_FORM_sdata) bits h.1
     go (Flag b) h = tt
@@ -107,15 +107,16 @@ value-fits size p ranges a near short_list fits = go a.value fits.value
     go (Exprloc e) h = vec-short e.bytes
     go (StringRef id) h = let short = near.text id.index in omega (arith, short)
     go LineProgramRef h = let short = near.line in omega (arith, short)
-    go (RangeListRef list) h = omega (arith, short_list)
+    go (RangeListRef list) h = let short = short_list.ranges in omega (arith, short)
+    go (LocationListRef list) h = let short = short_list.locations in omega (arith, short)
     go (UnitRef id) h = let short = near.entry id.index in omega (arith, short)
     go (DebugInfoRef (entry_of unit id)) h = let short = near.entry_of unit.index id.index in omega (arith, short)
 
-values-fit : (size : ℕ) (p : Places) (ranges : ℕ) (xs : List Attribute) → AreShort p → behind_attributes size ranges xs ≤ most_bytes → All (FitsAttribute size) xs → All (λ a. FitsWritten size a.value) (written_attributes (behind_attributes size) p ranges xs)
-values-fit size p ranges [] near short fits = All-nil _
-values-fit size p ranges (x ∷ xs) near short fits =
-    All-cons (λ (a : WrittenAttribute). FitsWritten size a.value) (written_attribute p ranges x) (written_attributes (behind_attributes size) p (behind_value size ranges x.value) xs)
-    (value-fits size p ranges x near (omega (arith, short, behind-most size ranges (x ∷ xs))) (All-head (FitsAttribute size) x xs fits)) (values-fit size p (behind_value size ranges x.value) xs near short (All-tail (FitsAttribute size) x xs fits))
+values-fit : (size : ℕ) (p : Places) (lists : ListPlaces) (xs : List Attribute) → AreShort p → AreWithin (behind_attributes size lists xs) → All (FitsAttribute size) xs → All (λ a. FitsWritten size a.value) (written_attributes (behind_attributes size) p lists xs)
+values-fit size p lists [] near short fits = All-nil _
+values-fit size p lists (x ∷ xs) near short fits =
+    All-cons (λ (a : WrittenAttribute). FitsWritten size a.value) (written_attribute p lists x) (written_attributes (behind_attributes size) p (behind_value size lists x.value) xs)
+    (value-fits size p lists x near (within-attributes size lists (x ∷ xs) short) (All-head (FitsAttribute size) x xs fits)) (values-fit size p (behind_value size lists x.value) xs near short (All-tail (FitsAttribute size) x xs fits))
 
 -- ---- codes
 
@@ -189,12 +190,12 @@ code-declared s shapes within =
 
 -- ---- entries
 
-entries-fit : (size : ℕ) (p : Places) (ranges : ℕ) (known uses : List EntryShape) (es : List GivenEntry) → AreShort p → behind_entries size ranges es ≤ most_bytes → length uses < 2 ^ 64 → first_uses known (shapes_of es) ≡ uses → All (FitsEntry size) es
-    → All (spelled.FitsEntry (numbered 1 uses) size) (shaped (written_entries (behind_attributes size) p ranges uses es))
-entries-fit size p ranges known uses [] near short few used fits = All-nil _
-entries-fit size p ranges known uses (e ∷ es) near short few used fits =
+entries-fit : (size : ℕ) (p : Places) (lists : ListPlaces) (known uses : List EntryShape) (es : List GivenEntry) → AreShort p → AreWithin (behind_entries size lists es) → length uses < 2 ^ 64 → first_uses known (shapes_of es) ≡ uses → All (FitsEntry size) es
+    → All (spelled.FitsEntry (numbered 1 uses) size) (shaped (written_entries (behind_attributes size) p lists uses es))
+entries-fit size p lists known uses [] near short few used fits = All-nil _
+entries-fit size p lists known uses (e ∷ es) near short few used fits =
     let s = shape_of e es in
-    let next = behind_attributes size ranges e.attributes in
+    let next = behind_attributes size lists e.attributes in
     let there : place_in s uses < length uses = rw (used) at (code-there s known (shapes_of es)) in
     let found = code-declared s uses there in
     let others = entries-fit size p next (with_use s known) uses es near short few used (All-tail (FitsEntry size) e es fits) in
@@ -204,18 +205,18 @@ entries-fit size p ranges known uses (e ∷ es) near short few used fits =
     (record {
       some = omega arith;
       code = omega (arith, there, few);
-      declared = found ∙ ap Some (ap (λ d. record { code = code_in uses s; tag = e.tag; has_children = nat_lt e.depth d; attributes = map spec_of_form (forms_of e.attributes) }) (sym (next-first (behind_attributes size) p next uses es)) ∙ ap (λ xs. record { code = code_in uses s; tag = e.tag; has_children = nat_lt e.depth (next_depth rest); attributes = xs }) (sym (forms-same (behind_attributes size) p ranges e.attributes)));
-      values = values-fit size p ranges e.attributes near (omega (arith, short, behind-all size next es)) here.attributes;
+      declared = found ∙ ap Some (ap (λ d. record { code = code_in uses s; tag = e.tag; has_children = nat_lt e.depth d; attributes = map spec_of_form (forms_of e.attributes) }) (sym (next-first (behind_attributes size) p next uses es)) ∙ ap (λ xs. record { code = code_in uses s; tag = e.tag; has_children = nat_lt e.depth (next_depth rest); attributes = xs }) (sym (forms-same (behind_attributes size) p lists e.attributes)));
+      values = values-fit size p lists e.attributes near (within-entries size next es short) here.attributes;
     })
     others
 
-below-written : (next : ℕ → List Attribute → ℕ) (p : Places) (ranges depth : ℕ) (uses : List EntryShape) (es : List GivenEntry) → AreBelow depth es → spelled.AreBelow depth (written_entries next p ranges uses es)
-below-written next p ranges depth uses [] below = tt
-below-written next p ranges depth uses (e ∷ es) below = (below.0, below.1, below-written next p (next ranges e.attributes) e.depth uses es below.2)
+below-written : (next : ListPlaces → List Attribute → ListPlaces) (p : Places) (lists : ListPlaces) (depth : ℕ) (uses : List EntryShape) (es : List GivenEntry) → AreBelow depth es → spelled.AreBelow depth (written_entries next p lists uses es)
+below-written next p lists depth uses [] below = tt
+below-written next p lists depth uses (e ∷ es) below = (below.0, below.1, below-written next p (next lists e.attributes) e.depth uses es below.2)
 
-tree-written : (next : ℕ → List Attribute → ℕ) (p : Places) (ranges : ℕ) (uses : List EntryShape) (es : List GivenEntry) → IsTree es → spelled.IsTree (written_entries next p ranges uses es)
-tree-written next p ranges uses [] tree = absurd tree
-tree-written next p ranges uses (e ∷ es) tree = (tree.0, below-written next p (next ranges e.attributes) 0 uses es tree.1)
+tree-written : (next : ListPlaces → List Attribute → ListPlaces) (p : Places) (lists : ListPlaces) (uses : List EntryShape) (es : List GivenEntry) → IsTree es → spelled.IsTree (written_entries next p lists uses es)
+tree-written next p lists uses [] tree = absurd tree
+tree-written next p lists uses (e ∷ es) tree = (tree.0, below-written next p (next lists e.attributes) 0 uses es tree.1)
 
 -- ---- declarations
 
@@ -243,7 +244,7 @@ constant-small false false false true f bits = lit< tt
 constant-small false false false false true bits = lit< tt
 constant-small false false false false false bits = lit< tt
 
-form-small : (v : AttributeValue) → form_number (written_of no_places 0 v) < 2 ^ 64
+form-small : (v : AttributeValue) → form_number (written_of no_places no_lists v) < 2 ^ 64
 form-small (Address a) = lit< tt
 form-small (Constant form bits) = constant-small (form == DW_FORM_data1) (form == DW_FORM_data2) (form == DW_FORM_data4) (form == DW_FORM_data8) (form == DW_FORM_sdata) bits
 form-small (Flag b) = lit< tt
@@ -252,6 +253,7 @@ form-small (Exprloc e) = lit< tt
 form-small (StringRef id) = lit< tt
 form-small LineProgramRef = lit< tt
 form-small (RangeListRef list) = lit< tt
+form-small (LocationListRef list) = lit< tt
 form-small (UnitRef id) = lit< tt
 form-small (DebugInfoRef (entry_of unit id)) = lit< tt
 
@@ -263,7 +265,7 @@ constant-some false false false true f bits = lit< tt
 constant-some false false false false true bits = lit< tt
 constant-some false false false false false bits = lit< tt
 
-form-some : (v : AttributeValue) → 0 < form_number (written_of no_places 0 v)
+form-some : (v : AttributeValue) → 0 < form_number (written_of no_places no_lists v)
 form-some (Address a) = lit< tt
 form-some (Constant form bits) = constant-some (form == DW_FORM_data1) (form == DW_FORM_data2) (form == DW_FORM_data4) (form == DW_FORM_data8) (form == DW_FORM_sdata) bits
 form-some (Flag b) = lit< tt
@@ -272,6 +274,7 @@ form-some (Exprloc e) = lit< tt
 form-some (StringRef id) = lit< tt
 form-some LineProgramRef = lit< tt
 form-some (RangeListRef list) = lit< tt
+form-some (LocationListRef list) = lit< tt
 form-some (UnitRef id) = lit< tt
 form-some (DebugInfoRef (entry_of unit id)) = lit< tt
 
@@ -314,8 +317,8 @@ body-shorter order size u =
     let body = unit_body order size u.table_offset u.entries in
     omega (arith, length-append (number_bytes order 4 (length body)) body)
 
-pub units-fit : (order : Endian) (size a l r : ℕ) (units : AllPlaces) (us : List OrderedUnit) → All (λ u. u.address_size ≡ size) us → All FitsOrdered us → ((unit id : ℕ) → offset_in_section units.units unit id ≤ most_bytes) → ((id : ℕ) → offset_of_text units.texts id ≤ most_bytes)
-    → a + length (tables_bytes (written_units order size units a l r us)) ≤ most_bytes → l + length (lines_bytes order size (written_tables us)) ≤ most_bytes → r + length (pairs_bytes order size (pairs_of_units us)) ≤ most_bytes → length (info_bytes order size (written_units order size units a l r us)) ≤ most_bytes
+pub units-fit : (order : Endian) (size a l : ℕ) (r : ListPlaces) (units : AllPlaces) (us : List OrderedUnit) → All (λ u. u.address_size ≡ size) us → All FitsOrdered us → ((unit id : ℕ) → offset_in_section units.units unit id ≤ most_bytes) → ((id : ℕ) → offset_of_text units.texts id ≤ most_bytes)
+    → a + length (tables_bytes (written_units order size units a l r us)) ≤ most_bytes → l + length (lines_bytes order size (written_tables us)) ≤ most_bytes → AreWithin (places_behind order size r (lists_of_units ranges_in us) (lists_of_units locations_in us)) → length (info_bytes order size (written_units order size units a l r us)) ≤ most_bytes
     → All (FitsUnit order size) (written_units order size units a l r us)
 units-fit order size a l r units [] sized fits near texts tables lines lists info = All-nil _
 units-fit order size a l r units (u ∷ us) sized fits near texts tables lines lists info =
@@ -326,8 +329,13 @@ units-fit order size a l r units (u ∷ us) sized fits near texts tables lines l
     let p = places_in units (offsets_by_number order size u) l in
     let unit = written_unit size r p a u in
     let few = here.few in
-    let rest = written_units order size units (a + length (table_bytes unit.table)) (l + length (lines_bytes order size (written_lines u.lines))) (r + length (pairs_bytes order size (pairs_of_entries u.entries))) us in
-    let pairs = ap length (flat_map-append (pair_bytes order size) (pairs_of_entries u.entries) (pairs_of_units us)) ∙ length-append (pairs_bytes order size (pairs_of_entries u.entries)) (pairs_bytes order size (pairs_of_units us)) in
+    let rest = written_units order size units (a + length (table_bytes unit.table)) (l + length (lines_bytes order size (written_lines u.lines))) (behind_unit order size r u) us in
+    let ranges = both-length order size (lists_of_entries ranges_in u.entries) (lists_of_units ranges_in us) in
+    let locations = both-length order size (lists_of_entries locations_in u.entries) (lists_of_units locations_in us) in
+    let ranges_short = lists.ranges in
+    let locations_short = lists.locations in
+    let own : AreWithin (places_behind order size r (lists_of_entries ranges_in u.entries) (lists_of_entries locations_in u.entries)) = record { ranges = omega (arith, ranges_short, ranges); locations = omega (arith, locations_short, locations) } in
+    let behind : AreWithin (places_behind order size (behind_unit order size r u) (lists_of_units ranges_in us) (lists_of_units locations_in us)) = record { ranges = omega (arith, ranges_short, ranges); locations = omega (arith, locations_short, locations) } in
     let long = uses-length [] u.entries in
     let whole = length-append (placed_unit_bytes order size unit) (info_bytes order size rest) in
     let length_of : length (placed_unit_bytes order size unit) ≡ unit_length order size u = placed-length order size r p a u in
@@ -337,15 +345,15 @@ units-fit order size a l r units (u ∷ us) sized fits near texts tables lines l
       offset = omega (arith, tables);
       short = omega (arith, info, body-shorter order size unit, whole);
       table = numbered-fit 1 (shapes_in u) (lit< tt) (omega (arith, long, few)) (uses-fit size [] u.entries entries (All-nil FitsShape));
-      entries = entries-fit size p r [] (shapes_in u) u.entries short (omega (arith, lists, pairs, entries-behind order size r u.entries)) (omega (arith, long, few)) refl entries;
+      entries = entries-fit size p r [] (shapes_in u) u.entries short (subst AreWithin (sym (entries-behind order size r u.entries)) own) (omega (arith, long, few)) refl entries;
       tree = tree-written (behind_attributes size) p r (shapes_in u) u.entries here.tree;
     })
-    (units-fit order size (a + length (table_bytes unit.table)) (l + length (lines_bytes order size (written_lines u.lines))) (r + length (pairs_bytes order size (pairs_of_entries u.entries))) units us (All-tail (λ (v : OrderedUnit). v.address_size ≡ size) u us sized) (All-tail FitsOrdered u us fits) near texts
-    (omega (arith, tables, length-append (table_bytes unit.table) (tables_bytes rest))) (omega (arith, lines, lengths-both (one_table_bytes order size) (written_lines u.lines) (written_tables us))) (omega (arith, lists, pairs)) (omega (arith, info, whole)))
+    (units-fit order size (a + length (table_bytes unit.table)) (l + length (lines_bytes order size (written_lines u.lines))) (behind_unit order size r u) units us (All-tail (λ (v : OrderedUnit). v.address_size ≡ size) u us sized) (All-tail FitsOrdered u us fits) near texts
+    (omega (arith, tables, length-append (table_bytes unit.table) (tables_bytes rest))) (omega (arith, lines, lengths-both (one_table_bytes order size) (written_lines u.lines) (written_tables us))) behind (omega (arith, info, whole)))
 
-pub tables-from : (order : Endian) (size : ℕ) (units : AllPlaces) (us : List OrderedUnit) (a l r : ℕ) → AreTablesFrom a (written_units order size units a l r us)
+pub tables-from : (order : Endian) (size : ℕ) (units : AllPlaces) (us : List OrderedUnit) (a l : ℕ) (r : ListPlaces) → AreTablesFrom a (written_units order size units a l r us)
 tables-from order size units [] a l r = tt
-tables-from order size units (u ∷ us) a l r = (refl, tables-from order size units us (a + length (table_bytes (numbered 1 (shapes_in u)))) (l + length (lines_bytes order size (written_lines u.lines))) (r + length (pairs_bytes order size (pairs_of_entries u.entries))))
+tables-from order size units (u ∷ us) a l r = (refl, tables-from order size units us (a + length (table_bytes (numbered 1 (shapes_in u)))) (l + length (lines_bytes order size (written_lines u.lines))) (behind_unit order size r u))
 
 -- ---- all line tables
 
@@ -391,9 +399,9 @@ tables-fit order size (u ∷ us) sized fits lines short =
 
 -- ---- what is read of each unit
 
-pub attributes-read : (next : ℕ → List Attribute → ℕ) (p : Places) (ranges : ℕ) (xs : List Attribute) → map (λ (a : WrittenAttribute). (a.name, written_value a.name a.value)) (written_attributes next p ranges xs) ≡ given_values next p ranges xs
-attributes-read next p ranges [] = refl
-attributes-read next p ranges (x ∷ xs) = ap (λ ys. given_value p ranges x ∷ ys) (attributes-read next p (next ranges (x ∷ [])) xs)
+pub attributes-read : (next : ListPlaces → List Attribute → ListPlaces) (p : Places) (lists : ListPlaces) (xs : List Attribute) → map (λ (a : WrittenAttribute). (a.name, written_value a.name a.value)) (written_attributes next p lists xs) ≡ given_values next p lists xs
+attributes-read next p lists [] = refl
+attributes-read next p lists (x ∷ xs) = ap (λ ys. given_value p lists x ∷ ys) (attributes-read next p (next lists (x ∷ [])) xs)
 
 abbrev pub shaped_contents : Shaped → Contents
 shaped_contents x = record { depth = x.entry.depth; tag = x.entry.tag; attributes = map (λ (a : WrittenAttribute). (a.name, written_value a.name a.value)) x.entry.attributes }
@@ -402,11 +410,11 @@ pub places-contents : (order : Endian) (size : ℕ) (xs : List Shaped) (place : 
 places-contents order size [] place = refl
 places-contents order size (x ∷ xs) place = ap (λ ys. shaped_contents x ∷ ys) (places-contents order size xs (place + length (entry_bytes order size x)))
 
-pub contents-given : (next : ℕ → List Attribute → ℕ) (p : Places) (ranges : ℕ) (uses : List EntryShape) (es : List GivenEntry) → map shaped_contents (shaped (written_entries next p ranges uses es)) ≡ given_contents next p ranges es
-contents-given next p ranges uses [] = refl
-contents-given next p ranges uses (e ∷ es) =
-    ap (λ xs. record { depth = e.depth; tag = e.tag; attributes = xs } ∷ map shaped_contents (shaped (written_entries next p (next ranges e.attributes) uses es))) (attributes-read next p ranges e.attributes)
-    ∙ ap (λ ys. record { depth = e.depth; tag = e.tag; attributes = given_values next p ranges e.attributes } ∷ ys) (contents-given next p (next ranges e.attributes) uses es)
+pub contents-given : (next : ListPlaces → List Attribute → ListPlaces) (p : Places) (lists : ListPlaces) (uses : List EntryShape) (es : List GivenEntry) → map shaped_contents (shaped (written_entries next p lists uses es)) ≡ given_contents next p lists es
+contents-given next p lists uses [] = refl
+contents-given next p lists uses (e ∷ es) =
+    ap (λ xs. record { depth = e.depth; tag = e.tag; attributes = xs } ∷ map shaped_contents (shaped (written_entries next p (next lists e.attributes) uses es))) (attributes-read next p lists e.attributes)
+    ∙ ap (λ ys. record { depth = e.depth; tag = e.tag; attributes = given_values next p lists e.attributes } ∷ ys) (contents-given next p (next lists e.attributes) uses es)
 
 -- whether the root names the line table
 abbrev pub named_offset : ℕ → Bool → Option ℕ
@@ -421,31 +429,32 @@ constant-unnamed name false false false true f bits = refl
 constant-unnamed name false false false false true bits = refl
 constant-unnamed name false false false false false bits = refl
 
-value-named : (size : ℕ) (p : Places) (ranges : ℕ) (v : AttributeValue) → FitsValue size DW_AT_stmt_list v → line_offset (Some (written_value DW_AT_stmt_list (written_of p ranges v))) ≡ named_offset p.line (is_lines v)
-value-named size p ranges (Address a) fits = refl
-value-named size p ranges (Constant form bits) fits = constant-unnamed DW_AT_stmt_list (form == DW_FORM_data1) (form == DW_FORM_data2) (form == DW_FORM_data4) (form == DW_FORM_data8) (form == DW_FORM_sdata) bits
-value-named size p ranges (Flag b) fits = refl
-value-named size p ranges (Block bytes) fits = refl
-value-named size p ranges (Exprloc e) fits = refl
-value-named size p ranges (StringRef id) fits = refl
-value-named size p ranges LineProgramRef fits = refl
-value-named size p ranges (RangeListRef list) fits = absurd (cc)
-value-named size p ranges (UnitRef id) fits = refl
-value-named size p ranges (DebugInfoRef (entry_of unit id)) fits = refl
+value-named : (size : ℕ) (p : Places) (lists : ListPlaces) (v : AttributeValue) → FitsValue size DW_AT_stmt_list v → line_offset (Some (written_value DW_AT_stmt_list (written_of p lists v))) ≡ named_offset p.line (is_lines v)
+value-named size p lists (Address a) fits = refl
+value-named size p lists (Constant form bits) fits = constant-unnamed DW_AT_stmt_list (form == DW_FORM_data1) (form == DW_FORM_data2) (form == DW_FORM_data4) (form == DW_FORM_data8) (form == DW_FORM_sdata) bits
+value-named size p lists (Flag b) fits = refl
+value-named size p lists (Block bytes) fits = refl
+value-named size p lists (Exprloc e) fits = refl
+value-named size p lists (StringRef id) fits = refl
+value-named size p lists LineProgramRef fits = refl
+value-named size p lists (RangeListRef list) fits = absurd (cc)
+value-named size p lists (LocationListRef list) fits = absurd (cc)
+value-named size p lists (UnitRef id) fits = refl
+value-named size p lists (DebugInfoRef (entry_of unit id)) fits = refl
 
 abbrev pub found_in : List (ℕ × Value) → Option Value
 found_in xs = option_map (λ a. a.1) (find (λ a. a.0 == DW_AT_stmt_list) xs)
 
-pub lines-named : (size : ℕ) (next : ℕ → List Attribute → ℕ) (p : Places) (ranges : ℕ) (xs : List Attribute) → All (FitsAttribute size) xs → line_offset (found_in (given_values next p ranges xs)) ≡ named_offset p.line (names_lines_in xs)
-lines-named size next p ranges [] fits = refl
-lines-named size next p ranges (x ∷ xs) fits = go (x.name == DW_AT_stmt_list) refl (lines-named size next p (next ranges (x ∷ [])) xs (All-tail (FitsAttribute size) x xs fits))
+pub lines-named : (size : ℕ) (next : ListPlaces → List Attribute → ListPlaces) (p : Places) (lists : ListPlaces) (xs : List Attribute) → All (FitsAttribute size) xs → line_offset (found_in (given_values next p lists xs)) ≡ named_offset p.line (names_lines_in xs)
+lines-named size next p lists [] fits = refl
+lines-named size next p lists (x ∷ xs) fits = go (x.name == DW_AT_stmt_list) refl (lines-named size next p (next lists (x ∷ [])) xs (All-tail (FitsAttribute size) x xs fits))
   where
-    go : (b : Bool) → (x.name == DW_AT_stmt_list) ≡ b → line_offset (found_in (given_values next p (next ranges (x ∷ [])) xs)) ≡ named_offset p.line (names_lines_in xs)
-        → line_offset (option_map (λ (a : ℕ × Value). a.1) (cond b (Some (given_value p ranges x)) (find (λ a. a.0 == DW_AT_stmt_list) (given_values next p (next ranges (x ∷ [])) xs)))) ≡ named_offset p.line (if b then is_lines x.value else names_lines_in xs)
+    go : (b : Bool) → (x.name == DW_AT_stmt_list) ≡ b → line_offset (found_in (given_values next p (next lists (x ∷ [])) xs)) ≡ named_offset p.line (names_lines_in xs)
+        → line_offset (option_map (λ (a : ℕ × Value). a.1) (cond b (Some (given_value p lists x)) (find (λ a. a.0 == DW_AT_stmt_list) (given_values next p (next lists (x ∷ [])) xs)))) ≡ named_offset p.line (if b then is_lines x.value else names_lines_in xs)
     go true e others =
         let name : x.name ≡ DW_AT_stmt_list = eqb-true _ _ e in
         let P : ℕ → Type 0 = λ n. FitsValue size n x.value in
-        ap (λ n. line_offset (Some (written_value n (written_of p ranges x.value)))) name ∙ value-named size p ranges x.value (subst P name (All-head (FitsAttribute size) x xs fits).value)
+        ap (λ n. line_offset (Some (written_value n (written_of p lists x.value)))) name ∙ value-named size p lists x.value (subst P name (All-head (FitsAttribute size) x xs fits).value)
     go false e others = others
 
 -- the files, rows and sequences of a table that is read are those that were given
@@ -487,7 +496,7 @@ module _ (s : Sections) (size : ℕ) where
       let fit = All-weaker (FitsGivenSequence size) (FitsSequence size) (λ q h. h.sequence) g.sequences (subst P same sequences.0) in
       segments-read s size v e p sized is_root names here fit ∙ ap Ok (segments-same s.order size g p refl g.sequences)
 
-  unit-lines : (place a r : ℕ) (p : Places) (u : OrderedUnit) (rest : List WrittenTable) → u.address_size ≡ size → FitsOrdered u → FitsLines u.lines → IsWritable size u
+  unit-lines : (place a : ℕ) (r : ListPlaces) (p : Places) (u : OrderedUnit) (rest : List WrittenTable) → u.address_size ≡ size → FitsOrdered u → FitsLines u.lines → IsWritable size u
       → All (IsReadAt s size) (placed_tables s.order size p.line (written_lines u.lines ++ rest))
       → segments_of_unit s (read_unit s.order size place (written_unit size r p a u)) ≡ Ok (given_segments u.lines)
   unit-lines place a r p u rest same fits lines writable read = at-root u.entries fits.tree fits.entries writable.named
@@ -501,7 +510,7 @@ module _ (s : Sections) (size : ℕ) where
           let Q : ℕ → Type 0 = λ n. IsOfSize n u.lines.address_size in
           root-lines _ _ p.line u.lines rest u.lines.address_size refl refl names lines (subst Q same fits.lines) lines.sequences (subst P (lines-are u.lines) read)
 
-  units-each : (place a l r : ℕ) (units : AllPlaces) (us : List OrderedUnit) → All (IsWritable size) us → All FitsOrdered us → All (λ u. FitsLines u.lines) us
+  units-each : (place a l : ℕ) (r : ListPlaces) (units : AllPlaces) (us : List OrderedUnit) → All (IsWritable size) us → All FitsOrdered us → All (λ u. FitsLines u.lines) us
       → All (IsReadAt s size) (placed_tables s.order size l (written_tables us))
       → AllZip (IsReadUnit s) us (read_units s.order size place (written_units s.order size units a l r us))
   units-each place a l r units [] writable fits lines read = tt
@@ -514,62 +523,16 @@ module _ (s : Sections) (size : ℕ) where
       let others = All-back (IsReadAt s size) (placed_tables s.order size l (written_lines u.lines)) _ (subst P split read) in (
         record {
           places = p;
-          ranges = r;
+          lists = r;
           version = refl;
           address_size = sym here.size;
           entries = places-contents s.order size (shaped unit.entries) (place + header_length) ∙ contents-given (behind_attributes size) p r (shapes_in u) u.entries ∙ ap (λ n. given_contents (behind_attributes n) p r u.entries) (sym here.size);
           lines = unit-lines place a r p u (written_tables us) here.size (All-head FitsOrdered u us fits) (All-head (λ (v : OrderedUnit). FitsLines v.lines) u us lines) here read;
         },
-        units-each (place + length (placed_unit_bytes s.order size unit)) (a + length (table_bytes unit.table)) (l + length (lines_bytes s.order size (written_lines u.lines))) (r + length (pairs_bytes s.order size (pairs_of_entries u.entries))) units us (All-tail (IsWritable size) u us writable) (All-tail FitsOrdered u us fits) (All-tail (λ (v : OrderedUnit). FitsLines v.lines) u us lines) others,
+        units-each (place + length (placed_unit_bytes s.order size unit)) (a + length (table_bytes unit.table)) (l + length (lines_bytes s.order size (written_lines u.lines))) (behind_unit s.order size r u) units us (All-tail (IsWritable size) u us writable) (All-tail FitsOrdered u us fits) (All-tail (λ (v : OrderedUnit). FitsLines v.lines) u us lines) others,
       )
 
 -- ---- the sections
-
--- what five sections hold
-pub record Holds (order : Endian) (x y z v w : List ℕ) (q r t : List OutputRelocation) (s : Sections) : Type 0 where
-  pub abbrev_is : s.bytes Abbrev ≡ x
-  pub info_is : s.bytes Info ≡ y
-  pub line_is : s.bytes Line ≡ z
-  pub ranges_are : s.bytes Ranges ≡ v
-  pub strings_are : s.bytes Str ≡ w
-  pub info_relocations_are : s.relocations Info ≡ filter_map function_relocation q
-  pub line_relocations_are : s.relocations Line ≡ filter_map function_relocation r
-  pub ranges_relocations_are : s.relocations Ranges ≡ filter_map function_relocation t
-
-pub sections-hold : (order : Endian) (x y z v w : List ℕ) (q r t : List OutputRelocation) → (y ≡ [] → q ≡ []) → (z ≡ [] → r ≡ []) → (v ≡ [] → t ≡ [])
-    → Holds order x y z v w q r t (output_sections order (section_unless_empty Abbrev x [] ++ (section_unless_empty Info y q ++ (section_unless_empty Line z r ++ (section_unless_empty Ranges v t ++ section_unless_empty Str w [])))))
-sections-hold order [] [] [] [] [] q r t info line ranges = let info_none = info refl in let line_none = line refl in let ranges_none = ranges refl in rw (info_none, line_none, ranges_none) (record { abbrev_is = refl; info_is = refl; line_is = refl; ranges_are = refl; strings_are = refl; info_relocations_are = refl; line_relocations_are = refl; ranges_relocations_are = refl })
-sections-hold order [] [] [] [] (f ∷ w) q r t info line ranges = let info_none = info refl in let line_none = line refl in let ranges_none = ranges refl in rw (info_none, line_none, ranges_none) (record { abbrev_is = refl; info_is = refl; line_is = refl; ranges_are = refl; strings_are = refl; info_relocations_are = refl; line_relocations_are = refl; ranges_relocations_are = refl })
-sections-hold order [] [] [] (d ∷ v) [] q r t info line ranges = let info_none = info refl in let line_none = line refl in rw (info_none, line_none) (record { abbrev_is = refl; info_is = refl; line_is = refl; ranges_are = refl; strings_are = refl; info_relocations_are = refl; line_relocations_are = refl; ranges_relocations_are = refl })
-sections-hold order [] [] [] (d ∷ v) (f ∷ w) q r t info line ranges = let info_none = info refl in let line_none = line refl in rw (info_none, line_none) (record { abbrev_is = refl; info_is = refl; line_is = refl; ranges_are = refl; strings_are = refl; info_relocations_are = refl; line_relocations_are = refl; ranges_relocations_are = refl })
-sections-hold order [] [] (c ∷ z) [] [] q r t info line ranges = let info_none = info refl in let ranges_none = ranges refl in rw (info_none, ranges_none) (record { abbrev_is = refl; info_is = refl; line_is = refl; ranges_are = refl; strings_are = refl; info_relocations_are = refl; line_relocations_are = refl; ranges_relocations_are = refl })
-sections-hold order [] [] (c ∷ z) [] (f ∷ w) q r t info line ranges = let info_none = info refl in let ranges_none = ranges refl in rw (info_none, ranges_none) (record { abbrev_is = refl; info_is = refl; line_is = refl; ranges_are = refl; strings_are = refl; info_relocations_are = refl; line_relocations_are = refl; ranges_relocations_are = refl })
-sections-hold order [] [] (c ∷ z) (d ∷ v) [] q r t info line ranges = let info_none = info refl in rw (info_none) (record { abbrev_is = refl; info_is = refl; line_is = refl; ranges_are = refl; strings_are = refl; info_relocations_are = refl; line_relocations_are = refl; ranges_relocations_are = refl })
-sections-hold order [] [] (c ∷ z) (d ∷ v) (f ∷ w) q r t info line ranges = let info_none = info refl in rw (info_none) (record { abbrev_is = refl; info_is = refl; line_is = refl; ranges_are = refl; strings_are = refl; info_relocations_are = refl; line_relocations_are = refl; ranges_relocations_are = refl })
-sections-hold order [] (b ∷ y) [] [] [] q r t info line ranges = let line_none = line refl in let ranges_none = ranges refl in rw (line_none, ranges_none) (record { abbrev_is = refl; info_is = refl; line_is = refl; ranges_are = refl; strings_are = refl; info_relocations_are = refl; line_relocations_are = refl; ranges_relocations_are = refl })
-sections-hold order [] (b ∷ y) [] [] (f ∷ w) q r t info line ranges = let line_none = line refl in let ranges_none = ranges refl in rw (line_none, ranges_none) (record { abbrev_is = refl; info_is = refl; line_is = refl; ranges_are = refl; strings_are = refl; info_relocations_are = refl; line_relocations_are = refl; ranges_relocations_are = refl })
-sections-hold order [] (b ∷ y) [] (d ∷ v) [] q r t info line ranges = let line_none = line refl in rw (line_none) (record { abbrev_is = refl; info_is = refl; line_is = refl; ranges_are = refl; strings_are = refl; info_relocations_are = refl; line_relocations_are = refl; ranges_relocations_are = refl })
-sections-hold order [] (b ∷ y) [] (d ∷ v) (f ∷ w) q r t info line ranges = let line_none = line refl in rw (line_none) (record { abbrev_is = refl; info_is = refl; line_is = refl; ranges_are = refl; strings_are = refl; info_relocations_are = refl; line_relocations_are = refl; ranges_relocations_are = refl })
-sections-hold order [] (b ∷ y) (c ∷ z) [] [] q r t info line ranges = let ranges_none = ranges refl in rw (ranges_none) (record { abbrev_is = refl; info_is = refl; line_is = refl; ranges_are = refl; strings_are = refl; info_relocations_are = refl; line_relocations_are = refl; ranges_relocations_are = refl })
-sections-hold order [] (b ∷ y) (c ∷ z) [] (f ∷ w) q r t info line ranges = let ranges_none = ranges refl in rw (ranges_none) (record { abbrev_is = refl; info_is = refl; line_is = refl; ranges_are = refl; strings_are = refl; info_relocations_are = refl; line_relocations_are = refl; ranges_relocations_are = refl })
-sections-hold order [] (b ∷ y) (c ∷ z) (d ∷ v) [] q r t info line ranges = record { abbrev_is = refl; info_is = refl; line_is = refl; ranges_are = refl; strings_are = refl; info_relocations_are = refl; line_relocations_are = refl; ranges_relocations_are = refl }
-sections-hold order [] (b ∷ y) (c ∷ z) (d ∷ v) (f ∷ w) q r t info line ranges = record { abbrev_is = refl; info_is = refl; line_is = refl; ranges_are = refl; strings_are = refl; info_relocations_are = refl; line_relocations_are = refl; ranges_relocations_are = refl }
-sections-hold order (a ∷ x) [] [] [] [] q r t info line ranges = let info_none = info refl in let line_none = line refl in let ranges_none = ranges refl in rw (info_none, line_none, ranges_none) (record { abbrev_is = refl; info_is = refl; line_is = refl; ranges_are = refl; strings_are = refl; info_relocations_are = refl; line_relocations_are = refl; ranges_relocations_are = refl })
-sections-hold order (a ∷ x) [] [] [] (f ∷ w) q r t info line ranges = let info_none = info refl in let line_none = line refl in let ranges_none = ranges refl in rw (info_none, line_none, ranges_none) (record { abbrev_is = refl; info_is = refl; line_is = refl; ranges_are = refl; strings_are = refl; info_relocations_are = refl; line_relocations_are = refl; ranges_relocations_are = refl })
-sections-hold order (a ∷ x) [] [] (d ∷ v) [] q r t info line ranges = let info_none = info refl in let line_none = line refl in rw (info_none, line_none) (record { abbrev_is = refl; info_is = refl; line_is = refl; ranges_are = refl; strings_are = refl; info_relocations_are = refl; line_relocations_are = refl; ranges_relocations_are = refl })
-sections-hold order (a ∷ x) [] [] (d ∷ v) (f ∷ w) q r t info line ranges = let info_none = info refl in let line_none = line refl in rw (info_none, line_none) (record { abbrev_is = refl; info_is = refl; line_is = refl; ranges_are = refl; strings_are = refl; info_relocations_are = refl; line_relocations_are = refl; ranges_relocations_are = refl })
-sections-hold order (a ∷ x) [] (c ∷ z) [] [] q r t info line ranges = let info_none = info refl in let ranges_none = ranges refl in rw (info_none, ranges_none) (record { abbrev_is = refl; info_is = refl; line_is = refl; ranges_are = refl; strings_are = refl; info_relocations_are = refl; line_relocations_are = refl; ranges_relocations_are = refl })
-sections-hold order (a ∷ x) [] (c ∷ z) [] (f ∷ w) q r t info line ranges = let info_none = info refl in let ranges_none = ranges refl in rw (info_none, ranges_none) (record { abbrev_is = refl; info_is = refl; line_is = refl; ranges_are = refl; strings_are = refl; info_relocations_are = refl; line_relocations_are = refl; ranges_relocations_are = refl })
-sections-hold order (a ∷ x) [] (c ∷ z) (d ∷ v) [] q r t info line ranges = let info_none = info refl in rw (info_none) (record { abbrev_is = refl; info_is = refl; line_is = refl; ranges_are = refl; strings_are = refl; info_relocations_are = refl; line_relocations_are = refl; ranges_relocations_are = refl })
-sections-hold order (a ∷ x) [] (c ∷ z) (d ∷ v) (f ∷ w) q r t info line ranges = let info_none = info refl in rw (info_none) (record { abbrev_is = refl; info_is = refl; line_is = refl; ranges_are = refl; strings_are = refl; info_relocations_are = refl; line_relocations_are = refl; ranges_relocations_are = refl })
-sections-hold order (a ∷ x) (b ∷ y) [] [] [] q r t info line ranges = let line_none = line refl in let ranges_none = ranges refl in rw (line_none, ranges_none) (record { abbrev_is = refl; info_is = refl; line_is = refl; ranges_are = refl; strings_are = refl; info_relocations_are = refl; line_relocations_are = refl; ranges_relocations_are = refl })
-sections-hold order (a ∷ x) (b ∷ y) [] [] (f ∷ w) q r t info line ranges = let line_none = line refl in let ranges_none = ranges refl in rw (line_none, ranges_none) (record { abbrev_is = refl; info_is = refl; line_is = refl; ranges_are = refl; strings_are = refl; info_relocations_are = refl; line_relocations_are = refl; ranges_relocations_are = refl })
-sections-hold order (a ∷ x) (b ∷ y) [] (d ∷ v) [] q r t info line ranges = let line_none = line refl in rw (line_none) (record { abbrev_is = refl; info_is = refl; line_is = refl; ranges_are = refl; strings_are = refl; info_relocations_are = refl; line_relocations_are = refl; ranges_relocations_are = refl })
-sections-hold order (a ∷ x) (b ∷ y) [] (d ∷ v) (f ∷ w) q r t info line ranges = let line_none = line refl in rw (line_none) (record { abbrev_is = refl; info_is = refl; line_is = refl; ranges_are = refl; strings_are = refl; info_relocations_are = refl; line_relocations_are = refl; ranges_relocations_are = refl })
-sections-hold order (a ∷ x) (b ∷ y) (c ∷ z) [] [] q r t info line ranges = let ranges_none = ranges refl in rw (ranges_none) (record { abbrev_is = refl; info_is = refl; line_is = refl; ranges_are = refl; strings_are = refl; info_relocations_are = refl; line_relocations_are = refl; ranges_relocations_are = refl })
-sections-hold order (a ∷ x) (b ∷ y) (c ∷ z) [] (f ∷ w) q r t info line ranges = let ranges_none = ranges refl in rw (ranges_none) (record { abbrev_is = refl; info_is = refl; line_is = refl; ranges_are = refl; strings_are = refl; info_relocations_are = refl; line_relocations_are = refl; ranges_relocations_are = refl })
-sections-hold order (a ∷ x) (b ∷ y) (c ∷ z) (d ∷ v) [] q r t info line ranges = record { abbrev_is = refl; info_is = refl; line_is = refl; ranges_are = refl; strings_are = refl; info_relocations_are = refl; line_relocations_are = refl; ranges_relocations_are = refl }
-sections-hold order (a ∷ x) (b ∷ y) (c ∷ z) (d ∷ v) (f ∷ w) q r t info line ranges = record { abbrev_is = refl; info_is = refl; line_is = refl; ranges_are = refl; strings_are = refl; info_relocations_are = refl; line_relocations_are = refl; ranges_relocations_are = refl }
 
 pub info-none : (order : Endian) (size : ℕ) (ws : List WrittenUnit) → info_bytes order size ws ≡ [] → info_relocations order size 0 ws ≡ []
 info-none order size [] e = refl
@@ -583,9 +546,9 @@ lines-none order size (t ∷ ts) e =
     let body = line_body order size t.directories t.files (sequences_instructions t.sequences) in
     absurd (omega (arith, ap length e, length-append (one_table_bytes order size t) (lines_bytes order size ts), length-append (number_bytes order 4 (length body)) body, number_bytes-length order 4 (length body)))
 
-pub ranges-none : (order : Endian) (size : ℕ) → 0 < size → (ps : List (RangeAddress × ℕ)) → pairs_bytes order size ps ≡ [] → pairs_relocations order size 0 ps ≡ []
-ranges-none order size some [] e = refl
-ranges-none order size some (p ∷ ps) e = absurd (omega (arith, ap length e, length-append (pair_bytes order size p) (pairs_bytes order size ps), pair-length order size p, some))
+pub lists-none : (order : Endian) (size : ℕ) → 0 < size → (es : List ListEntry) → list_bytes order size es ≡ [] → list_relocations order size 0 es ≡ []
+lists-none order size some [] e = refl
+lists-none order size some (x ∷ es) e = absurd (omega (arith, ap length e, length-append (listed_bytes order size x) (list_bytes order size es), listed-length order size x, some))
 
 -- how long they are
 pub part-short : (order : Endian) (name : SectionName) (x : List ℕ) (q : List OutputRelocation) (rest : List OutputSection) → All (IsSound order) (section_unless_empty name x q ++ rest) → (length x ≤ most_bytes) × All (IsSound order) rest
@@ -604,7 +567,7 @@ positive size (inr e) = (omega (arith, e), omega (arith, e))
 pub record AreSpelled (order : Endian) (texts : List (List ℕ)) (us : List OrderedUnit) : Type 0 where
   pub sized : All (λ u. u.address_size ≡ size_of us) us
   pub known : (size_of us ≡ 4) ⊎ (size_of us ≡ 8)
-  pub holds : Holds order (abbrev_bytes order (all_places order texts us) us) (all_info_bytes order (all_places order texts us) us) (all_lines_bytes order us) (all_ranges_bytes order us) (strings_bytes texts us) (info_relocations order (size_of us) 0 (units_placed order (all_places order texts us) us)) (lines_relocations order (size_of us) 0 (written_tables us)) (all_ranges_relocations order us) (output_sections order (spelled_sections order texts us))
+  pub holds : Holds order (abbrev_bytes order (all_places order texts us) us) (all_info_bytes order (all_places order texts us) us) (all_lines_bytes order us) (all_lists_bytes ranges_in order us) (all_lists_bytes locations_in order us) (strings_bytes texts us) (info_relocations order (size_of us) 0 (units_placed order (all_places order texts us) us)) (lines_relocations order (size_of us) 0 (written_tables us)) (all_lists_relocations ranges_in order us) (all_lists_relocations locations_in order us) (output_sections order (spelled_sections order texts us))
   pub units_fit : All (FitsUnit order (size_of us)) (units_placed order (all_places order texts us) us)
   pub tables_fit : All (FitsTable order (size_of us)) (written_tables us)
 
@@ -621,20 +584,23 @@ are-spelled order texts us writable fits lines sound =
     let info_short = part-short order Info (all_info_bytes order units us) q _ tables_short.1 in
     let P : List OutputSection → Type 0 = λ xs. All (IsSound order) xs in
     let lines_short = part-short order Line (all_lines_bytes order us) r _ info_short.1 in
-    let ranges_short = part-short order Ranges (all_ranges_bytes order us) (all_ranges_relocations order us) _ lines_short.1 in
-    let strings_short = part-short order Str (strings_bytes texts us) [] [] (subst P (sym (append-nil _)) ranges_short.1) in
+    let ranges_short = part-short order Ranges (all_lists_bytes ranges_in order us) (all_lists_relocations ranges_in order us) _ lines_short.1 in
+    let locations_short = part-short order Loc (all_lists_bytes locations_in order us) (all_lists_relocations locations_in order us) _ ranges_short.1 in
+    let strings_short = part-short order Str (strings_bytes texts us) [] [] (subst P (sym (append-nil _)) locations_short.1) in
     let w = strings_short.0 in
     let a = tables_short.0 in
     let i = info_short.0 in
     let l = lines_short.0 in
     let v = ranges_short.0 in
+    let k = locations_short.0 in
     let known = size-known us fits in
-    let near : (unit id : ℕ) → offset_in_section units.units unit id ≤ most_bytes = λ unit id. omega (arith, i, places-short order size 0 us unit id, info-length order size units 0 0 0 us) in
+    let near : (unit id : ℕ) → offset_in_section units.units unit id ≤ most_bytes = λ unit id. omega (arith, i, places-short order size 0 us unit id, info-length order size units 0 0 no_lists us) in
     record {
       sized = sized;
       known = known;
-      holds = sections-hold order (abbrev_bytes order units us) (all_info_bytes order units us) (all_lines_bytes order us) (all_ranges_bytes order us) (strings_bytes texts us) q r (all_ranges_relocations order us) (info-none order size ws) (lines-none order size ts) (ranges-none order size (positive size known).0 (pairs_of_units us));
-      units_fit = units-fit order size 0 0 0 units us sized fits near (λ id. omega (arith, w, offset-bound texts us id)) (omega (arith, a)) (omega (arith, l)) (omega (arith, v)) i;
+      holds = sections-hold order (abbrev_bytes order units us) (all_info_bytes order units us) (all_lines_bytes order us) (all_lists_bytes ranges_in order us) (all_lists_bytes locations_in order us) (strings_bytes texts us) q r (all_lists_relocations ranges_in order us) (all_lists_relocations locations_in order us)
+          (info-none order size ws) (lines-none order size ts) (lists-none order size (positive size known).0 (lists_of_units ranges_in us)) (lists-none order size (positive size known).0 (lists_of_units locations_in us));
+      units_fit = units-fit order size 0 0 no_lists units us sized fits near (λ id. omega (arith, w, offset-bound texts us id)) (omega (arith, a)) (omega (arith, l)) (record { ranges = omega (arith, v); locations = omega (arith, k) }) i;
       tables_fit = tables-fit order size us sized fits lines l;
     }
 
@@ -644,7 +610,7 @@ units-read-back order texts us spelled =
     let size = size_of us in
     let ws = units_placed order (all_places order texts us) us in
     let holds = spelled.holds in
-    units-read (output_sections order (spelled_sections order texts us)) size ws spelled.known spelled.units_fit (tables-from order size (all_places order texts us) us 0 0 0) holds.abbrev_is holds.info_is (holds.info_relocations_are ∙ info-functions order size 0 ws)
+    units-read (output_sections order (spelled_sections order texts us)) size ws spelled.known spelled.units_fit (tables-from order size (all_places order texts us) us 0 0 no_lists) holds.abbrev_is holds.info_is (holds.info_relocations_are ∙ info-functions order size 0 ws)
 
 -- Given units that are spelled within the size of sections are read back.
 pub reads-back : (order : Endian) (texts : List (List ℕ)) (us : List OrderedUnit) → AreWritable us → All FitsOrdered us → All (λ u. FitsLines u.lines) us → All (IsSound order) (spelled_sections order texts us) → ReadsBack order us (spelled_sections order texts us)
@@ -660,5 +626,5 @@ reads-back order texts us writable fits lines sound =
     record {
       read = read_units order size 0 (units_placed order units us);
       units_read = units-read-back order texts us spelled;
-      each = units-each s size 0 0 0 0 units us writable fits lines table_facts;
+      each = units-each s size 0 0 0 no_lists units us writable fits lines table_facts;
     }

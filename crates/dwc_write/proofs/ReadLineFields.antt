@@ -29,9 +29,10 @@ use Rattle.dwc_write.specs.SpelledRelocations.{sequence_bytes, sequence_relocati
 use Rattle.dwc_write.specs.SpelledTables.{table_bytes}
 use Rattle.dwc_write.specs.Writers.{address_relocations}
 use Rattle.dwc_write.specs.GivenLines.{GivenLines}
-use Rattle.dwc_write.specs.GivenUnits.{GivenEntry, OrderedUnit, Places, FitsEntry, IsTree, names_lines, IsWritable, FitsOrdered, shapes_in, written_attributes, written_entries, pairs_of_entries}
-use Rattle.dwc_write.specs.RangeLists.{behind_attributes, pairs_bytes}
-use Rattle.dwc_write.specs.Layouts.{AllPlaces, offsets_by_number, places_in, written_lines, written_unit, written_units, written_tables}
+use Rattle.dwc_write.specs.GivenUnits.{GivenEntry, OrderedUnit, Places, FitsEntry, IsTree, names_lines, IsWritable, FitsOrdered, shapes_in, written_attributes, written_entries}
+use Rattle.dwc_write.specs.declared.list_places.ListPlaces.{ListPlaces}
+use Rattle.dwc_write.specs.Lists.{behind_attributes}
+use Rattle.dwc_write.specs.Layouts.{behind_unit, AllPlaces, offsets_by_number, places_in, written_lines, written_unit, written_units, written_tables}
 use Rattle.dwc_write.proofs.ReadNumbers.{number_bytes-length}
 use Rattle.dwc_write.proofs.ReadParts.{Spells-uleb_bytes}
 use Rattle.dwc_write.proofs.ReadValues.{All-front, All-back}
@@ -171,7 +172,7 @@ module _ (s : Sections) (size : ℕ) where
       let here : fields_of_line_table s h.address_size base l ≡ Ok (table_fields s.order size l t) = ap (λ m. fields_of_line_table s m base l) sized ∙ All-head (IsFound s size) (record { offset = l; table = t }) _ found base in
       rw (fields_of_lines, names, here) (sym (append-nil (table_fields s.order size l t)))
 
-  unit-found : (place a r : ℕ) (p : Places) (u : OrderedUnit) (rest : List WrittenTable) → FitsOrdered u → IsWritable size u → All (IsFound s size) (placed_tables s.order size p.line (written_lines u.lines ++ rest))
+  unit-found : (place a : ℕ) (r : ListPlaces) (p : Places) (u : OrderedUnit) (rest : List WrittenTable) → FitsOrdered u → IsWritable size u → All (IsFound s size) (placed_tables s.order size p.line (written_lines u.lines ++ rest))
       → fields_of_lines s (read_unit s.order size place (written_unit size r p a u)).header (root (read_unit s.order size place (written_unit size r p a u))) ≡ tables_fields s.order size p.line (written_lines u.lines)
   unit-found place a r p u rest fits writable found = at-root u.entries fits.tree fits.entries writable.named
     where
@@ -186,13 +187,13 @@ module _ (s : Sections) (size : ℕ) where
           root-found h entry p.line u.lines rest u.lines.address_size refl names (subst P (lines-are u.lines) found) ∙ ap (tables_fields s.order size p.line) (sym (lines-are u.lines))
 
   -- The fields of the line tables that the units name are those of all tables.
-  pub unit_lines-found : (units : AllPlaces) (us : List OrderedUnit) (place a l r : ℕ) → All (IsWritable size) us → All FitsOrdered us → All (IsFound s size) (placed_tables s.order size l (written_tables us))
+  pub unit_lines-found : (units : AllPlaces) (us : List OrderedUnit) (place a l : ℕ) (r : ListPlaces) → All (IsWritable size) us → All FitsOrdered us → All (IsFound s size) (placed_tables s.order size l (written_tables us))
       → flat_map (λ u. fields_of_lines s u.header (root u)) (read_units s.order size place (written_units s.order size units a l r us)) ≡ tables_fields s.order size l (written_tables us)
   unit_lines-found units [] place a l r writable fits found = refl
   unit_lines-found units (u ∷ us) place a l r writable fits found =
       let p = places_in units (offsets_by_number s.order size u) l in
       let unit = written_unit size r p a u in
-      let lists_at = r + length (pairs_bytes s.order size (pairs_of_entries u.entries)) in
+      let lists_at = behind_unit s.order size r u in
       let own = written_lines u.lines in
       let rest = written_tables us in
       let next = l + length (lines_bytes s.order size own) in

@@ -1,129 +1,35 @@
--- A range list that is spelled is read again: its entries (`list-entries`), and its intervals (`list-read`).
-use Rattle.std.proofs.Common.{◌≡◌, ℕ, zero, suc, ◌+◌, ◌^◌, ◌<◌, refl, ap, ◌∙◌, arith, List, [], ◌∷◌, ◌++◌, append_assoc, length, drop, map, Option, Some, None, Ok, Err, true, Bool, false}
-use Rattle.std.specs.Prelude.{pos, ◌+ℤ◌, int_lt, ◌==◌, ◌||◌}
+-- Range lists and location lists that are spelled are read again: their raw entries (`ranges-raw`, `locations-raw`), and what they give
+-- (`ranges-read`, `locations-read`).
+use Rattle.std.proofs.Common.{◌≡◌, ℕ, ◌+◌, ◌<◌, refl, ap, ◌∙◌, arith, List, [], ◌∷◌, ◌++◌, length, drop, map, Option, Some, None, Ok, true, Bool, false}
+use Rattle.std.specs.Prelude.{pos, ◌+ℤ◌, int_lt, ◌==◌, ◌||◌, if◌then◌else◌, zip}
 use Rattle.std.specs.List.{All, filter_map}
 use Rattle.std.proofs.lemmas.Bool.{eq-eqb, eqb-true}
 use Rattle.std.proofs.lemmas.Int.{ints}
-use Rattle.std.proofs.lemmas.List.Elements.{All-head, All-tail, All-weaker}
+use Rattle.std.proofs.lemmas.List.Elements.{All-head, All-tail, All-cons, All-nil}
+use Rattle.std.proofs.Math.Seq.{drop-append_seam}
 use Rattle.dwc_base.specs.declared.records.Address.{Address}
 use Rattle.dwc_base.specs.declared.records.Address.TheVariants.{Constant, Symbol}
-use Rattle.dwc_base.specs.declared.records.Endian.{Endian}
+use Rattle.dwc_base.specs.declared.constants.TheConstants.{DW_AT_ranges, DW_AT_start_scope, DW_AT_stmt_list}
 use Rattle.dwc_base.specs.declared.faults.Flaw.{Flaw}
-use Rattle.dwc_base.specs.declared.section_name.SectionName.TheVariants.{Ranges}
-use Rattle.dwc_base.specs.Reading.{Unread, Read}
-use Rattle.dwc_base.specs.Listing.{Listing, Next, at_end, broken, item, with_first, walk}
-use Rattle.dwc_base.specs.Sections.{Sections, Fault, Relocation, address_at}
+use Rattle.dwc_base.specs.declared.faults.What.TheVariants.{LocationList, RangeList}
+use Rattle.dwc_base.specs.declared.section_name.SectionName.TheVariants.{Loc, Ranges}
+use Rattle.dwc_base.specs.Reading.{Unread}
+use Rattle.dwc_base.specs.Listing.{Listing, Next, with_first, walk}
+use Rattle.dwc_base.specs.Sections.{Sections, Fault}
 use Rattle.dwc_base.specs.Trees.{Interval}
-use Rattle.dwc_base.specs.RawLists.{ListSource, ListPlace, list_named, list_fault, raw_ranges, RawEntry, pair, entry_of_pair, pair_at, next_item, raw_entry_at, unread_length}
-use Rattle.dwc_base.specs.declared.faults.What.TheVariants.{RangeList}
+use Rattle.dwc_base.specs.RawLists.{ListSource, ListPlace, list_named, list_fault, raw_ranges, RawEntry, pair, pair_at, next_item, raw_entry_at, unread_length, RawLocation, raw_location_at, raw_locations}
 use Rattle.dwc_base.specs.Units.{UnitHeader}
 use Rattle.dwc_base.specs.Entries.{Entry}
-use Rattle.dwc_base.specs.Values.{is_range_name, range_reference, section_offset}
-use Rattle.dwc_base.specs.declared.constants.TheConstants.{DW_AT_ranges, DW_AT_start_scope}
-use Rattle.dwc_base.specs.TreeReading.{list_read, unreadable_ranges, ranges_read}
-use Rattle.std.proofs.Math.Seq.{drop-append_seam}
-use Rattle.dwc_base.specs.Lists.{list_source, list_of_value, ranges_at, ranges_of_value, ListRefusal, interval_given, base_behind, intervals_given, interval_between}
+use Rattle.dwc_base.specs.Values.{is_location_name, is_range_name, location_reference, range_reference, line_reference, dropped, section_offset}
+use Rattle.dwc_base.specs.TreeReading.{list_read, unreadable_list, ranges_read, location_said, locations_read}
+use Rattle.dwc_base.specs.Lists.{list_source, list_of_value, ranges_at, ranges_of_value, ListRefusal, interval_given, base_behind, intervals_given, interval_between, ListedLocation, located, locations_at, locations_of_value}
 use Rattle.dwc_base.specs.Spelling.{unread_at}
-use Rattle.dwc_base.proofs.Items.{Leaves, LeavesFewer}
-use Rattle.dwc_base.proofs.Takes.{Leaves-bind, Leaves-same, number_at-leaves}
-use Rattle.dwc_base.proofs.TakesMore.{Leaves-more}
-use Rattle.dwc_base.proofs.Walks.{GoesOn, walk-end, walk-item}
-use Rattle.dwc_write.specs.Spelled.{SpellsAt}
-use Rattle.dwc_write.specs.SpelledAddresses.{AddressField, IsHeld, address_bytes, FitsAddress}
-use Rattle.dwc_write.specs.RangeLists.{FitsRange, address_behind, interval_of, is_symbol, pair_bytes, pair_fields, pairs_bytes, pairs_fields, pairs_of}
-use Rattle.dwc_write.proofs.ReadParts.{behind, last}
-use Rattle.dwc_write.proofs.ReadValues.{address-reads, All-back, All-front}
-
--- ---- each pair takes a byte at least
-
-address-leaves : (relocations : List Relocation) (size : ℕ) (u : Unread) → 0 < size → Leaves (address_at relocations size u) (length u.left)
-unfolding address_at
-address-leaves relocations size u some = Leaves-bind _ _ _ (number_at-leaves size u some) (λ spelled. Leaves-same _ _)
-
-pair-leaves : (relocations : List Relocation) (size : ℕ) (u : Unread) → 0 < size → Leaves (pair_at relocations size u) (length u.left)
-unfolding pair_at
-pair-leaves relocations size u some =
-    Leaves-bind _ _ _ (address-leaves relocations size u some) (λ begin. Leaves-bind _ _ _ (Leaves-more _ _ (address-leaves relocations size begin.1 some)) (λ end. Leaves-same _ _))
-
--- ---- one pair
-
--- the entry that an interval is read as
-abbrev pub raw_pair : Address × ℕ → RawEntry
-raw_pair r = pair r.0 (address_behind r.0 r.1)
-
-symbol-fits : (size : ℕ) (a : Address) → is_symbol a ≡ true → FitsAddress size a
-symbol-fits size (Constant n) symbol = absurd (cc)
-symbol-fits size (Symbol f addend) symbol = tt
-
-behind-symbol : (a : Address) (n : ℕ) → is_symbol a ≡ true → is_symbol (address_behind a n) ≡ true
-behind-symbol (Constant m) n symbol = absurd (cc)
-behind-symbol (Symbol f addend) n symbol = refl
-
-entry-of_symbol : (size : ℕ) (a b : Address) → is_symbol a ≡ true → entry_of_pair size a b ≡ Some (pair a b)
-entry-of_symbol size (Constant n) b symbol = absurd (cc)
-entry-of_symbol size (Symbol f addend) b symbol = refl
-
--- the fields of both ends
-abbrev begin_field : Endian → ℕ → ℕ → Address × ℕ → AddressField
-begin_field order size place r = record { offset = place; size = size; address = r.0 }
-
-abbrev end_field : Endian → ℕ → ℕ → Address × ℕ → AddressField
-end_field order size place r = record { offset = place + length (address_bytes order size r.0); size = size; address = address_behind r.0 r.1 }
-
-both-held : (order : Endian) (rs : List Relocation) (place size : ℕ) (r : Address × ℕ) → All (IsHeld rs) (pair_fields order size place r) → IsHeld rs (begin_field order size place r) × IsHeld rs (end_field order size place r)
-both-held order rs place size r held =
-    (All-head (IsHeld rs) (begin_field order size place r) (end_field order size place r ∷ []) held, All-head (IsHeld rs) (end_field order size place r) [] (All-tail (IsHeld rs) (begin_field order size place r) (end_field order size place r ∷ []) held))
-
-pair-reads : (order : Endian) (rs : List Relocation) (place size : ℕ) (r : Address × ℕ) → is_symbol r.0 ≡ true → All (IsHeld rs) (pair_fields order size place r) → SpellsAt order place (pair_at rs size) (pair_bytes order size r) (Some (raw_pair r))
-unfolding pair_at
-pair-reads order rs place size r symbol held =
-    let end = address_behind r.0 r.1 in
-    let held_both = both-held order rs place size r held in
-    behind _ (address-reads order rs place size r.0 (symbol-fits size r.0 symbol) held_both.0)
-    (last _ (address-reads order rs _ size end (symbol-fits size end (behind-symbol r.0 r.1 symbol)) held_both.1) (λ u. rw (entry-of_symbol size r.0 end symbol) refl))
-
-zero-small : (size : ℕ) → 0 < 256 ^ size
-zero-small zero = omega arith
-zero-small (suc n) = let h = zero-small n in omega (arith, h)
-
-end-reads : (order : Endian) (rs : List Relocation) (place size : ℕ) → All (IsHeld rs) (pair_fields order size place (Constant 0, 0)) → SpellsAt order place (pair_at rs size) (pair_bytes order size (Constant 0, 0)) None
-unfolding pair_at
-end-reads order rs place size held =
-    let held_both = both-held order rs place size (Constant 0, 0) held in
-    behind _ (address-reads order rs place size (Constant 0) (zero-small size) held_both.0) (last _ (address-reads order rs _ size (Constant 0) (zero-small size) held_both.1) (λ u. refl))
-
--- ---- a list
-
-module _ (relocations : List Relocation) (size : ℕ) (told : Flaw → Fault) (some : 0 < size) where
-  abbrev next_pair : Unread → Next Unread Fault RawEntry
-  next_pair u = next_item (pair_at relocations size) told u
-
-  next-shrinks : (u v : Unread) → GoesOn (next_pair u) v → unread_length v < unread_length u
-  next-shrinks u v goes = go (pair_at relocations size u) (pair-leaves relocations size u some).fewer goes
-    where
-      read : (o : Option RawEntry) (w : Unread) → length w.left < length u.left → GoesOn {S = Unread} {F = Fault} {A = RawEntry} (elim o [ None ↦ at_end | Some x ↦ item x w ]) v → length v.left < length u.left
-      read None w fewer g = absurd g
-      read (Some x) w fewer g = rw g at fewer
-
-      go : (r : Read (Option RawEntry)) → LeavesFewer r (length u.left) → GoesOn {S = Unread} {F = Fault} {A = RawEntry} (elim r [ Err flaw ↦ broken (told flaw) | Ok x ↦ elim x.0 [ None ↦ at_end | Some e ↦ item e x.1 ] ]) v → length v.left < length u.left
-      go (Err flaw) fewer g = absurd g
-      go (Ok x) fewer g = read x.0 x.1 fewer g
-
-  -- the entries of a list, whatever follows it
-  pub list-walked : (order : Endian) (place : ℕ) (rs : List (Address × ℕ)) (rest : List ℕ) → All (λ r. is_symbol r.0 ≡ true) rs → All (IsHeld relocations) (pairs_fields order size place (pairs_of rs))
-      → walk unread_length next_pair (unread_at order place (pairs_bytes order size (pairs_of rs) ++ rest)) ≡ record { items = map raw_pair rs; fault = None }
-  list-walked order place [] rest symbols held =
-      let read = (end-reads order relocations place size (All-front (IsHeld relocations) (pair_fields order size place (Constant 0, 0)) [] held)).reads ([] ++ rest) in
-      let bytes = append_assoc (pair_bytes order size (Constant 0, 0)) [] rest in
-      rw (bytes) (walk-end unread_length next_pair next-shrinks _ (rw (read, next_pair, next_item) refl))
-  list-walked order place (r ∷ rs) rest symbols held =
-      let here = All-head (λ (x : Address × ℕ). is_symbol x.0 ≡ true) r rs symbols in
-      let others = All-tail (λ (x : Address × ℕ). is_symbol x.0 ≡ true) r rs symbols in
-      let bytes = append_assoc (pair_bytes order size r) (pairs_bytes order size (pairs_of rs)) rest in
-      let read = (pair-reads order relocations place size r here (All-front (IsHeld relocations) (pair_fields order size place r) (pairs_fields order size (place + length (pair_bytes order size r)) (pairs_of rs)) held)).reads (pairs_bytes order size (pairs_of rs) ++ rest) in
-      rw (bytes)
-      (walk-item unread_length next_pair next-shrinks _ (unread_at order (place + length (pair_bytes order size r)) (pairs_bytes order size (pairs_of rs) ++ rest)) (raw_pair r) (rw (read, next_pair, next_item) refl)
-      ∙ ap (with_first (raw_pair r)) (list-walked order (place + length (pair_bytes order size r)) rs rest others (All-back (IsHeld relocations) (pair_fields order size place r) (pairs_fields order size (place + length (pair_bytes order size r)) (pairs_of rs)) held)))
+use Rattle.dwc_write.specs.declared.attributes.Expression.{Expression}
+use Rattle.dwc_write.specs.Spelled.{at_places}
+use Rattle.dwc_write.specs.SpelledAddresses.{IsHeld}
+use Rattle.dwc_write.specs.RangeLists.{FitsRange, address_behind, interval_of, is_symbol}
+use Rattle.dwc_write.specs.Lists.{ListEntry, FitsLocation, IsShort, ended, list_bytes, list_fields, listed_bytes, location_entry, location_of, range_entry}
+use Rattle.dwc_write.proofs.ReadListed.{ReadsEntries, list-walked, location-end, location-leaves, location-reads, location_at, pair-leaves, range-end, range-reads, raw_location, raw_pair}
 
 -- ---- what a list gives
 
@@ -134,11 +40,18 @@ interval-between (Symbol f addend) n symbol some =
     let below : int_lt addend (addend +ℤ pos n) ≡ true = grind (arith, ints, some) in
     rw (eq-eqb f f refl, below) refl
 
-pair-given : (s : ListSource) (told : Flaw → Fault) (base : Address) (r : Address × ℕ) → is_symbol r.0 ≡ true → 0 < r.1 → interval_given s told base (raw_pair r) ≡ Ok (Some (interval_of r))
+abbrev interval : ListEntry → Interval
+interval e = interval_of (e.begin, e.extent)
+
+-- what is asked of the interval of an entry
+abbrev pub FitsInterval : ℕ → ListEntry → Type 0
+FitsInterval size e = FitsRange size (e.begin, e.extent)
+
+pair-given : (s : ListSource) (told : Flaw → Fault) (base : Address) (e : ListEntry) → is_symbol e.begin ≡ true → 0 < e.extent → interval_given s told base (raw_pair e) ≡ Ok (Some (interval e))
 unfolding interval_given
-pair-given s told base r symbol some = go r.0 symbol (interval-between r.0 r.1 symbol some)
+pair-given s told base e symbol some = go e.begin symbol (interval-between e.begin e.extent symbol some)
   where
-    go : (a : Address) → is_symbol a ≡ true → interval_between a (address_behind a r.1) ≡ Some (record { begin = a; end = address_behind a r.1 }) → interval_given s told base (pair a (address_behind a r.1)) ≡ Ok (Some (record { begin = a; end = address_behind a r.1 }))
+    go : (a : Address) → is_symbol a ≡ true → interval_between a (address_behind a e.extent) ≡ Some (record { begin = a; end = address_behind a e.extent }) → interval_given s told base (pair a (address_behind a e.extent)) ≡ Ok (Some (record { begin = a; end = address_behind a e.extent }))
     go (Constant m) symbol is = absurd (cc)
     go (Symbol f addend) symbol is = ap Ok is
 
@@ -146,55 +59,177 @@ given-step : (s : ListSource) (told : Flaw → Fault) (base : Address) (e : RawE
 unfolding intervals_given
 given-step s told base e es last i given stays = rw (given, stays, intervals_given) refl
 
-base-stays : (s : ListSource) (told : Flaw → Fault) (base : Address) (r : Address × ℕ) → base_behind s told base (raw_pair r) ≡ Ok base
+base-stays : (s : ListSource) (told : Flaw → Fault) (base : Address) (e : ListEntry) → base_behind s told base (raw_pair e) ≡ Ok base
 unfolding base_behind
-base-stays s told base r = refl
+base-stays s told base e = refl
 
 -- each interval is given as it is
-pub list-given : (s : ListSource) (told : Flaw → Fault) (base : Address) (size : ℕ) (rs : List (Address × ℕ)) → All (FitsRange size) rs → intervals_given s told base (map raw_pair rs) None ≡ record { items = map (λ r. Some (interval_of r)) rs; fault = None }
+list-given : (s : ListSource) (told : Flaw → Fault) (base : Address) (size : ℕ) (es : List ListEntry) → All (FitsInterval size) es → intervals_given s told base (map raw_pair es) None ≡ record { items = map (λ e. Some (interval e)) es; fault = None }
 unfolding intervals_given
 list-given s told base size [] fits = refl
-list-given s told base size (r ∷ rs) fits =
-    let here = All-head (FitsRange size) r rs fits in
-    given-step s told base (raw_pair r) (map raw_pair rs) None (Some (interval_of r)) (pair-given s told base r here.symbol here.some) (base-stays s told base r)
-    ∙ ap (with_first (Some (interval_of r))) (list-given s told base size rs (All-tail (FitsRange size) r rs fits))
+list-given s told base size (e ∷ es) fits =
+    let here = All-head (FitsInterval size) e es fits in
+    given-step s told base (raw_pair e) (map raw_pair es) None (Some (interval e)) (pair-given s told base e here.symbol here.some) (base-stays s told base e)
+    ∙ ap (with_first (Some (interval e))) (list-given s told base size es (All-tail (FitsInterval size) e es fits))
 
-pub given-all : (rs : List (Address × ℕ)) → filter_map (λ i. i) (map (λ r. Some (interval_of r)) rs) ≡ map interval_of rs
-given-all [] = refl
-given-all (r ∷ rs) = ap (λ is. interval_of r ∷ is) (given-all rs)
+-- ---- lists of a unit of version 4, among others
 
--- ---- a list of a unit of version 4, among others
+module _ (s : Sections) (h : UnitHeader) (version : h.version ≡ 4) (some : 0 < h.address_size) (front rest : List ℕ) where
+  abbrev size : ℕ
+  size = h.address_size
 
-module _ (s : Sections) (h : UnitHeader) (version : h.version ≡ 4) (some : 0 < h.address_size) (front rest : List ℕ) (rs : List (Address × ℕ))
-    (bytes : s.bytes Ranges ≡ front ++ (pairs_bytes s.order h.address_size (pairs_of rs) ++ rest)) (fits : All (FitsRange h.address_size) rs) (held : All (IsHeld (s.relocations Ranges)) (pairs_fields s.order h.address_size (length front) (pairs_of rs))) where
-  abbrev pub list_here : ListPlace
-  list_here = record { section = Ranges; offset = length front }
+  abbrev bytes_of : List ListEntry → List ℕ
+  bytes_of es = list_bytes s.order size (ended es)
 
-  pub raw-read : raw_ranges (list_source s h) list_here ≡ record { items = map raw_pair rs; fault = None }
-  unfolding raw_ranges raw_entry_at list_source
-  raw-read =
-      let next : Unread → Next Unread Fault RawEntry = next_item (pair_at (s.relocations Ranges) h.address_size) (list_fault RangeList list_here) in
-      let left : drop (length front) (s.bytes Ranges) ≡ pairs_bytes s.order h.address_size (pairs_of rs) ++ rest = ap (drop (length front)) bytes ∙ drop-append_seam front _ in
-      ap (λ xs. walk unread_length next (unread_at s.order (length front) xs)) left
-      ∙ list-walked (s.relocations Ranges) h.address_size (list_fault RangeList list_here) some s.order (length front) rs rest (All-weaker (FitsRange h.address_size) (λ r. is_symbol r.0 ≡ true) (λ r f. f.symbol) rs fits) held
+  left-there : (bytes : List ℕ) (es : List ListEntry) → bytes ≡ front ++ (bytes_of es ++ rest) → drop (length front) bytes ≡ bytes_of es ++ rest
+  left-there bytes es there = ap (drop (length front)) there ∙ drop-append_seam front _
 
-  pub list-read : ranges_at (list_source s h) list_here ≡ record { items = map interval_of rs; fault = None }
-  unfolding ranges_at
-  list-read =
-      let given = list-given (list_source s h) (list_fault RangeList list_here) (list_source s h).first_base h.address_size rs fits in
-      rw (raw-read, given, given-all rs) refl
+  -- ---- a range list
 
-  pub list-named : list_named (list_source s h) (range_reference (length front)) ≡ Some (Ok list_here)
-  unfolding list_named list_source
-  list-named = rw (version) refl
+  abbrev pub ranges_here : ListPlace
+  ranges_here = record { section = Ranges; offset = length front }
 
-  list-of_value : (offset : ℕ) → ranges_of_value (list_source s h) offset (range_reference (length front)) ≡ record { items = map interval_of rs; fault = None }
-  unfolding ranges_of_value
-  list-of_value offset = ap (list_of_value RangeList offset (ranges_at (list_source s h))) list-named ∙ list-read
+  -- what is asked of an entry of a range list
+  record IsRange (e : ListEntry) : Type 0 where
+    fits : FitsInterval size e
+    alone : e.holds ≡ None
 
-  pub ranges-read : (e : Entry) → ranges_read s h e (range_reference (length front)) ≡ Ok (map interval_of rs)
-  unfolding ranges_read
-  ranges-read e = ap (λ (l : Listing ListRefusal Interval). list_read (unreadable_ranges e (list_named (list_source s h) (range_reference (length front)))) l.items l.fault) (list-of_value e.offset)
+  are-ranges : (rs : List (Address × ℕ)) → All (FitsRange size) rs → All IsRange (map range_entry rs)
+  are-ranges [] fits = All-nil IsRange
+  are-ranges (r ∷ rs) fits = All-cons IsRange (range_entry r) (map range_entry rs) (record { fits = All-head (FitsRange size) r rs fits; alone = refl }) (are-ranges rs (All-tail (FitsRange size) r rs fits))
+
+  interval-fits : (es : List ListEntry) → All IsRange es → All (FitsInterval size) es
+  interval-fits [] all = All-nil (FitsInterval size)
+  interval-fits (e ∷ es) all = All-cons (FitsInterval size) e es (All-head IsRange e es all).fits (interval-fits es (All-tail IsRange e es all))
+
+  reads-ranges : ReadsEntries (s.relocations Ranges) s.order size (pair_at (s.relocations Ranges) size) IsRange (λ place e. raw_pair e)
+  reads-ranges = record {
+    leaves = λ u. pair-leaves (s.relocations Ranges) size u some;
+    each = λ place e is held. range-reads s.order (s.relocations Ranges) place size e is.fits.symbol is.alone held;
+    end = λ place held. range-end s.order (s.relocations Ranges) place size held;
+  }
+
+  pairs-placed : (place : ℕ) (es : List ListEntry) → at_places (listed_bytes s.order size) (λ p e. raw_pair e ∷ []) place es ≡ map raw_pair es
+  pairs-placed place [] = refl
+  pairs-placed place (e ∷ es) = ap (λ xs. raw_pair e ∷ xs) (pairs-placed (place + length (listed_bytes s.order size e)) es)
+
+  -- entries without a fault
+  abbrev whole_pairs : List RawEntry → Listing Fault RawEntry
+  whole_pairs xs = record { items = xs; fault = None }
+
+  module _ (rs : List (Address × ℕ)) (bytes : s.bytes Ranges ≡ front ++ (list_bytes s.order h.address_size (ended (map range_entry rs)) ++ rest)) (fits : All (FitsRange h.address_size) rs) (held : All (IsHeld (s.relocations Ranges)) (list_fields s.order h.address_size (length front) (ended (map range_entry rs)))) where
+    pub ranges-raw : raw_ranges (list_source s h) ranges_here ≡ record { items = map raw_pair (map range_entry rs); fault = None }
+    unfolding raw_ranges raw_entry_at list_source
+    ranges-raw =
+        let es = map range_entry rs in
+        let next : Unread → Next Unread Fault RawEntry = next_item (pair_at (s.relocations Ranges) size) (list_fault RangeList ranges_here) in
+        ap (λ xs. walk unread_length next (unread_at s.order (length front) xs)) (left-there (s.bytes Ranges) es bytes)
+        ∙ list-walked (s.relocations Ranges) s.order size (pair_at (s.relocations Ranges) size) IsRange (λ place e. raw_pair e) reads-ranges (list_fault RangeList ranges_here) (length front) es rest (are-ranges rs fits) held
+        ∙ ap whole_pairs (pairs-placed (length front) es)
+
+    given-all : (xs : List (Address × ℕ)) → filter_map (λ i. i) (map (λ e. Some (interval e)) (map range_entry xs)) ≡ map interval_of xs
+    given-all [] = refl
+    given-all (x ∷ xs) = ap (λ is. interval_of x ∷ is) (given-all xs)
+
+    list-at : ranges_at (list_source s h) ranges_here ≡ record { items = map interval_of rs; fault = None }
+    unfolding ranges_at
+    list-at =
+        let given = list-given (list_source s h) (list_fault RangeList ranges_here) (list_source s h).first_base size (map range_entry rs) (interval-fits (map range_entry rs) (are-ranges rs fits)) in
+        rw (ranges-raw, given, given-all rs) refl
+
+    pub ranges-named : list_named (list_source s h) (range_reference (length front)) ≡ Some (Ok ranges_here)
+    unfolding list_named list_source
+    ranges-named = rw (version) refl
+
+    list-of_value : (offset : ℕ) → ranges_of_value (list_source s h) offset (range_reference (length front)) ≡ record { items = map interval_of rs; fault = None }
+    unfolding ranges_of_value
+    list-of_value offset = ap (list_of_value RangeList offset (ranges_at (list_source s h))) ranges-named ∙ list-at
+
+    pub ranges-read : (e : Entry) → ranges_read s h e (range_reference (length front)) ≡ Ok (map interval_of rs)
+    unfolding ranges_read
+    ranges-read e = ap (λ (l : Listing ListRefusal Interval). list_read (unreadable_list RangeList e (list_named (list_source s h) (range_reference (length front)))) l.items l.fault) (list-of_value e.offset)
+
+  -- ---- a location list
+
+  abbrev pub locations_here : ListPlace
+  locations_here = record { section = Loc; offset = length front }
+
+  -- what is asked of an entry of a location list
+  record IsLocation (e : ListEntry) : Type 0 where
+    fits : FitsInterval size e
+    bytes : List ℕ
+    holds : e.holds ≡ Some bytes
+    short : IsShort (Some bytes)
+
+  abbrev Shorts : ListEntry → Type 0
+  Shorts e = IsShort e.holds
+
+  are-locations : (ls : List (Address × ℕ × Expression)) → All (FitsLocation size) ls → All Shorts (ended (map location_entry ls)) → All IsLocation (map location_entry ls)
+  are-locations [] fits short = All-nil IsLocation
+  are-locations (l ∷ ls) fits short =
+      All-cons IsLocation (location_entry l) (map location_entry ls)
+      (record { fits = All-head (FitsLocation size) l ls fits; bytes = l.2.bytes.items; holds = refl; short = All-head Shorts (location_entry l) (ended (map location_entry ls)) short })
+      (are-locations ls (All-tail (FitsLocation size) l ls fits) (All-tail Shorts (location_entry l) (ended (map location_entry ls)) short))
+
+  locations-fit : (es : List ListEntry) → All IsLocation es → All (FitsInterval size) es
+  locations-fit [] all = All-nil (FitsInterval size)
+  locations-fit (e ∷ es) all = All-cons (FitsInterval size) e es (All-head IsLocation e es all).fits (locations-fit es (All-tail IsLocation e es all))
+
+  reads-locations : ReadsEntries (s.relocations Loc) s.order size (location_at (s.relocations Loc) size) IsLocation (λ place e. raw_location s.order size place e)
+  reads-locations = record {
+    leaves = λ u. location-leaves (s.relocations Loc) size u some;
+    each = λ place e is held. location-reads s.order (s.relocations Loc) place size e is.bytes is.fits.symbol is.holds is.short held;
+    end = λ place held. location-end s.order (s.relocations Loc) place size held;
+  }
+
+  -- the entries of a location list that stands at a place
+  abbrev pub raw_from : ℕ → List ListEntry → List RawLocation
+  raw_from place es = at_places (listed_bytes s.order size) (λ p e. raw_location s.order size p e ∷ []) place es
+
+  says-are : (place : ℕ) (es : List ListEntry) → map (λ r. r.says) (raw_from place es) ≡ map raw_pair es
+  says-are place [] = refl
+  says-are place (e ∷ es) = ap (λ xs. raw_pair e ∷ xs) (says-are (place + length (listed_bytes s.order size e)) es)
+
+  -- what both parts of the entries give together
+  abbrev given_both : ℕ → List ListEntry → List ListedLocation
+  given_both place es = filter_map located (zip (map (λ e. Some (interval e)) es) (map (λ r. r.holds) (raw_from place es)))
+
+  both-given : (place : ℕ) (ls : List (Address × ℕ × Expression)) → map location_said (given_both place (map location_entry ls)) ≡ map location_of ls
+  both-given place [] = refl
+  both-given place (l ∷ ls) = ap (λ xs. location_of l ∷ xs) (both-given (place + length (listed_bytes s.order size (location_entry l))) ls)
+
+  module _ (ls : List (Address × ℕ × Expression)) (bytes : s.bytes Loc ≡ front ++ (list_bytes s.order h.address_size (ended (map location_entry ls)) ++ rest)) (fits : All (FitsLocation h.address_size) ls) (short : All (λ e. IsShort e.holds) (ended (map location_entry ls)))
+      (held : All (IsHeld (s.relocations Loc)) (list_fields s.order h.address_size (length front) (ended (map location_entry ls)))) where
+    pub locations-raw : raw_locations (list_source s h) locations_here ≡ record { items = raw_from (length front) (map location_entry ls); fault = None }
+    unfolding raw_locations raw_location_at raw_entry_at list_source
+    locations-raw =
+        let es = map location_entry ls in
+        let next : Unread → Next Unread Fault RawLocation = next_item (location_at (s.relocations Loc) size) (list_fault LocationList locations_here) in
+        ap (λ xs. walk unread_length next (unread_at s.order (length front) xs)) (left-there (s.bytes Loc) es bytes)
+        ∙ list-walked (s.relocations Loc) s.order size (location_at (s.relocations Loc) size) IsLocation (λ place e. raw_location s.order size place e) reads-locations (list_fault LocationList locations_here) (length front) es rest (are-locations ls fits short) held
+
+    located-at : locations_at (list_source s h) locations_here ≡ record { items = given_both (length front) (map location_entry ls); fault = None }
+    unfolding locations_at
+    located-at =
+        let es = map location_entry ls in
+        let given = list-given (list_source s h) (list_fault LocationList locations_here) (list_source s h).first_base size es (locations-fit es (are-locations ls fits short)) in
+        rw (locations-raw, says-are (length front) es, given) refl
+
+    pub locations-named : list_named (list_source s h) (location_reference (length front)) ≡ Some (Ok locations_here)
+    unfolding list_named list_source
+    locations-named = rw (version) refl
+
+    located-of_value : (offset : ℕ) → locations_of_value (list_source s h) offset (location_reference (length front)) ≡ record { items = given_both (length front) (map location_entry ls); fault = None }
+    unfolding locations_of_value
+    located-of_value offset = ap (list_of_value LocationList offset (locations_at (list_source s h))) locations-named ∙ located-at
+
+    pub locations-read : (e : Entry) → locations_read s h e (location_reference (length front)) ≡ Ok (map location_of ls)
+    unfolding locations_read
+    locations-read e =
+        ap (λ (l : Listing ListRefusal ListedLocation). list_read (unreadable_list LocationList e (list_named (list_source s h) (location_reference (length front)))) (map location_said l.items) l.fault) (located-of_value e.offset)
+        ∙ ap Ok (both-given (length front) ls)
+
+-- ---- the values that name lists
 
 -- a section offset under the name of a range list is the place of one
 pub range-offset : (name n : ℕ) → is_range_name name ≡ true → section_offset name n ≡ range_reference n
@@ -204,3 +239,7 @@ range-offset name n known = go (name == DW_AT_ranges) refl (name == DW_AT_start_
     go true is b other known = let e : name ≡ DW_AT_ranges = eqb-true _ _ is in rw (e) refl
     go false not true is known = let e : name ≡ DW_AT_start_scope = eqb-true _ _ is in rw (e) refl
     go false not false other known = absurd (cc)
+
+-- and under that of a location list
+pub location-offset : (name n : ℕ) → is_location_name name ≡ true → section_offset name n ≡ location_reference n
+location-offset name n known = ap (λ b. if b then location_reference n else (if name == DW_AT_stmt_list then line_reference n else (if is_range_name name then range_reference n else dropped))) known

@@ -1,5 +1,5 @@
 -- The sections that are spelled of given units say their trees, in units of version 4: `carries-trees`, `target-form`.
-use Rattle.std.proofs.Common.{◌≡◌, ℕ, suc, ◌+◌, ◌^◌, ◌<◌, refl, sym, ap, subst, ◌∙◌, arith, List, [], ◌∷◌, ◌++◌, append-nil, length, length-append, map, Ok, Bool, true, false, Option, Some}
+use Rattle.std.proofs.Common.{◌≡◌, ℕ, suc, ◌+◌, ◌^◌, ◌<◌, refl, sym, ap, subst, ◌∙◌, arith, List, [], ◌∷◌, ◌++◌, length, length-append, map, Ok, Bool, true, false, Option, Some}
 use Rattle.std.specs.Prelude.{◌==◌, ◌||◌, if◌then◌else◌, option_map, option_and_then, slice_get, position}
 use Rattle.std.specs.List.{All, AllZip}
 use Rattle.std.specs.Int.{w64, cast_signed}
@@ -15,32 +15,34 @@ use Rattle.dwc_base.specs.Carried.{Unit as ReadUnit, units}
 use Rattle.dwc_base.specs.Outputs.{OutputSection, output_sections}
 use Rattle.dwc_base.specs.OutputForm.{HaveTargetForm}
 use Rattle.dwc_base.specs.Trees as trees
-use Rattle.dwc_write.specs.RangeLists.{behind_attributes, pairs_bytes, pairs_fields}
-use Rattle.dwc_write.proofs.ReadLists.{range-offset}
-use Rattle.dwc_write.proofs.ListsGiven.{IsListRead, AreListsRead, AreAllListsRead, StandThere, stand-front, stand-back, entries-listed}
-use Rattle.dwc_write.proofs.RelatedLists.{fields-rise, pairs-functions}
-use Rattle.dwc_write.proofs.ReadAddresses.{rising-held}
-use Rattle.dwc_write.specs.SpelledAddresses.{IsHeld}
+use Rattle.dwc_base.specs.declared.section_name.SectionName.{SectionName}
+use Rattle.dwc_base.specs.Units.{UnitHeader}
+use Rattle.dwc_write.specs.declared.list_places.ListPlaces.{ListPlaces}
+use Rattle.dwc_write.specs.Lists.{ListEntry, behind_attributes, list_bytes, locations_in, no_lists, ranges_in}
+use Rattle.dwc_write.proofs.ListPlaces.{IsPlaceOf, locations-place, ranges-place}
+use Rattle.dwc_write.proofs.ReadLists.{location-offset, range-offset}
+use Rattle.dwc_write.proofs.ListsGiven.{IsLocationRead, IsRangeRead, AreAllRead, AreListsRead, AreAllListsRead, StandThere, locations-listed, ranges-listed, stand-front, stand-back}
+use Rattle.dwc_write.proofs.ListsStand.{locations-stand, ranges-stand}
 use Rattle.dwc_base.specs.TreeReading.{ListReading, ReadingUnit, each_read, read_as, entry_or_nothing, text_or_nothing, entry_in_unit, entry_in_section, value_said, entry_said, unit_said, units_said, trees, output_lists, CarriesTrees}
 use Rattle.dwc_base.specs.Indexed.{texts_of_unit}
 use Rattle.dwc_base.specs.LineHeaders.{text_in}
 use Rattle.dwc_base.specs.Reading.{◌>>=◌}
 use Rattle.dwc_base.specs.Texts.{text_elsewhere, text_named}
 use Rattle.dwc_base.specs.declared.faults.What.TheVariants.{Text}
-use Rattle.dwc_base.specs.declared.section_name.SectionName.TheVariants.{Info, Ranges, Str}
+use Rattle.dwc_base.specs.declared.section_name.SectionName.TheVariants.{Info, Loc, Ranges, Str}
 use Rattle.dwc_write.specs.declared.attributes.Attribute.{Attribute}
 use Rattle.dwc_write.specs.declared.attributes.AttributeValue.{AttributeValue}
-use Rattle.dwc_write.specs.declared.attributes.AttributeValue.TheVariants.{Address, Constant, Flag, Block, Exprloc, StringRef, LineProgramRef, RangeListRef, UnitRef, DebugInfoRef}
+use Rattle.dwc_write.specs.declared.attributes.AttributeValue.TheVariants.{Address, Constant, Flag, Block, Exprloc, StringRef, LineProgramRef, RangeListRef, LocationListRef, UnitRef, DebugInfoRef}
 use Rattle.dwc_write.specs.declared.attributes.DebugInfoRef.TheVariants.{Entry as entry_of}
 use Rattle.dwc_write.specs.SpelledUnits.{as_data1, as_data2, as_data4, as_data8, as_udata, as_sdata, written_value, shaped, header_length}
 use Rattle.dwc_write.specs.SpelledTables.{table_bytes}
 use Rattle.dwc_write.specs.SpelledSections.{placed_unit_bytes, lines_bytes, read_unit, read_units}
 use Rattle.dwc_write.specs.GivenLines.{FitsLines}
-use Rattle.dwc_write.specs.GivenUnits.{GivenEntry, OrderedUnit, Places, AreWritable, size_of, shapes_in, pairs_of_entries, pairs_of_units, constant_of, written_of, is_constant_form, constant_bound, FitsValue, FitsAttribute, FitsEntry, FitsOrdered}
+use Rattle.dwc_write.specs.GivenUnits.{GivenEntry, OrderedUnit, Places, AreWritable, size_of, shapes_in, lists_of_entries, lists_of_units, AreShortUnits, constant_of, written_of, is_constant_form, constant_bound, FitsValue, FitsAttribute, FitsEntry, FitsOrdered}
 use Rattle.dwc_write.specs.GivenTrees.{place_in_order, place_in_units, given_said, attribute_said, tree_entry, given_tree, trees_from, given_trees}
 use Rattle.dwc_write.specs.TextTables.{IsText}
 use Rattle.dwc_write.specs.UsedTexts.{HaveTexts, text_numbered, text_of_value, text_places, texts_named, texts_of_attributes, texts_of_entries}
-use Rattle.dwc_write.specs.Layouts.{AllPlaces, offset_of_text, unit_length, offsets_by_number, places_of_units, places_in, written_unit, written_lines, written_units}
+use Rattle.dwc_write.specs.Layouts.{AllPlaces, offset_of_text, unit_length, offsets_by_number, places_of_units, places_in, behind_unit, written_unit, written_lines, written_units}
 use Rattle.dwc_write.specs.SpelledOutput.{units_placed, all_places, spelled_sections}
 use Rattle.dwc_write.specs.Writers.{IsSound}
 use Rattle.dwc_write.specs.ReadBack.{read_contents, given_values, given_contents, IsReadUnit, ReadsBack}
@@ -81,11 +83,11 @@ module _ (lists : ListReading) (texts : List (List ℕ)) (us : List OrderedUnit)
   Readable n = text_in r.texts.order r.texts.strings (p.text n) ≡ Ok (text_numbered texts n)
 
   -- a value says what was given
-  value-given : (size : ℕ) (e : Entry) (ranges : ℕ) (a : Attribute) → FitsAttribute size a → All Readable (text_of_value a.value) → IsListRead lists r.unit.header ranges a.value → value_said lists r e (written_value a.name (written_of p ranges a.value)) ≡ Ok (given_said texts us r.number u a.value)
+  value-given : (size : ℕ) (e : Entry) (list_places : ListPlaces) (a : Attribute) → FitsAttribute size a → All Readable (text_of_value a.value) → IsRangeRead lists r.unit.header list_places.ranges a.value × IsLocationRead lists r.unit.header list_places.locations a.value → value_said lists r e (written_value a.name (written_of p list_places a.value)) ≡ Ok (given_said texts us r.number u a.value)
   unfolding value_said text_named text_elsewhere
-  value-given size e ranges a fits readable listed = go a.value fits.value readable listed
+  value-given size e list_places a fits readable listed = go a.value fits.value readable listed
     where
-      go : (v : AttributeValue) → FitsValue size a.name v → All Readable (text_of_value v) → IsListRead lists r.unit.header ranges v → value_said lists r e (written_value a.name (written_of p ranges v)) ≡ Ok (given_said texts us r.number u v)
+      go : (v : AttributeValue) → FitsValue size a.name v → All Readable (text_of_value v) → IsRangeRead lists r.unit.header list_places.ranges v × IsLocationRead lists r.unit.header list_places.locations v → value_said lists r e (written_value a.name (written_of p list_places v)) ≡ Ok (given_said texts us r.number u v)
       go (Address x) h t l = refl
       go (Constant form bits) h t l = ap (value_said lists r e) (constant-read a.name form bits h.0 h.1)
       go (Flag b) h t l = refl
@@ -93,75 +95,73 @@ module _ (lists : ListReading) (texts : List (List ℕ)) (us : List OrderedUnit)
       go (Exprloc x) h t l = refl
       go (StringRef id) h t l = ap (λ x. read_as text_or_nothing (reported Text Info e.offset (x >>= λ bytes. Ok (Some bytes)))) (All-head Readable id.index [] t)
       go LineProgramRef h t l = rw (h) refl
-      go (RangeListRef list) h t l = ap (value_said lists r e) (range-offset a.name ranges h.0) ∙ ap (read_as trees.ranges) (l e)
+      go (RangeListRef list) h t l = ap (value_said lists r e) (range-offset a.name list_places.ranges h.0) ∙ ap (read_as trees.ranges) (l.0 e)
+      go (LocationListRef list) h t l = ap (value_said lists r e) (location-offset a.name list_places.locations h.0) ∙ ap (read_as trees.locations) (l.1 e)
       go (UnitRef id) h t l = ap Ok (named.entry id.index)
       go (DebugInfoRef (entry_of unit id)) h t l = ap Ok (named.entry_of unit.index id.index)
 
-  module _ (next : ℕ → List Attribute → ℕ) where
-    values-given : (size : ℕ) (e : Entry) (ranges : ℕ) (xs : List Attribute) → All (FitsAttribute size) xs → All Readable (texts_of_attributes xs) → AreListsRead lists r.unit.header next ranges xs → each_read (λ a. read_as (λ v. (a.0, v)) (value_said lists r e a.1)) (given_values next p ranges xs) ≡ Ok (map (attribute_said texts us r.number u) xs)
-    values-given size e ranges [] fits readable listed = refl
-    values-given size e ranges (x ∷ xs) fits readable listed =
-        let here = value-given size e ranges x (All-head (FitsAttribute size) x xs fits) (All-front Readable (text_of_value x.value) (texts_of_attributes xs) readable) listed.0 in
-        let others = values-given size e (next ranges (x ∷ [])) xs (All-tail (FitsAttribute size) x xs fits) (All-back Readable (text_of_value x.value) (texts_of_attributes xs) readable) listed.1 in
+  -- lists stand in units of a size of addresses
+  module _ (step : ℕ) where
+    values-given : (size : ℕ) (e : Entry) (list_places : ListPlaces) (xs : List Attribute) → All (FitsAttribute size) xs → All Readable (texts_of_attributes xs) → AreListsRead lists r.unit.header step list_places xs → each_read (λ a. read_as (λ v. (a.0, v)) (value_said lists r e a.1)) (given_values (behind_attributes step) p list_places xs) ≡ Ok (map (attribute_said texts us r.number u) xs)
+    values-given size e list_places [] fits readable listed = refl
+    values-given size e list_places (x ∷ xs) fits readable listed =
+        let here = value-given size e list_places x (All-head (FitsAttribute size) x xs fits) (All-front Readable (text_of_value x.value) (texts_of_attributes xs) readable) (listed.0.0, listed.1.0) in
+        let others = values-given size e (behind_attributes step list_places (x ∷ [])) xs (All-tail (FitsAttribute size) x xs fits) (All-back Readable (text_of_value x.value) (texts_of_attributes xs) readable) (listed.0.1, listed.1.1) in
         rw (here, others) refl
 
     -- an entry, by what stands beside its offset
-    entry-given : (size : ℕ) (e : Entry) (ranges : ℕ) (g : GivenEntry) → FitsEntry size g → All Readable (texts_of_attributes g.attributes) → AreListsRead lists r.unit.header next ranges g.attributes → read_contents e ≡ record { depth = g.depth; tag = g.tag; attributes = given_values next p ranges g.attributes }
+    entry-given : (size : ℕ) (e : Entry) (list_places : ListPlaces) (g : GivenEntry) → FitsEntry size g → All Readable (texts_of_attributes g.attributes) → AreListsRead lists r.unit.header step list_places g.attributes → read_contents e ≡ record { depth = g.depth; tag = g.tag; attributes = given_values (behind_attributes step) p list_places g.attributes }
         → entry_said lists r e ≡ Ok (tree_entry texts us r.number u g)
-    entry-given size e ranges g fits readable listed same =
+    entry-given size e list_places g fits readable listed same =
         let depth : e.depth ≡ g.depth = ap (λ c. c.depth) same in
         let tag : e.tag ≡ g.tag = ap (λ c. c.tag) same in
-        let attributes : e.attributes ≡ given_values next p ranges g.attributes = ap (λ c. c.attributes) same in
-        let values = ap (each_read (λ a. read_as (λ v. (a.0, v)) (value_said lists r e a.1))) attributes ∙ values-given size e ranges g.attributes fits.attributes readable listed in
+        let attributes : e.attributes ≡ given_values (behind_attributes step) p list_places g.attributes = ap (λ c. c.attributes) same in
+        let values = ap (each_read (λ a. read_as (λ v. (a.0, v)) (value_said lists r e a.1))) attributes ∙ values-given size e list_places g.attributes fits.attributes readable listed in
         rw (values, depth, tag) refl
 
-    entries-given : (size : ℕ) (es : List Entry) (ranges : ℕ) (gs : List GivenEntry) → All (FitsEntry size) gs → All Readable (texts_of_entries gs) → AreAllListsRead lists r.unit.header next ranges gs → map read_contents es ≡ given_contents next p ranges gs → each_read (entry_said lists r) es ≡ Ok (map (tree_entry texts us r.number u) gs)
-    entries-given size [] ranges [] fits readable listed same = refl
-    entries-given size [] ranges (g ∷ gs) fits readable listed same = absurd (cc)
-    entries-given size (e ∷ es) ranges [] fits readable listed same = absurd (cc)
-    entries-given size (e ∷ es) ranges (g ∷ gs) fits readable listed same =
-        let one : read_contents e ≡ record { depth = g.depth; tag = g.tag; attributes = given_values next p ranges g.attributes } = cc in
-        let rest : map read_contents es ≡ given_contents next p (next ranges g.attributes) gs = cc in
-        let here = entry-given size e ranges g (All-head (FitsEntry size) g gs fits) (All-front Readable (texts_of_attributes g.attributes) (texts_of_entries gs) readable) listed.0 one in
-        let others = entries-given size es (next ranges g.attributes) gs (All-tail (FitsEntry size) g gs fits) (All-back Readable (texts_of_attributes g.attributes) (texts_of_entries gs) readable) listed.1 rest in
+    entries-given : (size : ℕ) (es : List Entry) (list_places : ListPlaces) (gs : List GivenEntry) → All (FitsEntry size) gs → All Readable (texts_of_entries gs) → AreAllListsRead lists r.unit.header step list_places gs → map read_contents es ≡ given_contents (behind_attributes step) p list_places gs → each_read (entry_said lists r) es ≡ Ok (map (tree_entry texts us r.number u) gs)
+    entries-given size [] list_places [] fits readable listed same = refl
+    entries-given size [] list_places (g ∷ gs) fits readable listed same = absurd (cc)
+    entries-given size (e ∷ es) list_places [] fits readable listed same = absurd (cc)
+    entries-given size (e ∷ es) list_places (g ∷ gs) fits readable listed same =
+        let one : read_contents e ≡ record { depth = g.depth; tag = g.tag; attributes = given_values (behind_attributes step) p list_places g.attributes } = cc in
+        let rest : map read_contents es ≡ given_contents (behind_attributes step) p (behind_attributes step list_places g.attributes) gs = cc in
+        let here = entry-given size e list_places g (All-head (FitsEntry size) g gs fits) (All-front Readable (texts_of_attributes g.attributes) (texts_of_entries gs) readable) (listed.0.0, listed.1.0) one in
+        let others = entries-given size es (behind_attributes step list_places g.attributes) gs (All-tail (FitsEntry size) g gs fits) (All-back Readable (texts_of_attributes g.attributes) (texts_of_entries gs) readable) (listed.0.1, listed.1.1) rest in
         rw (here, others) refl
 
 -- ---- units
 
 -- A unit that is read at a place says, beside its entries' offsets, what was given, in a unit among others that have some places.
-record IsPlacedUnit (order : Endian) (size : ℕ) (units : AllPlaces) (start ranges : ℕ) (u : OrderedUnit) (v : ReadUnit) : Type 0 where
+record IsPlacedUnit (order : Endian) (size : ℕ) (units : AllPlaces) (start : ℕ) (list_places : ListPlaces) (u : OrderedUnit) (v : ReadUnit) : Type 0 where
   line : ℕ
-  contents : map read_contents v.entries ≡ given_contents (behind_attributes size) (places_in units (offsets_by_number order size u) line) ranges u.entries
+  contents : map read_contents v.entries ≡ given_contents (behind_attributes size) (places_in units (offsets_by_number order size u) line) list_places u.entries
   stands : StandsAt order size start u v
 
--- where the lists of the next unit stand
-abbrev lists_behind : Endian → ℕ → ℕ → OrderedUnit → ℕ
-lists_behind order size ranges u = ranges + length (pairs_bytes order size (pairs_of_entries u.entries))
+abbrev ArePlaced : Endian → ℕ → AllPlaces → ℕ → ListPlaces → List OrderedUnit → List ReadUnit → Type 0
+ArePlaced order size units start list_places [] [] = Unit {0}
+ArePlaced order size units start list_places [] (v ∷ vs) = ⊥
+ArePlaced order size units start list_places (u ∷ us) [] = ⊥
+ArePlaced order size units start list_places (u ∷ us) (v ∷ vs) = IsPlacedUnit order size units start list_places u v × ArePlaced order size units (start + unit_length order size u) (behind_unit order size list_places u) us vs
 
-abbrev ArePlaced : Endian → ℕ → AllPlaces → ℕ → ℕ → List OrderedUnit → List ReadUnit → Type 0
-ArePlaced order size units start ranges [] [] = Unit {0}
-ArePlaced order size units start ranges [] (v ∷ vs) = ⊥
-ArePlaced order size units start ranges (u ∷ us) [] = ⊥
-ArePlaced order size units start ranges (u ∷ us) (v ∷ vs) = IsPlacedUnit order size units start ranges u v × ArePlaced order size units (start + unit_length order size u) (lists_behind order size ranges u) us vs
-
-placed-stand : (order : Endian) (size : ℕ) (units : AllPlaces) (start ranges : ℕ) (us : List OrderedUnit) (vs : List ReadUnit) → ArePlaced order size units start ranges us vs → StandFrom order size start us vs
-placed-stand order size units start ranges [] [] placed = tt
-placed-stand order size units start ranges [] (v ∷ vs) placed = absurd placed
-placed-stand order size units start ranges (u ∷ us) [] placed = absurd placed
-placed-stand order size units start ranges (u ∷ us) (v ∷ vs) placed = (placed.0.stands, placed-stand order size units (start + unit_length order size u) (lists_behind order size ranges u) us vs placed.1)
+placed-stand : (order : Endian) (size : ℕ) (units : AllPlaces) (start : ℕ) (list_places : ListPlaces) (us : List OrderedUnit) (vs : List ReadUnit) → ArePlaced order size units start list_places us vs → StandFrom order size start us vs
+placed-stand order size units start list_places [] [] placed = tt
+placed-stand order size units start list_places [] (v ∷ vs) placed = absurd placed
+placed-stand order size units start list_places (u ∷ us) [] placed = absurd placed
+placed-stand order size units start list_places (u ∷ us) (v ∷ vs) placed = (placed.0.stands, placed-stand order size units (start + unit_length order size u) (behind_unit order size list_places u) us vs placed.1)
 
 -- units that are spelled one behind another are read so
-read-placed : (order : Endian) (size : ℕ) (units : AllPlaces) (place a l r : ℕ) (us : List OrderedUnit) → ArePlaced order size units place r us (read_units order size place (written_units order size units a l r us))
+read-placed : (order : Endian) (size : ℕ) (units : AllPlaces) (place a l : ℕ) (r : ListPlaces) (us : List OrderedUnit) → ArePlaced order size units place r us (read_units order size place (written_units order size units a l r us))
 read-placed order size units place a l r [] = tt
 read-placed order size units place a l r (u ∷ us) =
     let p = places_in units (offsets_by_number order size u) l in
     let unit = written_unit size r p a u in
-    let ranges_at = r + length (pairs_bytes order size (pairs_of_entries u.entries)) in
+    let lists_at = behind_unit order size r u in
     let xs = shaped unit.entries in
     let table_at = a + length (table_bytes unit.table) in
     let line_at = l + length (lines_bytes order size (written_lines u.lines)) in
     let next = place + length (placed_unit_bytes order size unit) in
-    let P : ℕ → Type 0 = λ n. ArePlaced order size units n ranges_at us (read_units order size next (written_units order size units table_at line_at ranges_at us)) in
+    let P : ℕ → Type 0 = λ n. ArePlaced order size units n lists_at us (read_units order size next (written_units order size units table_at line_at lists_at us)) in
     let same : next ≡ place + unit_length order size u = ap (λ n. place + n) (placed-length order size r p a u) in (
       record {
         line = l;
@@ -171,15 +171,20 @@ read-placed order size units place a l r (u ∷ us) =
           offsets = offsets-read order size xs (place + header_length) ∙ offsets-moved order size place xs header_length ∙ ap (map (λ o. place + o)) (offsets-same order size (behind_attributes size) p r (shapes_in u) u.entries header_length);
         };
       },
-      subst P same (read-placed order size units next table_at line_at ranges_at us),
+      subst P same (read-placed order size units next table_at line_at lists_at us),
     )
 
--- the lists of units are read
-abbrev AreUnitsListed : ListReading → Endian → ℕ → ℕ → List OrderedUnit → List ReadUnit → Type 0
-AreUnitsListed lists order size ranges [] [] = Unit {0}
-AreUnitsListed lists order size ranges [] (v ∷ vs) = ⊥
-AreUnitsListed lists order size ranges (u ∷ us) [] = ⊥
-AreUnitsListed lists order size ranges (u ∷ us) (v ∷ vs) = AreAllListsRead lists v.header (behind_attributes size) ranges u.entries × AreUnitsListed lists order size (lists_behind order size ranges u) us vs
+-- the lists of a kind of units are read
+abbrev AreUnitsRead : (AttributeValue → List ListEntry) → (UnitHeader → ℕ → AttributeValue → Type 0) → (ListPlaces → ℕ) → Endian → ℕ → ListPlaces → List OrderedUnit → List ReadUnit → Type 0
+AreUnitsRead kind Reads at order size list_places [] [] = Unit {0}
+AreUnitsRead kind Reads at order size list_places [] (v ∷ vs) = ⊥
+AreUnitsRead kind Reads at order size list_places (u ∷ us) [] = ⊥
+AreUnitsRead kind Reads at order size list_places (u ∷ us) (v ∷ vs) = AreAllRead kind (Reads v.header) size (at list_places) u.entries × AreUnitsRead kind Reads at order size (behind_unit order size list_places u) us vs
+
+-- and those of both kinds
+abbrev AreUnitsListed : ListReading → Endian → ℕ → ListPlaces → List OrderedUnit → List ReadUnit → Type 0
+AreUnitsListed lists order size list_places us vs =
+    AreUnitsRead ranges_in (IsRangeRead lists) (λ p. p.ranges) order size list_places us vs × AreUnitsRead locations_in (IsLocationRead lists) (λ p. p.locations) order size list_places us vs
 
 module _ (lists : ListReading) (s : Sections) (order : Endian) (size : ℕ) (texts : List (List ℕ)) (offsets : List (Option ℕ)) (given : List OrderedUnit) (all : List ReadUnit) (stand : StandFrom order size 0 given all) where
   abbrev places : AllPlaces
@@ -188,9 +193,9 @@ module _ (lists : ListReading) (s : Sections) (order : Endian) (size : ℕ) (tex
   abbrev ReadableThere : ℕ → Type 0
   ReadableThere n = text_in s.order (s.bytes Str) (offset_of_text offsets n) ≡ Ok (text_numbered texts n)
 
-  unit-given : (number start ranges : ℕ) (u : OrderedUnit) (v : ReadUnit) → FitsOrdered u → All ReadableThere (texts_of_entries u.entries) → IsPlacedUnit order size places start ranges u v → AreAllListsRead lists v.header (behind_attributes size) ranges u.entries → unit_said lists s all number v ≡ Ok (given_tree texts given number u)
+  unit-given : (number start : ℕ) (list_places : ListPlaces) (u : OrderedUnit) (v : ReadUnit) → FitsOrdered u → All ReadableThere (texts_of_entries u.entries) → IsPlacedUnit order size places start list_places u v → AreAllListsRead lists v.header size list_places u.entries → unit_said lists s all number v ≡ Ok (given_tree texts given number u)
   unfolding unit_said texts_of_unit
-  unit-given number start ranges u v fits readable placed listed =
+  unit-given number start list_places u v fits readable placed listed =
       let r : ReadingUnit = record { sections = s; number = number; unit = v; texts = texts_of_unit s v.header; units = all } in
       let p = places_in places (offsets_by_number order size u) placed.line in
       let own : (id : ℕ) → entry_in_unit r (p.entry id) ≡ entry_or_nothing (option_map (λ place. (number, place)) (place_in_order u id)) =
@@ -198,43 +203,45 @@ module _ (lists : ListReading) (s : Sections) (order : Endian) (size : ℕ) (tex
       ∙ ap (λ q. entry_or_nothing (option_map (λ place. (number, place)) q)) (in-unit order size start id u v placed.stands) in
       let any : (unit id : ℕ) → entry_in_section r (p.entry_of unit id) ≡ entry_or_nothing (place_in_units given unit id) =
       λ unit id. ap entry_or_nothing (in-section order size 0 0 given all unit id stand ∙ ap (λ m. option_map (λ place. (m, place)) (option_and_then (λ w. place_in_order w id) (slice_get given unit))) (omega arith)) in
-      entries-given lists texts given u p r (record { entry = own; entry_of = any }) (behind_attributes size) u.address_size v.entries ranges u.entries fits.entries readable listed placed.contents
+      entries-given lists texts given u p r (record { entry = own; entry_of = any }) size u.address_size v.entries list_places u.entries fits.entries readable listed placed.contents
 
-  units-given : (us : List OrderedUnit) (vs : List ReadUnit) (number start ranges : ℕ) → All FitsOrdered us → All ReadableThere (texts_named us) → ArePlaced order size places start ranges us vs → AreUnitsListed lists order size ranges us vs → units_said lists s all number vs ≡ Ok (trees_from texts given number us)
-  units-given [] [] number start ranges fits readable placed listed = refl
-  units-given [] (v ∷ vs) number start ranges fits readable placed listed = absurd placed
-  units-given (u ∷ us) [] number start ranges fits readable placed listed = absurd placed
-  units-given (u ∷ us) (v ∷ vs) number start ranges fits readable placed listed =
-      let here = unit-given number start ranges u v (All-head FitsOrdered u us fits) (All-front ReadableThere (texts_of_entries u.entries) (texts_named us) readable) placed.0 listed.0 in
-      let others = units-given us vs (suc number) (start + unit_length order size u) (lists_behind order size ranges u) (All-tail FitsOrdered u us fits) (All-back ReadableThere (texts_of_entries u.entries) (texts_named us) readable) placed.1 listed.1 in
+  units-given : (us : List OrderedUnit) (vs : List ReadUnit) (number start : ℕ) (list_places : ListPlaces) → All FitsOrdered us → All ReadableThere (texts_named us) → ArePlaced order size places start list_places us vs → AreUnitsListed lists order size list_places us vs → units_said lists s all number vs ≡ Ok (trees_from texts given number us)
+  units-given [] [] number start list_places fits readable placed listed = refl
+  units-given [] (v ∷ vs) number start list_places fits readable placed listed = absurd placed
+  units-given (u ∷ us) [] number start list_places fits readable placed listed = absurd placed
+  units-given (u ∷ us) (v ∷ vs) number start list_places fits readable placed listed =
+      let here = unit-given number start list_places u v (All-head FitsOrdered u us fits) (All-front ReadableThere (texts_of_entries u.entries) (texts_named us) readable) placed.0 (listed.0.0, listed.1.0) in
+      let others = units-given us vs (suc number) (start + unit_length order size u) (behind_unit order size list_places u) (All-tail FitsOrdered u us fits) (All-back ReadableThere (texts_of_entries u.entries) (texts_named us) readable) placed.1 (listed.0.1, listed.1.1) in
       rw (here, others) refl
 
--- the lists of units that are spelled one behind another are read
-units-listed : (s : Sections) (size : ℕ) (units : AllPlaces) (place a l r : ℕ) (us : List OrderedUnit) (front rest : List ℕ) → 0 < size → r ≡ length front → All (λ u. u.address_size ≡ size) us → All FitsOrdered us
-    → s.bytes Ranges ≡ front ++ (pairs_bytes s.order size (pairs_of_units us) ++ rest) → All (IsHeld (s.relocations Ranges)) (pairs_fields s.order size (length front) (pairs_of_units us))
-    → AreUnitsListed (output_lists s) s.order size r us (read_units s.order size place (written_units s.order size units a l r us))
-units-listed s size units place a l r [] front rest some same sized fits bytes held = tt
-units-listed s size units place a l r (u ∷ us) front rest some same sized fits bytes held =
+-- What a kind of lists is to show: its lists of a unit are read where they stand.
+record IsReadKind (s : Sections) (name : SectionName) (kind : AttributeValue → List ListEntry) (Reads : UnitHeader → ℕ → AttributeValue → Type 0) (at : ListPlaces → ℕ) : Type 0 where
+  place : (size : ℕ) → IsPlaceOf kind size at
+  reads : (h : UnitHeader) → h.version ≡ 4 → 0 < h.address_size → (front rest : List ℕ) (gs : List GivenEntry) → All (FitsEntry h.address_size) gs → StandThere s h.address_size name front rest (lists_of_entries kind gs) → AreAllRead kind (Reads h) h.address_size (length front) gs
+
+-- the lists of a kind of units that are spelled one behind another are read
+units-listed : (s : Sections) (name : SectionName) (kind : AttributeValue → List ListEntry) (Reads : UnitHeader → ℕ → AttributeValue → Type 0) (at : ListPlaces → ℕ) → IsReadKind s name kind Reads at → (size : ℕ) (units : AllPlaces) (place a l : ℕ) (r : ListPlaces) (us : List OrderedUnit) (front rest : List ℕ) → 0 < size → at r ≡ length front → All (λ u. u.address_size ≡ size) us → All FitsOrdered us
+    → StandThere s size name front rest (lists_of_units kind us) → AreUnitsRead kind Reads at s.order size r us (read_units s.order size place (written_units s.order size units a l r us))
+units-listed s name kind Reads at is size units place a l r [] front rest some same sized fits there = tt
+units-listed s name kind Reads at is size units place a l r (u ∷ us) front rest some same sized fits there =
     let p = places_in units (offsets_by_number s.order size u) l in
     let unit = written_unit size r p a u in
     let h = (read_unit s.order size place unit).header in
-    let ps = pairs_of_entries u.entries in
-    let qs = pairs_of_units us in
-    let there : StandThere s h refl some front rest (ps ++ qs) = record { bytes = bytes; held = held } in
-    let back = stand-back s h refl some front rest ps qs there in
+    let es = lists_of_entries kind u.entries in
+    let fs = lists_of_units kind us in
     let E : ℕ → Type 0 = λ n. All (FitsEntry n) u.entries in
     let entries = subst E (All-head (λ (v : OrderedUnit). v.address_size ≡ size) u us sized) (All-head FitsOrdered u us fits).entries in
-    let P : ℕ → Type 0 = λ n. AreAllListsRead (output_lists s) h (behind_attributes size) n u.entries in
-    let next : lists_behind s.order size r u ≡ length (front ++ pairs_bytes s.order size ps) = ap (λ n. n + length (pairs_bytes s.order size ps)) same ∙ sym (length-append front (pairs_bytes s.order size ps)) in (
-      subst P (sym same) (entries-listed s h refl some front _ u.entries entries (stand-front s h refl some front rest ps qs there)),
-      units-listed s size units (place + length (placed_unit_bytes s.order size unit)) (a + length (table_bytes unit.table)) (l + length (lines_bytes s.order size (written_lines u.lines))) (lists_behind s.order size r u) us (front ++ pairs_bytes s.order size ps) rest some next
-          (All-tail (λ (v : OrderedUnit). v.address_size ≡ size) u us sized) (All-tail FitsOrdered u us fits) back.bytes back.held,
+    let P : ℕ → Type 0 = λ n. AreAllRead kind (Reads h) size n u.entries in
+    let next : at (behind_unit s.order size r u) ≡ length (front ++ list_bytes s.order size es) = (is.place size).unit s.order r u ∙ ap (λ n. n + length (list_bytes s.order size es)) same ∙ sym (length-append front (list_bytes s.order size es)) in (
+      subst P (sym same) (is.reads h refl some front _ u.entries entries (stand-front s size name front rest es fs there)),
+      units-listed s name kind Reads at is size units (place + length (placed_unit_bytes s.order size unit)) (a + length (table_bytes unit.table)) (l + length (lines_bytes s.order size (written_lines u.lines))) (behind_unit s.order size r u) us (front ++ list_bytes s.order size es) rest some next
+          (All-tail (λ (v : OrderedUnit). v.address_size ≡ size) u us sized) (All-tail FitsOrdered u us fits) (stand-back s size name front rest es fs there),
     )
 
 -- The sections that are spelled of given units say their trees.
-pub carries-trees : (order : Endian) (texts : List (List ℕ)) (us : List OrderedUnit) → AreWritable us → HaveTexts texts us → All IsText texts → All FitsOrdered us → All (λ u. FitsLines u.lines) us → All (IsSound order) (spelled_sections order texts us) → CarriesTrees order (given_trees texts us) (spelled_sections order texts us)
+pub carries-trees : (order : Endian) (texts : List (List ℕ)) (us : List OrderedUnit) → AreWritable us → HaveTexts texts us → AreShortUnits us → All IsText texts → All FitsOrdered us → All (λ u. FitsLines u.lines) us → All (IsSound order) (spelled_sections order texts us) → CarriesTrees order (given_trees texts us) (spelled_sections order texts us)
 unfolding trees
-carries-trees order texts us writable known plain fits lines sound =
+carries-trees order texts us writable known short plain fits lines sound =
     let size = size_of us in
     let places = all_places order texts us in
     let spelled = are-spelled order texts us writable fits lines sound in
@@ -242,16 +249,15 @@ carries-trees order texts us writable known plain fits lines sound =
     let readable : All (λ n. P n ((output_sections order (spelled_sections order texts us)).bytes Str)) (texts_named us) =
     λ k d within. subst (P _) (sym spelled.holds.strings_are) (text-read order texts us _ plain (known k d within) (all-used (texts_named us) [] k d within)) in
     let vs = read_units order size 0 (units_placed order places us) in
-    let placed = read-placed order size places 0 0 0 0 us in
+    let placed = read-placed order size places 0 0 0 no_lists us in
     let read = units-read-back order texts us spelled in
     let o = output_sections order (spelled_sections order texts us) in
-    let some = positive size spelled.known in
-    let ps = pairs_of_units us in
-    let held_by = rising-held 0 _ (pairs_fields order size 0 ps) (fields-rise order size some.0 0 ps) in
-    let relocations_are = spelled.holds.ranges_relocations_are ∙ pairs-functions order size 0 ps in
-    let held : All (IsHeld (o.relocations Ranges)) (pairs_fields order size 0 ps) = rw (relocations_are) held_by in
-    let listed = units-listed o size places 0 0 0 0 us [] [] some.0 refl spelled.sized fits (spelled.holds.ranges_are ∙ sym (append-nil _)) held in
-    let said = units-given (output_lists (output_sections order (spelled_sections order texts us))) (output_sections order (spelled_sections order texts us)) order size texts (text_places texts us) us vs (placed-stand order size places 0 0 us vs placed) us vs 0 0 0 fits readable placed listed in
+    let some = (positive size spelled.known).0 in
+    let listed : AreUnitsListed (output_lists o) order size no_lists us vs = (
+      units-listed o Ranges ranges_in (IsRangeRead (output_lists o)) (λ p. p.ranges) (record { place = ranges-place; reads = λ h version some. ranges-listed o h version some }) size places 0 0 0 no_lists us [] [] some refl spelled.sized fits (ranges-stand order texts us spelled fits),
+      units-listed o Loc locations_in (IsLocationRead (output_lists o)) (λ p. p.locations) (record { place = locations-place; reads = λ h version some. locations-listed o h version some }) size places 0 0 0 no_lists us [] [] some refl spelled.sized fits (locations-stand order texts us spelled fits short),
+    ) in
+    let said = units-given (output_lists o) o order size texts (text_places texts us) us vs (placed-stand order size places 0 no_lists us vs placed) us vs 0 0 no_lists fits readable placed listed in
     rw (read) said
 
 -- ---- the form of the units

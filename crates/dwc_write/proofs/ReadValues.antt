@@ -1,5 +1,5 @@
 -- Values that are spelled are read again, form by form: one line of `value-reads` a form. `attributes-read`: those of an entry.
-use Rattle.std.proofs.Common.{◌≡◌, ℕ, ◌+◌, ◌^◌, ◌<◌, refl, ap, ◌∙◌, arith, List, [], ◌∷◌, ◌++◌, length, Ok, true, false, map}
+use Rattle.std.proofs.Common.{◌≡◌, ℕ, zero, suc, ◌+◌, ◌^◌, ◌<◌, refl, ap, ◌∙◌, arith, List, [], ◌∷◌, ◌++◌, get_or, length, Ok, true, false, map}
 use Rattle.std.specs.List.{All, flat_map}
 use Rattle.std.proofs.lemmas.List.Elements.{All-cons, All-head, All-tail}
 use Rattle.dwc_base.specs.declared.records.Endian.{Endian}
@@ -29,6 +29,12 @@ All-front P (x ∷ xs) ys h = All-cons P x xs (All-head P x (xs ++ ys) h) (All-f
 pub All-back : {X : Type 0} (P : X → Type 0) (xs ys : List X) → All P (xs ++ ys) → All P ys
 All-back P [] ys h = h
 All-back P (x ∷ xs) ys h = All-back P xs ys (All-tail P x (xs ++ ys) h)
+
+-- of what each of some things has, that of one
+pub all-of-part : {A X : Type 0} (P : X → Type 0) (f : A → List X) (xs : List A) (i : ℕ) (d : A) → i < length xs → All P (flat_map f xs) → All P (f (get_or xs i d))
+all-of-part P f [] i d within all = absurd (omega arith)
+all-of-part P f (x ∷ xs) zero d within all = All-front P (f x) (flat_map f xs) all
+all-of-part P f (x ∷ xs) (suc i) d within all = all-of-part P f xs i d (omega arith) (All-back P (f x) (flat_map f xs) all)
 
 -- ---- addresses
 

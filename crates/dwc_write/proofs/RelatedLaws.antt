@@ -7,14 +7,17 @@ use Rattle.std.proofs.lemmas.List.Elements.{All-head, All-tail, All-cons, All-ni
 use Rattle.std.proofs.lemmas.List.Kept.{AllPairs-cons}
 use Rattle.dwc_base.specs.declared.records.Endian.{Endian}
 use Rattle.dwc_base.specs.declared.records.Address.TheVariants.{Constant, Symbol}
-use Rattle.dwc_base.specs.declared.section_name.SectionName.TheVariants.{Abbrev, Info, Line, Ranges, Str}
+use Rattle.dwc_base.specs.declared.section_name.SectionName.TheVariants.{Abbrev, Info, Line, Loc, Ranges, Str}
+use Rattle.dwc_base.specs.declared.section_name.SectionName.{SectionName}
 use Rattle.dwc_base.specs.declared.constants.TheConstants.{DW_FORM_data1, DW_FORM_data2, DW_FORM_data4, DW_FORM_data8, DW_FORM_sdata}
 use Rattle.dwc_base.specs.Sections.{Sections}
 use Rattle.dwc_base.specs.Units.{UnitHeader}
 use Rattle.dwc_base.specs.Values as Values
+use Rattle.dwc_base.specs.Values.{Value}
 use Rattle.dwc_base.specs.Carried.{Unit, units, root}
 use Rattle.dwc_base.specs.Outputs.{OutputRelocation, output_sections}
-use Rattle.dwc_base.specs.Fields.{field_of_value, fields_of_unit, fields_of_lines, fields_of_lists, fields_of_section, relocations_of_fields, IsRelocated, AreRelocated}
+use Rattle.dwc_base.specs.RawLists.{is_location_list, is_range_list}
+use Rattle.dwc_base.specs.Fields.{field_of_value, fields_of_unit, fields_of_lines, fields_of_section, lists_of_unit, relocations_of_fields, IsRelocated, AreRelocated}
 use Rattle.dwc_write.specs.declared.attributes.Attribute.{Attribute}
 use Rattle.dwc_write.specs.declared.attributes.AttributeValue.{AttributeValue}
 use Rattle.dwc_write.specs.declared.attributes.AttributeValue.TheVariants as given
@@ -25,18 +28,18 @@ use Rattle.dwc_write.specs.SpelledUnits.{as_data1, as_data2, as_data4, as_data8,
 use Rattle.dwc_write.specs.SpelledSections.{placed_unit_bytes, lines_bytes, info_fields, lines_fields, read_unit, read_units}
 use Rattle.dwc_write.specs.SpelledRelocations.{value_relocations, info_relocations, lines_relocations, RelocationsRise}
 use Rattle.dwc_write.specs.GivenLines.{FitsLines}
-use Rattle.dwc_write.specs.GivenUnits.{GivenEntry, OrderedUnit, Places, EntryShape, written_of, FitsValue, FitsAttribute, FitsEntry, FitsOrdered, size_of, AreWritable, shapes_in, numbered, written_attribute, written_attributes, written_entries, pairs_of_entries, pairs_of_units}
-use Rattle.dwc_write.specs.RangeLists.{behind_attributes, pair_bytes, pair_relocations, pairs_bytes, pairs_fields, pairs_relocations}
-use Rattle.dwc_write.specs.ReadBack.{given_contents}
+use Rattle.dwc_write.specs.GivenUnits.{GivenEntry, OrderedUnit, Places, EntryShape, written_of, FitsValue, FitsAttribute, FitsEntry, FitsOrdered, size_of, AreShortUnits, AreWritable, shapes_in, numbered, written_attribute, written_attributes, written_entries, lists_of_entries, lists_of_units}
+use Rattle.dwc_write.specs.declared.list_places.ListPlaces.{ListPlaces}
+use Rattle.dwc_write.specs.Lists.{ListEntry, behind_attributes, list_bytes, list_relocations, listed_bytes, listed_relocations, locations_in, no_lists, ranges_in}
 use Rattle.dwc_write.proofs.ReadRelocations.{at_places-append}
-use Rattle.dwc_write.proofs.ReadLists.{range-offset}
-use Rattle.dwc_write.proofs.RelatedListsGiven.{both-related, entries-lists}
+use Rattle.dwc_write.proofs.ReadLists.{location-offset, range-offset}
+use Rattle.dwc_write.proofs.RelatedListsGiven.{IsRelatedKind, both-related, locations-related, ranges-related}
 use Rattle.dwc_write.proofs.ListsGiven.{StandThere, stand-back, stand-front}
-use Rattle.dwc_write.proofs.RelatedLists.{fields-rise, pairs-functions}
-use Rattle.dwc_write.proofs.RelatedLists as lists
-use Rattle.dwc_write.specs.Layouts.{AllPlaces, offsets_by_number, places_in, written_lines, written_unit, written_units, written_tables}
+use Rattle.dwc_write.proofs.ListsStand.{locations-stand, ranges-stand}
+use Rattle.dwc_write.proofs.RelatedLists.{list-rise}
+use Rattle.dwc_write.specs.Layouts.{AllPlaces, offsets_by_number, places_in, behind_unit, written_lines, written_unit, written_units, written_tables}
 use Rattle.dwc_write.specs.UsedTexts.{strings_bytes}
-use Rattle.dwc_write.specs.SpelledOutput.{abbrev_bytes, all_info_bytes, all_lines_bytes, all_ranges_bytes, all_ranges_relocations, units_placed, all_places, spelled_sections}
+use Rattle.dwc_write.specs.SpelledOutput.{abbrev_bytes, all_info_bytes, all_lines_bytes, all_lists_bytes, all_lists_relocations, units_placed, all_places, spelled_sections}
 use Rattle.dwc_write.specs.Writers.{IsSound}
 use Rattle.dwc_write.proofs.ReadAddresses.{rising-held}
 use Rattle.dwc_write.proofs.ReadRelocations as relocations
@@ -59,10 +62,10 @@ constant-related h place name false false false true f bits = refl
 constant-related h place name false false false false true bits = refl
 constant-related h place name false false false false false bits = refl
 
-value-related : (size : ℕ) (p : Places) (ranges : ℕ) (a : Attribute) → FitsAttribute size a → IsRelatedValue (written_attribute p ranges a)
-value-related size p ranges a fits h version place = go a.value fits.value
+value-related : (size : ℕ) (p : Places) (lists : ListPlaces) (a : Attribute) → FitsAttribute size a → IsRelatedValue (written_attribute p lists a)
+value-related size p lists a fits h version place = go a.value fits.value
   where
-    go : (v : AttributeValue) → FitsValue size a.name v → relocations_of_fields (field_of_value h place (written_value a.name (written_of p ranges v))) ≡ value_relocations h.address_size place (written_of p ranges v)
+    go : (v : AttributeValue) → FitsValue size a.name v → relocations_of_fields (field_of_value h place (written_value a.name (written_of p lists v))) ≡ value_relocations h.address_size place (written_of p lists v)
     go (given.Address (Constant n)) fit = refl
     go (given.Address (Symbol symbol addend)) fit = refl
     go (given.Constant form bits) fit = constant-related h place a.name (form == DW_FORM_data1) (form == DW_FORM_data2) (form == DW_FORM_data4) (form == DW_FORM_data8) (form == DW_FORM_sdata) bits
@@ -71,25 +74,26 @@ value-related size p ranges a fits h version place = go a.value fits.value
     go (given.Exprloc e) fit = refl
     go (given.StringRef id) fit = refl
     go given.LineProgramRef fit = rw (fit) refl
-    go (given.RangeListRef list) fit = ap (λ v. relocations_of_fields (field_of_value h place v)) (range-offset a.name ranges fit.0) ∙ rw (version) refl
+    go (given.RangeListRef list) fit = ap (λ v. relocations_of_fields (field_of_value h place v)) (range-offset a.name lists.ranges fit.0) ∙ rw (version) refl
+    go (given.LocationListRef list) fit = ap (λ v. relocations_of_fields (field_of_value h place v)) (location-offset a.name lists.locations fit.0) ∙ rw (version) refl
     go (given.UnitRef id) fit = refl
     go (given.DebugInfoRef (entry_of unit id)) fit = rw (version) refl
 
-values-related : (size : ℕ) (next : ℕ → List Attribute → ℕ) (p : Places) (ranges : ℕ) (xs : List Attribute) → All (FitsAttribute size) xs → All IsRelatedValue (written_attributes next p ranges xs)
-values-related size next p ranges [] fits = All-nil _
-values-related size next p ranges (x ∷ xs) fits =
-    All-cons IsRelatedValue (written_attribute p ranges x) (written_attributes next p (next ranges (x ∷ [])) xs) (value-related size p ranges x (All-head (FitsAttribute size) x xs fits)) (values-related size next p (next ranges (x ∷ [])) xs (All-tail (FitsAttribute size) x xs fits))
+values-related : (size : ℕ) (next : ListPlaces → List Attribute → ListPlaces) (p : Places) (lists : ListPlaces) (xs : List Attribute) → All (FitsAttribute size) xs → All IsRelatedValue (written_attributes next p lists xs)
+values-related size next p lists [] fits = All-nil _
+values-related size next p lists (x ∷ xs) fits =
+    All-cons IsRelatedValue (written_attribute p lists x) (written_attributes next p (next lists (x ∷ [])) xs) (value-related size p lists x (All-head (FitsAttribute size) x xs fits)) (values-related size next p (next lists (x ∷ [])) xs (All-tail (FitsAttribute size) x xs fits))
 
-entries-related : (size : ℕ) (next : ℕ → List Attribute → ℕ) (p : Places) (ranges : ℕ) (uses : List EntryShape) (es : List GivenEntry) → All (FitsEntry size) es → All (λ x. All IsRelatedValue x.entry.attributes) (shaped (written_entries next p ranges uses es))
-entries-related size next p ranges uses [] fits = All-nil _
-entries-related size next p ranges uses (e ∷ es) fits =
-    All-cons (λ (x : Shaped). All IsRelatedValue x.entry.attributes) _ (shaped (written_entries next p (next ranges e.attributes) uses es)) (values-related size next p ranges e.attributes (All-head (FitsEntry size) e es fits).attributes) (entries-related size next p (next ranges e.attributes) uses es (All-tail (FitsEntry size) e es fits))
+entries-related : (size : ℕ) (next : ListPlaces → List Attribute → ListPlaces) (p : Places) (lists : ListPlaces) (uses : List EntryShape) (es : List GivenEntry) → All (FitsEntry size) es → All (λ x. All IsRelatedValue x.entry.attributes) (shaped (written_entries next p lists uses es))
+entries-related size next p lists uses [] fits = All-nil _
+entries-related size next p lists uses (e ∷ es) fits =
+    All-cons (λ (x : Shaped). All IsRelatedValue x.entry.attributes) _ (shaped (written_entries next p (next lists e.attributes) uses es)) (values-related size next p lists e.attributes (All-head (FitsEntry size) e es fits).attributes) (entries-related size next p (next lists e.attributes) uses es (All-tail (FitsEntry size) e es fits))
 
-units-related : (s : Sections) (order : Endian) (size : ℕ) (units : AllPlaces) (us : List OrderedUnit) (a l r : ℕ) → All FitsOrdered us → All (IsRelatedUnit s size) (written_units order size units a l r us)
+units-related : (s : Sections) (order : Endian) (size : ℕ) (units : AllPlaces) (us : List OrderedUnit) (a l : ℕ) (r : ListPlaces) → All FitsOrdered us → All (IsRelatedUnit s size) (written_units order size units a l r us)
 units-related s order size units [] a l r fits = All-nil _
 units-related s order size units (u ∷ us) a l r fits =
     All-cons (IsRelatedUnit s size) _ _ (entries-related u.address_size (behind_attributes size) (places_in units (offsets_by_number order size u) l) r (shapes_in u) u.entries (All-head FitsOrdered u us fits).entries)
-    (units-related s order size units us (a + length (table_bytes (numbered 1 (shapes_in u)))) (l + length (lines_bytes order size (written_lines u.lines))) (r + length (pairs_bytes order size (pairs_of_entries u.entries))) (All-tail FitsOrdered u us fits))
+    (units-related s order size units us (a + length (table_bytes (numbered 1 (shapes_in u)))) (l + length (lines_bytes order size (written_lines u.lines))) (behind_unit order size r u) (All-tail FitsOrdered u us fits))
 
 -- ---- one behind another
 
@@ -105,37 +109,40 @@ pairs-rise low high (r ∷ rs) rise = AllPairs-cons Behind r rs (rise-from (r.of
 
 -- ---- the lists of units
 
-units-lists : (s : Sections) (size : ℕ) (units : AllPlaces) (place a l r : ℕ) (us : List OrderedUnit) (front rest : List ℕ) → 0 < size → r ≡ length front → All (λ u. u.address_size ≡ size) us → All FitsOrdered us
-    → s.bytes Ranges ≡ front ++ (pairs_bytes s.order size (pairs_of_units us) ++ rest) → All (IsHeld (s.relocations Ranges)) (pairs_fields s.order size (length front) (pairs_of_units us))
-    → relocations_of_fields (flat_map (λ u. flat_map (fields_of_lists s u.header) u.entries) (read_units s.order size place (written_units s.order size units a l r us))) ≡ pairs_relocations s.order size (length front) (pairs_of_units us)
-units-lists s size units place a l r [] front rest some same sized fits bytes held = refl
-units-lists s size units place a l r (u ∷ us) front rest some same sized fits bytes held =
+-- those of a kind
+units-lists : (s : Sections) (name : SectionName) (test : Value → Bool) (kind : AttributeValue → List ListEntry) (at : ListPlaces → ℕ) → IsRelatedKind s name test kind at → (size : ℕ) (units : AllPlaces) (place a l : ℕ) (r : ListPlaces) (us : List OrderedUnit) (front rest : List ℕ) → 0 < size → at r ≡ length front
+    → All (λ u. u.address_size ≡ size) us → All FitsOrdered us → StandThere s size name front rest (lists_of_units kind us)
+    → relocations_of_fields (flat_map (lists_of_unit test s) (read_units s.order size place (written_units s.order size units a l r us))) ≡ list_relocations s.order size (length front) (lists_of_units kind us)
+units-lists s name test kind at is size units place a l r [] front rest some same sized fits there = refl
+units-lists s name test kind at is size units place a l r (u ∷ us) front rest some same sized fits there =
     let p = places_in units (offsets_by_number s.order size u) l in
     let unit = written_unit size r p a u in
     let v = read_unit s.order size place unit in
     let h = v.header in
-    let ps = pairs_of_entries u.entries in
-    let qs = pairs_of_units us in
-    let own = pairs_bytes s.order size ps in
-    let there : StandThere s h refl some front rest (ps ++ qs) = record { bytes = bytes; held = held } in
-    let back = stand-back s h refl some front rest ps qs there in
+    let es = lists_of_entries kind u.entries in
+    let fs = lists_of_units kind us in
+    let own = list_bytes s.order size es in
     let E : ℕ → Type 0 = λ n. All (FitsEntry n) u.entries in
     let entries = subst E (All-head (λ (v : OrderedUnit). v.address_size ≡ size) u us sized) (All-head FitsOrdered u us fits).entries in
-    let contents = places-contents s.order size (shaped unit.entries) (place + header_length) ∙ contents-given (behind_attributes size) p r (shapes_in u) u.entries ∙ ap (λ n. given_contents (behind_attributes size) p n u.entries) same in
-    let here = entries-lists s h refl some p front _ v.entries u.entries contents entries (stand-front s h refl some front rest ps qs there) in
-    let next : r + length own ≡ length (front ++ own) = ap (λ n. n + length own) same ∙ sym (length-append front own) in
-    let others = units-lists s size units (place + length (placed_unit_bytes s.order size unit)) (a + length (table_bytes unit.table)) (l + length (lines_bytes s.order size (written_lines u.lines))) (r + length own) us (front ++ own) rest some next
-    (All-tail (λ (v : OrderedUnit). v.address_size ≡ size) u us sized) (All-tail FitsOrdered u us fits) back.bytes back.held in
-    let more = flat_map (λ u. flat_map (fields_of_lists s u.header) u.entries) (read_units s.order size (place + length (placed_unit_bytes s.order size unit)) (written_units s.order size units (a + length (table_bytes unit.table)) (l + length (lines_bytes s.order size (written_lines u.lines))) (r + length own) us)) in
-    both-related (flat_map (fields_of_lists s h) v.entries) more ∙ ap (λ rs. rs ++ relocations_of_fields more) here ∙ ap (λ rs. pairs_relocations s.order size (length front) ps ++ rs) others
-    ∙ ap (λ n. pairs_relocations s.order size (length front) ps ++ pairs_relocations s.order size n qs) (length-append front own)
-    ∙ sym (at_places-append (pair_bytes s.order size) (pair_relocations s.order size) ps qs (length front))
+    let contents = places-contents s.order size (shaped unit.entries) (place + header_length) ∙ contents-given (behind_attributes size) p r (shapes_in u) u.entries in
+    let here = is.related h refl some p r front _ v.entries u.entries same contents entries (stand-front s size name front rest es fs there) in
+    let next : at (behind_unit s.order size r u) ≡ length (front ++ own) = (is.place size).unit s.order r u ∙ ap (λ n. n + length own) same ∙ sym (length-append front own) in
+    let others = units-lists s name test kind at is size units (place + length (placed_unit_bytes s.order size unit)) (a + length (table_bytes unit.table)) (l + length (lines_bytes s.order size (written_lines u.lines))) (behind_unit s.order size r u) us (front ++ own) rest some next
+    (All-tail (λ (v : OrderedUnit). v.address_size ≡ size) u us sized) (All-tail FitsOrdered u us fits) (stand-back s size name front rest es fs there) in
+    let more = flat_map (lists_of_unit test s) (read_units s.order size (place + length (placed_unit_bytes s.order size unit)) (written_units s.order size units (a + length (table_bytes unit.table)) (l + length (lines_bytes s.order size (written_lines u.lines))) (behind_unit s.order size r u) us)) in
+    both-related (lists_of_unit test s v) more ∙ ap (λ rs. rs ++ relocations_of_fields more) here ∙ ap (λ rs. list_relocations s.order size (length front) es ++ rs) others
+    ∙ ap (λ n. list_relocations s.order size (length front) es ++ list_relocations s.order size n fs) (length-append front own)
+    ∙ sym (at_places-append (listed_bytes s.order size) (listed_relocations s.order size) es fs (length front))
 
 -- ---- the sections
 
-fields-of_ranges : (s : Sections) (us : List Unit) → units s ≡ record { items = us; fault = None } → fields_of_section s Ranges ≡ flat_map (λ u. flat_map (fields_of_lists s u.header) u.entries) us
+fields-of_ranges : (s : Sections) (us : List Unit) → units s ≡ record { items = us; fault = None } → fields_of_section s Ranges ≡ flat_map (lists_of_unit is_range_list s) us
 unfolding fields_of_section
-fields-of_ranges s us read = ap (λ l. flat_map (λ u. flat_map (fields_of_lists s u.header) u.entries) l.items) read
+fields-of_ranges s us read = ap (λ l. flat_map (lists_of_unit is_range_list s) l.items) read
+
+fields-of_locations : (s : Sections) (us : List Unit) → units s ≡ record { items = us; fault = None } → fields_of_section s Loc ≡ flat_map (lists_of_unit is_location_list s) us
+unfolding fields_of_section
+fields-of_locations s us read = ap (λ l. flat_map (lists_of_unit is_location_list s) l.items) read
 
 fields-of_info : (s : Sections) (us : List Unit) → units s ≡ record { items = us; fault = None } → fields_of_section s Info ≡ flat_map (fields_of_unit s) us
 unfolding fields_of_section
@@ -154,8 +161,8 @@ unfolding fields_of_section
 no-text-fields s = refl
 
 -- Given units that are spelled within the size of sections have the relocations of their fields.
-pub are-relocated : (order : Endian) (texts : List (List ℕ)) (us : List OrderedUnit) → AreWritable us → All FitsOrdered us → All (λ u. FitsLines u.lines) us → All (IsSound order) (spelled_sections order texts us) → AreRelocated order (spelled_sections order texts us)
-are-relocated order texts us writable fits lines sound =
+pub are-relocated : (order : Endian) (texts : List (List ℕ)) (us : List OrderedUnit) → AreWritable us → AreShortUnits us → All FitsOrdered us → All (λ u. FitsLines u.lines) us → All (IsSound order) (spelled_sections order texts us) → AreRelocated order (spelled_sections order texts us)
+are-relocated order texts us writable short fits lines sound =
     let size = size_of us in
     let units = all_places order texts us in
     let ws = units_placed order units us in
@@ -174,20 +181,20 @@ are-relocated order texts us writable fits lines sound =
     let info_held : All (IsHeld (s.relocations Info)) (info_fields order size 0 ws) = rw (info_is) info_rising in
     let lines_held : All (IsHeld (s.relocations Line)) (lines_fields order size 0 ts) = rw (lines_is) lines_rising in
     let read = units-read-back order texts us spelled in
-    let tables = tables-read s order size 0 ws [] units_fit (tables-from order size units us 0 0 0) (holds.abbrev_is ∙ sym (append-nil _)) in
+    let tables = tables-read s order size 0 ws [] units_fit (tables-from order size units us 0 0 no_lists) (holds.abbrev_is ∙ sym (append-nil _)) in
     let of_info : q ≡ relocations_of_fields (fields_of_section s Info) =
-    info-related s size ws units_fit tables info_held holds.info_is (units-related s order size units us 0 0 0 fits) ∙ ap relocations_of_fields (sym (fields-of_info s (read_units order size 0 ws) read)) in
+    info-related s size ws units_fit tables info_held holds.info_is (units-related s order size units us 0 0 no_lists fits) ∙ ap relocations_of_fields (sym (fields-of_info s (read_units order size 0 ws) read)) in
     let found = tables-found s size 0 ts [] some.1 spelled.tables_fit lines_held (holds.line_is ∙ sym (append-nil _)) in
     let of_lines : r ≡ relocations_of_fields (fields_of_section s Line) =
-    sym (ap relocations_of_fields (fields-of_line s (read_units order size 0 ws) read ∙ unit_lines-found s size units us 0 0 0 0 writable fits found) ∙ lines-related order size ts 0) in
-    let ps = pairs_of_units us in
-    let ranges_are = holds.ranges_relocations_are ∙ pairs-functions order size 0 ps in
-    let ranges_rising = rising-held 0 _ (pairs_fields order size 0 ps) (fields-rise order size some.0 0 ps) in
-    let ranges_held : All (IsHeld (s.relocations Ranges)) (pairs_fields order size 0 ps) = rw (ranges_are) ranges_rising in
-    let of_ranges : all_ranges_relocations order us ≡ relocations_of_fields (fields_of_section s Ranges) =
-    sym (ap relocations_of_fields (fields-of_ranges s (read_units order size 0 ws) read) ∙ units-lists s size units 0 0 0 0 us [] [] some.0 refl spelled.sized fits (holds.ranges_are ∙ sym (append-nil _)) ranges_held) in
+    sym (ap relocations_of_fields (fields-of_line s (read_units order size 0 ws) read ∙ unit_lines-found s size units us 0 0 0 no_lists writable fits found) ∙ lines-related order size ts 0) in
+    let vs = read_units order size 0 ws in
+    let of_ranges : all_lists_relocations ranges_in order us ≡ relocations_of_fields (fields_of_section s Ranges) =
+    sym (ap relocations_of_fields (fields-of_ranges s vs read) ∙ units-lists s Ranges is_range_list ranges_in (λ p. p.ranges) (ranges-related s) size units 0 0 0 no_lists us [] [] some.0 refl spelled.sized fits (ranges-stand order texts us spelled fits)) in
+    let of_locations : all_lists_relocations locations_in order us ≡ relocations_of_fields (fields_of_section s Loc) =
+    sym (ap relocations_of_fields (fields-of_locations s vs read) ∙ units-lists s Loc is_location_list locations_in (λ p. p.locations) (locations-related s) size units 0 0 0 no_lists us [] [] some.0 refl spelled.sized fits (locations-stand order texts us spelled fits short)) in
     all-written (IsRelocated s) Abbrev (abbrev_bytes order units us) [] _ (record { name = Abbrev; named = refl; fields = no-fields s; rising = pairs-rise 0 0 [] (omega arith) })
     (all-written (IsRelocated s) Info (all_info_bytes order units us) q _ (record { name = Info; named = refl; fields = of_info; rising = pairs-rise 0 _ q (relocations.info-rise order size 0 ws) })
     (all-written (IsRelocated s) Line (all_lines_bytes order us) r _ (record { name = Line; named = refl; fields = of_lines; rising = pairs-rise 0 _ r (relocations.lines-rise order size 0 ts) })
-    (all-written (IsRelocated s) Ranges (all_ranges_bytes order us) (all_ranges_relocations order us) _ (record { name = Ranges; named = refl; fields = of_ranges; rising = pairs-rise 0 _ (all_ranges_relocations order us) (lists.pairs-rise order size 0 ps) })
-    (last-written (IsRelocated s) Str (strings_bytes texts us) [] (record { name = Str; named = refl; fields = no-text-fields s; rising = pairs-rise 0 0 [] (omega arith) })))))
+    (all-written (IsRelocated s) Ranges (all_lists_bytes ranges_in order us) (all_lists_relocations ranges_in order us) _ (record { name = Ranges; named = refl; fields = of_ranges; rising = pairs-rise 0 _ (all_lists_relocations ranges_in order us) (list-rise order size 0 (lists_of_units ranges_in us)) })
+    (all-written (IsRelocated s) Loc (all_lists_bytes locations_in order us) (all_lists_relocations locations_in order us) _ (record { name = Loc; named = refl; fields = of_locations; rising = pairs-rise 0 _ (all_lists_relocations locations_in order us) (list-rise order size 0 (lists_of_units locations_in us)) })
+    (last-written (IsRelocated s) Str (strings_bytes texts us) [] (record { name = Str; named = refl; fields = no-text-fields s; rising = pairs-rise 0 0 [] (omega arith) }))))))

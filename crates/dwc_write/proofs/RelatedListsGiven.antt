@@ -1,112 +1,229 @@
--- The relocations of the range lists of units are those of the fields that a reader comes upon: `units-lists`.
-use Rattle.std.proofs.Common.{◌≡◌, ℕ, ◌<◌, refl, sym, ap, subst, ◌∙◌, arith, List, [], ◌∷◌, ◌++◌, length, length-append, map, Bool, true, false}
+-- The relocations of the lists of units are those of the fields that a reader comes upon: `entries-lists`, for each kind.
+use Rattle.std.proofs.Common.{◌≡◌, ℕ, ◌+◌, ◌<◌, refl, sym, ap, ◌∙◌, List, [], ◌∷◌, ◌++◌, length, length-append, map, Bool, true, false}
 use Rattle.std.specs.Prelude.{◌==◌, if◌then◌else◌}
 use Rattle.std.specs.List.{All, flat_map}
 use Rattle.std.specs.Int.{w64, cast_signed}
 use Rattle.std.proofs.lemmas.List.Elements.{All-head, All-tail, filter_map-append}
 use Rattle.dwc_base.specs.declared.constants.TheConstants.{DW_FORM_data1, DW_FORM_data2, DW_FORM_data4, DW_FORM_data8, DW_FORM_sdata}
-use Rattle.dwc_base.specs.declared.records.Address.{Address as RangeAddress}
+use Rattle.dwc_base.specs.declared.section_name.SectionName.{SectionName}
+use Rattle.dwc_base.specs.declared.section_name.SectionName.TheVariants.{Loc, Ranges}
 use Rattle.dwc_base.specs.Sections.{Sections}
 use Rattle.dwc_base.specs.Units.{UnitHeader}
 use Rattle.dwc_base.specs.Entries.{Entry}
 use Rattle.dwc_base.specs.Values as Values
-use Rattle.dwc_base.specs.Fields.{Field, fields_of_lists, fields_of_pairs, fields_of_ranges, relocations_of_fields, relocation_of}
+use Rattle.dwc_base.specs.Values.{Value, is_expression_name, section_offset}
+use Rattle.dwc_base.specs.declared.records.Address.{Address as RangeAddress}
+use Rattle.dwc_base.specs.Fields.{Field, fields_of_listed, fields_of_lists, fields_of_named, relocations_of_fields, relocation_of, without_expression}
 use Rattle.dwc_base.specs.Lists.{list_source}
+use Rattle.dwc_base.specs.Outputs.{OutputRelocation}
+use Rattle.dwc_base.specs.RawLists.{is_location_list, is_range_list}
 use Rattle.dwc_write.specs.declared.attributes.Attribute.{Attribute}
 use Rattle.dwc_write.specs.declared.attributes.AttributeValue.{AttributeValue}
-use Rattle.dwc_write.specs.declared.attributes.AttributeValue.TheVariants.{Address, Constant, Flag, Block, Exprloc, StringRef, LineProgramRef, RangeListRef, UnitRef, DebugInfoRef}
+use Rattle.dwc_write.specs.declared.attributes.AttributeValue.TheVariants.{Address, Constant, Flag, Block, Exprloc, StringRef, LineProgramRef, RangeListRef, LocationListRef, UnitRef, DebugInfoRef}
 use Rattle.dwc_write.specs.declared.attributes.DebugInfoRef.TheVariants.{Entry as entry_of}
-use Rattle.dwc_write.specs.GivenUnits.{GivenEntry, Places, FitsAttribute, FitsEntry, FitsValue, pairs_of_entries, written_of}
-use Rattle.dwc_write.specs.RangeLists.{behind_attributes, behind_value, pair_bytes, pair_relocations, pairs_bytes, pairs_of, pairs_of_attributes, pairs_of_value, pairs_relocations}
+use Rattle.dwc_write.specs.declared.list_places.ListPlaces.{ListPlaces}
+use Rattle.dwc_write.specs.GivenUnits.{GivenEntry, Places, FitsAttribute, FitsEntry, FitsValue, lists_of_entries, written_of}
+use Rattle.dwc_write.specs.Lists.{ListEntry, behind_attributes, behind_lists, behind_value, ended, list_bytes, list_length, list_relocations, listed_bytes, listed_relocations, lists_of_attributes, location_entry, locations_in, range_entry, ranges_in}
 use Rattle.dwc_write.specs.ReadBack.{Contents, given_contents, given_values, read_contents}
 use Rattle.dwc_write.specs.SpelledUnits.{as_data1, as_data2, as_data4, as_data8, as_udata, as_sdata, written_value}
-use Rattle.dwc_write.proofs.ListPlaces.{attributes-behind, pairs-length}
-use Rattle.dwc_write.proofs.ListsGiven.{StandThere, stand-back, stand-front}
-use Rattle.dwc_write.proofs.ReadLists.{list-named, range-offset, raw-read, raw_pair}
+use Rattle.dwc_write.proofs.ListPlaces.{IsPlaceOf, locations-place, ranges-place}
+use Rattle.dwc_write.proofs.ListsGiven.{StandThere, next-attributes, next-value, stand-back, stand-front}
+use Rattle.dwc_write.proofs.ReadListed.{raw_pair}
+use Rattle.dwc_write.proofs.ReadLists.{location-offset, locations-named, locations-raw, range-offset, ranges-named, ranges-raw}
 use Rattle.dwc_write.proofs.ReadRelocations.{at_places-append}
-use Rattle.dwc_write.proofs.RelatedLists.{pairs-related}
-
-constant-listless : (s : Sections) (h : UnitHeader) (name : ℕ) (a b c d f : Bool) (bits : ℕ) → fields_of_ranges s h (written_value name (if a then as_data1 bits else (if b then as_data2 bits else (if c then as_data4 bits else (if d then as_data8 bits else (if f then as_sdata (cast_signed w64 bits) else as_udata bits)))))) ≡ []
-unfolding fields_of_ranges
-constant-listless s h name true b c d f bits = refl
-constant-listless s h name false true c d f bits = refl
-constant-listless s h name false false true d f bits = refl
-constant-listless s h name false false false true f bits = refl
-constant-listless s h name false false false false true bits = refl
-constant-listless s h name false false false false false bits = refl
+use Rattle.dwc_write.proofs.RelatedLists.{list-related, read_from}
 
 pub both-related : (fs gs : List Field) → relocations_of_fields (fs ++ gs) ≡ relocations_of_fields fs ++ relocations_of_fields gs
 both-related fs gs = filter_map-append (λ (f : Field). relocation_of f.offset f.size f.held) fs gs
 
-module _ (s : Sections) (h : UnitHeader) (version : h.version ≡ 4) (some : 0 < h.address_size) (p : Places) where
+-- a value of another kind has no list
+none-named : (kind : Value → Bool) (s : Sections) (h : UnitHeader) (v : Value) → kind v ≡ false → relocations_of_fields (fields_of_named kind s h v) ≡ []
+unfolding fields_of_named
+none-named kind s h v other = rw (other, fields_of_named) refl
+
+-- ---- entries of a kind, of which each value's list has its relocations
+
+module _ (s : Sections) (h : UnitHeader) (name : SectionName) (test : Value → Bool) (kind : AttributeValue → List ListEntry) (at : ListPlaces → ℕ) (place : IsPlaceOf kind h.address_size at) (p : Places) where
   abbrev size : ℕ
   size = h.address_size
 
-  sized : (place : ℕ) (rs : List (RangeAddress × ℕ)) → relocations_of_fields (fields_of_pairs (list_source s h).address_size place (map raw_pair rs)) ≡ pairs_relocations s.order h.address_size place (pairs_of rs)
+  abbrev Stand : List ℕ → List ℕ → List ListEntry → Type 0
+  Stand front rest es = StandThere s h.address_size name front rest es
+
+  abbrev fields_among : List (ℕ × Value) → List Field
+  fields_among xs = flat_map (λ a. fields_of_named test s h a.1) xs
+
+  abbrev values_from : ListPlaces → List Attribute → List (ℕ × Value)
+  values_from places xs = given_values (behind_attributes size) p places xs
+
+  abbrev contents_from : ListPlaces → List GivenEntry → List Contents
+  contents_from places gs = given_contents (behind_attributes size) p places gs
+
+  abbrev relocations_from : List ℕ → List ListEntry → List OutputRelocation
+  relocations_from front es = list_relocations s.order size (length front) es
+
+  -- two parts, one behind the other
+  parts-related : (front : List ℕ) (es fs : List ListEntry) → relocations_from front es ++ relocations_from (front ++ list_bytes s.order size es) fs ≡ relocations_from front (es ++ fs)
+  parts-related front es fs =
+      ap (λ n. relocations_from front es ++ list_relocations s.order size n fs) (length-append front (list_bytes s.order size es)) ∙ sym (at_places-append (listed_bytes s.order size) (listed_relocations s.order size) es fs (length front))
+
+  module _ (each : (places : ListPlaces) (front rest : List ℕ) (x : Attribute) → at places ≡ length front → FitsAttribute h.address_size x → Stand front rest (kind x.value) → relocations_of_fields (fields_of_named test s h (written_value x.name (written_of p places x.value))) ≡ relocations_from front (kind x.value)) where
+    attributes-lists : (places : ListPlaces) (front rest : List ℕ) (xs : List Attribute) → at places ≡ length front → All (FitsAttribute size) xs → Stand front rest (lists_of_attributes kind xs) → relocations_of_fields (fields_among (values_from places xs)) ≡ relocations_from front (lists_of_attributes kind xs)
+    attributes-lists places front rest [] here fits there = refl
+    attributes-lists places front rest (x ∷ xs) here fits there =
+        let es = kind x.value in
+        let fs = lists_of_attributes kind xs in
+        let bytes = list_bytes s.order size es in
+        let next : at (behind_value size places x.value) ≡ length (front ++ bytes) = place.value places x.value ∙ ap (λ n. n + list_length size es) here ∙ sym (next-value s size name kind front x.value) in
+        let own = each places front _ x here (All-head (FitsAttribute size) x xs fits) (stand-front s size name front rest es fs there) in
+        let others = attributes-lists (behind_value size places x.value) (front ++ bytes) rest xs next (All-tail (FitsAttribute size) x xs fits) (stand-back s size name front rest es fs there) in
+        both-related (fields_of_named test s h (written_value x.name (written_of p places x.value))) (fields_among (values_from (behind_value size places x.value) xs))
+        ∙ ap (λ rs. rs ++ relocations_of_fields (fields_among (values_from (behind_value size places x.value) xs))) own
+        ∙ ap (λ rs. relocations_from front es ++ rs) others
+        ∙ parts-related front es fs
+
+    contents-lists : (places : ListPlaces) (front rest : List ℕ) (gs : List GivenEntry) → at places ≡ length front → All (FitsEntry size) gs → Stand front rest (lists_of_entries kind gs) → relocations_of_fields (flat_map (λ c. fields_among c.attributes) (contents_from places gs)) ≡ relocations_from front (lists_of_entries kind gs)
+    contents-lists places front rest [] here fits there = refl
+    contents-lists places front rest (g ∷ gs) here fits there =
+        let es = lists_of_attributes kind g.attributes in
+        let fs = lists_of_entries kind gs in
+        let bytes = list_bytes s.order size es in
+        let after = behind_attributes size places g.attributes in
+        let next : at after ≡ length (front ++ bytes) = place.attributes places g.attributes ∙ ap (λ n. behind_lists kind size n g.attributes) here ∙ sym (next-attributes s size name kind front g.attributes) in
+        let own = attributes-lists places front _ g.attributes here (All-head (FitsEntry size) g gs fits).attributes (stand-front s size name front rest es fs there) in
+        let others = contents-lists after (front ++ bytes) rest gs next (All-tail (FitsEntry size) g gs fits) (stand-back s size name front rest es fs there) in
+        both-related (fields_among (values_from places g.attributes)) (flat_map (λ (c : Contents). fields_among c.attributes) (contents_from after gs))
+        ∙ ap (λ rs. rs ++ relocations_of_fields (flat_map (λ (c : Contents). fields_among c.attributes) (contents_from after gs))) own
+        ∙ ap (λ rs. relocations_from front es ++ rs) others
+        ∙ parts-related front es fs
+
+    by-contents : (es : List Entry) → flat_map (fields_of_lists test s h) es ≡ flat_map (λ c. fields_among c.attributes) (map read_contents es)
+    by-contents [] = refl
+    by-contents (e ∷ es) = ap (λ fs. fields_of_lists test s h e ++ fs) (by-contents es)
+
+    pub entries-lists : (places : ListPlaces) (front rest : List ℕ) (es : List Entry) (gs : List GivenEntry) → at places ≡ length front → map read_contents es ≡ contents_from places gs → All (FitsEntry size) gs → Stand front rest (lists_of_entries kind gs)
+        → relocations_of_fields (flat_map (fields_of_lists test s h) es) ≡ relocations_from front (lists_of_entries kind gs)
+    entries-lists places front rest es gs here same fits there = ap relocations_of_fields (by-contents es ∙ ap (flat_map (λ (c : Contents). fields_among c.attributes)) same) ∙ contents-lists places front rest gs here fits there
+
+-- ---- the values of both kinds
+
+constant-listless : (name : ℕ) (a b c d f : Bool) (bits : ℕ)
+    → (is_range_list (written_value name (if a then as_data1 bits else (if b then as_data2 bits else (if c then as_data4 bits else (if d then as_data8 bits else (if f then as_sdata (cast_signed w64 bits) else as_udata bits)))))) ≡ false)
+    × (is_location_list (written_value name (if a then as_data1 bits else (if b then as_data2 bits else (if c then as_data4 bits else (if d then as_data8 bits else (if f then as_sdata (cast_signed w64 bits) else as_udata bits)))))) ≡ false)
+constant-listless name true b c d f bits = (refl, refl)
+constant-listless name false true c d f bits = (refl, refl)
+constant-listless name false false true d f bits = (refl, refl)
+constant-listless name false false false true f bits = (refl, refl)
+constant-listless name false false false false true bits = (refl, refl)
+constant-listless name false false false false false bits = (refl, refl)
+
+block-listless : (b : Bool) (bytes : List ℕ) → b ≡ false → (is_range_list (if b then Values.expression bytes else Values.block bytes) ≡ false) × (is_location_list (if b then Values.expression bytes else Values.block bytes) ≡ false)
+block-listless true bytes e = (refl, refl)
+block-listless false bytes e = (refl, refl)
+
+-- a value is no list
+abbrev NamesNoList : AttributeValue → Type 0
+NamesNoList (RangeListRef list) = ⊥
+NamesNoList (LocationListRef list) = ⊥
+NamesNoList _ = Unit {0}
+
+-- nor is it read as one
+listless : (size name : ℕ) (p : Places) (places : ListPlaces) (v : AttributeValue) → NamesNoList v → FitsValue size name v → (is_range_list (written_value name (written_of p places v)) ≡ false) × (is_location_list (written_value name (written_of p places v)) ≡ false)
+listless size name p places (RangeListRef list) none fits = absurd none
+listless size name p places (LocationListRef list) none fits = absurd none
+listless size name p places (Address a) none fits = (refl, refl)
+listless size name p places (Constant form bits) none fits = constant-listless name (form == DW_FORM_data1) (form == DW_FORM_data2) (form == DW_FORM_data4) (form == DW_FORM_data8) (form == DW_FORM_sdata) bits
+listless size name p places (Flag b) none fits = (refl, refl)
+listless size name p places (Block bytes) none fits = block-listless (is_expression_name name) bytes.items fits
+listless size name p places (Exprloc x) none fits = (refl, refl)
+listless size name p places (StringRef id) none fits = (refl, refl)
+listless size name p places LineProgramRef none fits = (rw (fits) refl, rw (fits) refl)
+listless size name p places (UnitRef id) none fits = (refl, refl)
+listless size name p places (DebugInfoRef (entry_of unit id)) none fits = (refl, refl)
+
+module _ (s : Sections) (h : UnitHeader) (version : h.version ≡ 4) (some : 0 < h.address_size) (p : Places) where
+  -- the entries of a list have their relocations
+  related : (place : ℕ) (es : List ListEntry) → relocations_of_fields (fields_of_listed (list_source s h).address_size place (read_from s.order h.address_size place es)) ≡ list_relocations s.order h.address_size place (ended es)
   unfolding list_source
-  sized place rs = pairs-related s.order h.address_size place rs
+  related place es = list-related s.order h.address_size place es
 
-  value-lists : (front rest : List ℕ) (name : ℕ) (v : AttributeValue) → FitsValue h.address_size name v → StandThere s h version some front rest (pairs_of_value v)
-      → relocations_of_fields (fields_of_ranges s h (written_value name (written_of p (length front) v))) ≡ pairs_relocations s.order h.address_size (length front) (pairs_of_value v)
-  unfolding fields_of_ranges
-  value-lists front rest name (RangeListRef list) fits there =
-      let rs = list.ranges.items in
-      let named = list-named s h version some front rest rs there.bytes fits.1 there.held in
-      let raw = raw-read s h version some front rest rs there.bytes fits.1 there.held in
-      let found : fields_of_ranges s h (Values.range_reference (length front)) ≡ fields_of_pairs (list_source s h).address_size (length front) (map raw_pair rs) = rw (named, raw) refl in
-      ap (λ v. relocations_of_fields (fields_of_ranges s h v)) (range-offset name (length front) fits.0) ∙ ap relocations_of_fields found ∙ sized (length front) rs
-  value-lists front rest name (Address a) fits there = refl
-  value-lists front rest name (Constant form bits) fits there = ap relocations_of_fields (constant-listless s h name (form == DW_FORM_data1) (form == DW_FORM_data2) (form == DW_FORM_data4) (form == DW_FORM_data8) (form == DW_FORM_sdata) bits)
-  value-lists front rest name (Flag b) fits there = refl
-  value-lists front rest name (Block bytes) fits there = ap (λ b. relocations_of_fields (fields_of_ranges s h (if b then Values.expression bytes.items else Values.block bytes.items))) fits
-  value-lists front rest name (Exprloc x) fits there = refl
-  value-lists front rest name (StringRef id) fits there = refl
-  value-lists front rest name LineProgramRef fits there = rw (fits) refl
-  value-lists front rest name (UnitRef id) fits there = refl
-  value-lists front rest name (DebugInfoRef (entry_of unit id)) fits there = refl
+  ranges-from : (place : ℕ) (rs : List (RangeAddress × ℕ)) → map without_expression (map raw_pair (map range_entry rs)) ≡ read_from s.order h.address_size place (map range_entry rs)
+  ranges-from place [] = refl
+  ranges-from place (r ∷ rs) = ap (λ xs. without_expression (raw_pair (range_entry r)) ∷ xs) (ranges-from (place + length (listed_bytes s.order h.address_size (range_entry r))) rs)
 
-  abbrev fields_among : List (ℕ × Values.Value) → List Field
-  fields_among xs = flat_map (λ a. fields_of_ranges s h a.1) xs
+  -- the relocations of what a value is read as
+  abbrev named : (Value → Bool) → ℕ → ListPlaces → AttributeValue → List OutputRelocation
+  named kind name places v = relocations_of_fields (fields_of_named kind s h (written_value name (written_of p places v)))
 
-  attributes-lists : (front rest : List ℕ) (xs : List Attribute) → All (FitsAttribute h.address_size) xs → StandThere s h version some front rest (pairs_of_attributes xs)
-      → relocations_of_fields (fields_among (given_values (behind_attributes h.address_size) p (length front) xs)) ≡ pairs_relocations s.order h.address_size (length front) (pairs_of_attributes xs)
-  attributes-lists front rest [] fits there = refl
-  attributes-lists front rest (x ∷ xs) fits there =
-      let ps = pairs_of_value x.value in
-      let qs = pairs_of_attributes xs in
-      let bytes = pairs_bytes s.order h.address_size ps in
-      let next : length (front ++ bytes) ≡ behind_value h.address_size (length front) x.value = omega (arith, length-append front bytes, pairs-length s.order h.address_size ps) in
-      let here = value-lists front _ x.name x.value (All-head (FitsAttribute h.address_size) x xs fits).value (stand-front s h version some front rest ps qs there) in
-      let others = attributes-lists (front ++ bytes) rest xs (All-tail (FitsAttribute h.address_size) x xs fits) (stand-back s h version some front rest ps qs there) in
-      let P : ℕ → Type 0 = λ n. relocations_of_fields (fields_among (given_values (behind_attributes h.address_size) p n xs)) ≡ pairs_relocations s.order h.address_size (length (front ++ bytes)) qs in
-      both-related (fields_of_ranges s h (written_value x.name (written_of p (length front) x.value))) (fields_among (given_values (behind_attributes h.address_size) p (behind_value h.address_size (length front) x.value) xs))
-      ∙ ap (λ rs. rs ++ relocations_of_fields (fields_among (given_values (behind_attributes h.address_size) p (behind_value h.address_size (length front) x.value) xs))) here
-      ∙ ap (λ rs. pairs_relocations s.order h.address_size (length front) ps ++ rs) (subst P next others)
-      ∙ ap (λ n. pairs_relocations s.order h.address_size (length front) ps ++ pairs_relocations s.order h.address_size n qs) (length-append front bytes)
-      ∙ sym (at_places-append (pair_bytes s.order h.address_size) (pair_relocations s.order h.address_size) ps qs (length front))
+  -- a value that is no list has none
+  other-range : (name : ℕ) (places : ListPlaces) (v : AttributeValue) → NamesNoList v → FitsValue h.address_size name v → named is_range_list name places v ≡ []
+  other-range name places v none fits = none-named is_range_list s h (written_value name (written_of p places v)) (listless h.address_size name p places v none fits).0
 
-  by-contents : (es : List Entry) → flat_map (fields_of_lists s h) es ≡ flat_map (λ c. fields_among c.attributes) (map read_contents es)
-  by-contents [] = refl
-  by-contents (e ∷ es) = ap (λ fs. fields_of_lists s h e ++ fs) (by-contents es)
+  other-location : (name : ℕ) (places : ListPlaces) (v : AttributeValue) → NamesNoList v → FitsValue h.address_size name v → named is_location_list name places v ≡ []
+  other-location name places v none fits = none-named is_location_list s h (written_value name (written_of p places v)) (listless h.address_size name p places v none fits).1
 
-  contents-lists : (front rest : List ℕ) (es : List GivenEntry) → All (FitsEntry h.address_size) es → StandThere s h version some front rest (pairs_of_entries es)
-      → relocations_of_fields (flat_map (λ c. fields_among c.attributes) (given_contents (behind_attributes h.address_size) p (length front) es)) ≡ pairs_relocations s.order h.address_size (length front) (pairs_of_entries es)
-  contents-lists front rest [] fits there = refl
-  contents-lists front rest (e ∷ es) fits there =
-      let ps = pairs_of_attributes e.attributes in
-      let qs = pairs_of_entries es in
-      let bytes = pairs_bytes s.order h.address_size ps in
-      let next : length (front ++ bytes) ≡ behind_attributes h.address_size (length front) e.attributes = length-append front bytes ∙ sym (attributes-behind s.order h.address_size (length front) e.attributes) in
-      let here = attributes-lists front _ e.attributes (All-head (FitsEntry h.address_size) e es fits).attributes (stand-front s h version some front rest ps qs there) in
-      let others = contents-lists (front ++ bytes) rest es (All-tail (FitsEntry h.address_size) e es fits) (stand-back s h version some front rest ps qs there) in
-      let behind : ℕ → List Field = λ n. flat_map (λ (c : Contents). fields_among c.attributes) (given_contents (behind_attributes h.address_size) p n es) in
-      let P : ℕ → Type 0 = λ n. relocations_of_fields (behind n) ≡ pairs_relocations s.order h.address_size (length (front ++ bytes)) qs in
-      both-related (fields_among (given_values (behind_attributes h.address_size) p (length front) e.attributes)) (behind (behind_attributes h.address_size (length front) e.attributes))
-      ∙ ap (λ rs. rs ++ relocations_of_fields (behind (behind_attributes h.address_size (length front) e.attributes))) here
-      ∙ ap (λ rs. pairs_relocations s.order h.address_size (length front) ps ++ rs) (subst P next others)
-      ∙ ap (λ n. pairs_relocations s.order h.address_size (length front) ps ++ pairs_relocations s.order h.address_size n qs) (length-append front bytes)
-      ∙ sym (at_places-append (pair_bytes s.order h.address_size) (pair_relocations s.order h.address_size) ps qs (length front))
+  range-each : (places : ListPlaces) (front rest : List ℕ) (x : Attribute) → places.ranges ≡ length front → FitsAttribute h.address_size x → StandThere s h.address_size Ranges front rest (ranges_in x.value) → named is_range_list x.name places x.value ≡ list_relocations s.order h.address_size (length front) (ranges_in x.value)
+  unfolding fields_of_named
+  range-each places front rest x here fits there = go x.value fits.value there
+    where
+      go : (v : AttributeValue) → FitsValue h.address_size x.name v → StandThere s h.address_size Ranges front rest (ranges_in v) → named is_range_list x.name places v ≡ list_relocations s.order h.address_size (length front) (ranges_in v)
+      go (RangeListRef list) fit stand =
+          let rs = list.ranges.items in
+          let found_name = ranges-named s h version some front rest rs stand.bytes fit.1 stand.held in
+          let raw = ranges-raw s h version some front rest rs stand.bytes fit.1 stand.held in
+          let found : fields_of_named is_range_list s h (Values.range_reference (length front)) ≡ fields_of_listed (list_source s h).address_size (length front) (map without_expression (map raw_pair (map range_entry rs))) = rw (found_name, raw) refl in
+          ap (λ v. relocations_of_fields (fields_of_named is_range_list s h v)) (range-offset x.name places.ranges fit.0 ∙ ap Values.range_reference here)
+          ∙ ap relocations_of_fields (found ∙ ap (fields_of_listed (list_source s h).address_size (length front)) (ranges-from (length front) rs)) ∙ related (length front) (map range_entry rs)
+      go (LocationListRef list) fit stand = none-named is_range_list s h (section_offset x.name places.locations) (ap is_range_list (location-offset x.name places.locations fit.0))
+      go (Address a) fit stand = other-range x.name places (Address a) tt fit
+      go (Constant form bits) fit stand = other-range x.name places (Constant form bits) tt fit
+      go (Flag b) fit stand = other-range x.name places (Flag b) tt fit
+      go (Block bytes) fit stand = other-range x.name places (Block bytes) tt fit
+      go (Exprloc e) fit stand = other-range x.name places (Exprloc e) tt fit
+      go (StringRef id) fit stand = other-range x.name places (StringRef id) tt fit
+      go LineProgramRef fit stand = other-range x.name places LineProgramRef tt fit
+      go (UnitRef id) fit stand = other-range x.name places (UnitRef id) tt fit
+      go (DebugInfoRef reference) fit stand = other-range x.name places (DebugInfoRef reference) tt fit
 
-  pub entries-lists : (front rest : List ℕ) (es : List Entry) (gs : List GivenEntry) → map read_contents es ≡ given_contents (behind_attributes h.address_size) p (length front) gs → All (FitsEntry h.address_size) gs → StandThere s h version some front rest (pairs_of_entries gs)
-      → relocations_of_fields (flat_map (fields_of_lists s h) es) ≡ pairs_relocations s.order h.address_size (length front) (pairs_of_entries gs)
-  entries-lists front rest es gs same fits there = ap relocations_of_fields (by-contents es ∙ ap (flat_map (λ (c : Contents). fields_among c.attributes)) same) ∙ contents-lists front rest gs fits there
+  location-each : (places : ListPlaces) (front rest : List ℕ) (x : Attribute) → places.locations ≡ length front → FitsAttribute h.address_size x → StandThere s h.address_size Loc front rest (locations_in x.value) → named is_location_list x.name places x.value ≡ list_relocations s.order h.address_size (length front) (locations_in x.value)
+  unfolding fields_of_named
+  location-each places front rest x here fits there = go x.value fits.value there
+    where
+      go : (v : AttributeValue) → FitsValue h.address_size x.name v → StandThere s h.address_size Loc front rest (locations_in v) → named is_location_list x.name places v ≡ list_relocations s.order h.address_size (length front) (locations_in v)
+      go (LocationListRef list) fit stand =
+          let ls = list.locations.items in
+          let found_name = locations-named s h version some front rest ls stand.bytes fit.1 stand.short stand.held in
+          let raw = locations-raw s h version some front rest ls stand.bytes fit.1 stand.short stand.held in
+          let found : fields_of_named is_location_list s h (Values.location_reference (length front)) ≡ fields_of_listed (list_source s h).address_size (length front) (read_from s.order h.address_size (length front) (map location_entry ls)) = rw (found_name, raw) refl in
+          ap (λ v. relocations_of_fields (fields_of_named is_location_list s h v)) (location-offset x.name places.locations fit.0 ∙ ap Values.location_reference here)
+          ∙ ap relocations_of_fields found ∙ related (length front) (map location_entry ls)
+      go (RangeListRef list) fit stand = none-named is_location_list s h (section_offset x.name places.ranges) (ap is_location_list (range-offset x.name places.ranges fit.0))
+      go (Address a) fit stand = other-location x.name places (Address a) tt fit
+      go (Constant form bits) fit stand = other-location x.name places (Constant form bits) tt fit
+      go (Flag b) fit stand = other-location x.name places (Flag b) tt fit
+      go (Block bytes) fit stand = other-location x.name places (Block bytes) tt fit
+      go (Exprloc e) fit stand = other-location x.name places (Exprloc e) tt fit
+      go (StringRef id) fit stand = other-location x.name places (StringRef id) tt fit
+      go LineProgramRef fit stand = other-location x.name places LineProgramRef tt fit
+      go (UnitRef id) fit stand = other-location x.name places (UnitRef id) tt fit
+      go (DebugInfoRef reference) fit stand = other-location x.name places (DebugInfoRef reference) tt fit
+
+-- ---- the kinds
+
+-- What a kind of lists is to show of units: its lists stand in a section, are read by a test of values, and have their relocations.
+pub record IsRelatedKind (s : Sections) (name : SectionName) (test : Value → Bool) (kind : AttributeValue → List ListEntry) (at : ListPlaces → ℕ) : Type 0 where
+  pub place : (size : ℕ) → IsPlaceOf kind size at
+  pub related : (h : UnitHeader) → h.version ≡ 4 → 0 < h.address_size → (p : Places) (places : ListPlaces) (front rest : List ℕ) (es : List Entry) (gs : List GivenEntry) → at places ≡ length front → map read_contents es ≡ given_contents (behind_attributes h.address_size) p places gs → All (FitsEntry h.address_size) gs
+      → StandThere s h.address_size name front rest (lists_of_entries kind gs) → relocations_of_fields (flat_map (fields_of_lists test s h) es) ≡ list_relocations s.order h.address_size (length front) (lists_of_entries kind gs)
+
+pub ranges-related : (s : Sections) → IsRelatedKind s Ranges is_range_list ranges_in (λ places. places.ranges)
+ranges-related s = record {
+  place = ranges-place;
+  related = λ h version some p. entries-lists s h Ranges is_range_list ranges_in (λ places. places.ranges) (ranges-place h.address_size) p (range-each s h version some p);
+}
+
+pub locations-related : (s : Sections) → IsRelatedKind s Loc is_location_list locations_in (λ places. places.locations)
+locations-related s = record {
+  place = locations-place;
+  related = λ h version some p. entries-lists s h Loc is_location_list locations_in (λ places. places.locations) (locations-place h.address_size) p (location-each s h version some p);
+}

@@ -1,5 +1,5 @@
 -- The texts that given units say are those of the numbers that they name, each once: `strings-said`.
-use Rattle.std.proofs.Common.{◌≡◌, ◌⊎◌, inl, inr, ℕ, suc, ◌<◌, refl, sym, ap, subst, ◌∙◌, arith, List, [], ◌∷◌, ◌++◌, fold, length, map, Bool, true, false, ltb, Option, Some, None}
+use Rattle.std.proofs.Common.{◌≡◌, ◌⊎◌, inl, inr, ℕ, suc, ◌<◌, refl, sym, ap, ◌∙◌, arith, List, [], ◌∷◌, ◌++◌, fold, length, map, Bool, true, false, ltb, Option, Some, None}
 use Rattle.std.specs.Prelude.{◌==◌, ◌||◌, if◌then◌else◌}
 use Rattle.std.specs.List.{All, filter_map, flat_map, list_any}
 use Rattle.std.specs.Str.{bytes_eq}
@@ -12,19 +12,18 @@ use Rattle.dwc_base.specs.TreeLaws.{distinct_texts, text_said, texts_ended, valu
 use Rattle.dwc_base.specs.TreeReading.{entry_or_nothing}
 use Rattle.dwc_write.specs.declared.attributes.Attribute.{Attribute}
 use Rattle.dwc_write.specs.declared.attributes.AttributeValue.{AttributeValue}
-use Rattle.dwc_write.specs.declared.attributes.AttributeValue.TheVariants.{Address, Constant, Flag, Block, Exprloc, StringRef, LineProgramRef, RangeListRef, UnitRef, DebugInfoRef}
+use Rattle.dwc_write.specs.declared.attributes.AttributeValue.TheVariants.{Address, Constant, Flag, Block, Exprloc, StringRef, LineProgramRef, RangeListRef, LocationListRef, UnitRef, DebugInfoRef}
 use Rattle.dwc_write.specs.declared.attributes.DebugInfoRef.TheVariants.{Entry as entry_of}
 use Rattle.dwc_write.specs.GivenUnits.{GivenEntry, OrderedUnit}
 use Rattle.dwc_write.specs.GivenTrees.{given_said, attribute_said, tree_entry, trees_from, given_trees}
 use Rattle.dwc_write.specs.TextTables.{AreTexts}
 use Rattle.dwc_write.specs.UsedTexts.{HaveTexts, strings_bytes, text_numbered, text_of_value, texts_named, texts_of_attributes, texts_of_entries, with_number, with_numbers}
-use Rattle.dwc_base.specs.declared.section_name.SectionName.{SectionName}
-use Rattle.dwc_base.specs.declared.faults.Limit.TheVariants.{Section, Addend, Range}
 use Rattle.dwc_write.specs.declared.error.WriteError.{WriteError}
-use Rattle.dwc_write.specs.declared.error.WriteError.TheVariants.{TooLarge, OutOfMemory}
 use Rattle.dwc_write.specs.TextViews.{IsTextRefusal}
 use Rattle.dwc_write.specs.WidestGiven.{IsWideRefusal, widest_said}
+use Rattle.dwc_base.specs.declared.section_name.SectionName.TheVariants.{Str}
 use Rattle.dwc_write.specs.Writers.{most_bytes}
+use Rattle.dwc_write.proofs.RefusalLaws.{past-among, size-refusal}
 use Rattle.dwc_write.proofs.TextSets.{bytes-same}
 
 nothing-said : (o : Option (ℕ × ℕ)) (rest : List TreeValue) → filter_map text_said (entry_or_nothing o ∷ rest) ≡ filter_map text_said rest
@@ -48,6 +47,7 @@ module _ (texts : List (List ℕ)) (us : List OrderedUnit) where
       go (StringRef id) h = ap (λ ts. text_numbered texts id.index ∷ ts) h
       go LineProgramRef h = h
       go (RangeListRef list) h = h
+      go (LocationListRef list) h = h
       go (UnitRef id) h = nothing-said _ (values number u xs) ∙ h
       go (DebugInfoRef (entry_of unit id)) h = nothing-said _ (values number u xs) ∙ h
 
@@ -126,11 +126,6 @@ module _ (texts : List (List ℕ)) (table : AreTexts texts) where
 
 -- A refusal of texts is one for their widest size.
 pub texts-widely : (texts : List (List ℕ)) (us : List OrderedUnit) (e : WriteError) → AreTexts texts → HaveTexts texts us → IsTextRefusal e (length (strings_bytes texts us)) → IsWideRefusal texts us e
-texts-widely texts us OutOfMemory table known refused = tt
-texts-widely texts us (TooLarge Addend) table known refused = absurd refused
-texts-widely texts us (TooLarge Range) table known refused = absurd refused
-texts-widely texts us (TooLarge (Section name)) table known refused =
-    let P : SectionName → Type 0 = λ m. most_bytes < widest_said m texts us in
-    let large = refused.1 in
+texts-widely texts us e table known refused =
     let said = ap length (strings-said texts table us known) in
-    subst P (sym refused.0) (omega (arith, large, said))
+    size-refusal _ (λ m. most_bytes < widest_said m texts us) e (past-among (λ m. widest_said m texts us) Str _ e (λ large. omega (arith, large, said)) refused)

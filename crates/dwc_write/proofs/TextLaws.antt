@@ -8,16 +8,16 @@ use Rattle.std.proofs.lemmas.List.{drop_all, length-replicate, length-set, map-a
 use Rattle.std.proofs.lemmas.List.Elements.{All-push, All-nil}
 use Rattle.dwc_base.specs.TreeLaws.{texts_ended}
 use Rattle.dwc_base.specs.Outputs.{OutputRelocation}
-use Rattle.dwc_base.specs.declared.faults.Limit.TheVariants.{Section, Addend, Range}
 use Rattle.dwc_write.specs.declared.error.WriteError.{WriteError}
 use Rattle.dwc_write.specs.declared.error.WriteError.TheVariants.{TooLarge, OutOfMemory}
 use Rattle.dwc_write.specs.declared.text_layout.TextLayout.{TextLayout}
 use Rattle.dwc_write.specs.Spelled.{at_places}
-use Rattle.dwc_write.specs.Writers.{most_bytes}
+use Rattle.dwc_base.specs.declared.section_name.SectionName.TheVariants.{Str}
+use Rattle.dwc_write.specs.Writers.{most_bytes, section_of}
+use Rattle.dwc_write.proofs.RefusalLaws.{past-limit, past-more}
 use Rattle.dwc_write.specs.GivenUnits.{place_of}
 use Rattle.dwc_write.specs.UsedTexts.{with_number, with_numbers, text_numbered, texts_bytes, place_of_text}
 use Rattle.dwc_write.specs.TextViews.{BehindText, IsTextLayout, IsTextRefusal, UsesTexts}
-use Rattle.dwc_write.proofs.ReadValues.{All-front, All-back}
 
 -- ---- one text
 
@@ -129,9 +129,7 @@ module _ (texts : List (List ℕ)) where
 
   pub behind-refused : (e : WriteError) (place n : ℕ) (text : List ℕ) → BehindText (Err e) place text → place + length (text ++ 0 ∷ []) ≡ n → IsTextRefusal e n
   behind-refused OutOfMemory place n text refused same = absurd refused
-  behind-refused (TooLarge Addend) place n text refused same = absurd refused
-  behind-refused (TooLarge Range) place n text refused same = absurd refused
-  behind-refused (TooLarge (Section name)) place n text refused same = let large = refused.1 in (refused.0, omega (arith, large, same))
+  behind-refused (TooLarge what) place n text refused same = past-limit Str _ _ (section_of what) (λ large. omega (arith, large, same)) refused
 
   -- ---- texts of several numbers
 
@@ -188,10 +186,7 @@ module _ (texts : List (List ℕ)) where
   }
 
   refused-longer : (e : WriteError) (n total : ℕ) → IsTextRefusal e n → n ≤ total → IsTextRefusal e total
-  refused-longer OutOfMemory n total refused less = tt
-  refused-longer (TooLarge Addend) n total refused less = absurd refused
-  refused-longer (TooLarge Range) n total refused less = absurd refused
-  refused-longer (TooLarge (Section name)) n total refused less = let large = refused.1 in (refused.0, omega (arith, large, less))
+  refused-longer e n total refused less = past-more Str Str n total e refl (λ large. omega (arith, large, less)) refused
 
   pub using-refused : {A : Type 0} (f : A → List ℕ) (xs : List A) (i : ℕ) (d : A) (start l : TextLayout) (e : WriteError) → IsUsing f xs i start l → i < length xs → IsTextRefusal e (length (texts_bytes texts (with_numbers l.used.items (f (get_or xs i d)))))
       → IsTextRefusal e (length (texts_bytes texts (with_numbers start.used.items (flat_map f xs))))
@@ -223,9 +218,3 @@ pub refused-here : {A : Type 0} (result : Result A WriteError) (e : WriteError) 
 refused-here result e n p refused =
     let is : result ≡ Err e = p.1 ∙ ap Err p.2 in
     rw (is) refused
-
--- what holds of the numbers of all parts holds of those of one
-pub all-of-part : {A : Type 0} (P : ℕ → Type 0) (f : A → List ℕ) (xs : List A) (i : ℕ) (d : A) → i < length xs → All P (flat_map f xs) → All P (f (get_or xs i d))
-all-of-part P f [] i d within all = absurd (omega arith)
-all-of-part P f (x ∷ xs) zero d within all = All-front P (f x) (flat_map f xs) all
-all-of-part P f (x ∷ xs) (suc i) d within all = all-of-part P f xs i d (omega arith) (All-back P (f x) (flat_map f xs) all)

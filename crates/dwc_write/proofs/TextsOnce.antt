@@ -11,7 +11,7 @@ use Rattle.std.proofs.lemmas.List.Elements.{All-head, All-tail}
 use Rattle.std.proofs.lemmas.Slice.Eq.{bytes_eq-Decides}
 use Rattle.dwc_base.specs.declared.records.Endian.{Endian}
 use Rattle.dwc_base.specs.declared.constants.TheConstants.{DW_AT_stmt_list, DW_FORM_data1, DW_FORM_data2, DW_FORM_data4, DW_FORM_data8, DW_FORM_sdata, DW_FORM_strp}
-use Rattle.dwc_base.specs.declared.section_name.SectionName.TheVariants.{Line, Ranges, Str}
+use Rattle.dwc_base.specs.declared.section_name.SectionName.TheVariants.{Line, Loc, Ranges, Str}
 use Rattle.dwc_base.specs.Carried.{Unit as ReadUnit}
 use Rattle.dwc_base.specs.Entries.{Entry}
 use Rattle.dwc_base.specs.Indexed.{texts_of_unit}
@@ -22,18 +22,19 @@ use Rattle.dwc_base.specs.TreeLaws.{HasTextsOnce, TextPlace, all_share, place_if
 use Rattle.dwc_base.specs.Reading.{◌>>=◌}
 use Rattle.dwc_base.specs.Values.{Value, is_expression_name, is_location_name, is_range_name}
 use Rattle.dwc_base.specs.Values as Values
+use Rattle.dwc_write.specs.declared.list_places.ListPlaces.{ListPlaces}
 use Rattle.dwc_write.specs.declared.attributes.Attribute.{Attribute}
 use Rattle.dwc_write.specs.declared.attributes.AttributeValue.{AttributeValue}
-use Rattle.dwc_write.specs.declared.attributes.AttributeValue.TheVariants.{Address, Constant, Flag, Block, Exprloc, StringRef, LineProgramRef, RangeListRef, UnitRef, DebugInfoRef}
+use Rattle.dwc_write.specs.declared.attributes.AttributeValue.TheVariants.{Address, Constant, Flag, Block, Exprloc, StringRef, LineProgramRef, RangeListRef, LocationListRef, UnitRef, DebugInfoRef}
 use Rattle.dwc_write.specs.declared.attributes.DebugInfoRef.TheVariants.{Entry as entry_of}
 use Rattle.dwc_write.specs.SpelledUnits.{Written, as_addr, as_data1, as_data2, as_data4, as_data8, as_udata, as_sdata, as_flag, as_block, as_exprloc, as_strp, as_ref4, as_ref_addr, as_sec_offset, header_length, shaped, written_value}
 use Rattle.dwc_write.specs.SpelledTables.{table_bytes}
 use Rattle.dwc_write.specs.SpelledSections.{lines_bytes, placed_unit_bytes, read_units}
 use Rattle.dwc_write.specs.SpelledOutput.{all_places, spelled_sections, units_placed}
 use Rattle.dwc_write.specs.GivenLines.{FitsLines}
-use Rattle.dwc_write.specs.RangeLists.{behind_attributes, pairs_bytes}
-use Rattle.dwc_write.specs.GivenUnits.{AreWritable, FitsOrdered, GivenEntry, OrderedUnit, Places, constant_of, pairs_of_entries, shapes_in, size_of, written_of}
-use Rattle.dwc_write.specs.Layouts.{AllPlaces, offset_of_text, offsets_by_number, places_in, written_lines, written_unit, written_units}
+use Rattle.dwc_write.specs.Lists.{behind_attributes, no_lists}
+use Rattle.dwc_write.specs.GivenUnits.{AreWritable, FitsOrdered, GivenEntry, OrderedUnit, Places, constant_of, shapes_in, size_of, written_of}
+use Rattle.dwc_write.specs.Layouts.{AllPlaces, offset_of_text, behind_unit, offsets_by_number, places_in, written_lines, written_unit, written_units}
 use Rattle.dwc_write.specs.ReadBack.{Contents, given_contents, given_values, read_contents}
 use Rattle.dwc_write.specs.TextTables.{AreTexts}
 use Rattle.dwc_write.specs.UsedTexts.{HaveTexts, text_numbered, text_of_value, text_places, texts_named, texts_of_attributes, texts_of_entries}
@@ -106,64 +107,65 @@ module _ (texts : List (List ℕ)) (offsets : List (Option ℕ)) (source : TextS
   abbrev place_read : ℕ × Value → Option TextPlace
   place_read a = text_place source a.1
 
-  value-place : (name ranges : ℕ) (v : AttributeValue) (rest : List TextPlace) → All Readable (text_of_value v) → cons_option (text_place source (written_value name (written_of p ranges v))) rest ≡ map (place_for texts offsets) (text_of_value v) ++ rest
+  value-place : (name : ℕ) (lists : ListPlaces) (v : AttributeValue) (rest : List TextPlace) → All Readable (text_of_value v) → cons_option (text_place source (written_value name (written_of p lists v))) rest ≡ map (place_for texts offsets) (text_of_value v) ++ rest
   unfolding text_named text_elsewhere
-  value-place name ranges (StringRef id) rest readable =
+  value-place name lists (StringRef id) rest readable =
       ap (λ n. cons_option (text_place source (Values.text_reference DW_FORM_strp n)) rest) (placed id.index)
       ∙ ap (λ r. cons_option (place_if_read DW_FORM_strp (offset_of_text offsets id.index) (r >>= λ bytes. Ok (Some bytes))) rest) (All-head Readable id.index [] readable)
-  value-place name ranges (Address a) rest readable = ap (λ o. cons_option o rest) (no-place source name (as_addr a) tt)
-  value-place name ranges (Constant form bits) rest readable = ap (λ o. cons_option o rest) (no-place source name (constant_of form bits) (constant-none form bits))
-  value-place name ranges (Flag b) rest readable = ap (λ o. cons_option o rest) (no-place source name (as_flag b) tt)
-  value-place name ranges (Block bytes) rest readable = ap (λ o. cons_option o rest) (no-place source name (as_block bytes.items) tt)
-  value-place name ranges (Exprloc e) rest readable = ap (λ o. cons_option o rest) (no-place source name (as_exprloc e.bytes.items) tt)
-  value-place name ranges LineProgramRef rest readable = ap (λ o. cons_option o rest) (no-place source name (as_sec_offset Line p.line) tt)
-  value-place name ranges (RangeListRef list) rest readable = ap (λ o. cons_option o rest) (no-place source name (as_sec_offset Ranges ranges) tt)
-  value-place name ranges (UnitRef id) rest readable = ap (λ o. cons_option o rest) (no-place source name (as_ref4 (p.entry id.index)) tt)
-  value-place name ranges (DebugInfoRef (entry_of unit id)) rest readable = ap (λ o. cons_option o rest) (no-place source name (as_ref_addr (p.entry_of unit.index id.index)) tt)
+  value-place name lists (Address a) rest readable = ap (λ o. cons_option o rest) (no-place source name (as_addr a) tt)
+  value-place name lists (Constant form bits) rest readable = ap (λ o. cons_option o rest) (no-place source name (constant_of form bits) (constant-none form bits))
+  value-place name lists (Flag b) rest readable = ap (λ o. cons_option o rest) (no-place source name (as_flag b) tt)
+  value-place name lists (Block bytes) rest readable = ap (λ o. cons_option o rest) (no-place source name (as_block bytes.items) tt)
+  value-place name lists (Exprloc e) rest readable = ap (λ o. cons_option o rest) (no-place source name (as_exprloc e.bytes.items) tt)
+  value-place name lists LineProgramRef rest readable = ap (λ o. cons_option o rest) (no-place source name (as_sec_offset Line p.line) tt)
+  value-place name lists (RangeListRef list) rest readable = ap (λ o. cons_option o rest) (no-place source name (as_sec_offset Ranges lists.ranges) tt)
+  value-place name lists (LocationListRef list) rest readable = ap (λ o. cons_option o rest) (no-place source name (as_sec_offset Loc lists.locations) tt)
+  value-place name lists (UnitRef id) rest readable = ap (λ o. cons_option o rest) (no-place source name (as_ref4 (p.entry id.index)) tt)
+  value-place name lists (DebugInfoRef (entry_of unit id)) rest readable = ap (λ o. cons_option o rest) (no-place source name (as_ref_addr (p.entry_of unit.index id.index)) tt)
 
-  module _ (next : ℕ → List Attribute → ℕ) where
-    attributes-placed : (ranges : ℕ) (xs : List Attribute) → All Readable (texts_of_attributes xs) → filter_map place_read (given_values next p ranges xs) ≡ map (place_for texts offsets) (texts_of_attributes xs)
-    attributes-placed ranges [] readable = refl
-    attributes-placed ranges (x ∷ xs) readable =
+  module _ (next : ListPlaces → List Attribute → ListPlaces) where
+    attributes-placed : (lists : ListPlaces) (xs : List Attribute) → All Readable (texts_of_attributes xs) → filter_map place_read (given_values next p lists xs) ≡ map (place_for texts offsets) (texts_of_attributes xs)
+    attributes-placed lists [] readable = refl
+    attributes-placed lists (x ∷ xs) readable =
         let here = text_of_value x.value in
         let behind = texts_of_attributes xs in
-        value-place x.name ranges x.value (filter_map place_read (given_values next p (next ranges (x ∷ [])) xs)) (All-front Readable here behind readable)
-        ∙ ap (λ ps. map (place_for texts offsets) here ++ ps) (attributes-placed (next ranges (x ∷ [])) xs (All-back Readable here behind readable))
+        value-place x.name lists x.value (filter_map place_read (given_values next p (next lists (x ∷ [])) xs)) (All-front Readable here behind readable)
+        ∙ ap (λ ps. map (place_for texts offsets) here ++ ps) (attributes-placed (next lists (x ∷ [])) xs (All-back Readable here behind readable))
         ∙ sym (map-append (place_for texts offsets) here behind)
 
-    contents-placed : (ranges : ℕ) (gs : List GivenEntry) → All Readable (texts_of_entries gs) → flat_map (λ c. filter_map place_read c.attributes) (given_contents next p ranges gs) ≡ map (place_for texts offsets) (texts_of_entries gs)
-    contents-placed ranges [] readable = refl
-    contents-placed ranges (g ∷ gs) readable =
+    contents-placed : (lists : ListPlaces) (gs : List GivenEntry) → All Readable (texts_of_entries gs) → flat_map (λ c. filter_map place_read c.attributes) (given_contents next p lists gs) ≡ map (place_for texts offsets) (texts_of_entries gs)
+    contents-placed lists [] readable = refl
+    contents-placed lists (g ∷ gs) readable =
         let here = texts_of_attributes g.attributes in
         let behind = texts_of_entries gs in
-        ap (λ ps. ps ++ flat_map (λ (c : Contents). filter_map place_read c.attributes) (given_contents next p (next ranges g.attributes) gs)) (attributes-placed ranges g.attributes (All-front Readable here behind readable))
-        ∙ ap (λ ps. map (place_for texts offsets) here ++ ps) (contents-placed (next ranges g.attributes) gs (All-back Readable here behind readable))
+        ap (λ ps. ps ++ flat_map (λ (c : Contents). filter_map place_read c.attributes) (given_contents next p (next lists g.attributes) gs)) (attributes-placed lists g.attributes (All-front Readable here behind readable))
+        ∙ ap (λ ps. map (place_for texts offsets) here ++ ps) (contents-placed (next lists g.attributes) gs (All-back Readable here behind readable))
         ∙ sym (map-append (place_for texts offsets) here behind)
 
   by-contents : (es : List Entry) → flat_map (λ e. filter_map place_read e.attributes) es ≡ flat_map (λ c. filter_map place_read c.attributes) (map read_contents es)
   by-contents [] = refl
   by-contents (e ∷ es) = ap (λ ps. filter_map place_read e.attributes ++ ps) (by-contents es)
 
-  entries-placed : (next : ℕ → List Attribute → ℕ) (ranges : ℕ) (es : List Entry) (gs : List GivenEntry) → All Readable (texts_of_entries gs) → map read_contents es ≡ given_contents next p ranges gs → flat_map (λ e. filter_map place_read e.attributes) es ≡ map (place_for texts offsets) (texts_of_entries gs)
-  entries-placed next ranges es gs readable same = by-contents es ∙ ap (flat_map (λ (c : Contents). filter_map place_read c.attributes)) same ∙ contents-placed next ranges gs readable
+  entries-placed : (next : ListPlaces → List Attribute → ListPlaces) (lists : ListPlaces) (es : List Entry) (gs : List GivenEntry) → All Readable (texts_of_entries gs) → map read_contents es ≡ given_contents next p lists gs → flat_map (λ e. filter_map place_read e.attributes) es ≡ map (place_for texts offsets) (texts_of_entries gs)
+  entries-placed next lists es gs readable same = by-contents es ∙ ap (flat_map (λ (c : Contents). filter_map place_read c.attributes)) same ∙ contents-placed next lists gs readable
 
 -- ---- units
 
 -- A unit is read with the texts that were given, at some offsets.
 record IsReadWith (offsets : List (Option ℕ)) (u : OrderedUnit) (v : ReadUnit) : Type 0 where
-  next : ℕ → List Attribute → ℕ
-  ranges : ℕ
+  next : ListPlaces → List Attribute → ListPlaces
+  lists : ListPlaces
   places : Places
   placed : (n : ℕ) → places.text n ≡ offset_of_text offsets n
-  contents : map read_contents v.entries ≡ given_contents next places ranges u.entries
+  contents : map read_contents v.entries ≡ given_contents next places lists u.entries
 
-read-with : (order : Endian) (size : ℕ) (all : AllPlaces) (place a l r : ℕ) (us : List OrderedUnit) → AllZip (IsReadWith all.texts) us (read_units order size place (written_units order size all a l r us))
+read-with : (order : Endian) (size : ℕ) (all : AllPlaces) (place a l : ℕ) (r : ListPlaces) (us : List OrderedUnit) → AllZip (IsReadWith all.texts) us (read_units order size place (written_units order size all a l r us))
 read-with order size all place a l r [] = tt
 read-with order size all place a l r (u ∷ us) =
     let p = places_in all (offsets_by_number order size u) l in
     let unit = written_unit size r p a u in (
-      record { next = behind_attributes size; ranges = r; places = p; placed = λ n. refl; contents = places-contents order size (shaped unit.entries) (place + header_length) ∙ contents-given (behind_attributes size) p r (shapes_in u) u.entries },
-      read-with order size all (place + length (placed_unit_bytes order size unit)) (a + length (table_bytes unit.table)) (l + length (lines_bytes order size (written_lines u.lines))) (r + length (pairs_bytes order size (pairs_of_entries u.entries))) us,
+      record { next = behind_attributes size; lists = r; places = p; placed = λ n. refl; contents = places-contents order size (shaped unit.entries) (place + header_length) ∙ contents-given (behind_attributes size) p r (shapes_in u) u.entries },
+      read-with order size all (place + length (placed_unit_bytes order size unit)) (a + length (table_bytes unit.table)) (l + length (lines_bytes order size (written_lines u.lines))) (behind_unit order size r u) us,
     )
 
 module _ (texts : List (List ℕ)) (offsets : List (Option ℕ)) (s : Sections) where
@@ -172,7 +174,7 @@ module _ (texts : List (List ℕ)) (offsets : List (Option ℕ)) (s : Sections) 
 
   unit-placed : (u : OrderedUnit) (v : ReadUnit) → All ReadableThere (texts_of_entries u.entries) → IsReadWith offsets u v → read_text_places s v ≡ map (place_for texts offsets) (texts_of_entries u.entries)
   unfolding texts_of_unit
-  unit-placed u v readable read = entries-placed texts offsets (texts_of_unit s v.header) read.places read.placed read.next read.ranges v.entries u.entries readable read.contents
+  unit-placed u v readable read = entries-placed texts offsets (texts_of_unit s v.header) read.places read.placed read.next read.lists v.entries u.entries readable read.contents
 
   units-placed : (us : List OrderedUnit) (vs : List ReadUnit) → All ReadableThere (texts_named us) → AllZip (IsReadWith offsets) us vs → flat_map (read_text_places s) vs ≡ map (place_for texts offsets) (texts_named us)
   units-placed [] [] readable read = refl
@@ -221,6 +223,6 @@ texts-once order texts us writable known table fits lines sound =
     λ k d within. subst (P _) (sym spelled.holds.strings_are) (text-read order texts us _ table.plain (known k d within) (all-used (texts_named us) [] k d within)) in
     let vs = read_units order size 0 (units_placed order places us) in
     let read = units-read-back order texts us spelled in
-    let there = units-placed texts (text_places texts us) s us vs readable (read-with order size places 0 0 0 0 us) in
+    let there = units-placed texts (text_places texts us) s us vs readable (read-with order size places 0 0 0 no_lists us) in
     ap (λ l. all_share (flat_map (read_text_places s) l.items)) read
     ∙ ap all_share there ∙ numbers-share texts table (text_places texts us) (texts_named us) known

@@ -6,7 +6,7 @@ use Rattle.std.proofs.lemmas.List.{length-map, map-append}
 use Rattle.std.proofs.lemmas.List.Elements.{All-append, All-cons, All-nil, All-head, All-tail, All-weaker}
 use Rattle.dwc_write.specs.declared.attributes.Attribute.{Attribute}
 use Rattle.dwc_write.specs.declared.attributes.AttributeValue.{AttributeValue}
-use Rattle.dwc_write.specs.declared.attributes.AttributeValue.TheVariants.{Address, Constant, Flag, Block, Exprloc, StringRef, LineProgramRef, RangeListRef, UnitRef, DebugInfoRef}
+use Rattle.dwc_write.specs.declared.attributes.AttributeValue.TheVariants.{Address, Constant, Flag, Block, Exprloc, StringRef, LineProgramRef, RangeListRef, LocationListRef, UnitRef, DebugInfoRef}
 use Rattle.dwc_write.specs.declared.units.Entry.{Entry}
 use Rattle.dwc_write.specs.UnitViews.{addition_view}
 use Rattle.dwc_write.specs.GivenUnits.{Addition, GivenUnit, FitsAttribute, FitsValue, FitsOperand, FitsAddition, FitsGivenUnit, IsPlaceBelow, set_attribute, set_in_addition, set_in, with_additions, with_value, with_child, with_next, with_known, place_of, tag_at, tag_of, AreBehindParents, IsRooted}
@@ -225,5 +225,6 @@ operand-fits size a fits = go a.value fits.value
     go (StringRef id) h = tt
     go LineProgramRef h = tt
     go (RangeListRef list) h = tt
+    go (LocationListRef list) h = tt
     go (UnitRef id) h = tt
     go (DebugInfoRef reference) h = tt

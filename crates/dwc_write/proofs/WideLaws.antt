@@ -6,21 +6,20 @@ use Rattle.std.proofs.lemmas.List.Elements.{All-head, All-tail, All-cons, All-ni
 use Rattle.std.proofs.lemmas.List.Sums.{sum_by-take-le}
 use Rattle.dwc_base.specs.declared.records.Endian.{Endian}
 use Rattle.dwc_base.specs.declared.records.Endian.TheVariants.{Little}
-use Rattle.dwc_base.specs.declared.section_name.SectionName.{SectionName}
-use Rattle.dwc_base.specs.declared.section_name.SectionName.TheVariants.{Abbrev, Info, Line, Ranges}
+use Rattle.dwc_base.specs.declared.section_name.SectionName.TheVariants.{Abbrev, Info, Line, Loc, Ranges}
 use Rattle.dwc_write.specs.declared.error.WriteError.{WriteError}
 use Rattle.dwc_write.specs.declared.error.WriteError.TheVariants.{TooLarge, OutOfMemory}
-use Rattle.dwc_base.specs.declared.faults.Limit.TheVariants.{Section, Addend, Range}
 use Rattle.dwc_write.specs.SpelledTables.{table_bytes}
 use Rattle.dwc_write.specs.SpelledSections.{placed_unit_bytes, lines_bytes}
 use Rattle.dwc_write.specs.GivenLines.{FitsLines}
-use Rattle.dwc_write.specs.GivenUnits.{OrderedUnit, FitsOrdered, IsWritable, AreWritable, size_of, pairs_of_entries}
-use Rattle.dwc_write.specs.RangeLists.{pairs_bytes}
+use Rattle.dwc_write.specs.GivenUnits.{OrderedUnit, FitsOrdered, IsWritable, AreWritable, size_of}
+use Rattle.dwc_write.specs.Lists.{locations_in, no_lists, ranges_in}
 use Rattle.dwc_write.specs.Layouts.{AllPlaces, unit_length, written_lines}
-use Rattle.dwc_write.specs.SpelledOutput.{WrittenSections, unit_in, with_unit, with_units, all_units, RefusesUnit, IsRefusal, IsRefusalAmong, all_info_bytes, all_places, section_bytes}
+use Rattle.dwc_write.specs.SpelledOutput.{WrittenSections, lists_bytes, unit_in, with_unit, with_units, all_units, RefusesUnit, IsRefusal, IsRefusalAmong, all_info_bytes, all_places, bytes_of, section_bytes}
 use Rattle.dwc_write.specs.LayoutViews.{Advances, IsTooLong}
 use Rattle.dwc_write.specs.WidestGiven.{widest_unit, widest_said, IsWideRefusal}
 use Rattle.dwc_write.specs.Writers.{most_bytes}
+use Rattle.dwc_write.proofs.RefusalLaws.{past-among, refusal-weaker, size-refusal}
 use Rattle.dwc_write.proofs.OutputLaws.{all-appended, all_of, section-refused}
 use Rattle.dwc_write.proofs.WidestLaws.{info-within, within-widest}
 use Rattle.dwc_write.proofs.PlacedEntries.{info-length}
@@ -62,14 +61,18 @@ widely-refused order units texts us i d w e within fits given lines done refused
         section-refused order units (take (suc i) us) e w.info_section (all_of order units (take (suc i) us)).info_section Info (placed_unit_bytes w.info_section.order (get_or us i d).address_size (unit_in units w (get_or us i d))) refused (ap (λ (v : WrittenSections). v.info_section.name) is) (omega (arith, ap (λ (v : WrittenSections). length v.info_section.body) is)) refl refl
     go (inr (inr (inl refused))) is =
         section-refused order units (take (suc i) us) e w.line_section (all_of order units (take (suc i) us)).line_section Line (lines_bytes w.line_section.order (get_or us i d).address_size (written_lines (get_or us i d).lines)) refused (ap (λ (v : WrittenSections). v.line_section.name) is) (omega (arith, ap (λ (v : WrittenSections). length v.line_section.body) is)) refl refl
-    go (inr (inr (inr refused))) is =
-        section-refused order units (take (suc i) us) e w.ranges_section (all_of order units (take (suc i) us)).ranges_section Ranges (pairs_bytes w.ranges_section.order (get_or us i d).address_size (pairs_of_entries (get_or us i d).entries)) refused (ap (λ (v : WrittenSections). v.ranges_section.name) is) (omega (arith, ap (λ (v : WrittenSections). length v.ranges_section.body) is)) refl refl
+    go (inr (inr (inr (inl refused)))) is =
+        section-refused order units (take (suc i) us) e w.ranges_section (all_of order units (take (suc i) us)).ranges_section Ranges (lists_bytes ranges_in (get_or us i d) w.ranges_section) refused (ap (λ (v : WrittenSections). v.ranges_section.name) is) (omega (arith, ap (λ (v : WrittenSections). length v.ranges_section.body) is)) refl refl
+    go (inr (inr (inr (inr refused)))) is =
+        section-refused order units (take (suc i) us) e w.locations_section (all_of order units (take (suc i) us)).locations_section Loc (lists_bytes locations_in (get_or us i d) w.locations_section) refused (ap (λ (v : WrittenSections). v.locations_section.name) is) (omega (arith, ap (λ (v : WrittenSections). length v.locations_section.body) is)) refl refl
 
     wide : (e : WriteError) → IsRefusalAmong order units (take (suc i) us) e → IsWideRefusal texts us e
-    wide OutOfMemory large = tt
-    wide (TooLarge Addend) large = absurd large
-    wide (TooLarge Range) large = absurd large
-    wide (TooLarge (Section name)) large = omega (arith, large, within-widest order units (take (suc i) us) name (writable-taken us i fits) given lines, sum_by-take-le (widest_unit name) us (suc i), widest-said name texts us)
+    wide e refused =
+        size-refusal _ (λ name. most_bytes < widest_said name texts us) e
+        (refusal-weaker (λ name. most_bytes < length (bytes_of order units (take (suc i) us) name)) (λ name. most_bytes < widest_said name texts us)
+        (λ name large. omega (arith, large, within-widest order units (take (suc i) us) name (writable-taken us i fits) given lines, sum_by-take-le (widest_unit name) us (suc i), widest-said name texts us))
+        e
+        refused)
 
 abbrev no_units : AllPlaces
 no_units = record { units = []; texts = [] }
@@ -79,29 +82,21 @@ pub layout-widest : (texts : List (List ℕ)) (us : List OrderedUnit) (i : ℕ) 
 layout-widest texts us i writable fits large =
     let vs = take (suc i) us in
     let sized : All (λ u. u.address_size ≡ size_of us) vs = all-take (λ u. u.address_size ≡ size_of us) us (suc i) (All-weaker (IsWritable (size_of us)) (λ u. u.address_size ≡ size_of us) (λ u h. h.size) us writable) in
-    omega (arith, large, info-length Little (size_of us) no_units 0 0 0 vs, info-within Little (size_of us) 0 0 0 no_units vs sized fits, sum_by-take-le (widest_unit Info) us (suc i), widest-said Info texts us)
+    omega (arith, large, info-length Little (size_of us) no_units 0 0 no_lists vs, info-within Little (size_of us) 0 0 no_lists no_units vs sized fits, sum_by-take-le (widest_unit Info) us (suc i), widest-said Info texts us)
 
 pub layout-large : (order : Endian) (texts : List (List ℕ)) (us : List OrderedUnit) (i : ℕ) → most_bytes < sum_by (unit_length order (size_of us)) (take (suc i) us) → most_bytes < length (all_info_bytes order (all_places order texts us) us)
-layout-large order texts us i large = omega (arith, large, sum_by-take-le (unit_length order (size_of us)) us (suc i), info-length order (size_of us) (all_places order texts us) 0 0 0 us)
+layout-large order texts us i large = omega (arith, large, sum_by-take-le (unit_length order (size_of us)) us (suc i), info-length order (size_of us) (all_places order texts us) 0 0 no_lists us)
 
 -- a refusal of such a length
 pub too-long : (e : WriteError) (place more : ℕ) → Advances (Err e) place more → IsTooLong e (place + more)
 too-long OutOfMemory place more refused = absurd refused
-too-long (TooLarge Addend) place more refused = absurd refused
-too-long (TooLarge Range) place more refused = absurd refused
-too-long (TooLarge (Section name)) place more refused = refused
+too-long (TooLarge what) place more refused = refused
 
 pub refused-long : (order : Endian) (texts : List (List ℕ)) (us : List OrderedUnit) (e : WriteError) (n : ℕ) → IsTooLong e n → (most_bytes < n → most_bytes < length (all_info_bytes order (all_places order texts us) us)) → IsRefusal order texts us e
-refused-long order texts us OutOfMemory n long large = tt
-refused-long order texts us (TooLarge Addend) n long large = absurd long
-refused-long order texts us (TooLarge Range) n long large = absurd long
-refused-long order texts us (TooLarge (Section name)) n long large = let P : SectionName → Type 0 = λ m. most_bytes < length (section_bytes order texts us m) in subst P (sym long.0) (large long.1)
+refused-long order texts us e n long large = size-refusal _ (λ m. most_bytes < length (section_bytes order texts us m)) e (past-among (λ m. length (section_bytes order texts us m)) Info n e large long)
 
 pub refused-widely : (texts : List (List ℕ)) (us : List OrderedUnit) (e : WriteError) (n : ℕ) → IsTooLong e n → (most_bytes < n → most_bytes < widest_said Info texts us) → IsWideRefusal texts us e
-refused-widely texts us OutOfMemory n long large = tt
-refused-widely texts us (TooLarge Addend) n long large = absurd long
-refused-widely texts us (TooLarge Range) n long large = absurd long
-refused-widely texts us (TooLarge (Section name)) n long large = let P : SectionName → Type 0 = λ m. most_bytes < widest_said m texts us in subst P (sym long.0) (large long.1)
+refused-widely texts us e n long large = size-refusal _ (λ m. most_bytes < widest_said m texts us) e (past-among (λ m. widest_said m texts us) Info n e large long)
 
 pub err-exit : {A : Type 0} (P : WriteError → Type 0) (result : Result A WriteError) (e : WriteError) → ((error : WriteError) × (result ≡ Err error) × (error ≡ e)) → P e → IfErr result P
 err-exit P result e p refused =

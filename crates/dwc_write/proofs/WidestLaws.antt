@@ -13,7 +13,7 @@ use Rattle.dwc_base.specs.declared.records.Endian.{Endian}
 use Rattle.dwc_base.specs.declared.records.Endian.TheVariants.{Little}
 use Rattle.dwc_base.specs.declared.records.LineRow.{LineRow}
 use Rattle.dwc_base.specs.declared.section_name.SectionName.{SectionName}
-use Rattle.dwc_base.specs.declared.section_name.SectionName.TheVariants.{Abbrev, Info, Line, Ranges}
+use Rattle.dwc_base.specs.declared.section_name.SectionName.TheVariants.{Abbrev, Info, Line, Loc, Ranges}
 use Rattle.dwc_base.specs.declared.constants.TheConstants.{DW_FORM_implicit_const, DW_FORM_data1, DW_FORM_data2, DW_FORM_data4, DW_FORM_data8, DW_FORM_sdata, DW_FORM_udata}
 use Rattle.dwc_base.specs.Abbreviations.{Declaration}
 use Rattle.dwc_base.specs.LineHeaders.{LineFile}
@@ -29,15 +29,16 @@ use Rattle.dwc_write.specs.SpelledSections.{WrittenTable, placed_unit_bytes, tab
 use Rattle.dwc_write.specs.SpelledRelocations.{sequence_bytes}
 use Rattle.dwc_write.specs.declared.attributes.Attribute.{Attribute}
 use Rattle.dwc_write.specs.declared.attributes.AttributeValue.{AttributeValue}
-use Rattle.dwc_write.specs.declared.attributes.AttributeValue.TheVariants.{Address, Constant, Flag, Block, Exprloc, StringRef, LineProgramRef, RangeListRef, UnitRef, DebugInfoRef}
+use Rattle.dwc_write.specs.declared.attributes.AttributeValue.TheVariants.{Address, Constant, Flag, Block, Exprloc, StringRef, LineProgramRef, RangeListRef, LocationListRef, UnitRef, DebugInfoRef}
 use Rattle.dwc_write.specs.declared.attributes.DebugInfoRef.TheVariants.{Entry as entry_of}
 use Rattle.dwc_write.specs.declared.abbreviations.AttributeForm.{AttributeForm}
 use Rattle.dwc_write.specs.GivenLines.{FitsLines, FitsSequences, FitsGivenSequence}
-use Rattle.dwc_write.specs.GivenUnits.{GivenEntry, OrderedUnit, Places, EntryShape, AreBelow, IsTree, IsOfSize, IsWritable, AreWritable, FitsAttribute, FitsValue, FitsEntry, FitsOrdered, size_of, constant_of, is_constant_form, constant_bound, written_of, form_of, first_depth, shape_of, shapes_of, place_in, with_use, first_uses, code_in, spec_of_form, numbered, shapes_in, written_attribute, written_attributes, written_entries, pairs_of_entries}
-use Rattle.dwc_write.specs.Layouts.{AllPlaces, offsets_by_number, places_in, written_unit, written_lines, written_units, written_tables}
-use Rattle.dwc_write.specs.SpelledOutput.{abbrev_bytes, all_info_bytes, all_lines_bytes, all_ranges_bytes, bytes_of}
-use Rattle.dwc_write.specs.RangeLists.{behind_attributes, pairs_bytes}
-use Rattle.dwc_write.proofs.WidestLists.{ranges-within}
+use Rattle.dwc_write.specs.GivenUnits.{GivenEntry, OrderedUnit, Places, EntryShape, AreBelow, IsTree, IsOfSize, IsWritable, AreWritable, FitsAttribute, FitsValue, FitsEntry, FitsOrdered, size_of, constant_of, is_constant_form, constant_bound, written_of, form_of, first_depth, shape_of, shapes_of, place_in, with_use, first_uses, code_in, spec_of_form, numbered, shapes_in, written_attribute, written_attributes, written_entries}
+use Rattle.dwc_write.specs.Layouts.{AllPlaces, offsets_by_number, places_in, behind_unit, written_unit, written_lines, written_units, written_tables}
+use Rattle.dwc_write.specs.SpelledOutput.{abbrev_bytes, all_info_bytes, all_lines_bytes, all_lists_bytes, bytes_of}
+use Rattle.dwc_write.specs.declared.list_places.ListPlaces.{ListPlaces}
+use Rattle.dwc_write.specs.Lists.{behind_attributes, locations_in, no_lists, ranges_in}
+use Rattle.dwc_write.proofs.WidestLists.{lists-within}
 use Rattle.dwc_write.specs.WidestGiven.{widest_value, widest_entry, lists_of, widest_table_for, widest_unit, widest_given}
 use Rattle.dwc_write.proofs.ReadNumbers.{number_bytes-length, uleb_bytes-length, sleb_bytes-small}
 use Rattle.dwc_write.proofs.ReadWritten.{row-bytes, rows-bytes-end, rows-bytes-more}
@@ -159,10 +160,10 @@ constant-widest order size form bits known small =
 block-widest : (bytes : Vec ℕ Global) → length (block_bytes bytes.items) ≤ variable_bytes + length bytes.items
 block-widest bytes = omega (arith, uleb-10 (length bytes.items) (vec-short bytes), length-append (uleb_bytes (length bytes.items)) bytes.items)
 
-value-widest : (order : Endian) (size : ℕ) (p : Places) (ranges : ℕ) (x : Attribute) → size ≤ 8 → FitsAttribute size x → length (written_bytes order size (written_of p ranges x.value)) ≤ widest_value x.value
-value-widest order size p ranges x short fits = go x.value fits.value
+value-widest : (order : Endian) (size : ℕ) (p : Places) (lists : ListPlaces) (x : Attribute) → size ≤ 8 → FitsAttribute size x → length (written_bytes order size (written_of p lists x.value)) ≤ widest_value x.value
+value-widest order size p lists x short fits = go x.value fits.value
   where
-    go : (v : AttributeValue) → FitsValue size x.name v → length (written_bytes order size (written_of p ranges v)) ≤ widest_value v
+    go : (v : AttributeValue) → FitsValue size x.name v → length (written_bytes order size (written_of p lists v)) ≤ widest_value v
     go (Address a) h = omega (arith, short, number_bytes-length order size (stored a))
     go (Constant form bits) h = constant-widest order size form bits h.0 h.1
     go (Flag b) h = omega arith
@@ -170,16 +171,17 @@ value-widest order size p ranges x short fits = go x.value fits.value
     go (Exprloc e) h = block-widest e.bytes
     go (StringRef id) h = omega (arith, number_bytes-length order 4 (p.text id.index))
     go LineProgramRef h = omega (arith, number_bytes-length order 4 p.line)
-    go (RangeListRef list) h = omega (arith, number_bytes-length order 4 ranges)
+    go (RangeListRef list) h = omega (arith, number_bytes-length order 4 lists.ranges)
+    go (LocationListRef list) h = omega (arith, number_bytes-length order 4 lists.locations)
     go (UnitRef id) h = omega (arith, number_bytes-length order 4 (p.entry id.index))
     go (DebugInfoRef (entry_of unit id)) h = omega (arith, number_bytes-length order 4 (p.entry_of unit.index id.index))
 
-values-widest : (order : Endian) (size : ℕ) (next : ℕ → List Attribute → ℕ) (p : Places) (ranges : ℕ) (xs : List Attribute) → size ≤ 8 → All (FitsAttribute size) xs → length (flat_map (attribute_bytes order size) (written_attributes next p ranges xs)) ≤ sum_by (λ a. widest_value a.value) xs
-values-widest order size next p ranges [] short fits = omega arith
-values-widest order size next p ranges (x ∷ xs) short fits =
-    let here = value-widest order size p ranges x short (All-head (FitsAttribute size) x xs fits) in
-    let others = values-widest order size next p (next ranges (x ∷ [])) xs short (All-tail (FitsAttribute size) x xs fits) in
-    omega (arith, here, others, length-append (attribute_bytes order size (written_attribute p ranges x)) (flat_map (attribute_bytes order size) (written_attributes next p (next ranges (x ∷ [])) xs)), sum_by-cons (λ (a : Attribute). widest_value a.value) x xs)
+values-widest : (order : Endian) (size : ℕ) (next : ListPlaces → List Attribute → ListPlaces) (p : Places) (lists : ListPlaces) (xs : List Attribute) → size ≤ 8 → All (FitsAttribute size) xs → length (flat_map (attribute_bytes order size) (written_attributes next p lists xs)) ≤ sum_by (λ a. widest_value a.value) xs
+values-widest order size next p lists [] short fits = omega arith
+values-widest order size next p lists (x ∷ xs) short fits =
+    let here = value-widest order size p lists x short (All-head (FitsAttribute size) x xs fits) in
+    let others = values-widest order size next p (next lists (x ∷ [])) xs short (All-tail (FitsAttribute size) x xs fits) in
+    omega (arith, here, others, length-append (attribute_bytes order size (written_attribute p lists x)) (flat_map (attribute_bytes order size) (written_attributes next p (next lists (x ∷ [])) xs)), sum_by-cons (λ (a : Attribute). widest_value a.value) x xs)
 
 -- what one list of siblings more or less makes
 ends-widest : (depth : ℕ) (es : List GivenEntry) → first_depth es ≤ suc depth → (depth - first_depth es) + first_depth es ≤ depth + (if nat_lt depth (first_depth es) then 1 else 0)
@@ -193,48 +195,48 @@ first-near : (depth : ℕ) (es : List GivenEntry) → AreBelow depth es → firs
 first-near depth [] below = omega arith
 first-near depth (e ∷ es) below = below.1
 
-one-step : (order : Endian) (size : ℕ) (next : ℕ → List Attribute → ℕ) (p : Places) (ranges : ℕ) (uses : List EntryShape) (e : GivenEntry) (es : List GivenEntry) → size ≤ 8 → length uses < 2 ^ 64 → AreBelow e.depth es → FitsEntry size e → place_in (shape_of e es) uses < length uses
-    → length (flat_map (entry_bytes order size) (shaped (written_entries next p (next ranges e.attributes) uses es))) ≤ sum_by widest_entry es + (first_depth es + lists_of es)
-    → length (flat_map (entry_bytes order size) (shaped (written_entries next p ranges uses (e ∷ es)))) ≤ sum_by widest_entry (e ∷ es) + (e.depth + lists_of (e ∷ es))
-one-step order size next p ranges uses e es short few below fits there others =
+one-step : (order : Endian) (size : ℕ) (next : ListPlaces → List Attribute → ListPlaces) (p : Places) (lists : ListPlaces) (uses : List EntryShape) (e : GivenEntry) (es : List GivenEntry) → size ≤ 8 → length uses < 2 ^ 64 → AreBelow e.depth es → FitsEntry size e → place_in (shape_of e es) uses < length uses
+    → length (flat_map (entry_bytes order size) (shaped (written_entries next p (next lists e.attributes) uses es))) ≤ sum_by widest_entry es + (first_depth es + lists_of es)
+    → length (flat_map (entry_bytes order size) (shaped (written_entries next p lists uses (e ∷ es)))) ≤ sum_by widest_entry (e ∷ es) + (e.depth + lists_of (e ∷ es))
+one-step order size next p lists uses e es short few below fits there others =
     let s = shape_of e es in
     let code = uleb-10 (code_in uses s) (omega (arith, there, few)) in
-    let values = values-widest order size next p ranges e.attributes short fits.attributes in
-    let following = next-first next p (next ranges e.attributes) uses es in
-    let zeros : length {A = ℕ} (replicate (e.depth - next_depth (written_entries next p (next ranges e.attributes) uses es)) 0) ≡ e.depth - first_depth es = length-replicate {A = ℕ} (e.depth - next_depth (written_entries next p (next ranges e.attributes) uses es)) 0 ∙ ap (λ n. e.depth - n) following in
+    let values = values-widest order size next p lists e.attributes short fits.attributes in
+    let following = next-first next p (next lists e.attributes) uses es in
+    let zeros : length {A = ℕ} (replicate (e.depth - next_depth (written_entries next p (next lists e.attributes) uses es)) 0) ≡ e.depth - first_depth es = length-replicate {A = ℕ} (e.depth - next_depth (written_entries next p (next lists e.attributes) uses es)) 0 ∙ ap (λ n. e.depth - n) following in
     let ends = ends-widest e.depth es (first-near e.depth es below) in
-    let bytes = flat_map (attribute_bytes order size) (written_attributes next p ranges e.attributes) in
-    let last = replicate {A = ℕ} (e.depth - next_depth (written_entries next p (next ranges e.attributes) uses es)) 0 in
-    omega (arith, code, values, others, zeros, ends, length-append (uleb_bytes (code_in uses s) ++ (bytes ++ last)) (flat_map (entry_bytes order size) (shaped (written_entries next p (next ranges e.attributes) uses es))), length-append (uleb_bytes (code_in uses s)) (bytes ++ last), length-append bytes last, sum_by-cons widest_entry e es)
+    let bytes = flat_map (attribute_bytes order size) (written_attributes next p lists e.attributes) in
+    let last = replicate {A = ℕ} (e.depth - next_depth (written_entries next p (next lists e.attributes) uses es)) 0 in
+    omega (arith, code, values, others, zeros, ends, length-append (uleb_bytes (code_in uses s) ++ (bytes ++ last)) (flat_map (entry_bytes order size) (shaped (written_entries next p (next lists e.attributes) uses es))), length-append (uleb_bytes (code_in uses s)) (bytes ++ last), length-append bytes last, sum_by-cons widest_entry e es)
 
 -- an entry and those behind it: as many lists end as begin, and as stand open above it
-one-widest : (order : Endian) (size : ℕ) (next : ℕ → List Attribute → ℕ) (p : Places) (ranges : ℕ) (uses : List EntryShape) (e : GivenEntry) (es : List GivenEntry) → size ≤ 8 → length uses < 2 ^ 64 → AreBelow e.depth es → All (FitsEntry size) (e ∷ es) → (known : List EntryShape) → first_uses known (shapes_of (e ∷ es)) ≡ uses
-    → length (flat_map (entry_bytes order size) (shaped (written_entries next p ranges uses (e ∷ es)))) ≤ sum_by widest_entry (e ∷ es) + (e.depth + lists_of (e ∷ es))
-one-widest order size next p ranges uses e [] short few below fits known used =
+one-widest : (order : Endian) (size : ℕ) (next : ListPlaces → List Attribute → ListPlaces) (p : Places) (lists : ListPlaces) (uses : List EntryShape) (e : GivenEntry) (es : List GivenEntry) → size ≤ 8 → length uses < 2 ^ 64 → AreBelow e.depth es → All (FitsEntry size) (e ∷ es) → (known : List EntryShape) → first_uses known (shapes_of (e ∷ es)) ≡ uses
+    → length (flat_map (entry_bytes order size) (shaped (written_entries next p lists uses (e ∷ es)))) ≤ sum_by widest_entry (e ∷ es) + (e.depth + lists_of (e ∷ es))
+one-widest order size next p lists uses e [] short few below fits known used =
     let there : place_in (shape_of e []) uses < length uses = rw (used) at (code-there (shape_of e []) known []) in
-    one-step order size next p ranges uses e [] short few below (All-head (FitsEntry size) e [] fits) there (omega arith)
-one-widest order size next p ranges uses e (f ∷ fs) short few below fits known used =
+    one-step order size next p lists uses e [] short few below (All-head (FitsEntry size) e [] fits) there (omega arith)
+one-widest order size next p lists uses e (f ∷ fs) short few below fits known used =
     let there : place_in (shape_of e (f ∷ fs)) uses < length uses = rw (used) at (code-there (shape_of e (f ∷ fs)) known (shapes_of (f ∷ fs))) in
-    one-step order size next p ranges uses e (f ∷ fs) short few below (All-head (FitsEntry size) e (f ∷ fs) fits) there
-    (one-widest order size next p (next ranges e.attributes) uses f fs short few below.2 (All-tail (FitsEntry size) e (f ∷ fs) fits) (with_use (shape_of e (f ∷ fs)) known) used)
+    one-step order size next p lists uses e (f ∷ fs) short few below (All-head (FitsEntry size) e (f ∷ fs) fits) there
+    (one-widest order size next p (next lists e.attributes) uses f fs short few below.2 (All-tail (FitsEntry size) e (f ∷ fs) fits) (with_use (shape_of e (f ∷ fs)) known) used)
 
 size-short : (u : OrderedUnit) (size : ℕ) → u.address_size ≡ size → (u.address_size ≡ 4) ⊎ (u.address_size ≡ 8) → size ≤ 8
 size-short u size same (inl e) = omega (arith, e, same)
 size-short u size same (inr e) = omega (arith, e, same)
 
 -- entries of a tree: below a depth that is never above the root's, as many lists end as begin
-tree-widest : (order : Endian) (size : ℕ) (next : ℕ → List Attribute → ℕ) (p : Places) (ranges : ℕ) (es : List GivenEntry) → size ≤ 8 → length (first_uses [] (shapes_of es)) < 2 ^ 64 → IsTree es → All (FitsEntry size) es
-    → length (flat_map (entry_bytes order size) (shaped (written_entries next p ranges (first_uses [] (shapes_of es)) es))) ≤ sum_by widest_entry es + lists_of es
-tree-widest order size next p ranges [] short few tree fits = absurd tree
-tree-widest order size next p ranges (e ∷ es) short few tree fits =
+tree-widest : (order : Endian) (size : ℕ) (next : ListPlaces → List Attribute → ListPlaces) (p : Places) (lists : ListPlaces) (es : List GivenEntry) → size ≤ 8 → length (first_uses [] (shapes_of es)) < 2 ^ 64 → IsTree es → All (FitsEntry size) es
+    → length (flat_map (entry_bytes order size) (shaped (written_entries next p lists (first_uses [] (shapes_of es)) es))) ≤ sum_by widest_entry es + lists_of es
+tree-widest order size next p lists [] short few tree fits = absurd tree
+tree-widest order size next p lists (e ∷ es) short few tree fits =
     let root = tree.0 in
-    let all = one-widest order size next p ranges (first_uses [] (shapes_of (e ∷ es))) e es short few (below-root e.depth es root tree.1) fits [] refl in
+    let all = one-widest order size next p lists (first_uses [] (shapes_of (e ∷ es))) e es short few (below-root e.depth es root tree.1) fits [] refl in
     omega (arith, all, root)
   where
     below-root : (depth : ℕ) (es : List GivenEntry) → depth ≡ 0 → AreBelow 0 es → AreBelow depth es
     below-root depth es is below = let P : ℕ → Type 0 = λ n. AreBelow n es in subst P (sym is) below
 
-info-widest : (order : Endian) (size a r : ℕ) (p : Places) (u : OrderedUnit) → u.address_size ≡ size → FitsOrdered u → length (placed_unit_bytes order size (written_unit size r p a u)) ≤ widest_unit Info u
+info-widest : (order : Endian) (size a : ℕ) (r : ListPlaces) (p : Places) (u : OrderedUnit) → u.address_size ≡ size → FitsOrdered u → length (placed_unit_bytes order size (written_unit size r p a u)) ≤ widest_unit Info u
 info-widest order size a r p u same fits =
     let few_entries = fits.few in
     let few : length (shapes_in u) < 2 ^ 64 = omega (arith, few_entries, uses-length [] u.entries) in
@@ -325,23 +327,23 @@ lines-widest order size u same fits lines =
 
 -- ---- all units
 
-tables-within : (order : Endian) (size a l r : ℕ) (units : AllPlaces) (us : List OrderedUnit) → All FitsOrdered us → length (tables_bytes (written_units order size units a l r us)) ≤ widest_given Abbrev us
+tables-within : (order : Endian) (size a l : ℕ) (r : ListPlaces) (units : AllPlaces) (us : List OrderedUnit) → All FitsOrdered us → length (tables_bytes (written_units order size units a l r us)) ≤ widest_given Abbrev us
 tables-within order size a l r units [] fits = omega arith
 tables-within order size a l r units (u ∷ us) fits =
     let here = table-widest u (All-head FitsOrdered u us fits) in
     let table = table_bytes (numbered 1 (shapes_in u)) in
-    let rest = written_units order size units (a + length table) (l + length (lines_bytes order size (written_lines u.lines))) (r + length (pairs_bytes order size (pairs_of_entries u.entries))) us in
-    omega (arith, here, tables-within order size (a + length table) (l + length (lines_bytes order size (written_lines u.lines))) (r + length (pairs_bytes order size (pairs_of_entries u.entries))) units us (All-tail FitsOrdered u us fits), length-append table (tables_bytes rest), sum_by-cons (widest_unit Abbrev) u us)
+    let rest = written_units order size units (a + length table) (l + length (lines_bytes order size (written_lines u.lines))) (behind_unit order size r u) us in
+    omega (arith, here, tables-within order size (a + length table) (l + length (lines_bytes order size (written_lines u.lines))) (behind_unit order size r u) units us (All-tail FitsOrdered u us fits), length-append table (tables_bytes rest), sum_by-cons (widest_unit Abbrev) u us)
 
-pub info-within : (order : Endian) (size a l r : ℕ) (units : AllPlaces) (us : List OrderedUnit) → All (λ u. u.address_size ≡ size) us → All FitsOrdered us → length (info_bytes order size (written_units order size units a l r us)) ≤ widest_given Info us
+pub info-within : (order : Endian) (size a l : ℕ) (r : ListPlaces) (units : AllPlaces) (us : List OrderedUnit) → All (λ u. u.address_size ≡ size) us → All FitsOrdered us → length (info_bytes order size (written_units order size units a l r us)) ≤ widest_given Info us
 info-within order size a l r units [] sized fits = omega arith
 info-within order size a l r units (u ∷ us) sized fits =
     let p = places_in units (offsets_by_number order size u) l in
     let here = info-widest order size a r p u (All-head (λ (v : OrderedUnit). v.address_size ≡ size) u us sized) (All-head FitsOrdered u us fits) in
     let at = a + length (table_bytes (numbered 1 (shapes_in u))) in
     let lines_at = l + length (lines_bytes order size (written_lines u.lines)) in
-    let ranges_at = r + length (pairs_bytes order size (pairs_of_entries u.entries)) in
-    omega (arith, here, info-within order size at lines_at ranges_at units us (All-tail (λ (v : OrderedUnit). v.address_size ≡ size) u us sized) (All-tail FitsOrdered u us fits), length-append (placed_unit_bytes order size (written_unit size r p a u)) (info_bytes order size (written_units order size units at lines_at ranges_at us)), sum_by-cons (widest_unit Info) u us)
+    let lists_at = behind_unit order size r u in
+    omega (arith, here, info-within order size at lines_at lists_at units us (All-tail (λ (v : OrderedUnit). v.address_size ≡ size) u us sized) (All-tail FitsOrdered u us fits), length-append (placed_unit_bytes order size (written_unit size r p a u)) (info_bytes order size (written_units order size units at lines_at lists_at us)), sum_by-cons (widest_unit Info) u us)
 
 lines-within : (order : Endian) (size : ℕ) (us : List OrderedUnit) → All (λ u. u.address_size ≡ size) us → All FitsOrdered us → All (λ u. FitsLines u.lines) us → length (lines_bytes order size (written_tables us)) ≤ widest_given Line us
 lines-within order size [] sized fits lines = omega arith
@@ -358,11 +360,12 @@ sizes-short (u ∷ us) fits = size-short u u.address_size refl (All-head FitsOrd
 pub within-widest : (order : Endian) (units : AllPlaces) (us : List OrderedUnit) (name : SectionName) → AreWritable us → All FitsOrdered us → All (λ u. FitsLines u.lines) us → length (bytes_of order units us name) ≤ widest_given name us
 within-widest order units us name writable fits lines =
     let sized : All (λ u. u.address_size ≡ size_of us) us = All-weaker (IsWritable (size_of us)) (λ u. u.address_size ≡ size_of us) (λ u h. h.size) us writable in
-    go name (tables-within order (size_of us) 0 0 0 units us fits) (info-within order (size_of us) 0 0 0 units us sized fits) (lines-within order (size_of us) us sized fits lines) (ranges-within order (size_of us) (sizes-short us fits) us)
+    go name (tables-within order (size_of us) 0 0 no_lists units us fits) (info-within order (size_of us) 0 0 no_lists units us sized fits) (lines-within order (size_of us) us sized fits lines) (lists-within order (size_of us) (sizes-short us fits) ranges_in us) (lists-within order (size_of us) (sizes-short us fits) locations_in us)
   where
-    go : (n : SectionName) → length (abbrev_bytes order units us) ≤ widest_given Abbrev us → length (all_info_bytes order units us) ≤ widest_given Info us → length (all_lines_bytes order us) ≤ widest_given Line us → length (all_ranges_bytes order us) ≤ widest_given Ranges us → length (bytes_of order units us n) ≤ widest_given n us
-    go Abbrev a i l v = a
-    go Info a i l v = i
-    go Line a i l v = l
-    go Ranges a i l v = v
-    go _ a i l v = omega arith
+    go : (n : SectionName) → length (abbrev_bytes order units us) ≤ widest_given Abbrev us → length (all_info_bytes order units us) ≤ widest_given Info us → length (all_lines_bytes order us) ≤ widest_given Line us → length (all_lists_bytes ranges_in order us) ≤ widest_given Ranges us → length (all_lists_bytes locations_in order us) ≤ widest_given Loc us → length (bytes_of order units us n) ≤ widest_given n us
+    go Abbrev a i l v k = a
+    go Info a i l v k = i
+    go Line a i l v k = l
+    go Ranges a i l v k = v
+    go Loc a i l v k = k
+    go _ a i l v k = omega arith

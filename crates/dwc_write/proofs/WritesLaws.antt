@@ -8,25 +8,18 @@ use Rattle.dwc_base.specs.declared.records.Endian.{Endian}
 use Rattle.dwc_write.specs.Spelled.{at_places}
 use Rattle.dwc_base.specs.Outputs.{OutputRelocation}
 use Rattle.dwc_write.specs.declared.error.WriteError.{WriteError}
-use Rattle.dwc_write.specs.declared.error.WriteError.TheVariants.{TooLarge, OutOfMemory}
-use Rattle.dwc_base.specs.declared.faults.Limit.TheVariants.{Section, Addend, Range}
 use Rattle.dwc_write.specs.Writers.{Writing, Refuses, Writes, appended, overwritten, replaced}
+use Rattle.dwc_write.proofs.RefusalLaws.{past-more}
 
 -- what refuses less refuses more
 pub refused-longer : (e : WriteError) (w : Writing) (n total : ℕ) → Refuses e w n → n ≤ total → Refuses e w total
-refused-longer OutOfMemory w n total refused less = tt
-refused-longer (TooLarge Addend) w n total refused less = absurd refused
-refused-longer (TooLarge Range) w n total refused less = absurd refused
-refused-longer (TooLarge (Section name)) w n total refused less = (refused.0, let large = refused.1 in omega (arith, large, less))
+refused-longer e w n total refused less = past-more w.name w.name _ _ e refl (λ large. omega (arith, large, less)) refused
 
 -- behind what is written, what refuses refuses the whole
 pub refused-later : (e : WriteError) (a b : Writing) (x : List ℕ) (r : List OutputRelocation) (n total : ℕ) → b ≡ appended x r a → Refuses e b n → length x + n ≤ total → Refuses e a total
-refused-later OutOfMemory a b x r n total grown refused less = tt
-refused-later (TooLarge Addend) a b x r n total grown refused less = absurd refused
-refused-later (TooLarge Range) a b x r n total grown refused less = absurd refused
-refused-later (TooLarge (Section name)) a b x r n total grown refused less =
-    let here = rw grown at refused in
-    (here.0, let large = here.1 in omega (arith, large, less, length-append a.body x))
+refused-later e a b x r n total grown refused less =
+    let long = ap (λ (v : Writing). length v.body) grown in
+    past-more b.name a.name _ _ e (ap (λ (v : Writing). v.name) grown) (λ large. omega (arith, large, less, long, length-append a.body x)) refused
 
 -- one part behind another
 pub appended-twice : (a b c : Writing) (x y : List ℕ) (r s : List OutputRelocation) → b ≡ appended x r a → c ≡ appended y s b → c ≡ appended (x ++ y) (r ++ s) a
@@ -77,14 +70,11 @@ whole-more spell at x xs w v all invariant step =
     twice ∙ ap (λ p. appended (spell x ++ flat_map spell xs) (at (length w.body) x ++ at_places spell at p xs) w) long ∙ invariant
 
 pub whole-refused : {A : Type 0} (spell : A → List ℕ) (at : ℕ → A → List OutputRelocation) (x : A) (xs all : List A) (w a : Writing) (e : WriteError) → whole spell at (x ∷ xs) w ≡ whole spell at all a → Refuses e w (length (spell x)) → Refuses e a (length (flat_map spell all))
-whole-refused spell at x xs all w a OutOfMemory invariant refused = tt
-whole-refused spell at x xs all w a (TooLarge Addend) invariant refused = absurd refused
-whole-refused spell at x xs all w a (TooLarge Range) invariant refused = absurd refused
-whole-refused spell at x xs all w a (TooLarge (Section name)) invariant refused =
-    let named : w.name ≡ a.name = ap (λ (v : Writing). v.name) invariant in
+whole-refused spell at x xs all w a e invariant refused =
     let long = ap (λ (v : Writing). length v.body) invariant in
-    let large = refused.1 in
-    (refused.0 ∙ named, omega (arith, large, long, length-append w.body (spell x ++ flat_map spell xs), length-append (spell x) (flat_map spell xs), length-append a.body (flat_map spell all)))
+    past-more w.name a.name _ _ e (ap (λ (v : Writing). v.name) invariant)
+    (λ large. omega (arith, large, long, length-append w.body (spell x ++ flat_map spell xs), length-append (spell x) (flat_map spell xs), length-append a.body (flat_map spell all)))
+    refused
 
 pub whole-done : {A : Type 0} (spell : A → List ℕ) (at : ℕ → A → List OutputRelocation) (w all : Writing) → whole spell at [] w ≡ all → w ≡ all
 whole-done spell at w all invariant = appended-nothing w ∙ invariant
@@ -138,17 +128,11 @@ pub ends-refused : (k count : ℕ) (w a now : Writing) (result : Result (Unit {0
     → ((error : WriteError) × (result ≡ Err error) × (error ≡ e)) → Refuses e w 1 → Writes a now result (replicate count 0) []
 ends-refused k count w a now result e more invariant p refused =
     let is : result ≡ Err e = p.1 ∙ ap Err p.2 in
-    rw (is) (later e refused)
-  where
-    later : (e : WriteError) → Refuses e w 1 → Refuses e a (length {A = ℕ} (replicate count 0))
-    later OutOfMemory refused = tt
-    later (TooLarge Addend) refused = absurd refused
-    later (TooLarge Range) refused = absurd refused
-    later (TooLarge (Section name)) refused =
-        let named : w.name ≡ a.name = ap (λ (v : Writing). v.name) invariant in
-        let long = ap (λ (v : Writing). length v.body) invariant in
-        let large = refused.1 in
-        (refused.0 ∙ named, omega (arith, large, more, long, length-append w.body (replicate (count - k) 0), length-append a.body (replicate count 0), length-replicate {A = ℕ} (count - k) 0, length-replicate {A = ℕ} count 0))
+    let long = ap (λ (v : Writing). length v.body) invariant in
+    let later : Refuses e a (length {A = ℕ} (replicate count 0)) =
+    past-more w.name a.name _ _ e (ap (λ (v : Writing). v.name) invariant)
+    (λ large. omega (arith, large, more, long, length-append w.body (replicate (count - k) 0), length-append a.body (replicate count 0), length-replicate {A = ℕ} (count - k) 0, length-replicate {A = ℕ} count 0)) refused in
+    rw (is) later
 
 -- ---- a length that is put in front of what is written
 

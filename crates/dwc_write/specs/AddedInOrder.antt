@@ -1,13 +1,14 @@
 -- Units whose entries were added in file order: what they are to be, and what they say. (DWARF 4, section 2.3)
 use Rattle.std.specs.Prelude.{◌≡◌, ℕ, suc, ◌<◌, ◌≤◌, List, [], ◌∷◌, ◌++◌, map, length, get_or, Some}
-use Rattle.dwc_base.specs.Trees.{TreeValue, address, constant, flag, block, expression, text, line_table, ranges, entry, TreeEntry, Tree}
+use Rattle.dwc_base.specs.Trees.{TreeValue, address, constant, flag, block, expression, text, line_table, ranges, locations, entry, TreeEntry, Tree}
 use Rattle.dwc_write.specs.declared.attributes.Attribute.{Attribute}
 use Rattle.dwc_write.specs.declared.attributes.AttributeValue.{AttributeValue}
-use Rattle.dwc_write.specs.declared.attributes.AttributeValue.TheVariants.{Address, Constant, Flag, Block, Exprloc, StringRef, LineProgramRef, RangeListRef, UnitRef, DebugInfoRef}
+use Rattle.dwc_write.specs.declared.attributes.AttributeValue.TheVariants.{Address, Constant, Flag, Block, Exprloc, StringRef, LineProgramRef, RangeListRef, LocationListRef, UnitRef, DebugInfoRef}
 use Rattle.dwc_write.specs.declared.attributes.DebugInfoRef.TheVariants.{Entry}
 use Rattle.dwc_write.specs.GivenUnits.{Addition, GivenEntry, GivenUnit, entry_at, places_from}
 use Rattle.dwc_write.specs.FileOrders.{no_addition}
 use Rattle.dwc_write.specs.RangeLists.{interval_of}
+use Rattle.dwc_write.specs.Lists.{location_of}
 use Rattle.dwc_write.specs.UsedTexts.{text_numbered}
 
 -- ---- file order
@@ -53,6 +54,7 @@ value_meant texts number (Exprloc e) = expression e.bytes.items
 value_meant texts number (StringRef id) = text (text_numbered texts id.index)
 value_meant texts number LineProgramRef = line_table
 value_meant texts number (RangeListRef list) = ranges (map interval_of list.ranges.items)
+value_meant texts number (LocationListRef list) = locations (map location_of list.locations.items)
 value_meant texts number (UnitRef id) = entry number id.index
 value_meant texts number (DebugInfoRef (Entry unit id)) = entry unit.index id.index
 

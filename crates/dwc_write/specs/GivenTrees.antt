@@ -1,13 +1,14 @@
 -- Given units as trees: what their entries say with the texts of a table, without the spelling of a section.
 use Rattle.std.specs.Prelude.{ℕ, suc, ◌==◌, List, [], ◌∷◌, map, position, slice_get, Option, option_map, option_and_then}
-use Rattle.dwc_base.specs.Trees.{TreeValue, address, constant, flag, block, expression, text, line_table, ranges, TreeEntry, Tree}
+use Rattle.dwc_base.specs.Trees.{TreeValue, address, constant, flag, block, expression, text, line_table, ranges, locations, TreeEntry, Tree}
 use Rattle.dwc_base.specs.TreeReading.{entry_or_nothing}
 use Rattle.dwc_write.specs.declared.attributes.Attribute.{Attribute}
 use Rattle.dwc_write.specs.declared.attributes.AttributeValue.{AttributeValue}
-use Rattle.dwc_write.specs.declared.attributes.AttributeValue.TheVariants.{Address, Constant, Flag, Block, Exprloc, StringRef, LineProgramRef, RangeListRef, UnitRef, DebugInfoRef}
+use Rattle.dwc_write.specs.declared.attributes.AttributeValue.TheVariants.{Address, Constant, Flag, Block, Exprloc, StringRef, LineProgramRef, RangeListRef, LocationListRef, UnitRef, DebugInfoRef}
 use Rattle.dwc_write.specs.declared.attributes.DebugInfoRef.TheVariants.{Entry}
 use Rattle.dwc_write.specs.GivenUnits.{GivenEntry, OrderedUnit, place_of}
 use Rattle.dwc_write.specs.RangeLists.{interval_of}
+use Rattle.dwc_write.specs.Lists.{location_of}
 use Rattle.dwc_write.specs.UsedTexts.{text_numbered}
 
 -- the place of the entry of a number among the entries of its unit in file order; none where the number is only reserved
@@ -28,6 +29,7 @@ given_said texts us number u (Exprloc e) = expression e.bytes.items
 given_said texts us number u (StringRef id) = text (text_numbered texts id.index)
 given_said texts us number u LineProgramRef = line_table
 given_said texts us number u (RangeListRef list) = ranges (map interval_of list.ranges.items)
+given_said texts us number u (LocationListRef list) = locations (map location_of list.locations.items)
 given_said texts us number u (UnitRef id) = entry_or_nothing (option_map (λ place. (number, place)) (place_in_order u id.index))
 given_said texts us number u (DebugInfoRef (Entry unit id)) = entry_or_nothing (place_in_units us unit.index id.index)
 

@@ -3,19 +3,20 @@ use Rattle.std.specs.Prelude.{◌≡◌, ℕ, zero, suc, ◌^◌, ◌<◌, ◌�
 use Rattle.std.specs.List.{All, flat_map}
 use Rattle.std.specs.Int.{w64, cast_signed}
 use Rattle.dwc_base.specs.declared.constants.TheConstants.{DW_TAG_compile_unit, DW_AT_stmt_list, DW_FORM_data1, DW_FORM_data2, DW_FORM_data4, DW_FORM_data8, DW_FORM_sdata, DW_FORM_udata, DW_FORM_implicit_const}
-use Rattle.dwc_base.specs.declared.section_name.SectionName.TheVariants.{Line, Ranges}
+use Rattle.dwc_base.specs.declared.section_name.SectionName.TheVariants.{Line, Loc, Ranges}
 use Rattle.dwc_base.specs.Abbreviations.{AttributeSpec, Declaration}
-use Rattle.dwc_base.specs.Values.{is_expression_name, is_range_name}
+use Rattle.dwc_base.specs.Values.{is_expression_name, is_location_name, is_range_name}
 use Rattle.dwc_write.specs.declared.attributes.Attribute.{Attribute}
 use Rattle.dwc_write.specs.declared.abbreviations.AttributeForm.{AttributeForm}
 use Rattle.dwc_write.specs.declared.attributes.AttributeValue.{AttributeValue}
-use Rattle.dwc_write.specs.declared.attributes.AttributeValue.TheVariants.{Address, Constant, Flag, Block, Exprloc, StringRef, LineProgramRef, RangeListRef, UnitRef, DebugInfoRef}
+use Rattle.dwc_write.specs.declared.attributes.AttributeValue.TheVariants.{Address, Constant, Flag, Block, Exprloc, StringRef, LineProgramRef, RangeListRef, LocationListRef, UnitRef, DebugInfoRef}
 use Rattle.dwc_write.specs.declared.attributes.DebugInfoRef.TheVariants.{Entry}
 use Rattle.dwc_base.specs.NumberBytes.{uleb_bytes}
 use Rattle.dwc_write.specs.SpelledTables.{flag_of}
 use Rattle.dwc_write.specs.SpelledUnits.{Written, as_addr, as_data1, as_data2, as_data4, as_data8, as_udata, as_sdata, as_flag, as_block, as_exprloc, as_strp, as_ref4, as_ref_addr, as_sec_offset, form_number, WrittenAttribute, WrittenEntry}
-use Rattle.dwc_base.specs.declared.records.Address.{Address as RangeAddress}
-use Rattle.dwc_write.specs.RangeLists.{FitsRange, behind_attributes, pairs_of_attributes}
+use Rattle.dwc_write.specs.declared.list_places.ListPlaces.{ListPlaces}
+use Rattle.dwc_write.specs.RangeLists.{FitsRange}
+use Rattle.dwc_write.specs.Lists.{ListEntry, FitsLocation, IsShort, behind_attributes, lists_of_attributes, locations_in, no_lists}
 use Rattle.dwc_write.specs.Writers.{FitsField}
 use Rattle.dwc_write.specs.GivenLines.{GivenLines}
 
@@ -91,18 +92,19 @@ pub record Places : Type 0 where
 abbrev pub no_places : Places
 no_places = record { line = 0; entry = λ id. 0; entry_of = λ unit id. 0; text = λ id. 0 }
 
--- a value in a unit with some places, where the next range list stands at an offset
-abbrev pub written_of : Places → ℕ → AttributeValue → Written
-written_of places ranges (Address a) = as_addr a
-written_of places ranges (Constant form bits) = constant_of form bits
-written_of places ranges (Flag b) = as_flag b
-written_of places ranges (Block bytes) = as_block bytes.items
-written_of places ranges (Exprloc e) = as_exprloc e.bytes.items
-written_of places ranges (StringRef id) = as_strp (places.text id.index)
-written_of places ranges LineProgramRef = as_sec_offset Line places.line
-written_of places ranges (RangeListRef list) = as_sec_offset Ranges ranges
-written_of places ranges (UnitRef id) = as_ref4 (places.entry id.index)
-written_of places ranges (DebugInfoRef (Entry unit id)) = as_ref_addr (places.entry_of unit.index id.index)
+-- a value in a unit with some places, where the next lists stand at others
+abbrev pub written_of : Places → ListPlaces → AttributeValue → Written
+written_of places lists (Address a) = as_addr a
+written_of places lists (Constant form bits) = constant_of form bits
+written_of places lists (Flag b) = as_flag b
+written_of places lists (Block bytes) = as_block bytes.items
+written_of places lists (Exprloc e) = as_exprloc e.bytes.items
+written_of places lists (StringRef id) = as_strp (places.text id.index)
+written_of places lists LineProgramRef = as_sec_offset Line places.line
+written_of places lists (RangeListRef list) = as_sec_offset Ranges lists.ranges
+written_of places lists (LocationListRef list) = as_sec_offset Loc lists.locations
+written_of places lists (UnitRef id) = as_ref4 (places.entry id.index)
+written_of places lists (DebugInfoRef (Entry unit id)) = as_ref_addr (places.entry_of unit.index id.index)
 
 -- the forms of constants, and the numbers below which they can be
 abbrev pub is_constant_form : ℕ → Bool
@@ -111,8 +113,8 @@ is_constant_form form = (form == DW_FORM_data1) || ((form == DW_FORM_data2) || (
 abbrev pub constant_bound : ℕ → ℕ
 constant_bound form = if form == DW_FORM_data1 then 256 ^ 1 else (if form == DW_FORM_data2 then 256 ^ 2 else (if form == DW_FORM_data4 then 256 ^ 4 else 2 ^ 64))
 
--- A value fits its form, an address the unit's size, a block has no name of an expression, and a line table and a range list have names of
--- their own.
+-- A value fits its form, an address the unit's size, a block has no name of an expression, and a line table and lists have names of their
+-- own.
 abbrev pub FitsValue : ℕ → ℕ → AttributeValue → Type 0
 FitsValue size name (Address a) = FitsField size a
 FitsValue size name (Constant form bits) = (is_constant_form form ≡ true) × (bits < constant_bound form)
@@ -122,6 +124,7 @@ FitsValue size name (Exprloc e) = Unit {0}
 FitsValue size name (StringRef id) = Unit {0}
 FitsValue size name LineProgramRef = name ≡ DW_AT_stmt_list
 FitsValue size name (RangeListRef list) = (is_range_name name ≡ true) × All (FitsRange size) list.ranges.items
+FitsValue size name (LocationListRef list) = (is_location_name name ≡ true) × All (FitsLocation size) list.locations.items
 FitsValue size name (UnitRef id) = Unit {0}
 FitsValue size name (DebugInfoRef reference) = Unit {0}
 
@@ -296,7 +299,7 @@ pub record EntryShape : Type 0 where
   pub attributes : List AttributeForm
 
 abbrev pub form_of : Attribute → AttributeForm
-form_of a = record { name = a.name; form = form_number (written_of no_places 0 a.value) }
+form_of a = record { name = a.name; form = form_number (written_of no_places no_lists a.value) }
 
 abbrev pub forms_of : List Attribute → List AttributeForm
 forms_of xs = map form_of xs
@@ -356,18 +359,18 @@ shapes_in u = first_uses [] (shapes_of u.entries)
 
 -- ---- what is written of entries, with some places and the codes of some shapes
 
-abbrev pub written_attribute : Places → ℕ → Attribute → WrittenAttribute
-written_attribute places ranges a = record { name = a.name; value = written_of places ranges a.value }
+abbrev pub written_attribute : Places → ListPlaces → Attribute → WrittenAttribute
+written_attribute places lists a = record { name = a.name; value = written_of places lists a.value }
 
--- attributes of which the first range list stands at an offset, where it is given where the next one stands behind others
-abbrev pub written_attributes : (ℕ → List Attribute → ℕ) → Places → ℕ → List Attribute → List WrittenAttribute
-written_attributes next places ranges [] = []
-written_attributes next places ranges (a ∷ others) = written_attribute places ranges a ∷ written_attributes next places (next ranges (a ∷ [])) others
+-- attributes of which the first lists stand at some places, where it is given where the next ones stand behind others
+abbrev pub written_attributes : (ListPlaces → List Attribute → ListPlaces) → Places → ListPlaces → List Attribute → List WrittenAttribute
+written_attributes next places lists [] = []
+written_attributes next places lists (a ∷ others) = written_attribute places lists a ∷ written_attributes next places (next lists (a ∷ [])) others
 
-abbrev pub written_entries : (ℕ → List Attribute → ℕ) → Places → ℕ → List EntryShape → List GivenEntry → List WrittenEntry
-written_entries next places ranges shapes [] = []
-written_entries next places ranges shapes (e ∷ es) =
-    record { depth = e.depth; code = code_in shapes (shape_of e es); tag = e.tag; attributes = written_attributes next places ranges e.attributes } ∷ written_entries next places (next ranges e.attributes) shapes es
+abbrev pub written_entries : (ListPlaces → List Attribute → ListPlaces) → Places → ListPlaces → List EntryShape → List GivenEntry → List WrittenEntry
+written_entries next places lists shapes [] = []
+written_entries next places lists shapes (e ∷ es) =
+    record { depth = e.depth; code = code_in shapes (shape_of e es); tag = e.tag; attributes = written_attributes next places lists e.attributes } ∷ written_entries next places (next lists e.attributes) shapes es
 
 -- ---- the bytes of a shape: a declaration behind its code
 
@@ -381,15 +384,22 @@ shape_bytes s = uleb_bytes s.tag ++ ((flag_of s.has_children ∷ []) ++ (flat_ma
 abbrev pub IsPlainShape : EntryShape → Type 0
 IsPlainShape s = All (λ f. (f.form == DW_FORM_implicit_const) ≡ false) s.attributes
 
--- ---- the range lists of entries, one behind another in file order
+-- ---- the lists of entries of a kind, one behind another in file order
 
-abbrev pub pairs_of_entries : List GivenEntry → List (RangeAddress × ℕ)
-pairs_of_entries es = flat_map (λ e. pairs_of_attributes e.attributes) es
+abbrev pub lists_of_entries : (AttributeValue → List ListEntry) → List GivenEntry → List ListEntry
+lists_of_entries lists es = flat_map (λ e. lists_of_attributes lists e.attributes) es
 
--- where the next list stands behind those of entries
-abbrev pub behind_entries : ℕ → ℕ → List GivenEntry → ℕ
-behind_entries size place [] = place
-behind_entries size place (e ∷ es) = behind_entries size (behind_attributes size place e.attributes) es
+-- where the next lists stand behind those of entries
+abbrev pub behind_entries : ℕ → ListPlaces → List GivenEntry → ListPlaces
+behind_entries size places [] = places
+behind_entries size places (e ∷ es) = behind_entries size (behind_attributes size places e.attributes) es
 
-abbrev pub pairs_of_units : List OrderedUnit → List (RangeAddress × ℕ)
-pairs_of_units us = flat_map (λ u. pairs_of_entries u.entries) us
+abbrev pub lists_of_units : (AttributeValue → List ListEntry) → List OrderedUnit → List ListEntry
+lists_of_units lists us = flat_map (λ u. lists_of_entries lists u.entries) us
+
+-- The expressions of the location lists of entries, and of units, are short.
+abbrev pub HaveShortLists : List GivenEntry → Type 0
+HaveShortLists es = All (λ e. IsShort e.holds) (lists_of_entries locations_in es)
+
+abbrev pub AreShortUnits : List OrderedUnit → Type 0
+AreShortUnits us = All (λ u. HaveShortLists u.entries) us

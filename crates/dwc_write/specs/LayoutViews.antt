@@ -1,13 +1,12 @@
 -- Units that are laid out, as a writer keeps them.
-use Rattle.std.specs.Prelude.{◌≡◌, ℕ, ◌+◌, ◌<◌, ◌≤◌, List, length, map, get_or, Option, Some, None, Result, Ok, Err}
+use Rattle.std.specs.Prelude.{◌≡◌, ℕ, ◌+◌, ◌<◌, ◌≤◌, List, length, map, get_or, Option, Some, None, IsSomeAnd, Result, Ok, Err}
 use Rattle.std.specs.List.{All}
 use Rattle.dwc_base.specs.declared.section_name.SectionName.TheVariants.{Info}
-use Rattle.dwc_base.specs.declared.faults.Limit.TheVariants.{Section, Addend, Range}
 use Rattle.dwc_write.specs.declared.error.WriteError.{WriteError}
 use Rattle.dwc_write.specs.declared.error.WriteError.TheVariants.{TooLarge, OutOfMemory}
 use Rattle.dwc_write.specs.declared.layout.UnitLayout.{UnitLayout}
 use Rattle.dwc_write.specs.declared.entries.Spelling.{Spelling}
-use Rattle.dwc_write.specs.Writers.{most_bytes}
+use Rattle.dwc_write.specs.Writers.{IsPast, IsSizeRefusal, most_bytes, section_of}
 use Rattle.dwc_write.specs.GivenUnits.{GivenUnit, Places, in_file_order, ordered, shapes_in}
 use Rattle.dwc_write.specs.FileOrders.{looked_up}
 use Rattle.dwc_write.specs.Layouts.{UnitPlaces, AllPlaces, codes_of, places_in}
@@ -36,24 +35,16 @@ pub record IsLaidOut (u : GivenUnit) (l : UnitLayout) : Type 0 where
 abbrev pub Advances : Result ℕ WriteError → ℕ → ℕ → Type 0
 Advances (Ok end) place more = (end ≡ place + more) × (end ≤ most_bytes)
 Advances (Err OutOfMemory) place more = ⊥
-Advances (Err (TooLarge (Section name))) place more = (name ≡ Info) × (most_bytes < place + more)
-Advances (Err (TooLarge Addend)) place more = ⊥
-Advances (Err (TooLarge Range)) place more = ⊥
+Advances (Err (TooLarge what)) place more = IsSomeAnd (section_of what) (IsPast Info (place + more))
 
 -- the same, or want of memory
 abbrev pub AdvancesOrMemory : Result ℕ WriteError → ℕ → ℕ → Type 0
 AdvancesOrMemory (Ok end) place more = (end ≡ place + more) × (end ≤ most_bytes)
-AdvancesOrMemory (Err OutOfMemory) place more = Unit {0}
-AdvancesOrMemory (Err (TooLarge (Section name))) place more = (name ≡ Info) × (most_bytes < place + more)
-AdvancesOrMemory (Err (TooLarge Addend)) place more = ⊥
-AdvancesOrMemory (Err (TooLarge Range)) place more = ⊥
+AdvancesOrMemory (Err e) place more = IsSizeRefusal (IsPast Info (place + more)) e
 
 -- A refusal of a unit that is so long, or want of memory.
 abbrev pub IsTooLong : WriteError → ℕ → Type 0
-IsTooLong OutOfMemory size = Unit {0}
-IsTooLong (TooLarge (Section name)) size = (name ≡ Info) × (most_bytes < size)
-IsTooLong (TooLarge Addend) size = ⊥
-IsTooLong (TooLarge Range) size = ⊥
+IsTooLong e size = IsSizeRefusal (IsPast Info size) e
 
 -- the offset of an entry by its place in the order of addition, where it has one
 abbrev pub offset_known : List ℕ → Option ℕ → ℕ

@@ -8,16 +8,17 @@ use Rattle.dwc_write.specs.Spelled.{at_places}
 use Rattle.dwc_write.specs.SpelledTables.{table_bytes}
 use Rattle.dwc_write.specs.SpelledUnits.{WrittenEntry, shaped, entry_bytes, entries_bytes, header_length}
 use Rattle.dwc_write.specs.SpelledSections.{WrittenUnit, WrittenTable, lines_bytes}
-use Rattle.dwc_write.specs.RangeLists.{behind_attributes, nowhere, pairs_bytes}
+use Rattle.dwc_write.specs.declared.list_places.ListPlaces.{ListPlaces}
+use Rattle.dwc_write.specs.Lists.{behind_attributes, list_bytes, locations_in, no_lists, nowhere, ranges_in}
 use Rattle.dwc_write.specs.Writers.{most_bytes}
 use Rattle.dwc_write.specs.GivenLines.{GivenLines}
-use Rattle.dwc_write.specs.GivenUnits.{GivenEntry, OrderedUnit, Places, no_places, place_of, size_of, first_uses, shapes_of, shapes_in, numbered, written_entries, pairs_of_entries}
+use Rattle.dwc_write.specs.GivenUnits.{GivenEntry, OrderedUnit, Places, no_places, place_of, size_of, first_uses, shapes_of, shapes_in, numbered, written_entries, lists_of_entries}
 
 -- ---- the entries of a unit
 
 -- the entries of a unit while nothing has a place: they are as long as in the end
 abbrev pub unplaced : OrderedUnit → List WrittenEntry
-unplaced u = written_entries nowhere no_places 0 (shapes_in u) u.entries
+unplaced u = written_entries nowhere no_places no_lists (shapes_in u) u.entries
 
 -- the offsets of a unit's entries in it, in file order
 abbrev pub entry_offsets : Endian → ℕ → OrderedUnit → List ℕ
@@ -33,7 +34,7 @@ units_length order us = sum_by (unit_length order (size_of us)) us
 
 -- the codes of entries in file order
 abbrev pub codes_of : List GivenEntry → List ℕ
-codes_of es = map (λ e. e.code) (written_entries nowhere no_places 0 (first_uses [] (shapes_of es)) es)
+codes_of es = map (λ e. e.code) (written_entries nowhere no_places no_lists (first_uses [] (shapes_of es)) es)
 
 -- the offset of the entry that was added at a place, among entries in file order with their offsets; 0, where no entry begins,
 -- if there is none
@@ -86,21 +87,25 @@ pub record AreShort (p : Places) : Type 0 where
   pub entry_of : (unit id : ℕ) → p.entry_of unit id ≤ most_bytes
   pub text : (id : ℕ) → p.text id ≤ most_bytes
 
--- ---- what is written of units, whose abbreviation tables, line tables and range lists stand at offsets
+-- ---- what is written of units, whose abbreviation tables, line tables and lists stand at offsets
 
-abbrev pub written_unit : ℕ → ℕ → Places → ℕ → OrderedUnit → WrittenUnit
-written_unit size ranges places table_offset u = record { table_offset = table_offset; table = numbered 1 (shapes_in u); entries = written_entries (behind_attributes size) places ranges (shapes_in u) u.entries }
+abbrev pub written_unit : ℕ → ListPlaces → Places → ℕ → OrderedUnit → WrittenUnit
+written_unit size lists places table_offset u = record { table_offset = table_offset; table = numbered 1 (shapes_in u); entries = written_entries (behind_attributes size) places lists (shapes_in u) u.entries }
+
+-- where the lists stand of the unit behind one
+abbrev pub behind_unit : Endian → ℕ → ListPlaces → OrderedUnit → ListPlaces
+behind_unit order size lists u = record { ranges = lists.ranges + length (list_bytes order size (lists_of_entries ranges_in u.entries)); locations = lists.locations + length (list_bytes order size (lists_of_entries locations_in u.entries)) }
 
 -- its line table, where it has one
 abbrev pub written_lines : GivenLines → List WrittenTable
 written_lines g = elim g.address_size [ None ↦ [] | Some size ↦ record { directories = g.directories; files = g.files; sequences = g.sequences } ∷ [] ]
 
--- units among others, whose tables and range lists stand one behind another from three offsets on
-abbrev pub written_units : Endian → ℕ → AllPlaces → ℕ → ℕ → ℕ → List OrderedUnit → List WrittenUnit
-written_units order size all table_offset line_offset ranges [] = []
-written_units order size all table_offset line_offset ranges (u ∷ us) =
-    written_unit size ranges (places_in all (offsets_by_number order size u) line_offset) table_offset u
-    ∷ written_units order size all (table_offset + length (table_bytes (numbered 1 (shapes_in u)))) (line_offset + length (lines_bytes order size (written_lines u.lines))) (ranges + length (pairs_bytes order size (pairs_of_entries u.entries))) us
+-- units among others, whose tables and lists stand one behind another from some offsets on
+abbrev pub written_units : Endian → ℕ → AllPlaces → ℕ → ℕ → ListPlaces → List OrderedUnit → List WrittenUnit
+written_units order size all table_offset line_offset lists [] = []
+written_units order size all table_offset line_offset lists (u ∷ us) =
+    written_unit size lists (places_in all (offsets_by_number order size u) line_offset) table_offset u
+    ∷ written_units order size all (table_offset + length (table_bytes (numbered 1 (shapes_in u)))) (line_offset + length (lines_bytes order size (written_lines u.lines))) (behind_unit order size lists u) us
 
 abbrev pub written_tables : List OrderedUnit → List WrittenTable
 written_tables us = flat_map (λ u. written_lines u.lines) us

@@ -7,11 +7,13 @@ pub mod SpelledSections
 pub mod Writers
 pub mod GivenLines
 pub mod RangeLists
+pub mod Lists
 pub mod LineViews
 pub mod NameViews
 pub mod TextTables
 pub mod GivenUnits
 pub mod UsedTexts
+pub mod ShortLists
 pub mod Layouts
 pub mod UnitViews
 pub mod AttributePlaces

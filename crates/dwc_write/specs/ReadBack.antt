@@ -11,7 +11,8 @@ use Rattle.dwc_base.specs.Carried.{Unit, units, segments_of_unit}
 use Rattle.dwc_base.specs.Outputs.{OutputSection, output_sections}
 use Rattle.dwc_write.specs.declared.attributes.Attribute.{Attribute}
 use Rattle.dwc_write.specs.SpelledUnits.{written_value}
-use Rattle.dwc_write.specs.RangeLists.{behind_attributes}
+use Rattle.dwc_write.specs.declared.list_places.ListPlaces.{ListPlaces}
+use Rattle.dwc_write.specs.Lists.{behind_attributes}
 use Rattle.dwc_write.specs.SpelledLines.{WrittenSequence}
 use Rattle.dwc_write.specs.GivenLines.{GivenLines}
 use Rattle.dwc_write.specs.GivenUnits.{GivenEntry, OrderedUnit, Places, written_of}
@@ -44,27 +45,27 @@ pub record Contents : Type 0 where
 abbrev pub read_contents : Entry → Contents
 read_contents e = record { depth = e.depth; tag = e.tag; attributes = e.attributes }
 
--- the value of an attribute, in a unit with some places, where the next range list stands at an offset
-abbrev pub given_value : Places → ℕ → Attribute → ℕ × Value
-given_value places ranges a = (a.name, written_value a.name (written_of places ranges a.value))
+-- the value of an attribute, in a unit with some places, where the next lists stand at others
+abbrev pub given_value : Places → ListPlaces → Attribute → ℕ × Value
+given_value places lists a = (a.name, written_value a.name (written_of places lists a.value))
 
-abbrev pub given_values : (ℕ → List Attribute → ℕ) → Places → ℕ → List Attribute → List (ℕ × Value)
-given_values next places ranges [] = []
-given_values next places ranges (a ∷ others) = given_value places ranges a ∷ given_values next places (next ranges (a ∷ [])) others
+abbrev pub given_values : (ListPlaces → List Attribute → ListPlaces) → Places → ListPlaces → List Attribute → List (ℕ × Value)
+given_values next places lists [] = []
+given_values next places lists (a ∷ others) = given_value places lists a ∷ given_values next places (next lists (a ∷ [])) others
 
-abbrev pub given_contents : (ℕ → List Attribute → ℕ) → Places → ℕ → List GivenEntry → List Contents
-given_contents next places ranges [] = []
-given_contents next places ranges (e ∷ es) = record { depth = e.depth; tag = e.tag; attributes = given_values next places ranges e.attributes } ∷ given_contents next places (next ranges e.attributes) es
+abbrev pub given_contents : (ListPlaces → List Attribute → ListPlaces) → Places → ListPlaces → List GivenEntry → List Contents
+given_contents next places lists [] = []
+given_contents next places lists (e ∷ es) = record { depth = e.depth; tag = e.tag; attributes = given_values next places lists e.attributes } ∷ given_contents next places (next lists e.attributes) es
 
 -- ---- units
 
 -- A unit that is read is the one that was given, in version 4: its entries, and the sequences of its line program.
 pub record IsReadUnit (s : Sections) (u : OrderedUnit) (v : Unit) : Type 0 where
   pub places : Places
-  pub ranges : ℕ
+  pub lists : ListPlaces
   pub version : v.header.version ≡ 4
   pub address_size : v.header.address_size ≡ u.address_size
-  pub entries : map read_contents v.entries ≡ given_contents (behind_attributes u.address_size) places ranges u.entries
+  pub entries : map read_contents v.entries ≡ given_contents (behind_attributes u.address_size) places lists u.entries
   pub lines : segments_of_unit s v ≡ Ok (given_segments u.lines)
 
 -- Some sections hold, one to one and in order, the given units, and no others.

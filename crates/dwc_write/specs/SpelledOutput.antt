@@ -1,21 +1,23 @@
 -- The sections that are written of some units.
-use Rattle.std.specs.Prelude.{◌≡◌, ◌<◌, ◌⊎◌, ℕ, List, [], ◌∷◌, ◌++◌, length, Result, Ok, Err}
+use Rattle.std.specs.Prelude.{◌≡◌, ◌<◌, ◌⊎◌, ℕ, List, [], ◌∷◌, ◌++◌, length, false, Result, Ok, Err}
 use Rattle.dwc_base.specs.declared.records.Endian.{Endian}
 use Rattle.dwc_base.specs.declared.section_name.SectionName.{SectionName}
-use Rattle.dwc_base.specs.declared.section_name.SectionName.TheVariants.{Abbrev, Info, Line, Ranges, Str}
+use Rattle.dwc_base.specs.declared.section_name.SectionName.TheVariants.{Abbrev, Info, Line, Loc, Ranges, Str}
 use Rattle.dwc_base.specs.Sections.{section_text}
 use Rattle.dwc_base.specs.Outputs.{OutputRelocation, OutputSection}
 use Rattle.dwc_write.specs.declared.error.WriteError.{WriteError}
 use Rattle.dwc_write.specs.SpelledTables.{table_bytes}
 use Rattle.dwc_write.specs.SpelledSections.{WrittenUnit, placed_unit_bytes, tables_bytes, info_bytes, lines_bytes}
 use Rattle.dwc_write.specs.SpelledRelocations.{unit_relocations, info_relocations, lines_relocations}
-use Rattle.dwc_write.specs.GivenUnits.{GivenEntry, OrderedUnit, Places, size_of, first_uses, shapes_of, numbered, written_entries, pairs_of_entries, pairs_of_units}
-use Rattle.dwc_write.specs.RangeLists.{behind_attributes, pairs_bytes, pairs_relocations}
+use Rattle.dwc_write.specs.GivenUnits.{GivenEntry, OrderedUnit, Places, size_of, first_uses, shapes_of, numbered, written_entries, lists_of_entries, lists_of_units}
+use Rattle.dwc_write.specs.declared.attributes.AttributeValue.{AttributeValue}
+use Rattle.dwc_write.specs.declared.list_places.ListPlaces.{ListPlaces}
+use Rattle.dwc_write.specs.Lists.{ListEntry, behind_attributes, list_bytes, list_relocations, locations_in, no_lists, ranges_in}
 use Rattle.dwc_write.specs.UsedTexts.{strings_bytes, text_places}
 use Rattle.dwc_write.specs.Layouts.{AllPlaces, offsets_by_number, places_of_units, places_in, written_lines, written_unit, written_units, written_tables}
-use Rattle.dwc_write.specs.Writers.{Writing, Refuses, appended, most_bytes}
-use Rattle.dwc_write.specs.declared.error.WriteError.TheVariants.{TooLarge, OutOfMemory}
-use Rattle.dwc_base.specs.declared.faults.Limit.TheVariants.{Section, Addend, Range}
+use Rattle.dwc_base.specs.TreeLaws.{have_short_expressions}
+use Rattle.dwc_write.specs.GivenTrees.{given_trees}
+use Rattle.dwc_write.specs.Writers.{IsRefusalFor, IsSizeRefusal, Writing, Refuses, appended, most_bytes}
 
 -- a section, where it is not empty
 abbrev pub section_unless_empty : SectionName → List ℕ → List OutputRelocation → List OutputSection
@@ -24,7 +26,7 @@ section_unless_empty name (b ∷ bytes) relocations = record { name = section_te
 
 -- units among others that have some places, in their section
 abbrev pub units_placed : Endian → AllPlaces → List OrderedUnit → List WrittenUnit
-units_placed order places us = written_units order (size_of us) places 0 0 0 us
+units_placed order places us = written_units order (size_of us) places 0 0 no_lists us
 
 abbrev pub abbrev_bytes : Endian → AllPlaces → List OrderedUnit → List ℕ
 abbrev_bytes order places us = tables_bytes (units_placed order places us)
@@ -35,28 +37,30 @@ all_info_bytes order places us = info_bytes order (size_of us) (units_placed ord
 abbrev pub all_lines_bytes : Endian → List OrderedUnit → List ℕ
 all_lines_bytes order us = lines_bytes order (size_of us) (written_tables us)
 
--- the range lists of units, in the order in which their entries name them (DWARF 4, section 2.17.3)
-abbrev pub all_ranges_bytes : Endian → List OrderedUnit → List ℕ
-all_ranges_bytes order us = pairs_bytes order (size_of us) (pairs_of_units us)
+-- the lists of units of a kind, in the order in which their entries name them (DWARF 4, sections 2.17.3 and 2.6.2)
+abbrev pub all_lists_bytes : (AttributeValue → List ListEntry) → Endian → List OrderedUnit → List ℕ
+all_lists_bytes lists order us = list_bytes order (size_of us) (lists_of_units lists us)
 
-abbrev pub all_ranges_relocations : Endian → List OrderedUnit → List OutputRelocation
-all_ranges_relocations order us = pairs_relocations order (size_of us) 0 (pairs_of_units us)
+abbrev pub all_lists_relocations : (AttributeValue → List ListEntry) → Endian → List OrderedUnit → List OutputRelocation
+all_lists_relocations lists order us = list_relocations order (size_of us) 0 (lists_of_units lists us)
 
 -- the bytes of a section with units
 abbrev pub bytes_of : Endian → AllPlaces → List OrderedUnit → SectionName → List ℕ
 bytes_of order places us Abbrev = abbrev_bytes order places us
 bytes_of order places us Info = all_info_bytes order places us
 bytes_of order places us Line = all_lines_bytes order us
-bytes_of order places us Ranges = all_ranges_bytes order us
+bytes_of order places us Ranges = all_lists_bytes ranges_in order us
+bytes_of order places us Loc = all_lists_bytes locations_in order us
 bytes_of order places us name = []
 
--- abbreviations, entries, line tables, range lists and texts, in this order
+-- abbreviations, entries, line tables, range lists, location lists and texts, in this order
 abbrev pub sections_placed : Endian → AllPlaces → List ℕ → List OrderedUnit → List OutputSection
 sections_placed order places strings us =
     section_unless_empty Abbrev (abbrev_bytes order places us) []
     ++ (section_unless_empty Info (all_info_bytes order places us) (info_relocations order (size_of us) 0 (units_placed order places us))
     ++ (section_unless_empty Line (all_lines_bytes order us) (lines_relocations order (size_of us) 0 (written_tables us))
-    ++ (section_unless_empty Ranges (all_ranges_bytes order us) (all_ranges_relocations order us) ++ section_unless_empty Str strings [])))
+    ++ (section_unless_empty Ranges (all_lists_bytes ranges_in order us) (all_lists_relocations ranges_in order us)
+    ++ (section_unless_empty Loc (all_lists_bytes locations_in order us) (all_lists_relocations locations_in order us) ++ section_unless_empty Str strings []))))
 
 -- the places of all units, and of the texts of a table that they name
 abbrev pub all_places : Endian → List (List ℕ) → List OrderedUnit → AllPlaces
@@ -73,15 +77,15 @@ section_bytes order texts us name = bytes_of order (all_places order texts us) u
 -- ---- what the calls within a writer say
 
 -- A unit is written into both sections, or one of them refuses it.
-abbrev pub unit_of : ℕ → ℕ → ℕ → Places → List GivenEntry → WrittenUnit
-unit_of size ranges table_offset places es = record { table_offset = table_offset; table = numbered 1 (first_uses [] (shapes_of es)); entries = written_entries (behind_attributes size) places ranges (first_uses [] (shapes_of es)) es }
+abbrev pub unit_of : ℕ → ListPlaces → ℕ → Places → List GivenEntry → WrittenUnit
+unit_of size lists table_offset places es = record { table_offset = table_offset; table = numbered 1 (first_uses [] (shapes_of es)); entries = written_entries (behind_attributes size) places lists (first_uses [] (shapes_of es)) es }
 
-abbrev pub WritesUnit : Writing → Writing → Writing → Writing → Result (Unit {0}) WriteError → ℕ → ℕ → Places → List GivenEntry → Type 0
-WritesUnit abbrev_old abbrev_new info_old info_new (Ok done) size ranges places es =
-    (abbrev_new ≡ appended (table_bytes (unit_of size ranges (length abbrev_old.body) places es).table) [] abbrev_old)
-    × (info_new ≡ appended (placed_unit_bytes info_old.order size (unit_of size ranges (length abbrev_old.body) places es)) (unit_relocations info_old.order size (length info_old.body) (unit_of size ranges (length abbrev_old.body) places es)) info_old)
-WritesUnit abbrev_old abbrev_new info_old info_new (Err e) size ranges places es =
-    Refuses e abbrev_old (length (table_bytes (unit_of size ranges (length abbrev_old.body) places es).table)) ⊎ Refuses e info_old (length (placed_unit_bytes info_old.order size (unit_of size ranges (length abbrev_old.body) places es)))
+abbrev pub WritesUnit : Writing → Writing → Writing → Writing → Result (Unit {0}) WriteError → ℕ → ListPlaces → Places → List GivenEntry → Type 0
+WritesUnit abbrev_old abbrev_new info_old info_new (Ok done) size lists places es =
+    (abbrev_new ≡ appended (table_bytes (unit_of size lists (length abbrev_old.body) places es).table) [] abbrev_old)
+    × (info_new ≡ appended (placed_unit_bytes info_old.order size (unit_of size lists (length abbrev_old.body) places es)) (unit_relocations info_old.order size (length info_old.body) (unit_of size lists (length abbrev_old.body) places es)) info_old)
+WritesUnit abbrev_old abbrev_new info_old info_new (Err e) size lists places es =
+    Refuses e abbrev_old (length (table_bytes (unit_of size lists (length abbrev_old.body) places es).table)) ⊎ Refuses e info_old (length (placed_unit_bytes info_old.order size (unit_of size lists (length abbrev_old.body) places es)))
 
 -- the sections of units as they are written
 pub record WrittenSections : Type 0 where
@@ -89,21 +93,39 @@ pub record WrittenSections : Type 0 where
   pub info_section : Writing
   pub line_section : Writing
   pub ranges_section : Writing
+  pub locations_section : Writing
 
 -- the places in a unit among others, whose line table stands behind what is there
 abbrev pub places_there : AllPlaces → WrittenSections → OrderedUnit → Places
 places_there places w u = places_in places (offsets_by_number w.info_section.order u.address_size u) (length w.line_section.body)
 
--- a unit with its line table and its range lists behind what is there
+-- where lists stand behind what is there
+abbrev pub lists_there : WrittenSections → ListPlaces
+lists_there w = record { ranges = length w.ranges_section.body; locations = length w.locations_section.body }
+
+-- a unit with its line table and its lists behind what is there
 abbrev pub unit_in : AllPlaces → WrittenSections → OrderedUnit → WrittenUnit
-unit_in places w u = written_unit u.address_size (length w.ranges_section.body) (places_there places w u) (length w.abbrev_section.body) u
+unit_in places w u = written_unit u.address_size (lists_there w) (places_there places w u) (length w.abbrev_section.body) u
+
+-- the bytes of its lists of a kind in their section, and the section with them
+abbrev pub lists_bytes : (AttributeValue → List ListEntry) → OrderedUnit → Writing → List ℕ
+lists_bytes lists u w = list_bytes w.order u.address_size (lists_of_entries lists u.entries)
+
+abbrev pub with_lists : (AttributeValue → List ListEntry) → OrderedUnit → Writing → Writing
+with_lists lists u w = appended (lists_bytes lists u w) (list_relocations w.order u.address_size (length w.body) (lists_of_entries lists u.entries)) w
+
+-- A unit's lists are written into both their sections, or one of these refuses them.
+abbrev pub WritesLists : Writing → Writing → Writing → Writing → Result (Unit {0}) WriteError → OrderedUnit → Type 0
+WritesLists ranges_old ranges_new locations_old locations_new (Ok done) u = (ranges_new ≡ with_lists ranges_in u ranges_old) × (locations_new ≡ with_lists locations_in u locations_old)
+WritesLists ranges_old ranges_new locations_old locations_new (Err e) u = Refuses e ranges_old (length (lists_bytes ranges_in u ranges_old)) ⊎ Refuses e locations_old (length (lists_bytes locations_in u locations_old))
 
 abbrev pub with_unit : AllPlaces → OrderedUnit → WrittenSections → WrittenSections
 with_unit places u w = record {
   abbrev_section = appended (table_bytes (unit_in places w u).table) [] w.abbrev_section;
   info_section = appended (placed_unit_bytes w.info_section.order u.address_size (unit_in places w u)) (unit_relocations w.info_section.order u.address_size (length w.info_section.body) (unit_in places w u)) w.info_section;
   line_section = appended (lines_bytes w.line_section.order u.address_size (written_lines u.lines)) (lines_relocations w.line_section.order u.address_size (length w.line_section.body) (written_lines u.lines)) w.line_section;
-  ranges_section = appended (pairs_bytes w.ranges_section.order u.address_size (pairs_of_entries u.entries)) (pairs_relocations w.ranges_section.order u.address_size (length w.ranges_section.body) (pairs_of_entries u.entries)) w.ranges_section;
+  ranges_section = with_lists ranges_in u w.ranges_section;
+  locations_section = with_lists locations_in u w.locations_section;
 }
 
 -- one of the sections refuses a unit
@@ -111,7 +133,8 @@ abbrev pub RefusesUnit : WriteError → AllPlaces → WrittenSections → Ordere
 RefusesUnit e places w u =
     Refuses e w.abbrev_section (length (table_bytes (unit_in places w u).table))
     ⊎ (Refuses e w.info_section (length (placed_unit_bytes w.info_section.order u.address_size (unit_in places w u)))
-    ⊎ (Refuses e w.line_section (length (lines_bytes w.line_section.order u.address_size (written_lines u.lines))) ⊎ Refuses e w.ranges_section (length (pairs_bytes w.ranges_section.order u.address_size (pairs_of_entries u.entries)))))
+    ⊎ (Refuses e w.line_section (length (lines_bytes w.line_section.order u.address_size (written_lines u.lines)))
+    ⊎ (Refuses e w.ranges_section (length (lists_bytes ranges_in u w.ranges_section)) ⊎ Refuses e w.locations_section (length (lists_bytes locations_in u w.locations_section)))))
 
 abbrev pub WritesOne : AllPlaces → WrittenSections → WrittenSections → Result (Unit {0}) WriteError → OrderedUnit → Type 0
 WritesOne places old new (Ok done) u = new ≡ with_unit places u old
@@ -125,25 +148,20 @@ with_units places [] w = w
 with_units places (u ∷ us) w = with_units places us (with_unit places u w)
 
 abbrev pub all_units : Endian → AllPlaces → List OrderedUnit → WrittenSections
-all_units order places us = with_units places us (record { abbrev_section = empty_section order Abbrev; info_section = empty_section order Info; line_section = empty_section order Line; ranges_section = empty_section order Ranges })
+all_units order places us = with_units places us (record { abbrev_section = empty_section order Abbrev; info_section = empty_section order Info; line_section = empty_section order Line; ranges_section = empty_section order Ranges; locations_section = empty_section order Loc })
 
 -- A refusal of all units that have some places: for want of memory, or for a section's size.
 abbrev pub IsRefusalAmong : Endian → AllPlaces → List OrderedUnit → WriteError → Type 0
-IsRefusalAmong order places us OutOfMemory = Unit {0}
-IsRefusalAmong order places us (TooLarge (Section name)) = most_bytes < length (bytes_of order places us name)
-IsRefusalAmong order places us (TooLarge Addend) = ⊥
-IsRefusalAmong order places us (TooLarge Range) = ⊥
+IsRefusalAmong order places us e = IsSizeRefusal (λ name. most_bytes < length (bytes_of order places us name)) e
 
--- A refusal of units and of the texts that they name.
+-- A refusal of units and of the texts that they name: for want of memory, for a section's size, or for an expression of a location list.
 abbrev pub IsRefusal : Endian → List (List ℕ) → List OrderedUnit → WriteError → Type 0
-IsRefusal order texts us OutOfMemory = Unit {0}
-IsRefusal order texts us (TooLarge (Section name)) = most_bytes < length (section_bytes order texts us name)
-IsRefusal order texts us (TooLarge Addend) = ⊥
-IsRefusal order texts us (TooLarge Range) = ⊥
+IsRefusal order texts us e = IsRefusalFor (have_short_expressions (given_trees texts us) ≡ false) (λ name. most_bytes < length (section_bytes order texts us name)) e
 
 abbrev pub sections_of : WrittenSections → Writing → List OutputSection
 sections_of w strings =
     section_unless_empty w.abbrev_section.name w.abbrev_section.body w.abbrev_section.relocations
     ++ (section_unless_empty w.info_section.name w.info_section.body w.info_section.relocations
     ++ (section_unless_empty w.line_section.name w.line_section.body w.line_section.relocations
-    ++ (section_unless_empty w.ranges_section.name w.ranges_section.body w.ranges_section.relocations ++ section_unless_empty strings.name strings.body strings.relocations)))
+    ++ (section_unless_empty w.ranges_section.name w.ranges_section.body w.ranges_section.relocations
+    ++ (section_unless_empty w.locations_section.name w.locations_section.body w.locations_section.relocations ++ section_unless_empty strings.name strings.body strings.relocations))))

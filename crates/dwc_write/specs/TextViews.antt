@@ -1,12 +1,11 @@
 -- Texts that are laid out, as a writer keeps them.
-use Rattle.std.specs.Prelude.{◌≡◌, ℕ, ◌+◌, ◌<◌, ◌≤◌, List, [], ◌∷◌, ◌++◌, length, Result, Ok, Err}
+use Rattle.std.specs.Prelude.{◌≡◌, ℕ, ◌+◌, ◌<◌, ◌≤◌, List, [], ◌∷◌, ◌++◌, length, IsSomeAnd, Result, Ok, Err}
 use Rattle.std.specs.List.{All}
 use Rattle.dwc_base.specs.declared.section_name.SectionName.TheVariants.{Str}
-use Rattle.dwc_base.specs.declared.faults.Limit.TheVariants.{Section, Addend, Range}
 use Rattle.dwc_write.specs.declared.error.WriteError.{WriteError}
 use Rattle.dwc_write.specs.declared.error.WriteError.TheVariants.{TooLarge, OutOfMemory}
 use Rattle.dwc_write.specs.declared.text_layout.TextLayout.{TextLayout}
-use Rattle.dwc_write.specs.Writers.{most_bytes}
+use Rattle.dwc_write.specs.Writers.{IsPast, IsSizeRefusal, most_bytes, section_of}
 use Rattle.dwc_write.specs.GivenUnits.{place_of}
 use Rattle.dwc_write.specs.UsedTexts.{place_of_text, texts_bytes, with_numbers}
 
@@ -20,18 +19,13 @@ pub record IsTextLayout (texts : List (List ℕ)) (l : TextLayout) : Type 0 wher
 
 -- A refusal of texts that are so long, or want of memory.
 abbrev pub IsTextRefusal : WriteError → ℕ → Type 0
-IsTextRefusal OutOfMemory size = Unit {0}
-IsTextRefusal (TooLarge (Section name)) size = (name ≡ Str) × (most_bytes < size)
-IsTextRefusal (TooLarge Addend) size = ⊥
-IsTextRefusal (TooLarge Range) size = ⊥
+IsTextRefusal e size = IsSizeRefusal (IsPast Str size) e
 
 -- A place is passed on by a text and its zero, or is refused as it would be past the most that `.debug_str` holds.
 abbrev pub BehindText : Result ℕ WriteError → ℕ → List ℕ → Type 0
 BehindText (Ok behind) place text = (behind ≡ place + length (text ++ (0 ∷ []))) × (behind ≤ most_bytes)
 BehindText (Err OutOfMemory) place text = ⊥
-BehindText (Err (TooLarge (Section name))) place text = (name ≡ Str) × (most_bytes < place + length (text ++ (0 ∷ [])))
-BehindText (Err (TooLarge Addend)) place text = ⊥
-BehindText (Err (TooLarge Range)) place text = ⊥
+BehindText (Err (TooLarge what)) place text = IsSomeAnd (section_of what) (IsPast Str (place + length (text ++ (0 ∷ []))))
 
 -- Texts of some numbers are used behind those that are, or are too long.
 abbrev pub UsesTexts : List (List ℕ) → TextLayout → TextLayout → Result (Unit {0}) WriteError → List ℕ → Type 0

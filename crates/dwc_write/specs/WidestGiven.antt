@@ -1,16 +1,16 @@
 -- How long the sections of given units can be at most, counted as `Widest` counts them: numbers of variable length have 10
 -- bytes and addresses 8, each entry has a declaration of its own, and each row all its instructions.
-use Rattle.std.specs.Prelude.{ℕ, ◌+◌, ◌*◌, ◌<◌, List, [], ◌∷◌, length, sum_by, nat_lt, if◌then◌else◌, Option, Some, None}
+use Rattle.std.specs.Prelude.{◌≡◌, ℕ, ◌+◌, ◌*◌, ◌<◌, List, [], ◌∷◌, length, sum_by, false, nat_lt, if◌then◌else◌, Option, Some, None}
 use Rattle.dwc_base.specs.declared.section_name.SectionName.{SectionName}
-use Rattle.dwc_base.specs.declared.section_name.SectionName.TheVariants.{Abbrev, Info, Line, Ranges}
+use Rattle.dwc_base.specs.declared.section_name.SectionName.TheVariants.{Abbrev, Info, Line, Loc, Ranges}
 use Rattle.dwc_base.specs.Widest.{variable_bytes, address_bytes, widest_declaration, widest_header, widest_image}
 use Rattle.dwc_base.specs.WidestTrees.{constant_bytes, pair_bytes, widest_of_trees}
 use Rattle.dwc_write.specs.declared.attributes.AttributeValue.{AttributeValue}
-use Rattle.dwc_write.specs.declared.attributes.AttributeValue.TheVariants.{Address, Constant, Flag, Block, Exprloc, StringRef, LineProgramRef, RangeListRef, UnitRef, DebugInfoRef}
+use Rattle.dwc_write.specs.declared.attributes.AttributeValue.TheVariants.{Address, Constant, Flag, Block, Exprloc, StringRef, LineProgramRef, RangeListRef, LocationListRef, UnitRef, DebugInfoRef}
 use Rattle.dwc_write.specs.declared.error.WriteError.{WriteError}
-use Rattle.dwc_write.specs.declared.error.WriteError.TheVariants.{TooLarge, OutOfMemory}
-use Rattle.dwc_base.specs.declared.faults.Limit.TheVariants.{Section, Addend, Range}
-use Rattle.dwc_write.specs.Writers.{most_bytes}
+use Rattle.dwc_base.specs.TreeLaws.{have_short_expressions}
+use Rattle.dwc_write.specs.Lists.{ListEntry, held_length, locations_in, ranges_in}
+use Rattle.dwc_write.specs.Writers.{IsRefusalFor, most_bytes}
 use Rattle.dwc_write.specs.GivenLines.{GivenLines}
 use Rattle.dwc_write.specs.GivenTrees.{given_trees}
 use Rattle.dwc_write.specs.GivenUnits.{GivenEntry, OrderedUnit, first_depth}
@@ -24,13 +24,17 @@ widest_value (Exprloc e) = variable_bytes + length e.bytes.items
 widest_value (StringRef id) = 4
 widest_value LineProgramRef = 4
 widest_value (RangeListRef list) = 4
+widest_value (LocationListRef list) = 4
 widest_value (UnitRef id) = 4
 widest_value (DebugInfoRef reference) = 4
 
--- a range list with its end
-abbrev pub widest_list : AttributeValue → ℕ
-widest_list (RangeListRef list) = length list.ranges.items * pair_bytes + pair_bytes
-widest_list _ = 0
+-- an entry of a list: two addresses, and its expression with a length of two bytes
+abbrev pub widest_listed : ListEntry → ℕ
+widest_listed e = pair_bytes + held_length e.holds
+
+-- the lists of a kind of an entry
+abbrev pub widest_lists : (AttributeValue → List ListEntry) → GivenEntry → ℕ
+widest_lists lists e = sum_by (λ a. sum_by widest_listed (lists a.value)) e.attributes
 
 -- a code and the values
 abbrev pub widest_entry : GivenEntry → ℕ
@@ -50,7 +54,8 @@ abbrev pub widest_unit : SectionName → OrderedUnit → ℕ
 widest_unit Abbrev u = sum_by (λ e. widest_declaration (length e.attributes)) u.entries + variable_bytes
 widest_unit Info u = 11 + (sum_by widest_entry u.entries + lists_of u.entries * variable_bytes)
 widest_unit Line u = widest_table_for u.lines.address_size u.lines
-widest_unit Ranges u = sum_by (λ e. sum_by (λ a. widest_list a.value) e.attributes) u.entries
+widest_unit Ranges u = sum_by (widest_lists ranges_in) u.entries
+widest_unit Loc u = sum_by (widest_lists locations_in) u.entries
 widest_unit name u = 0
 
 -- how long a section can be at most
@@ -62,9 +67,6 @@ abbrev pub widest_said : SectionName → List (List ℕ) → List OrderedUnit �
 widest_said Line texts us = widest_given Line us
 widest_said name texts us = widest_of_trees name (given_trees texts us)
 
--- A refusal of all units for want of memory, or for a section's widest size.
+-- A refusal of all units for want of memory, for a section's widest size, or for an expression of a location list.
 abbrev pub IsWideRefusal : List (List ℕ) → List OrderedUnit → WriteError → Type 0
-IsWideRefusal texts us OutOfMemory = Unit {0}
-IsWideRefusal texts us (TooLarge (Section name)) = most_bytes < widest_said name texts us
-IsWideRefusal texts us (TooLarge Addend) = ⊥
-IsWideRefusal texts us (TooLarge Range) = ⊥
+IsWideRefusal texts us e = IsRefusalFor (have_short_expressions (given_trees texts us) ≡ false) (λ name. most_bytes < widest_said name texts us) e

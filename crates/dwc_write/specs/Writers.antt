@@ -1,5 +1,5 @@
 -- A section that is being written, and what the calls of a writer do to it.
-use Rattle.std.specs.Prelude.{◌≡◌, ℕ, ◌+◌, ◌^◌, ◌-◌, ◌<◌, ◌≤◌, ◌⊎◌, pos, FitsSigned, List, [], ◌∷◌, ◌++◌, length, take, drop, Result, Ok, Err}
+use Rattle.std.specs.Prelude.{◌≡◌, ℕ, ◌+◌, ◌^◌, ◌-◌, ◌<◌, ◌≤◌, ◌⊎◌, pos, FitsSigned, List, [], ◌∷◌, ◌++◌, length, take, drop, Option, Some, None, IsSomeAnd, Result, Ok, Err}
 use Rattle.std.specs.List.{All}
 use Rattle.std.specs.Int.{w32, w64, cast_unsigned}
 use Rattle.dwc_base.specs.declared.records.Endian.{Endian}
@@ -10,7 +10,8 @@ use Rattle.dwc_base.specs.Sections.{section_text}
 use Rattle.dwc_base.specs.Outputs.{RelocationTarget, function, section, OutputRelocation, OutputSection}
 use Rattle.dwc_write.specs.declared.error.WriteError.{WriteError}
 use Rattle.dwc_write.specs.declared.error.WriteError.TheVariants.{TooLarge, OutOfMemory}
-use Rattle.dwc_base.specs.declared.faults.Limit.TheVariants.{Section, Addend, Range}
+use Rattle.dwc_base.specs.declared.faults.Limit.{Limit}
+use Rattle.dwc_base.specs.declared.faults.Limit.TheVariants.{Section, Expression}
 use Rattle.dwc_base.specs.NumberBytes.{number_bytes}
 
 -- the order of its numbers, its name, its bytes so far, and its relocations in the order of the calls
@@ -33,12 +34,33 @@ abbrev pub OkUnlessMemory : {A : Type 0} → Result A WriteError → (A → Type
 OkUnlessMemory (Ok x) P = P x
 OkUnlessMemory (Err e) P = e ≡ OutOfMemory
 
+-- the section whose size a limit is of, where it is of one
+abbrev pub section_of : Limit → Option SectionName
+section_of (Section name) = Some name
+section_of _ = None
+
+-- A refusal for want of memory, or for the size of a section of which this holds.
+abbrev pub IsSizeRefusal : (SectionName → Type 0) → WriteError → Type 0
+IsSizeRefusal P OutOfMemory = Unit {0}
+IsSizeRefusal P (TooLarge what) = IsSomeAnd (section_of what) P
+
+-- P holds of a section, where there is one, and else Q.
+abbrev pub HoldsOf : Type 0 → (SectionName → Type 0) → Option SectionName → Type 0
+HoldsOf Q P None = Q
+HoldsOf Q P (Some name) = P name
+
+-- The same refusal, or one for an expression of a location list, where Q holds.
+abbrev pub IsRefusalFor : Type 0 → (SectionName → Type 0) → WriteError → Type 0
+IsRefusalFor Q P OutOfMemory = Unit {0}
+IsRefusalFor Q P (TooLarge what) = HoldsOf ((what ≡ Expression) × Q) P (section_of what)
+
+-- Of a section of this name so many bytes are too many.
+abbrev pub IsPast : SectionName → ℕ → SectionName → Type 0
+IsPast own size name = (name ≡ own) × (most_bytes < size)
+
 -- A refusal to append so many bytes: for want of memory, or for what the section's size would be.
 abbrev pub Refuses : WriteError → Writing → ℕ → Type 0
-Refuses OutOfMemory w more = Unit {0}
-Refuses (TooLarge (Section name)) w more = (name ≡ w.name) × (most_bytes < length w.body + more)
-Refuses (TooLarge Addend) w more = ⊥
-Refuses (TooLarge Range) w more = ⊥
+Refuses e w more = IsSizeRefusal (IsPast w.name (length w.body + more)) e
 
 -- bytes and relocations behind what is there
 abbrev pub appended : List ℕ → List OutputRelocation → Writing → Writing

@@ -4,9 +4,10 @@ ghost use Rattle.std.specs.Ordering.{nat_cmp};
 ghost use Rattle.std.specs.BTreeMap.{get};
 ghost use Rattle.dwc_write.specs.SpelledUnits.{form_number};
 ghost use Rattle.dwc_write.specs.GivenUnits.{constant_of, no_places, set_attribute, written_of};
+ghost use Rattle.dwc_write.specs.Lists.{no_lists};
 ghost use Rattle.dwc_write.specs.AttributePlaces.{place_from};
 
-use crate::{RangeList, StringId, UnitEntryId, UnitId};
+use crate::{LocationList, RangeList, StringId, UnitEntryId, UnitId};
 use dwc_base::Address;
 use dwc_base::constants::{
     DW_FORM_addr, DW_FORM_block, DW_FORM_data1, DW_FORM_data2, DW_FORM_data4, DW_FORM_data8,
@@ -36,6 +37,8 @@ pub enum AttributeValue {
     LineProgramRef,
     /// A range list, by `DW_FORM_sec_offset`, under the names `DW_AT_ranges` and `DW_AT_start_scope`. Each stands once for each value.
     RangeListRef(RangeList),
+    /// A location list, by `DW_FORM_sec_offset`, under the names of location lists. Each stands once for each value.
+    LocationListRef(LocationList),
     /// An entry of the same unit, by `DW_FORM_ref4`. One that is only reserved is named by 0, where no entry begins.
     UnitRef(UnitEntryId),
     /// An entry of any unit, by `DW_FORM_ref_addr`.
@@ -199,7 +202,7 @@ fn place_in(attributes: &[Attribute], name: u16) -> Option<usize>
 
 // The form of a value.
 pub(crate) fn form_of(value: &AttributeValue) -> u16
-    ensures { result ≡ form_number (written_of no_places 0 value.now) }
+    ensures { result ≡ form_number (written_of no_places no_lists value.now) }
 {
     match value {
         AttributeValue::Address(_) => DW_FORM_addr,
@@ -210,6 +213,7 @@ pub(crate) fn form_of(value: &AttributeValue) -> u16
         AttributeValue::StringRef(_) => DW_FORM_strp,
         AttributeValue::LineProgramRef => DW_FORM_sec_offset,
         AttributeValue::RangeListRef(_) => DW_FORM_sec_offset,
+        AttributeValue::LocationListRef(_) => DW_FORM_sec_offset,
         AttributeValue::UnitRef(_) => DW_FORM_ref4,
         AttributeValue::DebugInfoRef(_) => DW_FORM_ref_addr,
     }

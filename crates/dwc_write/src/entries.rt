@@ -12,7 +12,7 @@ ghost use Rattle.dwc_write.specs.Layouts.{AreShort, codes_of, offset_in_section,
 ghost use Rattle.dwc_write.specs.UnitViews.{addition_view};
 ghost use Rattle.dwc_write.specs.ShapeViews.{shape_view};
 ghost use Rattle.dwc_write.specs.SpelledOutput.{WritesUnit};
-ghost use Rattle.dwc_write.specs.RangeLists.{behind_attributes};
+ghost use Rattle.dwc_write.specs.Lists.{AreWithin, behind_attributes as behind_all};
 ghost use Rattle.dwc_base.specs.declared.section_name.SectionName.TheVariants.{Abbrev};
 ghost use Rattle.dwc_write.specs.Writers.{Writes, most_bytes, offset_relocation};
 
@@ -21,7 +21,7 @@ use crate::append::{bytes_2, bytes_4, put_sized, put_sleb, put_uleb};
 use crate::attributes::Attribute;
 use crate::file_order::{FilePlace, depth_of_first};
 use crate::layout::UnitLayout;
-use crate::lists::{behind_attributes, behind_value};
+use crate::list_places::{ListPlaces, behind_attributes, behind_value};
 use crate::units::Entry;
 use crate::{
     AttributeValue, DebugInfoRef, StringId, UnitEntryId, UnitId, WriteError, WriterRelocate,
@@ -33,14 +33,14 @@ use dwc_base::{Endian, SectionName};
 use std::alloc::AllocError;
 
 // How the values of a unit are written: the order of bytes, the size of an address, and where what they name stands: the unit's
-// line table, its range lists with their end, its entries by their numbers, the entries of all units, and texts by their numbers.
+// line table, its lists with their ends, its entries by their numbers, the entries of all units, and texts by their numbers.
 #[derive(Clone, Copy)]
 pub struct Spelling<'a> {
     pub order: Endian,
     pub size: u8,
     pub line_offset: usize,
-    pub ranges: usize,
-    pub ranges_end: usize,
+    pub lists: ListPlaces,
+    pub lists_end: ListPlaces,
     pub offsets: &'a [usize],
     pub units: &'a [UnitLayout],
     pub texts: &'a [Option<usize>],
@@ -99,11 +99,11 @@ pub fn write_unit(
     requires size { (spelling.now.size ≡ 4) ⊎ (spelling.now.size ≡ 8) }
     requires short { AreShort (spelling_places spelling.now) }
     requires fits { All (FitsGivenEntry spelling.now.size) (map (looked_up (map addition_view entries.now)) layout.now.order.items) }
-    requires lists { behind_entries spelling.now.size spelling.now.ranges (map (looked_up (map addition_view entries.now)) layout.now.order.items) ≤ most_bytes }
+    requires lists { AreWithin (behind_entries spelling.now.size spelling.now.lists (map (looked_up (map addition_view entries.now)) layout.now.order.items)) }
     requires known { All (λ f. f.index < length entries.now) layout.now.order.items }
     requires codes { layout.now.codes.items ≡ codes_of (map (looked_up (map addition_view entries.now)) layout.now.order.items) }
     requires shapes { map shape_view layout.now.shapes.keys ≡ first_uses [] (shapes_of (map (looked_up (map addition_view entries.now)) layout.now.order.items)) }
-    ensures { WritesUnit tables.old tables.new info.old info.new result spelling.now.size spelling.now.ranges (spelling_places spelling.now) (map (looked_up (map addition_view entries.now)) layout.now.order.items) }
+    ensures { WritesUnit tables.old tables.new info.old info.new result spelling.now.size spelling.now.lists (spelling_places spelling.now) (map (looked_up (map addition_view entries.now)) layout.now.order.items) }
 {
     let place = info.place();
     write_header(info, spelling, tables.place())?;
@@ -152,21 +152,21 @@ fn write_entries(
     requires size { (spelling.now.size ≡ 4) ⊎ (spelling.now.size ≡ 8) }
     requires short { AreShort (spelling_places spelling.now) }
     requires fits { All (FitsGivenEntry spelling.now.size) (map (looked_up (map addition_view entries.now)) order.now) }
-    requires lists { behind_entries spelling.now.size spelling.now.ranges (map (looked_up (map addition_view entries.now)) order.now) ≤ most_bytes }
+    requires lists { AreWithin (behind_entries spelling.now.size spelling.now.lists (map (looked_up (map addition_view entries.now)) order.now)) }
     requires known { All (λ f. f.index < length entries.now) order.now }
     requires codes { codes.now ≡ codes_of (map (looked_up (map addition_view entries.now)) order.now) }
     ensures { Writes info.old info.new result
-        (flat_map (entry_bytes info.old.order spelling.now.size) (shaped (written_entries (behind_attributes spelling.now.size) (spelling_places spelling.now) spelling.now.ranges (first_uses [] (shapes_of (map (looked_up (map addition_view entries.now)) order.now))) (map (looked_up (map addition_view entries.now)) order.now))))
-        (entries_relocations info.old.order spelling.now.size (length info.old.body) (shaped (written_entries (behind_attributes spelling.now.size) (spelling_places spelling.now) spelling.now.ranges (first_uses [] (shapes_of (map (looked_up (map addition_view entries.now)) order.now))) (map (looked_up (map addition_view entries.now)) order.now)))) }
+        (flat_map (entry_bytes info.old.order spelling.now.size) (shaped (written_entries (behind_all spelling.now.size) (spelling_places spelling.now) spelling.now.lists (first_uses [] (shapes_of (map (looked_up (map addition_view entries.now)) order.now))) (map (looked_up (map addition_view entries.now)) order.now))))
+        (entries_relocations info.old.order spelling.now.size (length info.old.body) (shaped (written_entries (behind_all spelling.now.size) (spelling_places spelling.now) spelling.now.lists (first_uses [] (shapes_of (map (looked_up (map addition_view entries.now)) order.now))) (map (looked_up (map addition_view entries.now)) order.now)))) }
 {
-    let mut ranges = spelling.ranges;
+    let mut lists = spelling.lists;
     for i in 0..order.len() {
         let depth = order[i].depth;
         let entry = &entries[order[i].index];
         let attributes = entry.attributes.as_slice();
         let ends = depth.saturating_sub(depth_of_first(&order[i + 1..]));
-        write_entry(info, scratch, spelling, ranges, codes[i], attributes, ends)?;
-        ranges = behind_attributes(ranges, spelling.size, attributes);
+        write_entry(info, scratch, spelling, lists, codes[i], attributes, ends)?;
+        lists = behind_attributes(lists, spelling.size, attributes);
     }
     Ok(())
 }
@@ -176,7 +176,7 @@ pub fn write_entry(
     info: &mut WriterRelocate,
     scratch: &mut Vec<u8>,
     spelling: &Spelling<'_>,
-    ranges: usize,
+    lists: ListPlaces,
     code: u64,
     attributes: &[Attribute],
     ends: usize,
@@ -185,15 +185,15 @@ pub fn write_entry(
     requires size { (spelling.now.size ≡ 4) ⊎ (spelling.now.size ≡ 8) }
     requires short { AreShort (spelling_places spelling.now) }
     requires fits { All (FitsAttribute spelling.now.size) attributes.now }
-    requires lists { behind_attributes spelling.now.size ranges attributes.now ≤ most_bytes }
+    requires lists { AreWithin (behind_all spelling.now.size lists attributes.now) }
     ensures { Writes info.old info.new result
-        (uleb_bytes code ++ (flat_map (attribute_bytes info.old.order spelling.now.size) (written_attributes (behind_attributes spelling.now.size) (spelling_places spelling.now) ranges attributes.now) ++ replicate ends 0))
-        (values_relocations info.old.order spelling.now.size (length info.old.body + length (uleb_bytes code)) (written_attributes (behind_attributes spelling.now.size) (spelling_places spelling.now) ranges attributes.now)) }
+        (uleb_bytes code ++ (flat_map (attribute_bytes info.old.order spelling.now.size) (written_attributes (behind_all spelling.now.size) (spelling_places spelling.now) lists attributes.now) ++ replicate ends 0))
+        (values_relocations info.old.order spelling.now.size (length info.old.body + length (uleb_bytes code)) (written_attributes (behind_all spelling.now.size) (spelling_places spelling.now) lists attributes.now)) }
 {
     scratch.clear();
     put_uleb(scratch, code)?;
     info.put_bytes(scratch)?;
-    write_values(info, scratch, spelling, ranges, attributes)?;
+    write_values(info, scratch, spelling, lists, attributes)?;
     write_ends(info, ends)
 }
 
@@ -207,46 +207,46 @@ fn write_ends(info: &mut WriterRelocate, count: usize) -> Result<(), WriteError>
     Ok(())
 }
 
-// The values of attributes, one behind another. The first range list stands at an offset.
+// The values of attributes, one behind another. The first lists stand at some places.
 fn write_values(
     info: &mut WriterRelocate,
     scratch: &mut Vec<u8>,
     spelling: &Spelling<'_>,
-    ranges: usize,
+    lists: ListPlaces,
     attributes: &[Attribute],
 ) -> Result<(), WriteError>
     requires order { spelling.now.order ≡ info.old.order }
     requires size { (spelling.now.size ≡ 4) ⊎ (spelling.now.size ≡ 8) }
     requires short { AreShort (spelling_places spelling.now) }
     requires fits { All (FitsAttribute spelling.now.size) attributes.now }
-    requires lists { behind_attributes spelling.now.size ranges attributes.now ≤ most_bytes }
+    requires lists { AreWithin (behind_all spelling.now.size lists attributes.now) }
     ensures { Writes info.old info.new result
-        (flat_map (attribute_bytes info.old.order spelling.now.size) (written_attributes (behind_attributes spelling.now.size) (spelling_places spelling.now) ranges attributes.now))
-        (values_relocations info.old.order spelling.now.size (length info.old.body) (written_attributes (behind_attributes spelling.now.size) (spelling_places spelling.now) ranges attributes.now)) }
+        (flat_map (attribute_bytes info.old.order spelling.now.size) (written_attributes (behind_all spelling.now.size) (spelling_places spelling.now) lists attributes.now))
+        (values_relocations info.old.order spelling.now.size (length info.old.body) (written_attributes (behind_all spelling.now.size) (spelling_places spelling.now) lists attributes.now)) }
 {
-    let mut place = ranges;
+    let mut places = lists;
     for i in 0..attributes.len() {
         let value = &attributes[i].value;
-        write_value(info, scratch, spelling, place, value)?;
-        place = behind_value(place, spelling.size, value);
+        write_value(info, scratch, spelling, places, value)?;
+        places = behind_value(places, spelling.size, value);
     }
     Ok(())
 }
 
-// A value in its form; a range list stands at an offset.
+// A value in its form; a list stands at a place of its kind.
 fn write_value(
     info: &mut WriterRelocate,
     scratch: &mut Vec<u8>,
     spelling: &Spelling<'_>,
-    ranges: usize,
+    lists: ListPlaces,
     value: &AttributeValue,
 ) -> Result<(), WriteError>
     requires order { spelling.now.order ≡ info.old.order }
     requires size { (spelling.now.size ≡ 4) ⊎ (spelling.now.size ≡ 8) }
     requires short { AreShort (spelling_places spelling.now) }
     requires fits { FitsOperand spelling.now.size value.now }
-    requires lists { ranges ≤ most_bytes }
-    ensures { Writes info.old info.new result (written_bytes info.old.order spelling.now.size (written_of (spelling_places spelling.now) ranges value.now)) (value_relocations spelling.now.size (length info.old.body) (written_of (spelling_places spelling.now) ranges value.now)) }
+    requires lists { AreWithin lists }
+    ensures { Writes info.old info.new result (written_bytes info.old.order spelling.now.size (written_of (spelling_places spelling.now) lists value.now)) (value_relocations spelling.now.size (length info.old.body) (written_of (spelling_places spelling.now) lists value.now)) }
 {
     match value {
         AttributeValue::Address(address) => info.put_address(*address, spelling.size),
@@ -262,7 +262,8 @@ fn write_value(
             info.put_offset(spelling.text_offset_of(*id), SectionName::Str)
         }
         AttributeValue::LineProgramRef => info.put_offset(spelling.line_offset, SectionName::Line),
-        AttributeValue::RangeListRef(_) => info.put_offset(ranges, SectionName::Ranges),
+        AttributeValue::RangeListRef(_) => info.put_offset(lists.ranges, SectionName::Ranges),
+        AttributeValue::LocationListRef(_) => info.put_offset(lists.locations, SectionName::Loc),
         AttributeValue::UnitRef(id) => {
             info.put_bytes(&bytes_4(spelling.order, spelling.offset_of(*id) as u32))
         }

@@ -6,7 +6,8 @@ use thiserror::Error;
 /// Why something is not written.
 #[derive(Debug, Drop, Error)]
 pub enum WriteError {
-    /// A section would be longer than 2^31 - 1 bytes. The writer refuses for no other limit.
+    /// A section would be longer than 2^31 - 1 bytes, or an expression of a location list is longer than 65,535. The writer refuses for
+    /// no other limit.
     #[error("too large: {what:?}")]
     TooLarge { what: Limit },
     #[error("out of memory")]

@@ -7,7 +7,7 @@ ghost use Rattle.dwc_write.specs.FileOrders.{looked_up};
 ghost use Rattle.dwc_write.specs.GivenUnits.{Addition, AreWritable, FitsOrdered, first_uses, no_places, ordered, shapes_of, size_of, written_attributes, written_entries};
 ghost use Rattle.dwc_write.specs.LayoutViews.{Advances, AdvancesOrMemory, IsLaidOut, IsTooLong, offset_known, places_view};
 ghost use Rattle.dwc_write.specs.Layouts.{codes_of, offset_among, offsets_by_number, places_of_units, unit_length, units_length};
-ghost use Rattle.dwc_write.specs.RangeLists.{nowhere};
+ghost use Rattle.dwc_write.specs.Lists.{no_lists, nowhere};
 ghost use Rattle.dwc_write.specs.ShapeViews.{shape_view};
 ghost use Rattle.dwc_base.specs.NumberBytes.{uleb_bytes};
 ghost use Rattle.dwc_write.specs.Spelled.{at_places};
@@ -115,8 +115,8 @@ fn place_entries(
     requires offsets { coded.old.offsets.items ≡ [] }
     ensures shapes { OnOk result (map shape_view coded.new.shapes.keys ≡ first_uses [] (shapes_of (map (looked_up (map addition_view entries.now)) order.now))) }
     ensures codes { OnOk result (coded.new.codes.items ≡ codes_of (map (looked_up (map addition_view entries.now)) order.now)) }
-    ensures offsets { OnOk result ((o : Endian) → coded.new.offsets.items ≡ at_places (entry_bytes o size) (λ place x. place ∷ []) header_length (shaped (written_entries nowhere no_places 0 (first_uses [] (shapes_of (map (looked_up (map addition_view entries.now)) order.now))) (map (looked_up (map addition_view entries.now)) order.now)))) }
-    ensures end { (o : Endian) → AdvancesOrMemory result header_length (length (flat_map (entry_bytes o size) (shaped (written_entries nowhere no_places 0 (first_uses [] (shapes_of (map (looked_up (map addition_view entries.now)) order.now))) (map (looked_up (map addition_view entries.now)) order.now))))) }
+    ensures offsets { OnOk result ((o : Endian) → coded.new.offsets.items ≡ at_places (entry_bytes o size) (λ place x. place ∷ []) header_length (shaped (written_entries nowhere no_places no_lists (first_uses [] (shapes_of (map (looked_up (map addition_view entries.now)) order.now))) (map (looked_up (map addition_view entries.now)) order.now)))) }
+    ensures end { (o : Endian) → AdvancesOrMemory result header_length (length (flat_map (entry_bytes o size) (shaped (written_entries nowhere no_places no_lists (first_uses [] (shapes_of (map (looked_up (map addition_view entries.now)) order.now))) (map (looked_up (map addition_view entries.now)) order.now))))) }
 {
     let mut shape = Shape {
         tag: 0,
@@ -148,7 +148,7 @@ fn behind_entry(
 ) -> Result<usize, WriteError>
     requires place { place ≤ most_bytes }
     requires size { (size ≡ 4) ⊎ (size ≡ 8) }
-    ensures { (order : Endian) → Advances result place (length (uleb_bytes code ++ (flat_map (attribute_bytes order size) (written_attributes nowhere no_places 0 attributes.now) ++ replicate {A = ℕ} ends 0))) }
+    ensures { (order : Endian) → Advances result place (length (uleb_bytes code ++ (flat_map (attribute_bytes order size) (written_attributes nowhere no_places no_lists attributes.now) ++ replicate {A = ℕ} ends 0))) }
 {
     let behind_code = advanced(place, usize::from(uleb_length(code)))?;
     let behind_values = behind_values(behind_code, size, attributes)?;
@@ -159,7 +159,7 @@ fn behind_entry(
 fn behind_values(place: usize, size: u8, attributes: &[Attribute]) -> Result<usize, WriteError>
     requires place { place ≤ most_bytes }
     requires size { (size ≡ 4) ⊎ (size ≡ 8) }
-    ensures { (order : Endian) → Advances result place (length (flat_map (attribute_bytes order size) (written_attributes nowhere no_places 0 attributes.now))) }
+    ensures { (order : Endian) → Advances result place (length (flat_map (attribute_bytes order size) (written_attributes nowhere no_places no_lists attributes.now))) }
 {
     let mut behind = place;
     for i in 0..attributes.len() {

@@ -1,17 +1,19 @@
-//! Range lists, as they are given and as they are written. (DWARF 4, section 2.17.3.)
-ghost use Rattle.std.specs.Prelude.{◌≡◌, ◌≤◌, ◌<◌, ◌⊎◌, ◌+ℤ◌, pos, length, map, FitsSigned};
+//! Range lists and location lists, as they are given and as they are written. (DWARF 4, sections 2.17.3 and 2.6.2.)
+ghost use Rattle.std.specs.Prelude.{◌≡◌, ◌≤◌, ◌<◌, ◌⊎◌, ◌^◌, ◌+ℤ◌, [], Some, pos, length, map, option_map, FitsSigned};
 ghost use Rattle.std.specs.Int.{w64};
 ghost use Rattle.std.specs.List.{All};
 ghost use Rattle.dwc_write.specs.FileOrders.{looked_up};
-ghost use Rattle.dwc_write.specs.GivenUnits.{FitsAttribute, FitsEntry as FitsGivenEntry, pairs_of_entries};
+ghost use Rattle.dwc_write.specs.GivenUnits.{lists_of_entries};
 ghost use Rattle.dwc_write.specs.UnitViews.{addition_view};
-ghost use Rattle.dwc_write.specs.RangeLists.{FitsEnds, behind_attributes as behind_all, behind_value as behind_one, pairs_of_attributes, pairs_of_value, FitsRange, address_behind as address_behind_by, pair_bytes, pair_relocations, pairs_bytes, pairs_of, pairs_relocations};
-ghost use Rattle.dwc_write.specs.Writers.{FitsField, Writes, most_bytes};
+ghost use Rattle.dwc_write.specs.Lists.{FitsListed, ended, held_bytes, held_length as length_held, list_bytes, list_relocations, listed_bytes, listed_relocations, lists_by, lists_of_attributes, ranges_in, locations_in};
+ghost use Rattle.dwc_write.specs.RangeLists.{address_behind as address_behind_by};
+ghost use Rattle.dwc_write.specs.Writers.{FitsField, Writes};
 
-use crate::attributes::Attribute;
+use crate::append::bytes_2;
+use crate::attributes::{Attribute, Expression};
 use crate::file_order::FilePlace;
 use crate::units::Entry;
-use crate::{AttributeValue, WriteError, WriterRelocate};
+use crate::{AttributeValue, WriteError, Writer, WriterRelocate};
 use dwc_base::Address;
 
 /// A range list: intervals of addresses in order, each by where it begins and how many bytes it has.
@@ -36,121 +38,254 @@ impl RangeList {
     }
 }
 
-/// Where the next list stands in `.debug_ranges` behind those of attributes, of which the first stands at a place.
-pub fn behind_attributes(place: usize, size: u8, attributes: &[Attribute]) -> usize
-    requires { behind_all size place attributes.now ≤ most_bytes }
-    ensures { result ≡ behind_all size place attributes.now }
-{
-    let mut next = place;
-    for i in 0..attributes.len() {
-        next = behind_value(next, size, &attributes[i].value);
-    }
-    next
+/// A location list: intervals of addresses in order, each with the expression that holds there.
+#[derive(Debug, Drop)]
+pub struct LocationList {
+    locations: Vec<(Address, u64, Expression)>,
 }
 
-/// Where the next list stands behind that of a value, if it has one, which stands at a place.
-pub fn behind_value(place: usize, size: u8, value: &AttributeValue) -> usize
-    requires { behind_one size place value.now ≤ most_bytes }
-    ensures { result ≡ behind_one size place value.now }
-{
-    match value {
-        AttributeValue::RangeListRef(list) => {
-            place + 2 * usize::from(size) * (list.as_slice().len() + 1)
-        }
-        _ => place,
+impl LocationList {
+    /// The list of some intervals, each by where it begins and how many bytes it has.
+    pub fn new(locations: Vec<(Address, u64, Expression)>) -> LocationList
+        ensures { result ≡ record { locations = locations } }
+    {
+        LocationList { locations }
+    }
+
+    /// Its intervals with their expressions.
+    pub fn as_slice(&self) -> &[(Address, u64, Expression)]
+        ensures { result.now ≡ self.now.locations.items }
+    {
+        self.locations.as_slice()
     }
 }
 
-/// The lists of entries in file order, one behind another.
+/// An entry of a list, of either kind.
+pub trait Listed {
+    ghost use Rattle.std.specs.Prelude.{◌≡◌, option_map};
+    ghost use Rattle.dwc_write.specs.Lists.{ListEntry};
+
+    ghost listed: { Self → ListEntry };
+
+    /// Where it begins.
+    fn begin(&self) -> Address
+        ensures { result ≡ (listed self.now).begin };
+
+    /// How many bytes it has.
+    fn extent(&self) -> u64
+        ensures { result ≡ (listed self.now).extent };
+
+    /// The expression that holds there, in a location list.
+    fn expression(&self) -> Option<&[u8]>
+        ensures { option_map (λ bytes. bytes.now) result ≡ (listed self.now).holds };
+}
+
+impl Listed for (Address, u64) {
+    ghost use Rattle.dwc_write.specs.Lists.{range_entry};
+
+    ghost listed = { range_entry };
+
+    fn begin(&self) -> Address {
+        self.0
+    }
+
+    fn extent(&self) -> u64 {
+        self.1
+    }
+
+    fn expression(&self) -> Option<&[u8]> {
+        None
+    }
+}
+
+impl Listed for (Address, u64, Expression) {
+    ghost use Rattle.dwc_write.specs.Lists.{location_entry};
+
+    ghost listed = { location_entry };
+
+    fn begin(&self) -> Address {
+        self.0
+    }
+
+    fn extent(&self) -> u64 {
+        self.1
+    }
+
+    fn expression(&self) -> Option<&[u8]> {
+        Some(self.2.as_slice())
+    }
+}
+
+/// The two kinds of lists, each of which stands in a section of its own.
+#[derive(Clone, Copy)]
+pub enum ListKind {
+    Ranges,
+    Locations,
+}
+
+/// The lists of a kind of entries in file order, one behind another.
 pub fn write_lists(
-    ranges: &mut WriterRelocate,
+    lists: &mut WriterRelocate,
+    kind: ListKind,
     size: u8,
     entries: &[Entry],
     order: &[FilePlace],
 ) -> Result<(), WriteError>
     requires size { (size ≡ 4) ⊎ (size ≡ 8) }
-    requires fits { All (FitsGivenEntry size) (map (looked_up (map addition_view entries.now)) order.now) }
+    requires fits { All (FitsListed size) (lists_of_entries (lists_by kind) (map (looked_up (map addition_view entries.now)) order.now)) }
     requires known { All (λ f. f.index < length entries.now) order.now }
-    ensures { Writes ranges.old ranges.new result (pairs_bytes ranges.old.order size (pairs_of_entries (map (looked_up (map addition_view entries.now)) order.now))) (pairs_relocations ranges.old.order size (length ranges.old.body) (pairs_of_entries (map (looked_up (map addition_view entries.now)) order.now))) }
+    ensures { Writes lists.old lists.new result (list_bytes lists.old.order size (lists_of_entries (lists_by kind) (map (looked_up (map addition_view entries.now)) order.now))) (list_relocations lists.old.order size (length lists.old.body) (lists_of_entries (lists_by kind) (map (looked_up (map addition_view entries.now)) order.now))) }
 {
     for i in 0..order.len() {
         let entry = &entries[order[i].index];
-        write_lists_of(ranges, size, entry.attributes.as_slice())?;
+        write_lists_of(lists, kind, size, entry.attributes.as_slice())?;
     }
     Ok(())
 }
 
 // The lists of attributes.
 fn write_lists_of(
-    ranges: &mut WriterRelocate,
+    lists: &mut WriterRelocate,
+    kind: ListKind,
     size: u8,
     attributes: &[Attribute],
 ) -> Result<(), WriteError>
     requires size { (size ≡ 4) ⊎ (size ≡ 8) }
-    requires fits { All (FitsAttribute size) attributes.now }
-    ensures { Writes ranges.old ranges.new result (pairs_bytes ranges.old.order size (pairs_of_attributes attributes.now)) (pairs_relocations ranges.old.order size (length ranges.old.body) (pairs_of_attributes attributes.now)) }
+    requires fits { All (FitsListed size) (lists_of_attributes (lists_by kind) attributes.now) }
+    ensures { Writes lists.old lists.new result (list_bytes lists.old.order size (lists_of_attributes (lists_by kind) attributes.now)) (list_relocations lists.old.order size (length lists.old.body) (lists_of_attributes (lists_by kind) attributes.now)) }
 {
     for i in 0..attributes.len() {
-        write_list_of(ranges, size, &attributes[i])?;
+        write_list_of(lists, kind, size, &attributes[i].value)?;
     }
     Ok(())
 }
 
-// The list of an attribute, if it has one.
+// The list of a value, if it has one of this kind.
 fn write_list_of(
-    ranges: &mut WriterRelocate,
+    lists: &mut WriterRelocate,
+    kind: ListKind,
     size: u8,
-    attribute: &Attribute,
+    value: &AttributeValue,
 ) -> Result<(), WriteError>
     requires size { (size ≡ 4) ⊎ (size ≡ 8) }
-    requires fits { FitsAttribute size attribute.now }
-    ensures { Writes ranges.old ranges.new result (pairs_bytes ranges.old.order size (pairs_of_value attribute.now.value)) (pairs_relocations ranges.old.order size (length ranges.old.body) (pairs_of_value attribute.now.value)) }
+    requires fits { All (FitsListed size) (lists_by kind value.now) }
+    ensures { Writes lists.old lists.new result (list_bytes lists.old.order size (lists_by kind value.now)) (list_relocations lists.old.order size (length lists.old.body) (lists_by kind value.now)) }
 {
-    match &attribute.value {
-        AttributeValue::RangeListRef(list) => write_list(ranges, size, list),
+    match kind {
+        ListKind::Ranges => write_ranges_of(lists, size, value),
+        ListKind::Locations => write_locations_of(lists, size, value),
+    }
+}
+
+// The range list of a value, if it has one.
+fn write_ranges_of(
+    lists: &mut WriterRelocate,
+    size: u8,
+    value: &AttributeValue,
+) -> Result<(), WriteError>
+    requires size { (size ≡ 4) ⊎ (size ≡ 8) }
+    requires fits { All (FitsListed size) (ranges_in value.now) }
+    ensures { Writes lists.old lists.new result (list_bytes lists.old.order size (ranges_in value.now)) (list_relocations lists.old.order size (length lists.old.body) (ranges_in value.now)) }
+{
+    match value {
+        AttributeValue::RangeListRef(list) => write_list(lists, size, list.as_slice()),
         _ => Ok(()),
     }
 }
 
-/// A list, behind what is there: the ends of its intervals, and two zeros.
-pub fn write_list(ranges: &mut WriterRelocate, size: u8, list: &RangeList) -> Result<(), WriteError>
-    requires size { (size ≡ 4) ⊎ (size ≡ 8) }
-    requires fits { All (FitsRange size) list.now.ranges.items }
-    ensures { Writes ranges.old ranges.new result (pairs_bytes ranges.old.order size (pairs_of list.now.ranges.items)) (pairs_relocations ranges.old.order size (length ranges.old.body) (pairs_of list.now.ranges.items)) }
-{
-    write_intervals(ranges, size, list.as_slice())?;
-    write_pair(ranges, size, Address::Constant(0), 0)
-}
-
-// Intervals, one behind another.
-fn write_intervals(
-    ranges: &mut WriterRelocate,
+// The location list of a value, if it has one.
+fn write_locations_of(
+    lists: &mut WriterRelocate,
     size: u8,
-    intervals: &[(Address, u64)],
+    value: &AttributeValue,
 ) -> Result<(), WriteError>
     requires size { (size ≡ 4) ⊎ (size ≡ 8) }
-    requires fits { All (FitsRange size) intervals.now }
-    ensures { Writes ranges.old ranges.new result (pairs_bytes ranges.old.order size intervals.now) (pairs_relocations ranges.old.order size (length ranges.old.body) intervals.now) }
+    requires fits { All (FitsListed size) (locations_in value.now) }
+    ensures { Writes lists.old lists.new result (list_bytes lists.old.order size (locations_in value.now)) (list_relocations lists.old.order size (length lists.old.body) (locations_in value.now)) }
 {
-    for i in 0..intervals.len() {
-        write_pair(ranges, size, intervals[i].0, intervals[i].1)?;
+    match value {
+        AttributeValue::LocationListRef(list) => write_list(lists, size, list.as_slice()),
+        _ => Ok(()),
+    }
+}
+
+// A list, behind what is there: its entries, and two zeros.
+fn write_list<T: Listed>(
+    lists: &mut WriterRelocate,
+    size: u8,
+    entries: &[T],
+) -> Result<(), WriteError>
+    requires size { (size ≡ 4) ⊎ (size ≡ 8) }
+    requires fits { All (FitsListed size) (ended (map T.listed entries.now)) }
+    ensures { Writes lists.old lists.new result (list_bytes lists.old.order size (ended (map T.listed entries.now))) (list_relocations lists.old.order size (length lists.old.body) (ended (map T.listed entries.now))) }
+{
+    write_entries(lists, size, entries)?;
+    write_entry(lists, size, Address::Constant(0), 0, None)
+}
+
+// Entries of a list, one behind another.
+fn write_entries<T: Listed>(
+    lists: &mut WriterRelocate,
+    size: u8,
+    entries: &[T],
+) -> Result<(), WriteError>
+    requires size { (size ≡ 4) ⊎ (size ≡ 8) }
+    requires fits { All (FitsListed size) (map T.listed entries.now) }
+    ensures { Writes lists.old lists.new result (list_bytes lists.old.order size (map T.listed entries.now)) (list_relocations lists.old.order size (length lists.old.body) (map T.listed entries.now)) }
+{
+    for i in 0..entries.len() {
+        let entry = &entries[i];
+        write_entry(
+            lists,
+            size,
+            entry.begin(),
+            entry.extent(),
+            entry.expression(),
+        )?;
     }
     Ok(())
 }
 
-// Both ends of an interval.
-fn write_pair(
-    ranges: &mut WriterRelocate,
+// An entry: where it begins and where it ends, and its expression.
+fn write_entry(
+    lists: &mut WriterRelocate,
     size: u8,
     begin: Address,
     extent: u64,
+    expression: Option<&[u8]>,
 ) -> Result<(), WriteError>
     requires size { (size ≡ 4) ⊎ (size ≡ 8) }
-    requires fits { FitsEnds size (begin, extent) }
-    ensures { Writes ranges.old ranges.new result (pair_bytes ranges.old.order size (begin, extent)) (pair_relocations ranges.old.order size (length ranges.old.body) (begin, extent)) }
+    requires fits { FitsListed size (record { begin = begin; extent = extent; holds = option_map (λ bytes. bytes.now) expression }) }
+    ensures { Writes lists.old lists.new result
+        (listed_bytes lists.old.order size (record { begin = begin; extent = extent; holds = option_map (λ bytes. bytes.now) expression.entry }))
+        (listed_relocations lists.old.order size (length lists.old.body) (record { begin = begin; extent = extent; holds = option_map (λ bytes. bytes.now) expression.entry })) }
 {
-    ranges.put_address(begin, size)?;
-    ranges.put_address(address_behind(begin, extent, size), size)
+    lists.put_address(begin, size)?;
+    lists.put_address(address_behind(begin, extent, size), size)?;
+    match expression {
+        Some(bytes) => write_expression(lists, bytes),
+        None => Ok(()),
+    }
+}
+
+// An expression behind its length.
+fn write_expression(lists: &mut WriterRelocate, bytes: &[u8]) -> Result<(), WriteError>
+    requires { length bytes.now < 2 ^ 16 }
+    ensures { Writes lists.old lists.new result (held_bytes lists.old.order (Some bytes.now)) [] }
+{
+    let length = bytes_2(lists.endian(), bytes.len() as u16);
+    lists.put_bytes(&length)?;
+    lists.put_bytes(bytes)
+}
+
+/// How many bytes an expression takes with its length.
+pub fn held_length(expression: Option<&[u8]>) -> usize
+    ensures { result ≡ length_held (option_map (λ bytes. bytes.now) expression.entry) }
+{
+    match expression {
+        Some(bytes) => 2 + bytes.len(),
+        None => 0,
+    }
 }
 
 // The address that lies so many bytes behind another; both fit fields of a size.

@@ -1,21 +1,23 @@
 //! The sections of an output.
-ghost use Rattle.std.specs.Prelude.{◌≡◌, ◌<◌, ◌≤◌, ℕ, List, ◌++◌, get_or, length, OnOk, IfOk, IfErr, IsOkUnless, map};
+ghost use Rattle.std.specs.Prelude.{◌≡◌, ◌<◌, ◌≤◌, ◌↔◌, ℕ, List, ◌++◌, false, get_or, length, Err, OnOk, IfOk, IfErr, IsOkUnless, map};
 ghost use Rattle.dwc_base.specs.declared.records.Endian.{Endian};
 ghost use Rattle.std.specs.List.{All, AllZip};
 ghost use Rattle.dwc_base.specs.Carried.{units};
 ghost use Rattle.dwc_base.specs.Fields.{AreRelocated};
 ghost use Rattle.dwc_base.specs.OutputForm.{HasDistinctNames, HaveTargetForm};
 ghost use Rattle.dwc_base.specs.Outputs.{output_sections, section_view};
-ghost use Rattle.dwc_base.specs.TreeLaws.{HasTextsOnce};
+ghost use Rattle.dwc_base.specs.TreeLaws.{HasTextsOnce, have_short_expressions};
+ghost use Rattle.dwc_base.specs.declared.faults.Limit.TheVariants.{Expression};
 ghost use Rattle.dwc_base.specs.TreeReading.{CarriesTrees};
-ghost use Rattle.dwc_write.specs.declared.error.WriteError.TheVariants.{OutOfMemory};
+ghost use Rattle.dwc_write.specs.declared.error.WriteError.TheVariants.{OutOfMemory, TooLarge};
 ghost use Rattle.dwc_write.specs.GivenLines.{FitsLines};
 ghost use Rattle.dwc_write.specs.GivenTrees.{given_trees};
-ghost use Rattle.dwc_write.specs.GivenUnits.{AreWritable, FitsOrdered, ordered, size_of};
+ghost use Rattle.dwc_write.specs.GivenUnits.{AreShortUnits, AreWritable, FitsOrdered, HaveShortLists, ordered, size_of};
+ghost use Rattle.dwc_write.specs.Lists.{AreWithin};
 ghost use Rattle.dwc_write.specs.declared.layout.UnitLayout.{UnitLayout};
 ghost use Rattle.dwc_write.specs.LayoutViews.{IsLaidOut, places_view, whole_view};
 ghost use Rattle.dwc_write.specs.Layouts.{AreShort, offset_of_text, offsets_by_number, places_in, places_of_units, units_length};
-ghost use Rattle.dwc_write.specs.SpelledOutput.{IsRefusal, IsRefusalAmong, WritesOne, all_units, section_unless_empty, sections_of, spelled_sections};
+ghost use Rattle.dwc_write.specs.SpelledOutput.{IsRefusal, IsRefusalAmong, WritesLists, WritesOne, all_units, section_unless_empty, sections_of, spelled_sections};
 ghost use Rattle.dwc_write.specs.SpelledRelocations.{DoRelocationsRise};
 ghost use Rattle.dwc_write.specs.ReadBack.{ReadsBack};
 ghost use Rattle.dwc_write.specs.SectionViews.{sections_view};
@@ -25,11 +27,13 @@ ghost use Rattle.dwc_write.specs.Writers.{IsSound, most_bytes};
 
 use crate::entries::{Spelling, write_unit};
 use crate::layout::{UnitLayout, lay_out};
-use crate::lists::write_lists;
+use crate::list_places::ListPlaces;
+use crate::lists::{ListKind, write_lists};
+use crate::short_lists::have_short_lists;
 use crate::tables::write_lines;
 use crate::text_layout::{lay_out_texts, write_texts};
 use crate::{Dwarf, Unit, WriteError, WriterRelocate};
-use dwc_base::{DwarfSection, Endian, SectionName};
+use dwc_base::{DwarfSection, Endian, Limit, SectionName};
 use std::alloc::Global;
 
 // The sections as they are written.
@@ -39,11 +43,13 @@ pub(crate) struct Sections {
     pub(crate) info: WriterRelocate,
     pub(crate) line: WriterRelocate,
     pub(crate) ranges: WriterRelocate,
+    pub(crate) locations: WriterRelocate,
 }
 
-/// The sections `.debug_abbrev`, `.debug_info`, `.debug_line`, `.debug_ranges` and `.debug_str` of some units of version 4, in this
-/// order; those that are empty are left out. Each text that an entry names stands once, in the order of first use, and no other. `TooLarge` is answered only where a section would have more than 2^31 - 1 bytes, and
-/// `OutOfMemory` for want of memory. (DWARF 4, sections 6.2 and 7.5.)
+/// The sections `.debug_abbrev`, `.debug_info`, `.debug_line`, `.debug_ranges`, `.debug_loc` and `.debug_str` of some units of version 4,
+/// in this order; those that are empty are left out. Each text that an entry names stands once, in the order of first use, and no other.
+/// `TooLarge` is answered for an expression exactly where one of a location list has more than 65,535 bytes, which comes first, else for
+/// a section only where it would have more than 2^31 - 1 bytes, and `OutOfMemory` for want of memory. (DWARF 4, sections 2.6, 6.2 and 7.5.)
 pub fn write_sections(
     alloc: Global,
     dwarf: Dwarf,
@@ -60,11 +66,17 @@ pub fn write_sections(
     ensures form { IfOk result (λ s. (size : ℕ) → All (λ u. u.address_size ≡ size) dwarf.units.units.items → HaveTargetForm size (units (output_sections order (map section_view s.items))).items) }
     ensures names { IfOk result (λ s. HasDistinctNames (map section_view s.items)) }
     ensures relocated { IfOk result (λ s. AreRelocated order (map section_view s.items)) }
+    ensures expressions { (result ≡ Err (TooLarge Expression)) ↔ (have_short_expressions (given_trees dwarf.strings (map ordered dwarf.units.units.items)) ≡ false) }
     ensures large { IfErr result (λ e. IsRefusal order dwarf.strings (map ordered dwarf.units.units.items) e) }
     ensures widest { IfErr result (λ e. IsWideRefusal dwarf.strings (map ordered dwarf.units.units.items) e) }
 {
     let units = dwarf.units.units.as_slice();
     let texts = dwarf.strings.as_slice();
+    if !have_short_lists(units) {
+        return Err(WriteError::TooLarge {
+            what: Limit::Expression,
+        });
+    }
     let layouts = lay_out(alloc, units)?;
     let text_layout = lay_out_texts(alloc, units, &layouts, texts)?;
     let sections = write_units(alloc, order, units, &layouts, &text_layout.offsets)?;
@@ -85,6 +97,7 @@ fn write_units(
     requires placed { map places_view layouts.now ≡ places_of_units order (size_of (map ordered units.now)) 0 (map ordered units.now) }
     requires short { units_length order (map ordered units.now) ≤ most_bytes }
     requires texts { (id : ℕ) → offset_of_text texts.now id ≤ most_bytes }
+    requires expressions { AreShortUnits (map ordered units.now) }
     ensures ok { IfOk result (λ s. sections_view s ≡ all_units order (whole_view layouts.now texts.now) (map ordered units.now)) }
     ensures large { IfErr result (λ e. IsRefusalAmong order (whole_view layouts.now texts.now) (map ordered units.now) e) }
     ensures widest { IfErr result (λ e. (table : List (List ℕ)) → IsWideRefusal table (map ordered units.now) e) }
@@ -97,6 +110,7 @@ fn write_units(
         info: WriterRelocate::with_room(alloc, order, SectionName::Info, room)?,
         line: WriterRelocate::new(alloc, order, SectionName::Line)?,
         ranges: WriterRelocate::new(alloc, order, SectionName::Ranges)?,
+        locations: WriterRelocate::new(alloc, order, SectionName::Loc)?,
     };
     let mut scratch = Vec::new(alloc);
     for i in 0..units.len() {
@@ -137,6 +151,7 @@ fn write_one(
     requires laid { (d : UnitLayout) → IsLaidOut unit.now (get_or layouts.now place d) }
     requires offsets { (d : UnitLayout) → (get_or layouts.now place d).offsets.items ≡ offsets_by_number order unit.now.address_size (ordered unit.now) }
     requires short { (line : ℕ) → line ≤ most_bytes → AreShort (places_in (whole_view layouts.now texts.now) (offsets_by_number order unit.now.address_size (ordered unit.now)) line) }
+    requires expressions { HaveShortLists (ordered unit.now).entries }
     ensures bytes { WritesOne (whole_view layouts.now texts.now) (sections_view sections.old) (sections_view sections.new) result (ordered unit.now) }
     ensures fits { FitsOrdered (ordered unit.now) }
     ensures lines { FitsLines unit.now.lines }
@@ -145,14 +160,14 @@ fn write_one(
     let line_offset = sections.line.place();
     write_lines(&mut sections.line, scratch, order, size, &unit.lines)?;
     let layout = &layouts[place];
-    let ranges = sections.ranges.place();
-    write_lists(&mut sections.ranges, size, &unit.entries, &layout.order)?;
+    let lists = places_behind(&sections.ranges, &sections.locations);
+    write_unit_lists(&mut sections.ranges, &mut sections.locations, unit, layout)?;
     let spelling = Spelling {
         order,
         size,
         line_offset,
-        ranges,
-        ranges_end: sections.ranges.place(),
+        lists,
+        lists_end: places_behind(&sections.ranges, &sections.locations),
         offsets: &layout.offsets,
         units: layouts,
         texts,
@@ -167,6 +182,35 @@ fn write_one(
     )
 }
 
+// The lists of a unit, each kind in its section.
+fn write_unit_lists(
+    ranges: &mut WriterRelocate,
+    locations: &mut WriterRelocate,
+    unit: &Unit,
+    layout: &UnitLayout,
+) -> Result<(), WriteError>
+    requires laid { IsLaidOut unit.now layout.now }
+    requires short { HaveShortLists (ordered unit.now).entries }
+    ensures { WritesLists ranges.old ranges.new locations.old locations.new result (ordered unit.now) }
+{
+    let size = unit.address_size;
+    let entries = unit.entries.as_slice();
+    let order = layout.order.as_slice();
+    write_lists(ranges, ListKind::Ranges, size, entries, order)?;
+    write_lists(locations, ListKind::Locations, size, entries, order)
+}
+
+// Where lists stand behind what is there.
+fn places_behind(ranges: &WriterRelocate, locations: &WriterRelocate) -> ListPlaces
+    ensures places { result ≡ record { ranges = length ranges.now.body; locations = length locations.now.body } }
+    ensures short { AreWithin result }
+{
+    ListPlaces {
+        ranges: ranges.place(),
+        locations: locations.place(),
+    }
+}
+
 // The sections that are not empty.
 fn gather(
     alloc: Global,
@@ -174,7 +218,7 @@ fn gather(
     strings: WriterRelocate,
 ) -> Result<Vec<DwarfSection>, WriteError>
     ensures sections { IfOk result (λ s. map section_view s.items ≡ sections_of (sections_view sections) strings) }
-    ensures sound { (order : Endian) → sections.abbrev.order ≡ order → sections.info.order ≡ order → sections.line.order ≡ order → sections.ranges.order ≡ order → strings.order ≡ order → IfOk result (λ s. All (IsSound order) (map section_view s.items)) }
+    ensures sound { (order : Endian) → sections.abbrev.order ≡ order → sections.info.order ≡ order → sections.line.order ≡ order → sections.ranges.order ≡ order → sections.locations.order ≡ order → strings.order ≡ order → IfOk result (λ s. All (IsSound order) (map section_view s.items)) }
     ensures memory { IsOkUnless result OutOfMemory }
 {
     let Sections {
@@ -182,12 +226,14 @@ fn gather(
         info,
         line,
         ranges,
+        locations,
     } = sections;
-    let mut list = Vec::with_capacity(alloc, 5)?;
+    let mut list = Vec::with_capacity(alloc, 6)?;
     push_section(&mut list, abbrev)?;
     push_section(&mut list, info)?;
     push_section(&mut list, line)?;
     push_section(&mut list, ranges)?;
+    push_section(&mut list, locations)?;
     push_section(&mut list, strings)?;
     Ok(list)
 }

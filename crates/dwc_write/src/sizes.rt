@@ -2,6 +2,7 @@
 ghost use Rattle.std.specs.Prelude.{◌≡◌, ◌≤◌, ◌⊎◌, length, negsuc, pos};
 ghost use Rattle.dwc_base.specs.declared.records.Endian.{Endian};
 ghost use Rattle.dwc_write.specs.GivenUnits.{constant_of, no_places, written_of};
+ghost use Rattle.dwc_write.specs.Lists.{no_lists};
 ghost use Rattle.dwc_base.specs.NumberBytes.{sleb_bytes, uleb_bytes};
 ghost use Rattle.dwc_write.specs.Spelled.{block_bytes};
 ghost use Rattle.dwc_write.specs.SpelledUnits.{written_bytes};
@@ -59,7 +60,7 @@ fn sleb_length_from_0(value: u64) -> u8
 // How many bytes a value has, in a unit of a size of addresses.
 pub fn value_size(value: &AttributeValue, size: u8) -> usize
     requires { (size ≡ 4) ⊎ (size ≡ 8) }
-    ensures { (order : Endian) → result ≡ length (written_bytes order size (written_of no_places 0 value.now)) }
+    ensures { (order : Endian) → result ≡ length (written_bytes order size (written_of no_places no_lists value.now)) }
 {
     match value {
         AttributeValue::Address(_) => usize::from(size),
@@ -70,6 +71,7 @@ pub fn value_size(value: &AttributeValue, size: u8) -> usize
         AttributeValue::StringRef(_) => 4,
         AttributeValue::LineProgramRef => 4,
         AttributeValue::RangeListRef(_) => 4,
+        AttributeValue::LocationListRef(_) => 4,
         AttributeValue::UnitRef(_) => 4,
         AttributeValue::DebugInfoRef(_) => 4,
     }

@@ -1,12 +1,12 @@
 use Rattle.std.proofs.Common.{◌≡◌, drop}
 use Rattle.dwc_write.specs.LayoutViews.{spelling_places}
-use Rattle.dwc_write.specs.RangeLists.{behind_attributes}
+use Rattle.dwc_write.specs.Lists.{behind_attributes}
 use Rattle.dwc_write.proofs.EntriesLaws.{values_left}
 use Rattle.dwc_write.proofs.entries.write_values.Given as goal
 
--- what is there, with the values that are left, is the whole; the next range list stands behind the others
+-- what is there, with the values that are left, is the whole; the next lists stand behind the others
 abbrev pub invariant-loop-i : goal.invariant-loop-i
 invariant-loop-i l = record {
-  values : values_left l.spelling.size (spelling_places l.spelling) l.initial.info.order l.place (drop l.i l.attributes) l.info ≡ values_left l.spelling.size (spelling_places l.spelling) l.initial.info.order l.ranges l.attributes l.initial.info;
-  lists : behind_attributes l.spelling.size l.place (drop l.i l.attributes) ≡ behind_attributes l.spelling.size l.ranges l.attributes;
+  values : values_left l.spelling.size (spelling_places l.spelling) l.initial.info.order l.places (drop l.i l.attributes) l.info ≡ values_left l.spelling.size (spelling_places l.spelling) l.initial.info.order l.fn.lists l.attributes l.initial.info;
+  lists : behind_attributes l.spelling.size l.places (drop l.i l.attributes) ≡ behind_attributes l.spelling.size l.fn.lists l.attributes;
 }

@@ -8,7 +8,7 @@ use Rattle.dwc_write.specs.GivenUnits.{GivenEntry, first_depth, no_places, shape
 use Rattle.dwc_write.specs.FileOrders.{looked_up}
 use Rattle.dwc_write.specs.LayoutViews.{Advances}
 use Rattle.dwc_write.specs.UnitViews.{addition_view}
-use Rattle.dwc_write.specs.RangeLists.{nowhere}
+use Rattle.dwc_write.specs.Lists.{no_lists, nowhere}
 use Rattle.dwc_write.specs.ShapeViews.{shape_view}
 use Rattle.dwc_write.proofs.LayoutLaws.{advance-free}
 use Rattle.dwc_write.proofs.EntriesLaws.{entry_with, seen-more, step-more, step-refused}
@@ -26,7 +26,7 @@ loop-i-preserved c =
     let seen = entry-seen c.args.entries.now c.args.order.now c.loop-i.i c.index-entries-order.result c.loop-i-test.true c.requires.known c.index-entries-order.is in
     let next : c.depth_of_first-next.result ≡ first_depth behind = rw (take_rest, add-one) at (c.depth_of_first-next.ensures (map addition_view c.args.entries.now)) in
     let shape : shape_view c.set_shape.new.shape ≡ shape_of (f place) behind = rw (c.as_slice-attributes.ensures, next) at c.in_ok-set_shape.ensures ∙ ap (λ (e : GivenEntry). shape_of e behind) (sym seen) in
-    let P : Endian → GivenEntry → Type 0 = λ o e. c.in_ok-place.place ≡ c.loop-i.place + length (entry_bytes o c.args.size (entry_with nowhere no_places 0 c.in_ok-code.code e behind)) in
+    let P : Endian → GivenEntry → Type 0 = λ o e. c.in_ok-place.place ≡ c.loop-i.place + length (entry_bytes o c.args.size (entry_with nowhere no_places no_lists c.in_ok-code.code e behind)) in
     rw add-one
     (record {
       short = (c.in_ok-place.ensures Little).1;
@@ -47,7 +47,7 @@ returns-in_err-place-clause-end c = λ o.
     let next : c.depth_of_first-next.result ≡ first_depth behind = rw (take_rest, add-one) at (c.depth_of_first-next.ensures (map addition_view c.args.entries.now)) in
     let shape : shape_view c.set_shape.new.shape ≡ shape_of (f place) behind = rw (c.as_slice-attributes.ensures, next) at c.in_ok-set_shape.ensures ∙ ap (λ (e : GivenEntry). shape_of e behind) (sym seen) in
     let less = step-refused o c.args.size _ _ _ _ _ c.in_ok-code.code _ _ _ (f place) behind (rw (seen-more f c.args.order.now c.loop-i.i first_place c.loop-i-test.true) at (c.loop-i.invariant.step o)) (rw (shape) at c.in_ok-code.ensures.code) in
-    let P : GivenEntry → Type 0 = λ e. Advances (Err c.in_err-place.field-0.0) c.loop-i.place (length (entry_bytes o c.args.size (entry_with nowhere no_places 0 c.in_ok-code.code e behind))) in
+    let P : GivenEntry → Type 0 = λ e. Advances (Err c.in_err-place.field-0.0) c.loop-i.place (length (entry_bytes o c.args.size (entry_with nowhere no_places no_lists c.in_ok-code.code e behind))) in
     advance-free c.from_residual-in_err-place.result _ c.loop-i.place _ header_length _ p (subst P (sym seen) (rw (c.as_slice-attributes.ensures, c.saturating_sub.ensures, next) at (c.in_err-place.ensures o))) less
 
 pub returns-clause-shapes : goal.returns-clause-shapes

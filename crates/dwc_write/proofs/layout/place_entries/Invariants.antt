@@ -4,7 +4,7 @@ use Rattle.dwc_base.specs.declared.records.Endian.{Endian}
 use Rattle.dwc_write.specs.FileOrders.{looked_up}
 use Rattle.dwc_write.specs.GivenUnits.{first_uses, no_places, shapes_of, written_entries}
 use Rattle.dwc_write.specs.Layouts.{codes_of}
-use Rattle.dwc_write.specs.RangeLists.{nowhere}
+use Rattle.dwc_write.specs.Lists.{no_lists, nowhere}
 use Rattle.dwc_write.specs.ShapeViews.{shape_view}
 use Rattle.dwc_write.specs.Spelled.{at_places}
 use Rattle.dwc_write.specs.SpelledUnits.{entry_bytes, header_length, shaped}
@@ -18,7 +18,7 @@ abbrev pub invariant-loop-i : goal.invariant-loop-i
 invariant-loop-i l =
     let es = map (looked_up (map addition_view l.entries)) l.order in
     let uses = first_uses [] (shapes_of es) in
-    let all = shaped (written_entries nowhere no_places 0 uses es) in
+    let all = shaped (written_entries nowhere no_places no_lists uses es) in
     record {
       short : l.place ≤ most_bytes;
       step : (o : Endian) → IsStep o l.size (map shape_view l.coded.shapes.keys) uses l.coded.codes.items l.coded.offsets.items l.place (codes_of es) (at_places (entry_bytes o l.size) (λ place x. place ∷ []) header_length all) (header_length + length (flat_map (entry_bytes o l.size) all)) (map (looked_up (map addition_view l.entries)) (drop l.i l.order));

@@ -1,7 +1,7 @@
-use Rattle.dwc_base.specs.declared.records.Address.TheVariants.{Constant}
-use Rattle.dwc_write.proofs.PairLaws.{pair-behind}
+use Rattle.std.proofs.Common.{map}
+use Rattle.dwc_write.specs.Lists.{list_end}
+use Rattle.dwc_write.proofs.ListLaws.{entry-behind}
 use Rattle.dwc_write.proofs.lists.write_list.Goals as goal
 
 pub returns : goal.returns
-returns c =
-    pair-behind c.args.size c.args.list.now.ranges.items (Constant 0, 0) c.args.ranges.now c.write_intervals.new.ranges c.write_pair.new.ranges c.write_pair.result (rw (c.as_slice.ensures) at c.in_ok-write_intervals.ensures) c.write_pair.ensures
+returns g c = entry-behind c.args.size (map g.T.Listed.listed c.args.entries.now) list_end c.args.lists.now c.write_entries.new.lists c.write_entry.new.lists c.write_entry.result c.in_ok-write_entries.ensures c.write_entry.ensures

@@ -2,7 +2,7 @@ use Rattle.std.proofs.Common.{◌≡◌, ℕ, List, ◌<◌, ◌≤◌, ap, sym,
 use Rattle.std.proofs.lemmas.List.{length-map}
 use Rattle.std.proofs.lemmas.Result.{err_from_is_err_and}
 use Rattle.dwc_write.specs.GivenLines.{FitsLines}
-use Rattle.dwc_write.specs.GivenUnits.{GivenUnit, OrderedUnit, FitsOrdered, ordered, size_of}
+use Rattle.dwc_write.specs.GivenUnits.{GivenUnit, OrderedUnit, FitsOrdered, HaveShortLists, ordered, size_of}
 use Rattle.dwc_write.specs.SpelledOutput.{IsRefusalAmong, WrittenSections, with_unit}
 use Rattle.dwc_write.specs.LayoutViews.{IsLaidOut, whole_view}
 use Rattle.dwc_write.specs.Layouts.{offsets_by_number}
@@ -107,3 +107,12 @@ write_one-requires-clause-short c = λ line low.
       entry_of = λ unit id. omega (arith, total, places-short c.args.order (size_of us) 0 us unit id);
       text = c.requires.texts;
     })
+
+pub write_one-requires-clause-expressions : goal.write_one-requires-clause-expressions
+write_one-requires-clause-expressions c =
+    let us = map ordered c.args.units.now in
+    let u = c.index-units-i.result in
+    let within : c.loop-i.i < length us = omega (arith, c.loop-i-test.true, length-map c.args.units.now ordered) in
+    let one = unit-seen c.args.units.now c.loop-i.i u c.loop-i-test.true c.index-units-i.is in
+    let P : OrderedUnit → Type 0 = λ v. HaveShortLists v.entries in
+    subst P one (c.requires.expressions c.loop-i.i (ordered u) within)

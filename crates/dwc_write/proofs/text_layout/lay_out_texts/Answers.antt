@@ -8,7 +8,8 @@ use Rattle.dwc_write.specs.TextViews.{IsTextLayout, IsTextRefusal}
 use Rattle.dwc_write.specs.UsedTexts.{texts_bytes, texts_of_entries, with_numbers}
 use Rattle.dwc_write.proofs.LayoutLaws.{zip-at, zip-long}
 use Rattle.dwc_write.proofs.OrderedLaws.{unit-seen}
-use Rattle.dwc_write.proofs.TextLaws.{all-of-part, refused-here, using-more, option-cases, using-refused, using-start}
+use Rattle.dwc_write.proofs.ReadValues.{all-of-part}
+use Rattle.dwc_write.proofs.TextLaws.{refused-here, using-more, option-cases, using-refused, using-start}
 use Rattle.dwc_write.proofs.TextSets.{texts_of}
 use Rattle.dwc_write.proofs.text_layout.lay_out_texts.Goals as goal
 

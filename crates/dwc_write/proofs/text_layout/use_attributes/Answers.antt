@@ -1,7 +1,8 @@
 use Rattle.std.proofs.Common.{◌<◌, length}
 use Rattle.std.proofs.lemmas.Result.{err_from_is_err_and}
 use Rattle.dwc_write.specs.UsedTexts.{text_of_value}
-use Rattle.dwc_write.proofs.TextLaws.{all-of-part, using-exit, using-refused}
+use Rattle.dwc_write.proofs.ReadValues.{all-of-part}
+use Rattle.dwc_write.proofs.TextLaws.{using-exit, using-refused}
 use Rattle.dwc_write.proofs.TextSets.{texts_of}
 use Rattle.dwc_write.proofs.text_layout.use_attributes.Goals as goal
 

@@ -9,7 +9,8 @@ use Rattle.dwc_write.specs.TextViews.{IsTextLayout, IsTextRefusal}
 use Rattle.dwc_write.specs.UnitViews.{addition_view}
 use Rattle.dwc_write.specs.UsedTexts.{texts_bytes, texts_of_attributes, with_numbers}
 use Rattle.dwc_write.proofs.FileOrderLaws.{entry-seen, first_place}
-use Rattle.dwc_write.proofs.TextLaws.{all-of-part, using-exit, using-more, using-refused}
+use Rattle.dwc_write.proofs.ReadValues.{all-of-part}
+use Rattle.dwc_write.proofs.TextLaws.{using-exit, using-more, using-refused}
 use Rattle.dwc_write.proofs.TextSets.{texts_of}
 use Rattle.dwc_write.proofs.text_layout.use_entries.Goals as goal
 

@@ -1,0 +1,111 @@
+-- What the sections that are spelled hold, each read by its name: `sections-hold`.
+use Rattle.std.proofs.Common.{◌≡◌, ℕ, refl, sym, ap, ◌∙◌, List, [], ◌∷◌, ◌++◌, append-nil, Option, Some, None, Bool, true, false}
+use Rattle.std.specs.Prelude.{if◌then◌else◌, option_map}
+use Rattle.std.specs.List.{filter_map}
+use Rattle.std.specs.Option.{option_or, unwrap_or}
+use Rattle.std.specs.Str.{bytes_eq}
+use Rattle.dwc_base.specs.declared.records.Endian.{Endian}
+use Rattle.dwc_base.specs.declared.section_name.SectionName.{SectionName}
+use Rattle.dwc_base.specs.declared.section_name.SectionName.TheVariants.{Abbrev, Info, Line, Loc, Ranges, Str}
+use Rattle.dwc_base.specs.Sections.{Sections, section_text}
+use Rattle.dwc_base.specs.Outputs.{OutputRelocation, OutputSection, function_relocation, output_sections, section_named}
+use Rattle.dwc_write.specs.SpelledOutput.{section_unless_empty}
+
+-- ---- sections by their names
+
+-- a section, which is written where it is not empty
+record Part : Type 0 where
+  name : SectionName
+  body : List ℕ
+  relocations : List OutputRelocation
+
+abbrev part : SectionName → List ℕ → List OutputRelocation → Part
+part name body relocations = record { name = name; body = body; relocations = relocations }
+
+abbrev written : List Part → List OutputSection
+written [] = []
+written (p ∷ ps) = section_unless_empty p.name p.body p.relocations ++ written ps
+
+abbrev as_section : SectionName → List ℕ → List OutputRelocation → Option OutputSection
+as_section name [] rs = None
+as_section name (b ∷ bytes) rs = Some (record { name = section_text name; body = b ∷ bytes; relocations = rs })
+
+-- the first that is written under a name
+abbrev section_in : List Part → SectionName → Option OutputSection
+section_in [] name = None
+section_in (p ∷ ps) name = if bytes_eq (section_text p.name) (section_text name) then option_or (as_section p.name p.body p.relocations) (section_in ps name) else section_in ps name
+
+found : (ps : List Part) (name : SectionName) → section_named (section_text name) (written ps) ≡ section_in ps name
+found [] name = refl
+found (p ∷ ps) name = go p.body (found ps name)
+  where
+    none : (b : Bool) → section_in ps name ≡ (if b then option_or None (section_in ps name) else section_in ps name)
+    none true = refl
+    none false = refl
+
+    some : (b : Bool) (s : OutputSection) (o : Option OutputSection) → o ≡ section_in ps name → (if b then Some s else o) ≡ (if b then option_or (Some s) (section_in ps name) else section_in ps name)
+    some true s o others = refl
+    some false s o others = others
+
+    go : (body : List ℕ) → section_named (section_text name) (written ps) ≡ section_in ps name → section_named (section_text name) (section_unless_empty p.name body p.relocations ++ written ps) ≡ (if bytes_eq (section_text p.name) (section_text name) then option_or (as_section p.name body p.relocations) (section_in ps name) else section_in ps name)
+    go [] others = others ∙ none (bytes_eq (section_text p.name) (section_text name))
+    go (b ∷ bytes) others = some (bytes_eq (section_text p.name) (section_text name)) _ _ others
+
+-- ---- what six sections hold
+
+pub record Holds (order : Endian) (x y z v l w : List ℕ) (q r t k : List OutputRelocation) (s : Sections) : Type 0 where
+  pub abbrev_is : s.bytes Abbrev ≡ x
+  pub info_is : s.bytes Info ≡ y
+  pub line_is : s.bytes Line ≡ z
+  pub ranges_are : s.bytes Ranges ≡ v
+  pub locations_are : s.bytes Loc ≡ l
+  pub strings_are : s.bytes Str ≡ w
+  pub info_relocations_are : s.relocations Info ≡ filter_map function_relocation q
+  pub line_relocations_are : s.relocations Line ≡ filter_map function_relocation r
+  pub ranges_relocations_are : s.relocations Ranges ≡ filter_map function_relocation t
+  pub locations_relocations_are : s.relocations Loc ≡ filter_map function_relocation k
+
+abbrev bytes_in : Option OutputSection → List ℕ
+bytes_in o = unwrap_or (option_map (λ s. s.body) o) []
+
+bytes-are : (name : SectionName) (body : List ℕ) (rs : List OutputRelocation) → bytes_in (option_or (as_section name body rs) None) ≡ body
+bytes-are name [] rs = refl
+bytes-are name (b ∷ body) rs = refl
+
+relocations-are : (name : SectionName) (body : List ℕ) (rs : List OutputRelocation) → (body ≡ [] → rs ≡ [])
+    → unwrap_or (option_map (λ s. filter_map function_relocation s.relocations) (option_or (as_section name body rs) None)) [] ≡ filter_map function_relocation rs
+relocations-are name [] rs none = ap (filter_map function_relocation) (sym (none refl))
+relocations-are name (b ∷ body) rs none = refl
+
+module _ (order : Endian) (x y z v l w : List ℕ) (q r t k : List OutputRelocation) where
+  abbrev six : List Part
+  six = part Abbrev x [] ∷ part Info y q ∷ part Line z r ∷ part Ranges v t ∷ part Loc l k ∷ part Str w [] ∷ []
+
+  abbrev sections_of_six : List OutputSection
+  sections_of_six = section_unless_empty Abbrev x [] ++ (section_unless_empty Info y q ++ (section_unless_empty Line z r ++ (section_unless_empty Ranges v t ++ (section_unless_empty Loc l k ++ section_unless_empty Str w []))))
+
+  are-written : sections_of_six ≡ written six
+  are-written = ap (λ ss. section_unless_empty Abbrev x [] ++ (section_unless_empty Info y q ++ (section_unless_empty Line z r ++ (section_unless_empty Ranges v t ++ (section_unless_empty Loc l k ++ ss))))) (sym (append-nil (section_unless_empty Str w [])))
+
+  of-name : (name : SectionName) → section_named (section_text name) sections_of_six ≡ section_in six name
+  of-name name = ap (section_named (section_text name)) are-written ∙ found six name
+
+  bytes-of : (name : SectionName) (body : List ℕ) (rs : List OutputRelocation) → section_in six name ≡ option_or (as_section name body rs) None → (output_sections order sections_of_six).bytes name ≡ body
+  bytes-of name body rs is = ap bytes_in (of-name name ∙ is) ∙ bytes-are name body rs
+
+  relocations-of : (name : SectionName) (body : List ℕ) (rs : List OutputRelocation) → (body ≡ [] → rs ≡ []) → section_in six name ≡ option_or (as_section name body rs) None → (output_sections order sections_of_six).relocations name ≡ filter_map function_relocation rs
+  relocations-of name body rs none is = ap (λ o. unwrap_or (option_map (λ (s : OutputSection). filter_map function_relocation s.relocations) o) []) (of-name name ∙ is) ∙ relocations-are name body rs none
+
+  pub sections-hold : (y ≡ [] → q ≡ []) → (z ≡ [] → r ≡ []) → (v ≡ [] → t ≡ []) → (l ≡ [] → k ≡ []) → Holds order x y z v l w q r t k (output_sections order sections_of_six)
+  sections-hold info line ranges locations = record {
+    abbrev_is = bytes-of Abbrev x [] refl;
+    info_is = bytes-of Info y q refl;
+    line_is = bytes-of Line z r refl;
+    ranges_are = bytes-of Ranges v t refl;
+    locations_are = bytes-of Loc l k refl;
+    strings_are = bytes-of Str w [] refl;
+    info_relocations_are = relocations-of Info y q info refl;
+    line_relocations_are = relocations-of Line z r line refl;
+    ranges_relocations_are = relocations-of Ranges v t ranges refl;
+    locations_relocations_are = relocations-of Loc l k locations refl;
+  }

@@ -1,0 +1,67 @@
+//! Whether the expressions of location lists are short enough for lengths of two bytes, found before a byte is written. (DWARF 4,
+//! section 2.6.2.)
+ghost use Rattle.std.specs.Prelude.{◌≡◌};
+ghost use Rattle.std.specs.List.{list_all};
+ghost use Rattle.dwc_write.specs.GivenUnits.{ordered};
+ghost use Rattle.dwc_write.specs.ShortLists.{are_short_values, is_short_location, is_short_unit, is_short_value};
+
+use crate::AttributeValue;
+use crate::attributes::{Attribute, Expression};
+use crate::units::{Entry, Unit};
+use dwc_base::Address;
+
+/// Whether all expressions of the location lists of units are.
+pub fn have_short_lists(units: &[Unit]) -> bool
+    ensures { result ≡ list_all (λ u. is_short_unit (ordered u)) units.now }
+{
+    units.iter().all(|unit| has_short_entries(unit))
+}
+
+// Whether those of a unit are.
+fn has_short_entries(unit: &Unit) -> bool
+    ensures { result ≡ is_short_unit (ordered unit.now) }
+{
+    are_short_entries(&unit.entries)
+}
+
+// Whether those of entries are.
+fn are_short_entries(entries: &[Entry]) -> bool
+    ensures { result ≡ list_all (λ e. are_short_values e.attributes) entries.now }
+{
+    entries
+        .iter()
+        .all(|entry| has_short_values(entry.attributes.as_slice()))
+}
+
+// Whether those of attributes are.
+fn has_short_values(attributes: &[Attribute]) -> bool
+    ensures { result ≡ are_short_values attributes.now }
+{
+    attributes
+        .iter()
+        .all(|attribute| is_short_list(&attribute.value))
+}
+
+// Whether those of a value are.
+fn is_short_list(value: &AttributeValue) -> bool
+    ensures { result ≡ is_short_value value.now }
+{
+    match value {
+        AttributeValue::LocationListRef(list) => are_short(list.as_slice()),
+        _ => true,
+    }
+}
+
+// Whether those of intervals are.
+fn are_short(locations: &[(Address, u64, Expression)]) -> bool
+    ensures { result ≡ list_all is_short_location locations.now }
+{
+    locations.iter().all(|location| is_short(location))
+}
+
+// Whether that of an interval is.
+fn is_short(location: &(Address, u64, Expression)) -> bool
+    ensures { result ≡ is_short_location location.now }
+{
+    location.2.as_slice().len() < 1 << 16
+}
