@@ -1,19 +1,17 @@
 -- What is refused of bounds.
-use Rattle.std.proofs.Common.{◌≡◌, subst, ℕ, refl, sym, ap, ap₂, ◌∙◌, List, [], ◌∷◌, ◌++◌, Bool, true, false, Option, Some, None, Result, Ok, Err}
+use Rattle.std.proofs.Common.{◌≡◌, subst, ℕ, refl, sym, ap, ap₂, ◌∙◌, List, Bool, true, false, Option, Some, None, Result, Ok, Err}
 use Rattle.std.specs.Prelude.{not, ◌&&◌, ◌||◌, ◌==◌, if◌then◌else◌, option_map}
 use Rattle.std.specs.Option.{option_or}
-use Rattle.std.proofs.lemmas.List.Folds.{list_any-append}
 use Rattle.dwc_base.specs.declared.records.Address.{Address}
 use Rattle.dwc_base.specs.declared.section_name.SectionName.{SectionName}
 use Rattle.dwc_base.specs.declared.section_name.SectionName.TheVariants.{Info}
 use Rattle.dwc_base.specs.declared.constants.TheConstants.{DW_AT_high_pc, DW_AT_low_pc}
-use Rattle.dwc_base.specs.declared.faults.Kind.TheVariants.{NotBuilt}
 use Rattle.dwc_base.specs.declared.faults.What.{What}
 use Rattle.dwc_base.specs.declared.faults.What.TheVariants.{AddressValue, Text}
 use Rattle.dwc_base.specs.declared.faults.Flaw.{Flaw}
 use Rattle.dwc_base.specs.declared.faults.Flaw.TheVariants.{EndsEarly, TooWide, Malformed, Refused}
 use Rattle.dwc_base.specs.Reading.{◌>>=◌}
-use Rattle.dwc_base.specs.Sections.{Fault, Sections, fault_of, reported, unsupported}
+use Rattle.dwc_base.specs.Sections.{Fault, Sections, fault_of, reported}
 use Rattle.dwc_base.specs.Units.{UnitHeader}
 use Rattle.dwc_base.specs.Values.{Value, address, address_index, constant, flag, block, text, text_reference, unit_reference, info_reference, line_reference, dropped, expression, range_reference, range_index, location_reference, location_index}
 use Rattle.dwc_base.specs.Entries.{Entry}
@@ -27,34 +25,36 @@ use Rattle.dwc_base.specs.Lists.{ListRefusal, list_source}
 use Rattle.dwc_base.specs.Lists as Lists
 use Rattle.dwc_base.specs.Refusals.{Refusal, of_place}
 use Rattle.dwc_base.specs.RangeRefusals.{begins_by_low_pc, bound_refusal, extent_refusal, flaw_in, has_name, index_fault, is_later_bound}
-use Rattle.dwc_base.specs.RangeRules.{bound_refused, is_unbuilt}
-use Rattle.dwc_base.specs.EntryRules.{code_rules, of_list}
+use Rattle.dwc_base.specs.EntryRules.{bound_value_refused, of_list}
 use Rattle.dwc_base.specs.Clones.{UnitSource, bound_becomes, nothing_unless, text_drafted}
+use Rattle.dwc_clif.specs.Registers.{Registers}
 use Rattle.dwc_read.specs.Bases.{address_of_value}
 use Rattle.dwc_read.specs.Faults.{Refuses, fault_at}
-use Rattle.dwc_clone.specs.declared.bounds.BoundsSeen.{BoundsSeen}
+use Rattle.dwc_clone.specs.declared.bounds.AttributesSeen.{AttributesSeen}
 use Rattle.dwc_clone.specs.declared.error.CloneError.{CloneError}
-use Rattle.dwc_clone.specs.BoundsSeen.{bounds_among}
+use Rattle.dwc_clone.specs.declared.source.CloneSource.{CloneSource}
+use Rattle.dwc_clone.specs.AttributesSeen.{seen_among}
+use Rattle.dwc_clone.specs.ClonedUnits.{clone_rules, source_with}
 use Rattle.dwc_clone.specs.Errors.{refusal_told}
 use Rattle.dwc_clone.specs.MadeValues.{GivesMade, RefusesSo}
 use Rattle.dwc_clone.specs.NativeExtents.{IsTold, TellsRefusal}
 
 -- ---- both bounds
 
-name-behind : (n : ℕ) (before : List (ℕ × Value)) (a : ℕ × Value) → has_name n (before ++ a ∷ []) ≡ has_name n (a ∷ before)
-name-behind n before a = list_any-append (λ b. b.0 == n) before (a ∷ []) ∙ turned (has_name n before) (a.0 == n)
-  where
-    turned : (b c : Bool) → (b || (c || false)) ≡ (c || b)
-    turned true true = refl
-    turned true false = refl
-    turned false true = refl
-    turned false false = refl
+-- the bounds among some attributes and one behind them
+turned : (b c : Bool) → (b || c) ≡ (c || b)
+turned true true = refl
+turned true false = refl
+turned false true = refl
+turned false false = refl
 
 -- The later bound is the one behind which both are, and before which they are not.
-pub later-is : (seen behind : BoundsSeen) (before : List (ℕ × Value)) (a : ℕ × Value) → seen ≡ bounds_among before → behind ≡ bounds_among (before ++ a ∷ []) → is_later_bound before a ≡ ((behind.low && behind.high) && not (seen.low && seen.high))
-later-is seen behind before a seen-is behind-is =
-    ap₂ (λ low high. (low && high) && not (has_name DW_AT_low_pc before && has_name DW_AT_high_pc before)) (sym (name-behind DW_AT_low_pc before a)) (sym (name-behind DW_AT_high_pc before a))
-    ∙ ap₂ (λ (x y : BoundsSeen). (x.low && x.high) && not (y.low && y.high)) (sym behind-is) (sym seen-is)
+pub later-is : (seen behind : AttributesSeen) (before : List (ℕ × Value)) (a : ℕ × Value) → seen ≡ seen_among before → behind.low ≡ (seen.low || (a.0 == DW_AT_low_pc)) → behind.high ≡ (seen.high || (a.0 == DW_AT_high_pc))
+    → is_later_bound before a ≡ ((behind.low && behind.high) && not (seen.low && seen.high))
+later-is seen behind before a is low high =
+    ap₂ (λ low high. (low && high) && not (has_name DW_AT_low_pc before && has_name DW_AT_high_pc before)) (turned (a.0 == DW_AT_low_pc) (has_name DW_AT_low_pc before)) (turned (a.0 == DW_AT_high_pc) (has_name DW_AT_high_pc before))
+    ∙ ap (λ (x : AttributesSeen). ((x.low || (a.0 == DW_AT_low_pc)) && (x.high || (a.0 == DW_AT_high_pc))) && not (x.low && x.high)) (sym is)
+    ∙ ap₂ (λ low high. (low && high) && not (seen.low && seen.high)) (sym low) (sym high)
 
 -- ---- addresses
 
@@ -123,7 +123,7 @@ told-second (Some refusal) b r none is = absurd (cc)
 
 -- ---- code
 
-module _ (s : ListSource) (fs : List Function) (e : Entry) (before : List (ℕ × Value)) (a : ℕ × Value) (built : is_unbuilt a.1 ≡ false) where
+module _ (s : ListSource) (fs : List Function) (e : Entry) (before : List (ℕ × Value)) (a : ℕ × Value) where
   listed-place : (o : Option Fault) → option_map of_list (option_map Lists.of_place o) ≡ option_map of_place o
   listed-place None = refl
   listed-place (Some fault) = refl
@@ -132,57 +132,60 @@ module _ (s : ListSource) (fs : List Function) (e : Entry) (before : List (ℕ �
   abbrev behind_address : Option ListRefusal
   behind_address = if begins_by_low_pc s fs e then None else extent_refusal s e before a
 
-  refused-is : bound_refused s fs e before a ≡ option_or (option_map Lists.of_place (index_fault s e.offset a.1)) behind_address
+  refused-is : bound_refusal s fs e before a ≡ option_or (option_map Lists.of_place (index_fault s e.offset a.1)) behind_address
   unfolding bound_refusal
-  refused-is = ap (λ b. if b then Some (Lists.of_place (unsupported NotBuilt e.offset)) else bound_refusal s fs e before a) built
+  refused-is = refl
 
-  -- The address of a bound that is built is refused first.
-  pub code-unread : (told : Option Refusal) → IsTold (option_map of_place (index_fault s e.offset a.1)) told → IsTold (option_map of_list (bound_refused s fs e before a)) told
+  -- The address of a bound is refused first.
+  pub code-unread : (told : Option Refusal) → IsTold (option_map of_place (index_fault s e.offset a.1)) told → IsTold (option_map of_list (bound_refusal s fs e before a)) told
   code-unread told is =
       subst (λ o. IsTold (option_map of_list o) told) (sym refused-is)
       (told-first (option_map Lists.of_place (index_fault s e.offset a.1)) behind_address told (subst (λ o. IsTold o told) (sym (listed-place (index_fault s e.offset a.1))) is))
 
-  code-behind : (r : Result (Unit {0}) CloneError) → option_map of_place (index_fault s e.offset a.1) ≡ None → TellsRefusal (option_map of_list behind_address) r → TellsRefusal (option_map of_list (bound_refused s fs e before a)) r
+  code-behind : (r : Result (Unit {0}) CloneError) → option_map of_place (index_fault s e.offset a.1) ≡ None → TellsRefusal (option_map of_list behind_address) r → TellsRefusal (option_map of_list (bound_refusal s fs e before a)) r
   code-behind r read is =
       subst (λ o. TellsRefusal (option_map of_list o) r) (sym refused-is)
       (told-second (option_map Lists.of_place (index_fault s e.offset a.1)) behind_address r (listed-place (index_fault s e.offset a.1) ∙ read) is)
 
   -- Of an entry that begins in a function by its low_pc no more is refused.
-  pub code-begins : option_map of_place (index_fault s e.offset a.1) ≡ None → true ≡ begins_by_low_pc s fs e → option_map of_list (bound_refused s fs e before a) ≡ None
+  pub code-begins : option_map of_place (index_fault s e.offset a.1) ≡ None → true ≡ begins_by_low_pc s fs e → option_map of_list (bound_refusal s fs e before a) ≡ None
   code-begins read begins = code-behind (Ok tt) read (ap (λ b. option_map of_list (if b then None else extent_refusal s e before a)) (sym begins))
 
   -- Of another its extent is.
-  pub code-extent : (r : Result (Unit {0}) CloneError) → option_map of_place (index_fault s e.offset a.1) ≡ None → false ≡ begins_by_low_pc s fs e → TellsRefusal (option_map of_list (extent_refusal s e before a)) r → TellsRefusal (option_map of_list (bound_refused s fs e before a)) r
+  pub code-extent : (r : Result (Unit {0}) CloneError) → option_map of_place (index_fault s e.offset a.1) ≡ None → false ≡ begins_by_low_pc s fs e → TellsRefusal (option_map of_list (extent_refusal s e before a)) r → TellsRefusal (option_map of_list (bound_refusal s fs e before a)) r
   code-extent r read begins is = code-behind r read (subst (λ b. TellsRefusal (option_map of_list (if b then None else extent_refusal s e before a)) r) begins is)
 
 -- ---- bounds
 
-module _ (fs : List Function) (sections : Sections) (h : UnitHeader) (s : UnitSource) (e : Placed) (before : List (ℕ × Value)) (a : ℕ × Value) (texts : TextSource) (entry : Entry) (same : s.texts ≡ texts) (is : e.entry ≡ entry) where
-  -- what a bound becomes whose text is read
-  abbrev becomes : Result (Option (List ℕ)) Fault → Option ListRefusal → Result (Option DraftValue) Refusal
-  becomes read refused = text_drafted of_place read >>= λ draft. nothing_unless (option_map of_list refused)
+module _ (registers : Registers) (c : CloneSource) (s : UnitSource) (e : Placed) (before : List (ℕ × Value)) (a : ℕ × Value) (texts : TextSource) (here : ℕ) (same : s.texts ≡ texts) (at : e.entry.offset ≡ here) where
+  -- what is refused of a bound whose text is read
+  abbrev refused : Option Refusal
+  refused = bound_value_refused (source_with registers c s) e before a.0 a.1
 
-  bound-is : bound_becomes (code_rules fs sections h) s e before a ≡ becomes (reported Text Info entry.offset (text_named texts a.1)) (bound_refused (list_source sections h) fs entry before a)
+  -- what the bound becomes
+  abbrev becomes : Result (Option (List ℕ)) Fault → Result (Option DraftValue) Refusal
+  becomes read = text_drafted of_place read >>= λ draft. nothing_unless refused
+
+  bound-is : bound_becomes (clone_rules registers c s) s e before a ≡ becomes (reported Text Info here (text_named texts a.1))
   unfolding bound_becomes
-  bound-is = ap₂ (λ (t : TextSource) (x : Entry). becomes (reported Text Info x.offset (text_named t a.1)) (bound_refused (list_source sections h) fs x before a)) same is
+  bound-is = ap₂ (λ (t : TextSource) (n : ℕ). becomes (reported Text Info n (text_named t a.1))) same at
 
   -- A bound that is a text that cannot be read is refused for it.
-  pub bound-unread : (seen : Option Fault) → Refuses (reported Text Info entry.offset (text_named texts a.1)) seen → RefusesSo (bound_becomes (code_rules fs sections h) s e before a) (option_map of_place seen)
-  bound-unread None refused = tt
-  bound-unread (Some fault) refused = bound-is ∙ ap (λ r. becomes r (bound_refused (list_source sections h) fs entry before a)) refused
+  pub bound-unread : (seen : Option Fault) → Refuses (reported Text Info here (text_named texts a.1)) seen → RefusesSo (bound_becomes (clone_rules registers c s) s e before a) (option_map of_place seen)
+  bound-unread None unread = tt
+  bound-unread (Some fault) unread = bound-is ∙ ap becomes unread
 
-  -- Of another what is refused of its code is told.
-  pub bound-told : (o : Option (List ℕ)) (r : Result (Unit {0}) CloneError) → reported Text Info entry.offset (text_named texts a.1) ≡ Ok o → TellsRefusal (option_map of_list (bound_refused (list_source sections h) fs entry before a)) r
-      → GivesMade (λ draft done. draft ≡ None) (bound_becomes (code_rules fs sections h) s e before a) r
+  -- Of another what else is refused is told.
+  pub bound-told : (o : Option (List ℕ)) (r : Result (Unit {0}) CloneError) → reported Text Info here (text_named texts a.1) ≡ Ok o → TellsRefusal refused r → GivesMade (λ draft done. draft ≡ None) (bound_becomes (clone_rules registers c s) s e before a) r
   bound-told o r read = go r
     where
-      now : bound_becomes (code_rules fs sections h) s e before a ≡ nothing_unless (option_map of_list (bound_refused (list_source sections h) fs entry before a))
-      now = bound-is ∙ ap (λ r. becomes r (bound_refused (list_source sections h) fs entry before a)) read
+      now : bound_becomes (clone_rules registers c s) s e before a ≡ nothing_unless refused
+      now = bound-is ∙ ap becomes read
 
-      refused : (told : Option Refusal) → IsTold (option_map of_list (bound_refused (list_source sections h) fs entry before a)) told → RefusesSo (bound_becomes (code_rules fs sections h) s e before a) told
-      refused None told = tt
-      refused (Some refusal) told = now ∙ ap nothing_unless told
+      told : (t : Option Refusal) → IsTold refused t → RefusesSo (bound_becomes (clone_rules registers c s) s e before a) t
+      told None is = tt
+      told (Some refusal) is = now ∙ ap nothing_unless is
 
-      go : (r : Result (Unit {0}) CloneError) → TellsRefusal (option_map of_list (bound_refused (list_source sections h) fs entry before a)) r → GivesMade (λ draft done. draft ≡ None) (bound_becomes (code_rules fs sections h) s e before a) r
+      go : (r : Result (Unit {0}) CloneError) → TellsRefusal refused r → GivesMade (λ draft done. draft ≡ None) (bound_becomes (clone_rules registers c s) s e before a) r
       go (Ok done) none = record { drafted = None; is = now ∙ ap nothing_unless none; made = refl }
-      go (Err error) told = refused (refusal_told error) told
+      go (Err error) is = told (refusal_told error) is

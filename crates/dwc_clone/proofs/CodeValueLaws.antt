@@ -1,5 +1,5 @@
 -- What addresses and range lists become.
-use Rattle.std.proofs.Common.{◌≡◌, ℕ, ◌<◌, refl, sym, ap, subst, ◌∙◌, List, length, true, Option, Some, None, Result, Ok, Err, Bor, ◌⊎◌, inl, inr}
+use Rattle.std.proofs.Common.{◌≡◌, ℕ, ◌<◌, refl, sym, ap, subst, ◌∙◌, List, length, true, Option, Some, None, Result, Ok, Err, ◌⊎◌, inl, inr}
 use Rattle.std.specs.Prelude.{option_map}
 use Rattle.std.proofs.lemmas.List.Elements.{All-nil}
 use Rattle.dwc_base.specs.declared.records.Address.{Address}
@@ -7,29 +7,26 @@ use Rattle.dwc_base.specs.declared.section_name.SectionName.TheVariants.{Info}
 use Rattle.dwc_base.specs.declared.faults.What.{What}
 use Rattle.dwc_base.specs.declared.section_name.SectionName.{SectionName}
 use Rattle.dwc_base.specs.declared.faults.What.TheVariants.{AddressValue}
-use Rattle.dwc_base.specs.declared.faults.Kind.TheVariants.{NotBuilt}
 use Rattle.dwc_base.specs.declared.faults.Flaw.{Flaw}
 use Rattle.dwc_base.specs.declared.faults.Flaw.TheVariants.{EndsEarly, TooWide, Malformed, Refused}
 use Rattle.dwc_base.specs.Reading.{◌>>=◌}
-use Rattle.dwc_base.specs.Sections.{Sections, Fault, fault_of, reported, unsupported}
+use Rattle.dwc_base.specs.Sections.{Sections, Fault, fault_of, reported}
 use Rattle.dwc_base.specs.Units.{UnitHeader}
-use Rattle.dwc_base.specs.Values.{Value, is_range_name}
+use Rattle.dwc_base.specs.Values.{Value, is_location_name, is_range_name}
 use Rattle.dwc_base.specs.Values as Values
 use Rattle.dwc_base.specs.Functions.{Function}
 use Rattle.dwc_base.specs.Indexed.{address_indexed, address_named}
-use Rattle.dwc_base.specs.Kept.{Placed}
 use Rattle.dwc_base.specs.Refusals.{Refusal, of_place}
-use Rattle.dwc_base.specs.Trees.{Interval, ranges}
+use Rattle.dwc_base.specs.Trees.{ranges}
 use Rattle.dwc_base.specs.Trees as Trees
 use Rattle.dwc_base.specs.Drafts.{DraftValue, done}
-use Rattle.dwc_base.specs.RawLists.{is_range_list}
+use Rattle.dwc_base.specs.RawLists.{is_location_list, is_range_list}
 use Rattle.dwc_base.specs.Lists.{ListRefusal, list_source, ranges_of_value}
 use Rattle.dwc_base.specs.Lists as Lists
 use Rattle.dwc_base.specs.RangeAttributes.{carried_address, native_of_intervals}
 use Rattle.dwc_base.specs.RangeRules.{all_items, code_becomes, list_becomes, told_as}
-use Rattle.dwc_base.specs.EntryRules.{code_rules, of_list}
+use Rattle.dwc_base.specs.EntryRules.{of_list}
 use Rattle.dwc_base.specs.ReadValues.{IsReadValue}
-use Rattle.dwc_base.specs.Clones.{UnitSource, value_becomes}
 use Rattle.dwc_read.specs.Bases.{address_of_value}
 use Rattle.dwc_read.specs.Faults.{Refuses, fault_at}
 use Rattle.dwc_read.specs.declared.value.AttributeValue as values
@@ -68,9 +65,10 @@ pub more-made : (places : List EmittedEntry) (number name : ℕ) (table : List (
 more-made places number name table read (Ok v) made = record { drafted = made.drafted; is = made.is; made = record { grows = Grows-same table; says = made.made } }
 more-made places number name table read (Err e) refused = refused
 
-module _ (fs : List Function) (sections : Sections) (h : UnitHeader) (s : UnitSource) (e : Placed) (name : ℕ) where
+module _ (fs : List Function) (sections : Sections) (h : UnitHeader) (here : ℕ) where
+  -- what a value becomes of the entry at an offset
   abbrev becomes : Value → Result (Option DraftValue) Refusal
-  becomes v = value_becomes (code_rules fs sections h) s e name v
+  becomes v = told_as of_list (code_becomes (list_source sections h) fs here v)
 
   -- ---- addresses
 
@@ -78,14 +76,14 @@ module _ (fs : List Function) (sections : Sections) (h : UnitHeader) (s : UnitSo
   abbrev address_made : Result (Option Address) Flaw → Result (Option DraftValue) Refusal
   address_made (Ok None) = Ok None
   address_made (Ok (Some a)) = Ok (Some (done (carried_address fs a)))
-  address_made (Err flaw) = Err (of_place (fault_of AddressValue Info e.entry.offset flaw))
+  address_made (Err flaw) = Err (of_place (fault_of AddressValue Info here flaw))
 
   address-becomes : (v : Value) → is_address v ≡ true → becomes v ≡ address_made (address_named sections h v)
-  unfolding value_becomes code_becomes address_named list_source
+  unfolding code_becomes address_named list_source
   address-becomes (Values.address a) is = refl
   address-becomes (Values.address_index i) is = go (address_indexed sections h i)
     where
-      go : (r : Result Address Flaw) → told_as of_list (elim r [ Ok a ↦ Ok (Some (done (carried_address fs a))) | Err flaw ↦ Err (Lists.of_place (fault_of AddressValue Info e.entry.offset flaw)) ]) ≡ address_made (r >>= λ a. Ok (Some a))
+      go : (r : Result Address Flaw) → told_as of_list (elim r [ Ok a ↦ Ok (Some (done (carried_address fs a))) | Err flaw ↦ Err (Lists.of_place (fault_of AddressValue Info here flaw)) ]) ≡ address_made (r >>= λ a. Ok (Some a))
       go (Ok a) = refl
       go (Err flaw) = refl
   address-becomes (Values.constant form bits) is = absurd (cc)
@@ -111,33 +109,33 @@ module _ (fs : List Function) (sections : Sections) (h : UnitHeader) (s : UnitSo
       go (Ok b) same = let is : b ≡ o = cc in ap (λ x. address_made (Ok x)) is
       go (Err flaw) same = absurd (cc)
 
-  pub address-says : (places : List EmittedEntry) (number : ℕ) (table : List (List ℕ)) (v : Value) (a x : Address) → is_address v ≡ true → address_of_value sections h v ≡ Ok (Some a) → Trees.address x ≡ carried_address fs a → ((size : ℕ) → FitsField size x)
+  pub address-says : (places : List EmittedEntry) (number name : ℕ) (table : List (List ℕ)) (v : Value) (a x : Address) → is_address v ≡ true → address_of_value sections h v ≡ Ok (Some a) → Trees.address x ≡ carried_address fs a → ((size : ℕ) → FitsField size x)
       → IsMade (Says places number name table) (becomes v) (Some (output.Address x))
-  address-says places number table v a x is read says fits = record {
+  address-says places number name table v a x is read says fits = record {
     drafted = Some (done (carried_address fs a));
     is = address-read v (Some a) is read;
     made = record { means = ap (λ t. Some t) says; fits = fits; texts = All-nil (λ n. n < length table) };
   }
 
   -- None is read of no address.
-  pub address-none : (places : List EmittedEntry) (number : ℕ) (table : List (List ℕ)) (v : Value) → is_address v ≡ true → address_of_value sections h v ≡ Ok None → IsMade (Says places number name table) (becomes v) None
-  address-none places number table v is read = record { drafted = None; is = address-read v None is read; made = record { means = refl; fits = λ size. tt; texts = tt } }
+  pub address-none : (places : List EmittedEntry) (number name : ℕ) (table : List (List ℕ)) (v : Value) → is_address v ≡ true → address_of_value sections h v ≡ Ok None → IsMade (Says places number name table) (becomes v) None
+  address-none places number name table v is read = record { drafted = None; is = address-read v None is read; made = record { means = refl; fits = λ size. tt; texts = tt } }
 
   -- One that cannot be read is told at the entry.
-  pub address-told : (v : Value) (here : ℕ) (seen : Option Fault) → e.entry.offset ≡ here → is_address v ≡ true → Refuses (address_of_value sections h v) seen → RefusesSo (becomes v) (option_map of_place (option_map (fault_at here) seen))
-  address-told v here None at is refused = tt
-  address-told v here (Some f) at is refused = address-becomes v is ∙ go (address_named sections h v) refused
+  pub address-told : (v : Value) (seen : Option Fault) → is_address v ≡ true → Refuses (address_of_value sections h v) seen → RefusesSo (becomes v) (option_map of_place (option_map (fault_at here) seen))
+  address-told v None is refused = tt
+  address-told v (Some f) is refused = address-becomes v is ∙ go (address_named sections h v) refused
     where
       go : (r : Result (Option Address) Flaw) → reported AddressValue Info h.offset r ≡ Err f → address_made r ≡ Err (of_place (fault_at here f))
       go (Ok b) same = absurd (cc)
       go (Err flaw) same =
           let is : fault_of AddressValue Info h.offset flaw ≡ f = cc in
-          ap (λ (n : ℕ). Err (of_place (fault_of AddressValue Info n flaw))) at ∙ ap (λ x. Err (of_place x)) (sym (moved AddressValue Info h.offset here flaw) ∙ ap (fault_at here) is)
+          ap (λ x. Err (of_place x)) (sym (moved AddressValue Info h.offset here flaw) ∙ ap (fault_at here) is)
 
   -- ---- range lists
 
-  list-becomes : (v : Value) → is_range_list v ≡ true → becomes v ≡ told_as of_list (list_becomes fs (all_items (ranges_of_value (list_source sections h) e.entry.offset v)))
-  unfolding value_becomes code_becomes
+  list-becomes : (v : Value) → is_range_list v ≡ true → becomes v ≡ told_as of_list (list_becomes fs (all_items (ranges_of_value (list_source sections h) here v)))
+  unfolding code_becomes
   list-becomes (Values.range_reference n) is = refl
   list-becomes (Values.range_index n) is = refl
   list-becomes (Values.address a) is = absurd (cc)
@@ -156,41 +154,26 @@ module _ (fs : List Function) (sections : Sections) (h : UnitHeader) (s : UnitSo
   list-becomes (Values.location_index n) is = absurd (cc)
 
   -- what a list becomes, by its fault
-  by-fault : (v : Value) (here : ℕ) (fault : Option ListRefusal) → e.entry.offset ≡ here → is_range_list v ≡ true → fault ≡ (ranges_of_value (list_source sections h) here v).fault
+  by-fault : (v : Value) (fault : Option ListRefusal) → is_range_list v ≡ true → fault ≡ (ranges_of_value (list_source sections h) here v).fault
       → becomes v ≡ told_as of_list (list_becomes fs (elim fault [ None ↦ Ok (ranges_of_value (list_source sections h) here v).items | Some refusal ↦ Err refusal ]))
-  by-fault v here fault at is same =
+  by-fault v fault is same =
       list-becomes v is
-      ∙ ap (λ n. told_as of_list (list_becomes fs (all_items (ranges_of_value (list_source sections h) n v)))) at
       ∙ ap (λ o. told_as of_list (list_becomes fs (elim o [ None ↦ Ok (ranges_of_value (list_source sections h) here v).items | Some refusal ↦ Err refusal ]))) (sym same)
 
-  pub list-says : (places : List EmittedEntry) (number : ℕ) (table : List (List ℕ)) (v : Value) (here : ℕ) (native : NativeRanges) → e.entry.offset ≡ here → is_range_list v ≡ true → is_range_name name ≡ true
+  pub list-says : (places : List EmittedEntry) (number name : ℕ) (table : List (List ℕ)) (v : Value) (native : NativeRanges) → is_range_list v ≡ true → is_range_name name ≡ true
       → IsNative fs (ranges_of_value (list_source sections h) here v) native → native.fault ≡ None → IsMade (λ draft x. Says places number name table draft (Some x)) (becomes v) (output.RangeListRef (record { ranges = native.ranges }))
-  list-says places number table v here native at is named has none =
+  list-says places number name table v native is named has none =
       let items = (ranges_of_value (list_source sections h) here v).items in
       record {
         drafted = Some (done (ranges (native_of_intervals fs items)));
-        is = by-fault v here None at is (ap (option_map refusal_view) (sym none) ∙ has.fault);
+        is = by-fault v None is (ap (option_map refusal_view) (sym none) ∙ has.fault);
         made = record { means = ap (λ is. Some (ranges is)) has.ranges.say; fits = λ size. (named, has.ranges.fit size); texts = All-nil (λ n. n < length table) };
       }
 
-  pub list-told : (v : Value) (here : ℕ) (native : NativeRanges) (fault : ListFault) → e.entry.offset ≡ here → is_range_list v ≡ true → IsNative fs (ranges_of_value (list_source sections h) here v) native → native.fault ≡ Some fault
+  pub list-told : (v : Value) (native : NativeRanges) (fault : ListFault) → is_range_list v ≡ true → IsNative fs (ranges_of_value (list_source sections h) here v) native → native.fault ≡ Some fault
       → RefusesSo (becomes v) (refusal_told (Errors.of_list fault))
-  list-told v here native fault at is has some =
-      rw (told-list fault) (by-fault v here (Some (refusal_view fault)) at is (ap (option_map refusal_view) (sym some) ∙ has.fault))
-
-  -- ---- what is not built
-
-  pub unbuilt-becomes : (v : values.AttributeValue) (here : ℕ) → e.entry.offset ≡ here → ((x : Bor (List ℕ)) × (v ≡ input.Exprloc x)) ⊎ ((x : ℕ) × (v ≡ input.LocRef x)) ⊎ ((x : ℕ) × (v ≡ input.LocIndex x)) → becomes (value_view v) ≡ Err (of_place (unsupported NotBuilt here))
-  unfolding value_becomes code_becomes
-  unbuilt-becomes v here at kind = go kind ∙ ap (λ (n : ℕ). Err (of_place (unsupported NotBuilt n))) at
-    where
-      goal : values.AttributeValue → Type 0
-      goal v = becomes (value_view v) ≡ Err (of_place (unsupported NotBuilt e.entry.offset))
-
-      go : ((x : Bor (List ℕ)) × (v ≡ input.Exprloc x)) ⊎ ((x : ℕ) × (v ≡ input.LocRef x)) ⊎ ((x : ℕ) × (v ≡ input.LocIndex x)) → goal v
-      go (inl p) = subst goal (sym p.1) refl
-      go (inr (inl p)) = subst goal (sym p.1) refl
-      go (inr (inr p)) = subst goal (sym p.1) refl
+  list-told v native fault is has some =
+      rw (told-list fault) (by-fault v (Some (refusal_view fault)) is (ap (option_map refusal_view) (sym some) ∙ has.fault))
 
 -- ---- kinds of values
 
@@ -206,3 +189,12 @@ list-kind v (inr p) = ap (λ w. is_range_list (value_view w)) p.1
 pub list-named : (name : ℕ) (v : values.AttributeValue) → ((x : ℕ) × (v ≡ input.RangeRef x)) ⊎ ((x : ℕ) × (v ≡ input.RangeIndex x)) → IsReadValue name (value_view v) → is_range_name name ≡ true
 list-named name v (inl p) read = subst (λ w. IsReadValue name (value_view w)) p.1 read
 list-named name v (inr p) read = subst (λ w. IsReadValue name (value_view w)) p.1 read
+
+-- A location list is one, and stands under a name that may have one.
+pub locations-kind : (v : values.AttributeValue) → ((x : ℕ) × (v ≡ input.LocRef x)) ⊎ ((x : ℕ) × (v ≡ input.LocIndex x)) → is_location_list (value_view v) ≡ true
+locations-kind v (inl p) = ap (λ w. is_location_list (value_view w)) p.1
+locations-kind v (inr p) = ap (λ w. is_location_list (value_view w)) p.1
+
+pub locations-named : (name : ℕ) (v : values.AttributeValue) → ((x : ℕ) × (v ≡ input.LocRef x)) ⊎ ((x : ℕ) × (v ≡ input.LocIndex x)) → IsReadValue name (value_view v) → is_location_name name ≡ true
+locations-named name v (inl p) read = subst (λ w. IsReadValue name (value_view w)) p.1 read
+locations-named name v (inr p) read = subst (λ w. IsReadValue name (value_view w)) p.1 read

@@ -1,9 +1,9 @@
 -- The values that the last entry of a unit is given, one behind another, and what the attributes of an entry become.
-use Rattle.std.proofs.Common.{◌≡◌, ℕ, ◌<◌, refl, sym, ap, subst, ◌∙◌, arith, List, [], ◌∷◌, ◌++◌, ◌+◌, drop, get_or, length, length-append, map, Option, Some, None, Result, Ok, Err}
+use Rattle.std.proofs.Common.{◌≡◌, ℕ, ◌<◌, ◌≤◌, refl, sym, ap, subst, ◌∙◌, arith, List, [], ◌∷◌, ◌++◌, ◌+◌, drop, take, get_or, length, length-append, map, Option, Some, None, Result, Ok, Err}
 use Rattle.std.specs.Prelude.{◌==◌, ◌&&◌, OnOk, filter_map, option_map, option_to_list, Bool, true, false, if◌then◌else◌}
 use Rattle.std.specs.List.{All, cons_option}
 use Rattle.std.proofs.lemmas.Bool.{eq-eqb}
-use Rattle.std.proofs.lemmas.List.{append-nil, append_assoc, drop_more, get_or-map, length-map}
+use Rattle.std.proofs.lemmas.List.{append-nil, append_assoc, drop_more, get_or-map, length-map, length-take-le, take_more}
 use Rattle.std.proofs.lemmas.List.Elements.{All-append, All-nil}
 use Rattle.std.proofs.lemmas.List.Sums.{fold-append}
 use Rattle.dwc_base.specs.declared.constants.TheConstants.{DW_AT_endianity, DW_END_little, DW_FORM_data1, DW_TAG_base_type}
@@ -14,6 +14,7 @@ use Rattle.dwc_base.specs.Trees.{TreeValue, constant, set_attribute}
 use Rattle.dwc_base.specs.Clones.{UnitSource, attribute_becomes, attributes_become, endianity, if_made, if_refused}
 use Rattle.dwc_base.specs.Drafts.{DraftValue, done}
 use Rattle.dwc_base.specs.DraftForests.{settled, settled_value}
+use Rattle.dwc_clif.specs.Registers.{Registers}
 use Rattle.dwc_read.specs.declared.value.AttributeValue.{AttributeValue as InputValue}
 use Rattle.dwc_read.specs.ValuesSeen.{attribute_view}
 use Rattle.dwc_write.specs.declared.attributes.Attribute.{Attribute}
@@ -27,9 +28,9 @@ use Rattle.dwc_write.specs.AddedInOrder.{attribute_meant, value_meant}
 use Rattle.dwc_write.proofs.ReadValues.{All-back, All-front}
 use Rattle.dwc_write.proofs.AddedInOrderUnits.{entry-set}
 use Rattle.dwc_write.proofs.AddedInOrderValues.{attributes-meant-more, set-meant}
-use Rattle.dwc_clone.specs.declared.bounds.BoundsSeen.{BoundsSeen}
+use Rattle.dwc_clone.specs.declared.bounds.AttributesSeen.{AttributesSeen}
 use Rattle.dwc_clone.specs.declared.source.CloneSource.{CloneSource}
-use Rattle.dwc_clone.specs.BoundsSeen.{bounds_among}
+use Rattle.dwc_clone.specs.AttributesSeen.{seen_among}
 use Rattle.dwc_clone.specs.OutputPlaces.{goal_place}
 use Rattle.dwc_clone.specs.MadeValues.{Grows, HasTexts, IsMade, RefusesSo, SaysMore, wanted_value}
 use Rattle.dwc_clone.specs.ClonedUnits.{clone_rules, TellsFirst}
@@ -141,27 +142,39 @@ attributes-drop xs i d within =
     drop_more (map attribute_view xs) i (attribute_view d) (subst (λ n. i < n) (sym (length-map xs attribute_view)) within)
     ∙ ap (λ a. a ∷ drop (i + 1) (map attribute_view xs)) (get_or-map attribute_view xs i d (attribute_view d) within)
 
+-- What comes before the attributes from one on, and behind that one.
+pub seen-count : (xs : List (ℕ × InputValue)) (i most : ℕ) (seen : AttributesSeen) → seen ≡ seen_among (take i (map attribute_view xs)) → i ≤ length xs → length xs < most → seen.count < most
+seen-count xs i most seen is within few =
+    let count : seen.count ≡ i = ap (λ (x : AttributesSeen). x.count) is ∙ length-take-le i (map attribute_view xs) (subst (λ n. i ≤ n) (sym (length-map xs attribute_view)) within) in
+    omega (arith, count, within, few)
+
+pub seen-next : (xs : List (ℕ × InputValue)) (i : ℕ) (d : ℕ × InputValue) (next : AttributesSeen) → i < length xs → next ≡ seen_among (take i (map attribute_view xs) ++ attribute_view (get_or xs i d) ∷ []) → next ≡ seen_among (take (i + 1) (map attribute_view xs))
+seen-next xs i d next within is =
+    is
+    ∙ ap (λ a. seen_among (take i (map attribute_view xs) ++ a ∷ [])) (sym (get_or-map attribute_view xs i d (attribute_view d) within))
+    ∙ ap seen_among (sym (take_more (map attribute_view xs) i (attribute_view d) (subst (λ n. i < n) (sym (length-map xs attribute_view)) within)))
+
 -- What is set of the attributes of an entry: what was set so far, and what the attributes that are left are to say, make all; the bounds
 -- among those before are known.
-pub record AreSetSoFar (c : CloneSource) (number : ℕ) (s : UnitSource) (p : Placed) (t0 t1 : List (List ℕ)) (base : GivenUnit) (e : Addition) (u : GivenUnit) (seen : BoundsSeen) (left : List (ℕ × Value)) : Type 0 where
+pub record AreSetSoFar (registers : Registers) (c : CloneSource) (number : ℕ) (s : UnitSource) (p : Placed) (t0 t1 : List (List ℕ)) (base : GivenUnit) (e : Addition) (u : GivenUnit) (seen : AttributesSeen) (left : List (ℕ × Value)) : Type 0 where
   pub before : List (ℕ × Value)
-  pub bounds : seen ≡ bounds_among before
+  pub bounds : seen ≡ seen_among before
   pub values : List (ℕ × TreeValue)
   pub given : IsGiven number t0 t1 values base e u
-  pub whole : values ++ values_wanted c s p before left ≡ values_wanted c s p [] p.entry.attributes
-  pub refused : values_refused c s p before left ≡ values_refused c s p [] p.entry.attributes
+  pub whole : values ++ values_wanted registers c s p before left ≡ values_wanted registers c s p [] p.entry.attributes
+  pub refused : values_refused registers c s p before left ≡ values_refused registers c s p [] p.entry.attributes
 
-pub set-start : (c : CloneSource) (number : ℕ) (s : UnitSource) (p : Placed) (t : List (List ℕ)) (id : UnitEntryId) (base : GivenUnit) (e : Addition) (u : GivenUnit) (seen : BoundsSeen) → seen ≡ bounds_among [] → IsLast t id base e u → AreSetSoFar c number s p t t base e u seen p.entry.attributes
-set-start c number s p t id base e u seen none last = record { before = []; bounds = none; values = []; given = given-none number t t id base e u last (grows-not t); whole = refl; refused = refl }
+pub set-start : (registers : Registers) (c : CloneSource) (number : ℕ) (s : UnitSource) (p : Placed) (t : List (List ℕ)) (id : UnitEntryId) (base : GivenUnit) (e : Addition) (u : GivenUnit) (seen : AttributesSeen) → seen ≡ seen_among [] → IsLast t id base e u → AreSetSoFar registers c number s p t t base e u seen p.entry.attributes
+set-start registers c number s p t id base e u seen none last = record { before = []; bounds = none; values = []; given = given-none number t t id base e u last (grows-not t); whole = refl; refused = refl }
 
 -- an attribute in front of others
-wanted-more : (c : CloneSource) (s : UnitSource) (p : Placed) (before : List (ℕ × Value)) (a : ℕ × Value) (left : List (ℕ × Value)) (draft : Option DraftValue) → attribute_becomes (clone_rules c) s p before a ≡ Ok draft
-    → values_wanted c s p before (a ∷ left) ≡ named a.0 (wanted_value c.places.now draft) ++ values_wanted c s p (before ++ a ∷ []) left
+wanted-more : (registers : Registers) (c : CloneSource) (s : UnitSource) (p : Placed) (before : List (ℕ × Value)) (a : ℕ × Value) (left : List (ℕ × Value)) (draft : Option DraftValue) → attribute_becomes (clone_rules registers c s) s p before a ≡ Ok draft
+    → values_wanted registers c s p before (a ∷ left) ≡ named a.0 (wanted_value c.places.now draft) ++ values_wanted registers c s p (before ++ a ∷ []) left
 unfolding attributes_become
-wanted-more c s p before a left draft is = ap (λ r. filter_map (settled (goal_place c.places.now)) (cons_option (if_made a.0 r) made)) is ∙ go draft
+wanted-more registers c s p before a left draft is = ap (λ r. filter_map (settled (goal_place c.places.now)) (cons_option (if_made a.0 r) made)) is ∙ go draft
   where
     made : List (ℕ × DraftValue)
-    made = filter_map (λ x. if_made x.0 x.1) (attributes_become (clone_rules c) s p (before ++ a ∷ []) left)
+    made = filter_map (λ x. if_made x.0 x.1) (attributes_become (clone_rules registers c s) s p (before ++ a ∷ []) left)
 
     at : (v : Option TreeValue) (xs : List (ℕ × TreeValue)) → cons_option (option_map (λ x. (a.0, x)) v) xs ≡ named a.0 v ++ xs
     at None xs = refl
@@ -171,20 +184,20 @@ wanted-more c s p before a left draft is = ap (λ r. filter_map (settled (goal_p
     go None = refl
     go (Some v) = at (settled_value (goal_place c.places.now) v) (filter_map (settled (goal_place c.places.now)) made)
 
-refused-not : (c : CloneSource) (s : UnitSource) (p : Placed) (before : List (ℕ × Value)) (a : ℕ × Value) (left : List (ℕ × Value)) (draft : Option DraftValue) → attribute_becomes (clone_rules c) s p before a ≡ Ok draft
-    → values_refused c s p before (a ∷ left) ≡ values_refused c s p (before ++ a ∷ []) left
+refused-not : (registers : Registers) (c : CloneSource) (s : UnitSource) (p : Placed) (before : List (ℕ × Value)) (a : ℕ × Value) (left : List (ℕ × Value)) (draft : Option DraftValue) → attribute_becomes (clone_rules registers c s) s p before a ≡ Ok draft
+    → values_refused registers c s p before (a ∷ left) ≡ values_refused registers c s p (before ++ a ∷ []) left
 unfolding attributes_become
-refused-not c s p before a left draft is = ap (λ r. cons_option (if_refused r) (values_refused c s p (before ++ a ∷ []) left)) is
+refused-not registers c s p before a left draft is = ap (λ r. cons_option (if_refused r) (values_refused registers c s p (before ++ a ∷ []) left)) is
 
-refused-here : (c : CloneSource) (s : UnitSource) (p : Placed) (before : List (ℕ × Value)) (a : ℕ × Value) (left : List (ℕ × Value)) (refusal : Refusal) → attribute_becomes (clone_rules c) s p before a ≡ Err refusal
-    → first_of (values_refused c s p before (a ∷ left)) ≡ Some refusal
+refused-here : (registers : Registers) (c : CloneSource) (s : UnitSource) (p : Placed) (before : List (ℕ × Value)) (a : ℕ × Value) (left : List (ℕ × Value)) (refusal : Refusal) → attribute_becomes (clone_rules registers c s) s p before a ≡ Err refusal
+    → first_of (values_refused registers c s p before (a ∷ left)) ≡ Some refusal
 unfolding attributes_become
-refused-here c s p before a left refusal is = ap (λ r. first_of (cons_option (if_refused r) (values_refused c s p (before ++ a ∷ []) left))) is
+refused-here registers c s p before a left refusal is = ap (λ r. first_of (cons_option (if_refused r) (values_refused registers c s p (before ++ a ∷ []) left))) is
 
-pub set-more : (c : CloneSource) (number : ℕ) (s : UnitSource) (p : Placed) (t0 t1 t2 : List (List ℕ)) (id : UnitEntryId) (base : GivenUnit) (e : Addition) (u0 u : GivenUnit) (seen next : BoundsSeen) (a : ℕ × Value) (left : List (ℕ × Value)) (v : Option AttributeValue)
-    → IsLast t0 id base e u0 → (so : AreSetSoFar c number s p t0 t1 base e u seen (a ∷ left)) → next ≡ bounds_among (so.before ++ a ∷ []) → IsMade (SaysMore c.places.now number a.0 t1 t2) (attribute_becomes (clone_rules c) s p so.before a) v
-    → AreSetSoFar c number s p t0 t2 base e (with_made id.index a.0 v u) next left
-set-more c number s p t0 t1 t2 id base e u0 u seen next a left v last so behind made =
+pub set-more : (registers : Registers) (c : CloneSource) (number : ℕ) (s : UnitSource) (p : Placed) (t0 t1 t2 : List (List ℕ)) (id : UnitEntryId) (base : GivenUnit) (e : Addition) (u0 u : GivenUnit) (seen next : AttributesSeen) (a : ℕ × Value) (left : List (ℕ × Value)) (v : Option AttributeValue)
+    → IsLast t0 id base e u0 → (so : AreSetSoFar registers c number s p t0 t1 base e u seen (a ∷ left)) → next ≡ seen_among (so.before ++ a ∷ []) → IsMade (SaysMore c.places.now number a.0 t1 t2) (attribute_becomes (clone_rules registers c s) s p so.before a) v
+    → AreSetSoFar registers c number s p t0 t2 base e (with_made id.index a.0 v u) next left
+set-more registers c number s p t0 t1 t2 id base e u0 u seen next a left v last so behind made =
     let draft = made.drafted in
     let one = named a.0 (wanted_value c.places.now draft) in
     record {
@@ -193,18 +206,18 @@ set-more c number s p t0 t1 t2 id base e u0 u seen next a left v last so behind 
       values = so.values ++ one;
       given = given-on number t0 t1 t2 so.values one base e u (with_made id.index a.0 v u) so.given
           (given-made c number t1 t2 id base so.given.given u a.0 draft v (given-last number t0 t1 so.values id base e u0 u last so.given) made.made);
-      whole = append_assoc so.values one _ ∙ ap (λ xs. so.values ++ xs) (sym (wanted-more c s p so.before a left draft made.is)) ∙ so.whole;
-      refused = sym (refused-not c s p so.before a left draft made.is) ∙ so.refused;
+      whole = append_assoc so.values one _ ∙ ap (λ xs. so.values ++ xs) (sym (wanted-more registers c s p so.before a left draft made.is)) ∙ so.whole;
+      refused = sym (refused-not registers c s p so.before a left draft made.is) ∙ so.refused;
     }
 
-pub set-refused : (c : CloneSource) (number : ℕ) (s : UnitSource) (p : Placed) (t0 t1 : List (List ℕ)) (base : GivenUnit) (e : Addition) (u : GivenUnit) (seen : BoundsSeen) (a : ℕ × Value) (left : List (ℕ × Value)) (told : Option Refusal)
-    → (so : AreSetSoFar c number s p t0 t1 base e u seen (a ∷ left)) → RefusesSo (attribute_becomes (clone_rules c) s p so.before a) told → TellsFirst (values_refused c s p [] p.entry.attributes) told
-set-refused c number s p t0 t1 base e u seen a left None so refused = tt
-set-refused c number s p t0 t1 base e u seen a left (Some refusal) so refused = ap first_of (sym so.refused) ∙ refused-here c s p so.before a left refusal refused
+pub set-refused : (registers : Registers) (c : CloneSource) (number : ℕ) (s : UnitSource) (p : Placed) (t0 t1 : List (List ℕ)) (base : GivenUnit) (e : Addition) (u : GivenUnit) (seen : AttributesSeen) (a : ℕ × Value) (left : List (ℕ × Value)) (told : Option Refusal)
+    → (so : AreSetSoFar registers c number s p t0 t1 base e u seen (a ∷ left)) → RefusesSo (attribute_becomes (clone_rules registers c s) s p so.before a) told → TellsFirst (values_refused registers c s p [] p.entry.attributes) told
+set-refused registers c number s p t0 t1 base e u seen a left None so refused = tt
+set-refused registers c number s p t0 t1 base e u seen a left (Some refusal) so refused = ap first_of (sym so.refused) ∙ refused-here registers c s p so.before a left refusal refused
 
-pub set-end : (c : CloneSource) (number : ℕ) (s : UnitSource) (p : Placed) (t0 t1 : List (List ℕ)) (base : GivenUnit) (e : Addition) (u : GivenUnit) (seen : BoundsSeen) → AreSetSoFar c number s p t0 t1 base e u seen [] → AreSet c number s p t0 t1 base e u
+pub set-end : (registers : Registers) (c : CloneSource) (number : ℕ) (s : UnitSource) (p : Placed) (t0 t1 : List (List ℕ)) (base : GivenUnit) (e : Addition) (u : GivenUnit) (seen : AttributesSeen) → AreSetSoFar registers c number s p t0 t1 base e u seen [] → AreSet registers c number s p t0 t1 base e u
 unfolding attributes_become
-set-end c number s p t0 t1 base e u seen so = record {
+set-end registers c number s p t0 t1 base e u seen so = record {
   given = subst (λ values. IsGiven number t0 t1 values base e u) (sym (append-nil so.values) ∙ so.whole) so.given;
   accepted = sym so.refused;
 }

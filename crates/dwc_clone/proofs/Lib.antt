@@ -10,6 +10,16 @@ pub mod EntriesAdded
 pub mod UnitEntries
 pub mod KnownLaws
 pub mod NativeRangeLaws
+pub mod InputExtentLaws
 pub mod NativeExtentLaws
 pub mod CodeLaws
 pub mod CodeValueLaws
+pub mod LocatedLaws
+pub mod LocatedListLaws
+pub mod LocationLaws
+pub mod LocationsFit
+pub mod StackPlaces
+pub mod StackViews
+pub mod WalkBegins
+pub mod LineageLaws
+pub mod FrameLaws

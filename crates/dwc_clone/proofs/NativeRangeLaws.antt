@@ -196,7 +196,7 @@ module _ (fs : List Function) where
 
 -- ---- where a list is
 
-moved-to-entry : (what : What) (section : SectionName) (offset place : ℕ) (flaw : Flaw) → fault_at offset (fault_of what section place flaw) ≡ fault_of what section offset flaw
+pub moved-to-entry : (what : What) (section : SectionName) (offset place : ℕ) (flaw : Flaw) → fault_at offset (fault_of what section place flaw) ≡ fault_of what section offset flaw
 moved-to-entry what section offset place EndsEarly = refl
 moved-to-entry what section offset place TooWide = refl
 moved-to-entry what section offset place Malformed = refl

@@ -4,15 +4,16 @@ use Rattle.std.specs.Prelude.{◌==◌}
 use Rattle.dwc_base.specs.declared.section_name.SectionName.TheVariants.{Info}
 use Rattle.dwc_base.specs.declared.faults.What.TheVariants.{Text as TextRead}
 use Rattle.dwc_base.specs.declared.constants.TheConstants.{DW_AT_stmt_list}
-use Rattle.dwc_base.specs.Sections.{Sections, reported}
-use Rattle.dwc_base.specs.Units.{UnitHeader}
-use Rattle.dwc_base.specs.Values.{Value}
+use Rattle.dwc_base.specs.Sections.{reported}
+use Rattle.dwc_base.specs.declared.records.Address.{Address}
+use Rattle.dwc_base.specs.Values.{Value, expression}
 use Rattle.dwc_base.specs.Texts.{TextSource, text_named}
-use Rattle.dwc_base.specs.Functions.{Function}
 use Rattle.dwc_base.specs.Kept.{Placed}
 use Rattle.dwc_base.specs.Refusals.{Refusal, of_place}
 use Rattle.dwc_base.specs.Drafts.{DraftValue}
-use Rattle.dwc_base.specs.EntryRules.{code_rules}
+use Rattle.dwc_base.specs.EntryRules.{code_value_becomes, of_list, rules_of_source}
+use Rattle.dwc_base.specs.LocationRules.{ExpressionSource, lists_of}
+use Rattle.dwc_base.specs.RangeRules.{code_becomes, told_as}
 use Rattle.dwc_base.specs.Clones.{CodeRules, UnitSource, attribute_becomes, bound_becomes, is_bound_name, is_dropped_name, table_becomes, text_becomes, text_drafted, value_becomes}
 use Rattle.dwc_read.specs.declared.value.AttributeValue.TheVariants as input
 use Rattle.dwc_read.specs.declared.value.AttributeValue as values
@@ -32,31 +33,79 @@ made-none places number name table read is = made-same places number name table 
 
 -- ---- values of several kinds
 
-module _ (fs : List Function) (sections : Sections) (h : UnitHeader) (s : UnitSource) (e : Placed) (name : ℕ) where
+module _ (x : ExpressionSource) (s : UnitSource) (e : Placed) (before : List (ℕ × Value)) (name : ℕ) where
+  abbrev becomes : values.AttributeValue → Result (Option DraftValue) Refusal
+  becomes v = value_becomes (rules_of_source x) s e before name (value_view v)
+
   -- A text becomes what is read of it.
-  pub text-becomes : (v : values.AttributeValue) (texts : TextSource) (here : ℕ) → ((x : Bor (List ℕ)) × (v ≡ input.Text x)) ⊎ ((x : ℕ) × (y : ℕ) × (v ≡ input.TextRef x y)) → s.texts ≡ texts → e.entry.offset ≡ here → value_becomes (code_rules fs sections h) s e name (value_view v) ≡ text_drafted of_place (reported TextRead Info here (text_named texts (value_view v)))
+  pub text-becomes : (v : values.AttributeValue) (texts : TextSource) (here : ℕ) → ((b : Bor (List ℕ)) × (v ≡ input.Text b)) ⊎ ((f : ℕ) × (n : ℕ) × (v ≡ input.TextRef f n)) → s.texts ≡ texts → e.entry.offset ≡ here
+      → becomes v ≡ text_drafted of_place (reported TextRead Info here (text_named texts (value_view v)))
   unfolding value_becomes
-  text-becomes v texts here kind same at = go kind ∙ (ap (λ (t : TextSource). text_drafted of_place (reported TextRead Info e.entry.offset (text_named t (value_view v)))) same ∙ ap (λ (n : ℕ). text_drafted of_place (reported TextRead Info n (text_named texts (value_view v)))) at)
+  text-becomes v texts here kind same at =
+      go kind
+      ∙ (ap (λ (t : TextSource). text_drafted of_place (reported TextRead Info e.entry.offset (text_named t (value_view v)))) same ∙ ap (λ (n : ℕ). text_drafted of_place (reported TextRead Info n (text_named texts (value_view v)))) at)
     where
       goal : values.AttributeValue → Type 0
-      goal v = value_becomes (code_rules fs sections h) s e name (value_view v) ≡ text_becomes (code_rules fs sections h) s e (value_view v)
+      goal v = becomes v ≡ text_becomes (rules_of_source x) s e (value_view v)
 
-      go : ((x : Bor (List ℕ)) × (v ≡ input.Text x)) ⊎ ((x : ℕ) × (y : ℕ) × (v ≡ input.TextRef x y)) → goal v
+      go : ((b : Bor (List ℕ)) × (v ≡ input.Text b)) ⊎ ((f : ℕ) × (n : ℕ) × (v ≡ input.TextRef f n)) → goal v
       go (inl p) = subst goal (sym p.1) refl
       go (inr p) = subst goal (sym p.2) refl
 
   -- A reference to a line table, and a value that is passed over, go.
-  pub gone-becomes : (v : values.AttributeValue) → ((x : ℕ) × (v ≡ input.LineRef x)) ⊎ (v ≡ input.Dropped) → value_becomes (code_rules fs sections h) s e name (value_view v) ≡ Ok None
+  pub gone-becomes : (v : values.AttributeValue) → ((n : ℕ) × (v ≡ input.LineRef n)) ⊎ (v ≡ input.Dropped) → becomes v ≡ Ok None
   unfolding value_becomes
-  gone-becomes v (inl p) = ap (λ v. value_becomes (code_rules fs sections h) s e name (value_view v)) p.1
-  gone-becomes v (inr p) = ap (λ v. value_becomes (code_rules fs sections h) s e name (value_view v)) p
+  gone-becomes v (inl p) = ap becomes p.1
+  gone-becomes v (inr p) = ap becomes p
+
+  -- what an address, or a range list, of the entry at an offset becomes
+  abbrev by_code : ℕ → values.AttributeValue → Result (Option DraftValue) Refusal
+  by_code here v = told_as of_list (code_becomes (lists_of x) x.functions here (value_view v))
+
+  pub address-becomes : (v : values.AttributeValue) (here : ℕ) → e.entry.offset ≡ here → ((a : Address) × (v ≡ input.Addr a)) ⊎ ((n : ℕ) × (v ≡ input.AddrIndex n)) → becomes v ≡ by_code here v
+  unfolding value_becomes
+  address-becomes v here at kind = go kind ∙ ap (λ n. by_code n v) at
+    where
+      goal : values.AttributeValue → Type 0
+      goal v = becomes v ≡ by_code e.entry.offset v
+
+      go : ((a : Address) × (v ≡ input.Addr a)) ⊎ ((n : ℕ) × (v ≡ input.AddrIndex n)) → goal v
+      go (inl p) = subst goal (sym p.1) refl
+      go (inr p) = subst goal (sym p.1) refl
+
+  pub list-becomes : (v : values.AttributeValue) (here : ℕ) → e.entry.offset ≡ here → ((n : ℕ) × (v ≡ input.RangeRef n)) ⊎ ((n : ℕ) × (v ≡ input.RangeIndex n)) → becomes v ≡ by_code here v
+  unfolding value_becomes
+  list-becomes v here at kind = go kind ∙ ap (λ n. by_code n v) at
+    where
+      goal : values.AttributeValue → Type 0
+      goal v = becomes v ≡ by_code e.entry.offset v
+
+      go : ((n : ℕ) × (v ≡ input.RangeRef n)) ⊎ ((n : ℕ) × (v ≡ input.RangeIndex n)) → goal v
+      go (inl p) = subst goal (sym p.1) refl
+      go (inr p) = subst goal (sym p.1) refl
+
+  -- Expressions and location lists become what the rules for code say.
+  pub expression-becomes : (v : values.AttributeValue) (b : Bor (List ℕ)) → v ≡ input.Exprloc b → becomes v ≡ code_value_becomes x e before name (expression b.now)
+  unfolding value_becomes
+  expression-becomes v b is = ap becomes is
+
+  pub locations-becomes : (v : values.AttributeValue) → ((n : ℕ) × (v ≡ input.LocRef n)) ⊎ ((n : ℕ) × (v ≡ input.LocIndex n)) → becomes v ≡ code_value_becomes x e before name (value_view v)
+  unfolding value_becomes
+  locations-becomes v kind = go kind
+    where
+      goal : values.AttributeValue → Type 0
+      goal v = becomes v ≡ code_value_becomes x e before name (value_view v)
+
+      go : ((n : ℕ) × (v ≡ input.LocRef n)) ⊎ ((n : ℕ) × (v ≡ input.LocIndex n)) → goal v
+      go (inl p) = subst goal (sym p.1) refl
+      go (inr p) = subst goal (sym p.1) refl
 
 -- ---- attributes
 
 module _ (rules : CodeRules Refusal) (s : UnitSource) (e : Placed) (before : List (ℕ × Value)) (a : ℕ × Value) where
   -- what an attribute becomes, by what its name is
   abbrev by_name : Bool → Bool → Bool → Result (Option DraftValue) Refusal
-  by_name dropped table bound = elim dropped [ true ↦ Ok None | false ↦ elim table [ true ↦ Ok (table_becomes s e) | false ↦ elim bound [ true ↦ bound_becomes rules s e before a | false ↦ value_becomes rules s e a.0 a.1 ] ] ]
+  by_name dropped table bound = elim dropped [ true ↦ Ok None | false ↦ elim table [ true ↦ Ok (table_becomes s e) | false ↦ elim bound [ true ↦ bound_becomes rules s e before a | false ↦ value_becomes rules s e before a.0 a.1 ] ] ]
 
   becomes-by_name : (dropped table bound : Bool) → is_dropped_name a.0 ≡ dropped → (a.0 == DW_AT_stmt_list) ≡ table → is_bound_name a.0 ≡ bound → attribute_becomes rules s e before a ≡ by_name dropped table bound
   unfolding attribute_becomes
@@ -71,5 +120,5 @@ module _ (rules : CodeRules Refusal) (s : UnitSource) (e : Placed) (before : Lis
   pub attribute-bound : is_dropped_name a.0 ≡ false → (a.0 == DW_AT_stmt_list) ≡ false → is_bound_name a.0 ≡ true → attribute_becomes rules s e before a ≡ bound_becomes rules s e before a
   attribute-bound d t b = becomes-by_name false false true d t b
 
-  pub attribute-value : is_dropped_name a.0 ≡ false → (a.0 == DW_AT_stmt_list) ≡ false → is_bound_name a.0 ≡ false → attribute_becomes rules s e before a ≡ value_becomes rules s e a.0 a.1
+  pub attribute-value : is_dropped_name a.0 ≡ false → (a.0 == DW_AT_stmt_list) ≡ false → is_bound_name a.0 ≡ false → attribute_becomes rules s e before a ≡ value_becomes rules s e before a.0 a.1
   attribute-value d t b = becomes-by_name false false false d t b

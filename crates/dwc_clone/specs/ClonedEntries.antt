@@ -8,6 +8,7 @@ use Rattle.dwc_base.specs.Refusals.{Refusal}
 use Rattle.dwc_base.specs.Trees.{TreeValue, set_attribute}
 use Rattle.dwc_base.specs.Clones.{UnitSource, attributes_become, if_made, if_refused, entry_refusals}
 use Rattle.dwc_base.specs.DraftForests.{settled}
+use Rattle.dwc_clif.specs.Registers.{Registers}
 use Rattle.dwc_kept.specs.KeptUnits.{AreBelow}
 use Rattle.dwc_write.specs.declared.attributes.AttributeValue.{AttributeValue}
 use Rattle.dwc_write.specs.declared.error.WriteError.{WriteError}
@@ -62,22 +63,22 @@ abbrev pub placed_entry : CloneSource → Entries.Entry → Placed
 placed_entry c e = record { unit = c.unit.now.header.offset; entry = e }
 
 -- what attributes of an entry are to say, behind some others
-abbrev pub values_wanted : CloneSource → UnitSource → Placed → List (ℕ × Value) → List (ℕ × Value) → List (ℕ × TreeValue)
-values_wanted c s e before as' = filter_map (settled (goal_place c.places.now)) (filter_map (λ a. if_made a.0 a.1) (attributes_become (clone_rules c) s e before as'))
+abbrev pub values_wanted : Registers → CloneSource → UnitSource → Placed → List (ℕ × Value) → List (ℕ × Value) → List (ℕ × TreeValue)
+values_wanted registers c s e before as' = filter_map (settled (goal_place c.places.now)) (filter_map (λ a. if_made a.0 a.1) (attributes_become (clone_rules registers c s) s e before as'))
 
 -- what is refused of them
-abbrev pub values_refused : CloneSource → UnitSource → Placed → List (ℕ × Value) → List (ℕ × Value) → List Refusal
-values_refused c s e before as' = filter_map (λ a. if_refused a.1) (attributes_become (clone_rules c) s e before as')
+abbrev pub values_refused : Registers → CloneSource → UnitSource → Placed → List (ℕ × Value) → List (ℕ × Value) → List Refusal
+values_refused registers c s e before as' = filter_map (λ a. if_refused a.1) (attributes_become (clone_rules registers c s) s e before as')
 
 -- A unit's last entry has what the attributes of an entry are to say, of which nothing is refused.
-pub record AreSet (c : CloneSource) (number : ℕ) (s : UnitSource) (p : Placed) (old new : List (List ℕ)) (base : GivenUnit) (e : Addition) (u : GivenUnit) : Type 0 where
-  pub given : IsGiven number old new (values_wanted c s p [] p.entry.attributes) base e u
-  pub accepted : values_refused c s p [] p.entry.attributes ≡ []
+pub record AreSet (registers : Registers) (c : CloneSource) (number : ℕ) (s : UnitSource) (p : Placed) (old new : List (List ℕ)) (base : GivenUnit) (e : Addition) (u : GivenUnit) : Type 0 where
+  pub given : IsGiven number old new (values_wanted registers c s p [] p.entry.attributes) base e u
+  pub accepted : values_refused registers c s p [] p.entry.attributes ≡ []
 
 -- That, or the first refusal.
-abbrev pub GivesSet : CloneSource → ℕ → UnitSource → Placed → List (List ℕ) → List (List ℕ) → GivenUnit → Addition → GivenUnit → Result (Unit {0}) CloneError → Type 0
-GivesSet c number s p old new base e u (Ok done) = AreSet c number s p old new base e u
-GivesSet c number s p old new base e u (Err error) = TellsFirst (values_refused c s p [] p.entry.attributes) (refusal_told error)
+abbrev pub GivesSet : Registers → CloneSource → ℕ → UnitSource → Placed → List (List ℕ) → List (List ℕ) → GivenUnit → Addition → GivenUnit → Result (Unit {0}) CloneError → Type 0
+GivesSet registers c number s p old new base e u (Ok done) = AreSet registers c number s p old new base e u
+GivesSet registers c number s p old new base e u (Err error) = TellsFirst (values_refused registers c s p [] p.entry.attributes) (refusal_told error)
 
 -- ---- entries below their parents (DWARF 4 and 5, section 2.3)
 
@@ -114,17 +115,17 @@ CanFollow [] (root ∷ others) = (root.depth ≡ 0) × (root.tag ≡ DW_TAG_comp
 CanFollow (p ∷ ps) es = AreBelow (length ps) (depths_of es)
 
 -- A unit is made of some entries, of which the last one of each depth is known.
-pub record AreMade (c : CloneSource) (number : ℕ) (s : UnitSource) (es : List Entries.Entry) (old new : List (List ℕ)) (begun u : GivenUnit) (parents : List UnitEntryId) : Type 0 where
-  pub unit : IsCloned c number s es old new begun u
+pub record AreMade (registers : Registers) (c : CloneSource) (number : ℕ) (s : UnitSource) (es : List Entries.Entry) (old new : List (List ℕ)) (begun u : GivenUnit) (parents : List UnitEntryId) : Type 0 where
+  pub unit : IsCloned registers c number s es old new begun u
   pub path : ArePath (depths_of es) 0 parents
   pub some : 0 < length parents
 
 -- The same of the entries so far, where a unit that was begun is made of none.
-abbrev pub AreMadeSoFar : CloneSource → ℕ → UnitSource → List Entries.Entry → List (List ℕ) → List (List ℕ) → GivenUnit → GivenUnit → List UnitEntryId → Type 0
-AreMadeSoFar c number s [] old new begun u parents = (new ≡ old) × (u ≡ begun) × (parents ≡ [])
-AreMadeSoFar c number s (e ∷ es) old new begun u parents = AreMade c number s (e ∷ es) old new begun u parents
+abbrev pub AreMadeSoFar : Registers → CloneSource → ℕ → UnitSource → List Entries.Entry → List (List ℕ) → List (List ℕ) → GivenUnit → GivenUnit → List UnitEntryId → Type 0
+AreMadeSoFar registers c number s [] old new begun u parents = (new ≡ old) × (u ≡ begun) × (parents ≡ [])
+AreMadeSoFar registers c number s (e ∷ es) old new begun u parents = AreMade registers c number s (e ∷ es) old new begun u parents
 
 -- An entry was cloned behind others, and some can follow; or its first refusal is told.
-abbrev pub GivesEntry : CloneSource → ℕ → UnitSource → List Entries.Entry → Entries.Entry → List Entries.Entry → List (List ℕ) → List (List ℕ) → GivenUnit → GivenUnit → List UnitEntryId → Result (Unit {0}) CloneError → Type 0
-GivesEntry c number s es e others old new begun u parents (Ok done) = AreMadeSoFar c number s (es ++ e ∷ []) old new begun u parents × CanFollow parents others
-GivesEntry c number s es e others old new begun u parents (Err error) = TellsFirst (entry_refusals (clone_rules c) s (placed_entry c e)) (refusal_told error)
+abbrev pub GivesEntry : Registers → CloneSource → ℕ → UnitSource → List Entries.Entry → Entries.Entry → List Entries.Entry → List (List ℕ) → List (List ℕ) → GivenUnit → GivenUnit → List UnitEntryId → Result (Unit {0}) CloneError → Type 0
+GivesEntry registers c number s es e others old new begun u parents (Ok done) = AreMadeSoFar registers c number s (es ++ e ∷ []) old new begun u parents × CanFollow parents others
+GivesEntry registers c number s es e others old new begun u parents (Err error) = TellsFirst (entry_refusals (clone_rules registers c s) s (placed_entry c e)) (refusal_told error)

@@ -11,14 +11,19 @@ use Rattle.dwc_base.specs.Clones.{UnitSource, CodeRules, entry_refusals}
 use Rattle.dwc_base.specs.CarriedDrafts.{unit_drafts}
 use Rattle.dwc_base.specs.DraftForests.{settled_unit}
 use Rattle.dwc_base.specs.EntryRules.{code_rules}
+use Rattle.dwc_base.specs.LocationRules.{ExpressionSource, in_force_at}
+use Rattle.dwc_clif.specs.Registers.{Registers}
 use Rattle.dwc_kept.specs.KeptUnits.{IsTree}
 use Rattle.dwc_write.specs.GivenUnits.{GivenUnit}
 use Rattle.dwc_write.specs.UsedTexts.{texts_of_attributes}
 use Rattle.dwc_write.specs.AddedInOrder.{IsInOrder, tree_meant}
 use Rattle.dwc_clone.specs.declared.error.CloneError.{CloneError}
+use Rattle.dwc_clone.specs.declared.in_force.InForce.{InForce}
 use Rattle.dwc_clone.specs.declared.source.CloneSource.{CloneSource}
 use Rattle.dwc_clone.specs.Errors.{refusal_told}
 use Rattle.dwc_clone.specs.OutputPlaces.{goal_place}
+use Rattle.dwc_clone.specs.CompiledModules.{told_by}
+use Rattle.dwc_clone.specs.InForceSeen.{in_force_view}
 use Rattle.dwc_clone.specs.MadeValues.{Grows}
 
 -- the entries at some offsets, both in file order
@@ -34,17 +39,25 @@ placed_in unit es = map (λ e. record { unit = unit; entry = e }) es
 abbrev pub depths_of : List Entry → List ℕ
 depths_of es = map (λ e. e.depth) es
 
--- the rules for the code of the unit that is cloned
-abbrev pub clone_rules : CloneSource → CodeRules Refusal
-clone_rules c = code_rules c.transform.now c.unit.now.sections c.unit.now.header
+-- the rules for the code of the unit that is cloned, for a target that numbers registers
+abbrev pub clone_rules : Registers → CloneSource → UnitSource → CodeRules Refusal
+clone_rules registers c s = code_rules (told_by registers c.module) c.transform.now c.unit.now.sections c.unit.now.header s.entries
+
+-- what the unit's expressions are carried with
+abbrev pub source_with : Registers → CloneSource → UnitSource → ExpressionSource
+source_with registers c s = record { sections = c.unit.now.sections; header = c.unit.now.header; functions = c.transform.now; told = told_by registers c.module; entries = s.entries }
+
+-- What is said to be in force at an entry of the unit is.
+abbrev pub IsInForce : Registers → CloneSource → UnitSource → Placed → InForce → Type 0
+IsInForce registers c s e in_force = in_force_view c.transform.now registers in_force ≡ in_force_at (source_with registers c s) e
 
 -- what is refused of some entries of the unit, in order
-abbrev pub clone_refusals : CloneSource → UnitSource → List Entry → List Refusal
-clone_refusals c s es = flat_map (entry_refusals (clone_rules c) s) (placed_in c.unit.now.header.offset es)
+abbrev pub clone_refusals : Registers → CloneSource → UnitSource → List Entry → List Refusal
+clone_refusals registers c s es = flat_map (entry_refusals (clone_rules registers c s) s) (placed_in c.unit.now.header.offset es)
 
 -- what they are to say
-abbrev pub clone_wanted : CloneSource → UnitSource → List Entry → Tree
-clone_wanted c s es = settled_unit (goal_place c.places.now) (unit_drafts (clone_rules c) s c.big_endian (placed_in c.unit.now.header.offset es))
+abbrev pub clone_wanted : Registers → CloneSource → UnitSource → List Entry → Tree
+clone_wanted registers c s es = settled_unit (goal_place c.places.now) (unit_drafts (clone_rules registers c s) s c.big_endian (placed_in c.unit.now.header.offset es))
 
 -- Entries that can be cloned: they were read, they are a tree in file order, and the root is a compile unit.
 pub record AreClonable (es : List Entry) : Type 0 where
@@ -57,13 +70,13 @@ pub record AreClonable (es : List Entry) : Type 0 where
 
 -- A unit of the output, of a number, is made of some entries: nothing of them is refused; they were added in their order; they say what
 -- they are to say, with a table of texts that has grown; and the line program and the address size are those of the unit that was begun.
-pub record IsCloned (c : CloneSource) (number : ℕ) (s : UnitSource) (es : List Entry) (old new : List (List ℕ)) (begun u : GivenUnit) : Type 0 where
+pub record IsCloned (registers : Registers) (c : CloneSource) (number : ℕ) (s : UnitSource) (es : List Entry) (old new : List (List ℕ)) (begun u : GivenUnit) : Type 0 where
   pub grows : Grows old new
-  pub accepted : clone_refusals c s es ≡ []
+  pub accepted : clone_refusals registers c s es ≡ []
   pub size : u.address_size ≡ begun.address_size
   pub lines : u.lines ≡ begun.lines
   pub order : IsInOrder (depths_of es) u
-  pub says : tree_meant new number (depths_of es) u.additions ≡ clone_wanted c s es
+  pub says : tree_meant new number (depths_of es) u.additions ≡ clone_wanted registers c s es
   pub texts : All (λ e. All (λ n. n < length new) (texts_of_attributes e.attributes)) u.additions
 
 -- A refusal is for want of memory, or is the first of some.
@@ -72,6 +85,6 @@ TellsFirst refusals None = Prim.Unit {0}
 TellsFirst refusals (Some refusal) = first_of refusals ≡ Some refusal
 
 -- That unit, or the first refusal.
-abbrev pub GivesCloned : CloneSource → ℕ → UnitSource → List Entry → List (List ℕ) → List (List ℕ) → GivenUnit → Result GivenUnit CloneError → Type 0
-GivesCloned c number s es old new begun (Ok u) = IsCloned c number s es old new begun u
-GivesCloned c number s es old new begun (Err e) = TellsFirst (clone_refusals c s es) (refusal_told e)
+abbrev pub GivesCloned : Registers → CloneSource → ℕ → UnitSource → List Entry → List (List ℕ) → List (List ℕ) → GivenUnit → Result GivenUnit CloneError → Type 0
+GivesCloned registers c number s es old new begun (Ok u) = IsCloned registers c number s es old new begun u
+GivesCloned registers c number s es old new begun (Err e) = TellsFirst (clone_refusals registers c s es) (refusal_told e)

@@ -1,9 +1,16 @@
 pub mod Errors
+pub mod InputExtents
+pub mod Lineages
 pub mod NativeExtents
-pub mod BoundsSeen
+pub mod AttributesSeen
 pub mod OutputPlaces
 pub mod Sources
 pub mod MadeValues
 pub mod ClonedUnits
+pub mod CompiledModules
 pub mod ClonedEntries
 pub mod KnownTexts
+pub mod InForceSeen
+pub mod LocatedValues
+pub mod LocatedLists
+pub mod StacksByDepth

@@ -4,10 +4,9 @@ use Rattle.dwc_base.specs.declared.records.Address.{Address}
 use Rattle.dwc_base.specs.declared.constants.TheConstants.{DW_AT_low_pc}
 use Rattle.dwc_base.specs.Functions.{Function}
 use Rattle.dwc_base.specs.Listing.{Listing, only_fault}
-use Rattle.dwc_base.specs.Values.{Value, constant}
 use Rattle.dwc_base.specs.Refusals.{Refusal, first_of}
 use Rattle.dwc_base.specs.Trees.{Interval, TreeValue, address as address_of_tree}
-use Rattle.dwc_base.specs.Lists.{ListRefusal, interval_between, interval_of_length}
+use Rattle.dwc_base.specs.Lists.{ListRefusal}
 use Rattle.dwc_base.specs.RangeAttributes.{Extent, native_of_intervals, said_extent, said_intervals}
 use Rattle.dwc_write.specs.RangeLists.{FitsRange, interval_of}
 use Rattle.dwc_write.specs.Writers.{FitsField}
@@ -15,8 +14,6 @@ use Rattle.dwc_tabs.specs.declared.list_fault.ListFault.{ListFault}
 use Rattle.dwc_tabs.specs.RangeEnds.{refusal_view}
 use Rattle.dwc_clone.specs.declared.error.CloneError.{CloneError}
 use Rattle.dwc_clone.specs.declared.ranges.NativeRanges.{NativeRanges}
-use Rattle.dwc_clone.specs.declared.extent.CodeEnd.{CodeEnd}
-use Rattle.dwc_clone.specs.declared.extent.CodeEnd.TheVariants.{At, Behind}
 use Rattle.dwc_clone.specs.declared.extent.NativeExtent.{NativeExtent}
 use Rattle.dwc_clone.specs.declared.extent.NativeExtent.TheVariants.{Intervals, Position, Nowhere}
 use Rattle.dwc_clone.specs.Errors.{refusal_told}
@@ -33,7 +30,7 @@ pub record IsNative (fs : List Function) (listed : Listing ListRefusal Interval)
   pub fault : option_map refusal_view r.fault ≡ listed.fault
 
 -- A call begins a list, or tells why nothing of it can be read.
-abbrev pub BeginsList : Listing ListRefusal Interval → Result (Listing ListRefusal Interval) ListFault → Type 0
+abbrev pub BeginsList : {A : Type 0} → Listing ListRefusal A → Result (Listing ListRefusal A) ListFault → Type 0
 BeginsList listed (Ok list) = list ≡ listed
 BeginsList listed (Err e) = listed ≡ only_fault (refusal_view e)
 
@@ -67,13 +64,3 @@ FitsExtent Nowhere = Unit {0}
 -- what an entry has of the code is what its extent becomes
 abbrev pub IsExtent : List Function → ℕ → Extent → NativeExtent → Type 0
 IsExtent fs tag e x = said_by tag x ≡ said_extent fs tag e
-
--- the value of a constant
-abbrev pub constant_said : Value → Option ℕ
-constant_said (constant form n) = Some n
-constant_said _ = None
-
--- the interval from a begin to an end
-abbrev pub interval_up_to : Address → CodeEnd → Result (Option Interval) ListRefusal
-interval_up_to begin (At end) = Ok (interval_between begin end)
-interval_up_to begin (Behind n) = interval_of_length begin n

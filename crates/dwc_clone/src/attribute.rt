@@ -5,7 +5,6 @@ ghost use Rattle.dwc_base.specs.Kept.{Placed};
 ghost use Rattle.dwc_base.specs.Values.{Value};
 ghost use Rattle.dwc_base.specs.ReadValues.{IsReadValue};
 ghost use Rattle.dwc_base.specs.Addends.{HaveAddends};
-ghost use Rattle.dwc_base.specs.EntryRules.{code_rules};
 ghost use Rattle.dwc_base.specs.Lists.{list_source};
 ghost use Rattle.dwc_base.specs.RangeRefusals.{begins_by_low_pc};
 ghost use Rattle.dwc_base.specs.Clones.{UnitSource, attribute_becomes, table_becomes};
@@ -14,15 +13,18 @@ ghost use Rattle.dwc_read.specs.EntriesSeen.{entry_view};
 ghost use Rattle.dwc_write.specs.GivenUnits.{FitsValue};
 ghost use Rattle.dwc_clone.specs.declared.places.EmittedEntry.{EmittedEntry};
 ghost use Rattle.dwc_clone.specs.Sources.{AreFiles, IsSource};
+ghost use Rattle.dwc_clone.specs.ClonedUnits.{IsInForce, clone_rules};
 ghost use Rattle.dwc_clone.specs.KnownTexts.{KnowsTexts};
-ghost use Rattle.dwc_clone.specs.BoundsSeen.{bounds_among};
+ghost use Rattle.dwc_clone.specs.AttributesSeen.{seen_among};
 ghost use Rattle.dwc_clone.specs.MadeValues.{GivesMade, Says, SaysMore};
 
-use crate::bounds::{BoundsSeen, check_bound};
+use crate::bounds::{AttributesSeen, check_bound};
+use crate::in_force::InForce;
 use crate::names::{is_bound_name, is_dropped_name};
 use crate::value::output_value;
 use crate::{CloneError, CloneSource, KnownTexts};
 use dwc_base::constants::DW_AT_stmt_list;
+use dwc_clif::TargetIsa;
 use dwc_read::{AttributeValue as InputValue, Entry};
 use dwc_write::{AttributeValue, StringTable};
 use std::alloc::Global;
@@ -40,17 +42,20 @@ fn line_table(source: &CloneSource<'_, '_>, entry: &Entry<'_>) -> Option<Attribu
 }
 
 /// What an attribute of an entry becomes; None where it goes. `begins` tells whether the entry is a subprogram that begins in a function
-/// by its `low_pc`; `seen` are the bounds before this attribute. Texts are added to `strings`, and noted in `known`, by which they are
+/// by its `low_pc`; `seen` tells what comes before this attribute. Texts are added to `strings`, and noted in `known`, by which they are
 /// found when they are named again.
 ///
 /// # Errors
-/// `Read` with the entry's offset where a text, or an address by an index, cannot be read, and at a range list; `Unsupported` `NotBuilt`
-/// with the entry's offset for an expression and a location list; `TooLarge` where a start plus a length is no address.
+/// `Read` with the entry's offset where a text, or an address by an index, cannot be read, at a list, or at an expression; `LongRange`
+/// where a start plus a length is no address; `BadLabelRange`, `InvalidAttributeValue`, `UnmappedRegister` and `LongJump` for an
+/// expression that is built over its scope. `OutOfMemory` for want of memory.
 pub(crate) fn output_attribute(
     alloc: Global,
+    isa: &dyn TargetIsa,
     source: &CloneSource<'_, '_>,
+    in_force: &InForce<'_>,
     begins: bool,
-    seen: BoundsSeen,
+    seen: AttributesSeen,
     entry: &Entry<'_>,
     attribute: &(u16, InputValue<'_>),
     strings: &mut StringTable,
@@ -60,7 +65,7 @@ pub(crate) fn output_attribute(
     requires begins { begins ≡ begins_by_low_pc (list_source source.now.unit.now.sections source.now.unit.now.header) source.now.transform.now (entry_view entry.now) }
     requires read { IsReadValue attribute.now.0 (value_view attribute.now.1) }
     requires known { KnowsTexts source.now.unit.now.sections strings.old known.old }
-    ensures made { (number : ℕ) (s : UnitSource) (e : Placed) (before : List (ℕ × Value)) → IsSource source.now number s → e.unit ≡ source.now.unit.now.header.offset → e.entry ≡ entry_view entry.now → seen ≡ bounds_among before → GivesMade (SaysMore source.now.places.now number attribute.now.0 strings.old strings.new) (attribute_becomes (code_rules source.now.transform.now source.now.unit.now.sections source.now.unit.now.header) s e before (attribute_view attribute.now)) result }
+    ensures made { (number : ℕ) (s : UnitSource) (e : Placed) (before : List (ℕ × Value)) → IsSource source.now number s → e.unit ≡ source.now.unit.now.header.offset → e.entry ≡ entry_view entry.now → seen ≡ seen_among before → IsInForce (dwarf_registers isa.now) source.now s e in_force.now → GivesMade (SaysMore source.now.places.now number attribute.now.0 strings.old strings.new) (attribute_becomes (clone_rules (dwarf_registers isa.now) source.now s) s e before (attribute_view attribute.now)) result }
     ensures fits { IfOk result (λ v. (size : ℕ) → IfSome v (FitsValue size attribute.now.0)) }
     ensures known { KnowsTexts source.now.unit.now.sections strings.new known.new }
 {
@@ -72,8 +77,21 @@ pub(crate) fn output_attribute(
         return Ok(line_table(source, entry));
     }
     if is_bound_name(name) {
-        check_bound(source, begins, seen, entry, name, value, known)?;
+        check_bound(
+            alloc, source, in_force, begins, seen, entry, name, value, known,
+        )?;
         return Ok(None);
     }
-    output_value(alloc, source, entry.offset, name, value, strings, known)
+    output_value(
+        alloc,
+        isa,
+        source,
+        in_force,
+        entry.offset,
+        seen.count,
+        name,
+        value,
+        strings,
+        known,
+    )
 }

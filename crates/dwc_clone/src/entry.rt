@@ -13,17 +13,27 @@ ghost use Rattle.dwc_base.specs.Kept.{Placed};
 ghost use Rattle.dwc_base.specs.ReadValues.{IsReadEntry};
 ghost use Rattle.dwc_read.specs.EntriesSeen.{entry_view};
 ghost use Rattle.dwc_write.specs.GivenUnits.{Addition, GivenUnit, FitsValue, IsAdded, new_unit};
+ghost use Rattle.dwc_base.specs.LocationRules.{frame_at};
+ghost use Rattle.dwc_clif.specs.Registers.{Registers};
+ghost use Rattle.dwc_expr.specs.Frames.{frame_view};
+ghost use Rattle.dwc_clone.specs.CompiledModules.{HasFrames};
+ghost use Rattle.dwc_clone.specs.ClonedUnits.{IsInForce, source_with};
+ghost use Rattle.dwc_clone.specs.Lineages.{AreInForce, with_entry};
 ghost use Rattle.dwc_clone.specs.Sources.{IsSource};
 ghost use Rattle.dwc_clone.specs.KnownTexts.{KnowsTexts};
 ghost use Rattle.dwc_clone.specs.ClonedEntries.{AddsBelow, AreKnown, AreMadeSoFar, CanFollow, GivesEntry, GivesSet, IsGiven, IsLast, OfMemory, last_parent, placed_entry, with_made};
 
 use crate::attribute::output_attribute;
-use crate::bounds::{bounds_behind, no_bounds};
+use crate::bounds::{nothing_seen, seen_behind};
 use crate::code::set_code;
+use crate::in_force::InForce;
+use crate::lineage::Lineage;
 use crate::{CloneError, CloneSource, KnownTexts};
 use dwc_base::constants::{
     DW_AT_endianity, DW_AT_low_pc, DW_END_little, DW_FORM_data1, DW_TAG_base_type,
 };
+use dwc_clif::TargetIsa;
+use dwc_expr::FunctionFrameInfo;
 use dwc_kept::{address_said, function_begun};
 use dwc_read::Entry;
 use dwc_write::{AttributeValue, StringTable, Unit, UnitEntryId, WriteError};
@@ -101,7 +111,9 @@ fn set_made(
 // Gives an entry what the attributes of another become, in their order.
 fn set_attributes(
     alloc: Global,
+    isa: &dyn TargetIsa,
     source: &CloneSource<'_, '_>,
+    in_force: &InForce<'_>,
     begins: bool,
     entry: &Entry<'_>,
     unit: &mut Unit,
@@ -116,16 +128,16 @@ fn set_attributes(
     requires texts { KnowsTexts source.now.unit.now.sections strings.old known.old }
     ensures places { OnOk result (unit.new.places ≡ unit.old.places) }
     ensures texts { KnowsTexts source.now.unit.now.sections strings.new known.new }
-    ensures given { (number : ℕ) (s : UnitSource) (base : GivenUnit) (e : Addition) → IsSource source.now number s → IsLast strings.old id base e unit.old → GivesSet source.now number s (placed_entry source.now (entry_view entry.now)) strings.old strings.new base e unit.new result }
+    ensures given { (number : ℕ) (s : UnitSource) (base : GivenUnit) (e : Addition) → IsSource source.now number s → IsLast strings.old id base e unit.old → IsInForce (dwarf_registers isa.now) source.now s (placed_entry source.now (entry_view entry.now)) in_force.now → GivesSet (dwarf_registers isa.now) source.now number s (placed_entry source.now (entry_view entry.now)) strings.old strings.new base e unit.new result }
 {
     let attributes = entry.attrs();
-    let mut seen = no_bounds();
+    let mut seen = nothing_seen();
     for attribute in attributes {
         let value = output_attribute(
-            alloc, source, begins, seen, entry, attribute, strings, known,
+            alloc, isa, source, in_force, begins, seen, entry, attribute, strings, known,
         )?;
         of_memory(set_made(unit, id, attribute.0, value))?;
-        seen = bounds_behind(seen, attribute.0);
+        seen = seen_behind(seen, attribute.0);
     }
     Ok(())
 }
@@ -147,11 +159,24 @@ fn has_begin(source: &CloneSource<'_, '_>, entry: &Entry<'_>) -> bool
     address_said(source.unit, entry, DW_AT_low_pc).is_some()
 }
 
-/// Adds the entry of the output that a kept entry becomes, the next one in file order.
+// What the function tells to expressions whose frame is in force.
+fn frame_in_force<'c>(
+    source: &CloneSource<'c, '_>,
+    lineage: &Lineage,
+) -> Option<FunctionFrameInfo<'c>>
+    ensures { (registers : Registers) (s : UnitSource) (e : Placed) → HasFrames source.now.module source.now.transform.now → AreInForce (list_source source.now.unit.now.sections source.now.unit.now.header) source.now.transform.now s.entries e lineage.now → frame_view result ≡ frame_at (source_with registers source.now s) e }
+{
+    source.module.frame(lineage.frame()?)
+}
+
+/// Adds the entry of the output that a kept entry becomes, the next one in file order. `lineage` is what its ancestors gave, and then what
+/// it gives is added.
 pub(crate) fn clone_entry(
     alloc: Global,
+    isa: &dyn TargetIsa,
     source: &CloneSource<'_, '_>,
     entry: &Entry<'_>,
+    lineage: &mut Lineage,
     parents: &mut Vec<UnitEntryId>,
     unit: &mut Unit,
     strings: &mut StringTable,
@@ -163,13 +188,23 @@ pub(crate) fn clone_entry(
     requires texts { KnowsTexts source.now.unit.now.sections strings.old known.old }
     ensures known { OnOk result (AreKnown parents.new.items unit.new) }
     ensures texts { KnowsTexts source.now.unit.now.sections strings.new known.new }
-    ensures cloned { (number : ℕ) (s : UnitSource) (es others : List Entries.Entry) (old : List (List ℕ)) (begun : GivenUnit) → IsSource source.now number s → begun ≡ new_unit begun.address_size begun.lines → AreMadeSoFar source.now number s es old strings.old begun unit.old parents.old.items → CanFollow parents.old.items (entry_view entry.now ∷ others) → GivesEntry source.now number s es (entry_view entry.now) others old strings.new begun unit.new parents.new.items result }
+    ensures entered { OnOk result (lineage.new ≡ with_entry (list_source source.now.unit.now.sections source.now.unit.now.header) source.now.transform.now (entry_view entry.now) lineage.old) }
+    ensures cloned { (number : ℕ) (s : UnitSource) (es others : List Entries.Entry) (old : List (List ℕ)) (begun : GivenUnit) → IsSource source.now number s → HasFrames source.now.module source.now.transform.now → AreInForce (list_source source.now.unit.now.sections source.now.unit.now.header) source.now.transform.now s.entries (placed_entry source.now (entry_view entry.now)) (with_entry (list_source source.now.unit.now.sections source.now.unit.now.header) source.now.transform.now (entry_view entry.now) lineage.old) → begun ≡ new_unit begun.address_size begun.lines → AreMadeSoFar (dwarf_registers isa.now) source.now number s es old strings.old begun unit.old parents.old.items → CanFollow parents.old.items (entry_view entry.now ∷ others) → GivesEntry (dwarf_registers isa.now) source.now number s es (entry_view entry.now) others old strings.new begun unit.new parents.new.items result }
 {
     let depth = depth_of(entry);
     let id = of_memory(add_entry(unit, parents, depth, entry.tag))?;
     let function = function_begun(source.unit, entry, source.transform);
     of_memory(set_code(alloc, source, entry, function, unit, id))?;
     let begins = function.is_some() && has_begin(source, entry);
-    set_attributes(alloc, source, begins, entry, unit, id, strings, known)?;
+    lineage.enter(alloc, source, entry, function)?;
+    let frame = frame_in_force(source, lineage);
+    let in_force = InForce {
+        scope: lineage.scope(),
+        frame: frame.as_ref(),
+        base: lineage.base(),
+    };
+    set_attributes(
+        alloc, isa, source, &in_force, begins, entry, unit, id, strings, known,
+    )?;
     of_memory(set_endianity(unit, id, source.big_endian, entry.tag))
 }

@@ -2,6 +2,7 @@
 ghost use Rattle.std.specs.Prelude.{◌≡◌};
 
 use dwc_base::{Kind, SectionName, What};
+use dwc_clif::{Reg, ValueLabel};
 use dwc_read::ReadFault;
 use dwc_tabs::ListFault;
 use dwc_write::WriteError;
@@ -18,7 +19,7 @@ pub enum CloneError {
         section: SectionName,
         offset: u64,
     },
-    /// What stands at `offset` is of a kind that is refused, or not built yet.
+    /// What stands at `offset` is of a kind that is refused.
     #[error("Unsupported {what:?} {offset}")]
     Unsupported {
         what: Kind,
@@ -26,7 +27,25 @@ pub enum CloneError {
     },
     /// A start plus a length is no address.
     #[error("TooLarge Range")]
-    TooLarge,
+    LongRange,
+    /// A label that an expression needs has a range that begins above its end.
+    #[error("BadLabelRange {}", label.0)]
+    BadLabelRange {
+        label: ValueLabel,
+    },
+    /// An expression reads linear memory, and the module, by its place among all, has none.
+    #[error("InvalidAttributeValue {module}")]
+    InvalidAttributeValue {
+        module: u32,
+    },
+    /// A value that an expression needs lies in a register that DWARF does not know.
+    #[error("UnmappedRegister {}", register.0)]
+    UnmappedRegister {
+        register: Reg,
+    },
+    /// A jump of an expression goes further than 16 bits with a sign say.
+    #[error("TooLarge Jump")]
+    LongJump,
     #[error("out of memory")]
     OutOfMemory,
 }
@@ -72,7 +91,7 @@ impl From<ListFault> for CloneError {
                 offset,
             },
             ListFault::Unsupported { what, offset } => CloneError::Unsupported { what, offset },
-            ListFault::TooLarge => CloneError::TooLarge,
+            ListFault::TooLarge => CloneError::LongRange,
         }
     }
 }

@@ -1,11 +1,14 @@
 //! Names of attributes that decide alone what becomes of a value.
 ghost use Rattle.std.specs.Prelude.{◌≡◌};
 ghost use Rattle.dwc_base.specs.Clones.{is_dropped_name, is_bound_name, is_file_name};
+ghost use Rattle.dwc_base.specs.Values.{is_location_name};
 
 use dwc_base::constants::{
-    DW_AT_GNU_locviews, DW_AT_addr_base, DW_AT_call_file, DW_AT_decl_file, DW_AT_dwo_name,
-    DW_AT_high_pc, DW_AT_loclists_base, DW_AT_low_pc, DW_AT_macro_info, DW_AT_macros, DW_AT_ranges,
-    DW_AT_rnglists_base, DW_AT_sibling, DW_AT_str_offsets_base,
+    DW_AT_GNU_locviews, DW_AT_addr_base, DW_AT_call_file, DW_AT_data_member_location,
+    DW_AT_decl_file, DW_AT_dwo_name, DW_AT_frame_base, DW_AT_high_pc, DW_AT_location,
+    DW_AT_loclists_base, DW_AT_low_pc, DW_AT_macro_info, DW_AT_macros, DW_AT_ranges,
+    DW_AT_return_addr, DW_AT_rnglists_base, DW_AT_segment, DW_AT_sibling, DW_AT_static_link,
+    DW_AT_str_offsets_base, DW_AT_string_length, DW_AT_use_location, DW_AT_vtable_elem_location,
 };
 
 /// Whether an attribute of a name goes: what speaks of a place in the input, or of sections that are not carried.
@@ -41,4 +44,19 @@ pub(crate) fn is_file_name(name: u16) -> bool
     ensures { result ≡ is_file_name name }
 {
     name == DW_AT_decl_file || name == DW_AT_call_file
+}
+
+/// Whether an attribute of a name may have a location list. (DWARF 4, section 7.5.4; DWARF 5, table 7.5.)
+pub(crate) fn is_location_name(name: u16) -> bool
+    ensures { result ≡ is_location_name name }
+{
+    name == DW_AT_location
+        || name == DW_AT_string_length
+        || name == DW_AT_return_addr
+        || name == DW_AT_data_member_location
+        || name == DW_AT_frame_base
+        || name == DW_AT_segment
+        || name == DW_AT_static_link
+        || name == DW_AT_use_location
+        || name == DW_AT_vtable_elem_location
 }

@@ -67,8 +67,8 @@ fn push_translated(
     Ok(())
 }
 
-// The fault of a list that cannot be found, told at the entry at an offset.
-fn told_at(fault: ReadFault, offset: u64) -> ListFault
+/// The fault of a list that cannot be found, told at the entry at an offset.
+pub(crate) fn told_at(fault: ReadFault, offset: u64) -> ListFault
     ensures { (f : Fault) → fault_seen fault ≡ Some f → refusal_view result ≡ of_place (fault_at offset f) }
 {
     match fault {
@@ -83,8 +83,8 @@ fn told_at(fault: ReadFault, offset: u64) -> ListFault
     }
 }
 
-// The range list that a value of the entry at an offset names, at its begin.
-fn list_begun<'u, 'd>(
+/// The range list that a value of the entry at an offset names, at its begin.
+pub(crate) fn list_begun<'u, 'd>(
     unit: &'u Unit<'d>,
     offset: u64,
     value: AttributeValue<'d>,

@@ -1,14 +1,15 @@
 //! What the entries of a unit are cloned with.
-use crate::{Places, UnitFiles};
+use crate::{CompiledModule, Places, UnitFiles};
 use dwc_addr::AddressTransform;
 use dwc_read::Unit;
 
-/// What the entries of a unit are cloned with: the unit, the functions of its module, where the module's entries stand in the output,
-/// the files that the unit's entries name, and whether the target has the highest byte of a number first.
+/// What the entries of a unit are cloned with: the unit, the functions of its module and what is told of them, where the module's entries
+/// stand in the output, the files that the unit's entries name, and whether the target has the highest byte of a number first.
 #[derive(Clone, Copy)]
 pub struct CloneSource<'c, 'd> {
     pub unit: &'c Unit<'d>,
     pub transform: &'c AddressTransform,
+    pub module: CompiledModule<'c>,
     pub places: &'c Places,
     pub files: UnitFiles,
     pub big_endian: bool,

@@ -7,10 +7,14 @@ ghost use Rattle.dwc_base.specs.ReadValues.{IsReadEntry};
 ghost use Rattle.dwc_write.specs.GivenUnits.{new_unit};
 ghost use Rattle.dwc_clone.specs.Sources.{IsSource};
 ghost use Rattle.dwc_clone.specs.KnownTexts.{KnowsTexts};
-ghost use Rattle.dwc_clone.specs.ClonedUnits.{picked, AreClonable, GivesCloned};
+ghost use Rattle.dwc_clone.specs.ClonedUnits.{picked, placed_in, AreClonable, GivesCloned};
+ghost use Rattle.dwc_clone.specs.CompiledModules.{HasFrames};
+ghost use Rattle.dwc_clone.specs.Lineages.{AreWalked};
 
 use crate::entry::clone_entry;
+use crate::lineage::Lineage;
 use crate::{CloneError, CloneSource, KnownTexts};
+use dwc_clif::TargetIsa;
 use dwc_write::{StringTable, Unit};
 use std::alloc::Global;
 
@@ -20,10 +24,12 @@ use std::alloc::Global;
 ///
 /// # Errors
 /// What is refused first of the kept entries, in file order, attribute by attribute: `Read` with the entry's offset where a text, or an
-/// address by an index, cannot be read, and at a range list; `Unsupported` `NotBuilt` with the entry's offset for a location list and an
-/// expression; `TooLarge` where a start plus a length is no address. `OutOfMemory` for want of memory.
+/// address by an index, cannot be read, at a list, or at an expression; `LongRange` where a start plus a length is no address;
+/// `BadLabelRange`, `InvalidAttributeValue`, `UnmappedRegister` and `LongJump` for an expression that is built over its scope.
+/// `OutOfMemory` for want of memory.
 pub fn clone_unit(
     alloc: Global,
+    isa: &dyn TargetIsa,
     source: &CloneSource<'_, '_>,
     kept: &[u32],
     begun: Unit,
@@ -35,9 +41,10 @@ pub fn clone_unit(
     requires read { All IsReadEntry (entries_of source.now.unit.now.sections source.now.unit.now.header).items }
     requires texts { KnowsTexts source.now.unit.now.sections strings.old known.old }
     ensures texts { KnowsTexts source.now.unit.now.sections strings.new known.new }
-    ensures cloned { (number : ℕ) (s : UnitSource) → IsSource source.now number s → (entries_of source.now.unit.now.sections source.now.unit.now.header).fault ≡ None → AreClonable (picked kept.now (entries_of source.now.unit.now.sections source.now.unit.now.header).items) → GivesCloned source.now number s (picked kept.now (entries_of source.now.unit.now.sections source.now.unit.now.header).items) strings.old strings.new begun result }
+    ensures cloned { (number : ℕ) (s : UnitSource) → IsSource source.now number s → HasFrames source.now.module source.now.transform.now → (entries_of source.now.unit.now.sections source.now.unit.now.header).fault ≡ None → AreClonable (picked kept.now (entries_of source.now.unit.now.sections source.now.unit.now.header).items) → AreWalked s.entries (placed_in source.now.unit.now.header.offset (picked kept.now (entries_of source.now.unit.now.sections source.now.unit.now.header).items)) → GivesCloned (dwarf_registers isa.now) source.now number s (picked kept.now (entries_of source.now.unit.now.sections source.now.unit.now.header).items) strings.old strings.new begun result }
 {
     let mut unit = begun;
+    let mut lineage = Lineage::new(alloc);
     let mut parents = Vec::new(alloc);
     let mut entries = source.unit.entries(alloc)?;
     let mut next = 0;
@@ -46,8 +53,10 @@ pub fn clone_unit(
         if entry.offset == u64::from(kept[next]) {
             clone_entry(
                 alloc,
+                isa,
                 source,
                 entry,
+                &mut lineage,
                 &mut parents,
                 &mut unit,
                 strings,

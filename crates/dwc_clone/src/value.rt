@@ -1,37 +1,40 @@
 //! What values become, under names that do not decide alone. (DWARF 4 and 5, section 7.5.)
-ghost use Rattle.std.specs.Prelude.{◌≡◌, ℕ, ◌<◌, List, true, false, Some, IfOk, IfSome, IsOkUnless, IsTrue, option_map};
+ghost use Rattle.std.specs.Prelude.{◌≡◌, ℕ, ◌<◌, List, length, true, false, Some, IfOk, IfSome, IsOkUnless, IsTrue, option_map};
 ghost use Rattle.dwc_base.specs.declared.section_name.SectionName.TheVariants.{Info};
 ghost use Rattle.dwc_base.specs.declared.faults.What.TheVariants.{Text};
-ghost use Rattle.dwc_base.specs.declared.faults.Kind.TheVariants.{NotBuilt};
-ghost use Rattle.dwc_base.specs.Sections.{reported, unsupported};
+ghost use Rattle.dwc_base.specs.Sections.{reported};
 ghost use Rattle.dwc_base.specs.Trees as Trees;
 ghost use Rattle.dwc_base.specs.Addends.{HaveAddends};
 ghost use Rattle.dwc_base.specs.RawLists.{is_range_list};
-ghost use Rattle.dwc_base.specs.Values.{is_expression_name, is_range_name};
+ghost use Rattle.dwc_base.specs.Values.{Value, is_expression_name, is_range_name};
 ghost use Rattle.dwc_base.specs.Kept.{Placed};
 ghost use Rattle.dwc_base.specs.ReadValues.{IsReadValue, is_constant_form, constant_bound};
 ghost use Rattle.dwc_base.specs.Texts.{text_named};
 ghost use Rattle.dwc_base.specs.Indexed.{texts_of_unit};
 ghost use Rattle.dwc_base.specs.Refusals.{of_place};
-ghost use Rattle.dwc_base.specs.EntryRules.{code_rules};
+ghost use Rattle.dwc_base.specs.EntryRules.{of_list};
+ghost use Rattle.dwc_base.specs.Lists.{list_source};
+ghost use Rattle.dwc_base.specs.RangeRules.{code_becomes, told_as};
 ghost use Rattle.dwc_base.specs.Clones.{UnitSource, constant_form, constant_becomes, text_drafted, value_becomes};
 ghost use Rattle.dwc_base.specs.Drafts.{done};
 ghost use Rattle.dwc_read.specs.ValuesSeen.{value_view};
 ghost use Rattle.dwc_write.specs.GivenUnits.{FitsValue};
 ghost use Rattle.dwc_clone.specs.declared.places.EmittedEntry.{EmittedEntry};
 ghost use Rattle.dwc_clone.specs.Sources.{AreFiles, IsSource};
-ghost use Rattle.dwc_clone.specs.Errors.{refusal_told};
+ghost use Rattle.dwc_clone.specs.ClonedUnits.{IsInForce, clone_rules};
 ghost use Rattle.dwc_clone.specs.KnownTexts.{KnowsTexts};
 ghost use Rattle.dwc_clone.specs.MadeValues.{GivesMade, Says, SaysMore, any_reference, is_address, own_reference, target_place};
 
 use crate::extent::carried_address;
+use crate::in_force::InForce;
+use crate::location::{output_expression, output_locations};
 use crate::names::is_file_name;
 use crate::ranges::native_ranges;
 use crate::reference::target_place;
 use crate::text::{text_of, text_place_of};
 use crate::{CloneError, CloneSource, KnownTexts, UnitFiles};
-use dwc_base::Kind;
 use dwc_base::constants::{DW_FORM_implicit_const, DW_FORM_sdata, DW_FORM_udata};
+use dwc_clif::TargetIsa;
 use dwc_read::AttributeValue as InputValue;
 use dwc_write::{AttributeValue, DebugInfoRef, RangeList, StringTable, UnitEntryId, UnitId};
 use std::alloc::Global;
@@ -129,7 +132,7 @@ fn address(
     value: InputValue<'_>,
 ) -> Result<Option<AttributeValue>, CloneError>
     requires functions { HaveAddends source.now.transform.now }
-    ensures made { (s : UnitSource) (e : Placed) (number name : ℕ) (texts : List (List ℕ)) → e.entry.offset ≡ offset → is_address (value_view value.entry) ≡ true → GivesMade (Says source.now.places.now number name texts) (value_becomes (code_rules source.now.transform.now source.now.unit.now.sections source.now.unit.now.header) s e name (value_view value.entry)) result }
+    ensures made { (number name : ℕ) (texts : List (List ℕ)) → is_address (value_view value.entry) ≡ true → GivesMade (Says source.now.places.now number name texts) (told_as of_list (code_becomes (list_source source.now.unit.now.sections source.now.unit.now.header) source.now.transform.now offset (value_view value.entry))) result }
     ensures fits { (size name : ℕ) → IfOk result (λ v. IfSome v (FitsValue size name)) }
 {
     match source.unit.address_of(&value) {
@@ -151,7 +154,7 @@ fn range_list(
 ) -> Result<AttributeValue, CloneError>
     requires functions { HaveAddends source.now.transform.now }
     requires list { IsTrue (is_range_list (value_view value)) }
-    ensures made { (s : UnitSource) (e : Placed) (number name : ℕ) (texts : List (List ℕ)) → e.entry.offset ≡ offset → is_range_name name ≡ true → GivesMade (λ draft v. Says source.now.places.now number name texts draft (Some v)) (value_becomes (code_rules source.now.transform.now source.now.unit.now.sections source.now.unit.now.header) s e name (value_view value.entry)) result }
+    ensures made { (number name : ℕ) (texts : List (List ℕ)) → is_range_name name ≡ true → GivesMade (λ draft v. Says source.now.places.now number name texts draft (Some v)) (told_as of_list (code_becomes (list_source source.now.unit.now.sections source.now.unit.now.header) source.now.transform.now offset (value_view value.entry))) result }
     ensures fits { (size name : ℕ) → is_range_name name ≡ true → IfOk result (FitsValue size name) }
 {
     let native = native_ranges(alloc, source.unit, source.transform, offset, value)?;
@@ -165,12 +168,16 @@ fn range_list(
 /// `strings`, and noted in `known`, by which they are found when they are named again.
 ///
 /// # Errors
-/// `Read` with the entry's offset where a text, or an address by an index, cannot be read, and at a range list; `Unsupported` `NotBuilt`
-/// with the entry's offset for a location list and an expression; `TooLarge` where a start plus a length in a list is no address.
+/// `Read` with the entry's offset where a text, or an address by an index, cannot be read, at a list, or at an expression; `LongRange`
+/// where a start plus a length in a list is no address; `BadLabelRange`, `InvalidAttributeValue`, `UnmappedRegister` and `LongJump` for
+/// an expression that is built over its scope. `OutOfMemory` for want of memory.
 pub(crate) fn output_value(
     alloc: Global,
+    isa: &dyn TargetIsa,
     source: &CloneSource<'_, '_>,
+    in_force: &InForce<'_>,
     offset: u64,
+    number: usize,
     name: u16,
     value: InputValue<'_>,
     strings: &mut StringTable,
@@ -179,7 +186,7 @@ pub(crate) fn output_value(
     requires functions { HaveAddends source.now.transform.now }
     requires read { IsReadValue name (value_view value) }
     requires known { KnowsTexts source.now.unit.now.sections strings.old known.old }
-    ensures made { (number : ℕ) (s : UnitSource) (e : Placed) → IsSource source.now number s → e.unit ≡ source.now.unit.now.header.offset → e.entry.offset ≡ offset → GivesMade (SaysMore source.now.places.now number name strings.old strings.new) (value_becomes (code_rules source.now.transform.now source.now.unit.now.sections source.now.unit.now.header) s e name (value_view value.entry)) result }
+    ensures made { (unit : ℕ) (s : UnitSource) (e : Placed) (before : List (ℕ × Value)) → IsSource source.now unit s → e.unit ≡ source.now.unit.now.header.offset → e.entry.offset ≡ offset → length before ≡ number → IsInForce (dwarf_registers isa.now) source.now s e in_force.now → GivesMade (SaysMore source.now.places.now unit name strings.old strings.new) (value_becomes (clone_rules (dwarf_registers isa.now) source.now s) s e before name (value_view value.entry)) result }
     ensures fits { IfOk result (λ v. (size : ℕ) → IfSome v (FitsValue size name)) }
     ensures known { KnowsTexts source.now.unit.now.sections strings.new known.new }
 {
@@ -197,18 +204,11 @@ pub(crate) fn output_value(
         InputValue::RangeRef(_) | InputValue::RangeIndex(_) => {
             Ok(Some(range_list(alloc, source, offset, value)?))
         }
-        InputValue::Exprloc(_) | InputValue::LocRef(_) | InputValue::LocIndex(_) => {
-            Err(not_built(offset))
+        InputValue::Exprloc(bytes) => {
+            output_expression(alloc, isa, source, in_force, offset, number, name, bytes)
         }
-    }
-}
-
-/// The refusal of what is not built yet, of the entry at an offset.
-pub(crate) fn not_built(offset: u64) -> CloneError
-    ensures { refusal_told result ≡ Some (of_place (unsupported NotBuilt offset)) }
-{
-    CloneError::Unsupported {
-        what: Kind::NotBuilt,
-        offset,
+        InputValue::LocRef(_) | InputValue::LocIndex(_) => {
+            output_locations(alloc, isa, source, in_force, offset, value)
+        }
     }
 }

@@ -1,34 +1,31 @@
-use Rattle.std.proofs.Common.{ℕ, ap, sym, subst, ◌∙◌}
+use Rattle.std.proofs.Common.{ℕ, ap, sym, subst}
 use Rattle.std.proofs.lemmas.Result.{err_from_is_err_and}
-use Rattle.dwc_base.specs.Indexed.{texts_of_unit}
-use Rattle.dwc_base.specs.Lists.{list_source}
-use Rattle.dwc_base.specs.RangeRefusals.{begins_by_low_pc}
-use Rattle.dwc_base.specs.Values.{Value}
-use Rattle.dwc_base.specs.EntryRules.{code_rules}
 use Rattle.dwc_base.specs.Clones.{bound_becomes}
-use Rattle.dwc_read.specs.EntriesSeen.{entry_view}
+use Rattle.dwc_base.specs.Entries.{Entry}
+use Rattle.dwc_base.specs.Indexed.{texts_of_unit}
+use Rattle.dwc_base.specs.Values.{Value}
 use Rattle.dwc_read.specs.Faults.{fault_seen}
 use Rattle.dwc_read.specs.ValuesSeen.{value_view}
+use Rattle.dwc_clone.specs.ClonedUnits.{clone_rules}
 use Rattle.dwc_clone.specs.MadeValues.{RefusesSo}
 use Rattle.dwc_clone.proofs.BoundLaws.{bound-told, bound-unread}
 use Rattle.dwc_clone.proofs.ErrorLaws.{told-reading}
 use Rattle.dwc_clone.proofs.bounds.check_bound.Goals as goal
 
 pub returns-in_err-check_text-clause-made : goal.returns-in_err-check_text-clause-made
-returns-in_err-check_text-clause-made c = λ table knows s e before texts entry begins seen.
-    let u = c.args.source.now.unit.now in
-    let fs = c.args.source.now.transform.now in
+returns-in_err-check_text-clause-made c = λ table knows registers s e before texts entry begins seen force.
+    let src = c.args.source.now in
+    let u = src.unit.now in
     let a : ℕ × Value = (c.args.name, value_view c.args.value) in
     let fault = c.in_err-check_text.field-0.0 in
     let p = err_from_is_err_and c.from_residual.result c.from_residual.ensures.1 in
-    let refused = bound-unread fs u.sections u.header s e before a (texts_of_unit u.sections u.header) (entry_view c.args.entry.now) texts entry (fault_seen fault) (c.in_err-check_text.ensures.text table knows) in
-    rw (p.1, p.2) (subst (RefusesSo (bound_becomes (code_rules fs u.sections u.header) s e before a)) (sym (told-reading fault)) refused)
+    let refused = bound-unread registers src s e before a (texts_of_unit u.sections u.header) c.args.entry.now.offset texts (ap (λ (x : Entry). x.offset) entry) (fault_seen fault) (c.in_err-check_text.ensures.text table knows) in
+    rw (p.1, p.2) (subst (RefusesSo (bound_becomes (clone_rules registers src s) s e before a)) (sym (told-reading fault)) refused)
 
 pub returns-clause-made : goal.returns-clause-made
-returns-clause-made c = λ table knows s e before texts entry begins seen.
-    let u = c.args.source.now.unit.now in
-    let fs = c.args.source.now.transform.now in
+returns-clause-made c = λ table knows registers s e before texts entry begins seen force.
+    let src = c.args.source.now in
+    let u = src.unit.now in
     let a : ℕ × Value = (c.args.name, value_view c.args.value) in
     let read = c.in_ok-check_text.ensures.text table knows in
-    let here = begins ∙ ap (begins_by_low_pc (list_source u.sections u.header) fs) entry in
-    bound-told fs u.sections u.header s e before a (texts_of_unit u.sections u.header) (entry_view c.args.entry.now) texts entry read.found c.check_code.result read.is (c.check_code.ensures fs before here seen)
+    bound-told registers src s e before a (texts_of_unit u.sections u.header) c.args.entry.now.offset texts (ap (λ (x : Entry). x.offset) entry) read.found c.check_said.result read.is (c.check_said.ensures registers s e before entry begins seen force)

@@ -11,14 +11,14 @@ pub returns-in_err-check_address : goal.returns-in_err-check_address
 returns-in_err-check_address c = λ fs before begins seen.
     let u = c.args.unit.now in
     let p = err_from_is_err_and c.from_residual.result c.from_residual.ensures.1 in
-    rw (p.1, p.2) (code-unread (list_source u.sections u.header) fs (entry_view c.args.entry.now) before (c.args.name, value_view c.args.value) (sym c.is_unbuilt.ensures ∙ c.if-is_unbuilt.false) (refusal_told c.in_err-check_address.field-0.0) c.in_err-check_address.ensures)
+    rw (p.1, p.2) (code-unread (list_source u.sections u.header) fs (entry_view c.args.entry.now) before (c.args.name, value_view c.args.value) (refusal_told c.in_err-check_address.field-0.0) c.in_err-check_address.ensures)
 
 pub returns-then-begins : goal.returns-then-begins
 returns-then-begins c = λ fs before begins seen.
     let u = c.args.unit.now in
-    code-begins (list_source u.sections u.header) fs (entry_view c.args.entry.now) before (c.args.name, value_view c.args.value) (sym c.is_unbuilt.ensures ∙ c.if-is_unbuilt.false) c.in_ok-check_address.ensures (sym c.if-begins.true ∙ begins)
+    code-begins (list_source u.sections u.header) fs (entry_view c.args.entry.now) before (c.args.name, value_view c.args.value) c.in_ok-check_address.ensures (sym c.if-begins.true ∙ begins)
 
 pub returns : goal.returns
 returns c = λ fs before begins seen.
     let u = c.args.unit.now in
-    code-extent (list_source u.sections u.header) fs (entry_view c.args.entry.now) before (c.args.name, value_view c.args.value) (sym c.is_unbuilt.ensures ∙ c.if-is_unbuilt.false) c.check_extent.result c.in_ok-check_address.ensures (sym c.if-begins.false ∙ begins) (c.check_extent.ensures before seen)
+    code-extent (list_source u.sections u.header) fs (entry_view c.args.entry.now) before (c.args.name, value_view c.args.value) c.check_extent.result c.in_ok-check_address.ensures (sym c.if-begins.false ∙ begins) (c.check_extent.ensures before seen)

@@ -1,4 +1,4 @@
-use Rattle.std.proofs.Common.{◌≡◌, ◌≤◌, ◌+◌, refl, drop, get_or, map, sym, subst, ap, ◌∙◌}
+use Rattle.std.proofs.Common.{◌≡◌, ◌≤◌, ◌+◌, refl, arith, drop, take, get_or, map, sym, subst, ap, ◌∙◌}
 use Rattle.std.specs.Prelude.{OnOk}
 use Rattle.std.proofs.lemmas.List.{drop_all, length-map}
 use Rattle.std.proofs.lemmas.Result.{err_from_is_err_and}
@@ -8,48 +8,58 @@ use Rattle.dwc_read.specs.ValuesSeen.{attribute_view}
 use Rattle.dwc_read.specs.EntriesSeen.{entry_view}
 use Rattle.dwc_read.proofs.ReadValueLaws.{attrs-read}
 use Rattle.dwc_clone.specs.ClonedEntries.{placed_entry, with_made}
-use Rattle.dwc_clone.proofs.EntryValues.{AreSetSoFar, attributes-drop, made-places, set-end, set-more, set-refused, set-start}
+use Rattle.dwc_clone.proofs.EntryValues.{AreSetSoFar, attributes-drop, made-places, seen-count, seen-next, set-end, set-more, set-refused, set-start}
 use Rattle.dwc_clone.proofs.entry.set_attributes.Goals as goal
 
 pub loop-attribute-init : goal.loop-attribute-init
-loop-attribute-init c = record {
+loop-attribute-init g c = let registers = (goal.TargetIsa-dyn g c.args.isa.now).dwarf_registers c.args.isa.now.1 in record {
   places = refl;
+  seen = c.nothing_seen-seen.ensures;
   texts = c.requires.texts;
-  set = λ number s base e source last.
+  set = λ number s base e source last force.
       let p = placed_entry c.args.source.now (entry_view c.args.entry.now) in
-      subst (λ xs. AreSetSoFar c.args.source.now number s p c.args.strings.now c.args.strings.now base e c.args.unit.now c.no_bounds-seen.result xs) (sym c.attrs-attributes.ensures) (set-start c.args.source.now number s p c.args.strings.now c.args.id base e c.args.unit.now c.no_bounds-seen.result c.no_bounds-seen.ensures last);
+      subst (λ xs. AreSetSoFar registers c.args.source.now number s p c.args.strings.now c.args.strings.now base e c.args.unit.now c.nothing_seen-seen.result xs) (sym c.attrs-attributes.ensures) (set-start registers c.args.source.now number s p c.args.strings.now c.args.id base e c.args.unit.now c.nothing_seen-seen.result c.nothing_seen-seen.ensures last);
 }
 
 pub output_attribute-requires-clause-read : goal.output_attribute-requires-clause-read
-output_attribute-requires-clause-read c = (attrs-read c.attrs-attributes.result.now (entry_view c.args.entry.now) c.requires.read c.attrs-attributes.ensures c.loop-attribute.attribute-index _ c.loop-attribute-test.true).1
+output_attribute-requires-clause-read g c = (attrs-read c.attrs-attributes.result.now (entry_view c.args.entry.now) c.requires.read c.attrs-attributes.ensures c.loop-attribute.attribute-index _ c.loop-attribute-test.true).1
 
 pub returns-in_err-value-clause-given : goal.returns-in_err-value-clause-given
-returns-in_err-value-clause-given c number s base e source last =
+returns-in_err-value-clause-given g c number s base e source last force =
+    let registers = (goal.TargetIsa-dyn g c.args.isa.now).dwarf_registers c.args.isa.now.1 in
     let p = placed_entry c.args.source.now (entry_view c.args.entry.now) in
-    let so = subst (λ xs. AreSetSoFar c.args.source.now number s p c.args.strings.now c.loop-attribute.strings base e c.loop-attribute.unit c.loop-attribute.seen xs) (attributes-drop c.attrs-attributes.result.now c.loop-attribute.attribute-index _ c.loop-attribute-test.true) (c.loop-attribute.invariant.set number s base e source last) in
+    let so = subst (λ xs. AreSetSoFar registers c.args.source.now number s p c.args.strings.now c.loop-attribute.strings base e c.loop-attribute.unit c.loop-attribute.seen xs) (attributes-drop c.attrs-attributes.result.now c.loop-attribute.attribute-index _ c.loop-attribute-test.true) (c.loop-attribute.invariant.set number s base e source last force) in
     let q = err_from_is_err_and c.from_residual.result c.from_residual.ensures.1 in
-    rw (q.1, q.2) (set-refused c.args.source.now number s p c.args.strings.now c.loop-attribute.strings base e c.loop-attribute.unit c.loop-attribute.seen _ _ _ so (c.in_err-value.ensures.made number s p so.before source refl refl so.bounds))
+    rw (q.1, q.2) (set-refused registers c.args.source.now number s p c.args.strings.now c.loop-attribute.strings base e c.loop-attribute.unit c.loop-attribute.seen _ _ _ so (c.in_err-value.ensures.made number s p so.before source refl refl so.bounds force))
 
 pub set_made-requires-clause-fits : goal.set_made-requires-clause-fits
-set_made-requires-clause-fits c = c.in_ok-value.ensures.fits c.loop-attribute.unit.address_size
+set_made-requires-clause-fits g c = c.in_ok-value.ensures.fits c.loop-attribute.unit.address_size
 
 pub loop-attribute-preserved : goal.loop-attribute-preserved
-loop-attribute-preserved c =
+loop-attribute-preserved g c =
+    let registers = (goal.TargetIsa-dyn g c.args.isa.now).dwarf_registers c.args.isa.now.1 in
     let name = (get_or c.attrs-attributes.result.now c.loop-attribute.attribute-index (0, Addr (Constant 0))).0 in
     let now = subst (λ r. OnOk r (c.set_made.new.unit ≡ with_made c.args.id.index name c.in_ok-value.value c.loop-attribute.unit)) c.in_ok-of_memory.ensures c.set_made.ensures in
     record {
       places = ap (λ u. u.places) now ∙ made-places c.args.id.index name c.in_ok-value.value c.loop-attribute.unit ∙ c.loop-attribute.invariant.places;
+      seen = seen-next c.attrs-attributes.result.now c.loop-attribute.attribute-index _ c.seen_behind-seen.result c.loop-attribute-test.true (c.seen_behind-seen.ensures (take c.loop-attribute.attribute-index (map attribute_view c.attrs-attributes.result.now)) _ c.loop-attribute.invariant.seen);
       texts = c.in_ok-value.ensures.known;
-      set = λ number s base e source last.
+      set = λ number s base e source last force.
           let p = placed_entry c.args.source.now (entry_view c.args.entry.now) in
-          let so = subst (λ xs. AreSetSoFar c.args.source.now number s p c.args.strings.now c.loop-attribute.strings base e c.loop-attribute.unit c.loop-attribute.seen xs) (attributes-drop c.attrs-attributes.result.now c.loop-attribute.attribute-index _ c.loop-attribute-test.true) (c.loop-attribute.invariant.set number s base e source last) in
-          subst (λ u. AreSetSoFar c.args.source.now number s p c.args.strings.now c.output_attribute.new.strings base e u c.bounds_behind-seen.result (drop (c.loop-attribute.attribute-index + 1) (map attribute_view c.attrs-attributes.result.now))) (sym now)
-          (set-more c.args.source.now number s p c.args.strings.now c.loop-attribute.strings c.output_attribute.new.strings c.args.id base e c.args.unit.now c.loop-attribute.unit c.loop-attribute.seen c.bounds_behind-seen.result _ _ c.in_ok-value.value last so (c.bounds_behind-seen.ensures so.before _ so.bounds) (c.in_ok-value.ensures.made number s p so.before source refl refl so.bounds));
+          let so = subst (λ xs. AreSetSoFar registers c.args.source.now number s p c.args.strings.now c.loop-attribute.strings base e c.loop-attribute.unit c.loop-attribute.seen xs) (attributes-drop c.attrs-attributes.result.now c.loop-attribute.attribute-index _ c.loop-attribute-test.true) (c.loop-attribute.invariant.set number s base e source last force) in
+          subst (λ u. AreSetSoFar registers c.args.source.now number s p c.args.strings.now c.output_attribute.new.strings base e u c.seen_behind-seen.result (drop (c.loop-attribute.attribute-index + 1) (map attribute_view c.attrs-attributes.result.now))) (sym now)
+          (set-more registers c.args.source.now number s p c.args.strings.now c.loop-attribute.strings c.output_attribute.new.strings c.args.id base e c.args.unit.now c.loop-attribute.unit c.loop-attribute.seen c.seen_behind-seen.result _ _ c.in_ok-value.value last so (c.seen_behind-seen.ensures so.before _ so.bounds) (c.in_ok-value.ensures.made number s p so.before source refl refl so.bounds force));
     }
 
 pub returns-clause-given : goal.returns-clause-given
-returns-clause-given c number s base e source last =
+returns-clause-given g c number s base e source last force =
+    let registers = (goal.TargetIsa-dyn g c.args.isa.now).dwarf_registers c.args.isa.now.1 in
     let p = placed_entry c.args.source.now (entry_view c.args.entry.now) in
     let none = drop_all c.loop-attribute.attribute-index (map attribute_view c.attrs-attributes.result.now) (subst (λ n. n ≤ c.loop-attribute.attribute-index) (sym (length-map c.attrs-attributes.result.now attribute_view)) c.loop-attribute-test.false) in
-    set-end c.args.source.now number s p c.args.strings.now c.loop-attribute.strings base e c.loop-attribute.unit c.loop-attribute.seen
-    (subst (λ xs. AreSetSoFar c.args.source.now number s p c.args.strings.now c.loop-attribute.strings base e c.loop-attribute.unit c.loop-attribute.seen xs) none (c.loop-attribute.invariant.set number s base e source last))
+    set-end registers c.args.source.now number s p c.args.strings.now c.loop-attribute.strings base e c.loop-attribute.unit c.loop-attribute.seen
+    (subst (λ xs. AreSetSoFar registers c.args.source.now number s p c.args.strings.now c.loop-attribute.strings base e c.loop-attribute.unit c.loop-attribute.seen xs) none (c.loop-attribute.invariant.set number s base e source last force))
+
+pub seen_behind-seen-requires : goal.seen_behind-seen-requires
+seen_behind-seen-requires g c =
+    let many = c.attrs-attributes.type_inv.1 in
+    record { few = seen-count c.attrs-attributes.result.now c.loop-attribute.attribute-index _ c.loop-attribute.seen c.loop-attribute.invariant.seen c.loop-attribute.auto.attribute-index-end (omega (arith, many)) }

@@ -1,19 +1,24 @@
-use Rattle.std.proofs.Common.{◌≡◌, ℕ, drop, map}
+use Rattle.std.proofs.Common.{◌≡◌, ℕ, drop, map, take}
 use Rattle.dwc_base.specs.Clones.{UnitSource}
 use Rattle.dwc_read.specs.ValuesSeen.{attribute_view}
 use Rattle.dwc_read.specs.EntriesSeen.{entry_view}
 use Rattle.dwc_write.specs.GivenUnits.{Addition, GivenUnit}
+use Rattle.dwc_clone.specs.AttributesSeen.{seen_among}
 use Rattle.dwc_clone.specs.Sources.{IsSource}
 use Rattle.dwc_clone.specs.KnownTexts.{KnowsTexts}
+use Rattle.dwc_clone.specs.ClonedUnits.{IsInForce}
 use Rattle.dwc_clone.specs.ClonedEntries.{IsLast, placed_entry}
 use Rattle.dwc_clone.proofs.EntryValues.{AreSetSoFar}
 use Rattle.dwc_clone.proofs.entry.set_attributes.Given as goal
 
 -- what is set so far, and what the attributes that are left are to say, make all
 abbrev pub invariant-loop-attribute : goal.invariant-loop-attribute
-invariant-loop-attribute l = record {
-  places : l.unit.places ≡ l.fn.unit.places;
-  texts : KnowsTexts l.source.unit.now.sections l.strings l.known;
-  set : (number : ℕ) (s : UnitSource) (base : GivenUnit) (e : Addition) → IsSource l.source number s → IsLast l.fn.strings l.id base e l.fn.unit
-      → AreSetSoFar l.source number s (placed_entry l.source (entry_view l.entry)) l.fn.strings l.strings base e l.unit l.seen (drop l.attribute-index (map attribute_view l.attributes));
-}
+invariant-loop-attribute g l =
+    let registers = (goal.TargetIsa-dyn g l.isa.now).dwarf_registers l.isa.now.1 in
+    record {
+      places : l.unit.places ≡ l.fn.unit.places;
+      seen : l.seen ≡ seen_among (take l.attribute-index (map attribute_view l.attributes));
+      texts : KnowsTexts l.source.unit.now.sections l.strings l.known;
+      set : (number : ℕ) (s : UnitSource) (base : GivenUnit) (e : Addition) → IsSource l.source number s → IsLast l.fn.strings l.id base e l.fn.unit → IsInForce registers l.source s (placed_entry l.source (entry_view l.entry)) l.in_force
+          → AreSetSoFar registers l.source number s (placed_entry l.source (entry_view l.entry)) l.fn.strings l.strings base e l.unit l.seen (drop l.attribute-index (map attribute_view l.attributes));
+    }

@@ -1,7 +1,8 @@
 use Rattle.std.proofs.Common.{Some, sym, subst}
 use Rattle.std.specs.List.{All}
-use Rattle.dwc_base.specs.EntryRules.{code_rules}
-use Rattle.dwc_base.specs.Clones.{value_becomes}
+use Rattle.dwc_base.specs.EntryRules.{of_list}
+use Rattle.dwc_base.specs.Lists.{list_source}
+use Rattle.dwc_base.specs.RangeRules.{code_becomes, told_as}
 use Rattle.dwc_read.specs.ValuesSeen.{value_view}
 use Rattle.dwc_clone.specs.Errors.{refusal_told}
 use Rattle.dwc_write.specs.declared.attributes.AttributeValue.TheVariants.{RangeListRef}
@@ -12,17 +13,17 @@ use Rattle.dwc_clone.proofs.CodeValueLaws.{list-says, list-told}
 use Rattle.dwc_clone.proofs.value.range_list.Goals as goal
 
 pub returns-in-None-clause-made : goal.returns-in-None-clause-made
-returns-in-None-clause-made c = λ s e number name texts at named.
+returns-in-None-clause-made c = λ number name texts named.
     let u = c.args.source.now.unit.now in
-    let becomes = value_becomes (code_rules c.args.source.now.transform.now u.sections u.header) s e name (value_view c.args.value) in
+    let becomes = told_as of_list (code_becomes (list_source u.sections u.header) c.args.source.now.transform.now c.args.offset (value_view c.args.value)) in
     subst (λ list. IsMade (λ draft x. Says c.args.source.now.places.now number name texts draft (Some x)) becomes (RangeListRef list)) (sym c.new.ensures)
-    (list-says c.args.source.now.transform.now u.sections u.header s e name c.args.source.now.places.now number texts (value_view c.args.value) c.args.offset c.in_ok-native.native at c.requires.list named c.in_ok-native.ensures c.in-None.is)
+    (list-says c.args.source.now.transform.now u.sections u.header c.args.offset c.args.source.now.places.now number name texts (value_view c.args.value) c.in_ok-native.native c.requires.list named c.in_ok-native.ensures c.in-None.is)
 
 pub returns-in-None-clause-fits : goal.returns-in-None-clause-fits
 returns-in-None-clause-fits c = λ size name named. (named, subst (λ (list : RangeList). All (FitsRange size) list.ranges.items) (sym c.new.ensures) (c.in_ok-native.ensures.ranges.fit size))
 
 pub returns-in-Some-clause-made : goal.returns-in-Some-clause-made
-returns-in-Some-clause-made c = λ s e number name texts at named.
+returns-in-Some-clause-made c = λ number name texts named.
     let u = c.args.source.now.unit.now in
-    subst (λ x. RefusesSo (value_becomes (code_rules c.args.source.now.transform.now u.sections u.header) s e name (value_view c.args.value)) (refusal_told x)) (sym c.from.ensures)
-    (list-told c.args.source.now.transform.now u.sections u.header s e name (value_view c.args.value) c.args.offset c.in_ok-native.native c.in-Some.fault at c.requires.list c.in_ok-native.ensures c.in-Some.is)
+    subst (λ x. RefusesSo (told_as of_list (code_becomes (list_source u.sections u.header) c.args.source.now.transform.now c.args.offset (value_view c.args.value))) (refusal_told x)) (sym c.from.ensures)
+    (list-told c.args.source.now.transform.now u.sections u.header c.args.offset (value_view c.args.value) c.in_ok-native.native c.in-Some.fault c.requires.list c.in_ok-native.ensures c.in-Some.is)

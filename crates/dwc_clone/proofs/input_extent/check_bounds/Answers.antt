@@ -1,7 +1,7 @@
 use Rattle.dwc_base.specs.Lists.{list_source}
 use Rattle.dwc_read.specs.EntriesSeen.{entry_view}
-use Rattle.dwc_clone.proofs.NativeExtentLaws.{unrefused-alone}
-use Rattle.dwc_clone.proofs.extent.check_bounds.Goals as goal
+use Rattle.dwc_clone.proofs.InputExtentLaws.{unrefused-alone}
+use Rattle.dwc_clone.proofs.input_extent.check_bounds.Goals as goal
 
 pub returns-in-None : goal.returns-in-None
 returns-in-None c =

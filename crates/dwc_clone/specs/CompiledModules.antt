@@ -1,0 +1,40 @@
+-- What a code generator tells of a module beside its address maps, as the definitions have it.
+use Rattle.std.specs.Prelude.{◌≡◌, ℕ, ◌≤◌, ◌<◌, ◌+◌, List, [], map, length, IfSome, All}
+use Rattle.std.specs.Option.{unwrap_or}
+use Rattle.std.specs.FinMap as finite
+use Rattle.dwc_base.specs.Compiled.{LabelRange, ToldModule, values_from}
+use Rattle.dwc_base.specs.Functions.{Function}
+use Rattle.dwc_clif.specs.Registers.{Registers}
+use Rattle.dwc_clif.specs.ValueLabels.{LabelledRanges}
+use Rattle.dwc_addr.specs.declared.memory_offset.ModuleMemoryOffset.{ModuleMemoryOffset}
+use Rattle.dwc_addr.specs.Numbers.{Compiled}
+use Rattle.dwc_expr.specs.Frames.{memory_view}
+use Rattle.dwc_clone.specs.declared.compiled_module.CompiledModule.{CompiledModule}
+
+-- the ranges of a label; one that is not there has none
+abbrev pub ranges_of : LabelledRanges → ℕ → List LabelRange
+ranges_of values label = unwrap_or (finite.get values label) []
+
+-- where the values of each of some functions lie
+abbrev pub values_in : List Compiled → List (ℕ → List LabelRange)
+values_in fs = map (λ f. λ label. ranges_of (f.1).value_labels_ranges label) fs
+
+-- what is told of the module at a place, of whose functions the first has a number, for a target that numbers registers
+abbrev pub told_module : ℕ → ℕ → List Compiled → ModuleMemoryOffset → Registers → ToldModule
+told_module place first fs memory registers = record {
+  place = place;
+  values = values_from first (values_in fs);
+  memory = memory_view memory;
+  register = λ r. finite.get registers r;
+}
+
+abbrev pub told_by : Registers → CompiledModule → ToldModule
+told_by registers m = told_module m.place m.first_number m.functions.now m.memory registers
+
+-- The functions with a symbol are numbered by it, from one on, fewer than said.
+abbrev pub AreNumberedFrom : ℕ → ℕ → List Function → Type 0
+AreNumberedFrom first count fs = All (λ f. IfSome f.symbol (λ n. (f.number ≡ n) × (first ≤ n) × (n < first + count))) fs
+
+-- the functions that an address transform has are those that are told of
+abbrev pub HasFrames : CompiledModule → List Function → Type 0
+HasFrames m fs = AreNumberedFrom m.first_number (length m.functions.now) fs

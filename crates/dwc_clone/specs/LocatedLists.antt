@@ -1,0 +1,40 @@
+-- What attributes become whose values are location lists, as calls answer it.
+use Rattle.std.specs.Prelude.{ℕ, List, Option, Some, option_map, Result, Ok}
+use Rattle.std.specs.List.{filter_map}
+use Rattle.dwc_base.specs.Reading.{◌>>=◌}
+use Rattle.dwc_base.specs.Listing.{Listing}
+use Rattle.dwc_base.specs.Values.{Value}
+use Rattle.dwc_base.specs.Trees.{TreeValue}
+use Rattle.dwc_base.specs.RawLists.{ListSource}
+use Rattle.dwc_base.specs.Lists.{ListRefusal, ListedLocation, locations_of_value}
+use Rattle.dwc_base.specs.RangeRules.{all_items, told_as}
+use Rattle.dwc_base.specs.LocationAttributes as definitions
+use Rattle.dwc_base.specs.LocationAttributes.{LocationRefusal, InForce, value_of_locations}
+use Rattle.dwc_base.specs.LocationRules.{listed}
+use Rattle.dwc_tabs.specs.RangeEnds.{refusal_view}
+use Rattle.dwc_clone.specs.declared.listed.ListedExpression.{ListedExpression}
+use Rattle.dwc_clone.specs.declared.located_error.LocatedError.{LocatedError}
+use Rattle.dwc_clone.specs.declared.located_error.LocatedError.TheVariants as error
+use Rattle.dwc_clone.specs.LocatedValues.{expression_at, told}
+
+-- an interval of a list with its expression, as the definitions have it
+abbrev pub listed_view : ListedExpression → definitions.ListedExpression
+listed_view x = record { start = x.start; end = x.end; given = expression_at x.bytes.now x.place }
+
+-- why a location list is refused: the list itself, or one of its expressions
+pub data ListedRefusal : Type 0 where
+  of_list : ListRefusal → ListedRefusal
+  of_expression : LocationRefusal → ListedRefusal
+
+-- what an error tells of a list; want of memory tells nothing
+abbrev pub list_told : LocatedError → Option ListedRefusal
+list_told (error.List fault) = Some (of_list (refusal_view fault))
+list_told (error.Expression e) = option_map of_expression (told e)
+
+-- the intervals of a listing that is read whole
+abbrev pub listed_in : Listing ListRefusal ListedLocation → Result (List definitions.ListedExpression) ListRefusal
+listed_in list = all_items list >>= λ ls. Ok (filter_map listed ls)
+
+-- What the location list becomes that a value of an entry at an offset names. The whole list is read before its expressions.
+abbrev pub located_by : ListSource → InForce → ℕ → Value → Result (Option TreeValue) ListedRefusal
+located_by s e offset v = told_as of_list (listed_in (locations_of_value s offset v)) >>= λ xs. told_as of_expression (value_of_locations e xs)

@@ -1,0 +1,40 @@
+//! What a code generator tells of a module.
+ghost use Rattle.std.specs.Prelude.{◌≡◌, ℕ, ◌≤◌, ◌<◌, ◌+◌, length, Some, option_map};
+ghost use Rattle.dwc_base.specs.Functions.{Function};
+ghost use Rattle.dwc_base.specs.LocationRules.{frame_told};
+ghost use Rattle.dwc_clif.specs.Registers.{Registers};
+ghost use Rattle.dwc_expr.specs.Frames.{frame_view};
+ghost use Rattle.dwc_clone.specs.CompiledModules.{told_by};
+
+use dwc_addr::ModuleMemoryOffset;
+use dwc_base::SymbolId;
+use dwc_clif::CompiledFunctionMetadata;
+use dwc_expr::FunctionFrameInfo;
+
+/// What a code generator tells of a module beside its address maps.
+#[derive(Clone, Copy)]
+pub struct CompiledModule<'c> {
+    /// The module's place among all.
+    pub place: u32,
+    /// Its functions in order, each with its symbol, if it has one.
+    pub functions: &'c [(Option<SymbolId>, CompiledFunctionMetadata)],
+    /// The number of the first of them among those of all modules.
+    pub first_number: usize,
+    /// Where its linear memory is found.
+    pub memory: ModuleMemoryOffset,
+}
+
+impl<'c> CompiledModule<'c> {
+    /// What the function of a number, which has a symbol, tells to expressions; None where the module has no function of that number.
+    pub(crate) fn frame(&self, number: usize) -> Option<FunctionFrameInfo<'c>>
+        ensures { (registers : Registers) (f : Function) → f.number ≡ number → f.symbol ≡ Some number → self.now.first_number ≤ number → number < self.now.first_number + length self.now.functions.now → frame_view result ≡ Some (frame_told (told_by registers self.now) f) }
+    {
+        let place = number.checked_sub(self.first_number)?;
+        let (_, metadata) = self.functions.get(place)?;
+        Some(FunctionFrameInfo {
+            value_ranges: &metadata.value_labels_ranges,
+            memory_offset: self.memory,
+            symbol: Some(number),
+        })
+    }
+}

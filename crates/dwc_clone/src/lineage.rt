@@ -1,0 +1,160 @@
+//! What is in force at an entry: the scope, the frame and the frame base of the nearest of it and its ancestors that gives one. (DWARF 4
+//! and 5, sections 2.6 and 3.3.5.)
+ghost use Rattle.std.specs.Prelude.{◌≡◌, ◌==◌, pos, IfErr, IfSome, IsSome, OnOk, option_map};
+ghost use Rattle.dwc_base.specs.Lists.{list_source};
+ghost use Rattle.dwc_base.specs.RangeAttributes.{begun_function};
+ghost use Rattle.dwc_base.specs.Scopes.{left_for, top_of};
+ghost use Rattle.dwc_addr.specs.Transforms.{function_view};
+ghost use Rattle.dwc_read.specs.EntriesSeen.{entry_view};
+ghost use Rattle.dwc_clone.specs.declared.error.CloneError.TheVariants.{OutOfMemory};
+ghost use Rattle.dwc_clone.specs.Lineages.{given_on, no_stacks, stacks_left, stacks_with, with_entry};
+
+use crate::given::{base_given, scope_given};
+use crate::{CloneError, CloneSource, InheritedAttr};
+use dwc_addr::FunctionMap;
+use dwc_expr::CompiledExpression;
+use dwc_read::Entry;
+use std::alloc::{AllocError, Global};
+use std::marker::Model;
+
+/// What the entries of a unit gave to those below them, in a walk over its kept entries in file order.
+#[derive(Drop)]
+pub(crate) struct Lineage {
+    scopes: InheritedAttr<Vec<(u64, u64)>>,
+    // Functions by their numbers among those of all modules.
+    frames: InheritedAttr<usize>,
+    bases: InheritedAttr<CompiledExpression>,
+}
+
+impl Model for Lineage {
+    ghost use Rattle.std.specs.Prelude.{map};
+    ghost use Rattle.dwc_clone.specs.Lineages.{Stacks};
+
+    ghost Value = { Stacks };
+
+    ghost view = { λ l. record { scopes = map (λ g. (g.0, g.1.items)) l.scopes; frames = l.frames; bases = l.bases } };
+}
+
+// The number of a function among those of all modules.
+fn number_of(function: Option<&FunctionMap>) -> Option<usize>
+    requires { IfSome function (λ f. IsSome f.now.symbol) }
+    ensures { result ≡ option_map (λ f. f.number) (option_map (λ f. function_view f.now) function.entry) }
+{
+    function?.symbol
+}
+
+// Whether an entry is the root of its unit.
+fn is_root(entry: &Entry<'_>) -> bool
+    ensures { result ≡ ((entry_view entry.now).depth == 0) }
+{
+    entry.depth == 0
+}
+
+// Drops from the top of a stack what was given at the depth of an entry or deeper.
+fn leave_stack<T: Drop>(stack: &mut InheritedAttr<T>, entry: &Entry<'_>)
+    ensures { stack.new ≡ left_for (pos (entry_view entry.now).depth) stack.old }
+{
+    stack.update(entry.depth);
+}
+
+// Puts what an entry gives on top of a stack, if it gives something.
+fn push_given<T: Drop>(
+    stack: &mut InheritedAttr<T>,
+    entry: &Entry<'_>,
+    given: Option<T>,
+) -> Result<(), AllocError>
+    ensures { OnOk result (stack.new ≡ given_on (entry_view entry.now).depth given stack.old) }
+{
+    match given {
+        Some(value) => stack.push(entry.depth, value),
+        None => Ok(()),
+    }
+}
+
+impl Lineage {
+    /// Nothing is in force.
+    pub(crate) fn new(alloc: Global) -> Lineage
+        ensures { result ≡ no_stacks }
+    {
+        Lineage {
+            scopes: InheritedAttr::new(alloc),
+            frames: InheritedAttr::new(alloc),
+            bases: InheritedAttr::new(alloc),
+        }
+    }
+
+    // Leaves what the ancestors of an entry gave.
+    fn leave(&mut self, entry: &Entry<'_>)
+        ensures { self.new ≡ stacks_left (entry_view entry.now).depth self.old }
+    {
+        leave_stack(&mut self.scopes, entry);
+        leave_stack(&mut self.frames, entry);
+        leave_stack(&mut self.bases, entry);
+    }
+
+    // Adds what an entry gives.
+    fn push(
+        &mut self,
+        entry: &Entry<'_>,
+        scope: Option<Vec<(u64, u64)>>,
+        frame: Option<usize>,
+        base: Option<CompiledExpression>,
+    ) -> Result<(), AllocError>
+        ensures { OnOk result (self.new ≡ stacks_with (entry_view entry.now).depth (option_map (λ is. is.items) scope) frame base self.old) }
+    {
+        push_given(&mut self.scopes, entry, scope)?;
+        push_given(&mut self.frames, entry, frame)?;
+        push_given(&mut self.bases, entry, base)
+    }
+
+    /// Enters an entry, the next in file order, of those that are walked: what is in force is then what is in force at it. The root gives
+    /// nothing.
+    ///
+    /// # Errors
+    /// `OutOfMemory` for want of memory. Nothing is said of what is in force then.
+    pub(crate) fn enter(
+        &mut self,
+        alloc: Global,
+        source: &CloneSource<'_, '_>,
+        entry: &Entry<'_>,
+        function: Option<&FunctionMap>,
+    ) -> Result<(), CloneError>
+        requires symbol { IfSome function (λ f. IsSome f.now.symbol) }
+        requires begun { option_map (λ f. function_view f.now) function ≡ begun_function (list_source source.now.unit.now.sections source.now.unit.now.header) source.now.transform.now (entry_view entry.now) }
+        ensures entered { OnOk result (self.new ≡ with_entry (list_source source.now.unit.now.sections source.now.unit.now.header) source.now.transform.now (entry_view entry.now) self.old) }
+        ensures memory { IfErr result (λ e. e ≡ OutOfMemory) }
+    {
+        self.leave(entry);
+        if is_root(entry) {
+            return Ok(());
+        }
+        let scope = scope_given(alloc, source, entry, function)?;
+        let base = base_given(alloc, source, entry)?;
+        self.push(entry, scope, number_of(function), base)?;
+        Ok(())
+    }
+
+    /// The scope in force, as intervals of wasm offsets.
+    pub(crate) fn scope(&self) -> Option<&[(u64, u64)]>
+        ensures { option_map (λ scope. scope.now) result ≡ top_of self.now.scopes }
+    {
+        match self.scopes.top() {
+            Some(scope) => Some(scope.as_slice()),
+            None => None,
+        }
+    }
+
+    /// The function whose frame is in force, by its number among those of all modules.
+    pub(crate) fn frame(&self) -> Option<usize>
+        ensures { result ≡ top_of self.now.frames }
+    {
+        self.frames.top().copied()
+    }
+
+    /// The frame base in force.
+    pub(crate) fn base(&self) -> Option<&CompiledExpression>
+        ensures { option_map (λ base. base.now) result ≡ top_of self.now.bases }
+    {
+        self.bases.top()
+    }
+}

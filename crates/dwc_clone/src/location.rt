@@ -1,0 +1,185 @@
+//! What attributes become whose values are expressions or location lists, and what is refused of them. (DWARF 4 and 5, section 2.6.)
+ghost use Rattle.std.specs.Prelude.{◌≡◌, ℕ, List, length, true, IfOk, IfSome, IsTrue, option_map};
+ghost use Rattle.dwc_base.specs.declared.section_name.SectionName.TheVariants.{Info};
+ghost use Rattle.dwc_base.specs.Addends.{HaveAddends};
+ghost use Rattle.dwc_base.specs.Clones.{UnitSource};
+ghost use Rattle.dwc_base.specs.EntryRules.{bound_value_refused, code_value_becomes, of_location};
+ghost use Rattle.dwc_base.specs.ExpressionPlaces.{expression_place};
+ghost use Rattle.dwc_base.specs.Kept.{Placed};
+ghost use Rattle.dwc_base.specs.RawLists.{is_location_list};
+ghost use Rattle.dwc_base.specs.Values.{Value, expression, is_location_name};
+ghost use Rattle.dwc_clif.specs.Registers.{Registers};
+ghost use Rattle.dwc_read.specs.ValuesSeen.{value_view};
+ghost use Rattle.dwc_write.specs.AddedInOrder.{value_meant};
+ghost use Rattle.dwc_write.specs.GivenUnits.{FitsValue};
+ghost use Rattle.dwc_clone.specs.ClonedUnits.{IsInForce, source_with};
+ghost use Rattle.dwc_clone.specs.Errors.{refusal_told};
+ghost use Rattle.dwc_clone.specs.LocatedValues.{error_at, located_view, told};
+ghost use Rattle.dwc_clone.specs.MadeValues.{GivesMade, HasTexts, Says};
+ghost use Rattle.dwc_clone.specs.NativeExtents.{TellsRefusal};
+
+use crate::in_force::InForce;
+use crate::located::{Located, check_expression, located_expression};
+use crate::located_error::LocatedError;
+use crate::located_list::located_list;
+use crate::{CloneError, CloneSource};
+use dwc_addr::translations_are_said;
+use dwc_base::SectionName;
+use dwc_clif::TargetIsa;
+use dwc_expr::ExprError;
+use dwc_read::AttributeValue as InputValue;
+use dwc_write::{AttributeValue, LocationList};
+use std::alloc::Global;
+
+// The error of an expression that is built for the module at a place.
+fn of_expression(error: ExprError, place: u32) -> CloneError
+    ensures { refusal_told result ≡ option_map (of_location place) (told error) }
+{
+    match error {
+        ExprError::Read {
+            what,
+            section,
+            offset,
+        } => CloneError::Read {
+            what,
+            section,
+            offset,
+        },
+        ExprError::TooLarge => CloneError::LongJump,
+        ExprError::BadLabelRange { label } => CloneError::BadLabelRange { label },
+        ExprError::InvalidAttributeValue => CloneError::InvalidAttributeValue { module: place },
+        ExprError::UnmappedRegister { register } => CloneError::UnmappedRegister { register },
+        ExprError::OutOfMemory => CloneError::OutOfMemory,
+    }
+}
+
+// The error of the expression that is the attribute of a number of the entry at an offset: where an operation cannot be read, it is told
+// with the offset of the expression. The entry is read once more to find that.
+fn at_expression(
+    error: ExprError,
+    source: &CloneSource<'_, '_>,
+    offset: u64,
+    number: usize,
+    bytes: &[u8],
+) -> CloneError
+    ensures { refusal_told result ≡ option_map (of_location source.now.module.place) (told (error_at (Info, expression_place source.now.unit.now.sections source.now.unit.now.header offset number bytes.now) error)) }
+{
+    match error {
+        ExprError::Read { what, .. } => CloneError::Read {
+            what,
+            section: SectionName::Info,
+            offset: source.unit.expression_place(offset, number, bytes),
+        },
+        _ => of_expression(error, source.module.place),
+    }
+}
+
+// The value of an attribute that becomes an expression or a location list.
+fn output_located(located: Located) -> AttributeValue
+    ensures means { (texts : List (List ℕ)) (number : ℕ) → value_meant texts number result ≡ located_view located }
+    ensures texts { (texts : List (List ℕ)) → HasTexts texts result }
+{
+    match located {
+        Located::Expression(expression) => AttributeValue::Exprloc(expression),
+        Located::List(locations) => {
+            AttributeValue::LocationListRef(LocationList::new(locations))
+        }
+    }
+}
+
+/// What an expression becomes, the attribute of a name and of a number of the entry at an offset; None where it goes.
+///
+/// # Errors
+/// `Read` with the offset of the expression exactly where an operation cannot be read. Those of building it over the scope in force:
+/// `BadLabelRange`, `InvalidAttributeValue`, `UnmappedRegister` and `LongJump`. `OutOfMemory` for want of memory.
+pub(crate) fn output_expression(
+    alloc: Global,
+    isa: &dyn TargetIsa,
+    source: &CloneSource<'_, '_>,
+    in_force: &InForce<'_>,
+    offset: u64,
+    number: usize,
+    name: u16,
+    bytes: &[u8],
+) -> Result<Option<AttributeValue>, CloneError>
+    requires functions { HaveAddends source.now.transform.now }
+    ensures made { (s : UnitSource) (e : Placed) (before : List (ℕ × Value)) (unit : ℕ) (texts : List (List ℕ)) → e.entry.offset ≡ offset → length before ≡ number → IsInForce (dwarf_registers isa.now) source.now s e in_force.now → GivesMade (Says source.now.places.now unit name texts) (code_value_becomes (source_with (dwarf_registers isa.now) source.now s) e before name (expression bytes.now)) result }
+    ensures fits { (size : ℕ) → IfOk result (λ v. IfSome v (FitsValue size name)) }
+{
+    translations_are_said();
+    let nowhere = (SectionName::Info, 0);
+    let encoding = source.unit.encoding();
+    match located_expression(
+        alloc,
+        source.transform,
+        isa,
+        in_force,
+        name,
+        encoding,
+        bytes,
+        nowhere,
+    ) {
+        Ok(Some(located)) => Ok(Some(output_located(located))),
+        Ok(None) => Ok(None),
+        Err(error) => Err(at_expression(error, source, offset, number, bytes)),
+    }
+}
+
+/// What a location list becomes that a value of the entry at an offset names; None where it goes.
+///
+/// # Errors
+/// The first that is refused of the list: `Read` at the list, or at the entry where the list cannot be found; `LongRange` for a start
+/// plus a length that is no address. Else the first that is refused of its expressions: `Read` with the offset of the expression, and
+/// those of building it. `OutOfMemory` for want of memory.
+pub(crate) fn output_locations(
+    alloc: Global,
+    isa: &dyn TargetIsa,
+    source: &CloneSource<'_, '_>,
+    in_force: &InForce<'_>,
+    offset: u64,
+    value: InputValue<'_>,
+) -> Result<Option<AttributeValue>, CloneError>
+    requires functions { HaveAddends source.now.transform.now }
+    requires list { IsTrue (is_location_list (value_view value)) }
+    ensures made { (s : UnitSource) (e : Placed) (before : List (ℕ × Value)) (unit name : ℕ) (texts : List (List ℕ)) → e.entry.offset ≡ offset → is_location_name name ≡ true → IsInForce (dwarf_registers isa.now) source.now s e in_force.now → GivesMade (Says source.now.places.now unit name texts) (code_value_becomes (source_with (dwarf_registers isa.now) source.now s) e before name (value_view value.entry)) result }
+    ensures fits { (size name : ℕ) → is_location_name name ≡ true → IfOk result (λ v. IfSome v (FitsValue size name)) }
+{
+    translations_are_said();
+    match located_list(
+        alloc,
+        source.unit,
+        source.transform,
+        isa,
+        in_force,
+        offset,
+        value,
+    ) {
+        Ok(Some(located)) => Ok(Some(output_located(located))),
+        Ok(None) => Ok(None),
+        Err(LocatedError::List(fault)) => Err(CloneError::from(fault)),
+        Err(LocatedError::Expression(error)) => Err(of_expression(error, source.module.place)),
+    }
+}
+
+/// Reads an expression in the place of a bound, the attribute of a name and of a number of the entry at an offset; nothing becomes of it.
+///
+/// # Errors
+/// `Read` with the offset of the expression exactly where an operation cannot be read. `OutOfMemory` for want of memory.
+pub(crate) fn check_located(
+    alloc: Global,
+    source: &CloneSource<'_, '_>,
+    in_force: &InForce<'_>,
+    offset: u64,
+    number: usize,
+    name: u16,
+    bytes: &[u8],
+) -> Result<(), CloneError>
+    ensures { (registers : Registers) (s : UnitSource) (e : Placed) (before : List (ℕ × Value)) → e.entry.offset ≡ offset → length before ≡ number → IsInForce registers source.now s e in_force.now → TellsRefusal (bound_value_refused (source_with registers source.now s) e before name (expression bytes.now)) result }
+{
+    let nowhere = (SectionName::Info, 0);
+    let encoding = source.unit.encoding();
+    match check_expression(alloc, in_force, name, encoding, bytes, nowhere) {
+        Ok(()) => Ok(()),
+        Err(error) => Err(at_expression(error, source, offset, number, bytes)),
+    }
+}

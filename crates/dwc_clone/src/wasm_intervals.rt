@@ -1,0 +1,112 @@
+//! The code of entries as intervals of wasm offsets. (DWARF 4 and 5, section 2.17.)
+ghost use Rattle.std.specs.Prelude.{◌≡◌, ◌++◌, IfOk, OnOk, IsTrue, option_map, option_to_list};
+ghost use Rattle.std.specs.List.{filter_map};
+ghost use Rattle.dwc_base.specs.Lists.{list_source, ranges_of_value};
+ghost use Rattle.dwc_base.specs.RangeAttributes.{extent, wasm_interval};
+ghost use Rattle.dwc_base.specs.RawLists.{is_range_list};
+ghost use Rattle.dwc_base.specs.Scopes.{scope_of_extent};
+ghost use Rattle.dwc_read.specs.EntriesSeen.{entry_view};
+ghost use Rattle.dwc_read.specs.ValuesSeen.{value_view};
+ghost use Rattle.dwc_tabs.specs.RangeEnds.{interval_view};
+ghost use Rattle.dwc_clone.specs.InputExtents.{TakesFirst};
+
+use crate::input_extent::{InputExtent, input_extent};
+use crate::ranges::list_begun;
+use dwc_base::Address;
+use dwc_read::{AttributeValue, Entry, Unit};
+use dwc_tabs::Ranges;
+use std::alloc::{AllocError, Global};
+
+// An interval of the input as two numbers.
+fn wasm_interval(begin: Address, end: Address) -> Option<(u64, u64)>
+    ensures { result ≡ wasm_interval (interval_view (begin, end)) }
+{
+    match (begin, end) {
+        (Address::Constant(begin), Address::Constant(end)) => Some((begin, end)),
+        _ => None,
+    }
+}
+
+// Adds an interval of the input, if it is one of wasm offsets.
+fn add_interval(
+    begin: Address,
+    end: Address,
+    intervals: &mut Vec<(u64, u64)>,
+) -> Result<(), AllocError>
+    ensures { OnOk result (intervals.new.items ≡ intervals.old.items ++ option_to_list (wasm_interval (interval_view (begin, end)))) }
+{
+    if let Some(interval) = wasm_interval(begin, end) {
+        intervals.push(interval)?;
+    }
+    Ok(())
+}
+
+// The next interval of a list, if there is one that can be read.
+fn next_interval(list: &mut Ranges<'_, '_>) -> Option<(Address, Address)>
+    ensures { TakesFirst list.old.items list.new.items (option_map interval_view result) }
+{
+    match list.next_range() {
+        Ok(interval) => interval,
+        Err(_) => None,
+    }
+}
+
+// The intervals of wasm offsets that are left of a list.
+fn intervals_left(alloc: Global, list: &mut Ranges<'_, '_>) -> Result<Vec<(u64, u64)>, AllocError>
+    ensures { IfOk result (λ intervals. intervals.items ≡ filter_map wasm_interval list.old.items) }
+{
+    let mut intervals = Vec::new(alloc);
+    while let Some((begin, end)) = next_interval(list) {
+        add_interval(begin, end, &mut intervals)?;
+    }
+    Ok(intervals)
+}
+
+// Those of the range list that a value of the entry at an offset names.
+fn listed_intervals(
+    alloc: Global,
+    unit: &Unit<'_>,
+    offset: u64,
+    value: AttributeValue<'_>,
+) -> Result<Vec<(u64, u64)>, AllocError>
+    requires list { IsTrue (is_range_list (value_view value)) }
+    ensures { IfOk result (λ intervals. intervals.items ≡ filter_map wasm_interval (ranges_of_value (list_source unit.now.sections unit.now.header) offset (value_view value.entry)).items) }
+{
+    match list_begun(unit, offset, value) {
+        Ok(list) => {
+            let mut list = list;
+            intervals_left(alloc, &mut list)
+        }
+        Err(_) => Ok(Vec::new(alloc)),
+    }
+}
+
+// An interval as a list, if there is one, and it is one of wasm offsets.
+fn interval_alone(
+    alloc: Global,
+    interval: Option<(Address, Address)>,
+) -> Result<Vec<(u64, u64)>, AllocError>
+    ensures { IfOk result (λ intervals. intervals.items ≡ filter_map wasm_interval (option_to_list (option_map interval_view interval))) }
+{
+    let mut intervals = Vec::new(alloc);
+    if let Some((begin, end)) = interval {
+        add_interval(begin, end, &mut intervals)?;
+    }
+    Ok(intervals)
+}
+
+/// The intervals of wasm offsets that an entry has: those of its range list; without one, that from its `low_pc` to its `high_pc`. A
+/// position is none, and what cannot be read counts as not there.
+pub(crate) fn intervals_of(
+    alloc: Global,
+    unit: &Unit<'_>,
+    entry: &Entry<'_>,
+) -> Result<Vec<(u64, u64)>, AllocError>
+    ensures { IfOk result (λ intervals. intervals.items ≡ scope_of_extent (extent (list_source unit.now.sections unit.now.header) (entry_view entry.now))) }
+{
+    match input_extent(unit, entry) {
+        InputExtent::Listed(list) => listed_intervals(alloc, unit, entry.offset, list),
+        InputExtent::Bounded(interval) => interval_alone(alloc, interval),
+        InputExtent::Position(_) | InputExtent::Nowhere => Ok(Vec::new(alloc)),
+    }
+}
