@@ -11,5 +11,9 @@ use Rattle.dwc_carry.specs.Refusals.{in_reading, of_cloning, RefusesReading}
 pub clone-told : (refusals : List Refusal) (e : CloneError) → TellsFirst refusals (refusal_told e) → RefusesReading (first_of refusals) (of_cloning e)
 clone-told refusals (clone.Read what section offset) h = ap (option_map in_reading) h
 clone-told refusals (clone.Unsupported kind offset) h = ap (option_map in_reading) h
-clone-told refusals clone.TooLarge h = ap (option_map in_reading) h
+clone-told refusals clone.LongRange h = ap (option_map in_reading) h
+clone-told refusals (clone.BadLabelRange label) h = ap (option_map in_reading) h
+clone-told refusals (clone.InvalidAttributeValue m) h = ap (option_map in_reading) h
+clone-told refusals (clone.UnmappedRegister register) h = ap (option_map in_reading) h
+clone-told refusals clone.LongJump h = ap (option_map in_reading) h
 clone-told refusals clone.OutOfMemory h = tt

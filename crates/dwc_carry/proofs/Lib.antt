@@ -1,4 +1,5 @@
 pub mod CauseLaws
+pub mod CompiledLaws
 pub mod CompositionLaws
 pub mod EmitLaws
 pub mod LastLaws
@@ -18,4 +19,4 @@ pub mod UnitLoopLaws
 pub mod UnitMade
 pub mod UnitSources
 pub mod UnitsInOrder
-pub mod StackPlaces
+pub mod WalkLaws

@@ -9,6 +9,7 @@ use Rattle.dwc_base.specs.declared.constants.TheConstants.{DW_AT_stmt_list, DW_A
 use Rattle.dwc_base.specs.declared.records.Address.TheVariants.{Symbol}
 use Rattle.dwc_base.specs.Values.{Value}
 use Rattle.dwc_base.specs.Functions.{Function}
+use Rattle.dwc_base.specs.Compiled.{ToldModule}
 use Rattle.dwc_base.specs.Kept.{Placed}
 use Rattle.dwc_base.specs.Trees.{Interval, TreeValue, constant, line_table, ranges, Tree, set_attribute}
 use Rattle.dwc_base.specs.Drafts.{Goal, DraftValue, done}
@@ -26,7 +27,7 @@ use Rattle.dwc_base.specs.EntryRules.{code_rules}
 use Rattle.dwc_base.proofs.ForestLaws.{Each, each_chosen}
 use Rattle.dwc_write.specs.declared.attributes.Attribute.{Attribute}
 use Rattle.dwc_write.specs.declared.attributes.AttributeValue.{AttributeValue}
-use Rattle.dwc_write.specs.declared.attributes.AttributeValue.TheVariants.{Address, Constant, Flag, Block, Exprloc, StringRef, LineProgramRef, RangeListRef, UnitRef, DebugInfoRef}
+use Rattle.dwc_write.specs.declared.attributes.AttributeValue.TheVariants.{Address, Constant, Flag, Block, Exprloc, StringRef, LineProgramRef, RangeListRef, LocationListRef, UnitRef, DebugInfoRef}
 use Rattle.dwc_write.specs.declared.attributes.DebugInfoRef.TheVariants as references
 use Rattle.dwc_write.specs.GivenUnits.{Addition, in_file_order, is_lines, names_lines_in, names_lines}
 use Rattle.dwc_write.specs.AddedInOrder.{value_meant, attribute_meant, tree_meant}
@@ -59,6 +60,7 @@ lines-meant texts number (Exprloc e) = refl
 lines-meant texts number (StringRef id) = refl
 lines-meant texts number LineProgramRef = refl
 lines-meant texts number (RangeListRef list) = refl
+lines-meant texts number (LocationListRef list) = refl
 lines-meant texts number (UnitRef id) = refl
 lines-meant texts number (DebugInfoRef (references.Entry unit id)) = refl
 
@@ -267,10 +269,10 @@ endianity-other big_endian e = go (big_endian && (e.entry.tag == DW_TAG_base_typ
     go false = (All-nil IsNamedDraft, refl)
 
 -- The entry that is made of a root says that it has a line table where its unit has one and its root names it.
-pub root-says : (fs : List Function) (t : Sections) (h : UnitHeader) (s : UnitSource) (big_endian : Bool) (places : Goal → Option (ℕ × ℕ)) (e : Placed) → e.entry.depth ≡ 0
-    → says_lines (settled_entry places (draft_of (code_rules fs t h) s big_endian e)).attributes ≡ (is_some s.table && has_lines e.entry.attributes)
+pub root-says : (told : ToldModule) (fs : List Function) (t : Sections) (h : UnitHeader) (es : List Placed) (s : UnitSource) (big_endian : Bool) (places : Goal → Option (ℕ × ℕ)) (e : Placed) → e.entry.depth ≡ 0
+    → says_lines (settled_entry places (draft_of (code_rules told fs t h es) s big_endian e)).attributes ≡ (is_some s.table && has_lines e.entry.attributes)
 unfolding attributes_made
-root-says fs t h s big_endian places e root =
+root-says told fs t h es s big_endian places e root =
     order-says [] (filter_map (settled places) all) (All-nil IsNamedTable) stands.0
     ∙ stands.1
     ∙ list_any-append (λ a. a.0 == DW_AT_stmt_list) (bounds ++ made) last
@@ -287,7 +289,7 @@ root-says fs t h s big_endian places e root =
     others = others-drafted (range_attributes (list_source t h) fs e.entry) (range-other fs (list_source t h) e.entry)
 
     made : List (ℕ × DraftValue)
-    made = filter_map (λ a. if_made a.0 a.1) (attributes_become (code_rules fs t h) s e [] e.entry.attributes)
+    made = filter_map (λ a. if_made a.0 a.1) (attributes_become (code_rules told fs t h es) s e [] e.entry.attributes)
 
     last : List (ℕ × DraftValue)
     last = endianity big_endian e
@@ -296,7 +298,7 @@ root-says fs t h s big_endian places e root =
     all = bounds ++ made ++ last
 
     become : HaveLines (is_some s.table) (has_lines e.entry.attributes) made
-    become = become-all (code_rules fs t h) s e root [] e.entry.attributes
+    become = become-all (code_rules told fs t h es) s e root [] e.entry.attributes
 
     stands : StandsFor all (filter_map (settled places) all)
     stands = settle-all places all (All-append IsNamedDraft (bounds ++ made) last (All-append IsNamedDraft bounds made others.0 become.0) (endianity-other big_endian e).0)

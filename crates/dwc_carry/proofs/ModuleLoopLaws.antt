@@ -1,11 +1,9 @@
 -- What the loop over modules adds.
-use Rattle.std.proofs.Common.{◌≡◌, ℕ, zero, suc, ◌+◌, add-one, ◌<◌, arith, List, [], ◌∷◌, ◌++◌, map, drop, length, get_or, refl, ap, sym, ◌∙◌, subst, Bool, None, All}
+use Rattle.std.proofs.Common.{◌≡◌, ℕ, ◌+◌, List, [], ◌∷◌, ◌++◌, map, length, refl, ap, sym, ◌∙◌, subst, Bool, None, All}
 use Rattle.std.specs.Prelude.{option_map}
 use Rattle.std.specs.List.{flat_map}
 use Rattle.std.proofs.lemmas.List.{append-nil, append_assoc, length-append, length-map}
 use Rattle.std.proofs.lemmas.List.Elements.{All-nil, All-cons, All-head}
-use Rattle.dwc_base.specs.declared.wasm.ModuleTranslation.{ModuleTranslation}
-use Rattle.dwc_base.specs.Functions.{Function}
 use Rattle.dwc_base.specs.Carried.{units, Module}
 use Rattle.dwc_base.specs.Refusals.{Refusal, first_of}
 use Rattle.dwc_base.specs.DraftForests.{units_drafted, place_of_goal, settled_unit, trees_from}
@@ -16,26 +14,9 @@ use Rattle.dwc_clone.specs.MadeValues.{Grows}
 use Rattle.dwc_carry.specs.declared.error.DebugError.{DebugError}
 use Rattle.dwc_carry.specs.Refusals.{in_reading, RefusesReading}
 use Rattle.dwc_carry.specs.MadeUnits.{AreMadeOf}
-use Rattle.dwc_carry.specs.CarriedModules.{transformed_module, transformed_modules, AddsModules}
+use Rattle.dwc_carry.specs.CarriedModules.{AddsModules}
 use Rattle.dwc_carry.proofs.MadeLaws.{grows-same, grows-twice, made-both, made-grown, made-length}
 use Rattle.dwc_carry.proofs.RefusalLaws.{first-behind, no-first, reading-more, unmapped}
-
-modules-from : (ts : List ModuleTranslation) (fss : List (List Function)) (i : ℕ) (t : ModuleTranslation) (fs : List Function) → length fss ≡ length ts → i < length ts
-    → drop i (transformed_modules ts fss) ≡ transformed_module (get_or ts i t) (get_or fss i fs) ∷ drop (suc i) (transformed_modules ts fss)
-modules-from [] fss i t fs same less = absurd (omega arith)
-modules-from (x ∷ ts) [] i t fs same less = absurd (omega (arith, same))
-modules-from (x ∷ ts) (y ∷ fss) zero t fs same less = refl
-modules-from (x ∷ ts) (y ∷ fss) (suc i) t fs same less = modules-from ts fss i t fs (omega (arith, same)) (omega (arith, less))
-
--- the modules from a place on
-pub modules-more : (ts : List ModuleTranslation) (fss : List (List Function)) (i : ℕ) (t : ModuleTranslation) (fs : List Function) → length fss ≡ length ts → i < length ts
-    → drop i (transformed_modules ts fss) ≡ transformed_module (get_or ts i t) (get_or fss i fs) ∷ drop (i + 1) (transformed_modules ts fss)
-modules-more ts fss i t fs same less = rw add-one (modules-from ts fss i t fs same less)
-
-pub modules-length : (ts : List ModuleTranslation) (fss : List (List Function)) → length fss ≡ length ts → length (transformed_modules ts fss) ≡ length ts
-modules-length [] fss same = refl
-modules-length (x ∷ ts) [] same = absurd (omega (arith, same))
-modules-length (x ∷ ts) (y ∷ fss) same = ap suc (modules-length ts fss (omega (arith, same)))
 
 module _ (size : ℕ) (big_endian : Bool) where
   -- the trees of modules, of which the first unit has a number

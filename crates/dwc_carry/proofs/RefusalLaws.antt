@@ -23,9 +23,9 @@ first-behind (x ∷ xs) ys r h = h
 pub refuses-more : (part whole : Option InputRefusal) (e : DebugError) → ((r : InputRefusal) → part ≡ Some r → whole ≡ Some r) → Refuses part e → Refuses whole e
 refuses-more part whole e more = go (told e)
   where
-    go : (t : Told) → IsCause (λ name. ⊥) part t → IsCause (λ name. ⊥) whole t
+    go : (t : Told) → IsCause (λ what. ⊥) part t → IsCause (λ what. ⊥) whole t
     go (refused r) h = more r h
-    go (limit name) h = absurd h.1
+    go (limit what) h = absurd h.1
     go memory h = tt
 
 pub reading-more : (part whole : Option Refusal) (e : DebugError) → ((r : Refusal) → part ≡ Some r → whole ≡ Some r) → RefusesReading part e → RefusesReading whole e

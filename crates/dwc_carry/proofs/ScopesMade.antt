@@ -1,5 +1,5 @@
 -- The functions of a compilation of which nothing is refused have good maps and numbers of their own, and the units that are made of it
--- carry its scopes.
+-- carry its scopes and its locations.
 use Rattle.std.proofs.Common.{◌≡◌, ℕ, suc, ◌+◌, List, [], ◌∷◌, map, length, refl, sym, subst, Option, Some, None, All}
 use Rattle.std.specs.Prelude.{option_map}
 use Rattle.std.specs.Option.{option_or}
@@ -8,11 +8,15 @@ use Rattle.dwc_base.specs.declared.records.Endian.{Endian}
 use Rattle.dwc_base.specs.declared.wasm.ModuleTranslation.{ModuleTranslation}
 use Rattle.dwc_base.specs.Functions.{AddressMap, Function, functions_of}
 use Rattle.dwc_base.specs.Carried.{Module}
+use Rattle.dwc_base.specs.Compiled.{ToldModule}
 use Rattle.dwc_base.specs.Forests.{carried_units, drafts_of, first_refusal, is_big, trees_made}
+use Rattle.dwc_base.specs.LocationsCarried.{LocationsCarried}
 use Rattle.dwc_base.specs.ScopesCarried.{AreNumbered, ScopesCarried, TranslationsKeepScopes}
 use Rattle.dwc_base.proofs.ForestTargets.{made-targets}
+use Rattle.dwc_base.proofs.LocationForest.{made-locations}
 use Rattle.dwc_base.proofs.ScopeForest.{made-scopes}
 use Rattle.dwc_clif.specs.AddressMaps.{address_map_view}
+use Rattle.dwc_clif.specs.Registers.{Registers}
 use Rattle.dwc_addr.specs.Numbers.{Compiled}
 use Rattle.dwc_addr.specs.Compilations.{CompilationValue}
 use Rattle.dwc_addr.specs.Transforms.{first_bad_map}
@@ -20,7 +24,7 @@ use Rattle.dwc_write.specs.GivenTrees.{given_trees}
 use Rattle.dwc_write.specs.GivenUnits.{GivenUnit, ordered}
 use Rattle.dwc_carry.specs.Refusals.{in_reading}
 use Rattle.dwc_carry.specs.MadeUnits.{AreMadeOf}
-use Rattle.dwc_carry.specs.Inputs.{module_view, modules_from, input_of, bad_map_from, bad_map, maps_refusal, refusal_of}
+use Rattle.dwc_carry.specs.Inputs.{module_view, modules_from, told_from, input_of, bad_map_from, bad_map, maps_refusal, refusal_of}
 use Rattle.dwc_carry.proofs.CompositionLaws.{made-trees}
 use Rattle.dwc_carry.proofs.RefusalLaws.{unmapped}
 
@@ -36,21 +40,34 @@ neither None b h = (refl, h)
 neither (Some x) b h = absurd (cc)
 
 module _ (number_maps : MapsNumber) where
-  modules-numbered : (place number : ℕ) (ts : List ModuleTranslation) (fss : List (List Compiled)) → bad_map_from place ts fss ≡ None → All HasNumbers (modules_from number ts fss)
-  modules-numbered place number [] fss h = All-nil HasNumbers
-  modules-numbered place number (t ∷ ts) [] h = All-nil HasNumbers
-  modules-numbered place number (t ∷ ts) (fs ∷ fss) h =
+  modules-numbered : (place number : ℕ) (ts : List ModuleTranslation) (fss : List (List Compiled)) (told : List ToldModule) → bad_map_from place ts fss ≡ None → All HasNumbers (modules_from number ts fss told)
+  modules-numbered place number [] fss told h = All-nil HasNumbers
+  modules-numbered place number (t ∷ ts) [] told h = All-nil HasNumbers
+  modules-numbered place number (t ∷ ts) (fs ∷ fss) [] h = All-nil HasNumbers
+  modules-numbered place number (t ∷ ts) (fs ∷ fss) (m ∷ told) h =
       let maps = map address_map_view fs in
       let both = neither (option_map (λ bad. (place, bad)) (first_bad_map t.code_section_offset 0 maps)) (bad_map_from (suc place) ts fss) h in
-      All-cons HasNumbers (module_view number t fs) (modules_from (number + length fs) ts fss) (number_maps t.code_section_offset number maps (unmapped (λ bad. (place, bad)) (first_bad_map t.code_section_offset 0 maps) both.0))
-      (modules-numbered (suc place) (number + length fs) ts fss both.1)
+      All-cons HasNumbers (module_view number t fs m) (modules_from (number + length fs) ts fss told) (number_maps t.code_section_offset number maps (unmapped (λ bad. (place, bad)) (first_bad_map t.code_section_offset 0 maps) both.0))
+      (modules-numbered (suc place) (number + length fs) ts fss told both.1)
 
   -- The units say the trees of an input of which nothing is refused, and so carry its scopes.
-  pub scopes-carried : (order : Endian) (size : ℕ) (c : CompilationValue) (texts : List (List ℕ)) (us : List GivenUnit) → refusal_of order size c ≡ None
-      → AreMadeOf size texts 0 (carried_units (input_of order size c)) (trees_made (input_of order size c)) us → ((fs : List Function) → TranslationsKeepScopes fs)
-      → ScopesCarried (drafts_of (is_big order)) (carried_units (input_of order size c)) (given_trees texts (map ordered us))
-  scopes-carried order size c texts us accepted made keep =
-      let input = input_of order size c in
+  pub scopes-carried : (order : Endian) (size : ℕ) (registers : Registers) (c : CompilationValue) (texts : List (List ℕ)) (us : List GivenUnit) → refusal_of order size registers c ≡ None
+      → AreMadeOf size texts 0 (carried_units (input_of order size registers c)) (trees_made (input_of order size registers c)) us → ((fs : List Function) → TranslationsKeepScopes fs)
+      → ScopesCarried (drafts_of (is_big order)) (carried_units (input_of order size registers c)) (given_trees texts (map ordered us))
+  scopes-carried order size registers c texts us accepted made keep =
+      let input = input_of order size registers c in
       let good : bad_map c ≡ None = unmapped _ (bad_map c) (neither (maps_refusal c) (option_map in_reading (first_refusal input)) accepted).0 in
       subst (ScopesCarried (drafts_of (is_big order)) (carried_units input)) (sym (made-trees size texts (carried_units input) (trees_made input) us made (made-targets input)))
-      (made-scopes input (modules-numbered 0 0 c.translations c.functions good) keep)
+      (made-scopes input (modules-numbered 0 0 c.translations c.functions (told_from registers 0 0 c.functions c.memory_offsets) good) keep)
+
+  -- And so they carry its locations.
+  pub locations-carried : (order : Endian) (size : ℕ) (registers : Registers) (c : CompilationValue) (texts : List (List ℕ)) (us : List GivenUnit) → refusal_of order size registers c ≡ None
+      → AreMadeOf size texts 0 (carried_units (input_of order size registers c)) (trees_made (input_of order size registers c)) us → ((fs : List Function) → TranslationsKeepScopes fs)
+      → LocationsCarried (drafts_of (is_big order)) (carried_units (input_of order size registers c)) (given_trees texts (map ordered us))
+  locations-carried order size registers c texts us accepted made keep =
+      let input = input_of order size registers c in
+      let both = neither (maps_refusal c) (option_map in_reading (first_refusal input)) accepted in
+      let good : bad_map c ≡ None = unmapped _ (bad_map c) both.0 in
+      let read : first_refusal input ≡ None = unmapped in_reading (first_refusal input) both.1 in
+      subst (LocationsCarried (drafts_of (is_big order)) (carried_units input)) (sym (made-trees size texts (carried_units input) (trees_made input) us made (made-targets input)))
+      (made-locations input (modules-numbered 0 0 c.translations c.functions (told_from registers 0 0 c.functions c.memory_offsets) good) keep read)

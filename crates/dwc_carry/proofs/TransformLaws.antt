@@ -3,7 +3,7 @@ use Rattle.std.proofs.Common.{◌≡◌, ℕ, zero, suc, ◌+◌, add-one, ◌<�
 use Rattle.std.specs.Prelude.{false, option_map}
 use Rattle.std.specs.Option.{option_or, unwrap_or}
 use Rattle.std.specs.List.{flat_map}
-use Rattle.std.proofs.lemmas.List.{append-nil, append_assoc, drop_more, drop_all, length-map}
+use Rattle.std.proofs.lemmas.List.{append-nil, append_assoc, drop_more, drop_all}
 use Rattle.std.proofs.lemmas.List.Elements.{All-nil, All-cons}
 use Rattle.std.proofs.lemmas.Option.{slice_get-get_or}
 use Rattle.dwc_base.specs.declared.records.Endian.{Endian}
@@ -17,6 +17,7 @@ use Rattle.dwc_base.specs.Trees.{Tree}
 use Rattle.dwc_base.specs.TreeLaws.{HasAllTargets}
 use Rattle.dwc_base.proofs.ForestTargets.{made-targets}
 use Rattle.dwc_clif.specs.AddressMaps.{address_map_view}
+use Rattle.dwc_clif.specs.Registers.{Registers}
 use Rattle.dwc_addr.specs.declared.error.AddrError.{AddrError}
 use Rattle.dwc_addr.specs.declared.error.AddrError.TheVariants as addr
 use Rattle.dwc_addr.specs.Numbers.{Compiled, function_count, first_number}
@@ -27,9 +28,10 @@ use Rattle.dwc_carry.specs.declared.error.DebugError.{DebugError}
 use Rattle.dwc_image.specs.CarriedLines.{AreKept}
 use Rattle.dwc_carry.specs.Refusals.{InputRefusal, bad_address_map, in_reading, of_maps, Refuses}
 use Rattle.dwc_carry.specs.MadeUnits.{AreMadeOf}
-use Rattle.dwc_carry.specs.CarriedModules.{transformed_modules, AddsModules}
-use Rattle.dwc_carry.specs.Inputs.{module_view, modules_from, input_of, bad_map_from, bad_map, maps_refusal}
-use Rattle.dwc_carry.specs.Transformed.{all_functions, have_long, lengths_checked, IsTransformed}
+use Rattle.dwc_carry.specs.CarriedModules.{AddsModules}
+use Rattle.dwc_carry.specs.Inputs.{functions_from, modules_of, input_of, bad_map_from, bad_map, maps_refusal}
+use Rattle.dwc_carry.specs.Transformed.{have_long, lengths_checked, IsTransformed}
+use Rattle.dwc_carry.proofs.CompiledLaws.{all_functions, functions-are}
 use Rattle.dwc_carry.proofs.RefusalLaws.{unmapped, refuses-more}
 use Rattle.dwc_carry.proofs.LengthLaws.{all-short, some-long, checked-long, checked-short}
 use Rattle.dwc_carry.proofs.CompositionLaws.{made-texts, made-trees, trees-of-modules}
@@ -51,12 +53,12 @@ count-more (fs ∷ fss) (suc i) less = omega (arith, count-more fss i (omega (ar
 
 -- The transforms so far, and those of the modules that are left, are all; and no map so far is bad.
 pub record TransformsSoFar (ts : List ModuleTranslation) (fss : List (List Compiled)) (i : ℕ) (done : List (List Function)) : Type 0 where
-  pub functions : done ++ all_functions (modules_from (first_number fss i) (drop i ts) (drop i fss)) ≡ all_functions (modules_from 0 ts fss)
+  pub functions : done ++ functions_from (first_number fss i) (drop i ts) (drop i fss) ≡ functions_from 0 ts fss
   pub bad : bad_map_from i (drop i ts) (drop i fss) ≡ bad_map_from 0 ts fss
 
 -- the same with the next module in front
 record AtNext (ts : List ModuleTranslation) (fss : List (List Compiled)) (i code : ℕ) (done : List (List Function)) : Type 0 where
-  functions : done ++ (functions_of code (first_number fss i) (map address_map_view (get_or fss i [])) ∷ all_functions (modules_from (first_number fss (i + 1)) (drop (i + 1) ts) (drop (i + 1) fss))) ≡ all_functions (modules_from 0 ts fss)
+  functions : done ++ (functions_of code (first_number fss i) (map address_map_view (get_or fss i [])) ∷ functions_from (first_number fss (i + 1)) (drop (i + 1) ts) (drop (i + 1) fss)) ≡ functions_from 0 ts fss
   bad : option_or (option_map (λ bad. (i, bad)) (first_bad_map code 0 (map address_map_view (get_or fss i [])))) (bad_map_from (i + 1) (drop (i + 1) ts) (drop (i + 1) fss)) ≡ bad_map_from 0 ts fss
 
 with-first : (ts : List ModuleTranslation) (fss : List (List Compiled)) (i : ℕ) (t : ModuleTranslation) (done : List (List Function)) → i < length ts → length fss ≡ length ts
@@ -83,7 +85,7 @@ module _ (c : CompilationValue) (same : length c.functions ≡ length c.translat
   transforms-more i done f less h made =
       let next = at-next c.translations c.functions i done less same h in
       record {
-        functions = append_assoc done (f ∷ []) _ ∙ ap (λ g. done ++ (g ∷ all_functions (modules_from (first_number c.functions (i + 1)) (drop (i + 1) c.translations) (drop (i + 1) c.functions)))) made.1 ∙ next.functions;
+        functions = append_assoc done (f ∷ []) _ ∙ ap (λ g. done ++ (g ∷ functions_from (first_number c.functions (i + 1)) (drop (i + 1) c.translations) (drop (i + 1) c.functions))) made.1 ∙ next.functions;
         bad = sym (ap (λ o. option_or (option_map (λ (bad : ℕ × MapFault). (i, bad)) o) (bad_map_from (i + 1) (drop (i + 1) c.translations) (drop (i + 1) c.functions))) made.0) ∙ next.bad;
       }
 
@@ -96,7 +98,7 @@ module _ (c : CompilationValue) (same : length c.functions ≡ length c.translat
   transforms-refused i done addr.OutOfMemory less h refused = tt
 
   -- behind the last one
-  pub transforms-done : (i : ℕ) (done : List (List Function)) → length c.translations ≤ i → TransformsSoFar c.translations c.functions i done → (maps_refusal c ≡ None) × (done ≡ all_functions (modules_from 0 c.translations c.functions))
+  pub transforms-done : (i : ℕ) (done : List (List Function)) → length c.translations ≤ i → TransformsSoFar c.translations c.functions i done → (maps_refusal c ≡ None) × (done ≡ functions_from 0 c.translations c.functions)
   transforms-done i done past h =
       let a = drop_all i c.translations past in
       let bad = rw a at h.bad in
@@ -106,24 +108,13 @@ module _ (c : CompilationValue) (same : length c.functions ≡ length c.translat
 pub transforms-begin : (ts : List ModuleTranslation) (fss : List (List Compiled)) → TransformsSoFar ts fss 0 []
 transforms-begin ts fss = record { functions = refl; bad = refl }
 
-pub counted-same : (c : CompilationValue) → IsCounted c.translations c.functions c.memory_offsets → length c.functions ≡ length c.translations
-counted-same c h = sym (length-map c.functions length) ∙ ap length h.defined ∙ length-map c.translations (λ (t : ModuleTranslation). t.defined_funcs)
-
 -- ---- with all transforms
-
-kept-length : (number : ℕ) (ts : List ModuleTranslation) (fss : List (List Compiled)) → length fss ≡ length ts → length (all_functions (modules_from number ts fss)) ≡ length ts
-kept-length number [] fss same = refl
-kept-length number (t ∷ ts) [] same = absurd (omega (arith, same))
-kept-length number (t ∷ ts) (fs ∷ fss) same = ap suc (kept-length (number + length fs) ts fss (omega (arith, same)))
-
-pub all-length : (c : CompilationValue) → length c.functions ≡ length c.translations → length (all_functions (modules_from 0 c.translations c.functions)) ≡ length c.translations
-all-length c same = kept-length 0 c.translations c.functions same
 
 neither : {A : Type 0} (o p : Option A) → option_or o p ≡ None → (o ≡ None) × (p ≡ None)
 neither None p h = (refl, h)
 neither (Some x) p h = absurd (cc)
 
-kept-all : (number place : ℕ) (ts : List ModuleTranslation) (fss : List (List Compiled)) → bad_map_from place ts fss ≡ None → All AreKept (all_functions (modules_from number ts fss))
+kept-all : (number place : ℕ) (ts : List ModuleTranslation) (fss : List (List Compiled)) → bad_map_from place ts fss ≡ None → All AreKept (functions_from number ts fss)
 kept-all number place [] fss good = All-nil AreKept
 kept-all number place (t ∷ ts) [] good = All-nil AreKept
 kept-all number place (t ∷ ts) (fs ∷ fss) good =
@@ -137,14 +128,12 @@ kept-all number place (t ∷ ts) (fs ∷ fss) good =
     }) (kept-all (number + length fs) (suc place) ts fss two.1)
 
 -- the functions of all transforms are kept of good maps
-pub all-kept : (c : CompilationValue) → maps_refusal c ≡ None → All AreKept (all_functions (modules_from 0 c.translations c.functions))
+pub all-kept : (c : CompilationValue) → maps_refusal c ≡ None → All AreKept (functions_from 0 c.translations c.functions)
 all-kept c good = kept-all 0 0 c.translations c.functions (unmapped _ (bad_map c) good)
 
--- modules with their transforms are those of the input
-transformed-same : (number : ℕ) (ts : List ModuleTranslation) (fss : List (List Compiled)) → transformed_modules ts (all_functions (modules_from number ts fss)) ≡ modules_from number ts fss
-transformed-same number [] fss = refl
-transformed-same number (t ∷ ts) [] = refl
-transformed-same number (t ∷ ts) (fs ∷ fss) = ap (λ ms. module_view number t fs ∷ ms) (transformed-same (number + length fs) ts fss)
+-- no function is too long where the check of lengths answers nothing
+pub lengths-short : (c : CompilationValue) → Ok tt ≡ lengths_checked (functions_from 0 c.translations c.functions) → have_long (functions_from 0 c.translations c.functions) ≡ false
+lengths-short c h = checked-short (functions_from 0 c.translations c.functions) h
 
 -- the forest of an input of which nothing is refused
 forest-is : (c : Compilation) → first_refusal c ≡ None → forest c ≡ Ok (trees_made c)
@@ -162,15 +151,15 @@ transformed-of size c texts us none made whole =
       targets = subst HasAllTargets (sym same) (made-targets c);
     }
 
-module _ (c : CompilationValue) where
-  -- the modules of the input, and with their transforms
+module _ (registers : Registers) (c : CompilationValue) (counted : IsCounted c.translations c.functions c.memory_offsets) where
+  -- the modules of the input, and the functions of these
   abbrev modules : List Module
-  modules = modules_from 0 c.translations c.functions
+  modules = modules_of registers c
 
-  abbrev transformed : List Module
-  transformed = transformed_modules c.translations (all_functions modules)
+  abbrev functions : List (List Function)
+  functions = functions_from 0 c.translations c.functions
 
-  -- what is refused of modules as they are read, in order
+  -- what is refused of the modules as they are read, in order
   abbrev refusals_in : List Module → Option InputRefusal
   refusals_in ms = option_map in_reading (first_of (flat_map module_refusals ms))
 
@@ -181,24 +170,21 @@ module _ (c : CompilationValue) where
   abbrev input_refusal : Option InputRefusal
   input_refusal = option_or (maps_refusal c) reading_refusal
 
-  -- no function is too long where the check of lengths answers nothing
-  pub lengths-short : Ok tt ≡ lengths_checked (all_functions modules) → have_long (all_functions modules) ≡ false
-  lengths-short h = checked-short (all_functions modules) h
+  each-refused : (ms : List Module) → flat_map function_refusals (all_functions ms) ≡ flat_map (λ (m : Module). function_refusals m.functions) ms
+  each-refused [] = refl
+  each-refused (m ∷ ms) = ap (λ (rs : List Refusal). function_refusals m.functions ++ rs) (each-refused ms)
 
-  -- the functions of modules are refused as those of their transforms
-  functions-refused : (ms : List Module) → flat_map function_refusals (all_functions ms) ≡ flat_map (λ (m : Module). function_refusals m.functions) ms
-  functions-refused [] = refl
-  functions-refused (m ∷ ms) = ap (λ (rs : List Refusal). function_refusals m.functions ++ rs) (functions-refused ms)
+  -- the functions of the modules are refused as those of the transforms
+  functions-refused : flat_map function_refusals functions ≡ flat_map (λ (m : Module). function_refusals m.functions) modules
+  functions-refused = ap (flat_map function_refusals) (sym (functions-are registers c.translations c.functions c.memory_offsets counted)) ∙ each-refused modules
 
-  -- what is refused of the modules with their transforms is refused of the input, whose maps are good and whose functions short
-  input-refusals : maps_refusal c ≡ None → have_long (all_functions modules) ≡ false → refusals_in transformed ≡ input_refusal
+  -- what is refused of the modules is refused of the input, whose maps are good and whose functions short
+  input-refusals : maps_refusal c ≡ None → have_long functions ≡ false → refusals_in modules ≡ input_refusal
   input-refusals good short =
-      ap (λ (refusals : List Refusal). option_map in_reading (first_of refusals))
-      (ap (flat_map module_refusals) (transformed-same 0 c.translations c.functions)
-      ∙ ap (λ (longs : List Refusal). longs ++ flat_map module_refusals modules) (sym (sym (functions-refused modules) ∙ all-short (all_functions modules) short)))
+      ap (λ (longs : List Refusal). option_map in_reading (first_of (longs ++ flat_map module_refusals modules))) (sym (sym functions-refused ∙ all-short functions short))
       ∙ ap (λ o. option_or o reading_refusal) (sym good)
 
-  pub input-refused : (e : DebugError) → maps_refusal c ≡ None → have_long (all_functions modules) ≡ false → Refuses (refusals_in transformed) e → Refuses input_refusal e
+  pub input-refused : (e : DebugError) → maps_refusal c ≡ None → have_long functions ≡ false → Refuses (refusals_in modules) e → Refuses input_refusal e
   input-refused e good short h = subst (λ o. Refuses o e) (input-refusals good short) h
 
   -- a bad map refuses the input
@@ -206,25 +192,23 @@ module _ (c : CompilationValue) where
   maps-refused e h = refuses-more (maps_refusal c) input_refusal e (λ r is. ap (λ o. option_or o reading_refusal) is) h
 
   -- and where no map is bad a function that is too long
-  pub lengths-refused : (e : DebugError) → maps_refusal c ≡ None → Err e ≡ lengths_checked (all_functions modules) → Refuses input_refusal e
+  pub lengths-refused : (e : DebugError) → maps_refusal c ≡ None → Err e ≡ lengths_checked functions → Refuses input_refusal e
   lengths-refused e good h =
-      let long = checked-long (all_functions modules) e h in
+      let long = checked-long functions e h in
       subst (Refuses input_refusal) (sym long.1)
       (ap (λ o. option_or o reading_refusal) good
-      ∙ ap (λ (longs : List Refusal). option_map in_reading (first_of (longs ++ flat_map module_refusals modules))) (sym (functions-refused modules))
-      ∙ ap (option_map in_reading) (some-long (all_functions modules) (flat_map module_refusals modules) long.0))
+      ∙ ap (λ (longs : List Refusal). option_map in_reading (first_of (longs ++ flat_map module_refusals modules))) (sym functions-refused)
+      ∙ ap (option_map in_reading) (some-long functions (flat_map module_refusals modules) long.0))
 
   -- the input is accepted, and the units that are added are those of it
-  pub input-transformed : (order : Endian) (size : ℕ) (before texts : List (List ℕ)) (us : List GivenUnit) → maps_refusal c ≡ None → have_long (all_functions modules) ≡ false
-      → (refusals_in transformed ≡ None) × AddsModules size (is_big order) transformed [] us before texts → (input_refusal ≡ None) × IsTransformed size (input_of order size c) texts us
-  input-transformed order size before texts us good short (none, h) =
-      let ms = modules in
-      let k : AddsModules size (is_big order) ms [] us before texts = subst (λ xs. AddsModules size (is_big order) xs [] us before texts) (transformed-same 0 c.translations c.functions) h in
+  pub input-transformed : (order : Endian) (size : ℕ) (before texts : List (List ℕ)) (us : List GivenUnit) → maps_refusal c ≡ None → have_long functions ≡ false
+      → (refusals_in modules ≡ None) × AddsModules size (is_big order) modules [] us before texts → (input_refusal ≡ None) × IsTransformed size (input_of order size registers c) texts us
+  input-transformed order size before texts us good short (none, k) =
+      let input = input_of order size registers c in
       let accepted : input_refusal ≡ None = sym (input-refusals good short) ∙ none in
-      let made : AreMadeOf size texts 0 (flat_map carried_units_of ms) (trees_made (input_of order size c)) us =
-      subst (AreMadeOf size texts 0 (flat_map carried_units_of ms) (trees_made (input_of order size c))) (sym k.added)
-      (subst (λ ts. AreMadeOf size texts 0 (flat_map carried_units_of ms) ts k.made) (sym (trees-of-modules (input_of order size c))) k.each) in (
+      let made : AreMadeOf size texts 0 (flat_map carried_units_of modules) (trees_made input) us =
+      subst (AreMadeOf size texts 0 (flat_map carried_units_of modules) (trees_made input)) (sym k.added)
+      (subst (λ ts. AreMadeOf size texts 0 (flat_map carried_units_of modules) ts k.made) (sym (trees-of-modules input)) k.each) in (
         accepted,
-        transformed-of size (input_of order size c) texts us
-            (unmapped in_reading (first_refusal (input_of order size c)) (neither (maps_refusal c) reading_refusal accepted).1) made k.whole,
+        transformed-of size input texts us (unmapped in_reading (first_refusal input) (neither (maps_refusal c) reading_refusal accepted).1) made k.whole,
       )

@@ -8,12 +8,15 @@ use Rattle.dwc_base.specs.Clones.{UnitSource}
 use Rattle.dwc_base.specs.CarriedDrafts.{source_of}
 use Rattle.dwc_base.specs.Forests.{kept_of}
 use Rattle.dwc_base.specs.Refusals.{lines_refusal, first_of}
+use Rattle.dwc_clif.specs.Registers.{Registers}
 use Rattle.dwc_kept.specs.declared.kept_units.KeptModule.{KeptModule}
 use Rattle.dwc_kept.specs.ReadUnits.{unit_read}
 use Rattle.dwc_clone.specs.declared.error.CloneError.{CloneError}
 use Rattle.dwc_clone.specs.declared.source.CloneSource.{CloneSource}
 use Rattle.dwc_clone.specs.Sources.{IsSource}
-use Rattle.dwc_clone.specs.ClonedUnits.{picked, AreClonable, GivesCloned}
+use Rattle.dwc_clone.specs.CompiledModules.{told_by, HasFrames}
+use Rattle.dwc_clone.specs.ClonedUnits.{picked, placed_in, AreClonable, GivesCloned}
+use Rattle.dwc_clone.specs.Lineages.{AreWalked}
 use Rattle.dwc_write.specs.declared.units.Dwarf.{Dwarf}
 use Rattle.dwc_write.specs.declared.units.UnitId.{UnitId}
 use Rattle.dwc_write.specs.GivenUnits.{GivenUnit}
@@ -24,31 +27,40 @@ use Rattle.dwc_carry.specs.LastLines.{IsLast, last_after}
 use Rattle.dwc_carry.specs.CarriedUnits.{IsUnitOf, refusals_of, wanted_of, AddsUnit}
 use Rattle.dwc_carry.specs.MadeUnits.{IsMadeOf}
 use Rattle.dwc_carry.proofs.LastLaws.{last-carried}
-use Rattle.dwc_carry.proofs.UnitSources.{read_of, unit-is, no-fault, clonable, source-is}
-use Rattle.dwc_carry.proofs.UnitMade.{files-known, clone-refused, made-of, accepted}
+use Rattle.dwc_carry.proofs.UnitSources.{read_of, unit-in, unit-is, no-fault, clonable, source-is}
+use Rattle.dwc_carry.proofs.UnitMade.{entries-are, files-known, clone-refused, made-of, accepted}
+use Rattle.dwc_carry.proofs.WalkLaws.{walked}
 
 -- what cloning answers for the kept entries of a unit
-abbrev pub AnswersCloned : CloneSource → List ℕ → List (List ℕ) → List (List ℕ) → GivenUnit → Result GivenUnit CloneError → Type 0
-AnswersCloned k kept old new begun result =
-    (number : ℕ) (s : UnitSource) → IsSource k number s → (entries k.unit.now.sections k.unit.now.header).fault ≡ None → AreClonable (picked kept (entries k.unit.now.sections k.unit.now.header).items)
-    → GivesCloned k number s (picked kept (entries k.unit.now.sections k.unit.now.header).items) old new begun result
+abbrev pub AnswersCloned : Registers → CloneSource → List ℕ → List (List ℕ) → List (List ℕ) → GivenUnit → Result GivenUnit CloneError → Type 0
+AnswersCloned registers k kept old new begun result =
+    (number : ℕ) (s : UnitSource) → IsSource k number s → HasFrames k.module k.transform.now → (entries k.unit.now.sections k.unit.now.header).fault ≡ None → AreClonable (picked kept (entries k.unit.now.sections k.unit.now.header).items)
+    → AreWalked s.entries (placed_in k.unit.now.header.offset (picked kept (entries k.unit.now.sections k.unit.now.header).items))
+    → GivesCloned registers k number s (picked kept (entries k.unit.now.sections k.unit.now.header).items) old new begun result
 
-module _ (k : CloneSource) (compile : Bool) (table : Option ℕ) (c : Module) (m : KeptModule) (first number : ℕ) (kept : List ℕ)
-    (of : IsUnitOf c k.transform.now m first number k.places.now kept (read_of k compile table)) (size : ℕ) (old new : List (List ℕ)) (begun : GivenUnit)
+module _ (registers : Registers) (k : CloneSource) (compile : Bool) (table : Option ℕ) (c : Module) (m : KeptModule) (first number : ℕ) (kept : List ℕ)
+    (of : IsUnitOf c k.transform.now (told_by registers k.module) m first number k.places.now kept (read_of k compile table)) (frames : HasFrames k.module k.transform.now) (size : ℕ) (old new : List (List ℕ)) (begun : GivenUnit)
     (carries : CarriesNamed k.transform.now k.unit.now.sections k.unit.now.header size table k.files begun.lines)
     (none : option_map in_reading (lines_refusal k.unit.now.sections k.unit.now.header table) ≡ None) where
-  answered : (result : Result GivenUnit CloneError) → AnswersCloned k kept old new begun result
-      → GivesCloned k number (source_of (kept_of c) (unit_read c.sections k.unit.now.header)) (picked kept (entries k.unit.now.sections k.unit.now.header).items) old new begun result
+  -- its kept entries are walked with their parents
+  entries-walked : AreWalked (source_of (kept_of c) (unit_read c.sections k.unit.now.header)).entries (placed_in k.unit.now.header.offset (picked kept (entries k.unit.now.sections k.unit.now.header).items))
+  unfolding source_of
+  entries-walked =
+      subst (AreWalked (kept_of c).entries) (sym (entries-are registers k compile table c m first number kept of))
+      (walked c m (of.module_is).is (read_of k compile table) (unit-in k compile table (told_by registers k.module) c m first number kept of))
+
+  answered : (result : Result GivenUnit CloneError) → AnswersCloned registers k kept old new begun result
+      → GivesCloned registers k number (source_of (kept_of c) (unit_read c.sections k.unit.now.header)) (picked kept (entries k.unit.now.sections k.unit.now.header).items) old new begun result
   answered result answers =
-      answers number (source_of (kept_of c) (unit_read c.sections k.unit.now.header)) (source-is k compile table c m first number kept of (files-known k compile table c m first number kept of size begun.lines carries))
-      (no-fault k compile table c m first number kept of) (clonable k compile table c m first number kept of)
+      answers number (source_of (kept_of c) (unit_read c.sections k.unit.now.header)) (source-is k compile table (told_by registers k.module) c m first number kept of (files-known registers k compile table c m first number kept of size begun.lines carries))
+      frames (no-fault k compile table (told_by registers k.module) c m first number kept of) (clonable k compile table (told_by registers k.module) c m first number kept of) entries-walked
 
   -- an entry is refused
-  pub entries-refused : (e : CloneError) → AnswersCloned k kept old new begun (Err e) → RefusesReading (first_of (refusals_of c (unit_read c.sections k.unit.now.header))) (of_cloning e)
-  entries-refused e answers = clone-refused k compile table c m first number kept of e none (answered (Err e) answers)
+  pub entries-refused : (e : CloneError) → AnswersCloned registers k kept old new begun (Err e) → RefusesReading (first_of (refusals_of c (unit_read c.sections k.unit.now.header))) (of_cloning e)
+  entries-refused e answers = clone-refused registers k compile table c m first number kept of e none (answered (Err e) answers)
 
   -- the unit is added
-  pub unit-added : (made : GivenUnit) (before after : Dwarf) (id : UnitId) (last behind : Option LastLines) → begun.address_size ≡ size → AnswersCloned k kept old new begun (Ok made)
+  pub unit-added : (made : GivenUnit) (before after : Dwarf) (id : UnitId) (last behind : Option LastLines) → begun.address_size ≡ size → AnswersCloned registers k kept old new begun (Ok made)
       → number ≡ length before.units.units.items → old ≡ before.strings → new ≡ after.strings → after.units.units.items ≡ before.units.units.items ++ made ∷ [] → id.index ≡ length before.units.units.items
       → IsLast k.transform.now size k.unit.now.sections before.units.units.items last
       → behind ≡ last_after table k.unit.now.header.address_size (text_base k.unit.now.sections k.unit.now.header) k.files id last
@@ -57,8 +69,8 @@ module _ (k : CloneSource) (compile : Bool) (table : Option ℕ) (c : Module) (m
   unit-added made before after id last behind sized answers at olds news added placed known next =
       let cloned = answered (Ok made) answers in
       let u = unit_read c.sections k.unit.now.header in
-      let is = made-of k compile table c m first number kept of size old new begun made sized carries cloned in (
-        accepted k compile table c m first number kept of size old new begun made sized carries cloned none,
+      let is = made-of registers k compile table c m first number kept of size old new begun made sized carries cloned in (
+        accepted registers k compile table c m first number kept of size old new begun made sized carries cloned none,
         (
           record {
             made = made;
@@ -68,7 +80,7 @@ module _ (k : CloneSource) (compile : Bool) (table : Option ℕ) (c : Module) (m
                 (subst (λ ts. IsMadeOf size ts number (record { module_of = c; unit = u }) (wanted_of k.big_endian c first u) made) news is);
           },
           subst (λ us. IsLast c.functions size c.sections us behind) (sym added)
-              (subst (λ s. IsLast c.functions size s (before.units.units.items ++ made ∷ []) behind) (unit-is k compile table c m first number kept of).sections
+              (subst (λ s. IsLast c.functions size s (before.units.units.items ++ made ∷ []) behind) (unit-is k compile table (told_by registers k.module) c m first number kept of).sections
               (subst (λ fs. IsLast fs size k.unit.now.sections (before.units.units.items ++ made ∷ []) behind) (sym (of.module_is).functions)
               (subst (IsLast k.transform.now size k.unit.now.sections (before.units.units.items ++ made ∷ [])) (sym next)
               (last-carried k.transform.now size k.unit.now.sections before.units.units.items made id k.unit.now.header table k.files last placed (cloned.size ∙ sized) known

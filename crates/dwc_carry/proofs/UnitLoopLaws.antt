@@ -6,6 +6,7 @@ use Rattle.std.proofs.lemmas.Bool.{lt-ltb, le-ltb}
 use Rattle.std.proofs.lemmas.List.{append-nil, append_assoc, length-append, drop_more}
 use Rattle.std.proofs.lemmas.List.Elements.{All-nil, All-cons, All-head, All-tail, All-append, All-weaker}
 use Rattle.dwc_base.specs.Functions.{Function}
+use Rattle.dwc_base.specs.Compiled.{ToldModule}
 use Rattle.dwc_base.specs.Units.{UnitHeader}
 use Rattle.dwc_base.specs.Carried.{Unit, Module, CarriedUnit}
 use Rattle.dwc_base.specs.Refusals.{Refusal, first_of}
@@ -232,7 +233,7 @@ module _ (c : Module) (m : KeptModule) (size : ℕ) (big_endian : Bool) (first :
           (λ x is. sym (ap first_of h.accepted) ∙ ap (λ rs. first_of (flat_map (refusals_of c) (map of_read rs))) (left-some some) ∙ first-behind (refusals_of c (of_read r)) (Refused rest) x is) met
 
     -- behind the last one
-    pub units-done : UnitsSoFar all old new [] → all ≡ m.units.items → first ≡ length old.units.units.items → IsOfModule c c.functions m
+    pub units-done : UnitsSoFar all old new [] → all ≡ m.units.items → first ≡ length old.units.units.items → IsOfModule c c.functions c.told m
         → (option_map in_reading (first_of (flat_map (refusals_of c) (carried_in (kept_of c)))) ≡ None) × AddsUnits size big_endian c old new
     units-done h are at of =
         let carried : carried_in (kept_of c) ≡ carried_left all = carried-read c m of.is ∙ ap carried_left (sym are) in (
@@ -248,11 +249,11 @@ module _ (c : Module) (m : KeptModule) (size : ℕ) (big_endian : Bool) (first :
         )
 
     -- all that is refused is refused of the module
-    pub refused-all : all ≡ m.units.items → IsOfModule c c.functions m → (e : DebugError) → RefusesReading (first_of (Refused all)) e → RefusesReading (first_of (flat_map (refusals_of c) (carried_in (kept_of c)))) e
+    pub refused-all : all ≡ m.units.items → IsOfModule c c.functions c.told m → (e : DebugError) → RefusesReading (first_of (Refused all)) e → RefusesReading (first_of (flat_map (refusals_of c) (carried_in (kept_of c)))) e
     refused-all are of e = subst (λ us. RefusesReading (first_of (flat_map (refusals_of c) us)) e) (sym (carried-read c m of.is ∙ ap carried_left (sym are)))
 
   -- before the first one
-  pub units-begin : (old : Dwarf) → first ≡ length old.units.units.items → IsOfModule c c.functions m → UnitsSoFar m.units.items old old m.units.items
+  pub units-begin : (old : Dwarf) → first ≡ length old.units.units.items → IsOfModule c c.functions c.told m → UnitsSoFar m.units.items old old m.units.items
   units-begin old at of = record {
     made = [];
     added = sym (append-nil old.units.units.items);
@@ -264,7 +265,7 @@ module _ (c : Module) (m : KeptModule) (size : ℕ) (big_endian : Bool) (first :
 
 -- ---- a step of the loop
 
-module _ (fs : List Function) (m : KeptModule) (i : ℕ) (r : ReadUnit) (less : i < length m.units.items) (is : r ≡ get_or m.units.items i r) where
+module _ (fs : List Function) (told : ToldModule) (m : KeptModule) (i : ℕ) (r : ReadUnit) (less : i < length m.units.items) (is : r ≡ get_or m.units.items i r) where
   pub unit-there : IsIn r m.units.items
   unit-there = subst (λ x. IsIn x m.units.items) (sym is) (at-in m.units.items i r less)
 
@@ -272,9 +273,9 @@ module _ (fs : List Function) (m : KeptModule) (i : ℕ) (r : ReadUnit) (less : 
   units-left = drop_more m.units.items i r less ∙ ap (λ x. x ∷ drop (i + 1) m.units.items) (sym is)
 
   -- The next unit is one of the module, and its entries stand in the unit of the output that is added next.
-  pub unit-next : (c : Module) (size : ℕ) (big_endian : Bool) (first : ℕ) (old new : Dwarf) (places : List EmittedEntry) (os : List ℕ) → IsOfModule c fs m → os ≡ carried_offsets m.kept r → 0 < length os
+  pub unit-next : (c : Module) (size : ℕ) (big_endian : Bool) (first : ℕ) (old new : Dwarf) (places : List EmittedEntry) (os : List ℕ) → IsOfModule c fs told m → os ≡ carried_offsets m.kept r → 0 < length os
       → places ≡ numbered_lists first (emitted m.kept m.units.items) → UnitsSoFar c m size big_endian first m.units.items old new (r ∷ drop (i + 1) m.units.items)
-      → IsUnitOf c fs m first (length new.units.units.items) places os r
+      → IsUnitOf c fs told m first (length new.units.units.items) places os r
   unit-next c size big_endian first old new places os of offsets some are so_far = record {
     module_is = of;
     one = in-contains m.units.items r unit-there;
@@ -284,6 +285,6 @@ module _ (fs : List Function) (m : KeptModule) (i : ℕ) (r : ReadUnit) (less : 
     own = front-own m.kept first (length new.units.units.items) m.units.items r (drop (i + 1) m.units.items) so_far.place places are (subst (λ xs. 0 < length xs) offsets some);
   }
 
--- The module's own functions are the transform's.
-pub of-itself : (c : Module) (fs : List Function) (m : KeptModule) → IsOfModule c fs m → IsOfModule c c.functions m
-of-itself c fs m of = record { functions = refl; is = of.is; bytes = of.bytes }
+-- The module's own functions are the transform's, and what is told of it is told.
+pub of-itself : (c : Module) (fs : List Function) (told : ToldModule) (m : KeptModule) → IsOfModule c fs told m → IsOfModule c c.functions c.told m
+of-itself c fs told m of = record { functions = refl; told_is = refl; is = of.is; bytes = of.bytes }

@@ -30,10 +30,13 @@ use Rattle.dwc_kept.specs.declared.read_unit.ReadUnit.{ReadUnit}
 use Rattle.dwc_base.proofs.InLists.{contains-in}
 use Rattle.dwc_kept.proofs.KeptModuleLaws.{read-unit, read-entries}
 use Rattle.dwc_base.specs.Functions.{Function}
+use Rattle.dwc_base.specs.Compiled.{ToldModule}
+use Rattle.dwc_clif.specs.Registers.{Registers}
 use Rattle.dwc_clone.specs.declared.places.EmittedEntry.{EmittedEntry}
 use Rattle.dwc_clone.specs.declared.error.CloneError.{CloneError}
 use Rattle.dwc_clone.specs.declared.source.CloneSource.{CloneSource}
 use Rattle.dwc_clone.specs.Errors.{refusal_told}
+use Rattle.dwc_clone.specs.CompiledModules.{told_by}
 use Rattle.dwc_clone.specs.OutputPlaces.{goal_place}
 use Rattle.dwc_clone.specs.Sources.{AreFiles}
 use Rattle.dwc_clone.specs.ClonedUnits.{picked, placed_in, depths_of, clone_rules, clone_refusals, clone_wanted, IsCloned, TellsFirst}
@@ -111,9 +114,9 @@ first-listed None r is = is
 first-listed (Some x) r is = is
 
 -- a line table is refused
-pub begun-refused : (c : Module) (fs : List Function) (m : KeptModule) (first number : ℕ) (places : List EmittedEntry) (kept : List ℕ) (r : ReadUnit) → IsUnitOf c fs m first number places kept r
+pub begun-refused : (c : Module) (fs : List Function) (told : ToldModule) (m : KeptModule) (first number : ℕ) (places : List EmittedEntry) (kept : List ℕ) (r : ReadUnit) → IsUnitOf c fs told m first number places kept r
     → (e : DebugError) → RefusesReading (lines_refusal r.unit.sections r.unit.header r.line_table) e → RefusesReading (first_of (refusals_of c (unit_read c.sections r.unit.header))) e
-begun-refused c fs m first number places kept r of e met =
+begun-refused c fs told m first number places kept r of e met =
     let is = read-unit c m (of.module_is).is r (contains-in m.units.items r of.one) in
     let same : lines_refusal r.unit.sections r.unit.header r.line_table ≡ unit_refusal c.sections (unit_read c.sections r.unit.header) =
     ap (λ s. lines_refusal s r.unit.header r.line_table) is.sections ∙ ap (lines_refusal c.sections r.unit.header) is.lines in
@@ -130,8 +133,12 @@ record KnownTable (c : Module) (u : Unit) (lines : GivenLines) : Type 0 where
   sized : is_some t ≡ is_some lines.address_size
   there : (e : Entry) → root u ≡ Some e → (is_some t && has_lines e.attributes) ≡ is_some t
 
-module _ (k : CloneSource) (compile : Bool) (table : Option ℕ) (c : Module) (m : KeptModule) (first number : ℕ) (kept : List ℕ)
-    (of : IsUnitOf c k.transform.now m first number k.places.now kept (read_of k compile table)) where
+module _ (registers : Registers) (k : CloneSource) (compile : Bool) (table : Option ℕ) (c : Module) (m : KeptModule) (first number : ℕ) (kept : List ℕ)
+    (of : IsUnitOf c k.transform.now (told_by registers k.module) m first number k.places.now kept (read_of k compile table)) where
+  -- what is told of the module
+  abbrev told : ToldModule
+  told = told_by registers k.module
+
   abbrev h : UnitHeader
   h = k.unit.now.header
 
@@ -142,13 +149,13 @@ module _ (k : CloneSource) (compile : Bool) (table : Option ℕ) (c : Module) (m
   es = picked kept (entries k.unit.now.sections k.unit.now.header).items
 
   same-sections : k.unit.now.sections ≡ c.sections
-  same-sections = (unit-is k compile table c m first number kept of).sections
+  same-sections = (unit-is k compile table told c m first number kept of).sections
 
   same-functions : k.transform.now ≡ c.functions
   same-functions = sym (of.module_is).functions
 
   table-is : table ≡ table_offset (root u)
-  table-is = (unit-is k compile table c m first number kept of).lines
+  table-is = (unit-is k compile table told c m first number kept of).lines
 
   module _ (size : ℕ) (lines : GivenLines) where
     -- the program is of the module's functions and sections
@@ -197,41 +204,44 @@ module _ (k : CloneSource) (compile : Bool) (table : Option ℕ) (c : Module) (m
 
   -- ---- what is to be said, and what is refused
 
-  entries-are : placed_in h.offset es ≡ kept_in (kept_of c) u
+  pub entries-are : placed_in h.offset es ≡ kept_in (kept_of c) u
   entries-are =
-      ap (placed_in h.offset) (picked-are k compile table c m first number kept of)
-      ∙ sym (read-entries c m (of.module_is).is (read_of k compile table) (unit-in k compile table c m first number kept of))
+      ap (placed_in h.offset) (picked-are k compile table told c m first number kept of)
+      ∙ sym (read-entries c m (of.module_is).is (read_of k compile table) (unit-in k compile table told c m first number kept of))
 
-  rules-are : clone_rules k ≡ rules_of c u
-  rules-are = ap₂ (λ fs s. code_rules fs s h) same-functions same-sections
+  rules-are : clone_rules registers k (source_of (kept_of c) u) ≡ rules_of c u
+  unfolding source_of
+  rules-are =
+      ap (λ t. code_rules t k.transform.now k.unit.now.sections h (kept_of c).entries) (sym (of.module_is).told_is)
+      ∙ ap₂ (λ fs s. code_rules c.told fs s h (kept_of c).entries) same-functions same-sections
 
-  wanted-is : clone_wanted k (source_of (kept_of c) u) es ≡ wanted_of k.big_endian c first u
+  wanted-is : clone_wanted registers k (source_of (kept_of c) u) es ≡ wanted_of k.big_endian c first u
   wanted-is =
-      ap (λ es'. settled_unit (goal_place k.places.now) (unit_drafts (clone_rules k) (source_of (kept_of c) u) k.big_endian es')) entries-are
+      ap (λ es'. settled_unit (goal_place k.places.now) (unit_drafts (clone_rules registers k (source_of (kept_of c) u)) (source_of (kept_of c) u) k.big_endian es')) entries-are
       ∙ ap (λ rules. settled_unit (goal_place k.places.now) (unit_drafts rules (source_of (kept_of c) u) k.big_endian (kept_in (kept_of c) u))) rules-are
       ∙ unit-same (goal_place k.places.now) (place_of_goal first (module_drafts k.big_endian c)) (λ g. ap (λ ps. goal_place ps g) of.places_are ∙ goal-places c m (of.module_is).is k.big_endian first g) (unit_drafts (rules_of c u) (source_of (kept_of c) u) k.big_endian (kept_in (kept_of c) u))
 
-  kept-refused : clone_refusals k (source_of (kept_of c) u) es ≡ kept_refusals (rules_of c) (kept_of c) u
+  kept-refused : clone_refusals registers k (source_of (kept_of c) u) es ≡ kept_refusals (rules_of c) (kept_of c) u
   unfolding kept_refusals
   kept-refused =
-      ap (flat_map (entry_refusals (clone_rules k) (source_of (kept_of c) u))) entries-are
+      ap (flat_map (entry_refusals (clone_rules registers k (source_of (kept_of c) u)) (source_of (kept_of c) u))) entries-are
       ∙ ap (λ rules. flat_map (entry_refusals rules (source_of (kept_of c) u)) (kept_in (kept_of c) u)) rules-are
 
   lines-refused : lines_refusal k.unit.now.sections h table ≡ unit_refusal c.sections u
   lines-refused = ap (λ s. lines_refusal s h table) same-sections ∙ ap (lines_refusal c.sections h) table-is
 
-  refusals-are : option_map in_reading (lines_refusal k.unit.now.sections h table) ≡ None → refusals_of c u ≡ clone_refusals k (source_of (kept_of c) u) es
+  refusals-are : option_map in_reading (lines_refusal k.unit.now.sections h table) ≡ None → refusals_of c u ≡ clone_refusals registers k (source_of (kept_of c) u) es
   refusals-are none =
       ap (λ o. option_to_list o ++ kept_refusals (rules_of c) (kept_of c) u) (sym lines-refused ∙ unmapped in_reading (lines_refusal k.unit.now.sections h table) none)
       ∙ sym kept-refused
 
-  pub clone-refused : (e : CloneError) → option_map in_reading (lines_refusal k.unit.now.sections h table) ≡ None → TellsFirst (clone_refusals k (source_of (kept_of c) u) es) (refusal_told e) → RefusesReading (first_of (refusals_of c u)) (of_cloning e)
-  clone-refused e none tells = subst (λ rs. RefusesReading (first_of rs) (of_cloning e)) (sym (refusals-are none)) (clone-told (clone_refusals k (source_of (kept_of c) u) es) e tells)
+  pub clone-refused : (e : CloneError) → option_map in_reading (lines_refusal k.unit.now.sections h table) ≡ None → TellsFirst (clone_refusals registers k (source_of (kept_of c) u) es) (refusal_told e) → RefusesReading (first_of (refusals_of c u)) (of_cloning e)
+  clone-refused e none tells = subst (λ rs. RefusesReading (first_of rs) (of_cloning e)) (sym (refusals-are none)) (clone-told (clone_refusals registers k (source_of (kept_of c) u) es) e tells)
 
   -- ---- the unit
 
   module _ (size : ℕ) (old new : List (List ℕ)) (begun made : GivenUnit) (sized : begun.address_size ≡ size) (carries : CarriesNamed k.transform.now k.unit.now.sections h size table k.files begun.lines)
-      (cloned : IsCloned k number (source_of (kept_of c) u) es old new begun made) where
+      (cloned : IsCloned registers k number (source_of (kept_of c) u) es old new begun made) where
     known : KnownTable c u begun.lines
     known = table-known size begun.lines carries
 
@@ -243,13 +253,14 @@ module _ (k : CloneSource) (compile : Bool) (table : Option ℕ) (c : Module) (m
     source-table = ap readable_table known.is_read
 
     names : names_lines (in_file_order made.additions) ≡ is_some made.lines.address_size
+    unfolding source_of
     names =
-        let fit = clonable k compile table c m first number kept of in
-        let at : root u ≡ Some fit.root = first-root k compile table c m first number kept of fit.root fit.others (sym (picked-are k compile table c m first number kept of) ∙ fit.are) in
+        let fit = clonable k compile table told c m first number kept of in
+        let at : root u ≡ Some fit.root = first-root k compile table told c m first number kept of fit.root fit.others (sym (picked-are k compile table told c m first number kept of) ∙ fit.are) in
         tree-names new number (depths_of es) made.additions (cloned.order).order.counted
         ∙ ap tree_says cloned.says
-        ∙ ap (λ xs. tree_says (clone_wanted k (source_of (kept_of c) u) xs)) fit.are
-        ∙ root-says k.transform.now k.unit.now.sections h (source_of (kept_of c) u) k.big_endian (goal_place k.places.now) (record { unit = h.offset; entry = fit.root }) (root-tree fit.root fit.others (subst (λ (xs : List Entry). IsTree (depths_of xs)) fit.are fit.tree))
+        ∙ ap (λ xs. tree_says (clone_wanted registers k (source_of (kept_of c) u) xs)) fit.are
+        ∙ root-says told k.transform.now k.unit.now.sections h (kept_of c).entries (source_of (kept_of c) u) k.big_endian (goal_place k.places.now) (record { unit = h.offset; entry = fit.root }) (root-tree fit.root fit.others (subst (λ (xs : List Entry). IsTree (depths_of xs)) fit.are fit.tree))
         ∙ ap (λ t. is_some t && has_lines fit.root.attributes) source-table
         ∙ known.there fit.root at
         ∙ known.sized

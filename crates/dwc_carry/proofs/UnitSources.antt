@@ -16,6 +16,7 @@ use Rattle.dwc_base.specs.EntryRules.{is_required}
 use Rattle.dwc_base.specs.Indexed.{texts_of_unit}
 use Rattle.dwc_base.specs.Kept.{Placed}
 use Rattle.dwc_base.specs.Functions.{Function}
+use Rattle.dwc_base.specs.Compiled.{ToldModule}
 use Rattle.dwc_base.specs.Targets.{target_of}
 use Rattle.dwc_base.specs.Trees.{place_among}
 use Rattle.dwc_base.specs.KeptModules.{kept_module}
@@ -156,8 +157,8 @@ compiled kept os h false is some = absurd (omega (arith, some, ap length is))
 abbrev pub read_of : CloneSource → Bool → Option ℕ → ReadUnit
 read_of k compile table = record { unit = k.unit.now; is_compile_unit = compile; line_table = table }
 
-module _ (k : CloneSource) (compile : Bool) (table : Option ℕ) (c : Module) (m : KeptModule) (first number : ℕ) (kept : List ℕ)
-    (of : IsUnitOf c k.transform.now m first number k.places.now kept (read_of k compile table)) where
+module _ (k : CloneSource) (compile : Bool) (table : Option ℕ) (told : ToldModule) (c : Module) (m : KeptModule) (first number : ℕ) (kept : List ℕ)
+    (of : IsUnitOf c k.transform.now told m first number k.places.now kept (read_of k compile table)) where
   abbrev pub unit_of : Unit
   unit_of = unit_read c.sections k.unit.now.header
 
@@ -233,7 +234,7 @@ module _ (k : CloneSource) (compile : Bool) (table : Option ℕ) (c : Module) (m
   }
 
 -- The entries of a unit of a module were read.
-pub entries-of-read : (c : Module) (fs : List Function) (m : KeptModule) (r : ReadUnit) → IsOfModule c fs m → IsIn r m.units.items → All IsReadEntry (entries r.unit.sections r.unit.header).items
-entries-of-read c fs m r of i =
+pub entries-of-read : (c : Module) (fs : List Function) (told : ToldModule) (m : KeptModule) (r : ReadUnit) → IsOfModule c fs told m → IsIn r m.units.items → All IsReadEntry (entries r.unit.sections r.unit.header).items
+entries-of-read c fs told m r of i =
     subst (λ s. All IsReadEntry (entries s r.unit.header).items) (sym (read-unit c m of.is r i).sections)
     (all-in (λ h. All IsReadEntry (entries c.sections h).items) (unit_headers c.sections).items r.unit.header (entries-read c.sections of.bytes) (header-in c.sections (unit_headers c.sections).items m.units.items r of.is.units i))

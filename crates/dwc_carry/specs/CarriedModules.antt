@@ -4,6 +4,7 @@ use Rattle.std.specs.List.{flat_map}
 use Rattle.dwc_base.specs.declared.wasm.ModuleTranslation.{ModuleTranslation}
 use Rattle.dwc_base.specs.Translations.{translation_sections}
 use Rattle.dwc_base.specs.Functions.{Function}
+use Rattle.dwc_base.specs.Compiled.{ToldModule}
 use Rattle.dwc_base.specs.Carried.{units, Module}
 use Rattle.dwc_base.specs.Refusals.{first_of}
 use Rattle.dwc_base.specs.DraftForests.{trees_from}
@@ -15,15 +16,9 @@ use Rattle.dwc_carry.specs.declared.error.DebugError.{DebugError}
 use Rattle.dwc_carry.specs.Refusals.{ReadsOr}
 use Rattle.dwc_carry.specs.MadeUnits.{AreMadeOf}
 
--- a module, with the functions that its transform keeps
-abbrev pub transformed_module : ModuleTranslation → List Function → Module
-transformed_module t fs = record { sections = translation_sections t; functions = fs; compressed = t.compressed }
-
--- modules, each with those of its transform
-abbrev pub transformed_modules : List ModuleTranslation → List (List Function) → List Module
-transformed_modules [] fss = []
-transformed_modules (t ∷ ts) [] = []
-transformed_modules (t ∷ ts) (fs ∷ fss) = transformed_module t fs ∷ transformed_modules ts fss
+-- a module, with the functions that its transform keeps and what is told of it
+abbrev pub transformed_module : ModuleTranslation → List Function → ToldModule → Module
+transformed_module t fs told = record { sections = translation_sections t; functions = fs; told = told; compressed = t.compressed }
 
 -- Units are added that are made of the carried units of modules, whose units are read to their ends, and that are to say the trees of
 -- these; the table of texts has grown.

@@ -3,6 +3,7 @@ use Rattle.std.specs.Prelude.{◌≡◌, ℕ, ◌≤◌, ◌<◌, List, [], ◌�
 use Rattle.std.specs.List.{flat_map}
 use Rattle.dwc_base.specs.declared.section_name.SectionName.TheVariants.{Info}
 use Rattle.dwc_base.specs.Functions.{Function}
+use Rattle.dwc_base.specs.Compiled.{ToldModule}
 use Rattle.dwc_base.specs.Carried.{Unit, Module}
 use Rattle.dwc_base.specs.Refusals.{Refusal, unit_refusal, first_of}
 use Rattle.dwc_base.specs.KeptModules.{carried_in, kept_in}
@@ -28,16 +29,18 @@ use Rattle.dwc_carry.specs.ModulePlaces.{carried_offsets, emitted, numbered_list
 
 -- ---- a module
 
--- The units and the kept entries that were read are those of a module with some functions, whose `.debug_info` is bytes.
-pub record IsOfModule (c : Module) (fs : List Function) (m : KeptModule) : Type 0 where
+-- The units and the kept entries that were read are those of a module with some functions, of which something is told, whose `.debug_info` is
+-- bytes.
+pub record IsOfModule (c : Module) (fs : List Function) (told : ToldModule) (m : KeptModule) : Type 0 where
   pub functions : c.functions ≡ fs
+  pub told_is : c.told ≡ told
   pub is : IsKeptModule c.functions c.sections m
   pub bytes : All (λ b. b < 256) (c.sections.bytes Info)
 
 -- They are those of some module.
-pub record HasModule (fs : List Function) (m : KeptModule) : Type 0 where
+pub record HasModule (fs : List Function) (told : ToldModule) (m : KeptModule) : Type 0 where
   pub of : Module
-  pub is : IsOfModule of fs m
+  pub is : IsOfModule of fs told m
 
 -- what is refused of a carried unit of a module: its line table, and then its kept entries
 abbrev pub refusals_of : Module → Unit → List Refusal
@@ -51,8 +54,8 @@ wanted_of big_endian c first u = settled_unit (place_of_goal first (module_draft
 
 -- A unit that was read is one of a module, some offsets are those of its kept entries, and places are those of the module, where the unit's
 -- entries stand in the unit of a number.
-pub record IsUnitOf (c : Module) (fs : List Function) (m : KeptModule) (first number : ℕ) (places : List EmittedEntry) (kept : List ℕ) (r : ReadUnit) : Type 0 where
-  pub module_is : IsOfModule c fs m
+pub record IsUnitOf (c : Module) (fs : List Function) (told : ToldModule) (m : KeptModule) (first number : ℕ) (places : List EmittedEntry) (kept : List ℕ) (r : ReadUnit) : Type 0 where
+  pub module_is : IsOfModule c fs told m
   pub one : Contains m.units.items r
   pub offsets : kept ≡ carried_offsets m.kept r
   pub some : 0 < length kept

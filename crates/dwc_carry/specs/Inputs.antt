@@ -5,28 +5,50 @@ use Rattle.dwc_base.specs.declared.records.Endian.{Endian}
 use Rattle.dwc_base.specs.declared.records.MapFault.{MapFault}
 use Rattle.dwc_base.specs.declared.wasm.ModuleTranslation.{ModuleTranslation}
 use Rattle.dwc_base.specs.Translations.{translation_sections}
-use Rattle.dwc_base.specs.Functions.{functions_of}
+use Rattle.dwc_base.specs.Functions.{Function, functions_of}
 use Rattle.dwc_base.specs.Carried.{Module, Compilation}
+use Rattle.dwc_base.specs.Compiled.{ToldModule}
 use Rattle.dwc_base.specs.Forests.{first_refusal}
 use Rattle.dwc_clif.specs.AddressMaps.{address_map_view}
+use Rattle.dwc_clif.specs.Registers.{Registers}
+use Rattle.dwc_addr.specs.declared.memory_offset.ModuleMemoryOffset.{ModuleMemoryOffset}
 use Rattle.dwc_addr.specs.Numbers.{Compiled}
 use Rattle.dwc_addr.specs.Compilations.{CompilationValue}
 use Rattle.dwc_addr.specs.Transforms.{first_bad_map}
+use Rattle.dwc_clone.specs.CompiledModules.{told_module}
 use Rattle.dwc_carry.specs.Refusals.{InputRefusal, bad_address_map, in_reading}
 
--- a module of a translation and of the functions compiled from it, of which the first has a number
-abbrev pub module_view : ℕ → ModuleTranslation → List Compiled → Module
-module_view number t fs = record { sections = translation_sections t; functions = functions_of t.code_section_offset number (map address_map_view fs); compressed = t.compressed }
+-- what is told of the modules from a place on beside their sections and address maps, whose functions are numbered over all of them from
+-- a number on: where their functions' values lie, and where their memories are found, for a target that numbers registers
+abbrev pub told_from : Registers → ℕ → ℕ → List (List Compiled) → List ModuleMemoryOffset → List ToldModule
+told_from registers place number [] offsets = []
+told_from registers place number (fs ∷ fss) [] = []
+told_from registers place number (fs ∷ fss) (offset ∷ offsets) = told_module place number fs offset registers ∷ told_from registers (suc place) (number + length fs) fss offsets
+
+-- a module of a translation and of the functions compiled from it, of which the first has a number, with what is told of it
+abbrev pub module_view : ℕ → ModuleTranslation → List Compiled → ToldModule → Module
+module_view number t fs told = record { sections = translation_sections t; functions = functions_of t.code_section_offset number (map address_map_view fs); told = told; compressed = t.compressed }
 
 -- modules in order, whose functions are numbered over all of them from a number on
-abbrev pub modules_from : ℕ → List ModuleTranslation → List (List Compiled) → List Module
-modules_from number [] fss = []
-modules_from number (t ∷ ts) [] = []
-modules_from number (t ∷ ts) (fs ∷ fss) = module_view number t fs ∷ modules_from (number + length fs) ts fss
+abbrev pub modules_from : ℕ → List ModuleTranslation → List (List Compiled) → List ToldModule → List Module
+modules_from number [] fss told = []
+modules_from number (t ∷ ts) [] told = []
+modules_from number (t ∷ ts) (fs ∷ fss) [] = []
+modules_from number (t ∷ ts) (fs ∷ fss) (m ∷ told) = module_view number t fs m ∷ modules_from (number + length fs) ts fss told
 
--- the input of a compilation for a target of a byte order and an address size
-abbrev pub input_of : Endian → ℕ → CompilationValue → Compilation
-input_of order pointer_bytes c = record { order = order; pointer_bytes = pointer_bytes; modules = modules_from 0 c.translations c.functions }
+-- the functions of modules, which are numbered over all of them from a number on
+abbrev pub functions_from : ℕ → List ModuleTranslation → List (List Compiled) → List (List Function)
+functions_from number [] fss = []
+functions_from number (t ∷ ts) [] = []
+functions_from number (t ∷ ts) (fs ∷ fss) = functions_of t.code_section_offset number (map address_map_view fs) ∷ functions_from (number + length fs) ts fss
+
+-- the modules of a compilation
+abbrev pub modules_of : Registers → CompilationValue → List Module
+modules_of registers c = modules_from 0 c.translations c.functions (told_from registers 0 0 c.functions c.memory_offsets)
+
+-- the input of a compilation for a target of a byte order, an address size, and numbers of registers
+abbrev pub input_of : Endian → ℕ → Registers → CompilationValue → Compilation
+input_of order pointer_bytes registers c = record { order = order; pointer_bytes = pointer_bytes; modules = modules_of registers c }
 
 -- the first bad map of modules from a place on: the place of its module, that of its function, and the first rule it breaks
 abbrev pub bad_map_from : ℕ → List ModuleTranslation → List (List Compiled) → Option (ℕ × (ℕ × MapFault))
@@ -42,5 +64,5 @@ abbrev pub maps_refusal : CompilationValue → Option InputRefusal
 maps_refusal c = option_map (λ bad. bad_address_map bad.0 bad.1.0 bad.1.1) (bad_map c)
 
 -- The refusal of a compilation for a target: that of its address maps, or else the first in the order of reading.
-abbrev pub refusal_of : Endian → ℕ → CompilationValue → Option InputRefusal
-refusal_of order pointer_bytes c = option_or (maps_refusal c) (option_map in_reading (first_refusal (input_of order pointer_bytes c)))
+abbrev pub refusal_of : Endian → ℕ → Registers → CompilationValue → Option InputRefusal
+refusal_of order pointer_bytes registers c = option_or (maps_refusal c) (option_map in_reading (first_refusal (input_of order pointer_bytes registers c)))

@@ -9,4 +9,3 @@ pub mod CarriedModules
 pub mod Inputs
 pub mod Transformed
 pub mod Emits
-pub mod StacksByDepth

@@ -2,9 +2,9 @@
 use Rattle.std.specs.Prelude.{◌≡◌, ℕ, Option, Some, None, option_map, Result, Ok, Err}
 use Rattle.dwc_base.specs.Sections.{unreadable, unsupported}
 use Rattle.dwc_base.specs.declared.records.MapFault.{MapFault}
-use Rattle.dwc_base.specs.declared.faults.Limit.TheVariants.{Section, Addend, Range}
-use Rattle.dwc_base.specs.declared.section_name.SectionName.{SectionName}
-use Rattle.dwc_base.specs.Refusals.{Refusal, of_place, missing_file, long_function, long_range}
+use Rattle.dwc_base.specs.declared.faults.Limit.{Limit}
+use Rattle.dwc_base.specs.declared.faults.Limit.TheVariants.{Section, Addend, Range, Jump, Expression}
+use Rattle.dwc_base.specs.Refusals.{Refusal, of_place, missing_file, long_function, long_range, bad_label, lacks_memory, unmapped_register, long_jump}
 use Rattle.dwc_read.specs.declared.fault.ReadFault.{ReadFault}
 use Rattle.dwc_read.specs.declared.fault.ReadFault.TheVariants as read
 use Rattle.dwc_addr.specs.declared.error.AddrError.{AddrError}
@@ -16,7 +16,7 @@ use Rattle.dwc_write.specs.declared.error.WriteError.TheVariants as write
 use Rattle.dwc_clone.specs.declared.error.CloneError.{CloneError}
 use Rattle.dwc_clone.specs.declared.error.CloneError.TheVariants as clone
 use Rattle.dwc_carry.specs.declared.error.DebugError.{DebugError}
-use Rattle.dwc_carry.specs.declared.error.DebugError.TheVariants.{Read, Unsupported, InvalidFileIndex, BadAddressMap, TooLarge, OutOfMemory}
+use Rattle.dwc_carry.specs.declared.error.DebugError.TheVariants.{Read, Unsupported, InvalidFileIndex, BadAddressMap, BadLabelRange, InvalidAttributeValue, UnmappedRegister, TooLarge, OutOfMemory}
 
 -- a reader's refusal, and that of address maps
 abbrev pub of_reading : ReadFault → DebugError
@@ -39,7 +39,11 @@ of_table tab.OutOfMemory = OutOfMemory
 abbrev pub of_cloning : CloneError → DebugError
 of_cloning (clone.Read what section offset) = Read what section offset
 of_cloning (clone.Unsupported kind offset) = Unsupported kind offset
-of_cloning clone.TooLarge = TooLarge Range
+of_cloning clone.LongRange = TooLarge Range
+of_cloning (clone.BadLabelRange label) = BadLabelRange label
+of_cloning (clone.InvalidAttributeValue m) = InvalidAttributeValue m
+of_cloning (clone.UnmappedRegister register) = UnmappedRegister register
+of_cloning clone.LongJump = TooLarge Jump
 of_cloning clone.OutOfMemory = OutOfMemory
 
 -- and that of the writer
@@ -55,10 +59,10 @@ pub data InputRefusal : Type 0 where
   bad_address_map : ℕ → ℕ → MapFault → InputRefusal
   in_reading : Refusal → InputRefusal
 
--- a refusal, a section that would be too long, or want of memory
+-- a refusal, what of the output would be too large, or want of memory
 pub data Told : Type 0 where
   refused : InputRefusal → Told
-  limit : SectionName → Told
+  limit : Limit → Told
   memory : Told
 
 abbrev pub told : DebugError → Told
@@ -66,26 +70,31 @@ told (Read what section offset) = refused (in_reading (of_place (unreadable what
 told (Unsupported kind offset) = refused (in_reading (of_place (unsupported kind offset)))
 told (InvalidFileIndex offset) = refused (in_reading (missing_file offset))
 told (BadAddressMap m func why) = refused (bad_address_map m func why)
-told (TooLarge (Section name)) = limit name
+told (BadLabelRange label) = refused (in_reading (bad_label label.0))
+told (InvalidAttributeValue m) = refused (in_reading (lacks_memory m))
+told (UnmappedRegister register) = refused (in_reading (unmapped_register register.0))
+told (TooLarge (Section name)) = limit (Section name)
 told (TooLarge Addend) = refused (in_reading long_function)
 told (TooLarge Range) = refused (in_reading long_range)
+told (TooLarge Jump) = refused (in_reading long_jump)
+told (TooLarge Expression) = limit Expression
 told OutOfMemory = memory
 
--- What is told is the refusal of an input, if there is one; a section, where nothing is refused and that section could be too long;
--- or want of memory, at any time.
-abbrev pub IsCause : (SectionName → Type 0) → Option InputRefusal → Told → Type 0
+-- What is told is the refusal of an input, if there is one; a limit, where nothing is refused and the output passes that limit; or want
+-- of memory, at any time.
+abbrev pub IsCause : (Limit → Type 0) → Option InputRefusal → Told → Type 0
 IsCause passes refusal (refused r) = refusal ≡ Some r
-IsCause passes refusal (limit name) = (refusal ≡ None) × passes name
+IsCause passes refusal (limit what) = (refusal ≡ None) × passes what
 IsCause passes refusal memory = Unit {0}
 
 -- Where nothing is refused, what is answered has a property; an error has its cause.
-abbrev pub GivesWithin : {X : Type 0} → (SectionName → Type 0) → (X → Type 0) → Option InputRefusal → Result X DebugError → Type 0
+abbrev pub GivesWithin : {X : Type 0} → (Limit → Type 0) → (X → Type 0) → Option InputRefusal → Result X DebugError → Type 0
 GivesWithin passes has refusal (Ok x) = (refusal ≡ None) × has x
 GivesWithin passes has refusal (Err e) = IsCause passes refusal (told e)
 
--- the same where no section can be too long
+-- the same where no limit can be passed
 abbrev pub Refuses : Option InputRefusal → DebugError → Type 0
-Refuses refusal e = IsCause (λ name. ⊥) refusal (told e)
+Refuses refusal e = IsCause (λ what. ⊥) refusal (told e)
 
 abbrev pub GivesOr : {X : Type 0} → (X → Type 0) → Option InputRefusal → Result X DebugError → Type 0
 GivesOr has refusal (Ok x) = (refusal ≡ None) × has x

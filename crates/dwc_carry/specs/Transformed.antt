@@ -6,7 +6,8 @@ use Rattle.dwc_base.specs.declared.records.Endian.{Endian}
 use Rattle.dwc_base.specs.declared.faults.Limit.TheVariants.{Addend}
 use Rattle.dwc_base.specs.Functions.{Function}
 use Rattle.dwc_base.specs.Addends.{is_long}
-use Rattle.dwc_base.specs.Carried.{units, Module, Compilation}
+use Rattle.dwc_base.specs.Carried.{units, Compilation}
+use Rattle.dwc_clif.specs.Registers.{Registers}
 use Rattle.dwc_addr.specs.declared.transform.AddressTransform.{AddressTransform}
 use Rattle.dwc_addr.specs.Compilations.{CompilationValue}
 use Rattle.dwc_write.specs.declared.units.Dwarf.{Dwarf}
@@ -18,16 +19,12 @@ use Rattle.dwc_write.specs.GivenUnits.{GivenUnit, ordered}
 use Rattle.dwc_carry.specs.declared.error.DebugError.{DebugError}
 use Rattle.dwc_carry.specs.declared.error.DebugError.TheVariants.{TooLarge}
 use Rattle.dwc_carry.specs.Refusals.{GivesOr}
-use Rattle.dwc_carry.specs.Inputs.{modules_from, input_of, maps_refusal, refusal_of}
+use Rattle.dwc_carry.specs.Inputs.{functions_from, input_of, maps_refusal, refusal_of}
 use Rattle.dwc_carry.specs.MadeUnits.{AreMadeOf}
-
--- the functions of modules
-abbrev pub all_functions : List Module → List (List Function)
-all_functions ms = map (λ m. m.functions) ms
 
 -- the transforms of all modules, or the refusal of the first bad map
 abbrev pub GivesTransforms : CompilationValue → Result (Vec AddressTransform Global) DebugError → Type 0
-GivesTransforms c result = GivesOr (λ (ts : Vec AddressTransform Global). ts.items ≡ all_functions (modules_from 0 c.translations c.functions)) (maps_refusal c) result
+GivesTransforms c result = GivesOr (λ (ts : Vec AddressTransform Global). ts.items ≡ functions_from 0 c.translations c.functions) (maps_refusal c) result
 
 -- whether a function of some modules is too long
 abbrev pub have_long : List (List Function) → Bool
@@ -47,5 +44,5 @@ pub record IsTransformed (size : ℕ) (c : Compilation) (table : List (List ℕ)
   pub targets : HasAllTargets (given_trees table (map ordered us))
 
 -- The units and the texts that they name, or a refusal.
-abbrev pub GivesDwarf : Endian → ℕ → CompilationValue → Result Dwarf DebugError → Type 0
-GivesDwarf order size c result = GivesOr (λ (d : Dwarf). IsTransformed size (input_of order size c) d.strings d.units.units.items) (refusal_of order size c) result
+abbrev pub GivesDwarf : Endian → ℕ → Registers → CompilationValue → Result Dwarf DebugError → Type 0
+GivesDwarf order size registers c result = GivesOr (λ (d : Dwarf). IsTransformed size (input_of order size registers c) d.strings d.units.units.items) (refusal_of order size registers c) result

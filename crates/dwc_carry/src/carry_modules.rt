@@ -1,17 +1,22 @@
 //! The units of the output, from the modules of an input.
-ghost use Rattle.std.specs.Prelude.{◌≡◌, ◌⊎◌, ◌<◌, length, All};
+ghost use Rattle.std.specs.Prelude.{◌≡◌, ◌⊎◌, ◌<◌, All};
 ghost use Rattle.dwc_base.specs.declared.section_name.SectionName.TheVariants.{Info};
 ghost use Rattle.dwc_base.specs.Addends.{HaveAddends};
 ghost use Rattle.dwc_base.specs.Translations.{translation_sections};
 ghost use Rattle.dwc_image.specs.CarriedLines.{AreKept};
-ghost use Rattle.dwc_carry.specs.CarriedModules.{transformed_module, transformed_modules, GivesModule, GivesModules};
+ghost use Rattle.dwc_clone.specs.CompiledModules.{told_by, HasFrames};
+ghost use Rattle.dwc_carry.specs.CarriedModules.{transformed_module, GivesModule, GivesModules};
+ghost use Rattle.dwc_carry.specs.Inputs.{functions_from, modules_of};
 
 use crate::DebugError;
 use crate::carry_units::carry_units;
+use crate::compiled_module::compiled_module;
 use crate::module_places::module_places;
 use crate::output_form::OutputForm;
-use dwc_addr::AddressTransform;
-use dwc_base::{Kind, ModuleTranslation, SectionName};
+use dwc_addr::{AddressTransform, Compilation};
+use dwc_base::{Kind, ModuleTranslation, SectionName, StaticModuleIndex};
+use dwc_clif::TargetIsa;
+use dwc_clone::CompiledModule;
 use dwc_kept::kept_module;
 use dwc_read::Sections;
 use dwc_write::Dwarf;
@@ -31,8 +36,10 @@ fn sections_of<'d>(translation: &ModuleTranslation<'d>) -> Sections<'d>
 // by unit, to be cloned.
 fn carry_module(
     alloc: Global,
+    isa: &dyn TargetIsa,
     translation: &ModuleTranslation<'_>,
     transform: &AddressTransform,
+    compiled: &CompiledModule<'_>,
     form: OutputForm,
     dwarf: &mut Dwarf,
 ) -> Result<(), DebugError>
@@ -40,7 +47,8 @@ fn carry_module(
     requires size { (form.encoding.address_size ≡ 4) ⊎ (form.encoding.address_size ≡ 8) }
     requires functions { AreKept transform.now }
     requires addends { HaveAddends transform.now }
-    ensures { GivesModule form.encoding.address_size form.big_endian (transformed_module translation.now transform.now) dwarf.old dwarf.new result }
+    requires frames { HasFrames compiled.now transform.now }
+    ensures { GivesModule form.encoding.address_size form.big_endian (transformed_module translation.now transform.now (told_by (dwarf_registers isa.now) compiled.now)) dwarf.old dwarf.new result }
 {
     if let Some(offset) = translation.compressed {
         return Err(DebugError::Unsupported {
@@ -50,29 +58,43 @@ fn carry_module(
     }
     let module = kept_module(alloc, sections_of(translation), transform)?;
     let places = module_places(alloc, &module, dwarf.units.len())?;
-    carry_units(alloc, &module, &places, transform, form, dwarf)
+    carry_units(
+        alloc, isa, &module, &places, transform, compiled, form, dwarf,
+    )
 }
 
-/// Adds the units of the output that carry those of modules, in order, each module with its transform.
+/// Adds the units of the output that carry those of the modules of a compilation, in order, each module with its transform.
 ///
 /// # Errors
 /// The first refusal of a module, in order. `OutOfMemory` for want of memory.
 pub(crate) fn carry_modules(
     alloc: Global,
-    translations: &[ModuleTranslation<'_>],
+    isa: &dyn TargetIsa,
+    compilation: &Compilation<'_>,
     transforms: &[AddressTransform],
     form: OutputForm,
     dwarf: &mut Dwarf,
 ) -> Result<(), DebugError>
     requires version { form.encoding.version ≡ 4 }
     requires size { (form.encoding.address_size ≡ 4) ⊎ (form.encoding.address_size ≡ 8) }
-    requires each { length transforms.now ≡ length translations.now }
+    requires transforms { transforms.now ≡ functions_from 0 compilation.now.translations compilation.now.functions }
     requires functions { All AreKept transforms.now }
     requires addends { All HaveAddends transforms.now }
-    ensures { GivesModules form.encoding.address_size form.big_endian (transformed_modules translations.now transforms.now) dwarf.old dwarf.new result }
+    ensures { GivesModules form.encoding.address_size form.big_endian (modules_of (dwarf_registers isa.now) compilation.now) dwarf.old dwarf.new result }
 {
+    let translations = compilation.translations();
     for i in 0..translations.len() {
-        carry_module(alloc, &translations[i], &transforms[i], form, dwarf)?;
+        let compiled = compiled_module(compilation, StaticModuleIndex(i as u32));
+        let transform = &transforms[i];
+        carry_module(
+            alloc,
+            isa,
+            &translations[i],
+            transform,
+            &compiled,
+            form,
+            dwarf,
+        )?;
     }
     Ok(())
 }

@@ -7,6 +7,7 @@ ghost use Rattle.dwc_base.specs.ReadValues.{IsReadEntry};
 ghost use Rattle.dwc_kept.specs.declared.kept_units.KeptModule.{KeptModule as KeptModuleValue};
 ghost use Rattle.dwc_kept.specs.ReadUnits.{unit_read};
 ghost use Rattle.dwc_image.specs.CarriedLines.{AreKept};
+ghost use Rattle.dwc_clone.specs.CompiledModules.{told_by, HasFrames};
 ghost use Rattle.dwc_clone.specs.KnownTexts.{KnowsTexts};
 ghost use Rattle.dwc_carry.specs.LastLines.{IsLast};
 ghost use Rattle.dwc_carry.specs.ModulePlaces.{emitted, numbered_lists};
@@ -18,7 +19,8 @@ use crate::last_lines::{LastLines, last_after};
 use crate::module_places::carried_entries;
 use crate::output_form::OutputForm;
 use dwc_addr::AddressTransform;
-use dwc_clone::{CloneSource, KnownTexts, Places, clone_unit};
+use dwc_clif::TargetIsa;
+use dwc_clone::{CloneSource, CompiledModule, KnownTexts, Places, clone_unit};
 use dwc_kept::{KeptModule, ReadUnit};
 use dwc_write::Dwarf;
 use std::alloc::Global;
@@ -27,11 +29,13 @@ use std::alloc::Global;
 // carried last. `last` is the one before, in a unit of the output.
 fn carry_unit(
     alloc: Global,
+    isa: &dyn TargetIsa,
     read: &ReadUnit<'_>,
     kept: &[u32],
     places: &Places,
     last: Option<LastLines>,
     transform: &AddressTransform,
+    compiled: &CompiledModule<'_>,
     form: OutputForm,
     dwarf: &mut Dwarf,
     known: &mut KnownTexts,
@@ -40,11 +44,12 @@ fn carry_unit(
     requires size { (form.encoding.address_size ≡ 4) ⊎ (form.encoding.address_size ≡ 8) }
     requires functions { AreKept transform.now }
     requires addends { HaveAddends transform.now }
+    requires frames { HasFrames compiled.now transform.now }
     requires known { IsLast transform.now form.encoding.address_size read.now.unit.sections dwarf.old.units.units.items last }
     requires read { All IsReadEntry (entries_of read.now.unit.sections read.now.unit.header).items }
     requires texts { KnowsTexts read.now.unit.sections dwarf.old.strings known.old }
     ensures texts { KnowsTexts read.now.unit.sections dwarf.new.strings known.new }
-    ensures added { (c : Module) (m : KeptModuleValue) (first : ℕ) → IsUnitOf c transform.now m first (length dwarf.old.units.units.items) places.now kept.now read.now → GivesUnit form.encoding.address_size form.big_endian c first (unit_read c.sections read.now.unit.header) dwarf.old dwarf.new result }
+    ensures added { (c : Module) (m : KeptModuleValue) (first : ℕ) → IsUnitOf c transform.now (told_by (dwarf_registers isa.now) compiled.now) m first (length dwarf.old.units.units.items) places.now kept.now read.now → GivesUnit form.encoding.address_size form.big_endian c first (unit_read c.sections read.now.unit.header) dwarf.old dwarf.new result }
 {
     let BegunUnit { unit, files } = begun_unit(
         alloc,
@@ -57,11 +62,12 @@ fn carry_unit(
     let source = CloneSource {
         unit: &read.unit,
         transform,
+        module: *compiled,
         places,
         files,
         big_endian: form.big_endian,
     };
-    let unit = clone_unit(alloc, &source, kept, unit, &mut dwarf.strings, known)?;
+    let unit = clone_unit(alloc, isa, &source, kept, unit, &mut dwarf.strings, known)?;
     let id = dwarf.units.add(unit)?;
     Ok(last_after(read, files, id, last))
 }
@@ -74,9 +80,11 @@ fn carry_unit(
 /// memory.
 pub(crate) fn carry_units(
     alloc: Global,
+    isa: &dyn TargetIsa,
     read_module: &KeptModule<'_>,
     places: &Places,
     transform: &AddressTransform,
+    compiled: &CompiledModule<'_>,
     form: OutputForm,
     dwarf: &mut Dwarf,
 ) -> Result<(), DebugError>
@@ -84,9 +92,10 @@ pub(crate) fn carry_units(
     requires size { (form.encoding.address_size ≡ 4) ⊎ (form.encoding.address_size ≡ 8) }
     requires functions { AreKept transform.now }
     requires addends { HaveAddends transform.now }
-    requires read { HasModule transform.now read_module.now }
+    requires frames { HasFrames compiled.now transform.now }
+    requires read { HasModule transform.now (told_by (dwarf_registers isa.now) compiled.now) read_module.now }
     requires places { places.now ≡ numbered_lists (length dwarf.old.units.units.items) (emitted read_module.now.kept read_module.now.units.items) }
-    ensures { (c : Module) → IsOfModule c transform.now read_module.now → GivesUnits form.encoding.address_size form.big_endian c dwarf.old dwarf.new result }
+    ensures { (c : Module) → IsOfModule c transform.now (told_by (dwarf_registers isa.now) compiled.now) read_module.now → GivesUnits form.encoding.address_size form.big_endian c dwarf.old dwarf.new result }
 {
     let mut last = None;
     let mut known = KnownTexts::new(alloc);
@@ -95,7 +104,7 @@ pub(crate) fn carry_units(
         let kept = carried_entries(read_module, read);
         if kept.len() > 0 {
             last = carry_unit(
-                alloc, read, kept, places, last, transform, form, dwarf, &mut known,
+                alloc, isa, read, kept, places, last, transform, compiled, form, dwarf, &mut known,
             )?;
         }
     }

@@ -3,6 +3,7 @@ ghost use Rattle.std.specs.Prelude.{◌≡◌};
 
 use dwc_addr::AddrError;
 use dwc_base::{Kind, Limit, MapFault, SectionName, What};
+use dwc_clif::{Reg, ValueLabel};
 use dwc_clone::CloneError;
 use dwc_read::ReadFault;
 use dwc_tabs::TabFault;
@@ -20,7 +21,7 @@ pub enum DebugError {
         section: SectionName,
         offset: u64,
     },
-    /// What stands at `offset` is of a kind that is refused, or not read yet.
+    /// What stands at `offset` is of a kind that is refused.
     #[error("Unsupported {what:?} {offset}")]
     Unsupported {
         what: Kind,
@@ -39,8 +40,23 @@ pub enum DebugError {
         func: u32,
         why: MapFault,
     },
-    /// A section would be longer than it can be; a function with a symbol is longer than an addend can say; or a range of the
-    /// input ends where no address is.
+    /// A label that an expression needs has a range that begins above its end.
+    #[error("BadLabelRange {}", label.0)]
+    BadLabelRange {
+        label: ValueLabel,
+    },
+    /// An expression reads linear memory, and the module, by its place among all, has none.
+    #[error("InvalidAttributeValue {module}")]
+    InvalidAttributeValue {
+        module: u32,
+    },
+    /// A value that an expression needs lies in a register for which the target has no number of DWARF.
+    #[error("UnmappedRegister {}", register.0)]
+    UnmappedRegister {
+        register: Reg,
+    },
+    /// A section would be longer than it can be; a function with a symbol is longer than an addend can say; a range of the input ends
+    /// where no address is; a jump of an expression goes further than it can; or an expression of a location list is too long.
     #[error("TooLarge {limit}{name}", limit = limit_text(*what), name = section_text(*what))]
     TooLarge {
         what: Limit,
@@ -55,6 +71,8 @@ fn limit_text(what: Limit) -> &'static str {
         Limit::Section(_) => "Section ",
         Limit::Addend => "Addend",
         Limit::Range => "Range",
+        Limit::Jump => "Jump",
+        Limit::Expression => "Expression",
     }
 }
 
@@ -62,7 +80,7 @@ fn limit_text(what: Limit) -> &'static str {
 fn section_text(what: Limit) -> &'static str {
     match what {
         Limit::Section(name) => name.text(),
-        Limit::Addend | Limit::Range => "",
+        Limit::Addend | Limit::Range | Limit::Jump | Limit::Expression => "",
     }
 }
 
@@ -148,7 +166,15 @@ impl From<CloneError> for DebugError {
                 offset,
             } => unreadable(what, section, offset),
             CloneError::Unsupported { what, offset } => DebugError::Unsupported { what, offset },
-            CloneError::TooLarge => DebugError::TooLarge { what: Limit::Range },
+            CloneError::LongRange => DebugError::TooLarge { what: Limit::Range },
+            CloneError::BadLabelRange { label } => DebugError::BadLabelRange { label },
+            CloneError::InvalidAttributeValue { module } => {
+                DebugError::InvalidAttributeValue { module }
+            }
+            CloneError::UnmappedRegister { register } => {
+                DebugError::UnmappedRegister { register }
+            }
+            CloneError::LongJump => DebugError::TooLarge { what: Limit::Jump },
             CloneError::OutOfMemory => DebugError::OutOfMemory,
         }
     }

@@ -4,11 +4,11 @@
 mod begun_unit;
 mod carry_modules;
 mod carry_units;
+mod compiled_module;
 mod dependencies;
 mod die_ref;
 mod emit;
 mod error;
-mod inherited_attr;
 mod last_lines;
 mod lengths;
 mod module_places;
@@ -17,7 +17,7 @@ mod transform;
 
 pub use dependencies::build_dependencies;
 pub use die_ref::resolve_die_ref;
+pub use dwc_clone::InheritedAttr;
 pub use emit::emit_dwarf;
 pub use error::DebugError;
-pub use inherited_attr::InheritedAttr;
 pub use transform::transform_dwarf;

@@ -1,6 +1,7 @@
 //! The DWARF of a compilation, before it is written.
 ghost use Rattle.std.specs.Prelude.{◌≡◌, ◌⊎◌};
 ghost use Rattle.dwc_base.specs.Forests.{is_big};
+ghost use Rattle.dwc_addr.specs.Compilations.{IsCounted};
 ghost use Rattle.dwc_carry.specs.Transformed.{GivesTransforms, GivesDwarf};
 
 use crate::DebugError;
@@ -19,14 +20,15 @@ use std::alloc::Global;
 /// # Errors
 /// `BadAddressMap` exactly where a function's address map breaks a rule: the first module, its first such function, and the
 /// first rule. Where no map does: `TooLarge` `Addend` exactly where a function with a symbol is longer than 2^31 - 1 bytes. Where
-/// none is: `Read`, `Unsupported`, `InvalidFileIndex`, or `TooLarge` `Range` for a range whose start plus its length is no address,
+/// none is: `Read`, `Unsupported`, `InvalidFileIndex`, `TooLarge` `Range` for a range whose start plus its length is no address, or
+/// `BadLabelRange`, `InvalidAttributeValue`, `UnmappedRegister` or `TooLarge` `Jump` for an expression that is built over its scope,
 /// exactly where something is refused, for the first place in the order of reading. `OutOfMemory` for want of memory.
 pub fn transform_dwarf(
     alloc: Global,
     isa: &dyn TargetIsa,
     compilation: &mut Compilation<'_>,
 ) -> Result<Dwarf, DebugError>
-    ensures units { GivesDwarf (byte_order isa.now) (pointer_size isa.now) compilation.old result }
+    ensures units { GivesDwarf (byte_order isa.now) (pointer_size isa.now) (dwarf_registers isa.now) compilation.old result }
     ensures unchanged { compilation.new ≡ compilation.old }
 {
     let transforms = transforms(alloc, compilation)?;
@@ -36,8 +38,7 @@ pub fn transform_dwarf(
         units: UnitTable::new(alloc),
         strings: StringTable::new(alloc),
     };
-    let translations = compilation.translations();
-    carry_modules(alloc, translations, &transforms, form, &mut dwarf)?;
+    carry_modules(alloc, isa, compilation, &transforms, form, &mut dwarf)?;
     Ok(dwarf)
 }
 
@@ -65,7 +66,8 @@ fn transforms(
     alloc: Global,
     compilation: &Compilation<'_>,
 ) -> Result<Vec<AddressTransform>, DebugError>
-    ensures { GivesTransforms compilation.now result }
+    ensures counted { IsCounted compilation.now.translations compilation.now.functions compilation.now.memory_offsets }
+    ensures transforms { GivesTransforms compilation.now result }
 {
     let mut transforms = Vec::new(alloc);
     for i in 0..compilation.translations().len() {

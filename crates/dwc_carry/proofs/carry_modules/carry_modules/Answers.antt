@@ -1,67 +1,109 @@
-use Rattle.std.proofs.Common.{◌+◌, ◌∷◌, ◌≤◌, drop, length, arith, get_or, sym, ap, ◌∙◌, subst}
+use Rattle.std.proofs.Common.{◌+◌, ◌∷◌, ◌<◌, ◌≤◌, drop, length, get_or, arith, ap, sym, ◌∙◌, subst}
 use Rattle.std.proofs.lemmas.List.{drop_all}
 use Rattle.std.proofs.lemmas.List.Elements.{All-get_or}
 use Rattle.std.proofs.lemmas.Result.{err_from_is_err_and}
 use Rattle.dwc_base.specs.Addends.{HaveAddends}
-use Rattle.dwc_carry.specs.CarriedModules.{transformed_module, transformed_modules}
-use Rattle.dwc_carry.proofs.ModuleLoopLaws.{ModulesSoFar, modules-begin, modules-more, modules-length, modules-one, modules-done, modules-refused}
+use Rattle.dwc_image.specs.CarriedLines.{AreKept}
+use Rattle.dwc_clone.specs.CompiledModules.{told_by}
+use Rattle.dwc_carry.specs.CarriedModules.{transformed_module}
+use Rattle.dwc_carry.specs.Inputs.{modules_of, told_from}
+use Rattle.dwc_carry.proofs.CompiledLaws.{module-next, modules-length, transforms-inside}
+use Rattle.dwc_carry.proofs.ModuleLoopLaws.{ModulesSoFar, modules-begin, modules-one, modules-done, modules-refused}
 use Rattle.dwc_carry.proofs.carry_modules.carry_modules.Goals as goal
 
 pub loop-i-init : goal.loop-i-init
-loop-i-init c = modules-begin c.args.form.encoding.address_size c.args.form.big_endian (transformed_modules c.args.translations.now c.args.transforms.now) c.args.dwarf.now.units.units.items c.args.dwarf.now.strings
+loop-i-init g c =
+    let ms = modules_of ((goal.TargetIsa-dyn g c.args.isa.now).dwarf_registers c.args.isa.now.1) c.args.compilation.now in
+    modules-begin c.args.form.encoding.address_size c.args.form.big_endian ms c.args.dwarf.now.units.units.items c.args.dwarf.now.strings
 
-pub returns-in_err-carry_module : goal.returns-in_err-carry_module
-returns-in_err-carry_module c =
-    let ts = c.args.translations.now in
-    let fss = c.args.transforms.now in
-    let ms = transformed_modules ts fss in
-    let i = c.loop-i.i in
-    let t = c.index-translations-i.result in
-    let fs = c.index-transforms-i.result in
-    let rest = drop (i + 1) ms in
-    let size = c.args.form.encoding.address_size in
-    let big = c.args.form.big_endian in
-    let old = c.args.dwarf.now.units.units.items in
-    let before = c.args.dwarf.now.strings in
-    let new = c.loop-i.dwarf.units.units.items in
-    let texts = c.loop-i.dwarf.strings in
-    let next = modules-more ts fss i t fs c.requires.each c.loop-i-test.true ∙ ap (λ x. transformed_module x (get_or fss i fs) ∷ rest) (sym c.index-translations-i.is) ∙ ap (λ x. transformed_module t x ∷ rest) (sym c.index-transforms-i.is) in
-    let here : ModulesSoFar size big ms old before new texts (transformed_module t fs ∷ rest) = subst (λ xs. ModulesSoFar size big ms old before new texts xs) next c.loop-i.invariant in
-    let p = err_from_is_err_and c.from_residual.result c.from_residual.ensures.1 in
-    rw (p.1, p.2) (modules-refused size big ms old before new texts (transformed_module t fs) rest c.in_err-carry_module.field-0.0 here c.in_err-carry_module.ensures)
+pub bounds-transforms-i : goal.bounds-transforms-i
+bounds-transforms-i g c =
+    let compilation = c.args.compilation.now in
+    let less : c.loop-i.i < length compilation.translations = rw c.translations-translations.ensures.translations at c.loop-i-test.true in
+    transforms-inside compilation c.args.transforms.now c.loop-i.i c.translations-translations.ensures.counted less c.requires.transforms
 
-pub loop-i-preserved : goal.loop-i-preserved
-loop-i-preserved c =
-    let ts = c.args.translations.now in
-    let fss = c.args.transforms.now in
-    let ms = transformed_modules ts fss in
-    let i = c.loop-i.i in
-    let t = c.index-translations-i.result in
-    let fs = c.index-transforms-i.result in
-    let rest = drop (i + 1) ms in
-    let size = c.args.form.encoding.address_size in
-    let big = c.args.form.big_endian in
-    let old = c.args.dwarf.now.units.units.items in
-    let before = c.args.dwarf.now.strings in
-    let new = c.loop-i.dwarf.units.units.items in
-    let texts = c.loop-i.dwarf.strings in
-    let next = modules-more ts fss i t fs c.requires.each c.loop-i-test.true ∙ ap (λ x. transformed_module x (get_or fss i fs) ∷ rest) (sym c.index-translations-i.is) ∙ ap (λ x. transformed_module t x ∷ rest) (sym c.index-transforms-i.is) in
-    let here : ModulesSoFar size big ms old before new texts (transformed_module t fs ∷ rest) = subst (λ xs. ModulesSoFar size big ms old before new texts xs) next c.loop-i.invariant in
-    modules-one size big ms old before new c.carry_module.new.dwarf.units.units.items texts c.carry_module.new.dwarf.strings (transformed_module t fs) rest here c.in_ok-carry_module.ensures
-
-pub returns : goal.returns
-returns c =
-    let ts = c.args.translations.now in
-    let fss = c.args.transforms.now in
-    let ms = transformed_modules ts fss in
-    let size = c.args.form.encoding.address_size in
-    let big = c.args.form.big_endian in
-    let old = c.args.dwarf.now.units.units.items in
-    let before = c.args.dwarf.now.strings in
-    let past : length ms ≤ c.loop-i.i = omega (arith, modules-length ts fss c.requires.each, c.loop-i-test.false) in
-    modules-done size big ms old before c.loop-i.dwarf.units.units.items c.loop-i.dwarf.strings
-    (subst (λ xs. ModulesSoFar size big ms old before c.loop-i.dwarf.units.units.items c.loop-i.dwarf.strings xs) (drop_all c.loop-i.i ms past) c.loop-i.invariant)
+pub carry_module-requires-clause-functions : goal.carry_module-requires-clause-functions
+carry_module-requires-clause-functions g c =
+    let compilation = c.args.compilation.now in
+    let less : c.loop-i.i < length compilation.translations = rw c.translations-translations.ensures.translations at c.loop-i-test.true in
+    let inside = transforms-inside compilation c.args.transforms.now c.loop-i.i c.translations-translations.ensures.counted less c.requires.transforms in
+    subst AreKept (sym c.index-transforms-i.is) (All-get_or AreKept c.args.transforms.now c.loop-i.i c.index-transforms-i.result inside c.requires.functions)
 
 pub carry_module-requires-clause-addends : goal.carry_module-requires-clause-addends
-carry_module-requires-clause-addends c =
-    subst HaveAddends (sym c.index-transforms-i.is) (All-get_or HaveAddends c.args.transforms.now c.loop-i.i c.index-transforms-i.result (omega (arith, c.requires.each, c.loop-i-test.true)) c.requires.addends)
+carry_module-requires-clause-addends g c =
+    let compilation = c.args.compilation.now in
+    let less : c.loop-i.i < length compilation.translations = rw c.translations-translations.ensures.translations at c.loop-i-test.true in
+    let inside = transforms-inside compilation c.args.transforms.now c.loop-i.i c.translations-translations.ensures.counted less c.requires.transforms in
+    subst HaveAddends (sym c.index-transforms-i.is) (All-get_or HaveAddends c.args.transforms.now c.loop-i.i c.index-transforms-i.result inside c.requires.addends)
+
+pub carry_module-requires-clause-frames : goal.carry_module-requires-clause-frames
+carry_module-requires-clause-frames g c =
+    let compilation = c.args.compilation.now in
+    let less : c.loop-i.i < length compilation.translations = rw c.translations-translations.ensures.translations at c.loop-i-test.true in
+    let registers = (goal.TargetIsa-dyn g c.args.isa.now).dwarf_registers c.args.isa.now.1 in
+    let t = c.index-translations-i.result in
+    let fs = c.index-transforms-i.result in
+    let compiled = c.compiled_module-compiled.result in
+    let next = module-next registers compilation c.args.transforms.now c.loop-i.i t fs compiled c.translations-translations.ensures.counted less c.requires.transforms
+    (c.index-translations-i.is ∙ ap (λ ts. get_or ts c.loop-i.i t) c.translations-translations.ensures.translations) c.index-transforms-i.is (c.compiled_module-compiled.ensures.told registers) c.compiled_module-compiled.ensures.frames in
+    next.frames
+
+pub returns-in_err-carry_module : goal.returns-in_err-carry_module
+returns-in_err-carry_module g c =
+    let compilation = c.args.compilation.now in
+    let less : c.loop-i.i < length compilation.translations = rw c.translations-translations.ensures.translations at c.loop-i-test.true in
+    let registers = (goal.TargetIsa-dyn g c.args.isa.now).dwarf_registers c.args.isa.now.1 in
+    let t = c.index-translations-i.result in
+    let fs = c.index-transforms-i.result in
+    let compiled = c.compiled_module-compiled.result in
+    let next = module-next registers compilation c.args.transforms.now c.loop-i.i t fs compiled c.translations-translations.ensures.counted less c.requires.transforms
+    (c.index-translations-i.is ∙ ap (λ ts. get_or ts c.loop-i.i t) c.translations-translations.ensures.translations) c.index-transforms-i.is (c.compiled_module-compiled.ensures.told registers) c.compiled_module-compiled.ensures.frames in
+    let ms = modules_of registers compilation in
+    let rest = drop (c.loop-i.i + 1) ms in
+    let m = transformed_module t fs (told_by registers compiled) in
+    let size = c.args.form.encoding.address_size in
+    let big = c.args.form.big_endian in
+    let old = c.args.dwarf.now.units.units.items in
+    let before = c.args.dwarf.now.strings in
+    let new = c.loop-i.dwarf.units.units.items in
+    let texts = c.loop-i.dwarf.strings in
+    let here : ModulesSoFar size big ms old before new texts (m ∷ rest) = subst (λ xs. ModulesSoFar size big ms old before new texts xs) next.left c.loop-i.invariant in
+    let p = err_from_is_err_and c.from_residual.result c.from_residual.ensures.1 in
+    rw (p.1, p.2) (modules-refused size big ms old before new texts m rest c.in_err-carry_module.field-0.0 here c.in_err-carry_module.ensures)
+
+pub loop-i-preserved : goal.loop-i-preserved
+loop-i-preserved g c =
+    let compilation = c.args.compilation.now in
+    let less : c.loop-i.i < length compilation.translations = rw c.translations-translations.ensures.translations at c.loop-i-test.true in
+    let registers = (goal.TargetIsa-dyn g c.args.isa.now).dwarf_registers c.args.isa.now.1 in
+    let t = c.index-translations-i.result in
+    let fs = c.index-transforms-i.result in
+    let compiled = c.compiled_module-compiled.result in
+    let next = module-next registers compilation c.args.transforms.now c.loop-i.i t fs compiled c.translations-translations.ensures.counted less c.requires.transforms
+    (c.index-translations-i.is ∙ ap (λ ts. get_or ts c.loop-i.i t) c.translations-translations.ensures.translations) c.index-transforms-i.is (c.compiled_module-compiled.ensures.told registers) c.compiled_module-compiled.ensures.frames in
+    let ms = modules_of registers compilation in
+    let rest = drop (c.loop-i.i + 1) ms in
+    let m = transformed_module t fs (told_by registers compiled) in
+    let size = c.args.form.encoding.address_size in
+    let big = c.args.form.big_endian in
+    let old = c.args.dwarf.now.units.units.items in
+    let before = c.args.dwarf.now.strings in
+    let new = c.loop-i.dwarf.units.units.items in
+    let texts = c.loop-i.dwarf.strings in
+    let here : ModulesSoFar size big ms old before new texts (m ∷ rest) = subst (λ xs. ModulesSoFar size big ms old before new texts xs) next.left c.loop-i.invariant in
+    modules-one size big ms old before new c.carry_module.new.dwarf.units.units.items texts c.carry_module.new.dwarf.strings m rest here c.in_ok-carry_module.ensures
+
+pub returns : goal.returns
+returns g c =
+    let compilation = c.args.compilation.now in
+    let registers = (goal.TargetIsa-dyn g c.args.isa.now).dwarf_registers c.args.isa.now.1 in
+    let ms = modules_of registers compilation in
+    let size = c.args.form.encoding.address_size in
+    let big = c.args.form.big_endian in
+    let old = c.args.dwarf.now.units.units.items in
+    let before = c.args.dwarf.now.strings in
+    let new = c.loop-i.dwarf.units.units.items in
+    let texts = c.loop-i.dwarf.strings in
+    let behind = rw c.translations-translations.ensures.translations at c.loop-i-test.false in
+    let past : length ms ≤ c.loop-i.i = omega (arith, modules-length compilation.translations compilation.functions (told_from registers 0 0 compilation.functions compilation.memory_offsets), behind) in
+    modules-done size big ms old before new texts (subst (λ xs. ModulesSoFar size big ms old before new texts xs) (drop_all c.loop-i.i ms past) c.loop-i.invariant)

@@ -1,0 +1,32 @@
+//! What a code generator tells of a module of a compilation.
+ghost use Rattle.std.specs.Prelude.{◌≡◌, ◌<◌, ℕ, length, map, slice_get, Some};
+ghost use Rattle.dwc_base.specs.Functions.{functions_of};
+ghost use Rattle.dwc_clif.specs.AddressMaps.{address_map_view};
+ghost use Rattle.dwc_clif.specs.Registers.{Registers};
+ghost use Rattle.dwc_addr.specs.Numbers.{first_number};
+ghost use Rattle.dwc_addr.specs.Compilations.{functions_at};
+ghost use Rattle.dwc_clone.specs.CompiledModules.{told_by, HasFrames};
+ghost use Rattle.dwc_carry.specs.Inputs.{told_from};
+
+use dwc_addr::Compilation;
+use dwc_base::StaticModuleIndex;
+use dwc_clone::CompiledModule;
+
+/// What the code generator tells of a module beside its address maps: its functions, the number of the first of them, and where its
+/// memory is found.
+pub(crate) fn compiled_module<'a>(
+    compilation: &Compilation<'a>,
+    module: StaticModuleIndex,
+) -> CompiledModule<'a>
+    requires inside { «module».0 < length compilation.now.translations }
+    requires counted { length compilation.now.functions ≡ length compilation.now.translations }
+    ensures told { (registers : Registers) → slice_get (told_from registers 0 0 compilation.now.functions compilation.now.memory_offsets) «module».0 ≡ Some (told_by registers result) }
+    ensures frames { (code_offset : ℕ) → HasFrames result (functions_of code_offset (first_number compilation.now.functions «module».0) (map address_map_view (functions_at compilation.now «module».0))) }
+{
+    CompiledModule {
+        place: module.0,
+        functions: compilation.functions_of(module),
+        first_number: compilation.first_number(module),
+        memory: *compilation.memory_offset(module),
+    }
+}
