@@ -1,7 +1,8 @@
 -- What is emitted for a map and modules, as it was read.
-use Rattle.std.proofs.Common.{◌≡◌, ℕ, suc, ◌+◌, ◌≤◌, ◌<◌, ◌^◌, List, [], ◌∷◌, map, length, refl, sym, ap, ◌∙◌, subst, arith, inl, inr, Bool, true, false, Option, Some, None, Ok, Err, Vec, All}
+use Rattle.std.proofs.Common.{◌≡◌, ℕ, suc, ◌+◌, ◌<◌, ◌^◌, List, [], ◌∷◌, map, length, refl, sym, ap, ◌∙◌, subst, arith, inl, inr, Bool, true, false, Option, Some, None, Ok, Err, Vec, All}
 use Rattle.std.specs.Prelude.{◌==◌, ◌&&◌, nat_lt, option_map, if◌then◌else◌, sum_by}
 use Rattle.std.specs.Option.{option_or}
+use Rattle.std.specs.FinMap as finite
 use Rattle.std.specs.List.{AllZip, flat_map, fold}
 use Rattle.std.specs.Global.{Global}
 use Rattle.std.proofs.lemmas.Bool.{eqb-true, ltb-true}
@@ -12,16 +13,21 @@ use Rattle.dwc_base.specs.declared.records.MapFault.{MapFault}
 use Rattle.dwc_base.specs.declared.output.DwarfSection.{DwarfSection}
 use Rattle.dwc_base.specs.declared.wasm.ModuleTranslation.{ModuleTranslation}
 use Rattle.dwc_base.specs.SharedSymbols.{shared_symbol}
+use Rattle.dwc_base.specs.Compiled.{ToldModule, values_from}
 use Rattle.dwc_base.specs.Functions.{AddressMap, map_fault, functions_of}
 use Rattle.dwc_base.specs.Wasm.{WasmModule, module_sections}
 use Rattle.dwc_base.specs.Translations.{translation_sections, IsTranslation}
 use Rattle.dwc_base.specs.Carried.{Module, Compilation}
 use Rattle.dwc_base.specs.Refusals.{Refusal}
-use Rattle.dwc_base.specs.Forests.{first_refusal}
-use Rattle.dwc_base.specs.OutputCarried.{OutputCarried, widest}
+use Rattle.dwc_base.specs.Forests.{first_refusal, trees_made}
+use Rattle.dwc_base.specs.TreeLaws.{have_short_expressions}
+use Rattle.dwc_base.specs.OutputCarried.{OutputCarried}
 use Rattle.dwc_write.specs.Writers.{IsSound}
 use Rattle.dwc_base.proofs.Translated.{translation_sections-is}
 use Rattle.dwc_clif.specs.AddressMaps.{address_map_view}
+use Rattle.dwc_clif.specs.Registers.{Registers, registers_of}
+use Rattle.dwc_expr.specs.Frames.{memory_view}
+use Rattle.dwc_clone.specs.CompiledModules.{values_in, told_module}
 use Rattle.dwc_addr.specs.Numbers.{Compiled, function_count, symbols_in, all_symbols, symbol_view}
 use Rattle.dwc_addr.specs.Transforms.{first_bad_map}
 use Rattle.dwc_carry.specs.Inputs as carry
@@ -38,8 +44,10 @@ use Rattle.dwc_addr.specs.Compilations.{CompilationValue, IsCounted}
 use Rattle.dwc_carry.specs.declared.error.DebugError.{DebugError}
 use Rattle.dwc_carry.specs.Refusals as refusals
 use Rattle.dwc_carry.specs.Refusals.{Told, told, bad_address_map, in_reading}
+use Rattle.dwc_base.specs.declared.faults.Limit.TheVariants.{Section, Addend, Range, Jump, Expression}
 use Rattle.dwc_carry.specs.Emits as emits
-use Rattle.dwc_cli.specs.Inputs.{Loaded, compilation_of, bad_map, shared_in, modules_of, bad_function, bad_module}
+use Rattle.dwc_cli.specs.Inputs.{Loaded, compilation_of, bad_map, shared_in, ranges_of, told_of, modules_of, bad_function, bad_module}
+use Rattle.dwc_cli.specs.RunStatus.{PassesLimit}
 use Rattle.dwc_cli.specs.Failures.{compiling_status, input_status, told_status, carrying_status}
 use Rattle.dwc_cli.specs.Answers.{first_status, hindrance, IsEmitted, IsCause, IsReadAs}
 use Rattle.dwc_cli.specs.Compiled.{bad_view, IsCompiled}
@@ -52,34 +60,55 @@ functions_in ms = map (λ m. m.functions.items) ms
 abbrev pub modules_in : List MapModule → List value.MapModule
 modules_in ms = map views.module_view ms
 
+-- and where their memories are found
+abbrev pub memories_in : List MapModule → List ModuleMemoryOffset
+memories_in ms = map (λ m. m.memory) ms
+
 -- ---- the input
 
-module-same : (number : ℕ) (t : ModuleTranslation) (w : WasmModule) (fs : List AddressMap) → IsTranslation t w
-    → ◌≡◌ {A = Module} (record { sections = translation_sections t; functions = functions_of t.code_section_offset number fs; compressed = t.compressed }) (record { sections = module_sections w; functions = functions_of w.code_offset number fs; compressed = w.compressed })
-module-same number t w fs is = λ i. record {
+-- the address maps of functions, as they are read
+maps-same : (fs : List Compiled) → map address_map_view fs ≡ map (λ (f : value.MapFunction). f.address_map) (map views.function_view fs)
+maps-same [] = refl
+maps-same (f ∷ fs) = ap (λ ms. address_map_view f ∷ ms) (maps-same fs)
+
+-- where their values lie
+values-same : (fs : List Compiled) → values_in fs ≡ map ranges_of (map views.function_view fs)
+values-same [] = refl
+values-same (f ∷ fs) = ap (λ vs. ranges_of (views.function_view f) ∷ vs) (values-same fs)
+
+told-same : (registers : Registers) (place number : ℕ) (m : MapModule) → told_module place number m.functions.items m.memory registers ≡ told_of registers place number (views.module_view m)
+told-same registers place number m = ap (λ vs. record { place = place; values = values_from number vs; memory = memory_view m.memory; register = λ r. finite.get registers r }) (values-same m.functions.items)
+
+module-same : (number : ℕ) (t : ModuleTranslation) (w : WasmModule) (fs gs : List AddressMap) (told seen : ToldModule) → fs ≡ gs → told ≡ seen → IsTranslation t w
+    → ◌≡◌ {A = Module} (record { sections = translation_sections t; functions = functions_of t.code_section_offset number fs; told = told; compressed = t.compressed }) (record { sections = module_sections w; functions = functions_of w.code_offset number gs; told = seen; compressed = w.compressed })
+module-same number t w fs gs told seen maps tells is = λ i. record {
   sections = translation_sections-is t w is i;
-  functions = functions_of (is.code_section_offset i) number fs;
+  functions = functions_of (is.code_section_offset i) number (maps i);
+  told = tells i;
   compressed = is.compressed i;
 }
 
-pub modules-same : (number : ℕ) (ts : List ModuleTranslation) (ws : List WasmModule) (ms : List MapModule) → AllZip IsTranslation ts ws → carry.modules_from number ts (functions_in ms) ≡ modules_of number ws (modules_in ms)
-modules-same number [] [] ms h = refl
-modules-same number [] (w ∷ ws) ms h = absurd h
-modules-same number (t ∷ ts) [] ms h = absurd h
-modules-same number (t ∷ ts) (w ∷ ws) [] h = refl
-modules-same number (t ∷ ts) (w ∷ ws) (m ∷ ms) h =
-    let count : length (map address_map_view m.functions.items) ≡ length m.functions.items = length-map m.functions.items address_map_view in
-    rw (module-same number t w (map address_map_view m.functions.items) h.0, count, modules-same (number + length m.functions.items) ts ws ms h.1) refl
+pub modules-same : (registers : Registers) (place number : ℕ) (ts : List ModuleTranslation) (ws : List WasmModule) (ms : List MapModule) → AllZip IsTranslation ts ws
+    → carry.modules_from number ts (functions_in ms) (carry.told_from registers place number (functions_in ms) (memories_in ms)) ≡ modules_of registers place number ws (modules_in ms)
+modules-same registers place number [] [] ms h = refl
+modules-same registers place number [] (w ∷ ws) ms h = absurd h
+modules-same registers place number (t ∷ ts) [] ms h = absurd h
+modules-same registers place number (t ∷ ts) (w ∷ ws) [] h = refl
+modules-same registers place number (t ∷ ts) (w ∷ ws) (m ∷ ms) h =
+    let fs = m.functions.items in
+    let count : length (map views.function_view fs) ≡ length fs = length-map fs views.function_view in
+    let first = module-same number t w (map address_map_view fs) (map (λ f. f.address_map) (map views.function_view fs)) (told_module place number fs m.memory registers) (told_of registers place number (views.module_view m)) (maps-same fs) (told-same registers place number m) h.0 in
+    rw (first, count, modules-same registers (suc place) (number + length fs) ts ws ms h.1) refl
 
 -- ---- the first bad address map
 
-bad-function : (m code_offset place : ℕ) (fs : List AddressMap) → option_map (λ (bad : ℕ × MapFault). bad_view (m, bad)) (first_bad_map code_offset place fs) ≡ bad_function m code_offset place fs
+bad-function : (m code_offset place : ℕ) (fs : List Compiled) → option_map (λ (bad : ℕ × MapFault). bad_view (m, bad)) (first_bad_map code_offset place (map address_map_view fs)) ≡ bad_function m code_offset place (map views.function_view fs)
 bad-function m code_offset place [] = refl
-bad-function m code_offset place (f ∷ fs) = go (bad-function m code_offset (suc place) fs) (map_fault code_offset f)
+bad-function m code_offset place (f ∷ fs) = go (bad-function m code_offset (suc place) fs) (map_fault code_offset (address_map_view f))
   where
-    go : option_map (λ (bad : ℕ × MapFault). bad_view (m, bad)) (first_bad_map code_offset (suc place) fs) ≡ bad_function m code_offset (suc place) fs → (o : Option MapFault)
-        → option_map (λ (bad : ℕ × MapFault). bad_view (m, bad)) (option_or (option_map (λ why. (place, why)) o) (first_bad_map code_offset (suc place) fs))
-        ≡ option_or (option_map (λ rule. record { module_place = m; function_place = place; rule = rule }) o) (bad_function m code_offset (suc place) fs)
+    go : option_map (λ (bad : ℕ × MapFault). bad_view (m, bad)) (first_bad_map code_offset (suc place) (map address_map_view fs)) ≡ bad_function m code_offset (suc place) (map views.function_view fs) → (o : Option MapFault)
+        → option_map (λ (bad : ℕ × MapFault). bad_view (m, bad)) (option_or (option_map (λ why. (place, why)) o) (first_bad_map code_offset (suc place) (map address_map_view fs)))
+        ≡ option_or (option_map (λ rule. record { module_place = m; function_place = place; rule = rule }) o) (bad_function m code_offset (suc place) (map views.function_view fs))
     go others (Some why) = refl
     go others None = others
 
@@ -94,15 +123,15 @@ bad-same place (t ∷ ts) [] ms h = absurd h
 bad-same place (t ∷ ts) (w ∷ ws) [] h = refl
 bad-same place (t ∷ ts) (w ∷ ws) (m ∷ ms) h =
     bad-joined place (first_bad_map t.code_section_offset 0 (map address_map_view m.functions.items)) (carry.bad_map_from (suc place) ts (functions_in ms))
-    ∙ rw (bad-function place t.code_section_offset 0 (map address_map_view m.functions.items), (h.0).code_section_offset, bad-same (suc place) ts ws ms h.1) refl
+    ∙ rw (bad-function place t.code_section_offset 0 m.functions.items, (h.0).code_section_offset, bad-same (suc place) ts ws ms h.1) refl
 
 -- ---- shared symbols
 
-symbols-of : (fs : List Compiled) → map symbol_view (symbols_in fs) ≡ map (λ (f : AddressMap). f.symbol) (map address_map_view fs)
+symbols-of : (fs : List Compiled) → map symbol_view (symbols_in fs) ≡ map (λ (f : value.MapFunction). f.address_map.symbol) (map views.function_view fs)
 symbols-of [] = refl
 symbols-of (f ∷ fs) = ap (λ xs. option_map (λ s. s.0) f.0 ∷ xs) (symbols-of fs)
 
-pub symbols-same : (ms : List MapModule) → map symbol_view (all_symbols (functions_in ms)) ≡ flat_map (λ (m : value.MapModule). map (λ f. f.symbol) m.functions) (modules_in ms)
+pub symbols-same : (ms : List MapModule) → map symbol_view (all_symbols (functions_in ms)) ≡ flat_map (λ (m : value.MapModule). map (λ f. f.address_map.symbol) m.functions) (modules_in ms)
 symbols-same [] = refl
 symbols-same (m ∷ ms) = map-append symbol_view (symbols_in m.functions.items) (all_symbols (functions_in ms)) ∙ rw (symbols-of m.functions.items, symbols-same ms) refl
 
@@ -117,16 +146,20 @@ order_in f = if f.target.big_endian then Big else Little
 abbrev of_modules : MapFile → List Module → Compilation
 of_modules f ms = record { order = order_in f; pointer_bytes = f.target.pointer_bytes; modules = ms }
 
-pub compiled : (ts : List ModuleTranslation) (f : MapFile) (read : Loaded) → IsReadAs ts f read → IsCompiled (order_in f) f.target.pointer_bytes ts (functions_in f.modules.items) read
+-- DWARF's numbers of the registers of a map
+abbrev registers_in : MapFile → Registers
+registers_in f = registers_of f.target.registers.items
+
+pub compiled : (ts : List ModuleTranslation) (f : MapFile) (read : Loaded) → IsReadAs ts f read → IsCompiled (order_in f) f.target.pointer_bytes (registers_in f) ts (functions_in f.modules.items) (memories_in f.modules.items) read
 compiled ts f read seen = record {
-  input = ap (λ v. compilation_of (of_view read v)) (sym seen.map_is) ∙ ap (of_modules f) (sym (modules-same 0 ts read.wasm f.modules.items seen.wasm));
+  input = ap (λ v. compilation_of (of_view read v)) (sym seen.map_is) ∙ ap (of_modules f) (sym (modules-same (registers_in f) 0 0 ts read.wasm f.modules.items seen.wasm));
   maps = ap (λ v. bad_map (of_view read v)) (sym seen.map_is) ∙ sym (bad-same 0 ts read.wasm f.modules.items seen.wasm);
   symbols = ap (λ v. shared_in (of_view read v)) (sym seen.map_is) ∙ ap shared_symbol (sym (symbols-same f.modules.items));
 }
 
 -- ---- what hinders
 
-module _ (c : CompilationValue) (order : Endian) (size : ℕ) (read : Loaded) (is : IsCompiled order size c.translations c.functions read) where
+module _ (c : CompilationValue) (order : Endian) (size : ℕ) (registers : Registers) (read : Loaded) (is : IsCompiled order size registers c.translations c.functions c.memory_offsets read) where
   first-is : (bad : Option (ℕ × (ℕ × MapFault))) (refusal : Option Refusal) → first_status None (option_map bad_view bad) refusal
       ≡ option_map input_status (option_or (option_map (λ bad. bad_address_map bad.0 bad.1.0 bad.1.1) bad) (option_map in_reading refusal))
   first-is (Some bad) refusal = refl
@@ -134,35 +167,44 @@ module _ (c : CompilationValue) (order : Endian) (size : ℕ) (read : Loaded) (i
   first-is None None = refl
 
   -- where no two functions have one symbol, by the refusal of the input
-  hindrance-is : shared_symbol (map symbol_view (all_symbols c.functions)) ≡ None → hindrance read ≡ option_map input_status (carry.refusal_of order size c)
+  hindrance-is : shared_symbol (map symbol_view (all_symbols c.functions)) ≡ None → hindrance read ≡ option_map input_status (carry.refusal_of order size registers c)
   hindrance-is none =
       ap (λ shared. first_status shared (bad_map read) (first_refusal (compilation_of read))) (is.symbols ∙ none)
       ∙ ap (λ bad. first_status None bad (first_refusal (compilation_of read))) is.maps
       ∙ ap (λ input. first_status None (option_map bad_view (carry.bad_map c)) (first_refusal input)) is.input
-      ∙ first-is (carry.bad_map c) (first_refusal (carry.input_of order size c))
+      ∙ first-is (carry.bad_map c) (first_refusal (carry.input_of order size registers c))
 
-  pub emitted : shared_symbol (map symbol_view (all_symbols c.functions)) ≡ None → (s : Vec DwarfSection Global) → emits.Emits order size c (Ok s) → IsEmitted read (map section_view s.items)
+  pub emitted : shared_symbol (map symbol_view (all_symbols c.functions)) ≡ None → (s : Vec DwarfSection Global) → emits.Emits order size registers c (Ok s) → IsEmitted read (map section_view s.items)
   emitted none s h = record {
     unhindered = hindrance-is none ∙ ap (option_map input_status) h.0;
     carried = subst (λ input. OutputCarried input (map section_view s.items)) (sym is.input) h.1.output;
+    short = ap (λ input. have_short_expressions (trees_made input)) is.input ∙ h.1.short;
     sound = subst (λ input. All (IsSound input.order) (map section_view s.items)) (sym is.input) h.1.sound;
   }
 
-  pub refused-emitting : shared_symbol (map symbol_view (all_symbols c.functions)) ≡ None → (e : DebugError) → emits.Emits order size c (Err e) → IsCause read (carrying_status e)
+  pub refused-emitting : shared_symbol (map symbol_view (all_symbols c.functions)) ≡ None → (e : DebugError) → emits.Emits order size registers c (Err e) → IsCause read (carrying_status e)
   refused-emitting none e = go (told e)
     where
-      go : (t : Told) → refusals.IsCause (emits.IsTooLong (carry.input_of order size c)) (carry.refusal_of order size c) t → IsCause read (told_status t)
+      -- a limit that the output passes
+      limit : carry.refusal_of order size registers c ≡ None → PassesLimit (carry.input_of order size registers c) → IsCause read 20
+      limit accepted passes = inr (inr (refl, hindrance-is none ∙ ap (option_map input_status) accepted, subst PassesLimit (sym is.input) passes))
+
+      go : (t : Told) → refusals.IsCause (emits.PassesLimit (carry.input_of order size registers c)) (carry.refusal_of order size registers c) t → IsCause read (told_status t)
       go (refusals.refused r) h = inr (inl (hindrance-is none ∙ ap (option_map input_status) h))
-      go (refusals.limit name) h = inr (inr (refl, hindrance-is none ∙ ap (option_map input_status) h.0, (name, subst (λ input. 2 ^ 31 ≤ widest name input) (sym is.input) h.1)))
+      go (refusals.limit (Section name)) h = limit h.0 (inl (name, h.1))
+      go (refusals.limit Addend) h = absurd h.1
+      go (refusals.limit Range) h = absurd h.1
+      go (refusals.limit Jump) h = absurd h.1
+      go (refusals.limit Expression) h = limit h.0 (inr h.1)
       go refusals.memory h = inl refl
 
 shared-some : (read : Loaded) (functions : ℕ × ℕ) → shared_in read ≡ Some functions → hindrance read ≡ Some 21
 shared-some read functions e = rw e refl
 
-pub refused-compiling : (A : Type 0) (ts : List ModuleTranslation) (fss : List (List Compiled)) (order : Endian) (size : ℕ) (read : Loaded) → IsCompiled order size ts fss read
+pub refused-compiling : (A : Type 0) (ts : List ModuleTranslation) (fss : List (List Compiled)) (offsets : List ModuleMemoryOffset) (order : Endian) (size : ℕ) (registers : Registers) (read : Loaded) → IsCompiled order size registers ts fss offsets read
     → (e : CompilationError) → AreDistinct {A = A} (all_symbols fss) (Err e) → IsCause read (compiling_status e)
-refused-compiling A ts fss order size read is (compiling.SharedSymbol first second) h = inr (inl (shared-some read (first, second) (is.symbols ∙ h)))
-refused-compiling A ts fss order size read is compiling.OutOfMemory h = inl refl
+refused-compiling A ts fss offsets order size registers read is (compiling.SharedSymbol first second) h = inr (inl (shared-some read (first, second) (is.symbols ∙ h)))
+refused-compiling A ts fss offsets order size registers read is compiling.OutOfMemory h = inl refl
 
 -- ---- counts
 
@@ -172,7 +214,7 @@ sum-from (m ∷ ms) n = omega (arith, sum-from ms (n + length m.functions), sum-
 
 count-of : (ms : List MapModule) → function_count (functions_in ms) ≡ sum_by (λ (m : value.MapModule). length m.functions) (modules_in ms)
 count-of [] = refl
-count-of (m ∷ ms) = omega (arith, length-map m.functions.items address_map_view, count-of ms, sum-from (modules_in ms) (0 + length (map address_map_view m.functions.items)))
+count-of (m ∷ ms) = omega (arith, length-map m.functions.items views.function_view, count-of ms, sum-from (modules_in ms) (0 + length (map views.function_view m.functions.items)))
 
 both : (a b : Bool) → (a && b) ≡ true → (a ≡ true) × (b ≡ true)
 both true b e = (refl, e)
@@ -184,20 +226,20 @@ counts-of [] [] e = (refl, refl)
 counts-of [] (m ∷ ms) e = absurd (cc)
 counts-of (t ∷ ts) [] e = absurd (cc)
 counts-of (t ∷ ts) (m ∷ ms) e =
-    let split = both (length (map address_map_view m.functions.items) == t.defined_funcs) (value.have_counts (map (λ t. t.defined_funcs) ts) (modules_in ms)) e in
+    let split = both (length (map views.function_view m.functions.items) == t.defined_funcs) (value.have_counts (map (λ t. t.defined_funcs) ts) (modules_in ms)) e in
     let others = counts-of ts ms split.1 in
-    let count : length m.functions.items ≡ t.defined_funcs = sym (length-map m.functions.items address_map_view) ∙ eqb-true (length (map address_map_view m.functions.items)) t.defined_funcs split.0 in
+    let count : length m.functions.items ≡ t.defined_funcs = sym (length-map m.functions.items views.function_view) ∙ eqb-true (length (map views.function_view m.functions.items)) t.defined_funcs split.0 in
     (rw (count, others.0) refl, ap suc others.1)
 
 -- the modules and functions of a map are counted as the translations have them
-pub counted : (ts : List ModuleTranslation) (f : MapFile) (os : List ModuleMemoryOffset) → value.IsMapFor (map (λ t. t.defined_funcs) ts) (views.map_file_view f) → length os ≡ length ts → IsCounted ts (functions_in f.modules.items) os
-counted ts f os fits given =
+pub counted : (ts : List ModuleTranslation) (f : MapFile) → value.IsMapFor (map (λ t. t.defined_funcs) ts) (views.map_file_view f) → IsCounted ts (functions_in f.modules.items) (memories_in f.modules.items)
+counted ts f fits =
     let ms = f.modules.items in
     let counts = counts-of ts ms fits.counts in
     let few = both (nat_lt (length (modules_in ms)) (2 ^ 32)) (nat_lt (sum_by (λ (m : value.MapModule). length m.functions) (modules_in ms)) (2 ^ 32)) fits.countable in
     record {
       defined = counts.0;
-      offsets_given = given;
+      offsets_given = length-map ms (λ m. m.memory) ∙ sym (length-map ms views.module_view) ∙ counts.1;
       few_modules = subst (λ n. n < 2 ^ 32) counts.1 (ltb-true (length (modules_in ms)) (2 ^ 32) few.0);
       few_functions = subst (λ n. n < 2 ^ 32) (sym (count-of ms)) (ltb-true (sum_by (λ (m : value.MapModule). length m.functions) (modules_in ms)) (2 ^ 32) few.1);
     }

@@ -2,6 +2,8 @@
 use Rattle.std.proofs.Common.{◌≡◌, ℕ, ◌+◌, ◌*◌, ◌^◌, pos, List, [], ◌∷◌, ◌++◌, Some, None, true, false, refl}
 use Rattle.std.specs.Prelude.{codes}
 use Rattle.std.specs.List.{list_all}
+use Rattle.std.specs.FinMap as finite
+use Rattle.dwc_base.specs.Compiled.{no_memory}
 use Rattle.dwc_base.specs.Outputs.{OutputSection, function, section}
 use Rattle.dwc_clif.specs.declared.architecture.Architecture.TheVariants.{X86_64}
 use Rattle.dwc_cli.specs.MapFile.{MapFile, map_of_bytes}
@@ -13,10 +15,18 @@ map_bytes_small = codes "{\"target\":{\"arch\":\"x86_64\"},\"names\":[\"set_mem\
 
 abbrev pub map_small : MapFile
 map_small = record {
-  target = record { architecture = X86_64; big_endian = false; pointer_bytes = 8 };
+  target = record { architecture = X86_64; big_endian = false; pointer_bytes = 8; registers = finite.empty };
   set_memory = codes "set_mem";
   resolve_memory = codes "resolve_mem";
-  modules = record { functions = record { symbol = Some 0; start = Some 22; end = Some 33; body_offset = 0; body_len = 30; entries = (5, Some 25) ∷ (8, None) ∷ (15, Some 30) ∷ (23, None) ∷ [] } ∷ [] } ∷ [];
+  modules =
+      record {
+        functions =
+            record {
+              address_map = record { symbol = Some 0; start = Some 22; end = Some 33; body_offset = 0; body_len = 30; entries = (5, Some 25) ∷ (8, None) ∷ (15, Some 30) ∷ (23, None) ∷ [] };
+              labels = finite.empty;
+            } ∷ [];
+        memory = no_memory;
+      } ∷ [];
 }
 
 pub map-small : map_of_bytes (1 ∷ []) map_bytes_small ≡ Some map_small

@@ -1,14 +1,12 @@
 -- What is said of an input by what hinders its lines from being carried.
-use Rattle.std.proofs.Common.{◌≡◌, ℕ, ◌≤◌, ◌^◌, List, [], ◌∷◌, Option, Some, None, true, false, refl, sym, ap, ◌∙◌, subst, arith, inl, inr}
+use Rattle.std.proofs.Common.{◌≡◌, ℕ, List, [], ◌∷◌, Option, Some, None, true, false, refl, sym, ap, ◌∙◌, subst, arith, inl, inr}
 use Rattle.std.specs.Prelude.{option_map, unwrap_or, IsSome}
-use Rattle.dwc_base.specs.declared.section_name.SectionName.{SectionName}
 use Rattle.dwc_base.specs.Outputs.{OutputSection}
 use Rattle.dwc_base.specs.Sections.{unreadable, unsupported}
-use Rattle.dwc_base.specs.Refusals.{Refusal, of_place, missing_file, long_function, long_range}
+use Rattle.dwc_base.specs.Refusals.{Refusal, of_place, missing_file, long_function, long_range, bad_label, lacks_memory, unmapped_register, long_jump}
 use Rattle.dwc_base.specs.Forests.{first_refusal}
-use Rattle.dwc_base.specs.OutputCarried.{widest}
 use Rattle.dwc_cli.specs.Inputs.{BadMap, Loaded, compilation_of, shared_in, bad_map}
-use Rattle.dwc_cli.specs.RunStatus.{IsOneOf, refusal_status, LoadedCauses, IsValid}
+use Rattle.dwc_cli.specs.RunStatus.{IsOneOf, refusal_status, refusal_statuses, PassesLimit, LoadedCauses, IsValid}
 use Rattle.dwc_cli.specs.Printed.{printed}
 use Rattle.dwc_cli.specs.Answers.{first_status, hindrance, IsEmitted, IsCause, CarriesRead, GivesReadText}
 use Rattle.dwc_cli.proofs.Statuses.{is_one_of, IsOneOf-from, IsOneOf-more, IsOneOf-other}
@@ -27,7 +25,7 @@ none-is_some (Some x) e some = absurd (cc)
 
 -- the statuses of a run whose lines are not carried
 abbrev pub carrying_statuses : List ℕ
-carrying_statuses = 9 ∷ 10 ∷ 11 ∷ 12 ∷ 13 ∷ 20 ∷ 21 ∷ []
+carrying_statuses = 9 ∷ 10 ∷ 11 ∷ 12 ∷ 13 ∷ 14 ∷ 15 ∷ 16 ∷ 20 ∷ 21 ∷ []
 
 -- ---- by the values of the three hindrances
 
@@ -37,7 +35,7 @@ pub record Hindered (shared : Option (ℕ × ℕ)) (bad : Option BadMap) (refusa
   pub shared_always : IsSome shared → IsOneOf (3 ∷ 4 ∷ 9 ∷ 21 ∷ []) status
   pub map_only : status ≡ 13 → IsSome bad
   pub map_always : IsSome bad → IsOneOf (3 ∷ 4 ∷ 9 ∷ 13 ∷ 21 ∷ []) status
-  pub refusal_only : IsOneOf (10 ∷ 11 ∷ 12 ∷ []) status → option_map refusal_status refusal ≡ Some status
+  pub refusal_only : IsOneOf refusal_statuses status → option_map refusal_status refusal ≡ Some status
   pub refusal_always : (r : Refusal) → refusal ≡ Some r → IsOneOf (3 ∷ 4 ∷ 9 ∷ 13 ∷ 21 ∷ refusal_status r ∷ []) status
   pub large : status ≡ 20 → option_map refusal_status refusal ≡ Some 20
   pub one_of : IsOneOf carrying_statuses status
@@ -69,7 +67,7 @@ hindered (Some functions) bad refusal status e = subst (Hindered (Some functions
   shared_always = λ _. IsOneOf-from (3 ∷ 4 ∷ 9 ∷ 21 ∷ []) 21 refl;
   map_only = λ e. absurd (omega (arith, e));
   map_always = λ _. IsOneOf-from (3 ∷ 4 ∷ 9 ∷ 13 ∷ 21 ∷ []) 21 refl;
-  refusal_only = λ one. absurd (not_one (10 ∷ 11 ∷ 12 ∷ []) 21 refl one);
+  refusal_only = λ one. absurd (not_one refusal_statuses 21 refl one);
   refusal_always = λ r _. (4, 21, omega arith, refl, refl);
   large = λ e. absurd (omega (arith, e));
   one_of = IsOneOf-from carrying_statuses 21 refl;
@@ -79,7 +77,7 @@ hindered None (Some found) refusal status e = subst (Hindered None (Some found) 
   shared_always = λ some. absurd (none-is_some {A = ℕ × ℕ} None refl some);
   map_only = λ _. refl;
   map_always = λ _. IsOneOf-from (3 ∷ 4 ∷ 9 ∷ 13 ∷ 21 ∷ []) 13 refl;
-  refusal_only = λ one. absurd (not_one (10 ∷ 11 ∷ 12 ∷ []) 13 refl one);
+  refusal_only = λ one. absurd (not_one refusal_statuses 13 refl one);
   refusal_always = λ r _. (3, 13, omega arith, refl, refl);
   large = λ e. absurd (omega (arith, e));
   one_of = IsOneOf-from carrying_statuses 13 refl;
@@ -89,6 +87,10 @@ hindered None None (Some (of_place (unsupported kind offset))) status e = subst 
 hindered None None (Some (missing_file offset)) status e = subst (Hindered None None (Some (missing_file offset))) (same_some 12 status e) (refused (missing_file offset) (λ e. omega (arith, e)) (λ e. omega (arith, e)) (IsOneOf-from carrying_statuses 12 refl))
 hindered None None (Some long_function) status e = subst (Hindered None None (Some long_function)) (same_some 20 status e) (refused long_function (λ e. omega (arith, e)) (λ e. omega (arith, e)) (IsOneOf-from carrying_statuses 20 refl))
 hindered None None (Some long_range) status e = subst (Hindered None None (Some long_range)) (same_some 20 status e) (refused long_range (λ e. omega (arith, e)) (λ e. omega (arith, e)) (IsOneOf-from carrying_statuses 20 refl))
+hindered None None (Some (bad_label label)) status e = subst (Hindered None None (Some (bad_label label))) (same_some 14 status e) (refused (bad_label label) (λ e. omega (arith, e)) (λ e. omega (arith, e)) (IsOneOf-from carrying_statuses 14 refl))
+hindered None None (Some (lacks_memory m)) status e = subst (Hindered None None (Some (lacks_memory m))) (same_some 15 status e) (refused (lacks_memory m) (λ e. omega (arith, e)) (λ e. omega (arith, e)) (IsOneOf-from carrying_statuses 15 refl))
+hindered None None (Some (unmapped_register register)) status e = subst (Hindered None None (Some (unmapped_register register))) (same_some 16 status e) (refused (unmapped_register register) (λ e. omega (arith, e)) (λ e. omega (arith, e)) (IsOneOf-from carrying_statuses 16 refl))
+hindered None None (Some long_jump) status e = subst (Hindered None None (Some long_jump)) (same_some 20 status e) (refused long_jump (λ e. omega (arith, e)) (λ e. omega (arith, e)) (IsOneOf-from carrying_statuses 20 refl))
 hindered None None None status e = absurd (none≢some e)
 
 -- nothing hinders
@@ -110,16 +112,20 @@ pub record Said (read : Loaded) (status : ℕ) : Type 0 where
   pub causes : LoadedCauses read status
   pub complete : GivesReadText read status
 
--- of a status that is none of the hindrances', where nothing hinders
-LoadedCauses-unhindered : (read : Loaded) (status : ℕ) → hindrance read ≡ None → is_one_of (10 ∷ 11 ∷ 12 ∷ 13 ∷ 21 ∷ []) status ≡ false → (status ≡ 20 → (name : SectionName) × (2 ^ 31 ≤ widest name (compilation_of read))) → LoadedCauses read status
+-- the statuses of hindrances, but for 20
+abbrev hindering_statuses : List ℕ
+hindering_statuses = 10 ∷ 11 ∷ 12 ∷ 13 ∷ 14 ∷ 15 ∷ 16 ∷ 21 ∷ []
+
+-- of a status that is none of these, where nothing hinders
+LoadedCauses-unhindered : (read : Loaded) (status : ℕ) → hindrance read ≡ None → is_one_of hindering_statuses status ≡ false → (status ≡ 20 → PassesLimit (compilation_of read)) → LoadedCauses read status
 LoadedCauses-unhindered read status none other large =
     let nothing = unhindered (shared_in read) (bad_map read) (first_refusal (compilation_of read)) none in
-    let apart = λ (s : ℕ) (among : is_one_of (10 ∷ 11 ∷ 12 ∷ 13 ∷ 21 ∷ []) s ≡ true) (same : status ≡ s). false≢true (sym other ∙ ap (is_one_of (10 ∷ 11 ∷ 12 ∷ 13 ∷ 21 ∷ [])) same ∙ among) in
+    let apart = λ (s : ℕ) (among : is_one_of hindering_statuses s ≡ true) (same : status ≡ s). false≢true (sym other ∙ ap (is_one_of hindering_statuses) same ∙ among) in
     record {
       shared = record { only = λ e. absurd (apart 21 refl e); always = λ some. absurd (none-is_some (shared_in read) nothing.distinct some) };
       address_map = record { only = λ e. absurd (apart 13 refl e); always = λ some. absurd (none-is_some (bad_map read) nothing.maps some) };
       refused = record {
-        only = λ one. absurd (not_one (10 ∷ 11 ∷ 12 ∷ 13 ∷ 21 ∷ []) status other (IsOneOf-more (10 ∷ 11 ∷ 12 ∷ []) (10 ∷ 11 ∷ 12 ∷ 13 ∷ 21 ∷ []) status refl one));
+        only = λ one. absurd (not_one hindering_statuses status other (IsOneOf-more refusal_statuses hindering_statuses status refl one));
         always = λ r e. absurd (none≢some (sym nothing.accepted ∙ e));
       };
       too_large = λ e. inr (nothing.accepted, large e);
@@ -130,7 +136,7 @@ pub LoadedCauses-memory : (read : Loaded) → LoadedCauses read 9
 LoadedCauses-memory read = record {
   shared = record { only = λ e. absurd (omega (arith, e)); always = λ _. IsOneOf-from (3 ∷ 4 ∷ 9 ∷ 21 ∷ []) 9 refl };
   address_map = record { only = λ e. absurd (omega (arith, e)); always = λ _. IsOneOf-from (3 ∷ 4 ∷ 9 ∷ 13 ∷ 21 ∷ []) 9 refl };
-  refused = record { only = λ one. absurd (not_one (10 ∷ 11 ∷ 12 ∷ []) 9 refl one); always = λ r _. (2, 9, omega arith, refl, refl) };
+  refused = record { only = λ one. absurd (not_one refusal_statuses 9 refl one); always = λ r _. (2, 9, omega arith, refl, refl) };
   too_large = λ e. absurd (omega (arith, e));
 }
 
@@ -154,17 +160,22 @@ said-hindered read status is =
       complete = λ valid. absurd (none≢some (sym (valid-unhindered read valid) ∙ is));
     }
 
-said-large : (read : Loaded) (name : SectionName) → hindrance read ≡ None → 2 ^ 31 ≤ widest name (compilation_of read) → Said read 20
-said-large read name none large = record {
-  causes = LoadedCauses-unhindered read 20 none refl (λ _. (name, large));
-  complete = λ valid. absurd (omega (arith, large, valid.small name));
+-- a valid input passes no limit
+valid-within : (read : Loaded) → PassesLimit (compilation_of read) → IsValid read → ⊥
+valid-within read (inl (name, large)) valid = omega (arith, large, valid.small name)
+valid-within read (inr long) valid = false≢true (sym long ∙ valid.short)
+
+said-large : (read : Loaded) → hindrance read ≡ None → PassesLimit (compilation_of read) → Said read 20
+said-large read none passes = record {
+  causes = LoadedCauses-unhindered read 20 none refl (λ _. passes);
+  complete = λ valid. absurd (valid-within read passes valid);
 }
 
 -- where no sections are emitted
 pub said-cause : (read : Loaded) (status : ℕ) → IsCause read status → Said read status
 said-cause read status (inl memory) = subst (Said read) (sym memory) (said-memory read)
 said-cause read status (inr (inl is)) = said-hindered read status is
-said-cause read status (inr (inr (is, none, found))) = subst (Said read) (sym is) (said-large read found.0 none found.1)
+said-cause read status (inr (inr (is, none, passes))) = subst (Said read) (sym is) (said-large read none passes)
 
 -- where sections are emitted
 pub said-emitted : (read : Loaded) (sections : List OutputSection) → IsEmitted read sections → Said read 0
@@ -180,6 +191,7 @@ carries-emitted read sections h = record {
   sections = sections;
   plain = plain-sound (compilation_of read).order sections h.sound;
   carried = h.carried;
+  short = h.short;
   text_is = refl;
 }
 
@@ -187,4 +199,4 @@ carries-emitted read sections h = record {
 pub cause-status : (read : Loaded) (status : ℕ) → IsCause read status → IsOneOf carrying_statuses status
 cause-status read status (inl memory) = subst (IsOneOf carrying_statuses) (sym memory) (IsOneOf-from carrying_statuses 9 refl)
 cause-status read status (inr (inl is)) = (hindered (shared_in read) (bad_map read) (first_refusal (compilation_of read)) status is).one_of
-cause-status read status (inr (inr (is, none, found))) = subst (IsOneOf carrying_statuses) (sym is) (IsOneOf-from carrying_statuses 20 refl)
+cause-status read status (inr (inr (is, none, passes))) = subst (IsOneOf carrying_statuses) (sym is) (IsOneOf-from carrying_statuses 20 refl)

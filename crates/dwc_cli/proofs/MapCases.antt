@@ -1,6 +1,7 @@
 -- Map files: which have a value, and the values of fields that may be missing.
 use Rattle.std.proofs.Common.{◌≡◌, ℕ, List, [], ◌∷◌, Some, None, true, false, refl}
 use Rattle.std.specs.Prelude.{Bool, Option, codes, is_some, map}
+use Rattle.std.specs.FinMap as finite
 use Rattle.dwc_base.specs.Functions.{AddressMap}
 use Rattle.dwc_clif.specs.declared.architecture.Architecture.TheVariants.{Aarch64, Pulley}
 use Rattle.dwc_cli.specs.MapFile.{MapFile, Target, map_of_bytes}
@@ -10,27 +11,27 @@ use Rattle.dwc_cli.proofs.OnLiterals.{map_on_literals}
 abbrev pub HasValue : List ℕ → Bool → Type 0
 HasValue text there = is_some (map_of_bytes (1 ∷ []) text) ≡ there
 
--- the target, and the first function, of a map
+-- the target of a map, and the address maps of its functions
 abbrev pub target_in : Option MapFile → Option Target
 target_in None = None
 target_in (Some m) = Some m.target
 
 abbrev pub functions_in : Option MapFile → List (List AddressMap)
 functions_in None = []
-functions_in (Some m) = map (λ x. x.functions) m.modules
+functions_in (Some m) = map (λ x. map (λ f. f.address_map) x.functions) m.modules
 
 -- the smallest map
 plain : HasValue (codes "{\"target\":{\"arch\":\"pulley\"},\"names\":[\"a\",\"b\"],\"modules\":[{\"functions\":[{\"symbol\":7,\"start\":22,\"end\":33,\"body_len\":30,\"map\":[[5,25]]}]}]}") true
 unfolding map_on_literals
 plain = refl
 
--- the byte order is little and pointers have 8 bytes where nothing is said
-target_defaults : target_in (map_of_bytes (1 ∷ []) (codes "{\"target\":{\"arch\":\"pulley\"},\"names\":[\"a\",\"b\"],\"modules\":[{\"functions\":[{\"symbol\":7,\"start\":22,\"end\":33,\"body_len\":30,\"map\":[[5,25]]}]}]}")) ≡ Some (record { architecture = Pulley; big_endian = false; pointer_bytes = 8 })
+-- the byte order is little, pointers have 8 bytes and no register has a number where nothing is said
+target_defaults : target_in (map_of_bytes (1 ∷ []) (codes "{\"target\":{\"arch\":\"pulley\"},\"names\":[\"a\",\"b\"],\"modules\":[{\"functions\":[{\"symbol\":7,\"start\":22,\"end\":33,\"body_len\":30,\"map\":[[5,25]]}]}]}")) ≡ Some (record { architecture = Pulley; big_endian = false; pointer_bytes = 8; registers = finite.empty })
 unfolding map_on_literals
 target_defaults = refl
 
 -- a target that tells both
-target_told : target_in (map_of_bytes (1 ∷ []) (codes "{\"target\":{\"arch\":\"aarch64\",\"big_endian\":true,\"pointer_bytes\":4},\"names\":[\"a\",\"b\"],\"modules\":[{\"functions\":[{\"symbol\":7,\"start\":22,\"end\":33,\"body_len\":30,\"map\":[[5,25]]}]}]}")) ≡ Some (record { architecture = Aarch64; big_endian = true; pointer_bytes = 4 })
+target_told : target_in (map_of_bytes (1 ∷ []) (codes "{\"target\":{\"arch\":\"aarch64\",\"big_endian\":true,\"pointer_bytes\":4},\"names\":[\"a\",\"b\"],\"modules\":[{\"functions\":[{\"symbol\":7,\"start\":22,\"end\":33,\"body_len\":30,\"map\":[[5,25]]}]}]}")) ≡ Some (record { architecture = Aarch64; big_endian = true; pointer_bytes = 4; registers = finite.empty })
 unfolding map_on_literals
 target_told = refl
 

@@ -1,15 +1,16 @@
 -- What is said of each map that is read.
 use Rattle.std.proofs.Common.{◌≡◌, ◌⊎◌, ℕ, List, [], ◌∷◌, ◌++◌, ◌≤◌, length, drop, map, Option, Some, None, Bool, true, false, Result, Ok, Err, refl, sym, ◌∙◌, ap, subst, inl, inr}
-use Rattle.std.specs.Prelude.{IfOk, IfSome, ◌==◌, ◌&&◌, codes, option_map, unwrap_or, if◌then◌else◌}
+use Rattle.std.specs.Prelude.{IfOk, IfSome, ◌==◌, ◌&&◌, codes, option_and_then, option_map, unwrap_or, if◌then◌else◌}
+use Rattle.std.specs.FinMap as finite
 use Rattle.std.proofs.lemmas.List.{drop_all}
+use Rattle.serde_json.specs.declared.value.Value.{Value}
+use Rattle.serde_json.specs.View.{view}
 use Rattle.serde_json.specs.Data.{Data}
 use Rattle.serde_json.specs.Find.{get_member}
-use Rattle.serde_json.specs.Read.{read}
-use Rattle.std.specs.Str.{is_utf8}
 use Rattle.dwc_base.specs.declared.wasm.ModuleTranslation.{ModuleTranslation}
 use Rattle.dwc_base.specs.Reading.{coded}
 use Rattle.dwc_cli.specs.declared.map_file.MapFile.{MapFile as DeclaredMap}
-use Rattle.dwc_cli.specs.MapFile.{◌>>=◌, only_if, Target, MapFile, number_below, value_or, with_default, required, list_of, pair_of, text_of, truth_of, members_of, architecture_of, pointer_bytes_of, target_of, map_module_of, have_counts, is_countable, map_value, map_of_bytes, IsMapFor}
+use Rattle.dwc_cli.specs.MapFile.{◌>>=◌, only_if, Target, MapFile, number_below, value_or, with_default, required, list_of, pair_of, text_of, truth_of, members_of, architecture_of, pointer_bytes_of, register_numbers_of, target_of, map_module_of, have_counts, is_countable, map_value, IsMapFor}
 use Rattle.dwc_cli.specs.MapViews.{map_file_view}
 
 same_some : {A : Type 0} (x y : A) → Some x ≡ Some y → x ≡ y
@@ -49,7 +50,8 @@ target-size d t e =
     let architecture = bind-some (required (codes "arch") architecture_of ms.0) _ t ms.2 in
     let big_endian = bind-some (with_default (codes "big_endian") false truth_of ms.0) _ t architecture.2 in
     let pointer_bytes = bind-some (with_default (codes "pointer_bytes") 8 pointer_bytes_of ms.0) _ t big_endian.2 in
-    let is : pointer_bytes.0 ≡ t.pointer_bytes = ap (λ (x : Target). x.pointer_bytes) (same_some _ t pointer_bytes.2) in
+    let registers = bind-some (with_default (codes "registers") finite.empty register_numbers_of ms.0) _ t pointer_bytes.2 in
+    let is : pointer_bytes.0 ≡ t.pointer_bytes = ap (λ (x : Target). x.pointer_bytes) (same_some _ t registers.2) in
     let size = size_or (get_member (codes "pointer_bytes") ms.0) pointer_bytes.0 pointer_bytes.1 in
     subst (λ n. (n ≡ 4) ⊎ (n ≡ 8)) is size
 
@@ -66,18 +68,12 @@ map_value-fits defined d m e =
     let value = bind-some (get_member (codes "target") ms.0) target_of target.0 target.1 in
     subst (IsMapFor defined) kept.1 (record { counts = tests.0; countable = tests.1; pointer = target-size value.0 target.0 value.2 })
 
-pub map_of_bytes-fits : (defined bytes : List ℕ) (m : MapFile) → map_of_bytes defined bytes ≡ Some m → IsMapFor defined m
-unfolding map_of_bytes
-map_of_bytes-fits defined bytes m e =
-    let text = bind-some (only_if (is_utf8 bytes) bytes) _ m e in
-    let d = bind-some (read text.0) _ m text.2 in
-    map_value-fits defined d.0 m d.2
-
--- a map that is read, if one is
-pub map_of_bytes-read : {E : Type 0} (result : Result (Option DeclaredMap) E) (defined bytes : List ℕ) → IfOk result (λ o. option_map map_file_view o ≡ map_of_bytes defined bytes) → IfOk result (λ o. IfSome o (λ f. IsMapFor defined (map_file_view f)))
-map_of_bytes-read (Ok None) defined bytes e = tt
-map_of_bytes-read (Ok (Some f)) defined bytes e = map_of_bytes-fits defined bytes (map_file_view f) (sym e)
-map_of_bytes-read (Err error) defined bytes e = tt
+-- a map that a JSON value is, if it is one
+pub map_value-read : {E : Type 0} (result : Result (Option DeclaredMap) E) (defined : List ℕ) (json : Option Value) → IfOk result (λ o. option_map map_file_view o ≡ option_and_then (λ v. map_value defined (view v)) json) → IfOk result (λ o. IfSome o (λ f. IsMapFor defined (map_file_view f)))
+map_value-read (Ok None) defined json e = tt
+map_value-read (Ok (Some f)) defined None e = absurd (cc)
+map_value-read (Ok (Some f)) defined (Some v) e = map_value-fits defined (view v) (map_file_view f) (sym e)
+map_value-read (Err error) defined json e = tt
 
 -- the counts of all modules, where those of the modules from a place past the end on are to come
 pub all_counted : (done : List ℕ) (modules : List ModuleTranslation) (i : ℕ) → length modules ≤ i → done ++ map (λ m. m.defined_funcs) (drop i modules) ≡ map (λ m. m.defined_funcs) modules → done ≡ map (λ m. m.defined_funcs) modules

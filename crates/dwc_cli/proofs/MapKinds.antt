@@ -9,7 +9,7 @@ use Rattle.serde_json.specs.Read.{read}
 use Rattle.serde_json.specs.Find.{as_array}
 use Rattle.serde_json.specs.View.{items_view}
 use Rattle.serde_json.specs.declared.value.Value.{Value}
-use Rattle.dwc_cli.specs.MapFile.{MapModule, named_in, architectures, pair_of, list_of, all_items, have_counts, map_value, map_of_bytes, ◌>>=◌}
+use Rattle.dwc_cli.specs.MapFile.{MapModule, named_in, architectures, pair_of, four_of, list_of, table_in, table_of, all_items, have_counts, map_value, map_of_bytes, ◌>>=◌}
 
 -- a test that cannot hold is false
 false_from_not : (b : Bool) → (b ≡ true → ⊥) → b ≡ false
@@ -62,6 +62,33 @@ list_of_items kind (number n) = refl
 list_of_items kind (string s) = refl
 list_of_items kind (array ds) = refl
 list_of_items kind (object ms) = refl
+
+-- a table by its items
+pub table_of_items : {X : Type 0} (kind : Data → Option X) (d : Data) → table_of kind d ≡ as_array d >>= table_in kind
+table_of_items kind null = refl
+table_of_items kind (boolean b) = refl
+table_of_items kind (number n) = refl
+table_of_items kind (string s) = refl
+table_of_items kind (array ds) = refl
+table_of_items kind (object ms) = refl
+
+-- the items of a list of another length than four are no four
+items_of_another_length-four : (vs : List Value) → length vs ≢ 4 → None ≡ four_of (array (items_view vs))
+items_of_another_length-four [] h = refl
+items_of_another_length-four (v ∷ []) h = refl
+items_of_another_length-four (v ∷ w ∷ []) h = refl
+items_of_another_length-four (v ∷ w ∷ x ∷ []) h = refl
+items_of_another_length-four (v ∷ w ∷ x ∷ y ∷ []) h = absurd (h refl)
+items_of_another_length-four (v ∷ w ∷ x ∷ y ∷ z ∷ vs) h = refl
+
+-- a list of another length than four is no four
+pub four_of-another_length : (vs : List Value) (d : Data) → Some (items_view vs) ≡ as_array d → length vs ≢ 4 → None ≡ four_of d
+four_of-another_length vs null e h = cc
+four_of-another_length vs (boolean b) e h = cc
+four_of-another_length vs (number n) e h = cc
+four_of-another_length vs (string s) e h = cc
+four_of-another_length vs (array ds) e h = let same : items_view vs ≡ ds = cc in rw same at (items_of_another_length-four vs h)
+four_of-another_length vs (object ms) e h = cc
 
 -- lists of another length have not these counts
 pub have_counts-another_length : (ns : List ℕ) (ms : List MapModule) → length ms ≢ length ns → false ≡ have_counts ns ms

@@ -4,12 +4,12 @@ use Rattle.std.specs.Str.{is_utf8, chars}
 use Rattle.std.specs.Fmt.{digits}
 use Rattle.hex.specs.Hex.{encode_with}
 use Rattle.serde_json.proofs.OnLiterals.{serde_json_on_literals}
-use Rattle.dwc_cli.specs.MapFile.{target_of, address_map_of, map_module_of, map_value, map_of_bytes}
+use Rattle.dwc_cli.specs.MapFile.{register_numbers_of, target_of, label_range_of, labels_of, map_function_of, memory_of, map_module_of, map_value, map_of_bytes}
 use Rattle.dwc_cli.specs.Printed.{printed}
 use lib.Utf8.{encode}
 
 unfoldable pub map_on_literals : ℕ
-unfolding is_utf8 chars encode serde_json_on_literals target_of address_map_of map_module_of map_value map_of_bytes
+unfolding is_utf8 chars encode serde_json_on_literals register_numbers_of target_of label_range_of labels_of map_function_of memory_of map_module_of map_value map_of_bytes
 map_on_literals = 0
 
 unfoldable pub printed_on_literals : ℕ

@@ -1,6 +1,6 @@
 -- For each clause of a run but those on what is written: an input that meets the clause's premise, and an answer that the
 -- clause refuses.
-use Rattle.std.proofs.Common.{◌≡◌, ◌≢◌, ℕ, zero, suc, ◌+◌, ◌-◌, ◌^◌, ◌<◌, ◌≤◌, List, [], ◌∷◌, length, Some, None, Ok, Err, Result, false, refl, ap, subst, sym, ◌∙◌, arith, lit<, lit≤, inl, inr}
+use Rattle.std.proofs.Common.{◌≡◌, ◌≢◌, ℕ, zero, suc, ◌+◌, ◌-◌, ◌^◌, ◌<◌, ◌≤◌, List, [], ◌∷◌, length, Some, None, Ok, Err, Result, true, false, refl, ap, subst, sym, ◌∙◌, arith, lit<, lit≤, inl, inr}
 use Rattle.std.specs.Prelude.{◌⊎◌, All, Option, is_some, IsNone, codes, option_map}
 use Rattle.std.proofs.Math.ListN.{replicate}
 use Rattle.std.proofs.lemmas.List.{length-replicate}
@@ -10,14 +10,15 @@ use Rattle.dwc_base.specs.declared.section_name.SectionName.{SectionName}
 use Rattle.dwc_base.specs.declared.faults.What.TheVariants.{Entry as EntryRead, UnitHeader as HeaderRead}
 use Rattle.dwc_base.specs.declared.faults.Kind.TheVariants.{Format64, Compressed}
 use Rattle.dwc_base.specs.Sections.{unsupported, unreadable}
-use Rattle.dwc_base.specs.Refusals.{Refusal, of_place, missing_file}
-use Rattle.dwc_base.specs.Forests.{first_refusal}
+use Rattle.dwc_base.specs.Refusals.{Refusal, of_place, missing_file, bad_label, lacks_memory, unmapped_register, long_jump}
+use Rattle.dwc_base.specs.Forests.{first_refusal, trees_made}
 use Rattle.dwc_base.specs.OutputCarried.{widest}
+use Rattle.dwc_base.specs.TreeLaws.{have_short_expressions}
 use Rattle.dwc_base.specs.Wasm.{WasmModule}
 use Rattle.dwc_base.proofs.SmallModule.{file_small}
 use Rattle.dwc_cli.specs.MapFile.{map_of_bytes}
 use Rattle.dwc_cli.specs.Inputs.{Loaded, loaded, paths_of, wasm_modules, defined_counts, compilation_of, shared_in}
-use Rattle.dwc_cli.specs.RunStatus.{Rose, most_bytes, IsOneOf, IsStatus, IsTooLong, UsageCause, MissingCause, InputCauses, NamedCauses, refusal_status, LoadedCauses, RunsWell, IsValid}
+use Rattle.dwc_cli.specs.RunStatus.{Rose, most_bytes, IsOneOf, run_statuses, IsStatus, IsTooLong, UsageCause, MissingCause, InputCauses, NamedCauses, refusal_status, refusal_statuses, PassesLimit, LoadedCauses, RunsWell, IsValid}
 use Rattle.dwc_cli.proofs.Examples.{map_bytes_small, map-small}
 use Rattle.dwc_cli.proofs.WholeRun.{whole_on_literals, refusal_of, input_small, read_in, read_small}
 use Rattle.dwc_cli.proofs.BrokenInputs.{file_64, file_5, file_undeclared, file_compressed, file_no_directory, file_two_faults, file_cut, file_old, map_bytes_falls, map_bytes_missing, map_bytes_two, map_bytes_shared, map_bytes_shared_falls, map_bytes_second_falls}
@@ -368,8 +369,30 @@ second-success : CausesOfTwo map_bytes_two file_small file_64 0 → ⊥
 unfolding whole_on_literals
 second-success h = refused_always (read_of_two map_bytes_two file_small file_64) (of_place (unsupported Format64 0)) 0 refl refl (loaded_causes_of_two map_bytes_two file_small file_64 0 (read_of_two map_bytes_two file_small file_64) refl h)
 
+-- where an expression is refused: neither success nor another refusal
+label-success : (read : Loaded) (label : ℕ) → first_refusal (compilation_of read) ≡ Some (bad_label label) → LoadedCauses read 0 → ⊥
+label-success read label is h = refused_always read (bad_label label) 0 is refl h
+
+label-register : (read : Loaded) (label : ℕ) → first_refusal (compilation_of read) ≡ Some (bad_label label) → LoadedCauses read 16 → ⊥
+label-register read label is h = refused_always read (bad_label label) 16 is refl h
+
+memory-success : (read : Loaded) (place : ℕ) → first_refusal (compilation_of read) ≡ Some (lacks_memory place) → LoadedCauses read 0 → ⊥
+memory-success read place is h = refused_always read (lacks_memory place) 0 is refl h
+
+memory-unsupported : (read : Loaded) (place : ℕ) → first_refusal (compilation_of read) ≡ Some (lacks_memory place) → LoadedCauses read 11 → ⊥
+memory-unsupported read place is h = refused_always read (lacks_memory place) 11 is refl h
+
+register-success : (read : Loaded) (register : ℕ) → first_refusal (compilation_of read) ≡ Some (unmapped_register register) → LoadedCauses read 0 → ⊥
+register-success read register is h = refused_always read (unmapped_register register) 0 is refl h
+
+register-label : (read : Loaded) (register : ℕ) → first_refusal (compilation_of read) ≡ Some (unmapped_register register) → LoadedCauses read 14 → ⊥
+register-label read register is h = refused_always read (unmapped_register register) 14 is refl h
+
+jump-success : (read : Loaded) → first_refusal (compilation_of read) ≡ Some long_jump → LoadedCauses read 0 → ⊥
+jump-success read is h = refused_always read long_jump 0 is refl h
+
 -- nothing of the small input is refused
-small-refused : (status : ℕ) → IsOneOf (10 ∷ 11 ∷ 12 ∷ []) status → Causes map_bytes_small file_small status → ⊥
+small-refused : (status : ℕ) → IsOneOf refusal_statuses status → Causes map_bytes_small file_small status → ⊥
 unfolding whole_on_literals
 small-refused status one h = let impossible = (loaded_causes map_bytes_small file_small status read_small refl h).refused.only one in none≢some impossible
   where
@@ -400,6 +423,11 @@ small-widest StrOffsets = lit< tt
 small-widest CuIndex = lit< tt
 small-widest Frame = lit< tt
 
+-- and none of its expressions is too long
+small-short : have_short_expressions (trees_made (compilation_of read_small)) ≡ true
+unfolding whole_on_literals
+small-short = refl
+
 small-accepted : first_refusal (compilation_of read_small) ≡ None
 unfolding whole_on_literals
 small-accepted = refl
@@ -410,27 +438,28 @@ small-too_large h = go ((loaded_causes map_bytes_small file_small 20 read_small 
     clash : ◌≡◌ {A = Option ℕ} None (Some 20) → ⊥
     clash e = cc
 
-    go : (option_map refusal_status (first_refusal (compilation_of read_small)) ≡ Some 20) ⊎ ((first_refusal (compilation_of read_small) ≡ None) × ((name : SectionName) × (2 ^ 31 ≤ widest name (compilation_of read_small)))) → ⊥
+    go : (option_map refusal_status (first_refusal (compilation_of read_small)) ≡ Some 20) ⊎ ((first_refusal (compilation_of read_small) ≡ None) × PassesLimit (compilation_of read_small)) → ⊥
     go (inl is) = clash (sym (ap (option_map refusal_status) small-accepted) ∙ is)
-    go (inr (accepted, found)) = let small = small-widest found.0 in omega (arith, small, found.1)
+    go (inr (accepted, inl (name, large))) = let small = small-widest name in omega (arith, small, large)
+    go (inr (accepted, inr long)) = true≢false (sym small-short ∙ long)
 
 -- ---- a run answers no other status
 
 status-1 : IsStatus 1 → ⊥
-status-1 h = refused (0 ∷ 2 ∷ 3 ∷ 4 ∷ 5 ∷ 6 ∷ 8 ∷ 9 ∷ 10 ∷ 11 ∷ 12 ∷ 13 ∷ 20 ∷ 21 ∷ []) 1 refl h
+status-1 h = refused run_statuses 1 refl h
 
 status-7 : IsStatus 7 → ⊥
-status-7 h = refused (0 ∷ 2 ∷ 3 ∷ 4 ∷ 5 ∷ 6 ∷ 8 ∷ 9 ∷ 10 ∷ 11 ∷ 12 ∷ 13 ∷ 20 ∷ 21 ∷ []) 7 refl h
+status-7 h = refused run_statuses 7 refl h
 
-status-14 : IsStatus 14 → ⊥
-status-14 h = refused (0 ∷ 2 ∷ 3 ∷ 4 ∷ 5 ∷ 6 ∷ 8 ∷ 9 ∷ 10 ∷ 11 ∷ 12 ∷ 13 ∷ 20 ∷ 21 ∷ []) 14 refl h
+status-17 : IsStatus 17 → ⊥
+status-17 h = refused run_statuses 17 refl h
 
 -- ---- where all is well, a run succeeds or wants memory
 
 -- the small run is well
 valid-small : IsValid read_small
 unfolding whole_on_literals
-valid-small = record { distinct = refl; maps = refl; accepted = refl; small = small-widest }
+valid-small = record { distinct = refl; maps = refl; accepted = refl; small = small-widest; short = small-short }
 
 -- its files are short
 short_small : All (λ bytes. length bytes ≤ most_bytes) (map_bytes_small ∷ file_small ∷ [])

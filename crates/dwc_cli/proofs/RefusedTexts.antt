@@ -201,7 +201,7 @@ no_front h =
 -- the first ten bytes of the wanted text are one
 front-small : FrontCarries input_small (Some []) (Some (codes "section .d"))
 unfolding whole_on_literals printed_on_literals
-front-small = record { read = read_small; is_read = refl; accepted = refl; sections = output_small; plain = refl; carried = output_carried-small; count = 10; written = refl }
+front-small = record { read = read_small; is_read = refl; accepted = refl; sections = output_small; plain = refl; carried = output_carried-small; short = refl; count = 10; written = refl }
 
 -- ---- inputs of which something is refused: no text, nor a front of one
 
@@ -254,6 +254,7 @@ carried-bare = record {
   trees = refl;
   targets = refl;
   scopes = tt;
+  locations = tt;
   texts = refl;
   form = All-nil HasForm;
   names = none-differ;
@@ -262,4 +263,4 @@ carried-bare = record {
 
 carries-bare : Carries (with_small_map file_bare) (Some []) (Some [])
 unfolding whole_on_literals printed_on_literals
-carries-bare = record { read = read_of file_bare; is_read = refl; accepted = refl; sections = []; plain = refl; carried = carried-bare; written = refl }
+carries-bare = record { read = read_of file_bare; is_read = refl; accepted = refl; sections = []; plain = refl; carried = carried-bare; short = refl; written = refl }

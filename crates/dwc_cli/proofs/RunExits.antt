@@ -2,12 +2,12 @@
 use Rattle.std.proofs.Common.{◌≡◌, ℕ, zero, suc, List, [], ◌∷◌, take, false, Option, Some, refl, sym, ◌∙◌, subst, arith}
 use Rattle.std.specs.Prelude.{Any}
 use Rattle.dwc_base.specs.Sections.{unreadable, unsupported}
-use Rattle.dwc_base.specs.Refusals.{Refusal, of_place, missing_file, long_function, long_range}
+use Rattle.dwc_base.specs.Refusals.{Refusal, of_place, missing_file, long_function, long_range, bad_label, lacks_memory, unmapped_register, long_jump}
 use Rattle.dwc_cli.specs.Inputs.{Paths, paths_of, all_paths, Input, Loaded}
-use Rattle.dwc_cli.specs.RunStatus.{Files, Appended, IsOneOf, Succeeds, PrefixWritten, MissingCause, refusal_status, LoadedCauses, InputCauses, RunsWell, Rose}
+use Rattle.dwc_cli.specs.RunStatus.{Files, Appended, IsOneOf, Succeeds, PrefixWritten, MissingCause, refusal_status, refusal_statuses, LoadedCauses, InputCauses, RunsWell, Rose}
 use Rattle.dwc_cli.specs.Edge.{IsLongFile, AppendsFront}
 use Rattle.dwc_cli.specs.Answers.{IsInput, CarriesText, TextCauses, GivesText, IsReadingStatus, reading_statuses}
-use Rattle.dwc_cli.proofs.Statuses.{is_one_of, IsOneOf-from, IsOneOf-more, IsOneOf-other}
+use Rattle.dwc_cli.proofs.Statuses.{is_one_of, IsOneOf-from, IsOneOf-more, IsOneOf-other, IsOneOf-apart}
 use Rattle.dwc_cli.proofs.NamedFiles.{same_input, too_long_named, short_input, lacks_none, not_long}
 
 -- ---- a file that cannot be read
@@ -19,17 +19,11 @@ LoadedCauses-reading read status one =
       shared = record { only = λ e. absurd (other 21 refl e); always = λ _. IsOneOf-more reading_statuses (3 ∷ 4 ∷ 9 ∷ 21 ∷ []) status refl one };
       address_map = record { only = λ e. absurd (other 13 refl e); always = λ _. IsOneOf-more reading_statuses (3 ∷ 4 ∷ 9 ∷ 13 ∷ 21 ∷ []) status refl one };
       refused = record {
-        only = λ found. absurd (none_of found);
+        only = λ found. absurd (IsOneOf-apart refusal_statuses reading_statuses status refl found one);
         always = λ r _. IsOneOf-more reading_statuses (3 ∷ 4 ∷ 9 ∷ 13 ∷ 21 ∷ refusal_status r ∷ []) status refl one;
       };
       too_large = λ e. absurd (other 20 refl e);
     }
-  where
-    none_of : IsOneOf (10 ∷ 11 ∷ 12 ∷ []) status → ⊥
-    none_of (zero, x, within, is, same) = IsOneOf-other reading_statuses status 10 one refl (sym (is ∙ same))
-    none_of (suc zero, x, within, is, same) = IsOneOf-other reading_statuses status 11 one refl (sym (is ∙ same))
-    none_of (suc (suc zero), x, within, is, same) = IsOneOf-other reading_statuses status 12 one refl (sym (is ∙ same))
-    none_of (suc (suc (suc k)), x, within, is, same) = omega (arith, within)
 
 pub InputCauses-reading : (files : Option Files) (words : List (List ℕ)) (p : Paths) (status : ℕ) → paths_of words ≡ Some p → IsReadingStatus status → (status ≡ 4 → Any (IsLongFile files) (all_paths p)) → InputCauses files words status
 InputCauses-reading files words p status is_p one long =
@@ -73,6 +67,7 @@ Succeeds-read files words p read text before now is_p is_input carries written =
       sections = c.carries.sections;
       plain = c.carries.plain;
       carried = c.carries.carried;
+      short = c.carries.short;
       written = subst (Appended before now) c.carries.text_is written;
     }
 
@@ -87,6 +82,7 @@ PrefixWritten-read files words p read text before now is_p is_input carries fron
       sections = c.carries.sections;
       plain = c.carries.plain;
       carried = c.carries.carried;
+      short = c.carries.short;
       count = front.0;
       written = subst (λ t. Appended before now (take front.0 t)) c.carries.text_is front.1;
     }
@@ -108,13 +104,17 @@ TextCauses-write input causes =
     refused_not_done (missing_file offset) = refl
     refused_not_done long_function = refl
     refused_not_done long_range = refl
+    refused_not_done (bad_label label) = refl
+    refused_not_done (lacks_memory m) = refl
+    refused_not_done (unmapped_register register) = refl
+    refused_not_done long_jump = refl
 
     LoadedCauses-write : (read : Loaded) → LoadedCauses read 0 → LoadedCauses read 8
     LoadedCauses-write read said = record {
       shared = record { only = λ e. absurd (omega (arith, e)); always = λ some. absurd (IsOneOf-other (3 ∷ 4 ∷ 9 ∷ 21 ∷ []) 0 0 (said.shared.always some) refl refl) };
       address_map = record { only = λ e. absurd (omega (arith, e)); always = λ bad. absurd (IsOneOf-other (3 ∷ 4 ∷ 9 ∷ 13 ∷ 21 ∷ []) 0 0 (said.address_map.always bad) refl refl) };
       refused = record {
-        only = λ one. absurd (IsOneOf-other (10 ∷ 11 ∷ 12 ∷ []) 8 8 one refl refl);
+        only = λ one. absurd (IsOneOf-other refusal_statuses 8 8 one refl refl);
         always = λ r is. absurd (IsOneOf-other (3 ∷ 4 ∷ 9 ∷ 13 ∷ 21 ∷ refusal_status r ∷ []) 0 0 (said.refused.always r is) (refused_not_done r) refl);
       };
       too_large = λ e. absurd (omega (arith, e));

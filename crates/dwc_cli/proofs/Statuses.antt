@@ -1,6 +1,6 @@
 -- Statuses that stand in a list.
 use Rattle.std.proofs.Common.{◌≡◌, ℕ, List, Bool, true, false, refl, sym, ap, ◌∙◌, subst}
-use Rattle.std.specs.Prelude.{◌==◌}
+use Rattle.std.specs.Prelude.{◌==◌, not}
 use Rattle.std.specs.List.{list_any, list_all}
 use Rattle.std.proofs.lemmas.Bool.{true≢false, eqb-true, eq-eqb}
 use Rattle.std.proofs.lemmas.List.Folds.{Any-from_list_any, list_any-from_Any, list_all_at}
@@ -27,3 +27,13 @@ IsOneOf-more fewer more status all h = IsOneOf-from more status (subst (λ s. is
 -- a status that does not stand in a list
 pub IsOneOf-other : (statuses : List ℕ) (status other : ℕ) → IsOneOf statuses status → is_one_of statuses other ≡ false → status ≡ other → ⊥
 IsOneOf-other statuses status other h not_there same = true≢false (sym (is_one_of-from statuses status h) ∙ ap (is_one_of statuses) same ∙ not_there)
+
+-- a status does not stand in two lists that have none in common
+pub IsOneOf-apart : (fewer others : List ℕ) (status : ℕ) → list_all (λ s. not (is_one_of others s)) fewer ≡ true → IsOneOf fewer status → IsOneOf others status → ⊥
+IsOneOf-apart fewer others status apart one other =
+    let there : is_one_of others one.1 ≡ true = ap (is_one_of others) one.4 ∙ is_one_of-from others status other in
+    go (is_one_of others one.1) refl there
+  where
+    go : (b : Bool) → is_one_of others one.1 ≡ b → is_one_of others one.1 ≡ true → ⊥
+    go true e there = true≢false (sym apart ∙ list_all_at (λ s. not (is_one_of others s)) fewer one.0 one.1 one.2 (ap (λ s. not (is_one_of others s)) one.3 ∙ ap not e))
+    go false e there = true≢false (sym there ∙ e)

@@ -72,6 +72,11 @@ pub Refuses-broken : (input : Input) (status : ℕ) → IsBroken input.modules s
 Refuses-broken input status (inl memory) = subst (Refuses input) (sym memory) (Refuses-memory input)
 Refuses-broken input status (inr (is, found)) = subst (Refuses input) (sym is) (Refuses-module input found.0 found.1)
 
+-- the status of modules that are not read
+pub broken-status : (files : List (List ℕ)) (status : ℕ) → IsBroken files status → IsTextStatus status
+broken-status files status (inl memory) = subst IsTextStatus (sym memory) (IsOneOf-from text_statuses 9 refl)
+broken-status files status (inr (is, found)) = subst IsTextStatus (sym is) (IsOneOf-from text_statuses 5 refl)
+
 same_ok : (ws vs : List WasmModule) → ◌≡◌ {A = Result (List WasmModule) ℕ} (Ok ws) (Ok vs) → ws ≡ vs
 same_ok ws vs e = cc
 
@@ -116,6 +121,10 @@ TextCauses-read input read status h one causes = record {
 GivesText-read : (input : Input) (read : Loaded) (status : ℕ) → IsRead input read → GivesReadText read status → GivesText input status
 GivesText-read input read status h gives = λ others is_others. subst (λ r. GivesReadText r status) (same_read read others (sym (is_loaded input read h) ∙ is_others)) gives
 
+-- the status of sections that are not emitted
+pub cause-text_status : (read : Loaded) (status : ℕ) → IsCause read status → IsTextStatus status
+cause-text_status read status cause = IsOneOf-more carrying_statuses text_statuses status refl (cause-status read status cause)
+
 -- no sections are emitted
 pub Refuses-cause : (input : Input) (read : Loaded) (status : ℕ) → IsRead input read → IsCause read status → Refuses input status
 Refuses-cause input read status h cause =
@@ -123,7 +132,7 @@ Refuses-cause input read status h cause =
     let one = cause-status read status cause in
     record {
       causes = TextCauses-read input read status h (IsOneOf-more carrying_statuses (0 ∷ carrying_statuses) status refl one) said.causes;
-      one_of = IsOneOf-more carrying_statuses text_statuses status refl one;
+      one_of = cause-text_status read status cause;
       complete = GivesText-read input read status h said.complete;
     }
 

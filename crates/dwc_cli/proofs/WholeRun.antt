@@ -1,17 +1,24 @@
 -- The small module from its bytes and its map's bytes to the printed text.
-use Rattle.std.proofs.Common.{◌≡◌, ℕ, zero, suc, arith, List, [], ◌∷◌, map, Some, None, Option, refl}
-use Rattle.std.specs.Prelude.{All}
+use Rattle.std.proofs.Common.{◌≡◌, ℕ, zero, suc, arith, List, [], ◌∷◌, ◌++◌, get_or, map, Some, None, Option, false, inl, inr, refl, subst, sym, ◌∙◌, true≢false}
+use Rattle.std.specs.Prelude.{All, Contains}
 use Rattle.dwc_base.proofs.OnLiterals.{files_on_literals}
 use Rattle.dwc_base.proofs.DraftsOnLiterals.{drafts_on_literals}
 use Rattle.dwc_base.proofs.SmallModule.{file_small}
 use Rattle.dwc_base.proofs.LineTables.{function_small, segments_small}
-use Rattle.dwc_base.proofs.CarriedSmall.{unit_small, unit_out, image_small, output-read, images-read, image-small}
+use Rattle.dwc_base.proofs.CarriedSmall.{module_small, unit_small, unit_out, image_small, output-read, images-read, image-small}
 use Rattle.dwc_base.specs.declared.section_name.SectionName.TheVariants.{Abbrev, Info, Line}
 use Rattle.dwc_base.specs.Functions.{Function}
-use Rattle.dwc_base.specs.Carried.{Unit, units}
-use Rattle.dwc_base.specs.Forests.{carried_units, first_refusal}
+use Rattle.dwc_base.specs.Carried.{Unit, Module, units}
+use Rattle.dwc_base.specs.Entries.{Entry}
+use Rattle.dwc_base.specs.Forests.{carried_units, drafts_of, first_refusal}
 use Rattle.dwc_base.specs.LinesCarried.{LinesCarried}
+use Rattle.dwc_base.specs.LocationRules.{ExpressionSource}
+use Rattle.dwc_base.specs.LocationsCarried.{CarriesLocations, LocationsCarried, expressions_of}
 use Rattle.dwc_base.specs.Refusals.{Refusal, missing_file}
+use Rattle.dwc_base.specs.Trees.{TreeEntry}
+use Rattle.dwc_base.specs.Values.{Value, is_location_name}
+use Rattle.dwc_base.proofs.ForestLaws.{Each}
+use Rattle.dwc_base.proofs.InLists.{IsIn, contains-in}
 use Rattle.dwc_base.specs.OutputCarried.{OutputCarried, widest}
 use Rattle.dwc_base.proofs.TreesSmall.{tree_small, carries-small as trees_carried-small}
 use Rattle.dwc_base.proofs.OutputSmall.{form-small, names-small, targets-small, scopes-small, texts-small}
@@ -85,6 +92,33 @@ lines_carried-small = record {
   each = (record { images = image_small ∷ []; images_read = images-read; carried = record { input = segments_small; input_read = refl; each = ((function_small, refl, image-small), tt) } }, tt);
 }
 
+-- none of the attributes of the small module has the name of a location
+none-named : {A : Type 0} (P : A → Type 0) (before after as' : List A) (a : A) → Each P as' → as' ≡ before ++ a ∷ after → P a
+none-named P [] after as' a each are = (subst (Each P) are each).0
+none-named P (b ∷ before) after as' a each are = none-named P before after (before ++ a ∷ after) a (subst (Each P) are each).1 refl
+
+Unnamed : ℕ × Value → Type 0
+Unnamed a = is_location_name a.0 ≡ false
+
+carries-no_location : (c : ExpressionSource) (e : Entry) (out : TreeEntry) → Contains unit_small.entries e → CarriesLocations c (record { unit = unit_small.header.offset; entry = e }) out
+unfolding Unnamed
+carries-no_location c e out among = λ before after a plain are named last. absurd (true≢false (sym named ∙ none-named Unnamed before after e.attributes a (here e (contains-in unit_small.entries e among)) are))
+  where
+    here : (e : Entry) → IsIn e unit_small.entries → Each Unnamed e.attributes
+    here e (inl same) = rw same (refl, tt)
+    here e (inr (inl same)) = rw same (refl, (refl, tt))
+    here e (inr (inr none)) = absurd none
+
+abbrev said_at : ℕ → TreeEntry
+said_at place = get_or tree_small place (record { depth = 0; tag = 0; attributes = [] })
+
+locations-small : LocationsCarried (drafts_of false) (carried_units (compilation_of read_small)) (tree_small ∷ [])
+unfolding whole_on_literals
+locations-small =
+    let m : Module = get_or (compilation_of read_small).modules 0 module_small in
+    let c : ExpressionSource = expressions_of (record { module_of = m; unit = unit_small }) in
+    (((λ e among made. carries-no_location c e (said_at 0) among), ((λ e among made. carries-no_location c e (said_at 1) among), tt)), tt)
+
 -- the wanted output carries the whole small input
 pub output_carried-small : OutputCarried (compilation_of read_small) output_small
 unfolding whole_on_literals
@@ -95,6 +129,7 @@ output_carried-small = record {
   trees = trees_carried-small;
   targets = targets-small;
   scopes = scopes-small;
+  locations = locations-small;
   texts = texts-small;
   form = form-small;
   names = names-small;
@@ -104,4 +139,4 @@ output_carried-small = record {
 -- the text of the wanted output is an answer with status 0
 pub carries-small : Carries input_small (Some []) (Some (printed output_small))
 unfolding whole_on_literals
-carries-small = record { read = read_small; is_read = refl; accepted = refl; sections = output_small; plain = refl; carried = output_carried-small; written = refl }
+carries-small = record { read = read_small; is_read = refl; accepted = refl; sections = output_small; plain = refl; carried = output_carried-small; short = refl; written = refl }

@@ -1,24 +1,24 @@
 -- What the parts of a run say of its input and its status.
-use Rattle.std.specs.Prelude.{◌≡◌, ◌^◌, ◌≤◌, ◌⊎◌, ℕ, List, [], ◌∷◌, map, true, Option, Some, None, Result, Ok, Err, All, Any, Vec}
+use Rattle.std.specs.Prelude.{◌≡◌, ◌⊎◌, ℕ, List, [], ◌∷◌, map, true, Option, Some, None, Result, Ok, Err, All, Any, Vec}
 use Rattle.std.specs.Global.{Global}
 use Rattle.std.specs.List.{list_all, AllZip}
 use Rattle.dwc_base.specs.declared.output.DwarfSection.{DwarfSection}
-use Rattle.dwc_base.specs.declared.section_name.SectionName.{SectionName}
 use Rattle.dwc_base.specs.declared.wasm.ModuleTranslation.{ModuleTranslation}
 use Rattle.dwc_base.specs.Outputs.{OutputSection, section_view}
 use Rattle.dwc_base.specs.Refusals.{Refusal}
-use Rattle.dwc_base.specs.Forests.{first_refusal}
-use Rattle.dwc_base.specs.OutputCarried.{OutputCarried, widest}
+use Rattle.dwc_base.specs.Forests.{first_refusal, trees_made}
+use Rattle.dwc_base.specs.OutputCarried.{OutputCarried}
+use Rattle.dwc_base.specs.TreeLaws.{have_short_expressions}
 use Rattle.dwc_base.specs.Wasm.{WasmModule}
 use Rattle.dwc_base.specs.Translations.{IsTranslation}
 use Rattle.dwc_write.specs.Writers.{IsSound}
 use Rattle.dwc_cli.specs.declared.failure.Failure.{Failure}
 use Rattle.dwc_cli.specs.declared.map_file.MapFile.{MapFile}
 use Rattle.dwc_cli.specs.declared.input_files.InputFiles.{InputFiles}
-use Rattle.dwc_cli.specs.MapViews.{map_file_view}
+use Rattle.dwc_cli.specs.MapViews.{IsJsonOf, map_file_view}
 use Rattle.dwc_cli.specs.Inputs.{Paths, all_paths, Input, all_files, wasm_modules, Loaded, loaded, compilation_of, shared_in, BadMap, bad_map}
 use Rattle.dwc_cli.specs.Printed.{printed, is_plain, is_line}
-use Rattle.dwc_cli.specs.RunStatus.{Files, Rose, Appended, IsOneOf, WasmCause, MapCause, refusal_status, LoadedCauses, IsValid}
+use Rattle.dwc_cli.specs.RunStatus.{Files, Rose, Appended, IsOneOf, WasmCause, MapCause, refusal_status, PassesLimit, LoadedCauses, IsValid}
 use Rattle.dwc_cli.specs.Edge.{IsReadFile}
 use Rattle.dwc_cli.specs.Failures.{failure_status, usage_message, fault_message, length_message, write_message, failure_message, line_of}
 
@@ -32,8 +32,10 @@ abbrev pub message_of : {T : Type 0} → Result T Failure → List ℕ
 message_of (Ok x) = []
 message_of (Err failure) = failure_message failure
 
-abbrev pub input_view : InputFiles → Input
-input_view files = record { map_bytes = files.map.items; modules = map (λ m. m.items) files.modules.items }
+-- what is held of the files of an input: the JSON value of its map's bytes, if they are one, and the bytes of its modules
+pub record IsInputOf (files : InputFiles) (input : Input) : Type 0 where
+  pub json : IsJsonOf input.map_bytes files.json
+  pub modules : map (λ m. m.items) files.modules.items ≡ input.modules
 
 -- where the files are told, these are the bytes of those that the words name, and none is too long
 abbrev pub IsInput : Option Files → Paths → Input → Type 0
@@ -60,20 +62,20 @@ first_status None (Some found) refusal = Some 13
 first_status None None (Some r) = Some (refusal_status r)
 first_status None None None = None
 
--- what hinders the lines of an input from being carried, by its status; the size of a section apart
+-- what hinders the lines of an input from being carried, by its status; limits of what is made apart
 abbrev pub hindrance : Loaded → Option ℕ
 hindrance read = first_status (shared_in read) (bad_map read) (first_refusal (compilation_of read))
 
--- sound sections that carry the lines of an input, which nothing hinders
+-- sound sections that carry an input, which nothing hinders, and of which no expression of a location list is too long
 pub record IsEmitted (read : Loaded) (sections : List OutputSection) : Type 0 where
   pub unhindered : hindrance read ≡ None
   pub carried : OutputCarried (compilation_of read) sections
+  pub short : have_short_expressions (trees_made (compilation_of read)) ≡ true
   pub sound : All (IsSound (compilation_of read).order) sections
 
--- why no sections are emitted, by the status: for want of memory, by a hindrance, or for a section that could be too long
+-- why no sections are emitted, by the status: for want of memory, by a hindrance, or for a limit that is passed
 abbrev pub IsCause : Loaded → ℕ → Type 0
-IsCause read status =
-    (status ≡ 9) ⊎ ((hindrance read ≡ Some status) ⊎ ((status ≡ 20) × (hindrance read ≡ None) × ((name : SectionName) × (2 ^ 31 ≤ widest name (compilation_of read)))))
+IsCause read status = (status ≡ 9) ⊎ ((hindrance read ≡ Some status) ⊎ ((status ≡ 20) × (hindrance read ≡ None) × PassesLimit (compilation_of read)))
 
 -- the sections of what was read, or the cause of a refusal
 abbrev pub Emits : Loaded → Result (Vec DwarfSection Global) Failure → Type 0
@@ -86,6 +88,7 @@ pub record CarriesRead (read : Loaded) (text : List ℕ) : Type 0 where
   pub sections : List OutputSection
   pub plain : list_all is_plain sections ≡ true
   pub carried : OutputCarried (compilation_of read) sections
+  pub short : have_short_expressions (trees_made (compilation_of read)) ≡ true
   pub text_is : text ≡ printed sections
 
 -- the text of an input
@@ -99,7 +102,7 @@ abbrev pub reading_statuses : List ℕ
 reading_statuses = 3 ∷ 4 ∷ 9 ∷ []
 
 abbrev pub text_statuses : List ℕ
-text_statuses = 5 ∷ 6 ∷ 9 ∷ 10 ∷ 11 ∷ 12 ∷ 13 ∷ 20 ∷ 21 ∷ []
+text_statuses = 5 ∷ 6 ∷ 9 ∷ 10 ∷ 11 ∷ 12 ∷ 13 ∷ 14 ∷ 15 ∷ 16 ∷ 20 ∷ 21 ∷ []
 
 abbrev pub IsReadingStatus : ℕ → Type 0
 IsReadingStatus status = IsOneOf reading_statuses status

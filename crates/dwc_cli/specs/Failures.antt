@@ -27,6 +27,9 @@ status_code statuses.Read = 10
 status_code statuses.Unsupported = 11
 status_code statuses.InvalidFileIndex = 12
 status_code statuses.BadAddressMap = 13
+status_code statuses.BadLabelRange = 14
+status_code statuses.InvalidAttributeValue = 15
+status_code statuses.UnmappedRegister = 16
 status_code statuses.TooLarge = 20
 status_code statuses.SharedSymbol = 21
 

@@ -1,15 +1,18 @@
 -- What the words and the files of a run stand for.
 use Rattle.std.specs.Prelude.{ℕ, suc, ◌+◌, ◌==◌, List, [], ◌∷◌, map, length, Bool, false, not, if◌then◌else◌, Option, Some, None, option_map, Result, Ok, Err}
-use Rattle.std.specs.Option.{option_or}
+use Rattle.std.specs.Option.{option_or, unwrap_or}
+use Rattle.std.specs.FinMap as finite
 use Rattle.std.specs.Result.{result_ok}
 use Rattle.std.specs.List.{list_all, flat_map}
 use Rattle.dwc_base.specs.declared.records.Endian.TheVariants.{Little, Big}
 use Rattle.dwc_base.specs.declared.records.MapFault.{MapFault}
 use Rattle.dwc_base.specs.Wasm.{WasmModule, wasm_module, module_sections}
-use Rattle.dwc_base.specs.Functions.{AddressMap, map_fault, functions_of}
+use Rattle.dwc_base.specs.Functions.{map_fault, functions_of}
+use Rattle.dwc_base.specs.Compiled.{LabelRange, ToldModule, values_from}
 use Rattle.dwc_base.specs.Carried.{Module, Compilation}
 use Rattle.dwc_base.specs.SharedSymbols.{shared_symbol}
-use Rattle.dwc_cli.specs.MapFile.{◌>>=◌, MapFile, MapModule, map_of_bytes}
+use Rattle.dwc_clif.specs.Registers.{Registers}
+use Rattle.dwc_cli.specs.MapFile.{◌>>=◌, MapFile, MapFunction, MapModule, map_of_bytes}
 
 -- the words of a run: the path of the map, and those of the modules, one at least
 pub record Paths : Type 0 where
@@ -55,17 +58,31 @@ wasm_modules (bytes ∷ files) = with_module (wasm_module bytes) (wasm_modules f
 abbrev pub defined_counts : List WasmModule → List ℕ
 defined_counts ws = map (λ w. w.defined) ws
 
--- the modules of a compilation: the sections of a file, and the functions of the map, numbered over all modules
-abbrev pub modules_of : ℕ → List WasmModule → List MapModule → List Module
-modules_of number [] ms = []
-modules_of number (w ∷ ws) [] = []
-modules_of number (w ∷ ws) (m ∷ ms) =
-    record { sections = module_sections w; functions = functions_of w.code_offset number m.functions; compressed = w.compressed }
-    ∷ modules_of (number + length m.functions) ws ms
+-- where the values of a function lie; a label that is not there has no ranges
+abbrev pub ranges_of : MapFunction → ℕ → List LabelRange
+ranges_of f label = unwrap_or (finite.get f.labels label) []
+
+-- what is told of the module at a place, of whose functions the first has a number, for a target that numbers registers
+abbrev pub told_of : Registers → ℕ → ℕ → MapModule → ToldModule
+told_of registers place number m = record { place = place; values = values_from number (map ranges_of m.functions); memory = m.memory; register = λ r. finite.get registers r }
+
+-- the modules of a compilation from a place on: the sections of a file, the functions of the map, numbered over all modules, and what
+-- the map tells beside them
+abbrev pub modules_of : Registers → ℕ → ℕ → List WasmModule → List MapModule → List Module
+modules_of registers place number [] ms = []
+modules_of registers place number (w ∷ ws) [] = []
+modules_of registers place number (w ∷ ws) (m ∷ ms) =
+    record {
+      sections = module_sections w;
+      functions = functions_of w.code_offset number (map (λ f. f.address_map) m.functions);
+      told = told_of registers place number m;
+      compressed = w.compressed;
+    }
+    ∷ modules_of registers (suc place) (number + length m.functions) ws ms
 
 -- the compilation of a map and modules
 abbrev pub compilation : MapFile → List WasmModule → Compilation
-compilation m ws = record { order = if m.target.big_endian then Big else Little; pointer_bytes = m.target.pointer_bytes; modules = modules_of 0 ws m.modules }
+compilation m ws = record { order = if m.target.big_endian then Big else Little; pointer_bytes = m.target.pointer_bytes; modules = modules_of m.target.registers 0 0 ws m.modules }
 
 -- what was read of an input: its modules, and its map
 pub record Loaded : Type 0 where
@@ -85,7 +102,7 @@ compilation_of l = compilation l.map_file l.wasm
 
 -- the symbols of all functions by their numbers
 abbrev pub symbols_of : Loaded → List (Option ℕ)
-symbols_of l = flat_map (λ m. map (λ f. f.symbol) m.functions) l.map_file.modules
+symbols_of l = flat_map (λ m. map (λ f. f.address_map.symbol) m.functions) l.map_file.modules
 
 -- two functions of an input that have one symbol, by their numbers: the first whose symbol came before, behind where it came
 abbrev pub shared_in : Loaded → Option (ℕ × ℕ)
@@ -98,10 +115,10 @@ pub record BadMap : Type 0 where
   pub rule : MapFault
 
 -- the first map of a module's functions that breaks a rule; the second place is that of the first function
-abbrev pub bad_function : ℕ → ℕ → ℕ → List AddressMap → Option BadMap
+abbrev pub bad_function : ℕ → ℕ → ℕ → List MapFunction → Option BadMap
 bad_function module_place code_offset place [] = None
-bad_function module_place code_offset place (m ∷ ms) =
-    option_or (option_map (λ rule. record { module_place = module_place; function_place = place; rule = rule }) (map_fault code_offset m)) (bad_function module_place code_offset (suc place) ms)
+bad_function module_place code_offset place (f ∷ fs) =
+    option_or (option_map (λ rule. record { module_place = module_place; function_place = place; rule = rule }) (map_fault code_offset f.address_map)) (bad_function module_place code_offset (suc place) fs)
 
 -- the first map that breaks a rule, module by module; the place is that of the first module
 abbrev pub bad_module : ℕ → List WasmModule → List MapModule → Option BadMap

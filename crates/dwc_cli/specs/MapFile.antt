@@ -1,15 +1,21 @@
 -- The value of a map file, from the JSON that it holds. It has none where a required field is missing, a number is a
 -- float or out of its range, or anything is of the wrong kind; unknown fields are passed over.
-use Rattle.std.specs.Prelude.{◌≡◌, ◌⊎◌, ℕ, ◌-◌, ◌^◌, ◌==◌, List, [], ◌∷◌, length, Bool, true, false, nat_lt, not, ◌&&◌, if◌then◌else◌, Option, Some, None, option_map, codes, sum_by}
+use Rattle.std.specs.Prelude.{◌≡◌, ◌⊎◌, ℕ, ◌-◌, ◌^◌, ◌==◌, ℤ, pos, ◌-ℤ◌, int_le, List, [], ◌∷◌, length, Bool, true, false, nat_lt, not, ◌&&◌, if◌then◌else◌, Option, Some, None, option_map, codes, sum_by}
+use Rattle.std.specs.Ordering.{nat_cmp}
+use Rattle.std.specs.FinMap as finite
 use Rattle.std.specs.List.{list_any}
 use Rattle.std.specs.Str.{bytes_eq, is_utf8}
-use Rattle.serde_json.specs.Data.{unsigned, Data, null, boolean, number, string, array, object, Items, no_items, item, Members}
+use Rattle.serde_json.specs.Data.{unsigned, negative, Data, null, boolean, number, string, array, object, Items, no_items, item, Members}
 use Rattle.serde_json.specs.Find.{get_member}
 use Rattle.serde_json.specs.Read.{read}
 use Rattle.dwc_base.specs.Reading.{coded}
 use Rattle.dwc_base.specs.Functions.{AddressMap}
+use Rattle.dwc_base.specs.Compiled as told
+use Rattle.dwc_base.specs.Compiled.{Place, in_register, at_frame_offset, LabelRange, Memory, no_memory}
 use Rattle.dwc_clif.specs.declared.architecture.Architecture.{Architecture}
 use Rattle.dwc_clif.specs.declared.architecture.Architecture.TheVariants.{X86_64, Aarch64, S390x, Riscv64, Pulley}
+use Rattle.dwc_clif.specs.Registers.{Registers}
+use Rattle.dwc_clif.specs.ValueLabels.{LabelledRanges}
 
 -- one value behind another, none where the first is none
 infixl 10 ◌>>=◌
@@ -22,15 +28,22 @@ abbrev pub only_if : {A : Type 0} → Bool → A → Option A
 only_if true x = Some x
 only_if false x = None
 
--- the target that the code was compiled for
+-- the target that the code was compiled for, with DWARF's numbers of its registers
 pub record Target : Type 0 where
   pub architecture : Architecture
   pub big_endian : Bool
   pub pointer_bytes : ℕ
+  pub registers : Registers
 
--- a module of the map: its functions' address maps
+-- a function of the map: its address map, and where the values of its labels lie
+pub record MapFunction : Type 0 where
+  pub address_map : AddressMap
+  pub labels : LabelledRanges
+
+-- a module of the map: its functions, and its linear memory
 pub record MapModule : Type 0 where
-  pub functions : List AddressMap
+  pub functions : List MapFunction
+  pub memory : Memory
 
 -- the value of a map: the target, the names of two symbols, and the modules
 pub record MapFile : Type 0 where
@@ -49,6 +62,12 @@ number_below limit _ = None
 -- a number below 2 ^ 32
 abbrev pub u32_of : Data → Option ℕ
 u32_of d = number_below (2 ^ 32) d
+
+-- a whole number of 64 bits with a sign
+abbrev pub i64_of : Data → Option ℤ
+i64_of (number (unsigned n)) = only_if (nat_lt n (2 ^ 63)) (pos n)
+i64_of (number (negative z)) = only_if (int_le (pos 0 -ℤ pos (2 ^ 63)) z) z
+i64_of _ = None
 
 -- a number, or null for none
 abbrev pub nullable : {A : Type 0} → (Data → Option A) → Data → Option (Option A)
@@ -90,6 +109,33 @@ pair_of first second (array (item d (item e no_items))) = do
   Some (x, y)
 pair_of first second _ = None
 
+-- the items of a list of four
+abbrev pub four_of : Data → Option (Data × Data × Data × Data)
+four_of (array (item d (item e (item f (item g no_items))))) = Some (d, e, f, g)
+four_of _ = None
+
+-- whether a number is the first of some pair
+abbrev pub has_key : {X : Type 0} → List (ℕ × X) → ℕ → Bool
+has_key rows key = list_any (λ r. key == r.0) rows
+
+-- whether no two of some pairs have one first number
+abbrev pub have_distinct_keys : {X : Type 0} → List (ℕ × X) → Bool
+have_distinct_keys [] = true
+have_distinct_keys (row ∷ rows) = not (has_key rows row.0) && have_distinct_keys rows
+
+-- the finite map of some pairs, whose first numbers are distinct
+abbrev pub table_by : {X : Type 0} → List (ℕ × X) → Option (finite.FinMap nat_cmp X)
+table_by rows = only_if (have_distinct_keys rows) (finite.from_entries rows)
+
+-- the finite map of items that are pairs of a number below 2 ^ 32 and a value of a kind
+abbrev pub table_in : {X : Type 0} → (Data → Option X) → Items → Option (finite.FinMap nat_cmp X)
+table_in kind ds = all_items (pair_of u32_of kind) ds >>= table_by
+
+-- a table by numbers below 2 ^ 32
+abbrev pub table_of : {X : Type 0} → (Data → Option X) → Data → Option (finite.FinMap nat_cmp X)
+table_of kind (array ds) = table_in kind ds
+table_of kind _ = None
+
 -- the members of an object
 abbrev pub members_of : Data → Option Members
 members_of (object ms) = Some ms
@@ -127,6 +173,14 @@ architecture_of d = text_of d >>= named_in architectures
 abbrev pub pointer_bytes_of : Data → Option ℕ
 pointer_bytes_of d = number_below 9 d >>= λ n. coded ((4, 4) ∷ (8, 8) ∷ []) n
 
+-- a number below 2 ^ 16
+abbrev pub u16_of : Data → Option ℕ
+u16_of d = number_below (2 ^ 16) d
+
+-- DWARF's numbers of registers
+unfoldable pub register_numbers_of : Data → Option Registers
+register_numbers_of d = table_of u16_of d
+
 -- the target
 unfoldable pub target_of : Data → Option Target
 target_of d = do
@@ -134,11 +188,33 @@ target_of d = do
   architecture ← required (codes "arch") architecture_of ms
   big_endian ← with_default (codes "big_endian") false truth_of ms
   pointer_bytes ← with_default (codes "pointer_bytes") 8 pointer_bytes_of ms
-  Some (record { architecture = architecture; big_endian = big_endian; pointer_bytes = pointer_bytes })
+  registers ← with_default (codes "registers") finite.empty register_numbers_of ms
+  Some (record { architecture = architecture; big_endian = big_endian; pointer_bytes = pointer_bytes; registers = registers })
 
--- a function with its address map
-unfoldable pub address_map_of : Data → Option AddressMap
-address_map_of d = do
+-- the kinds of places by their names
+abbrev pub places : List (List ℕ × (Data → Option Place))
+places = (codes "reg", λ d. option_map in_register (u32_of d)) ∷ (codes "cfa", λ d. option_map at_frame_offset (i64_of d)) ∷ []
+
+-- a place: in a register of the code generator, or at an offset from the canonical frame address
+abbrev pub place_of : Data → Data → Option Place
+place_of name d = text_of name >>= named_in places >>= λ kind. kind d
+
+-- where a value lies: from a native offset up to another, at a place
+unfoldable pub label_range_of : Data → Option LabelRange
+label_range_of d = do
+  parts ← four_of d
+  start ← u32_of parts.0
+  end ← u32_of parts.1
+  place ← place_of parts.2 parts.3
+  Some (record { place = place; start = start; end = end })
+
+-- the ranges of each label
+unfoldable pub labels_of : Data → Option LabelledRanges
+labels_of d = table_of (list_of label_range_of) d
+
+-- a function with its address map and its labels
+unfoldable pub map_function_of : Data → Option MapFunction
+map_function_of d = do
   ms ← members_of d
   symbol ← required (codes "symbol") (nullable u32_of) ms
   start ← required (codes "start") source_of ms
@@ -146,14 +222,34 @@ address_map_of d = do
   body_offset ← with_default (codes "body_offset") 0 u32_of ms
   body_len ← required (codes "body_len") u32_of ms
   entries ← required (codes "map") (list_of (pair_of u32_of source_of)) ms
-  Some (record { symbol = symbol; start = start; end = end; body_offset = body_offset; body_len = body_len; entries = entries })
+  labels ← with_default (codes "labels") finite.empty labels_of ms
+  Some (record {
+    address_map = record { symbol = symbol; start = start; end = end; body_offset = body_offset; body_len = body_len; entries = entries };
+    labels = labels;
+  })
 
--- a module with its functions
+-- the memory of another module, by two offsets
+abbrev pub imported_of : Data → Option Memory
+imported_of d = option_map (λ offsets. told.imported offsets.0 offsets.1) (pair_of u32_of u32_of d)
+
+-- a memory by the two fields, of which one is told
+abbrev pub memory_by : Option Data → Option Data → Option Memory
+memory_by (Some d) None = option_map told.defined (u32_of d)
+memory_by None (Some d) = imported_of d
+memory_by _ _ = None
+
+-- a memory, none where it is null
+unfoldable pub memory_of : Data → Option Memory
+memory_of null = Some no_memory
+memory_of d = members_of d >>= λ ms. memory_by (get_member (codes "defined") ms) (get_member (codes "imported") ms)
+
+-- a module with its functions and its memory
 unfoldable pub map_module_of : Data → Option MapModule
 map_module_of d = do
   ms ← members_of d
-  functions ← required (codes "functions") (list_of address_map_of) ms
-  Some (record { functions = functions })
+  functions ← required (codes "functions") (list_of map_function_of) ms
+  memory ← with_default (codes "memory") no_memory memory_of ms
+  Some (record { functions = functions; memory = memory })
 
 -- whether each module has as many functions as are defined in it
 abbrev pub have_counts : List ℕ → List MapModule → Bool

@@ -1,38 +1,70 @@
 -- The program's own map file, seen as the value of a map.
-use Rattle.std.specs.Prelude.{◌≡◌, ℕ, List, map, string_bytes, Option, Some, option_map}
-use Rattle.serde_json.specs.View.{items_view}
+use Rattle.std.specs.Prelude.{◌≡◌, ℕ, List, map, string_bytes, Option, Some, option_map, option_and_then, Vec}
+use Rattle.std.specs.Global.{Global}
+use Rattle.std.specs.FinMap as finite
+use Rattle.serde_json.specs.declared.value.Value.{Value}
+use Rattle.serde_json.specs.View.{view, items_view}
 use Rattle.dwc_base.specs.declared.records.SymbolId.{SymbolId}
-use Rattle.dwc_base.specs.Functions.{AddressMap}
+use Rattle.dwc_base.specs.Compiled.{LabelRange}
 use Rattle.dwc_clif.specs.declared.metadata.CompiledFunctionMetadata.{CompiledFunctionMetadata}
+use Rattle.dwc_clif.specs.declared.value_label.ValueLabel.{ValueLabel}
+use Rattle.dwc_clif.specs.declared.value_label.ValueLocRange.{ValueLocRange}
+use Rattle.dwc_clif.specs.ValueLabels.{range_view}
 use Rattle.dwc_clif.specs.AddressMaps.{address_map_view}
+use Rattle.dwc_clif.specs.Registers.{registers_of}
+use Rattle.dwc_expr.specs.Frames.{memory_view}
 use Rattle.dwc_cli.specs.MapFile as value
 use Rattle.dwc_cli.specs.MapFile.{◌>>=◌}
 use Rattle.dwc_cli.specs.declared.map_file.FunctionFields.{FunctionFields}
+use Rattle.dwc_cli.specs.declared.map_file.TargetFields.{TargetFields}
 use Rattle.dwc_cli.specs.declared.map_file.Target.{Target}
 use Rattle.dwc_cli.specs.declared.map_file.Names.{Names}
 use Rattle.dwc_cli.specs.declared.map_file.MapModule.{MapModule}
 use Rattle.dwc_cli.specs.declared.map_file.MapFile.{MapFile}
 
 abbrev pub target_view : Target → value.Target
-target_view t = record { architecture = t.arch; big_endian = t.big_endian; pointer_bytes = t.pointer_bytes }
+target_view t = record { architecture = t.arch; big_endian = t.big_endian; pointer_bytes = t.pointer_bytes; registers = registers_of t.registers.items }
+
+-- a target from its fields, whose registers are still a value; none where this is no table of registers
+abbrev pub target_with : TargetFields → Option value.Target
+target_with f = value.value_or finite.empty value.register_numbers_of (option_map (λ v. view v.now) f.registers) >>= λ registers. Some (record {
+  architecture = f.arch;
+  big_endian = f.big_endian;
+  pointer_bytes = f.pointer_bytes;
+  registers = registers;
+})
 
 -- the names of a map: of the function that sets the memory, and of the one that resolves an address in it
 abbrev pub names_view : Names → List ℕ × List ℕ
 names_view n = (string_bytes n.set, string_bytes n.resolve)
 
--- the address map of a function from its fields, whose entries are still values; none where these are no entries
-abbrev pub address_map_with : FunctionFields → Option AddressMap
-address_map_with f = value.all_items (value.pair_of value.u32_of value.source_of) (items_view f.entries.now) >>= λ entries. Some (record {
-  symbol = option_map (λ s. s.0) f.symbol;
-  start = f.start.offset;
-  end = f.end.offset;
-  body_offset = f.body_offset;
-  body_len = f.body_len;
-  entries = entries;
-})
+-- a label with its ranges
+abbrev pub label_view : ValueLabel × Vec ValueLocRange Global → ℕ × List LabelRange
+label_view l = ((l.0).0, map range_view (l.1).items)
+
+-- a function from its fields, whose entries and labels are still values; none where these are no entries or no labels
+abbrev pub function_with : FunctionFields → Option value.MapFunction
+function_with f =
+    value.all_items (value.pair_of value.u32_of value.source_of) (items_view f.entries.now)
+    >>= λ entries. value.value_or finite.empty value.labels_of (option_map (λ v. view v.now) f.labels)
+    >>= λ labels. Some (record {
+      address_map = record {
+        symbol = option_map (λ s. s.0) f.symbol;
+        start = f.start.offset;
+        end = f.end.offset;
+        body_offset = f.body_offset;
+        body_len = f.body_len;
+        entries = entries;
+      };
+      labels = labels;
+    })
+
+-- a function that has a symbol or none
+abbrev pub function_view : Option SymbolId × CompiledFunctionMetadata → value.MapFunction
+function_view f = record { address_map = address_map_view f; labels = (f.1).value_labels_ranges }
 
 abbrev pub module_view : MapModule → value.MapModule
-module_view m = record { functions = map address_map_view m.functions.items }
+module_view m = record { functions = map function_view m.functions.items; memory = memory_view m.memory }
 
 -- the sources of a function's begin and end, as its record tells them beside its address map, and as the address map does
 abbrev pub told_sources : Option SymbolId × CompiledFunctionMetadata → Option ℕ × Option ℕ
@@ -48,6 +80,10 @@ HaveOneSource functions = map told_sources functions ≡ map mapped_sources func
 -- the same of the functions of some modules
 abbrev pub ModulesHaveOneSource : List MapModule → Type 0
 ModulesHaveOneSource modules = map (λ m. map told_sources m.functions.items) modules ≡ map (λ m. map mapped_sources m.functions.items) modules
+
+-- A JSON value, if there is one, is that of some bytes: it is the map that they are, for any modules.
+abbrev pub IsJsonOf : List ℕ → Option Value → Type 0
+IsJsonOf bytes json = (defined : List ℕ) → option_and_then (λ v. value.map_value defined (view v)) json ≡ value.map_of_bytes defined bytes
 
 abbrev pub map_file_view : MapFile → value.MapFile
 map_file_view m = record {

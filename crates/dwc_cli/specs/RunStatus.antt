@@ -1,5 +1,5 @@
 -- What each status of a run says. Want of memory, status 9, may come at any time.
-use Rattle.std.specs.Prelude.{length, ◌≡◌, ◌⊎◌, ℕ, ◌+◌, ◌-◌, ◌^◌, ◌<◌, ◌≤◌, min, List, [], ◌∷◌, ◌++◌, take, true, Option, Some, None, option_map, IsSome, IsNone, IfSome, Ok, Err, All, Any}
+use Rattle.std.specs.Prelude.{length, ◌≡◌, ◌⊎◌, ℕ, ◌+◌, ◌-◌, ◌^◌, ◌<◌, ◌≤◌, min, List, [], ◌∷◌, ◌++◌, take, true, false, Option, Some, None, option_map, IsSome, IsNone, IfSome, Ok, Err, All, Any}
 use Rattle.std.specs.Ordering.{nat_cmp}
 use Rattle.std.specs.Cmp.Lexicographic.{slice_cmp}
 use Rattle.std.specs.FinMap as map
@@ -8,9 +8,11 @@ use Rattle.dwc_base.specs.declared.section_name.SectionName.{SectionName}
 use Rattle.dwc_base.specs.Sections.{unreadable, unsupported}
 use Rattle.dwc_base.specs.Wasm.{WasmModule}
 use Rattle.dwc_base.specs.Outputs.{OutputSection}
-use Rattle.dwc_base.specs.Refusals.{Refusal, of_place, missing_file, long_function, long_range}
-use Rattle.dwc_base.specs.Forests.{first_refusal}
+use Rattle.dwc_base.specs.Refusals.{Refusal, of_place, missing_file, long_function, long_range, bad_label, lacks_memory, unmapped_register, long_jump}
+use Rattle.dwc_base.specs.Carried.{Compilation}
+use Rattle.dwc_base.specs.Forests.{first_refusal, trees_made}
 use Rattle.dwc_base.specs.OutputCarried.{OutputCarried, widest}
+use Rattle.dwc_base.specs.TreeLaws.{have_short_expressions}
 use Rattle.dwc_cli.specs.MapFile.{map_of_bytes}
 use Rattle.dwc_cli.specs.Inputs.{Paths, paths_of, all_paths, Input, all_files, wasm_modules, defined_counts, Loaded, loaded, compilation_of, shared_in, bad_map}
 use Rattle.dwc_cli.specs.Printed.{printed, is_plain}
@@ -35,7 +37,8 @@ pub record Names (files : Option Files) (words : List (List ℕ)) (input : Input
 abbrev pub Appended : Option (List ℕ) → Option (List ℕ) → List ℕ → Type 0
 Appended before now text = IfSome before (λ w. now ≡ Some (w ++ text))
 
--- 0: Nothing that is read is refused, and the printed sections carry the lines of the input that the words name.
+-- 0: Nothing that is read is refused, the printed sections carry the input that the words name, and no expression of a location list is too
+-- long.
 pub record Carries (input : Input) (before now : Option (List ℕ)) : Type 0 where
   pub read : Loaded
   pub is_read : loaded input ≡ Some read
@@ -43,6 +46,7 @@ pub record Carries (input : Input) (before now : Option (List ℕ)) : Type 0 whe
   pub sections : List OutputSection
   pub plain : list_all is_plain sections ≡ true
   pub carried : OutputCarried (compilation_of read) sections
+  pub short : have_short_expressions (trees_made (compilation_of read)) ≡ true
   pub written : Appended before now (printed sections)
 
 -- a run that answers 0, of whatever input the words name
@@ -97,7 +101,7 @@ pub record MapCause (input : Input) (status : ℕ) : Type 0 where
   pub only : status ≡ 6 → HasNoMap input
   pub always : HasNoMap input → IsOneOf (3 ∷ 4 ∷ 6 ∷ 9 ∷ []) status
 
--- 8: Nothing that is read is refused, and what was taken is a front of the printed text, all of which would carry the lines.
+-- 8: The same, where what was taken is a front of the printed text.
 pub record FrontCarries (input : Input) (before now : Option (List ℕ)) : Type 0 where
   pub read : Loaded
   pub is_read : loaded input ≡ Some read
@@ -105,6 +109,7 @@ pub record FrontCarries (input : Input) (before now : Option (List ℕ)) : Type 
   pub sections : List OutputSection
   pub plain : list_all is_plain sections ≡ true
   pub carried : OutputCarried (compilation_of read) sections
+  pub short : have_short_expressions (trees_made (compilation_of read)) ≡ true
   pub count : ℕ
   pub written : Appended before now (take count (printed sections))
 
@@ -123,23 +128,37 @@ pub record AddressMapCause (read : Loaded) (status : ℕ) : Type 0 where
   pub always : IsSome (bad_map read) → IsOneOf (3 ∷ 4 ∷ 9 ∷ 13 ∷ 21 ∷ []) status
 
 -- the status of a refusal: of a place that is outside the grammar, of one of a refused kind, of a missing file, of a function that is too
--- long, and of a range that ends at no address
+-- long, of a range that ends at no address; and of an expression: of a label with a range that begins above its end, of a module that lacks
+-- a memory, of a register without a number, and of a jump that goes too far
 abbrev pub refusal_status : Refusal → ℕ
 refusal_status (of_place (unreadable what section offset)) = 10
 refusal_status (of_place (unsupported kind offset)) = 11
 refusal_status (missing_file offset) = 12
 refusal_status long_function = 20
 refusal_status long_range = 20
+refusal_status (bad_label label) = 14
+refusal_status (lacks_memory m) = 15
+refusal_status (unmapped_register register) = 16
+refusal_status long_jump = 20
 
--- 10, 11, 12: exactly where the first refusal in the order of reading is of that kind, but for what comes earlier
+-- the statuses of what is refused in reading, but for 20
+abbrev pub refusal_statuses : List ℕ
+refusal_statuses = 10 ∷ 11 ∷ 12 ∷ 14 ∷ 15 ∷ 16 ∷ []
+
+-- These: exactly where the first refusal in the order of reading is of that kind, but for what comes earlier.
 pub record RefusalCause (read : Loaded) (status : ℕ) : Type 0 where
-  pub only : IsOneOf (10 ∷ 11 ∷ 12 ∷ []) status → option_map refusal_status (first_refusal (compilation_of read)) ≡ Some status
+  pub only : IsOneOf refusal_statuses status → option_map refusal_status (first_refusal (compilation_of read)) ≡ Some status
   pub always : (r : Refusal) → first_refusal (compilation_of read) ≡ Some r → IsOneOf (3 ∷ 4 ∷ 9 ∷ 13 ∷ 21 ∷ refusal_status r ∷ []) status
 
--- 20: only where the first refusal is of that status; or where nothing is refused, and a section could be longer than 2 ^ 31 - 1 bytes
+-- what is made of a compilation passes a limit: a section could be longer than 2 ^ 31 - 1 bytes, or an expression of a location list is
+-- too long
+abbrev pub PassesLimit : Compilation → Type 0
+PassesLimit c = ((name : SectionName) × (2 ^ 31 ≤ widest name c)) ⊎ (have_short_expressions (trees_made c) ≡ false)
+
+-- 20: only where the first refusal is of that status; or where nothing is refused, and a limit is passed
 abbrev pub TooLargeCause : Loaded → ℕ → Type 0
 TooLargeCause read status =
-    status ≡ 20 → (option_map refusal_status (first_refusal (compilation_of read)) ≡ Some 20) ⊎ ((first_refusal (compilation_of read) ≡ None) × ((name : SectionName) × (2 ^ 31 ≤ widest name (compilation_of read))))
+    status ≡ 20 → (option_map refusal_status (first_refusal (compilation_of read)) ≡ Some 20) ⊎ ((first_refusal (compilation_of read) ≡ None) × PassesLimit (compilation_of read))
 
 -- what is said of an input that was read, whatever the status
 pub record LoadedCauses (read : Loaded) (status : ℕ) : Type 0 where
@@ -159,9 +178,13 @@ pub record NamedCauses (input : Input) (status : ℕ) : Type 0 where
 abbrev pub InputCauses : Option Files → List (List ℕ) → ℕ → Type 0
 InputCauses files words status = (input : Input) → Names files words input → NamedCauses input status
 
--- a run answers nothing else
+-- a run answers one of these
+abbrev pub run_statuses : List ℕ
+run_statuses = 0 ∷ 2 ∷ 3 ∷ 4 ∷ 5 ∷ 6 ∷ 8 ∷ 9 ∷ 10 ∷ 11 ∷ 12 ∷ 13 ∷ 14 ∷ 15 ∷ 16 ∷ 20 ∷ 21 ∷ []
+
+-- and nothing else
 abbrev pub IsStatus : ℕ → Type 0
-IsStatus status = IsOneOf (0 ∷ 2 ∷ 3 ∷ 4 ∷ 5 ∷ 6 ∷ 8 ∷ 9 ∷ 10 ∷ 11 ∷ 12 ∷ 13 ∷ 20 ∷ 21 ∷ []) status
+IsStatus status = IsOneOf run_statuses status
 
 -- Where all is well, a run answers 0, or 9 for want of memory.
 pub record IsValid (read : Loaded) : Type 0 where
@@ -169,6 +192,7 @@ pub record IsValid (read : Loaded) : Type 0 where
   pub maps : bad_map read ≡ None
   pub accepted : first_refusal (compilation_of read) ≡ None
   pub small : (name : SectionName) → widest name (compilation_of read) < 2 ^ 31
+  pub short : have_short_expressions (trees_made (compilation_of read)) ≡ true
 
 -- the files are read to their ends, and nothing failed: the counts of faults did not rise
 pub record RunsWell (files : Option Files) (words : List (List ℕ)) (read_before read_now write_before write_now : ℕ) : Type 0 where

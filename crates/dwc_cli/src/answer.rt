@@ -1,46 +1,32 @@
 //! The text that a run prints.
-ghost use Rattle.std.specs.Prelude.{◌≡◌, map, option_map, IfOk, IfErr, IfSome};
-ghost use Rattle.dwc_cli.specs.MapFile.{map_of_bytes, IsMapFor};
-ghost use Rattle.dwc_cli.specs.MapViews.{map_file_view, ModulesHaveOneSource};
+ghost use Rattle.std.specs.Prelude.{map, IfOk, IfErr};
+ghost use Rattle.dwc_cli.specs.Inputs.{Input};
 ghost use Rattle.dwc_cli.specs.Failures.{failure_status};
-ghost use Rattle.dwc_cli.specs.Answers.{status_of, input_view, TranslatesFiles, CarriesText, TextCauses, IsTextStatus, GivesText};
+ghost use Rattle.dwc_cli.specs.Answers.{status_of, IsInputOf, TranslatesFiles, CarriesText, TextCauses, IsTextStatus, GivesText};
 
 use crate::emitting::emitted;
 use crate::failure::Failure;
 use crate::input_files::InputFiles;
-use crate::map_file::{MapFile, map_of};
+use crate::map_file::map_of_json;
 use crate::printing::printed;
 use dwc_base::{ModuleTranslation, split_wasm};
-use std::alloc::{AllocError, Global};
+use std::alloc::Global;
 
 // The printed text of an input: of the sections of DWARF of its modules, rewritten for the code that its map tells of. The map's
-// bytes are let go before any section is read.
-pub(crate) fn text_of(alloc: Global, input: InputFiles) -> Result<Vec<u8>, Failure<'static>>
-    ensures carried { IfOk result (λ text. CarriesText (input_view input) text.items) }
-    ensures causes { TextCauses (input_view input) (status_of result) }
+// JSON value ends before any section is read.
+pub(crate) fn text_of(alloc: Global, files: InputFiles) -> Result<Vec<u8>, Failure<'static>>
+    ensures carried { (input : Input) → IsInputOf files input → IfOk result (λ text. CarriesText input text.items) }
+    ensures causes { (input : Input) → IsInputOf files input → TextCauses input (status_of result) }
     ensures status { IfErr result (λ failure. IsTextStatus (failure_status failure)) }
-    ensures complete { GivesText (input_view input) (status_of result) }
+    ensures complete { (input : Input) → IsInputOf files input → GivesText input (status_of result) }
 {
-    let InputFiles { map, modules } = input;
+    let InputFiles { json, modules } = files;
     let translations = translations_of(alloc, &modules)?;
-    let Some(map_file) = map_from(alloc, map, &translations)? else {
+    let Some(map_file) = map_of_json(alloc, json, &translations)? else {
         return Err(Failure::MalformedMap);
     };
     let sections = emitted(alloc, map_file, &translations)?;
     Ok(printed(alloc, &sections)?)
-}
-
-// The map file of some bytes, which end with this call, for these modules in order.
-fn map_from(
-    alloc: Global,
-    bytes: Vec<u8>,
-    translations: &[ModuleTranslation<'_>],
-) -> Result<Option<MapFile>, AllocError>
-    ensures value { IfOk result (λ o. option_map map_file_view o ≡ map_of_bytes (map (λ t. t.defined_funcs) translations.now) bytes.items) }
-    ensures fits { IfOk result (λ o. IfSome o (λ f. IsMapFor (map (λ t. t.defined_funcs) translations.now) (map_file_view f))) }
-    ensures sources { IfOk result (λ o. IfSome o (λ f. ModulesHaveOneSource f.modules.items)) }
-{
-    map_of(alloc, &bytes, translations, false)
 }
 
 // The translations of some modules in order.

@@ -1,6 +1,7 @@
 //! The sections of DWARF for the functions of a map.
-ghost use Rattle.std.specs.Prelude.{◌≡◌, ◌⊎◌, map, length, if◌then◌else◌, IfOk};
+ghost use Rattle.std.specs.Prelude.{◌≡◌, ◌⊎◌, map, if◌then◌else◌, IfOk};
 ghost use Rattle.dwc_base.specs.declared.records.Endian.TheVariants.{Little, Big};
+ghost use Rattle.dwc_clif.specs.Registers.{registers_of};
 ghost use Rattle.dwc_addr.specs.Compilations.{lists, IsCounted};
 ghost use Rattle.dwc_carry.specs.Emits as emitting;
 ghost use Rattle.dwc_cli.specs.Inputs.{Loaded};
@@ -38,9 +39,9 @@ pub(crate) fn emitted(
         names,
         modules,
     } = map_file;
+    let memory_offsets = memories_of(alloc, &modules)?;
     let functions = functions_of(alloc, modules)?;
     let isa = table_of(alloc, target)?;
-    let memory_offsets = no_memories(alloc, translations.len())?;
     compiled(
         alloc,
         &isa,
@@ -61,7 +62,7 @@ fn compiled<'a>(
     memory_offsets: Vec<ModuleMemoryOffset>,
 ) -> Result<Vec<DwarfSection>, Failure<'static>>
     requires { IsCounted translations.now (lists functions.now) memory_offsets.items }
-    ensures { (read : Loaded) → IsCompiled isa.now.order isa.now.pointer_bytes translations.now (lists functions.now) read → Emits read result }
+    ensures { (read : Loaded) → IsCompiled isa.now.order isa.now.pointer_bytes isa.now.registers translations.now (lists functions.now) memory_offsets.items read → Emits read result }
 {
     let names = LinkageNames {
         set_memory: &names.set,
@@ -87,7 +88,7 @@ fn emitted_for(
     isa: &TableIsa,
     compilation: &mut Compilation<'_>,
 ) -> Result<Vec<DwarfSection>, DebugError>
-    ensures { emitting.Emits isa.now.order isa.now.pointer_bytes compilation.old result }
+    ensures { emitting.Emits isa.now.order isa.now.pointer_bytes isa.now.registers compilation.old result }
 {
     emit_dwarf(alloc, isa, compilation)
 }
@@ -106,11 +107,12 @@ fn functions_of(
     Ok(functions)
 }
 
-// The target of a map. A map tells no registers, nor what frames share.
+// The target of a map. A map does not tell what frames share.
 fn table_of(alloc: Global, target: Target) -> Result<TableIsa, AllocError>
     requires { (target.pointer_bytes ≡ 4) ⊎ (target.pointer_bytes ≡ 8) }
     ensures order { IfOk result (λ isa. isa.order ≡ if target.big_endian then Big else Little) }
     ensures size { IfOk result (λ isa. isa.pointer_bytes ≡ target.pointer_bytes) }
+    ensures registers { IfOk result (λ isa. isa.registers ≡ registers_of target.registers.items) }
     ensures architecture { IfOk result (λ isa. isa.architecture ≡ target.arch) }
 {
     let order = if target.big_endian {
@@ -123,16 +125,18 @@ fn table_of(alloc: Global, target: Target) -> Result<TableIsa, AllocError>
         target.arch,
         order,
         target.pointer_bytes,
-        Vec::new(alloc),
+        target.registers,
         None,
     )
 }
 
-// That none of so many modules has a memory, of which a map tells nothing.
-fn no_memories(alloc: Global, count: usize) -> Result<Vec<ModuleMemoryOffset>, AllocError>
-    ensures { IfOk result (λ offsets. length offsets.items ≡ count) }
+// Where the memories of some modules of a map are found, module by module.
+fn memories_of(alloc: Global, modules: &[MapModule]) -> Result<Vec<ModuleMemoryOffset>, AllocError>
+    ensures { IfOk result (λ offsets. offsets.items ≡ map (λ m. m.memory) modules.now) }
 {
-    let mut offsets = Vec::with_capacity(alloc, count)?;
-    offsets.resize(count, ModuleMemoryOffset::None)?;
+    let mut offsets = Vec::with_capacity(alloc, modules.len())?;
+    for module in modules {
+        offsets.push(module.memory)?;
+    }
     Ok(offsets)
 }

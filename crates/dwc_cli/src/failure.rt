@@ -96,6 +96,9 @@ impl From<DebugError> for Failure<'_> {
             DebugError::Unsupported { .. } => Status::Unsupported,
             DebugError::InvalidFileIndex { .. } => Status::InvalidFileIndex,
             DebugError::BadAddressMap { .. } => Status::BadAddressMap,
+            DebugError::BadLabelRange { .. } => Status::BadLabelRange,
+            DebugError::InvalidAttributeValue { .. } => Status::InvalidAttributeValue,
+            DebugError::UnmappedRegister { .. } => Status::UnmappedRegister,
             DebugError::TooLarge { .. } => Status::TooLarge,
             DebugError::OutOfMemory => return Failure::OutOfMemory,
         };

@@ -1,8 +1,11 @@
 //! The files of a run.
 
-// The bytes of the files that the words of a run name.
+use serde_json::Value;
+
+// What is held of the files that the words of a run name: the JSON value of the map's bytes, None where they are no JSON text, and
+// the bytes of the modules.
 #[derive(Drop)]
 pub(crate) struct InputFiles {
-    pub(crate) map: Vec<u8>,
+    pub(crate) json: Option<Value>,
     pub(crate) modules: Vec<Vec<u8>>,
 }

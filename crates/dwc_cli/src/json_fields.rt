@@ -3,7 +3,7 @@ ghost use Rattle.std.specs.Prelude.{◌≡◌, ◌==◌, option_map, Some};
 ghost use Rattle.std.specs.List.{list_any};
 ghost use Rattle.serde_json.specs.View.{view, items_view, members_view};
 ghost use Rattle.serde_json.specs.Find.{get_member, as_array};
-ghost use Rattle.dwc_cli.specs.MapFile.{u32_of, source_of, nullable, truth_of, text_of, pointer_bytes_of, architecture_of, members_of, pair_of};
+ghost use Rattle.dwc_cli.specs.MapFile.{u32_of, u16_of, i64_of, source_of, nullable, truth_of, text_of, pointer_bytes_of, architecture_of, members_of, pair_of, four_of};
 
 use dwc_base::{FilePos, SymbolId};
 use dwc_clif::Architecture;
@@ -15,6 +15,21 @@ pub(crate) fn whole_number(value: &Value) -> Option<u32>
 {
     let number = value.as_u64()?;
     u32::try_from(number).ok()
+}
+
+/// A whole number below 2^16.
+pub(crate) fn short_number(value: &Value) -> Option<u16>
+    ensures { result ≡ u16_of (view value.now) }
+{
+    let number = value.as_u64()?;
+    u16::try_from(number).ok()
+}
+
+/// A whole number of 64 bits with a sign.
+pub(crate) fn signed_number(value: &Value) -> Option<i64>
+    ensures { result ≡ i64_of (view value.now) }
+{
+    value.as_i64()
 }
 
 /// The number of a function's symbol; null for a function without one.
@@ -115,6 +130,17 @@ pub(crate) fn pair(value: &Value) -> Option<(&Value, &Value)>
         return None;
     }
     Some((&items[0], &items[1]))
+}
+
+/// The items of a list of four.
+pub(crate) fn four(value: &Value) -> Option<(&Value, &Value, &Value, &Value)>
+    ensures { option_map (λ f. (view f.0.now, view f.1.now, view f.2.now, view f.3.now)) result ≡ four_of (view value.now) }
+{
+    let items = items(value)?;
+    if items.len() != 4 {
+        return None;
+    }
+    Some((&items[0], &items[1], &items[2], &items[3]))
 }
 
 /// The member of a name.

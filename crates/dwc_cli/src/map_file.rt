@@ -1,18 +1,21 @@
 //! The map file: what a code generator tells of the functions that it compiled, as a JSON object.
-ghost use Rattle.std.specs.Prelude.{◌≡◌, ◌&&◌, map, option_map, option_and_then, IfOk, IfSome, Some, None};
+ghost use Rattle.std.specs.Prelude.{ℕ, List, ◌≡◌, ◌&&◌, map, option_map, option_and_then, IfOk, IfSome, Some, None};
 ghost use Rattle.serde_json.specs.View.{view, items_view};
-ghost use Rattle.dwc_clif.specs.AddressMaps.{entry_view, address_map_view};
-ghost use Rattle.dwc_cli.specs.MapFile.{target_of, text_of, u32_of, source_of, pair_of, all_items, list_of, address_map_of, map_module_of, map_value, map_of_bytes, have_counts, is_countable, IsMapFor};
-ghost use Rattle.dwc_cli.specs.MapViews.{target_view, names_view, address_map_with, module_view, map_file_view, told_sources, mapped_sources, HaveOneSource, ModulesHaveOneSource};
+ghost use Rattle.dwc_clif.specs.AddressMaps.{entry_view};
+ghost use Rattle.dwc_cli.specs.MapFile.{target_of, text_of, u32_of, source_of, pair_of, all_items, list_of, map_function_of, map_module_of, map_value, map_of_bytes, have_counts, is_countable, IsMapFor};
+ghost use Rattle.dwc_cli.specs.MapViews.{IsJsonOf, target_with, target_view, names_view, function_with, function_view, module_view, map_file_view, told_sources, mapped_sources, HaveOneSource, ModulesHaveOneSource};
 
 use crate::json_fields::{
     architecture, items, member, members, pair, plain_text, pointer_bytes, source, symbol,
     whole_number,
 };
+use crate::labels::read_labels;
+use crate::memory::read_memory;
+use crate::registers::read_registers;
+use dwc_addr::ModuleMemoryOffset;
 use dwc_base::{FilePos, ModuleTranslation, SymbolId};
 use dwc_clif::{
-    Architecture, CompiledFunctionMetadata, FunctionAddressMap, InstructionAddressMap,
-    ValueLabelsRanges,
+    Architecture, CompiledFunctionMetadata, FunctionAddressMap, InstructionAddressMap, Reg,
 };
 use serde_json::Value;
 use std::alloc::{AllocError, Global};
@@ -21,13 +24,15 @@ use std::alloc::{AllocError, Global};
 const COUNT_LIMIT: usize = 1 << 32;
 
 /// What the code was compiled for.
-#[derive(Clone, Copy)]
+#[derive(Drop)]
 pub struct Target {
     pub arch: Architecture,
     /// Whether its numbers begin with their highest byte.
     pub big_endian: bool,
     /// How many bytes an address has: 4 or 8.
     pub pointer_bytes: u8,
+    /// Its registers, each once, with DWARF's numbers of them.
+    pub registers: Vec<(Reg, u16)>,
 }
 
 /// The names of the two functions that give access to a module's memory.
@@ -44,6 +49,8 @@ pub struct Names {
 pub struct MapModule {
     /// Its functions in the order of the code section, each with its symbol, if it has one.
     pub functions: Vec<(Option<SymbolId>, CompiledFunctionMetadata)>,
+    /// Where its memory is found.
+    pub memory: ModuleMemoryOffset,
 }
 
 /// The value of a map file, with the defaults of the fields that it leaves out.
@@ -55,9 +62,18 @@ pub struct MapFile {
     pub modules: Vec<MapModule>,
 }
 
+// The fields of a target, the value of its registers not yet read.
+#[derive(Clone, Copy)]
+struct TargetFields<'v> {
+    arch: Architecture,
+    big_endian: bool,
+    pointer_bytes: u8,
+    registers: Option<&'v Value>,
+}
+
 #[tactic(auto, unfolding(crate::specs::MapFile::target_of))]
-fn read_target(value: &Value) -> Option<Target>
-    ensures { option_map target_view result ≡ target_of (view value.now) }
+fn target_fields(value: &Value) -> Option<TargetFields<'_>>
+    ensures { target_of (view value.now) ≡ option_and_then target_with result }
 {
     let fields = members(value)?;
     let arch = architecture(member(fields, "arch")?)?;
@@ -69,11 +85,29 @@ fn read_target(value: &Value) -> Option<Target>
         Some(field) => pointer_bytes(field)?,
         None => 8,
     };
-    Some(Target {
+    Some(TargetFields {
         arch,
         big_endian,
         pointer_bytes,
+        registers: member(fields, "registers"),
     })
+}
+
+fn read_target(alloc: Global, value: &Value) -> Result<Option<Target>, AllocError>
+    ensures { IfOk result (λ o. option_map target_view o ≡ target_of (view value.now)) }
+{
+    let Some(fields) = target_fields(value) else {
+        return Ok(None);
+    };
+    let Some(registers) = read_registers(alloc, fields.registers)? else {
+        return Ok(None);
+    };
+    Ok(Some(Target {
+        arch: fields.arch,
+        big_endian: fields.big_endian,
+        pointer_bytes: fields.pointer_bytes,
+        registers,
+    }))
 }
 
 #[tactic(auto, using(crate::proofs::MapKinds::pair_of_parts))]
@@ -94,7 +128,7 @@ fn read_names(alloc: Global, value: &Value) -> Result<Option<Names>, AllocError>
     Ok(Some(Names { set, resolve }))
 }
 
-// The fields of a function, the values of its entries not yet read.
+// The fields of a function, the values of its entries and of its labels not yet read.
 #[derive(Drop)]
 struct FunctionFields<'v> {
     symbol: Option<SymbolId>,
@@ -103,11 +137,12 @@ struct FunctionFields<'v> {
     body_offset: u32,
     body_len: u32,
     entries: &'v [Value],
+    labels: Option<&'v Value>,
 }
 
-#[tactic(auto, using(crate::proofs::MapKinds::list_of_items), unfolding(crate::specs::MapFile::address_map_of))]
+#[tactic(auto, using(crate::proofs::MapKinds::list_of_items), unfolding(crate::specs::MapFile::map_function_of))]
 fn function_fields(value: &Value) -> Option<FunctionFields<'_>>
-    ensures { address_map_of (view value.now) ≡ option_and_then address_map_with result }
+    ensures { map_function_of (view value.now) ≡ option_and_then function_with result }
 {
     let fields = members(value)?;
     let symbol = symbol(member(fields, "symbol")?)?;
@@ -126,6 +161,7 @@ fn function_fields(value: &Value) -> Option<FunctionFields<'_>>
         body_offset,
         body_len,
         entries,
+        labels: member(fields, "labels"),
     })
 }
 
@@ -160,18 +196,21 @@ fn read_entries(
     Ok(Some(entries))
 }
 
-// A function's symbol and address map.
+// A function's symbol, address map and labels.
 fn read_function(
     alloc: Global,
     value: &Value,
 ) -> Result<Option<(Option<SymbolId>, CompiledFunctionMetadata)>, AllocError>
-    ensures value { IfOk result (λ o. option_map address_map_view o ≡ address_map_of (view value.now)) }
+    ensures value { IfOk result (λ o. option_map function_view o ≡ map_function_of (view value.now)) }
     ensures sources { IfOk result (λ o. IfSome o (λ f. told_sources f ≡ mapped_sources f)) }
 {
     let Some(fields) = function_fields(value) else {
         return Ok(None);
     };
     let Some(instructions) = read_entries(alloc, fields.entries)? else {
+        return Ok(None);
+    };
+    let Some(value_labels_ranges) = read_labels(alloc, fields.labels)? else {
         return Ok(None);
     };
     let address_map = FunctionAddressMap {
@@ -183,7 +222,7 @@ fn read_function(
     };
     let metadata = CompiledFunctionMetadata {
         address_map,
-        value_labels_ranges: ValueLabelsRanges::new(alloc),
+        value_labels_ranges,
         start_srcloc: fields.start,
         end_srcloc: fields.end,
     };
@@ -194,8 +233,8 @@ fn read_functions(
     alloc: Global,
     values: &[Value],
 ) -> Result<Option<Vec<(Option<SymbolId>, CompiledFunctionMetadata)>>, AllocError>
-    ensures value { IfOk result (λ o. option_map (λ v. map address_map_view v.items) o
-        ≡ all_items address_map_of (items_view values.now)) }
+    ensures value { IfOk result (λ o. option_map (λ v. map function_view v.items) o
+        ≡ all_items map_function_of (items_view values.now)) }
     ensures sources { IfOk result (λ o. IfSome o (λ v. HaveOneSource v.items)) }
 {
     let mut functions = Vec::with_capacity(alloc, values.len())?;
@@ -222,7 +261,10 @@ fn read_module(alloc: Global, value: &Value) -> Result<Option<MapModule>, AllocE
     let Some(functions) = read_functions(alloc, values)? else {
         return Ok(None);
     };
-    Ok(Some(MapModule { functions }))
+    let Some(memory) = read_memory(member(fields, "memory")) else {
+        return Ok(None);
+    };
+    Ok(Some(MapModule { functions, memory }))
 }
 
 fn read_modules(alloc: Global, values: &[Value]) -> Result<Option<Vec<MapModule>>, AllocError>
@@ -280,7 +322,10 @@ fn read_map(alloc: Global, value: &Value, defined: &[u32]) -> Result<Option<MapF
     let Some(fields) = members(value) else {
         return Ok(None);
     };
-    let Some(target) = member(fields, "target").and_then(read_target) else {
+    let Some(target) = member(fields, "target") else {
+        return Ok(None);
+    };
+    let Some(target) = read_target(alloc, target)? else {
         return Ok(None);
     };
     let Some(names) = member(fields, "names") else {
@@ -305,30 +350,66 @@ fn read_map(alloc: Global, value: &Value, defined: &[u32]) -> Result<Option<MapF
     }))
 }
 
-// The value of a map file's bytes, for modules that define so many functions each, in order.
+// The JSON value of some bytes; None where they are no JSON text.
 #[tactic(auto, using(crate::proofs::MapKinds::map_of_bytes_read, crate::proofs::MapKinds::map_of_bytes_unread))]
-pub(crate) fn map_of_counts(
-    alloc: Global,
-    bytes: &[u8],
-    defined: &[u32],
-) -> Result<Option<MapFile>, AllocError>
-    ensures value { IfOk result (λ o. option_map map_file_view o ≡ map_of_bytes defined.now bytes.now) }
-    ensures sources { IfOk result (λ o. IfSome o (λ f. ModulesHaveOneSource f.modules.items)) }
+pub(crate) fn json_of(alloc: Global, bytes: &[u8]) -> Result<Option<Value>, AllocError>
+    ensures { IfOk result (IsJsonOf bytes.now) }
 {
     match Value::from_slice(alloc, bytes) {
-        Ok(value) => read_map(alloc, &value, defined),
+        Ok(value) => Ok(Some(value)),
         Err(error) if error.is_memory() => Err(AllocError),
         Err(_) => Ok(None),
     }
+}
+
+// The map that a JSON value is, if there is one, for modules that define so many functions each, in order.
+fn map_of_counts(
+    alloc: Global,
+    json: Option<Value>,
+    defined: &[u32],
+) -> Result<Option<MapFile>, AllocError>
+    ensures value { IfOk result (λ o. option_map map_file_view o ≡ option_and_then (λ v. map_value defined.now (view v)) json) }
+    ensures sources { IfOk result (λ o. IfSome o (λ f. ModulesHaveOneSource f.modules.items)) }
+{
+    match json {
+        Some(value) => read_map(alloc, &value, defined),
+        None => Ok(None),
+    }
+}
+
+// The map that the JSON value of some bytes is, for these modules in order. The value ends with this call.
+pub(crate) fn map_of_json(
+    alloc: Global,
+    json: Option<Value>,
+    modules: &[ModuleTranslation<'_>],
+) -> Result<Option<MapFile>, AllocError>
+    ensures value { (bytes : List ℕ) → IsJsonOf bytes json → IfOk result (λ o. option_map map_file_view o
+        ≡ map_of_bytes (map (λ m. m.defined_funcs) modules.now) bytes) }
+    ensures fits { IfOk result (λ o. IfSome o (λ f. IsMapFor (map (λ m. m.defined_funcs) modules.now) (map_file_view f))) }
+    ensures sources { IfOk result (λ o. IfSome o (λ f. ModulesHaveOneSource f.modules.items)) }
+{
+    let defined = defined_counts(alloc, modules)?;
+    map_of_counts(alloc, json, &defined)
+}
+
+// How many functions each of some modules defines, in order.
+fn defined_counts(alloc: Global, modules: &[ModuleTranslation<'_>]) -> Result<Vec<u32>, AllocError>
+    ensures { IfOk result (λ counts. counts.items ≡ map (λ m. m.defined_funcs) modules.now) }
+{
+    let mut defined = Vec::with_capacity(alloc, modules.len())?;
+    for module in modules {
+        defined.push(module.defined_funcs)?;
+    }
+    Ok(defined)
 }
 
 /// The value of a map file's bytes, for these modules in order. `with_text` asks for the text of each function, which is
 /// not read yet.
 ///
 /// Answers `Ok(None)` exactly where the bytes have no value as a map: they are not UTF-8 or no JSON text of at most 127
-/// levels, a required field is missing, a value is of the wrong kind or out of its range, or the modules are not as many
-/// as these, with as many functions as each of these defines. Unknown fields are passed over, and of two members of one
-/// name the later counts.
+/// levels, a required field is missing, a value is of the wrong kind or out of its range, a register or a label of a function
+/// stands twice, or the modules are not as many as these, with as many functions as each of these defines. Unknown fields
+/// are passed over, and of two members of one name the later counts.
 ///
 /// A map that is answered has the modules and functions that are asked for, fewer than 2^32 each, and addresses of 4 or 8
 /// bytes. The begin and the end of a function are the same in its record and in its address map.
@@ -347,9 +428,6 @@ pub fn map_of(
     ensures fits { IfOk result (λ o. IfSome o (λ f. IsMapFor (map (λ m. m.defined_funcs) modules.now) (map_file_view f))) }
     ensures sources { IfOk result (λ o. IfSome o (λ f. ModulesHaveOneSource f.modules.items)) }
 {
-    let mut defined = Vec::with_capacity(alloc, modules.len())?;
-    for module in modules {
-        defined.push(module.defined_funcs)?;
-    }
-    map_of_counts(alloc, bytes, &defined)
+    let json = json_of(alloc, bytes)?;
+    map_of_json(alloc, json, modules)
 }

@@ -27,7 +27,13 @@ pub enum Status {
     InvalidFileIndex = 12,
     /// A function's address map breaks a rule.
     BadAddressMap = 13,
-    /// A section or a function is too long, or a range ends at no address.
+    /// An expression needs a label that has a range which begins above its end.
+    BadLabelRange = 14,
+    /// An expression reads the memory of a module that has none.
+    InvalidAttributeValue = 15,
+    /// A value that an expression needs lies in a register without a number of DWARF.
+    UnmappedRegister = 16,
+    /// A section, a function or an expression is too long, a range ends at no address, or a jump goes too far.
     TooLarge = 20,
     /// Two functions have one symbol.
     SharedSymbol = 21,

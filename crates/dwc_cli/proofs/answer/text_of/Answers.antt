@@ -1,114 +1,128 @@
-use Rattle.std.proofs.Common.{map, Ok, sym, ap, ◌∙◌, subst}
+use Rattle.std.proofs.Common.{map, Ok, refl, sym, ap, ◌∙◌, subst}
 use Rattle.std.specs.Prelude.{option_map}
 use Rattle.std.proofs.lemmas.Result.{err_from_is_err_and}
 use Rattle.dwc_base.specs.Outputs.{section_view}
 use Rattle.dwc_cli.specs.MapViews.{map_file_view}
 use Rattle.dwc_cli.specs.Failures.{failure_status}
-use Rattle.dwc_cli.specs.Answers.{input_view, IsBroken, TranslatesFiles, IsReadAs}
-use Rattle.dwc_cli.proofs.TextExits.{Refuses, Refuses-memory, Refuses-broken, Refuses-no_map, Refuses-cause, Gives, Gives-emitted, was_read, none_from}
+use Rattle.dwc_cli.specs.Inputs.{Input, Loaded}
+use Rattle.dwc_cli.specs.Answers.{IsInputOf, IsBroken, TranslatesFiles, IsReadAs, IsTextStatus, text_statuses}
+use Rattle.dwc_cli.proofs.Statuses.{IsOneOf-from}
+use Rattle.dwc_cli.proofs.TextExits.{Refuses, Refuses-memory, Refuses-broken, Refuses-no_map, Refuses-cause, broken-status, cause-text_status, Gives, Gives-emitted, was_read, none_from}
 use Rattle.dwc_cli.proofs.answer.text_of.Goals as goal
 
 -- ---- a module is refused
 
-module_refused : (c : goal.After-drop-map) → Refuses (input_view c.args.input) (failure_status c.in_err-translations.field-0.0)
-module_refused c =
+module_broken : (c : goal.Joined-json) → IsBroken (map (λ m. m.items) c.args.files.modules.items) (failure_status c.in_err-translations.field-0.0)
+module_broken c = subst (λ ms. IsBroken (map (λ m. m.items) ms) (failure_status c.in_err-translations.field-0.0)) c.deref.ensures.value c.in_err-translations.ensures
+
+module_refused : (c : goal.Joined-json) (input : Input) → IsInputOf c.args.files input → Refuses input (failure_status c.in_err-translations.field-0.0)
+module_refused c input is =
     let status = failure_status c.in_err-translations.field-0.0 in
-    Refuses-broken (input_view c.args.input) status (subst (λ ms. IsBroken (map (λ m. m.items) ms) status) c.deref.ensures.value c.in_err-translations.ensures)
+    Refuses-broken input status (subst (λ ms. IsBroken ms status) is.modules (module_broken c))
 
 pub returns-in_err-translations-clause-causes : goal.returns-in_err-translations-clause-causes
-returns-in_err-translations-clause-causes c =
+returns-in_err-translations-clause-causes c = λ input is.
     let p = err_from_is_err_and c.from_residual.result c.from_residual.ensures.1 in
-    rw (p.1, p.2) (module_refused c).causes
+    rw (p.1, p.2) (module_refused c input is).causes
 
 pub returns-in_err-translations-clause-status : goal.returns-in_err-translations-clause-status
 returns-in_err-translations-clause-status c =
     let p = err_from_is_err_and c.from_residual.result c.from_residual.ensures.1 in
-    rw (p.1, p.2) (module_refused c).one_of
+    rw (p.1, p.2) (broken-status (map (λ m. m.items) c.args.files.modules.items) (failure_status c.in_err-translations.field-0.0) (module_broken c))
 
 pub returns-in_err-translations-clause-complete : goal.returns-in_err-translations-clause-complete
-returns-in_err-translations-clause-complete c =
+returns-in_err-translations-clause-complete c = λ input is.
     let p = err_from_is_err_and c.from_residual.result c.from_residual.ensures.1 in
-    rw (p.1, p.2) (module_refused c).complete
+    rw (p.1, p.2) (module_refused c input is).complete
 
 -- ---- the map is not read, or has no value
 
 pub returns-in_err-map_file-clause-causes : goal.returns-in_err-map_file-clause-causes
-returns-in_err-map_file-clause-causes c =
+returns-in_err-map_file-clause-causes c = λ input is.
     let p = err_from_is_err_and c.from_residual-in_err-map_file.result c.from_residual-in_err-map_file.ensures.1 in
-    rw (p.1, p.2) (Refuses-memory (input_view c.args.input)).causes
+    rw (p.1, p.2) (Refuses-memory input).causes
 
 pub returns-in_err-map_file-clause-status : goal.returns-in_err-map_file-clause-status
 returns-in_err-map_file-clause-status c =
     let p = err_from_is_err_and c.from_residual-in_err-map_file.result c.from_residual-in_err-map_file.ensures.1 in
-    rw (p.1, p.2) (Refuses-memory (input_view c.args.input)).one_of
+    rw (p.1, p.2) (IsOneOf-from text_statuses 9 refl)
 
-map_refused : (c : goal.After-drop-modules-in_default) → Refuses (input_view c.args.input) 6
-map_refused c =
-    let input = input_view c.args.input in
+map_refused : (c : goal.After-drop-modules-in_default) (input : Input) → IsInputOf c.args.files input → Refuses input 6
+map_refused c input is =
     let ts = c.in_ok-translations.translations.items in
-    let found = subst (λ ms. TranslatesFiles (map (λ m. m.items) ms) (Ok c.in_ok-translations.translations)) c.deref.ensures.value c.in_ok-translations.ensures in
+    let held = subst (λ ms. TranslatesFiles (map (λ m. m.items) ms) (Ok c.in_ok-translations.translations)) c.deref.ensures.value c.in_ok-translations.ensures in
+    let found = subst (λ ms. TranslatesFiles ms (Ok c.in_ok-translations.translations)) is.modules held in
     let none = none_from c.in_ok-map_file.field-0 c.in_default.not-Some in
-    let seen = ap (option_map map_file_view) (sym none) ∙ c.in_ok-map_file.ensures.value in
+    let seen = ap (option_map map_file_view) (sym none) ∙ c.in_ok-map_file.ensures.value input.map_bytes is.json in
     Refuses-no_map ts input found (rw (c.deref-2.ensures.value) at seen)
 
 pub returns-in_default-clause-causes : goal.returns-in_default-clause-causes
-returns-in_default-clause-causes c = (map_refused c).causes
+returns-in_default-clause-causes c = λ input is. (map_refused c input is).causes
 
 pub returns-in_default-clause-complete : goal.returns-in_default-clause-complete
-returns-in_default-clause-complete c = (map_refused c).complete
+returns-in_default-clause-complete c = λ input is. (map_refused c input is).complete
 
 -- ---- no sections are emitted
 
-sections_refused : (c : goal.After-drop-modules-in_err-sections) → Refuses (input_view c.args.input) (failure_status c.in_err-sections.field-0.0)
-sections_refused c =
-    let input = input_view c.args.input in
+sections_refused : (c : goal.After-drop-modules-in_err-sections) (input : Input) → IsInputOf c.args.files input → Refuses input (failure_status c.in_err-sections.field-0.0)
+sections_refused c input is =
     let ts = c.in_ok-translations.translations.items in
-    let found = subst (λ ms. TranslatesFiles (map (λ m. m.items) ms) (Ok c.in_ok-translations.translations)) c.deref.ensures.value c.in_ok-translations.ensures in
-    let seen = ap (option_map map_file_view) (sym c.in-Some.is) ∙ c.in_ok-map_file.ensures.value in
+    let held = subst (λ ms. TranslatesFiles (map (λ m. m.items) ms) (Ok c.in_ok-translations.translations)) c.deref.ensures.value c.in_ok-translations.ensures in
+    let found = subst (λ ms. TranslatesFiles ms (Ok c.in_ok-translations.translations)) is.modules held in
+    let seen = ap (option_map map_file_view) (sym c.in-Some.is) ∙ c.in_ok-map_file.ensures.value input.map_bytes is.json in
     let was = was_read ts c.in-Some.map_file input found (rw (c.deref-2.ensures.value) at seen) in
     let read_as = subst (λ us. IsReadAs us c.in-Some.map_file was.read) (sym c.deref-3.ensures.value) was.read_as in
     Refuses-cause input was.read (failure_status c.in_err-sections.field-0.0) was.is_read (c.in_err-sections.ensures was.read read_as)
 
+sections_status : (c : goal.After-drop-modules-in_err-sections) → IsTextStatus (failure_status c.in_err-sections.field-0.0)
+sections_status c =
+    let ts = c.in_ok-translations.translations.items in
+    let held = subst (λ ms. TranslatesFiles (map (λ m. m.items) ms) (Ok c.in_ok-translations.translations)) c.deref.ensures.value c.in_ok-translations.ensures in
+    let read : Loaded = record { wasm = held.0; map_file = map_file_view c.in-Some.map_file } in
+    let told : IsReadAs ts c.in-Some.map_file read = record { wasm = held.2; map_is = refl } in
+    let read_as = subst (λ us. IsReadAs us c.in-Some.map_file read) (sym c.deref-3.ensures.value) told in
+    cause-text_status read (failure_status c.in_err-sections.field-0.0) (c.in_err-sections.ensures read read_as)
+
 pub returns-in_err-sections-clause-causes : goal.returns-in_err-sections-clause-causes
-returns-in_err-sections-clause-causes c =
+returns-in_err-sections-clause-causes c = λ input is.
     let p = err_from_is_err_and c.from_residual-in_err-sections.result c.from_residual-in_err-sections.ensures.1 in
-    rw (p.1, p.2) (sections_refused c).causes
+    rw (p.1, p.2) (sections_refused c input is).causes
 
 pub returns-in_err-sections-clause-status : goal.returns-in_err-sections-clause-status
 returns-in_err-sections-clause-status c =
     let p = err_from_is_err_and c.from_residual-in_err-sections.result c.from_residual-in_err-sections.ensures.1 in
-    rw (p.1, p.2) (sections_refused c).one_of
+    rw (p.1, p.2) (sections_status c)
 
 pub returns-in_err-sections-clause-complete : goal.returns-in_err-sections-clause-complete
-returns-in_err-sections-clause-complete c =
+returns-in_err-sections-clause-complete c = λ input is.
     let p = err_from_is_err_and c.from_residual-in_err-sections.result c.from_residual-in_err-sections.ensures.1 in
-    rw (p.1, p.2) (sections_refused c).complete
+    rw (p.1, p.2) (sections_refused c input is).complete
 
 -- ---- the text
 
 pub returns-in_err-printed-clause-causes : goal.returns-in_err-printed-clause-causes
-returns-in_err-printed-clause-causes c =
+returns-in_err-printed-clause-causes c = λ input is.
     let p = err_from_is_err_and c.from_residual-in_err-printed.result c.from_residual-in_err-printed.ensures.1 in
-    rw (p.1, p.2) (Refuses-memory (input_view c.args.input)).causes
+    rw (p.1, p.2) (Refuses-memory input).causes
 
 pub returns-in_err-printed-clause-status : goal.returns-in_err-printed-clause-status
 returns-in_err-printed-clause-status c =
     let p = err_from_is_err_and c.from_residual-in_err-printed.result c.from_residual-in_err-printed.ensures.1 in
-    rw (p.1, p.2) (Refuses-memory (input_view c.args.input)).one_of
+    rw (p.1, p.2) (IsOneOf-from text_statuses 9 refl)
 
-text_given : (c : goal.After-drop-modules-2) → Gives (input_view c.args.input) c.in_ok-printed.field-0.items
-text_given c =
-    let input = input_view c.args.input in
+text_given : (c : goal.After-drop-modules-2) (input : Input) → IsInputOf c.args.files input → Gives input c.in_ok-printed.field-0.items
+text_given c input is =
     let ts = c.in_ok-translations.translations.items in
-    let found = subst (λ ms. TranslatesFiles (map (λ m. m.items) ms) (Ok c.in_ok-translations.translations)) c.deref.ensures.value c.in_ok-translations.ensures in
-    let seen = ap (option_map map_file_view) (sym c.in-Some.is) ∙ c.in_ok-map_file.ensures.value in
+    let held = subst (λ ms. TranslatesFiles (map (λ m. m.items) ms) (Ok c.in_ok-translations.translations)) c.deref.ensures.value c.in_ok-translations.ensures in
+    let found = subst (λ ms. TranslatesFiles ms (Ok c.in_ok-translations.translations)) is.modules held in
+    let seen = ap (option_map map_file_view) (sym c.in-Some.is) ∙ c.in_ok-map_file.ensures.value input.map_bytes is.json in
     let was = was_read ts c.in-Some.map_file input found (rw (c.deref-2.ensures.value) at seen) in
     let read_as = subst (λ us. IsReadAs us c.in-Some.map_file was.read) (sym c.deref-3.ensures.value) was.read_as in
     let sections = map section_view c.in_ok-sections.sections.items in
     rw (c.in_ok-printed.ensures.text, c.deref-4.ensures.value) (Gives-emitted input was.read sections was.is_read (c.in_ok-sections.ensures was.read read_as))
 
 pub returns-clause-carried : goal.returns-clause-carried
-returns-clause-carried c = (text_given c).carried
+returns-clause-carried c = λ input is. (text_given c input is).carried
 
 pub returns-clause-causes : goal.returns-clause-causes
-returns-clause-causes c = (text_given c).causes
+returns-clause-causes c = λ input is. (text_given c input is).causes

@@ -1,8 +1,8 @@
 use Rattle.std.proofs.Common.{[], ◌∷◌, map, string_bytes, refl, sym, subst, arith}
 use Rattle.dwc_cli.specs.Edge.{paths_view}
-use Rattle.dwc_cli.specs.RunStatus.{InputCauses, IsStatus, IsOneOf}
+use Rattle.dwc_cli.specs.RunStatus.{InputCauses, run_statuses, IsStatus, IsOneOf}
 use Rattle.dwc_cli.specs.Failures.{failure_status, failure_message, usage_message, write_message}
-use Rattle.dwc_cli.specs.Answers.{input_view, IsMessage, reading_statuses, text_statuses}
+use Rattle.dwc_cli.specs.Answers.{IsMessage, reading_statuses, text_statuses}
 use Rattle.dwc_cli.proofs.Statuses.{IsOneOf-from, IsOneOf-more, IsOneOf-other}
 use Rattle.dwc_cli.proofs.Messages.{IsMessage-usage, IsMessage-reading, IsMessage-text, IsMessage-write}
 use Rattle.dwc_cli.proofs.RunExits.{InputCauses-reading, InputCauses-text, MissingCause-read, Succeeds-read, PrefixWritten-read, TextCauses-write, only_memory, complete_read}
@@ -22,7 +22,7 @@ returns-in-Err-clause-input g c =
 
 pub returns-in-Err-clause-status : goal.returns-in-Err-clause-status
 returns-in-Err-clause-status g c =
-    subst IsStatus (sym c.refuse-in-Err.ensures.status) (IsOneOf-more reading_statuses (0 ∷ 2 ∷ 3 ∷ 4 ∷ 5 ∷ 6 ∷ 8 ∷ 9 ∷ 10 ∷ 11 ∷ 12 ∷ 13 ∷ 20 ∷ 21 ∷ []) (failure_status c.in-Err.failure) refl c.in-Err.ensures.status)
+    subst IsStatus (sym c.refuse-in-Err.ensures.status) (IsOneOf-more reading_statuses run_statuses (failure_status c.in-Err.failure) refl c.in-Err.ensures.status)
 
 pub returns-in-Err-clause-complete : goal.returns-in-Err-clause-complete
 returns-in-Err-clause-complete g c = λ well.
@@ -35,70 +35,78 @@ pub returns-in-Err-text_of-clause-missing : goal.returns-in-Err-text_of-clause-m
 returns-in-Err-text_of-clause-missing g c =
     let files = g.S.Source.files c.args.source.now in
     let words = map string_bytes c.args.words.now in
-    MissingCause-read files words (paths_view c.in-Some.paths) (input_view c.in-Ok.input) _ (sym c.in-Some.ensures) c.in-Ok.ensures.input
+    let read = c.in-Ok.ensures.input in
+    MissingCause-read files words (paths_view c.in-Some.paths) read.0 _ (sym c.in-Some.ensures) read.2
 
 pub returns-in-Err-text_of-clause-input : goal.returns-in-Err-text_of-clause-input
 returns-in-Err-text_of-clause-input g c =
     let files = g.S.Source.files c.args.source.now in
     let words = map string_bytes c.args.words.now in
+    let read = c.in-Ok.ensures.input in
     let status = failure_status c.in-Err-text_of.failure in
     let not_long = IsOneOf-other text_statuses status 4 c.in-Err-text_of.ensures.status refl in
-    let said = InputCauses-text files words (paths_view c.in-Some.paths) (input_view c.in-Ok.input) status (sym c.in-Some.ensures) c.in-Ok.ensures.input c.in-Err-text_of.ensures.causes not_long in
+    let said = InputCauses-text files words (paths_view c.in-Some.paths) read.0 status (sym c.in-Some.ensures) read.2 (c.in-Err-text_of.ensures.causes read.0 read.1) not_long in
     subst (InputCauses files words) (sym c.refuse-in-Err-text_of.ensures.status) said
 
 pub returns-in-Err-text_of-clause-status : goal.returns-in-Err-text_of-clause-status
 returns-in-Err-text_of-clause-status g c =
-    subst IsStatus (sym c.refuse-in-Err-text_of.ensures.status) (IsOneOf-more text_statuses (0 ∷ 2 ∷ 3 ∷ 4 ∷ 5 ∷ 6 ∷ 8 ∷ 9 ∷ 10 ∷ 11 ∷ 12 ∷ 13 ∷ 20 ∷ 21 ∷ []) (failure_status c.in-Err-text_of.failure) refl c.in-Err-text_of.ensures.status)
+    subst IsStatus (sym c.refuse-in-Err-text_of.ensures.status) (IsOneOf-more text_statuses run_statuses (failure_status c.in-Err-text_of.failure) refl c.in-Err-text_of.ensures.status)
 
 pub returns-in-Err-text_of-clause-complete : goal.returns-in-Err-text_of-clause-complete
 returns-in-Err-text_of-clause-complete g c = λ well.
     let files = g.S.Source.files c.args.source.now in
     let words = map string_bytes c.args.words.now in
-    let said = complete_read files words (paths_view c.in-Some.paths) (input_view c.in-Ok.input) _ _ _ _ (failure_status c.in-Err-text_of.failure) (sym c.in-Some.ensures) c.in-Ok.ensures.input c.in-Err-text_of.ensures.complete well in
+    let read = c.in-Ok.ensures.input in
+    let said = complete_read files words (paths_view c.in-Some.paths) read.0 _ _ _ _ (failure_status c.in-Err-text_of.failure) (sym c.in-Some.ensures) read.2 (c.in-Err-text_of.ensures.complete read.0 read.1) well in
     subst (IsOneOf (0 ∷ 9 ∷ [])) (sym c.refuse-in-Err-text_of.ensures.status) said
 
 pub returns-in-Ok-write_all-clause-carried : goal.returns-in-Ok-write_all-clause-carried
 returns-in-Ok-write_all-clause-carried g c = λ _.
     let files = g.S.Source.files c.args.source.now in
     let words = map string_bytes c.args.words.now in
-    Succeeds-read files words (paths_view c.in-Some.paths) (input_view c.in-Ok.input) c.in-Ok-text_of.text.items _ _ (sym c.in-Some.ensures) c.in-Ok.ensures.input c.in-Ok-text_of.ensures.carried (rw c.deref.ensures.value at c.in-Ok-write_all.ensures.whole)
+    let read = c.in-Ok.ensures.input in
+    Succeeds-read files words (paths_view c.in-Some.paths) read.0 c.in-Ok-text_of.text.items _ _ (sym c.in-Some.ensures) read.2 (c.in-Ok-text_of.ensures.carried read.0 read.1) (rw c.deref.ensures.value at c.in-Ok-write_all.ensures.whole)
 
 pub returns-in-Ok-write_all-clause-missing : goal.returns-in-Ok-write_all-clause-missing
 returns-in-Ok-write_all-clause-missing g c =
     let files = g.S.Source.files c.args.source.now in
     let words = map string_bytes c.args.words.now in
-    MissingCause-read files words (paths_view c.in-Some.paths) (input_view c.in-Ok.input) _ (sym c.in-Some.ensures) c.in-Ok.ensures.input
+    let read = c.in-Ok.ensures.input in
+    MissingCause-read files words (paths_view c.in-Some.paths) read.0 _ (sym c.in-Some.ensures) read.2
 
 pub returns-in-Ok-write_all-clause-input : goal.returns-in-Ok-write_all-clause-input
 returns-in-Ok-write_all-clause-input g c =
     let files = g.S.Source.files c.args.source.now in
     let words = map string_bytes c.args.words.now in
-    let said = InputCauses-text files words (paths_view c.in-Some.paths) (input_view c.in-Ok.input) 0 (sym c.in-Some.ensures) c.in-Ok.ensures.input c.in-Ok-text_of.ensures.causes (λ e. omega (arith, e)) in
+    let read = c.in-Ok.ensures.input in
+    let said = InputCauses-text files words (paths_view c.in-Some.paths) read.0 0 (sym c.in-Some.ensures) read.2 (c.in-Ok-text_of.ensures.causes read.0 read.1) (λ e. omega (arith, e)) in
     subst (InputCauses files words) (sym c.code.ensures) said
 
 pub returns-clause-missing : goal.returns-clause-missing
 returns-clause-missing g c =
     let files = g.S.Source.files c.args.source.now in
     let words = map string_bytes c.args.words.now in
-    MissingCause-read files words (paths_view c.in-Some.paths) (input_view c.in-Ok.input) _ (sym c.in-Some.ensures) c.in-Ok.ensures.input
+    let read = c.in-Ok.ensures.input in
+    MissingCause-read files words (paths_view c.in-Some.paths) read.0 _ (sym c.in-Some.ensures) read.2
 
 pub returns-clause-input : goal.returns-clause-input
 returns-clause-input g c =
     let files = g.S.Source.files c.args.source.now in
     let words = map string_bytes c.args.words.now in
-    let read = input_view c.in-Ok.input in
-    let said = InputCauses-text files words (paths_view c.in-Some.paths) read 8 (sym c.in-Some.ensures) c.in-Ok.ensures.input (TextCauses-write read c.in-Ok-text_of.ensures.causes) (λ e. omega (arith, e)) in
+    let read = c.in-Ok.ensures.input in
+    let said = InputCauses-text files words (paths_view c.in-Some.paths) read.0 8 (sym c.in-Some.ensures) read.2 (TextCauses-write read.0 (c.in-Ok-text_of.ensures.causes read.0 read.1)) (λ e. omega (arith, e)) in
     subst (InputCauses files words) (sym c.refuse-in-Err-write_all.ensures.status) said
 
 pub returns-clause-front : goal.returns-clause-front
 returns-clause-front g c = λ _.
     let files = g.S.Source.files c.args.source.now in
     let words = map string_bytes c.args.words.now in
-    PrefixWritten-read files words (paths_view c.in-Some.paths) (input_view c.in-Ok.input) c.in-Ok-text_of.text.items _ _ (sym c.in-Some.ensures) c.in-Ok.ensures.input c.in-Ok-text_of.ensures.carried (rw c.deref.ensures.value at c.in-Err-write_all.ensures.front)
+    let read = c.in-Ok.ensures.input in
+    PrefixWritten-read files words (paths_view c.in-Some.paths) read.0 c.in-Ok-text_of.text.items _ _ (sym c.in-Some.ensures) read.2 (c.in-Ok-text_of.ensures.carried read.0 read.1) (rw c.deref.ensures.value at c.in-Err-write_all.ensures.front)
 
 pub returns-clause-status : goal.returns-clause-status
 returns-clause-status g c =
-    subst IsStatus (sym c.refuse-in-Err-write_all.ensures.status) (IsOneOf-from (0 ∷ 2 ∷ 3 ∷ 4 ∷ 5 ∷ 6 ∷ 8 ∷ 9 ∷ 10 ∷ 11 ∷ 12 ∷ 13 ∷ 20 ∷ 21 ∷ []) 8 refl)
+    subst IsStatus (sym c.refuse-in-Err-write_all.ensures.status) (IsOneOf-from run_statuses 8 refl)
 
 pub returns-in-Err-clause-said : goal.returns-in-Err-clause-said
 returns-in-Err-clause-said g c = λ _.

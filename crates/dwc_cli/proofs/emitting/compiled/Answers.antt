@@ -12,7 +12,7 @@ pub returns-in_err-compilation : goal.returns-in_err-compilation
 returns-in_err-compilation c = λ read is.
     let p = err_from_is_err_and c.from_residual.result c.from_residual.ensures.1 in
     let isa = c.args.isa.now in
-    rw (p.1, p.2) (refused-compiling CompilationValue c.args.translations.now _ isa.order isa.pointer_bytes read is c.in_err-compilation.field-0.0 (c.in_err-compilation.ensures).distinct)
+    rw (p.1, p.2) (refused-compiling CompilationValue c.args.translations.now _ c.args.memory_offsets.items isa.order isa.pointer_bytes isa.registers read is c.in_err-compilation.field-0.0 (c.in_err-compilation.ensures).distinct)
 
 -- no DWARF is emitted
 pub returns-in_err-emitted_for : goal.returns-in_err-emitted_for
@@ -20,14 +20,14 @@ returns-in_err-emitted_for c = λ read is.
     let p = err_from_is_err_and c.from_residual-in_err-emitted_for.result c.from_residual-in_err-emitted_for.ensures.1 in
     let isa = c.args.isa.now in
     let given = sym (c.in_ok-compilation.ensures).value in
-    let seen = subst (λ v. IsCompiled isa.order isa.pointer_bytes v.translations v.functions read) given is in
+    let seen = subst (λ v. IsCompiled isa.order isa.pointer_bytes isa.registers v.translations v.functions v.memory_offsets read) given is in
     let none = subst (λ v. shared_symbol (map symbol_view (all_symbols v.functions)) ≡ None) given (c.in_ok-compilation.ensures).distinct in
-    rw (p.1, p.2) (refused-emitting c.in_ok-compilation.compilation isa.order isa.pointer_bytes read seen none c.in_err-emitted_for.field-0.0 c.in_err-emitted_for.ensures)
+    rw (p.1, p.2) (refused-emitting c.in_ok-compilation.compilation isa.order isa.pointer_bytes isa.registers read seen none c.in_err-emitted_for.field-0.0 c.in_err-emitted_for.ensures)
 
 pub returns : goal.returns
 returns c = λ read is.
     let isa = c.args.isa.now in
     let given = sym (c.in_ok-compilation.ensures).value in
-    let seen = subst (λ v. IsCompiled isa.order isa.pointer_bytes v.translations v.functions read) given is in
+    let seen = subst (λ v. IsCompiled isa.order isa.pointer_bytes isa.registers v.translations v.functions v.memory_offsets read) given is in
     let none = subst (λ v. shared_symbol (map symbol_view (all_symbols v.functions)) ≡ None) given (c.in_ok-compilation.ensures).distinct in
-    emitted c.in_ok-compilation.compilation isa.order isa.pointer_bytes read seen none c.in_ok-emitted_for.field-0 c.in_ok-emitted_for.ensures
+    emitted c.in_ok-compilation.compilation isa.order isa.pointer_bytes isa.registers read seen none c.in_ok-emitted_for.field-0 c.in_ok-emitted_for.ensures

@@ -1,13 +1,12 @@
 use Rattle.std.proofs.Common.{◌≡◌, ◌++◌, map, drop, option_map}
 use Rattle.serde_json.specs.View.{items_view}
-use Rattle.dwc_clif.specs.AddressMaps.{address_map_view}
-use Rattle.dwc_cli.specs.MapFile.{address_map_of, all_items}
-use Rattle.dwc_cli.specs.MapViews.{HaveOneSource}
+use Rattle.dwc_cli.specs.MapFile.{map_function_of, all_items}
+use Rattle.dwc_cli.specs.MapViews.{function_view, HaveOneSource}
 use Rattle.dwc_cli.proofs.map_file.read_functions.Given as goal
 
 -- the functions so far, and those of the values to come, are those of all values
 abbrev pub invariant-loop-value : goal.invariant-loop-value
 invariant-loop-value l = record {
-  value : option_map (λ fs. map address_map_view l.functions.items ++ fs) (all_items address_map_of (items_view (drop l.value-index l.values))) ≡ all_items address_map_of (items_view l.values);
+  value : option_map (λ fs. map function_view l.functions.items ++ fs) (all_items map_function_of (items_view (drop l.value-index l.values))) ≡ all_items map_function_of (items_view l.values);
   sources : HaveOneSource l.functions.items;
 }

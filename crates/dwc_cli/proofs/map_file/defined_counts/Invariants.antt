@@ -1,5 +1,5 @@
 use Rattle.std.proofs.Common.{◌≡◌, ◌++◌, map, drop}
-use Rattle.dwc_cli.proofs.map_file.map_of.Given as goal
+use Rattle.dwc_cli.proofs.map_file.defined_counts.Given as goal
 
 -- the counts so far, and those of the modules to come, are those of all modules
 abbrev pub invariant-loop-module : goal.invariant-loop-module
