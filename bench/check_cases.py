@@ -9,6 +9,7 @@ import tempfile
 
 import plain_run
 from plain_entries import AT_HIGH_PC, AT_LOW_PC, AT_RANGES, Reader, read_units
+from plain_expressions import OPERANDS
 
 
 def sections_of(text):
@@ -97,6 +98,54 @@ def lists_of(text, size, order):
     return lists
 
 
+def places_of(text):
+    """What the entries of printed sections say of where values are, with the lowest byte of a number first: of each attribute that says
+    something `HEX`, an expression, or `[BEGIN-END HEX ..]`, a list."""
+    sections = {name: bytes(body) for name, body, _ in sections_of(text)}
+    said = []
+    for unit in read_units(sections) if sections else []:
+        for kind, what, *_ in (value for entry in unit.entries for _, value in entry.attributes):
+            if kind == "expression":
+                said.append(what.hex())
+            elif kind == "locations":
+                found, _ = locations_at(sections[".debug_loc"], what, unit.address_size, "little")
+                said.append(f"[{' '.join(f'{begin}-{end} {data.hex()}'.strip() for begin, end, data in found)}]")
+    return said
+
+
+def locations_at(body, at, size, order):
+    """The begins, ends and expressions of a list of `.debug_loc`, and where the list ends."""
+    number = lambda count: int.from_bytes(reader.take(count), order)
+    reader, found = Reader(body, at), []
+    while any(pair := (number(size), number(size))):
+        found.append((*pair, reader.take(number(2))))
+    return found, reader.at
+
+
+def location_lists(text, size, order):
+    """The offset of each list of `.debug_loc`, with the begins, the ends and the places of the operations of its entries."""
+    body, at, lists = body_of(text, ".debug_loc"), 0, []
+    while at < len(body):
+        found, end = locations_at(body, at, size, order)
+        lists.append((at, [(begin, stop, operation_places(data)) for begin, stop, data in found]))
+        at = end
+    return lists
+
+
+def operation_places(data):
+    """Where the operations of an expression of an output begin."""
+    reader, places = Reader(data), []
+    while reader.at < len(data):
+        places.append(reader.at)
+        code = reader.number(1)
+        for kind in OPERANDS.get(code, ["sleb"] if 0x70 <= code < 0x90 else OF_REGISTERS.get(code, [])):
+            reader.leb() if isinstance(kind, str) else reader.take(kind)
+    return places
+
+
+OF_REGISTERS = {0x90: ["uleb"], 0x92: ["uleb", "sleb"]}
+
+
 # ---- outside tools
 
 # By the byte order and the address size: the class, the order and the machine of an ELF file.
@@ -130,7 +179,7 @@ def elf(order, size, sections):
 
 def asked(tool, option, path):
     """What a tool prints of a file; what it complains of goes with it."""
-    found = subprocess.run([tool, option, path], capture_output=True, text=True)
+    found = subprocess.run([tool, option, path], capture_output=True, text=True, timeout=20)
     return found.stdout.splitlines(), found.stderr
 
 
@@ -155,6 +204,22 @@ def printed_lists(lines):
 HEXADECIMAL = set("0123456789abcdef")
 
 
+def printed_locations(lines):
+    """The location lists that eu-readelf prints: as `location_lists` says them."""
+    lists, entries = [], []
+    for line in lines:
+        found = re.match(r" \[ *([0-9a-f]+)\] (range|<|empty list)", line)
+        if found:
+            entries = []
+            lists.append((int(found[1], 16), entries))
+        bounds = re.search(r"range ([0-9a-f]+), ([0-9a-f]+)$", line)
+        if bounds:
+            entries.append((int(bounds[1], 16), int(bounds[2], 16), []))
+        elif place := re.match(r"           +\[ *([0-9]+)\]", line):
+            entries[-1][2].append(int(place[1]))
+    return lists
+
+
 def printed_code(lines):
     """What llvm-dwarfdump prints of the code of entries, as `code_of` says it."""
     said, entries = [], "\n".join(lines).split("DW_TAG_")[1:]
@@ -169,39 +234,101 @@ def printed_code(lines):
     return said
 
 
+def printed_expressions(lines):
+    """Where the operations of the expressions begin that eu-readelf prints of entries."""
+    expressions = []
+    for line in lines:
+        if "(exprloc)" in line or "(block" in line:
+            expressions.append([])
+        elif place := re.match(r" {10,}\[ *([0-9]+)\]", line):
+            expressions[-1].append(int(place[1]))
+    return expressions
+
+
+def expressions_of(text):
+    sections = {name: bytes(body) for name, body, _ in sections_of(text)}
+    values = [value for unit in read_units(sections) for entry in unit.entries for _, value in entry.attributes]
+    return [operation_places(value[1]) if value[0] == "expression" else [] for value in values if value[0] in ("expression", "block")]
+
+
+# What --verify says of entries that stand so in the input; it wants a root with a begin where there is a location list.
+SAID_BY_INPUTS = ("overlapping", "not contained in its parent's ranges", "incompatible tag", "_file that references", "_file with")
+SAID_BY_INPUTS += ("Base address not defined", "Unsupported DW_AT_location encoding: DW_FORM_data")
+
+
+def verified(sections, order, size, lengths):
+    """What llvm-dwarfdump complains of where functions stand one behind another, but for what is so in the input."""
+    starts = [0x10000 + sum(lengths[:i]) for i in range(len(lengths))]
+    bodies = []
+    for name, body, relocations in sections:
+        for offset, count, kind, number, *addend in relocations:
+            if kind == "func":
+                offset, count = int(offset), int(count)
+                body[offset : offset + count] = (starts[int(number)] + int(addend[0])).to_bytes(count, order)
+        bodies.append((name, body))
+    with tempfile.NamedTemporaryFile(suffix=".o") as file:
+        file.write(elf(order, size, bodies))
+        file.flush()
+        try:
+            lines, _ = asked("llvm-dwarfdump", "--verify", file.name)
+        except subprocess.TimeoutExpired:
+            return []  # it does not end where a call site stands beside subprograms
+    return [line for line in lines if line.startswith(("error", "warning")) and not any(words in line for words in SAID_BY_INPUTS)]
+
+
 def complaints(text, order, size, path):
     """What outside tools read otherwise in an output than it says, and what they complain of."""
     lines, _ = asked("llvm-dwarfdump", "--debug-line", path)
     units, errors = asked("llvm-dwarfdump", "--debug-info", path)
     ranges, _ = asked("llvm-dwarfdump", "--debug-ranges", path)
+    locations, _ = asked("llvm-dwarfdump", "--debug-loc", path)
     others, _ = asked("readelf", "--debug-dump=Ranges", path)
     lists, of_entries = lists_of(text, size, order), printed_lists(others)
     compared = [(printed_rows(lines), [row for rows in rows_of(text) for row in rows]), (printed_lists(ranges), lists)]
     compared.append((of_entries, [pair for pair in lists if pair[0] in dict(of_entries)]))  # readelf reads those of `ranges` alone
     compared.append((len(of_entries), sum("DW_AT_ranges" in line for line in units)))
     compared += [(printed_code(units), code_of(text))] if order == "little" else []
+    compared += compared_locations(text, order, size, path, locations)
     found = [pair for pair in compared if pair[0] != pair[1]]
-    return found + ([errors[:300]] if "error" in errors or "warning" in errors else [])
+    bad = [line for line in units + locations if "decoding error" in line]
+    return found + bad[:3] + ([errors[:300]] if "error" in errors or "warning" in errors else [])
+
+
+def compared_locations(text, order, size, path, lines):
+    """The location lists and expressions that llvm-dwarfdump, readelf and eu-readelf print, each beside what the output says."""
+    lists = location_lists(text, size, order)
+    entries = [(begin, end, len(places)) for _, found in lists for begin, end, places in found]
+    bounds = [re.match(r" +\(0x([0-9a-f]+), 0x([0-9a-f]+)\): (.*)", line) for line in lines]
+    compared = [([(int(found[1], 16), int(found[2], 16), found[3].count("DW_OP_")) for found in bounds if found], entries)]
+    others, _ = asked("readelf", "--debug-dump=loc", path)
+    bounds = [re.match(r" +[0-9a-f]{8} ([0-9a-f]{8,}) ([0-9a-f]{8,}) \((.*)\)", line) for line in others]
+    compared.append(([(int(found[1], 16), int(found[2], 16), found[3].count("DW_OP_")) for found in bounds if found], entries))
+    others, _ = asked("eu-readelf", "--debug-dump=loc", path)
+    compared.append((printed_locations(others), lists))
+    others, _ = asked("eu-readelf", "--debug-dump=info", path)
+    return compared + ([(printed_expressions(others), expressions_of(text))] if order == "little" else [])
 
 
 def check(outputs):
-    """Asks llvm-dwarfdump for each output that has units: whether it reads them without complaint, and the same rows, range lists
-    and bounds in them; and readelf, whether it reads the same range lists."""
+    """Asks outside tools of each output that has units: llvm-dwarfdump whether it reads them without complaint, and the same rows,
+    range lists, bounds and locations in them; readelf, whether it reads the same range lists and locations, and eu-readelf the same
+    locations and expressions."""
     bad = 0
     for name, map_text, text in outputs:
         sections = sections_of(text)
         if not sections:
             continue
-        target = json.loads(map_text)["target"]
-        order = "big" if target.get("big_endian") else "little"
-        size = target.get("pointer_bytes", 8)
+        told = json.loads(map_text)
+        order = "big" if told["target"].get("big_endian") else "little"
+        size = told["target"].get("pointer_bytes", 8)
         with tempfile.TemporaryDirectory() as folder:
             path = os.path.join(folder, "output.o")
             with open(path, "wb") as file:
                 file.write(elf(order, size, [(section, body) for section, body, _ in sections]))
             found = complaints(text, order, size, path)
+        found += verified(sections, order, size, [f["body_len"] for module in told["modules"] for f in module["functions"]])
         if found:
             bad += 1
-            print(name, *found)
+            print(name, *(str(pair)[:1000] for pair in found))
     print(f"{len(outputs)} outputs, {bad} not as printed")
     sys.exit(1 if bad else 0)

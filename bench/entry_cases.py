@@ -249,14 +249,15 @@ def refused_cases(carried, refused):
     for what, attribute in [
         ("an expression", (0x02, 0x18, b"\x01\x30")),
         ("a block that is an expression", (0x02, 0x0A, b"\x01\x30")),
-        ("a location list", (0x02, SEC_OFFSET, bytes(4))),
         ("a length that is an expression", (HIGH_PC, 0x18, b"\x01\x30")),
     ]:
-        refused(f"{what} is not built", 11, f"Unsupported NotBuilt {at}", with_attribute(attribute))
+        carried(what, with_attribute(attribute))
+    refused("a location list of a section that is not there", 10, "Read LocationList .debug_loc 0", with_attribute((0x02, SEC_OFFSET, bytes(4))))
     carried("an address", with_attribute((0x2100, ADDR, u32(2))))
     refused("a range list under another name", *NO_LIST, with_attribute((0x2C, SEC_OFFSET, bytes(4))))
-    refused("a text before what is not built", 10, f"Read Text .debug_info {at}", root(subprogram(name(STRP, u32(0)), (0x02, 0x18, b"\x01\x30"))))
-    refused("what is not built before a text", 11, f"Unsupported NotBuilt {at}", root(subprogram((0x02, 0x18, b"\x01\x30"), name(STRP, u32(0)))))
+    cut_expression = (0x02, 0x18, b"\x01\x10")
+    refused("a text before an expression", 10, f"Read Text .debug_info {at}", root(subprogram(name(STRP, u32(0)), cut_expression)))
+    refused("an expression before a text", 10, f"Read Expression .debug_info {at + 10}", root(subprogram(cut_expression, name(STRP, u32(0)))))
     refused("a text of the second unit behind the first", 10, "Read Text .debug_info 42", root(subprogram()), root(subprogram(name(STRP, u32(0)))))
     refused("a file that is not there behind no line table", 12, "InvalidFileIndex 0", root(subprogram(name(STRP, u32(0)))), sections=[(".debug_line", BAD_LINES)])
 

@@ -14,6 +14,8 @@ import sys
 
 import check_cases
 import entry_cases
+import location_cases
+import location_refusals
 import plain_run
 import range_cases
 from form_cases import FORMS, REFUSED_FORMS
@@ -72,7 +74,7 @@ def function(symbol=0, start=22, end=33, length=30, entries=SOURCES):
 
 def map_of(*modules, **target):
     value = {"target": {"arch": "x86_64", **target}, "names": ["set_mem", "resolve_mem"]}
-    value["modules"] = [{"functions": functions} for functions in modules]
+    value["modules"] = [module if isinstance(module, dict) else {"functions": module} for module in modules]
     return json.dumps(value, separators=(",", ":"))
 
 
@@ -111,18 +113,16 @@ class Cases:
         """A run that must end with a status and a line."""
         self.add("run", name, [*(f"word {word}" for word in words), *self.files(files)], f"status {status}\ndwarfcarry: {line}\n")
 
-    def carried(self, name, map_text, *modules, text=None, rows=None, code=None):
-        """A run that must end well; its text, the rows (line and native offset) of each sequence, or what entries say of their code
-        may be given by hand."""
+    def carried(self, name, map_text, *modules, text=None, rows=None, code=None, places=None):
+        """A run that must end well; its text, the rows (line and native offset) of each sequence, or what entries say of their code or
+        of the places of values may be given by hand."""
         printed = plain_run.printed_text(map_text.encode(), list(modules))
-        plain_run.check_bytes(map_text.encode(), list(modules))
-        plain_run.check_scopes(map_text.encode(), list(modules))
-        if text is not None and text != printed:
-            sys.exit(f"{name}: {printed}")
-        if rows is not None and rows != check_cases.rows_of(printed):
-            sys.exit(f"{name}: {check_cases.rows_of(printed)}")
-        if code is not None and code != check_cases.code_of(printed):
-            sys.exit(f"{name}: {check_cases.code_of(printed)}")
+        for check in (plain_run.check_bytes, plain_run.check_scopes, plain_run.check_locations):
+            check(map_text.encode(), list(modules))
+        read = [(text, str), (rows, check_cases.rows_of), (code, check_cases.code_of), (places, check_cases.places_of)]
+        for wanted, said in read:
+            if wanted is not None and wanted != said(printed):
+                sys.exit(f"{name}: {said(printed)}")
         paths = [f"{i}.wasm" for i in range(len(modules))]
         files = [("map.json", map_text), *zip(paths, modules)]
         parts = [f"word {word}" for word in ["map.json", *paths]]
@@ -782,6 +782,7 @@ def main():
         unit_run_cases(),
         entry_run_cases(),
         range_cases.range_cases(Cases("ranges.txt"), module, map_of),
+        location_refusals.refusal_cases(location_cases.location_cases(Cases("locations.txt"), module, map_of), FRONT),
         line_cases(),
         listing_cases(),
     ]

@@ -26,6 +26,15 @@ Entries of any kind:
 - chain: N entries, each of which is kept by the one before it alone.
 - long_text: N entries whose names are one text of N bytes.
 - nested: N blocks, one in another.
+- blocks: one function of N sources, with a block for each of them.
+- long_list: the same with one block, whose range list has an interval for every second source.
+
+Where values lie:
+
+- variables: N variables on a frame base in a register, in one function of 20 sources.
+- long_locations: one function of N sources, with a variable whose location list has an interval for every second source.
+- placed: one variable whose value has N places, one behind another.
+- expressions: one entry of N attributes, each of which is an expression.
 """
 
 import argparse
@@ -168,9 +177,9 @@ def body_of(size):
 def map_of(modules):
     """The map of some modules by their functions."""
     return {
-        "target": {"arch": "x86_64"},
+        "target": {"arch": "x86_64", "registers": [[1, 3], [2, 14]]},
         "names": ["set_mem", "resolve_mem"],
-        "modules": [{"path": f"/bench/module{i}.wasm", "functions": fs} for i, fs in enumerate(modules)],
+        "modules": [{"path": f"/bench/module{i}.wasm", "memory": {"defined": 80}, "functions": fs} for i, fs in enumerate(modules)],
     }
 
 
@@ -433,6 +442,52 @@ def long_list_module(count):
     return wasm + custom(".debug_ranges", pairs + bytes(8)), functions
 
 
+# ---- where values lie
+
+# A compile unit, a subprogram with a frame base, and variables with an expression or a location list.
+VALUES = bytes.fromhex("011101 0000 022E01 1101 1206 4018 0000 033400 0218 0000 043400 0217 0000 00")
+FRAME_BASE = bytes.fromhex("04 ED00009F")  # the value of local 0
+ON_FRAME_BASE = bytes.fromhex("02 9110")
+IN_REGISTER = "reg"
+
+
+def values_module(variables, size, entries, length, ranges, abbreviations=VALUES):
+    """A module of one function with some variables, whose local 0 has some ranges of places, beside the module's context in a register."""
+
+    def info(start):
+        return unit_of(bytes([1, 2]) + u32(start) + u32(size) + FRAME_BASE + variables(start) + bytes([0]))
+
+    wasm, [function] = one_function(size, info, no_lines, abbreviations, entries, length)
+    function["labels"] = [[0, ranges], [4294967294, [[0, length, IN_REGISTER, 2]]]]
+    return wasm, [function]
+
+
+def variables_module(count):
+    entries = [[5 * i, 2 * i] for i in range(20)]
+    return values_module(lambda start: (bytes([3]) + ON_FRAME_BASE) * count, BODY, entries, CODE, [[0, CODE // 2, IN_REGISTER, 1]])
+
+
+def long_locations_module(count):
+    size, entries = 2 * count + 2, [[3 * i, 2 * i] for i in range(count)]
+    ranges = [[0, 3 * count, IN_REGISTER, 1]]
+    wasm, functions = values_module(lambda start: bytes([4]) + u32(0), size, entries, 3 * count, ranges)
+    [start] = places([body_of(size)])
+    pairs = b"".join(u32(start + 4 * i) + u32(start + 4 * i + 2) + bytes.fromhex("0400 ED00009F") for i in range(count // 2))
+    return wasm + custom(".debug_loc", pairs + bytes(8)), functions
+
+
+def placed_module(count):
+    ranges = [[2 * i, 2 * i + 2, IN_REGISTER, 1 + i % 2] for i in range(count)]
+    return values_module(lambda start: bytes([3]) + ON_FRAME_BASE, BODY, [[0, 0]], 2 * count, ranges)
+
+
+def expressions_module(count):
+    names = b"".join(uleb(0x2100 + i) + bytes([0x18]) for i in range(count))
+    abbreviations = VALUES[:-1] + bytes.fromhex("05 3400") + names + bytes(3)
+    ranges = [[0, CODE, IN_REGISTER, 1]]
+    return values_module(lambda start: bytes([5]) + ON_FRAME_BASE * count, BODY, [[0, 0]], CODE, ranges, abbreviations)
+
+
 # The kinds of modules, each with what makes the modules of a size.
 KINDS = {
     "functions": lambda n: [functions_module(n)],
@@ -452,6 +507,10 @@ KINDS = {
     "nested": lambda n: [nested_module(n)],
     "blocks": lambda n: [blocks_module(n)],
     "long_list": lambda n: [long_list_module(n)],
+    "variables": lambda n: [variables_module(n)],
+    "long_locations": lambda n: [long_locations_module(n)],
+    "placed": lambda n: [placed_module(n)],
+    "expressions": lambda n: [expressions_module(n)],
 }
 
 # The sizes of each kind, unless they are given.
@@ -473,6 +532,10 @@ SIZES = {
     "nested": [50000, 100000],
     "blocks": [50000, 100000],
     "long_list": [100000, 200000],
+    "variables": [50000, 100000],
+    "long_locations": [50000, 100000],
+    "placed": [100000, 200000],
+    "expressions": [25000, 50000],
 }
 
 

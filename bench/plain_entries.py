@@ -4,12 +4,17 @@ from dataclasses import dataclass, field
 
 TAG_COMPILE_UNIT, TAG_SUBPROGRAM, TAG_NAMESPACE, TAG_VARIABLE, TAG_CONSTANT, TAG_BASE_TYPE = 0x11, 0x2E, 0x39, 0x34, 0x27, 0x24
 AT_SIBLING, AT_STMT_LIST, AT_LOW_PC, AT_HIGH_PC, AT_RANGES, AT_START_SCOPE = 0x01, 0x10, 0x11, 0x12, 0x55, 0x2C
-AT_DECL_FILE, AT_CALL_FILE, AT_ENDIANITY, AT_STR_OFFSETS_BASE, AT_ADDR_BASE, AT_RNGLISTS_BASE = 0x3A, 0x58, 0x65, 0x72, 0x73, 0x74
+AT_DECL_FILE, AT_CALL_FILE, AT_ENDIANITY, AT_FRAME_BASE = 0x3A, 0x58, 0x65, 0x40
+AT_STR_OFFSETS_BASE, AT_ADDR_BASE, AT_RNGLISTS_BASE, AT_LOCLISTS_BASE = 0x72, 0x73, 0x74, 0x8C
 LOCATION_NAMES = (0x02, 0x19, 0x2A, 0x38, 0x40, 0x46, 0x48, 0x4A, 0x4D)
 EXPRESSION_NAMES = LOCATION_NAMES + (0x0B, 0x0D, 0x22, 0x2E, 0x2F, 0x37, 0x4E, 0x4F, 0x50, 0x51)
-DROPPED_NAMES = (AT_SIBLING, 0x43, AT_STR_OFFSETS_BASE, AT_ADDR_BASE, AT_RNGLISTS_BASE, 0x8C, 0x76, 0x79, 0x2137)
+DROPPED_NAMES = (AT_SIBLING, 0x43, AT_STR_OFFSETS_BASE, AT_ADDR_BASE, AT_RNGLISTS_BASE, AT_LOCLISTS_BASE, 0x76, 0x79, 0x2137)
 PART_TAGS = (0x05, 0x0A, 0x0B, 0x0D, 0x18, 0x19, 0x1C, 0x1D, 0x21, 0x22, 0x25, 0x28, 0x2F, 0x30, 0x32, 0x33, 0x48, 0x49)
-USUAL_BASES = {AT_STR_OFFSETS_BASE: 8, AT_ADDR_BASE: 8, AT_RNGLISTS_BASE: 12}  # behind the header of the section
+USUAL_BASES = {AT_STR_OFFSETS_BASE: 8, AT_ADDR_BASE: 8, AT_RNGLISTS_BASE: 12, AT_LOCLISTS_BASE: 12}  # behind the header of the section
+
+
+class Refused(ValueError):
+    """What a run refuses, by the line that it prints."""
 
 
 class Reader:
@@ -168,9 +173,10 @@ def value_of(reader, unit, name, form, implicit):
     if form in (0x03, 0x04, 0x0A, 0x09):
         size = {0x03: 2, 0x04: 4, 0x0A: 1}.get(form)
         data = reader.take(reader.number(size) if size else reader.uleb())
-        return ("expression" if name in EXPRESSION_NAMES else "block", data)
+        return ("expression", data, reader.at - len(data)) if name in EXPRESSION_NAMES else ("block", data)
     if form == 0x18:
-        return ("expression", reader.take(reader.uleb()))
+        data = reader.take(reader.uleb())
+        return ("expression", data, reader.at - len(data))
     if form in fixed:
         number = reader.number(fixed[form])
         old = form == 0x06 and unit.version < 4 and section_offset(name, number)[0] != "dropped"

@@ -2,6 +2,7 @@
 scan over all runs of a function. (DWARF 4 and 5, section 2.17; runs and how they translate are this project's own.)"""
 
 from dataclasses import dataclass
+from functools import cache
 from itertools import groupby
 
 from plain_entries import AT_HIGH_PC, AT_LOW_PC, AT_RANGES, TAG_COMPILE_UNIT, TAG_SUBPROGRAM, address_of, is_range_list, range_entries
@@ -13,26 +14,36 @@ UDATA = 0x0F
 # ---- what the input says
 
 
+class TooLong(ValueError):
+    """A start plus a length that is no address."""
+
+
 def interval_of_length(start, length):
     if start + length >= ADDRESSES:
-        raise ValueError("a start plus a length that is no address")
+        raise TooLong
     return start, start + length
 
 
+def first_base(sections, unit):
+    """What lists count from until they select another base: the begin of the unit's root."""
+    return address_of(sections, unit, unit.root.value(AT_LOW_PC)) or 0
+
+
+def interval_of(base, kind, first, second):
+    """The interval that an entry of a list says. Offsets and the pairs of an old list count from a base, modulo 2^64."""
+    if kind == "length":
+        return interval_of_length(first, second)
+    return (first, second) if kind == "ends" else ((base + first) % ADDRESSES, (base + second) % ADDRESSES)
+
+
 def intervals_of(sections, unit, value):
-    """The intervals of a range list, without the empty ones. Offsets and the pairs of an old list count from a base, modulo 2^64:
-    the begin of the unit's root, until the list selects another."""
-    base = address_of(sections, unit, unit.root.value(AT_LOW_PC)) or 0
-    intervals = []
-    for kind, first, *more in range_entries(sections, unit, value):
+    """The intervals of a range list, without the empty ones."""
+    base, intervals = first_base(sections, unit), []
+    for kind, *operands in range_entries(sections, unit, value):
         if kind == "base":
-            base = first
-        elif kind == "length":
-            intervals.append(interval_of_length(first, *more))
-        elif kind == "ends":
-            intervals.append((first, *more))
+            base = operands[0]
         else:
-            intervals.append(tuple((base + n) % ADDRESSES for n in (first, *more)))
+            intervals.append(interval_of(base, kind, *operands))
     return [(begin, end) for begin, end in intervals if begin < end]
 
 
@@ -102,6 +113,7 @@ def joined(positions):
         yield Position(same[0].wasm, start, next((p.end for p in same if p.end > start), start))
 
 
+@cache
 def runs_of(function):
     """The runs of a function, in native order: a new one begins where the sources fall."""
     ends = [native for native, _ in function.entries[1:]] + [function.length]

@@ -4,13 +4,17 @@ and a plain writing of the output. It knows valid inputs alone, of what is built
 
 import json
 from dataclasses import dataclass, field, replace
+from functools import partial
 
 import plain_ranges
-from plain_entries import Reader, Unit, kept_offsets, read_table, read_units, sleb, uleb
-from plain_entries import TAG_COMPILE_UNIT
-from plain_trees import tree_of, write_tree
+from plain_entries import Reader, Refused, Unit, kept_offsets, read_table, read_units, sleb, uleb
+from plain_entries import AT_FRAME_BASE, AT_HIGH_PC, AT_LOW_PC, AT_RANGES, AT_STMT_LIST, DROPPED_NAMES, TAG_COMPILE_UNIT
+from plain_expressions import Machine, built, compiled, places_of
+from plain_locations import is_location, locations_of
+from plain_trees import Carried, entries_in_force, tree_of, write_tree
 
 DROPPED = (0, 0xFFFFFFFF)
+NOT_PLACED = (AT_LOW_PC, AT_HIGH_PC, AT_RANGES, AT_FRAME_BASE, AT_STMT_LIST, *DROPPED_NAMES)  # no expression of these names is built
 
 
 # ---- what is read
@@ -30,7 +34,7 @@ def read_wasm(data):
     return code, sections
 
 
-@dataclass
+@dataclass(eq=False)
 class Function:
     number: int
     symbol: int | None
@@ -38,6 +42,7 @@ class Function:
     end: int
     length: int
     entries: list  # pairs of a native offset and the wasm offset of its source, or None
+    labels: dict  # the ranges of each value, with a start, an end and a place: `reg` or `cfa`, and a number
 
     @property
     def sources(self):
@@ -45,15 +50,17 @@ class Function:
 
 
 def read_map(data, codes):
-    """The target, and the functions of each module, with wasm offsets in place of those of the file."""
+    """The target, and of each module the functions, with wasm offsets in place of those of the file, and what their code runs on."""
     value, number, modules = json.loads(data), 0, []
-    for told, code in zip(value["modules"], codes):
+    registers = dict(value["target"].get("registers", []))
+    for i, (told, code) in enumerate(zip(value["modules"], codes)):
         functions = []
         for f in told["functions"]:
             entries = [(native, None if place is None else place - code) for native, place in f["map"]]
-            functions.append(Function(number, f["symbol"], f["start"] - code, f["end"] - code, f["body_len"], entries))
+            labels = {label: [(start, end, tuple(place)) for start, end, *place in ranges] for label, ranges in f.get("labels", [])}
+            functions.append(Function(number, f["symbol"], f["start"] - code, f["end"] - code, f["body_len"], entries, labels))
             number += 1
-        modules.append(functions)
+        modules.append((functions, Machine(i, partial(function_at, functions), registers, told.get("memory"))))
     return value["target"], modules
 
 
@@ -328,9 +335,13 @@ class Writer:
     def __init__(self, target):
         self.order = "big" if target.get("big_endian", False) else "little"
         self.size = target.get("pointer_bytes", 8)
-        names = (".debug_abbrev", ".debug_info", ".debug_line", ".debug_ranges", ".debug_str")
-        self.abbrev, self.info, self.line, self.ranges, self.str = map(Section, names)
+        names = (".debug_abbrev", ".debug_info", ".debug_line", ".debug_ranges", ".debug_loc", ".debug_str")
+        self.sections = [Section(name) for name in names]
+        self.abbrev, self.info, self.line, self.ranges, self.loc, self.str = self.sections
         self.texts = {}  # where each text stands
+
+    def printed(self):
+        return "".join(section.printed() for section in self.sections if section.body)
 
     def text(self, section, text):
         if text not in self.texts:
@@ -357,6 +368,16 @@ class Writer:
             self.address(self.ranges, function, start)
             self.address(self.ranges, function, end)
         self.ranges.body += bytes(2 * self.size)
+
+    def location_list(self, section, ranges):
+        self.offset(section, self.loc, len(self.loc.body))
+        for function, start, end, data in ranges:
+            self.address(self.loc, function, start)
+            self.address(self.loc, function, end)
+            if len(data) >= 1 << 16:
+                raise Refused("TooLarge Expression")
+            self.loc.body += self.number(len(data), 2) + data
+        self.loc.body += bytes(2 * self.size)
 
     def sized(self, section, write):
         """What has its length in front of it."""
@@ -399,12 +420,15 @@ class Writer:
         body += bytes([0, 1, 1])
 
 
-def carried_units(sections, functions):
-    """The carried units of a module, each with the entries of it that are kept."""
+def carried_units(sections, machine):
+    """The carried units of a module."""
     units = read_units(sections)
-    kept = kept_offsets(sections, units, lambda address: function_at(functions, address))
-    pairs = [(unit, [e for e in unit.entries if e.offset in kept]) for unit in units if unit.root.tag == TAG_COMPILE_UNIT]
-    return [(unit, entries) for unit, entries in pairs if entries]
+    kept = kept_offsets(sections, units, machine.function_at)
+    for unit in units:
+        entries = [e for e in unit.entries if e.offset in kept]
+        if unit.root.tag == TAG_COMPILE_UNIT and entries:
+            table = None if unit.line_table is None else read_line_table(sections, unit, unit.line_table)
+            yield Carried(sections, unit, entries, table, machine)
 
 
 def printed_text(map_bytes, modules):
@@ -412,16 +436,14 @@ def printed_text(map_bytes, modules):
     files = [read_wasm(data) for data in modules]
     target, maps = read_map(map_bytes, [code for code, _ in files])
     writer, units = Writer(target), []
-    for (_, sections), functions in zip(files, maps):
-        carried = carried_units(sections, functions)
-        places = {e.offset: (len(units) + i, j) for i, (_, entries) in enumerate(carried) for j, e in enumerate(entries)}
-        for unit, entries in carried:
-            table = None if unit.line_table is None else read_line_table(sections, unit, unit.line_table)
-            at = lambda address: function_at(functions, address)
-            units.append((tree_of(sections, unit, entries, table, places, at, target), len(writer.line.body)))
-            write_lines(writer, table, functions)
+    for (_, sections), (functions, machine) in zip(files, maps):
+        carried = list(carried_units(sections, machine))
+        places = {e.offset: (len(units) + i, j) for i, unit in enumerate(carried) for j, e in enumerate(unit.entries)}
+        for unit in carried:
+            units.append((tree_of(unit, places, target.get("big_endian", False)), len(writer.line.body)))
+            write_lines(writer, unit.table, functions)
     write_tree(writer, units)
-    return "".join(s.printed() for s in (writer.abbrev, writer.info, writer.line, writer.ranges, writer.str) if s.body)
+    return writer.printed()
 
 
 def write_lines(writer, table, functions):
@@ -458,10 +480,8 @@ def bytes_of(function):
 
 def check_bytes(map_bytes, modules):
     """Whether each image has, at each byte of its function, the row of that byte's source."""
-    for sections, functions, unit, _ in carried_of(map_bytes, modules):
-        if unit.line_table is None:
-            continue
-        for start, rows in read_line_table(sections, unit, unit.line_table).segments:
+    for functions, carried in carried_of(map_bytes, modules):
+        for start, rows in carried.table.segments if carried.table else ():
             function = function_at(functions, start)
             image = image_of(start, rows, function) if function else []
             for byte in bytes_of(function) if image else ():
@@ -469,12 +489,12 @@ def check_bytes(map_bytes, modules):
 
 
 def carried_of(map_bytes, modules):
-    """The carried units of all modules, with the sections and functions of their module, and their kept entries."""
+    """The carried units of all modules, with the functions of their module."""
     files = [read_wasm(data) for data in modules]
     _, maps = read_map(map_bytes, [code for code, _ in files])
-    for (_, sections), functions in zip(files, maps):
-        for unit, entries in carried_units(sections, functions):
-            yield sections, functions, unit, entries
+    for (_, sections), (functions, machine) in zip(files, maps):
+        for carried in carried_units(sections, machine):
+            yield functions, carried
 
 
 def source_of(function, byte):
@@ -485,11 +505,11 @@ def source_of(function, byte):
 def check_scopes(map_bytes, modules):
     """Whether entries with intervals have the native code whose source is in these, and none whose source is outside. Said of
     functions of which no two sources stand at one native offset, and not of subprograms that have their function whole."""
-    for sections, functions, unit, entries in carried_of(map_bytes, modules):
-        at = lambda address: function_at(functions, address)
-        for entry in entries:
-            if plain_ranges.function_begun(sections, unit, entry, at) is None:
-                intervals, _ = plain_ranges.extent(sections, unit, entry)
+    for functions, carried in carried_of(map_bytes, modules):
+        at = carried.machine.function_at
+        for entry in carried.entries:
+            if plain_ranges.function_begun(carried.sections, carried.unit, entry, at) is None:
+                intervals, _ = plain_ranges.extent(carried.sections, carried.unit, entry)
                 native = plain_ranges.translated_intervals(intervals, at)
                 for function in functions:
                     check_scope(function, intervals, at, [(start, end) for owner, start, end in native if owner is function])
@@ -504,3 +524,42 @@ def check_scope(function, intervals, at, native):
             assert not covered or any(begin <= source <= end for begin, end in intervals)
             inside = any(begin <= source < end and at(begin) is function for begin, end in intervals)
             assert covered or not inside
+
+
+def uses_of(carried):
+    """The expressions that are built over intervals: those of the attributes of an entry, and those of its location lists."""
+    for entry, given in entries_in_force(carried):
+        values = [value for name, value in entry.attributes if is_location(value) and (value[0] != "expression" or name not in NOT_PLACED)]
+        for value in values:
+            if value[0] == "expression":
+                uses = [(compiled(value[1], given.base), given.scope)]
+            else:
+                uses = [(compiled(data, given.base), [interval]) for interval, _, data in locations_of(carried.sections, carried.unit, entry, value)[1]]
+            yield from ((expression, scope, given.frame) for expression, scope in uses if expression and scope)
+
+
+def check_locations(map_bytes, modules):
+    """Whether what is built has the native code whose source is in the scope and in which all labels have a place, and none in which
+    one has none or whose source is outside. Said of the functions of which `check_scopes` says something."""
+    for functions, carried in carried_of(map_bytes, modules):
+        at = carried.machine.function_at
+        for expression, scope, frame in uses_of(carried):
+            ranges, _ = built(expression, plain_ranges.translated_intervals(scope, at), frame, carried.machine)
+            labels = [] if expression.code is not None else expression.needed_labels
+            for function in functions:
+                native = [(start, end) for owner, start, end, _ in ranges if owner is function]
+                columns = [places_of(function, label) if function is frame else [None] * function.length for label in labels]
+                check_location(function, scope, at, native, columns)
+
+
+def check_location(function, scope, at, native, columns):
+    if len({n for n, _ in function.sources}) < len(function.sources):
+        return
+    for byte in bytes_of(function):
+        covered, source = any(start <= byte < end for start, end in native), source_of(function, byte)
+        is_placed = all(column[byte] is not None for column in columns)
+        assert is_placed or not covered
+        if source is not None:
+            assert not covered or any(begin <= source <= end for begin, end in scope)
+            inside = any(begin <= source < end and at(begin) is function for begin, end in scope)
+            assert covered or not inside or not is_placed

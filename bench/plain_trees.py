@@ -1,11 +1,25 @@
 """What the kept entries of a unit become, and how the units of an output are spelled. (DWARF 4, section 7.5.)"""
 
+from dataclasses import dataclass
+
 from plain_entries import AT_CALL_FILE, AT_DECL_FILE, AT_ENDIANITY, AT_HIGH_PC, AT_LOW_PC, AT_RANGES, AT_STMT_LIST
 from plain_entries import DROPPED_NAMES, TAG_BASE_TYPE, address_of, is_range_list, sleb, target_of, text_of, uleb
+from plain_expressions import Machine
+from plain_locations import InForce, in_force, is_location, location_made
 from plain_ranges import intervals_of, range_attributes, translated_address, translated_intervals
 
 FIXED = {0x0B: 1, 0x05: 2, 0x06: 4, 0x07: 8}
-NOT_BUILT = ("expression", "locations", "location index")
+
+
+@dataclass
+class Carried:
+    """A unit that is carried, with the sections of its module, the entries that are kept, and its line table, if it has one."""
+
+    sections: dict
+    unit: object
+    entries: list
+    table: object
+    machine: Machine
 
 
 def file_number(unit, table, number):
@@ -18,15 +32,15 @@ def file_number(unit, table, number):
     return number + (version == 5) if inside else None
 
 
-def value_made(sections, unit, entry, table, places, function_at, name, value):
+def value_made(carried, entry, given, places, name, value):
     """What a value becomes: a kind, and what is of that kind; None where it goes."""
-    kind = value[0]
+    kind, sections, unit, table, function_at = value[0], carried.sections, carried.unit, carried.table, carried.machine.function_at
     if name in DROPPED_NAMES:
         return None
     if name == AT_STMT_LIST:
         return ("lines",) if entry.depth == 0 and table else None
-    if kind in NOT_BUILT:
-        raise ValueError(f"{kind} is not built")
+    if is_location(value):
+        return location_made(sections, unit, entry, given, carried.machine, name, value)
     if name in (AT_LOW_PC, AT_HIGH_PC, AT_RANGES) or kind in ("dropped", "line"):
         return None
     if kind == "constant" and name in (AT_DECL_FILE, AT_CALL_FILE):
@@ -46,16 +60,25 @@ def value_made(sections, unit, entry, table, places, function_at, name, value):
     return ("text", text_of(sections, unit, value))
 
 
-def tree_of(sections, unit, entries, table, places, function_at, target):
+def entries_in_force(carried):
+    """The entries that are kept, each with what is in force at it."""
+    above = {}
+    for entry in carried.entries:
+        parent = above.get(entry.depth - 1, InForce())
+        above[entry.depth] = in_force(carried.sections, carried.unit, entry, parent, carried.machine.function_at)
+        yield entry, above[entry.depth]
+
+
+def tree_of(carried, places, is_big):
     """The entries of the output: depth, tag, and attributes by name."""
     tree = []
-    for entry in entries:
-        attributes = range_attributes(sections, unit, entry, function_at)
+    for entry, given in entries_in_force(carried):
+        attributes = range_attributes(carried.sections, carried.unit, entry, carried.machine.function_at)
         for name, value in entry.attributes:
-            made = value_made(sections, unit, entry, table, places, function_at, name, value)
+            made = value_made(carried, entry, given, places, name, value)
             if made is not None:
                 attributes[name] = made
-        if target.get("big_endian", False) and entry.tag == TAG_BASE_TYPE:
+        if is_big and entry.tag == TAG_BASE_TYPE:
             attributes[AT_ENDIANITY] = ("constant", 0x0B, 2)
         tree.append((entry.depth, entry.tag, attributes))
     return tree
@@ -65,7 +88,8 @@ def tree_of(sections, unit, entries, table, places, function_at, target):
 
 
 def form_of(value):
-    forms = {"address": 0x01, "flag": 0x0C, "block": 0x09, "text": 0x0E, "unit": 0x13, "info": 0x10, "lines": 0x17, "ranges": 0x17}
+    forms = {"address": 0x01, "flag": 0x0C, "block": 0x09, "text": 0x0E, "unit": 0x13, "info": 0x10}
+    forms |= {"lines": 0x17, "ranges": 0x17, "locations": 0x17, "expression": 0x18}
     return value[1] if value[0] == "constant" else forms[value[0]]
 
 
@@ -79,7 +103,7 @@ def size_of(writer, value):
     kind = value[0]
     if kind == "constant":
         return len(number_bytes(writer, value[1], value[2]))
-    if kind == "block":
+    if kind in ("block", "expression"):
         return len(uleb(len(value[1]))) + len(value[1])
     return {"address": writer.size, "flag": 1}.get(kind, 4)
 
@@ -135,12 +159,14 @@ def write_value(writer, value, start, lines_at, laid):
         info.body += number_bytes(writer, value[1], value[2])
     elif kind == "flag":
         info.body.append(value[1])
-    elif kind == "block":
+    elif kind in ("block", "expression"):
         info.body += uleb(len(value[1])) + value[1]
     elif kind == "address":
         writer.address(info, *value[1:])
     elif kind == "ranges":
         writer.range_list(info, value[1])
+    elif kind == "locations":
+        writer.location_list(info, value[1])
     elif kind == "text":
         writer.text(info, value[1])
     elif kind == "lines":

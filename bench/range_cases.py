@@ -10,7 +10,7 @@ from make_modules import section, sleb, u32, uleb
 LABEL, INLINED, START_SCOPE, ENTRY_PC, RETURN_PC, LOCATION = 0x0A, 0x1D, 0x2C, 0x52, 0x7D, 0x02
 SDATA, UDATA, FLAG, EXPRLOC, ADDRX, RNGLISTX, LOCLISTX = 0x0D, 0x0F, 0x19, 0x18, 0x1B, 0x23, 0x22
 ADDR_BASE, RNGLISTS_BASE = 0x73, 0x74
-PUSH = bytes.fromhex("01 30")  # an expression of one operation, with its length
+PUSH, CUT_PUSH = bytes.fromhex("01 30"), bytes.fromhex("01 08")  # an expression of one operation, and one that is cut, with their lengths
 IMPLICIT = b"\x21"
 
 
@@ -651,7 +651,7 @@ def refused_bounds(made):
 def refusal_order(made):
     """Of several things that are refused, the first in the order of reading."""
     refused, text, at = made.refused, (NAME, STRP, u32(9)), f"Read Text .debug_info {AT_BLOCK}"
-    expression, built = (LOCATION, EXPRLOC, PUSH), f"Unsupported NotBuilt {AT_BLOCK}"
+    expression, unread = (LOCATION, EXPRLOC, CUT_PUSH), f"Read Expression .debug_info {AT_BLOCK + 2}"
     long = for_bytes(MOST)
     for name, status, line, *attributes in [
         ("a text before a length that is too long", 10, at, text, low(5), long),
@@ -661,22 +661,26 @@ def refusal_order(made):
         ("a length in front of its begin before a text", 20, TOO_LONG, long, low(5), text),
         ("a text before a list that cannot be read", 10, at, text, LISTED),
         ("a list that cannot be read before a text", 10, AT_LIST, LISTED, text),
-        ("an expression before a length that is too long", 11, built, expression, low(5), long),
+        ("an expression before a length that is too long", 10, unread, expression, low(5), long),
         ("a length that is too long before an expression", 20, TOO_LONG, low(5), long, expression),
         ("a list that cannot be read before an expression", 10, AT_LIST, LISTED, expression),
-        ("an expression before a list that cannot be read", 11, built, expression, LISTED),
+        ("an expression before a list that cannot be read", 10, unread, expression, LISTED),
         ("a list that cannot be read before bounds that are too long", 10, AT_LIST, LISTED, low(5), long),
         ("a list that cannot be read behind bounds that are too long", 10, AT_LIST, low(5), long, LISTED),
         ("a list of another name that cannot be read before a length that is too long", 10, AT_LIST, low(5), listed(name=START_SCOPE), long),
-        ("an expression as an end", 11, built, low(5), (HIGH_PC, EXPRLOC, PUSH)),
-        ("an expression as a begin", 11, built, (LOW_PC, EXPRLOC, PUSH)),
-        ("an expression as ranges", 11, built, (RANGES, EXPRLOC, PUSH)),
-        ("a location list beside bounds", 11, built, low(5), for_bytes(5), (LOCATION, SEC_OFFSET, bytes(4))),
+        ("an expression that cannot be read as an end", 10, f"Read Expression .debug_info {AT_BLOCK + 6}", low(5), (HIGH_PC, EXPRLOC, CUT_PUSH)),
+        ("an expression that cannot be read as a begin", 10, unread, (LOW_PC, EXPRLOC, CUT_PUSH)),
+        ("an expression that cannot be read as ranges", 10, unread, (RANGES, EXPRLOC, CUT_PUSH)),
+        ("a location list beside bounds", 10, "Read LocationList .debug_loc 0", low(5), for_bytes(5), (LOCATION, SEC_OFFSET, bytes(4))),
         ("a text as a begin that cannot be read", 10, at, (LOW_PC, STRP, u32(9))),
     ]:
         refused(name, status, line, within(block(*attributes)), sections=[CUT])
-    refused("a location list by an index beside bounds", 11, f"Unsupported NotBuilt {AT_BLOCK_5}", in_five(block(low(5), for_bytes(5), (LOCATION, LOCLISTX, b"\0"))))
-    refused("an expression as the end of a subprogram", 11, "Unsupported NotBuilt 16", root(Entry(SUBPROGRAM, low(2), (HIGH_PC, EXPRLOC, PUSH))))
+    refused("a location list by an index beside bounds", 10, f"Read LocationList .debug_info {AT_BLOCK_5}", in_five(block(low(5), for_bytes(5), (LOCATION, LOCLISTX, b"\0"))))
+    made.carried("an expression as an end", within(block(low(5), (HIGH_PC, EXPRLOC, PUSH))), code=["0+30", "5"])
+    made.carried("an expression as ranges", within(block(low(5), for_bytes(1), (RANGES, EXPRLOC, PUSH))), code=["0+30", "5+10"])
+    made.carried("an expression as a begin", within(block((LOW_PC, EXPRLOC, PUSH), for_bytes(5))), code=["0+30"])
+    made.carried("an expression as the end of a subprogram", root(Entry(SUBPROGRAM, low(2), (HIGH_PC, EXPRLOC, PUSH))), code=["0+30"])
+    refused("an expression that cannot be read as the end of a subprogram", 10, "Read Expression .debug_info 22", root(Entry(SUBPROGRAM, low(2), (HIGH_PC, EXPRLOC, CUT_PUSH))))
     refused("entries in file order: a list before a length", 10, AT_LIST, within(block(LISTED), block(low(5), long)), sections=[CUT])
     refused("entries in file order: a length before a list", 20, TOO_LONG, within(block(low(5), long), block(LISTED)), sections=[CUT])
     refused("a subprogram's list before a block's length", 10, AT_LIST, within(block(low(5), long)), root(Entry(SUBPROGRAM, LISTED)), sections=[CUT])
