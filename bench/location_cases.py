@@ -3,8 +3,9 @@
 import os
 
 import plain_run
+import range_cases
 from entry_cases import BASE_TYPE, BLOCK, DATA1, DATA4, GREATEST, HIGH_PC, LENGTH, LINES, LOW_PC, NAME, PARAMETER, RANGES, SEC_OFFSET, STRING
-from entry_cases import SUBPROGRAM, VARIABLE, Entry, Info, kinds, pairs, root, subprogram, to
+from entry_cases import SUBPROGRAM, VARIABLE, Entry, kinds, pairs, root, subprogram, to
 from make_modules import sleb, u32, uleb
 from plain_entries import Refused
 from range_cases import EXPRLOC, INLINED, LOCATION, LOCLISTX, MOST, PLACES, SECOND, SMALL, TEN, TEN_MOVED
@@ -31,15 +32,8 @@ REGISTERS = [[1, 12], [2, 14], [3, 3], [4, 33], [5, 12]]
 DEFINED = {"defined": 80}
 
 
-class Cases:
+class Cases(range_cases.Cases):
     """Cases of modules that are made of functions with labels, units and further sections."""
-
-    def __init__(self, cases, module, map_of):
-        self.cases, self.module, self.map_of = cases, module, map_of
-
-    def made(self, units, sections, functions):
-        info, (front, told) = Info(*units), program_of(functions)
-        return self.module(info.abbrev, info.info, others=list(sections), front=front), told
 
     def told(self, functions, labels, memory):
         """What the map says of a module: labels of each function, and where its memory is."""

@@ -175,11 +175,13 @@ def body_of(size):
 
 
 def map_of(modules):
-    """The map of some modules by their functions."""
+    """The map of some modules by their functions. Where these have labels, it tells registers and memories too."""
+    has_labels = any("labels" in function for functions in modules for function in functions)
+    registers, memory = ({"registers": [[1, 3], [2, 14]]}, {"memory": {"defined": 80}}) if has_labels else ({}, {})
     return {
-        "target": {"arch": "x86_64", "registers": [[1, 3], [2, 14]]},
+        "target": {"arch": "x86_64", **registers},
         "names": ["set_mem", "resolve_mem"],
-        "modules": [{"path": f"/bench/module{i}.wasm", "memory": {"defined": 80}, "functions": fs} for i, fs in enumerate(modules)],
+        "modules": [{"path": f"/bench/module{i}.wasm", **memory, "functions": fs} for i, fs in enumerate(modules)],
     }
 
 
