@@ -1,5 +1,5 @@
--- An output for the small module, and that it carries the small module's lines.
-use Rattle.std.proofs.Common.{◌≡◌, ℕ, ◌<◌, ◌≤◌, pos, List, [], ◌∷◌, Some, None, Ok, true, false, refl, arith, lit≤}
+-- An output for the small module, and that it carries the small module's lines: the module's own unit, and behind it the carried one.
+use Rattle.std.proofs.Common.{◌≡◌, ℕ, ◌<◌, ◌≤◌, pos, List, [], ◌∷◌, ◌++◌, Some, None, Ok, true, false, refl, arith, lit≤}
 use Rattle.std.specs.Prelude.{codes, All, Bool, nat_le, if◌then◌else◌, Option}
 use Rattle.std.specs.Option.{option_or, is_some}
 use Rattle.std.proofs.Common.{zero, suc, ap, sym, ◌∙◌, lit<}
@@ -8,13 +8,15 @@ use Rattle.std.proofs.lemmas.Bool.{false≢true, true≢false}
 use Rattle.dwc_base.proofs.DraftsOnLiterals.{drafts_on_literals}
 use Rattle.dwc_base.proofs.Readings.{three_sections, sections_small, header_small}
 use Rattle.dwc_base.proofs.Numbers.{at_place}
+use Rattle.dwc_base.proofs.OwnTrees.{own_abbreviations, own_content, own_info, own_texts, to_section, own_relocations}
+use Rattle.dwc_base.proofs.SmallModule.{told_small}
 use Rattle.dwc_base.proofs.LineTables.{line_in, function_small, segments_small, at_line, line_of_a_c}
 use Rattle.dwc_base.specs.declared.records.Endian.TheVariants.{Little}
 use Rattle.dwc_base.specs.declared.records.Address.TheVariants.{Constant, Symbol}
 use Rattle.dwc_base.specs.declared.faults.Kind.TheVariants.{Format64}
 use Rattle.dwc_base.specs.Sections.{Fault, unsupported}
 use Rattle.dwc_base.specs.Units.{UnitHeader}
-use Rattle.dwc_base.specs.Values.{address, constant, line_reference}
+use Rattle.dwc_base.specs.Values.{Value, address, constant, flag, line_reference, text_reference, unit_reference}
 use Rattle.dwc_base.specs.LineRows.{Segment, row_in_force}
 use Rattle.dwc_base.specs.Images.{row_for_byte, IsImage}
 use Rattle.dwc_base.specs.Outputs.{OutputSection, function, section, output_sections}
@@ -23,26 +25,28 @@ use Rattle.dwc_base.specs.Forests.{carried_units}
 use Rattle.dwc_base.specs.LinesCarried.{AreImages, LinesCarried}
 use Rattle.dwc_base.specs.Compiled.{nothing_told}
 
+-- each section begins with what the module's own unit has in it
 abbrev pub output_small : List OutputSection
 output_small =
-    record { name = codes ".debug_abbrev"; body = 0x01 ∷ 0x11 ∷ 0x01 ∷ 0x10 ∷ 0x17 ∷ 0x00 ∷ 0x00 ∷ 0x02 ∷ 0x2E ∷ 0x00 ∷ 0x11 ∷ 0x01 ∷ 0x12 ∷ 0x0F ∷ 0x00 ∷ 0x00 ∷ 0x00 ∷ []; relocations = [] }
+    record { name = codes ".debug_abbrev"; body = own_abbreviations ++ (0x01 ∷ 0x11 ∷ 0x01 ∷ 0x10 ∷ 0x17 ∷ 0x00 ∷ 0x00 ∷ 0x02 ∷ 0x2E ∷ 0x00 ∷ 0x11 ∷ 0x01 ∷ 0x12 ∷ 0x0F ∷ 0x00 ∷ 0x00 ∷ 0x00 ∷ []); relocations = [] }
     ∷ record {
       name = codes ".debug_info";
-      body = 0x17 ∷ 0x00 ∷ 0x00 ∷ 0x00 ∷ 0x04 ∷ 0x00 ∷ 0x00 ∷ 0x00 ∷ 0x00 ∷ 0x00 ∷ 0x08 ∷ 0x01 ∷ 0x00 ∷ 0x00 ∷ 0x00 ∷ 0x00 ∷ 0x02 ∷ 0x00 ∷ 0x00 ∷ 0x00 ∷ 0x00 ∷ 0x00 ∷ 0x00 ∷ 0x00 ∷ 0x00 ∷ 0x1E ∷ 0x00 ∷ [];
-      relocations =
-          record { offset = 6; size = 4; target = section (codes ".debug_abbrev"); addend = pos 0 }
-          ∷ record { offset = 12; size = 4; target = section (codes ".debug_line"); addend = pos 0 }
-          ∷ record { offset = 17; size = 8; target = function 0; addend = pos 0 } ∷ [];
+      body = own_info ++ (0x17 ∷ 0x00 ∷ 0x00 ∷ 0x00 ∷ 0x04 ∷ 0x00 ∷ 0x44 ∷ 0x00 ∷ 0x00 ∷ 0x00 ∷ 0x08 ∷ 0x01 ∷ 0x00 ∷ 0x00 ∷ 0x00 ∷ 0x00 ∷ 0x02 ∷ 0x00 ∷ 0x00 ∷ 0x00 ∷ 0x00 ∷ 0x00 ∷ 0x00 ∷ 0x00 ∷ 0x00 ∷ 0x1E ∷ 0x00 ∷ []);
+      relocations = own_relocations ++ (
+          to_section 83 (codes ".debug_abbrev") 68
+          ∷ to_section 89 (codes ".debug_line") 0
+          ∷ record { offset = 94; size = 8; target = function 0; addend = pos 0 } ∷ []);
     }
     ∷ record {
       name = codes ".debug_line";
       body = 0x39 ∷ 0x00 ∷ 0x00 ∷ 0x00 ∷ 0x04 ∷ 0x00 ∷ 0x1B ∷ 0x00 ∷ 0x00 ∷ 0x00 ∷ 0x01 ∷ 0x01 ∷ 0x01 ∷ 0xFB ∷ 0x0E ∷ 0x0D ∷ 0x00 ∷ 0x01 ∷ 0x01 ∷ 0x01 ∷ 0x01 ∷ 0x00 ∷ 0x00 ∷ 0x00 ∷ 0x01 ∷ 0x00 ∷ 0x00 ∷ 0x01 ∷ 0x00 ∷ 0x61 ∷ 0x2E ∷ 0x63 ∷ 0x00 ∷ 0x00 ∷ 0x00 ∷ 0x00 ∷ 0x00 ∷ 0x00 ∷ 0x09 ∷ 0x02 ∷ 0x00 ∷ 0x00 ∷ 0x00 ∷ 0x00 ∷ 0x00 ∷ 0x00 ∷ 0x00 ∷ 0x00 ∷ 0x03 ∷ 0x01 ∷ 0x01 ∷ 0x03 ∷ 0x01 ∷ 0x02 ∷ 0x0F ∷ 0x01 ∷ 0x02 ∷ 0x0F ∷ 0x00 ∷ 0x01 ∷ 0x01 ∷ [];
       relocations =
           record { offset = 40; size = 8; target = function 0; addend = pos 0 } ∷ [];
-    } ∷ []
+    }
+    ∷ record { name = codes ".debug_str"; body = own_texts; relocations = [] } ∷ []
 
 abbrev pub module_small : Module
-module_small = record { sections = sections_small; functions = function_small ∷ []; told = nothing_told; compressed = None }
+module_small = record { sections = sections_small; functions = function_small ∷ []; told = told_small; compressed = None }
 
 abbrev pub compilation_small : Compilation
 compilation_small = record { order = Little; pointer_bytes = 8; modules = module_small ∷ [] }
@@ -50,23 +54,53 @@ compilation_small = record { order = Little; pointer_bytes = 8; modules = module
 abbrev pub unit_small : Unit
 unit_small = record { header = header_small; entries = record { offset = 11; depth = 0; tag = 0x11; attributes = (0x10, line_reference 0) ∷ [] } ∷ record { offset = 16; depth = 1; tag = 0x2E; attributes = (0x11, address (Constant 2)) ∷ (0x12, constant 0x06 11) ∷ [] } ∷ [] }
 
+-- ---- the module's own unit, read again
+
+abbrev pub own_header : UnitHeader
+own_header = record { offset = 0; end = 77; version = 4; address_size = 8; unit_type = 1; abbreviations = 0; dwo_id = None; content = at_place 11 own_content }
+
+-- a text elsewhere
+abbrev a_text : ℕ → Value
+a_text offset = text_reference 0x0E offset
+
+abbrev pub own_unit_out : Unit
+own_unit_out = record {
+  header = own_header;
+  entries =
+      record { offset = 11; depth = 0; tag = 0x11; attributes = (0x03, a_text 0) ∷ (0x25, a_text 28) ∷ (0x13, constant 0x05 29) ∷ [] }
+      ∷ record { offset = 22; depth = 1; tag = 0x24; attributes = (0x03, a_text 37) ∷ (0x3E, constant 0x0B 7) ∷ (0x0B, constant 0x0B 1) ∷ [] }
+      ∷ record { offset = 29; depth = 1; tag = 0x0F; attributes = (0x03, a_text 40) ∷ (0x49, unit_reference 22) ∷ [] }
+      ∷ record { offset = 38; depth = 1; tag = 0x13; attributes = (0x03, a_text 44) ∷ [] }
+      ∷ record { offset = 43; depth = 2; tag = 0x2E; attributes = (0x6E, a_text 62) ∷ (0x03, a_text 70) ∷ [] }
+      ∷ record { offset = 52; depth = 3; tag = 0x05; attributes = (0x49, unit_reference 60) ∷ (0x34, flag true) ∷ [] }
+      ∷ record { offset = 60; depth = 1; tag = 0x0F; attributes = (0x03, a_text 74) ∷ (0x49, unit_reference 38) ∷ [] }
+      ∷ record { offset = 69; depth = 1; tag = 0x24; attributes = (0x03, a_text 93) ∷ (0x0B, constant 0x0B 4) ∷ (0x3E, constant 0x0B 7) ∷ [] } ∷ [];
+}
+
+-- ---- the carried unit, read again
+
 abbrev pub header_out : UnitHeader
-header_out = record { offset = 0; end = 27; version = 4; address_size = 8; unit_type = 1; abbreviations = 0; dwo_id = None; content = at_place 11 (0x01 ∷ 0x00 ∷ 0x00 ∷ 0x00 ∷ 0x00 ∷ 0x02 ∷ 0x00 ∷ 0x00 ∷ 0x00 ∷ 0x00 ∷ 0x00 ∷ 0x00 ∷ 0x00 ∷ 0x00 ∷ 0x1E ∷ 0x00 ∷ []) }
+header_out = record { offset = 77; end = 104; version = 4; address_size = 8; unit_type = 1; abbreviations = 68; dwo_id = None; content = at_place 88 (0x01 ∷ 0x00 ∷ 0x00 ∷ 0x00 ∷ 0x00 ∷ 0x02 ∷ 0x00 ∷ 0x00 ∷ 0x00 ∷ 0x00 ∷ 0x00 ∷ 0x00 ∷ 0x00 ∷ 0x00 ∷ 0x1E ∷ 0x00 ∷ []) }
 
 abbrev pub unit_out : Unit
-unit_out = record { header = header_out; entries = record { offset = 11; depth = 0; tag = 0x11; attributes = (0x10, line_reference 0) ∷ [] } ∷ record { offset = 16; depth = 1; tag = 0x2E; attributes = (0x11, address (Symbol 0 (pos 0))) ∷ (0x12, constant 0x0F 30) ∷ [] } ∷ [] }
+unit_out = record { header = header_out; entries = record { offset = 88; depth = 0; tag = 0x11; attributes = (0x10, line_reference 0) ∷ [] } ∷ record { offset = 93; depth = 1; tag = 0x2E; attributes = (0x11, address (Symbol 0 (pos 0))) ∷ (0x12, constant 0x0F 30) ∷ [] } ∷ [] }
 
 -- the small module has one unit, and it is carried
 pub carried-small : carried_units compilation_small ≡ record { module_of = module_small; unit = unit_small } ∷ []
 unfolding drafts_on_literals
 carried-small = refl
 
-pub output-read : units (output_sections Little output_small) ≡ record { items = unit_out ∷ []; fault = None }
+pub output-read : units (output_sections Little output_small) ≡ record { items = own_unit_out ∷ unit_out ∷ []; fault = None }
 unfolding drafts_on_literals
 output-read = refl
 
 abbrev pub image_small : Segment
 image_small = record { start = Symbol 0 (pos 0); rows = at_line 0 2 ∷ at_line 15 3 ∷ []; end = Some 30 }
+
+-- the module's own unit has no lines
+pub no_lines-read : Rattle.dwc_base.specs.Carried.table_of_unit (output_sections Little output_small) own_unit_out ≡ Ok None
+unfolding drafts_on_literals
+no_lines-read = refl
 
 pub images-read : Rattle.dwc_base.specs.Carried.segments_of_unit (output_sections Little output_small) unit_out ≡ Ok (image_small ∷ [])
 unfolding drafts_on_literals
@@ -109,7 +143,7 @@ whole-small (suc k) d h = absurd (omega arith)
 -- the output carries the lines of the small module
 pub lines_carried-small : LinesCarried compilation_small output_small
 unfolding drafts_on_literals
-lines_carried-small = record { whole = whole-small; output = unit_out ∷ []; output_read = output-read; each = (record { images = image_small ∷ []; images_read = images-read; carried = images-small }, tt) }
+lines_carried-small = record { whole = whole-small; output = own_unit_out ∷ unit_out ∷ []; output_read = output-read; each = (no_lines-read, (record { images = image_small ∷ []; images_read = images-read; carried = images-small }, tt)) }
 
 -- with another line at byte 15 it is no image
 not_image-small : IsImage

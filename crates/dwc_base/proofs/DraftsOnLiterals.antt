@@ -25,6 +25,7 @@ use Rattle.dwc_base.specs.LocationRules.{frame_at, in_force_at, expression_becom
 use Rattle.dwc_base.specs.EntryRules.{named_faults}
 use Rattle.dwc_base.proofs.OnExpressions.{attributes_on_literals}
 use Rattle.dwc_base.specs.DraftForests.{forest}
+use Rattle.dwc_base.specs.OwnUnits.{own_unit}
 use Rattle.dwc_base.specs.TreeReading.{value_said, unit_said, trees}
 
 -- what runs and translations are made of
@@ -38,5 +39,5 @@ unfolding runs_on_literals interval_given base_behind intervals_given ranges_at 
 ranges_given_on_literals = 0
 
 unfoldable pub drafts_on_literals : ℕ
-unfolding lines_on_literals ranges_given_on_literals attributes_on_literals text_elsewhere text_named path_text root_offsets offset_of_root index_base address_from address_named texts_of_unit target_of entry_begun_at kept_with kept_module value_becomes bound_becomes attribute_becomes attributes_become attributes_made entry_refusals source_of carried_drafts info_faults kept_refusals module_refusals list_named pair_at entry_of_kind_at kind_and_entry_at raw_entry_at raw_ranges first_base_of list_source list_shows_code is_required named_faults locations_of_value locations_at raw_locations raw_location_at lineage scope_in_force frame_in_force frame_at in_force_at attribute_ends entry_ends value_ends expression_becomes expression_refused locations_become forest value_said unit_said trees
+unfolding lines_on_literals ranges_given_on_literals attributes_on_literals text_elsewhere text_named path_text root_offsets offset_of_root index_base address_from address_named texts_of_unit target_of entry_begun_at kept_with kept_module value_becomes bound_becomes attribute_becomes attributes_become attributes_made entry_refusals source_of carried_drafts info_faults kept_refusals module_refusals own_unit list_named pair_at entry_of_kind_at kind_and_entry_at raw_entry_at raw_ranges first_base_of list_source list_shows_code is_required named_faults locations_of_value locations_at raw_locations raw_location_at lineage scope_in_force frame_in_force frame_at in_force_at attribute_ends entry_ends value_ends expression_becomes expression_refused locations_become forest value_said unit_said trees
 drafts_on_literals = 0

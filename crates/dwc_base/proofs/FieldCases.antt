@@ -1,21 +1,37 @@
 -- The fields of outputs, and their relocations.
-use Rattle.std.proofs.Common.{◌≡◌, ◌≤◌, ◌+◌, pos, [], ◌∷◌, get_or, refl, sym, lit≤, arith}
-use Rattle.std.specs.Prelude.{codes, drop, AllPairs}
+use Rattle.std.proofs.Common.{◌≡◌, ℕ, ◌≤◌, ◌+◌, pos, List, [], ◌∷◌, ◌++◌, get_or, true, refl, sym, arith}
+use Rattle.std.specs.Prelude.{Bool, All, codes, drop, AllPairs, nat_le, ◌&&◌}
+use Rattle.std.proofs.lemmas.Bool.{leb-true, and_parts}
 use Rattle.std.proofs.lemmas.List.Elements.{All-cons, All-nil}
 use Rattle.std.proofs.lemmas.List.Kept.{AllPairs-cons}
 use Rattle.dwc_base.proofs.OnLiterals.{lines_on_literals}
 use Rattle.dwc_base.proofs.Readings.{three_sections}
 use Rattle.dwc_base.proofs.CarriedSmall.{output_small}
+use Rattle.dwc_base.proofs.OwnTrees.{to_section, own_relocations}
 use Rattle.dwc_base.specs.declared.records.Endian.TheVariants.{Little}
 use Rattle.dwc_base.specs.declared.records.Address.TheVariants.{Constant, Symbol}
 use Rattle.dwc_base.specs.declared.section_name.SectionName.TheVariants.{Abbrev, Info, Line, LineStr, Loc, Loclists, Ranges, Rnglists, Str}
 use Rattle.dwc_base.specs.Sections.{Sections}
 use Rattle.dwc_base.specs.Outputs.{OutputRelocation, OutputSection, function, section, output_sections}
-use Rattle.dwc_base.specs.Fields.{an_address, offset_in, fields_at, fields_of_entry, fields_of_instructions, fields_of_line_table, fields_of_section, relocations_of_fields, IsRelocated, AreRelocated}
+use Rattle.dwc_base.specs.Fields.{Field, an_address, offset_in, fields_at, fields_of_entry, fields_of_instructions, fields_of_line_table, fields_of_section, relocations_of_fields, IsRelocated, AreRelocated}
+
+-- the fields of a module's own unit: its declarations, and a text for each name
+abbrev own_fields : List Field
+own_fields =
+    record { offset = 6; size = 4; held = offset_in Abbrev 0 }
+    ∷ record { offset = 12; size = 4; held = offset_in Str 0 }
+    ∷ record { offset = 16; size = 4; held = offset_in Str 28 }
+    ∷ record { offset = 23; size = 4; held = offset_in Str 37 }
+    ∷ record { offset = 30; size = 4; held = offset_in Str 40 }
+    ∷ record { offset = 39; size = 4; held = offset_in Str 44 }
+    ∷ record { offset = 44; size = 4; held = offset_in Str 62 }
+    ∷ record { offset = 48; size = 4; held = offset_in Str 70 }
+    ∷ record { offset = 61; size = 4; held = offset_in Str 74 }
+    ∷ record { offset = 70; size = 4; held = offset_in Str 93 } ∷ []
 
 -- the fields of an output, its line table's in a section of its own
 fields-info : fields_of_section (output_sections Little output_small) Info ≡
-    record { offset = 6; size = 4; held = offset_in Abbrev 0 } ∷ record { offset = 12; size = 4; held = offset_in Line 0 } ∷ record { offset = 17; size = 8; held = an_address (Symbol 0 (pos 0)) } ∷ []
+    own_fields ++ (record { offset = 83; size = 4; held = offset_in Abbrev 68 } ∷ record { offset = 89; size = 4; held = offset_in Line 0 } ∷ record { offset = 94; size = 8; held = an_address (Symbol 0 (pos 0)) } ∷ [])
 unfolding lines_on_literals fields_of_section fields_at fields_of_entry
 fields-info = refl
 
@@ -70,32 +86,33 @@ relocations-forms : relocations_of_fields (record { offset = 12; size = 4; held 
 relocations-forms = refl
 
 -- the small output has the relocations of its fields
-abbrev of_table : OutputRelocation
-of_table = record { offset = 6; size = 4; target = section (codes ".debug_abbrev"); addend = pos 0 }
+abbrev relocations_small : List OutputRelocation
+relocations_small = own_relocations ++ (to_section 83 (codes ".debug_abbrev") 68 ∷ to_section 89 (codes ".debug_line") 0 ∷ record { offset = 94; size = 8; target = function 0; addend = pos 0 } ∷ [])
 
-abbrev of_lines : OutputRelocation
-of_lines = record { offset = 12; size = 4; target = section (codes ".debug_line"); addend = pos 0 }
-
-abbrev of_function : OutputRelocation
-of_function = record { offset = 17; size = 8; target = function 0; addend = pos 0 }
-
-relocations-info : relocations_of_fields (fields_of_section (output_sections Little output_small) Info) ≡ of_table ∷ of_lines ∷ of_function ∷ []
+relocations-info : relocations_of_fields (fields_of_section (output_sections Little output_small) Info) ≡ relocations_small
 unfolding lines_on_literals fields_of_section fields_at fields_of_entry
 relocations-info = refl
 
-abbrev Behind : OutputRelocation → OutputRelocation → Type 0
+abbrev pub Behind : OutputRelocation → OutputRelocation → Type 0
 Behind a b = a.offset + a.size ≤ b.offset
 
-none-behind : AllPairs Behind []
-none-behind i j d less within = absurd (omega arith)
+-- whether none of some fields begins before a place, nor before the end of the one in front of it
+abbrev pub begin_behind : ℕ → List OutputRelocation → Bool
+begin_behind place [] = true
+begin_behind place (r ∷ rs) = nat_le place r.offset && begin_behind (r.offset + r.size) rs
 
-one-behind : (r : OutputRelocation) → AllPairs Behind (r ∷ [])
-one-behind r = AllPairs-cons Behind r [] (All-nil (Behind r)) none-behind
+all-behind : (from place : ℕ) (rs : List OutputRelocation) → from ≤ place → begin_behind place rs ≡ true → All (λ r. from ≤ r.offset) rs
+all-behind from place [] before h = All-nil (λ r. from ≤ r.offset)
+all-behind from place (r ∷ rs) before h =
+    let parts = and_parts (nat_le place r.offset) (begin_behind (r.offset + r.size) rs) h in
+    let here : place ≤ r.offset = leb-true place r.offset parts.0 in
+    All-cons (λ r. from ≤ r.offset) r rs (omega (arith, before, here)) (all-behind from (r.offset + r.size) rs (omega (arith, before, here)) parts.1)
 
-rising-info : AllPairs Behind (of_table ∷ of_lines ∷ of_function ∷ [])
-rising-info =
-    AllPairs-cons Behind of_table (of_lines ∷ of_function ∷ []) (All-cons (Behind of_table) of_lines (of_function ∷ []) (lit≤ tt) (All-cons (Behind of_table) of_function [] (lit≤ tt) (All-nil (Behind of_table))))
-    (AllPairs-cons Behind of_lines (of_function ∷ []) (All-cons (Behind of_lines) of_function [] (lit≤ tt) (All-nil (Behind of_lines))) (one-behind of_function))
+pub each-behind : (place : ℕ) (rs : List OutputRelocation) → begin_behind place rs ≡ true → AllPairs Behind rs
+each-behind place [] h = λ i j d less within. absurd (omega (arith, within))
+each-behind place (r ∷ rs) h =
+    let parts = and_parts (nat_le place r.offset) (begin_behind (r.offset + r.size) rs) h in
+    AllPairs-cons Behind r rs (all-behind (r.offset + r.size) (r.offset + r.size) rs (omega arith) parts.1) (each-behind (r.offset + r.size) rs parts.1)
 
 abbrev no_section : OutputSection
 no_section = record { name = []; body = []; relocations = [] }
@@ -104,6 +121,7 @@ pub related-small : AreRelocated Little output_small
 unfolding lines_on_literals fields_of_section fields_of_line_table fields_of_instructions
 related-small =
     let R : OutputSection → Type 0 = IsRelocated (output_sections Little output_small) in
-    All-cons R (get_or output_small 0 no_section) (drop 1 output_small) (record { name = Abbrev; named = refl; fields = refl; rising = none-behind })
-    (All-cons R (get_or output_small 1 no_section) (drop 2 output_small) (record { name = Info; named = refl; fields = sym relocations-info; rising = rising-info })
-    (All-cons R (get_or output_small 2 no_section) [] (record { name = Line; named = refl; fields = refl; rising = one-behind _ }) (All-nil R)))
+    All-cons R (get_or output_small 0 no_section) (drop 1 output_small) (record { name = Abbrev; named = refl; fields = refl; rising = each-behind 0 [] refl })
+    (All-cons R (get_or output_small 1 no_section) (drop 2 output_small) (record { name = Info; named = refl; fields = sym relocations-info; rising = each-behind 0 relocations_small refl })
+    (All-cons R (get_or output_small 2 no_section) (drop 3 output_small) (record { name = Line; named = refl; fields = refl; rising = each-behind 0 (record { offset = 40; size = 8; target = function 0; addend = pos 0 } ∷ []) refl })
+    (All-cons R (get_or output_small 3 no_section) [] (record { name = Str; named = refl; fields = refl; rising = each-behind 0 [] refl }) (All-nil R))))

@@ -137,13 +137,17 @@ all_true test (x ∷ xs) h = rw (h.0) (all_true test xs h.1)
 
 -- ---- drafts
 
--- A draft's value says no place itself, and is not nothing.
-abbrev pub SaysNoPlace : ℕ × DraftValue → Type 0
-SaysNoPlace a = says a.1
+-- A draft's value says no place itself, and is not nothing; if it goes somewhere, its goal has a property.
+abbrev pub SaysNoPlace : (Goal → Type 0) → ℕ × DraftValue → Type 0
+SaysNoPlace Has a = says a.1
   where
     says : DraftValue → Type 0
     says (done v) = goes_somewhere [] v ≡ true
-    says (goes_to g) = Unit {0}
+    says (goes_to g) = Has g
+
+-- any goal
+abbrev pub Anywhere : Goal → Type 0
+Anywhere g = Unit {0}
 
 -- of an attribute of a tree, that its reference goes somewhere
 abbrev Goes : List Tree → ℕ × TreeValue → Type 0
@@ -170,21 +174,21 @@ placed_goes : (ts : List Tree) (name : ℕ) (o : Option (ℕ × ℕ)) → ((p : 
 placed_goes ts name None h y is = absurd (none_is y is)
 placed_goes ts name (Some p) h y is = some_same (Goes ts) (name, entry p.0 p.1) y is (lt-ltb p.1 (size_of_unit ts p.0) (h p refl))
 
-settled_goes : (ts : List Tree) (places : Goal → Option (ℕ × ℕ)) → AreIn places ts → (name : ℕ) (v : DraftValue) → SaysNoPlace (name, v) → (y : ℕ × TreeValue) → settled places (name, v) ≡ Some y → Goes ts y
+settled_goes : (ts : List Tree) (places : Goal → Option (ℕ × ℕ)) → AreIn places ts → (name : ℕ) (v : DraftValue) → SaysNoPlace Anywhere (name, v) → (y : ℕ × TreeValue) → settled places (name, v) ≡ Some y → Goes ts y
 settled_goes ts places within name (done v) h y is = some_same (Goes ts) (name, v) y is (no_place_goes ts v h)
 settled_goes ts places within name (goes_to g) h y is = placed_goes ts name (places g) (within g) y is
 
 -- ---- trees
 
 -- of an entry, a unit and a module before places are known, that they say no place themselves
-abbrev pub EntrySaysNoPlace : Draft → Type 0
-EntrySaysNoPlace d = Each SaysNoPlace d.attributes
+abbrev pub EntrySaysNoPlace : (Goal → Type 0) → Draft → Type 0
+EntrySaysNoPlace Has d = Each (SaysNoPlace Has) d.attributes
 
-abbrev pub UnitSaysNoPlace : List Draft → Type 0
-UnitSaysNoPlace ds = Each EntrySaysNoPlace ds
+abbrev pub UnitSaysNoPlace : (Goal → Type 0) → List Draft → Type 0
+UnitSaysNoPlace Has ds = Each (EntrySaysNoPlace Has) ds
 
-abbrev pub ModuleSaysNoPlace : ModuleDrafts → Type 0
-ModuleSaysNoPlace m = Each UnitSaysNoPlace (units_drafted m)
+abbrev pub ModuleSaysNoPlace : (Goal → Type 0) → ModuleDrafts → Type 0
+ModuleSaysNoPlace Has m = Each (UnitSaysNoPlace Has) (units_drafted m)
 
 -- of an entry and a unit of trees, that their references go somewhere
 abbrev EntryGoes : List Tree → TreeEntry → Type 0
@@ -193,25 +197,25 @@ EntryGoes ts e = Each (Goes ts) e.attributes
 abbrev UnitGoes : List Tree → Tree → Type 0
 UnitGoes ts t = Each (EntryGoes ts) t
 
-attributes_go : (ts : List Tree) (places : Goal → Option (ℕ × ℕ)) → AreIn places ts → (as' : List (ℕ × DraftValue)) → Each SaysNoPlace as' → Each (λ a. (y : ℕ × TreeValue) → settled places a ≡ Some y → Goes ts y) as'
+attributes_go : (ts : List Tree) (places : Goal → Option (ℕ × ℕ)) → AreIn places ts → (as' : List (ℕ × DraftValue)) → Each (SaysNoPlace Anywhere) as' → Each (λ a. (y : ℕ × TreeValue) → settled places a ≡ Some y → Goes ts y) as'
 attributes_go ts places within [] h = tt
 attributes_go ts places within (a ∷ as') h = (settled_goes ts places within a.0 a.1 h.0, attributes_go ts places within as' h.1)
 
-entry_goes : (ts : List Tree) (places : Goal → Option (ℕ × ℕ)) → AreIn places ts → (d : Draft) → EntrySaysNoPlace d → EntryGoes ts (settled_entry places d)
+entry_goes : (ts : List Tree) (places : Goal → Option (ℕ × ℕ)) → AreIn places ts → (d : Draft) → EntrySaysNoPlace Anywhere d → EntryGoes ts (settled_entry places d)
 entry_goes ts places within d h = each_in_order (Goes ts) [] (filter_map (settled places) d.attributes) tt (each_filter_map (settled places) (Goes ts) d.attributes (attributes_go ts places within d.attributes h))
 
-unit_goes : (ts : List Tree) (places : Goal → Option (ℕ × ℕ)) → AreIn places ts → (ds : List Draft) → UnitSaysNoPlace ds → UnitGoes ts (settled_unit places ds)
-unit_goes ts places within ds h = each_mapped (settled_entry places) EntrySaysNoPlace (EntryGoes ts) (entry_goes ts places within) ds h
+unit_goes : (ts : List Tree) (places : Goal → Option (ℕ × ℕ)) → AreIn places ts → (ds : List Draft) → UnitSaysNoPlace Anywhere ds → UnitGoes ts (settled_unit places ds)
+unit_goes ts places within ds h = each_mapped (settled_entry places) (EntrySaysNoPlace Anywhere) (EntryGoes ts) (entry_goes ts places within) ds h
 
 -- the goals of a module are in the trees of all
 goals_in : (ts : List Tree) (before : List (List Draft)) (m : ModuleDrafts) (behind : List (List Draft)) → SameSizes ts (before ++ (units_drafted m ++ behind)) → AreIn (place_of_goal (length before) m) ts
 goals_in ts before m behind same g p is = subst (λ n. p.1 < n) (same_at ts (before ++ (units_drafted m ++ behind)) same p.0) (goal_within before m behind g p is)
 
-modules_go : (ts : List Tree) (before : List (List Draft)) (ms : List ModuleDrafts) → SameSizes ts (before ++ all_units ms) → Each ModuleSaysNoPlace ms → Each (UnitGoes ts) (trees_from (length before) ms)
+modules_go : (ts : List Tree) (before : List (List Draft)) (ms : List ModuleDrafts) → SameSizes ts (before ++ all_units ms) → Each (ModuleSaysNoPlace Anywhere) ms → Each (UnitGoes ts) (trees_from (length before) ms)
 modules_go ts before [] same h = tt
 modules_go ts before (m ∷ ms) same h =
     each_both (UnitGoes ts) (map (settled_unit (place_of_goal (length before) m)) (units_drafted m)) (trees_from (length before + length (units_drafted m)) ms)
-    (each_mapped (settled_unit (place_of_goal (length before) m)) UnitSaysNoPlace (UnitGoes ts) (unit_goes ts (place_of_goal (length before) m) (goals_in ts before m (all_units ms) same)) (units_drafted m) h.0)
+    (each_mapped (settled_unit (place_of_goal (length before) m)) (UnitSaysNoPlace Anywhere) (UnitGoes ts) (unit_goes ts (place_of_goal (length before) m) (goals_in ts before m (all_units ms) same)) (units_drafted m) h.0)
     (subst (λ n. Each (UnitGoes ts) (trees_from n ms)) (length-append before (units_drafted m))
     (modules_go ts (before ++ units_drafted m) ms (subst (λ us. SameSizes ts us) (sym (append_assoc before (units_drafted m) (all_units ms))) same) h.1))
 
@@ -226,6 +230,6 @@ units_go ts [] h = tt
 units_go ts (u ∷ us) h = (all_true (goes_somewhere ts) (values_of u) (values_go ts u h.0), units_go ts us h.1)
 
 -- Where the drafts of modules say no places themselves, every reference of their forest goes to an entry that is there.
-pub references-go : (ms : List ModuleDrafts) → Each ModuleSaysNoPlace ms → HasAllTargets (forest ms None)
+pub references-go : (ms : List ModuleDrafts) → Each (ModuleSaysNoPlace Anywhere) ms → HasAllTargets (forest ms None)
 unfolding forest
 references-go ms h = subst HasAllTargets (sym (append-nil (trees_from 0 ms))) (all_true (λ t. list_all (goes_somewhere (trees_from 0 ms)) (values_of t)) (trees_from 0 ms) (units_go (trees_from 0 ms) (trees_from 0 ms) (modules_go (trees_from 0 ms) [] ms (same_trees 0 ms) h)))

@@ -20,10 +20,12 @@ use Rattle.dwc_base.specs.Values as Values
 use Rattle.dwc_base.specs.Values.{Value}
 use Rattle.dwc_base.specs.Kept.{Placed}
 use Rattle.dwc_base.specs.Carried.{Module, Compilation, Unit}
+use Rattle.dwc_base.specs.Compiled.{Memory, no_memory, defined, imported}
 use Rattle.dwc_base.specs.Functions.{Function}
+use Rattle.dwc_base.specs.OwnUnits.{own_unit}
 use Rattle.dwc_base.specs.Refusals.{Refusal, of_place}
 use Rattle.dwc_base.specs.Trees.{Interval, TreeValue, address as address_of_tree, constant, flag, block, text, line_table, ranges, expression, locations}
-use Rattle.dwc_base.specs.Drafts.{DraftValue, done, goes_to, made_of, itself}
+use Rattle.dwc_base.specs.Drafts.{Goal, DraftValue, done, goes_to, made_of, itself}
 use Rattle.dwc_base.specs.Texts.{text_named}
 use Rattle.dwc_base.specs.Targets.{target_of}
 use Rattle.dwc_base.specs.TreeLaws.{HasAllTargets, goes_somewhere}
@@ -36,213 +38,225 @@ use Rattle.dwc_base.specs.LocationRules.{ExpressionSource, lists_of, in_force_at
 use Rattle.dwc_base.specs.EntryRules.{of_list, of_location, rules_of_source}
 use Rattle.dwc_base.specs.Forests.{kept_of, rules_of, is_big, module_drafts, trees_made}
 use Rattle.dwc_base.proofs.LocationValues.{is_nothing, is_expression, is_list, GivesLocated, expression-located, locations-located}
-use Rattle.dwc_base.proofs.ForestLaws.{some_same, none_is, Each, each_chosen, each_mapped, each_filter_map, each_both, SaysNoPlace, EntrySaysNoPlace, UnitSaysNoPlace, ModuleSaysNoPlace, references-go}
+use Rattle.dwc_base.proofs.ForestLaws.{some_same, none_is, Each, each_chosen, each_mapped, each_filter_map, each_both, SaysNoPlace, Anywhere, EntrySaysNoPlace, UnitSaysNoPlace, ModuleSaysNoPlace, references-go}
 
--- what something becomes, if it becomes something, says no place itself
-abbrev MakesNoPlace : ℕ → Result (Option DraftValue) Refusal → Type 0
-MakesNoPlace name r = (y : ℕ × DraftValue) → if_made name r ≡ Some y → SaysNoPlace y
+module _ (Has : Goal → Type 0) (plain : (offset : ℕ) → Has (made_of offset itself)) where
+  -- what something becomes, if it becomes something, says no place itself
+  abbrev MakesNoPlace : ℕ → Result (Option DraftValue) Refusal → Type 0
+  MakesNoPlace name r = (y : ℕ × DraftValue) → if_made name r ≡ Some y → SaysNoPlace Has y
 
-nothing-made : (name : ℕ) → MakesNoPlace name (Ok None)
-nothing-made name y is = absurd (none_is y is)
+  nothing-made : (name : ℕ) → MakesNoPlace name (Ok None)
+  nothing-made name y is = absurd (none_is y is)
 
-refused-made : (name : ℕ) (refusal : Refusal) → MakesNoPlace name (Err refusal)
-refused-made name refusal y is = absurd (none_is y is)
+  refused-made : (name : ℕ) (refusal : Refusal) → MakesNoPlace name (Err refusal)
+  refused-made name refusal y is = absurd (none_is y is)
 
-value-made : (name : ℕ) (v : DraftValue) → SaysNoPlace (name, v) → MakesNoPlace name (Ok (Some v))
-value-made name v says y is = some_same SaysNoPlace (name, v) y is says
+  value-made : (name : ℕ) (v : DraftValue) → SaysNoPlace Has (name, v) → MakesNoPlace name (Ok (Some v))
+  value-made name v says y is = some_same (SaysNoPlace Has) (name, v) y is says
 
-constant-made : (name : ℕ) (s : UnitSource) (form bits : ℕ) → MakesNoPlace name (Ok (option_map done (constant_becomes s name form bits)))
-constant-made name s form bits = go (is_file_name name) (file_number s.version s.table bits)
-  where
-    go : (is_file : Bool) (number : Option ℕ) → MakesNoPlace name (Ok (option_map done (if is_file then option_map (constant DW_FORM_udata) number else Some (constant (constant_form form) bits))))
-    go false number = value-made name (done (constant (constant_form form) bits)) refl
-    go true None = nothing-made name
-    go true (Some n) = value-made name (done (constant DW_FORM_udata n)) refl
-
-text-made : (name : ℕ) (r : Result (Option (List ℕ)) Fault) → MakesNoPlace name (text_drafted of_place r)
-text-made name (Err fault) = refused-made name (of_place fault)
-text-made name (Ok None) = nothing-made name
-text-made name (Ok (Some bytes)) = value-made name (done (text bytes)) refl
-
-reference-made : (name : ℕ) (o : Option Placed) → MakesNoPlace name (Ok (option_map (λ f. goes_to (made_of f.entry.offset itself)) o))
-reference-made name None = nothing-made name
-reference-made name (Some f) = value-made name (goes_to (made_of f.entry.offset itself)) tt
-
--- ---- code
-
--- What speaks of code refers to no entry.
-abbrev IsNoReference : ℕ × TreeValue → Type 0
-IsNoReference a = goes_somewhere [] a.1 ≡ true
-
-address-made : (name : ℕ) (fs : List Function) (offset : ℕ) (r : Result Address Flaw) → MakesNoPlace name (told_as of_list (elim r [ Ok a ↦ Ok (drafted (carried_address fs a)) | Err flaw ↦ Err (Lists.of_place (fault_of AddressValue Info offset flaw)) ]))
-address-made name fs offset (Ok a) = value-made name (done (carried_address fs a)) refl
-address-made name fs offset (Err flaw) = refused-made name (of_place (fault_of AddressValue Info offset flaw))
-
-list-made : (name : ℕ) (fs : List Function) (xs : Listing ListRefusal Interval) → MakesNoPlace name (told_as of_list (list_becomes fs (all_items xs)))
-list-made name fs xs = go xs.fault
-  where
-    go : (o : Option ListRefusal) → MakesNoPlace name (told_as of_list (list_becomes fs (elim o [ None ↦ Ok xs.items | Some refusal ↦ Err refusal ])))
-    go None = value-made name (done (carried_ranges fs xs.items)) refl
-    go (Some refusal) = refused-made name (of_list refusal)
-
-code-made : (fs : List Function) (s : ListSource) (offset name : ℕ) (v : Value) → MakesNoPlace name (told_as of_list (code_becomes s fs offset v))
-unfolding code_becomes
-code-made fs s offset name (Values.address a) = value-made name (done (carried_address fs a)) refl
-code-made fs s offset name (Values.address_index i) = address-made name fs offset (s.indexed i)
-code-made fs s offset name (Values.range_reference n) = list-made name fs (ranges_of_value s offset (Values.range_reference n))
-code-made fs s offset name (Values.range_index i) = list-made name fs (ranges_of_value s offset (Values.range_index i))
-code-made fs s offset name (Values.constant form bits) = nothing-made name
-code-made fs s offset name (Values.flag b) = nothing-made name
-code-made fs s offset name (Values.block bytes) = nothing-made name
-code-made fs s offset name (Values.text bytes) = nothing-made name
-code-made fs s offset name (Values.text_reference form n) = nothing-made name
-code-made fs s offset name (Values.unit_reference n) = nothing-made name
-code-made fs s offset name (Values.info_reference n) = nothing-made name
-code-made fs s offset name (Values.line_reference n) = nothing-made name
-code-made fs s offset name Values.dropped = nothing-made name
-code-made fs s offset name (Values.expression bytes) = nothing-made name
-code-made fs s offset name (Values.location_reference n) = nothing-made name
-code-made fs s offset name (Values.location_index n) = nothing-made name
-
--- ---- expressions and location lists
-
-located-made : (name : ℕ) (r : Result (Option TreeValue) LocationRefusal) (tell : LocationRefusal → Refusal) → GivesLocated r → MakesNoPlace name (told_as tell (r >>= λ v. Ok (LocationAttributes.drafted v)))
-located-made name (Err refusal) tell gives = refused-made name (tell refusal)
-located-made name (Ok None) tell is_nothing = nothing-made name
-located-made name (Ok (Some _)) tell (is_expression bytes) = value-made name (done (expression bytes)) refl
-located-made name (Ok (Some _)) tell (is_list ls) = value-made name (done (locations ls)) refl
-
-located-told : (name : ℕ) (r : Result (Option TreeValue) LocationRefusal) (tell : LocationRefusal → Refusal) → GivesLocated r → MakesNoPlace name (told_as tell r >>= λ v. Ok (LocationAttributes.drafted v))
-located-told name (Err refusal) tell gives = refused-made name (tell refusal)
-located-told name (Ok None) tell is_nothing = nothing-made name
-located-told name (Ok (Some _)) tell (is_expression bytes) = value-made name (done (expression bytes)) refl
-located-told name (Ok (Some _)) tell (is_list ls) = value-made name (done (locations ls)) refl
-
-expression-made : (c : ExpressionSource) (e : Placed) (before : List (ℕ × Value)) (name : ℕ) (bytes : List ℕ) → MakesNoPlace name (told_as (of_location c.told.place) (expression_becomes c e before name bytes))
-unfolding expression_becomes
-expression-made c e before name bytes =
-    located-made name (value_of_expression name (in_force_at c e) (given_expression c e before bytes)) (of_location c.told.place) (expression-located name (in_force_at c e) (given_expression c e before bytes))
-
-locations-made : (c : ExpressionSource) (e : Placed) (name : ℕ) (v : Value) → MakesNoPlace name (locations_become of_list (of_location c.told.place) c e v)
-unfolding locations_become
-locations-made c e name v = go (told_as of_list (listed_by c e v))
-  where
-    go : (r : Result (List ListedExpression) Refusal) → MakesNoPlace name (r >>= λ xs. told_as (of_location c.told.place) (value_of_locations (in_force_at c e) xs) >>= λ value. Ok (LocationAttributes.drafted value))
-    go (Err refusal) = refused-made name refusal
-    go (Ok xs) = located-told name (value_of_locations (in_force_at c e) xs) (of_location c.told.place) (locations-located (in_force_at c e) xs)
-
--- ---- extents
-
-intervals-name-none : (tag : ℕ) (is : List Interval) → Each IsNoReference (said_intervals tag is)
-intervals-name-none tag [] = (refl, tt)
-intervals-name-none tag (i ∷ j ∷ is) = (refl, tt)
-intervals-name-none tag (i ∷ []) = each_chosen IsNoReference ((DW_AT_ranges, ranges (i ∷ [])) ∷ []) (bounds i.begin (length_of i)) (tag == DW_TAG_compile_unit) (refl, tt) (refl, (refl, tt))
-
-position-names-none : (fs : List Function) (a : Address) (b : Bool) → IsNoReference (DW_AT_low_pc, if b then address_of_tree (Constant 0) else carried_address fs a)
-position-names-none fs a true = refl
-position-names-none fs a false = refl
-
-extent-names-none : (fs : List Function) (tag : ℕ) (x : Extent) → Each IsNoReference (said_extent fs tag x)
-extent-names-none fs tag nowhere = tt
-extent-names-none fs tag (intervals []) = tt
-extent-names-none fs tag (intervals (i ∷ is)) = intervals-name-none tag (native_of_intervals fs (i ∷ is))
-extent-names-none fs tag (position a) = (position-names-none fs a (tag == DW_TAG_compile_unit), tt)
-
-attributes-name-none : (fs : List Function) (s : ListSource) (e : Entry) → Each IsNoReference (range_attributes s fs e)
-unfolding range_attributes
-attributes-name-none fs s e = go (begun_function s fs e)
-  where
-    go : (o : Option Function) → Each IsNoReference (elim o [ Some f ↦ bounds (Symbol f.number (pos 0)) f.length | None ↦ said_extent fs e.tag (extent s e) ])
-    go (Some f) = (refl, (refl, tt))
-    go None = extent-names-none fs e.tag (extent s e)
-
-module _ (c : ExpressionSource) (s : UnitSource) (e : Placed) where
-  value-becomes : (before : List (ℕ × Value)) (name : ℕ) (v : Value) → MakesNoPlace name (value_becomes (rules_of_source c) s e before name v)
-  unfolding value_becomes
-  value-becomes before name (Values.constant form bits) = constant-made name s form bits
-  value-becomes before name (Values.flag b) = value-made name (done (flag b)) refl
-  value-becomes before name (Values.block bytes) = value-made name (done (block bytes)) refl
-  value-becomes before name (Values.text bytes) = text-made name (reported Text Info e.entry.offset (text_named s.texts (Values.text bytes)))
-  value-becomes before name (Values.text_reference form n) = text-made name (reported Text Info e.entry.offset (text_named s.texts (Values.text_reference form n)))
-  value-becomes before name (Values.unit_reference n) = reference-made name (target_of s.entries e (Values.unit_reference n))
-  value-becomes before name (Values.info_reference n) = reference-made name (target_of s.entries e (Values.info_reference n))
-  value-becomes before name (Values.line_reference n) = nothing-made name
-  value-becomes before name Values.dropped = nothing-made name
-  value-becomes before name (Values.address a) = code-made c.functions (lists_of c) e.entry.offset name (Values.address a)
-  value-becomes before name (Values.address_index n) = code-made c.functions (lists_of c) e.entry.offset name (Values.address_index n)
-  value-becomes before name (Values.expression bytes) = expression-made c e before name bytes
-  value-becomes before name (Values.range_reference n) = code-made c.functions (lists_of c) e.entry.offset name (Values.range_reference n)
-  value-becomes before name (Values.range_index n) = code-made c.functions (lists_of c) e.entry.offset name (Values.range_index n)
-  value-becomes before name (Values.location_reference n) = locations-made c e name (Values.location_reference n)
-  value-becomes before name (Values.location_index n) = locations-made c e name (Values.location_index n)
-
-  bound-becomes : (before : List (ℕ × Value)) (a : ℕ × Value) → MakesNoPlace a.0 (bound_becomes (rules_of_source c) s e before a)
-  unfolding bound_becomes
-  bound-becomes before a = go (text_becomes (rules_of_source c) s e a.1) ((rules_of_source c).refused_bound e before a)
+  constant-made : (name : ℕ) (s : UnitSource) (form bits : ℕ) → MakesNoPlace name (Ok (option_map done (constant_becomes s name form bits)))
+  constant-made name s form bits = go (is_file_name name) (file_number s.version s.table bits)
     where
-      go : (r : Result (Option DraftValue) Refusal) (o : Option Refusal) → MakesNoPlace a.0 (r >>= λ read. nothing_unless o)
-      go (Err refusal) o = refused-made a.0 refusal
-      go (Ok read) None = nothing-made a.0
-      go (Ok read) (Some refusal) = refused-made a.0 refusal
+      go : (is_file : Bool) (number : Option ℕ) → MakesNoPlace name (Ok (option_map done (if is_file then option_map (constant DW_FORM_udata) number else Some (constant (constant_form form) bits))))
+      go false number = value-made name (done (constant (constant_form form) bits)) refl
+      go true None = nothing-made name
+      go true (Some n) = value-made name (done (constant DW_FORM_udata n)) refl
 
-  attribute-becomes : (before : List (ℕ × Value)) (a : ℕ × Value) → MakesNoPlace a.0 (attribute_becomes (rules_of_source c) s e before a)
-  unfolding attribute_becomes
-  attribute-becomes before a = go (is_dropped_name a.0) (a.0 == DW_AT_stmt_list) (is_bound_name a.0)
+  text-made : (name : ℕ) (r : Result (Option (List ℕ)) Fault) → MakesNoPlace name (text_drafted of_place r)
+  text-made name (Err fault) = refused-made name (of_place fault)
+  text-made name (Ok None) = nothing-made name
+  text-made name (Ok (Some bytes)) = value-made name (done (text bytes)) refl
+
+  reference-made : (name : ℕ) (o : Option Placed) → MakesNoPlace name (Ok (option_map (λ f. goes_to (made_of f.entry.offset itself)) o))
+  reference-made name None = nothing-made name
+  reference-made name (Some f) = value-made name (goes_to (made_of f.entry.offset itself)) (plain f.entry.offset)
+
+  -- ---- code
+
+  -- What speaks of code refers to no entry.
+  abbrev IsNoReference : ℕ × TreeValue → Type 0
+  IsNoReference a = goes_somewhere [] a.1 ≡ true
+
+  address-made : (name : ℕ) (fs : List Function) (offset : ℕ) (r : Result Address Flaw) → MakesNoPlace name (told_as of_list (elim r [ Ok a ↦ Ok (drafted (carried_address fs a)) | Err flaw ↦ Err (Lists.of_place (fault_of AddressValue Info offset flaw)) ]))
+  address-made name fs offset (Ok a) = value-made name (done (carried_address fs a)) refl
+  address-made name fs offset (Err flaw) = refused-made name (of_place (fault_of AddressValue Info offset flaw))
+
+  list-made : (name : ℕ) (fs : List Function) (xs : Listing ListRefusal Interval) → MakesNoPlace name (told_as of_list (list_becomes fs (all_items xs)))
+  list-made name fs xs = go xs.fault
     where
-      table : (b : Bool) → MakesNoPlace a.0 (Ok (if b then Some (done line_table) else None))
-      table true = value-made a.0 (done line_table) refl
-      table false = nothing-made a.0
+      go : (o : Option ListRefusal) → MakesNoPlace name (told_as of_list (list_becomes fs (elim o [ None ↦ Ok xs.items | Some refusal ↦ Err refusal ])))
+      go None = value-made name (done (carried_ranges fs xs.items)) refl
+      go (Some refusal) = refused-made name (of_list refusal)
 
-      go : (dropped lines bound : Bool) → MakesNoPlace a.0 (elim dropped [
-        | true ↦ Ok None
-        | false ↦ elim lines [
-          | true ↦ Ok (table_becomes s e)
-          | false ↦ elim bound [ true ↦ bound_becomes (rules_of_source c) s e before a | false ↦ value_becomes (rules_of_source c) s e before a.0 a.1 ]
-        ]
-      ])
-      go true lines bound = nothing-made a.0
-      go false true bound = table ((e.entry.depth == 0) && is_some s.table)
-      go false false true = bound-becomes before a
-      go false false false = value-becomes before a.0 a.1
+  code-made : (fs : List Function) (s : ListSource) (offset name : ℕ) (v : Value) → MakesNoPlace name (told_as of_list (code_becomes s fs offset v))
+  unfolding code_becomes
+  code-made fs s offset name (Values.address a) = value-made name (done (carried_address fs a)) refl
+  code-made fs s offset name (Values.address_index i) = address-made name fs offset (s.indexed i)
+  code-made fs s offset name (Values.range_reference n) = list-made name fs (ranges_of_value s offset (Values.range_reference n))
+  code-made fs s offset name (Values.range_index i) = list-made name fs (ranges_of_value s offset (Values.range_index i))
+  code-made fs s offset name (Values.constant form bits) = nothing-made name
+  code-made fs s offset name (Values.flag b) = nothing-made name
+  code-made fs s offset name (Values.block bytes) = nothing-made name
+  code-made fs s offset name (Values.text bytes) = nothing-made name
+  code-made fs s offset name (Values.text_reference form n) = nothing-made name
+  code-made fs s offset name (Values.unit_reference n) = nothing-made name
+  code-made fs s offset name (Values.info_reference n) = nothing-made name
+  code-made fs s offset name (Values.line_reference n) = nothing-made name
+  code-made fs s offset name Values.dropped = nothing-made name
+  code-made fs s offset name (Values.expression bytes) = nothing-made name
+  code-made fs s offset name (Values.location_reference n) = nothing-made name
+  code-made fs s offset name (Values.location_index n) = nothing-made name
 
-  attributes-become : (before others : List (ℕ × Value)) → Each (λ a. (y : ℕ × DraftValue) → if_made a.0 a.1 ≡ Some y → SaysNoPlace y) (attributes_become (rules_of_source c) s e before others)
-  unfolding attributes_become
-  attributes-become before [] = tt
-  attributes-become before (a ∷ others) = (attribute-becomes before a, attributes-become (before ++ (a ∷ [])) others)
+  -- ---- expressions and location lists
 
-  bounds-no-place : Each SaysNoPlace ((rules_of_source c).bounds e)
-  bounds-no-place = each_mapped (λ a. (a.0, done a.1)) IsNoReference SaysNoPlace (λ a is. is) (range_attributes (lists_of c) c.functions e.entry) (attributes-name-none c.functions (lists_of c) e.entry)
+  located-made : (name : ℕ) (r : Result (Option TreeValue) LocationRefusal) (tell : LocationRefusal → Refusal) → GivesLocated r → MakesNoPlace name (told_as tell (r >>= λ v. Ok (LocationAttributes.drafted v)))
+  located-made name (Err refusal) tell gives = refused-made name (tell refusal)
+  located-made name (Ok None) tell is_nothing = nothing-made name
+  located-made name (Ok (Some _)) tell (is_expression bytes) = value-made name (done (expression bytes)) refl
+  located-made name (Ok (Some _)) tell (is_list ls) = value-made name (done (locations ls)) refl
 
-  endianity-no-place : (big_endian : Bool) → Each SaysNoPlace (endianity big_endian e)
-  endianity-no-place big_endian = go (big_endian && (e.entry.tag == DW_TAG_base_type))
+  located-told : (name : ℕ) (r : Result (Option TreeValue) LocationRefusal) (tell : LocationRefusal → Refusal) → GivesLocated r → MakesNoPlace name (told_as tell r >>= λ v. Ok (LocationAttributes.drafted v))
+  located-told name (Err refusal) tell gives = refused-made name (tell refusal)
+  located-told name (Ok None) tell is_nothing = nothing-made name
+  located-told name (Ok (Some _)) tell (is_expression bytes) = value-made name (done (expression bytes)) refl
+  located-told name (Ok (Some _)) tell (is_list ls) = value-made name (done (locations ls)) refl
+
+  expression-made : (c : ExpressionSource) (e : Placed) (before : List (ℕ × Value)) (name : ℕ) (bytes : List ℕ) → MakesNoPlace name (told_as (of_location c.told.place) (expression_becomes c e before name bytes))
+  unfolding expression_becomes
+  expression-made c e before name bytes =
+      located-made name (value_of_expression name (in_force_at c e) (given_expression c e before bytes)) (of_location c.told.place) (expression-located name (in_force_at c e) (given_expression c e before bytes))
+
+  locations-made : (c : ExpressionSource) (e : Placed) (name : ℕ) (v : Value) → MakesNoPlace name (locations_become of_list (of_location c.told.place) c e v)
+  unfolding locations_become
+  locations-made c e name v = go (told_as of_list (listed_by c e v))
     where
-      go : (b : Bool) → Each SaysNoPlace (if b then (DW_AT_endianity, done (constant DW_FORM_data1 DW_END_little)) ∷ [] else [])
-      go true = (refl, tt)
-      go false = tt
+      go : (r : Result (List ListedExpression) Refusal) → MakesNoPlace name (r >>= λ xs. told_as (of_location c.told.place) (value_of_locations (in_force_at c e) xs) >>= λ value. Ok (LocationAttributes.drafted value))
+      go (Err refusal) = refused-made name refusal
+      go (Ok xs) = located-told name (value_of_locations (in_force_at c e) xs) (of_location c.told.place) (locations-located (in_force_at c e) xs)
 
-  entry-no-place : (big_endian : Bool) → EntrySaysNoPlace (draft_of (rules_of_source c) s big_endian e)
-  unfolding attributes_made
-  entry-no-place big_endian =
-      let bounds = (rules_of_source c).bounds e in
-      let others = filter_map (λ a. if_made a.0 a.1) (attributes_become (rules_of_source c) s e [] e.entry.attributes) in
-      each_both SaysNoPlace (bounds ++ others) (endianity big_endian e)
-      (each_both SaysNoPlace bounds others bounds-no-place
-      (each_filter_map (λ a. if_made a.0 a.1) SaysNoPlace (attributes_become (rules_of_source c) s e [] e.entry.attributes) (attributes-become [] e.entry.attributes)))
-      (endianity-no-place big_endian)
+  -- ---- extents
 
-unit-no-place : (m : Module) (u : Unit) (s : UnitSource) (big_endian : Bool) (es : List Placed) → UnitSaysNoPlace (unit_drafts (rules_of m u) s big_endian es)
-unit-no-place m u s big_endian [] = tt
-unit-no-place m u s big_endian (e ∷ es) = (entry-no-place (record { sections = m.sections; header = u.header; functions = m.functions; told = m.told; entries = (kept_of m).entries }) s e big_endian, unit-no-place m u s big_endian es)
+  intervals-name-none : (tag : ℕ) (is : List Interval) → Each IsNoReference (said_intervals tag is)
+  intervals-name-none tag [] = (refl, tt)
+  intervals-name-none tag (i ∷ j ∷ is) = (refl, tt)
+  intervals-name-none tag (i ∷ []) = each_chosen IsNoReference ((DW_AT_ranges, ranges (i ∷ [])) ∷ []) (bounds i.begin (length_of i)) (tag == DW_TAG_compile_unit) (refl, tt) (refl, (refl, tt))
 
-module-no-place : (big_endian : Bool) (m : Module) → ModuleSaysNoPlace (module_drafts big_endian m)
+  position-names-none : (fs : List Function) (a : Address) (b : Bool) → IsNoReference (DW_AT_low_pc, if b then address_of_tree (Constant 0) else carried_address fs a)
+  position-names-none fs a true = refl
+  position-names-none fs a false = refl
+
+  extent-names-none : (fs : List Function) (tag : ℕ) (x : Extent) → Each IsNoReference (said_extent fs tag x)
+  extent-names-none fs tag nowhere = tt
+  extent-names-none fs tag (intervals []) = tt
+  extent-names-none fs tag (intervals (i ∷ is)) = intervals-name-none tag (native_of_intervals fs (i ∷ is))
+  extent-names-none fs tag (position a) = (position-names-none fs a (tag == DW_TAG_compile_unit), tt)
+
+  attributes-name-none : (fs : List Function) (s : ListSource) (e : Entry) → Each IsNoReference (range_attributes s fs e)
+  unfolding range_attributes
+  attributes-name-none fs s e = go (begun_function s fs e)
+    where
+      go : (o : Option Function) → Each IsNoReference (elim o [ Some f ↦ bounds (Symbol f.number (pos 0)) f.length | None ↦ said_extent fs e.tag (extent s e) ])
+      go (Some f) = (refl, (refl, tt))
+      go None = extent-names-none fs e.tag (extent s e)
+
+  module _ (c : ExpressionSource) (s : UnitSource) (e : Placed) where
+    value-becomes : (before : List (ℕ × Value)) (name : ℕ) (v : Value) → MakesNoPlace name (value_becomes (rules_of_source c) s e before name v)
+    unfolding value_becomes
+    value-becomes before name (Values.constant form bits) = constant-made name s form bits
+    value-becomes before name (Values.flag b) = value-made name (done (flag b)) refl
+    value-becomes before name (Values.block bytes) = value-made name (done (block bytes)) refl
+    value-becomes before name (Values.text bytes) = text-made name (reported Text Info e.entry.offset (text_named s.texts (Values.text bytes)))
+    value-becomes before name (Values.text_reference form n) = text-made name (reported Text Info e.entry.offset (text_named s.texts (Values.text_reference form n)))
+    value-becomes before name (Values.unit_reference n) = reference-made name (target_of s.entries e (Values.unit_reference n))
+    value-becomes before name (Values.info_reference n) = reference-made name (target_of s.entries e (Values.info_reference n))
+    value-becomes before name (Values.line_reference n) = nothing-made name
+    value-becomes before name Values.dropped = nothing-made name
+    value-becomes before name (Values.address a) = code-made c.functions (lists_of c) e.entry.offset name (Values.address a)
+    value-becomes before name (Values.address_index n) = code-made c.functions (lists_of c) e.entry.offset name (Values.address_index n)
+    value-becomes before name (Values.expression bytes) = expression-made c e before name bytes
+    value-becomes before name (Values.range_reference n) = code-made c.functions (lists_of c) e.entry.offset name (Values.range_reference n)
+    value-becomes before name (Values.range_index n) = code-made c.functions (lists_of c) e.entry.offset name (Values.range_index n)
+    value-becomes before name (Values.location_reference n) = locations-made c e name (Values.location_reference n)
+    value-becomes before name (Values.location_index n) = locations-made c e name (Values.location_index n)
+
+    bound-becomes : (before : List (ℕ × Value)) (a : ℕ × Value) → MakesNoPlace a.0 (bound_becomes (rules_of_source c) s e before a)
+    unfolding bound_becomes
+    bound-becomes before a = go (text_becomes (rules_of_source c) s e a.1) ((rules_of_source c).refused_bound e before a)
+      where
+        go : (r : Result (Option DraftValue) Refusal) (o : Option Refusal) → MakesNoPlace a.0 (r >>= λ read. nothing_unless o)
+        go (Err refusal) o = refused-made a.0 refusal
+        go (Ok read) None = nothing-made a.0
+        go (Ok read) (Some refusal) = refused-made a.0 refusal
+
+    attribute-becomes : (before : List (ℕ × Value)) (a : ℕ × Value) → MakesNoPlace a.0 (attribute_becomes (rules_of_source c) s e before a)
+    unfolding attribute_becomes
+    attribute-becomes before a = go (is_dropped_name a.0) (a.0 == DW_AT_stmt_list) (is_bound_name a.0)
+      where
+        table : (b : Bool) → MakesNoPlace a.0 (Ok (if b then Some (done line_table) else None))
+        table true = value-made a.0 (done line_table) refl
+        table false = nothing-made a.0
+
+        go : (dropped lines bound : Bool) → MakesNoPlace a.0 (elim dropped [
+          | true ↦ Ok None
+          | false ↦ elim lines [
+            | true ↦ Ok (table_becomes s e)
+            | false ↦ elim bound [ true ↦ bound_becomes (rules_of_source c) s e before a | false ↦ value_becomes (rules_of_source c) s e before a.0 a.1 ]
+          ]
+        ])
+        go true lines bound = nothing-made a.0
+        go false true bound = table ((e.entry.depth == 0) && is_some s.table)
+        go false false true = bound-becomes before a
+        go false false false = value-becomes before a.0 a.1
+
+    attributes-become : (before others : List (ℕ × Value)) → Each (λ a. (y : ℕ × DraftValue) → if_made a.0 a.1 ≡ Some y → SaysNoPlace Has y) (attributes_become (rules_of_source c) s e before others)
+    unfolding attributes_become
+    attributes-become before [] = tt
+    attributes-become before (a ∷ others) = (attribute-becomes before a, attributes-become (before ++ (a ∷ [])) others)
+
+    bounds-no-place : Each (SaysNoPlace Has) ((rules_of_source c).bounds e)
+    bounds-no-place = each_mapped (λ a. (a.0, done a.1)) IsNoReference (SaysNoPlace Has) (λ a is. is) (range_attributes (lists_of c) c.functions e.entry) (attributes-name-none c.functions (lists_of c) e.entry)
+
+    endianity-no-place : (big_endian : Bool) → Each (SaysNoPlace Has) (endianity big_endian e)
+    endianity-no-place big_endian = go (big_endian && (e.entry.tag == DW_TAG_base_type))
+      where
+        go : (b : Bool) → Each (SaysNoPlace Has) (if b then (DW_AT_endianity, done (constant DW_FORM_data1 DW_END_little)) ∷ [] else [])
+        go true = (refl, tt)
+        go false = tt
+
+    entry-no-place : (big_endian : Bool) → EntrySaysNoPlace Has (draft_of (rules_of_source c) s big_endian e)
+    unfolding attributes_made
+    entry-no-place big_endian =
+        let bounds = (rules_of_source c).bounds e in
+        let others = filter_map (λ a. if_made a.0 a.1) (attributes_become (rules_of_source c) s e [] e.entry.attributes) in
+        each_both (SaysNoPlace Has) (bounds ++ others) (endianity big_endian e)
+        (each_both (SaysNoPlace Has) bounds others bounds-no-place
+        (each_filter_map (λ a. if_made a.0 a.1) (SaysNoPlace Has) (attributes_become (rules_of_source c) s e [] e.entry.attributes) (attributes-become [] e.entry.attributes)))
+        (endianity-no-place big_endian)
+
+  -- the entries that are made of a unit's kept ones say no place, and their references have the property
+  pub unit-no-place : (m : Module) (u : Unit) (s : UnitSource) (big_endian : Bool) (es : List Placed) → UnitSaysNoPlace Has (unit_drafts (rules_of m u) s big_endian es)
+  unit-no-place m u s big_endian [] = tt
+  unit-no-place m u s big_endian (e ∷ es) = (entry-no-place (record { sections = m.sections; header = u.header; functions = m.functions; told = m.told; entries = (kept_of m).entries }) s e big_endian, unit-no-place m u s big_endian es)
+
+-- nor does a module's own unit
+own-no-place : (set_memory : List ℕ) (memory : Memory) → UnitSaysNoPlace Anywhere (own_unit set_memory memory)
+unfolding own_unit
+own-no-place set_memory (defined offset) =
+    ((refl, (refl, (refl, tt))), ((refl, (refl, (refl, tt))), ((refl, (tt, tt)), ((refl, (refl, tt)), ((refl, (tt, (refl, tt))), ((refl, (refl, tt)), ((tt, (refl, tt)), ((refl, (tt, tt)), ((refl, (refl, (refl, tt))), tt)))))))))
+own-no-place set_memory no_memory =
+    ((refl, (refl, (refl, tt))), ((refl, (refl, (refl, tt))), ((refl, (tt, tt)), ((refl, tt), ((refl, (refl, tt)), ((tt, (refl, tt)), ((refl, (tt, tt)), ((refl, (refl, (refl, tt))), tt))))))))
+own-no-place set_memory (imported definition base) =
+    ((refl, (refl, (refl, tt))), ((refl, (refl, (refl, tt))), ((refl, (tt, tt)), ((refl, tt), ((refl, (refl, tt)), ((tt, (refl, tt)), ((refl, (tt, tt)), ((refl, (refl, (refl, tt))), tt))))))))
+
+module-no-place : (big_endian : Bool) (m : Module) → ModuleSaysNoPlace Anywhere (module_drafts big_endian m)
 unfolding carried_drafts
-module-no-place big_endian m = go (carried_in (kept_of m))
+module-no-place big_endian m = (own-no-place m.told.names.set_memory m.told.memory, go (carried_in (kept_of m)))
   where
-    go : (us : List Unit) → Each UnitSaysNoPlace (map (λ u. unit_drafts (rules_of m u) (source_of (kept_of m) u) big_endian (kept_in (kept_of m) u)) us)
+    go : (us : List Unit) → Each (UnitSaysNoPlace Anywhere) (map (λ u. unit_drafts (rules_of m u) (source_of (kept_of m) u) big_endian (kept_in (kept_of m) u)) us)
     go [] = tt
-    go (u ∷ us) = (unit-no-place m u (source_of (kept_of m) u) big_endian (kept_in (kept_of m) u), go us)
+    go (u ∷ us) = (unit-no-place Anywhere (λ offset. tt) m u (source_of (kept_of m) u) big_endian (kept_in (kept_of m) u), go us)
 
-modules-no-place : (big_endian : Bool) (ms : List Module) → Each ModuleSaysNoPlace (map (module_drafts big_endian) ms)
+modules-no-place : (big_endian : Bool) (ms : List Module) → Each (ModuleSaysNoPlace Anywhere) (map (module_drafts big_endian) ms)
 modules-no-place big_endian [] = tt
 modules-no-place big_endian (m ∷ ms) = (module-no-place big_endian m, modules-no-place big_endian ms)
 

@@ -50,6 +50,8 @@ pub mod WidestCases
 pub mod OutputSmall
 pub mod DraftsOnLiterals
 pub mod TreeInputs
+pub mod OwnTrees
+pub mod OwnUnitCases
 pub mod ReferenceCases
 pub mod TextCases
 pub mod AttributeCases

@@ -23,7 +23,7 @@ use Rattle.dwc_base.specs.Trees.{Interval, Location, Tree, TreeEntry, TreeValue,
 use Rattle.dwc_base.specs.Drafts.{Goal, Draft, DraftValue, done, itself}
 use Rattle.dwc_base.specs.DraftForests.{units_drafted, is_made_of, place_of_goal, settled_entry, settled_unit, trees_from, forest}
 use Rattle.dwc_base.specs.Clones.{UnitSource, CodeRules, attribute_becomes, attributes_become, value_becomes, if_refused, entry_refusals}
-use Rattle.dwc_base.specs.Carried.{Unit, Module, Compilation}
+use Rattle.dwc_base.specs.Carried.{Unit, Module, Compilation, carried_unit}
 use Rattle.dwc_base.specs.KeptModules.{carried_in, kept_in}
 use Rattle.dwc_base.specs.CarriedDrafts.{source_of, draft_of, carried_drafts}
 use Rattle.dwc_base.specs.Parts.{CompiledParts, compiled, is_simple}
@@ -33,12 +33,12 @@ use Rattle.dwc_base.specs.LocationAttributes.{LocationRefusal, of_place, of_buil
 use Rattle.dwc_base.specs.LocationRules.{ExpressionSource, expression_becomes, in_force_at, listed_by, lists_of, locations_become}
 use Rattle.dwc_base.specs.EntryRules.{code_value_becomes, of_list, of_location, rules_of_source}
 use Rattle.dwc_base.specs.RangeRefusals.{has_name}
-use Rattle.dwc_base.specs.Forests.{kept_of, rules_of, carried_units_of, carried_units, is_big, drafts_of, module_drafts, function_refusals, module_refusals, refusals, first_refusal, trees_made}
+use Rattle.dwc_base.specs.Forests.{kept_of, rules_of, carried_units_of, wanted_units_of, wanted_units, is_big, drafts_of, module_drafts, function_refusals, own_refusals, reading_refusals, module_refusals, refusals, first_refusal, trees_made}
 use Rattle.dwc_base.specs.ScopesCarried.{AreNumbered, TranslationsKeepScopes, KeepsScope, value_of_entry}
-use Rattle.dwc_base.specs.LocationsCarried.{LocationUse, over_scope, over_intervals, use_over, interval_used, intervals_used, use_of, IntervalSaysWhere, ListSaysWhere, ValueSaysWhere, NameSaysWhere, CarriesLocations, expressions_of, UnitCarriesLocations, LocationsCarried}
+use Rattle.dwc_base.specs.LocationsCarried.{LocationUse, over_scope, over_intervals, use_over, interval_used, intervals_used, use_of, IntervalSaysWhere, ListSaysWhere, ValueSaysWhere, NameSaysWhere, CarriesLocations, expressions_of, UnitCarriesLocations, UnitHasLocations, LocationsCarried}
 use Rattle.dwc_base.proofs.InLists.{IsIn, contains-in, in-filter}
 use Rattle.dwc_base.proofs.EntryOffsets.{same-entry, kept-placed, carried-read}
-use Rattle.dwc_base.proofs.ScopeForest.{made-at, zip-both, zip-made}
+use Rattle.dwc_base.proofs.ScopeForest.{made-at, zip-both, zip-made, zip-mapped}
 use Rattle.dwc_base.proofs.LocationScopes.{expression-says, interval-says, scope-kept}
 use Rattle.dwc_base.proofs.LastAttributes.{AreOthers, IsPlain, IsValue, SaysLast, become-both, location-plain, says-last, value_made}
 
@@ -342,7 +342,7 @@ module _ (big_endian : Bool) (m : Module) (keep : TranslationsKeepScopes m.funct
   unfolding Reached.module_refusals Reached.kept_refusals
   kept-accepted u p carried kept =
       let rules = rules_of m in
-      let units = (both-none (map of_fault (Reached.reading_faults (named_faults m.sections) (kept_of m).parts)) (flat_map (Reached.unit_refusals (unit_refusal m.sections) rules (kept_of m)) (carried_in (kept_of m))) accepted).1 in
+      let units = (both-none (map of_fault (Reached.reading_faults (named_faults m.sections) (kept_of m).parts)) (flat_map (Reached.unit_refusals (unit_refusal m.sections) rules (kept_of m)) (carried_in (kept_of m))) (both-none (own_refusals m.told.memory) (reading_refusals m) accepted).1).1 in
       let unit = each-none (Reached.unit_refusals (unit_refusal m.sections) rules (kept_of m)) (carried_in (kept_of m)) u units carried in
       let entries = (both-none (option_to_list (unit_refusal m.sections u)) (Reached.kept_refusals rules (kept_of m) u) unit).1 in
       each-none (entry_refusals (rules u) (source_of (kept_of m) u)) (kept_in (kept_of m) u) p entries kept
@@ -360,21 +360,24 @@ module _ (big_endian : Bool) (m : Module) (keep : TranslationsKeepScopes m.funct
       subst (λ (q : Placed). CarriesLocations c q (settled_entry places (draft p))) same
       (entry-carries c keep numbered (source_of (kept_of m) u) big_endian places p (kept-accepted u p carried i)))
 
-  module-carries : (number : ℕ) → LocationsCarried (drafts_of big_endian) (carried_units_of m) (map (settled_unit (place_of_goal number (module_drafts big_endian m))) (units_drafted (module_drafts big_endian m)))
+  module-carries : (number : ℕ) → LocationsCarried (drafts_of big_endian) (wanted_units_of m) (map (settled_unit (place_of_goal number (module_drafts big_endian m))) (units_drafted (module_drafts big_endian m)))
   unfolding carried_drafts
   module-carries number =
-      let places = place_of_goal number (module_drafts big_endian m) in
-      zip-made (UnitCarriesLocations (drafts_of big_endian)) (λ (u : Unit). record { module_of = m; unit = u }) (λ (u : Unit). drafts_of big_endian (record { module_of = m; unit = u })) (settled_unit places) (carried_in (kept_of m))
-      (λ u i. unit-carries u places i)
+      let places = place_of_goal number (module_drafts big_endian m) in (
+        tt,
+        zip-mapped (UnitHasLocations (drafts_of big_endian)) carried_unit (carried_units_of m) (map (settled_unit places) (carried_drafts (rules_of m) big_endian (kept_of m)))
+            (zip-made (UnitCarriesLocations (drafts_of big_endian)) (λ (u : Unit). record { module_of = m; unit = u }) (λ (u : Unit). drafts_of big_endian (record { module_of = m; unit = u })) (settled_unit places) (carried_in (kept_of m))
+            (λ u i. unit-carries u places i)),
+      )
 
 modules-carry : (big_endian : Bool) (number : ℕ) (ms : List Module) → ((fs : List Function) → TranslationsKeepScopes fs) → All (λ (m : Module). AreNumbered m.functions) ms → flat_map module_refusals ms ≡ []
-    → LocationsCarried (drafts_of big_endian) (flat_map carried_units_of ms) (trees_from number (map (module_drafts big_endian) ms))
+    → LocationsCarried (drafts_of big_endian) (flat_map wanted_units_of ms) (trees_from number (map (module_drafts big_endian) ms))
 modules-carry big_endian number [] keep numbered accepted = tt
 modules-carry big_endian number (m ∷ ms) keep numbered accepted =
     let drafts = module_drafts big_endian m in
     let behind = number + length (units_drafted drafts) in
     let parts = both-none (module_refusals m) (flat_map module_refusals ms) accepted in
-    zip-both (UnitCarriesLocations (drafts_of big_endian)) (carried_units_of m) (map (settled_unit (place_of_goal number drafts)) (units_drafted drafts)) (flat_map carried_units_of ms) (trees_from behind (map (module_drafts big_endian) ms))
+    zip-both (UnitHasLocations (drafts_of big_endian)) (wanted_units_of m) (map (settled_unit (place_of_goal number drafts)) (units_drafted drafts)) (flat_map wanted_units_of ms) (trees_from behind (map (module_drafts big_endian) ms))
     (module-carries big_endian m (keep m.functions) (All-head (λ (x : Module). AreNumbered x.functions) m ms numbered) parts.0 number)
     (modules-carry big_endian behind ms keep (All-tail (λ (x : Module). AreNumbered x.functions) m ms numbered) parts.1)
 
@@ -386,9 +389,9 @@ no-first (x ∷ xs) h = absurd (cc)
 -- The trees that are made of an input of which nothing is refused, whose functions have good maps and numbers of their own, carry its
 -- locations.
 pub made-locations : (c : Compilation) → All (λ (m : Module). AreNumbered m.functions) c.modules → ((fs : List Function) → TranslationsKeepScopes fs) → first_refusal c ≡ None
-    → LocationsCarried (drafts_of (is_big c.order)) (carried_units c) (trees_made c)
+    → LocationsCarried (drafts_of (is_big c.order)) (wanted_units c) (trees_made c)
 unfolding forest
 made-locations c numbered keep accepted =
     let none = both-none (flat_map (λ (m : Module). function_refusals m.functions) c.modules) (flat_map module_refusals c.modules) (no-first (refusals c) accepted) in
-    subst (λ (ts : List Tree). LocationsCarried (drafts_of (is_big c.order)) (carried_units c) ts) (sym (append-nil (trees_from 0 (map (module_drafts (is_big c.order)) c.modules))))
+    subst (λ (ts : List Tree). LocationsCarried (drafts_of (is_big c.order)) (wanted_units c) ts) (sym (append-nil (trees_from 0 (map (module_drafts (is_big c.order)) c.modules))))
     (modules-carry (is_big c.order) 0 c.modules keep numbered none.1)

@@ -12,7 +12,7 @@ use Rattle.dwc_base.specs.OutputForm.{HaveTargetForm, HasDistinctNames}
 use Rattle.dwc_base.specs.OutputCarried.{OutputCarried}
 use Rattle.dwc_base.specs.Entries.{Entry}
 use Rattle.dwc_base.specs.Lists.{list_source}
-use Rattle.dwc_base.specs.Forests.{carried_units, drafts_of}
+use Rattle.dwc_base.specs.Forests.{wanted_units, drafts_of}
 use Rattle.dwc_base.specs.LocationsCarried.{CarriesLocations, LocationsCarried, expressions_of}
 use Rattle.dwc_base.specs.ScopesCarried.{scope_to_keep, CarriesScope, ScopesCarried}
 use Rattle.dwc_base.specs.Trees.{TreeEntry}
@@ -21,15 +21,15 @@ use Rattle.dwc_base.proofs.ForestLaws.{Each, none_is}
 use Rattle.dwc_base.proofs.InLists.{IsIn, contains-in}
 use Rattle.dwc_base.proofs.LineTables.{function_small}
 use Rattle.dwc_base.proofs.Readings.{sections_small, header_small}
-use Rattle.dwc_base.proofs.CarriedSmall.{module_small, unit_small, unit_out, output-read, output_small, compilation_small, lines_carried-small}
-use Rattle.dwc_base.proofs.TreesSmall.{tree_small, forest-small, carries-small}
+use Rattle.dwc_base.proofs.CarriedSmall.{module_small, unit_small, own_unit_out, unit_out, output-read, output_small, compilation_small, lines_carried-small}
+use Rattle.dwc_base.proofs.TreesSmall.{tree_small, trees_small, forest-small, carries-small}
 use Rattle.dwc_base.proofs.FieldCases.{related-small}
 
 abbrev pub HasForm : Unit → Type 0
 HasForm u = (u.header.version ≡ 4) × (u.header.address_size ≡ 8)
 
 pub form-small : HaveTargetForm 8 (units (output_sections Little output_small)).items
-form-small = rw output-read (All-cons HasForm unit_out [] (refl, refl) (All-nil HasForm))
+form-small = rw output-read (All-cons HasForm own_unit_out (unit_out ∷ []) (refl, refl) (All-cons HasForm unit_out [] (refl, refl) (All-nil HasForm)))
 
 abbrev pub Differ : OutputSection → OutputSection → Type 0
 Differ x y = x.name ≢ y.name
@@ -40,7 +40,7 @@ no_section = record { name = []; body = []; relocations = [] }
 pub none-differ : AllPairs Differ []
 none-differ i j d less within = absurd (omega arith)
 
--- the names differ at their eighth letter: a, i, l
+-- the names differ at their eighth letter: a, i, l, s
 abbrev letter : List ℕ → ℕ
 letter name = get_or name 7 0
 
@@ -50,19 +50,33 @@ apart-1 e = omega (arith, e)
 apart-2 : ◌≡◌ {A = ℕ} 97 108 → ⊥
 apart-2 e = omega (arith, e)
 
-apart-3 : ◌≡◌ {A = ℕ} 105 108 → ⊥
+apart-3 : ◌≡◌ {A = ℕ} 97 115 → ⊥
 apart-3 e = omega (arith, e)
+
+apart-4 : ◌≡◌ {A = ℕ} 105 108 → ⊥
+apart-4 e = omega (arith, e)
+
+apart-5 : ◌≡◌ {A = ℕ} 105 115 → ⊥
+apart-5 e = omega (arith, e)
+
+apart-6 : ◌≡◌ {A = ℕ} 108 115 → ⊥
+apart-6 e = omega (arith, e)
 
 pub names-small : HasDistinctNames output_small
 names-small =
     let first = get_or output_small 0 no_section in
     let second = get_or output_small 1 no_section in
     let third = get_or output_small 2 no_section in
-    AllPairs-cons Differ first (second ∷ third ∷ []) (All-cons (Differ first) second (third ∷ []) (λ e. apart-1 (ap letter e)) (All-cons (Differ first) third [] (λ e. apart-2 (ap letter e)) (All-nil (Differ first))))
-    (AllPairs-cons Differ second (third ∷ []) (All-cons (Differ second) third [] (λ e. apart-3 (ap letter e)) (All-nil (Differ second)))
-    (AllPairs-cons Differ third [] (All-nil (Differ third)) none-differ))
+    let fourth = get_or output_small 3 no_section in
+    let of_first = All-cons (Differ first) second (third ∷ fourth ∷ []) (λ e. apart-1 (ap letter e)) (All-cons (Differ first) third (fourth ∷ []) (λ e. apart-2 (ap letter e)) (All-cons (Differ first) fourth [] (λ e. apart-3 (ap letter e)) (All-nil (Differ first)))) in
+    let of_second = All-cons (Differ second) third (fourth ∷ []) (λ e. apart-4 (ap letter e)) (All-cons (Differ second) fourth [] (λ e. apart-5 (ap letter e)) (All-nil (Differ second))) in
+    let of_third = All-cons (Differ third) fourth [] (λ e. apart-6 (ap letter e)) (All-nil (Differ third)) in
+    AllPairs-cons Differ first (second ∷ third ∷ fourth ∷ []) of_first
+    (AllPairs-cons Differ second (third ∷ fourth ∷ []) of_second
+    (AllPairs-cons Differ third (fourth ∷ []) of_third
+    (AllPairs-cons Differ fourth [] (All-nil (Differ fourth)) none-differ)))
 
-pub targets-small : HasAllTargets (tree_small ∷ [])
+pub targets-small : HasAllTargets trees_small
 targets-small = refl
 
 pub texts-small : HasTextsOnce (output_sections Little output_small)
@@ -82,9 +96,9 @@ carries-no_scope e out among = λ scope kept. absurd (none_is scope (sym (no-sco
 abbrev said_at : ℕ → TreeEntry
 said_at place = get_or tree_small place (record { depth = 0; tag = 0; attributes = [] })
 
-pub scopes-small : ScopesCarried (drafts_of false) (carried_units compilation_small) (tree_small ∷ [])
+pub scopes-small : ScopesCarried (drafts_of false) (wanted_units compilation_small) trees_small
 unfolding drafts_on_literals
-scopes-small = (((λ e among made. carries-no_scope e (said_at 0) among), ((λ e among made. carries-no_scope e (said_at 1) among), tt)), tt)
+scopes-small = (tt, (((λ e among made. carries-no_scope e (said_at 0) among), ((λ e among made. carries-no_scope e (said_at 1) among), tt)), tt))
 
 -- none of their attributes has the name of a location
 none-named : {A : Type 0} (P : A → Type 0) (before after as' : List A) (a : A) → Each P as' → as' ≡ before ++ a ∷ after → P a
@@ -103,14 +117,14 @@ carries-no_location e out among = λ before after a plain are named last. absurd
     here e (inr (inl same)) = rw same (refl, (refl, tt))
     here e (inr (inr none)) = absurd none
 
-pub locations-small : LocationsCarried (drafts_of false) (carried_units compilation_small) (tree_small ∷ [])
+pub locations-small : LocationsCarried (drafts_of false) (wanted_units compilation_small) trees_small
 unfolding drafts_on_literals
-locations-small = (((λ e among made. carries-no_location e (said_at 0) among), ((λ e among made. carries-no_location e (said_at 1) among), tt)), tt)
+locations-small = (tt, (((λ e among made. carries-no_location e (said_at 0) among), ((λ e among made. carries-no_location e (said_at 1) among), tt)), tt))
 
 output_carried-small : OutputCarried compilation_small output_small
 output_carried-small = record {
   lines = lines_carried-small;
-  wanted = tree_small ∷ [];
+  wanted = trees_small;
   is_forest = forest-small;
   trees = carries-small;
   targets = targets-small;

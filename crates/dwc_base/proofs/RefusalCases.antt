@@ -98,7 +98,7 @@ unfolding drafts_on_literals
 root_behind_lines = refl
 
 -- A function that is too long comes first, of whichever module.
-long_module : Module
+unfoldable pub long_module : Module
 long_module = record { sections = (module_with abbreviations_small info_small line_small).sections; functions = a_function 0 (Some 0) 2 13 0x80000000 [] ∷ []; told = nothing_told; compressed = None }
 
 function_first : refusal_of (module_with abbreviations_small info_small (0x38 ∷ 0x00 ∷ []) ∷ long_module ∷ []) ≡ Some long_function

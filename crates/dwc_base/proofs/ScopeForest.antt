@@ -18,13 +18,13 @@ use Rattle.dwc_base.specs.Trees.{Interval, Tree, TreeEntry}
 use Rattle.dwc_base.specs.Drafts.{Goal, Draft, itself}
 use Rattle.dwc_base.specs.DraftForests.{units_drafted, is_made_of, place_of_goal, settled, settled_entry, settled_unit, trees_from, forest}
 use Rattle.dwc_base.specs.Clones.{UnitSource, attributes_made}
-use Rattle.dwc_base.specs.Carried.{Unit, Module, Compilation}
+use Rattle.dwc_base.specs.Carried.{Unit, Module, Compilation, carried_unit}
 use Rattle.dwc_base.specs.KeptModules.{carried_in, kept_in}
 use Rattle.dwc_base.specs.CarriedDrafts.{source_of, draft_of, carried_drafts}
 use Rattle.dwc_base.specs.EntryRules.{code_rules}
-use Rattle.dwc_base.specs.Forests.{kept_of, rules_of, carried_units_of, carried_units, is_big, drafts_of, module_drafts, trees_made}
+use Rattle.dwc_base.specs.Forests.{kept_of, rules_of, carried_units_of, wanted_units_of, wanted_units, is_big, drafts_of, module_drafts, trees_made}
 use Rattle.dwc_base.specs.RangeAttributes.{wasm_interval, native_of_intervals, begun_function, Extent, intervals, position, nowhere, extent, range_attributes}
-use Rattle.dwc_base.specs.ScopesCarried.{covered_intervals, KeepsScope, scope_of_intervals, scope_to_keep, CarriesScope, UnitCarriesScopes, ScopesCarried, AreNumbered, TranslationsKeepScopes}
+use Rattle.dwc_base.specs.ScopesCarried.{covered_intervals, KeepsScope, scope_of_intervals, scope_to_keep, CarriesScope, UnitCarriesScopes, UnitHasScopes, ScopesCarried, AreNumbered, TranslationsKeepScopes}
 use Rattle.dwc_base.proofs.ForestLaws.{none_is}
 use Rattle.dwc_base.proofs.InLists.{IsIn, contains-in}
 use Rattle.dwc_base.proofs.EntryOffsets.{same-entry, kept-placed, carried-read}
@@ -41,6 +41,13 @@ zip-both R [] [] zs ws h k = k
 zip-both R [] (y ∷ ys) zs ws h k = absurd h
 zip-both R (x ∷ xs) [] zs ws h k = absurd h
 zip-both R (x ∷ xs) (y ∷ ys) zs ws h k = (h.0, zip-both R xs ys zs ws h.1 k)
+
+-- what holds of mapped items holds of the items
+pub zip-mapped : {A B C : Type 0} (R : B → C → Type 0) (f : A → B) (xs : List A) (ys : List C) → AllZip (λ x y. R (f x) y) xs ys → AllZip R (map f xs) ys
+zip-mapped R f [] [] h = h
+zip-mapped R f [] (y ∷ ys) h = absurd h
+zip-mapped R f (x ∷ xs) [] h = absurd h
+zip-mapped R f (x ∷ xs) (y ∷ ys) h = (h.0, zip-mapped R f xs ys h.1)
 
 -- ---- one entry
 
@@ -104,26 +111,29 @@ module _ (big_endian : Bool) (m : Module) (keep : TranslationsKeepScopes m.funct
       subst (λ (x : Entry). CarriesScope lists m.functions x (settled_entry places (draft p))) same
       (entry-carries m.functions keep numbered m.told (kept_of m).entries m.sections u.header (source_of (kept_of m) u) big_endian places p))
 
-  module-carries : (number : ℕ) → ScopesCarried (drafts_of big_endian) (carried_units_of m) (map (settled_unit (place_of_goal number (module_drafts big_endian m))) (units_drafted (module_drafts big_endian m)))
+  module-carries : (number : ℕ) → ScopesCarried (drafts_of big_endian) (wanted_units_of m) (map (settled_unit (place_of_goal number (module_drafts big_endian m))) (units_drafted (module_drafts big_endian m)))
   unfolding carried_drafts
   module-carries number =
-      let places = place_of_goal number (module_drafts big_endian m) in
-      zip-made (UnitCarriesScopes (drafts_of big_endian)) (λ (u : Unit). record { module_of = m; unit = u }) (λ (u : Unit). drafts_of big_endian (record { module_of = m; unit = u })) (settled_unit places) (carried_in (kept_of m))
-      (λ u i. unit-carries u places i)
+      let places = place_of_goal number (module_drafts big_endian m) in (
+        tt,
+        zip-mapped (UnitHasScopes (drafts_of big_endian)) carried_unit (carried_units_of m) (map (settled_unit places) (carried_drafts (rules_of m) big_endian (kept_of m)))
+            (zip-made (UnitCarriesScopes (drafts_of big_endian)) (λ (u : Unit). record { module_of = m; unit = u }) (λ (u : Unit). drafts_of big_endian (record { module_of = m; unit = u })) (settled_unit places) (carried_in (kept_of m))
+            (λ u i. unit-carries u places i)),
+      )
 
 modules-carry : (big_endian : Bool) (number : ℕ) (ms : List Module) → ((fs : List Function) → TranslationsKeepScopes fs) → All (λ (m : Module). AreNumbered m.functions) ms
-    → ScopesCarried (drafts_of big_endian) (flat_map carried_units_of ms) (trees_from number (map (module_drafts big_endian) ms))
+    → ScopesCarried (drafts_of big_endian) (flat_map wanted_units_of ms) (trees_from number (map (module_drafts big_endian) ms))
 modules-carry big_endian number [] keep numbered = tt
 modules-carry big_endian number (m ∷ ms) keep numbered =
     let drafts = module_drafts big_endian m in
     let behind = number + length (units_drafted drafts) in
-    zip-both (UnitCarriesScopes (drafts_of big_endian)) (carried_units_of m) (map (settled_unit (place_of_goal number drafts)) (units_drafted drafts)) (flat_map carried_units_of ms) (trees_from behind (map (module_drafts big_endian) ms))
+    zip-both (UnitHasScopes (drafts_of big_endian)) (wanted_units_of m) (map (settled_unit (place_of_goal number drafts)) (units_drafted drafts)) (flat_map wanted_units_of ms) (trees_from behind (map (module_drafts big_endian) ms))
     (module-carries big_endian m (keep m.functions) (All-head (λ (x : Module). AreNumbered x.functions) m ms numbered) number)
     (modules-carry big_endian behind ms keep (All-tail (λ (x : Module). AreNumbered x.functions) m ms numbered))
 
 -- The trees that are made of an input, whose functions have good maps and numbers of their own, carry its scopes.
-pub made-scopes : (c : Compilation) → All (λ (m : Module). AreNumbered m.functions) c.modules → ((fs : List Function) → TranslationsKeepScopes fs) → ScopesCarried (drafts_of (is_big c.order)) (carried_units c) (trees_made c)
+pub made-scopes : (c : Compilation) → All (λ (m : Module). AreNumbered m.functions) c.modules → ((fs : List Function) → TranslationsKeepScopes fs) → ScopesCarried (drafts_of (is_big c.order)) (wanted_units c) (trees_made c)
 unfolding forest
 made-scopes c numbered keep =
-    subst (λ (ts : List Tree). ScopesCarried (drafts_of (is_big c.order)) (carried_units c) ts) (sym (append-nil (trees_from 0 (map (module_drafts (is_big c.order)) c.modules))))
+    subst (λ (ts : List Tree). ScopesCarried (drafts_of (is_big c.order)) (wanted_units c) ts) (sym (append-nil (trees_from 0 (map (module_drafts (is_big c.order)) c.modules))))
     (modules-carry (is_big c.order) 0 c.modules keep numbered)

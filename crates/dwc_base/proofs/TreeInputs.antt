@@ -9,7 +9,7 @@ use Rattle.dwc_base.specs.Outputs.{OutputRelocation, OutputSection}
 use Rattle.dwc_base.proofs.LineTables.{function_small}
 use Rattle.dwc_base.specs.Trees.{TreeValue, TreeEntry}
 use Rattle.dwc_base.specs.TreeReading.{ListReading}
-use Rattle.dwc_base.specs.Compiled.{nothing_told}
+use Rattle.dwc_base.proofs.SmallModule.{told_small}
 
 -- abbreviations, entries, line tables, texts, texts of line tables, offsets of texts, and addresses
 abbrev pub an_input : List ℕ → List ℕ → List ℕ → List ℕ → List ℕ → List ℕ → List ℕ → Sections
@@ -21,7 +21,7 @@ an_input abbreviations info line strings line_strings offsets addresses = record
 
 -- one module with the small module's function, for a target of a byte order
 abbrev pub a_compilation : Endian → Sections → Compilation
-a_compilation order sections = record { order = order; pointer_bytes = 8; modules = record { sections = sections; functions = function_small ∷ []; told = nothing_told; compressed = None } ∷ [] }
+a_compilation order sections = record { order = order; pointer_bytes = 8; modules = record { sections = sections; functions = function_small ∷ []; told = told_small; compressed = None } ∷ [] }
 
 abbrev pub an_entry : ℕ → ℕ → List (ℕ × TreeValue) → TreeEntry
 an_entry depth tag attributes = record { depth = depth; tag = tag; attributes = attributes }

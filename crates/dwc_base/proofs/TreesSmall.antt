@@ -1,6 +1,7 @@
--- The tree of the small module, and that an output for it carries that tree and no other.
-use Rattle.std.proofs.Common.{◌≡◌, pos, [], ◌∷◌, Ok, Err, refl}
+-- The trees of the small module, and that an output for it carries these and no others.
+use Rattle.std.proofs.Common.{◌≡◌, pos, List, [], ◌∷◌, Ok, Err, refl}
 use Rattle.dwc_base.proofs.DraftsOnLiterals.{drafts_on_literals}
+use Rattle.dwc_base.proofs.OwnTrees.{own_tree}
 use Rattle.dwc_base.proofs.CarriedSmall.{output_small, compilation_small, compilation_64}
 use Rattle.dwc_base.specs.declared.records.Endian.TheVariants.{Little}
 use Rattle.dwc_base.specs.declared.records.Address.TheVariants.{Symbol}
@@ -17,11 +18,15 @@ tree_small =
     record { depth = 0; tag = 0x11; attributes = (0x10, line_table) ∷ [] }
     ∷ record { depth = 1; tag = 0x2E; attributes = (0x11, address (Symbol 0 (pos 0))) ∷ (0x12, constant 0x0F 30) ∷ [] } ∷ []
 
-pub forest-small : forest compilation_small ≡ Ok (tree_small ∷ [])
+-- behind the module's own unit
+abbrev pub trees_small : List Tree
+trees_small = own_tree 0 ∷ tree_small ∷ []
+
+pub forest-small : forest compilation_small ≡ Ok trees_small
 unfolding drafts_on_literals
 forest-small = refl
 
-pub carries-small : CarriesTrees Little (tree_small ∷ []) output_small
+pub carries-small : CarriesTrees Little trees_small output_small
 unfolding drafts_on_literals
 carries-small = refl
 

@@ -14,7 +14,8 @@ use Rattle.dwc_base.specs.Compiled.{in_register, LabelRange, Memory, no_memory, 
 use Rattle.dwc_base.specs.Parts.{context_label}
 use Rattle.dwc_base.specs.Refusals.{of_place, bad_label, lacks_memory, unmapped_register}
 use Rattle.dwc_base.specs.Forests.{first_refusal, forest}
-use Rattle.dwc_base.proofs.SmallModule.{line_small}
+use Rattle.dwc_base.proofs.SmallModule.{line_small, told_small}
+use Rattle.dwc_base.proofs.OwnTrees.{own_tree_with}
 use Rattle.dwc_base.proofs.Readings.{three_sections}
 use Rattle.dwc_base.proofs.LineTables.{function_small}
 use Rattle.dwc_base.proofs.DraftsOnLiterals.{drafts_on_literals}
@@ -46,7 +47,7 @@ compilation_of info local_3 memory registers = record {
   modules = record {
     sections = three_sections abbreviations_variable info line_small;
     functions = function_small ∷ [];
-    told = record { place = 0; values = λ function. labels_of local_3; memory = memory; register = coded registers };
+    told = record told_small { values = λ function. labels_of local_3; memory = memory; register = coded registers };
     compressed = None;
   } ∷ [];
 }
@@ -65,12 +66,12 @@ abbrev pub built : List ℕ
 built = 0x7C ∷ 0x00 ∷ 0x23 ∷ 0x12 ∷ 0x7E ∷ 0xD0 ∷ 0x00 ∷ 0x06 ∷ 0x16 ∷ 0x0C ∷ 0xFF ∷ 0xFF ∷ 0xFF ∷ 0xFF ∷ 0x1A ∷ 0x22 ∷ []
 
 -- over the first 20 of 30 bytes a list
-on_a_part : forest (compilation_of info_variable (in_range 1 0 20 ∷ []) (defined 80) numbered) ≡ Ok (tree_of (locations (record { over = interval_of 0 (0, 20); bytes = built } ∷ [])) ∷ [])
+on_a_part : forest (compilation_of info_variable (in_range 1 0 20 ∷ []) (defined 80) numbered) ≡ Ok (own_tree_with 0 80 ∷ tree_of (locations (record { over = interval_of 0 (0, 20); bytes = built } ∷ [])) ∷ [])
 unfolding drafts_on_literals
 on_a_part = refl
 
 -- over all of them the expression itself
-on_the_whole : forest (compilation_of info_variable (in_range 1 0 30 ∷ []) (defined 80) numbered) ≡ Ok (tree_of (expression built) ∷ [])
+on_the_whole : forest (compilation_of info_variable (in_range 1 0 30 ∷ []) (defined 80) numbered) ≡ Ok (own_tree_with 0 80 ∷ tree_of (expression built) ∷ [])
 unfolding drafts_on_literals
 on_the_whole = refl
 

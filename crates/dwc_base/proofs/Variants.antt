@@ -1,5 +1,5 @@
 -- Variants of the small module, and how long the sections of its output can be.
-use Rattle.std.proofs.Common.{◌≡◌, ℕ, List, [], ◌∷◌, None, refl}
+use Rattle.std.proofs.Common.{◌≡◌, ℕ, ◌+◌, List, [], ◌∷◌, None, refl}
 use Rattle.std.specs.Prelude.{map}
 use Rattle.dwc_base.proofs.DraftsOnLiterals.{drafts_on_literals}
 use Rattle.dwc_base.proofs.SmallModule.{abbreviations_small, info_small, line_small}
@@ -45,10 +45,11 @@ info_no_lines = 0x12 ∷ 0x00 ∷ 0x00 ∷ 0x00 ∷ 0x04 ∷ 0x00 ∷ 0x00 ∷ 0
 abbrev pub widths_of_module : Module → List ℕ
 widths_of_module m = map (λ name. widest name (record { order = Little; pointer_bytes = 8; modules = m ∷ [] })) (Abbrev ∷ Info ∷ Line ∷ [])
 
-widths-no_lines : widths_of_module (module_with abbreviations_no_lines info_no_lines []) ≡ 132 ∷ 59 ∷ 0 ∷ []
+-- the module's own unit, and the carried one
+widths-no_lines : widths_of_module (module_with abbreviations_no_lines info_no_lines []) ≡ (698 + 132) ∷ (176 + 59) ∷ 0 ∷ []
 unfolding drafts_on_literals
 widths-no_lines = refl
 
-widths-lines : widths_of_module (module_with abbreviations_small info_small line_small) ≡ 152 ∷ 63 ∷ 271 ∷ []
+widths-lines : widths_of_module (module_with abbreviations_small info_small line_small) ≡ (698 + 152) ∷ (176 + 63) ∷ 271 ∷ []
 unfolding drafts_on_literals
 widths-lines = refl

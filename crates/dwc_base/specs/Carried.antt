@@ -100,3 +100,8 @@ is_carried_unit kept u = has_root_tag DW_TAG_compile_unit u && list_any (λ p. p
 pub record CarriedUnit : Type 0 where
   pub module_of : Module
   pub unit : Unit
+
+-- What a unit of an output is to be: a module's own, or one for a carried unit.
+pub data WantedUnit : Type 0 where
+  own_unit : WantedUnit
+  carried_unit : CarriedUnit → WantedUnit

@@ -20,13 +20,19 @@ pub data Memory : Type 0 where
   defined : ℕ → Memory
   imported : ℕ → ℕ → Memory
 
+-- The names of the functions that make a context the one in use, and a native pointer of an address in a linear memory.
+pub record LinkageNames : Type 0 where
+  pub set_memory : List ℕ
+  pub resolve_memory : List ℕ
+
 -- What a code generator tells of a module beside its functions: the module's place among all; where the values of each function lie,
--- by its number and their labels; the linear memory; and the DWARF numbers of the target's registers.
+-- by its number and their labels; the linear memory; the DWARF numbers of the target's registers; and the names of its own functions.
 pub record ToldModule : Type 0 where
   pub place : ℕ
   pub values : ℕ → ℕ → List LabelRange
   pub memory : Memory
   pub register : ℕ → Option ℕ
+  pub names : LinkageNames
 
 -- where the values lie of functions whose numbers follow one another, by these: the values of each in order, the first of them with a number
 abbrev pub values_from : ℕ → List (ℕ → List LabelRange) → ℕ → ℕ → List LabelRange
@@ -34,4 +40,4 @@ values_from first functions number = unwrap_or (slice_get functions (number - fi
 
 -- of a module of which nothing is told
 abbrev pub nothing_told : ToldModule
-nothing_told = record { place = 0; values = λ function label. []; memory = no_memory; register = λ r. None }
+nothing_told = record { place = 0; values = λ function label. []; memory = no_memory; register = λ r. None; names = record { set_memory = []; resolve_memory = [] } }

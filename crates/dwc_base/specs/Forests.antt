@@ -1,12 +1,13 @@
 -- The trees that an output is to say, and why an input is refused. (This project's own rules.)
-use Rattle.std.specs.Prelude.{List, ◌++◌, map, Bool, true, false, if◌then◌else◌, Option, Some, None, Result, Ok, Err}
+use Rattle.std.specs.Prelude.{List, [], ◌∷◌, ◌++◌, map, Bool, true, false, if◌then◌else◌, Option, Some, None, Result, Ok, Err}
 use Rattle.std.specs.List.{filter_map, flat_map}
 use Rattle.dwc_base.specs.declared.records.Endian.{Endian}
 use Rattle.dwc_base.specs.declared.records.Endian.TheVariants.{Little, Big}
-use Rattle.dwc_base.specs.Carried.{Unit, Module, Compilation, CarriedUnit}
+use Rattle.dwc_base.specs.Carried.{Unit, Module, Compilation, CarriedUnit, WantedUnit, own_unit, carried_unit}
+use Rattle.dwc_base.specs.Compiled.{Memory}
 use Rattle.dwc_base.specs.Functions.{Function}
 use Rattle.dwc_base.specs.Addends.{is_long}
-use Rattle.dwc_base.specs.Refusals.{Refusal, of_place, long_function, unit_refusal, first_of}
+use Rattle.dwc_base.specs.Refusals.{Refusal, of_place, long_function, far_memory, unit_refusal, first_of}
 use Rattle.dwc_base.specs.KeptModules.{KeptModule, kept_module, carried_in, kept_in}
 use Rattle.dwc_base.specs.Clones.{CodeRules}
 use Rattle.dwc_base.specs.CarriedDrafts.{source_of, unit_drafts, carried_drafts}
@@ -14,6 +15,7 @@ use Rattle.dwc_base.specs.Drafts.{Draft}
 use Rattle.dwc_base.specs.DraftForests.{ModuleDrafts}
 use Rattle.dwc_base.specs.DraftForests as Drafts
 use Rattle.dwc_base.specs.EntryRules.{is_required, named_faults, code_rules}
+use Rattle.dwc_base.specs.OwnUnits as Own
 use Rattle.dwc_base.specs.ReachedEntries as Reached
 use Rattle.dwc_base.specs.Trees.{Tree}
 
@@ -29,15 +31,30 @@ carried_units_of m = map (λ u. record { module_of = m; unit = u }) (carried_in 
 abbrev pub carried_units : Compilation → List CarriedUnit
 carried_units c = flat_map carried_units_of c.modules
 
+-- The units of an output, in order: of each module its own and those of its carried units.
+abbrev pub wanted_units_of : Module → List WantedUnit
+wanted_units_of m = own_unit ∷ map carried_unit (carried_units_of m)
+
+abbrev pub wanted_units : Compilation → List WantedUnit
+wanted_units c = flat_map wanted_units_of c.modules
+
 -- ---- refusals
 
 -- the rules for the code of a unit of a module
 abbrev pub rules_of : Module → Unit → CodeRules Refusal
 rules_of m u = code_rules m.told m.functions m.sections u.header (kept_of m).entries
 
--- what is refused of a module
+-- what is refused of a module as it is read
+abbrev pub reading_refusals : Module → List Refusal
+reading_refusals m = Reached.module_refusals of_place (named_faults m.sections) (unit_refusal m.sections) (rules_of m) (kept_of m)
+
+-- what is refused of the unit that a module has of its own
+abbrev pub own_refusals : Memory → List Refusal
+own_refusals memory = if Own.is_too_far memory then far_memory ∷ [] else []
+
+-- what is refused of a module: its own unit, and then what is read
 abbrev pub module_refusals : Module → List Refusal
-module_refusals m = Reached.module_refusals of_place (named_faults m.sections) (unit_refusal m.sections) (rules_of m) (kept_of m)
+module_refusals m = own_refusals m.told.memory ++ reading_refusals m
 
 -- what is refused of functions with a symbol that are too long
 abbrev pub function_refusals : List Function → List Refusal
@@ -62,14 +79,14 @@ is_big Big = true
 abbrev pub drafts_of : Bool → CarriedUnit → List Draft
 drafts_of big_endian u = unit_drafts (rules_of u.module_of u.unit) (source_of (kept_of u.module_of) u.unit) big_endian (kept_in (kept_of u.module_of) u.unit)
 
--- what is made of the carried units of a module
+-- what is made for a module: its own unit, and those of its carried units
 abbrev pub module_drafts : Bool → Module → ModuleDrafts
-module_drafts big_endian m = record { own = None; carried = carried_drafts (rules_of m) big_endian (kept_of m) }
+module_drafts big_endian m = record { own = Some (Own.own_unit m.told.names.set_memory m.told.memory); carried = carried_drafts (rules_of m) big_endian (kept_of m) }
 
--- the trees of the carried units of an input
+-- the trees of the units that are made for an input
 abbrev pub trees_made : Compilation → List Tree
 trees_made c = Drafts.forest (map (module_drafts (is_big c.order)) c.modules) None
 
--- The trees of an output, one for each carried unit, module by module; or the first refusal in the order of reading.
+-- The trees of an output, one for each unit, module by module; or the first refusal in the order of the work.
 abbrev pub forest : Compilation → Result (List Tree) Refusal
 forest c = elim (first_refusal c) [ Some refusal ↦ Err refusal | None ↦ Ok (trees_made c) ]

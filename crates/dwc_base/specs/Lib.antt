@@ -39,6 +39,8 @@ pub mod KeptModules
 pub mod Clones
 pub mod CarriedDrafts
 pub mod DraftForests
+pub mod MadeEntries
+pub mod OwnUnits
 pub mod ReachedEntries
 pub mod Runs
 pub mod Addends

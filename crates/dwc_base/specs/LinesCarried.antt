@@ -4,8 +4,8 @@ use Rattle.std.specs.List.{filter, AllZip}
 use Rattle.dwc_base.specs.Sections.{Sections}
 use Rattle.dwc_base.specs.LineRows.{Segment}
 use Rattle.dwc_base.specs.Images.{is_carried_segment, IsImageOf}
-use Rattle.dwc_base.specs.Carried.{Unit, units, segments_of_unit, Compilation, CarriedUnit}
-use Rattle.dwc_base.specs.Forests.{carried_units}
+use Rattle.dwc_base.specs.Carried.{Unit, units, table_of_unit, segments_of_unit, Compilation, CarriedUnit, WantedUnit, own_unit, carried_unit}
+use Rattle.dwc_base.specs.Forests.{wanted_units}
 use Rattle.dwc_base.specs.Outputs.{OutputSection, output_sections}
 
 -- Some segments of an output are, one to one and in order, images of the carried ones among the segments of a unit.
@@ -20,10 +20,16 @@ pub record CarriesUnit (output : Sections) (u : CarriedUnit) (v : Unit) : Type 0
   pub images_read : segments_of_unit output v ≡ Ok images
   pub carried : AreImages u images
 
+-- a unit of the output has the lines that it is to have; a module's own has no line table
+abbrev pub HasLines : Sections → WantedUnit → Unit → Type 0
+HasLines output own_unit v = table_of_unit output v ≡ Ok None
+HasLines output (carried_unit u) v = CarriesUnit output u v
+
 -- The lines of an input are carried by an output: the input's units are read up to their section's end, and the output's
--- units are, in order, one for each carried unit, whose segments are the images of that unit's carried segments.
+-- units are, in order, for each module its own without a line table, and one for each of its carried units, whose segments are the
+-- images of that unit's carried segments.
 pub record LinesCarried (c : Compilation) (s : List OutputSection) : Type 0 where
   pub whole : All (λ m. (units m.sections).fault ≡ None) c.modules
   pub output : List Unit
   pub output_read : units (output_sections c.order s) ≡ record { items = output; fault = None }
-  pub each : AllZip (CarriesUnit (output_sections c.order s)) (carried_units c) output
+  pub each : AllZip (HasLines (output_sections c.order s)) (wanted_units c) output

@@ -7,7 +7,7 @@ use Rattle.dwc_base.specs.Values.{Value, expression, is_location_name}
 use Rattle.dwc_base.specs.Entries.{Entry}
 use Rattle.dwc_base.specs.Kept.{Placed}
 use Rattle.dwc_base.specs.Functions.{Function, function_at}
-use Rattle.dwc_base.specs.Carried.{CarriedUnit}
+use Rattle.dwc_base.specs.Carried.{CarriedUnit, WantedUnit, own_unit, carried_unit}
 use Rattle.dwc_base.specs.Trees as Trees
 use Rattle.dwc_base.specs.Trees.{Interval, Location, TreeValue, locations, TreeEntry, Tree}
 use Rattle.dwc_base.specs.Drafts.{itself, Draft}
@@ -121,6 +121,11 @@ abbrev pub UnitCarriesLocations : (CarriedUnit → List Draft) → CarriedUnit �
 UnitCarriesLocations drafted u tree =
     AllZip (λ d out. (e : Entry) → Contains u.unit.entries e → is_made_of e.offset itself d ≡ true → CarriesLocations (expressions_of u) (record { unit = u.unit.header.offset; entry = e }) out) (drafted u) tree
 
--- The locations of an input are carried by the units of an output that were made of its carried units.
-abbrev pub LocationsCarried : (CarriedUnit → List Draft) → List CarriedUnit → List Tree → Type 0
-LocationsCarried drafted us trees = AllZip (UnitCarriesLocations drafted) us trees
+-- a module's own unit has none
+abbrev pub UnitHasLocations : (CarriedUnit → List Draft) → WantedUnit → Tree → Type 0
+UnitHasLocations drafted own_unit tree = Unit {0}
+UnitHasLocations drafted (carried_unit u) tree = UnitCarriesLocations drafted u tree
+
+-- The locations of an input are carried by the units of an output, each of which is to be one.
+abbrev pub LocationsCarried : (CarriedUnit → List Draft) → List WantedUnit → List Tree → Type 0
+LocationsCarried drafted us trees = AllZip (UnitHasLocations drafted) us trees

@@ -5,7 +5,7 @@ use Rattle.dwc_base.specs.declared.section_name.SectionName.{SectionName}
 use Rattle.dwc_base.specs.declared.section_name.SectionName.TheVariants.{Line}
 use Rattle.dwc_base.specs.Outputs.{OutputSection, output_sections}
 use Rattle.dwc_base.specs.Carried.{units, Compilation}
-use Rattle.dwc_base.specs.Forests.{carried_units, is_big, drafts_of, trees_made, forest}
+use Rattle.dwc_base.specs.Forests.{carried_units, wanted_units, is_big, drafts_of, trees_made, forest}
 use Rattle.dwc_base.specs.LinesCarried.{LinesCarried}
 use Rattle.dwc_base.specs.ScopesCarried.{ScopesCarried}
 use Rattle.dwc_base.specs.LocationsCarried.{LocationsCarried}
@@ -26,15 +26,15 @@ pub record OutputCarried (c : Compilation) (sections : List OutputSection) : Typ
   pub is_forest : forest c ≡ Ok wanted
   pub trees : CarriesTrees c.order wanted sections
   pub targets : HasAllTargets wanted
-  pub scopes : ScopesCarried (drafts_of (is_big c.order)) (carried_units c) wanted
-  pub locations : LocationsCarried (drafts_of (is_big c.order)) (carried_units c) wanted
+  pub scopes : ScopesCarried (drafts_of (is_big c.order)) (wanted_units c) wanted
+  pub locations : LocationsCarried (drafts_of (is_big c.order)) (wanted_units c) wanted
   pub texts : HasTextsOnce (output_sections c.order sections)
   pub form : HaveTargetForm c.pointer_bytes (units (output_sections c.order sections)).items
   pub names : HasDistinctNames sections
   pub relocated : AreRelocated c.order sections
 
 -- How long a section of the output of an input can be at most: the line tables with the images of the carried sequences, and what
--- says the trees of the carried units.
+-- says the trees of all units.
 abbrev pub widest : SectionName → Compilation → ℕ
 widest Line c = sum_by widest_lines_of (carried_units c)
 widest name c = widest_of_trees name (trees_made c)

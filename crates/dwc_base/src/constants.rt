@@ -79,9 +79,13 @@ pub const DW_AT_low_pc: u16 = 0x11;
 
 pub const DW_AT_high_pc: u16 = 0x12;
 
+pub const DW_AT_language: u16 = 0x13;
+
 pub const DW_AT_string_length: u16 = 0x19;
 
 pub const DW_AT_lower_bound: u16 = 0x22;
+
+pub const DW_AT_producer: u16 = 0x25;
 
 pub const DW_AT_return_addr: u16 = 0x2a;
 
@@ -91,11 +95,15 @@ pub const DW_AT_bit_stride: u16 = 0x2e;
 
 pub const DW_AT_upper_bound: u16 = 0x2f;
 
+pub const DW_AT_artificial: u16 = 0x34;
+
 pub const DW_AT_count: u16 = 0x37;
 
 pub const DW_AT_decl_file: u16 = 0x3a;
 
 pub const DW_AT_data_member_location: u16 = 0x38;
+
+pub const DW_AT_encoding: u16 = 0x3e;
 
 pub const DW_AT_frame_base: u16 = 0x40;
 
@@ -104,6 +112,8 @@ pub const DW_AT_macro_info: u16 = 0x43;
 pub const DW_AT_segment: u16 = 0x46;
 
 pub const DW_AT_static_link: u16 = 0x48;
+
+pub const DW_AT_type: u16 = 0x49;
 
 pub const DW_AT_use_location: u16 = 0x4a;
 
@@ -121,7 +131,11 @@ pub const DW_AT_ranges: u16 = 0x55;
 
 pub const DW_AT_call_file: u16 = 0x58;
 
+pub const DW_AT_object_pointer: u16 = 0x64;
+
 pub const DW_AT_endianity: u16 = 0x65;
+
+pub const DW_AT_linkage_name: u16 = 0x6e;
 
 pub const DW_AT_str_offsets_base: u16 = 0x72;
 
@@ -138,8 +152,14 @@ pub const DW_AT_loclists_base: u16 = 0x8c;
 // The one of these that is a vendor's.
 pub const DW_AT_GNU_locviews: u16 = 0x2137;
 
-// The byte orders of a base type. (Table 7.17.)
+// The encoding of a base type. (Table 7.11.)
+pub const DW_ATE_unsigned: u8 = 0x07;
+
+// The byte orders of a base type. (Table 7.13.)
 pub const DW_END_little: u8 = 0x02;
+
+// The language of a unit. (Table 7.17.)
+pub const DW_LANG_C11: u16 = 0x1d;
 
 // Forms. (Table 7.6.)
 pub const DW_FORM_addr: u16 = 0x01;

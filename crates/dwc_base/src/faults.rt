@@ -49,6 +49,8 @@ pub enum Limit {
     Jump,
     /// An expression of a location list of more than 65,535 bytes.
     Expression,
+    /// The context of a module up to its linear memory, of 2^32 bytes or more.
+    Vmctx,
 }
 
 /// Why bytes do not spell what is read: they end too early, a number of variable length does not fit 64 bits, the grammar
