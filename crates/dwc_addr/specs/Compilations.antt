@@ -1,5 +1,5 @@
 -- A compilation: modules and the functions compiled from them.
-use Rattle.std.specs.Prelude.{◌≡◌, ℕ, ◌<◌, ◌^◌, List, [], map, length, slice_get, slice_index_or, Option, None, option_map, Vec}
+use Rattle.std.specs.Prelude.{◌≡◌, ℕ, ◌<◌, ◌^◌, List, [], map, length, slice_get, slice_index_or, Option, None, option_map, Vec, All}
 use Rattle.std.specs.Option.{unwrap_or}
 use Rattle.std.specs.Global.{Global}
 use Rattle.dwc_base.specs.declared.records.Tunables.{Tunables}
@@ -47,3 +47,7 @@ pub record IsCounted (translations : List ModuleTranslation) (functions : List (
 -- no two functions have one symbol
 abbrev pub HasDistinctSymbols : List (List Compiled) → Type 0
 HasDistinctSymbols functions = shared_symbol (map symbol_view (all_symbols functions)) ≡ None
+
+-- names have no zero byte
+abbrev pub AreNames : List ℕ → List ℕ → Type 0
+AreNames set_memory resolve_memory = All (λ b. 0 < b) set_memory × All (λ b. 0 < b) resolve_memory

@@ -1,7 +1,7 @@
 //! What is compiled together: modules, and the functions that are compiled from them.
 ghost use Rattle.std.specs.Prelude.{◌≡◌, ◌+◌, ◌<◌, ◌%◌, ◌^◌, map, length, slice_get, option_map, Some, IfOk};
 ghost use Rattle.dwc_addr.specs.Numbers.{first_number, all_symbols, AreDistinct};
-ghost use Rattle.dwc_addr.specs.Compilations.{CompilationValue, lists, functions_at, numbered, IsCounted, HasDistinctSymbols};
+ghost use Rattle.dwc_addr.specs.Compilations.{CompilationValue, lists, functions_at, numbered, IsCounted, HasDistinctSymbols, AreNames};
 
 use crate::compilation_text::write_compilation;
 use crate::symbols::{all_symbols, check_distinct, first_numbers};
@@ -35,7 +35,7 @@ impl<'a> Model for Compilation<'a> {
     ghost use Rattle.std.specs.Coded.{codes};
     ghost use Rattle.dwc_clif.specs.ValueLabels.{labelled_code};
     ghost use Rattle.dwc_addr.specs.Numbers.{numbers_from, all_symbols};
-    ghost use Rattle.dwc_addr.specs.Compilations.{CompilationValue, lists, IsCounted, HasDistinctSymbols};
+    ghost use Rattle.dwc_addr.specs.Compilations.{CompilationValue, lists, IsCounted, HasDistinctSymbols, AreNames};
 
     ghost Value = { CompilationValue };
 
@@ -52,13 +52,13 @@ impl<'a> Model for Compilation<'a> {
       next_id = c.next_id;
     } };
 
-    ghost invariant = { λ c. IsCounted c.translations.now (lists c.functions.now) c.memory_offsets.items × HasDistinctSymbols (lists c.functions.now) × (c.first_numbers.items ≡ numbers_from 0 (lists c.functions.now)) × (c.symbols.items ≡ all_symbols (lists c.functions.now)) };
+    ghost invariant = { λ c. IsCounted c.translations.now (lists c.functions.now) c.memory_offsets.items × HasDistinctSymbols (lists c.functions.now) × (c.first_numbers.items ≡ numbers_from 0 (lists c.functions.now)) × (c.symbols.items ≡ all_symbols (lists c.functions.now)) × AreNames c.names.set_memory.now c.names.resolve_memory.now };
 }
 
 impl<'a> Compilation<'a> {
     /// The compilation of modules for a target: each module's translation, its functions in order, each with its symbol if it
     /// has one, and the offset of its memory; the bytes of a package of split DWARF, if there is one; the names of two
-    /// functions of the run time; and the counter of names that are made up.
+    /// functions of the run time, which have no zero byte; and the counter of names that are made up.
     ///
     /// # Errors
     /// `SharedSymbol` exactly where two functions have one symbol. `OutOfMemory` for want of memory.
@@ -73,7 +73,8 @@ impl<'a> Compilation<'a> {
         names: LinkageNames<'a>,
         next_id: u64,
     ) -> Result<Compilation<'a>, CompilationError>
-        requires { IsCounted translations.now (lists functions.now) memory_offsets.items }
+        requires counted { IsCounted translations.now (lists functions.now) memory_offsets.items }
+        requires names { AreNames names.set_memory.now names.resolve_memory.now }
         ensures distinct { AreDistinct (all_symbols (lists functions.now)) result }
         ensures value { IfOk result (λ c. c ≡ record { translations = translations.now; functions = lists functions.now; memory_offsets = memory_offsets.items; package_bytes = option_map (λ bytes. bytes.now) dwarf_package_bytes.entry; tunables = tunables.now; set_memory = names.entry.set_memory.now; resolve_memory = names.entry.resolve_memory.now; next_id = next_id }) }
     {
@@ -169,10 +170,11 @@ impl<'a> Compilation<'a> {
         self.package_bytes
     }
 
-    /// The names of functions of the run time.
+    /// The names of functions of the run time, which have no zero byte.
     pub fn names(&self) -> &LinkageNames<'a>
         ensures set_memory { result.now.set_memory.now ≡ self.now.set_memory }
         ensures resolve_memory { result.now.resolve_memory.now ≡ self.now.resolve_memory }
+        ensures plain { AreNames self.now.set_memory self.now.resolve_memory }
     {
         &self.names
     }
