@@ -7,7 +7,7 @@ use Rattle.dwc_base.specs.LineRows.{SourceFile, in_directory, Row, Segment}
 use Rattle.dwc_base.specs.Sections.{Sections}
 use Rattle.dwc_base.specs.Values.{Value}
 use Rattle.dwc_base.specs.Entries.{Entry}
-use Rattle.dwc_base.specs.Carried.{Unit, units, segments_of_unit}
+use Rattle.dwc_base.specs.Carried.{Unit, units, table_of_unit, segments_of_unit}
 use Rattle.dwc_base.specs.Outputs.{OutputSection, output_sections}
 use Rattle.dwc_write.specs.declared.attributes.Attribute.{Attribute}
 use Rattle.dwc_write.specs.SpelledUnits.{written_value}
@@ -59,7 +59,8 @@ given_contents next places lists (e ∷ es) = record { depth = e.depth; tag = e.
 
 -- ---- units
 
--- A unit that is read is the one that was given, in version 4: its entries, and the sequences of its line program.
+-- A unit that is read is the one that was given, in version 4: its entries, and the sequences of its line program, without which it
+-- names no line table.
 pub record IsReadUnit (s : Sections) (u : OrderedUnit) (v : Unit) : Type 0 where
   pub places : Places
   pub lists : ListPlaces
@@ -67,6 +68,7 @@ pub record IsReadUnit (s : Sections) (u : OrderedUnit) (v : Unit) : Type 0 where
   pub address_size : v.header.address_size ≡ u.address_size
   pub entries : map read_contents v.entries ≡ given_contents (behind_attributes u.address_size) places lists u.entries
   pub lines : segments_of_unit s v ≡ Ok (given_segments u.lines)
+  pub no_table : u.lines.address_size ≡ None → table_of_unit s v ≡ Ok None
 
 -- Some sections hold, one to one and in order, the given units, and no others.
 pub record ReadsBack (order : Endian) (us : List OrderedUnit) (s : List OutputSection) : Type 0 where
