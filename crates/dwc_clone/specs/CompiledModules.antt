@@ -2,10 +2,11 @@
 use Rattle.std.specs.Prelude.{◌≡◌, ℕ, ◌≤◌, ◌<◌, ◌+◌, List, [], map, length, IfSome, All}
 use Rattle.std.specs.Option.{unwrap_or}
 use Rattle.std.specs.FinMap as finite
-use Rattle.dwc_base.specs.Compiled.{LabelRange, ToldModule, values_from}
+use Rattle.dwc_base.specs.Compiled.{LabelRange, LinkageNames, ToldModule, values_from}
 use Rattle.dwc_base.specs.Functions.{Function}
 use Rattle.dwc_clif.specs.Registers.{Registers}
 use Rattle.dwc_clif.specs.ValueLabels.{LabelledRanges}
+use Rattle.dwc_addr.specs.declared.linkage_names.LinkageNames as declared
 use Rattle.dwc_addr.specs.declared.memory_offset.ModuleMemoryOffset.{ModuleMemoryOffset}
 use Rattle.dwc_addr.specs.Numbers.{Compiled}
 use Rattle.dwc_expr.specs.Frames.{memory_view}
@@ -19,17 +20,22 @@ ranges_of values label = unwrap_or (finite.get values label) []
 abbrev pub values_in : List Compiled → List (ℕ → List LabelRange)
 values_in fs = map (λ f. λ label. ranges_of (f.1).value_labels_ranges label) fs
 
+-- the names of functions of the run time
+abbrev pub names_view : declared.LinkageNames → LinkageNames
+names_view n = record { set_memory = n.set_memory.now; resolve_memory = n.resolve_memory.now }
+
 -- what is told of the module at a place, of whose functions the first has a number, for a target that numbers registers
-abbrev pub told_module : ℕ → ℕ → List Compiled → ModuleMemoryOffset → Registers → ToldModule
-told_module place first fs memory registers = record {
+abbrev pub told_module : ℕ → ℕ → List Compiled → ModuleMemoryOffset → Registers → LinkageNames → ToldModule
+told_module place first fs memory registers names = record {
   place = place;
   values = values_from first (values_in fs);
   memory = memory_view memory;
   register = λ r. finite.get registers r;
+  names = names;
 }
 
 abbrev pub told_by : Registers → CompiledModule → ToldModule
-told_by registers m = told_module m.place m.first_number m.functions.now m.memory registers
+told_by registers m = told_module m.place m.first_number m.functions.now m.memory registers (names_view m.names)
 
 -- The functions with a symbol are numbered by it, from one on, fewer than said.
 abbrev pub AreNumberedFrom : ℕ → ℕ → List Function → Type 0

@@ -6,7 +6,7 @@ ghost use Rattle.dwc_clif.specs.Registers.{Registers};
 ghost use Rattle.dwc_expr.specs.Frames.{frame_view};
 ghost use Rattle.dwc_clone.specs.CompiledModules.{told_by};
 
-use dwc_addr::ModuleMemoryOffset;
+use dwc_addr::{LinkageNames, ModuleMemoryOffset};
 use dwc_base::SymbolId;
 use dwc_clif::CompiledFunctionMetadata;
 use dwc_expr::FunctionFrameInfo;
@@ -22,6 +22,8 @@ pub struct CompiledModule<'c> {
     pub first_number: usize,
     /// Where its linear memory is found.
     pub memory: ModuleMemoryOffset,
+    /// The names of functions of the run time that its debug information refers to.
+    pub names: LinkageNames<'c>,
 }
 
 impl<'c> CompiledModule<'c> {
