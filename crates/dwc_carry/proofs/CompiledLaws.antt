@@ -7,7 +7,7 @@ use Rattle.std.proofs.lemmas.List.Elements.{All-nil, All-cons, All-weaker}
 use Rattle.dwc_base.specs.declared.wasm.ModuleTranslation.{ModuleTranslation}
 use Rattle.dwc_base.specs.Functions.{AddressMap, Function, function_of, functions_of}
 use Rattle.dwc_base.specs.Carried.{Module}
-use Rattle.dwc_base.specs.Compiled.{ToldModule}
+use Rattle.dwc_base.specs.Compiled.{LinkageNames, ToldModule}
 use Rattle.dwc_clif.specs.AddressMaps.{address_map_view}
 use Rattle.dwc_clif.specs.Registers.{Registers}
 use Rattle.dwc_addr.specs.declared.memory_offset.ModuleMemoryOffset.{ModuleMemoryOffset}
@@ -16,7 +16,7 @@ use Rattle.dwc_addr.specs.Compilations.{CompilationValue, functions_at, IsCounte
 use Rattle.dwc_clone.specs.CompiledModules.{told_module, told_by, AreNumberedFrom, HasFrames}
 use Rattle.dwc_clone.specs.declared.compiled_module.CompiledModule.{CompiledModule}
 use Rattle.dwc_carry.specs.CarriedModules.{transformed_module}
-use Rattle.dwc_carry.specs.Inputs.{told_from, modules_from, modules_of, functions_from}
+use Rattle.dwc_carry.specs.Inputs.{names_of, told_from, modules_from, modules_of, functions_from}
 
 -- ---- numbers of functions
 
@@ -68,10 +68,10 @@ functions-length number [] fss same = refl
 functions-length number (t ∷ ts) [] same = absurd (omega (arith, same))
 functions-length number (t ∷ ts) (fs ∷ fss) same = ap suc (functions-length (number + length fs) ts fss (omega (arith, same)))
 
-told-length : (registers : Registers) (place number : ℕ) (fss : List (List Compiled)) (offsets : List ModuleMemoryOffset) → length offsets ≡ length fss → length (told_from registers place number fss offsets) ≡ length fss
-told-length registers place number [] offsets same = refl
-told-length registers place number (fs ∷ fss) [] same = absurd (omega (arith, same))
-told-length registers place number (fs ∷ fss) (offset ∷ offsets) same = ap suc (told-length registers (suc place) (number + length fs) fss offsets (omega (arith, same)))
+told-length : (registers : Registers) (names : LinkageNames) (place number : ℕ) (fss : List (List Compiled)) (offsets : List ModuleMemoryOffset) → length offsets ≡ length fss → length (told_from registers names place number fss offsets) ≡ length fss
+told-length registers names place number [] offsets same = refl
+told-length registers names place number (fs ∷ fss) [] same = absurd (omega (arith, same))
+told-length registers names place number (fs ∷ fss) (offset ∷ offsets) same = ap suc (told-length registers names (suc place) (number + length fs) fss offsets (omega (arith, same)))
 
 functions-of-modules : (number : ℕ) (ts : List ModuleTranslation) (fss : List (List Compiled)) (told : List ToldModule) → length fss ≡ length ts → length told ≡ length ts → all_functions (modules_from number ts fss told) ≡ functions_from number ts fss
 functions-of-modules number [] fss told same counted = refl
@@ -84,28 +84,28 @@ pub counted-length : (ts : List ModuleTranslation) (fss : List (List Compiled)) 
 counted-length ts fss offsets counted = sym (length-map fss length) ∙ ap length counted.defined ∙ length-map ts (λ (t : ModuleTranslation). t.defined_funcs)
 
 -- The modules of a compilation have its functions.
-pub functions-are : (registers : Registers) (ts : List ModuleTranslation) (fss : List (List Compiled)) (offsets : List ModuleMemoryOffset) → IsCounted ts fss offsets → all_functions (modules_from 0 ts fss (told_from registers 0 0 fss offsets)) ≡ functions_from 0 ts fss
-functions-are registers ts fss offsets counted =
+pub functions-are : (registers : Registers) (names : LinkageNames) (ts : List ModuleTranslation) (fss : List (List Compiled)) (offsets : List ModuleMemoryOffset) → IsCounted ts fss offsets → all_functions (modules_from 0 ts fss (told_from registers names 0 0 fss offsets)) ≡ functions_from 0 ts fss
+functions-are registers names ts fss offsets counted =
     let same = counted-length ts fss offsets counted in
-    functions-of-modules 0 ts fss (told_from registers 0 0 fss offsets) same (told-length registers 0 0 fss offsets (counted.offsets_given ∙ sym same) ∙ same)
+    functions-of-modules 0 ts fss (told_from registers names 0 0 fss offsets) same (told-length registers names 0 0 fss offsets (counted.offsets_given ∙ sym same) ∙ same)
 
 -- what is told of the module at a place
-pub told-at : (registers : Registers) (place number : ℕ) (fss : List (List Compiled)) (offsets : List ModuleMemoryOffset) (i p n : ℕ) (memory : ModuleMemoryOffset) → i < length fss → slice_get offsets i ≡ Some memory → p ≡ place + i → n ≡ number + function_count (take i fss)
-    → slice_get (told_from registers place number fss offsets) i ≡ Some (told_module p n (get_or fss i []) memory registers)
-told-at registers place number [] offsets i p n memory less at here first = absurd (omega (arith, less))
-told-at registers place number (fs ∷ fss) [] i p n memory less at here first = absurd (clash at)
+pub told-at : (registers : Registers) (names : LinkageNames) (place number : ℕ) (fss : List (List Compiled)) (offsets : List ModuleMemoryOffset) (i p n : ℕ) (memory : ModuleMemoryOffset) → i < length fss → slice_get offsets i ≡ Some memory → p ≡ place + i → n ≡ number + function_count (take i fss)
+    → slice_get (told_from registers names place number fss offsets) i ≡ Some (told_module p n (get_or fss i []) memory registers names)
+told-at registers names place number [] offsets i p n memory less at here first = absurd (omega (arith, less))
+told-at registers names place number (fs ∷ fss) [] i p n memory less at here first = absurd (clash at)
   where
     clash : ◌≡◌ {A = Option ModuleMemoryOffset} None (Some memory) → ⊥
     clash x = cc
-told-at registers place number (fs ∷ fss) (offset ∷ offsets) zero p n memory less at here first =
-    ap (λ (x : ℕ). Some (told_module x number fs offset registers)) (omega (arith, here))
-    ∙ ap (λ (x : ℕ). Some (told_module p x fs offset registers)) (omega (arith, first))
-    ∙ ap (λ (x : ModuleMemoryOffset). Some (told_module p n fs x registers)) (same at)
+told-at registers names place number (fs ∷ fss) (offset ∷ offsets) zero p n memory less at here first =
+    ap (λ (x : ℕ). Some (told_module x number fs offset registers names)) (omega (arith, here))
+    ∙ ap (λ (x : ℕ). Some (told_module p x fs offset registers names)) (omega (arith, first))
+    ∙ ap (λ (x : ModuleMemoryOffset). Some (told_module p n fs x registers names)) (same at)
   where
     same : ◌≡◌ {A = Option ModuleMemoryOffset} (Some offset) (Some memory) → offset ≡ memory
     same x = cc
-told-at registers place number (fs ∷ fss) (offset ∷ offsets) (suc i) p n memory less at here first =
-    told-at registers (suc place) (number + length fs) fss offsets i p n memory (omega (arith, less)) at (omega (arith, here)) (omega (arith, first))
+told-at registers names place number (fs ∷ fss) (offset ∷ offsets) (suc i) p n memory less at here first =
+    told-at registers names (suc place) (number + length fs) fss offsets i p n memory (omega (arith, less)) at (omega (arith, here)) (omega (arith, first))
 
 -- the functions of the module at a place
 functions-there : (number : ℕ) (ts : List ModuleTranslation) (fss : List (List Compiled)) (i n : ℕ) (t : ModuleTranslation) (gs : List Function) → length fss ≡ length ts → i < length ts → n ≡ number + function_count (take i fss)
@@ -149,7 +149,7 @@ pub record IsNext (registers : Registers) (c : CompilationValue) (i : ℕ) (t : 
 
 pub module-next : (registers : Registers) (c : CompilationValue) (transforms : List (List Function)) (i : ℕ) (t : ModuleTranslation) (fs : List Function) (compiled : CompiledModule) → IsCounted c.translations c.functions c.memory_offsets → i < length c.translations
     → transforms ≡ functions_from 0 c.translations c.functions → t ≡ get_or c.translations i t → fs ≡ get_or transforms i fs
-    → slice_get (told_from registers 0 0 c.functions c.memory_offsets) i ≡ Some (told_by registers compiled)
+    → slice_get (told_from registers (names_of c) 0 0 c.functions c.memory_offsets) i ≡ Some (told_by registers compiled)
     → ((code_offset : ℕ) → HasFrames compiled (functions_of code_offset (first_number c.functions i) (map address_map_view (functions_at c i))))
     → IsNext registers c i t fs compiled
 module-next registers c transforms i t fs compiled counted less made at_t at_fs told frames =
@@ -158,7 +158,7 @@ module-next registers c transforms i t fs compiled counted less made at_t at_fs 
     let told_now = told_by registers compiled in
     let rest = drop (i + 1) (modules_of registers c) in
     record {
-      left = modules-more c.translations c.functions (told_from registers 0 0 c.functions c.memory_offsets) i t fs told_now same less told
+      left = modules-more c.translations c.functions (told_from registers (names_of c) 0 0 c.functions c.memory_offsets) i t fs told_now same less told
           ∙ ap (λ (x : ModuleTranslation). transformed_module x (get_or (functions_from 0 c.translations c.functions) i fs) told_now ∷ rest) (sym at_t)
           ∙ ap (λ (x : List Function). transformed_module t x told_now ∷ rest) (sym here);
       frames = subst (HasFrames compiled) (sym (here ∙ functions-there 0 c.translations c.functions i (first_number c.functions i) t fs same less (omega arith))) (frames (get_or c.translations i t).code_section_offset);

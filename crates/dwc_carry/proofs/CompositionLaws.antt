@@ -1,40 +1,42 @@
--- What is written of the units that are made of an input's carried units carries the lines of the input, and says its trees.
-use Rattle.std.proofs.Common.{◌≡◌, ℕ, suc, ◌<◌, ◌≤◌, List, [], ◌∷◌, map, length, sym, ◌∙◌, subst, arith, None, All}
+-- What is written of the units that are made for an input carries the lines of the input, and says its trees.
+use Rattle.std.proofs.Common.{◌≡◌, ℕ, suc, ◌+◌, ◌<◌, ◌≤◌, List, [], ◌∷◌, ◌++◌, map, length, refl, ap, sym, ◌∙◌, subst, arith, None, All}
 use Rattle.std.specs.List.{AllZip, flat_map}
 use Rattle.std.specs.Prelude.{sum_by}
 use Rattle.std.proofs.lemmas.List.{append-nil}
 use Rattle.std.proofs.lemmas.List.Elements.{All-nil, All-cons}
-use Rattle.std.proofs.lemmas.List.Sums.{sum_by-cons}
+use Rattle.std.proofs.lemmas.List.Sums.{sum_by-cons, sum_by-append}
 use Rattle.dwc_base.specs.declared.section_name.SectionName.TheVariants.{Line}
 use Rattle.dwc_base.specs.Sections.{Sections}
 use Rattle.dwc_base.specs.Outputs.{OutputSection, output_sections}
-use Rattle.dwc_base.specs.Carried.{Unit, units, CarriedUnit, Compilation}
-use Rattle.dwc_base.specs.LinesCarried.{CarriesUnit, LinesCarried}
+use Rattle.dwc_base.specs.Carried.{Unit, units, CarriedUnit, WantedUnit, own_unit, carried_unit, Module, Compilation}
+use Rattle.dwc_base.specs.LinesCarried.{HasLines, LinesCarried}
 use Rattle.dwc_base.specs.Widest.{widest_lines_of}
 use Rattle.dwc_base.specs.DraftForests as Drafts
-use Rattle.dwc_base.specs.Forests.{carried_units, trees_made, is_big, module_drafts}
+use Rattle.dwc_base.specs.Forests.{carried_units, carried_units_of, wanted_units, wanted_units_of, trees_made, is_big, module_drafts}
 use Rattle.dwc_base.specs.Trees.{Tree}
 use Rattle.dwc_base.specs.TreeLaws.{HasAllTargets}
+use Rattle.dwc_write.specs.GivenLines.{GivenLines}
 use Rattle.dwc_write.specs.GivenTrees.{given_trees}
 use Rattle.dwc_write.specs.GivenUnits.{GivenUnit, IsWritable, AreWritable, ordered}
 use Rattle.dwc_write.specs.ReadBack.{IsReadUnit, ReadsBack, given_segments}
 use Rattle.dwc_write.specs.UsedTexts.{HaveTexts}
-use Rattle.dwc_write.specs.WidestGiven.{widest_unit, widest_given}
+use Rattle.dwc_write.specs.WidestGiven.{widest_table_for, widest_unit, widest_given}
 use Rattle.dwc_write.proofs.AddedInOrderTrees.{trees-in-order}
 use Rattle.dwc_write.proofs.AddedInOrderValues.{texts-in-order}
-use Rattle.dwc_carry.specs.MadeUnits.{IsMadeOf, AreMadeOf}
+use Rattle.dwc_carry.specs.MadeUnits.{HasWantedLines, AreMadeOf}
 use Rattle.dwc_carry.proofs.MadeLaws.{all-both, all-flat, made-in-order, texts_of_entry}
 
 module _ (size : ℕ) (texts : List (List ℕ)) where
   -- a unit that is read back carries what it was made of
-  carries-unit : (s : Sections) (number : ℕ) (c : CarriedUnit) (t : Tree) (u : GivenUnit) (v : Unit) → IsMadeOf size texts number c t u → IsReadUnit s (ordered u) v → CarriesUnit s c v
-  carries-unit s number c t u v made read = record {
+  carries-unit : (s : Sections) (w : WantedUnit) (u : GivenUnit) (v : Unit) → HasWantedLines w u → IsReadUnit s (ordered u) v → HasLines s w v
+  carries-unit s own_unit u v lines read = read.no_table (ap (λ (g : GivenLines). g.address_size) lines)
+  carries-unit s (carried_unit c) u v lines read = record {
     images = given_segments u.lines;
     images_read = read.lines;
-    carried = record { input = made.input; input_read = made.input_read; each = made.images };
+    carried = record { input = lines.input; input_read = lines.input_read; each = lines.images };
   }
 
-  carries-units : (s : Sections) (number : ℕ) (cs : List CarriedUnit) (ts : List Tree) (us : List GivenUnit) (vs : List Unit) → AreMadeOf size texts number cs ts us → AllZip (IsReadUnit s) (map ordered us) vs → AllZip (CarriesUnit s) cs vs
+  carries-units : (s : Sections) (number : ℕ) (cs : List WantedUnit) (ts : List Tree) (us : List GivenUnit) (vs : List Unit) → AreMadeOf size texts number cs ts us → AllZip (IsReadUnit s) (map ordered us) vs → AllZip (HasLines s) cs vs
   carries-units s number [] [] [] [] made read = tt
   carries-units s number [] [] [] (v ∷ vs) made read = absurd read
   carries-units s number [] [] (u ∷ us) vs made read = absurd made
@@ -42,20 +44,20 @@ module _ (size : ℕ) (texts : List (List ℕ)) where
   carries-units s number (c ∷ cs) [] us vs made read = absurd made
   carries-units s number (c ∷ cs) (t ∷ ts) [] vs made read = absurd made
   carries-units s number (c ∷ cs) (t ∷ ts) (u ∷ us) [] made read = absurd read
-  carries-units s number (c ∷ cs) (t ∷ ts) (u ∷ us) (v ∷ vs) made read = (carries-unit s number c t u v made.0 read.0, carries-units s (suc number) cs ts us vs made.1 read.1)
+  carries-units s number (c ∷ cs) (t ∷ ts) (u ∷ us) (v ∷ vs) made read = (carries-unit s c u v made.0.has_lines read.0, carries-units s (suc number) cs ts us vs made.1 read.1)
 
   -- Sections from which such units are read back carry the lines.
   pub lines-carried : (c : Compilation) (ts : List Tree) (us : List GivenUnit) (s : List OutputSection)
-      → ReadsBack c.order (map ordered us) s → AreMadeOf size texts 0 (carried_units c) ts us → All (λ m. (units m.sections).fault ≡ None) c.modules → LinesCarried c s
+      → ReadsBack c.order (map ordered us) s → AreMadeOf size texts 0 (wanted_units c) ts us → All (λ m. (units m.sections).fault ≡ None) c.modules → LinesCarried c s
   lines-carried c ts us s back made whole = record {
     whole = whole;
     output = back.read;
     output_read = back.units_read;
-    each = carries-units (output_sections c.order s) 0 (carried_units c) ts us back.read made back.each;
+    each = carries-units (output_sections c.order s) 0 (wanted_units c) ts us back.read made back.each;
   }
 
   -- all have addresses of one size
-  pub made-sizes : (number : ℕ) (cs : List CarriedUnit) (ts : List Tree) (us : List GivenUnit) → AreMadeOf size texts number cs ts us → All (λ u. u.address_size ≡ size) us
+  pub made-sizes : (number : ℕ) (cs : List WantedUnit) (ts : List Tree) (us : List GivenUnit) → AreMadeOf size texts number cs ts us → All (λ u. u.address_size ≡ size) us
   made-sizes number [] [] [] made = All-nil (λ (u : GivenUnit). u.address_size ≡ size)
   made-sizes number [] [] (u ∷ us) made = absurd made
   made-sizes number [] (t ∷ ts) us made = absurd made
@@ -63,20 +65,43 @@ module _ (size : ℕ) (texts : List (List ℕ)) where
   made-sizes number (c ∷ cs) (t ∷ ts) [] made = absurd made
   made-sizes number (c ∷ cs) (t ∷ ts) (u ∷ us) made = All-cons (λ (u : GivenUnit). u.address_size ≡ size) u us ((made.0).writable).size (made-sizes (suc number) cs ts us made.1)
 
-  made-widest : (number : ℕ) (cs : List CarriedUnit) (ts : List Tree) (us : List GivenUnit) → AreMadeOf size texts number cs ts us → sum_by (widest_unit Line) (map ordered us) ≤ sum_by widest_lines_of cs
+  -- the widest lines of a unit that is wanted
+  abbrev widest_wanted : WantedUnit → ℕ
+  widest_wanted own_unit = 0
+  widest_wanted (carried_unit c) = widest_lines_of c
+
+  unit-widest : (w : WantedUnit) (u : GivenUnit) → HasWantedLines w u → widest_table_for u.lines.address_size u.lines ≤ widest_wanted w
+  unit-widest own_unit u lines = subst (λ (g : GivenLines). widest_table_for g.address_size g ≤ 0) (sym lines) (omega arith)
+  unit-widest (carried_unit c) u lines = lines.widest
+
+  made-widest : (number : ℕ) (cs : List WantedUnit) (ts : List Tree) (us : List GivenUnit) → AreMadeOf size texts number cs ts us → sum_by (widest_unit Line) (map ordered us) ≤ sum_by widest_wanted cs
   made-widest number [] [] [] made = omega arith
   made-widest number [] [] (u ∷ us) made = absurd made
   made-widest number [] (t ∷ ts) us made = absurd made
   made-widest number (c ∷ cs) [] us made = absurd made
   made-widest number (c ∷ cs) (t ∷ ts) [] made = absurd made
   made-widest number (c ∷ cs) (t ∷ ts) (u ∷ us) made =
-      rw (sum_by-cons (widest_unit Line) (ordered u) (map ordered us), sum_by-cons widest_lines_of c cs) (omega (arith, made.0.widest, made-widest (suc number) cs ts us made.1))
+      rw (sum_by-cons (widest_unit Line) (ordered u) (map ordered us), sum_by-cons widest_wanted c cs) (omega (arith, unit-widest c u made.0.has_lines, made-widest (suc number) cs ts us made.1))
+
+  -- own units have no lines
+  widest-carried : (us : List CarriedUnit) → sum_by widest_wanted (map carried_unit us) ≡ sum_by widest_lines_of us
+  widest-carried [] = refl
+  widest-carried (u ∷ us) = rw (sum_by-cons widest_wanted (carried_unit u) (map carried_unit us), sum_by-cons widest_lines_of u us) (ap (λ n. widest_lines_of u + n) (widest-carried us))
+
+  widest-modules : (ms : List Module) → sum_by widest_wanted (flat_map wanted_units_of ms) ≡ sum_by widest_lines_of (flat_map carried_units_of ms)
+  widest-modules [] = refl
+  widest-modules (m ∷ ms) =
+      let rest = flat_map wanted_units_of ms in
+      let own = sum_by-cons widest_wanted own_unit (map carried_unit (carried_units_of m) ++ rest) in
+      let split = sum_by-append widest_wanted (map carried_unit (carried_units_of m)) rest in
+      let carried = sum_by-append widest_lines_of (carried_units_of m) (flat_map carried_units_of ms) in
+      omega (arith, own, split, carried, widest-carried (carried_units_of m), widest-modules ms)
 
   -- Their line tables are no longer, at their widest, than those of the input.
-  pub widest-given : (number : ℕ) (c : Compilation) (ts : List Tree) (us : List GivenUnit) → AreMadeOf size texts number (carried_units c) ts us → widest_given Line (map ordered us) ≤ sum_by widest_lines_of (carried_units c)
-  widest-given number c ts us made = made-widest number (carried_units c) ts us made
+  pub widest-given : (number : ℕ) (c : Compilation) (ts : List Tree) (us : List GivenUnit) → AreMadeOf size texts number (wanted_units c) ts us → widest_given Line (map ordered us) ≤ sum_by widest_lines_of (carried_units c)
+  widest-given number c ts us made = omega (arith, made-widest number (wanted_units c) ts us made, widest-modules c.modules)
 
-  each-writable : (number : ℕ) (cs : List CarriedUnit) (ts : List Tree) (us : List GivenUnit) → AreMadeOf size texts number cs ts us → All (IsWritable size) (map ordered us)
+  each-writable : (number : ℕ) (cs : List WantedUnit) (ts : List Tree) (us : List GivenUnit) → AreMadeOf size texts number cs ts us → All (IsWritable size) (map ordered us)
   each-writable number [] [] [] made = All-nil (IsWritable size)
   each-writable number [] [] (u ∷ us) made = absurd made
   each-writable number [] (t ∷ ts) us made = absurd made
@@ -85,7 +110,7 @@ module _ (size : ℕ) (texts : List (List ℕ)) where
   each-writable number (c ∷ cs) (t ∷ ts) (u ∷ us) made = All-cons (IsWritable size) (ordered u) (map ordered us) made.0.writable (each-writable (suc number) cs ts us made.1)
 
   -- All of them can be written.
-  pub made-writable : (number : ℕ) (cs : List CarriedUnit) (ts : List Tree) (us : List GivenUnit) → AreMadeOf size texts number cs ts us → AreWritable (map ordered us)
+  pub made-writable : (number : ℕ) (cs : List WantedUnit) (ts : List Tree) (us : List GivenUnit) → AreMadeOf size texts number cs ts us → AreWritable (map ordered us)
   made-writable number [] [] [] made = All-nil (IsWritable 8)
   made-writable number [] [] (u ∷ us) made = absurd made
   made-writable number [] (t ∷ ts) us made = absurd made
@@ -96,7 +121,7 @@ module _ (size : ℕ) (texts : List (List ℕ)) where
 
   -- ---- texts and trees
 
-  named-texts : (number : ℕ) (cs : List CarriedUnit) (ts : List Tree) (us : List GivenUnit) → AreMadeOf size texts number cs ts us → All (λ n. n < length texts) (flat_map (λ u. flat_map texts_of_entry u.additions) us)
+  named-texts : (number : ℕ) (cs : List WantedUnit) (ts : List Tree) (us : List GivenUnit) → AreMadeOf size texts number cs ts us → All (λ n. n < length texts) (flat_map (λ u. flat_map texts_of_entry u.additions) us)
   named-texts number [] [] [] made = All-nil (λ (n : ℕ). n < length texts)
   named-texts number [] [] (u ∷ us) made = absurd made
   named-texts number [] (t ∷ ts) us made = absurd made
@@ -107,13 +132,13 @@ module _ (size : ℕ) (texts : List (List ℕ)) where
       (all-flat (λ (n : ℕ). n < length texts) texts_of_entry u.additions made.0.texts) (named-texts (suc number) cs ts us made.1)
 
   -- All texts that they name are in the table.
-  pub made-texts : (number : ℕ) (cs : List CarriedUnit) (ts : List Tree) (us : List GivenUnit) → AreMadeOf size texts number cs ts us → HaveTexts texts (map ordered us)
+  pub made-texts : (number : ℕ) (cs : List WantedUnit) (ts : List Tree) (us : List GivenUnit) → AreMadeOf size texts number cs ts us → HaveTexts texts (map ordered us)
   made-texts number cs ts us made =
       let said = made-in-order size texts number cs ts us made in
       subst (All (λ n. n < length texts)) (sym (texts-in-order said.depths us said.orders)) (named-texts number cs ts us made)
 
   -- They say the trees, where each reference of these goes to an entry that is there.
-  pub made-trees : (cs : List CarriedUnit) (ts : List Tree) (us : List GivenUnit) → AreMadeOf size texts 0 cs ts us → HasAllTargets ts → given_trees texts (map ordered us) ≡ ts
+  pub made-trees : (cs : List WantedUnit) (ts : List Tree) (us : List GivenUnit) → AreMadeOf size texts 0 cs ts us → HasAllTargets ts → given_trees texts (map ordered us) ≡ ts
   made-trees cs ts us made go =
       let said = made-in-order size texts 0 cs ts us made in
       trees-in-order texts said.depths us said.orders (subst HasAllTargets (sym said.says) go) ∙ said.says

@@ -2,7 +2,7 @@
 use Rattle.std.proofs.Common.{◌≡◌, ◌↔◌, ℕ, List, map, arith, None, Result, Ok, Err, Vec, All, ◌≤◌, refl, ap, sym, ◌∙◌, subst, Bool, true, false}
 use Rattle.std.specs.Global.{Global}
 use Rattle.dwc_base.specs.declared.records.Endian.{Endian}
-use Rattle.dwc_base.specs.declared.faults.Limit.TheVariants.{Section, Addend, Range, Jump, Expression}
+use Rattle.dwc_base.specs.declared.faults.Limit.TheVariants.{Section, Addend, Range, Jump, Expression, Vmctx}
 use Rattle.dwc_base.specs.declared.output.DwarfSection.{DwarfSection}
 use Rattle.dwc_base.specs.declared.section_name.SectionName.{SectionName}
 use Rattle.dwc_base.specs.declared.section_name.SectionName.TheVariants.{Abbrev, Addr, Info, Line, LineStr, Loc, Loclists, Ranges, Rnglists, Str, StrOffsets, CuIndex, Frame}
@@ -10,7 +10,7 @@ use Rattle.dwc_base.specs.Functions.{Function}
 use Rattle.dwc_base.specs.Outputs.{output_sections, section_view}
 use Rattle.dwc_base.specs.ScopesCarried.{TranslationsKeepScopes}
 use Rattle.dwc_base.specs.TreeReading.{CarriesTrees}
-use Rattle.dwc_base.specs.Forests.{carried_units, trees_made}
+use Rattle.dwc_base.specs.Forests.{wanted_units, trees_made}
 use Rattle.dwc_base.specs.TreeLaws.{HasTextsOnce, have_short_expressions}
 use Rattle.dwc_base.proofs.ForestTargets.{made-targets}
 use Rattle.dwc_base.specs.OutputCarried.{widest}
@@ -57,7 +57,7 @@ module _ (order : Endian) (size : ℕ) (registers : Registers) (c : CompilationV
   module _ (texts : List (List ℕ)) (us : List GivenUnit) (accepted : refusal_of order size registers c ≡ None) (t : IsTransformed size (input_of order size registers c) texts us) where
     -- the units can be written
     pub transformed-writable : AreWritable (map ordered us)
-    transformed-writable = made-writable size texts 0 (carried_units (input_of order size registers c)) (trees_made (input_of order size registers c)) us t.made
+    transformed-writable = made-writable size texts 0 (wanted_units (input_of order size registers c)) (trees_made (input_of order size registers c)) us t.made
 
     -- and all that they name is in the table of texts
     pub transformed-texts : HaveTexts texts (map ordered us)
@@ -67,7 +67,7 @@ module _ (order : Endian) (size : ℕ) (registers : Registers) (c : CompilationV
     same-trees : given_trees texts (map ordered us) ≡ trees_made (input_of order size registers c)
     same-trees =
         let input = input_of order size registers c in
-        made-trees size texts (carried_units input) (trees_made input) us t.made (made-targets input)
+        made-trees size texts (wanted_units input) (trees_made input) us t.made (made-targets input)
 
     -- what is written is emitted
     pub emits-sections : (s : Vec DwarfSection Global) → ReadsBack order (map ordered us) (map section_view s.items) → CarriesTrees order (given_trees texts (map ordered us)) (map section_view s.items) → HasTextsOnce (output_sections order (map section_view s.items))
@@ -87,7 +87,7 @@ module _ (order : Endian) (size : ℕ) (registers : Registers) (c : CompilationV
           scopes = scopes-carried number_maps order size registers c texts us accepted t.made keep;
           locations = locations-carried number_maps order size registers c texts us accepted t.made keep;
           texts = once;
-          form = form size (made-sizes size texts 0 (carried_units (input_of order size registers c)) (trees_made (input_of order size registers c)) us t.made);
+          form = form size (made-sizes size texts 0 (wanted_units (input_of order size registers c)) (trees_made (input_of order size registers c)) us t.made);
           names = names;
           relocated = relocated;
         };
@@ -125,4 +125,5 @@ module _ (order : Endian) (size : ℕ) (registers : Registers) (c : CompilationV
     emits-large (write.TooLarge Addend) large = absurd (cc)
     emits-large (write.TooLarge Range) large = absurd (cc)
     emits-large (write.TooLarge Jump) large = absurd (cc)
+    emits-large (write.TooLarge Vmctx) large = absurd (cc)
     emits-large write.OutOfMemory large = tt

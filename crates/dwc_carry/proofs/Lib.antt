@@ -1,4 +1,9 @@
 pub mod CauseLaws
+pub mod MadeAdditions
+pub mod MadeTexts
+pub mod OwnMade
+pub mod OwnBuilt
+pub mod OwnModules
 pub mod CompiledLaws
 pub mod CompositionLaws
 pub mod EmitLaws

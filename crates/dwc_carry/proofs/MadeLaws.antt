@@ -1,9 +1,9 @@
--- Units that are made of carried units: with more texts, and others behind them.
+-- Units that are made as they are wanted: with more texts, and others behind them.
 use Rattle.std.proofs.Common.{◌≡◌, ℕ, suc, ◌+◌, ◌<◌, arith, refl, ap, sym, ◌∙◌, subst, List, [], ◌∷◌, ◌++◌, length, All}
 use Rattle.std.specs.List.{flat_map, AllZip}
 use Rattle.std.proofs.lemmas.List.{append-nil, append_assoc, length-append}
 use Rattle.std.proofs.lemmas.List.Elements.{All-nil, All-cons, All-head, All-tail}
-use Rattle.dwc_base.specs.Carried.{CarriedUnit}
+use Rattle.dwc_base.specs.Carried.{WantedUnit}
 use Rattle.dwc_base.specs.Trees.{Tree}
 use Rattle.dwc_write.specs.GivenUnits.{Addition, GivenUnit}
 use Rattle.dwc_write.specs.UsedTexts.{texts_of_attributes}
@@ -50,22 +50,19 @@ texts-more texts more es h =
     all-more (λ (e : Addition). All P (texts_of_entry e)) (λ (e : Addition). All Q (texts_of_entry e))
     (λ e has. all-more P Q (λ n less. omega (arith, less, length-append texts more)) (texts_of_entry e) has) es h
 
-made-with : (size : ℕ) (texts more : List (List ℕ)) (number : ℕ) (c : CarriedUnit) (t : Tree) (u : GivenUnit) → IsMadeOf size texts number c t u → IsMadeOf size (texts ++ more) number c t u
+made-with : (size : ℕ) (texts more : List (List ℕ)) (number : ℕ) (c : WantedUnit) (t : Tree) (u : GivenUnit) → IsMadeOf size texts number c t u → IsMadeOf size (texts ++ more) number c t u
 made-with size texts more number c t u h = record {
-  input = h.input;
-  input_read = h.input_read;
-  images = h.images;
+  has_lines = h.has_lines;
   depths = h.depths;
   order = h.order;
   says = tree-meant-more texts more number h.depths u.additions (all-flat (λ n. n < length texts) texts_of_entry u.additions h.texts) ∙ h.says;
   texts = texts-more texts more u.additions h.texts;
   writable = h.writable;
-  widest = h.widest;
 }
 
 -- ---- units in order
 
-made-more-with : (size : ℕ) (texts more : List (List ℕ)) (number : ℕ) (cs : List CarriedUnit) (ts : List Tree) (us : List GivenUnit) → AreMadeOf size texts number cs ts us → AreMadeOf size (texts ++ more) number cs ts us
+made-more-with : (size : ℕ) (texts more : List (List ℕ)) (number : ℕ) (cs : List WantedUnit) (ts : List Tree) (us : List GivenUnit) → AreMadeOf size texts number cs ts us → AreMadeOf size (texts ++ more) number cs ts us
 made-more-with size texts more number [] [] [] h = h
 made-more-with size texts more number [] [] (u ∷ us) h = absurd h
 made-more-with size texts more number [] (t ∷ ts) us h = absurd h
@@ -74,11 +71,11 @@ made-more-with size texts more number (c ∷ cs) (t ∷ ts) [] h = absurd h
 made-more-with size texts more number (c ∷ cs) (t ∷ ts) (u ∷ us) h = (made-with size texts more number c t u h.0, made-more-with size texts more (suc number) cs ts us h.1)
 
 -- Units say the same with more texts.
-pub made-grown : (size : ℕ) (old new : List (List ℕ)) (number : ℕ) (cs : List CarriedUnit) (ts : List Tree) (us : List GivenUnit) → Grows old new → AreMadeOf size old number cs ts us → AreMadeOf size new number cs ts us
+pub made-grown : (size : ℕ) (old new : List (List ℕ)) (number : ℕ) (cs : List WantedUnit) (ts : List Tree) (us : List GivenUnit) → Grows old new → AreMadeOf size old number cs ts us → AreMadeOf size new number cs ts us
 made-grown size old new number cs ts us grows h = subst (λ texts. AreMadeOf size texts number cs ts us) (sym grows.is) (made-more-with size old grows.more number cs ts us h)
 
 -- There is one for each tree.
-pub made-length : (size : ℕ) (texts : List (List ℕ)) (number : ℕ) (cs : List CarriedUnit) (ts : List Tree) (us : List GivenUnit) → AreMadeOf size texts number cs ts us → length ts ≡ length us
+pub made-length : (size : ℕ) (texts : List (List ℕ)) (number : ℕ) (cs : List WantedUnit) (ts : List Tree) (us : List GivenUnit) → AreMadeOf size texts number cs ts us → length ts ≡ length us
 made-length size texts number [] [] [] h = refl
 made-length size texts number [] [] (u ∷ us) h = absurd h
 made-length size texts number [] (t ∷ ts) us h = absurd h
@@ -87,7 +84,7 @@ made-length size texts number (c ∷ cs) (t ∷ ts) [] h = absurd h
 made-length size texts number (c ∷ cs) (t ∷ ts) (u ∷ us) h = ap suc (made-length size texts (suc number) cs ts us h.1)
 
 -- others behind them
-pub made-both : (size : ℕ) (texts : List (List ℕ)) (number next : ℕ) (cs ds : List CarriedUnit) (ts ws : List Tree) (us vs : List GivenUnit) → next ≡ number + length us
+pub made-both : (size : ℕ) (texts : List (List ℕ)) (number next : ℕ) (cs ds : List WantedUnit) (ts ws : List Tree) (us vs : List GivenUnit) → next ≡ number + length us
     → AreMadeOf size texts number cs ts us → AreMadeOf size texts next ds ws vs → AreMadeOf size texts number (cs ++ ds) (ts ++ ws) (us ++ vs)
 made-both size texts number next [] ds [] ws [] vs is h k =
     let same : next ≡ number = omega (arith, is) in
@@ -104,7 +101,7 @@ pub record SayInOrder (texts : List (List ℕ)) (number : ℕ) (ts : List Tree) 
   pub orders : AllZip IsInOrder depths us
   pub says : trees_meant texts number depths us ≡ ts
 
-pub made-in-order : (size : ℕ) (texts : List (List ℕ)) (number : ℕ) (cs : List CarriedUnit) (ts : List Tree) (us : List GivenUnit) → AreMadeOf size texts number cs ts us → SayInOrder texts number ts us
+pub made-in-order : (size : ℕ) (texts : List (List ℕ)) (number : ℕ) (cs : List WantedUnit) (ts : List Tree) (us : List GivenUnit) → AreMadeOf size texts number cs ts us → SayInOrder texts number ts us
 made-in-order size texts number [] [] [] h = record { depths = []; orders = tt; says = refl }
 made-in-order size texts number [] [] (u ∷ us) h = absurd h
 made-in-order size texts number [] (t ∷ ts) us h = absurd h

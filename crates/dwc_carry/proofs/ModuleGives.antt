@@ -9,12 +9,11 @@ use Rattle.dwc_base.specs.Sections.{Fault, unsupported}
 use Rattle.dwc_base.specs.Carried.{Unit, units, Module}
 use Rattle.dwc_base.specs.Refusals.{Refusal, of_place, unit_refusal, first_of}
 use Rattle.dwc_base.specs.KeptModules.{kept_module, kept_in, carried_in}
-use Rattle.dwc_base.specs.CarriedDrafts.{source_of, unit_drafts, carried_drafts}
-use Rattle.dwc_base.specs.DraftForests.{settled_unit, place_of_goal, units_drafted, trees_from}
+use Rattle.dwc_base.specs.CarriedDrafts.{source_of}
 use Rattle.dwc_base.specs.EntryRules.{named_faults}
 use Rattle.dwc_base.specs.ReachedEntries.{info_faults, unit_refusals}
 use Rattle.dwc_base.specs.ReachedEntries as Reached
-use Rattle.dwc_base.specs.Forests.{kept_of, rules_of, carried_units_of, module_refusals, module_drafts}
+use Rattle.dwc_base.specs.Forests.{kept_of, rules_of, reading_refusals}
 use Rattle.dwc_read.specs.declared.fault.ReadFault.{ReadFault}
 use Rattle.dwc_read.specs.declared.fault.ReadFault.TheVariants as read
 use Rattle.dwc_read.specs.Faults.{fault_seen}
@@ -23,9 +22,8 @@ use Rattle.dwc_write.specs.declared.units.Dwarf.{Dwarf}
 use Rattle.dwc_carry.specs.declared.error.DebugError.{DebugError}
 use Rattle.dwc_carry.specs.declared.error.DebugError.TheVariants.{Unsupported}
 use Rattle.dwc_carry.specs.Refusals.{in_reading, of_reading, RefusesReading}
-use Rattle.dwc_carry.specs.MadeUnits.{AreMadeOf}
-use Rattle.dwc_carry.specs.CarriedUnits.{refusals_of, wanted_of, GivesUnits}
-use Rattle.dwc_carry.specs.CarriedModules.{GivesModule}
+use Rattle.dwc_carry.specs.CarriedUnits.{refusals_of, GivesUnits}
+use Rattle.dwc_carry.specs.CarriedModules.{GivesCarried}
 
 first-mapped : (faults : List Fault) (rest : List Refusal) (fault : Fault) → first_of faults ≡ Some fault → first_of (map of_place faults ++ rest) ≡ Some (of_place fault)
 first-mapped [] rest fault h = absurd (cc)
@@ -42,46 +40,26 @@ none-mapped [] rest h = refl
 none-mapped (x ∷ faults) rest h = absurd (cc)
 
 -- a compressed section is refused
-pub compressed-refused : (m : Module) (offset : ℕ) → m.compressed ≡ Some offset → RefusesReading (first_of (flat_map module_refusals (m ∷ []))) (Unsupported Compressed offset)
+pub compressed-refused : (m : Module) (offset : ℕ) → m.compressed ≡ Some offset → RefusesReading (first_of (reading_refusals m)) (Unsupported Compressed offset)
 unfolding Reached.module_refusals kept_module
 compressed-refused m offset h =
-    ap (option_map in_reading) (ap first_of (append-nil (module_refusals m))
-    ∙ ap (λ o. first_of (map of_place (option_to_list (option_map (unsupported Compressed) o) ++ info_faults (named_faults m.sections) m.sections) ++ flat_map (unit_refusals (unit_refusal m.sections) (rules_of m) (kept_of m)) (carried_in (kept_of m)))) h)
+    ap (option_map in_reading) (ap (λ o. first_of (map of_place (option_to_list (option_map (unsupported Compressed) o) ++ info_faults (named_faults m.sections) m.sections) ++ flat_map (unit_refusals (unit_refusal m.sections) (rules_of m) (kept_of m)) (carried_in (kept_of m)))) h)
 
 module _ (m : Module) (plain : m.compressed ≡ None) where
-  refusals-plain : flat_map module_refusals (m ∷ []) ≡ map of_place (info_faults (named_faults m.sections) m.sections) ++ flat_map (refusals_of m) (carried_in (kept_of m))
+  refusals-plain : reading_refusals m ≡ map of_place (info_faults (named_faults m.sections) m.sections) ++ flat_map (refusals_of m) (carried_in (kept_of m))
   unfolding Reached.module_refusals kept_module
   refusals-plain =
-      append-nil (module_refusals m)
-      ∙ ap (λ o. map of_place (option_to_list (option_map (unsupported Compressed) o) ++ info_faults (named_faults m.sections) m.sections) ++ flat_map (unit_refusals (unit_refusal m.sections) (rules_of m) (kept_of m)) (carried_in (kept_of m))) plain
+      ap (λ o. map of_place (option_to_list (option_map (unsupported Compressed) o) ++ info_faults (named_faults m.sections) m.sections) ++ flat_map (unit_refusals (unit_refusal m.sections) (rules_of m) (kept_of m)) (carried_in (kept_of m))) plain
 
   -- where its entries cannot be read
-  pub module-refused : (e : ReadFault) → TellsFirst (first_of (info_faults (named_faults m.sections) m.sections)) (fault_seen e) → RefusesReading (first_of (flat_map module_refusals (m ∷ []))) (of_reading e)
+  pub module-refused : (e : ReadFault) → TellsFirst (first_of (info_faults (named_faults m.sections) m.sections)) (fault_seen e) → RefusesReading (first_of (reading_refusals m)) (of_reading e)
   module-refused e h = subst (λ rs. RefusesReading (first_of rs) (of_reading e)) (sym refusals-plain) (kept-told (info_faults (named_faults m.sections) m.sections) (flat_map (refusals_of m) (carried_in (kept_of m))) e h)
 
   module _ (size : ℕ) (big_endian : Bool) (none : first_of (info_faults (named_faults m.sections) m.sections) ≡ None) (whole : (units m.sections).fault ≡ None) where
-    refusals-are : flat_map module_refusals (m ∷ []) ≡ flat_map (refusals_of m) (carried_in (kept_of m))
+    refusals-are : reading_refusals m ≡ flat_map (refusals_of m) (carried_in (kept_of m))
     refusals-are = refusals-plain ∙ none-mapped (info_faults (named_faults m.sections) m.sections) (flat_map (refusals_of m) (carried_in (kept_of m))) none
 
-    trees-are : (n : ℕ) → trees_from n (map (module_drafts big_endian) (m ∷ [])) ≡ map (wanted_of big_endian m n) (carried_in (kept_of m))
-    unfolding carried_drafts
-    trees-are n = append-nil (map (settled_unit (place_of_goal n (module_drafts big_endian m))) (units_drafted (module_drafts big_endian m))) ∙ mapped (carried_in (kept_of m))
-      where
-        mapped : (us : List Unit) → map (settled_unit (place_of_goal n (module_drafts big_endian m))) (map (λ u. unit_drafts (rules_of m u) (source_of (kept_of m) u) big_endian (kept_in (kept_of m) u)) us) ≡ map (wanted_of big_endian m n) us
-        mapped [] = refl
-        mapped (u ∷ us) = ap (λ ts. wanted_of big_endian m n u ∷ ts) (mapped us)
-
     -- What is answered for its units is answered for it.
-    pub module-gives : (old new : Dwarf) (result : Result (Prim.Unit {0}) DebugError) → GivesUnits size big_endian m old new result → GivesModule size big_endian m old new result
-    module-gives old new (Ok done) h = (
-      ap (λ (rs : List Refusal). option_map in_reading (first_of rs)) refusals-are ∙ h.0,
-      record {
-        made = h.1.made;
-        added = h.1.added;
-        grows = h.1.grows;
-        each = subst (λ us. AreMadeOf size new.strings (length old.units.units.items) us (trees_from (length old.units.units.items) (map (module_drafts big_endian) (m ∷ []))) h.1.made) (sym (append-nil (carried_units_of m)))
-            (subst (λ ts. AreMadeOf size new.strings (length old.units.units.items) (carried_units_of m) ts h.1.made) (sym (trees-are (length old.units.units.items))) h.1.each);
-        whole = All-cons (λ (x : Module). (units x.sections).fault ≡ None) m [] whole (All-nil (λ (x : Module). (units x.sections).fault ≡ None));
-      },
-    )
-    module-gives old new (Err e) h = subst (λ rs. RefusesReading (first_of rs) e) (sym refusals-are) h
+    pub module-gives : (own : ℕ) (old new : Dwarf) (result : Result (Prim.Unit {0}) DebugError) → GivesUnits size big_endian m own old new result → GivesCarried size big_endian m own old new result
+    module-gives own old new (Ok done) h = (ap (λ (rs : List Refusal). option_map in_reading (first_of rs)) refusals-are ∙ h.0, record { units_added = h.1; whole = whole })
+    module-gives own old new (Err e) h = subst (λ rs. RefusesReading (first_of rs) e) (sym refusals-are) h

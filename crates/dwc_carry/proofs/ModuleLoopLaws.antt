@@ -7,7 +7,7 @@ use Rattle.std.proofs.lemmas.List.Elements.{All-nil, All-cons, All-head}
 use Rattle.dwc_base.specs.Carried.{units, Module}
 use Rattle.dwc_base.specs.Refusals.{Refusal, first_of}
 use Rattle.dwc_base.specs.DraftForests.{units_drafted, place_of_goal, settled_unit, trees_from}
-use Rattle.dwc_base.specs.Forests.{carried_units_of, module_refusals, module_drafts}
+use Rattle.dwc_base.specs.Forests.{wanted_units_of, module_refusals, module_drafts}
 use Rattle.dwc_base.specs.Trees.{Tree}
 use Rattle.dwc_write.specs.GivenUnits.{GivenUnit}
 use Rattle.dwc_clone.specs.MadeValues.{Grows}
@@ -23,9 +23,9 @@ module _ (size : ℕ) (big_endian : Bool) where
   abbrev trees_of : ℕ → List Module → List Tree
   trees_of number ms = trees_from number (map (module_drafts big_endian) ms)
 
-  -- units are made of all carried units of modules
+  -- units are made as they are wanted for modules
   abbrev AreMadeOfAll : List (List ℕ) → ℕ → List Module → List GivenUnit → Type 0
-  AreMadeOfAll texts number ms us = AreMadeOf size texts number (flat_map carried_units_of ms) (trees_of number ms) us
+  AreMadeOfAll texts number ms us = AreMadeOf size texts number (flat_map wanted_units_of ms) (trees_of number ms) us
 
   -- the trees of a module
   abbrev trees_of_module : ℕ → Module → List Tree
@@ -37,13 +37,13 @@ module _ (size : ℕ) (big_endian : Bool) where
   module-more texts number next m rest us vs is h k =
       let drafts = units_drafted (module_drafts big_endian m) in
       let settled = settled_unit (place_of_goal number (module_drafts big_endian m)) in
-      let one : AreMadeOf size texts number (carried_units_of m) (trees_of_module number m) us =
-      subst (λ cs. AreMadeOf size texts number cs (trees_of_module number m) us) (append-nil (carried_units_of m))
-      (subst (λ ts. AreMadeOf size texts number (carried_units_of m ++ []) ts us) (append-nil (trees_of_module number m)) h) in
-      let counted : length drafts ≡ length us = sym (length-map drafts settled) ∙ made-length size texts number (carried_units_of m) (trees_of_module number m) us one in
+      let one : AreMadeOf size texts number (wanted_units_of m) (trees_of_module number m) us =
+      subst (λ cs. AreMadeOf size texts number cs (trees_of_module number m) us) (append-nil (wanted_units_of m))
+      (subst (λ ts. AreMadeOf size texts number (wanted_units_of m ++ []) ts us) (append-nil (trees_of_module number m)) h) in
+      let counted : length drafts ≡ length us = sym (length-map drafts settled) ∙ made-length size texts number (wanted_units_of m) (trees_of_module number m) us one in
       let same : next ≡ number + length drafts = is ∙ ap (λ n. number + n) (sym counted) in
-      subst (λ n. AreMadeOf size texts number (flat_map carried_units_of (m ∷ rest)) (trees_of_module number m ++ trees_of n rest) (us ++ vs)) same
-      (made-both size texts number next (carried_units_of m) (flat_map carried_units_of rest) (trees_of_module number m) (trees_of next rest) us vs is one k)
+      subst (λ n. AreMadeOf size texts number (flat_map wanted_units_of (m ∷ rest)) (trees_of_module number m ++ trees_of n rest) (us ++ vs)) same
+      (made-both size texts number next (wanted_units_of m) (flat_map wanted_units_of rest) (trees_of_module number m) (trees_of next rest) us vs is one k)
 
   module _ (ms : List Module) (old : List GivenUnit) (before : List (List ℕ)) where
     -- What is added so far, and what is to be added for the modules that are left, is all; and the table of texts has grown.
@@ -70,7 +70,7 @@ module _ (size : ℕ) (big_endian : Bool) where
           each = λ after more grows k. subst (λ us. AreMadeOfAll after (length old) ms us) (sym (append_assoc h.made a.made more))
               (h.each after (a.made ++ more) (grows-twice texts grown after a.grows grows)
               (module-more after (length new) (length next) m rest a.made more counted
-              (made-grown size grown after (length new) (flat_map carried_units_of (m ∷ [])) (trees_of (length new) (m ∷ [])) a.made grows a.each) k));
+              (made-grown size grown after (length new) (flat_map wanted_units_of (m ∷ [])) (trees_of (length new) (m ∷ [])) a.made grows a.each) k));
           whole = λ k. h.whole (All-cons (λ (n : Module). (units n.sections).fault ≡ None) m rest (whole-of m a.whole) k);
           accepted = sym (ap (λ xs. xs ++ flat_map module_refusals rest) (none-of m none)) ∙ h.accepted;
         }

@@ -1,6 +1,6 @@
 -- Where the goals of a module's entries are, by the offsets of the entries that the output has.
 use Rattle.std.proofs.Common.{◌≡◌, ℕ, suc, ◌+◌, ◌<◌, ◌≤◌, List, [], ◌∷◌, ◌++◌, length, map, refl, ap, ap₂, sym, ◌∙◌, inl, inr, arith, Bool, true, false, cond, Option, Some, None, All}
-use Rattle.std.specs.Prelude.{◌==◌, ◌&&◌, option_map}
+use Rattle.std.specs.Prelude.{◌==◌, ◌&&◌, option_map, position}
 use Rattle.std.specs.Option.{option_or}
 use Rattle.std.specs.List.{filter, find, position_from}
 use Rattle.std.proofs.lemmas.Bool.{ne_eqb}
@@ -12,9 +12,11 @@ use Rattle.dwc_base.specs.Entries.{Entry}
 use Rattle.dwc_base.specs.Kept.{Placed}
 use Rattle.dwc_base.specs.KeptModules.{carried_in, kept_in}
 use Rattle.dwc_base.specs.Clones.{UnitSource, CodeRules}
+use Rattle.dwc_base.specs.Compiled.{Memory, no_memory, defined, imported}
+use Rattle.dwc_base.specs.OwnUnits.{own_unit}
 use Rattle.dwc_base.specs.CarriedDrafts.{source_of, draft_of, unit_drafts, carried_drafts}
-use Rattle.dwc_base.specs.Drafts.{Role, Goal, Draft, made_of, own_entry, itself, pointer_to_wrapper, reference_to_target, pointer_to_target}
-use Rattle.dwc_base.specs.DraftForests.{role_number, is_made_of, units_drafted, place_of_goal}
+use Rattle.dwc_base.specs.Drafts.{Draft, made_of, itself}
+use Rattle.dwc_base.specs.DraftForests.{is_made_of, place_of_goal}
 use Rattle.dwc_base.specs.Refusals.{Refusal}
 use Rattle.dwc_base.specs.Forests.{kept_of, rules_of, module_drafts}
 use Rattle.dwc_kept.specs.declared.read_unit.ReadUnit.{ReadUnit}
@@ -24,7 +26,7 @@ use Rattle.dwc_kept.specs.ReadUnits.{unit_read, IsKeptModule, is_carried_read}
 use Rattle.dwc_base.proofs.InLists.{IsIn, in-filter}
 use Rattle.dwc_kept.proofs.KeptModuleLaws.{read-within, read-entries, carried-read}
 use Rattle.dwc_clone.specs.declared.places.EmittedEntry.{EmittedEntry}
-use Rattle.dwc_clone.specs.OutputPlaces.{numbered, offsets_of, place_of, goal_place}
+use Rattle.dwc_clone.specs.OutputPlaces.{numbered, offsets_of, place_of}
 use Rattle.dwc_carry.specs.ModulePlaces.{emitted, numbered_lists}
 use Rattle.dwc_carry.proofs.UnitsInOrder.{inside, joined, emitted-carried}
 
@@ -95,43 +97,22 @@ module _ (c : Module) (m : KeptModule) (is : IsKeptModule c.functions c.sections
   drafts u = unit_drafts (rules_of c u) (source_of (kept_of c) u) big_endian (kept_in (kept_of c) u)
 
   -- the units of the output are made of those that were read and are carried
-  drafted : units_drafted (module_drafts big_endian c) ≡ map drafts (carried_in (kept_of c))
+  drafted-read : carried_drafts (rules_of c) big_endian (kept_of c) ≡ map (λ r. drafts (of_read r)) (filter (is_carried_read m.kept) m.units.items)
   unfolding carried_drafts
-  drafted = refl
-
-  drafted-read : units_drafted (module_drafts big_endian c) ≡ map (λ r. drafts (of_read r)) (filter (is_carried_read m.kept) m.units.items)
-  drafted-read = drafted ∙ ap (map drafts) (carried-read c m is) ∙ mapped (filter (is_carried_read m.kept) m.units.items)
+  drafted-read = ap (map drafts) (carried-read c m is) ∙ mapped (filter (is_carried_read m.kept) m.units.items)
     where
       mapped : (rs : List ReadUnit) → map drafts (map of_read rs) ≡ map (λ r. drafts (of_read r)) rs
       mapped [] = refl
       mapped (r ∷ rs) = ap (λ xs. drafts (of_read r) ∷ xs) (mapped rs)
 
-  -- no entry is made of one in another role
-  other-role : (offset : ℕ) (role : Role) → (role_number itself == role_number role) ≡ false → place_among (is_made_of offset role) first (units_drafted (module_drafts big_endian c)) ≡ None
-  other-role offset role other =
-      ap (place_among (is_made_of offset role) first) drafted-read
-      ∙ among-same (is_made_of offset role) (λ r. drafts (of_read r)) (λ r. None) first (filter (is_carried_read m.kept) m.units.items) (λ r i. nowhere (rules_of c (of_read r)) (source_of (kept_of c) (of_read r)) (kept_in (kept_of c) (of_read r)))
-      ∙ among-nowhere first (filter (is_carried_read m.kept) m.units.items)
-    where
-      none : (b : Bool) → (b && (role_number itself == role_number role)) ≡ false
-      none true = other
-      none false = refl
-
-      nowhere : (rules : CodeRules Refusal) (s : UnitSource) (es : List Placed) → position_from (is_made_of offset role) 0 (unit_drafts rules s big_endian es) ≡ None
-      nowhere rules s es = from-map (draft_of rules s big_endian) (is_made_of offset role) (λ e. false) 0 es (λ e. none (e.entry.offset == offset)) ∙ never 0 es
-        where
-          never : (n : ℕ) (es : List Placed) → position_from (λ e. false) n es ≡ None
-          never n [] = refl
-          never n (e ∷ es) = never (n + 1) es
-
   -- one that is made of an entry itself is where the offset is
-  made-itself : (offset : ℕ) → place_of (numbered_lists first (emitted m.kept m.units.items)) offset ≡ place_among (is_made_of offset itself) first (units_drafted (module_drafts big_endian c))
-  made-itself offset =
-      lists-among first (emitted m.kept m.units.items) offset
-      ∙ ap (place_among (λ k. k == offset) first) (emitted-carried m.kept m.units.items)
-      ∙ among-same (λ k. k == offset) (inside m.kept) where_kept first (filter (is_carried_read m.kept) m.units.items) (λ r i. by-offset r (in-filter (is_carried_read m.kept) m.units.items r i).0)
-      ∙ sym (among-same (is_made_of offset itself) (λ r. drafts (of_read r)) where_kept first (filter (is_carried_read m.kept) m.units.items) (λ r i. by-draft r (in-filter (is_carried_read m.kept) m.units.items r i).0))
-      ∙ ap (place_among (is_made_of offset itself) first) (sym drafted-read)
+  made-itself : (number offset : ℕ) → place_of (numbered_lists number (emitted m.kept m.units.items)) offset ≡ place_among (is_made_of offset itself) number (carried_drafts (rules_of c) big_endian (kept_of c))
+  made-itself number offset =
+      lists-among number (emitted m.kept m.units.items) offset
+      ∙ ap (place_among (λ k. k == offset) number) (emitted-carried m.kept m.units.items)
+      ∙ among-same (λ k. k == offset) (inside m.kept) where_kept number (filter (is_carried_read m.kept) m.units.items) (λ r i. by-offset r (in-filter (is_carried_read m.kept) m.units.items r i).0)
+      ∙ sym (among-same (is_made_of offset itself) (λ r. drafts (of_read r)) where_kept number (filter (is_carried_read m.kept) m.units.items) (λ r i. by-draft r (in-filter (is_carried_read m.kept) m.units.items r i).0))
+      ∙ ap (place_among (is_made_of offset itself) number) (sym drafted-read)
     where
       where_kept : ReadUnit → Option ℕ
       where_kept r = position_from (λ (e : Entry). e.offset == offset) 0 (kept_of_unit m.kept (of_read r))
@@ -153,13 +134,18 @@ module _ (c : Module) (m : KeptModule) (is : IsKeptModule c.functions c.sections
           ap (λ es. position_from (is_made_of offset itself) 0 (unit_drafts (rules_of c (of_read r)) (source_of (kept_of c) (of_read r)) big_endian es)) (read-entries c m is r i)
           ∙ drafted-at (rules_of c (of_read r)) (source_of (kept_of c) (of_read r)) r.unit.header.offset (kept_of_unit m.kept (of_read r))
 
-  -- Where a goal is in the output is known by the offsets of the entries that it has.
-  pub goal-places : (g : Goal) → goal_place (numbered_lists first (emitted m.kept m.units.items)) g ≡ place_of_goal first (module_drafts big_endian c) g
-  goal-places (made_of offset itself) = made-itself offset
-  goal-places (made_of offset pointer_to_wrapper) = sym (other-role offset pointer_to_wrapper refl)
-  goal-places (made_of offset reference_to_target) = sym (other-role offset reference_to_target refl)
-  goal-places (made_of offset pointer_to_target) = sym (other-role offset pointer_to_target refl)
-  goal-places (own_entry place) = refl
+  -- no entry of the module's own unit is made of one
+  own-apart : (offset : ℕ) (set_memory : List ℕ) (memory : Memory) → position (is_made_of offset itself) (own_unit set_memory memory) ≡ None
+  unfolding own_unit
+  own-apart offset set_memory (defined o) = refl
+  own-apart offset set_memory no_memory = refl
+  own-apart offset set_memory (imported definition base) = refl
+
+  -- Where what a kept entry becomes is in the output is known by its offset.
+  pub goal-place : (offset : ℕ) → place_of (numbered_lists (suc first) (emitted m.kept m.units.items)) offset ≡ place_of_goal first (module_drafts big_endian c) (made_of offset itself)
+  goal-place offset =
+      made-itself (suc first) offset
+      ∙ ap (λ (o : Option ℕ). option_or (option_map (λ place. (first, place)) o) (place_among (is_made_of offset itself) (suc first) (carried_drafts (rules_of c) big_endian (kept_of c)))) (sym (own-apart offset c.told.names.set_memory c.told.memory))
 
 -- ---- the unit of an entry
 

@@ -11,7 +11,7 @@ use Rattle.dwc_base.specs.declared.records.MapFault.{MapFault}
 use Rattle.dwc_base.specs.declared.wasm.ModuleTranslation.{ModuleTranslation}
 use Rattle.dwc_base.specs.Functions.{Function, functions_of}
 use Rattle.dwc_base.specs.Carried.{Module, Compilation, units}
-use Rattle.dwc_base.specs.Forests.{carried_units, carried_units_of, first_refusal, forest, function_refusals, is_big, module_refusals, trees_made}
+use Rattle.dwc_base.specs.Forests.{wanted_units, wanted_units_of, first_refusal, forest, function_refusals, is_big, module_refusals, trees_made}
 use Rattle.dwc_base.specs.Refusals.{Refusal, first_of}
 use Rattle.dwc_base.specs.Trees.{Tree}
 use Rattle.dwc_base.specs.TreeLaws.{HasAllTargets}
@@ -29,7 +29,7 @@ use Rattle.dwc_image.specs.CarriedLines.{AreKept}
 use Rattle.dwc_carry.specs.Refusals.{InputRefusal, bad_address_map, in_reading, of_maps, Refuses}
 use Rattle.dwc_carry.specs.MadeUnits.{AreMadeOf}
 use Rattle.dwc_carry.specs.CarriedModules.{AddsModules}
-use Rattle.dwc_carry.specs.Inputs.{functions_from, modules_of, input_of, bad_map_from, bad_map, maps_refusal}
+use Rattle.dwc_carry.specs.Inputs.{names_of, functions_from, modules_of, input_of, bad_map_from, bad_map, maps_refusal}
 use Rattle.dwc_carry.specs.Transformed.{have_long, lengths_checked, IsTransformed}
 use Rattle.dwc_carry.proofs.CompiledLaws.{all_functions, functions-are}
 use Rattle.dwc_carry.proofs.RefusalLaws.{unmapped, refuses-more}
@@ -140,13 +140,13 @@ forest-is : (c : Compilation) → first_refusal c ≡ None → forest c ≡ Ok (
 forest-is c none = ap (λ (o : Option Refusal). elim o [ Some refusal ↦ Err refusal | None ↦ Ok (trees_made c) ]) none
 
 -- Units that are made of its carried units are what it is transformed to.
-transformed-of : (size : ℕ) (c : Compilation) (texts : List (List ℕ)) (us : List GivenUnit) → first_refusal c ≡ None → AreMadeOf size texts 0 (carried_units c) (trees_made c) us → All (λ m. (units m.sections).fault ≡ None) c.modules → IsTransformed size c texts us
+transformed-of : (size : ℕ) (c : Compilation) (texts : List (List ℕ)) (us : List GivenUnit) → first_refusal c ≡ None → AreMadeOf size texts 0 (wanted_units c) (trees_made c) us → All (λ m. (units m.sections).fault ≡ None) c.modules → IsTransformed size c texts us
 transformed-of size c texts us none made whole =
-    let same = made-trees size texts (carried_units c) (trees_made c) us made (made-targets c) in
+    let same = made-trees size texts (wanted_units c) (trees_made c) us made (made-targets c) in
     record {
       made = made;
       whole = whole;
-      texts = made-texts size texts 0 (carried_units c) (trees_made c) us made;
+      texts = made-texts size texts 0 (wanted_units c) (trees_made c) us made;
       trees = forest-is c none ∙ ap (λ (ts : List Tree). Ok ts) (sym same);
       targets = subst HasAllTargets (sym same) (made-targets c);
     }
@@ -176,7 +176,7 @@ module _ (registers : Registers) (c : CompilationValue) (counted : IsCounted c.t
 
   -- the functions of the modules are refused as those of the transforms
   functions-refused : flat_map function_refusals functions ≡ flat_map (λ (m : Module). function_refusals m.functions) modules
-  functions-refused = ap (flat_map function_refusals) (sym (functions-are registers c.translations c.functions c.memory_offsets counted)) ∙ each-refused modules
+  functions-refused = ap (flat_map function_refusals) (sym (functions-are registers (names_of c) c.translations c.functions c.memory_offsets counted)) ∙ each-refused modules
 
   -- what is refused of the modules is refused of the input, whose maps are good and whose functions short
   input-refusals : maps_refusal c ≡ None → have_long functions ≡ false → refusals_in modules ≡ input_refusal
@@ -206,9 +206,9 @@ module _ (registers : Registers) (c : CompilationValue) (counted : IsCounted c.t
   input-transformed order size before texts us good short (none, k) =
       let input = input_of order size registers c in
       let accepted : input_refusal ≡ None = sym (input-refusals good short) ∙ none in
-      let made : AreMadeOf size texts 0 (flat_map carried_units_of modules) (trees_made input) us =
-      subst (AreMadeOf size texts 0 (flat_map carried_units_of modules) (trees_made input)) (sym k.added)
-      (subst (λ ts. AreMadeOf size texts 0 (flat_map carried_units_of modules) ts k.made) (sym (trees-of-modules input)) k.each) in (
+      let made : AreMadeOf size texts 0 (flat_map wanted_units_of modules) (trees_made input) us =
+      subst (AreMadeOf size texts 0 (flat_map wanted_units_of modules) (trees_made input)) (sym k.added)
+      (subst (λ ts. AreMadeOf size texts 0 (flat_map wanted_units_of modules) ts k.made) (sym (trees-of-modules input)) k.each) in (
         accepted,
         transformed-of size input texts us (unmapped in_reading (first_refusal input) (neither (maps_refusal c) reading_refusal accepted).1) made k.whole,
       )

@@ -3,7 +3,7 @@ use Rattle.std.proofs.Common.{◌≡◌, ℕ, List, [], ◌∷◌, ◌++◌, len
 use Rattle.std.specs.Prelude.{option_map}
 use Rattle.dwc_base.specs.Entries.{entries}
 use Rattle.dwc_base.specs.Indexed.{text_base}
-use Rattle.dwc_base.specs.Carried.{Module}
+use Rattle.dwc_base.specs.Carried.{Module, carried_unit}
 use Rattle.dwc_base.specs.Clones.{UnitSource}
 use Rattle.dwc_base.specs.CarriedDrafts.{source_of}
 use Rattle.dwc_base.specs.Forests.{kept_of}
@@ -76,8 +76,8 @@ module _ (registers : Registers) (k : CloneSource) (compile : Bool) (table : Opt
             made = made;
             added = added;
             grows = record { more = cloned.grows.more; is = sym news ∙ cloned.grows.is ∙ ap (λ xs. xs ++ cloned.grows.more) olds };
-            is = subst (λ n. IsMadeOf size after.strings n (record { module_of = c; unit = u }) (wanted_of k.big_endian c first u) made) at
-                (subst (λ ts. IsMadeOf size ts number (record { module_of = c; unit = u }) (wanted_of k.big_endian c first u) made) news is);
+            is = subst (λ n. IsMadeOf size after.strings n (carried_unit (record { module_of = c; unit = u })) (wanted_of k.big_endian c first u) made) at
+                (subst (λ ts. IsMadeOf size ts number (carried_unit (record { module_of = c; unit = u })) (wanted_of k.big_endian c first u) made) news is);
           },
           subst (λ us. IsLast c.functions size c.sections us behind) (sym added)
               (subst (λ s. IsLast c.functions size s (before.units.units.items ++ made ∷ []) behind) (unit-is k compile table (told_by registers k.module) c m first number kept of).sections

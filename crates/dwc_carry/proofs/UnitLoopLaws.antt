@@ -8,7 +8,7 @@ use Rattle.std.proofs.lemmas.List.Elements.{All-nil, All-cons, All-head, All-tai
 use Rattle.dwc_base.specs.Functions.{Function}
 use Rattle.dwc_base.specs.Compiled.{ToldModule}
 use Rattle.dwc_base.specs.Units.{UnitHeader}
-use Rattle.dwc_base.specs.Carried.{Unit, Module, CarriedUnit}
+use Rattle.dwc_base.specs.Carried.{Unit, Module, WantedUnit, carried_unit}
 use Rattle.dwc_base.specs.Refusals.{Refusal, first_of}
 use Rattle.dwc_base.specs.KeptModules.{carried_in}
 use Rattle.dwc_base.specs.Trees.{Tree}
@@ -43,18 +43,15 @@ texts-more : (before after : List (List ℕ)) (ns : List ℕ) → Grows before a
 texts-more before after ns grows h = All-weaker (λ n. n < length before) (λ n. n < length after) (λ n less. omega (arith, less, ap length grows.is, length-append before grows.more)) ns h
 
 -- A unit that was made says the same with it.
-pub made-more : (size : ℕ) (before after : List (List ℕ)) (number : ℕ) (c : CarriedUnit) (t : Tree) (u : GivenUnit) → Grows before after → IsMadeOf size before number c t u → IsMadeOf size after number c t u
+pub made-more : (size : ℕ) (before after : List (List ℕ)) (number : ℕ) (c : WantedUnit) (t : Tree) (u : GivenUnit) → Grows before after → IsMadeOf size before number c t u → IsMadeOf size after number c t u
 made-more size before after number c t u grows h = record {
-  input = h.input;
-  input_read = h.input_read;
-  images = h.images;
+  has_lines = h.has_lines;
   depths = h.depths;
   order = h.order;
   says = ap (λ ts. tree_meant ts number h.depths u.additions) grows.is
       ∙ tree-meant-more before grows.more number h.depths u.additions (all-flat u.additions h.texts) ∙ h.says;
   texts = All-weaker (λ e. All (λ n. n < length before) (texts_of_attributes e.attributes)) (λ e. All (λ n. n < length after) (texts_of_attributes e.attributes)) (λ e k. texts-more before after (texts_of_attributes e.attributes) grows k) u.additions h.texts;
   writable = h.writable;
-  widest = h.widest;
 }
   where
     all-flat : (es : List Addition) → All (λ e. All (λ n. n < length before) (texts_of_attributes e.attributes)) es → All (λ n. n < length before) (flat_map (λ e. texts_of_attributes e.attributes) es)
@@ -165,7 +162,7 @@ module _ (c : Module) (m : KeptModule) (size : ℕ) (big_endian : Bool) (first :
   carried_left rest = map of_read (filter (is_carried_read m.kept) rest)
 
   abbrev Made : List (List ℕ) → ℕ → List ReadUnit → List GivenUnit → Type 0
-  Made table number rest us = AreMadeOf size table number (map (λ u. record { module_of = c; unit = u }) (carried_left rest)) (map (wanted_of big_endian c first) (carried_left rest)) us
+  Made table number rest us = AreMadeOf size table number (map carried_unit (map (λ u. record { module_of = c; unit = u }) (carried_left rest))) (map (wanted_of big_endian c first) (carried_left rest)) us
 
   abbrev Refused : List ReadUnit → List Refusal
   Refused rest = flat_map (refusals_of c) (carried_left rest)
@@ -177,7 +174,7 @@ module _ (c : Module) (m : KeptModule) (size : ℕ) (big_endian : Bool) (first :
     pub grows : Grows old.strings new.strings
     pub each : (after : List (List ℕ)) → Grows new.strings after → (more : List GivenUnit) → Made after (length new.units.units.items) rest more → Made after (length old.units.units.items) all (made ++ more)
     pub accepted : Refused rest ≡ Refused all
-    pub place : Front m.kept first (length new.units.units.items) all rest
+    pub place : Front m.kept (suc first) (length new.units.units.items) all rest
 
   module _ (all : List ReadUnit) (old new : Dwarf) where
     module _ (r : ReadUnit) (rest : List ReadUnit) (h : UnitsSoFar all old new (r ∷ rest)) where
@@ -201,9 +198,9 @@ module _ (c : Module) (m : KeptModule) (size : ℕ) (big_endian : Bool) (first :
         added = h.added;
         grows = h.grows;
         each = λ after grown more k.
-            h.each after grown more (subst (λ rs. AreMadeOf size after (length new.units.units.items) (map (λ u. record { module_of = c; unit = u }) (map of_read rs)) (map (wanted_of big_endian c first) (map of_read rs)) more) (sym (left-none none)) k);
+            h.each after grown more (subst (λ rs. AreMadeOf size after (length new.units.units.items) (map carried_unit (map (λ u. record { module_of = c; unit = u }) (map of_read rs))) (map (wanted_of big_endian c first) (map of_read rs)) more) (sym (left-none none)) k);
         accepted = sym (ap (λ rs. flat_map (refusals_of c) (map of_read rs)) (left-none none)) ∙ h.accepted;
-        place = front-none m.kept first (length new.units.units.items) all r rest h.place none;
+        place = front-none m.kept (suc first) (length new.units.units.items) all r rest h.place none;
       }
 
       -- a unit that is carried
@@ -217,13 +214,13 @@ module _ (c : Module) (m : KeptModule) (size : ℕ) (big_endian : Bool) (first :
             each = λ after grown more k.
                 subst (λ us. Made after (length old.units.units.items) all us) (sym (append_assoc h.made (a.made ∷ []) more))
                 (h.each after (grows-more new.strings next.strings after a.grows grown) (a.made ∷ more)
-                (subst (λ rs. AreMadeOf size after (length new.units.units.items) (map (λ u. record { module_of = c; unit = u }) (map of_read rs)) (map (wanted_of big_endian c first) (map of_read rs)) (a.made ∷ more)) (sym (left-some some))
-                (made-more size next.strings after (length new.units.units.items) (record { module_of = c; unit = of_read r }) (wanted_of big_endian c first (of_read r)) a.made grown a.is, subst (λ n. Made after n rest more) long k)));
+                (subst (λ rs. AreMadeOf size after (length new.units.units.items) (map carried_unit (map (λ u. record { module_of = c; unit = u }) (map of_read rs))) (map (wanted_of big_endian c first) (map of_read rs)) (a.made ∷ more)) (sym (left-some some))
+                (made-more size next.strings after (length new.units.units.items) (carried_unit (record { module_of = c; unit = of_read r })) (wanted_of big_endian c first (of_read r)) a.made grown a.is, subst (λ n. Made after n rest more) long k)));
             accepted =
                 sym (ap (λ rs. flat_map (refusals_of c) (map of_read rs)) (left-some some)
                 ∙ ap (λ xs. xs ++ Refused rest) (no-first (refusals_of c (of_read r)) (unmapped in_reading (first_of (refusals_of c (of_read r))) none)))
                 ∙ h.accepted;
-            place = front-some m.kept first (length new.units.units.items) all r rest h.place (length next.units.units.items) long some;
+            place = front-some m.kept (suc first) (length new.units.units.items) all r rest h.place (length next.units.units.items) long some;
           }
 
       -- a unit that is refused
@@ -233,18 +230,17 @@ module _ (c : Module) (m : KeptModule) (size : ℕ) (big_endian : Bool) (first :
           (λ x is. sym (ap first_of h.accepted) ∙ ap (λ rs. first_of (flat_map (refusals_of c) (map of_read rs))) (left-some some) ∙ first-behind (refusals_of c (of_read r)) (Refused rest) x is) met
 
     -- behind the last one
-    pub units-done : UnitsSoFar all old new [] → all ≡ m.units.items → first ≡ length old.units.units.items → IsOfModule c c.functions c.told m
-        → (option_map in_reading (first_of (flat_map (refusals_of c) (carried_in (kept_of c)))) ≡ None) × AddsUnits size big_endian c old new
-    units-done h are at of =
+    pub units-done : UnitsSoFar all old new [] → all ≡ m.units.items → IsOfModule c c.functions c.told m
+        → (option_map in_reading (first_of (flat_map (refusals_of c) (carried_in (kept_of c)))) ≡ None) × AddsUnits size big_endian c first old new
+    units-done h are of =
         let carried : carried_in (kept_of c) ≡ carried_left all = carried-read c m of.is ∙ ap carried_left (sym are) in (
           ap (λ us. option_map in_reading (first_of (flat_map (refusals_of c) us))) carried ∙ ap (λ rs. option_map in_reading (first_of rs)) (sym h.accepted),
           record {
             made = h.made;
             added = h.added;
             grows = h.grows;
-            each = subst (λ us. AreMadeOf size new.strings (length old.units.units.items) (map (λ u. record { module_of = c; unit = u }) us) (map (wanted_of big_endian c (length old.units.units.items)) us) h.made) (sym carried)
-                (subst (λ n. AreMadeOf size new.strings (length old.units.units.items) (map (λ u. record { module_of = c; unit = u }) (carried_left all)) (map (wanted_of big_endian c n) (carried_left all)) h.made) at
-                (subst (λ us. Made new.strings (length old.units.units.items) all us) (append-nil h.made) (h.each new.strings (grows-none new.strings) [] tt)));
+            each = subst (λ us. AreMadeOf size new.strings (length old.units.units.items) (map carried_unit (map (λ u. record { module_of = c; unit = u }) us)) (map (wanted_of big_endian c first) us) h.made) (sym carried)
+                (subst (λ us. Made new.strings (length old.units.units.items) all us) (append-nil h.made) (h.each new.strings (grows-none new.strings) [] tt));
           },
         )
 
@@ -253,7 +249,7 @@ module _ (c : Module) (m : KeptModule) (size : ℕ) (big_endian : Bool) (first :
     refused-all are of e = subst (λ us. RefusesReading (first_of (flat_map (refusals_of c) us)) e) (sym (carried-read c m of.is ∙ ap carried_left (sym are)))
 
   -- before the first one
-  pub units-begin : (old : Dwarf) → first ≡ length old.units.units.items → IsOfModule c c.functions c.told m → UnitsSoFar m.units.items old old m.units.items
+  pub units-begin : (old : Dwarf) → length old.units.units.items ≡ suc first → IsOfModule c c.functions c.told m → UnitsSoFar m.units.items old old m.units.items
   units-begin old at of = record {
     made = [];
     added = sym (append-nil old.units.units.items);
@@ -274,7 +270,7 @@ module _ (fs : List Function) (told : ToldModule) (m : KeptModule) (i : ℕ) (r 
 
   -- The next unit is one of the module, and its entries stand in the unit of the output that is added next.
   pub unit-next : (c : Module) (size : ℕ) (big_endian : Bool) (first : ℕ) (old new : Dwarf) (places : List EmittedEntry) (os : List ℕ) → IsOfModule c fs told m → os ≡ carried_offsets m.kept r → 0 < length os
-      → places ≡ numbered_lists first (emitted m.kept m.units.items) → UnitsSoFar c m size big_endian first m.units.items old new (r ∷ drop (i + 1) m.units.items)
+      → places ≡ numbered_lists (suc first) (emitted m.kept m.units.items) → UnitsSoFar c m size big_endian first m.units.items old new (r ∷ drop (i + 1) m.units.items)
       → IsUnitOf c fs told m first (length new.units.units.items) places os r
   unit-next c size big_endian first old new places os of offsets some are so_far = record {
     module_is = of;
@@ -282,9 +278,13 @@ module _ (fs : List Function) (told : ToldModule) (m : KeptModule) (i : ℕ) (r 
     offsets = offsets;
     some = some;
     places_are = are;
-    own = front-own m.kept first (length new.units.units.items) m.units.items r (drop (i + 1) m.units.items) so_far.place places are (subst (λ xs. 0 < length xs) offsets some);
+    own = front-own m.kept (suc first) (length new.units.units.items) m.units.items r (drop (i + 1) m.units.items) so_far.place places are (subst (λ xs. 0 < length xs) offsets some);
   }
 
 -- The module's own functions are the transform's, and what is told of it is told.
 pub of-itself : (c : Module) (fs : List Function) (told : ToldModule) (m : KeptModule) → IsOfModule c fs told m → IsOfModule c c.functions c.told m
 of-itself c fs told m of = record { functions = refl; told_is = refl; is = of.is; bytes = of.bytes }
+
+-- Places that stand from a number on stand behind the module's own unit.
+pub places-behind : (m : KeptModule) (number own : ℕ) (places : List EmittedEntry) → number ≡ suc own → places ≡ numbered_lists number (emitted m.kept m.units.items) → places ≡ numbered_lists (suc own) (emitted m.kept m.units.items)
+places-behind m number own places at are = are ∙ ap (λ n. numbered_lists n (emitted m.kept m.units.items)) at

@@ -11,11 +11,11 @@ use Rattle.dwc_base.specs.Entries.{Entry, entries, attribute}
 use Rattle.dwc_base.specs.Indexed.{text_base}
 use Rattle.dwc_base.specs.LineRows.{LineTable, line_table}
 use Rattle.dwc_base.specs.Images.{is_carried_segment, IsImageOf}
-use Rattle.dwc_base.specs.Carried.{Unit, Module, root, line_offset, table_of_root, table_of_unit, segments_of, segments_of_unit}
+use Rattle.dwc_base.specs.Carried.{Unit, Module, carried_unit, root, line_offset, table_of_root, table_of_unit, segments_of, segments_of_unit}
 use Rattle.dwc_base.specs.Refusals.{Refusal, table_offset, lines_refusal, unit_refusal, first_of}
 use Rattle.dwc_base.specs.Widest.{widest_table}
-use Rattle.dwc_base.specs.Drafts.{Goal, DraftValue, done, goes_to, Draft}
-use Rattle.dwc_base.specs.DraftForests.{settled_value, settled, settled_unit, place_of_goal}
+use Rattle.dwc_base.specs.Drafts.{Goal, made_of, itself, DraftValue, done, goes_to, Draft}
+use Rattle.dwc_base.specs.DraftForests.{settled, settled_unit, place_of_goal}
 use Rattle.dwc_base.specs.Trees.{Tree, entry, TreeValue, set_in_order}
 use Rattle.dwc_base.specs.Clones.{entry_refusals}
 use Rattle.dwc_base.specs.KeptModules.{kept_module, kept_in}
@@ -28,6 +28,8 @@ use Rattle.dwc_kept.specs.KeptUnits.{IsTree}
 use Rattle.dwc_kept.specs.ReadUnits.{unit_read}
 use Rattle.dwc_kept.specs.declared.read_unit.ReadUnit.{ReadUnit}
 use Rattle.dwc_base.proofs.InLists.{contains-in}
+use Rattle.dwc_base.proofs.ForestLaws.{Each, SaysNoPlace, UnitSaysNoPlace}
+use Rattle.dwc_base.proofs.ForestTargets.{unit-no-place}
 use Rattle.dwc_kept.proofs.KeptModuleLaws.{read-unit, read-entries}
 use Rattle.dwc_base.specs.Functions.{Function}
 use Rattle.dwc_base.specs.Compiled.{ToldModule}
@@ -51,23 +53,27 @@ use Rattle.dwc_carry.specs.MadeUnits.{IsMadeOf}
 use Rattle.dwc_carry.specs.CarriedUnits.{IsUnitOf, wanted_of, refusals_of}
 use Rattle.dwc_carry.proofs.RefusalLaws.{unmapped, reading-more, first-behind}
 use Rattle.dwc_carry.proofs.CauseLaws.{clone-told}
-use Rattle.dwc_carry.proofs.PlaceLaws.{goal-places}
+use Rattle.dwc_carry.proofs.PlaceLaws.{goal-place}
 use Rattle.dwc_carry.proofs.LinesNamed.{tree_says, has_lines, tree-names, root-says}
 use Rattle.dwc_carry.proofs.UnitSources.{read_of, unit-in, unit-is, picked-are, clonable, first-root}
 
--- ---- what trees say where goals are at the same places
+-- ---- what trees say where their goals are at the same places
 
-value-same : (p q : Goal → Option (ℕ × ℕ)) → ((g : Goal) → p g ≡ q g) → (v : DraftValue) → settled_value p v ≡ settled_value q v
-value-same p q same (done v) = refl
-value-same p q same (goes_to g) = ap (option_map (λ (x : ℕ × ℕ). entry x.0 x.1)) (same g)
+-- a goal is at the same place by both
+abbrev Agrees : (Goal → Option (ℕ × ℕ)) → (Goal → Option (ℕ × ℕ)) → Goal → Type 0
+Agrees p q g = p g ≡ q g
 
-attributes-same : (p q : Goal → Option (ℕ × ℕ)) → ((g : Goal) → p g ≡ q g) → (xs : List (ℕ × DraftValue)) → filter_map (settled p) xs ≡ filter_map (settled q) xs
-attributes-same p q same [] = refl
-attributes-same p q same (x ∷ xs) = ap₂ (λ (o : Option TreeValue) (ys : List (ℕ × TreeValue)). cons_option (option_map (λ v. (x.0, v)) o) ys) (value-same p q same x.1) (attributes-same p q same xs)
+attribute-same : (p q : Goal → Option (ℕ × ℕ)) (name : ℕ) (v : DraftValue) → SaysNoPlace (Agrees p q) (name, v) → settled p (name, v) ≡ settled q (name, v)
+attribute-same p q name (done v) same = refl
+attribute-same p q name (goes_to g) same = ap (λ (o : Option (ℕ × ℕ)). option_map (λ (v : TreeValue). (name, v)) (option_map (λ (x : ℕ × ℕ). entry x.0 x.1) o)) same
 
-unit-same : (p q : Goal → Option (ℕ × ℕ)) → ((g : Goal) → p g ≡ q g) → (ds : List Draft) → settled_unit p ds ≡ settled_unit q ds
-unit-same p q same [] = refl
-unit-same p q same (d ∷ ds) = ap₂ (λ (as' : List (ℕ × TreeValue)) (es : Tree). record { depth = d.depth; tag = d.tag; attributes = set_in_order as' } ∷ es) (attributes-same p q same d.attributes) (unit-same p q same ds)
+attributes-same : (p q : Goal → Option (ℕ × ℕ)) (xs : List (ℕ × DraftValue)) → Each (SaysNoPlace (Agrees p q)) xs → filter_map (settled p) xs ≡ filter_map (settled q) xs
+attributes-same p q [] same = refl
+attributes-same p q (x ∷ xs) same = ap₂ (λ (o : Option (ℕ × TreeValue)) (ys : List (ℕ × TreeValue)). cons_option o ys) (attribute-same p q x.0 x.1 same.0) (attributes-same p q xs same.1)
+
+unit-same : (p q : Goal → Option (ℕ × ℕ)) (ds : List Draft) → UnitSaysNoPlace (Agrees p q) ds → settled_unit p ds ≡ settled_unit q ds
+unit-same p q [] same = refl
+unit-same p q (d ∷ ds) same = ap₂ (λ (as' : List (ℕ × TreeValue)) (es : Tree). record { depth = d.depth; tag = d.tag; attributes = set_in_order as' } ∷ es) (attributes-same p q d.attributes same.0) (unit-same p q ds same.1)
 
 -- ---- the line table that a root names
 
@@ -219,7 +225,8 @@ module _ (registers : Registers) (k : CloneSource) (compile : Bool) (table : Opt
   wanted-is =
       ap (λ es'. settled_unit (goal_place k.places.now) (unit_drafts (clone_rules registers k (source_of (kept_of c) u)) (source_of (kept_of c) u) k.big_endian es')) entries-are
       ∙ ap (λ rules. settled_unit (goal_place k.places.now) (unit_drafts rules (source_of (kept_of c) u) k.big_endian (kept_in (kept_of c) u))) rules-are
-      ∙ unit-same (goal_place k.places.now) (place_of_goal first (module_drafts k.big_endian c)) (λ g. ap (λ ps. goal_place ps g) of.places_are ∙ goal-places c m (of.module_is).is k.big_endian first g) (unit_drafts (rules_of c u) (source_of (kept_of c) u) k.big_endian (kept_in (kept_of c) u))
+      ∙ unit-same (goal_place k.places.now) (place_of_goal first (module_drafts k.big_endian c)) (unit_drafts (rules_of c u) (source_of (kept_of c) u) k.big_endian (kept_in (kept_of c) u))
+      (unit-no-place (Agrees (goal_place k.places.now) (place_of_goal first (module_drafts k.big_endian c))) (λ offset. ap (λ ps. goal_place ps (made_of offset itself)) of.places_are ∙ goal-place c m (of.module_is).is k.big_endian first offset) c u (source_of (kept_of c) u) k.big_endian (kept_in (kept_of c) u))
 
   kept-refused : clone_refusals registers k (source_of (kept_of c) u) es ≡ kept_refusals (rules_of c) (kept_of c) u
   unfolding kept_refusals
@@ -266,12 +273,15 @@ module _ (registers : Registers) (k : CloneSource) (compile : Bool) (table : Opt
         ∙ known.sized
         ∙ sym (ap (λ (g : GivenLines). is_some g.address_size) cloned.lines)
 
-    pub made-of : IsMadeOf size new number (record { module_of = c; unit = u }) (wanted_of k.big_endian c first u) made
+    pub made-of : IsMadeOf size new number (carried_unit (record { module_of = c; unit = u })) (wanted_of k.big_endian c first u) made
     unfolding segments_of_unit
     made-of = record {
-      input = segments_of known.t;
-      input_read = ap (λ x. x >>= λ t. Ok (segments_of t)) known.is_read;
-      images = subst (λ g. AllZip (IsImageOf c.functions) (filter (is_carried_segment c.functions) (segments_of known.t)) (given_segments g)) (sym cloned.lines) known.images;
+      has_lines = record {
+        input = segments_of known.t;
+        input_read = ap (λ x. x >>= λ t. Ok (segments_of t)) known.is_read;
+        images = subst (λ g. AllZip (IsImageOf c.functions) (filter (is_carried_segment c.functions) (segments_of known.t)) (given_segments g)) (sym cloned.lines) known.images;
+        widest = subst (λ (g : GivenLines). widest_table_for g.address_size g ≤ widest_table c.functions (table_of_unit c.sections u)) (sym cloned.lines) (subst (λ t. widest_table_for begun.lines.address_size begun.lines ≤ widest_table c.functions t) (sym known.is_read) known.widest);
+      };
       depths = depths_of es;
       order = cloned.order;
       says = cloned.says ∙ wanted-is;
@@ -281,7 +291,6 @@ module _ (registers : Registers) (k : CloneSource) (compile : Bool) (table : Opt
         ended = ap (λ (g : GivenLines). g.begun) cloned.lines ∙ known.ended;
         named = names;
       };
-      widest = subst (λ (g : GivenLines). widest_table_for g.address_size g ≤ widest_table c.functions (table_of_unit c.sections u)) (sym cloned.lines) (subst (λ t. widest_table_for begun.lines.address_size begun.lines ≤ widest_table c.functions t) (sym known.is_read) known.widest);
     }
 
     pub accepted : option_map in_reading (lines_refusal k.unit.now.sections h table) ≡ None → option_map in_reading (first_of (refusals_of c u)) ≡ None

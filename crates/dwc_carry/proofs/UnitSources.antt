@@ -217,8 +217,8 @@ module _ (k : CloneSource) (compile : Bool) (table : Option ℕ) (told : ToldMod
   lists-are : AreEntryOffsets (kept_of c) (emitted m.kept m.units.items)
   lists-are = subst (AreEntryOffsets (kept_of c)) (sym (emitted-carried m.kept m.units.items)) (read-lists c m is (filter (is_carried_read m.kept) m.units.items))
 
-  place-is : (o : ℕ) → place_of k.places.now o ≡ place_among (λ j. j == o) first (emitted m.kept m.units.items)
-  place-is o = ap (λ ps. place_of ps o) of.places_are ∙ lists-among first (emitted m.kept m.units.items) o
+  place-is : (o : ℕ) → place_of k.places.now o ≡ place_among (λ j. j == o) (suc first) (emitted m.kept m.units.items)
+  place-is o = ap (λ ps. place_of ps o) of.places_are ∙ lists-among (suc first) (emitted m.kept m.units.items) o
 
   pub source-is : AreFiles k.files k.unit.now.header.version (source_of (kept_of c) unit_of).table → IsSource k number (source_of (kept_of c) unit_of)
   unfolding source_of kept_module
@@ -227,9 +227,9 @@ module _ (k : CloneSource) (compile : Bool) (table : Option ℕ) (told : ToldMod
     texts = ap (λ s. texts_of_unit s k.unit.now.header) (sym unit-is.sections);
     files = files;
     targets = λ e v own.
-        option-same (λ (f : Placed). place_of k.places.now f.entry.offset) (λ f. place_among (λ j. j == f.entry.offset) first (emitted m.kept m.units.items)) (target_of (kept_of c).entries e v) (λ f. place-is f.entry.offset)
-        ∙ read-reference c m is (read_of k compile table) unit-in (emitted m.kept m.units.items) lists-are first e own v
-        ∙ option-same (λ offset. place_among (λ j. j == offset) first (emitted m.kept m.units.items)) (place_of k.places.now) (named_offset k.unit.now.header.offset k.unit.now.header.end v) (λ offset. sym (place-is offset));
+        option-same (λ (f : Placed). place_of k.places.now f.entry.offset) (λ f. place_among (λ j. j == f.entry.offset) (suc first) (emitted m.kept m.units.items)) (target_of (kept_of c).entries e v) (λ f. place-is f.entry.offset)
+        ∙ read-reference c m is (read_of k compile table) unit-in (emitted m.kept m.units.items) lists-are (suc first) e own v
+        ∙ option-same (λ offset. place_among (λ j. j == offset) (suc first) (emitted m.kept m.units.items)) (place_of k.places.now) (named_offset k.unit.now.header.offset k.unit.now.header.end v) (λ offset. sym (place-is offset));
     own = of.own;
   }
 

@@ -1,5 +1,5 @@
 -- What is made of the modules of an input.
-use Rattle.std.specs.Prelude.{◌≡◌, ℕ, List, [], ◌∷◌, ◌++◌, map, length, Bool, None, Result, All}
+use Rattle.std.specs.Prelude.{◌≡◌, ℕ, List, ◌++◌, map, length, Bool, None, Result, All}
 use Rattle.std.specs.List.{flat_map}
 use Rattle.dwc_base.specs.declared.wasm.ModuleTranslation.{ModuleTranslation}
 use Rattle.dwc_base.specs.Translations.{translation_sections}
@@ -8,31 +8,42 @@ use Rattle.dwc_base.specs.Compiled.{ToldModule}
 use Rattle.dwc_base.specs.Carried.{units, Module}
 use Rattle.dwc_base.specs.Refusals.{first_of}
 use Rattle.dwc_base.specs.DraftForests.{trees_from}
-use Rattle.dwc_base.specs.Forests.{carried_units_of, module_refusals, module_drafts}
+use Rattle.dwc_base.specs.Forests.{wanted_units_of, reading_refusals, module_refusals, module_drafts}
 use Rattle.dwc_write.specs.declared.units.Dwarf.{Dwarf}
 use Rattle.dwc_write.specs.GivenUnits.{GivenUnit}
 use Rattle.dwc_clone.specs.MadeValues.{Grows}
 use Rattle.dwc_carry.specs.declared.error.DebugError.{DebugError}
 use Rattle.dwc_carry.specs.Refusals.{ReadsOr}
 use Rattle.dwc_carry.specs.MadeUnits.{AreMadeOf}
+use Rattle.dwc_carry.specs.CarriedUnits.{AddsUnits}
 
 -- a module, with the functions that its transform keeps and what is told of it
 abbrev pub transformed_module : ModuleTranslation → List Function → ToldModule → Module
 transformed_module t fs told = record { sections = translation_sections t; functions = fs; told = told; compressed = t.compressed }
 
--- Units are added that are made of the carried units of modules, whose units are read to their ends, and that are to say the trees of
--- these; the table of texts has grown.
+-- ---- what is read of a module
+
+-- Units are added that carry the units of a module, whose units are read to their ends, behind its own unit, which has a number; the
+-- table of texts has grown.
+pub record AddsCarried (size : ℕ) (big_endian : Bool) (m : Module) (own : ℕ) (old new : Dwarf) : Type 0 where
+  pub units_added : AddsUnits size big_endian m own old new
+  pub whole : (units m.sections).fault ≡ None
+
+-- They are added, or the first refusal is answered.
+abbrev pub GivesCarried : ℕ → Bool → Module → ℕ → Dwarf → Dwarf → Result (Unit {0}) DebugError → Type 0
+GivesCarried size big_endian m own old new result = ReadsOr (λ done. AddsCarried size big_endian m own old new) (first_of (reading_refusals m)) result
+
+-- ---- modules
+
+-- Units are added that are made for modules, whose units are read to their ends, and that are to say the trees of these; the table of
+-- texts has grown.
 pub record AddsModules (size : ℕ) (big_endian : Bool) (ms : List Module) (old new : List GivenUnit) (before after : List (List ℕ)) : Type 0 where
   pub made : List GivenUnit
   pub added : new ≡ old ++ made
   pub grows : Grows before after
-  pub each : AreMadeOf size after (length old) (flat_map carried_units_of ms) (trees_from (length old) (map (module_drafts big_endian) ms)) made
+  pub each : AreMadeOf size after (length old) (flat_map wanted_units_of ms) (trees_from (length old) (map (module_drafts big_endian) ms)) made
   pub whole : All (λ m. (units m.sections).fault ≡ None) ms
 
 -- They are added, or the first refusal is answered.
 abbrev pub GivesModules : ℕ → Bool → List Module → Dwarf → Dwarf → Result (Unit {0}) DebugError → Type 0
 GivesModules size big_endian ms old new result = ReadsOr (λ done. AddsModules size big_endian ms old.units.units.items new.units.units.items old.strings new.strings) (first_of (flat_map module_refusals ms)) result
-
--- the same of one module
-abbrev pub GivesModule : ℕ → Bool → Module → Dwarf → Dwarf → Result (Unit {0}) DebugError → Type 0
-GivesModule size big_endian m old new result = GivesModules size big_endian (m ∷ []) old new result

@@ -1,10 +1,10 @@
 -- The units of the output that carry those of a module.
-use Rattle.std.specs.Prelude.{◌≡◌, ℕ, ◌≤◌, ◌<◌, List, [], ◌∷◌, ◌++◌, map, length, Bool, Some, Option, Result, Contains, All}
+use Rattle.std.specs.Prelude.{◌≡◌, ℕ, suc, ◌≤◌, ◌<◌, List, [], ◌∷◌, ◌++◌, map, length, Bool, Some, Option, Result, Contains, All}
 use Rattle.std.specs.List.{flat_map}
 use Rattle.dwc_base.specs.declared.section_name.SectionName.TheVariants.{Info}
 use Rattle.dwc_base.specs.Functions.{Function}
 use Rattle.dwc_base.specs.Compiled.{ToldModule}
-use Rattle.dwc_base.specs.Carried.{Unit, Module}
+use Rattle.dwc_base.specs.Carried.{Unit, Module, carried_unit}
 use Rattle.dwc_base.specs.Refusals.{Refusal, unit_refusal, first_of}
 use Rattle.dwc_base.specs.KeptModules.{carried_in, kept_in}
 use Rattle.dwc_base.specs.CarriedDrafts.{source_of, unit_drafts}
@@ -46,20 +46,20 @@ pub record HasModule (fs : List Function) (told : ToldModule) (m : KeptModule) :
 abbrev pub refusals_of : Module → Unit → List Refusal
 refusals_of c u = unit_refusals (unit_refusal c.sections) (rules_of c) (kept_of c) u
 
--- what its unit of the output is to say, where the first unit of the module has a number there
+-- what its unit of the output is to say, where the module's own unit, the first of the module, has a number there
 abbrev pub wanted_of : Bool → Module → ℕ → Unit → Tree
 wanted_of big_endian c first u = settled_unit (place_of_goal first (module_drafts big_endian c)) (unit_drafts (rules_of c u) (source_of (kept_of c) u) big_endian (kept_in (kept_of c) u))
 
 -- ---- one unit
 
--- A unit that was read is one of a module, some offsets are those of its kept entries, and places are those of the module, where the unit's
--- entries stand in the unit of a number.
+-- A unit that was read is one of a module, some offsets are those of its kept entries, and places are those of the module, behind its own
+-- unit, where the unit's entries stand in the unit of a number.
 pub record IsUnitOf (c : Module) (fs : List Function) (told : ToldModule) (m : KeptModule) (first number : ℕ) (places : List EmittedEntry) (kept : List ℕ) (r : ReadUnit) : Type 0 where
   pub module_is : IsOfModule c fs told m
   pub one : Contains m.units.items r
   pub offsets : kept ≡ carried_offsets m.kept r
   pub some : 0 < length kept
-  pub places_are : places ≡ numbered_lists first (emitted m.kept m.units.items)
+  pub places_are : places ≡ numbered_lists (suc first) (emitted m.kept m.units.items)
   pub own : (offset : ℕ) (p : ℕ × ℕ) → r.unit.header.offset ≤ offset → offset < r.unit.header.end → place_of places offset ≡ Some p → p.0 ≡ number
 
 -- A unit is added that carries it, and the table of texts has grown.
@@ -67,7 +67,7 @@ pub record AddsUnit (size : ℕ) (big_endian : Bool) (c : Module) (first : ℕ) 
   pub made : GivenUnit
   pub added : new.units.units.items ≡ old.units.units.items ++ made ∷ []
   pub grows : Grows old.strings new.strings
-  pub is : IsMadeOf size new.strings (length old.units.units.items) (record { module_of = c; unit = u }) (wanted_of big_endian c first u) made
+  pub is : IsMadeOf size new.strings (length old.units.units.items) (carried_unit (record { module_of = c; unit = u })) (wanted_of big_endian c first u) made
 
 -- It is added, and the line table that was carried last is known; or the first refusal is answered.
 abbrev pub GivesUnit : ℕ → Bool → Module → ℕ → Unit → Dwarf → Dwarf → Result (Option LastLines) DebugError → Type 0
@@ -77,12 +77,12 @@ GivesUnit size big_endian c first u old new result =
 -- ---- all of a module
 
 -- Units are added that carry the carried units of a module, one to one and in order, and the table of texts has grown.
-pub record AddsUnits (size : ℕ) (big_endian : Bool) (c : Module) (old new : Dwarf) : Type 0 where
+pub record AddsUnits (size : ℕ) (big_endian : Bool) (c : Module) (first : ℕ) (old new : Dwarf) : Type 0 where
   pub made : List GivenUnit
   pub added : new.units.units.items ≡ old.units.units.items ++ made
   pub grows : Grows old.strings new.strings
-  pub each : AreMadeOf size new.strings (length old.units.units.items) (carried_units_of c) (map (wanted_of big_endian c (length old.units.units.items)) (carried_in (kept_of c))) made
+  pub each : AreMadeOf size new.strings (length old.units.units.items) (map carried_unit (carried_units_of c)) (map (wanted_of big_endian c first) (carried_in (kept_of c))) made
 
 -- They are added, or the first refusal is answered.
-abbrev pub GivesUnits : ℕ → Bool → Module → Dwarf → Dwarf → Result (Prim.Unit {0}) DebugError → Type 0
-GivesUnits size big_endian c old new result = ReadsOr (λ done. AddsUnits size big_endian c old new) (first_of (flat_map (refusals_of c) (carried_in (kept_of c)))) result
+abbrev pub GivesUnits : ℕ → Bool → Module → ℕ → Dwarf → Dwarf → Result (Prim.Unit {0}) DebugError → Type 0
+GivesUnits size big_endian c first old new result = ReadsOr (λ done. AddsUnits size big_endian c first old new) (first_of (flat_map (refusals_of c) (carried_in (kept_of c)))) result

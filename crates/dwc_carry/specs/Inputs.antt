@@ -7,7 +7,7 @@ use Rattle.dwc_base.specs.declared.wasm.ModuleTranslation.{ModuleTranslation}
 use Rattle.dwc_base.specs.Translations.{translation_sections}
 use Rattle.dwc_base.specs.Functions.{Function, functions_of}
 use Rattle.dwc_base.specs.Carried.{Module, Compilation}
-use Rattle.dwc_base.specs.Compiled.{ToldModule}
+use Rattle.dwc_base.specs.Compiled.{LinkageNames, ToldModule}
 use Rattle.dwc_base.specs.Forests.{first_refusal}
 use Rattle.dwc_clif.specs.AddressMaps.{address_map_view}
 use Rattle.dwc_clif.specs.Registers.{Registers}
@@ -19,11 +19,11 @@ use Rattle.dwc_clone.specs.CompiledModules.{told_module}
 use Rattle.dwc_carry.specs.Refusals.{InputRefusal, bad_address_map, in_reading}
 
 -- what is told of the modules from a place on beside their sections and address maps, whose functions are numbered over all of them from
--- a number on: where their functions' values lie, and where their memories are found, for a target that numbers registers
-abbrev pub told_from : Registers → ℕ → ℕ → List (List Compiled) → List ModuleMemoryOffset → List ToldModule
-told_from registers place number [] offsets = []
-told_from registers place number (fs ∷ fss) [] = []
-told_from registers place number (fs ∷ fss) (offset ∷ offsets) = told_module place number fs offset registers ∷ told_from registers (suc place) (number + length fs) fss offsets
+-- a number on: where their functions' values lie, and where their memories are found, for a target that numbers registers, and names
+abbrev pub told_from : Registers → LinkageNames → ℕ → ℕ → List (List Compiled) → List ModuleMemoryOffset → List ToldModule
+told_from registers names place number [] offsets = []
+told_from registers names place number (fs ∷ fss) [] = []
+told_from registers names place number (fs ∷ fss) (offset ∷ offsets) = told_module place number fs offset registers names ∷ told_from registers names (suc place) (number + length fs) fss offsets
 
 -- a module of a translation and of the functions compiled from it, of which the first has a number, with what is told of it
 abbrev pub module_view : ℕ → ModuleTranslation → List Compiled → ToldModule → Module
@@ -42,9 +42,13 @@ functions_from number [] fss = []
 functions_from number (t ∷ ts) [] = []
 functions_from number (t ∷ ts) (fs ∷ fss) = functions_of t.code_section_offset number (map address_map_view fs) ∷ functions_from (number + length fs) ts fss
 
+-- the names of functions of the run time, of a compilation
+abbrev pub names_of : CompilationValue → LinkageNames
+names_of c = record { set_memory = c.set_memory; resolve_memory = c.resolve_memory }
+
 -- the modules of a compilation
 abbrev pub modules_of : Registers → CompilationValue → List Module
-modules_of registers c = modules_from 0 c.translations c.functions (told_from registers 0 0 c.functions c.memory_offsets)
+modules_of registers c = modules_from 0 c.translations c.functions (told_from registers (names_of c) 0 0 c.functions c.memory_offsets)
 
 -- the input of a compilation for a target of a byte order, an address size, and numbers of registers
 abbrev pub input_of : Endian → ℕ → Registers → CompilationValue → Compilation

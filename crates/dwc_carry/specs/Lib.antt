@@ -1,6 +1,9 @@
 pub mod Refusals
 pub mod ResolvedEntries
 pub mod MadeUnits
+pub mod MadeEntries
+pub mod OwnAdditions
+pub mod OwnUnits
 pub mod UnitPrograms
 pub mod LastLines
 pub mod ModulePlaces

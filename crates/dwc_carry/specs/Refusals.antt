@@ -3,8 +3,8 @@ use Rattle.std.specs.Prelude.{◌≡◌, ℕ, Option, Some, None, option_map, Re
 use Rattle.dwc_base.specs.Sections.{unreadable, unsupported}
 use Rattle.dwc_base.specs.declared.records.MapFault.{MapFault}
 use Rattle.dwc_base.specs.declared.faults.Limit.{Limit}
-use Rattle.dwc_base.specs.declared.faults.Limit.TheVariants.{Section, Addend, Range, Jump, Expression}
-use Rattle.dwc_base.specs.Refusals.{Refusal, of_place, missing_file, long_function, long_range, bad_label, lacks_memory, unmapped_register, long_jump}
+use Rattle.dwc_base.specs.declared.faults.Limit.TheVariants.{Section, Addend, Range, Jump, Expression, Vmctx}
+use Rattle.dwc_base.specs.Refusals.{Refusal, of_place, missing_file, long_function, long_range, bad_label, lacks_memory, unmapped_register, long_jump, far_memory}
 use Rattle.dwc_read.specs.declared.fault.ReadFault.{ReadFault}
 use Rattle.dwc_read.specs.declared.fault.ReadFault.TheVariants as read
 use Rattle.dwc_addr.specs.declared.error.AddrError.{AddrError}
@@ -78,6 +78,7 @@ told (TooLarge Addend) = refused (in_reading long_function)
 told (TooLarge Range) = refused (in_reading long_range)
 told (TooLarge Jump) = refused (in_reading long_jump)
 told (TooLarge Expression) = limit Expression
+told (TooLarge Vmctx) = refused (in_reading far_memory)
 told OutOfMemory = memory
 
 -- What is told is the refusal of an input, if there is one; a limit, where nothing is refused and the output passes that limit; or want

@@ -11,7 +11,7 @@ use Rattle.dwc_clif.specs.Registers.{Registers}
 use Rattle.dwc_addr.specs.declared.transform.AddressTransform.{AddressTransform}
 use Rattle.dwc_addr.specs.Compilations.{CompilationValue}
 use Rattle.dwc_write.specs.declared.units.Dwarf.{Dwarf}
-use Rattle.dwc_base.specs.Forests.{carried_units, trees_made, forest}
+use Rattle.dwc_base.specs.Forests.{wanted_units, trees_made, forest}
 use Rattle.dwc_base.specs.TreeLaws.{HasAllTargets}
 use Rattle.dwc_write.specs.UsedTexts.{HaveTexts}
 use Rattle.dwc_write.specs.GivenTrees.{given_trees}
@@ -34,10 +34,10 @@ have_long fss = list_any (list_any is_long) fss
 abbrev pub lengths_checked : List (List Function) → Result (Prim.Unit {0}) DebugError
 lengths_checked fss = if have_long fss then Err (TooLarge Addend) else Ok tt
 
--- Units that are made of all carried units of an input, whose modules are read to their ends, and that say the trees of its forest with
+-- Units that are made as they are wanted for an input, whose modules are read to their ends, and that say the trees of its forest with
 -- a table of texts, which has all that they name.
 pub record IsTransformed (size : ℕ) (c : Compilation) (table : List (List ℕ)) (us : List GivenUnit) : Type 0 where
-  pub made : AreMadeOf size table 0 (carried_units c) (trees_made c) us
+  pub made : AreMadeOf size table 0 (wanted_units c) (trees_made c) us
   pub whole : All (λ m. (units m.sections).fault ≡ None) c.modules
   pub texts : HaveTexts table (map ordered us)
   pub trees : forest c ≡ Ok (given_trees table (map ordered us))

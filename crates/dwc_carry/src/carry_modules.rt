@@ -1,18 +1,18 @@
 //! The units of the output, from the modules of an input.
-ghost use Rattle.std.specs.Prelude.{◌≡◌, ◌⊎◌, ◌<◌, All};
+ghost use Rattle.std.specs.Prelude.{◌≡◌, ◌⊎◌, ◌<◌, ℕ, suc, length, All};
 ghost use Rattle.dwc_base.specs.declared.section_name.SectionName.TheVariants.{Info};
 ghost use Rattle.dwc_base.specs.Addends.{HaveAddends};
 ghost use Rattle.dwc_base.specs.Translations.{translation_sections};
 ghost use Rattle.dwc_image.specs.CarriedLines.{AreKept};
 ghost use Rattle.dwc_clone.specs.CompiledModules.{told_by, HasFrames};
-ghost use Rattle.dwc_carry.specs.CarriedModules.{transformed_module, GivesModule, GivesModules};
+ghost use Rattle.dwc_carry.specs.CarriedModules.{transformed_module, GivesCarried, GivesModules};
 ghost use Rattle.dwc_carry.specs.Inputs.{functions_from, modules_of};
 
-use crate::DebugError;
 use crate::carry_units::carry_units;
 use crate::compiled_module::compiled_module;
 use crate::module_places::module_places;
 use crate::output_form::OutputForm;
+use crate::{DebugError, ModuleSyntheticUnit};
 use dwc_addr::{AddressTransform, Compilation};
 use dwc_base::{Kind, ModuleTranslation, SectionName, StaticModuleIndex};
 use dwc_clif::TargetIsa;
@@ -32,8 +32,8 @@ fn sections_of<'d>(translation: &ModuleTranslation<'d>) -> Sections<'d>
     sections
 }
 
-// Adds the units of the output that carry those of a module: its entries are read once to find those that are kept, and once more, unit
-// by unit, to be cloned.
+// Adds the units of the output that carry those of a module, behind its own: its entries are read once to find those that are kept, and
+// once more, unit by unit, to be cloned.
 fn carry_module(
     alloc: Global,
     isa: &dyn TargetIsa,
@@ -48,7 +48,8 @@ fn carry_module(
     requires functions { AreKept transform.now }
     requires addends { HaveAddends transform.now }
     requires frames { HasFrames compiled.now transform.now }
-    ensures { GivesModule form.encoding.address_size form.big_endian (transformed_module translation.now transform.now (told_by (dwarf_registers isa.now) compiled.now)) dwarf.old dwarf.new result }
+    requires behind { 0 < length dwarf.old.units.units.items }
+    ensures { (own : ℕ) → length dwarf.old.units.units.items ≡ suc own → GivesCarried form.encoding.address_size form.big_endian (transformed_module translation.now transform.now (told_by (dwarf_registers isa.now) compiled.now)) own dwarf.old dwarf.new result }
 {
     if let Some(offset) = translation.compressed {
         return Err(DebugError::Unsupported {
@@ -63,7 +64,8 @@ fn carry_module(
     )
 }
 
-/// Adds the units of the output that carry those of the modules of a compilation, in order, each module with its transform.
+/// Adds the units of the output that are made for the modules of a compilation, in order, each module with its transform: of each its
+/// own, and those that carry its units.
 ///
 /// # Errors
 /// The first refusal of a module, in order. `OutOfMemory` for want of memory.
@@ -84,17 +86,19 @@ pub(crate) fn carry_modules(
 {
     let translations = compilation.translations();
     for i in 0..translations.len() {
-        let compiled = compiled_module(compilation, StaticModuleIndex(i as u32));
+        let module = StaticModuleIndex(i as u32);
+        let compiled = compiled_module(compilation, module);
+        let translation = &translations[i];
         let transform = &transforms[i];
-        carry_module(
+        ModuleSyntheticUnit::new(
             alloc,
-            isa,
-            &translations[i],
-            transform,
-            &compiled,
-            form,
-            dwarf,
+            module,
+            compilation,
+            form.encoding,
+            &mut dwarf.units,
+            &mut dwarf.strings,
         )?;
+        carry_module(alloc, isa, translation, transform, &compiled, form, dwarf)?;
     }
     Ok(())
 }

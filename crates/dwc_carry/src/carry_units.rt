@@ -1,5 +1,5 @@
 //! The units of the output, from those of a module.
-ghost use Rattle.std.specs.Prelude.{◌≡◌, ◌⊎◌, ℕ, length, All};
+ghost use Rattle.std.specs.Prelude.{◌≡◌, ◌<◌, ◌⊎◌, ℕ, suc, length, All};
 ghost use Rattle.dwc_base.specs.Addends.{HaveAddends};
 ghost use Rattle.dwc_base.specs.Carried.{Module};
 ghost use Rattle.dwc_base.specs.Entries.{entries as entries_of};
@@ -72,7 +72,7 @@ fn carry_unit(
     Ok(last_after(read, files, id, last))
 }
 
-/// Adds the units of the output that carry those of a module, in order; those that are not carried have none. A line table that units
+/// Adds the units of the output that carry those of a module, in order, behind its own; those that are not carried have none. A line table that units
 /// behind one another name is read and carried once, and so is a text, whichever units name it.
 ///
 /// # Errors
@@ -94,8 +94,9 @@ pub(crate) fn carry_units(
     requires addends { HaveAddends transform.now }
     requires frames { HasFrames compiled.now transform.now }
     requires read { HasModule transform.now (told_by (dwarf_registers isa.now) compiled.now) read_module.now }
+    requires behind { 0 < length dwarf.old.units.units.items }
     requires places { places.now ≡ numbered_lists (length dwarf.old.units.units.items) (emitted read_module.now.kept read_module.now.units.items) }
-    ensures { (c : Module) → IsOfModule c transform.now (told_by (dwarf_registers isa.now) compiled.now) read_module.now → GivesUnits form.encoding.address_size form.big_endian c dwarf.old dwarf.new result }
+    ensures { (c : Module) (own : ℕ) → length dwarf.old.units.units.items ≡ suc own → IsOfModule c transform.now (told_by (dwarf_registers isa.now) compiled.now) read_module.now → GivesUnits form.encoding.address_size form.big_endian c own dwarf.old dwarf.new result }
 {
     let mut last = None;
     let mut known = KnownTexts::new(alloc);

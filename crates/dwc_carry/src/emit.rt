@@ -17,8 +17,9 @@ use std::alloc::Global;
 /// `BadAddressMap` exactly where a function's address map breaks a rule: the first module, its first such function, and the
 /// first rule. Where no map does: `TooLarge` `Addend` exactly where a function with a symbol is longer than 2^31 - 1 bytes. Where
 /// none is: `Read`, `Unsupported`, `InvalidFileIndex`, `TooLarge` `Range` for a range whose start plus its length is no address, or
-/// `BadLabelRange`, `InvalidAttributeValue`, `UnmappedRegister` or `TooLarge` `Jump` for an expression that is built over its scope,
-/// exactly where something is refused, for the first place in the order of reading. Where nothing is refused: `TooLarge` `Expression`
+/// `BadLabelRange`, `InvalidAttributeValue`, `UnmappedRegister` or `TooLarge` `Jump` for an expression that is built over its scope, or
+/// `TooLarge` `Vmctx` for a module whose memory is too far behind in its context,
+/// exactly where something is refused, for the first in the order of the work, module by module. Where nothing is refused: `TooLarge` `Expression`
 /// exactly where an expression of a location list has more than 65,535 bytes; else `TooLarge` `Section` only for a section that could be
 /// longer than 2^31 - 1 bytes, each of its numbers at its widest. `OutOfMemory` for want of memory.
 pub fn emit_dwarf(

@@ -56,7 +56,8 @@ pub enum DebugError {
         register: Reg,
     },
     /// A section would be longer than it can be; a function with a symbol is longer than an addend can say; a range of the input ends
-    /// where no address is; a jump of an expression goes further than it can; or an expression of a location list is too long.
+    /// where no address is; a jump of an expression goes further than it can; an expression of a location list is too long; or the linear
+    /// memory of a module is too far behind in its context.
     #[error("TooLarge {limit}{name}", limit = limit_text(*what), name = section_text(*what))]
     TooLarge {
         what: Limit,
@@ -73,6 +74,7 @@ fn limit_text(what: Limit) -> &'static str {
         Limit::Range => "Range",
         Limit::Jump => "Jump",
         Limit::Expression => "Expression",
+        Limit::Vmctx => "Vmctx",
     }
 }
 
@@ -80,7 +82,7 @@ fn limit_text(what: Limit) -> &'static str {
 fn section_text(what: Limit) -> &'static str {
     match what {
         Limit::Section(name) => name.text(),
-        Limit::Addend | Limit::Range | Limit::Jump | Limit::Expression => "",
+        Limit::Addend | Limit::Range | Limit::Jump | Limit::Expression | Limit::Vmctx => "",
     }
 }
 

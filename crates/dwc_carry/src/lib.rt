@@ -11,8 +11,11 @@ mod emit;
 mod error;
 mod last_lines;
 mod lengths;
+mod made_entries;
 mod module_places;
 mod output_form;
+mod own_entries;
+mod synthetic_unit;
 mod transform;
 
 pub use dependencies::build_dependencies;
@@ -20,4 +23,5 @@ pub use die_ref::resolve_die_ref;
 pub use dwc_clone::InheritedAttr;
 pub use emit::emit_dwarf;
 pub use error::DebugError;
+pub use synthetic_unit::ModuleSyntheticUnit;
 pub use transform::transform_dwarf;

@@ -14,15 +14,16 @@ use dwc_clif::TargetIsa;
 use dwc_write::{Dwarf, StringTable, UnitTable};
 use std::alloc::Global;
 
-/// The units of DWARF that carry those of a compilation, for a target: module by module and in order, one for each compile unit
+/// The units of DWARF for a compilation and a target: module by module and in order, the module's own, and one for each compile unit
 /// of which an entry is kept, with an entry for each kept one. The compilation is left as it is.
 ///
 /// # Errors
 /// `BadAddressMap` exactly where a function's address map breaks a rule: the first module, its first such function, and the
 /// first rule. Where no map does: `TooLarge` `Addend` exactly where a function with a symbol is longer than 2^31 - 1 bytes. Where
 /// none is: `Read`, `Unsupported`, `InvalidFileIndex`, `TooLarge` `Range` for a range whose start plus its length is no address, or
-/// `BadLabelRange`, `InvalidAttributeValue`, `UnmappedRegister` or `TooLarge` `Jump` for an expression that is built over its scope,
-/// exactly where something is refused, for the first place in the order of reading. `OutOfMemory` for want of memory.
+/// `BadLabelRange`, `InvalidAttributeValue`, `UnmappedRegister` or `TooLarge` `Jump` for an expression that is built over its scope, or
+/// `TooLarge` `Vmctx` for a module whose memory is too far behind in its context,
+/// exactly where something is refused, for the first in the order of the work, module by module. `OutOfMemory` for want of memory.
 pub fn transform_dwarf(
     alloc: Global,
     isa: &dyn TargetIsa,

@@ -6,8 +6,14 @@ use Rattle.dwc_base.specs.Addends.{HaveAddends}
 use Rattle.dwc_image.specs.CarriedLines.{AreKept}
 use Rattle.dwc_clone.specs.CompiledModules.{told_by}
 use Rattle.dwc_carry.specs.CarriedModules.{transformed_module}
-use Rattle.dwc_carry.specs.Inputs.{modules_of, told_from}
+use Rattle.dwc_carry.specs.Inputs.{names_of, modules_of, told_from}
 use Rattle.dwc_carry.proofs.CompiledLaws.{module-next, modules-length, transforms-inside}
+use Rattle.dwc_write.specs.declared.units.Dwarf.{Dwarf}
+use Rattle.dwc_base.specs.Forests.{own_refusals}
+use Rattle.dwc_base.specs.Refusals.{first_of}
+use Rattle.dwc_carry.specs.Refusals.{RefusesReading}
+use Rattle.dwc_carry.specs.OwnUnits.{memory_at}
+use Rattle.dwc_carry.proofs.OwnModules.{carried-refused, module-both, none-refused, own-counted, own-refused, own-told}
 use Rattle.dwc_carry.proofs.ModuleLoopLaws.{ModulesSoFar, modules-begin, modules-one, modules-done, modules-refused}
 use Rattle.dwc_carry.proofs.carry_modules.carry_modules.Goals as goal
 
@@ -48,6 +54,29 @@ carry_module-requires-clause-frames g c =
     (c.index-translations-i.is ∙ ap (λ ts. get_or ts c.loop-i.i t) c.translations-translations.ensures.translations) c.index-transforms-i.is (c.compiled_module-compiled.ensures.told registers) c.compiled_module-compiled.ensures.frames in
     next.frames
 
+pub returns-in_err-new : goal.returns-in_err-new
+returns-in_err-new g c =
+    let compilation = c.args.compilation.now in
+    let less : c.loop-i.i < length compilation.translations = rw c.translations-translations.ensures.translations at c.loop-i-test.true in
+    let registers = (goal.TargetIsa-dyn g c.args.isa.now).dwarf_registers c.args.isa.now.1 in
+    let t = c.index-translations-i.result in
+    let fs = c.index-transforms-i.result in
+    let compiled = c.compiled_module-compiled.result in
+    let next = module-next registers compilation c.args.transforms.now c.loop-i.i t fs compiled c.translations-translations.ensures.counted less c.requires.transforms
+    (c.index-translations-i.is ∙ ap (λ ts. get_or ts c.loop-i.i t) c.translations-translations.ensures.translations) c.index-transforms-i.is (c.compiled_module-compiled.ensures.told registers) c.compiled_module-compiled.ensures.frames in
+    let ms = modules_of registers compilation in
+    let rest = drop (c.loop-i.i + 1) ms in
+    let m = transformed_module t fs (told_by registers compiled) in
+    let size = c.args.form.encoding.address_size in
+    let big = c.args.form.big_endian in
+    let old = c.args.dwarf.now.units.units.items in
+    let before = c.args.dwarf.now.strings in
+    let new = c.loop-i.dwarf.units.units.items in
+    let texts = c.loop-i.dwarf.strings in
+    let here : ModulesSoFar size big ms old before new texts (m ∷ rest) = subst (λ xs. ModulesSoFar size big ms old before new texts xs) next.left c.loop-i.invariant in
+    let p = err_from_is_err_and c.from_residual.result c.from_residual.ensures.1 in
+    rw (p.1, p.2) (modules-refused size big ms old before new texts m rest c.in_err-new.field-0.0 here (own-refused big m c.in_err-new.field-0.0 (subst (λ x. RefusesReading (first_of (own_refusals x)) c.in_err-new.field-0.0) (sym c.compiled_module-compiled.ensures.memory) c.in_err-new.ensures.added)))
+
 pub returns-in_err-carry_module : goal.returns-in_err-carry_module
 returns-in_err-carry_module g c =
     let compilation = c.args.compilation.now in
@@ -68,8 +97,10 @@ returns-in_err-carry_module g c =
     let new = c.loop-i.dwarf.units.units.items in
     let texts = c.loop-i.dwarf.strings in
     let here : ModulesSoFar size big ms old before new texts (m ∷ rest) = subst (λ xs. ModulesSoFar size big ms old before new texts xs) next.left c.loop-i.invariant in
-    let p = err_from_is_err_and c.from_residual.result c.from_residual.ensures.1 in
-    rw (p.1, p.2) (modules-refused size big ms old before new texts m rest c.in_err-carry_module.field-0.0 here c.in_err-carry_module.ensures)
+    let p = err_from_is_err_and c.from_residual-in_err-carry_module.result c.from_residual-in_err-carry_module.ensures.1 in
+    let middle : Dwarf = record { units = c.new.new.out_units; strings = c.new.new.out_strings } in
+    let own = own-told size compilation.set_memory m.told.names.set_memory (memory_at compilation c.loop-i.i) m.told.memory c.loop-i.dwarf middle c.in_ok-new.field-0 (sym c.compiled_module-compiled.ensures.set_memory) (sym c.compiled_module-compiled.ensures.memory) c.in_ok-new.ensures.added in
+    rw (p.1, p.2) (modules-refused size big ms old before new texts m rest c.in_err-carry_module.field-0.0 here (carried-refused big m own.0 c.in_err-carry_module.field-0.0 (c.in_err-carry_module.ensures (length new) (own-counted big m size c.loop-i.dwarf middle c.in_ok-new.field-0 own.1))))
 
 pub loop-i-preserved : goal.loop-i-preserved
 loop-i-preserved g c =
@@ -91,7 +122,10 @@ loop-i-preserved g c =
     let new = c.loop-i.dwarf.units.units.items in
     let texts = c.loop-i.dwarf.strings in
     let here : ModulesSoFar size big ms old before new texts (m ∷ rest) = subst (λ xs. ModulesSoFar size big ms old before new texts xs) next.left c.loop-i.invariant in
-    modules-one size big ms old before new c.carry_module.new.dwarf.units.units.items texts c.carry_module.new.dwarf.strings m rest here c.in_ok-carry_module.ensures
+    let middle : Dwarf = record { units = c.new.new.out_units; strings = c.new.new.out_strings } in
+    let own = own-told size compilation.set_memory m.told.names.set_memory (memory_at compilation c.loop-i.i) m.told.memory c.loop-i.dwarf middle c.in_ok-new.field-0 (sym c.compiled_module-compiled.ensures.set_memory) (sym c.compiled_module-compiled.ensures.memory) c.in_ok-new.ensures.added in
+    let carried = c.in_ok-carry_module.ensures (length new) (own-counted big m size c.loop-i.dwarf middle c.in_ok-new.field-0 own.1) in
+    modules-one size big ms old before new c.carry_module.new.dwarf.units.units.items texts c.carry_module.new.dwarf.strings m rest here (none-refused big m own.0 carried.0, module-both big m size c.loop-i.dwarf middle c.carry_module.new.dwarf c.in_ok-new.field-0 own.1 carried.1)
 
 pub returns : goal.returns
 returns g c =
@@ -105,5 +139,5 @@ returns g c =
     let new = c.loop-i.dwarf.units.units.items in
     let texts = c.loop-i.dwarf.strings in
     let behind = rw c.translations-translations.ensures.translations at c.loop-i-test.false in
-    let past : length ms ≤ c.loop-i.i = omega (arith, modules-length compilation.translations compilation.functions (told_from registers 0 0 compilation.functions compilation.memory_offsets), behind) in
+    let past : length ms ≤ c.loop-i.i = omega (arith, modules-length compilation.translations compilation.functions (told_from registers (names_of compilation) 0 0 compilation.functions compilation.memory_offsets), behind) in
     modules-done size big ms old before new texts (subst (λ xs. ModulesSoFar size big ms old before new texts xs) (drop_all c.loop-i.i ms past) c.loop-i.invariant)

@@ -1,4 +1,4 @@
-use Rattle.std.proofs.Common.{◌<◌, ◌≤◌, ◌+◌, ◌∷◌, arith, drop, length, sym, subst, refl}
+use Rattle.std.proofs.Common.{◌≡◌, ℕ, suc, ◌<◌, ◌≤◌, ◌+◌, ◌-◌, ◌∷◌, arith, drop, length, sym, subst, refl}
 use Rattle.std.proofs.lemmas.List.{drop_all}
 use Rattle.std.proofs.lemmas.Result.{err_from_is_err_and}
 use Rattle.dwc_base.specs.Carried.{Module}
@@ -7,14 +7,14 @@ use Rattle.dwc_clone.specs.CompiledModules.{told_by}
 use Rattle.dwc_clone.specs.KnownTexts.{KnowsTexts}
 use Rattle.dwc_carry.specs.LastLines.{IsLast}
 use Rattle.dwc_carry.specs.CarriedUnits.{IsOfModule}
-use Rattle.dwc_carry.proofs.UnitLoopLaws.{UnitsSoFar, units-begin, units-done, units-none, units-some, units-refused, refused-all, unit-there, units-left, unit-next, of-itself}
+use Rattle.dwc_carry.proofs.UnitLoopLaws.{UnitsSoFar, units-begin, units-done, units-none, units-some, units-refused, refused-all, unit-there, units-left, unit-next, of-itself, places-behind}
 use Rattle.dwc_carry.proofs.UnitSources.{entries-of-read}
 use Rattle.dwc_carry.proofs.carry_units.carry_units.Goals.{then-kept-gt0+in_ok-last, else-kept-gt0}
 use Rattle.dwc_carry.proofs.carry_units.carry_units.Goals as goal
 
 pub loop-i-init : goal.loop-i-init
 loop-i-init g c = record {
-  added = λ d of. units-begin d c.args.read_module.now c.args.form.encoding.address_size c.args.form.big_endian (length c.args.dwarf.now.units.units.items) c.args.dwarf.now refl (of-itself d c.args.transform.now (told_by ((goal.TargetIsa-dyn g c.args.isa.now).dwarf_registers c.args.isa.now.1) c.args.compiled.now) c.args.read_module.now of);
+  added = λ d own at of. units-begin d c.args.read_module.now c.args.form.encoding.address_size c.args.form.big_endian own c.args.dwarf.now at (of-itself d c.args.transform.now (told_by ((goal.TargetIsa-dyn g c.args.isa.now).dwarf_registers c.args.isa.now.1) c.args.compiled.now) c.args.read_module.now of);
   known = λ d of. tt;
   texts = λ d of. c.new-known.ensures d.sections c.args.dwarf.now.strings;
 }
@@ -48,7 +48,7 @@ carry_unit-requires-clause-read g c =
     entries-of-read c.requires.read.of c.args.transform.now told m r c.requires.read.is (unit-there c.args.transform.now told m c.loop-i.i r less c.index-read.ensures)
 
 pub returns-in_err-last : goal.returns-in_err-last
-returns-in_err-last g c = λ d of.
+returns-in_err-last g c = λ d first at of.
     let told = (told_by ((goal.TargetIsa-dyn g c.args.isa.now).dwarf_registers c.args.isa.now.1) c.args.compiled.now) in
     let m = c.args.read_module.now in
     let r = c.index-read.result.now in
@@ -58,10 +58,9 @@ returns-in_err-last g c = λ d of.
     let old = c.args.dwarf.now in
     let new = c.loop-i.dwarf in
     let less : c.loop-i.i < length m.units.items = omega (arith, c.loop-i-test.true, c.len-i-end.ensures, m.units.ok) in
-    let first = length old.units.units.items in
     let here : UnitsSoFar d m size big first m.units.items old new (r ∷ drop (c.loop-i.i + 1) m.units.items) =
-    subst (UnitsSoFar d m size big first m.units.items old new) (units-left fs told m c.loop-i.i r less c.index-read.ensures) (c.loop-i.invariant.added d of) in
-    let one = unit-next fs told m c.loop-i.i r less c.index-read.ensures d size big first old new c.args.places.now c.carried_entries-kept.result.now of c.carried_entries-kept.ensures c.if-kept-gt0.true c.requires.places here in
+    subst (UnitsSoFar d m size big first m.units.items old new) (units-left fs told m c.loop-i.i r less c.index-read.ensures) (c.loop-i.invariant.added d first at of) in
+    let one = unit-next fs told m c.loop-i.i r less c.index-read.ensures d size big first old new c.args.places.now c.carried_entries-kept.result.now of c.carried_entries-kept.ensures c.if-kept-gt0.true (places-behind m (length old.units.units.items) first c.args.places.now at c.requires.places) here in
     let some = subst (λ xs. 0 < length xs) c.carried_entries-kept.ensures c.if-kept-gt0.true in
     let p = err_from_is_err_and c.from_residual.result c.from_residual.ensures.1 in
     rw (p.1, p.2)
@@ -79,35 +78,34 @@ loop-i-preserved g c =
     let old = c.args.dwarf.now in
     let new = c.loop-i.dwarf in
     let less : c.loop-i.i < length m.units.items = omega (arith, c.loop-i-test.true, c.len-i-end.ensures, m.units.ok) in
-    let first = length old.units.units.items in
+    let before = length old.units.units.items - 1 in
     let rest = drop (c.loop-i.i + 1) m.units.items in
-    let here = λ (d : Module) (of : IsOfModule d fs told m). subst (UnitsSoFar d m size big first m.units.items old new) (units-left fs told m c.loop-i.i r less c.index-read.ensures) (c.loop-i.invariant.added d of) in
-    let one = λ (d : Module) (of : IsOfModule d fs told m) (some : 0 < length c.carried_entries-kept.result.now).
-    unit-next fs told m c.loop-i.i r less c.index-read.ensures d size big first old new c.args.places.now c.carried_entries-kept.result.now of c.carried_entries-kept.ensures some c.requires.places (here d of) in
+    let here = λ (d : Module) (first : ℕ) (at : length old.units.units.items ≡ suc first) (of : IsOfModule d fs told m). subst (UnitsSoFar d m size big first m.units.items old new) (units-left fs told m c.loop-i.i r less c.index-read.ensures) (c.loop-i.invariant.added d first at of) in
+    let one = λ (d : Module) (first : ℕ) (at : length old.units.units.items ≡ suc first) (of : IsOfModule d fs told m) (some : 0 < length c.carried_entries-kept.result.now).
+    unit-next fs told m c.loop-i.i r less c.index-read.ensures d size big first old new c.args.places.now c.carried_entries-kept.result.now of c.carried_entries-kept.ensures some (places-behind m (length old.units.units.items) first c.args.places.now at c.requires.places) (here d first at of) in
     elim c.if-kept-gt0.branch [
       | then-kept-gt0+in_ok-last w ↦
           let some = subst (λ xs. 0 < length xs) c.carried_entries-kept.ensures w.if-kept-gt0.true in
           record {
-            added = λ d of. let given = w.in_ok-last.ensures.added d m first (one d of w.if-kept-gt0.true) in rw w.dwarf-is (units-some d m size big first m.units.items old new r rest (here d of) some w.carry_unit.new.dwarf given.0 given.1.0);
-            known = λ d of. let given = w.in_ok-last.ensures.added d m first (one d of w.if-kept-gt0.true) in
+            added = λ d first at of. let given = w.in_ok-last.ensures.added d m first (one d first at of w.if-kept-gt0.true) in rw w.dwarf-is (units-some d m size big first m.units.items old new r rest (here d first at of) some w.carry_unit.new.dwarf given.0 given.1.0);
+            known = λ d of. let given = w.in_ok-last.ensures.added d m before (one d before (omega (arith, c.requires.behind)) of w.if-kept-gt0.true) in
                 rw (w.dwarf-is, w.last-is) (subst (λ gs. IsLast gs size d.sections w.carry_unit.new.dwarf.units.units.items w.in_ok-last.last) of.functions given.1.1);
             texts = λ d of. rw (w.dwarf-is, w.known-is) (subst (λ s. KnowsTexts s w.carry_unit.new.dwarf.strings w.carry_unit.new.known) (read-unit d m of.is r (unit-there fs told m c.loop-i.i r less c.index-read.ensures)).sections w.in_ok-last.ensures.texts);
           }
       | else-kept-gt0 w ↦ record {
-        added = λ d of. rw w.dwarf-is (units-none d m size big first m.units.items old new r rest (here d of) (subst (λ xs. length xs ≤ 0) c.carried_entries-kept.ensures w.if-kept-gt0.false));
+        added = λ d first at of. rw w.dwarf-is (units-none d m size big first m.units.items old new r rest (here d first at of) (subst (λ xs. length xs ≤ 0) c.carried_entries-kept.ensures w.if-kept-gt0.false));
         known = λ d of. rw (w.dwarf-is, w.last-is) (c.loop-i.invariant.known d of);
         texts = λ d of. rw (w.dwarf-is, w.known-is) (c.loop-i.invariant.texts d of);
       }
     ]
 
 pub returns : goal.returns
-returns g c = λ d of.
+returns g c = λ d first at of.
     let told = (told_by ((goal.TargetIsa-dyn g c.args.isa.now).dwarf_registers c.args.isa.now.1) c.args.compiled.now) in
     let m = c.args.read_module.now in
     let size = c.args.form.encoding.address_size in
     let big = c.args.form.big_endian in
     let old = c.args.dwarf.now in
     let new = c.loop-i.dwarf in
-    let first = length old.units.units.items in
     let past : length m.units.items ≤ c.loop-i.i = omega (arith, c.loop-i-test.false, c.len-i-end.ensures, m.units.ok) in
-    units-done d m size big first m.units.items old new (subst (UnitsSoFar d m size big first m.units.items old new) (drop_all c.loop-i.i m.units.items past) (c.loop-i.invariant.added d of)) refl refl (of-itself d c.args.transform.now told m of)
+    units-done d m size big first m.units.items old new (subst (UnitsSoFar d m size big first m.units.items old new) (drop_all c.loop-i.i m.units.items past) (c.loop-i.invariant.added d first at of)) refl (of-itself d c.args.transform.now told m of)

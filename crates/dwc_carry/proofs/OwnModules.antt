@@ -1,0 +1,114 @@
+-- What is added for a module: its own unit, and those that carry its units.
+use Rattle.std.proofs.Common.{◌≡◌, ℕ, suc, ◌+◌, List, [], ◌∷◌, ◌++◌, map, length, refl, ap, sym, ◌∙◌, subst, arith, Bool, Some, None}
+use Rattle.std.specs.Prelude.{option_map}
+use Rattle.std.specs.List.{flat_map}
+use Rattle.std.proofs.lemmas.List.{append-nil, append_assoc, length-append}
+use Rattle.std.proofs.lemmas.List.Elements.{All-nil, All-cons}
+use Rattle.dwc_base.specs.Carried.{Unit, units, Module, own_unit, carried_unit}
+use Rattle.dwc_base.specs.Compiled.{Memory, no_memory, defined, imported}
+use Rattle.dwc_base.specs.OwnUnits as Own
+use Rattle.dwc_base.specs.Refusals.{Refusal, first_of}
+use Rattle.dwc_base.specs.KeptModules.{carried_in, kept_in}
+use Rattle.dwc_base.specs.CarriedDrafts.{source_of, unit_drafts, carried_drafts}
+use Rattle.dwc_base.specs.DraftForests.{place_of_goal, settled_unit, trees_from}
+use Rattle.dwc_base.specs.Forests.{kept_of, rules_of, carried_units_of, wanted_units_of, own_refusals, reading_refusals, module_refusals, module_drafts}
+use Rattle.dwc_base.specs.Trees.{Tree}
+use Rattle.dwc_write.specs.declared.units.Dwarf.{Dwarf}
+use Rattle.dwc_write.specs.GivenUnits.{GivenUnit}
+use Rattle.dwc_carry.specs.declared.error.DebugError.{DebugError}
+use Rattle.dwc_carry.specs.declared.synthetic_unit.ModuleSyntheticUnit.{ModuleSyntheticUnit}
+use Rattle.dwc_carry.specs.Refusals.{in_reading, RefusesReading}
+use Rattle.dwc_carry.specs.MadeUnits.{IsMadeOf, AreMadeOf}
+use Rattle.dwc_carry.specs.OwnUnits.{own_tree, AddsOwnUnit}
+use Rattle.dwc_carry.specs.CarriedUnits.{wanted_of}
+use Rattle.dwc_carry.specs.CarriedModules.{AddsCarried, AddsModules}
+use Rattle.dwc_carry.proofs.MadeLaws.{grows-twice, made-grown}
+use Rattle.dwc_carry.proofs.RefusalLaws.{first-behind, no-first, reading-more, unmapped}
+
+-- ---- trees
+
+-- the own unit refers to no carried one
+own-settled : (number : ℕ) (set_memory : List ℕ) (m : Memory) (carried : List (List Rattle.dwc_base.specs.Drafts.Draft)) → own_tree number set_memory m ≡ settled_unit (place_of_goal number (record { own = Some (Own.own_unit set_memory m); carried = carried })) (Own.own_unit set_memory m)
+unfolding Own.own_unit
+own-settled number set_memory (defined offset) carried = refl
+own-settled number set_memory no_memory carried = refl
+own-settled number set_memory (imported definition base) carried = refl
+
+-- What is added for a name and a memory is added for what is told of the module.
+pub own-told : (size : ℕ) (name told_name : List ℕ) (m told_memory : Memory) (old middle : Dwarf) (own : ModuleSyntheticUnit) → name ≡ told_name → m ≡ told_memory
+    → (option_map in_reading (first_of (own_refusals m)) ≡ None) × AddsOwnUnit size name m old.units.units.items middle.units.units.items old.strings middle.strings own
+    → (option_map in_reading (first_of (own_refusals told_memory)) ≡ None) × AddsOwnUnit size told_name told_memory old.units.units.items middle.units.units.items old.strings middle.strings own
+own-told size name told_name m told_memory old middle own names memories h = (
+  ap (λ x. option_map in_reading (first_of (own_refusals x))) (sym memories) ∙ h.0,
+  subst (λ n. AddsOwnUnit size n told_memory old.units.units.items middle.units.units.items old.strings middle.strings own) names
+      (subst (λ x. AddsOwnUnit size name x old.units.units.items middle.units.units.items old.strings middle.strings own) memories h.1),
+)
+
+module _ (big_endian : Bool) (m : Module) where
+  carried-trees : (n : ℕ) → map (settled_unit (place_of_goal n (module_drafts big_endian m))) (carried_drafts (rules_of m) big_endian (kept_of m)) ≡ map (wanted_of big_endian m n) (carried_in (kept_of m))
+  unfolding carried_drafts
+  carried-trees n = mapped (carried_in (kept_of m))
+    where
+      mapped : (us : List Unit) → map (settled_unit (place_of_goal n (module_drafts big_endian m))) (map (λ u. unit_drafts (rules_of m u) (source_of (kept_of m) u) big_endian (kept_in (kept_of m) u)) us) ≡ map (wanted_of big_endian m n) us
+      mapped [] = refl
+      mapped (u ∷ us) = ap (λ ts. wanted_of big_endian m n u ∷ ts) (mapped us)
+
+  -- the trees of a module: that of its own unit, and those of its carried ones
+  module-trees : (n : ℕ) → trees_from n (map (module_drafts big_endian) (m ∷ [])) ≡ own_tree n m.told.names.set_memory m.told.memory ∷ map (wanted_of big_endian m n) (carried_in (kept_of m))
+  module-trees n =
+      append-nil _
+      ∙ ap (λ ts. settled_unit (place_of_goal n (module_drafts big_endian m)) (Own.own_unit m.told.names.set_memory m.told.memory) ∷ ts) (carried-trees n)
+      ∙ ap (λ t. t ∷ map (wanted_of big_endian m n) (carried_in (kept_of m))) (sym (own-settled n m.told.names.set_memory m.told.memory (carried_drafts (rules_of m) big_endian (kept_of m))))
+
+  -- ---- what is added
+
+  -- the units that carry those of the module stand behind its own
+  pub own-counted : (size : ℕ) (old middle : Dwarf) (own : ModuleSyntheticUnit) → AddsOwnUnit size m.told.names.set_memory m.told.memory old.units.units.items middle.units.units.items old.strings middle.strings own
+      → length middle.units.units.items ≡ suc (length old.units.units.items)
+  own-counted size old middle own a = ap length a.added ∙ length-append old.units.units.items (a.made ∷ []) ∙ omega arith
+
+  -- A module's own unit is added, and behind it those that carry its units.
+  pub module-both : (size : ℕ) (old middle new : Dwarf) (own : ModuleSyntheticUnit)
+      → AddsOwnUnit size m.told.names.set_memory m.told.memory old.units.units.items middle.units.units.items old.strings middle.strings own → AddsCarried size big_endian m (length old.units.units.items) middle new
+      → AddsModules size big_endian (m ∷ []) old.units.units.items new.units.units.items old.strings new.strings
+  module-both size old middle new own a b =
+      let n = length old.units.units.items in
+      let u = b.units_added in
+      let set_memory = m.told.names.set_memory in
+      let memory = m.told.memory in
+      let tree = own_tree n set_memory memory in
+      let counted = own-counted size old middle own a in
+      let first = made-grown size middle.strings new.strings n (own_unit ∷ []) (tree ∷ []) (a.made ∷ []) u.grows (a.is, tt) in
+      let rest = subst (λ k. AreMadeOf size new.strings k (map carried_unit (carried_units_of m)) (map (wanted_of big_endian m n) (carried_in (kept_of m))) u.made) counted u.each in
+      let both : AreMadeOf size new.strings n (wanted_units_of m) (tree ∷ map (wanted_of big_endian m n) (carried_in (kept_of m))) (a.made ∷ u.made) = (first.0, rest) in
+      record {
+        made = a.made ∷ u.made;
+        added = u.added ∙ ap (λ us. us ++ u.made) a.added ∙ append_assoc old.units.units.items (a.made ∷ []) u.made;
+        grows = grows-twice old.strings middle.strings new.strings a.grows u.grows;
+        each = subst (λ ws. AreMadeOf size new.strings n ws (trees_from n (map (module_drafts big_endian) (m ∷ []))) (a.made ∷ u.made)) (sym (append-nil (wanted_units_of m)))
+            (subst (λ ts. AreMadeOf size new.strings n (wanted_units_of m) ts (a.made ∷ u.made)) (sym (module-trees n)) both);
+        whole = All-cons (λ (x : Module). (units x.sections).fault ≡ None) m [] b.whole (All-nil (λ (x : Module). (units x.sections).fault ≡ None));
+      }
+
+  -- ---- what is refused
+
+  one : flat_map module_refusals (m ∷ []) ≡ own_refusals m.told.memory ++ reading_refusals m
+  one = append-nil (own_refusals m.told.memory ++ reading_refusals m)
+
+  -- its own unit is refused
+  pub own-refused : (e : DebugError) → RefusesReading (first_of (own_refusals m.told.memory)) e → RefusesReading (first_of (flat_map module_refusals (m ∷ []))) e
+  own-refused e met =
+      reading-more (first_of (own_refusals m.told.memory)) (first_of (flat_map module_refusals (m ∷ []))) e
+      (λ r is. ap (λ (rs : List Refusal). first_of rs) one ∙ first-behind (own_refusals m.told.memory) (reading_refusals m) r is) met
+
+  -- nothing is refused of it
+  behind-own : option_map in_reading (first_of (own_refusals m.told.memory)) ≡ None → flat_map module_refusals (m ∷ []) ≡ reading_refusals m
+  behind-own none = one ∙ ap (λ rs. rs ++ reading_refusals m) (no-first (own_refusals m.told.memory) (unmapped in_reading (first_of (own_refusals m.told.memory)) none))
+
+  -- what is read of the module is refused
+  pub carried-refused : option_map in_reading (first_of (own_refusals m.told.memory)) ≡ None → (e : DebugError) → RefusesReading (first_of (reading_refusals m)) e → RefusesReading (first_of (flat_map module_refusals (m ∷ []))) e
+  carried-refused none e met = subst (λ rs. RefusesReading (first_of rs) e) (sym (behind-own none)) met
+
+  -- nothing at all
+  pub none-refused : option_map in_reading (first_of (own_refusals m.told.memory)) ≡ None → option_map in_reading (first_of (reading_refusals m)) ≡ None → option_map in_reading (first_of (flat_map module_refusals (m ∷ []))) ≡ None
+  none-refused own read = ap (λ (rs : List Refusal). option_map in_reading (first_of rs)) (behind-own own) ∙ read

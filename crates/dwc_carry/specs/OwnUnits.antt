@@ -1,0 +1,46 @@
+-- The unit that a module has of its own, added to those of the output.
+use Rattle.std.specs.Prelude.{◌≡◌, ℕ, suc, List, [], ◌∷◌, ◌++◌, length, slice_get, Some, None, option_map, Result}
+use Rattle.std.specs.Option.{unwrap_or}
+use Rattle.dwc_base.specs.Carried.{own_unit}
+use Rattle.dwc_base.specs.Compiled.{Memory, no_memory}
+use Rattle.dwc_base.specs.OwnUnits as Own
+use Rattle.dwc_base.specs.OwnUnits.{place_of_context_pointer, place_of_wasm_pointer}
+use Rattle.dwc_base.specs.DraftForests.{place_of_goal, settled_unit}
+use Rattle.dwc_base.specs.Forests.{own_refusals}
+use Rattle.dwc_base.specs.Refusals.{first_of}
+use Rattle.dwc_base.specs.Trees.{Tree}
+use Rattle.dwc_expr.specs.Frames.{memory_view}
+use Rattle.dwc_addr.specs.Compilations.{CompilationValue}
+use Rattle.dwc_write.specs.declared.attributes.DebugInfoRef.{DebugInfoRef}
+use Rattle.dwc_write.specs.declared.attributes.DebugInfoRef.TheVariants.{Entry}
+use Rattle.dwc_write.specs.GivenUnits.{GivenUnit}
+use Rattle.dwc_clone.specs.MadeValues.{Grows}
+use Rattle.dwc_carry.specs.declared.error.DebugError.{DebugError}
+use Rattle.dwc_carry.specs.declared.synthetic_unit.ModuleSyntheticUnit.{ModuleSyntheticUnit}
+use Rattle.dwc_carry.specs.MadeUnits.{IsMadeOf}
+use Rattle.dwc_carry.specs.Refusals.{ReadsOr}
+
+-- the linear memory of the module at a place
+abbrev pub memory_at : CompilationValue → ℕ → Memory
+memory_at c place = unwrap_or (option_map memory_view (slice_get c.memory_offsets place)) no_memory
+
+-- what the unit is to say, of a number, with a name of the function that makes a context the one in use
+abbrev pub own_tree : ℕ → List ℕ → Memory → Tree
+own_tree number set_memory m = settled_unit (place_of_goal number (record { own = Some (Own.own_unit set_memory m); carried = [] })) (Own.own_unit set_memory m)
+
+-- an entry of a unit, by the numbers of both
+abbrev pub entry_of : ℕ → ℕ → DebugInfoRef
+entry_of number place = Entry (record { index = number }) (record { index = place })
+
+-- A module's own unit is added, which says its tree, and the two types that others refer to are told; the table of texts has grown.
+pub record AddsOwnUnit (size : ℕ) (set_memory : List ℕ) (m : Memory) (old new : List GivenUnit) (before after : List (List ℕ)) (own : ModuleSyntheticUnit) : Type 0 where
+  pub made : GivenUnit
+  pub added : new ≡ old ++ made ∷ []
+  pub grows : Grows before after
+  pub is : IsMadeOf size after (length old) own_unit (own_tree (length old) set_memory m) made
+  pub context_pointer : own.vmctx_ptr ≡ entry_of (length old) (place_of_context_pointer m)
+  pub wasm_pointer : own.wasm_ptr ≡ entry_of (length old) (place_of_wasm_pointer m)
+
+-- It is added, or its memory is refused.
+abbrev pub GivesOwnUnit : ℕ → List ℕ → Memory → List GivenUnit → List GivenUnit → List (List ℕ) → List (List ℕ) → Result ModuleSyntheticUnit DebugError → Type 0
+GivesOwnUnit size set_memory m old new before after result = ReadsOr (λ own. AddsOwnUnit size set_memory m old new before after own) (first_of (own_refusals m)) result
