@@ -62,6 +62,13 @@ with_small_map file = record { map_bytes = map_bytes_small; modules = file ∷ [
 abbrev pub map_bytes_falls : List ℕ
 map_bytes_falls = codes "{\"target\":{\"arch\":\"x86_64\"},\"names\":[\"set_mem\",\"resolve_mem\"],\"modules\":[{\"functions\":[{\"symbol\":0,\"start\":22,\"end\":33,\"body_len\":30,\"map\":[[8,25],[5,null]]}]}]}"
 
+-- with a memory that is just too far behind in the context, and with the last one that is not
+abbrev pub map_bytes_far : List ℕ
+map_bytes_far = codes "{\"target\":{\"arch\":\"x86_64\"},\"names\":[\"set_mem\",\"resolve_mem\"],\"modules\":[{\"memory\":{\"defined\":4294967288},\"functions\":[{\"symbol\":0,\"start\":22,\"end\":33,\"body_len\":30,\"map\":[[5,25],[15,30]]}]}]}"
+
+abbrev pub map_bytes_near : List ℕ
+map_bytes_near = codes "{\"target\":{\"arch\":\"x86_64\"},\"names\":[\"set_mem\",\"resolve_mem\"],\"modules\":[{\"memory\":{\"defined\":4294967287},\"functions\":[{\"symbol\":0,\"start\":22,\"end\":33,\"body_len\":30,\"map\":[[5,25],[15,30]]}]}]}"
+
 -- and with its function missing
 abbrev pub map_bytes_missing : List ℕ
 map_bytes_missing = codes "{\"target\":{\"arch\":\"x86_64\"},\"names\":[\"set_mem\",\"resolve_mem\"],\"modules\":[{\"functions\":[]}]}"

@@ -13,7 +13,7 @@ use Rattle.dwc_base.specs.declared.records.MapFault.{MapFault}
 use Rattle.dwc_base.specs.declared.output.DwarfSection.{DwarfSection}
 use Rattle.dwc_base.specs.declared.wasm.ModuleTranslation.{ModuleTranslation}
 use Rattle.dwc_base.specs.SharedSymbols.{shared_symbol}
-use Rattle.dwc_base.specs.Compiled.{ToldModule, values_from}
+use Rattle.dwc_base.specs.Compiled.{LinkageNames, ToldModule, values_from}
 use Rattle.dwc_base.specs.Functions.{AddressMap, map_fault, functions_of}
 use Rattle.dwc_base.specs.Wasm.{WasmModule, module_sections}
 use Rattle.dwc_base.specs.Translations.{translation_sections, IsTranslation}
@@ -44,7 +44,7 @@ use Rattle.dwc_addr.specs.Compilations.{CompilationValue, IsCounted}
 use Rattle.dwc_carry.specs.declared.error.DebugError.{DebugError}
 use Rattle.dwc_carry.specs.Refusals as refusals
 use Rattle.dwc_carry.specs.Refusals.{Told, told, bad_address_map, in_reading}
-use Rattle.dwc_base.specs.declared.faults.Limit.TheVariants.{Section, Addend, Range, Jump, Expression}
+use Rattle.dwc_base.specs.declared.faults.Limit.TheVariants.{Section, Addend, Range, Jump, Expression, Vmctx}
 use Rattle.dwc_carry.specs.Emits as emits
 use Rattle.dwc_cli.specs.Inputs.{Loaded, compilation_of, bad_map, shared_in, ranges_of, told_of, modules_of, bad_function, bad_module}
 use Rattle.dwc_cli.specs.RunStatus.{PassesLimit}
@@ -76,8 +76,8 @@ values-same : (fs : List Compiled) → values_in fs ≡ map ranges_of (map views
 values-same [] = refl
 values-same (f ∷ fs) = ap (λ vs. ranges_of (views.function_view f) ∷ vs) (values-same fs)
 
-told-same : (registers : Registers) (place number : ℕ) (m : MapModule) → told_module place number m.functions.items m.memory registers ≡ told_of registers place number (views.module_view m)
-told-same registers place number m = ap (λ vs. record { place = place; values = values_from number vs; memory = memory_view m.memory; register = λ r. finite.get registers r }) (values-same m.functions.items)
+told-same : (registers : Registers) (names : LinkageNames) (place number : ℕ) (m : MapModule) → told_module place number m.functions.items m.memory registers names ≡ told_of registers names place number (views.module_view m)
+told-same registers names place number m = ap (λ vs. record { place = place; values = values_from number vs; memory = memory_view m.memory; register = λ r. finite.get registers r; names = names }) (values-same m.functions.items)
 
 module-same : (number : ℕ) (t : ModuleTranslation) (w : WasmModule) (fs gs : List AddressMap) (told seen : ToldModule) → fs ≡ gs → told ≡ seen → IsTranslation t w
     → ◌≡◌ {A = Module} (record { sections = translation_sections t; functions = functions_of t.code_section_offset number fs; told = told; compressed = t.compressed }) (record { sections = module_sections w; functions = functions_of w.code_offset number gs; told = seen; compressed = w.compressed })
@@ -88,17 +88,17 @@ module-same number t w fs gs told seen maps tells is = λ i. record {
   compressed = is.compressed i;
 }
 
-pub modules-same : (registers : Registers) (place number : ℕ) (ts : List ModuleTranslation) (ws : List WasmModule) (ms : List MapModule) → AllZip IsTranslation ts ws
-    → carry.modules_from number ts (functions_in ms) (carry.told_from registers place number (functions_in ms) (memories_in ms)) ≡ modules_of registers place number ws (modules_in ms)
-modules-same registers place number [] [] ms h = refl
-modules-same registers place number [] (w ∷ ws) ms h = absurd h
-modules-same registers place number (t ∷ ts) [] ms h = absurd h
-modules-same registers place number (t ∷ ts) (w ∷ ws) [] h = refl
-modules-same registers place number (t ∷ ts) (w ∷ ws) (m ∷ ms) h =
+pub modules-same : (registers : Registers) (names : LinkageNames) (place number : ℕ) (ts : List ModuleTranslation) (ws : List WasmModule) (ms : List MapModule) → AllZip IsTranslation ts ws
+    → carry.modules_from number ts (functions_in ms) (carry.told_from registers names place number (functions_in ms) (memories_in ms)) ≡ modules_of registers names place number ws (modules_in ms)
+modules-same registers names place number [] [] ms h = refl
+modules-same registers names place number [] (w ∷ ws) ms h = absurd h
+modules-same registers names place number (t ∷ ts) [] ms h = absurd h
+modules-same registers names place number (t ∷ ts) (w ∷ ws) [] h = refl
+modules-same registers names place number (t ∷ ts) (w ∷ ws) (m ∷ ms) h =
     let fs = m.functions.items in
     let count : length (map views.function_view fs) ≡ length fs = length-map fs views.function_view in
-    let first = module-same number t w (map address_map_view fs) (map (λ f. f.address_map) (map views.function_view fs)) (told_module place number fs m.memory registers) (told_of registers place number (views.module_view m)) (maps-same fs) (told-same registers place number m) h.0 in
-    rw (first, count, modules-same registers (suc place) (number + length fs) ts ws ms h.1) refl
+    let first = module-same number t w (map address_map_view fs) (map (λ f. f.address_map) (map views.function_view fs)) (told_module place number fs m.memory registers names) (told_of registers names place number (views.module_view m)) (maps-same fs) (told-same registers names place number m) h.0 in
+    rw (first, count, modules-same registers names (suc place) (number + length fs) ts ws ms h.1) refl
 
 -- ---- the first bad address map
 
@@ -150,16 +150,20 @@ of_modules f ms = record { order = order_in f; pointer_bytes = f.target.pointer_
 abbrev registers_in : MapFile → Registers
 registers_in f = registers_of f.target.registers.items
 
-pub compiled : (ts : List ModuleTranslation) (f : MapFile) (read : Loaded) → IsReadAs ts f read → IsCompiled (order_in f) f.target.pointer_bytes (registers_in f) ts (functions_in f.modules.items) (memories_in f.modules.items) read
+-- the names of a map
+abbrev names_in : MapFile → LinkageNames
+names_in f = views.linkage_names f.names
+
+pub compiled : (ts : List ModuleTranslation) (f : MapFile) (read : Loaded) → IsReadAs ts f read → IsCompiled (order_in f) f.target.pointer_bytes (registers_in f) (names_in f) ts (functions_in f.modules.items) (memories_in f.modules.items) read
 compiled ts f read seen = record {
-  input = ap (λ v. compilation_of (of_view read v)) (sym seen.map_is) ∙ ap (of_modules f) (sym (modules-same (registers_in f) 0 0 ts read.wasm f.modules.items seen.wasm));
+  input = ap (λ v. compilation_of (of_view read v)) (sym seen.map_is) ∙ ap (of_modules f) (sym (modules-same (registers_in f) (names_in f) 0 0 ts read.wasm f.modules.items seen.wasm));
   maps = ap (λ v. bad_map (of_view read v)) (sym seen.map_is) ∙ sym (bad-same 0 ts read.wasm f.modules.items seen.wasm);
   symbols = ap (λ v. shared_in (of_view read v)) (sym seen.map_is) ∙ ap shared_symbol (sym (symbols-same f.modules.items));
 }
 
 -- ---- what hinders
 
-module _ (c : CompilationValue) (order : Endian) (size : ℕ) (registers : Registers) (read : Loaded) (is : IsCompiled order size registers c.translations c.functions c.memory_offsets read) where
+module _ (c : CompilationValue) (order : Endian) (size : ℕ) (registers : Registers) (read : Loaded) (is : IsCompiled order size registers (carry.names_of c) c.translations c.functions c.memory_offsets read) where
   first-is : (bad : Option (ℕ × (ℕ × MapFault))) (refusal : Option Refusal) → first_status None (option_map bad_view bad) refusal
       ≡ option_map input_status (option_or (option_map (λ bad. bad_address_map bad.0 bad.1.0 bad.1.1) bad) (option_map in_reading refusal))
   first-is (Some bad) refusal = refl
@@ -196,15 +200,16 @@ module _ (c : CompilationValue) (order : Endian) (size : ℕ) (registers : Regis
       go (refusals.limit Range) h = absurd h.1
       go (refusals.limit Jump) h = absurd h.1
       go (refusals.limit Expression) h = limit h.0 (inr h.1)
+      go (refusals.limit Vmctx) h = absurd h.1
       go refusals.memory h = inl refl
 
 shared-some : (read : Loaded) (functions : ℕ × ℕ) → shared_in read ≡ Some functions → hindrance read ≡ Some 21
 shared-some read functions e = rw e refl
 
-pub refused-compiling : (A : Type 0) (ts : List ModuleTranslation) (fss : List (List Compiled)) (offsets : List ModuleMemoryOffset) (order : Endian) (size : ℕ) (registers : Registers) (read : Loaded) → IsCompiled order size registers ts fss offsets read
+pub refused-compiling : (A : Type 0) (ts : List ModuleTranslation) (fss : List (List Compiled)) (offsets : List ModuleMemoryOffset) (order : Endian) (size : ℕ) (registers : Registers) (names : LinkageNames) (read : Loaded) → IsCompiled order size registers names ts fss offsets read
     → (e : CompilationError) → AreDistinct {A = A} (all_symbols fss) (Err e) → IsCause read (compiling_status e)
-refused-compiling A ts fss offsets order size registers read is (compiling.SharedSymbol first second) h = inr (inl (shared-some read (first, second) (is.symbols ∙ h)))
-refused-compiling A ts fss offsets order size registers read is compiling.OutOfMemory h = inl refl
+refused-compiling A ts fss offsets order size registers names read is (compiling.SharedSymbol first second) h = inr (inl (shared-some read (first, second) (is.symbols ∙ h)))
+refused-compiling A ts fss offsets order size registers names read is compiling.OutOfMemory h = inl refl
 
 -- ---- counts
 

@@ -1,4 +1,4 @@
--- The small module's map and an output for it, worked out by hand.
+-- The small module's map, and the text of an output for it, worked out by hand.
 use Rattle.std.proofs.Common.{◌≡◌, ℕ, ◌+◌, ◌*◌, ◌^◌, pos, List, [], ◌∷◌, ◌++◌, Some, None, true, false, refl}
 use Rattle.std.specs.Prelude.{codes}
 use Rattle.std.specs.List.{list_all}
@@ -6,6 +6,7 @@ use Rattle.std.specs.FinMap as finite
 use Rattle.dwc_base.specs.Compiled.{no_memory}
 use Rattle.dwc_base.specs.Outputs.{OutputSection, function, section}
 use Rattle.dwc_clif.specs.declared.architecture.Architecture.TheVariants.{X86_64}
+use Rattle.dwc_base.proofs.CarriedSmall.{output_small}
 use Rattle.dwc_cli.specs.MapFile.{MapFile, map_of_bytes}
 use Rattle.dwc_cli.specs.Printed.{printed, line_feed, is_plain}
 use Rattle.dwc_cli.proofs.OnLiterals.{map_on_literals, printed_on_literals}
@@ -42,35 +43,30 @@ function-missing : map_of_bytes (2 ∷ []) map_bytes_small ≡ None
 unfolding map_on_literals
 function-missing = refl
 
-abbrev pub output_small : List OutputSection
-output_small =
-    record { name = codes ".debug_abbrev"; body = 0x01 ∷ 0x11 ∷ 0x01 ∷ 0x10 ∷ 0x17 ∷ 0x00 ∷ 0x00 ∷ 0x02 ∷ 0x2E ∷ 0x00 ∷ 0x11 ∷ 0x01 ∷ 0x12 ∷ 0x0F ∷ 0x00 ∷ 0x00 ∷ 0x00 ∷ []; relocations = [] }
-    ∷ record {
-      name = codes ".debug_info";
-      body = 0x17 ∷ 0x00 ∷ 0x00 ∷ 0x00 ∷ 0x04 ∷ 0x00 ∷ 0x00 ∷ 0x00 ∷ 0x00 ∷ 0x00 ∷ 0x08 ∷ 0x01 ∷ 0x00 ∷ 0x00 ∷ 0x00 ∷ 0x00 ∷ 0x02 ∷ 0x00 ∷ 0x00 ∷ 0x00 ∷ 0x00 ∷ 0x00 ∷ 0x00 ∷ 0x00 ∷ 0x00 ∷ 0x1E ∷ 0x00 ∷ [];
-      relocations =
-          record { offset = 6; size = 4; target = section (codes ".debug_abbrev"); addend = pos 0 }
-          ∷ record { offset = 12; size = 4; target = section (codes ".debug_line"); addend = pos 0 }
-          ∷ record { offset = 17; size = 8; target = function 0; addend = pos 0 } ∷ [];
-    }
-    ∷ record {
-      name = codes ".debug_line";
-      body = 0x39 ∷ 0x00 ∷ 0x00 ∷ 0x00 ∷ 0x04 ∷ 0x00 ∷ 0x1B ∷ 0x00 ∷ 0x00 ∷ 0x00 ∷ 0x01 ∷ 0x01 ∷ 0x01 ∷ 0xFB ∷ 0x0E ∷ 0x0D ∷ 0x00 ∷ 0x01 ∷ 0x01 ∷ 0x01 ∷ 0x01 ∷ 0x00 ∷ 0x00 ∷ 0x00 ∷ 0x01 ∷ 0x00 ∷ 0x00 ∷ 0x01 ∷ 0x00 ∷ 0x61 ∷ 0x2E ∷ 0x63 ∷ 0x00 ∷ 0x00 ∷ 0x00 ∷ 0x00 ∷ 0x00 ∷ 0x00 ∷ 0x09 ∷ 0x02 ∷ 0x00 ∷ 0x00 ∷ 0x00 ∷ 0x00 ∷ 0x00 ∷ 0x00 ∷ 0x00 ∷ 0x00 ∷ 0x03 ∷ 0x01 ∷ 0x01 ∷ 0x03 ∷ 0x01 ∷ 0x02 ∷ 0x0F ∷ 0x01 ∷ 0x02 ∷ 0x0F ∷ 0x00 ∷ 0x01 ∷ 0x01 ∷ [];
-      relocations =
-          record { offset = 40; size = 8; target = function 0; addend = pos 0 } ∷ [];
-    } ∷ []
-
+-- what is printed of the output for it: its own unit, and behind it the carried one with its lines
 printed-small : printed output_small ≡
-    (codes "section .debug_abbrev 17" ++ line_feed)
-    ++ (codes "01110110170000022e001101120f000000" ++ line_feed)
-    ++ (codes "section .debug_info 27" ++ line_feed)
-    ++ (codes "170000000400000000000801000000000200000000000000001e00" ++ line_feed)
+    (codes "section .debug_abbrev 85" ++ line_feed)
+    ++ (codes "011101030e250e13050000022400030e3e0b0b0b0000030f00030e49130000041301030e0000052e016e0e030e00000605004913340c0000072400030e0b0b3e0b00000001110110170000022e001101120f000000" ++ line_feed)
+    ++ (codes "section .debug_info 104" ++ line_feed)
+    ++ (codes "490000000400000000000801000000001c0000001d0002250000000701032800000016000000042c000000053e00000046000000063c000000010000034a00000026000000075d000000040700170000000400440000000801000000000200000000000000001e00" ++ line_feed)
     ++ (codes "reloc 6 4 section .debug_abbrev 0" ++ line_feed)
-    ++ (codes "reloc 12 4 section .debug_line 0" ++ line_feed)
-    ++ (codes "reloc 17 8 func 0 0" ++ line_feed)
+    ++ (codes "reloc 12 4 section .debug_str 0" ++ line_feed)
+    ++ (codes "reloc 16 4 section .debug_str 28" ++ line_feed)
+    ++ (codes "reloc 23 4 section .debug_str 37" ++ line_feed)
+    ++ (codes "reloc 30 4 section .debug_str 40" ++ line_feed)
+    ++ (codes "reloc 39 4 section .debug_str 44" ++ line_feed)
+    ++ (codes "reloc 44 4 section .debug_str 62" ++ line_feed)
+    ++ (codes "reloc 48 4 section .debug_str 70" ++ line_feed)
+    ++ (codes "reloc 61 4 section .debug_str 74" ++ line_feed)
+    ++ (codes "reloc 70 4 section .debug_str 93" ++ line_feed)
+    ++ (codes "reloc 83 4 section .debug_abbrev 68" ++ line_feed)
+    ++ (codes "reloc 89 4 section .debug_line 0" ++ line_feed)
+    ++ (codes "reloc 94 8 func 0 0" ++ line_feed)
     ++ (codes "section .debug_line 61" ++ line_feed)
     ++ (codes "3900000004001b000000010101fb0e0d00010101010000000100000100612e63000000000000090200000000000000000301010301020f01020f000101" ++ line_feed)
     ++ (codes "reloc 40 8 func 0 0" ++ line_feed)
+    ++ (codes "section .debug_str 108" ++ line_feed)
+    ++ (codes "5761736d74696d654d6f64756c6553796e746865746963556e6974007761736d74696d650075380075382a005761736d74696d65564d436f6e74657874007365745f6d656d00736574005761736d74696d65564d436f6e746578742a00576562417373656d626c7950747200" ++ line_feed)
 unfolding printed_on_literals
 printed-small = refl
 

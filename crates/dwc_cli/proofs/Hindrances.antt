@@ -3,7 +3,7 @@ use Rattle.std.proofs.Common.{◌≡◌, ℕ, List, [], ◌∷◌, Option, Some,
 use Rattle.std.specs.Prelude.{option_map, unwrap_or, IsSome}
 use Rattle.dwc_base.specs.Outputs.{OutputSection}
 use Rattle.dwc_base.specs.Sections.{unreadable, unsupported}
-use Rattle.dwc_base.specs.Refusals.{Refusal, of_place, missing_file, long_function, long_range, bad_label, lacks_memory, unmapped_register, long_jump}
+use Rattle.dwc_base.specs.Refusals.{Refusal, of_place, missing_file, long_function, long_range, bad_label, lacks_memory, unmapped_register, long_jump, far_memory}
 use Rattle.dwc_base.specs.Forests.{first_refusal}
 use Rattle.dwc_cli.specs.Inputs.{BadMap, Loaded, compilation_of, shared_in, bad_map}
 use Rattle.dwc_cli.specs.RunStatus.{IsOneOf, refusal_status, refusal_statuses, PassesLimit, LoadedCauses, IsValid}
@@ -91,6 +91,7 @@ hindered None None (Some (bad_label label)) status e = subst (Hindered None None
 hindered None None (Some (lacks_memory m)) status e = subst (Hindered None None (Some (lacks_memory m))) (same_some 15 status e) (refused (lacks_memory m) (λ e. omega (arith, e)) (λ e. omega (arith, e)) (IsOneOf-from carrying_statuses 15 refl))
 hindered None None (Some (unmapped_register register)) status e = subst (Hindered None None (Some (unmapped_register register))) (same_some 16 status e) (refused (unmapped_register register) (λ e. omega (arith, e)) (λ e. omega (arith, e)) (IsOneOf-from carrying_statuses 16 refl))
 hindered None None (Some long_jump) status e = subst (Hindered None None (Some long_jump)) (same_some 20 status e) (refused long_jump (λ e. omega (arith, e)) (λ e. omega (arith, e)) (IsOneOf-from carrying_statuses 20 refl))
+hindered None None (Some far_memory) status e = subst (Hindered None None (Some far_memory)) (same_some 20 status e) (refused far_memory (λ e. omega (arith, e)) (λ e. omega (arith, e)) (IsOneOf-from carrying_statuses 20 refl))
 hindered None None None status e = absurd (none≢some e)
 
 -- nothing hinders

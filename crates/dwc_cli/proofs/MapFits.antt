@@ -1,17 +1,22 @@
 -- What is said of each map that is read.
-use Rattle.std.proofs.Common.{◌≡◌, ◌⊎◌, ℕ, List, [], ◌∷◌, ◌++◌, ◌≤◌, length, drop, map, Option, Some, None, Bool, true, false, Result, Ok, Err, refl, sym, ◌∙◌, ap, subst, inl, inr}
-use Rattle.std.specs.Prelude.{IfOk, IfSome, ◌==◌, ◌&&◌, codes, option_and_then, option_map, unwrap_or, if◌then◌else◌}
+use Rattle.std.proofs.Common.{◌≡◌, ◌⊎◌, ℕ, zero, suc, ◌<◌, arith, List, [], ◌∷◌, ◌++◌, ◌≤◌, length, drop, map, Option, Some, None, Bool, true, false, Result, Ok, Err, refl, sym, ◌∙◌, ap, subst, inl, inr}
+use Rattle.std.specs.Prelude.{All, IfOk, IfSome, ◌==◌, ◌&&◌, ◌||◌, not, codes, option_and_then, option_map, unwrap_or, if◌then◌else◌}
 use Rattle.std.specs.FinMap as finite
+use Rattle.std.specs.List.{list_any}
 use Rattle.std.proofs.lemmas.List.{drop_all}
 use Rattle.serde_json.specs.declared.value.Value.{Value}
 use Rattle.serde_json.specs.View.{view}
-use Rattle.serde_json.specs.Data.{Data}
+use Rattle.serde_json.specs.Data.{Data, null, boolean, number, string, array, object}
 use Rattle.serde_json.specs.Find.{get_member}
 use Rattle.dwc_base.specs.declared.wasm.ModuleTranslation.{ModuleTranslation}
 use Rattle.dwc_base.specs.Reading.{coded}
 use Rattle.dwc_cli.specs.declared.map_file.MapFile.{MapFile as DeclaredMap}
 use Rattle.dwc_cli.specs.MapFile.{◌>>=◌, only_if, Target, MapFile, number_below, value_or, with_default, required, list_of, pair_of, text_of, truth_of, members_of, architecture_of, pointer_bytes_of, register_numbers_of, target_of, map_module_of, have_counts, is_countable, map_value, IsMapFor}
 use Rattle.dwc_cli.specs.MapViews.{map_file_view}
+use Rattle.dwc_addr.specs.Compilations.{AreNames}
+use Rattle.dwc_cli.proofs.MapKinds.{pair_of_parts}
+use Rattle.std.proofs.lemmas.Bool.{true≢false}
+use Rattle.std.proofs.lemmas.List.Elements.{All-cons, All-nil}
 
 same_some : {A : Type 0} (x y : A) → Some x ≡ Some y → x ≡ y
 same_some x y e = ap (λ o. unwrap_or o x) e
@@ -55,6 +60,40 @@ target-size d t e =
     let size = size_or (get_member (codes "pointer_bytes") ms.0) pointer_bytes.0 pointer_bytes.1 in
     subst (λ n. (n ≡ 4) ⊎ (n ≡ 8)) is size
 
+neither : (a b : Bool) → (a || b) ≡ false → (a ≡ false) × (b ≡ false)
+neither true b e = absurd (true≢false e)
+neither false b e = (refl, e)
+
+positive : (c : ℕ) → (c == 0) ≡ false → 0 < c
+positive zero e = absurd (true≢false e)
+positive (suc c) e = omega arith
+
+-- a text without a zero character
+plain-text : (text : List ℕ) → list_any (λ c. c == 0) text ≡ false → All (λ b. 0 < b) text
+plain-text [] none = All-nil (λ b. 0 < b)
+plain-text (c ∷ cs) none = let parts = neither (c == 0) (list_any (λ x. x == 0) cs) none in All-cons (λ b. 0 < b) c cs (positive c parts.0) (plain-text cs parts.1)
+
+not-true : (b : Bool) → not b ≡ true → b ≡ false
+not-true true e = sym e
+not-true false e = refl
+
+text-plain : (d : Data) (text : List ℕ) → text_of d ≡ Some text → All (λ b. 0 < b) text
+text-plain null text e = absurd (cc)
+text-plain (boolean b) text e = absurd (cc)
+text-plain (number n) text e = absurd (cc)
+text-plain (string s) text e = let kept = only_if-some (not (list_any (λ c. c == 0) s)) s text e in subst (All (λ b. 0 < b)) kept.1 (plain-text s (not-true (list_any (λ c. c == 0) s) kept.0))
+text-plain (array ds) text e = absurd (cc)
+text-plain (object ms) text e = absurd (cc)
+
+-- the names of a map
+pair-plain : (d : Data) (names : List ℕ × List ℕ) → pair_of text_of text_of d ≡ Some names → AreNames names.0 names.1
+pair-plain d names e =
+    let parts = bind-some (pair_of Some Some d) (λ p. text_of p.0 >>= λ x. text_of p.1 >>= λ y. Some (x, y)) names (sym (pair_of_parts text_of text_of d) ∙ e) in
+    let first = bind-some (text_of parts.0.0) (λ x. text_of parts.0.1 >>= λ y. Some (x, y)) names parts.2 in
+    let second = bind-some (text_of parts.0.1) (λ y. Some (first.0, y)) names first.2 in
+    let same : (first.0, second.0) ≡ names = same_some (first.0, second.0) names second.2 in
+    subst (λ (p : List ℕ × List ℕ). AreNames p.0 p.1) {x = (first.0, second.0)} same (text-plain parts.0.0 first.0 first.1, text-plain parts.0.1 second.0 second.1)
+
 map_value-fits : (defined : List ℕ) (d : Data) (m : MapFile) → map_value defined d ≡ Some m → IsMapFor defined m
 unfolding map_value
 map_value-fits defined d m e =
@@ -66,7 +105,8 @@ map_value-fits defined d m e =
     let kept = only_if-some (have_counts defined modules.0 && is_countable modules.0) whole m modules.2 in
     let tests = both (have_counts defined modules.0) (is_countable modules.0) kept.0 in
     let value = bind-some (get_member (codes "target") ms.0) target_of target.0 target.1 in
-    subst (IsMapFor defined) kept.1 (record { counts = tests.0; countable = tests.1; pointer = target-size value.0 target.0 value.2 })
+    let texts = bind-some (get_member (codes "names") ms.0) (pair_of text_of text_of) names.0 names.1 in
+    subst (IsMapFor defined) kept.1 (record { counts = tests.0; countable = tests.1; pointer = target-size value.0 target.0 value.2; names = pair-plain texts.0 names.0 texts.2 })
 
 -- a map that a JSON value is, if it is one
 pub map_value-read : {E : Type 0} (result : Result (Option DeclaredMap) E) (defined : List ℕ) (json : Option Value) → IfOk result (λ o. option_map map_file_view o ≡ option_and_then (λ v. map_value defined (view v)) json) → IfOk result (λ o. IfSome o (λ f. IsMapFor defined (map_file_view f)))

@@ -10,7 +10,7 @@ use Rattle.dwc_base.specs.declared.section_name.SectionName.{SectionName}
 use Rattle.dwc_base.specs.declared.faults.What.TheVariants.{Entry as EntryRead, UnitHeader as HeaderRead}
 use Rattle.dwc_base.specs.declared.faults.Kind.TheVariants.{Format64, Compressed}
 use Rattle.dwc_base.specs.Sections.{unsupported, unreadable}
-use Rattle.dwc_base.specs.Refusals.{Refusal, of_place, missing_file, bad_label, lacks_memory, unmapped_register, long_jump}
+use Rattle.dwc_base.specs.Refusals.{Refusal, of_place, missing_file, bad_label, lacks_memory, unmapped_register, long_jump, far_memory}
 use Rattle.dwc_base.specs.Forests.{first_refusal, trees_made}
 use Rattle.dwc_base.specs.OutputCarried.{widest}
 use Rattle.dwc_base.specs.TreeLaws.{have_short_expressions}
@@ -21,7 +21,7 @@ use Rattle.dwc_cli.specs.Inputs.{Loaded, loaded, paths_of, wasm_modules, defined
 use Rattle.dwc_cli.specs.RunStatus.{Rose, most_bytes, IsOneOf, run_statuses, IsStatus, IsTooLong, UsageCause, MissingCause, InputCauses, NamedCauses, refusal_status, refusal_statuses, PassesLimit, LoadedCauses, RunsWell, IsValid}
 use Rattle.dwc_cli.proofs.Examples.{map_bytes_small, map-small}
 use Rattle.dwc_cli.proofs.WholeRun.{whole_on_literals, refusal_of, input_small, read_in, read_small}
-use Rattle.dwc_cli.proofs.BrokenInputs.{file_64, file_5, file_undeclared, file_compressed, file_no_directory, file_two_faults, file_cut, file_old, map_bytes_falls, map_bytes_missing, map_bytes_two, map_bytes_shared, map_bytes_shared_falls, map_bytes_second_falls}
+use Rattle.dwc_cli.proofs.BrokenInputs.{file_64, file_5, file_undeclared, file_compressed, file_no_directory, file_two_faults, file_cut, file_old, map_bytes_falls, map_bytes_missing, map_bytes_two, map_bytes_shared, map_bytes_shared_falls, map_bytes_second_falls, map_bytes_far, map_bytes_near}
 use Rattle.dwc_cli.proofs.Answers.{refused, is_status_among, three_files, one_file, two_files, right_words, three_words, of_one, of_two, names, names-two, lacks_module, lacks_map, lacks_second}
 
 -- ---- wrong words
@@ -390,6 +390,29 @@ register-label read register is h = refused_always read (unmapped_register regis
 
 jump-success : (read : Loaded) → first_refusal (compilation_of read) ≡ Some long_jump → LoadedCauses read 0 → ⊥
 jump-success read is h = refused_always read long_jump 0 is refl h
+
+-- where a memory is too far behind in its context, before all that is read: neither success nor the status of a memory that is not there
+refusal-far : refusal_of (loaded (of_one map_bytes_far file_small)) ≡ Some far_memory
+unfolding whole_on_literals
+refusal-far = refl
+
+refusal-near : refusal_of (loaded (of_one map_bytes_near file_small)) ≡ None
+unfolding whole_on_literals
+refusal-near = refl
+
+refusal-far_unreadable : refusal_of (loaded (of_one map_bytes_far file_undeclared)) ≡ Some far_memory
+unfolding whole_on_literals
+refusal-far_unreadable = refl
+
+far : (status : ℕ) → is_status_among (3 ∷ 4 ∷ 9 ∷ 13 ∷ 21 ∷ 20 ∷ []) status ≡ false → Causes map_bytes_far file_small status → ⊥
+unfolding whole_on_literals
+far status none h = refused_always (read_of map_bytes_far file_small) far_memory status refl none (loaded_causes map_bytes_far file_small status (read_of map_bytes_far file_small) refl h)
+
+far-success : Causes map_bytes_far file_small 0 → ⊥
+far-success h = far 0 refl h
+
+far-no_memory : Causes map_bytes_far file_small 15 → ⊥
+far-no_memory h = far 15 refl h
 
 -- nothing of the small input is refused
 small-refused : (status : ℕ) → IsOneOf refusal_statuses status → Causes map_bytes_small file_small status → ⊥

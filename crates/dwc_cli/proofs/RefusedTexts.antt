@@ -1,6 +1,6 @@
--- Wrong texts that the clauses on statuses 0 and 8 refuse, and two right answers.
+-- Wrong texts that the clauses on statuses 0 and 8 refuse, and a right answer.
 use Rattle.std.proofs.Common.{◌≡◌, ℕ, zero, suc, pos, List, [], ◌∷◌, ◌++◌, take, get_or, Some, None, Ok, true, refl, ap, subst, sym, ◌∙◌, arith}
-use Rattle.std.specs.Prelude.{All, Option, is_some, codes}
+use Rattle.std.specs.Prelude.{Option, is_some, codes}
 use Rattle.std.specs.List.{list_all, filter, AllZip}
 use Rattle.std.proofs.lemmas.Bool.{true≢false}
 use Rattle.dwc_base.specs.declared.records.Endian.TheVariants.{Little}
@@ -10,26 +10,22 @@ use Rattle.dwc_base.specs.LineRows.{Segment}
 use Rattle.dwc_base.specs.Images.{IsImageOf, is_carried_segment}
 use Rattle.dwc_base.specs.Outputs.{OutputSection, output_sections, function}
 use Rattle.dwc_base.specs.Carried.{Module, units, segments_of_unit}
-use Rattle.dwc_base.specs.Forests.{carried_units, first_refusal}
-use Rattle.dwc_base.specs.LinesCarried.{CarriesUnit, LinesCarried}
+use Rattle.dwc_base.specs.Forests.{wanted_units, first_refusal}
+use Rattle.dwc_base.specs.LinesCarried.{CarriesUnit, HasLines, LinesCarried}
 use Rattle.dwc_base.proofs.LineTables.{at_line, function_small, segments_small}
-use Rattle.dwc_base.proofs.CarriedSmall.{module_small, unit_small, unit_out, image_small, image-small}
+use Rattle.dwc_base.proofs.CarriedSmall.{module_small, unit_small, own_unit_out, unit_out, image_small, output_small, image-small}
 use Rattle.dwc_base.proofs.WorkedImages.{Zipped, segment, image, image_in, not_image-at}
 use Rattle.dwc_cli.specs.Inputs.{Loaded, loaded, compilation_of}
 use Rattle.dwc_cli.specs.Printed.{printed, is_plain, line_feed}
 use Rattle.dwc_cli.specs.RunStatus.{Carries, Succeeds, FrontCarries, PrefixWritten}
 use Rattle.dwc_base.proofs.SmallModule.{file_small}
-use Rattle.dwc_cli.proofs.Examples.{map_bytes_small, output_small}
+use Rattle.dwc_cli.proofs.Examples.{map_bytes_small}
 use Rattle.dwc_cli.proofs.PrintedLaws.{printed_injective}
 use Rattle.dwc_cli.proofs.OnLiterals.{printed_on_literals}
 use Rattle.dwc_cli.proofs.WholeRun.{whole_on_literals, input_small, read_in, read_small, lines_carried-small, output_carried-small}
-use Rattle.dwc_cli.proofs.BrokenInputs.{file_bare, file_64, file_no_directory, with_small_map}
+use Rattle.dwc_cli.proofs.BrokenInputs.{file_64, file_no_directory, with_small_map}
 use Rattle.dwc_cli.proofs.Answers.{three_files, right_words, names}
 use Rattle.dwc_cli.proofs.Refused.{small-read}
-use Rattle.std.proofs.lemmas.List.Elements.{All-nil}
-use Rattle.dwc_base.specs.OutputCarried.{OutputCarried}
-use Rattle.dwc_base.specs.Fields.{IsRelocated}
-use Rattle.dwc_base.proofs.OutputSmall.{HasForm, none-differ}
 
 -- ---- the sections that a text stands for
 
@@ -49,16 +45,16 @@ refused-text known plain wrong h = wrong (sections_of known plain (h input_small
 
 -- ---- no text at all
 
-no_units : units (output_sections Little []) ≡ record { items = []; fault = None }
+pub no_units : units (output_sections Little []) ≡ record { items = []; fault = None }
 unfolding whole_on_literals
 no_units = refl
 
--- the small unit is carried, so an output without units carries nothing
+-- the module has a unit of its own, and the small unit is carried, so an output without units carries nothing
 nothing_carried : LinesCarried (compilation_of read_small) [] → ⊥
 unfolding whole_on_literals
 nothing_carried h =
     let items : h.output ≡ [] = ap (λ l. l.items) (sym h.output_read ∙ no_units) in
-    subst (λ us. AllZip (CarriesUnit (output_sections Little [])) (carried_units (compilation_of read_small)) us) items h.each
+    subst (λ us. AllZip (HasLines (output_sections Little [])) (wanted_units (compilation_of read_small)) us) items h.each
 
 empty_text : Succeeds (Some (three_files map_bytes_small file_small [])) right_words (Some []) (Some []) → ⊥
 unfolding printed
@@ -66,23 +62,23 @@ empty_text h = refused-text [] refl nothing_carried h
 
 -- ---- a wrong line
 
+abbrev no_section : OutputSection
+no_section = record { name = []; body = []; relocations = [] }
+
 -- the wanted output with its last line advanced by two
 abbrev pub output_wrong : List OutputSection
 output_wrong =
-    record { name = codes ".debug_abbrev"; body = 0x01 ∷ 0x11 ∷ 0x01 ∷ 0x10 ∷ 0x17 ∷ 0x00 ∷ 0x00 ∷ 0x02 ∷ 0x2E ∷ 0x00 ∷ 0x11 ∷ 0x01 ∷ 0x12 ∷ 0x0F ∷ 0x00 ∷ 0x00 ∷ 0x00 ∷ []; relocations = [] }
-    ∷ record {
-      name = codes ".debug_info";
-      body = 0x17 ∷ 0x00 ∷ 0x00 ∷ 0x00 ∷ 0x04 ∷ 0x00 ∷ 0x00 ∷ 0x00 ∷ 0x00 ∷ 0x00 ∷ 0x08 ∷ 0x01 ∷ 0x00 ∷ 0x00 ∷ 0x00 ∷ 0x00 ∷ 0x02 ∷ 0x00 ∷ 0x00 ∷ 0x00 ∷ 0x00 ∷ 0x00 ∷ 0x00 ∷ 0x00 ∷ 0x00 ∷ 0x1E ∷ 0x00 ∷ [];
-      relocations = record { offset = 17; size = 8; target = function 0; addend = pos 0 } ∷ [];
-    }
+    get_or output_small 0 no_section
+    ∷ get_or output_small 1 no_section
     ∷ record {
       name = codes ".debug_line";
       body = 0x39 ∷ 0x00 ∷ 0x00 ∷ 0x00 ∷ 0x04 ∷ 0x00 ∷ 0x1B ∷ 0x00 ∷ 0x00 ∷ 0x00 ∷ 0x01 ∷ 0x01 ∷ 0x01 ∷ 0xFB ∷ 0x0E ∷ 0x0D ∷ 0x00 ∷ 0x01 ∷ 0x01 ∷ 0x01 ∷ 0x01 ∷ 0x00 ∷ 0x00 ∷ 0x00 ∷ 0x01 ∷ 0x00 ∷ 0x00 ∷ 0x01 ∷ 0x00 ∷ 0x61 ∷ 0x2E ∷ 0x63 ∷ 0x00 ∷ 0x00 ∷ 0x00 ∷ 0x00 ∷ 0x00 ∷ 0x00 ∷ 0x09 ∷ 0x02 ∷ 0x00 ∷ 0x00 ∷ 0x00 ∷ 0x00 ∷ 0x00 ∷ 0x00 ∷ 0x00 ∷ 0x00 ∷ 0x03 ∷ 0x01 ∷ 0x01 ∷ 0x03 ∷ 0x02 ∷ 0x02 ∷ 0x0F ∷ 0x01 ∷ 0x02 ∷ 0x0F ∷ 0x00 ∷ 0x01 ∷ 0x01 ∷ [];
       relocations = record { offset = 40; size = 8; target = function 0; addend = pos 0 } ∷ [];
-    } ∷ []
+    }
+    ∷ get_or output_small 3 no_section ∷ []
 
--- it is read as one unit, whose one segment has line 4 from byte 15 on
-wrong-units : units (output_sections Little output_wrong) ≡ record { items = unit_out ∷ []; fault = None }
+-- it is read as the module's own unit and one more, whose one segment has line 4 from byte 15 on
+wrong-units : units (output_sections Little output_wrong) ≡ record { items = own_unit_out ∷ unit_out ∷ []; fault = None }
 unfolding whole_on_literals
 wrong-units = refl
 
@@ -98,12 +94,12 @@ first_module (m ∷ ms) = m
 abbrev pub module_read : Module
 module_read = first_module (compilation_of read_small).modules
 
--- the unit of an output that is read as one unit carries the small unit
+-- the second unit of such an output carries the small unit
 carries_unit : LinesCarried (compilation_of read_small) output_wrong → CarriesUnit (output_sections Little output_wrong) (record { module_of = module_read; unit = unit_small }) unit_out
 unfolding whole_on_literals
 carries_unit h =
-    let items : h.output ≡ unit_out ∷ [] = ap (λ l. l.items) (sym h.output_read ∙ wrong-units) in
-    (subst (λ us. AllZip (CarriesUnit (output_sections Little output_wrong)) (carried_units (compilation_of read_small)) us) items h.each).0
+    let items : h.output ≡ own_unit_out ∷ unit_out ∷ [] = ap (λ l. l.items) (sym h.output_read ∙ wrong-units) in
+    (subst (λ us. AllZip (HasLines (output_sections Little output_wrong)) (wanted_units (compilation_of read_small)) us) items h.each).1.0
 
 -- and its segments are images of the small segments
 small_segments : segments_of_unit module_read.sections unit_small ≡ Ok segments_small
@@ -149,9 +145,9 @@ carried-hidden : LinesCarried (compilation_of read_small) output_hidden
 unfolding whole_on_literals
 carried-hidden = record {
   whole = lines_carried-small.whole;
-  output = unit_out ∷ [];
+  output = own_unit_out ∷ unit_out ∷ [];
   output_read = refl;
-  each = (record { images = image_small ∷ []; images_read = refl; carried = record { input = segments_small; input_read = refl; each = ((function_small, refl, image-small), tt) } }, tt);
+  each = (refl, (record { images = image_small ∷ []; images_read = refl; carried = record { input = segments_small; input_read = refl; each = ((function_small, refl, image-small), tt) } }, tt));
 }
 
 -- the list without hidden names is unreadable
@@ -237,30 +233,3 @@ read-no_directory = refl
 
 no_directory-text : (before now : Option (List ℕ)) → Succeeds (Some (three_files map_bytes_small file_no_directory [])) right_words before now → ⊥
 no_directory-text before now h = let carries = h _ (names map_bytes_small file_no_directory []) in refused-no_directory (accepted-of file_no_directory carries.read read-no_directory carries.is_read carries.accepted)
-
--- ---- a module without sections of DWARF: the empty text is an answer 0
-
-whole-bare : All (λ m. (units m.sections).fault ≡ None) (compilation_of (read_of file_bare)).modules
-unfolding whole_on_literals
-whole-bare zero d h = refl
-whole-bare (suc k) d h = absurd (omega arith)
-
-carried-bare : OutputCarried (compilation_of (read_of file_bare)) []
-unfolding whole_on_literals
-carried-bare = record {
-  lines = record { whole = whole-bare; output = []; output_read = refl; each = tt };
-  wanted = [];
-  is_forest = refl;
-  trees = refl;
-  targets = refl;
-  scopes = tt;
-  locations = tt;
-  texts = refl;
-  form = All-nil HasForm;
-  names = none-differ;
-  relocated = All-nil (IsRelocated (output_sections Little []));
-}
-
-carries-bare : Carries (with_small_map file_bare) (Some []) (Some [])
-unfolding whole_on_literals printed_on_literals
-carries-bare = record { read = read_of file_bare; is_read = refl; accepted = refl; sections = []; plain = refl; carried = carried-bare; short = refl; written = refl }

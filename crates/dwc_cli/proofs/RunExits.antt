@@ -2,7 +2,7 @@
 use Rattle.std.proofs.Common.{◌≡◌, ℕ, zero, suc, List, [], ◌∷◌, take, false, Option, Some, refl, sym, ◌∙◌, subst, arith}
 use Rattle.std.specs.Prelude.{Any}
 use Rattle.dwc_base.specs.Sections.{unreadable, unsupported}
-use Rattle.dwc_base.specs.Refusals.{Refusal, of_place, missing_file, long_function, long_range, bad_label, lacks_memory, unmapped_register, long_jump}
+use Rattle.dwc_base.specs.Refusals.{Refusal, of_place, missing_file, long_function, long_range, bad_label, lacks_memory, unmapped_register, long_jump, far_memory}
 use Rattle.dwc_cli.specs.Inputs.{Paths, paths_of, all_paths, Input, Loaded}
 use Rattle.dwc_cli.specs.RunStatus.{Files, Appended, IsOneOf, Succeeds, PrefixWritten, MissingCause, refusal_status, refusal_statuses, LoadedCauses, InputCauses, RunsWell, Rose}
 use Rattle.dwc_cli.specs.Edge.{IsLongFile, AppendsFront}
@@ -108,6 +108,7 @@ TextCauses-write input causes =
     refused_not_done (lacks_memory m) = refl
     refused_not_done (unmapped_register register) = refl
     refused_not_done long_jump = refl
+    refused_not_done far_memory = refl
 
     LoadedCauses-write : (read : Loaded) → LoadedCauses read 0 → LoadedCauses read 8
     LoadedCauses-write read said = record {

@@ -41,6 +41,15 @@ memories : told_first.memory ∷ told_second.memory ∷ [] ≡ no_memory ∷ def
 unfolding whole_on_literals
 memories = refl
 
+-- the names, for each module
+setting : told_first.names.set_memory ∷ told_second.names.set_memory ∷ [] ≡ codes "set_mem" ∷ codes "set_mem" ∷ []
+unfolding whole_on_literals
+setting = refl
+
+resolving : told_first.names.resolve_memory ∷ told_second.names.resolve_memory ∷ [] ≡ codes "resolve_mem" ∷ codes "resolve_mem" ∷ []
+unfolding whole_on_literals
+resolving = refl
+
 -- the numbers of registers, and a register that has none
 register_7 : told_first.register 7 ≡ Some 5
 unfolding whole_on_literals

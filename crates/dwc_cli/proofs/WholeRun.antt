@@ -1,16 +1,16 @@
 -- The small module from its bytes and its map's bytes to the printed text.
-use Rattle.std.proofs.Common.{◌≡◌, ℕ, zero, suc, arith, List, [], ◌∷◌, ◌++◌, get_or, map, Some, None, Option, false, inl, inr, refl, subst, sym, ◌∙◌, true≢false}
+use Rattle.std.proofs.Common.{◌≡◌, ℕ, ◌+◌, zero, suc, arith, List, [], ◌∷◌, ◌++◌, get_or, map, Some, None, Option, false, inl, inr, refl, subst, sym, ◌∙◌, true≢false}
 use Rattle.std.specs.Prelude.{All, Contains}
 use Rattle.dwc_base.proofs.OnLiterals.{files_on_literals}
 use Rattle.dwc_base.proofs.DraftsOnLiterals.{drafts_on_literals}
 use Rattle.dwc_base.proofs.SmallModule.{file_small}
 use Rattle.dwc_base.proofs.LineTables.{function_small, segments_small}
-use Rattle.dwc_base.proofs.CarriedSmall.{module_small, unit_small, unit_out, image_small, output-read, images-read, image-small}
-use Rattle.dwc_base.specs.declared.section_name.SectionName.TheVariants.{Abbrev, Info, Line}
+use Rattle.dwc_base.proofs.CarriedSmall.{module_small, unit_small, own_unit_out, unit_out, image_small, output_small, output-read, no_lines-read, images-read, image-small}
+use Rattle.dwc_base.specs.declared.section_name.SectionName.TheVariants.{Abbrev, Info, Line, Str}
 use Rattle.dwc_base.specs.Functions.{Function}
 use Rattle.dwc_base.specs.Carried.{Unit, Module, units}
 use Rattle.dwc_base.specs.Entries.{Entry}
-use Rattle.dwc_base.specs.Forests.{carried_units, drafts_of, first_refusal}
+use Rattle.dwc_base.specs.Forests.{carried_units, wanted_units, drafts_of, first_refusal}
 use Rattle.dwc_base.specs.LinesCarried.{LinesCarried}
 use Rattle.dwc_base.specs.LocationRules.{ExpressionSource}
 use Rattle.dwc_base.specs.LocationsCarried.{CarriesLocations, LocationsCarried, expressions_of}
@@ -20,14 +20,14 @@ use Rattle.dwc_base.specs.Values.{Value, is_location_name}
 use Rattle.dwc_base.proofs.ForestLaws.{Each}
 use Rattle.dwc_base.proofs.InLists.{IsIn, contains-in}
 use Rattle.dwc_base.specs.OutputCarried.{OutputCarried, widest}
-use Rattle.dwc_base.proofs.TreesSmall.{tree_small, carries-small as trees_carried-small}
+use Rattle.dwc_base.proofs.TreesSmall.{tree_small, trees_small, carries-small as trees_carried-small}
 use Rattle.dwc_base.proofs.OutputSmall.{form-small, names-small, targets-small, scopes-small, texts-small}
 use Rattle.dwc_base.proofs.FieldCases.{related-small}
 use Rattle.dwc_cli.specs.Inputs.{Input, Loaded, loaded, compilation_of}
 use Rattle.dwc_cli.proofs.OnLiterals.{map_on_literals}
 use Rattle.dwc_cli.specs.Printed.{printed}
 use Rattle.dwc_cli.specs.RunStatus.{Carries}
-use Rattle.dwc_cli.proofs.Examples.{map_bytes_small, map_small, output_small}
+use Rattle.dwc_cli.proofs.Examples.{map_bytes_small, map_small}
 
 unfoldable pub whole_on_literals : ℕ
 unfolding drafts_on_literals files_on_literals map_on_literals loaded
@@ -43,7 +43,7 @@ refusal_of (Some l) = first_refusal (compilation_of l)
 
 abbrev widths_of : Option Loaded → List ℕ
 widths_of None = []
-widths_of (Some l) = widest Abbrev (compilation_of l) ∷ widest Info (compilation_of l) ∷ widest Line (compilation_of l) ∷ []
+widths_of (Some l) = widest Abbrev (compilation_of l) ∷ widest Info (compilation_of l) ∷ widest Line (compilation_of l) ∷ widest Str (compilation_of l) ∷ []
 
 abbrev functions_of : Option Loaded → List (List Function)
 functions_of None = []
@@ -65,8 +65,8 @@ carried-small : carried_of (loaded input_small) ≡ unit_small ∷ []
 unfolding whole_on_literals
 carried-small = refl
 
--- the small module's sections are 17, 27 and 61 bytes long
-widths-small : widths_of (loaded input_small) ≡ 152 ∷ 63 ∷ 271 ∷ []
+-- the small module's sections are 85, 104, 61 and 108 bytes long; in the first two its own unit stands in front
+widths-small : widths_of (loaded input_small) ≡ (698 + 152) ∷ (176 + 63) ∷ 271 ∷ 108 ∷ []
 unfolding whole_on_literals
 widths-small = refl
 
@@ -87,9 +87,9 @@ pub lines_carried-small : LinesCarried (compilation_of read_small) output_small
 unfolding whole_on_literals
 lines_carried-small = record {
   whole = whole-small;
-  output = unit_out ∷ [];
+  output = own_unit_out ∷ unit_out ∷ [];
   output_read = output-read;
-  each = (record { images = image_small ∷ []; images_read = images-read; carried = record { input = segments_small; input_read = refl; each = ((function_small, refl, image-small), tt) } }, tt);
+  each = (no_lines-read, (record { images = image_small ∷ []; images_read = images-read; carried = record { input = segments_small; input_read = refl; each = ((function_small, refl, image-small), tt) } }, tt));
 }
 
 -- none of the attributes of the small module has the name of a location
@@ -112,19 +112,19 @@ carries-no_location c e out among = λ before after a plain are named last. absu
 abbrev said_at : ℕ → TreeEntry
 said_at place = get_or tree_small place (record { depth = 0; tag = 0; attributes = [] })
 
-locations-small : LocationsCarried (drafts_of false) (carried_units (compilation_of read_small)) (tree_small ∷ [])
+locations-small : LocationsCarried (drafts_of false) (wanted_units (compilation_of read_small)) trees_small
 unfolding whole_on_literals
 locations-small =
     let m : Module = get_or (compilation_of read_small).modules 0 module_small in
     let c : ExpressionSource = expressions_of (record { module_of = m; unit = unit_small }) in
-    (((λ e among made. carries-no_location c e (said_at 0) among), ((λ e among made. carries-no_location c e (said_at 1) among), tt)), tt)
+    (tt, (((λ e among made. carries-no_location c e (said_at 0) among), ((λ e among made. carries-no_location c e (said_at 1) among), tt)), tt))
 
 -- the wanted output carries the whole small input
 pub output_carried-small : OutputCarried (compilation_of read_small) output_small
 unfolding whole_on_literals
 output_carried-small = record {
   lines = lines_carried-small;
-  wanted = tree_small ∷ [];
+  wanted = trees_small;
   is_forest = refl;
   trees = trees_carried-small;
   targets = targets-small;

@@ -8,7 +8,7 @@ use Rattle.dwc_base.specs.declared.records.Endian.TheVariants.{Little, Big}
 use Rattle.dwc_base.specs.declared.records.MapFault.{MapFault}
 use Rattle.dwc_base.specs.Wasm.{WasmModule, wasm_module, module_sections}
 use Rattle.dwc_base.specs.Functions.{map_fault, functions_of}
-use Rattle.dwc_base.specs.Compiled.{LabelRange, ToldModule, values_from}
+use Rattle.dwc_base.specs.Compiled.{LabelRange, LinkageNames, ToldModule, values_from}
 use Rattle.dwc_base.specs.Carried.{Module, Compilation}
 use Rattle.dwc_base.specs.SharedSymbols.{shared_symbol}
 use Rattle.dwc_clif.specs.Registers.{Registers}
@@ -62,27 +62,31 @@ defined_counts ws = map (λ w. w.defined) ws
 abbrev pub ranges_of : MapFunction → ℕ → List LabelRange
 ranges_of f label = unwrap_or (finite.get f.labels label) []
 
--- what is told of the module at a place, of whose functions the first has a number, for a target that numbers registers
-abbrev pub told_of : Registers → ℕ → ℕ → MapModule → ToldModule
-told_of registers place number m = record { place = place; values = values_from number (map ranges_of m.functions); memory = m.memory; register = λ r. finite.get registers r }
+-- the names of the run time's functions
+abbrev pub names_of : MapFile → LinkageNames
+names_of m = record { set_memory = m.set_memory; resolve_memory = m.resolve_memory }
+
+-- what is told of the module at a place, of whose functions the first has a number, for a target that numbers registers, with names
+abbrev pub told_of : Registers → LinkageNames → ℕ → ℕ → MapModule → ToldModule
+told_of registers names place number m = record { place = place; values = values_from number (map ranges_of m.functions); memory = m.memory; register = λ r. finite.get registers r; names = names }
 
 -- the modules of a compilation from a place on: the sections of a file, the functions of the map, numbered over all modules, and what
 -- the map tells beside them
-abbrev pub modules_of : Registers → ℕ → ℕ → List WasmModule → List MapModule → List Module
-modules_of registers place number [] ms = []
-modules_of registers place number (w ∷ ws) [] = []
-modules_of registers place number (w ∷ ws) (m ∷ ms) =
+abbrev pub modules_of : Registers → LinkageNames → ℕ → ℕ → List WasmModule → List MapModule → List Module
+modules_of registers names place number [] ms = []
+modules_of registers names place number (w ∷ ws) [] = []
+modules_of registers names place number (w ∷ ws) (m ∷ ms) =
     record {
       sections = module_sections w;
       functions = functions_of w.code_offset number (map (λ f. f.address_map) m.functions);
-      told = told_of registers place number m;
+      told = told_of registers names place number m;
       compressed = w.compressed;
     }
-    ∷ modules_of registers (suc place) (number + length m.functions) ws ms
+    ∷ modules_of registers names (suc place) (number + length m.functions) ws ms
 
 -- the compilation of a map and modules
 abbrev pub compilation : MapFile → List WasmModule → Compilation
-compilation m ws = record { order = if m.target.big_endian then Big else Little; pointer_bytes = m.target.pointer_bytes; modules = modules_of m.target.registers 0 0 ws m.modules }
+compilation m ws = record { order = if m.target.big_endian then Big else Little; pointer_bytes = m.target.pointer_bytes; modules = modules_of m.target.registers (names_of m) 0 0 ws m.modules }
 
 -- what was read of an input: its modules, and its map
 pub record Loaded : Type 0 where

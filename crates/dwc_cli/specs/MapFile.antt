@@ -16,6 +16,7 @@ use Rattle.dwc_clif.specs.declared.architecture.Architecture.{Architecture}
 use Rattle.dwc_clif.specs.declared.architecture.Architecture.TheVariants.{X86_64, Aarch64, S390x, Riscv64, Pulley}
 use Rattle.dwc_clif.specs.Registers.{Registers}
 use Rattle.dwc_clif.specs.ValueLabels.{LabelledRanges}
+use Rattle.dwc_addr.specs.Compilations.{AreNames}
 
 -- one value behind another, none where the first is none
 infixl 10 ◌>>=◌
@@ -279,8 +280,9 @@ map_of_bytes defined bytes = do
   map_value defined d
 
 -- What is said of each map that is read for modules that define so many functions: the modules are as many as these, with as
--- many functions; modules and functions can be numbered with 32 bits; and an address has 4 or 8 bytes.
+-- many functions; modules and functions can be numbered with 32 bits; an address has 4 or 8 bytes; and the names have no zero byte.
 pub record IsMapFor (defined : List ℕ) (m : MapFile) : Type 0 where
   pub counts : have_counts defined m.modules ≡ true
   pub countable : is_countable m.modules ≡ true
   pub pointer : (m.target.pointer_bytes ≡ 4) ⊎ (m.target.pointer_bytes ≡ 8)
+  pub names : AreNames m.set_memory m.resolve_memory

@@ -5,7 +5,7 @@ use Rattle.std.specs.FinMap as finite
 use Rattle.serde_json.specs.declared.value.Value.{Value}
 use Rattle.serde_json.specs.View.{view, items_view}
 use Rattle.dwc_base.specs.declared.records.SymbolId.{SymbolId}
-use Rattle.dwc_base.specs.Compiled.{LabelRange}
+use Rattle.dwc_base.specs.Compiled.{LabelRange, LinkageNames}
 use Rattle.dwc_clif.specs.declared.metadata.CompiledFunctionMetadata.{CompiledFunctionMetadata}
 use Rattle.dwc_clif.specs.declared.value_label.ValueLabel.{ValueLabel}
 use Rattle.dwc_clif.specs.declared.value_label.ValueLocRange.{ValueLocRange}
@@ -37,6 +37,10 @@ target_with f = value.value_or finite.empty value.register_numbers_of (option_ma
 -- the names of a map: of the function that sets the memory, and of the one that resolves an address in it
 abbrev pub names_view : Names → List ℕ × List ℕ
 names_view n = (string_bytes n.set, string_bytes n.resolve)
+
+-- the same names, as a compilation has them
+abbrev pub linkage_names : Names → LinkageNames
+linkage_names n = record { set_memory = string_bytes n.set; resolve_memory = string_bytes n.resolve }
 
 -- a label with its ranges
 abbrev pub label_view : ValueLabel × Vec ValueLocRange Global → ℕ × List LabelRange

@@ -8,7 +8,7 @@ use Rattle.dwc_base.specs.declared.section_name.SectionName.{SectionName}
 use Rattle.dwc_base.specs.Sections.{unreadable, unsupported}
 use Rattle.dwc_base.specs.Wasm.{WasmModule}
 use Rattle.dwc_base.specs.Outputs.{OutputSection}
-use Rattle.dwc_base.specs.Refusals.{Refusal, of_place, missing_file, long_function, long_range, bad_label, lacks_memory, unmapped_register, long_jump}
+use Rattle.dwc_base.specs.Refusals.{Refusal, of_place, missing_file, long_function, long_range, bad_label, lacks_memory, unmapped_register, long_jump, far_memory}
 use Rattle.dwc_base.specs.Carried.{Compilation}
 use Rattle.dwc_base.specs.Forests.{first_refusal, trees_made}
 use Rattle.dwc_base.specs.OutputCarried.{OutputCarried, widest}
@@ -129,7 +129,7 @@ pub record AddressMapCause (read : Loaded) (status : ℕ) : Type 0 where
 
 -- the status of a refusal: of a place that is outside the grammar, of one of a refused kind, of a missing file, of a function that is too
 -- long, of a range that ends at no address; and of an expression: of a label with a range that begins above its end, of a module that lacks
--- a memory, of a register without a number, and of a jump that goes too far
+-- a memory, of a register without a number, and of a jump that goes too far; and of a memory too far behind in its context
 abbrev pub refusal_status : Refusal → ℕ
 refusal_status (of_place (unreadable what section offset)) = 10
 refusal_status (of_place (unsupported kind offset)) = 11
@@ -140,6 +140,7 @@ refusal_status (bad_label label) = 14
 refusal_status (lacks_memory m) = 15
 refusal_status (unmapped_register register) = 16
 refusal_status long_jump = 20
+refusal_status far_memory = 20
 
 -- the statuses of what is refused in reading, but for 20
 abbrev pub refusal_statuses : List ℕ

@@ -1,12 +1,12 @@
 //! The sections of DWARF for the functions of a map.
-ghost use Rattle.std.specs.Prelude.{◌≡◌, ◌⊎◌, map, if◌then◌else◌, IfOk};
+ghost use Rattle.std.specs.Prelude.{◌≡◌, ◌⊎◌, map, if◌then◌else◌, IfOk, string_bytes};
 ghost use Rattle.dwc_base.specs.declared.records.Endian.TheVariants.{Little, Big};
 ghost use Rattle.dwc_clif.specs.Registers.{registers_of};
-ghost use Rattle.dwc_addr.specs.Compilations.{lists, IsCounted};
+ghost use Rattle.dwc_addr.specs.Compilations.{lists, IsCounted, AreNames};
 ghost use Rattle.dwc_carry.specs.Emits as emitting;
 ghost use Rattle.dwc_cli.specs.Inputs.{Loaded};
 ghost use Rattle.dwc_cli.specs.MapFile.{IsMapFor};
-ghost use Rattle.dwc_cli.specs.MapViews.{map_file_view};
+ghost use Rattle.dwc_cli.specs.MapViews.{map_file_view, linkage_names};
 ghost use Rattle.dwc_cli.specs.Answers.{IsReadAs, Emits};
 ghost use Rattle.dwc_cli.specs.Compiled.{IsCompiled};
 
@@ -61,8 +61,9 @@ fn compiled<'a>(
     names: &'a Names,
     memory_offsets: Vec<ModuleMemoryOffset>,
 ) -> Result<Vec<DwarfSection>, Failure<'static>>
-    requires { IsCounted translations.now (lists functions.now) memory_offsets.items }
-    ensures { (read : Loaded) → IsCompiled isa.now.order isa.now.pointer_bytes isa.now.registers translations.now (lists functions.now) memory_offsets.items read → Emits read result }
+    requires counted { IsCounted translations.now (lists functions.now) memory_offsets.items }
+    requires names { AreNames (string_bytes names.now.set) (string_bytes names.now.resolve) }
+    ensures { (read : Loaded) → IsCompiled isa.now.order isa.now.pointer_bytes isa.now.registers (linkage_names names.now) translations.now (lists functions.now) memory_offsets.items read → Emits read result }
 {
     let names = LinkageNames {
         set_memory: &names.set,

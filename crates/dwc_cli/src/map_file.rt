@@ -411,8 +411,8 @@ fn defined_counts(alloc: Global, modules: &[ModuleTranslation<'_>]) -> Result<Ve
 /// stands twice, or the modules are not as many as these, with as many functions as each of these defines. Unknown fields
 /// are passed over, and of two members of one name the later counts.
 ///
-/// A map that is answered has the modules and functions that are asked for, fewer than 2^32 each, and addresses of 4 or 8
-/// bytes. The begin and the end of a function are the same in its record and in its address map.
+/// A map that is answered has the modules and functions that are asked for, fewer than 2^32 each, addresses of 4 or 8 bytes, and
+/// names without a zero byte. The begin and the end of a function are the same in its record and in its address map.
 ///
 /// # Errors
 ///

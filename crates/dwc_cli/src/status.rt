@@ -33,7 +33,8 @@ pub enum Status {
     InvalidAttributeValue = 15,
     /// A value that an expression needs lies in a register without a number of DWARF.
     UnmappedRegister = 16,
-    /// A section, a function or an expression is too long, a range ends at no address, or a jump goes too far.
+    /// A section, a function or an expression is too long, a range ends at no address, a jump goes too far, or a memory is too far
+    /// behind in its context.
     TooLarge = 20,
     /// Two functions have one symbol.
     SharedSymbol = 21,

@@ -1,6 +1,6 @@
 //! A module that defines one function, compiled.
 ghost use Rattle.std.specs.Prelude.{◌≡◌, [], ◌∷◌, map, length, IfOk};
-ghost use Rattle.dwc_addr.specs.Compilations.{lists};
+ghost use Rattle.dwc_addr.specs.Compilations.{lists, AreNames};
 
 use dwc_addr::{AddressTransform, Compilation, LinkageNames, ModuleMemoryOffset};
 use dwc_base::{Endian, FilePos, ModuleTranslation, StaticModuleIndex, SymbolId, Tunables};
@@ -87,6 +87,7 @@ fn transform_over<'a>(
 ) -> Result<AddressTransform, Fail>
     requires modules { map (λ m. m.defined_funcs) modules.now ≡ 1 ∷ [] }
     requires functions { map length (lists functions.now) ≡ 1 ∷ [] }
+    requires names { AreNames names.set_memory.now names.resolve_memory.now }
 {
     let mut offsets = Vec::new(alloc);
     offsets.push(ModuleMemoryOffset::None)?;

@@ -11,8 +11,8 @@ one-function [] e = absurd (omega (arith, ap length e))
 one-function (f ∷ []) e = let first : length f ≡ 1 = ap (λ xs. get_or xs 0 0) e in omega (arith, first)
 one-function (f ∷ g ∷ fs) e = absurd (omega (arith, ap length e))
 
-pub new-requires : goal.new-requires
-new-requires c =
+pub new-requires-clause-counted : goal.new-requires-clause-counted
+new-requires-clause-counted c =
     let one : length c.args.modules.now ≡ 1 = sym (length-map c.args.modules.now (λ m. m.defined_funcs)) ∙ ap length c.requires.modules in
     record {
       defined = c.requires.functions ∙ sym c.requires.modules;
