@@ -31,6 +31,11 @@ def body_of(text, name):
     return next((bytes(body) for other, body, _ in sections_of(text) if other == name), b"")
 
 
+def texts_of(text):
+    """The texts of printed sections, in order."""
+    return [piece.decode() for piece in body_of(text, ".debug_str").split(b"\0")[:-1]]
+
+
 def rows_of(text):
     """Of each line sequence of the printed sections the offsets and lines of its rows, by either byte order and address size."""
     body = body_of(text, ".debug_line")

@@ -1,6 +1,7 @@
 """Cases of entries: which are kept, what each attribute becomes, and what is refused of them."""
 
 from make_modules import custom, sleb, u32, uleb
+from worked_texts import NAMED_TEXT, UNTYPED_TEXT
 
 # Names and tags by their codes.
 NAME, TYPE, DECL_FILE, CALL_FILE, SIBLING, LOW_PC, HIGH_PC, RANGES, STMT_LIST = 0x03, 0x49, 0x3A, 0x58, 0x01, 0x11, 0x12, 0x55, 0x10
@@ -101,7 +102,7 @@ def entry_cases(cases, module, small_map):
     f = (NAME, STRP, u32(0))
     integer, char = Entry(BASE_TYPE, (NAME, STRP, u32(2)), key="int"), Entry(BASE_TYPE, (NAME, STRP, u32(6)))
     carried("a type that is named, and one that is not", root(subprogram(f, to("int")), integer, char), sections=strings, text=NAMED_TEXT)
-    carried("a type at which no entry begins", root(subprogram(f, (TYPE, REF4, u32(17))), integer, char), sections=strings)
+    carried("a type at which no entry begins", root(subprogram(f, (TYPE, REF4, u32(17))), integer, char), sections=strings, text=UNTYPED_TEXT)
     kept_cases(carried)
     reference_cases(carried)
     value_cases(carried)
@@ -109,23 +110,6 @@ def entry_cases(cases, module, small_map):
     refused_cases(carried, refused)
     list_cases(carried)
     refused_lists(carried, refused)
-
-
-NAMED_TEXT = """section .debug_abbrev 28
-01110110170000022e001101120f030e49130000032400030e000000
-section .debug_info 40
-240000000400000000000801000000000200000000000000001e0000000022000000030200000000
-reloc 6 4 section .debug_abbrev 0
-reloc 12 4 section .debug_line 0
-reloc 17 8 func 0 0
-reloc 26 4 section .debug_str 0
-reloc 35 4 section .debug_str 2
-section .debug_line 61
-3900000004001b000000010101fb0e0d00010101010000000100000100612e63000000000000090200000000000000000301010301020f01020f000101
-reloc 40 8 func 0 0
-section .debug_str 6
-6600696e7400
-"""
 
 
 def kept_cases(carried):

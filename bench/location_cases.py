@@ -10,6 +10,7 @@ from make_modules import sleb, u32, uleb
 from plain_entries import Refused
 from range_cases import EXPRLOC, INLINED, LOCATION, LOCLISTX, MOST, PLACES, SECOND, SMALL, TEN, TEN_MOVED
 from range_cases import RNGLISTX, bodies, for_bytes, listed, low, low_8, program_of, told_of, u64, until, within
+from worked_texts import PART_TEXT, WHOLE_TEXT
 
 FRAME_BASE, BYTE_SIZE, STRING_LENGTH, MEMBER_PLACE, LOCLISTS_BASE = 0x40, 0x0B, 0x19, 0x38, 0x8C
 VMCTX = 0xFFFFFFFE
@@ -172,36 +173,6 @@ def worked_cases(made):
     made.carried("an expression that needs nothing stays", plain("31 9F", "31"), places=["319f", "31"])
     made.carried("a jump into an operation", plain("28 01 00 10 23 9F"), places=[])
     made.carried("an offset from no frame base", plain("91 12", "91 12 9F"), places=[])
-
-
-PART_TEXT = """section .debug_abbrev 26
-01110110170000022e011101120f401800000334000217000000
-section .debug_info 35
-1f0000000400000000000801000000000200000000000000001e019c03000000000000
-reloc 6 4 section .debug_abbrev 0
-reloc 12 4 section .debug_line 0
-reloc 17 8 func 0 0
-reloc 29 4 section .debug_loc 0
-section .debug_line 61
-3900000004001b000000010101fb0e0d00010101010000000100000100612e63000000000000090200000000000000000301010301020f01020f000101
-reloc 40 8 func 0 0
-section .debug_loc 50
-0000000000000000140000000000000010007c0023127ed00006160cffffffff1a2200000000000000000000000000000000
-reloc 0 8 func 0 0
-reloc 8 8 func 0 20
-"""
-
-WHOLE_TEXT = """section .debug_abbrev 26
-01110110170000022e011101120f401800000334000218000000
-section .debug_info 48
-2c0000000400000000000801000000000200000000000000001e019c03107c0023127ed00006160cffffffff1a220000
-reloc 6 4 section .debug_abbrev 0
-reloc 12 4 section .debug_line 0
-reloc 17 8 func 0 0
-section .debug_line 61
-3900000004001b000000010101fb0e0d00010101010000000100000100612e63000000000000090200000000000000000301010301020f01020f000101
-reloc 40 8 func 0 0
-"""
 
 
 # ---- operations

@@ -6,6 +6,7 @@ from location_cases import START_LENGTH, VMCTX, WHOLE, at, block, by_index, cfa,
 from make_modules import u32, uleb
 from range_cases import EXPRLOC, LOCATION, MOST, PLACES, SECOND, SMALL, low, within
 from range_cases import listed as listed_ranges
+from worked_texts import MEMORY_AT_0_TEXT, MEMORY_TEXT, OWN_TEXT
 
 AT, ON_BASE, IN_BLOCK, AT_5 = 27, 32, 36, 28  # the expression of the first variable below a subprogram, or below a block in it
 AT_LIST, AT_LIST_5 = "Read LocationList .debug_loc 0", "Read LocationList .debug_loclists 0"
@@ -317,19 +318,19 @@ NO_RANGES = ["null", '{"0":20}', '0,20,"reg"', '0,20,"reg",1,0', '0,20,"Reg",1',
 NO_RANGES += ['4294967296,20,"reg",1', '0.0,20,"reg",1', '0,20,"reg",-1', '0,20,"reg",4294967296', '0,20,"reg",null', '0,20,"cfa",9223372036854775808', '0,20,"cfa",-9223372036854775809']
 NO_RANGES += ['0,20,"cfa",1.0', '0,20,"cfa",-0', '0,20,"cfa","8"']
 HAVE_VALUES = [
-    (TARGET, '"registers":[]'),
-    (TARGET, '"registers":[[4294967295,65535],[0,0],[1,0]]'),
-    (MEMORY, '"memory":null'),
-    (MEMORY, '"memory":{"imported":[0,4294967295]}'),
-    (MEMORY, '"memory":{"defined":-1,"defined":0}'),
-    (LABELS, "[]"),
-    (LABELS, "[[4294967295,[]],[0,[]]]"),
-    (LABELS, '[[3,[[9,4,"reg",4294967295],[4294967295,0,"cfa",9223372036854775807],[0,0,"cfa",-9223372036854775808]]]]'),
+    (TARGET, '"registers":[]', MEMORY_TEXT),
+    (TARGET, '"registers":[[4294967295,65535],[0,0],[1,0]]', MEMORY_TEXT),
+    (MEMORY, '"memory":null', OWN_TEXT),
+    (MEMORY, '"memory":{"imported":[0,4294967295]}', OWN_TEXT),
+    (MEMORY, '"memory":{"defined":-1,"defined":0}', MEMORY_AT_0_TEXT),
+    (LABELS, "[]", MEMORY_TEXT),
+    (LABELS, "[[4294967295,[]],[0,[]]]", MEMORY_TEXT),
+    (LABELS, '[[3,[[9,4,"reg",4294967295],[4294967295,0,"cfa",9223372036854775807],[0,0,"cfa",-9223372036854775808]]]]', MEMORY_TEXT),
 ]
 
 
 def map_cases(made, front):
-    """Values of the map's fields, and what has none; a module without sections of DWARF then prints nothing."""
+    """Values of the map's fields, and what has none; a module without sections of DWARF then prints its own unit."""
     told = made.told(made.made([within()], [], [SMALL])[1], [{3: [reg(0, 20, 1)], VMCTX: [cfa(0, 30, -16)]}], DEFINED)
     text = made.map_of(told, registers=[[1, 12], [2, 14]])
     assert all(text.count(piece) == 1 for piece in (TARGET, MEMORY, LABELS))
@@ -338,8 +339,8 @@ def map_cases(made, front):
     for field, old, values in [*fields, ("labels", LABELS, NO_LABELS), ("ranges", LABELS, ranges)]:
         for number, value in enumerate(values):
             made.cases.refused_module(f"{field} {number} of a map that has no value", 6, "malformed map", front, map_text=text.replace(old, value))
-    for number, (old, new) in enumerate(HAVE_VALUES):
-        made.cases.carried(f"values {number} of a map that has one", text.replace(old, new), front, text="")
+    for number, (old, new, wanted) in enumerate(HAVE_VALUES):
+        made.cases.carried(f"values {number} of a map that has one", text.replace(old, new), front, text=wanted)
     on_base = made.made([framed(variable("91 12"))], [], [SMALL])[0]
     without = lambda piece: text.replace(piece, "").replace(",,", ",").replace("{,", "{").replace(",}", "}")
     made.refused_modules("a map without registers", 16, "UnmappedRegister 1", without(TARGET), on_base)

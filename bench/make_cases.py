@@ -16,10 +16,12 @@ import check_cases
 import entry_cases
 import location_cases
 import location_refusals
+import own_unit_cases
 import plain_run
 import range_cases
 from form_cases import FORMS, REFUSED_FORMS
 from make_modules import custom, functions_module, map_of as map_of_modules, sleb, u32, uleb
+from worked_texts import BIG_TEXT, FOUR_TEXT, OWN_TEXT, SMALL_TEXT, TWO_TEXT
 
 BENCH = os.path.dirname(__file__)
 CRATE = os.path.join(BENCH, "..", "crates", "dwc_cases")
@@ -79,17 +81,6 @@ def map_of(*modules, **target):
 
 
 MAP = map_of([function()])
-SMALL_TEXT = """section .debug_abbrev 17
-01110110170000022e001101120f000000
-section .debug_info 27
-170000000400000000000801000000000200000000000000001e00
-reloc 6 4 section .debug_abbrev 0
-reloc 12 4 section .debug_line 0
-reloc 17 8 func 0 0
-section .debug_line 61
-3900000004001b000000010101fb0e0d00010101010000000100000100612e63000000000000090200000000000000000301010301020f01020f000101
-reloc 40 8 func 0 0
-"""
 
 
 # ---- files of cases
@@ -113,13 +104,13 @@ class Cases:
         """A run that must end with a status and a line."""
         self.add("run", name, [*(f"word {word}" for word in words), *self.files(files)], f"status {status}\ndwarfcarry: {line}\n")
 
-    def carried(self, name, map_text, *modules, text=None, rows=None, code=None, places=None):
-        """A run that must end well; its text, the rows (line and native offset) of each sequence, or what entries say of their code or
-        of the places of values may be given by hand."""
+    def carried(self, name, map_text, *modules, text=None, rows=None, code=None, places=None, texts=None):
+        """A run that must end well; its text, the rows (line and native offset) of each sequence, what entries say of their code or of
+        the places of values, or the texts that stand in it may be given by hand."""
         printed = plain_run.printed_text(map_text.encode(), list(modules))
         for check in (plain_run.check_bytes, plain_run.check_scopes, plain_run.check_locations):
             check(map_text.encode(), list(modules))
-        read = [(text, str), (rows, check_cases.rows_of), (code, check_cases.code_of), (places, check_cases.places_of)]
+        read = [(text, str), (rows, check_cases.rows_of), (code, check_cases.code_of), (places, check_cases.places_of), (texts, check_cases.texts_of)]
         for wanted, said in read:
             if wanted is not None and wanted != said(printed):
                 sys.exit(f"{name}: {said(printed)}")
@@ -257,22 +248,22 @@ NO_VALUE = [
     ("[5,25]", "[5,4294967295]"),
 ]
 
-# Pieces with which it still has one; without sections of DWARF a run then prints nothing, unless the address map is bad.
+# Pieces with which it still has one; without sections of DWARF a run then prints the module's own unit, unless something is refused.
 ALLOWED = [
-    ('"x86_64"', '"x86_64","pointer_bytes":4', None),
-    ('"x86_64"', '"x86_64","pointer_bytes":8', None),
-    ('"x86_64"', '"pulley","big_endian":true', None),
-    ('"symbol":0', '"symbol":4294967295', None),
-    ('"symbol":0', '"symbol":null', None),
-    ('"symbol":0', '"symbol":-1,"symbol":0', None),
-    ('"start":22', '"start":4294967294', "Reversed"),
-    ('"start":22', '"start":null', "NoStart"),
-    ('"end":33', '"end":null', "NoStart"),
-    ('30,"map"', '30,"body_offset":4294967295,"map"', "BodyOffset"),
-    ('"body_len":30', '"body_len":4294967295', None),
-    ("[5,25]", "[4294967295,4294967294]", "CodePastBody"),
-    ("[[5,25],[8,null],[15,30],[23,null]]", "[]", None),
-    ('"target"', '"unknown":[1.5,{"a":null}],"target"', None),
+    ('"x86_64"', '"x86_64","pointer_bytes":4', FOUR_TEXT),
+    ('"x86_64"', '"x86_64","pointer_bytes":8', OWN_TEXT),
+    ('"x86_64"', '"pulley","big_endian":true', BIG_TEXT),
+    ('"symbol":0', '"symbol":4294967295', OWN_TEXT),
+    ('"symbol":0', '"symbol":null', OWN_TEXT),
+    ('"symbol":0', '"symbol":-1,"symbol":0', OWN_TEXT),
+    ('"start":22', '"start":4294967294', "BadAddressMap 0 0 Reversed"),
+    ('"start":22', '"start":null', "BadAddressMap 0 0 NoStart"),
+    ('"end":33', '"end":null', "BadAddressMap 0 0 NoStart"),
+    ('30,"map"', '30,"body_offset":4294967295,"map"', "BadAddressMap 0 0 BodyOffset"),
+    ('"body_len":30', '"body_len":4294967295', "TooLarge Addend"),
+    ("[5,25]", "[4294967295,4294967294]", "BadAddressMap 0 0 CodePastBody"),
+    ("[[5,25],[8,null],[15,30],[23,null]]", "[]", OWN_TEXT),
+    ('"target"', '"unknown":[1.5,{"a":null}],"target"', OWN_TEXT),
 ]
 
 
@@ -297,15 +288,14 @@ def map_cases():
     for count in (1, 3):
         cases.refused_module(f"a map of two modules, {count} modules", 6, "malformed map", *[FRONT] * count, map_text=two)
     cases.refused_module("a map that lacks a function", 6, "malformed map", FRONT, FRONT, map_text=map_of([function()], []))
-    for number, (old, new, fault) in enumerate(ALLOWED):
+    for number, (old, new, wanted) in enumerate(ALLOWED):
         text = MAP.replace(old, new)
         assert text != MAP
-        if '"body_len":4294967295' in text:
-            cases.refused_module(f"map {number} with a value", 20, "TooLarge Addend", FRONT, map_text=text)
-        elif fault is None:
-            cases.carried(f"map {number} with a value", text, FRONT, text="")
+        if wanted.startswith("section"):
+            cases.carried(f"map {number} with a value", text, FRONT, text=wanted)
         else:
-            cases.refused_module(f"map {number} with a value", 13, f"BadAddressMap 0 0 {fault}", FRONT, map_text=text)
+            status = 20 if wanted == "TooLarge Addend" else 13
+            cases.refused_module(f"map {number} with a value", status, wanted, FRONT, map_text=text)
     bad_maps(cases)
     return cases
 
@@ -336,8 +326,8 @@ def bad_maps(cases):
 def unit_run_cases():
     cases = Cases("units.txt")
     cases.carried("the small module", MAP, SMALL, text=SMALL_TEXT, rows=[[(0, 2), (15, 3)]])
-    cases.carried("no sections of DWARF", MAP, FRONT, text="")
-    cases.carried("two modules", map_of([function()], [function(symbol=1)]), SMALL, SMALL)
+    cases.carried("no sections of DWARF", MAP, FRONT, text=OWN_TEXT)
+    cases.carried("two modules", map_of([function()], [function(symbol=1)]), SMALL, SMALL, text=TWO_TEXT)
     for place, by, status, line in [
         (0, "FFFFFFFF", 11, "Unsupported Format64 0"),
         (0, "17", 10, "Read UnitHeader .debug_info 0"),
@@ -409,11 +399,11 @@ def shapes(cases):
     bare_entries = bytes.fromhex("01 02 02000000 0B000000 00")
     cases.carried("a root without a line table", MAP, module(bare, unit(bare_entries)))
     partial = changed(ABBREVIATIONS, 1, b"\x3C")
-    cases.carried("a root that is no compile unit", MAP, module(partial), text="")
+    cases.carried("a root that is no compile unit", MAP, module(partial), text=OWN_TEXT)
     for begin, name in [(0, "0"), (0xFFFFFFFF, "FFFFFFFF"), (1, "1")]:
-        cases.carried(f"a subprogram at {name}", MAP, module(info=unit(entries(4, begin))), text="")
-    cases.carried("a function without a symbol", map_of([function(symbol=None)]), SMALL, text="")
-    cases.carried("a unit of nothing but its root", MAP, module(info=unit(bytes.fromhex("01 00000000 00"))), text="")
+        cases.carried(f"a subprogram at {name}", MAP, module(info=unit(entries(4, begin))), text=OWN_TEXT)
+    cases.carried("a function without a symbol", map_of([function(symbol=None)]), SMALL, text=OWN_TEXT)
+    cases.carried("a unit of nothing but its root", MAP, module(info=unit(bytes.fromhex("01 00000000 00"))), text=OWN_TEXT)
     three = unit() + unit(entries(4, 0)) + unit(version=3)
     cases.carried("three units, the second dropped", MAP, module(info=three))
     cases.carried("two units of one line table", MAP, module(info=unit() + unit()))
@@ -422,11 +412,11 @@ def shapes(cases):
     two = bytes.fromhex("01 00000000 02 02000000 0B000000 02 05000000 01000000 00")
     cases.carried("two subprograms in one function", MAP, module(info=unit(two)))
     named = ROOT + bytes.fromhex("02 2E 00 0308 1101 1206 0000 00")
-    cases.carried("a name that no entry has", MAP, module(named, unit(bytes.fromhex("01 00000000 00"))), text="")
+    cases.carried("a name that no entry has", MAP, module(named, unit(bytes.fromhex("01 00000000 00"))), text=OWN_TEXT)
     leaf = changed(ABBREVIATIONS, 2, b"\0")
-    cases.carried("a root without children", MAP, module(leaf), text="")
+    cases.carried("a root without children", MAP, module(leaf), text=OWN_TEXT)
     twice = module(info=unit(bytes.fromhex("01 00000000 01 00000000 00")))
-    cases.carried("a compile unit below the root", MAP, twice, text="")
+    cases.carried("a compile unit below the root", MAP, twice, text=OWN_TEXT)
 
 
 BODY = bytes.fromhex("00 010101010101010101 0B")
@@ -568,7 +558,7 @@ def refused_tables(cases):
         refused = module(line=rich(bytes.fromhex(code)))
         cases.refused_module(f"a program with {name}", status, lines[status], refused)
         unlinked = module(info=unit(entries(4, 0)), line=rich(bytes.fromhex(code)))
-        cases.carried(f"{name}, of a unit that is not carried", MAP, unlinked, text="")
+        cases.carried(f"{name}, of a unit that is not carried", MAP, unlinked, text=OWN_TEXT)
     for name, line, refusal in [
         ("of version 1", bytes.fromhex("06000000 0100 00000000"), "Unsupported Version 0"),
         ("of two operations", bytes.fromhex("0E000000 0400 08000000 010201000101 0000"), "Unsupported Operations 0"),
@@ -783,6 +773,7 @@ def main():
         entry_run_cases(),
         range_cases.range_cases(Cases("ranges.txt"), module, map_of),
         location_refusals.refusal_cases(location_cases.location_cases(Cases("locations.txt"), module, map_of), FRONT),
+        own_unit_cases.own_unit_cases(Cases("own_units.txt"), module, map_of),
         line_cases(),
         listing_cases(),
     ]

@@ -11,6 +11,7 @@ from plain_entries import Reader, Refused, Unit, kept_offsets, read_table, read_
 from plain_entries import AT_FRAME_BASE, AT_HIGH_PC, AT_LOW_PC, AT_RANGES, AT_STMT_LIST, DROPPED_NAMES, TAG_COMPILE_UNIT
 from plain_expressions import Machine, built, compiled, places_of
 from plain_locations import is_location, locations_of
+from plain_own_units import own_unit
 from plain_trees import Carried, entries_in_force, tree_of, write_tree
 
 DROPPED = (0, 0xFFFFFFFF)
@@ -50,7 +51,7 @@ class Function:
 
 
 def read_map(data, codes):
-    """The target, and of each module the functions, with wasm offsets in place of those of the file, and what their code runs on."""
+    """What is told, and of each module the functions, with wasm offsets in place of those of the file, and what their code runs on."""
     value, number, modules = json.loads(data), 0, []
     registers = dict(value["target"].get("registers", []))
     for i, (told, code) in enumerate(zip(value["modules"], codes)):
@@ -61,7 +62,7 @@ def read_map(data, codes):
             functions.append(Function(number, f["symbol"], f["start"] - code, f["end"] - code, f["body_len"], entries, labels))
             number += 1
         modules.append((functions, Machine(i, partial(function_at, functions), registers, told.get("memory"))))
-    return value["target"], modules
+    return value, modules
 
 
 def function_at(functions, address):
@@ -434,9 +435,11 @@ def carried_units(sections, machine):
 def printed_text(map_bytes, modules):
     """The text that a run on a map and modules prints."""
     files = [read_wasm(data) for data in modules]
-    target, maps = read_map(map_bytes, [code for code, _ in files])
+    told, maps = read_map(map_bytes, [code for code, _ in files])
+    target, (set_name, _) = told["target"], told["names"]
     writer, units = Writer(target), []
     for (_, sections), (functions, machine) in zip(files, maps):
+        units.append((own_unit(len(units), set_name, machine.memory), None))
         carried = list(carried_units(sections, machine))
         places = {e.offset: (len(units) + i, j) for i, unit in enumerate(carried) for j, e in enumerate(unit.entries)}
         for unit in carried:

@@ -6,6 +6,7 @@ import plain_run
 from entry_cases import ADDR, BASE_TYPE, BLOCK, COMPILE_UNIT, DATA1, DATA2, DATA4, DATA8, GREATEST, HIGH_PC, LENGTH, LINES, LISTED, LOW_PC, NAME, PARAMETER
 from entry_cases import RANGES, SEC_OFFSET, STRING, STRP, SUBPROGRAM, TYPE, Entry, Info, kinds, pairs, root, subprogram, to
 from make_modules import section, sleb, u32, uleb
+from worked_texts import BOUNDS_TEXT, LIST_TEXT
 
 LABEL, INLINED, START_SCOPE, ENTRY_PC, RETURN_PC, LOCATION = 0x0A, 0x1D, 0x2C, 0x52, 0x7D, 0x02
 SDATA, UDATA, FLAG, EXPRLOC, ADDRX, RNGLISTX, LOCLISTX = 0x0D, 0x0F, 0x19, 0x18, 0x1B, 0x23, 0x22
@@ -144,39 +145,6 @@ def range_cases(cases, module, map_of):
     refusal_order(made)
     length_cases(made)
     return cases
-
-
-BOUNDS_TEXT = """section .debug_abbrev 26
-01110110170000022e011101120f0000030b001101120f000000
-section .debug_info 38
-220000000400000000000801000000000200000000000000001e030500000000000000120000
-reloc 6 4 section .debug_abbrev 0
-reloc 12 4 section .debug_line 0
-reloc 17 8 func 0 0
-reloc 27 8 func 0 5
-section .debug_line 61
-3900000004001b000000010101fb0e0d00010101010000000100000100612e63000000000000090200000000000000000301010301020f01020f000101
-reloc 40 8 func 0 0
-"""
-
-LIST_TEXT = """section .debug_abbrev 24
-01110110170000022e011101120f0000030b005517000000
-section .debug_info 33
-1d0000000400000000000801000000000200000000000000001e03000000000000
-reloc 6 4 section .debug_abbrev 0
-reloc 12 4 section .debug_line 0
-reloc 17 8 func 0 0
-reloc 27 4 section .debug_ranges 0
-section .debug_line 61
-3900000004001b000000010101fb0e0d00010101010000000100000100612e63000000000000090200000000000000000301010301020f01020f000101
-reloc 40 8 func 0 0
-section .debug_ranges 48
-05000000000000000f000000000000000f000000000000001e0000000000000000000000000000000000000000000000
-reloc 0 8 func 0 5
-reloc 8 8 func 0 15
-reloc 16 8 func 0 15
-reloc 24 8 func 0 30
-"""
 
 
 def worked_cases(made):

@@ -1,0 +1,240 @@
+"""The printed texts of worked examples, written by hand: a module's own unit, alone and in front of a carried unit."""
+
+# ---- the own unit of a module that defines no memory
+
+OWN_ABBREVIATIONS = "011101030e250e13050000" "022400030e3e0b0b0b0000" "030f00030e49130000" "041301030e0000" "052e016e0e030e0000" "0605004913340c0000" "072400030e0b0b3e0b0000" "00"
+OWN_ENTRIES = "49000000" "0400" "00000000" "08" "0100000000" "1c000000" "1d00" "0225000000" "0701" "0328000000" "16000000" "042c000000"
+OWN_ENTRIES += "053e000000" "46000000" "063c000000" "01" "0000" "034a000000" "26000000" "075d000000" "0407" "00"
+OWN_TEXTS = b"WasmtimeModuleSyntheticUnit\0wasmtime\0u8\0u8*\0WasmtimeVMContext\0set_mem\0set\0WasmtimeVMContext*\0WebAssemblyPtr\0".hex()
+OWN_RELOCATIONS = """reloc 6 4 section .debug_abbrev 0
+reloc 12 4 section .debug_str 0
+reloc 16 4 section .debug_str 28
+reloc 23 4 section .debug_str 37
+reloc 30 4 section .debug_str 40
+reloc 39 4 section .debug_str 44
+reloc 44 4 section .debug_str 62
+reloc 48 4 section .debug_str 70
+reloc 61 4 section .debug_str 74
+reloc 70 4 section .debug_str 93
+"""
+
+OWN_TEXT = f"""section .debug_abbrev 68
+{OWN_ABBREVIATIONS}
+section .debug_info 77
+{OWN_ENTRIES}
+{OWN_RELOCATIONS}section .debug_str 108
+{OWN_TEXTS}
+"""
+
+# The same for addresses of four bytes, and with the highest byte of a number first.
+FOUR_TEXT = OWN_TEXT.replace("04000000000008", "04000000000004")
+
+BIG_ENTRIES = "00000049" "0004" "00000000" "08" "0100000000" "0000001c" "001d" "0200000025" "0701" "0300000028" "00000016" "040000002c"
+BIG_ENTRIES += "050000003e" "00000046" "060000003c" "01" "0000" "030000004a" "00000026" "070000005d" "0407" "00"
+BIG_TEXT = OWN_TEXT.replace(OWN_ENTRIES, BIG_ENTRIES)
+
+# ---- that of one that defines its memory at 80
+
+MEMORY_ABBREVIATIONS = "011101030e250e13050000" "022400030e3e0b0b0b0000" "030f00030e49130000" "041301030e0b060000" "050d00030e4913380f0000" "062e016e0e030e0000"
+MEMORY_ABBREVIATIONS += "0705004913340c0000" "082400030e0b0b3e0b0000" "00"
+MEMORY_ENTRIES = "57000000" "0400" "00000000" "08" "0100000000" "1c000000" "1d00" "0225000000" "0701" "0328000000" "16000000" "042c000000" "58000000"
+MEMORY_ENTRIES += "053e000000" "1d000000" "50" "0645000000" "4d000000" "074a000000" "01" "0000" "0351000000" "26000000" "0864000000" "0407" "00"
+MEMORY_TEXTS = b"WasmtimeModuleSyntheticUnit\0wasmtime\0u8\0u8*\0WasmtimeVMContext\0memory\0set_mem\0set\0WasmtimeVMContext*\0WebAssemblyPtr\0".hex()
+MEMORY_RELOCATIONS = """reloc 6 4 section .debug_abbrev 0
+reloc 12 4 section .debug_str 0
+reloc 16 4 section .debug_str 28
+reloc 23 4 section .debug_str 37
+reloc 30 4 section .debug_str 40
+reloc 39 4 section .debug_str 44
+reloc 48 4 section .debug_str 62
+reloc 58 4 section .debug_str 69
+reloc 62 4 section .debug_str 77
+reloc 75 4 section .debug_str 81
+reloc 84 4 section .debug_str 100
+"""
+
+MEMORY_TEXT = f"""section .debug_abbrev 81
+{MEMORY_ABBREVIATIONS}
+section .debug_info 91
+{MEMORY_ENTRIES}
+{MEMORY_RELOCATIONS}section .debug_str 115
+{MEMORY_TEXTS}
+"""
+
+# The same at 0, at the greatest offset, of which the number has five bytes, and at 80 with addresses of four bytes and the highest byte
+# of a number first.
+MEMORY_AT_0_TEXT = MEMORY_TEXT.replace("5800000005", "0800000005").replace("1d0000005006", "1d0000000006")
+
+GREATEST_ENTRIES = "5b000000" "0400" "00000000" "08" "0100000000" "1c000000" "1d00" "0225000000" "0701" "0328000000" "16000000" "042c000000" "ffffffff"
+GREATEST_ENTRIES += "053e000000" "1d000000" "f7ffffff0f" "0645000000" "4d000000" "074e000000" "01" "0000" "0351000000" "26000000" "0864000000" "0407" "00"
+GREATEST_MEMORY_TEXT = f"""section .debug_abbrev 81
+{MEMORY_ABBREVIATIONS}
+section .debug_info 95
+{GREATEST_ENTRIES}
+reloc 6 4 section .debug_abbrev 0
+reloc 12 4 section .debug_str 0
+reloc 16 4 section .debug_str 28
+reloc 23 4 section .debug_str 37
+reloc 30 4 section .debug_str 40
+reloc 39 4 section .debug_str 44
+reloc 48 4 section .debug_str 62
+reloc 62 4 section .debug_str 69
+reloc 66 4 section .debug_str 77
+reloc 79 4 section .debug_str 81
+reloc 88 4 section .debug_str 100
+section .debug_str 115
+{MEMORY_TEXTS}
+"""
+
+BIG_MEMORY_ENTRIES = "00000057" "0004" "00000000" "04" "0100000000" "0000001c" "001d" "0200000025" "0701" "0300000028" "00000016" "040000002c" "00000058"
+BIG_MEMORY_ENTRIES += "050000003e" "0000001d" "50" "0600000045" "0000004d" "070000004a" "01" "0000" "0300000051" "00000026" "0800000064" "0407" "00"
+BIG_MEMORY_TEXT = MEMORY_TEXT.replace(MEMORY_ENTRIES, BIG_MEMORY_ENTRIES)
+
+# ---- in front of carried units
+
+SMALL_LINES = """section .debug_line 61
+3900000004001b000000010101fb0e0d00010101010000000100000100612e63000000000000090200000000000000000301010301020f01020f000101
+reloc 40 8 func 0 0
+"""
+
+# The small module: a root and a subprogram.
+SMALL_TEXT = f"""section .debug_abbrev 85
+{OWN_ABBREVIATIONS}01110110170000022e001101120f000000
+section .debug_info 104
+{OWN_ENTRIES}170000000400440000000801000000000200000000000000001e00
+{OWN_RELOCATIONS}reloc 83 4 section .debug_abbrev 68
+reloc 89 4 section .debug_line 0
+reloc 94 8 func 0 0
+{SMALL_LINES}section .debug_str 108
+{OWN_TEXTS}
+"""
+
+# A module of two of these, of which the second is for function 1.
+TWO_TEXT = f"""section .debug_abbrev 170
+{OWN_ABBREVIATIONS}01110110170000022e001101120f000000{OWN_ABBREVIATIONS}01110110170000022e001101120f000000
+section .debug_info 208
+{OWN_ENTRIES}170000000400440000000801000000000200000000000000001e00{OWN_ENTRIES.replace("040000000000", "040055000000")}1700000004009900000008013d0000000200000000000000001e00
+{OWN_RELOCATIONS}reloc 83 4 section .debug_abbrev 68
+reloc 89 4 section .debug_line 0
+reloc 94 8 func 0 0
+reloc 110 4 section .debug_abbrev 85
+reloc 116 4 section .debug_str 0
+reloc 120 4 section .debug_str 28
+reloc 127 4 section .debug_str 37
+reloc 134 4 section .debug_str 40
+reloc 143 4 section .debug_str 44
+reloc 148 4 section .debug_str 62
+reloc 152 4 section .debug_str 70
+reloc 165 4 section .debug_str 74
+reloc 174 4 section .debug_str 93
+reloc 187 4 section .debug_abbrev 153
+reloc 193 4 section .debug_line 61
+reloc 198 8 func 1 0
+section .debug_line 122
+{SMALL_LINES.splitlines()[1] * 2}
+reloc 40 8 func 0 0
+reloc 101 8 func 1 0
+section .debug_str 108
+{OWN_TEXTS}
+"""
+
+# A subprogram `f` of a type `int`.
+NAMED_TEXT = f"""section .debug_abbrev 96
+{OWN_ABBREVIATIONS}01110110170000022e001101120f030e49130000032400030e000000
+section .debug_info 117
+{OWN_ENTRIES}240000000400440000000801000000000200000000000000001e6c00000022000000036e00000000
+{OWN_RELOCATIONS}reloc 83 4 section .debug_abbrev 68
+reloc 89 4 section .debug_line 0
+reloc 94 8 func 0 0
+reloc 103 4 section .debug_str 108
+reloc 112 4 section .debug_str 110
+{SMALL_LINES}section .debug_str 114
+{OWN_TEXTS}6600696e7400
+"""
+
+# The same where no entry begins at the place of the type.
+UNTYPED_TEXT = f"""section .debug_abbrev 87
+{OWN_ABBREVIATIONS}01110110170000022e001101120f030e000000
+section .debug_info 108
+{OWN_ENTRIES}1b0000000400440000000801000000000200000000000000001e6c00000000
+{OWN_RELOCATIONS}reloc 83 4 section .debug_abbrev 68
+reloc 89 4 section .debug_line 0
+reloc 94 8 func 0 0
+reloc 103 4 section .debug_str 108
+{SMALL_LINES}section .debug_str 110
+{OWN_TEXTS}6600
+"""
+
+# A block of code in the middle of the subprogram's.
+BOUNDS_TEXT = f"""section .debug_abbrev 94
+{OWN_ABBREVIATIONS}01110110170000022e011101120f0000030b001101120f000000
+section .debug_info 115
+{OWN_ENTRIES}220000000400440000000801000000000200000000000000001e030500000000000000120000
+{OWN_RELOCATIONS}reloc 83 4 section .debug_abbrev 68
+reloc 89 4 section .debug_line 0
+reloc 94 8 func 0 0
+reloc 104 8 func 0 5
+{SMALL_LINES}section .debug_str 108
+{OWN_TEXTS}
+"""
+
+# A block of two pieces of code.
+LIST_TEXT = f"""section .debug_abbrev 92
+{OWN_ABBREVIATIONS}01110110170000022e011101120f0000030b005517000000
+section .debug_info 110
+{OWN_ENTRIES}1d0000000400440000000801000000000200000000000000001e03000000000000
+{OWN_RELOCATIONS}reloc 83 4 section .debug_abbrev 68
+reloc 89 4 section .debug_line 0
+reloc 94 8 func 0 0
+reloc 104 4 section .debug_ranges 0
+{SMALL_LINES}section .debug_ranges 48
+05000000000000000f000000000000000f000000000000001e0000000000000000000000000000000000000000000000
+reloc 0 8 func 0 5
+reloc 8 8 func 0 15
+reloc 16 8 func 0 15
+reloc 24 8 func 0 30
+section .debug_str 108
+{OWN_TEXTS}
+"""
+
+# A variable on a frame base, over a part of its scope and over all of it.
+PART_TEXT = f"""section .debug_abbrev 107
+{MEMORY_ABBREVIATIONS}01110110170000022e011101120f401800000334000217000000
+section .debug_info 126
+{MEMORY_ENTRIES}1f0000000400510000000801000000000200000000000000001e019c03000000000000
+{MEMORY_RELOCATIONS}reloc 97 4 section .debug_abbrev 81
+reloc 103 4 section .debug_line 0
+reloc 108 8 func 0 0
+reloc 120 4 section .debug_loc 0
+{SMALL_LINES}section .debug_loc 50
+0000000000000000140000000000000010007c0023127ed00006160cffffffff1a2200000000000000000000000000000000
+reloc 0 8 func 0 0
+reloc 8 8 func 0 20
+section .debug_str 115
+{MEMORY_TEXTS}
+"""
+
+WHOLE_TEXT = f"""section .debug_abbrev 107
+{MEMORY_ABBREVIATIONS}01110110170000022e011101120f401800000334000218000000
+section .debug_info 139
+{MEMORY_ENTRIES}2c0000000400510000000801000000000200000000000000001e019c03107c0023127ed00006160cffffffff1a220000
+{MEMORY_RELOCATIONS}reloc 97 4 section .debug_abbrev 81
+reloc 103 4 section .debug_line 0
+reloc 108 8 func 0 0
+{SMALL_LINES}section .debug_str 115
+{MEMORY_TEXTS}
+"""
+
+# A subprogram of a type that it names by its place in the section, which is another in the output.
+PLACED_TEXT = f"""section .debug_abbrev 94
+{OWN_ABBREVIATIONS}01110110170000022e001101120f49100000032400030e000000
+section .debug_info 113
+{OWN_ENTRIES}200000000400440000000801000000000200000000000000001e6b000000036c00000000
+{OWN_RELOCATIONS}reloc 83 4 section .debug_abbrev 68
+reloc 89 4 section .debug_line 0
+reloc 94 8 func 0 0
+reloc 103 4 section .debug_info 107
+reloc 108 4 section .debug_str 108
+{SMALL_LINES}section .debug_str 110
+{OWN_TEXTS}6200
+"""
