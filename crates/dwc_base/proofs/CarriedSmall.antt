@@ -8,7 +8,7 @@ use Rattle.std.proofs.lemmas.Bool.{false≢true, true≢false}
 use Rattle.dwc_base.proofs.DraftsOnLiterals.{drafts_on_literals}
 use Rattle.dwc_base.proofs.Readings.{three_sections, sections_small, header_small}
 use Rattle.dwc_base.proofs.Numbers.{at_place}
-use Rattle.dwc_base.proofs.OwnTrees.{own_abbreviations, own_content, own_info, own_texts, to_section, own_relocations}
+use Rattle.dwc_base.proofs.OwnTrees.{own_abbreviations, own_content, own_info, own_texts, empty_list, to_section, own_relocations}
 use Rattle.dwc_base.proofs.SmallModule.{told_small}
 use Rattle.dwc_base.proofs.LineTables.{line_in, function_small, segments_small, at_line, line_of_a_c}
 use Rattle.dwc_base.specs.declared.records.Endian.TheVariants.{Little}
@@ -16,26 +16,36 @@ use Rattle.dwc_base.specs.declared.records.Address.TheVariants.{Constant, Symbol
 use Rattle.dwc_base.specs.declared.faults.Kind.TheVariants.{Format64}
 use Rattle.dwc_base.specs.Sections.{Fault, unsupported}
 use Rattle.dwc_base.specs.Units.{UnitHeader}
-use Rattle.dwc_base.specs.Values.{Value, address, constant, flag, line_reference, text_reference, unit_reference}
+use Rattle.dwc_base.specs.Values.{Value, address, constant, flag, info_reference, line_reference, location_reference, text_reference, unit_reference}
 use Rattle.dwc_base.specs.LineRows.{Segment, row_in_force}
 use Rattle.dwc_base.specs.Images.{row_for_byte, IsImage}
-use Rattle.dwc_base.specs.Outputs.{OutputSection, function, section, output_sections}
+use Rattle.dwc_base.specs.Outputs.{OutputSection, function, output_sections}
 use Rattle.dwc_base.specs.Carried.{Unit, units, Module, Compilation, CarriedUnit}
 use Rattle.dwc_base.specs.Forests.{carried_units}
 use Rattle.dwc_base.specs.LinesCarried.{AreImages, LinesCarried}
 use Rattle.dwc_base.specs.Compiled.{nothing_told}
 
+-- the entries of the carried unit, at 88, 93 and 103
+abbrev pub content_out : List ℕ
+content_out =
+    0x01 ∷ 0x00 ∷ 0x00 ∷ 0x00 ∷ 0x00
+    ∷ 0x02 ∷ 0x00 ∷ 0x00 ∷ 0x00 ∷ 0x00 ∷ 0x00 ∷ 0x00 ∷ 0x00 ∷ 0x00 ∷ 0x1E
+    ∷ 0x03 ∷ 0x6C ∷ 0x00 ∷ 0x00 ∷ 0x00 ∷ 0x3C ∷ 0x00 ∷ 0x00 ∷ 0x00 ∷ 0x00 ∷ 0x00 ∷ 0x00 ∷ 0x00 ∷ 0x00 ∷ 0x00 ∷ []
+
 -- each section begins with what the module's own unit has in it
 abbrev pub output_small : List OutputSection
 output_small =
-    record { name = codes ".debug_abbrev"; body = own_abbreviations ++ (0x01 ∷ 0x11 ∷ 0x01 ∷ 0x10 ∷ 0x17 ∷ 0x00 ∷ 0x00 ∷ 0x02 ∷ 0x2E ∷ 0x00 ∷ 0x11 ∷ 0x01 ∷ 0x12 ∷ 0x0F ∷ 0x00 ∷ 0x00 ∷ 0x00 ∷ []); relocations = [] }
+    record { name = codes ".debug_abbrev"; body = own_abbreviations ++ (0x01 ∷ 0x11 ∷ 0x01 ∷ 0x10 ∷ 0x17 ∷ 0x00 ∷ 0x00 ∷ 0x02 ∷ 0x2E ∷ 0x01 ∷ 0x11 ∷ 0x01 ∷ 0x12 ∷ 0x0F ∷ 0x00 ∷ 0x00 ∷ 0x03 ∷ 0x34 ∷ 0x00 ∷ 0x03 ∷ 0x0E ∷ 0x49 ∷ 0x10 ∷ 0x02 ∷ 0x17 ∷ 0x00 ∷ 0x00 ∷ 0x00 ∷ []); relocations = [] }
     ∷ record {
       name = codes ".debug_info";
-      body = own_info ++ (0x17 ∷ 0x00 ∷ 0x00 ∷ 0x00 ∷ 0x04 ∷ 0x00 ∷ 0x44 ∷ 0x00 ∷ 0x00 ∷ 0x00 ∷ 0x08 ∷ 0x01 ∷ 0x00 ∷ 0x00 ∷ 0x00 ∷ 0x00 ∷ 0x02 ∷ 0x00 ∷ 0x00 ∷ 0x00 ∷ 0x00 ∷ 0x00 ∷ 0x00 ∷ 0x00 ∷ 0x00 ∷ 0x1E ∷ 0x00 ∷ []);
+      body = own_info ++ (0x25 ∷ 0x00 ∷ 0x00 ∷ 0x00 ∷ 0x04 ∷ 0x00 ∷ 0x44 ∷ 0x00 ∷ 0x00 ∷ 0x00 ∷ 0x08 ∷ content_out);
       relocations = own_relocations ++ (
           to_section 83 (codes ".debug_abbrev") 68
           ∷ to_section 89 (codes ".debug_line") 0
-          ∷ record { offset = 94; size = 8; target = function 0; addend = pos 0 } ∷ []);
+          ∷ record { offset = 94; size = 8; target = function 0; addend = pos 0 }
+          ∷ to_section 104 (codes ".debug_str") 108
+          ∷ to_section 108 (codes ".debug_info") 60
+          ∷ to_section 112 (codes ".debug_loc") 0 ∷ []);
     }
     ∷ record {
       name = codes ".debug_line";
@@ -43,7 +53,8 @@ output_small =
       relocations =
           record { offset = 40; size = 8; target = function 0; addend = pos 0 } ∷ [];
     }
-    ∷ record { name = codes ".debug_str"; body = own_texts; relocations = [] } ∷ []
+    ∷ record { name = codes ".debug_loc"; body = empty_list; relocations = [] }
+    ∷ record { name = codes ".debug_str"; body = own_texts ++ codes "__vmctx" ++ 0x00 ∷ []; relocations = [] } ∷ []
 
 abbrev pub module_small : Module
 module_small = record { sections = sections_small; functions = function_small ∷ []; told = told_small; compressed = None }
@@ -80,10 +91,16 @@ own_unit_out = record {
 -- ---- the carried unit, read again
 
 abbrev pub header_out : UnitHeader
-header_out = record { offset = 77; end = 104; version = 4; address_size = 8; unit_type = 1; abbreviations = 68; dwo_id = None; content = at_place 88 (0x01 ∷ 0x00 ∷ 0x00 ∷ 0x00 ∷ 0x00 ∷ 0x02 ∷ 0x00 ∷ 0x00 ∷ 0x00 ∷ 0x00 ∷ 0x00 ∷ 0x00 ∷ 0x00 ∷ 0x00 ∷ 0x1E ∷ 0x00 ∷ []) }
+header_out = record { offset = 77; end = 118; version = 4; address_size = 8; unit_type = 1; abbreviations = 68; dwo_id = None; content = at_place 88 content_out }
 
 abbrev pub unit_out : Unit
-unit_out = record { header = header_out; entries = record { offset = 88; depth = 0; tag = 0x11; attributes = (0x10, line_reference 0) ∷ [] } ∷ record { offset = 93; depth = 1; tag = 0x2E; attributes = (0x11, address (Symbol 0 (pos 0))) ∷ (0x12, constant 0x0F 30) ∷ [] } ∷ [] }
+unit_out = record {
+  header = header_out;
+  entries =
+      record { offset = 88; depth = 0; tag = 0x11; attributes = (0x10, line_reference 0) ∷ [] }
+      ∷ record { offset = 93; depth = 1; tag = 0x2E; attributes = (0x11, address (Symbol 0 (pos 0))) ∷ (0x12, constant 0x0F 30) ∷ [] }
+      ∷ record { offset = 103; depth = 2; tag = 0x34; attributes = (0x03, a_text 108) ∷ (0x49, info_reference 60) ∷ (0x02, location_reference 0) ∷ [] } ∷ [];
+}
 
 -- the small module has one unit, and it is carried
 pub carried-small : carried_units compilation_small ≡ record { module_of = module_small; unit = unit_small } ∷ []

@@ -1,6 +1,8 @@
 -- The definitions that stay shut, as a set: a proof that computes on literals names it on its `unfolding` line.
 use Rattle.std.proofs.Common.{ℕ}
 use Rattle.std.specs.Int.{int_wrap}
+use Rattle.std.specs.Str.{is_utf8, chars}
+use lib.Utf8.{encode}
 use Rattle.dwc_base.proofs.OnLiterals.{lines_on_literals}
 use Rattle.dwc_base.specs.Texts.{text_elsewhere, text_named, path_text}
 use Rattle.dwc_base.specs.Indexed.{root_offsets, offset_of_root, index_base, address_from, address_named, texts_of_unit}
@@ -26,7 +28,11 @@ use Rattle.dwc_base.specs.EntryRules.{named_faults}
 use Rattle.dwc_base.proofs.OnExpressions.{attributes_on_literals}
 use Rattle.dwc_base.specs.DraftForests.{forest}
 use Rattle.dwc_base.specs.OwnUnits.{own_unit}
-use Rattle.dwc_base.specs.TreeReading.{value_said, unit_said, trees}
+use Rattle.dwc_base.specs.TypeNames.{name_along, type_name}
+use Rattle.dwc_base.specs.Wrappers.{wrapper_refusals, entries_made}
+use Rattle.dwc_base.specs.ObjectPointers.{is_object_pointer, pointers_changed}
+use Rattle.dwc_base.specs.ContextVariable.{context_over}
+use Rattle.dwc_base.specs.TreeReading.{locations_read, value_said, unit_said, trees}
 
 -- what runs and translations are made of
 unfoldable pub runs_on_literals : ℕ
@@ -38,6 +44,11 @@ unfoldable pub ranges_given_on_literals : ℕ
 unfolding runs_on_literals interval_given base_behind intervals_given ranges_at ranges_of_value begun_function extent native_of_intervals range_attributes bound_refusal code_becomes int_wrap
 ranges_given_on_literals = 0
 
+-- and what is made of wrapped entries, object pointers and contexts
+unfoldable pub wrappers_on_literals : ℕ
+unfolding lines_on_literals is_utf8 chars encode text_elsewhere text_named target_of name_along type_name wrapper_refusals entries_made is_object_pointer pointers_changed context_over
+wrappers_on_literals = 0
+
 unfoldable pub drafts_on_literals : ℕ
-unfolding lines_on_literals ranges_given_on_literals attributes_on_literals text_elsewhere text_named path_text root_offsets offset_of_root index_base address_from address_named texts_of_unit target_of entry_begun_at kept_with kept_module value_becomes bound_becomes attribute_becomes attributes_become attributes_made entry_refusals source_of carried_drafts info_faults kept_refusals module_refusals own_unit list_named pair_at entry_of_kind_at kind_and_entry_at raw_entry_at raw_ranges first_base_of list_source list_shows_code is_required named_faults locations_of_value locations_at raw_locations raw_location_at lineage scope_in_force frame_in_force frame_at in_force_at attribute_ends entry_ends value_ends expression_becomes expression_refused locations_become forest value_said unit_said trees
+unfolding wrappers_on_literals ranges_given_on_literals attributes_on_literals path_text root_offsets offset_of_root index_base address_from address_named texts_of_unit entry_begun_at kept_with kept_module value_becomes bound_becomes attribute_becomes attributes_become attributes_made entry_refusals source_of carried_drafts info_faults kept_refusals module_refusals own_unit list_named pair_at entry_of_kind_at kind_and_entry_at raw_entry_at raw_ranges first_base_of list_source list_shows_code is_required named_faults locations_of_value locations_at raw_locations raw_location_at lineage scope_in_force frame_in_force frame_at in_force_at attribute_ends entry_ends value_ends expression_becomes expression_refused locations_become forest locations_read value_said unit_said trees
 drafts_on_literals = 0

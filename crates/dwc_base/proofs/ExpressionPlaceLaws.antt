@@ -1,5 +1,5 @@
--- An expression of an entry that was read stands at its place.
-use Rattle.std.proofs.Common.{◌≡◌, ℕ, zero, suc, ◌+◌, ◌-◌, ◌<◌, ◌≤◌, List, [], ◌∷◌, length, length-take, length-drop, take, drop, get_or, refl, ap, sym, subst, ◌∙◌, arith, Bool, true, false, Option, Some, None, Result, Ok, Err}
+-- An entry that was read among those of its unit is there when it is read alone, and an expression of it stands at its place.
+use Rattle.std.proofs.Common.{◌≡◌, ℕ, zero, suc, ◌+◌, ◌-◌, ◌<◌, ◌≤◌, List, [], ◌∷◌, length, length-take, length-drop, take, drop, get_or, refl, ap, ap₂, sym, subst, ◌∙◌, arith, Bool, true, false, Option, Some, None, Result, Ok, Err}
 use Rattle.std.specs.Prelude.{◌==◌, slice_get}
 use Rattle.std.specs.List.{All}
 use Rattle.std.proofs.lemmas.List.{drop-take, take-take}
@@ -7,14 +7,14 @@ use Rattle.std.proofs.lemmas.List.Elements.{All-nil, All-cons}
 use Rattle.dwc_base.specs.declared.faults.Flaw.TheVariants.{Malformed}
 use Rattle.dwc_base.specs.declared.records.Endian.{Endian}
 use Rattle.dwc_base.specs.declared.section_name.SectionName.TheVariants.{Info}
-use Rattle.dwc_base.specs.Reading.{Unread, Read, ◌>>=◌, uleb_at}
+use Rattle.dwc_base.specs.Reading.{Unread, Read, ◌>>=◌, seen_as, uleb_at}
 use Rattle.dwc_base.specs.Listing.{Listing, only_fault}
 use Rattle.dwc_base.specs.Sections.{Sections, Fault, section_from}
 use Rattle.dwc_base.specs.Abbreviations.{AttributeSpec, Declaration, declaration_of, abbreviation_table}
 use Rattle.dwc_base.specs.Units.{UnitHeader, unit_header_at, unit_headers_from, unit_headers}
 use Rattle.dwc_base.specs.Values.{Value, expression, value_at}
 use Rattle.dwc_base.specs.Entries.{Entry, Found, EntryPlace, entry_place, place_behind, root_place, attributes_at, declared_entry_at, entry_at, entries_from, entries}
-use Rattle.dwc_base.specs.ExpressionPlaces.{attribute_ends, entry_ends, value_ends, expression_place}
+use Rattle.dwc_base.specs.ExpressionPlaces.{unit_from, attribute_ends, entry_ends, value_ends, expression_place}
 use Rattle.dwc_base.proofs.Items.{LeavesFewer}
 use Rattle.dwc_base.proofs.Takes.{unit_header_at-leaves}
 use Rattle.dwc_base.proofs.TakesValues.{entry_at-leaves}
@@ -104,14 +104,58 @@ pub record ExpressionsStand (s : Sections) (h : UnitHeader) (e : Entry) : Type 0
   pub stand : (number name : ℕ) (these : List ℕ) → slice_get e.attributes number ≡ Some (name, expression these)
       → take (length these) (drop (expression_place s h e.offset number these) (s.bytes Info)) ≡ these
 
+-- Where an entry stands one is read that is the same but for its depth.
+pub record IsThere (s : Sections) (h : UnitHeader) (table : List Declaration) (e : Entry) : Type 0 where
+  pub found : Found
+  pub behind : Unread
+  pub read : entry_at s h table 0 (unit_from s h e.offset) ≡ Ok (Some found, behind)
+  pub offset : found.entry.offset ≡ e.offset
+  pub tag : found.entry.tag ≡ e.tag
+  pub attributes : found.entry.attributes ≡ e.attributes
+
+-- An entry stands where it is read alone, and each expression of it at its place.
+pub record EntryStands (s : Sections) (h : UnitHeader) (e : Entry) : Type 0 where
+  pub expressions : ExpressionsStand s h e
+  pub there : (table : List Declaration) → abbreviation_table s h.abbreviations ≡ Ok table → IsThere s h table e
+
 -- what was found, with what is unread behind it
 abbrev pub FoundStands : Sections → UnitHeader → Option Found × Unread → Type 0
 FoundStands s h (None, v) = IsOfUnit s h v
-FoundStands s h (Some f, v) = ExpressionsStand s h f.entry × IsOfUnit s h v
+FoundStands s h (Some f, v) = EntryStands s h f.entry × IsOfUnit s h v
 
 -- so it is of all entries that are listed
 abbrev EntriesStand : Sections → UnitHeader → Listing Fault Entry → Type 0
-EntriesStand s h l = All (ExpressionsStand s h) l.items
+EntriesStand s h l = All (EntryStands s h) l.items
+
+-- an entry as it is found at the depth of a root
+abbrev at_root : Option Found → Option Found
+at_root None = None
+at_root (Some f) = Some (record { entry = record { offset = f.entry.offset; depth = 0; tag = f.entry.tag; attributes = f.entry.attributes }; has_children = f.has_children })
+
+-- Entries are read the same at each depth.
+entry_at-root : (s : Sections) (h : UnitHeader) (table : List Declaration) (depth : ℕ) (u : Unread) → entry_at s h table 0 u ≡ seen_as at_root (entry_at s h table depth u)
+unfolding entry_at declared_entry_at
+entry_at-root s h table depth u = go (uleb_at u)
+  where
+    attributes : (d : Declaration) (r : Read (List (ℕ × Value)))
+        → (r >>= λ attributes. Ok (Some (record { entry = record { offset = u.place; depth = 0; tag = d.tag; attributes = attributes.0 }; has_children = d.has_children }), attributes.1))
+        ≡ seen_as at_root (r >>= λ attributes. Ok (Some (record { entry = record { offset = u.place; depth = depth; tag = d.tag; attributes = attributes.0 }; has_children = d.has_children }), attributes.1))
+    attributes d (Err flaw) = refl
+    attributes d (Ok x) = refl
+
+    coded : ℕ → Bool → Option Declaration → Unread → Read (Option Found)
+    coded depth b o v = elim b [ true ↦ Ok (None, v) | false ↦ elim o [ None ↦ Err Malformed | Some d ↦ declared_entry_at s h u.place depth d v ] ]
+
+    marked : (b : Bool) (o : Option Declaration) (v : Unread) → coded 0 b o v ≡ seen_as at_root (coded depth b o v)
+    marked true o v = refl
+    marked false None v = refl
+    marked false (Some d) v = attributes d (attributes_at s h d.attributes v)
+
+    go : (r : Read ℕ)
+        → (r >>= λ code. elim (code.0 == 0) [ true ↦ Ok (None, code.1) | false ↦ elim (declaration_of code.0 table) [ None ↦ Err Malformed | Some d ↦ declared_entry_at s h u.place 0 d code.1 ] ])
+        ≡ seen_as at_root (r >>= λ code. elim (code.0 == 0) [ true ↦ Ok (None, code.1) | false ↦ elim (declaration_of code.0 table) [ None ↦ Err Malformed | Some d ↦ declared_entry_at s h u.place depth d code.1 ] ])
+    go (Err flaw) = refl
+    go (Ok code) = marked (code.0 == 0) (declaration_of code.0 table) code.1
 
 module _ (s : Sections) (h : UnitHeader) (table : List Declaration) (known : abbreviation_table s h.abbreviations ≡ Ok table) where
   ends-known : (u : Unread) → IsOfUnit s h u → value_ends s h u.place ≡ entry_ends s h table u
@@ -126,14 +170,34 @@ module _ (s : Sections) (h : UnitHeader) (table : List Declaration) (known : abb
         (rw begin (each-at s.order (take h.end (s.bytes Info)) ends e.attributes number name these each at));
   }
 
+  entry-there : (depth : ℕ) (u v : Unread) (f : Found) → IsOfUnit s h u → f.entry.offset ≡ u.place → entry_at s h table depth u ≡ Ok (Some f, v) → (t : List Declaration) → abbreviation_table s h.abbreviations ≡ Ok t → IsThere s h t f.entry
+  entry-there depth u v f i place read t other = record {
+    found = record { entry = record { offset = f.entry.offset; depth = 0; tag = f.entry.tag; attributes = f.entry.attributes }; has_children = f.has_children };
+    behind = v;
+    read =
+        ap₂ (λ (t : List Declaration) (w : Unread). entry_at s h t 0 w) same (ap (unit_from s h) place ∙ sym i.same)
+        ∙ entry_at-root s h table depth u
+        ∙ ap (seen_as at_root) read;
+    offset = refl;
+    tag = refl;
+    attributes = refl;
+  }
+    where
+      one : (r : Result (List Declaration) Fault) → r ≡ Ok t → r ≡ Ok table → t ≡ table
+      one (Err fault) is known = absurd (cc)
+      one (Ok x) is known = cc
+
+      same : t ≡ table
+      same = one (abbreviation_table s h.abbreviations) other known
+
   -- An entry that is read from what is unread of its unit.
   pub entry_at-stands : (depth : ℕ) (u : Unread) → IsOfUnit s h u → Holds (FoundStands s h) (entry_at s h table depth u)
-  entry_at-stands depth u i = go (entry_at s h table depth u) (entry_at-each s.order (take h.end (s.bytes Info)) s h table depth u i)
+  entry_at-stands depth u i = go (entry_at s h table depth u) refl (entry_at-each s.order (take h.end (s.bytes Info)) s h table depth u i)
     where
-      go : (r : Read (Option Found)) → Holds (FoundEnds s.order (take h.end (s.bytes Info)) u.place (entry_ends s h table u)) r → Holds (FoundStands s h) r
-      go (Err flaw) k = record { held = tt }
-      go (Ok (None, v)) k = record { held = k.held }
-      go (Ok (Some f, v)) k = record { held = (entry-stands (entry_ends s h table u) f.entry (k.held).1 (ap (value_ends s h) (k.held).0 ∙ ends-known u i), (k.held).2) }
+      go : (r : Read (Option Found)) → entry_at s h table depth u ≡ r → Holds (FoundEnds s.order (take h.end (s.bytes Info)) u.place (entry_ends s h table u)) r → Holds (FoundStands s h) r
+      go (Err flaw) read k = record { held = tt }
+      go (Ok (None, v)) read k = record { held = k.held }
+      go (Ok (Some f, v)) read k = record { held = (record { expressions = entry-stands (entry_ends s h table u) f.entry (k.held).1 (ap (value_ends s h) (k.held).0 ∙ ends-known u i); there = entry-there depth u v f i (k.held).0 read }, (k.held).2) }
 
   -- what is unread at a place of the unit, if it is one, and that it is less than so much
   abbrev PlaceOf : ℕ → Option EntryPlace → Type 0
@@ -149,34 +213,34 @@ module _ (s : Sections) (h : UnitHeader) (table : List Declaration) (known : abb
   place_behind-of (Some f) most depth v few i = entry_place-of most _ v few i
 
   entries_from-stand : (most : ℕ) (o : Option EntryPlace) → PlaceOf most o → EntriesStand s h (entries_from s h table o)
-  entries_from-stand most None i = subst (EntriesStand s h) (sym (entries_from-none s h table)) (All-nil (ExpressionsStand s h))
+  entries_from-stand most None i = subst (EntriesStand s h) (sym (entries_from-none s h table)) (All-nil (EntryStands s h))
   entries_from-stand zero (Some p) i = absurd (omega (arith, i.0))
   entries_from-stand (suc most) (Some p) i =
       go (length p.unread.left) refl (entry_at s h table p.depth p.unread) refl (entry_at-leaves s h table p.depth p.unread).fewer (entry_at-stands p.depth p.unread i.1) (λ o j. entries_from-stand most o j)
     where
       go : (n : ℕ) → length p.unread.left ≡ n → (r : Read (Option Found)) → entry_at s h table p.depth p.unread ≡ r → LeavesFewer r (length p.unread.left) → Holds (FoundStands s h) r
           → ((o : Option EntryPlace) → PlaceOf most o → EntriesStand s h (entries_from s h table o)) → EntriesStand s h (entries_from s h table (Some p))
-      go zero n r read few k rest = subst (EntriesStand s h) (sym (entries_from-end s h table p n)) (All-nil (ExpressionsStand s h))
-      go (suc c) n (Err flaw) read few k rest = subst (EntriesStand s h) (sym (entries_from-fault s h table p flaw (omega (arith, n)) read)) (All-nil (ExpressionsStand s h))
+      go zero n r read few k rest = subst (EntriesStand s h) (sym (entries_from-end s h table p n)) (All-nil (EntryStands s h))
+      go (suc c) n (Err flaw) read few k rest = subst (EntriesStand s h) (sym (entries_from-fault s h table p flaw (omega (arith, n)) read)) (All-nil (EntryStands s h))
       go (suc c) n (Ok (None, v)) read few k rest =
           subst (EntriesStand s h) (sym (entries_from-siblings s h table p v (omega (arith, n)) read)) (rest (place_behind None p.depth v) (place_behind-of None most p.depth v (omega (arith, few, i.0)) k.held))
       go (suc c) n (Ok (Some f, v)) read few k rest =
           subst (EntriesStand s h) (sym (entries_from-entry s h table p v f (omega (arith, n)) read))
-          (All-cons (ExpressionsStand s h) f.entry _ (k.held).0 (rest (place_behind (Some f) p.depth v) (place_behind-of (Some f) most p.depth v (omega (arith, few, i.0)) (k.held).1)))
+          (All-cons (EntryStands s h) f.entry _ (k.held).0 (rest (place_behind (Some f) p.depth v) (place_behind-of (Some f) most p.depth v (omega (arith, few, i.0)) (k.held).1)))
 
-unit-stands : (s : Sections) (h : UnitHeader) → IsOfUnit s h h.content → All (ExpressionsStand s h) (entries s h).items
+unit-stands : (s : Sections) (h : UnitHeader) → IsOfUnit s h h.content → All (EntryStands s h) (entries s h).items
 unfolding entries
 unit-stands s h i = go (abbreviation_table s h.abbreviations) refl
   where
     go : (t : Result (List Declaration) Fault) → abbreviation_table s h.abbreviations ≡ t → EntriesStand s h (elim t [ Err fault ↦ only_fault fault | Ok table ↦ entries_from s h table (root_place h) ])
-    go (Err fault) known = All-nil (ExpressionsStand s h)
+    go (Err fault) known = All-nil (EntryStands s h)
     go (Ok table) known = entries_from-stand s h table known (suc (length (h.content).left)) (root_place h) (omega arith, i)
 
 -- ---- the units of a section
 
 -- so it is of all entries of a unit, and of all units that are listed
 abbrev UnitStands : Sections → UnitHeader → Type 0
-UnitStands s h = All (ExpressionsStand s h) (entries s h).items
+UnitStands s h = All (EntryStands s h) (entries s h).items
 
 abbrev UnitsStand : Sections → Listing Fault UnitHeader → Type 0
 UnitsStand s l = All (UnitStands s) l.items
@@ -192,6 +256,6 @@ unit_headers_from-stand s (suc most) u less i =
     go (suc c) n (Err flaw) read few k rest = subst (UnitsStand s) (sym (unit_headers_from-fault u flaw (omega (arith, n)) read)) (All-nil (UnitStands s))
     go (suc c) n (Ok (h, v)) read few k rest = subst (UnitsStand s) (sym (unit_headers_from-item u v h (omega (arith, n)) read)) (All-cons (UnitStands s) h _ (unit-stands s h (k.held).0) (rest v few (k.held).1))
 
--- Each expression of each entry of a section's units has its bytes there at its place.
-pub expressions-stand : (s : Sections) → All (λ h. All (ExpressionsStand s h) (entries s h).items) (unit_headers s).items
-expressions-stand s = unit_headers_from-stand s (suc (length (section_from s Info 0).left)) (section_from s Info 0) (omega arith) (record { same = refl })
+-- Each entry of a section's units stands where it is read alone, and each expression of it at its place.
+pub entries-stand : (s : Sections) → All (λ h. All (EntryStands s h) (entries s h).items) (unit_headers s).items
+entries-stand s = unit_headers_from-stand s (suc (length (section_from s Info 0).left)) (section_from s Info 0) (omega arith) (record { same = refl })

@@ -5,6 +5,7 @@ use Rattle.std.proofs.lemmas.Bool.{leb-true, and_parts}
 use Rattle.std.proofs.lemmas.List.Elements.{All-cons, All-nil}
 use Rattle.std.proofs.lemmas.List.Kept.{AllPairs-cons}
 use Rattle.dwc_base.proofs.OnLiterals.{lines_on_literals}
+use Rattle.dwc_base.proofs.OnLists.{lists_on_literals}
 use Rattle.dwc_base.proofs.Readings.{three_sections}
 use Rattle.dwc_base.proofs.CarriedSmall.{output_small}
 use Rattle.dwc_base.proofs.OwnTrees.{to_section, own_relocations}
@@ -13,7 +14,7 @@ use Rattle.dwc_base.specs.declared.records.Address.TheVariants.{Constant, Symbol
 use Rattle.dwc_base.specs.declared.section_name.SectionName.TheVariants.{Abbrev, Info, Line, LineStr, Loc, Loclists, Ranges, Rnglists, Str}
 use Rattle.dwc_base.specs.Sections.{Sections}
 use Rattle.dwc_base.specs.Outputs.{OutputRelocation, OutputSection, function, section, output_sections}
-use Rattle.dwc_base.specs.Fields.{Field, an_address, offset_in, fields_at, fields_of_entry, fields_of_instructions, fields_of_line_table, fields_of_section, relocations_of_fields, IsRelocated, AreRelocated}
+use Rattle.dwc_base.specs.Fields.{Field, an_address, offset_in, fields_at, fields_of_entry, fields_of_instructions, fields_of_line_table, fields_of_named, fields_of_section, relocations_of_fields, IsRelocated, AreRelocated}
 
 -- the fields of a module's own unit: its declarations, and a text for each name
 abbrev own_fields : List Field
@@ -31,7 +32,8 @@ own_fields =
 
 -- the fields of an output, its line table's in a section of its own
 fields-info : fields_of_section (output_sections Little output_small) Info ≡
-    own_fields ++ (record { offset = 83; size = 4; held = offset_in Abbrev 68 } ∷ record { offset = 89; size = 4; held = offset_in Line 0 } ∷ record { offset = 94; size = 8; held = an_address (Symbol 0 (pos 0)) } ∷ [])
+    own_fields ++ (record { offset = 83; size = 4; held = offset_in Abbrev 68 } ∷ record { offset = 89; size = 4; held = offset_in Line 0 } ∷ record { offset = 94; size = 8; held = an_address (Symbol 0 (pos 0)) }
+    ∷ record { offset = 104; size = 4; held = offset_in Str 108 } ∷ record { offset = 108; size = 4; held = offset_in Info 60 } ∷ record { offset = 112; size = 4; held = offset_in Loc 0 } ∷ [])
 unfolding lines_on_literals fields_of_section fields_at fields_of_entry
 fields-info = refl
 
@@ -87,17 +89,23 @@ relocations-forms = refl
 
 -- the small output has the relocations of its fields
 abbrev relocations_small : List OutputRelocation
-relocations_small = own_relocations ++ (to_section 83 (codes ".debug_abbrev") 68 ∷ to_section 89 (codes ".debug_line") 0 ∷ record { offset = 94; size = 8; target = function 0; addend = pos 0 } ∷ [])
+relocations_small = own_relocations ++ (to_section 83 (codes ".debug_abbrev") 68 ∷ to_section 89 (codes ".debug_line") 0 ∷ record { offset = 94; size = 8; target = function 0; addend = pos 0 }
+    ∷ to_section 104 (codes ".debug_str") 108 ∷ to_section 108 (codes ".debug_info") 60 ∷ to_section 112 (codes ".debug_loc") 0 ∷ [])
 
 relocations-info : relocations_of_fields (fields_of_section (output_sections Little output_small) Info) ≡ relocations_small
 unfolding lines_on_literals fields_of_section fields_at fields_of_entry
 relocations-info = refl
 
-abbrev pub Behind : OutputRelocation → OutputRelocation → Type 0
+-- an empty list has none
+relocations-loc : relocations_of_fields (fields_of_section (output_sections Little output_small) Loc) ≡ []
+unfolding lists_on_literals fields_of_section fields_of_named
+relocations-loc = refl
+
+abbrev Behind : OutputRelocation → OutputRelocation → Type 0
 Behind a b = a.offset + a.size ≤ b.offset
 
 -- whether none of some fields begins before a place, nor before the end of the one in front of it
-abbrev pub begin_behind : ℕ → List OutputRelocation → Bool
+abbrev begin_behind : ℕ → List OutputRelocation → Bool
 begin_behind place [] = true
 begin_behind place (r ∷ rs) = nat_le place r.offset && begin_behind (r.offset + r.size) rs
 
@@ -108,7 +116,7 @@ all-behind from place (r ∷ rs) before h =
     let here : place ≤ r.offset = leb-true place r.offset parts.0 in
     All-cons (λ r. from ≤ r.offset) r rs (omega (arith, before, here)) (all-behind from (r.offset + r.size) rs (omega (arith, before, here)) parts.1)
 
-pub each-behind : (place : ℕ) (rs : List OutputRelocation) → begin_behind place rs ≡ true → AllPairs Behind rs
+each-behind : (place : ℕ) (rs : List OutputRelocation) → begin_behind place rs ≡ true → AllPairs Behind rs
 each-behind place [] h = λ i j d less within. absurd (omega (arith, within))
 each-behind place (r ∷ rs) h =
     let parts = and_parts (nat_le place r.offset) (begin_behind (r.offset + r.size) rs) h in
@@ -124,4 +132,5 @@ related-small =
     All-cons R (get_or output_small 0 no_section) (drop 1 output_small) (record { name = Abbrev; named = refl; fields = refl; rising = each-behind 0 [] refl })
     (All-cons R (get_or output_small 1 no_section) (drop 2 output_small) (record { name = Info; named = refl; fields = sym relocations-info; rising = each-behind 0 relocations_small refl })
     (All-cons R (get_or output_small 2 no_section) (drop 3 output_small) (record { name = Line; named = refl; fields = refl; rising = each-behind 0 (record { offset = 40; size = 8; target = function 0; addend = pos 0 } ∷ []) refl })
-    (All-cons R (get_or output_small 3 no_section) [] (record { name = Str; named = refl; fields = refl; rising = each-behind 0 [] refl }) (All-nil R))))
+    (All-cons R (get_or output_small 3 no_section) (drop 4 output_small) (record { name = Loc; named = refl; fields = sym relocations-loc; rising = each-behind 0 [] refl })
+    (All-cons R (get_or output_small 4 no_section) [] (record { name = Str; named = refl; fields = refl; rising = each-behind 0 [] refl }) (All-nil R)))))

@@ -1,7 +1,7 @@
 -- Every reference of the trees of an input goes to an entry that is there.
-use Rattle.std.proofs.Common.{◌≡◌, ℕ, pos, List, [], ◌∷◌, ◌++◌, map, Option, Some, None, Bool, true, false, Result, Ok, Err, refl, ◌==◌}
-use Rattle.std.specs.Prelude.{◌&&◌, if◌then◌else◌, option_map, is_some, filter_map}
-use Rattle.dwc_base.specs.declared.constants.TheConstants.{DW_AT_endianity, DW_AT_low_pc, DW_AT_ranges, DW_AT_stmt_list, DW_FORM_data1, DW_FORM_udata, DW_END_little, DW_TAG_base_type, DW_TAG_compile_unit}
+use Rattle.std.proofs.Common.{◌≡◌, ℕ, suc, pos, List, [], ◌∷◌, ◌++◌, map, Option, Some, None, Bool, true, false, Result, Ok, Err, refl, ◌==◌}
+use Rattle.std.specs.Prelude.{◌&&◌, if◌then◌else◌, option_map, option_to_list, is_some, filter_map}
+use Rattle.dwc_base.specs.declared.constants.TheConstants.{DW_AT_artificial, DW_AT_endianity, DW_AT_low_pc, DW_AT_ranges, DW_AT_stmt_list, DW_FORM_data1, DW_FORM_udata, DW_END_little, DW_TAG_base_type, DW_TAG_compile_unit}
 use Rattle.dwc_base.specs.declared.records.Address.{Address}
 use Rattle.dwc_base.specs.declared.records.Address.TheVariants.{Constant, Symbol}
 use Rattle.dwc_base.specs.declared.section_name.SectionName.TheVariants.{Info}
@@ -22,21 +22,30 @@ use Rattle.dwc_base.specs.Kept.{Placed}
 use Rattle.dwc_base.specs.Carried.{Module, Compilation, Unit}
 use Rattle.dwc_base.specs.Compiled.{Memory, no_memory, defined, imported}
 use Rattle.dwc_base.specs.Functions.{Function}
-use Rattle.dwc_base.specs.OwnUnits.{own_unit}
+use Rattle.dwc_base.specs.BuiltExpressions.{BuildRefusal}
+use Rattle.dwc_base.specs.OwnUnits.{place_of_context_pointer, place_of_wasm_pointer, own_unit}
+use Rattle.dwc_base.specs.MadeEntries.{named}
+use Rattle.dwc_base.specs.TypeNames.{type_of}
+use Rattle.dwc_base.specs.Wrappers.{is_wrapped, type_made, target_type, wrapper, wrapper_types}
+use Rattle.dwc_base.specs.ObjectPointers.{underscored}
+use Rattle.dwc_base.specs.ContextVariable.{context_over, context_pointer, context_variable, context_entries, located_or_none}
 use Rattle.dwc_base.specs.Refusals.{Refusal, of_place}
-use Rattle.dwc_base.specs.Trees.{Interval, TreeValue, address as address_of_tree, constant, flag, block, text, line_table, ranges, expression, locations}
-use Rattle.dwc_base.specs.Drafts.{Goal, DraftValue, done, goes_to, made_of, itself}
+use Rattle.dwc_base.specs.Trees.{Interval, Location, TreeValue, address as address_of_tree, constant, flag, block, text, line_table, ranges, expression, locations, entry, nothing}
+use Rattle.dwc_base.specs.Drafts.{Role, itself, pointer_to_wrapper, reference_to_target, pointer_to_target, Goal, made_of, own_entry, DraftValue, done, goes_to}
 use Rattle.dwc_base.specs.Texts.{text_named}
 use Rattle.dwc_base.specs.Targets.{target_of}
 use Rattle.dwc_base.specs.TreeLaws.{HasAllTargets, goes_somewhere}
 use Rattle.dwc_base.specs.KeptModules.{carried_in, kept_in}
 use Rattle.dwc_base.specs.Clones.{UnitSource, is_dropped_name, is_bound_name, is_file_name, constant_form, file_number, constant_becomes, text_drafted, text_becomes, value_becomes, nothing_unless, bound_becomes, table_becomes, attribute_becomes, attributes_become, if_made, endianity, attributes_made}
-use Rattle.dwc_base.specs.CarriedDrafts.{source_of, draft_of, unit_drafts, carried_drafts}
+use Rattle.dwc_base.specs.CarriedDrafts.{source_of, draft_of, draft_told, entry_made, unit_drafts, carried_drafts}
 use Rattle.dwc_base.specs.LocationAttributes as LocationAttributes
-use Rattle.dwc_base.specs.LocationAttributes.{LocationRefusal, ListedExpression, value_of_expression, value_of_locations}
-use Rattle.dwc_base.specs.LocationRules.{ExpressionSource, lists_of, in_force_at, given_expression, expression_becomes, listed_by, locations_become}
-use Rattle.dwc_base.specs.EntryRules.{of_list, of_location, rules_of_source}
-use Rattle.dwc_base.specs.Forests.{kept_of, rules_of, is_big, module_drafts, trees_made}
+use Rattle.dwc_base.specs.LocationAttributes.{LocationRefusal, ListedExpression, value_of_expression, value_of_locations, read_expression, read_locations}
+use Rattle.dwc_base.specs.LocationRules.{ExpressionSource, lists_of, in_force_at, given_expression, expression_becomes, listed_by, listed_become, locations_become}
+use Rattle.dwc_base.specs.EntryRules.{of_list, of_location, wrappers_of, rules_of_source}
+use Rattle.dwc_base.specs.Forests.{kept_of, expressions_of, is_big, module_drafts, trees_made}
+use Rattle.dwc_base.proofs.InLists.{IsIn}
+use Rattle.dwc_base.proofs.MadeDrafts.{each-made}
+use Rattle.dwc_base.proofs.PointerLaws.{each-changed}
 use Rattle.dwc_base.proofs.LocationValues.{is_nothing, is_expression, is_list, GivesLocated, expression-located, locations-located}
 use Rattle.dwc_base.proofs.ForestLaws.{some_same, none_is, Each, each_chosen, each_mapped, each_filter_map, each_both, SaysNoPlace, Anywhere, EntrySaysNoPlace, UnitSaysNoPlace, ModuleSaysNoPlace, references-go}
 
@@ -115,24 +124,39 @@ module _ (Has : Goal → Type 0) (plain : (offset : ℕ) → Has (made_of offset
   located-made name (Ok (Some _)) tell (is_expression bytes) = value-made name (done (expression bytes)) refl
   located-made name (Ok (Some _)) tell (is_list ls) = value-made name (done (locations ls)) refl
 
-  located-told : (name : ℕ) (r : Result (Option TreeValue) LocationRefusal) (tell : LocationRefusal → Refusal) → GivesLocated r → MakesNoPlace name (told_as tell r >>= λ v. Ok (LocationAttributes.drafted v))
-  located-told name (Err refusal) tell gives = refused-made name (tell refusal)
-  located-told name (Ok None) tell is_nothing = nothing-made name
-  located-told name (Ok (Some _)) tell (is_expression bytes) = value-made name (done (expression bytes)) refl
-  located-told name (Ok (Some _)) tell (is_list ls) = value-made name (done (locations ls)) refl
+  -- what is only read becomes nothing
+  read-made : (name : ℕ) (r : Result (Prim.Unit {0}) LocationRefusal) (tell : LocationRefusal → Refusal) → MakesNoPlace name (told_as tell (r >>= λ read. Ok None))
+  read-made name (Err refusal) tell = refused-made name (tell refusal)
+  read-made name (Ok read) tell = nothing-made name
 
   expression-made : (c : ExpressionSource) (e : Placed) (before : List (ℕ × Value)) (name : ℕ) (bytes : List ℕ) → MakesNoPlace name (told_as (of_location c.told.place) (expression_becomes c e before name bytes))
   unfolding expression_becomes
-  expression-made c e before name bytes =
-      located-made name (value_of_expression name (in_force_at c e) (given_expression c e before bytes)) (of_location c.told.place) (expression-located name (in_force_at c e) (given_expression c e before bytes))
+  expression-made c e before name bytes = go (is_wrapped e)
+    where
+      go : (wrapped : Bool) → MakesNoPlace name (told_as (of_location c.told.place) (elim wrapped [
+        | true ↦ (read_expression name (in_force_at c e) (given_expression c e before bytes) >>= λ read. Ok None)
+        | false ↦ (value_of_expression name (in_force_at c e) (given_expression c e before bytes) >>= λ v. Ok (LocationAttributes.drafted v))
+      ]))
+      go true = read-made name (read_expression name (in_force_at c e) (given_expression c e before bytes)) (of_location c.told.place)
+      go false = located-made name (value_of_expression name (in_force_at c e) (given_expression c e before bytes)) (of_location c.told.place) (expression-located name (in_force_at c e) (given_expression c e before bytes))
+
+  listed-made : (c : ExpressionSource) (e : Placed) (name : ℕ) (xs : List ListedExpression) → MakesNoPlace name (told_as (of_location c.told.place) (listed_become c e xs))
+  listed-made c e name xs = go (is_wrapped e)
+    where
+      go : (wrapped : Bool) → MakesNoPlace name (told_as (of_location c.told.place) (elim wrapped [
+        | true ↦ (read_locations (in_force_at c e) xs >>= λ read. Ok None)
+        | false ↦ (value_of_locations (in_force_at c e) xs >>= λ value. Ok (LocationAttributes.drafted value))
+      ]))
+      go true = read-made name (read_locations (in_force_at c e) xs) (of_location c.told.place)
+      go false = located-made name (value_of_locations (in_force_at c e) xs) (of_location c.told.place) (locations-located (in_force_at c e) xs)
 
   locations-made : (c : ExpressionSource) (e : Placed) (name : ℕ) (v : Value) → MakesNoPlace name (locations_become of_list (of_location c.told.place) c e v)
   unfolding locations_become
   locations-made c e name v = go (told_as of_list (listed_by c e v))
     where
-      go : (r : Result (List ListedExpression) Refusal) → MakesNoPlace name (r >>= λ xs. told_as (of_location c.told.place) (value_of_locations (in_force_at c e) xs) >>= λ value. Ok (LocationAttributes.drafted value))
+      go : (r : Result (List ListedExpression) Refusal) → MakesNoPlace name (r >>= λ xs. told_as (of_location c.told.place) (listed_become c e xs))
       go (Err refusal) = refused-made name refusal
-      go (Ok xs) = located-told name (value_of_locations (in_force_at c e) xs) (of_location c.told.place) (locations-located (in_force_at c e) xs)
+      go (Ok xs) = listed-made c e name xs
 
   -- ---- extents
 
@@ -233,13 +257,76 @@ module _ (Has : Goal → Type 0) (plain : (offset : ℕ) → Has (made_of offset
         (each_filter_map (λ a. if_made a.0 a.1) (SaysNoPlace Has) (attributes_become (rules_of_source c) s e [] e.entry.attributes) (attributes-become [] e.entry.attributes)))
         (endianity-no-place big_endian)
 
-  -- the entries that are made of a unit's kept ones say no place, and their references have the property
-  pub unit-no-place : (m : Module) (u : Unit) (s : UnitSource) (big_endian : Bool) (es : List Placed) → UnitSaysNoPlace Has (unit_drafts (rules_of m u) s big_endian es)
-  unit-no-place m u s big_endian [] = tt
-  unit-no-place m u s big_endian (e ∷ es) = (entry-no-place (record { sections = m.sections; header = u.header; functions = m.functions; told = m.told; entries = (kept_of m).entries }) s e big_endian, unit-no-place m u s big_endian es)
+-- ---- object pointers, the context, and wrappers
+
+underscored-no-place : (Has : Goal → Type 0) (name : ℕ) (v : DraftValue) → SaysNoPlace Has (name, v) → SaysNoPlace Has (name, underscored v)
+underscored-no-place Has name (goes_to goal) h = h
+underscored-no-place Has name (done (text bytes)) h = refl
+underscored-no-place Has name (done (address_of_tree a)) h = h
+underscored-no-place Has name (done (constant form bits)) h = h
+underscored-no-place Has name (done (flag b)) h = h
+underscored-no-place Has name (done (block bytes)) h = h
+underscored-no-place Has name (done (expression bytes)) h = h
+underscored-no-place Has name (done line_table) h = h
+underscored-no-place Has name (done (ranges is)) h = h
+underscored-no-place Has name (done (locations ls)) h = h
+underscored-no-place Has name (done (entry number place)) h = h
+underscored-no-place Has name (done nothing) h = h
+
+-- A property of the goals that the entries made of some kept ones refer to, in a module with a memory: entries that are made of others, all
+-- parts of wrapped ones, and two of the module's own unit.
+pub record GoalsHave (Has : Goal → Type 0) (memory : Memory) (es : List Placed) : Type 0 where
+  pub plain : (offset : ℕ) → Has (made_of offset itself)
+  pub wrapped : (e : Placed) → IsIn e es → is_wrapped e ≡ true → (role : Role) → Has (made_of e.entry.offset role)
+  pub context : Has (own_entry (place_of_context_pointer memory))
+  pub address : Has (own_entry (place_of_wasm_pointer memory))
+
+module _ (Has : Goal → Type 0) (c : ExpressionSource) (s : UnitSource) (big_endian : Bool) where
+  told-no-place : ((offset : ℕ) → Has (made_of offset itself)) → (e : Placed) → EntrySaysNoPlace Has (draft_told c s big_endian e)
+  told-no-place plain e =
+      each-changed (SaysNoPlace Has) (underscored-no-place Has) (wrappers_of c).texts c.entries e (attributes_made (rules_of_source c) s big_endian e) (entry-no-place Has plain c s e big_endian)
+
+  context-no-place : Has (own_entry (place_of_context_pointer c.told.memory)) → (e : Placed) → UnitSaysNoPlace Has (context_entries c e)
+  context-no-place pointer e = go (context_over c e)
+    where
+      go : (o : Option (Result (List Location) BuildRefusal)) → UnitSaysNoPlace Has (option_to_list (option_map (λ located. context_variable (suc e.entry.depth) (context_pointer c) (located_or_none located)) o))
+      go None = tt
+      go (Some located) = ((refl, (pointer, (refl, tt))), tt)
+
+  module _ (e : Placed) (made : (role : Role) → Has (made_of e.entry.offset role)) where
+    target-no-place : ((offset : ℕ) → Has (made_of offset itself)) → Each (SaysNoPlace Has) (target_type (wrappers_of c) e)
+    target-no-place plain = go (type_of c.entries e)
+      where
+        go : (o : Option Placed) → Each (SaysNoPlace Has) (option_to_list (option_map (λ f. type_made f itself) o))
+        go None = tt
+        go (Some f) = (plain f.entry.offset, tt)
+
+    wrapper-no-place : ((offset : ℕ) → Has (made_of offset itself)) → Has (own_entry (place_of_wasm_pointer c.told.memory)) → UnitSaysNoPlace Has (wrapper (wrappers_of c) e)
+    wrapper-no-place plain pointer =
+        let parameter : Each (SaysNoPlace Has) (type_made e pointer_to_wrapper ∷ named DW_AT_artificial (flag true) ∷ []) = (made pointer_to_wrapper, (refl, tt)) in (
+          (refl, (refl, tt)),
+          (
+            (refl, target-no-place plain),
+            (
+              (refl, (pointer, (refl, tt))),
+              ((refl, (refl, (made pointer_to_target, tt))), (parameter, ((refl, (refl, (made reference_to_target, tt))), (parameter, ((refl, (refl, (made pointer_to_target, tt))), (parameter, tt)))))),
+            ),
+          ),
+        )
+
+    types-no-place : ((offset : ℕ) → Has (made_of offset itself)) → UnitSaysNoPlace Has (wrapper_types (wrappers_of c) e)
+    types-no-place plain = ((made itself, tt), (target-no-place plain, (target-no-place plain, tt)))
+
+-- the entries that are made of a unit's kept ones say no place, and their references have the property
+pub unit-no-place : (Has : Goal → Type 0) (m : Module) (u : Unit) (s : UnitSource) (big_endian : Bool) (es : List Placed) → GoalsHave Has m.told.memory es → UnitSaysNoPlace Has (unit_drafts (expressions_of m u) s big_endian es)
+unit-no-place Has m u s big_endian es have =
+    let c = expressions_of m u in
+    each-made (EntrySaysNoPlace Has) (wrappers_of c) (entry_made c s big_endian) es
+    (λ e i is. (told-no-place Has c s big_endian have.plain e, context-no-place Has c s big_endian have.context e))
+    (λ e i is. (wrapper-no-place Has c s big_endian e (have.wrapped e i is) have.plain have.address, types-no-place Has c s big_endian e (have.wrapped e i is) have.plain))
 
 -- nor does a module's own unit
-own-no-place : (set_memory : List ℕ) (memory : Memory) → UnitSaysNoPlace Anywhere (own_unit set_memory memory)
+pub own-no-place : (set_memory : List ℕ) (memory : Memory) → UnitSaysNoPlace Anywhere (own_unit set_memory memory)
 unfolding own_unit
 own-no-place set_memory (defined offset) =
     ((refl, (refl, (refl, tt))), ((refl, (refl, (refl, tt))), ((refl, (tt, tt)), ((refl, (refl, tt)), ((refl, (tt, (refl, tt))), ((refl, (refl, tt)), ((tt, (refl, tt)), ((refl, (tt, tt)), ((refl, (refl, (refl, tt))), tt)))))))))
@@ -252,9 +339,9 @@ module-no-place : (big_endian : Bool) (m : Module) → ModuleSaysNoPlace Anywher
 unfolding carried_drafts
 module-no-place big_endian m = (own-no-place m.told.names.set_memory m.told.memory, go (carried_in (kept_of m)))
   where
-    go : (us : List Unit) → Each (UnitSaysNoPlace Anywhere) (map (λ u. unit_drafts (rules_of m u) (source_of (kept_of m) u) big_endian (kept_in (kept_of m) u)) us)
+    go : (us : List Unit) → Each (UnitSaysNoPlace Anywhere) (map (λ u. unit_drafts (expressions_of m u) (source_of (kept_of m) u) big_endian (kept_in (kept_of m) u)) us)
     go [] = tt
-    go (u ∷ us) = (unit-no-place Anywhere (λ offset. tt) m u (source_of (kept_of m) u) big_endian (kept_in (kept_of m) u), go us)
+    go (u ∷ us) = (unit-no-place Anywhere m u (source_of (kept_of m) u) big_endian (kept_in (kept_of m) u) (record { plain = λ offset. tt; wrapped = λ e i is role. tt; context = tt; address = tt }), go us)
 
 modules-no-place : (big_endian : Bool) (ms : List Module) → Each (ModuleSaysNoPlace Anywhere) (map (module_drafts big_endian) ms)
 modules-no-place big_endian [] = tt

@@ -31,7 +31,7 @@ AreOthers name [] = Unit {0}
 AreOthers name (a ∷ as') = ((a.0 == name) ≡ false) × AreOthers name as'
 
 module _ {A : Type 0} (name : ℕ) where
-  said-set : (v : A) (bs : List (ℕ × A)) → said name (set_attribute (name, v) bs) ≡ Some v
+  pub said-set : (v : A) (bs : List (ℕ × A)) → said name (set_attribute (name, v) bs) ≡ Some v
   said-set v [] = rw (eq-eqb name name refl) refl
   said-set v (b ∷ bs) = go (name == b.0) refl (said-set v bs)
     where
@@ -41,7 +41,7 @@ module _ {A : Type 0} (name : ℕ) where
           let other : (b.0 == name) ≡ false = false_from_ne_true (b.0 == name) (λ same. false≢true (sym apart ∙ eq-eqb name b.0 (sym (eqb-true b.0 name same)))) in
           rw other behind
 
-  said-other : (a : ℕ × A) (bs : List (ℕ × A)) → (a.0 == name) ≡ false → said name (set_attribute a bs) ≡ said name bs
+  pub said-other : (a : ℕ × A) (bs : List (ℕ × A)) → (a.0 == name) ≡ false → said name (set_attribute a bs) ≡ said name bs
   said-other a [] other = rw other refl
   said-other a (b ∷ bs) other = go (a.0 == b.0) refl (said-other a bs other)
     where
@@ -115,7 +115,7 @@ become-both rules s e before (a ∷ front) behind =
 -- ---- names of locations
 
 -- what holds of each of some codes holds of one of them
-one-of : (P : ℕ → Type 0) (codes : List ℕ) (name : ℕ) → is_one_of codes name ≡ true → Each P codes → P name
+pub one-of : (P : ℕ → Type 0) (codes : List ℕ) (name : ℕ) → is_one_of codes name ≡ true → Each P codes → P name
 one-of P [] name h each = absurd (false≢true h)
 one-of P (c ∷ cs) name h each = go (or_cases (c == name) (is_one_of cs name) h) (λ there. one-of P cs name there each.1)
   where
@@ -133,7 +133,7 @@ pub record IsPlain (name : ℕ) : Type 0 where
   pub ranges : (DW_AT_ranges == name) ≡ false
   pub order : (DW_AT_endianity == name) ≡ false
 
-abbrev location_names : List ℕ
+abbrev pub location_names : List ℕ
 location_names = DW_AT_location ∷ DW_AT_string_length ∷ DW_AT_return_addr ∷ DW_AT_data_member_location ∷ DW_AT_frame_base ∷ DW_AT_segment ∷ DW_AT_static_link ∷ DW_AT_use_location ∷ DW_AT_vtable_elem_location ∷ []
 
 pub location-plain : (name : ℕ) → is_location_name name ≡ true → IsPlain name

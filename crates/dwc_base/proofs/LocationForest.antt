@@ -1,16 +1,18 @@
 -- The trees that are made of an input carry its locations, where translations keep scopes and nothing is refused.
-use Rattle.std.proofs.Common.{◌≡◌, ℕ, pos, ◌+◌, List, [], ◌∷◌, ◌++◌, map, length, Option, Some, None, Bool, true, false, Result, Ok, Err, refl, sym, ap, ap₂, subst, ◌∙◌, inl, inr, ◌==◌}
-use Rattle.std.specs.Prelude.{if◌then◌else◌, option_to_list, IfSome, All, Contains, filter_map, flat_map}
+use Rattle.std.proofs.Common.{◌≡◌, ℕ, pos, List, [], ◌∷◌, ◌++◌, map, Option, Some, None, Bool, true, false, Result, Ok, Err, refl, sym, ap, subst, ◌∙◌, inl, inr, ◌==◌, true≢false}
+use Rattle.std.specs.Prelude.{if◌then◌else◌, option_to_list, IfSome, All, filter_map, flat_map}
 use Rattle.std.specs.Option.{unwrap_or}
 use Rattle.std.specs.List.{cons_option}
 use Rattle.std.proofs.lemmas.Bool.{eqb-true}
-use Rattle.std.proofs.lemmas.List.{append-nil}
 use Rattle.std.proofs.lemmas.List.Elements.{All-head, All-tail, All-nil, All-cons, filter_map-append}
 use Rattle.dwc_base.specs.declared.constants.TheConstants.{DW_AT_frame_base, DW_AT_ranges, DW_TAG_compile_unit}
 use Rattle.dwc_base.specs.declared.records.Address.TheVariants.{Symbol}
 use Rattle.dwc_base.specs.Entries.{Entry}
 use Rattle.dwc_base.specs.Functions.{Function}
 use Rattle.dwc_base.specs.Kept.{Placed}
+use Rattle.dwc_base.specs.Reading.{◌>>=◌}
+use Rattle.dwc_base.specs.RangeRules.{told_as}
+use Rattle.dwc_base.specs.Wrappers.{is_wrapped}
 use Rattle.dwc_base.specs.Lists.{ListRefusal}
 use Rattle.dwc_base.specs.RawLists.{ListSource}
 use Rattle.dwc_base.specs.RangeAttributes.{Extent, begun_function, bounds, extent, intervals, length_of, native_of_intervals, nowhere, position, range_attributes, said_extent, said_intervals}
@@ -20,25 +22,26 @@ use Rattle.dwc_base.specs.EntryRules.{named_faults}
 use Rattle.dwc_base.specs.Values.{Value, address, address_index, block, constant, dropped, expression, flag, info_reference, is_location_name, line_reference, location_index, location_reference, range_index, range_reference, text, text_reference, unit_reference}
 use Rattle.dwc_base.specs.Trees as Trees
 use Rattle.dwc_base.specs.Trees.{Interval, Location, Tree, TreeEntry, TreeValue, locations}
-use Rattle.dwc_base.specs.Drafts.{Goal, Draft, DraftValue, done, itself}
-use Rattle.dwc_base.specs.DraftForests.{units_drafted, is_made_of, place_of_goal, settled_entry, settled_unit, trees_from, forest}
-use Rattle.dwc_base.specs.Clones.{UnitSource, CodeRules, attribute_becomes, attributes_become, value_becomes, if_refused, entry_refusals}
-use Rattle.dwc_base.specs.Carried.{Unit, Module, Compilation, carried_unit}
+use Rattle.dwc_base.specs.Drafts.{Goal, DraftValue, done}
+use Rattle.dwc_base.specs.DraftForests.{settled_entry, settled_unit}
+use Rattle.dwc_base.specs.Clones.{UnitSource, CodeRules, attribute_becomes, attributes_become, attributes_made, value_becomes, if_refused, entry_refusals}
+use Rattle.dwc_base.specs.Carried.{Unit, Module, Compilation}
 use Rattle.dwc_base.specs.KeptModules.{carried_in, kept_in}
-use Rattle.dwc_base.specs.CarriedDrafts.{source_of, draft_of, carried_drafts}
+use Rattle.dwc_base.specs.CarriedDrafts.{source_of, draft_of, draft_told}
 use Rattle.dwc_base.specs.Parts.{CompiledParts, compiled, is_simple}
 use Rattle.dwc_base.specs.Placed.{Frame, scope_intervals}
 use Rattle.dwc_base.specs.BuiltExpressions.{Surroundings, BuiltExpressions, BuildRefusal, built_over}
 use Rattle.dwc_base.specs.LocationAttributes.{LocationRefusal, of_place, of_build, InForce, ListedExpression, compiled_at, built_at, value_over, value_of_built, value_of_expression, built_for, built_for_each, value_of_listed, value_of_locations, with_locations, drafted}
-use Rattle.dwc_base.specs.LocationRules.{ExpressionSource, expression_becomes, in_force_at, listed_by, lists_of, locations_become}
-use Rattle.dwc_base.specs.EntryRules.{code_value_becomes, of_list, of_location, rules_of_source}
+use Rattle.dwc_base.specs.LocationRules.{ExpressionSource, given_expression, expression_becomes, in_force_at, listed_by, listed_become, lists_of, locations_become}
+use Rattle.dwc_base.specs.EntryRules.{code_value_becomes, of_list, of_location, wrappers_of, rules_of_source}
 use Rattle.dwc_base.specs.RangeRefusals.{has_name}
-use Rattle.dwc_base.specs.Forests.{kept_of, rules_of, carried_units_of, wanted_units_of, wanted_units, is_big, drafts_of, module_drafts, function_refusals, own_refusals, reading_refusals, module_refusals, refusals, first_refusal, trees_made}
+use Rattle.dwc_base.specs.Forests.{kept_of, expressions_of, rules_of, wanted_units, is_big, drafts_of, function_refusals, own_refusals, reading_refusals, module_refusals, refusals, first_refusal, trees_made}
 use Rattle.dwc_base.specs.ScopesCarried.{AreNumbered, TranslationsKeepScopes, KeepsScope, value_of_entry}
-use Rattle.dwc_base.specs.LocationsCarried.{LocationUse, over_scope, over_intervals, use_over, interval_used, intervals_used, use_of, IntervalSaysWhere, ListSaysWhere, ValueSaysWhere, NameSaysWhere, CarriesLocations, expressions_of, UnitCarriesLocations, UnitHasLocations, LocationsCarried}
-use Rattle.dwc_base.proofs.InLists.{IsIn, contains-in, in-filter}
-use Rattle.dwc_base.proofs.EntryOffsets.{same-entry, kept-placed, carried-read}
-use Rattle.dwc_base.proofs.ScopeForest.{made-at, zip-both, zip-made, zip-mapped}
+use Rattle.dwc_base.specs.LocationsCarried.{LocationUse, over_scope, over_intervals, use_over, interval_used, intervals_used, use_of, IntervalSaysWhere, ListSaysWhere, ValueSaysWhere, NameSaysWhere, CarriesLocations, UnitCarriesLocations, UnitHasLocations, LocationsCarried}
+use Rattle.dwc_base.proofs.InLists.{IsIn, in-filter}
+use Rattle.dwc_base.proofs.MadeDrafts.{unit-says}
+use Rattle.dwc_base.proofs.PointerLaws.{changed-said, location-untouched}
+use Rattle.dwc_base.proofs.UnitsMade.{all-in, units-made}
 use Rattle.dwc_base.proofs.LocationScopes.{expression-says, interval-says, scope-kept}
 use Rattle.dwc_base.proofs.LastAttributes.{AreOthers, IsPlain, IsValue, SaysLast, become-both, location-plain, says-last, value_made}
 
@@ -167,7 +170,16 @@ record BecomesSaid (fs : List Function) (frame : Option Frame) (given : Location
 becomes-said : (fs : List Function) (frame : Option Frame) (given : LocationUse) (r : Result (Option DraftValue) Refusal) (v : Option TreeValue) → r ≡ Ok (drafted v) → ValueSaysWhere fs frame given v → BecomesSaid fs frame given r
 becomes-said fs frame given r v is says = record { value = subst IsValue (sym is) (drafted-value v); says = subst (ValueSaysWhere fs frame given) (sym (ap value_made is ∙ drafted-made v)) says }
 
-module _ (c : ExpressionSource) (keep : TranslationsKeepScopes c.functions) (numbered : AreNumbered c.functions) (s : UnitSource) (e : Placed) (before : List (ℕ × Value)) where
+-- of an entry that is not wrapped an expression, or the intervals of a list, become what is built
+expression-plain : (c : ExpressionSource) (e : Placed) (before : List (ℕ × Value)) (name : ℕ) (bytes : List ℕ) → is_wrapped e ≡ false
+    → expression_becomes c e before name bytes ≡ (value_of_expression name (in_force_at c e) (given_expression c e before bytes) >>= λ v. Ok (drafted v))
+unfolding expression_becomes
+expression-plain c e before name bytes plain = rw (plain, expression_becomes) refl
+
+listed-plain : (c : ExpressionSource) (e : Placed) (xs : List ListedExpression) → is_wrapped e ≡ false → listed_become c e xs ≡ (value_of_locations (in_force_at c e) xs >>= λ value. Ok (drafted value))
+listed-plain c e xs plain = rw (plain, listed_become) refl
+
+module _ (c : ExpressionSource) (keep : TranslationsKeepScopes c.functions) (numbered : AreNumbered c.functions) (s : UnitSource) (e : Placed) (plain_entry : is_wrapped e ≡ false) (before : List (ℕ × Value)) where
   abbrev becomes : ℕ → Value → Result (Option DraftValue) Refusal
   becomes name v = code_value_becomes c e before name v
 
@@ -175,7 +187,7 @@ module _ (c : ExpressionSource) (keep : TranslationsKeepScopes c.functions) (num
   Said given r = BecomesSaid c.functions (in_force_at c e).surroundings.frame given r
 
   expression-becomes : (name : ℕ) (bytes : List ℕ) (given : LocationUse) → is_location_name name ≡ true → use_of c e (name, expression bytes) ≡ Some given → if_refused (becomes name (expression bytes)) ≡ None → Said given (becomes name (expression bytes))
-  unfolding expression_becomes value_of_expression compiled_at in_force_at
+  unfolding value_of_expression compiled_at in_force_at
   expression-becomes name bytes given named used accepted = base (name == DW_AT_frame_base) refl used
     where
       E : InForce
@@ -187,11 +199,11 @@ module _ (c : ExpressionSource) (keep : TranslationsKeepScopes c.functions) (num
       built : (b : (name == DW_AT_frame_base) ≡ false) (i : ℕ × ℕ) (is : List (ℕ × ℕ)) (x : CompiledParts) → (in_force_at c e).scope ≡ Some (i ∷ is) → compiled (in_force_at c e).base bytes ≡ Ok (Some x) → is_simple x ≡ false → over_scope (i ∷ is) x ≡ given
           → (r : Result (Option TreeValue) LocationRefusal) → value_over name (in_force_at c e).surroundings x (Some (i ∷ is)) ≡ r → Goal'
       built b i is x scope compiles not_simple same (Ok v) is_value =
-          let known : becomes name (expression bytes) ≡ Ok (drafted v) = rw (b, compiles, b, not_simple, scope, is_value) refl in
+          let known : becomes name (expression bytes) ≡ Ok (drafted v) = ap (told_as (of_location c.told.place)) (expression-plain c e before name bytes plain_entry) ∙ rw (b, compiles, b, not_simple, scope, is_value) refl in
           becomes-said c.functions (in_force_at c e).surroundings.frame given (becomes name (expression bytes)) v known
           (subst (λ u. ValueSaysWhere c.functions (in_force_at c e).surroundings.frame u v) same (over-says c.functions keep numbered (in_force_at c e).surroundings i is x name v refl named not_simple is_value))
       built b i is x scope compiles not_simple same (Err refusal) is_value =
-          let known : becomes name (expression bytes) ≡ Err (of_location c.told.place refusal) = rw (b, compiles, b, not_simple, scope, is_value) refl in
+          let known : becomes name (expression bytes) ≡ Err (of_location c.told.place refusal) = ap (told_as (of_location c.told.place)) (expression-plain c e before name bytes plain_entry) ∙ rw (b, compiles, b, not_simple, scope, is_value) refl in
           absurd (cc)
 
       simple : (b : (name == DW_AT_frame_base) ≡ false) (i : ℕ × ℕ) (is : List (ℕ × ℕ)) (x : CompiledParts) → (in_force_at c e).scope ≡ Some (i ∷ is) → compiled (in_force_at c e).base bytes ≡ Ok (Some x) → (t : Bool) → is_simple x ≡ t → (if t then None else Some (over_scope (i ∷ is) x)) ≡ Some given → Goal'
@@ -220,12 +232,15 @@ module _ (c : ExpressionSource) (keep : TranslationsKeepScopes c.functions) (num
       go (Err refusal) is h = absurd (cc)
       go (Ok xs) is h = here (built_for_each (in_force_at c e) xs) refl
         where
+          read : locations_become of_list (of_location c.told.place) c e v ≡ told_as (of_location c.told.place) (listed_become c e xs)
+          read = rw is refl
+
           here : (q : Result (Option (List Location)) LocationRefusal) → built_for_each (in_force_at c e) xs ≡ q → Said given (locations_become of_list (of_location c.told.place) c e v)
           here (Err refusal) built =
-              let known : locations_become of_list (of_location c.told.place) c e v ≡ Err (of_location c.told.place refusal) = rw (is, built) refl in
+              let known : locations_become of_list (of_location c.told.place) c e v ≡ Err (of_location c.told.place refusal) = read ∙ ap (told_as (of_location c.told.place)) (listed-plain c e xs plain_entry) ∙ rw built refl in
               absurd (cc)
           here (Ok o) built =
-              let known : locations_become of_list (of_location c.told.place) c e v ≡ Ok (drafted (value_of_listed o)) = rw (is, built) refl in
+              let known : locations_become of_list (of_location c.told.place) c e v ≡ Ok (drafted (value_of_listed o)) = read ∙ ap (told_as (of_location c.told.place)) (listed-plain c e xs plain_entry) ∙ rw built refl in
               let same : over_intervals (map (interval_used (in_force_at c e).base) xs) ≡ given = cc in
               becomes-said c.functions (in_force_at c e).surroundings.frame given (locations_become of_list (of_location c.told.place) c e v) (value_of_listed o) known
               (subst (λ u. ValueSaysWhere c.functions (in_force_at c e).surroundings.frame u (value_of_listed o)) same (all o (listed-say c.functions keep numbered (in_force_at c e) xs o refl built)))
@@ -307,27 +322,32 @@ one-accepted rules s e before after a are none =
     go [] (Some r) ys zs h = absurd (cc)
     go (x ∷ xs) o ys zs h = absurd (cc)
 
--- The entry that is made of a kept one carries its locations.
+-- The entry that is made of a kept one carries its locations, whatever changes for object pointers.
 entry-carries : (c : ExpressionSource) → TranslationsKeepScopes c.functions → AreNumbered c.functions → (s : UnitSource) (big_endian : Bool) (places : Goal → Option (ℕ × ℕ)) (p : Placed) → entry_refusals (rules_of_source c) s p ≡ []
-    → CarriesLocations c p (settled_entry places (draft_of (rules_of_source c) s big_endian p))
-entry-carries c keep numbered s big_endian places p none = λ before after a plain_tag are named last. go before after a are named last (use_of c p a) refl
+    → CarriesLocations c p (settled_entry places (draft_told c s big_endian p))
+entry-carries c keep numbered s big_endian places p none = λ before after a plain_entry are named last. go before after a plain_entry are named last (use_of c p a) refl
   where
     out : TreeEntry
-    out = settled_entry places (draft_of (rules_of_source c) s big_endian p)
+    out = settled_entry places (draft_told c s big_endian p)
 
-    go : (before after : List (ℕ × Value)) (a : ℕ × Value) → p.entry.attributes ≡ before ++ a ∷ after → is_location_name a.0 ≡ true → has_name a.0 after ≡ false → (o : Option LocationUse) → use_of c p a ≡ o
-        → IfSome o (λ given. NameSaysWhere c.functions (in_force_at c p).surroundings.frame given (has_name a.0 before) (value_of_entry a.0 (settled_entry places (draft_of (rules_of_source c) s big_endian p))))
-    go before after a are named last None used = tt
-    go before after a are named last (Some given) used =
+    made : TreeEntry
+    made = settled_entry places (draft_of (rules_of_source c) s big_endian p)
+
+    go : (before after : List (ℕ × Value)) (a : ℕ × Value) → is_wrapped p ≡ false → p.entry.attributes ≡ before ++ a ∷ after → is_location_name a.0 ≡ true → has_name a.0 after ≡ false → (o : Option LocationUse) → use_of c p a ≡ o
+        → IfSome o (λ given. NameSaysWhere c.functions (in_force_at c p).surroundings.frame given (has_name a.0 before) (value_of_entry a.0 (settled_entry places (draft_told c s big_endian p))))
+    go before after a plain_entry are named last None used = tt
+    go before after a plain_entry are named last (Some given) used =
         let plain = location-plain a.0 named in
-        let said = attribute-becomes c keep numbered s p before a given named used (one-accepted (rules_of_source c) s p before after a are none) in
-        name-says c.functions (in_force_at c p).surroundings.frame given (value_made (attribute_becomes (rules_of_source c) s p before a)) (has_name a.0 before) (value_of_entry a.0 (settled_entry places (draft_of (rules_of_source c) s big_endian p)))
-        (says-last (rules_of_source c) s big_endian p places before after a are plain (bounds-others (lists_of c) c.functions p.entry a.0 plain) last said.value) said.says
+        let said = attribute-becomes c keep numbered s p plain_entry before a given named used (one-accepted (rules_of_source c) s p before after a are none) in
+        let same : value_of_entry a.0 out ≡ value_of_entry a.0 made = changed-said a.0 places (location-untouched a.0 named) (wrappers_of c).texts c.entries p (attributes_made (rules_of_source c) s big_endian p) in
+        subst (NameSaysWhere c.functions (in_force_at c p).surroundings.frame given (has_name a.0 before)) (sym same)
+        (name-says c.functions (in_force_at c p).surroundings.frame given (value_made (attribute_becomes (rules_of_source c) s p before a)) (has_name a.0 before) (value_of_entry a.0 made)
+        (says-last (rules_of_source c) s big_endian p places before after a are plain (bounds-others (lists_of c) c.functions p.entry a.0 plain) last said.value) said.says)
 
 -- ---- units and modules
 
 -- nothing in a list that is empty, part by part
-both-none : {A : Type 0} (xs ys : List A) → xs ++ ys ≡ [] → (xs ≡ []) × (ys ≡ [])
+pub both-none : {A : Type 0} (xs ys : List A) → xs ++ ys ≡ [] → (xs ≡ []) × (ys ≡ [])
 both-none [] ys h = (refl, h)
 both-none (x ∷ xs) ys h = absurd (cc)
 
@@ -336,9 +356,13 @@ each-none f [] x h i = absurd i
 each-none f (y ∷ ys) x h (inl same) = ap f same ∙ (both-none (f y) (flat_map f ys) h).0
 each-none f (y ∷ ys) x h (inr i) = each-none f ys x (both-none (f y) (flat_map f ys) h).1 i
 
-module _ (big_endian : Bool) (m : Module) (keep : TranslationsKeepScopes m.functions) (numbered : AreNumbered m.functions) (accepted : module_refusals m ≡ []) where
+-- a kept entry of a unit stands in it
+pub in-unit : (m : Module) (u : Unit) (p : Placed) → IsIn p (kept_in (kept_of m) u) → p.unit ≡ u.header.offset
+in-unit m u p i = eqb-true p.unit u.header.offset (in-filter (λ (q : Placed). q.unit == u.header.offset) (kept_of m).kept p i).1
+
+module _ (m : Module) (accepted : module_refusals m ≡ []) where
   -- nothing is refused of a kept entry of a carried unit
-  kept-accepted : (u : Unit) (p : Placed) → IsIn u (carried_in (kept_of m)) → IsIn p (kept_in (kept_of m) u) → entry_refusals (rules_of m u) (source_of (kept_of m) u) p ≡ []
+  pub kept-accepted : (u : Unit) (p : Placed) → IsIn u (carried_in (kept_of m)) → IsIn p (kept_in (kept_of m) u) → entry_refusals (rules_of m u) (source_of (kept_of m) u) p ≡ []
   unfolding Reached.module_refusals Reached.kept_refusals
   kept-accepted u p carried kept =
       let rules = rules_of m in
@@ -347,51 +371,31 @@ module _ (big_endian : Bool) (m : Module) (keep : TranslationsKeepScopes m.funct
       let entries = (both-none (option_to_list (unit_refusal m.sections u)) (Reached.kept_refusals rules (kept_of m) u) unit).1 in
       each-none (entry_refusals (rules u) (source_of (kept_of m) u)) (kept_in (kept_of m) u) p entries kept
 
+module _ (big_endian : Bool) (m : Module) (keep : TranslationsKeepScopes m.functions) (numbered : AreNumbered m.functions) (accepted : module_refusals m ≡ []) where
   unit-carries : (u : Unit) (places : Goal → Option (ℕ × ℕ)) → IsIn u (carried_in (kept_of m))
       → UnitCarriesLocations (drafts_of big_endian) (record { module_of = m; unit = u }) (settled_unit places (drafts_of big_endian (record { module_of = m; unit = u })))
   unit-carries u places carried =
-      let draft = draft_of (rules_of m u) (source_of (kept_of m) u) big_endian in
-      let c = expressions_of (record { module_of = m; unit = u }) in
-      zip-made (λ (d : Draft) (out : TreeEntry). (e : Entry) → Contains u.entries e → is_made_of e.offset itself d ≡ true → CarriesLocations c (record { unit = u.header.offset; entry = e }) out) draft draft (settled_entry places) (kept_in (kept_of m) u)
-      (λ p i e among made.
-      let here : p.unit ≡ u.header.offset = eqb-true p.unit u.header.offset (in-filter (λ (q : Placed). q.unit == u.header.offset) (kept_of m).kept p i).1 in
-      let read : p.entry ≡ e = same-entry m.sections u p e (carried-read m u carried) (kept-placed m u p i) (contains-in u.entries e among) (made-at e.offset (draft p) p.entry.offset refl made) in
-      let same : p ≡ record { unit = u.header.offset; entry = e } = ap₂ (λ (n : ℕ) (x : Entry). record { unit = n; entry = x }) here read in
-      subst (λ (q : Placed). CarriesLocations c q (settled_entry places (draft p))) same
-      (entry-carries c keep numbered (source_of (kept_of m) u) big_endian places p (kept-accepted u p carried i)))
-
-  module-carries : (number : ℕ) → LocationsCarried (drafts_of big_endian) (wanted_units_of m) (map (settled_unit (place_of_goal number (module_drafts big_endian m))) (units_drafted (module_drafts big_endian m)))
-  unfolding carried_drafts
-  module-carries number =
-      let places = place_of_goal number (module_drafts big_endian m) in (
-        tt,
-        zip-mapped (UnitHasLocations (drafts_of big_endian)) carried_unit (carried_units_of m) (map (settled_unit places) (carried_drafts (rules_of m) big_endian (kept_of m)))
-            (zip-made (UnitCarriesLocations (drafts_of big_endian)) (λ (u : Unit). record { module_of = m; unit = u }) (λ (u : Unit). drafts_of big_endian (record { module_of = m; unit = u })) (settled_unit places) (carried_in (kept_of m))
-            (λ u i. unit-carries u places i)),
-      )
-
-modules-carry : (big_endian : Bool) (number : ℕ) (ms : List Module) → ((fs : List Function) → TranslationsKeepScopes fs) → All (λ (m : Module). AreNumbered m.functions) ms → flat_map module_refusals ms ≡ []
-    → LocationsCarried (drafts_of big_endian) (flat_map wanted_units_of ms) (trees_from number (map (module_drafts big_endian) ms))
-modules-carry big_endian number [] keep numbered accepted = tt
-modules-carry big_endian number (m ∷ ms) keep numbered accepted =
-    let drafts = module_drafts big_endian m in
-    let behind = number + length (units_drafted drafts) in
-    let parts = both-none (module_refusals m) (flat_map module_refusals ms) accepted in
-    zip-both (UnitHasLocations (drafts_of big_endian)) (wanted_units_of m) (map (settled_unit (place_of_goal number drafts)) (units_drafted drafts)) (flat_map wanted_units_of ms) (trees_from behind (map (module_drafts big_endian) ms))
-    (module-carries big_endian m (keep m.functions) (All-head (λ (x : Module). AreNumbered x.functions) m ms numbered) parts.0 number)
-    (modules-carry big_endian behind ms keep (All-tail (λ (x : Module). AreNumbered x.functions) m ms numbered) parts.1)
+      let c = expressions_of m u in
+      unit-says m u carried big_endian places (λ (e : Entry) (out : TreeEntry). CarriesLocations c (record { unit = u.header.offset; entry = e }) out)
+      (λ p i is.
+      subst (λ (n : ℕ). CarriesLocations c (record { unit = n; entry = p.entry }) (settled_entry places (draft_told c (source_of (kept_of m) u) big_endian p))) (in-unit m u p i)
+      (entry-carries c keep numbered (source_of (kept_of m) u) big_endian places p (kept-accepted m accepted u p carried i)))
+      (λ p i is out before after a plain. absurd (true≢false (sym is ∙ plain)))
 
 -- without a first there is none
 no-first : {A : Type 0} (xs : List A) → first_of xs ≡ None → xs ≡ []
 no-first [] h = refl
 no-first (x ∷ xs) h = absurd (cc)
 
+-- of an input of which nothing is refused nothing is of a module
+pub none-refused : (c : Compilation) → first_refusal c ≡ None → (m : Module) → IsIn m c.modules → module_refusals m ≡ []
+none-refused c accepted m i =
+    each-none module_refusals c.modules m (both-none (flat_map (λ (n : Module). function_refusals n.functions) c.modules) (flat_map module_refusals c.modules) (no-first (refusals c) accepted)).1 i
+
 -- The trees that are made of an input of which nothing is refused, whose functions have good maps and numbers of their own, carry its
 -- locations.
 pub made-locations : (c : Compilation) → All (λ (m : Module). AreNumbered m.functions) c.modules → ((fs : List Function) → TranslationsKeepScopes fs) → first_refusal c ≡ None
     → LocationsCarried (drafts_of (is_big c.order)) (wanted_units c) (trees_made c)
-unfolding forest
 made-locations c numbered keep accepted =
-    let none = both-none (flat_map (λ (m : Module). function_refusals m.functions) c.modules) (flat_map module_refusals c.modules) (no-first (refusals c) accepted) in
-    subst (λ (ts : List Tree). LocationsCarried (drafts_of (is_big c.order)) (wanted_units c) ts) (sym (append-nil (trees_from 0 (map (module_drafts (is_big c.order)) c.modules))))
-    (modules-carry (is_big c.order) 0 c.modules keep numbered none.1)
+    units-made c (UnitHasLocations (drafts_of (is_big c.order))) (λ t. tt)
+    (λ m i u carried places. unit-carries (is_big c.order) m (keep m.functions) (all-in (λ (n : Module). AreNumbered n.functions) c.modules m numbered i) (none-refused c accepted m i) u places carried)

@@ -8,13 +8,14 @@ use Rattle.dwc_base.specs.declared.records.Address.TheVariants.{Constant}
 use Rattle.dwc_base.specs.Functions.{Function}
 use Rattle.dwc_base.specs.Refusals.{first_of}
 use Rattle.dwc_base.specs.Runs.{interval_of, native_in_function, native, as_intervals}
-use Rattle.dwc_base.specs.Trees.{Interval, expression, locations}
+use Rattle.dwc_base.specs.Reading.{◌>>=◌}
+use Rattle.dwc_base.specs.Trees.{Interval, Location, expression, locations}
 use Rattle.dwc_base.specs.Values.{is_location_name}
 use Rattle.dwc_base.specs.RangeAttributes.{wasm_interval, native_of_intervals}
-use Rattle.dwc_base.specs.Parts.{Part, code, local, dereference, jump, landing_pad, CompiledParts, single_code, is_simple}
+use Rattle.dwc_base.specs.Parts.{Part, code, local, dereference, jump, landing_pad, CompiledParts, label_alone, single_code, is_simple}
 use Rattle.dwc_base.specs.Placed.{Frame, NativeRange, needed_labels, is_byte_of, all_placed, ranges_in_function, scope_ranges, scope_intervals}
 use Rattle.dwc_base.specs.LabelRanges.{AtEachByte, bytes_of, is_wanted, all_bytes_placed, label_ranges}
-use Rattle.dwc_base.specs.BuiltExpressions.{Surroundings, BuildRefusal, BuiltExpressions, built_on, ranges_built, build_refusals, copied, built_on_ranges, built_over}
+use Rattle.dwc_base.specs.BuiltExpressions.{Surroundings, BuildRefusal, BuiltExpressions, built_on, ranges_built, build_refusals, copied, built_on_ranges, built_over, label_over}
 use Rattle.dwc_base.specs.LocationAttributes.{are_equal_to, value_of_built}
 use Rattle.dwc_base.specs.ScopesCarried.{cover_byte, is_at_or_below, is_behind, IsInOneOf, KeepsScope, TranslationsKeepScopes, AreNumbered}
 use Rattle.dwc_base.specs.LocationsCarried.{SaysWhere, said_over}
@@ -311,3 +312,37 @@ interval-says s i x built kept e = go (single_code x.parts) refl
     go None no_code =
         let over : map (λ l. l.over) built.expressions ≡ map (λ l. l.over) (map (built_on s x) (ranges_built s (scope_ranges s.functions (i ∷ [])) x)) = ap (λ (b : BuiltExpressions). map (λ l. l.over) b.expressions) (over-ranges s i [] x built no_code e) in
         subst (λ is. SaysWhere s.functions s.frame (i ∷ []) (needed_labels x) is) (sym over) (ranges-built-say s (i ∷ []) x kept (ranges_built s (scope_ranges s.functions (i ∷ [])) x) refl)
+
+-- ---- one label
+
+-- the locations, or some others where they are refused
+abbrev located_or : Result (List Location) BuildRefusal → List Location → List Location
+located_or (Ok ls) others = ls
+located_or (Err refusal) others = others
+
+-- over no scope no locations say where
+nothing-says : (fs : List Function) (frame : Option Frame) (labels : List ℕ) → SaysWhere fs frame [] labels []
+nothing-says fs frame labels = record {
+  inside = All-nil (IsInOneOf fs);
+  no_more = λ f byte source among named distinct covered told. absurd (true≢false (sym covered));
+  have_places = λ function byte covered. absurd (true≢false (sym covered));
+  no_less = λ interval f byte source among found distinct inside told from to placed. absurd (omega (arith, among.1));
+}
+
+-- The list of a label says where it lies, over any scope.
+pub label-says : (s : Surroundings) (scope : List (ℕ × ℕ)) (label : ℕ) (ls : List Location) → KeepsScope s.functions scope (scope_intervals s.functions scope) → label_over s scope label ≡ Ok ls
+    → SaysWhere s.functions s.frame scope (label ∷ []) (map (λ l. l.over) ls)
+unfolding built_over
+label-says s [] label ls kept e =
+    let none : ls ≡ [] = ap (λ r. located_or r ls) (sym e) in
+    subst (λ xs. SaysWhere s.functions s.frame [] (label ∷ []) (map (λ l. l.over) xs)) (sym none) (nothing-says s.functions s.frame (label ∷ []))
+label-says s (i ∷ is) label ls kept e = go (built_over s (i ∷ is) (label_alone label)) refl e
+  where
+    x : CompiledParts
+    x = label_alone label
+
+    go : (r : Result BuiltExpressions BuildRefusal) → built_over s (i ∷ is) (label_alone label) ≡ r → (r >>= λ built. Ok built.expressions) ≡ Ok ls → SaysWhere s.functions s.frame (i ∷ is) (label ∷ []) (map (λ l. l.over) ls)
+    go (Err refusal) built h = let no : ◌≡◌ {A = Result (List Location) BuildRefusal} (Err refusal) (Ok ls) = h in absurd cc
+    go (Ok b) built h =
+        let are : ls ≡ map (built_on s x) (ranges_built s (scope_ranges s.functions (i ∷ is)) x) = ap (λ r. located_or r ls) (sym h) ∙ ap (λ (y : BuiltExpressions). y.expressions) (over-ranges s i is x b refl built) in
+        subst (λ xs. SaysWhere s.functions s.frame (i ∷ is) (label ∷ []) (map (λ l. l.over) xs)) (sym are) (ranges-built-say s (i ∷ is) x kept (ranges_built s (scope_ranges s.functions (i ∷ is)) x) refl)

@@ -4,7 +4,7 @@ use Rattle.std.proofs.Common.{ℕ, ◌+◌, pos, List, [], ◌∷◌, true}
 use Rattle.std.specs.Prelude.{codes}
 use Rattle.dwc_base.specs.Outputs.{OutputRelocation, section}
 use Rattle.dwc_base.specs.TreeLaws.{texts_ended}
-use Rattle.dwc_base.specs.Trees.{TreeEntry, Tree, constant, flag, text, entry}
+use Rattle.dwc_base.specs.Trees.{Location, TreeEntry, Tree, constant, flag, text, locations, entry}
 use Rattle.dwc_base.proofs.TreeInputs.{an_entry}
 
 -- ---- trees
@@ -34,6 +34,10 @@ abbrev pub own_tree_with : ℕ → ℕ → Tree
 own_tree_with number offset = own_front number (
     an_entry 1 0x13 ((0x03, text (codes "WasmtimeVMContext")) ∷ (0x0B, constant 0x06 (offset + 8)) ∷ [])
     ∷ an_entry 2 0x0D ((0x03, text (codes "memory")) ∷ (0x49, entry number 2) ∷ (0x38, constant 0x0F offset) ∷ []) ∷ own_back number 7)
+
+-- the variable of the context at a depth, of the type at a place in the own unit of a number, and where it lies
+abbrev pub context_entry : ℕ → ℕ → ℕ → List Location → TreeEntry
+context_entry depth number pointer located = an_entry depth 0x34 ((0x03, text (codes "__vmctx")) ∷ (0x49, entry number pointer) ∷ (0x02, locations located) ∷ [])
 
 -- ---- bytes of the unit without a memory
 
@@ -76,6 +80,10 @@ own_texts = texts_ended (
     ∷ codes "set"
     ∷ codes "WasmtimeVMContext*"
     ∷ codes "WebAssemblyPtr" ∷ [])
+
+-- the end of a list with addresses of 8 bytes, which is all of an empty one
+abbrev pub empty_list : List ℕ
+empty_list = 0x00 ∷ 0x00 ∷ 0x00 ∷ 0x00 ∷ 0x00 ∷ 0x00 ∷ 0x00 ∷ 0x00 ∷ 0x00 ∷ 0x00 ∷ 0x00 ∷ 0x00 ∷ 0x00 ∷ 0x00 ∷ 0x00 ∷ 0x00 ∷ []
 
 -- ---- relocations
 

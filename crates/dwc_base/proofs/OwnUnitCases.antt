@@ -23,7 +23,7 @@ use Rattle.dwc_base.proofs.OwnTrees.{own_tree, own_tree_with}
 use Rattle.dwc_base.proofs.RefusalCases.{refusal_of, long_module}
 use Rattle.dwc_base.proofs.SmallModule.{abbreviations_small, info_small, line_small, told_small}
 use Rattle.dwc_base.proofs.TreeInputs.{a_section}
-use Rattle.dwc_base.proofs.TreesSmall.{tree_small}
+use Rattle.dwc_base.proofs.TreesSmall.{tree_with_own}
 use Rattle.dwc_base.proofs.Variants.{module_with}
 
 -- ---- whole units
@@ -98,13 +98,13 @@ with_memory memory lines = record (module_with abbreviations_small info_small li
 abbrev without_sections : Memory → Module
 without_sections memory = record (module_with [] [] []) { told = record told_small { memory = memory } }
 
--- four modules, of which the second and the last have a carried unit
+-- four modules, of which the second and the last have a carried unit, each with its own context
 in-front : trees_made (record {
   order = Little;
   pointer_bytes = 8;
   modules = without_sections no_memory ∷ with_memory (defined 0) line_small ∷ without_sections (defined 80) ∷ with_memory (imported 8 16) line_small ∷ [];
 })
-    ≡ own_tree 0 ∷ own_tree_with 1 0 ∷ tree_small ∷ own_tree_with 3 80 ∷ own_tree 4 ∷ tree_small ∷ []
+    ≡ own_tree 0 ∷ own_tree_with 1 0 ∷ tree_with_own 1 7 ∷ own_tree_with 3 80 ∷ own_tree 4 ∷ tree_with_own 4 6 ∷ []
 unfolding drafts_on_literals
 in-front = refl
 

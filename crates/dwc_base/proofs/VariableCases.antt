@@ -15,7 +15,7 @@ use Rattle.dwc_base.specs.Parts.{context_label}
 use Rattle.dwc_base.specs.Refusals.{of_place, bad_label, lacks_memory, unmapped_register}
 use Rattle.dwc_base.specs.Forests.{first_refusal, forest}
 use Rattle.dwc_base.proofs.SmallModule.{line_small, told_small}
-use Rattle.dwc_base.proofs.OwnTrees.{own_tree_with}
+use Rattle.dwc_base.proofs.OwnTrees.{own_tree_with, context_entry}
 use Rattle.dwc_base.proofs.Readings.{three_sections}
 use Rattle.dwc_base.proofs.LineTables.{function_small}
 use Rattle.dwc_base.proofs.DraftsOnLiterals.{drafts_on_literals}
@@ -55,11 +55,12 @@ compilation_of info local_3 memory registers = record {
 abbrev pub numbered : List (ℕ × ℕ)
 numbered = (1, 12) ∷ (2, 14) ∷ []
 
--- the tree, by what the location is
+-- the tree, by what the location is; the context lies in register 14 all over
 abbrev pub tree_of : TreeValue → Tree
 tree_of location =
     record { depth = 0; tag = 0x11; attributes = (0x10, line_table) ∷ [] }
     ∷ record { depth = 1; tag = 0x2E; attributes = (0x11, address (Symbol 0 (pos 0))) ∷ (0x12, constant 0x0F 30) ∷ (0x40, expression (0x9C ∷ [])) ∷ [] }
+    ∷ context_entry 2 0 7 (record { over = interval_of 0 (0, 30); bytes = 0x5E ∷ [] } ∷ [])
     ∷ record { depth = 2; tag = 0x34; attributes = (0x02, location) ∷ [] } ∷ []
 
 abbrev pub built : List ℕ

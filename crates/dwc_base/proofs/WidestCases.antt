@@ -3,17 +3,22 @@ use Rattle.std.proofs.Common.{◌≡◌, ◌+◌, ◌*◌, [], ◌∷◌, true, 
 use Rattle.dwc_base.proofs.OwnTrees.{own_tree}
 use Rattle.dwc_base.proofs.TreesSmall.{tree_small}
 use Rattle.dwc_base.specs.declared.records.Address.TheVariants.{Constant}
-use Rattle.dwc_base.specs.declared.section_name.SectionName.TheVariants.{Abbrev, Info, Line, Str}
+use Rattle.dwc_base.specs.declared.section_name.SectionName.TheVariants.{Abbrev, Info, Line, Loc, Str}
 use Rattle.dwc_base.specs.Trees.{address, constant, flag, block, text, entry}
 use Rattle.dwc_base.specs.WidestTrees.{widest_entry, widest_of_trees}
 
--- 11 for the header, 10 + 4 for the root, 10 + 8 + 10 for the subprogram, and 10 for the end of the root's list
-info-small : widest_of_trees Info (tree_small ∷ []) ≡ 63
+-- 11 for the header, 10 + 4 for the root, 10 + 8 + 10 for the subprogram, 10 + 4 + 4 + 4 for the variable of the context, and 10 for the
+-- end of each list
+info-small : widest_of_trees Info (tree_small ∷ []) ≡ 95
 info-small = refl
 
 -- for each declaration 21, 20 for each attribute, and 20; and 10 for the end of the table
-abbrev-small : widest_of_trees Abbrev (tree_small ∷ tree_small ∷ []) ≡ 2 * ((21 + 20 + 20) + (21 + 40 + 20) + 10)
+abbrev-small : widest_of_trees Abbrev (tree_small ∷ tree_small ∷ []) ≡ 2 * ((21 + 20 + 20) + (21 + 40 + 20) + (21 + 60 + 20) + 10)
 abbrev-small = refl
+
+-- of its list the end alone
+lists-small : widest_of_trees Loc (tree_small ∷ []) ≡ 16
+lists-small = refl
 
 none-small : widest_of_trees Line (tree_small ∷ []) ≡ 0
 none-small = refl

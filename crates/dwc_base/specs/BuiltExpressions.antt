@@ -6,9 +6,9 @@ use Rattle.dwc_base.specs.Functions.{Function}
 use Rattle.dwc_base.specs.Refusals.{first_of}
 use Rattle.dwc_base.specs.Trees.{Interval, Location}
 use Rattle.dwc_base.specs.Runs.{interval_of}
-use Rattle.dwc_base.specs.Reading.{is_64_bit}
+use Rattle.dwc_base.specs.Reading.{◌>>=◌, is_64_bit}
 use Rattle.dwc_base.specs.Compiled.{Place, in_register, at_frame_offset, Memory, no_memory, defined, imported}
-use Rattle.dwc_base.specs.Parts.{CompiledParts, single_code}
+use Rattle.dwc_base.specs.Parts.{CompiledParts, label_alone, single_code}
 use Rattle.dwc_base.specs.Placed.{Frame, placed, built_parts, needed_labels, reads_memory, NativeRange, scope_intervals, scope_ranges}
 use Rattle.dwc_base.specs.LabelRanges.{label_ranges, all_bytes_placed}
 use Rattle.dwc_base.specs.Built.{Setting, built_bytes, jumps_fit}
@@ -105,6 +105,10 @@ built_on_ranges s scope x = elim (first_of (build_refusals s scope x)) [
 unfoldable pub built_over : Surroundings → List (ℕ × ℕ) → CompiledParts → Result BuiltExpressions BuildRefusal
 built_over s [] x = Ok (record { expressions = []; covers_entire_scope = false })
 built_over s (i ∷ is) x = elim (single_code x.parts) [ Some bytes ↦ Ok (copied (scope_intervals s.functions (i ∷ is)) bytes) | None ↦ built_on_ranges s (scope_ranges s.functions (i ∷ is)) x ]
+
+-- Where the value of a label lies over a scope.
+abbrev pub label_over : Surroundings → List (ℕ × ℕ) → ℕ → Result (List Location) BuildRefusal
+label_over s scope label = built_over s scope (label_alone label) >>= λ built. Ok built.expressions
 
 -- ---- bounds
 

@@ -1,6 +1,6 @@
 -- What of the code of a unit's entries is carried: which entries are required, what is refused to know that, and what the
 -- attributes of the kept ones become. (DWARF 4 and 5, section 2.17; this project's own rules.)
-use Rattle.std.specs.Prelude.{ℕ, List, [], map, Bool, Option, option_map, Result}
+use Rattle.std.specs.Prelude.{ℕ, List, ◌++◌, map, Bool, Option, option_map, Result}
 use Rattle.dwc_base.specs.Sections.{Sections, Fault}
 use Rattle.dwc_base.specs.Units.{UnitHeader}
 use Rattle.dwc_base.specs.Values.{Value, expression, location_reference, location_index}
@@ -20,6 +20,10 @@ use Rattle.dwc_base.specs.BuiltExpressions as Builds
 use Rattle.dwc_base.specs.LocationAttributes.{LocationRefusal}
 use Rattle.dwc_base.specs.LocationAttributes as Located
 use Rattle.dwc_base.specs.LocationRules.{ExpressionSource, lists_of, expression_becomes, expression_refused, locations_become}
+use Rattle.dwc_base.specs.Indexed.{texts_of_unit}
+use Rattle.dwc_base.specs.OwnUnits.{place_of_wasm_pointer}
+use Rattle.dwc_base.specs.Wrappers.{WrapperSource, wrapper_refusals}
+use Rattle.dwc_base.specs.ContextVariable.{context_over, location_refusals}
 use Rattle.dwc_base.specs.Refusals.{Refusal, of_place, long_range, bad_label, lacks_memory, unmapped_register, long_jump}
 use Rattle.dwc_base.specs.Clones.{CodeRules}
 
@@ -61,6 +65,14 @@ abbrev pub bound_value_refused : ExpressionSource → Placed → List (ℕ × Va
 bound_value_refused c e before name (expression bytes) = option_map (of_location c.told.place) (expression_refused c e before name bytes)
 bound_value_refused c e before name v = option_map of_list (bound_refusal (lists_of c) c.functions e.entry before (name, v))
 
+-- what the wrappers of a unit are made with
+abbrev pub wrappers_of : ExpressionSource → WrapperSource
+wrappers_of c = record { texts = texts_of_unit c.sections c.header; entries = c.entries; resolve_memory = c.told.names.resolve_memory; wasm_pointer = place_of_wasm_pointer c.told.memory }
+
+-- What is refused of a kept entry behind its attributes: the name of its wrapper, or the place of the context.
+abbrev pub refused_behind : ExpressionSource → Placed → List Refusal
+refused_behind c e = map of_place (wrapper_refusals (wrappers_of c) e) ++ map (of_build c.told.place) (location_refusals (context_over c e))
+
 -- The rules for the code of a unit's entries, of which the module has some.
 abbrev pub rules_of_source : ExpressionSource → CodeRules Refusal
 rules_of_source c = record {
@@ -68,7 +80,7 @@ rules_of_source c = record {
   bounds = λ e. map (λ a. (a.0, done a.1)) (range_attributes (lists_of c) c.functions e.entry);
   refused_bound = λ e before a. bound_value_refused c e before a.0 a.1;
   other = λ e before a. code_value_becomes c e before a.0 a.1;
-  behind = λ e. [];
+  behind = λ e. refused_behind c e;
 }
 
 abbrev pub code_rules : ToldModule → List Function → Sections → UnitHeader → List Placed → CodeRules Refusal

@@ -14,7 +14,8 @@ use Rattle.dwc_base.specs.CarriedDrafts.{source_of, unit_drafts, carried_drafts}
 use Rattle.dwc_base.specs.Drafts.{Draft}
 use Rattle.dwc_base.specs.DraftForests.{ModuleDrafts}
 use Rattle.dwc_base.specs.DraftForests as Drafts
-use Rattle.dwc_base.specs.EntryRules.{is_required, named_faults, code_rules}
+use Rattle.dwc_base.specs.LocationRules.{ExpressionSource}
+use Rattle.dwc_base.specs.EntryRules.{is_required, named_faults, rules_of_source}
 use Rattle.dwc_base.specs.OwnUnits as Own
 use Rattle.dwc_base.specs.ReachedEntries as Reached
 use Rattle.dwc_base.specs.Trees.{Tree}
@@ -40,9 +41,13 @@ wanted_units c = flat_map wanted_units_of c.modules
 
 -- ---- refusals
 
+-- what the expressions of a unit of a module are carried with
+abbrev pub expressions_of : Module → Unit → ExpressionSource
+expressions_of m u = record { sections = m.sections; header = u.header; functions = m.functions; told = m.told; entries = (kept_of m).entries }
+
 -- the rules for the code of a unit of a module
 abbrev pub rules_of : Module → Unit → CodeRules Refusal
-rules_of m u = code_rules m.told m.functions m.sections u.header (kept_of m).entries
+rules_of m u = rules_of_source (expressions_of m u)
 
 -- what is refused of a module as it is read
 abbrev pub reading_refusals : Module → List Refusal
@@ -77,11 +82,11 @@ is_big Big = true
 
 -- the entries made of the kept ones of a carried unit
 abbrev pub drafts_of : Bool → CarriedUnit → List Draft
-drafts_of big_endian u = unit_drafts (rules_of u.module_of u.unit) (source_of (kept_of u.module_of) u.unit) big_endian (kept_in (kept_of u.module_of) u.unit)
+drafts_of big_endian u = unit_drafts (expressions_of u.module_of u.unit) (source_of (kept_of u.module_of) u.unit) big_endian (kept_in (kept_of u.module_of) u.unit)
 
 -- what is made for a module: its own unit, and those of its carried units
 abbrev pub module_drafts : Bool → Module → ModuleDrafts
-module_drafts big_endian m = record { own = Some (Own.own_unit m.told.names.set_memory m.told.memory); carried = carried_drafts (rules_of m) big_endian (kept_of m) }
+module_drafts big_endian m = record { own = Some (Own.own_unit m.told.names.set_memory m.told.memory); carried = carried_drafts (expressions_of m) big_endian (kept_of m) }
 
 -- the trees of the units that are made for an input
 abbrev pub trees_made : Compilation → List Tree

@@ -41,6 +41,11 @@ pub mod CarriedDrafts
 pub mod DraftForests
 pub mod MadeEntries
 pub mod OwnUnits
+pub mod TypeNames
+pub mod Wrappers
+pub mod ObjectPointers
+pub mod ContextVariable
+pub mod DraftOrder
 pub mod ReachedEntries
 pub mod Runs
 pub mod Addends
@@ -49,6 +54,7 @@ pub mod Lists
 pub mod LocationAttributes
 pub mod LocationRules
 pub mod LocationsCarried
+pub mod ContextsCarried
 pub mod ExpressionPlaces
 pub mod RangeKept
 pub mod RangeAttributes

@@ -1,6 +1,6 @@
 -- What the attributes of a kept entry become whose values are expressions or location lists, by what is in force at the entry.
 -- (DWARF 4 and 5, sections 2.5 and 2.6; this project's own rules.)
-use Rattle.std.specs.Prelude.{ℕ, List, length, Option, Some, None, option_map, Result, Ok, Err}
+use Rattle.std.specs.Prelude.{ℕ, List, length, true, false, Option, Some, None, option_map, Result, Ok, Err}
 use Rattle.std.specs.List.{filter_map}
 use Rattle.dwc_base.specs.declared.faults.What.TheVariants.{Expression}
 use Rattle.dwc_base.specs.declared.section_name.SectionName.TheVariants.{Info}
@@ -13,13 +13,14 @@ use Rattle.dwc_base.specs.Functions.{Function}
 use Rattle.dwc_base.specs.Drafts.{DraftValue}
 use Rattle.dwc_base.specs.Compiled.{ToldModule}
 use Rattle.dwc_base.specs.Placed.{Frame}
+use Rattle.dwc_base.specs.Wrappers.{is_wrapped}
 use Rattle.dwc_base.specs.RawLists.{ListSource}
 use Rattle.dwc_base.specs.Lists.{ListRefusal, ListedLocation, list_source, locations_of_value}
 use Rattle.dwc_base.specs.RangeAttributes.{wasm_interval}
 use Rattle.dwc_base.specs.RangeRules.{all_items, told_as}
 use Rattle.dwc_base.specs.Scopes.{lineage, scope_in_force, frame_in_force, base_in_force}
 use Rattle.dwc_base.specs.ExpressionPlaces.{expression_place}
-use Rattle.dwc_base.specs.LocationAttributes.{LocationRefusal, InForce, GivenExpression, ListedExpression, value_of_expression, value_of_locations, read_expression, base_of_expression, drafted}
+use Rattle.dwc_base.specs.LocationAttributes.{LocationRefusal, InForce, GivenExpression, ListedExpression, value_of_expression, value_of_locations, read_expression, read_locations, base_of_expression, drafted}
 
 -- What the expressions of a unit are carried with: the sections and functions of its module, what is told of that, the unit, and
 -- the entries of the module.
@@ -58,9 +59,12 @@ in_force_at c e = record {
 abbrev pub given_expression : ExpressionSource → Placed → List (ℕ × Value) → List ℕ → GivenExpression
 given_expression c e before bytes = record { fault = unreadable Expression Info (expression_place c.sections c.header e.entry.offset (length before) bytes); bytes = bytes }
 
--- what it becomes under a name
+-- What it becomes under a name; of an entry that is wrapped it is read, and nothing becomes of it.
 unfoldable pub expression_becomes : ExpressionSource → Placed → List (ℕ × Value) → ℕ → List ℕ → Result (Option DraftValue) LocationRefusal
-expression_becomes c e before name bytes = value_of_expression name (in_force_at c e) (given_expression c e before bytes) >>= λ v. Ok (drafted v)
+expression_becomes c e before name bytes = elim (is_wrapped e) [
+  | true ↦ (read_expression name (in_force_at c e) (given_expression c e before bytes) >>= λ read. Ok None)
+  | false ↦ (value_of_expression name (in_force_at c e) (given_expression c e before bytes) >>= λ v. Ok (drafted v))
+]
 
 -- why one in the place of a bound is refused: it is read, and nothing becomes of it
 abbrev pub refusal_in : Result (Unit {0}) LocationRefusal → Option LocationRefusal
@@ -80,9 +84,13 @@ listed l = option_map (λ w. record { start = w.0; end = w.1; given = record { f
 abbrev pub listed_by : ExpressionSource → Placed → Value → Result (List ListedExpression) ListRefusal
 listed_by c e v = all_items (locations_of_value (lists_of c) e.entry.offset v) >>= λ ls. Ok (filter_map listed ls)
 
+-- what becomes of the intervals of a list
+abbrev pub listed_become : ExpressionSource → Placed → List ListedExpression → Result (Option DraftValue) LocationRefusal
+listed_become c e xs = elim (is_wrapped e) [
+  | true ↦ (read_locations (in_force_at c e) xs >>= λ read. Ok None)
+  | false ↦ (value_of_locations (in_force_at c e) xs >>= λ value. Ok (drafted value))
+]
+
 -- What a location list becomes, the refusals of the list and of its expressions each told as one.
 unfoldable pub locations_become : {E : Type 0} → (ListRefusal → E) → (LocationRefusal → E) → ExpressionSource → Placed → Value → Result (Option DraftValue) E
-locations_become list_told location_told c e v =
-    told_as list_told (listed_by c e v) >>= λ xs.
-    told_as location_told (value_of_locations (in_force_at c e) xs) >>= λ value.
-    Ok (drafted value)
+locations_become list_told location_told c e v = told_as list_told (listed_by c e v) >>= λ xs. told_as location_told (listed_become c e xs)

@@ -1,8 +1,8 @@
 -- What it means that an output carries the locations of an input: where its entries say that values lie. (A law on the definitions of
 -- built expressions and of translation. DWARF 4 and 5, section 2.6.)
-use Rattle.std.specs.Prelude.{◌≡◌, ◌⊎◌, ℕ, ◌<◌, ◌≤◌, ◌==◌, List, [], ◌∷◌, ◌++◌, map, Bool, true, false, ◌||◌, if◌then◌else◌, Option, Some, None, IfSome, is_some, Result, Ok, Err, All, Contains}
+use Rattle.std.specs.Prelude.{◌≡◌, ◌⊎◌, ℕ, ◌<◌, ◌≤◌, ◌==◌, List, [], ◌∷◌, ◌++◌, map, Bool, true, false, if◌then◌else◌, Option, Some, None, IfSome, is_some, Result, Ok, Err, All, Contains}
 use Rattle.std.specs.List.{AllZip, flat_map}
-use Rattle.dwc_base.specs.declared.constants.TheConstants.{DW_AT_frame_base, DW_TAG_pointer_type, DW_TAG_reference_type}
+use Rattle.dwc_base.specs.declared.constants.TheConstants.{DW_AT_frame_base}
 use Rattle.dwc_base.specs.Values.{Value, expression, is_location_name}
 use Rattle.dwc_base.specs.Entries.{Entry}
 use Rattle.dwc_base.specs.Kept.{Placed}
@@ -19,7 +19,8 @@ use Rattle.dwc_base.specs.Placed.{Frame, needed_labels, all_placed, scope_interv
 use Rattle.dwc_base.specs.LocationAttributes.{ListedExpression}
 use Rattle.dwc_base.specs.LocationRules.{ExpressionSource, in_force_at, listed_by}
 use Rattle.dwc_base.specs.ScopesCarried.{source_of_byte, HasDistinctSources, cover_byte, IsInSome, IsInOneOf, value_of_entry}
-use Rattle.dwc_base.specs.Forests.{kept_of}
+use Rattle.dwc_base.specs.Wrappers.{is_wrapped}
+use Rattle.dwc_base.specs.Forests.{expressions_of}
 
 -- ---- one expression over a scope
 
@@ -101,25 +102,17 @@ NameSaysWhere fs frame given repeated v = ValueSaysWhere fs frame given v ⊎ ((
 
 -- ---- entries and units
 
--- whether an entry is a pointer or a reference
-abbrev pub is_pointer : Entry → Bool
-is_pointer e = (e.tag == DW_TAG_pointer_type) || (e.tag == DW_TAG_reference_type)
-
--- An entry of an output carries the locations of an entry of an input that is no pointer or reference: of each name of a location what the
+-- An entry of an output carries the locations of an entry of an input that is not wrapped: of each name of a location what the
 -- last attribute of that name says.
 abbrev pub CarriesLocations : ExpressionSource → Placed → TreeEntry → Type 0
 CarriesLocations c e out =
-    (before after : List (ℕ × Value)) (a : ℕ × Value) → is_pointer e.entry ≡ false → e.entry.attributes ≡ before ++ a ∷ after → is_location_name a.0 ≡ true → has_name a.0 after ≡ false →
+    (before after : List (ℕ × Value)) (a : ℕ × Value) → is_wrapped e ≡ false → e.entry.attributes ≡ before ++ a ∷ after → is_location_name a.0 ≡ true → has_name a.0 after ≡ false →
     IfSome (use_of c e a) (λ given. NameSaysWhere c.functions (in_force_at c e).surroundings.frame given (has_name a.0 before) (value_of_entry a.0 out))
-
--- what the expressions of a carried unit are carried with
-abbrev pub expressions_of : CarriedUnit → ExpressionSource
-expressions_of u = record { sections = u.module_of.sections; header = u.unit.header; functions = u.module_of.functions; told = u.module_of.told; entries = (kept_of u.module_of).entries }
 
 -- The entries of a unit of an output, drafted one by one, carry the locations of the entries of a unit that they were made of.
 abbrev pub UnitCarriesLocations : (CarriedUnit → List Draft) → CarriedUnit → Tree → Type 0
 UnitCarriesLocations drafted u tree =
-    AllZip (λ d out. (e : Entry) → Contains u.unit.entries e → is_made_of e.offset itself d ≡ true → CarriesLocations (expressions_of u) (record { unit = u.unit.header.offset; entry = e }) out) (drafted u) tree
+    AllZip (λ d out. (e : Entry) → Contains u.unit.entries e → is_made_of e.offset itself d ≡ true → CarriesLocations (expressions_of u.module_of u.unit) (record { unit = u.unit.header.offset; entry = e }) out) (drafted u) tree
 
 -- a module's own unit has none
 abbrev pub UnitHasLocations : (CarriedUnit → List Draft) → WantedUnit → Tree → Type 0

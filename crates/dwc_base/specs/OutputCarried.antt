@@ -9,6 +9,7 @@ use Rattle.dwc_base.specs.Forests.{carried_units, wanted_units, is_big, drafts_o
 use Rattle.dwc_base.specs.LinesCarried.{LinesCarried}
 use Rattle.dwc_base.specs.ScopesCarried.{ScopesCarried}
 use Rattle.dwc_base.specs.LocationsCarried.{LocationsCarried}
+use Rattle.dwc_base.specs.ContextsCarried.{ContextsCarried}
 use Rattle.dwc_base.specs.Trees.{Tree}
 use Rattle.dwc_base.specs.TreeReading.{CarriesTrees}
 use Rattle.dwc_base.specs.TreeLaws.{HasAllTargets, HasTextsOnce}
@@ -18,7 +19,7 @@ use Rattle.dwc_base.specs.Widest.{widest_lines_of}
 use Rattle.dwc_base.specs.WidestTrees.{widest_of_trees}
 
 -- An output carries an input, of which nothing is refused: its lines; the trees of its forest, and no others, whose references all name
--- entries of these trees; the scopes and the locations of the entries that these are made of; equal texts in one place; in units of version 4 with
+-- entries of these trees; the scopes, the locations and the contexts of the entries that these are made of; equal texts in one place; in units of version 4 with
 -- addresses of the target's size; in sections of names of their own, whose relocations are those of the fields in them.
 pub record OutputCarried (c : Compilation) (sections : List OutputSection) : Type 0 where
   pub lines : LinesCarried c sections
@@ -28,6 +29,7 @@ pub record OutputCarried (c : Compilation) (sections : List OutputSection) : Typ
   pub targets : HasAllTargets wanted
   pub scopes : ScopesCarried (drafts_of (is_big c.order)) (wanted_units c) wanted
   pub locations : LocationsCarried (drafts_of (is_big c.order)) (wanted_units c) wanted
+  pub contexts : ContextsCarried (drafts_of (is_big c.order)) (wanted_units c) wanted
   pub texts : HasTextsOnce (output_sections c.order sections)
   pub form : HaveTargetForm c.pointer_bytes (units (output_sections c.order sections)).items
   pub names : HasDistinctNames sections

@@ -1,0 +1,58 @@
+-- What is said of each unit that is wanted and of the tree that is made for it is said of all units of an output.
+use Rattle.std.proofs.Common.{ℕ, ◌+◌, List, [], ◌∷◌, ◌++◌, map, length, Option, Bool, refl, sym, subst, inl, inr}
+use Rattle.std.specs.Prelude.{All, flat_map}
+use Rattle.std.specs.List.{AllZip}
+use Rattle.std.proofs.lemmas.List.{append-nil}
+use Rattle.dwc_base.specs.Trees.{Tree}
+use Rattle.dwc_base.specs.Drafts.{Goal, Draft}
+use Rattle.dwc_base.specs.DraftForests.{units_drafted, place_of_goal, settled_unit, trees_from, forest}
+use Rattle.dwc_base.specs.Carried.{Unit, Module, Compilation, WantedUnit, own_unit, carried_unit}
+use Rattle.dwc_base.specs.KeptModules.{carried_in}
+use Rattle.dwc_base.specs.CarriedDrafts.{carried_drafts}
+use Rattle.dwc_base.specs.Forests.{kept_of, wanted_units_of, wanted_units, is_big, drafts_of, module_drafts, trees_made}
+use Rattle.dwc_base.proofs.InLists.{IsIn, in-at}
+
+-- what all items have, each has
+pub all-in : {A : Type 0} (P : A → Type 0) (xs : List A) (x : A) → All P xs → IsIn x xs → P x
+all-in P xs x all i = let found = in-at xs x i in subst P found.2 (all found.0 x found.1)
+
+zip-both : {A B : Type 0} (R : A → B → Type 0) (xs : List A) (ys : List B) (zs : List A) (ws : List B) → AllZip R xs ys → AllZip R zs ws → AllZip R (xs ++ zs) (ys ++ ws)
+zip-both R [] [] zs ws h k = k
+zip-both R [] (y ∷ ys) zs ws h k = absurd h
+zip-both R (x ∷ xs) [] zs ws h k = absurd h
+zip-both R (x ∷ xs) (y ∷ ys) zs ws h k = (h.0, zip-both R xs ys zs ws h.1 k)
+
+-- what is said of each carried unit of a module and of its tree, wherever goals are
+abbrev pub SaysEach : (WantedUnit → Tree → Type 0) → Bool → Module → Type 0
+SaysEach R big_endian m =
+    (u : Unit) → IsIn u (carried_in (kept_of m)) → (places : Goal → Option (ℕ × ℕ)) → R (carried_unit (record { module_of = m; unit = u })) (settled_unit places (drafts_of big_endian (record { module_of = m; unit = u })))
+
+module _ (R : WantedUnit → Tree → Type 0) (big_endian : Bool) (own : (t : Tree) → R own_unit t) where
+  module-units : (m : Module) (number : ℕ) → SaysEach R big_endian m → AllZip R (wanted_units_of m) (map (settled_unit (place_of_goal number (module_drafts big_endian m))) (units_drafted (module_drafts big_endian m)))
+  unfolding carried_drafts
+  module-units m number each = (own _, go (carried_in (kept_of m)) (λ u i. each u i (place_of_goal number (module_drafts big_endian m))))
+    where
+      places : Goal → Option (ℕ × ℕ)
+      places = place_of_goal number (module_drafts big_endian m)
+
+      drafts : Unit → List Draft
+      drafts u = drafts_of big_endian (record { module_of = m; unit = u })
+
+      go : (us : List Unit) → ((u : Unit) → IsIn u us → R (carried_unit (record { module_of = m; unit = u })) (settled_unit places (drafts u)))
+          → AllZip R (map carried_unit (map (λ (u : Unit). record { module_of = m; unit = u }) us)) (map (settled_unit places) (map drafts us))
+      go [] says = tt
+      go (u ∷ us) says = (says u (inl refl), go us (λ v i. says v (inr i)))
+
+  all-units : (number : ℕ) (ms : List Module) → ((m : Module) → IsIn m ms → SaysEach R big_endian m) → AllZip R (flat_map wanted_units_of ms) (trees_from number (map (module_drafts big_endian) ms))
+  all-units number [] each = tt
+  all-units number (m ∷ ms) each =
+      let drafts = module_drafts big_endian m in
+      let behind = number + length (units_drafted drafts) in
+      zip-both R (wanted_units_of m) (map (settled_unit (place_of_goal number drafts)) (units_drafted drafts)) (flat_map wanted_units_of ms) (trees_from behind (map (module_drafts big_endian) ms))
+      (module-units m number (each m (inl refl))) (all-units behind ms (λ n i. each n (inr i)))
+
+-- What is said of an own unit whatever its tree, and of each carried unit, is said of all units of an output.
+pub units-made : (c : Compilation) (R : WantedUnit → Tree → Type 0) → ((t : Tree) → R own_unit t) → ((m : Module) → IsIn m c.modules → SaysEach R (is_big c.order) m) → AllZip R (wanted_units c) (trees_made c)
+unfolding forest
+units-made c R own each =
+    subst (λ (ts : List Tree). AllZip R (wanted_units c) ts) (sym (append-nil (trees_from 0 (map (module_drafts (is_big c.order)) c.modules)))) (all-units R (is_big c.order) own 0 c.modules each)
