@@ -1,16 +1,20 @@
 -- An entry on its own.
-use Rattle.std.proofs.Common.{◌≡◌, refl, ap, List, [], Ok, Err, Some, None}
+use Rattle.std.proofs.Common.{◌≡◌, refl, ap, ◌∙◌, List, [], Result, Ok, Err, Some, None}
 use Rattle.dwc_base.specs.declared.faults.Flaw.{Flaw}
 use Rattle.dwc_base.specs.declared.faults.What.TheVariants.{Entry as EntryRead}
 use Rattle.dwc_base.specs.declared.section_name.SectionName.TheVariants.{Info}
 use Rattle.dwc_base.specs.declared.faults.Flaw.TheVariants.{EndsEarly}
 use Rattle.dwc_base.specs.Reading.{Unread, uleb_value}
 use Rattle.dwc_base.proofs.LebLaws.{uleb_at-none}
-use Rattle.dwc_base.specs.Sections.{Fault, fault_of, unreadable}
+use Rattle.dwc_base.specs.Listing.{Listing, only_fault}
+use Rattle.dwc_base.specs.Sections.{Sections, Fault, fault_of, unreadable}
 use Rattle.dwc_base.specs.Abbreviations.{Declaration, abbreviation_table}
-use Rattle.dwc_base.specs.Entries.{Found, entry_at}
+use Rattle.dwc_base.specs.Units.{UnitHeader}
+use Rattle.dwc_base.specs.Entries.{Entry, Found, entry_at, entries_from, root_place, entries}
+use Rattle.dwc_base.proofs.ExpressionPlaceLaws.{IsThere, EntryStands}
+use Rattle.dwc_base.proofs.InLists.{IsIn}
 use Rattle.dwc_read.specs.Views.{UnitView}
-use Rattle.dwc_read.specs.Lone.{entry_with, lone_entry}
+use Rattle.dwc_read.specs.Lone.{unread_from, entry_with, lone_entry}
 
 module _ (u : UnitView) (table : List Declaration) (at v : Unread) where
   -- at an entry, at the end of a list of siblings, and at a flaw
@@ -42,3 +46,40 @@ entry_at-empty u table at empty = rw (uleb_at-none at (ap uleb_value empty), ent
 -- where nothing is unread there is no entry
 pub entry_with-empty : (u : UnitView) (table : List Declaration) (at : Unread) → at.left ≡ [] → entry_with u table at ≡ Err (unreadable EntryRead Info at.place)
 entry_with-empty u table at empty = entry_with-flaw u table at at EndsEarly (entry_at-empty u table at empty)
+
+-- What is read where an entry of a unit stands is the entry, but for its depth.
+pub record IsReadThere (u : UnitView) (e : Entry) : Type 0 where
+  pub read : Entry
+  pub is : lone_entry u (unread_from u e.offset) ≡ Ok read
+  pub offset : read.offset ≡ e.offset
+  pub tag : read.tag ≡ e.tag
+  pub attributes : read.attributes ≡ e.attributes
+
+abbrev HasEntry : Entry → Listing Fault Entry → Type 0
+HasEntry e l = IsIn e l.items
+
+-- the abbreviation table of a unit that has an entry can be read
+table-known : (s : Sections) (h : UnitHeader) (e : Entry) → IsIn e (entries s h).items → (table : List Declaration) × (abbreviation_table s h.abbreviations ≡ Ok table)
+unfolding entries
+table-known s h e i = go (abbreviation_table s h.abbreviations) refl i
+  where
+    go : (t : Result (List Declaration) Fault) → abbreviation_table s h.abbreviations ≡ t → HasEntry e (elim t [ Err fault ↦ only_fault fault | Ok table ↦ entries_from s h table (root_place h) ])
+        → (table : List Declaration) × (abbreviation_table s h.abbreviations ≡ Ok table)
+    go (Err fault) known j = absurd j
+    go (Ok table) known j = (table, known)
+
+-- An entry of a unit that stands where it is read alone is read there.
+pub lone_entry-read : (u : UnitView) (e : Entry) → EntryStands u.sections u.header e → IsIn e (entries u.sections u.header).items → IsReadThere u e
+lone_entry-read u e stands i = found t.0 t.1 (stands.there t.0 t.1)
+  where
+    t : (table : List Declaration) × (abbreviation_table u.sections u.header.abbreviations ≡ Ok table)
+    t = table-known u.sections u.header e i
+
+    found : (table : List Declaration) → abbreviation_table u.sections u.header.abbreviations ≡ Ok table → IsThere u.sections u.header table e → IsReadThere u e
+    found table known there = record {
+      read = (there.found).entry;
+      is = lone_entry-table u table (unread_from u e.offset) known ∙ entry_with-found u table (unread_from u e.offset) there.behind there.found there.read;
+      offset = there.offset;
+      tag = there.tag;
+      attributes = there.attributes;
+    }

@@ -66,7 +66,7 @@ lone_entry-stands u offset e read = go (abbreviation_table u.sections u.header.a
     found : (r : Read (Option Found)) → Holds (FoundStands u.sections u.header) r → (reported EntryRead Info offset r >>= λ read. entry_found offset read.0) ≡ Ok e → ExpressionsStand u.sections u.header e
     found (Err flaw) stands is = absurd (cc)
     found (Ok (None, v)) stands is = absurd (cc)
-    found (Ok (Some f, v)) stands is = let same : f.entry ≡ e = cc in subst (ExpressionsStand u.sections u.header) same (stands.held).0
+    found (Ok (Some f, v)) stands is = let same : f.entry ≡ e = cc in subst (ExpressionsStand u.sections u.header) same ((stands.held).0).expressions
 
     go : (t : Result (List Declaration) Fault) → abbreviation_table u.sections u.header.abbreviations ≡ t → (t >>= λ table. entry_with u table (unread_from u offset)) ≡ Ok e → ExpressionsStand u.sections u.header e
     go (Err fault) known is = absurd (cc)
