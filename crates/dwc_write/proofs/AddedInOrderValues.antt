@@ -75,7 +75,7 @@ texts-in-order [] [] orders = refl
 texts-in-order [] (u ∷ us) orders = absurd orders
 texts-in-order (ds ∷ dss) [] orders = absurd orders
 texts-in-order (ds ∷ dss) (u ∷ us) orders =
-    ap (λ ts. ts ++ texts_named (map ordered us)) (ap texts_of_entries (in-order-listed ds u.additions orders.0.order) ∙ listed-texts 0 ds u.additions orders.0.order.counted)
+    ap (λ ts. ts ++ texts_named (map ordered us)) (ap texts_of_entries (in-order-listed ds u.additions orders.0) ∙ listed-texts 0 ds u.additions orders.0.counted)
     ∙ ap (λ ts. flat_map (λ (e : Addition). texts_of_attributes e.attributes) u.additions ++ ts) (texts-in-order dss us orders.1)
 
 -- ---- a value that is set

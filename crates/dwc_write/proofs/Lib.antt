@@ -57,7 +57,10 @@ pub mod WidestTreeLaws
 pub mod WideLaws
 pub mod ReferenceSmall
 pub mod AddedInOrder
+pub mod RenumberedLaws
+pub mod SettledLaws
 pub mod AddedInOrderUnits
+pub mod NumberLaws
 pub mod AddedInOrderTrees
 pub mod AddedInOrderValues
 mod TextSets

@@ -13,11 +13,11 @@ use Rattle.std.specs.List.{All, AllByRecursion}
 use Rattle.dwc_base.specs.declared.records.Endian.TheVariants.{Little}
 use Rattle.dwc_base.specs.declared.records.Address.TheVariants.{Symbol}
 use Rattle.dwc_base.specs.declared.records.LineRow.{LineRow}
-use Rattle.dwc_base.specs.declared.section_name.SectionName.TheVariants.{Abbrev, Info, Line}
+use Rattle.dwc_base.specs.declared.section_name.SectionName.TheVariants.{Abbrev, Info, Line, Loc}
 use Rattle.dwc_base.specs.Abbreviations.{AttributeSpec, Declaration}
 use Rattle.dwc_base.specs.Outputs.{output_sections}
 use Rattle.dwc_base.specs.NumberBytes.{uleb_bytes, uleb_bytes_within, sleb_bytes, sleb_bytes_from_0}
-use Rattle.dwc_write.specs.SpelledUnits.{Written, as_addr, as_data1, as_data2, as_udata, as_flag, as_strp, as_ref4, as_sec_offset, WrittenAttribute, WrittenEntry, shaped, FitsEntry, FitsWritten}
+use Rattle.dwc_write.specs.SpelledUnits.{Written, as_addr, as_data1, as_data2, as_udata, as_flag, as_strp, as_ref4, as_ref_addr, as_sec_offset, WrittenAttribute, WrittenEntry, shaped, FitsEntry, FitsWritten}
 use Rattle.dwc_write.specs.SpelledTables.{FitsSpec, FitsDeclaration}
 use Rattle.dwc_write.specs.SpelledAddresses.{relocations_of}
 use Rattle.dwc_base.proofs.CarriedSmall.{output_small}
@@ -62,13 +62,18 @@ root_written = record { depth = 0; code = 1; tag = 0x11; attributes = named 0x10
 abbrev pub function_written : WrittenEntry
 function_written = record { depth = 1; code = 2; tag = 0x2E; attributes = named 0x11 (as_addr (Symbol 0 (pos 0))) ∷ named 0x12 (as_udata 30) ∷ [] }
 
+-- the variable of the context, whose type is in the module's own unit
+abbrev pub context_written : WrittenEntry
+context_written = record { depth = 2; code = 3; tag = 0x34; attributes = named 0x03 (as_strp 108) ∷ named 0x49 (as_ref_addr 60) ∷ named 0x02 (as_sec_offset Loc 0) ∷ [] }
+
 abbrev pub table_written : List Declaration
 table_written =
     record { code = 1; tag = 0x11; has_children = true; attributes = form_of 0x10 0x17 ∷ [] }
-    ∷ record { code = 2; tag = 0x2E; has_children = false; attributes = form_of 0x11 0x01 ∷ form_of 0x12 0x0F ∷ [] } ∷ []
+    ∷ record { code = 2; tag = 0x2E; has_children = true; attributes = form_of 0x11 0x01 ∷ form_of 0x12 0x0F ∷ [] }
+    ∷ record { code = 3; tag = 0x34; has_children = false; attributes = form_of 0x03 0x0E ∷ form_of 0x49 0x10 ∷ form_of 0x02 0x17 ∷ [] } ∷ []
 
 abbrev pub unit_written : WrittenUnit
-unit_written = record { table_offset = 68; table = table_written; entries = root_written ∷ function_written ∷ [] }
+unit_written = record { table_offset = 68; table = table_written; entries = root_written ∷ function_written ∷ context_written ∷ [] }
 
 abbrev pub units_written : List WrittenUnit
 units_written = own_written ∷ unit_written ∷ []
@@ -115,7 +120,10 @@ values-fit xs h = All-from_recursion (λ a. FitsWritten 8 a.value) xs h
 entries-fit : All (FitsEntry table_written 8) (shaped unit_written.entries)
 entries-fit = All-from_recursion (FitsEntry table_written 8) (shaped unit_written.entries) (
   record { some = lit< tt; code = lit< tt; declared = refl; values = values-fit root_written.attributes (lit< tt, tt) },
-  (record { some = lit< tt; code = lit< tt; declared = refl; values = values-fit function_written.attributes (tt, (lit< tt, tt)) }, tt),
+  (
+    record { some = lit< tt; code = lit< tt; declared = refl; values = values-fit function_written.attributes (tt, (lit< tt, tt)) },
+    (record { some = lit< tt; code = lit< tt; declared = refl; values = values-fit context_written.attributes (lit< tt, (lit< tt, (lit< tt, tt))) }, tt),
+  ),
 )
 
 abbrev attributes_at : ℕ → List WrittenAttribute
@@ -148,21 +156,19 @@ own_entries-fit = All-from_recursion (FitsEntry own_table 8) (shaped own_entries
 spec-fits : (name form : ℕ) → 0 < form → name ≤ 65535 → form < 2 ^ 64 → FitsSpec (record { name = name; form = form; implicit = pos 0 })
 spec-fits name form some small fits = record { some = some; name = small; form = fits; implicit = refl; plain = λ e. refl }
 
-abbrev root_declared : List AttributeSpec
-root_declared = record { name = 0x10; form = 0x17; implicit = pos 0 } ∷ []
-
-abbrev function_declared : List AttributeSpec
-function_declared = record { name = 0x11; form = 0x01; implicit = pos 0 } ∷ record { name = 0x12; form = 0x0F; implicit = pos 0 } ∷ []
-
-table-fits : All FitsDeclaration table_written
-table-fits = All-from_recursion FitsDeclaration table_written (
-  record { some = lit< tt; code = lit< tt; tag = lit≤ tt; attributes = All-from_recursion FitsSpec root_declared (spec-fits 0x10 0x17 (lit< tt) (lit≤ tt) (lit< tt), tt) },
-  (record { some = lit< tt; code = lit< tt; tag = lit≤ tt; attributes = All-from_recursion FitsSpec function_declared (spec-fits 0x11 0x01 (lit< tt) (lit≤ tt) (lit< tt), (spec-fits 0x12 0x0F (lit< tt) (lit≤ tt) (lit< tt), tt)) }, tt),
-)
-
 declared-fits : (code tag : ℕ) (has_children : Bool) (attributes : List AttributeSpec) → 0 < code → code < 2 ^ 64 → tag ≤ 65535 → AllByRecursion FitsSpec attributes
     → FitsDeclaration (record { code = code; tag = tag; has_children = has_children; attributes = attributes })
 declared-fits code tag has_children attributes some short small each = record { some = some; code = short; tag = small; attributes = All-from_recursion FitsSpec attributes each }
+
+table-fits : All FitsDeclaration table_written
+table-fits =
+    All-from_recursion FitsDeclaration table_written (
+      declared-fits 1 0x11 true _ (lit< tt) (lit< tt) (lit≤ tt) (spec-fits 0x10 0x17 (lit< tt) (lit≤ tt) (lit< tt), tt),
+      (
+        declared-fits 2 0x2E true _ (lit< tt) (lit< tt) (lit≤ tt) (spec-fits 0x11 0x01 (lit< tt) (lit≤ tt) (lit< tt), (spec-fits 0x12 0x0F (lit< tt) (lit≤ tt) (lit< tt), tt)),
+        (declared-fits 3 0x34 false _ (lit< tt) (lit< tt) (lit≤ tt) (spec-fits 0x03 0x0E (lit< tt) (lit≤ tt) (lit< tt), (spec-fits 0x49 0x10 (lit< tt) (lit≤ tt) (lit< tt), (spec-fits 0x02 0x17 (lit< tt) (lit≤ tt) (lit< tt), tt))), tt),
+      ),
+    )
 
 own_table-fits : All FitsDeclaration own_table
 own_table-fits =
@@ -203,7 +209,7 @@ own-fits = record {
 
 unit-fits : FitsUnit Little 8 unit_written
 unfolding uleb_bytes uleb_bytes_within
-unit-fits = record { offset = lit< tt; short = lit< tt; table = table-fits; entries = entries-fit; tree = (refl, (lit< tt, lit≤ tt, tt)) }
+unit-fits = record { offset = lit< tt; short = lit< tt; table = table-fits; entries = entries-fit; tree = (refl, (lit< tt, lit≤ tt, (lit< tt, lit≤ tt, tt))) }
 
 -- So its units are read as they were given.
 pub small-units : units (output_sections Little output_small) ≡ record { items = read_units Little 8 0 units_written; fault = None }

@@ -1,11 +1,11 @@
 -- Units whose entries were added in file order: what they are to be, and what they say. (DWARF 4, section 2.3)
-use Rattle.std.specs.Prelude.{◌≡◌, ℕ, suc, ◌<◌, ◌≤◌, List, [], ◌∷◌, ◌++◌, map, length, get_or, Some}
+use Rattle.std.specs.Prelude.{◌≡◌, ℕ, suc, ◌<◌, ◌≤◌, List, [], ◌∷◌, ◌++◌, map, length, get_or}
 use Rattle.dwc_base.specs.Trees.{TreeValue, address, constant, flag, block, expression, text, line_table, ranges, locations, entry, TreeEntry, Tree}
 use Rattle.dwc_write.specs.declared.attributes.Attribute.{Attribute}
 use Rattle.dwc_write.specs.declared.attributes.AttributeValue.{AttributeValue}
 use Rattle.dwc_write.specs.declared.attributes.AttributeValue.TheVariants.{Address, Constant, Flag, Block, Exprloc, StringRef, LineProgramRef, RangeListRef, LocationListRef, UnitRef, DebugInfoRef}
 use Rattle.dwc_write.specs.declared.attributes.DebugInfoRef.TheVariants.{Entry}
-use Rattle.dwc_write.specs.GivenUnits.{Addition, GivenEntry, GivenUnit, entry_at, places_from}
+use Rattle.dwc_write.specs.GivenUnits.{Addition, GivenEntry, GivenUnit, entry_at, places_from, with_additions, with_next}
 use Rattle.dwc_write.specs.FileOrders.{no_addition}
 use Rattle.dwc_write.specs.RangeLists.{interval_of}
 use Rattle.dwc_write.specs.Lists.{location_of}
@@ -27,14 +27,21 @@ pub record AreInOrder (depths : List ℕ) (es : List Addition) : Type 0 where
   pub root : get_or depths 0 0 ≡ 0
   pub parents : (place : ℕ) → 0 < place → place < length es → IsParent depths (get_or es place no_addition).parent place
 
--- A unit's entries were added in file order, and are known by their places.
-pub record IsInOrder (depths : List ℕ) (u : GivenUnit) : Type 0 where
-  pub known : u.places ≡ places_from 0 u.additions
-  pub order : AreInOrder depths u.additions
+-- A unit's entries were added in file order, whatever their numbers are.
+abbrev pub IsInOrder : List ℕ → GivenUnit → Type 0
+IsInOrder depths u = AreInOrder depths u.additions
+
+-- The number of each entry of a unit is its place: none was reserved before.
+abbrev pub IsNumberedByPlaces : GivenUnit → Type 0
+IsNumberedByPlaces u = u.places ≡ places_from 0 u.additions
+
+-- a unit with a further entry, which has its number already
+abbrev pub with_last : Addition → GivenUnit → GivenUnit
+with_last e u = with_additions (u.additions ++ e ∷ []) u
 
 -- a unit with a further entry, whose number is the next one
 abbrev pub with_entry : Addition → GivenUnit → GivenUnit
-with_entry e u = record { address_size = u.address_size; lines = u.lines; places = u.places ++ Some (length u.additions) ∷ []; additions = u.additions ++ e ∷ [] }
+with_entry e u = with_last e (with_next u)
 
 -- entries in the order of addition with their depths, of which the first stands at a place
 abbrev pub entries_with : ℕ → List ℕ → List Addition → List GivenEntry
@@ -44,7 +51,7 @@ entries_with place (d ∷ ds) (e ∷ es) = entry_at d place e ∷ entries_with (
 
 -- ---- what such units say
 
--- What a value says in a unit of a number, where the entries of all units stand in the order of their numbers.
+-- What a value says in a unit of a number, where entries are told by their numbers.
 abbrev pub value_meant : List (List ℕ) → ℕ → AttributeValue → TreeValue
 value_meant texts number (Address a) = address a
 value_meant texts number (Constant form bits) = constant form bits

@@ -29,3 +29,4 @@ pub mod SmallGiven
 pub mod WidestGiven
 pub mod GivenTrees
 pub mod AddedInOrder
+pub mod Renumbered
