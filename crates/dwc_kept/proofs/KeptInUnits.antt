@@ -69,7 +69,7 @@ none-behind from k (u ∷ us) h less =
     filter-append (λ p. p.unit == k) (placed_at u.header.offset u.entries) (placed_entries us)
     ∙ ap₂ (λ xs ys. xs ++ ys) (none-of-unit k u.header.offset u.entries (λ e. absurd (omega (arith, e, less, h.0)))) (none-behind u.header.end k us h.4 (omega (arith, less, h.0, h.1)))
 
-of-unit : (from : ℕ) (us : List Unit) (u : Unit) → UnitsStand from us → IsIn u us → filter (λ p. p.unit == u.header.offset) (placed_entries us) ≡ placed_at u.header.offset u.entries
+pub of-unit : (from : ℕ) (us : List Unit) (u : Unit) → UnitsStand from us → IsIn u us → filter (λ p. p.unit == u.header.offset) (placed_entries us) ≡ placed_at u.header.offset u.entries
 of-unit from [] u h i = absurd i
 of-unit from (v ∷ vs) u h (inl e) =
     filter-append (λ p. p.unit == u.header.offset) (placed_at v.header.offset v.entries) (placed_entries vs)
@@ -99,7 +99,7 @@ pub rising-units : (from : ℕ) (us : List Unit) → UnitsStand from us → Risi
 rising-units from [] h = tt
 rising-units from (u ∷ us) h = rising-weaker u.header.offset from _ h.0 (rising-unit u.header.offset u.header.offset u.header.end u.entries (placed_entries us) (omega (arith, h.1)) h.2 (rising-units u.header.end us h.4))
 
-rising-filter : (t : Placed → Bool) (n : ℕ) (ps : List Placed) → Rising n ps → Rising n (filter t ps)
+pub rising-filter : (t : Placed → Bool) (n : ℕ) (ps : List Placed) → Rising n ps → Rising n (filter t ps)
 rising-filter t n [] h = tt
 rising-filter t n (p ∷ ps) h = go (t p) (rising-filter t (suc p.entry.offset) ps h.1)
   where
@@ -208,10 +208,11 @@ module _ (m : KeptModule) (are : AreKept m) where
       same : (p : Placed) → IsIn p m.kept → is_in_unit u.header p.entry.offset ≡ (p.unit == u.header.offset)
       same p j = in-unit-same 0 m.units u p are.stand i (subst (IsIn p) are.entries (kept-entry p j).0)
 
+  pub kept-rising : Rising 0 m.kept
+  kept-rising = subst (Rising 0) are.kept (rising-filter (λ p. has_place m.kept p.entry.offset) 0 m.entries (subst (Rising 0) (sym are.entries) (rising-units 0 m.units are.stand)))
+
   pub offsets-order : AllPairs (λ a b. a < b) (offsets_kept m)
-  offsets-order =
-      rising-order 0 m.kept (subst (Rising 0) are.kept (rising-filter (λ p. has_place m.kept p.entry.offset) 0 m.entries
-      (subst (Rising 0) (sym are.entries) (rising-units 0 m.units are.stand))))
+  offsets-order = rising-order 0 m.kept kept-rising
 
   pub some-in-unit : (u : Unit) → IsIn u m.units → list_any (λ p. p.unit == u.header.offset) m.kept ≡ nat_lt 0 (length (kept_of_unit (offsets_kept m) u))
   some-in-unit u i =

@@ -1,7 +1,8 @@
 -- What was read of a module gives its units, its kept entries and its carried units.
 use Rattle.std.proofs.Common.{◌≡◌, ℕ, ◌^◌, ◌<◌, List, [], ◌∷◌, length, map, refl, ap, ap₂, sym, subst, ◌∙◌, inl, inr, Bool, true, false, cond, Some, All}
 use Rattle.std.specs.Prelude.{◌==◌, ◌&&◌, nat_lt, option_and_then}
-use Rattle.std.specs.List.{filter, AllZip}
+use Rattle.std.specs.List.{filter, list_any, AllZip}
+use Rattle.std.proofs.lemmas.Bool.{eqb-true}
 use Rattle.std.proofs.lemmas.List.{length-map}
 use Rattle.dwc_base.specs.Sections.{Sections}
 use Rattle.dwc_base.specs.Units.{UnitHeader, unit_headers}
@@ -19,8 +20,11 @@ use Rattle.dwc_kept.specs.declared.read_unit.ReadUnit.{ReadUnit}
 use Rattle.dwc_kept.specs.KeptUnits.{offsets_kept, kept_of_unit, is_in_unit, IsTree, AreEntryOffsets}
 use Rattle.dwc_kept.specs.ReadEntries.{named_offset}
 use Rattle.dwc_kept.specs.ReadUnits.{unit_read, IsReadUnit, IsKeptModule, is_carried_read}
-use Rattle.dwc_base.proofs.InLists.{IsIn, in-filter}
+use Rattle.dwc_base.proofs.InLists.{IsIn, any-in, in-at, in-filter}
 use Rattle.dwc_kept.proofs.GraphLaws.{units-are}
+use Rattle.dwc_kept.proofs.KeptInUnits.{are-kept}
+use Rattle.dwc_kept.proofs.KeptReferences.{target-named}
+use Rattle.dwc_kept.proofs.KeptStanding.{in-unit-same}
 use Rattle.dwc_kept.proofs.KeptUnitLaws.{kept-parts, kept-in-unit, kept-tree, kept-root, kept-within, kept-some, reference-found, kept-lists, offsets-same}
 
 module _ (s : Sections) where
@@ -97,6 +101,22 @@ module _ (c : Module) (m : KeptModule) (is : IsKeptModule c.functions c.sections
         → option_and_then (λ f. place_among (λ k. k == f.entry.offset) number lists) (target_of (kept_of c).entries e v)
         ≡ option_and_then (λ offset. place_among (λ k. k == offset) number lists) (named_offset r.unit.header.offset r.unit.header.end v)
     read-reference = reference-found (λ u. is_required c.functions c.sections u.header) c is.whole (unit_read c.sections r.unit.header) read-in
+
+    -- One that goes to a kept entry names its offset.
+    pub read-named : (e f : Placed) → e.unit ≡ r.unit.header.offset → (v : Value) → target_of (kept_of c).entries e v ≡ Some f → list_any (λ k. k == f.entry.offset) m.kept ≡ true
+        → named_offset r.unit.header.offset r.unit.header.end v ≡ Some f.entry.offset
+    read-named e f own v at kept =
+        let found = any-in (λ k. k == f.entry.offset) m.kept kept in
+        let place = in-at m.kept found.0 found.1 in
+        let small : found.0 < 2 ^ 32 = subst (λ k. k < 2 ^ 32) place.2 (is.small place.0 found.0 place.1) in
+        target-named (kept_of c) (are-kept (λ u. is_required c.functions c.sections u.header) c is.whole) (unit_read c.sections r.unit.header) read-in e f own v at
+        (subst (λ k. k < 2 ^ 32) (eqb-true found.0 f.entry.offset found.2) small)
+
+    -- An entry of the module is one of the unit where its offset lies in it.
+    pub read-inside : (f : Placed) → IsIn f (kept_of c).entries → (f.unit == r.unit.header.offset) ≡ is_in_unit r.unit.header f.entry.offset
+    read-inside f j =
+        let are = are-kept (λ u. is_required c.functions c.sections u.header) c is.whole in
+        sym (in-unit-same 0 (kept_of c).units (unit_read c.sections r.unit.header) f are.stand read-in (subst (IsIn f) are.entries j))
 
     read-carried : is_carried_unit (kept_of c).kept (unit_read c.sections r.unit.header) ≡ is_carried_read m.kept r
     read-carried =

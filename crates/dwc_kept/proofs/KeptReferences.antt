@@ -30,6 +30,15 @@ find-none : {A : Type 0} (t : A → Bool) (xs : List A) → ((x : A) → IsIn x 
 find-none t [] h = refl
 find-none t (x ∷ xs) h = ap (λ b. cond b (Some x) (find t xs)) (h x (inl refl)) ∙ find-none t xs (λ y i. h y (inr i))
 
+-- What is found passes the test, and is there.
+pub found-in : {A : Type 0} (t : A → Bool) (xs : List A) (x : A) → find t xs ≡ Some x → IsIn x xs × (t x ≡ true)
+found-in t [] x h = absurd (cc)
+found-in {A} t (y ∷ xs) x h = go (t y) refl h (found-in t xs x)
+  where
+    go : (b : Bool) → t y ≡ b → cond {A = Option A} b (Some y) (find t xs) ≡ Some x → (find t xs ≡ Some x → IsIn x xs × (t x ≡ true)) → IsIn x (y ∷ xs) × (t x ≡ true)
+    go true is found rest = let same : y ≡ x = cc in (inl (sym same), subst (λ z. t z ≡ true) same is)
+    go false is found rest = (inr (rest found).0, (rest found).1)
+
 -- what is found, or that nothing is there
 found-or : {A : Type 0} (t : A → Bool) (xs : List A) → ((x : A) × (find t xs ≡ Some x) × (t x ≡ true)) ⊎ ((find t xs ≡ None) × ((x : A) → IsIn x xs → t x ≡ false))
 found-or t [] = inr (refl, λ x i. absurd i)
@@ -138,6 +147,22 @@ module _ (u : Unit) (e f : Placed) (own : e.unit ≡ u.header.offset) (in_unit :
   value-wanted (unit_reference n) = unit-wanted n
   value-wanted (info_reference n) = refl
   value-wanted dropped = refl
+
+-- what stands at a wanted offset tells it, if it is small
+there-named : (o : Option ℕ) (f : Placed) → stands_there o f ≡ true → f.entry.offset < 2 ^ 32 → option_and_then small_offset o ≡ Some f.entry.offset
+there-named None f is small = absurd (cc)
+there-named (Some offset) f is small =
+    let same : f.entry.offset ≡ offset = eqb-true f.entry.offset offset is in
+    ap small_offset (sym same) ∙ ap (λ b. if b then Some f.entry.offset else None) (lt-ltb f.entry.offset (2 ^ 32) small)
+
+-- A value that goes from an entry of a unit to one at a small offset names that offset.
+pub target-named : (m : KeptModule) → AreKept m → (u : Unit) → IsIn u m.units → (e f : Placed) → e.unit ≡ u.header.offset → (v : Value) → target_of m.entries e v ≡ Some f → f.entry.offset < 2 ^ 32
+    → named_offset u.header.offset u.header.end v ≡ Some f.entry.offset
+unfolding target_of
+target-named m are u i e f own v at small =
+    let found = found-in (λ g. names_entry e g v) m.entries f at in
+    named-small u.header.offset u.header.end v
+    ∙ there-named (wanted u.header.offset u.header.end v) f (sym (value-wanted u e f own (in-unit-same 0 m.units u f are.stand i (subst (IsIn f) are.entries found.0)) v) ∙ found.1) small
 
 -- ---- where it is found
 

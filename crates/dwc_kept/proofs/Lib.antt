@@ -1,6 +1,7 @@
 pub mod KeptLaws
 pub mod MarkLaws
 pub mod NumberLaws
+pub mod NumberedGoals
 pub mod PartWalks
 pub mod KeptNumbers
 pub mod MarkWalks
@@ -13,10 +14,13 @@ pub mod RangeCodeLaws
 pub mod StandingLaws
 pub mod GraphLaws
 pub mod RequiredLaws
+pub mod KeptAlone
 pub mod KeptDepths
 pub mod KeptStanding
 pub mod KeptInUnits
 pub mod KeptTrees
+pub mod KeptTypes
+pub mod KeptEmitted
 pub mod KeptPlaces
 pub mod KeptReferences
 pub mod KeptUnitLaws
