@@ -114,12 +114,12 @@ module _ (fs : List Function) (sections : Sections) (h : UnitHeader) (here : ℕ
   address-says places number name table v a x is read says fits = record {
     drafted = Some (done (carried_address fs a));
     is = address-read v (Some a) is read;
-    made = record { means = ap (λ t. Some t) says; fits = fits; texts = All-nil (λ n. n < length table) };
+    made = record { means = λ goals at. ap (λ t. Some t) says; fits = fits; texts = All-nil (λ n. n < length table) };
   }
 
   -- None is read of no address.
   pub address-none : (places : List EmittedEntry) (number name : ℕ) (table : List (List ℕ)) (v : Value) → is_address v ≡ true → address_of_value sections h v ≡ Ok None → IsMade (Says places number name table) (becomes v) None
-  address-none places number name table v is read = record { drafted = None; is = address-read v None is read; made = record { means = refl; fits = λ size. tt; texts = tt } }
+  address-none places number name table v is read = record { drafted = None; is = address-read v None is read; made = record { means = λ goals at. refl; fits = λ size. tt; texts = tt } }
 
   -- One that cannot be read is told at the entry.
   pub address-told : (v : Value) (seen : Option Fault) → is_address v ≡ true → Refuses (address_of_value sections h v) seen → RefusesSo (becomes v) (option_map of_place (option_map (fault_at here) seen))
@@ -167,7 +167,7 @@ module _ (fs : List Function) (sections : Sections) (h : UnitHeader) (here : ℕ
       record {
         drafted = Some (done (ranges (native_of_intervals fs items)));
         is = by-fault v None is (ap (option_map refusal_view) (sym none) ∙ has.fault);
-        made = record { means = ap (λ is. Some (ranges is)) has.ranges.say; fits = λ size. (named, has.ranges.fit size); texts = All-nil (λ n. n < length table) };
+        made = record { means = λ goals at. ap (λ is. Some (ranges is)) has.ranges.say; fits = λ size. (named, has.ranges.fit size); texts = All-nil (λ n. n < length table) };
       }
 
   pub list-told : (v : Value) (native : NativeRanges) (fault : ListFault) → is_range_list v ≡ true → IsNative fs (ranges_of_value (list_source sections h) here v) native → native.fault ≡ Some fault

@@ -1,16 +1,15 @@
 -- Entries that are added below the last entry of the depth above theirs.
-use Rattle.std.proofs.Common.{◌≡◌, ◌≢◌, ℕ, zero, suc, ◌+◌, ◌-◌, ◌<◌, ◌≤◌, refl, sym, ap, subst, ◌∙◌, arith, List, [], ◌∷◌, ◌++◌, length, length-append, take, get_or, Bool, true, false, eqb, Option, Some, None}
-use Rattle.std.specs.Prelude.{is_some, slice_get}
+use Rattle.std.proofs.Common.{◌≡◌, ◌≢◌, ℕ, zero, suc, ◌<◌, ◌≤◌, refl, sym, ap, subst, ◌∙◌, arith, List, [], ◌∷◌, ◌++◌, length, length-append, take, get_or, Bool, true, false, eqb, Option, Some, None}
+use Rattle.std.specs.Prelude.{is_some}
 use Rattle.std.proofs.lemmas.Bool.{eqb-true, eqb-false}
-use Rattle.std.proofs.lemmas.List.{get_or_append_left, get_or_push, length-take-le}
+use Rattle.std.proofs.lemmas.List.{get_or_append_left, get_or_push}
 use Rattle.std.proofs.lemmas.List.Elements.{All-push, All-take, All-weaker}
-use Rattle.dwc_base.specs.Entries.{Entry}
-use Rattle.dwc_kept.specs.KeptUnits.{AreBelow}
 use Rattle.dwc_write.specs.declared.units.UnitEntryId.{UnitEntryId}
-use Rattle.dwc_write.specs.GivenUnits.{GivenUnit, IsAdded, place_of, with_additions, with_child, with_next}
+use Rattle.dwc_write.specs.GivenUnits.{GivenUnit, IsAdded, IsReserved, place_of, with_additions, with_child, with_known, with_next}
 use Rattle.dwc_write.proofs.AddedInOrderUnits.{place-last}
-use Rattle.dwc_clone.specs.ClonedEntries.{AddsBelow, AreKnown, ArePath, CanFollow, IsLastOf, last_parent}
-use Rattle.dwc_clone.specs.ClonedUnits.{depths_of}
+use Rattle.dwc_write.proofs.NumberLaws.{added-on-child, added-on-known, known-same}
+use Rattle.dwc_clone.specs.declared.entry.PlacedEntry.{PlacedEntry}
+use Rattle.dwc_clone.specs.ClonedEntries.{AddsBelow, AreKnown, CanAdd, IsLastOf, last_parent}
 
 -- ---- numbers
 
@@ -33,28 +32,41 @@ child-places parent tag u = go (place_of parent (with_next u).places)
 added-before : (parent tag id : ℕ) (u : GivenUnit) → IsAdded id u → IsAdded id (with_child parent tag (with_next u))
 added-before parent tag id u added = ap (λ ps. is_some (place_of id ps)) (child-places parent tag u) ∙ place-front id u.places (Some (length u.additions)) added
 
-added-next : (parent tag : ℕ) (u : GivenUnit) → IsAdded (length u.places) (with_child parent tag (with_next u))
+pub added-next : (parent tag : ℕ) (u : GivenUnit) → IsAdded (length u.places) (with_child parent tag (with_next u))
 added-next parent tag u = ap (λ ps. is_some (place_of (length u.places) ps)) (child-places parent tag u) ∙ ap is_some (place-last u.places (Some (length u.additions)))
 
--- An entry that was added is known, and so are its parents.
-pub added-known : (parents : List UnitEntryId) (o : Option UnitEntryId) (tag : ℕ) (u0 u : GivenUnit) (id : UnitEntryId) → AreKnown parents u0 → AddsBelow o tag u0 u id → IsAdded id.index u
-added-known parents None tag u0 u id known adds = subst (λ w. IsAdded id.index w) (sym adds.0) (subst (λ (i : UnitEntryId). IsAdded i.index u0) (sym adds.1) known.root)
-added-known parents (Some p) tag u0 u id known adds = subst (λ w. IsAdded id.index w) (sym adds.0) (subst (λ (i : UnitEntryId). IsAdded i.index (with_child p.index tag (with_next u0))) (sym adds.1) (added-next p.index tag u0))
+-- An entry stays known where another is added under a number that was reserved, and that is known then.
+known-before : (parent tag id k : ℕ) (u : GivenUnit) → IsAdded k u → IsAdded k (with_child parent tag (with_known id u))
+known-before parent tag id k u added = added-on-child (with_known id u) k parent tag (added-on-known u k id added)
 
-pub parents-known : (parents : List UnitEntryId) (depth : ℕ) (o : Option UnitEntryId) (tag : ℕ) (u0 u : GivenUnit) (id : UnitEntryId) → AreKnown parents u0 → AddsBelow o tag u0 u id → AreKnown (take depth parents ++ id ∷ []) u
-parents-known parents depth o tag u0 u id known adds = record {
+known-here : (parent tag id : ℕ) (u : GivenUnit) → IsReserved id u → IsAdded id (with_child parent tag (with_known id u))
+known-here parent tag id u reserved = added-on-child (with_known id u) id parent tag (ap is_some (known-same u id reserved.0))
+
+-- What is asked of a number, where there is a parent.
+pub reserved-below : (depth : ℕ) (parents : List UnitEntryId) (p id : UnitEntryId) (u : GivenUnit) → last_parent depth parents ≡ Some p → CanAdd id parents u → IsReserved id.index u
+reserved-below zero [] p id u is can = absurd (cc)
+reserved-below (suc depth) [] p id u is can = absurd (cc)
+reserved-below depth (q ∷ qs) p id u is can = can
+
+-- An entry that was added is known, and so are its parents.
+pub placed-known : (parents : List UnitEntryId) (o : Option UnitEntryId) (id : UnitEntryId) (tag : ℕ) (u0 u : GivenUnit) (placed : PlacedEntry) → AreKnown parents u0 → ((p : UnitEntryId) → o ≡ Some p → IsReserved id.index u0) → AddsBelow o id tag u0 u placed → IsAdded placed.id.index u
+placed-known parents None id tag u0 u placed known can adds = subst (λ w. IsAdded placed.id.index w) (sym adds.0) (subst (λ (x : PlacedEntry). IsAdded x.id.index u0) (sym adds.1) known.root)
+placed-known parents (Some p) id tag u0 u placed known can adds = subst (λ w. IsAdded placed.id.index w) (sym adds.0) (subst (λ (x : PlacedEntry). IsAdded x.id.index (with_child p.index tag (with_known id.index u0))) (sym adds.1) (known-here p.index tag id.index u0 (can p refl)))
+
+pub parents-known : (parents : List UnitEntryId) (depth : ℕ) (o : Option UnitEntryId) (id : UnitEntryId) (tag : ℕ) (u0 u : GivenUnit) (placed : PlacedEntry) → AreKnown parents u0 → ((p : UnitEntryId) → o ≡ Some p → IsReserved id.index u0) → AddsBelow o id tag u0 u placed → AreKnown (take depth parents ++ placed.id ∷ []) u
+parents-known parents depth o id tag u0 u placed known can adds = record {
   root = before o adds 0 known.root;
-  others = All-push (λ p. IsAdded p.index u) (take depth parents) id (All-weaker (λ p. IsAdded p.index u0) (λ p. IsAdded p.index u) (λ p added. before o adds p.index added) (take depth parents) (All-take (λ p. IsAdded p.index u0) depth parents known.others)) (added-known parents o tag u0 u id known adds);
+  others = All-push (λ p. IsAdded p.index u) (take depth parents) placed.id (All-weaker (λ p. IsAdded p.index u0) (λ p. IsAdded p.index u) (λ p added. before o adds p.index added) (take depth parents) (All-take (λ p. IsAdded p.index u0) depth parents known.others)) (placed-known parents o id tag u0 u placed known can adds);
 }
   where
-    before : (o : Option UnitEntryId) → AddsBelow o tag u0 u id → (k : ℕ) → IsAdded k u0 → IsAdded k u
+    before : (o : Option UnitEntryId) → AddsBelow o id tag u0 u placed → (k : ℕ) → IsAdded k u0 → IsAdded k u
     before None adds k added = subst (λ w. IsAdded k w) (sym adds.0) added
-    before (Some p) adds k added = subst (λ w. IsAdded k w) (sym adds.0) (added-before p.index tag k u0 added)
+    before (Some p) adds k added = subst (λ w. IsAdded k w) (sym adds.0) (known-before p.index tag id.index k u0 added)
 
 -- ---- the last entry of each depth
 
 -- An entry more, which is deeper, hides no last entry of a depth; it is the last one of its own.
-last-before : (ds : List ℕ) (d k place : ℕ) → IsLastOf ds k place → k < d → IsLastOf (ds ++ d ∷ []) k place
+pub last-before : (ds : List ℕ) (d k place : ℕ) → IsLastOf ds k place → k < d → IsLastOf (ds ++ d ∷ []) k place
 last-before ds d k place last deeper =
     let within = last.within in
     record {
@@ -71,72 +83,9 @@ last-before ds d k place last deeper =
         let deep = last.behind j after within in
         omega (arith, deep, get_or_append_left ds (d ∷ []) 0 j within)
 
-last-new : (ds : List ℕ) (d : ℕ) → IsLastOf (ds ++ d ∷ []) d (length ds)
+pub last-new : (ds : List ℕ) (d : ℕ) → IsLastOf (ds ++ d ∷ []) d (length ds)
 last-new ds d = record {
   within = omega (arith, length-append ds (d ∷ []));
   here = get_or_push ds d 0 (length ds) refl;
   behind = λ j after low. absurd (omega (arith, after, low, length-append ds (d ∷ [])));
 }
-
-path-front : (ds : List ℕ) (d k n : ℕ) (ps : List UnitEntryId) → ArePath ds k ps → k + n ≤ d → ArePath (ds ++ d ∷ []) k (take n ps)
-path-front ds d k zero ps path fits = tt
-path-front ds d k (suc n) [] path fits = tt
-path-front ds d k (suc n) (p ∷ ps) path fits = (last-before ds d k p.index path.0 (omega (arith, fits)), path-front ds d (suc k) n ps path.1 (omega (arith, fits)))
-
-path-push : (ds : List ℕ) (k : ℕ) (ps : List UnitEntryId) (id : UnitEntryId) → ArePath ds k ps → IsLastOf ds (k + length ps) id.index → ArePath ds k (ps ++ id ∷ [])
-path-push ds k [] id path last = (subst (λ n. IsLastOf ds n id.index) (omega arith) last, tt)
-path-push ds k (p ∷ ps) id path last = (path.0, path-push ds (suc k) ps id path.1 (subst (λ n. IsLastOf ds n id.index) (omega arith) last))
-
-path-at : (ds : List ℕ) (k i : ℕ) (ps : List UnitEntryId) (p : UnitEntryId) → ArePath ds k ps → slice_get ps i ≡ Some p → IsLastOf ds (k + i) p.index
-path-at ds k i [] p path is = absurd (none-some is)
-  where
-    none-some : {A : Type 0} {x : A} → None ≡ Some x → ⊥
-    none-some e = absurd (cc)
-path-at ds k zero (q ∷ ps) p path is = subst (λ (r : UnitEntryId). IsLastOf ds (k + 0) r.index) (some-same is) (subst (λ n. IsLastOf ds n q.index) (omega arith) path.0)
-  where
-    some-same : {A : Type 0} {x y : A} → Some x ≡ Some y → x ≡ y
-    some-same e = cc
-path-at ds k (suc i) (q ∷ ps) p path is = subst (λ n. IsLastOf ds n p.index) (omega arith) (path-at ds (suc k) i ps p path.1 is)
-
-get-taken : (n i : ℕ) (ps : List UnitEntryId) → i < n → slice_get (take n ps) i ≡ slice_get ps i
-get-taken zero i ps low = absurd (omega (arith, low))
-get-taken (suc n) i [] low = refl
-get-taken (suc n) zero (p ∷ ps) low = refl
-get-taken (suc n) (suc i) (p ∷ ps) low = get-taken n i ps (omega (arith, low))
-
-get-some : (i : ℕ) (ps : List UnitEntryId) → i < length ps → is_some (slice_get ps i) ≡ true
-get-some i [] within = absurd (omega (arith, within))
-get-some zero (p ∷ ps) within = refl
-get-some (suc i) (p ∷ ps) within = get-some i ps (omega (arith, within))
-
--- What an entry of a depth is added below is the last one of the depth above it.
-pub record HasParent (ds : List ℕ) (depth : ℕ) (o : Option UnitEntryId) : Type 0 where
-  pub parent : UnitEntryId
-  pub is : o ≡ Some parent
-  pub last : IsLastOf ds (depth - 1) parent.index
-
-pub parent-of : (ds : List ℕ) (depth : ℕ) (ps : List UnitEntryId) → ArePath ds 0 ps → 0 < depth → depth ≤ length ps → HasParent ds depth (last_parent depth ps)
-parent-of ds depth ps path below fits =
-    let place = ap (λ n. slice_get (take depth ps) (n - 1)) (length-take-le depth ps fits) ∙ get-taken depth (depth - 1) ps (omega (arith, below)) in
-    subst (HasParent ds depth) (sym place) (go (slice_get ps (depth - 1)) refl (get-some (depth - 1) ps (omega (arith, below, fits))))
-  where
-    go : (o : Option UnitEntryId) → slice_get ps (depth - 1) ≡ o → is_some o ≡ true → HasParent ds depth o
-    go None is some = absurd (cc)
-    go (Some p) is some = record { parent = p; is = refl; last = subst (λ n. IsLastOf ds n p.index) (omega arith) (path-at ds 0 (depth - 1) ps p path is) }
-
--- The path to an entry more.
-pub path-more : (ds : List ℕ) (depth : ℕ) (ps : List UnitEntryId) (id : UnitEntryId) → ArePath ds 0 ps → depth ≤ length ps → id.index ≡ length ds → ArePath (ds ++ depth ∷ []) 0 (take depth ps ++ id ∷ [])
-path-more ds depth ps id path fits is =
-    path-push (ds ++ depth ∷ []) 0 (take depth ps) id (path-front ds depth 0 depth ps path (omega arith))
-    (subst (λ n. IsLastOf (ds ++ depth ∷ []) n id.index) (sym (zero-and (length (take depth ps)) ∙ length-take-le depth ps fits)) (subst (λ n. IsLastOf (ds ++ depth ∷ []) depth n) (sym is) (last-new ds depth)))
-  where
-    zero-and : (n : ℕ) → 0 + n ≡ n
-    zero-and n = omega arith
-
-pub path-long : (depth : ℕ) (ps : List UnitEntryId) (id : UnitEntryId) → depth ≤ length ps → length (take depth ps ++ id ∷ []) ≡ suc depth
-path-long depth ps id fits = length-append (take depth ps) (id ∷ []) ∙ ap (λ n. n + 1) (length-take-le depth ps fits) ∙ omega arith
-
--- Entries that can follow an entry of a depth.
-pub follow-from : (qs : List UnitEntryId) (depth : ℕ) (others : List Entry) → length qs ≡ suc depth → AreBelow depth (depths_of others) → CanFollow qs others
-follow-from [] depth others long below = absurd (omega (arith, long))
-follow-from (q ∷ qs) depth others long below = subst (λ n. AreBelow n (depths_of others)) (omega (arith, long)) below

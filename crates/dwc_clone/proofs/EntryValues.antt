@@ -1,6 +1,6 @@
 -- The values that the last entry of a unit is given, one behind another, and what the attributes of an entry become.
 use Rattle.std.proofs.Common.{◌≡◌, ℕ, ◌<◌, ◌≤◌, refl, sym, ap, subst, ◌∙◌, arith, List, [], ◌∷◌, ◌++◌, ◌+◌, drop, take, get_or, length, length-append, map, Option, Some, None, Result, Ok, Err}
-use Rattle.std.specs.Prelude.{◌==◌, ◌&&◌, OnOk, filter_map, option_map, option_to_list, Bool, true, false, if◌then◌else◌}
+use Rattle.std.specs.Prelude.{◌==◌, ◌&&◌, OnOk, filter_map, option_and_then, option_map, option_to_list, Bool, true, false, if◌then◌else◌}
 use Rattle.std.specs.List.{All, cons_option}
 use Rattle.std.proofs.lemmas.Bool.{eq-eqb}
 use Rattle.std.proofs.lemmas.List.{append-nil, append_assoc, drop_more, get_or-map, length-map, length-take-le, take_more}
@@ -12,7 +12,7 @@ use Rattle.dwc_base.specs.Kept.{Placed}
 use Rattle.dwc_base.specs.Refusals.{Refusal, first_of}
 use Rattle.dwc_base.specs.Trees.{TreeValue, constant, set_attribute}
 use Rattle.dwc_base.specs.Clones.{UnitSource, attribute_becomes, attributes_become, endianity, if_made, if_refused}
-use Rattle.dwc_base.specs.Drafts.{DraftValue, done}
+use Rattle.dwc_base.specs.Drafts.{Goal, DraftValue, done}
 use Rattle.dwc_base.specs.DraftForests.{settled, settled_value}
 use Rattle.dwc_clif.specs.Registers.{Registers}
 use Rattle.dwc_read.specs.declared.value.AttributeValue.{AttributeValue as InputValue}
@@ -26,15 +26,14 @@ use Rattle.dwc_write.specs.GivenUnits.{Addition, GivenUnit, place_of, set_in, se
 use Rattle.dwc_write.specs.UsedTexts.{text_of_value, texts_of_attributes}
 use Rattle.dwc_write.specs.AddedInOrder.{attribute_meant, value_meant}
 use Rattle.dwc_write.proofs.ReadValues.{All-back, All-front}
-use Rattle.dwc_write.proofs.AddedInOrderUnits.{entry-set}
+use Rattle.dwc_write.proofs.AddedInOrderUnits.{last-set}
 use Rattle.dwc_write.proofs.AddedInOrderValues.{attributes-meant-more, set-meant}
 use Rattle.dwc_clone.specs.declared.bounds.AttributesSeen.{AttributesSeen}
 use Rattle.dwc_clone.specs.declared.source.CloneSource.{CloneSource}
 use Rattle.dwc_clone.specs.AttributesSeen.{seen_among}
-use Rattle.dwc_clone.specs.OutputPlaces.{goal_place}
-use Rattle.dwc_clone.specs.MadeValues.{Grows, HasTexts, IsMade, RefusesSo, SaysMore, wanted_value}
+use Rattle.dwc_clone.specs.MadeValues.{ArePlaced, Grows, HasTexts, RefusesSo, SaysMore, wanted_value}
 use Rattle.dwc_clone.specs.ClonedUnits.{clone_rules, TellsFirst}
-use Rattle.dwc_clone.specs.ClonedEntries.{AreSet, IsGiven, IsLast, set_behind, values_refused, values_wanted, with_made}
+use Rattle.dwc_clone.specs.ClonedEntries.{AreSet, IsGiven, IsLast, KeepsNames, Tell, set_behind, told_draft, values_refused, values_wanted, with_made}
 
 -- ---- tables of texts
 
@@ -74,7 +73,7 @@ pub given-value : (number : ℕ) (t0 t1 : List (List ℕ)) (id : UnitEntryId) (b
 given-value number t0 t1 id base e u name v last grows has = record {
   grows = grows;
   given = set_in_addition name v e;
-  is = ap (with_value id.index name v) last.is ∙ entry-set base e id.index name v last.number;
+  is = ap (with_value id.index name v) last.is ∙ last-set base e id.index name v last.number;
   parent = refl;
   tag = refl;
   means = set-meant t1 number name v e.attributes ∙ ap (λ xs. set_attribute (name, value_meant t1 number v) xs) (meant-on number t0 t1 e.attributes grows last.names);
@@ -112,12 +111,12 @@ given-on number t0 t1 t2 values more base e u1 u2 g h = record {
 abbrev pub named : ℕ → Option TreeValue → List (ℕ × TreeValue)
 named name v = option_to_list (option_map (λ x. (name, x)) v)
 
-pub given-made : (c : CloneSource) (number : ℕ) (t0 t1 : List (List ℕ)) (id : UnitEntryId) (base : GivenUnit) (e : Addition) (u : GivenUnit) (name : ℕ) (draft : Option DraftValue) (v : Option AttributeValue) → IsLast t0 id base e u → SaysMore c.places.now number name t0 t1 draft v
-    → IsGiven number t0 t1 (named name (wanted_value c.places.now draft)) base e (with_made id.index name v u)
-given-made c number t0 t1 id base e u name draft None last more =
-    subst (λ w. IsGiven number t0 t1 (named name w) base e u) more.says.means (given-none number t0 t1 id base e u last more.grows)
-given-made c number t0 t1 id base e u name draft (Some v) last more =
-    subst (λ w. IsGiven number t0 t1 (named name w) base e (with_value id.index name v u)) more.says.means (given-value number t0 t1 id base e u name v last more.grows more.says.texts)
+pub given-made : (goals : Goal → Option (ℕ × ℕ)) (c : CloneSource) (number : ℕ) (t0 t1 : List (List ℕ)) (id : UnitEntryId) (base : GivenUnit) (e : Addition) (u : GivenUnit) (name : ℕ) (draft : Option DraftValue) (v : Option AttributeValue) → ArePlaced c.places.now goals → IsLast t0 id base e u → SaysMore c.places.now number name t0 t1 draft v
+    → IsGiven number t0 t1 (named name (wanted_value goals draft)) base e (with_made id.index name v u)
+given-made goals c number t0 t1 id base e u name draft None at last more =
+    subst (λ w. IsGiven number t0 t1 (named name w) base e u) (more.says.means goals at) (given-none number t0 t1 id base e u last more.grows)
+given-made goals c number t0 t1 id base e u name draft (Some v) at last more =
+    subst (λ w. IsGiven number t0 t1 (named name w) base e (with_value id.index name v u)) (more.says.means goals at) (given-value number t0 t1 id base e u name v last more.grows more.says.texts)
 
 -- Values that are set leave the numbers of entries as they were.
 pub value-places : (id name : ℕ) (v : AttributeValue) (u : GivenUnit) → (with_value id name v u).places ≡ u.places
@@ -156,68 +155,77 @@ seen-next xs i d next within is =
 
 -- What is set of the attributes of an entry: what was set so far, and what the attributes that are left are to say, make all; the bounds
 -- among those before are known.
-pub record AreSetSoFar (registers : Registers) (c : CloneSource) (number : ℕ) (s : UnitSource) (p : Placed) (t0 t1 : List (List ℕ)) (base : GivenUnit) (e : Addition) (u : GivenUnit) (seen : AttributesSeen) (left : List (ℕ × Value)) : Type 0 where
+pub record AreSetSoFar (goals : Goal → Option (ℕ × ℕ)) (tell : Tell) (registers : Registers) (c : CloneSource) (number : ℕ) (s : UnitSource) (p : Placed) (t0 t1 : List (List ℕ)) (base : GivenUnit) (e : Addition) (u : GivenUnit) (seen : AttributesSeen) (left : List (ℕ × Value)) : Type 0 where
   pub before : List (ℕ × Value)
   pub bounds : seen ≡ seen_among before
   pub values : List (ℕ × TreeValue)
   pub given : IsGiven number t0 t1 values base e u
-  pub whole : values ++ values_wanted registers c s p before left ≡ values_wanted registers c s p [] p.entry.attributes
+  pub whole : values ++ values_wanted goals tell registers c s p before left ≡ values_wanted goals tell registers c s p [] p.entry.attributes
   pub refused : values_refused registers c s p before left ≡ values_refused registers c s p [] p.entry.attributes
 
-pub set-start : (registers : Registers) (c : CloneSource) (number : ℕ) (s : UnitSource) (p : Placed) (t : List (List ℕ)) (id : UnitEntryId) (base : GivenUnit) (e : Addition) (u : GivenUnit) (seen : AttributesSeen) → seen ≡ seen_among [] → IsLast t id base e u → AreSetSoFar registers c number s p t t base e u seen p.entry.attributes
-set-start registers c number s p t id base e u seen none last = record { before = []; bounds = none; values = []; given = given-none number t t id base e u last (grows-not t); whole = refl; refused = refl }
+pub set-start : (goals : Goal → Option (ℕ × ℕ)) (tell : Tell) (registers : Registers) (c : CloneSource) (number : ℕ) (s : UnitSource) (p : Placed) (t : List (List ℕ)) (id : UnitEntryId) (base : GivenUnit) (e : Addition) (u : GivenUnit) (seen : AttributesSeen) → seen ≡ seen_among [] → IsLast t id base e u
+    → AreSetSoFar goals tell registers c number s p t t base e u seen p.entry.attributes
+set-start goals tell registers c number s p t id base e u seen none last = record { before = []; bounds = none; values = []; given = given-none number t t id base e u last (grows-not t); whole = refl; refused = refl }
 
 -- an attribute in front of others
-wanted-more : (registers : Registers) (c : CloneSource) (s : UnitSource) (p : Placed) (before : List (ℕ × Value)) (a : ℕ × Value) (left : List (ℕ × Value)) (draft : Option DraftValue) → attribute_becomes (clone_rules registers c s) s p before a ≡ Ok draft
-    → values_wanted registers c s p before (a ∷ left) ≡ named a.0 (wanted_value c.places.now draft) ++ values_wanted registers c s p (before ++ a ∷ []) left
+wanted-more : (goals : Goal → Option (ℕ × ℕ)) (tell : Tell) (registers : Registers) (c : CloneSource) (s : UnitSource) (p : Placed) (before : List (ℕ × Value)) (a : ℕ × Value) (left : List (ℕ × Value)) (draft : Option DraftValue) → KeepsNames tell → attribute_becomes (clone_rules registers c s) s p before a ≡ Ok draft
+    → values_wanted goals tell registers c s p before (a ∷ left) ≡ named a.0 (wanted_value goals (told_draft tell a.0 draft)) ++ values_wanted goals tell registers c s p (before ++ a ∷ []) left
 unfolding attributes_become
-wanted-more registers c s p before a left draft is = ap (λ r. filter_map (settled (goal_place c.places.now)) (cons_option (if_made a.0 r) made)) is ∙ go draft
+wanted-more goals tell registers c s p before a left draft keeps is = ap (λ r. filter_map (settled goals) (filter_map tell (cons_option (if_made a.0 r) made))) is ∙ go draft
   where
     made : List (ℕ × DraftValue)
     made = filter_map (λ x. if_made x.0 x.1) (attributes_become (clone_rules registers c s) s p (before ++ a ∷ []) left)
 
-    at : (v : Option TreeValue) (xs : List (ℕ × TreeValue)) → cons_option (option_map (λ x. (a.0, x)) v) xs ≡ named a.0 v ++ xs
-    at None xs = refl
-    at (Some v) xs = refl
+    rest : List (ℕ × TreeValue)
+    rest = filter_map (settled goals) (filter_map tell made)
 
-    go : (d : Option DraftValue) → filter_map (settled (goal_place c.places.now)) (cons_option (if_made {E = Refusal} a.0 (Ok d)) made) ≡ named a.0 (wanted_value c.places.now d) ++ filter_map (settled (goal_place c.places.now)) made
+    said : (name : ℕ) → name ≡ a.0 → (v : Option TreeValue) → cons_option (option_map (λ x. (name, x)) v) rest ≡ named a.0 v ++ rest
+    said name same None = refl
+    said name same (Some v) = ap (λ n. (n, v) ∷ rest) same
+
+    one : (v : DraftValue) (o : Option (ℕ × DraftValue)) → tell (a.0, v) ≡ o → filter_map (settled goals) (cons_option o (filter_map tell made)) ≡ named a.0 (option_and_then (settled_value goals) (option_map (λ y. y.1) o)) ++ rest
+    one v None told = refl
+    one v (Some y) told = said y.0 (keeps (a.0, v) y told) (settled_value goals y.1)
+
+    go : (d : Option DraftValue) → filter_map (settled goals) (filter_map tell (cons_option (if_made {E = Refusal} a.0 (Ok d)) made)) ≡ named a.0 (wanted_value goals (told_draft tell a.0 d)) ++ rest
     go None = refl
-    go (Some v) = at (settled_value (goal_place c.places.now) v) (filter_map (settled (goal_place c.places.now)) made)
+    go (Some v) = one v (tell (a.0, v)) refl
 
-refused-not : (registers : Registers) (c : CloneSource) (s : UnitSource) (p : Placed) (before : List (ℕ × Value)) (a : ℕ × Value) (left : List (ℕ × Value)) (draft : Option DraftValue) → attribute_becomes (clone_rules registers c s) s p before a ≡ Ok draft
+pub refused-not : (registers : Registers) (c : CloneSource) (s : UnitSource) (p : Placed) (before : List (ℕ × Value)) (a : ℕ × Value) (left : List (ℕ × Value)) (draft : Option DraftValue) → attribute_becomes (clone_rules registers c s) s p before a ≡ Ok draft
     → values_refused registers c s p before (a ∷ left) ≡ values_refused registers c s p (before ++ a ∷ []) left
 unfolding attributes_become
 refused-not registers c s p before a left draft is = ap (λ r. cons_option (if_refused r) (values_refused registers c s p (before ++ a ∷ []) left)) is
 
-refused-here : (registers : Registers) (c : CloneSource) (s : UnitSource) (p : Placed) (before : List (ℕ × Value)) (a : ℕ × Value) (left : List (ℕ × Value)) (refusal : Refusal) → attribute_becomes (clone_rules registers c s) s p before a ≡ Err refusal
+pub refused-here : (registers : Registers) (c : CloneSource) (s : UnitSource) (p : Placed) (before : List (ℕ × Value)) (a : ℕ × Value) (left : List (ℕ × Value)) (refusal : Refusal) → attribute_becomes (clone_rules registers c s) s p before a ≡ Err refusal
     → first_of (values_refused registers c s p before (a ∷ left)) ≡ Some refusal
 unfolding attributes_become
 refused-here registers c s p before a left refusal is = ap (λ r. first_of (cons_option (if_refused r) (values_refused registers c s p (before ++ a ∷ []) left))) is
 
-pub set-more : (registers : Registers) (c : CloneSource) (number : ℕ) (s : UnitSource) (p : Placed) (t0 t1 t2 : List (List ℕ)) (id : UnitEntryId) (base : GivenUnit) (e : Addition) (u0 u : GivenUnit) (seen next : AttributesSeen) (a : ℕ × Value) (left : List (ℕ × Value)) (v : Option AttributeValue)
-    → IsLast t0 id base e u0 → (so : AreSetSoFar registers c number s p t0 t1 base e u seen (a ∷ left)) → next ≡ seen_among (so.before ++ a ∷ []) → IsMade (SaysMore c.places.now number a.0 t1 t2) (attribute_becomes (clone_rules registers c s) s p so.before a) v
-    → AreSetSoFar registers c number s p t0 t2 base e (with_made id.index a.0 v u) next left
-set-more registers c number s p t0 t1 t2 id base e u0 u seen next a left v last so behind made =
-    let draft = made.drafted in
-    let one = named a.0 (wanted_value c.places.now draft) in
+pub set-more : (goals : Goal → Option (ℕ × ℕ)) (tell : Tell) (registers : Registers) (c : CloneSource) (number : ℕ) (s : UnitSource) (p : Placed) (t0 t1 t2 : List (List ℕ)) (id : UnitEntryId) (base : GivenUnit) (e : Addition) (u0 u : GivenUnit) (seen next : AttributesSeen) (a : ℕ × Value) (left : List (ℕ × Value)) (draft : Option DraftValue) (v : Option AttributeValue)
+    → ArePlaced c.places.now goals → KeepsNames tell → IsLast t0 id base e u0 → (so : AreSetSoFar goals tell registers c number s p t0 t1 base e u seen (a ∷ left)) → next ≡ seen_among (so.before ++ a ∷ [])
+    → attribute_becomes (clone_rules registers c s) s p so.before a ≡ Ok draft → SaysMore c.places.now number a.0 t1 t2 (told_draft tell a.0 draft) v
+    → AreSetSoFar goals tell registers c number s p t0 t2 base e (with_made id.index a.0 v u) next left
+set-more goals tell registers c number s p t0 t1 t2 id base e u0 u seen next a left draft v at keeps last so behind is says =
+    let one = named a.0 (wanted_value goals (told_draft tell a.0 draft)) in
     record {
       before = so.before ++ a ∷ [];
       bounds = behind;
       values = so.values ++ one;
       given = given-on number t0 t1 t2 so.values one base e u (with_made id.index a.0 v u) so.given
-          (given-made c number t1 t2 id base so.given.given u a.0 draft v (given-last number t0 t1 so.values id base e u0 u last so.given) made.made);
-      whole = append_assoc so.values one _ ∙ ap (λ xs. so.values ++ xs) (sym (wanted-more registers c s p so.before a left draft made.is)) ∙ so.whole;
-      refused = sym (refused-not registers c s p so.before a left draft made.is) ∙ so.refused;
+          (given-made goals c number t1 t2 id base so.given.given u a.0 (told_draft tell a.0 draft) v at (given-last number t0 t1 so.values id base e u0 u last so.given) says);
+      whole = append_assoc so.values one _ ∙ ap (λ xs. so.values ++ xs) (sym (wanted-more goals tell registers c s p so.before a left draft keeps is)) ∙ so.whole;
+      refused = sym (refused-not registers c s p so.before a left draft is) ∙ so.refused;
     }
 
-pub set-refused : (registers : Registers) (c : CloneSource) (number : ℕ) (s : UnitSource) (p : Placed) (t0 t1 : List (List ℕ)) (base : GivenUnit) (e : Addition) (u : GivenUnit) (seen : AttributesSeen) (a : ℕ × Value) (left : List (ℕ × Value)) (told : Option Refusal)
-    → (so : AreSetSoFar registers c number s p t0 t1 base e u seen (a ∷ left)) → RefusesSo (attribute_becomes (clone_rules registers c s) s p so.before a) told → TellsFirst (values_refused registers c s p [] p.entry.attributes) told
-set-refused registers c number s p t0 t1 base e u seen a left None so refused = tt
-set-refused registers c number s p t0 t1 base e u seen a left (Some refusal) so refused = ap first_of (sym so.refused) ∙ refused-here registers c s p so.before a left refusal refused
+pub set-refused : (goals : Goal → Option (ℕ × ℕ)) (tell : Tell) (registers : Registers) (c : CloneSource) (number : ℕ) (s : UnitSource) (p : Placed) (t0 t1 : List (List ℕ)) (base : GivenUnit) (e : Addition) (u : GivenUnit) (seen : AttributesSeen) (a : ℕ × Value) (left : List (ℕ × Value)) (told : Option Refusal)
+    → (so : AreSetSoFar goals tell registers c number s p t0 t1 base e u seen (a ∷ left)) → RefusesSo (attribute_becomes (clone_rules registers c s) s p so.before a) told → TellsFirst (values_refused registers c s p [] p.entry.attributes) told
+set-refused goals tell registers c number s p t0 t1 base e u seen a left None so refused = tt
+set-refused goals tell registers c number s p t0 t1 base e u seen a left (Some refusal) so refused = ap first_of (sym so.refused) ∙ refused-here registers c s p so.before a left refusal refused
 
-pub set-end : (registers : Registers) (c : CloneSource) (number : ℕ) (s : UnitSource) (p : Placed) (t0 t1 : List (List ℕ)) (base : GivenUnit) (e : Addition) (u : GivenUnit) (seen : AttributesSeen) → AreSetSoFar registers c number s p t0 t1 base e u seen [] → AreSet registers c number s p t0 t1 base e u
+pub set-end : (goals : Goal → Option (ℕ × ℕ)) (tell : Tell) (registers : Registers) (c : CloneSource) (number : ℕ) (s : UnitSource) (p : Placed) (t0 t1 : List (List ℕ)) (base : GivenUnit) (e : Addition) (u : GivenUnit) (seen : AttributesSeen) → AreSetSoFar goals tell registers c number s p t0 t1 base e u seen []
+    → AreSet goals tell registers c number s p t0 t1 base e u
 unfolding attributes_become
-set-end registers c number s p t0 t1 base e u seen so = record {
+set-end goals tell registers c number s p t0 t1 base e u seen so = record {
   given = subst (λ values. IsGiven number t0 t1 values base e u) (sym (append-nil so.values) ∙ so.whole) so.given;
   accepted = sym so.refused;
 }

@@ -83,7 +83,7 @@ module _ (s : Sections) (h : UnitHeader) (v : Value) (offset : ℕ) where
       record {
         drafted = Some (done (text numbered.found));
         is = ap (λ r. text_drafted of_place (reported Text Info offset r)) named;
-        made = record { grows = Grows-same texts; says = record { means = ap (λ b. Some (text b)) numbered.number.is; fits = λ size. tt; texts = All-cons (λ n. n < length texts) id.index [] numbered.number.inside (All-nil (λ n. n < length texts)) } };
+        made = record { grows = Grows-same texts; says = record { means = λ goals at. ap (λ b. Some (text b)) numbered.number.is; fits = λ size. tt; texts = All-cons (λ n. n < length texts) id.index [] numbered.number.inside (All-nil (λ n. n < length texts)) } };
       }
 
   -- A text that was read and added is the one at its place, and those that were known stay so.

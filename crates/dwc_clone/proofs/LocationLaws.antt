@@ -19,6 +19,8 @@ use Rattle.dwc_base.specs.Reading.{◌>>=◌}
 use Rattle.dwc_base.specs.Refusals.{Refusal}
 use Rattle.dwc_base.specs.Sections.{Fault, unreadable}
 use Rattle.dwc_base.specs.Trees.{TreeValue, expression}
+use Rattle.dwc_base.specs.Drafts.{DraftValue}
+use Rattle.dwc_base.specs.Wrappers.{is_wrapped}
 use Rattle.dwc_base.specs.Values as Values
 use Rattle.dwc_base.specs.Values.{Value}
 use Rattle.dwc_tabs.specs.declared.list_fault.ListFault.{ListFault}
@@ -34,12 +36,12 @@ use Rattle.dwc_clone.specs.declared.located_error.LocatedError.TheVariants as er
 use Rattle.dwc_clone.specs.declared.places.EmittedEntry.{EmittedEntry}
 use Rattle.dwc_clone.specs.Errors.{refusal_told}
 use Rattle.dwc_clone.specs.Errors as Errors
-use Rattle.dwc_clone.specs.LocatedLists.{ListedRefusal, list_told, located_by, of_expression}
+use Rattle.dwc_clone.specs.LocatedLists.{ListedRefusal, list_told, located_by, of_expression, read_by}
 use Rattle.dwc_clone.specs.LocatedValues.{RefusesTold, error_at, expression_at, located_view, told}
 use Rattle.dwc_clone.specs.MadeValues.{HasTexts, RefusesSo, Says}
 use Rattle.dwc_clone.specs.NativeExtents.{IsTold}
 use Rattle.dwc_clone.proofs.LocatedLaws.{compiled-is, read-is, read-told, value-is, value-told}
-use Rattle.dwc_clone.proofs.LocatedListLaws.{located-becomes, told_by}
+use Rattle.dwc_clone.proofs.LocatedListLaws.{located-becomes, read-becomes, told_by}
 
 -- ---- where an expression stands changes what is told of it, and nothing else
 
@@ -83,6 +85,10 @@ module _ (fault : Fault) where
       go : (base : Bool) → made base ≡ with_fault fault (made base)
       go true = refl
       go false = parts-moved name e parts
+
+-- nothing becomes of what is read
+abbrev pub gone : {F : Type 0} → Result (Unit {0}) F → Result (Option DraftValue) F
+gone read = read >>= λ done. Ok None
 
 -- an expression with what is told where it cannot be read
 abbrev given : List ℕ → Fault → GivenExpression
@@ -143,24 +149,30 @@ module _ (c : ExpressionSource) (e : Placed) (before : List (ℕ × Value)) (off
   value-is-there : value_of_expression name (in_force_at c e) (given_expression c e before bytes) ≡ value_of_expression name force (expression_at bytes there)
   value-is-there = ap (λ f. value_of_expression name f (given_expression c e before bytes)) (sym is_force) ∙ ap (value_of_expression name force) given-is
 
-  pub expression-made : (t : Option TreeValue) → value_of_expression name force (expression_at bytes here) ≡ Ok t → code_value_becomes c e before name (Values.expression bytes) ≡ Ok (drafted t)
+  -- what it becomes, by whether the entry is wrapped
+  abbrev by_wrapped : Bool → Result (Option DraftValue) LocationRefusal
+  by_wrapped wrapped = elim wrapped [ true ↦ (read_expression name (in_force_at c e) (given_expression c e before bytes) >>= λ read. Ok None) | false ↦ (value_of_expression name (in_force_at c e) (given_expression c e before bytes) >>= λ v. Ok (drafted v)) ]
+
+  becomes-by : (wrapped : Bool) → is_wrapped e ≡ wrapped → code_value_becomes c e before name (Values.expression bytes) ≡ told_as (of_location c.told.place) (by_wrapped wrapped)
   unfolding expression_becomes
-  expression-made t is =
+  becomes-by wrapped is = ap (λ b. told_as (of_location c.told.place) (by_wrapped b)) is
+
+  pub expression-made : is_wrapped e ≡ false → (t : Option TreeValue) → value_of_expression name force (expression_at bytes here) ≡ Ok t → code_value_becomes c e before name (Values.expression bytes) ≡ Ok (drafted t)
+  expression-made plain t is =
       let read = value-is-there ∙ value-moved name force bytes (unreadable ExpressionRead here.0 here.1) (unreadable ExpressionRead Info place) ∙ ap (with_fault (unreadable ExpressionRead Info place)) is in
-      ap (λ (r : Result (Option TreeValue) LocationRefusal). told_as (of_location c.told.place) (r >>= λ v. Ok (drafted v))) read
+      becomes-by false plain ∙ ap (λ (r : Result (Option TreeValue) LocationRefusal). told_as (of_location c.told.place) (r >>= λ v. Ok (drafted v))) read
 
   -- a refusal of it, told as one of the entry's
-  becomes-told : (o : Option LocationRefusal) → RefusesTold (value_of_expression name (in_force_at c e) (given_expression c e before bytes)) o → RefusesSo (code_value_becomes c e before name (Values.expression bytes)) (option_map (of_location c.told.place) o)
-  unfolding expression_becomes
-  becomes-told None tells = tt
-  becomes-told (Some refusal) tells = ap (λ (r : Result (Option TreeValue) LocationRefusal). told_as (of_location c.told.place) (r >>= λ v. Ok (drafted v))) tells
+  becomes-told : is_wrapped e ≡ false → (o : Option LocationRefusal) → RefusesTold (value_of_expression name (in_force_at c e) (given_expression c e before bytes)) o → RefusesSo (code_value_becomes c e before name (Values.expression bytes)) (option_map (of_location c.told.place) o)
+  becomes-told plain None tells = tt
+  becomes-told plain (Some refusal) tells = becomes-by false plain ∙ ap (λ (r : Result (Option TreeValue) LocationRefusal). told_as (of_location c.told.place) (r >>= λ v. Ok (drafted v))) tells
 
   pub expression-told :
-      (error : ExprError) (o : Option Refusal) → o ≡ option_map (of_location c.told.place) (told (error_at there error)) → RefusesTold (value_of_expression name force (expression_at bytes here)) (told error)
+      is_wrapped e ≡ false → (error : ExprError) (o : Option Refusal) → o ≡ option_map (of_location c.told.place) (told (error_at there error)) → RefusesTold (value_of_expression name force (expression_at bytes here)) (told error)
       → RefusesSo (code_value_becomes c e before name (Values.expression bytes)) o
-  expression-told error o is tells =
+  expression-told plain error o is tells =
       let at_here = unreadable ExpressionRead here.0 here.1 in
-      rw is (becomes-told (told (error_at there error))
+      rw is (becomes-told plain (told (error_at there error))
       (subst (λ r. RefusesTold r (told (error_at there error))) (sym value-is-there)
       (told-there (value_of_expression name force (expression_at bytes here)) (value_of_expression name force (expression_at bytes there)) here there
       (value-moved name force bytes at_here at_here) (value-moved name force bytes at_here (unreadable ExpressionRead Info place)) error tells)))
@@ -191,6 +203,28 @@ module _ (c : ExpressionSource) (e : Placed) (before : List (ℕ × Value)) (off
       (told-there (read_expression name force (expression_at bytes here)) (read_expression name force (expression_at bytes there)) here there
       (read-moved name force bytes at_here at_here) (read-moved name force bytes at_here (unreadable ExpressionRead Info place)) error tells)))
 
+  -- ---- one of an entry that is wrapped
+
+  abbrev read_of : Result (Unit {0}) LocationRefusal
+  read_of = read_expression name (in_force_at c e) (given_expression c e before bytes)
+
+  pub wrapped-read : is_wrapped e ≡ true → bound_value_refused c e before name (Values.expression bytes) ≡ None → code_value_becomes c e before name (Values.expression bytes) ≡ Ok None
+  unfolding expression_refused
+  wrapped-read wrapped none = becomes-by true wrapped ∙ go read_of none
+    where
+      go : (r : Result (Unit {0}) LocationRefusal) → option_map (of_location c.told.place) (refusal_in r) ≡ None → told_as (of_location c.told.place) (gone r) ≡ Ok None
+      go (Ok done) is = refl
+      go (Err refusal) is = absurd (cc)
+
+  pub wrapped-told : is_wrapped e ≡ true → (o : Option Refusal) → IsTold (bound_value_refused c e before name (Values.expression bytes)) o → RefusesSo (code_value_becomes c e before name (Values.expression bytes)) o
+  unfolding expression_refused
+  wrapped-told wrapped None told = tt
+  wrapped-told wrapped (Some x) told = becomes-by true wrapped ∙ go read_of told
+    where
+      go : (r : Result (Unit {0}) LocationRefusal) → option_map (of_location c.told.place) (refusal_in r) ≡ Some x → told_as (of_location c.told.place) (gone r) ≡ Err x
+      go (Ok done) is = absurd (cc)
+      go (Err refusal) is = cc
+
 -- ---- what an entry's location list becomes
 
 module _ (c : ExpressionSource) (e : Placed) (before : List (ℕ × Value)) (offset : ℕ) (at : e.entry.offset ≡ offset) (force : InForce) (is_force : force ≡ in_force_at c e) (name : ℕ) (v : Value) (list : is_location_list v ≡ true) where
@@ -198,53 +232,68 @@ module _ (c : ExpressionSource) (e : Placed) (before : List (ℕ × Value)) (off
   abbrev list_refusal : ListedRefusal → Refusal
   list_refusal refusal = told_by rules.of_list (of_location c.told.place) refusal
 
-  list-becomes : code_value_becomes c e before name v ≡ (told_as list_refusal (located_by (lists_of c) force offset v) >>= λ value. Ok (drafted value))
-  list-becomes =
-      kind v list ∙ located-becomes rules.of_list (of_location c.told.place) c e v
+  -- it is a list, whatever else it is
+  kind : (w : Value) → is_location_list w ≡ true → code_value_becomes c e before name w ≡ locations_become rules.of_list (of_location c.told.place) c e w
+  kind (Values.location_reference n) is = refl
+  kind (Values.location_index i) is = refl
+  kind (Values.address a) is = absurd (cc)
+  kind (Values.address_index i) is = absurd (cc)
+  kind (Values.constant form bits) is = absurd (cc)
+  kind (Values.flag b) is = absurd (cc)
+  kind (Values.block bytes) is = absurd (cc)
+  kind (Values.text bytes) is = absurd (cc)
+  kind (Values.text_reference form n) is = absurd (cc)
+  kind (Values.unit_reference n) is = absurd (cc)
+  kind (Values.info_reference n) is = absurd (cc)
+  kind (Values.line_reference n) is = absurd (cc)
+  kind Values.dropped is = absurd (cc)
+  kind (Values.expression bytes) is = absurd (cc)
+  kind (Values.range_reference n) is = absurd (cc)
+  kind (Values.range_index n) is = absurd (cc)
+
+  -- what is located of it, of an entry that is not wrapped
+  pub plain-becomes : is_wrapped e ≡ false → code_value_becomes c e before name v ≡ (told_as list_refusal (located_by (lists_of c) force offset v) >>= λ value. Ok (drafted value))
+  plain-becomes plain =
+      kind v list ∙ located-becomes rules.of_list (of_location c.told.place) c e v plain
       ∙ ap (λ f. told_as list_refusal (located_by (lists_of c) f e.entry.offset v) >>= λ value. Ok (drafted value)) (sym is_force)
       ∙ ap (λ n. told_as list_refusal (located_by (lists_of c) force n v) >>= λ value. Ok (drafted value)) at
-    where
-      kind : (w : Value) → is_location_list w ≡ true → code_value_becomes c e before name w ≡ locations_become rules.of_list (of_location c.told.place) c e w
-      kind (Values.location_reference n) is = refl
-      kind (Values.location_index i) is = refl
-      kind (Values.address a) is = absurd (cc)
-      kind (Values.address_index i) is = absurd (cc)
-      kind (Values.constant form bits) is = absurd (cc)
-      kind (Values.flag b) is = absurd (cc)
-      kind (Values.block bytes) is = absurd (cc)
-      kind (Values.text bytes) is = absurd (cc)
-      kind (Values.text_reference form n) is = absurd (cc)
-      kind (Values.unit_reference n) is = absurd (cc)
-      kind (Values.info_reference n) is = absurd (cc)
-      kind (Values.line_reference n) is = absurd (cc)
-      kind Values.dropped is = absurd (cc)
-      kind (Values.expression bytes) is = absurd (cc)
-      kind (Values.range_reference n) is = absurd (cc)
-      kind (Values.range_index n) is = absurd (cc)
 
-  pub list-made : (t : Option TreeValue) → located_by (lists_of c) force offset v ≡ Ok t → code_value_becomes c e before name v ≡ Ok (drafted t)
-  list-made t is = list-becomes ∙ ap (λ r. told_as list_refusal r >>= λ value. Ok (drafted value)) is
+  -- of one that is wrapped it is read
+  pub wrapped-becomes : is_wrapped e ≡ true → code_value_becomes c e before name v ≡ (told_as list_refusal (read_by (lists_of c) force offset v) >>= λ done. Ok None)
+  wrapped-becomes wrapped =
+      kind v list ∙ read-becomes rules.of_list (of_location c.told.place) c e v wrapped
+      ∙ ap (λ f. told_as list_refusal (read_by (lists_of c) f e.entry.offset v) >>= λ done. Ok None) (sym is_force)
+      ∙ ap (λ n. told_as list_refusal (read_by (lists_of c) force n v) >>= λ done. Ok None) at
 
-  pub list-told : (o : Option ListedRefusal) → RefusesTold (located_by (lists_of c) force offset v) o → RefusesSo (code_value_becomes c e before name v) (option_map list_refusal o)
+-- What becomes of a list by what was seen of it.
+module _ (c : ExpressionSource) (e : Placed) (before : List (ℕ × Value)) (name : ℕ) (v : Value) {A : Type 0} (seen : Result A ListedRefusal) (draft : A → Option DraftValue)
+    (becomes : code_value_becomes c e before name v ≡ (told_as (told_by rules.of_list (of_location c.told.place)) seen >>= λ x. Ok (draft x))) where
+  abbrev refusal_of : ListedRefusal → Refusal
+  refusal_of refusal = told_by rules.of_list (of_location c.told.place) refusal
+
+  pub list-made : (x : A) → seen ≡ Ok x → code_value_becomes c e before name v ≡ Ok (draft x)
+  list-made x is = becomes ∙ ap (λ r. told_as refusal_of r >>= λ y. Ok (draft y)) is
+
+  pub list-told : (o : Option ListedRefusal) → RefusesTold seen o → RefusesSo (code_value_becomes c e before name v) (option_map refusal_of o)
   list-told None tells = tt
-  list-told (Some refusal) tells = list-becomes ∙ ap (λ r. told_as list_refusal r >>= λ value. Ok (drafted value)) tells
+  list-told (Some refusal) tells = becomes ∙ ap (λ r. told_as refusal_of r >>= λ y. Ok (draft y)) tells
 
   -- the list itself
-  pub list-unread : (x : LocatedError) (fault : ListFault) → x ≡ error.List fault → RefusesTold (located_by (lists_of c) force offset v) (list_told x) → RefusesSo (code_value_becomes c e before name v) (refusal_told (Errors.of_list fault))
-  list-unread x fault is tells = go fault (list-told (list_told (error.List fault)) (subst (λ y. RefusesTold (located_by (lists_of c) force offset v) (list_told y)) is tells))
+  pub list-unread : (x : LocatedError) (fault : ListFault) → x ≡ error.List fault → RefusesTold seen (list_told x) → RefusesSo (code_value_becomes c e before name v) (refusal_told (Errors.of_list fault))
+  list-unread x fault is tells = go fault (list-told (list_told (error.List fault)) (subst (λ y. RefusesTold seen (list_told y)) is tells))
     where
-      go : (f : ListFault) → RefusesSo (code_value_becomes c e before name v) (option_map list_refusal (list_told (error.List f))) → RefusesSo (code_value_becomes c e before name v) (refusal_told (Errors.of_list f))
+      go : (f : ListFault) → RefusesSo (code_value_becomes c e before name v) (option_map refusal_of (list_told (error.List f))) → RefusesSo (code_value_becomes c e before name v) (refusal_told (Errors.of_list f))
       go (faults.Read what section begin) told = told
       go (faults.Unsupported kind begin) told = told
       go faults.TooLarge told = told
 
   -- one of its expressions
   pub listed-told :
-      (x : LocatedError) (refused : ExprError) → x ≡ error.Expression refused → RefusesTold (located_by (lists_of c) force offset v) (list_told x) → (o : Option Refusal) → o ≡ option_map (of_location c.told.place) (told refused)
+      (x : LocatedError) (refused : ExprError) → x ≡ error.Expression refused → RefusesTold seen (list_told x) → (o : Option Refusal) → o ≡ option_map (of_location c.told.place) (told refused)
       → RefusesSo (code_value_becomes c e before name v) o
-  listed-told x refused is tells o told-is = rw told-is (go (told refused) (subst (λ y. RefusesTold (located_by (lists_of c) force offset v) (list_told y)) is tells))
+  listed-told x refused is tells o told-is = rw told-is (go (told refused) (subst (λ y. RefusesTold seen (list_told y)) is tells))
     where
-      go : (o : Option LocationRefusal) → RefusesTold (located_by (lists_of c) force offset v) (option_map of_expression o) → RefusesSo (code_value_becomes c e before name v) (option_map (of_location c.told.place) o)
+      go : (o : Option LocationRefusal) → RefusesTold seen (option_map of_expression o) → RefusesSo (code_value_becomes c e before name v) (option_map (of_location c.told.place) o)
       go None tells = tt
       go (Some refusal) tells = list-told (Some (of_expression refusal)) tells
 
@@ -257,8 +306,8 @@ located-seen r o p is same = is ∙ ap (λ (q : Option Located). Ok (option_map 
 -- A value of the output says what is located.
 pub located-says : (places : List EmittedEntry) (number name : ℕ) (texts : List (List ℕ)) (located : Located) (v : AttributeValue) → value_meant texts number v ≡ located_view located → ((size : ℕ) → FitsValue size name v) → HasTexts texts v
     → Says places number name texts (drafted (Some (located_view located))) (Some v)
-located-says places number name texts located v means fits has = record { means = ap (λ t. Some t) means; fits = fits; texts = has }
+located-says places number name texts located v means fits has = record { means = λ goals at. ap (λ t. Some t) means; fits = fits; texts = has }
 
 -- Nothing says nothing.
 pub nothing-says : (places : List EmittedEntry) (number name : ℕ) (texts : List (List ℕ)) → Says places number name texts (drafted None) None
-nothing-says places number name texts = record { means = refl; fits = λ size. tt; texts = tt }
+nothing-says places number name texts = record { means = λ goals at. refl; fits = λ size. tt; texts = tt }

@@ -31,6 +31,7 @@ use Rattle.dwc_write.specs.declared.attributes.AttributeValue.{AttributeValue}
 use Rattle.dwc_write.specs.declared.attributes.AttributeValue.TheVariants as output
 use Rattle.dwc_write.specs.declared.attributes.DebugInfoRef.TheVariants as reference
 use Rattle.dwc_write.specs.declared.attributes.Expression.{Expression}
+use Rattle.dwc_write.specs.declared.lists.LocationList.{LocationList}
 use Rattle.dwc_write.specs.AddedInOrder.{value_meant}
 use Rattle.dwc_write.specs.GivenUnits.{FitsValue}
 use Rattle.dwc_write.specs.Lists.{FitsLocation, location_of}
@@ -152,7 +153,8 @@ module _ (fs : List Function) (said : TranslationsAreSaid fs) (s : Surroundings)
       go None = All-map (λ (l : Location). Spans l.over) (built_on s x) (ranges_built s scope x) (label-spans s.frame (needed_labels x) scope ends)
       go (Some refusal) = tt
 
-  built-spans : (scope : List (ℕ × ℕ)) (x : CompiledParts) → OfAnswered (λ b. AreSpans b.expressions) (built_over s scope x)
+  -- What is built over a scope holds on such intervals.
+  pub built-spans : (scope : List (ℕ × ℕ)) (x : CompiledParts) → OfAnswered (λ b. AreSpans b.expressions) (built_over s scope x)
   unfolding built_over
   built-spans [] x = All-nil (λ (l : Location). Spans l.over)
   built-spans (i ∷ is) x = go (single_code x.parts)
@@ -325,3 +327,10 @@ fits-value texts number size name (output.DebugInfoRef (reference.Entry unit id)
 -- The same where it is made of what is located.
 pub fits-located : (size name : ℕ) (located : Located) (v : AttributeValue) → ((texts : List (List ℕ)) (number : ℕ) → value_meant texts number v ≡ located_view located) → FitsLocated name (located_view located) → FitsValue size name v
 fits-located size name located v means fits = fits-value [] 0 size name v (subst (FitsLocated name) (sym (means [] 0)) fits)
+
+-- What is built over a scope fits a location list of a name that may have one.
+pub fits-built-over : (fs : List Function) (said : TranslationsAreSaid fs) (s : Surroundings) (own : s.functions ≡ fs) (scope : List (ℕ × ℕ)) (x : CompiledParts) (built : BuiltExpressions) (size name : ℕ) (list : LocationList)
+    → is_location_name name ≡ true → built_over s scope x ≡ Ok built → map location_of list.locations.items ≡ built.expressions → FitsValue size name (output.LocationListRef list)
+fits-built-over fs said s own scope x built size name list named is same =
+    let spans = subst (λ r. OfAnswered (λ (b : BuiltExpressions). AreSpans b.expressions) r) is (built-spans fs said s own scope x) in
+    fits-value [] 0 size name (output.LocationListRef list) (named, subst AreSpans (sym same) spans)

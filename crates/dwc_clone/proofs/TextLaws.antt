@@ -1,6 +1,6 @@
 -- Texts that are added to a table, and what the values that name them say.
-use Rattle.std.proofs.Common.{◌≡◌, ℕ, suc, ◌+◌, ◌<◌, refl, sym, ap, ◌∙◌, arith, List, [], ◌∷◌, ◌++◌, length, Bool, true, false, Some, Result, Ok, Err}
-use Rattle.std.specs.Prelude.{if◌then◌else◌, cond, not, ◌||◌}
+use Rattle.std.proofs.Common.{◌≡◌, ℕ, suc, ◌+◌, ◌<◌, refl, sym, ap, subst, ◌∙◌, arith, List, [], ◌∷◌, ◌++◌, length, Bool, true, false, Some, Result, Ok, Err}
+use Rattle.std.specs.Prelude.{if◌then◌else◌, cond, not, ◌||◌, IfOk, OnErr, OnOk}
 use Rattle.std.specs.List.{All, list_any, position_or_len}
 use Rattle.std.specs.Str.{bytes_eq}
 use Rattle.std.specs.Bool.{Decides}
@@ -21,9 +21,11 @@ use Rattle.dwc_base.specs.Trees.{text}
 use Rattle.dwc_base.specs.Drafts.{done}
 use Rattle.dwc_base.proofs.ReadValuesTexts.{text-read}
 use Rattle.dwc_write.specs.declared.attributes.AttributeValue.TheVariants.{StringRef}
+use Rattle.dwc_write.specs.declared.error.WriteError.{WriteError}
 use Rattle.dwc_write.specs.declared.strings.StringId.{StringId}
 use Rattle.dwc_write.specs.UsedTexts.{text_numbered}
 use Rattle.dwc_clone.specs.declared.places.EmittedEntry.{EmittedEntry}
+use Rattle.dwc_clone.specs.KnownTexts.{IsNumbered}
 use Rattle.dwc_clone.specs.MadeValues.{Grows, SaysMore}
 
 -- ---- what is read
@@ -65,4 +67,12 @@ pub text-says : (places : List EmittedEntry) (number name : ℕ) (old new : List
 text-says places number name old new t id is at =
     let a = added t old in
     let has : IsAdded t old new id.index = rw (is, ap (λ (i : StringId). i.index) at) a in
-    record { grows = has.grows; says = record { means = ap (λ b. Some (text b)) has.is; fits = λ size. tt; texts = All-cons (λ n. n < length new) id.index [] has.inside (All-nil (λ n. n < length new)) } }
+    record { grows = has.grows; says = record { means = λ goals at. ap (λ b. Some (text b)) has.is; fits = λ size. tt; texts = All-cons (λ n. n < length new) id.index [] has.inside (All-nil (λ n. n < length new)) } }
+
+-- What a call that adds a text leaves, and the number that it answers.
+pub text-added : (t : List ℕ) (old new : List (List ℕ)) (r : Result StringId WriteError) → OnOk r (new ≡ with_new_text old t) → IfOk r (λ id. id ≡ record { index = position_or_len (bytes_eq t) old }) → OnErr r (new ≡ old)
+    → Grows old new × IfOk r (IsNumbered new t)
+text-added t old new (Ok id) is at same =
+    let has : IsAdded t old new id.index = rw (is, ap (λ (i : StringId). i.index) at) (added t old) in
+    (has.grows, record { inside = has.inside; is = has.is })
+text-added t old new (Err e) is at same = (subst (Grows old) (sym same) (Grows-same old), tt)

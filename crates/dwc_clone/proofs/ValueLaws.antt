@@ -29,7 +29,7 @@ made-same places number name table read draft v is says = record { drafted = dra
 
 -- Nothing is made.
 pub made-none : (places : List EmittedEntry) (number name : ℕ) (table : List (List ℕ)) (read : Result (Option DraftValue) Refusal) → read ≡ Ok None → IsMade (SaysMore places number name table table) read None
-made-none places number name table read is = made-same places number name table read None None is (record { means = refl; fits = λ size. tt; texts = tt })
+made-none places number name table read is = made-same places number name table read None None is (record { means = λ goals at. refl; fits = λ size. tt; texts = tt })
 
 -- ---- values of several kinds
 

@@ -14,3 +14,14 @@ pub mod InForceSeen
 pub mod LocatedValues
 pub mod LocatedLists
 pub mod StacksByDepth
+pub mod OpenWrappers
+pub mod ContextPlaces
+pub mod TypeChains
+pub mod TypeSteps
+pub mod KnownNames
+pub mod Tellings
+pub mod ParameterContexts
+pub mod WrappedEntries
+pub mod MadeAttributes
+pub mod PlainEntries
+pub mod BuiltUnits

@@ -9,8 +9,9 @@ use Rattle.dwc_base.specs.RawLists.{ListSource}
 use Rattle.dwc_base.specs.Lists.{ListRefusal, ListedLocation, locations_of_value}
 use Rattle.dwc_base.specs.RangeRules.{all_items, told_as}
 use Rattle.dwc_base.specs.LocationAttributes as definitions
-use Rattle.dwc_base.specs.LocationAttributes.{LocationRefusal, InForce, value_of_locations}
+use Rattle.dwc_base.specs.LocationAttributes.{LocationRefusal, InForce, compiled_at, read_locations, value_of_locations}
 use Rattle.dwc_base.specs.LocationRules.{listed}
+use Rattle.dwc_base.specs.Parts.{CompiledParts}
 use Rattle.dwc_tabs.specs.RangeEnds.{refusal_view}
 use Rattle.dwc_clone.specs.declared.listed.ListedExpression.{ListedExpression}
 use Rattle.dwc_clone.specs.declared.located_error.LocatedError.{LocatedError}
@@ -38,3 +39,15 @@ listed_in list = all_items list >>= λ ls. Ok (filter_map listed ls)
 -- What the location list becomes that a value of an entry at an offset names. The whole list is read before its expressions.
 abbrev pub located_by : ListSource → InForce → ℕ → Value → Result (Option TreeValue) ListedRefusal
 located_by s e offset v = told_as of_list (listed_in (locations_of_value s offset v)) >>= λ xs. told_as of_expression (value_of_locations e xs)
+
+-- an expression that was compiled, of which nothing becomes
+abbrev pub read_only : Result (Option CompiledParts) LocationRefusal → Result (Unit {0}) LocationRefusal
+read_only compiled = compiled >>= λ parts. Ok tt
+
+-- the expression of an interval, which is read on a frame base
+abbrev pub interval_read : Option CompiledParts → definitions.ListedExpression → Result (Unit {0}) LocationRefusal
+interval_read base x = read_only (compiled_at base x.given)
+
+-- The same list where nothing becomes of it: it is read whole, and then its expressions are.
+abbrev pub read_by : ListSource → InForce → ℕ → Value → Result (Unit {0}) ListedRefusal
+read_by s e offset v = told_as of_list (listed_in (locations_of_value s offset v)) >>= λ xs. told_as of_expression (read_locations e xs)

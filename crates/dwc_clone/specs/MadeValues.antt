@@ -2,7 +2,7 @@
 use Rattle.std.specs.Prelude.{◌≡◌, ℕ, ◌<◌, List, ◌++◌, length, All, IfSome, Bool, true, false, Option, Some, None, option_map, option_and_then, Result, Ok, Err}
 use Rattle.dwc_base.specs.Refusals.{Refusal}
 use Rattle.dwc_base.specs.Trees.{TreeValue}
-use Rattle.dwc_base.specs.Drafts.{DraftValue}
+use Rattle.dwc_base.specs.Drafts.{itself, Goal, made_of, DraftValue}
 use Rattle.dwc_base.specs.DraftForests.{settled_value}
 use Rattle.dwc_base.specs.Values.{Value, address, address_index}
 use Rattle.dwc_kept.specs.ReadEntries.{named_offset}
@@ -16,7 +16,7 @@ use Rattle.dwc_clone.specs.declared.error.CloneError.{CloneError}
 use Rattle.dwc_clone.specs.declared.places.EmittedEntry.{EmittedEntry}
 use Rattle.dwc_clone.specs.declared.source.CloneSource.{CloneSource}
 use Rattle.dwc_clone.specs.Errors.{refusal_told}
-use Rattle.dwc_clone.specs.OutputPlaces.{goal_place, place_of}
+use Rattle.dwc_clone.specs.OutputPlaces.{place_of}
 
 -- ---- answers
 
@@ -46,13 +46,18 @@ pub record Grows (old new : List (List ℕ)) : Type 0 where
 abbrev pub HasTexts : List (List ℕ) → AttributeValue → Type 0
 HasTexts texts v = All (λ n. n < length texts) (text_of_value v)
 
--- what a draft's value is to say, where the module's entries stand at some places
-abbrev pub wanted_value : List EmittedEntry → Option DraftValue → Option TreeValue
-wanted_value places draft = option_and_then (settled_value (goal_place places)) draft
+-- What is made of an entry itself has the number that is told of it.
+abbrev pub ArePlaced : List EmittedEntry → (Goal → Option (ℕ × ℕ)) → Type 0
+ArePlaced places goals = (offset : ℕ) → goals (made_of offset itself) ≡ place_of places offset
 
--- A value of the output, or none, says what a draft's value is to say, in the unit of a number, under a name.
+-- what a draft's value is to say, where goals have some numbers
+abbrev pub wanted_value : (Goal → Option (ℕ × ℕ)) → Option DraftValue → Option TreeValue
+wanted_value goals draft = option_and_then (settled_value goals) draft
+
+-- A value of the output, or none, says what a draft's value is to say, in the unit of a number, under a name, whatever numbers other
+-- entries have than those that are made of one itself.
 pub record Says (places : List EmittedEntry) (number name : ℕ) (table : List (List ℕ)) (draft : Option DraftValue) (v : Option AttributeValue) : Type 0 where
-  pub means : option_map (value_meant table number) v ≡ wanted_value places draft
+  pub means : (goals : Goal → Option (ℕ × ℕ)) → ArePlaced places goals → option_map (value_meant table number) v ≡ wanted_value goals draft
   pub fits : (size : ℕ) → IfSome v (FitsValue size name)
   pub texts : IfSome v (HasTexts table)
 

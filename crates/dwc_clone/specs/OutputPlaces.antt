@@ -1,7 +1,6 @@
 -- Where the entries of a module stand in the output.
 use Rattle.std.specs.Prelude.{ℕ, suc, ◌==◌, List, [], ◌∷◌, map, if◌then◌else◌, Option, Some, None, option_map}
 use Rattle.std.specs.List.{find}
-use Rattle.dwc_base.specs.Drafts.{Goal, made_of, own_entry, itself, pointer_to_wrapper, reference_to_target, pointer_to_target}
 use Rattle.dwc_clone.specs.declared.places.EmittedEntry.{EmittedEntry}
 use Rattle.dwc_clone.specs.declared.places.OutputPlace.{OutputPlace}
 
@@ -25,11 +24,3 @@ place_at offset e = if e.offset == offset then Some (e.unit, e.entry) else None
 -- where the entry at an offset stands, if it is in the output
 abbrev pub place_of : List EmittedEntry → ℕ → Option (ℕ × ℕ)
 place_of es offset = option_map (λ e. (e.unit, e.entry)) (find (λ e. e.offset == offset) es)
-
--- where a goal is, in an output whose entries are each made of one entry alone
-abbrev pub goal_place : List EmittedEntry → Goal → Option (ℕ × ℕ)
-goal_place es (made_of offset itself) = place_of es offset
-goal_place es (made_of offset pointer_to_wrapper) = None
-goal_place es (made_of offset reference_to_target) = None
-goal_place es (made_of offset pointer_to_target) = None
-goal_place es (own_entry place) = None

@@ -83,15 +83,6 @@ pub(crate) fn output_attribute(
         return Ok(None);
     }
     output_value(
-        alloc,
-        isa,
-        source,
-        in_force,
-        entry.offset,
-        seen.count,
-        name,
-        value,
-        strings,
-        known,
+        alloc, isa, source, in_force, entry, seen.count, name, value, strings, known,
     )
 }

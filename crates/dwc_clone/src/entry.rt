@@ -1,36 +1,55 @@
 //! Clones the kept entries of a unit, one after another.
-ghost use Rattle.std.specs.Prelude.{◌≡◌, ℕ, List, [], ◌∷◌, ◌++◌, take, Option, is_some, IfSome, IfOk, OnOk, filter_map};
+ghost use Rattle.std.specs.Prelude.{◌≡◌, ◌≢◌, ℕ, List, [], ◌∷◌, ◌++◌, false, length, reverse, take, Option, is_some, option_map, IfSome, IsSome, IfOk, OnOk, filter_map};
 ghost use Rattle.dwc_base.specs.Entries as Entries;
-ghost use Rattle.dwc_base.specs.Drafts.{Goal};
+ghost use Rattle.dwc_base.specs.Drafts.{Goal, Role};
+ghost use Rattle.dwc_base.specs.Wrappers.{is_wrapped};
 ghost use Rattle.dwc_base.specs.DraftForests.{settled};
 ghost use Rattle.dwc_base.specs.Clones.{UnitSource, endianity};
 ghost use Rattle.dwc_base.specs.Addends.{HaveAddends};
 ghost use Rattle.dwc_base.specs.Lists.{list_source};
-ghost use Rattle.dwc_base.specs.RangeAttributes.{address_said as said_address};
+ghost use Rattle.dwc_base.specs.RangeAttributes.{address_said as said_address, begun_function};
+ghost use Rattle.dwc_addr.specs.Transforms.{function_view};
 ghost use Rattle.dwc_base.specs.RangeRefusals.{begins_by_low_pc};
 ghost use Rattle.dwc_base.specs.declared.constants.TheConstants.{DW_AT_low_pc as low_pc};
+ghost use Rattle.dwc_base.specs.ContextVariable.{context_over};
 ghost use Rattle.dwc_base.specs.Kept.{Placed};
 ghost use Rattle.dwc_base.specs.ReadValues.{IsReadEntry};
 ghost use Rattle.dwc_read.specs.EntriesSeen.{entry_view};
-ghost use Rattle.dwc_write.specs.GivenUnits.{Addition, GivenUnit, FitsValue, IsAdded, new_unit};
+ghost use Rattle.dwc_write.specs.GivenUnits.{Addition, GivenUnit, FitsValue, IsAdded, IsReserved};
+ghost use Rattle.dwc_write.specs.TextTables.{IsText};
 ghost use Rattle.dwc_base.specs.LocationRules.{frame_at};
 ghost use Rattle.dwc_clif.specs.Registers.{Registers};
 ghost use Rattle.dwc_expr.specs.Frames.{frame_view};
 ghost use Rattle.dwc_clone.specs.CompiledModules.{HasFrames};
-ghost use Rattle.dwc_clone.specs.ClonedUnits.{IsInForce, source_with};
-ghost use Rattle.dwc_clone.specs.Lineages.{AreInForce, with_entry};
-ghost use Rattle.dwc_clone.specs.Sources.{IsSource};
+ghost use Rattle.dwc_clone.specs.ClonedUnits.{IsInForce, placed_in, source_with};
+ghost use Rattle.dwc_clone.specs.BuiltUnits.{AreClonedSoFar, GivesEntry};
+ghost use Rattle.dwc_clone.specs.OpenWrappers.{CanCloseAll, IsOther, KeepsNumbers};
+ghost use Rattle.dwc_clone.specs.PlainEntries.{GivesItself};
+ghost use Rattle.dwc_clone.specs.declared.entry.PlacedEntry.{PlacedEntry};
+ghost use Rattle.dwc_clone.specs.Lineages.{AreInForce, AreWalked};
+ghost use Rattle.dwc_clone.specs.Sources.{AreEmitted, IsSource};
+ghost use Rattle.dwc_clone.specs.TypeSteps.{AreNames};
 ghost use Rattle.dwc_clone.specs.KnownTexts.{KnowsTexts};
-ghost use Rattle.dwc_clone.specs.ClonedEntries.{AddsBelow, AreKnown, AreMadeSoFar, CanFollow, GivesEntry, GivesSet, IsGiven, IsLast, OfMemory, last_parent, placed_entry, with_made};
+ghost use Rattle.dwc_clone.specs.ContextPlaces.{AddsVariable};
+ghost use Rattle.dwc_clone.specs.MadeValues.{ArePlaced, Grows};
+ghost use Rattle.dwc_clone.specs.Tellings.{tell_of, telling_of};
+ghost use Rattle.dwc_clone.specs.ClonedEntries.{AddsBelow, AreKnown, CanAdd, GivesSet, IsGiven, IsLast, OfMemory, last_parent, placed_entry, with_made};
 
 use crate::attribute::output_attribute;
 use crate::bounds::{nothing_seen, seen_behind};
 use crate::code::set_code;
 use crate::in_force::InForce;
 use crate::lineage::Lineage;
-use crate::{CloneError, CloneSource, KnownTexts};
+use crate::location::of_expression;
+use crate::object_pointer::{Telling, entry_told, told_value};
+use crate::walk::{Walk, in_force_by};
+use crate::wrapped::wrap_entry;
+use crate::wrapper::{close_wrappers, is_wrapped};
+use crate::{CloneError, CloneSource, KnownTexts, append_vmctx_info};
+use dwc_addr::FunctionMap;
 use dwc_base::constants::{
     DW_AT_endianity, DW_AT_low_pc, DW_END_little, DW_FORM_data1, DW_TAG_base_type,
+    DW_TAG_subprogram,
 };
 use dwc_clif::TargetIsa;
 use dwc_expr::FunctionFrameInfo;
@@ -40,34 +59,49 @@ use dwc_write::{AttributeValue, StringTable, Unit, UnitEntryId, WriteError};
 use std::alloc::Global;
 use std::vec::Vec;
 
-// The depth of an entry below the root.
-fn depth_of(entry: &Entry<'_>) -> usize
+/// The depth of an entry below the root.
+pub(crate) fn depth_of(entry: &Entry<'_>) -> usize
     ensures { result ≡ (entry_view entry.now).depth }
 {
     entry.depth as usize
 }
 
-// Adds the next entry in file order, of a depth: below the last entry of the depth above it. `parents` are the last entry and those
-// that it stands below, by their depths.
-fn add_entry(
+/// An entry that was added, and its parent; the root is its own.
+#[derive(Clone, Copy)]
+pub(crate) struct PlacedEntry {
+    pub id: UnitEntryId,
+    pub parent: UnitEntryId,
+}
+
+/// Adds the next entry in file order, of a depth and under a number that was reserved: below the last entry of the depth above it; without
+/// one it is the root. `parents` are the last entry and those that it stands below, by their depths.
+pub(crate) fn add_entry(
     unit: &mut Unit,
     parents: &mut Vec<UnitEntryId>,
     depth: usize,
+    id: UnitEntryId,
     tag: u16,
-) -> Result<UnitEntryId, WriteError>
+) -> Result<PlacedEntry, WriteError>
     requires known { AreKnown parents.old.items unit.old }
+    requires reserved { CanAdd id parents.old.items unit.old }
     ensures known { OnOk result (AreKnown parents.new.items unit.new) }
-    ensures added { IfOk result (λ id. IsAdded id.index unit.new) }
-    ensures parents { IfOk result (λ id. parents.new.items ≡ take depth parents.old.items ++ id ∷ []) }
-    ensures unit { IfOk result (λ id. AddsBelow (last_parent depth parents.old.items) tag unit.old unit.new id) }
+    ensures added { IfOk result (λ placed. IsAdded placed.id.index unit.new) }
+    ensures parents { IfOk result (λ placed. parents.new.items ≡ take depth parents.old.items ++ placed.id ∷ []) }
+    ensures unit { IfOk result (λ placed. AddsBelow (last_parent depth parents.old.items) id tag unit.old unit.new placed) }
 {
     parents.truncate(depth);
-    let id = match parents.last() {
-        None => unit.root(),
-        Some(parent) => unit.add(*parent, tag)?,
+    let placed = match parents.last().copied() {
+        None => PlacedEntry {
+            id: unit.root(),
+            parent: unit.root(),
+        },
+        Some(parent) => {
+            unit.add_reserved(id, parent, tag)?;
+            PlacedEntry { id, parent }
+        }
     };
-    parents.push(id)?;
-    Ok(id)
+    parents.push(placed.id)?;
+    Ok(placed)
 }
 
 // On a target with the highest byte first a base type says that it has the byte order of wasm. (DWARF 4, section 5.1.)
@@ -115,6 +149,7 @@ fn set_attributes(
     source: &CloneSource<'_, '_>,
     in_force: &InForce<'_>,
     begins: bool,
+    telling: Telling,
     entry: &Entry<'_>,
     unit: &mut Unit,
     id: UnitEntryId,
@@ -128,7 +163,7 @@ fn set_attributes(
     requires texts { KnowsTexts source.now.unit.now.sections strings.old known.old }
     ensures places { OnOk result (unit.new.places ≡ unit.old.places) }
     ensures texts { KnowsTexts source.now.unit.now.sections strings.new known.new }
-    ensures given { (number : ℕ) (s : UnitSource) (base : GivenUnit) (e : Addition) → IsSource source.now number s → IsLast strings.old id base e unit.old → IsInForce (dwarf_registers isa.now) source.now s (placed_entry source.now (entry_view entry.now)) in_force.now → GivesSet (dwarf_registers isa.now) source.now number s (placed_entry source.now (entry_view entry.now)) strings.old strings.new base e unit.new result }
+    ensures given { (number : ℕ) (s : UnitSource) (goals : Goal → Option (ℕ × ℕ)) (base : GivenUnit) (e : Addition) → IsSource source.now number s → ArePlaced source.now.places.now goals → IsLast strings.old id base e unit.old → IsInForce (dwarf_registers isa.now) source.now s (placed_entry source.now (entry_view entry.now)) in_force.now → GivesSet goals (tell_of telling s.entries (placed_entry source.now (entry_view entry.now))) (dwarf_registers isa.now) source.now number s (placed_entry source.now (entry_view entry.now)) strings.old strings.new base e unit.new result }
 {
     let attributes = entry.attrs();
     let mut seen = nothing_seen();
@@ -136,14 +171,23 @@ fn set_attributes(
         let value = output_attribute(
             alloc, isa, source, in_force, begins, seen, entry, attribute, strings, known,
         )?;
+        let value = told_value(
+            alloc,
+            source,
+            telling,
+            entry.offset,
+            attribute,
+            value,
+            strings,
+        )?;
         of_memory(set_made(unit, id, attribute.0, value))?;
         seen = seen_behind(seen, attribute.0);
     }
     Ok(())
 }
 
-// What a call of the writer answers, which is refused for want of memory alone.
-fn of_memory<T: Drop>(written: Result<T, WriteError>) -> Result<T, CloneError>
+/// What a call of the writer answers, which is refused for want of memory alone.
+pub(crate) fn of_memory<T: Drop>(written: Result<T, WriteError>) -> Result<T, CloneError>
     ensures { OfMemory written result }
 {
     match written {
@@ -159,8 +203,8 @@ fn has_begin(source: &CloneSource<'_, '_>, entry: &Entry<'_>) -> bool
     address_said(source.unit, entry, DW_AT_low_pc).is_some()
 }
 
-// What the function tells to expressions whose frame is in force.
-fn frame_in_force<'c>(
+/// What the function tells to expressions whose frame is in force.
+pub(crate) fn frame_in_force<'c>(
     source: &CloneSource<'c, '_>,
     lineage: &Lineage,
 ) -> Option<FunctionFrameInfo<'c>>
@@ -169,42 +213,131 @@ fn frame_in_force<'c>(
     source.module.frame(lineage.frame()?)
 }
 
-/// Adds the entry of the output that a kept entry becomes, the next one in file order. `lineage` is what its ancestors gave, and then what
-/// it gives is added.
+// Adds the variable of the context below a subprogram with a scope in force.
+fn add_context(
+    alloc: Global,
+    isa: &dyn TargetIsa,
+    source: &CloneSource<'_, '_>,
+    in_force: &InForce<'_>,
+    entry: &Entry<'_>,
+    unit: &mut Unit,
+    id: UnitEntryId,
+    strings: &mut StringTable,
+) -> Result<(), CloneError>
+    requires functions { HaveAddends source.now.transform.now }
+    requires parent { IsAdded id.index unit.old }
+    ensures grows { Grows strings.old strings.new }
+    ensures numbers { (but : ℕ) → OnOk result (KeepsNumbers but unit.old unit.new) }
+    ensures variable { (s : UnitSource) → IsInForce (dwarf_registers isa.now) source.now s (placed_entry source.now (entry_view entry.now)) in_force.now → AddsVariable source.now.module.place (context_over (source_with (dwarf_registers isa.now) source.now s) (placed_entry source.now (entry_view entry.now))) id.index source.now.vmctx_ptr strings.new unit.old unit.new result }
+{
+    if entry.tag != DW_TAG_subprogram {
+        return Ok(());
+    }
+    let Some(scope) = in_force.scope else {
+        return Ok(());
+    };
+    match append_vmctx_info(
+        alloc,
+        unit,
+        id,
+        source.vmctx_ptr,
+        source.transform,
+        in_force.frame,
+        scope,
+        strings,
+        isa,
+    ) {
+        Ok(()) => Ok(()),
+        Err(error) => Err(of_expression(error, source.module.place)),
+    }
+}
+
+// Adds what a kept entry becomes that is not wrapped: an entry under a number that was reserved, and the variable of the context. What
+// is in force at the entry is on top of the lineage.
+fn clone_itself(
+    alloc: Global,
+    isa: &dyn TargetIsa,
+    source: &CloneSource<'_, '_>,
+    function: Option<&FunctionMap>,
+    begins: bool,
+    telling: Telling,
+    entry: &Entry<'_>,
+    id: UnitEntryId,
+    walk: &mut Walk,
+    unit: &mut Unit,
+    strings: &mut StringTable,
+    known: &mut KnownTexts,
+) -> Result<(), CloneError>
+    requires functions { HaveAddends source.now.transform.now }
+    requires symbol { IfSome function (λ f. IsSome f.now.symbol) }
+    requires begun { option_map (λ f. function_view f.now) function ≡ begun_function (list_source source.now.unit.now.sections source.now.unit.now.header) source.now.transform.now (entry_view entry.now) }
+    requires begins { begins ≡ begins_by_low_pc (list_source source.now.unit.now.sections source.now.unit.now.header) source.now.transform.now (entry_view entry.now) }
+    requires read { IsReadEntry (entry_view entry.now) }
+    requires parents { AreKnown walk.old.parents.items unit.old }
+    requires reserved { CanAdd id walk.old.parents.items unit.old }
+    requires texts { KnowsTexts source.now.unit.now.sections strings.old known.old }
+    ensures texts { KnowsTexts source.now.unit.now.sections strings.new known.new }
+    ensures parents { OnOk result (AreKnown walk.new.parents.items unit.new) }
+    ensures numbers { OnOk result (KeepsNumbers id.index unit.old unit.new) }
+    ensures lineage { walk.new.lineage ≡ walk.old.lineage }
+    ensures contexts { walk.new.contexts ≡ walk.old.contexts }
+    ensures wrappers { walk.new.open ≡ walk.old.open }
+    ensures names { walk.new.names ≡ walk.old.names }
+    ensures itself { (number : ℕ) (s : UnitSource) (goals : Goal → Option (ℕ × ℕ)) (bare base : GivenUnit) (placed : PlacedEntry) (e : Addition) → IsSource source.now number s → HasFrames source.now.module source.now.transform.now → ArePlaced source.now.places.now goals → AreInForce (list_source source.now.unit.now.sections source.now.unit.now.header) source.now.transform.now s.entries (placed_entry source.now (entry_view entry.now)) walk.old.lineage → telling ≡ telling_of s.texts s.entries (placed_entry source.now (entry_view entry.now)) → is_wrapped (placed_entry source.now (entry_view entry.now)) ≡ false → AddsBelow (last_parent (entry_view entry.now).depth walk.old.parents.items) id (entry_view entry.now).tag unit.old bare placed → IsLast strings.old placed.id base e bare → GivesItself goals (dwarf_registers isa.now) source.now number s (placed_entry source.now (entry_view entry.now)) strings.old strings.new walk.old.parents.items walk.new.parents.items placed base e unit.new result }
+{
+    let depth = depth_of(entry);
+    let placed = of_memory(add_entry(unit, &mut walk.parents, depth, id, entry.tag))?;
+    let id = placed.id;
+    of_memory(set_code(alloc, source, entry, function, unit, id))?;
+    let frame = frame_in_force(source, &walk.lineage);
+    let in_force = in_force_by(&walk.lineage, frame.as_ref());
+    set_attributes(
+        alloc, isa, source, &in_force, begins, telling, entry, unit, id, strings, known,
+    )?;
+    of_memory(set_endianity(unit, id, source.big_endian, entry.tag))?;
+    add_context(alloc, isa, source, &in_force, entry, unit, id, strings)
+}
+
+/// Adds what a kept entry becomes, the next one in file order, under a number that was reserved for it. Wrappers that it does not lie in
+/// are closed before. `walk` is what is known of the entries before it, and then of it too.
 pub(crate) fn clone_entry(
     alloc: Global,
     isa: &dyn TargetIsa,
     source: &CloneSource<'_, '_>,
     entry: &Entry<'_>,
-    lineage: &mut Lineage,
-    parents: &mut Vec<UnitEntryId>,
+    id: UnitEntryId,
+    walk: &mut Walk,
     unit: &mut Unit,
     strings: &mut StringTable,
     known: &mut KnownTexts,
 ) -> Result<(), CloneError>
     requires functions { HaveAddends source.now.transform.now }
     requires read { IsReadEntry (entry_view entry.now) }
-    requires known { AreKnown parents.old.items unit.old }
+    requires resolve { IsText source.now.module.names.resolve_memory.now }
+    requires parents { AreKnown walk.old.parents.items unit.old }
+    requires reserved { CanAdd id walk.old.parents.items unit.old }
+    requires other { IsOther id.index (reverse walk.old.open.items) }
+    requires wrappers { CanCloseAll (length unit.old.places) unit.old (reverse walk.old.open.items) }
+    requires plain { AreNames walk.old.names }
     requires texts { KnowsTexts source.now.unit.now.sections strings.old known.old }
-    ensures known { OnOk result (AreKnown parents.new.items unit.new) }
     ensures texts { KnowsTexts source.now.unit.now.sections strings.new known.new }
-    ensures entered { OnOk result (lineage.new ≡ with_entry (list_source source.now.unit.now.sections source.now.unit.now.header) source.now.transform.now (entry_view entry.now) lineage.old) }
-    ensures cloned { (number : ℕ) (s : UnitSource) (es others : List Entries.Entry) (old : List (List ℕ)) (begun : GivenUnit) → IsSource source.now number s → HasFrames source.now.module source.now.transform.now → AreInForce (list_source source.now.unit.now.sections source.now.unit.now.header) source.now.transform.now s.entries (placed_entry source.now (entry_view entry.now)) (with_entry (list_source source.now.unit.now.sections source.now.unit.now.header) source.now.transform.now (entry_view entry.now) lineage.old) → begun ≡ new_unit begun.address_size begun.lines → AreMadeSoFar (dwarf_registers isa.now) source.now number s es old strings.old begun unit.old parents.old.items → CanFollow parents.old.items (entry_view entry.now ∷ others) → GivesEntry (dwarf_registers isa.now) source.now number s es (entry_view entry.now) others old strings.new begun unit.new parents.new.items result }
+    ensures plain { AreNames walk.new.names }
+    ensures parents { OnOk result (AreKnown walk.new.parents.items unit.new) }
+    ensures others { (k : ℕ) → IsReserved k unit.old → IsOther k (reverse walk.old.open.items) → k ≢ id.index → OnOk result (IsReserved k unit.new × IsOther k (reverse walk.new.open.items)) }
+    ensures wrappers { OnOk result (CanCloseAll (length unit.new.places) unit.new (reverse walk.new.open.items)) }
+    ensures cloned { (number : ℕ) (s : UnitSource) (roles : ℕ → Role → Option ℕ) (es others : List Entries.Entry) (old : List (List ℕ)) (begun : GivenUnit) → IsSource source.now number s → HasFrames source.now.module source.now.transform.now → AreEmitted source.now s number (es ++ entry_view entry.now ∷ others) → AreWalked s.entries (placed_in source.now.unit.now.header.offset (es ++ entry_view entry.now ∷ others)) → id.index ≡ length es → AreClonedSoFar (dwarf_registers isa.now) source.now number s roles es (entry_view entry.now ∷ others) old strings.old begun unit.old walk.old.parents.items (reverse walk.old.open.items) walk.old.lineage walk.old.contexts walk.old.names → GivesEntry (dwarf_registers isa.now) source.now number s roles es (entry_view entry.now) others old strings.new begun unit.new walk.new.parents.items (reverse walk.new.open.items) walk.new.lineage walk.new.contexts walk.new.names result }
 {
-    let depth = depth_of(entry);
-    let id = of_memory(add_entry(unit, parents, depth, entry.tag))?;
+    of_memory(close_wrappers(unit, &mut walk.open, depth_of(entry)))?;
+    let telling = entry_told(alloc, source, entry, &mut walk.contexts)?;
     let function = function_begun(source.unit, entry, source.transform);
-    of_memory(set_code(alloc, source, entry, function, unit, id))?;
     let begins = function.is_some() && has_begin(source, entry);
-    lineage.enter(alloc, source, entry, function)?;
-    let frame = frame_in_force(source, lineage);
-    let in_force = InForce {
-        scope: lineage.scope(),
-        frame: frame.as_ref(),
-        base: lineage.base(),
-    };
-    set_attributes(
-        alloc, isa, source, &in_force, begins, entry, unit, id, strings, known,
-    )?;
-    of_memory(set_endianity(unit, id, source.big_endian, entry.tag))
+    walk.lineage.enter(alloc, source, entry, function)?;
+    if is_wrapped(entry) {
+        return wrap_entry(
+            alloc, isa, source, begins, entry, id, walk, unit, strings, known,
+        );
+    }
+    clone_itself(
+        alloc, isa, source, function, begins, telling, entry, id, walk, unit, strings, known,
+    )
 }

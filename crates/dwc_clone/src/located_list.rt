@@ -1,11 +1,13 @@
 //! What attributes become whose values are location lists. (DWARF 4 and 5, section 2.6.2.)
-ghost use Rattle.std.specs.Prelude.{◌≡◌, ◌++◌, IfOk, IsTrue, map, option_map};
-ghost use Rattle.dwc_base.specs.LocationAttributes.{built_for, built_for_each, with_locations};
+ghost use Rattle.std.specs.Prelude.{◌≡◌, ◌++◌, IfOk, IsTrue, List, map, option_map};
+ghost use Rattle.dwc_base.specs.Functions.{Function};
+ghost use Rattle.dwc_base.specs.LocationAttributes.{built_for, built_for_each, read_locations, with_locations};
 ghost use Rattle.dwc_base.specs.Lists.{list_source};
 ghost use Rattle.dwc_base.specs.RawLists.{is_location_list};
 ghost use Rattle.dwc_read.specs.ValuesSeen.{value_view};
 ghost use Rattle.dwc_clone.specs.InForceSeen.{in_force_view};
-ghost use Rattle.dwc_clone.specs.LocatedLists.{list_told, listed_view, located_by};
+ghost use Rattle.dwc_clif.specs.Registers.{Registers};
+ghost use Rattle.dwc_clone.specs.LocatedLists.{interval_read, list_told, listed_view, located_by, read_by};
 ghost use Rattle.dwc_clone.specs.LocatedValues.{GivesTold, located_view, locations_view, told};
 
 use crate::expressions::{build_over, compile_at};
@@ -123,4 +125,59 @@ pub(crate) fn located_list(
         Some(expressions) => Ok(Some(Located::List(expressions))),
         None => Ok(None),
     }
+}
+
+// Reads the expression of an interval.
+fn check_interval(
+    alloc: Global,
+    in_force: &InForce<'_>,
+    encoding: Encoding,
+    interval: &ListedExpression<'_>,
+) -> Result<(), ExprError>
+    ensures { GivesTold (λ done. done) told (interval_read (option_map (λ x. x.now) in_force.now.base) (listed_view interval.now)) result }
+{
+    compile_at(
+        alloc,
+        in_force.base,
+        encoding,
+        interval.bytes,
+        interval.place,
+    )?;
+    Ok(())
+}
+
+// Reads the expressions of some intervals in order.
+fn check_intervals(
+    alloc: Global,
+    in_force: &InForce<'_>,
+    encoding: Encoding,
+    intervals: &[ListedExpression<'_>],
+) -> Result<(), ExprError>
+    ensures { (functions : List Function) (registers : Registers) → GivesTold (λ done. done) told (read_locations (in_force_view functions registers in_force.now) (map listed_view intervals.now)) result }
+{
+    for interval in intervals {
+        check_interval(alloc, in_force, encoding, interval)?;
+    }
+    Ok(())
+}
+
+/// Reads the location list that a value of the entry at an offset names, and then its expressions, and builds nothing.
+///
+/// # Errors
+/// The first that is refused of the list: `Read` at the list, or at the entry where the list cannot be found; `TooLarge` for a start
+/// plus a length that is no address. Else `Read` with the place of its first expression of which an operation cannot be read.
+/// `OutOfMemory` for want of memory.
+pub(crate) fn check_listed(
+    alloc: Global,
+    unit: &Unit<'_>,
+    in_force: &InForce<'_>,
+    offset: u64,
+    value: AttributeValue<'_>,
+) -> Result<(), LocatedError>
+    requires list { IsTrue (is_location_list (value_view value)) }
+    ensures { (functions : List Function) (registers : Registers) → GivesTold (λ done. done) list_told (read_by (list_source unit.now.sections unit.now.header) (in_force_view functions registers in_force.now) offset (value_view value.entry)) result }
+{
+    let intervals = listed_expressions(alloc, unit, offset, value)?;
+    check_intervals(alloc, in_force, unit.encoding(), &intervals)?;
+    Ok(())
 }

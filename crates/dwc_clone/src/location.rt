@@ -1,5 +1,5 @@
 //! What attributes become whose values are expressions or location lists, and what is refused of them. (DWARF 4 and 5, section 2.6.)
-ghost use Rattle.std.specs.Prelude.{◌≡◌, ℕ, List, length, true, IfOk, IfSome, IsTrue, option_map};
+ghost use Rattle.std.specs.Prelude.{◌≡◌, ℕ, List, length, true, None, IfOk, IfSome, IsTrue, option_map};
 ghost use Rattle.dwc_base.specs.declared.section_name.SectionName.TheVariants.{Info};
 ghost use Rattle.dwc_base.specs.Addends.{HaveAddends};
 ghost use Rattle.dwc_base.specs.Clones.{UnitSource};
@@ -8,7 +8,9 @@ ghost use Rattle.dwc_base.specs.ExpressionPlaces.{expression_place};
 ghost use Rattle.dwc_base.specs.Kept.{Placed};
 ghost use Rattle.dwc_base.specs.RawLists.{is_location_list};
 ghost use Rattle.dwc_base.specs.Values.{Value, expression, is_location_name};
+ghost use Rattle.dwc_base.specs.Wrappers.{is_wrapped};
 ghost use Rattle.dwc_clif.specs.Registers.{Registers};
+ghost use Rattle.dwc_read.specs.EntriesSeen.{entry_view};
 ghost use Rattle.dwc_read.specs.ValuesSeen.{value_view};
 ghost use Rattle.dwc_write.specs.AddedInOrder.{value_meant};
 ghost use Rattle.dwc_write.specs.GivenUnits.{FitsValue};
@@ -21,18 +23,19 @@ ghost use Rattle.dwc_clone.specs.NativeExtents.{TellsRefusal};
 use crate::in_force::InForce;
 use crate::located::{Located, check_expression, located_expression};
 use crate::located_error::LocatedError;
-use crate::located_list::located_list;
+use crate::located_list::{check_listed, located_list};
+use crate::wrapper::is_wrapped;
 use crate::{CloneError, CloneSource};
 use dwc_addr::translations_are_said;
 use dwc_base::SectionName;
 use dwc_clif::TargetIsa;
 use dwc_expr::ExprError;
-use dwc_read::AttributeValue as InputValue;
+use dwc_read::{AttributeValue as InputValue, Entry};
 use dwc_write::{AttributeValue, LocationList};
 use std::alloc::Global;
 
-// The error of an expression that is built for the module at a place.
-fn of_expression(error: ExprError, place: u32) -> CloneError
+/// The error of an expression that is built for the module at a place.
+pub(crate) fn of_expression(error: ExprError, place: u32) -> CloneError
     ensures { refusal_told result ≡ option_map (of_location place) (told error) }
 {
     match error {
@@ -87,7 +90,8 @@ fn output_located(located: Located) -> AttributeValue
     }
 }
 
-/// What an expression becomes, the attribute of a name and of a number of the entry at an offset; None where it goes.
+/// What an expression becomes, the attribute of a name and of a number of an entry; None where it goes. Of an entry that is wrapped it is
+/// read, and nothing becomes of it.
 ///
 /// # Errors
 /// `Read` with the offset of the expression exactly where an operation cannot be read. Those of building it over the scope in force:
@@ -97,15 +101,19 @@ pub(crate) fn output_expression(
     isa: &dyn TargetIsa,
     source: &CloneSource<'_, '_>,
     in_force: &InForce<'_>,
-    offset: u64,
+    entry: &Entry<'_>,
     number: usize,
     name: u16,
     bytes: &[u8],
 ) -> Result<Option<AttributeValue>, CloneError>
     requires functions { HaveAddends source.now.transform.now }
-    ensures made { (s : UnitSource) (e : Placed) (before : List (ℕ × Value)) (unit : ℕ) (texts : List (List ℕ)) → e.entry.offset ≡ offset → length before ≡ number → IsInForce (dwarf_registers isa.now) source.now s e in_force.now → GivesMade (Says source.now.places.now unit name texts) (code_value_becomes (source_with (dwarf_registers isa.now) source.now s) e before name (expression bytes.now)) result }
+    ensures made { (s : UnitSource) (e : Placed) (before : List (ℕ × Value)) (unit : ℕ) (texts : List (List ℕ)) → e.entry ≡ entry_view entry.now → length before ≡ number → IsInForce (dwarf_registers isa.now) source.now s e in_force.now → GivesMade (Says source.now.places.now unit name texts) (code_value_becomes (source_with (dwarf_registers isa.now) source.now s) e before name (expression bytes.now)) result }
     ensures fits { (size : ℕ) → IfOk result (λ v. IfSome v (FitsValue size name)) }
 {
+    if is_wrapped(entry) {
+        check_located(alloc, source, in_force, entry.offset, number, name, bytes)?;
+        return Ok(None);
+    }
     translations_are_said();
     let nowhere = (SectionName::Info, 0);
     let encoding = source.unit.encoding();
@@ -121,11 +129,12 @@ pub(crate) fn output_expression(
     ) {
         Ok(Some(located)) => Ok(Some(output_located(located))),
         Ok(None) => Ok(None),
-        Err(error) => Err(at_expression(error, source, offset, number, bytes)),
+        Err(error) => Err(at_expression(error, source, entry.offset, number, bytes)),
     }
 }
 
-/// What a location list becomes that a value of the entry at an offset names; None where it goes.
+/// What a location list becomes that a value of an entry names; None where it goes. Of an entry that is wrapped it is read with its
+/// expressions, and nothing becomes of it.
 ///
 /// # Errors
 /// The first that is refused of the list: `Read` at the list, or at the entry where the list cannot be found; `LongRange` for a start
@@ -136,14 +145,18 @@ pub(crate) fn output_locations(
     isa: &dyn TargetIsa,
     source: &CloneSource<'_, '_>,
     in_force: &InForce<'_>,
-    offset: u64,
+    entry: &Entry<'_>,
     value: InputValue<'_>,
 ) -> Result<Option<AttributeValue>, CloneError>
     requires functions { HaveAddends source.now.transform.now }
     requires list { IsTrue (is_location_list (value_view value)) }
-    ensures made { (s : UnitSource) (e : Placed) (before : List (ℕ × Value)) (unit name : ℕ) (texts : List (List ℕ)) → e.entry.offset ≡ offset → is_location_name name ≡ true → IsInForce (dwarf_registers isa.now) source.now s e in_force.now → GivesMade (Says source.now.places.now unit name texts) (code_value_becomes (source_with (dwarf_registers isa.now) source.now s) e before name (value_view value.entry)) result }
+    ensures made { (s : UnitSource) (e : Placed) (before : List (ℕ × Value)) (unit name : ℕ) (texts : List (List ℕ)) → e.entry ≡ entry_view entry.now → is_location_name name ≡ true → IsInForce (dwarf_registers isa.now) source.now s e in_force.now → GivesMade (Says source.now.places.now unit name texts) (code_value_becomes (source_with (dwarf_registers isa.now) source.now s) e before name (value_view value.entry)) result }
     ensures fits { (size name : ℕ) → is_location_name name ≡ true → IfOk result (λ v. IfSome v (FitsValue size name)) }
 {
+    if is_wrapped(entry) {
+        check_locations(alloc, source, in_force, entry.offset, value)?;
+        return Ok(None);
+    }
     translations_are_said();
     match located_list(
         alloc,
@@ -151,11 +164,29 @@ pub(crate) fn output_locations(
         source.transform,
         isa,
         in_force,
-        offset,
+        entry.offset,
         value,
     ) {
         Ok(Some(located)) => Ok(Some(output_located(located))),
         Ok(None) => Ok(None),
+        Err(LocatedError::List(fault)) => Err(CloneError::from(fault)),
+        Err(LocatedError::Expression(error)) => Err(of_expression(error, source.module.place)),
+    }
+}
+
+// Reads a location list that a value of the entry at an offset names, and its expressions; nothing becomes of it.
+fn check_locations(
+    alloc: Global,
+    source: &CloneSource<'_, '_>,
+    in_force: &InForce<'_>,
+    offset: u64,
+    value: InputValue<'_>,
+) -> Result<(), CloneError>
+    requires list { IsTrue (is_location_list (value_view value)) }
+    ensures { (registers : Registers) (s : UnitSource) (e : Placed) (before : List (ℕ × Value)) (name : ℕ) → e.entry.offset ≡ offset → is_wrapped e ≡ true → IsInForce registers source.now s e in_force.now → GivesMade (λ draft done. draft ≡ None) (code_value_becomes (source_with registers source.now s) e before name (value_view value.entry)) result }
+{
+    match check_listed(alloc, source.unit, in_force, offset, value) {
+        Ok(()) => Ok(()),
         Err(LocatedError::List(fault)) => Err(CloneError::from(fault)),
         Err(LocatedError::Expression(error)) => Err(of_expression(error, source.module.place)),
     }

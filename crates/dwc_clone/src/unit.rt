@@ -1,22 +1,35 @@
 //! Clones the kept entries of a unit.
-ghost use Rattle.std.specs.Prelude.{◌≡◌, ℕ, None, All};
+ghost use Rattle.std.specs.Prelude.{◌≡◌, ◌-◌, ℕ, None, All, OnOk};
 ghost use Rattle.dwc_base.specs.Entries.{entries as entries_of};
 ghost use Rattle.dwc_base.specs.Addends.{HaveAddends};
 ghost use Rattle.dwc_base.specs.Clones.{UnitSource};
 ghost use Rattle.dwc_base.specs.ReadValues.{IsReadEntry};
 ghost use Rattle.dwc_write.specs.GivenUnits.{new_unit};
-ghost use Rattle.dwc_clone.specs.Sources.{IsSource};
+ghost use Rattle.dwc_write.specs.TextTables.{IsText};
+ghost use Rattle.dwc_clone.specs.Sources.{AreEmitted, IsSource};
 ghost use Rattle.dwc_clone.specs.KnownTexts.{KnowsTexts};
 ghost use Rattle.dwc_clone.specs.ClonedUnits.{picked, placed_in, AreClonable, GivesCloned};
 ghost use Rattle.dwc_clone.specs.CompiledModules.{HasFrames};
 ghost use Rattle.dwc_clone.specs.Lineages.{AreWalked};
+ghost use Rattle.dwc_clone.specs.OpenWrappers.{reserved_more};
 
-use crate::entry::clone_entry;
-use crate::lineage::Lineage;
+use crate::entry::{clone_entry, of_memory};
+use crate::walk::begin_walk;
+use crate::wrapper::close_wrappers;
 use crate::{CloneError, CloneSource, KnownTexts};
 use dwc_clif::TargetIsa;
-use dwc_write::{StringTable, Unit};
+use dwc_write::{StringTable, Unit, UnitEntryId, WriteError};
 use std::alloc::Global;
+
+// Reserves the numbers of so many kept entries, of which the first is the root.
+fn reserve_kept(unit: &mut Unit, count: usize) -> Result<(), WriteError>
+    ensures { OnOk result (unit.new ≡ reserved_more (count - 1) unit.old) }
+{
+    for _ in 1..count {
+        unit.reserve()?;
+    }
+    Ok(())
+}
 
 /// The unit of the output that is made of the kept entries of a unit: `begun`, which has a root alone, with one entry for each of those
 /// at `kept`, the offsets in `.debug_info` of the unit's kept entries in file order. The unit's entries are read once, up to the last
@@ -39,31 +52,26 @@ pub fn clone_unit(
     requires functions { HaveAddends source.now.transform.now }
     requires begun { begun ≡ new_unit begun.address_size begun.lines }
     requires read { All IsReadEntry (entries_of source.now.unit.now.sections source.now.unit.now.header).items }
+    requires names { IsText source.now.module.names.resolve_memory.now }
     requires texts { KnowsTexts source.now.unit.now.sections strings.old known.old }
     ensures texts { KnowsTexts source.now.unit.now.sections strings.new known.new }
-    ensures cloned { (number : ℕ) (s : UnitSource) → IsSource source.now number s → HasFrames source.now.module source.now.transform.now → (entries_of source.now.unit.now.sections source.now.unit.now.header).fault ≡ None → AreClonable (picked kept.now (entries_of source.now.unit.now.sections source.now.unit.now.header).items) → AreWalked s.entries (placed_in source.now.unit.now.header.offset (picked kept.now (entries_of source.now.unit.now.sections source.now.unit.now.header).items)) → GivesCloned (dwarf_registers isa.now) source.now number s (picked kept.now (entries_of source.now.unit.now.sections source.now.unit.now.header).items) strings.old strings.new begun result }
+    ensures cloned { (number : ℕ) (s : UnitSource) → IsSource source.now number s → HasFrames source.now.module source.now.transform.now → (entries_of source.now.unit.now.sections source.now.unit.now.header).fault ≡ None → AreClonable (picked kept.now (entries_of source.now.unit.now.sections source.now.unit.now.header).items) → AreEmitted source.now s number (picked kept.now (entries_of source.now.unit.now.sections source.now.unit.now.header).items) → AreWalked s.entries (placed_in source.now.unit.now.header.offset (picked kept.now (entries_of source.now.unit.now.sections source.now.unit.now.header).items)) → GivesCloned (dwarf_registers isa.now) source.now number s (picked kept.now (entries_of source.now.unit.now.sections source.now.unit.now.header).items) strings.old strings.new begun result }
 {
     let mut unit = begun;
-    let mut lineage = Lineage::new(alloc);
-    let mut parents = Vec::new(alloc);
+    of_memory(reserve_kept(&mut unit, kept.len()))?;
+    let mut walk = begin_walk(alloc);
     let mut entries = source.unit.entries(alloc)?;
     let mut next = 0;
     while next < kept.len() && entries.advance()? {
         let entry = entries.current();
         if entry.offset == u64::from(kept[next]) {
+            let id = UnitEntryId { index: next };
             clone_entry(
-                alloc,
-                isa,
-                source,
-                entry,
-                &mut lineage,
-                &mut parents,
-                &mut unit,
-                strings,
-                known,
+                alloc, isa, source, entry, id, &mut walk, &mut unit, strings, known,
             )?;
             next += 1;
         }
     }
+    of_memory(close_wrappers(&mut unit, &mut walk.open, 0))?;
     Ok(unit)
 }

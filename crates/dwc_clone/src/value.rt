@@ -17,6 +17,7 @@ ghost use Rattle.dwc_base.specs.Lists.{list_source};
 ghost use Rattle.dwc_base.specs.RangeRules.{code_becomes, told_as};
 ghost use Rattle.dwc_base.specs.Clones.{UnitSource, constant_form, constant_becomes, text_drafted, value_becomes};
 ghost use Rattle.dwc_base.specs.Drafts.{done};
+ghost use Rattle.dwc_read.specs.EntriesSeen.{entry_view};
 ghost use Rattle.dwc_read.specs.ValuesSeen.{value_view};
 ghost use Rattle.dwc_write.specs.GivenUnits.{FitsValue};
 ghost use Rattle.dwc_clone.specs.declared.places.EmittedEntry.{EmittedEntry};
@@ -35,7 +36,7 @@ use crate::text::{text_of, text_place_of};
 use crate::{CloneError, CloneSource, KnownTexts, UnitFiles};
 use dwc_base::constants::{DW_FORM_implicit_const, DW_FORM_sdata, DW_FORM_udata};
 use dwc_clif::TargetIsa;
-use dwc_read::AttributeValue as InputValue;
+use dwc_read::{AttributeValue as InputValue, Entry};
 use dwc_write::{AttributeValue, DebugInfoRef, RangeList, StringTable, UnitEntryId, UnitId};
 use std::alloc::Global;
 
@@ -164,7 +165,7 @@ fn range_list(
     }
 }
 
-/// What a value of the entry at an offset becomes, under a name that does not decide alone; None where it goes. Texts are added to
+/// What a value of an entry becomes, under a name that does not decide alone; None where it goes. Texts are added to
 /// `strings`, and noted in `known`, by which they are found when they are named again.
 ///
 /// # Errors
@@ -176,7 +177,7 @@ pub(crate) fn output_value(
     isa: &dyn TargetIsa,
     source: &CloneSource<'_, '_>,
     in_force: &InForce<'_>,
-    offset: u64,
+    entry: &Entry<'_>,
     number: usize,
     name: u16,
     value: InputValue<'_>,
@@ -186,7 +187,7 @@ pub(crate) fn output_value(
     requires functions { HaveAddends source.now.transform.now }
     requires read { IsReadValue name (value_view value) }
     requires known { KnowsTexts source.now.unit.now.sections strings.old known.old }
-    ensures made { (unit : ℕ) (s : UnitSource) (e : Placed) (before : List (ℕ × Value)) → IsSource source.now unit s → e.unit ≡ source.now.unit.now.header.offset → e.entry.offset ≡ offset → length before ≡ number → IsInForce (dwarf_registers isa.now) source.now s e in_force.now → GivesMade (SaysMore source.now.places.now unit name strings.old strings.new) (value_becomes (clone_rules (dwarf_registers isa.now) source.now s) s e before name (value_view value.entry)) result }
+    ensures made { (unit : ℕ) (s : UnitSource) (e : Placed) (before : List (ℕ × Value)) → IsSource source.now unit s → e.unit ≡ source.now.unit.now.header.offset → e.entry ≡ entry_view entry.now → length before ≡ number → IsInForce (dwarf_registers isa.now) source.now s e in_force.now → GivesMade (SaysMore source.now.places.now unit name strings.old strings.new) (value_becomes (clone_rules (dwarf_registers isa.now) source.now s) s e before name (value_view value.entry)) result }
     ensures fits { IfOk result (λ v. (size : ℕ) → IfSome v (FitsValue size name)) }
     ensures known { KnowsTexts source.now.unit.now.sections strings.new known.new }
 {
@@ -195,20 +196,20 @@ pub(crate) fn output_value(
         InputValue::Flag(flag) => Ok(Some(AttributeValue::Flag(flag))),
         InputValue::Block(bytes) => Ok(Some(block(alloc, bytes)?)),
         InputValue::Text(_) | InputValue::TextRef { .. } => {
-            text(source, offset, name, value, strings, known)
+            text(source, entry.offset, name, value, strings, known)
         }
         InputValue::UnitRef(_) => Ok(unit_reference(source, value)),
         InputValue::InfoRef(_) => Ok(info_reference(source, value)),
         InputValue::LineRef(_) | InputValue::Dropped => Ok(None),
-        InputValue::Addr(_) | InputValue::AddrIndex(_) => address(source, offset, value),
+        InputValue::Addr(_) | InputValue::AddrIndex(_) => address(source, entry.offset, value),
         InputValue::RangeRef(_) | InputValue::RangeIndex(_) => {
-            Ok(Some(range_list(alloc, source, offset, value)?))
+            Ok(Some(range_list(alloc, source, entry.offset, value)?))
         }
         InputValue::Exprloc(bytes) => {
-            output_expression(alloc, isa, source, in_force, offset, number, name, bytes)
+            output_expression(alloc, isa, source, in_force, entry, number, name, bytes)
         }
         InputValue::LocRef(_) | InputValue::LocIndex(_) => {
-            output_locations(alloc, isa, source, in_force, offset, value)
+            output_locations(alloc, isa, source, in_force, entry, value)
         }
     }
 }

@@ -2,7 +2,6 @@ use Rattle.std.proofs.Common.{ℕ, IfSome, ap, sym, subst, ◌∙◌, Ok}
 use Rattle.std.proofs.lemmas.Bool.{eq-eqb, ne_eqb}
 use Rattle.std.proofs.lemmas.Result.{err_from_is_err_and}
 use Rattle.dwc_base.specs.declared.constants.TheConstants.{DW_AT_stmt_list}
-use Rattle.dwc_base.specs.Entries.{Entry}
 use Rattle.dwc_base.specs.Lists.{list_source}
 use Rattle.dwc_base.specs.RangeRefusals.{begins_by_low_pc}
 use Rattle.dwc_base.specs.Clones.{table_becomes}
@@ -72,6 +71,5 @@ returns-clause-made g c = λ number s e before source unit entry seen force.
     let other = ne_eqb c.args.attribute.now.0 DW_AT_stmt_list c.if-name-eq-DW_AT_stmt_list.false in
     let bound = sym c.is_bound_name.ensures ∙ c.if-is_bound_name.false in
     let is = attribute-value rules s e before a kept other bound in
-    let at = ap (λ (x : Entry). x.offset) entry in
     let count = sym (ap (λ (x : AttributesSeen). x.count) seen) in
-    subst (λ read. GivesMade (SaysMore c.args.source.now.places.now number a.0 c.args.strings.now c.output_value.new.strings) read c.output_value.result) (sym is) (c.output_value.ensures.made number s e before source unit at count force)
+    subst (λ read. GivesMade (SaysMore c.args.source.now.places.now number a.0 c.args.strings.now c.output_value.new.strings) read c.output_value.result) (sym is) (c.output_value.ensures.made number s e before source unit entry count force)

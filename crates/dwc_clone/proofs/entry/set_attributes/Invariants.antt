@@ -1,4 +1,6 @@
 use Rattle.std.proofs.Common.{◌≡◌, ℕ, drop, map, take}
+use Rattle.std.specs.Prelude.{Option}
+use Rattle.dwc_base.specs.Drafts.{Goal}
 use Rattle.dwc_base.specs.Clones.{UnitSource}
 use Rattle.dwc_read.specs.ValuesSeen.{attribute_view}
 use Rattle.dwc_read.specs.EntriesSeen.{entry_view}
@@ -8,6 +10,8 @@ use Rattle.dwc_clone.specs.Sources.{IsSource}
 use Rattle.dwc_clone.specs.KnownTexts.{KnowsTexts}
 use Rattle.dwc_clone.specs.ClonedUnits.{IsInForce}
 use Rattle.dwc_clone.specs.ClonedEntries.{IsLast, placed_entry}
+use Rattle.dwc_clone.specs.MadeValues.{ArePlaced}
+use Rattle.dwc_clone.specs.Tellings.{tell_of}
 use Rattle.dwc_clone.proofs.EntryValues.{AreSetSoFar}
 use Rattle.dwc_clone.proofs.entry.set_attributes.Given as goal
 
@@ -19,6 +23,6 @@ invariant-loop-attribute g l =
       places : l.unit.places ≡ l.fn.unit.places;
       seen : l.seen ≡ seen_among (take l.attribute-index (map attribute_view l.attributes));
       texts : KnowsTexts l.source.unit.now.sections l.strings l.known;
-      set : (number : ℕ) (s : UnitSource) (base : GivenUnit) (e : Addition) → IsSource l.source number s → IsLast l.fn.strings l.id base e l.fn.unit → IsInForce registers l.source s (placed_entry l.source (entry_view l.entry)) l.in_force
-          → AreSetSoFar registers l.source number s (placed_entry l.source (entry_view l.entry)) l.fn.strings l.strings base e l.unit l.seen (drop l.attribute-index (map attribute_view l.attributes));
+      set : (number : ℕ) (s : UnitSource) (goals : Goal → Option (ℕ × ℕ)) (base : GivenUnit) (e : Addition) → IsSource l.source number s → ArePlaced l.source.places.now goals → IsLast l.fn.strings l.id base e l.fn.unit → IsInForce registers l.source s (placed_entry l.source (entry_view l.entry)) l.in_force
+          → AreSetSoFar goals (tell_of l.telling s.entries (placed_entry l.source (entry_view l.entry))) registers l.source number s (placed_entry l.source (entry_view l.entry)) l.fn.strings l.strings base e l.unit l.seen (drop l.attribute-index (map attribute_view l.attributes));
     }

@@ -1,0 +1,133 @@
+-- The name of a wrapper, which is read behind the attributes of its entry.
+use Rattle.std.proofs.Common.{◌≡◌, ℕ, ◌<◌, refl, sym, ap, subst, ◌∙◌, append-nil, List, [], ◌∷◌, ◌++◌, map, Bool, true, false, Option, Some, None, Result, Ok, Err}
+use Rattle.std.specs.Prelude.{◌==◌, ◌||◌, codes, if◌then◌else◌, nat_lt, IfErr, OnOk}
+use Rattle.std.specs.List.{list_all}
+use Rattle.std.proofs.lemmas.Bool.{and_parts, eqb-true, ltb-true}
+use Rattle.std.proofs.lemmas.List.Elements.{All-append, All-cons, All-nil}
+use Rattle.dwc_base.specs.declared.constants.TheConstants.{DW_TAG_pointer_type, DW_TAG_reference_type, DW_TAG_subprogram}
+use Rattle.dwc_base.specs.Sections.{Fault}
+use Rattle.dwc_base.specs.Kept.{Placed}
+use Rattle.dwc_base.specs.Refusals.{Refusal, first_of, of_place}
+use Rattle.dwc_base.specs.Clones.{UnitSource, entry_refusals}
+use Rattle.dwc_base.specs.ContextVariable.{context_in, context_over, location_refusals}
+use Rattle.dwc_base.specs.EntryRules.{of_build}
+use Rattle.dwc_base.specs.LocationRules.{in_force_at}
+use Rattle.dwc_base.specs.TypeNames.{type_name}
+use Rattle.dwc_base.specs.Wrappers.{is_wrapped, name_fault, name_or_unknown, wrapper_name, wrapper_refusals}
+use Rattle.dwc_clif.specs.Registers.{Registers}
+use Rattle.dwc_write.specs.declared.units.UnitEntryId.{UnitEntryId}
+use Rattle.dwc_write.specs.GivenUnits.{GivenUnit}
+use Rattle.dwc_write.specs.TextTables.{IsText}
+use Rattle.dwc_clone.specs.declared.error.CloneError.{CloneError}
+use Rattle.dwc_clone.specs.declared.error.CloneError.TheVariants.{OutOfMemory}
+use Rattle.dwc_clone.specs.declared.source.CloneSource.{CloneSource}
+use Rattle.dwc_clone.specs.declared.wrapper.OpenWrapper.{OpenWrapper}
+use Rattle.dwc_clone.specs.declared.wrapper.WrapperTexts.{WrapperTexts}
+use Rattle.dwc_clone.specs.Errors.{refusal_told}
+use Rattle.dwc_clone.specs.MadeValues.{Grows, RefusesSo}
+use Rattle.dwc_clone.specs.ClonedUnits.{TellsFirst, clone_rules, source_with}
+use Rattle.dwc_clone.specs.ClonedEntries.{values_refused}
+use Rattle.dwc_clone.specs.Sources.{IsSource}
+use Rattle.dwc_clone.specs.TypeChains.{GivesRead}
+use Rattle.dwc_clone.specs.OpenWrappers.{HasWrapperTexts}
+use Rattle.dwc_clone.specs.WrappedEntries.{AddsWrapper, AreChecked, GivesWrapped, IsWrapperNamed}
+use Rattle.dwc_clone.proofs.EntryValues.{grows-on}
+
+-- ---- texts
+
+plain-text : (t : List ℕ) → list_all (λ b. nat_lt 0 b) t ≡ true → IsText t
+plain-text [] all = All-nil (λ b. 0 < b)
+plain-text (b ∷ t) all = let both = and_parts (nat_lt 0 b) (list_all (λ b. nat_lt 0 b) t) all in All-cons (λ b. 0 < b) b t (ltb-true 0 b both.0) (plain-text t both.1)
+
+-- The name of a wrapper has no zero byte.
+pub wrapper-text : (tag : ℕ) (name : List ℕ) → IsText name → IsText (wrapper_name tag name)
+wrapper-text tag name plain = go (tag == DW_TAG_pointer_type)
+  where
+    go : (b : Bool) → IsText ((if b then codes "WebAssemblyPtrWrapper<" else codes "WebAssemblyRefWrapper<") ++ name ++ codes ">")
+    go true = All-append (λ b. 0 < b) (codes "WebAssemblyPtrWrapper<") (name ++ codes ">") (plain-text (codes "WebAssemblyPtrWrapper<") refl) (All-append (λ b. 0 < b) name (codes ">") plain (plain-text (codes ">") refl))
+    go false = All-append (λ b. 0 < b) (codes "WebAssemblyRefWrapper<") (name ++ codes ">") (plain-text (codes "WebAssemblyRefWrapper<") refl) (All-append (λ b. 0 < b) name (codes ">") plain (plain-text (codes ">") refl))
+
+-- ---- what is refused of an entry that is wrapped
+
+-- It is no subprogram.
+other-tag : (tag : ℕ) → ((tag == DW_TAG_pointer_type) || (tag == DW_TAG_reference_type)) ≡ true → (tag == DW_TAG_subprogram) ≡ false
+other-tag tag wrapped = go (tag == DW_TAG_pointer_type) refl wrapped
+  where
+    go : (b : Bool) → (tag == DW_TAG_pointer_type) ≡ b → (b || (tag == DW_TAG_reference_type)) ≡ true → (tag == DW_TAG_subprogram) ≡ false
+    go true is wrapped = ap (λ n. n == DW_TAG_subprogram) (eqb-true tag DW_TAG_pointer_type is)
+    go false is wrapped = ap (λ n. n == DW_TAG_subprogram) (eqb-true tag DW_TAG_reference_type wrapped)
+
+module _ (registers : Registers) (c : CloneSource) (number : ℕ) (s : UnitSource) (p : Placed) (source : IsSource c number s) (wrapped : is_wrapped p ≡ true) where
+  -- The refusals of its attributes, and then why its name is not read.
+  refused-wrapped : entry_refusals (clone_rules registers c s) s p ≡ values_refused registers c s p [] p.entry.attributes ++ map of_place (name_fault (type_name s.texts s.entries p))
+  unfolding entry_refusals wrapper_refusals context_over
+  refused-wrapped =
+      let values = values_refused registers c s p [] p.entry.attributes in
+      let src = source_with registers c s in
+      let located : Bool → List Refusal = λ b. map (of_build src.told.place) (location_refusals (elim b [ true ↦ context_in (in_force_at src p) | false ↦ None ])) in
+      let unread : Bool → List Fault = λ b. elim b [ true ↦ name_fault (type_name s.texts s.entries p) | false ↦ [] ] in
+      ap (λ texts. values ++ (map of_place (elim (is_wrapped p) [ true ↦ name_fault (type_name texts s.entries p) | false ↦ [] ]) ++ located (p.entry.tag == DW_TAG_subprogram))) (sym source.texts)
+      ∙ ap (λ b. values ++ (map of_place (unread b) ++ located (p.entry.tag == DW_TAG_subprogram))) wrapped
+      ∙ ap (λ b. values ++ (map of_place (name_fault (type_name s.texts s.entries p)) ++ located b)) (other-tag p.entry.tag wrapped)
+      ∙ ap (λ xs. values ++ xs) (append-nil (map of_place (name_fault (type_name s.texts s.entries p))))
+
+  -- The first refusal of the attributes is the first of the entry.
+  pub attributes-refused : (told : Option Refusal) → TellsFirst (values_refused registers c s p [] p.entry.attributes) told → TellsFirst (entry_refusals (clone_rules registers c s) s p) told
+  attributes-refused None first = tt
+  attributes-refused (Some refusal) first = ap first_of refused-wrapped ∙ in-front (values_refused registers c s p [] p.entry.attributes) (map of_place (name_fault (type_name s.texts s.entries p))) first
+    where
+      in-front : (xs ys : List Refusal) → first_of xs ≡ Some refusal → first_of (xs ++ ys) ≡ Some refusal
+      in-front [] ys is = absurd (cc)
+      in-front (x ∷ xs) ys is = is
+
+  -- Where nothing is refused of them, the fault of the name is.
+  pub name-refused : {V : Type 0} (view : V → List ℕ) (e : CloneError) → values_refused registers c s p [] p.entry.attributes ≡ [] → GivesRead view (type_name s.texts s.entries p) (Err e) → TellsFirst (entry_refusals (clone_rules registers c s) s p) (refusal_told e)
+  name-refused view e accepted read =
+      subst (λ xs. TellsFirst xs (refusal_told e)) (sym (refused-wrapped ∙ ap (λ xs. xs ++ map of_place (name_fault (type_name s.texts s.entries p))) accepted)) (go (type_name s.texts s.entries p) read)
+    where
+      no : (name : List ℕ) (told : Option Refusal) → RefusesSo {A = List ℕ} (Ok name) told → TellsFirst [] told
+      no name None refuses = tt
+      no name (Some refusal) refuses = absurd (cc)
+
+      one : (fault : Fault) (told : Option Refusal) → RefusesSo {A = List ℕ} (Err (of_place fault)) told → TellsFirst (of_place fault ∷ []) told
+      one fault None refuses = tt
+      one fault (Some refusal) refuses = cc
+
+      go : (r : Result (List ℕ) Fault) → GivesRead view r (Err e) → TellsFirst (map of_place (name_fault r)) (refusal_told e)
+      go (Ok name) read = no name (refusal_told e) read
+      go (Err fault) read = one fault (refusal_told e) read
+
+  -- The wrapper has its name.
+  pub wrapper-named : (old new : List (List ℕ)) (name whole : List ℕ) → AreChecked registers c s p old new → type_name s.texts s.entries p ≡ Ok name → whole ≡ wrapper_name p.entry.tag name → IsWrapperNamed registers c s p old new whole
+  wrapper-named old new name whole checked read is = record {
+    grows = checked.grows;
+    accepted = refused-wrapped ∙ ap (λ xs. xs ++ map of_place (name_fault (type_name s.texts s.entries p))) checked.accepted ∙ ap (λ r. map of_place (name_fault r)) read;
+    is = is ∙ ap (λ r. wrapper_name p.entry.tag (name_or_unknown r)) (sym read);
+  }
+
+-- ---- the whole entry
+
+-- What a call gives that adds the wrapper which was named.
+pub gives-wrapped : (registers : Registers) (c : CloneSource) (s : UnitSource) (p : Placed) (old middle new : List (List ℕ)) (name : List ℕ) (texts : WrapperTexts) (parents path : List UnitEntryId) (id : UnitEntryId) (before behind : List OpenWrapper) (u0 u : GivenUnit) (r : Result (Unit {0}) CloneError)
+    → IsWrapperNamed registers c s p old middle name → Grows middle new → HasWrapperTexts new c.module.names.resolve_memory.now name texts → IfErr r (λ e. e ≡ OutOfMemory) → OnOk r (AddsWrapper c p texts parents path id before behind u0 u)
+    → GivesWrapped registers c s p old new parents path id before behind u0 u r
+gives-wrapped registers c s p old middle new name texts parents path id before behind u0 u (Ok done) named grows has memory adds = record {
+  grows = grows-on old middle new named.grows grows;
+  accepted = named.accepted;
+  placed = adds.placed;
+  bare = adds.bare;
+  added = adds.added;
+  texts = texts;
+  named = subst (λ n. HasWrapperTexts new c.module.names.resolve_memory.now n texts) named.is has;
+  wrapper = adds.wrapper;
+  opened = adds.opened;
+  is = adds.is;
+  path_is = adds.path_is;
+  opens = adds.opens;
+}
+gives-wrapped registers c s p old middle new name texts parents path id before behind u0 u (Err e) named grows has memory adds = subst (λ f. TellsFirst (entry_refusals (clone_rules registers c s) s p) (refusal_told f)) (sym memory) tt
+
+-- What holds in any case holds where a call succeeds.
+pub always-ok : {A F P : Type 0} (r : Result A F) → P → OnOk r P
+always-ok (Ok x) p = p
+always-ok (Err e) p = tt

@@ -1,0 +1,22 @@
+use Rattle.std.proofs.Common.{◌≡◌, ℕ, drop, map, take}
+use Rattle.dwc_base.specs.Clones.{UnitSource}
+use Rattle.dwc_read.specs.ValuesSeen.{attribute_view}
+use Rattle.dwc_read.specs.EntriesSeen.{entry_view}
+use Rattle.dwc_clone.specs.AttributesSeen.{seen_among}
+use Rattle.dwc_clone.specs.Sources.{IsSource}
+use Rattle.dwc_clone.specs.KnownTexts.{KnowsTexts}
+use Rattle.dwc_clone.specs.ClonedUnits.{IsInForce}
+use Rattle.dwc_clone.specs.ClonedEntries.{placed_entry}
+use Rattle.dwc_clone.proofs.CheckedAttributes.{AreReadSoFar}
+use Rattle.dwc_clone.proofs.wrapped.check_attributes.Given as goal
+
+-- what is refused of the attributes that are left is what is refused of all
+abbrev pub invariant-loop-attribute : goal.invariant-loop-attribute
+invariant-loop-attribute g l =
+    let registers = (goal.TargetIsa-dyn g l.isa.now).dwarf_registers l.isa.now.1 in
+    record {
+      seen : l.seen ≡ seen_among (take l.attribute-index (map attribute_view l.attributes));
+      texts : KnowsTexts l.source.unit.now.sections l.strings l.known;
+      read : (number : ℕ) (s : UnitSource) → IsSource l.source number s → IsInForce registers l.source s (placed_entry l.source (entry_view l.entry)) l.in_force
+          → AreReadSoFar registers l.source s (placed_entry l.source (entry_view l.entry)) l.fn.strings l.strings l.seen (drop l.attribute-index (map attribute_view l.attributes));
+    }

@@ -1,0 +1,95 @@
+-- Types that are read one after another, each derived from the next, and the entries that are met there.
+use Rattle.std.specs.Prelude.{◌≡◌, ℕ, List, [], ◌++◌, is_some, true, IfSome, Option, Some, None, option_map, Result, Ok, Err}
+use Rattle.std.specs.Ordering.{nat_cmp}
+use Rattle.std.specs.BTreeMap.{get}
+use Rattle.std.specs.BTreeSet.{BTreeSet, contains}
+use Rattle.dwc_base.specs.Entries.{Entry}
+use Rattle.dwc_base.specs.Kept.{Placed}
+use Rattle.dwc_base.specs.Clones.{UnitSource}
+use Rattle.dwc_base.specs.TypeNames.{derived_name, name_of}
+use Rattle.dwc_base.specs.Values.{is_one_of}
+use Rattle.dwc_read.specs.declared.entry.Entry.{Entry as ReadEntry}
+use Rattle.dwc_read.specs.EntriesSeen.{entry_view}
+use Rattle.dwc_write.specs.TextTables.{IsText}
+use Rattle.dwc_clone.specs.declared.error.CloneError.{CloneError}
+use Rattle.dwc_clone.specs.declared.source.CloneSource.{CloneSource}
+use Rattle.dwc_clone.specs.declared.type_entry.TypeEntry.{TypeEntry}
+use Rattle.dwc_clone.specs.declared.type_name.ChainEnd.{ChainEnd}
+use Rattle.dwc_clone.specs.declared.type_name.ChainEnd.TheVariants.{Named as EndsNamed, Unknown, Met}
+use Rattle.dwc_clone.specs.declared.type_name.TypeNames.{TypeNames}
+use Rattle.dwc_clone.specs.declared.type_name.TypeStep.{TypeStep}
+use Rattle.dwc_clone.specs.declared.type_name.TypeStep.TheVariants.{Named, Last, Derived}
+use Rattle.dwc_clone.specs.Errors.{refusal_told}
+use Rattle.dwc_clone.specs.OutputPlaces.{place_of}
+use Rattle.dwc_clone.specs.Sources.{IsEmitted, IsSource}
+use Rattle.dwc_clone.specs.TypeChains.{GivesRead, behind, in_front, last_name, type_found, type_view}
+
+-- ---- the entry of a type
+
+-- Two entries are alike, but for their depths.
+pub record IsAlike (a b : Entry) : Type 0 where
+  pub offset : a.offset ≡ b.offset
+  pub tag : a.tag ≡ b.tag
+  pub attributes : a.attributes ≡ b.attributes
+
+-- An entry that is alike is read; or a refusal is for want of memory.
+abbrev pub GivesAlike : Entry → Result ReadEntry CloneError → Type 0
+GivesAlike e (Ok read) = IsAlike (entry_view read) e
+GivesAlike e (Err error) = refusal_told error ≡ None
+
+-- ---- one type
+
+-- What is read of an entry: its name; or that it has none, and is derived from no other type; or its tag, and the type that it is derived
+-- from.
+abbrev pub GivesStep : CloneSource → UnitSource → Placed → Result TypeStep CloneError → Type 0
+GivesStep c s f (Ok (Named text)) = name_of s.texts f ≡ Ok (Some text.now)
+GivesStep c s f (Ok Last) = (name_of s.texts f ≡ Ok None) × (derived_name f.entry.tag ≡ None)
+GivesStep c s f (Ok (Derived tag next)) = (name_of s.texts f ≡ Ok None) × (tag ≡ f.entry.tag) × (is_some (derived_name f.entry.tag) ≡ true) × (type_found c f.entry ≡ option_map type_view next)
+GivesStep c s f (Err error) = GivesRead {X = Option (List ℕ)} (λ name. name) (name_of s.texts f) (Err error)
+
+-- the same of the entry in the output that is at an offset
+abbrev pub ReadsStep : CloneSource → ℕ → Result TypeStep CloneError → Type 0
+ReadsStep c offset step = (number : ℕ) (s : UnitSource) (f : Placed) → IsSource c number s → IsEmitted c s f → f.entry.offset ≡ offset → GivesStep c s f step
+
+-- a type that is found is in the output
+abbrev pub IsPlaced : CloneSource → Option TypeEntry → Type 0
+IsPlaced c next = IfSome next (λ t. is_some (place_of c.places.now t.offset) ≡ true)
+
+-- the type that an entry is derived from
+abbrev pub next_type : TypeStep → Option TypeEntry
+next_type (Derived tag next) = next
+next_type _ = None
+
+-- the name of an entry
+abbrev pub step_name : TypeStep → List ℕ
+step_name (Named text) = text.now
+step_name _ = []
+
+-- ---- a chain of types
+
+-- An entry in the output has a type.
+pub record IsOfType (c : CloneSource) (s : UnitSource) (e : Placed) (first : TypeEntry) : Type 0 where
+  pub number : ℕ
+  pub source : IsSource c number s
+  pub emitted : IsEmitted c s e
+  pub type_is : type_found c e.entry ≡ Some (type_view first)
+
+-- A set has the offsets of a list, and no other.
+abbrev pub IsSetOf : List ℕ → BTreeSet ℕ → Type 0
+IsSetOf offsets met = (offset : ℕ) → contains nat_cmp met offset ≡ is_one_of offsets offset
+
+-- the name of a chain of some tags, by its end
+abbrev pub named_chain : List ℕ → ChainEnd → List ℕ
+named_chain tags last = in_front tags ++ (last_name last ++ behind tags)
+
+-- something holds where a chain ends at no entry that was met
+abbrev pub IfEnds : ChainEnd → Type 0 → Type 0
+IfEnds (EndsNamed text) P = P
+IfEnds Unknown P = P
+IfEnds Met P = Unit {0}
+
+-- ---- names that are noted
+
+-- They have no zero byte.
+pub record AreNames (names : TypeNames) : Type 0 where
+  pub each : (offset : ℕ) → IfSome (get nat_cmp names.names offset) (λ name. IsText name.items)

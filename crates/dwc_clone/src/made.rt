@@ -1,0 +1,70 @@
+//! Adds entries that stem from none of the input to a unit of the output.
+ghost use Rattle.std.specs.Prelude.{◌≡◌, ℕ, length, All, IfOk, IsOkUnless, OnOk};
+ghost use Rattle.dwc_write.specs.GivenUnits.{IsAdded};
+ghost use Rattle.dwc_write.specs.declared.error.WriteError.TheVariants.{OutOfMemory};
+ghost use Rattle.dwc_clone.specs.MadeAttributes.{FitsMade, given_value, with_made_entry, with_values};
+
+use dwc_write::{AttributeValue, DebugInfoRef, StringId, Unit, UnitEntryId, WriteError};
+
+/// What an attribute of a made entry says.
+#[derive(Clone, Copy)]
+pub(crate) enum MadeValue {
+    Text(StringId),
+    Constant { form: u16, bits: u64 },
+    Flag(bool),
+    /// An entry of the unit.
+    Entry(UnitEntryId),
+    /// An entry of any unit.
+    AnyEntry(DebugInfoRef),
+}
+
+// A value as one of the output.
+fn attribute_value(value: MadeValue) -> AttributeValue
+    ensures { result ≡ given_value value }
+{
+    match value {
+        MadeValue::Text(id) => AttributeValue::StringRef(id),
+        MadeValue::Constant { form, bits } => AttributeValue::Constant { form, bits },
+        MadeValue::Flag(flag) => AttributeValue::Flag(flag),
+        MadeValue::Entry(id) => AttributeValue::UnitRef(id),
+        MadeValue::AnyEntry(reference) => AttributeValue::DebugInfoRef(reference),
+    }
+}
+
+/// Gives an entry attributes, in order.
+pub(crate) fn set_values(
+    unit: &mut Unit,
+    id: UnitEntryId,
+    attributes: &[(u16, MadeValue)],
+) -> Result<(), WriteError>
+    requires known { IsAdded id.index unit.old }
+    requires fits { All FitsMade attributes.now }
+    ensures set { OnOk result (unit.new ≡ with_values id.index attributes.now unit.old) }
+    ensures memory { IsOkUnless result OutOfMemory }
+{
+    for i in 0..attributes.len() {
+        let (name, value) = attributes[i];
+        unit.set(id, name, attribute_value(value))?;
+    }
+    Ok(())
+}
+
+/// Adds an entry with attributes below a parent.
+pub(crate) fn add_made(
+    unit: &mut Unit,
+    parent: UnitEntryId,
+    tag: u16,
+    attributes: &[(u16, MadeValue)],
+) -> Result<UnitEntryId, WriteError>
+    requires parent { IsAdded parent.index unit.old }
+    requires fits { All FitsMade attributes.now }
+    ensures added { OnOk result (unit.new ≡ with_made_entry parent.index tag attributes.now unit.old) }
+    ensures id { IfOk result (λ id. id ≡ record { index = length unit.old.places }) }
+    ensures here { IfOk result (λ id. IsAdded id.index unit.new) }
+    ensures kept { (other : ℕ) → IsAdded other unit.old → OnOk result (IsAdded other unit.new) }
+    ensures memory { IsOkUnless result OutOfMemory }
+{
+    let id = unit.add(parent, tag)?;
+    set_values(unit, id, attributes)?;
+    Ok(id)
+}

@@ -1,0 +1,191 @@
+//! Clones pointers and references: a wrapper stands in the place of each.
+ghost use Rattle.std.specs.Prelude.{◌≡◌, ◌≢◌, ℕ, length, reverse, true, IfErr, IfOk, OnOk};
+ghost use Rattle.dwc_base.specs.Addends.{HaveAddends};
+ghost use Rattle.dwc_base.specs.Clones.{UnitSource};
+ghost use Rattle.dwc_base.specs.Lists.{list_source};
+ghost use Rattle.dwc_base.specs.RangeRefusals.{begins_by_low_pc};
+ghost use Rattle.dwc_base.specs.ReadValues.{IsReadEntry};
+ghost use Rattle.dwc_base.specs.Wrappers.{is_wrapped};
+ghost use Rattle.dwc_read.specs.EntriesSeen.{entry_view};
+ghost use Rattle.dwc_write.specs.GivenUnits.{IsReserved};
+ghost use Rattle.dwc_write.specs.TextTables.{IsText};
+ghost use Rattle.dwc_clone.specs.ClonedEntries.{AreKnown, CanAdd, placed_entry};
+ghost use Rattle.dwc_clone.specs.ClonedUnits.{IsInForce};
+ghost use Rattle.dwc_clone.specs.CompiledModules.{HasFrames};
+ghost use Rattle.dwc_clone.specs.KnownNames.{KnowsNames};
+ghost use Rattle.dwc_clone.specs.KnownTexts.{KnowsTexts};
+ghost use Rattle.dwc_clone.specs.Lineages.{AreInForce};
+ghost use Rattle.dwc_clone.specs.OpenWrappers.{CanCloseAll, IsOther};
+ghost use Rattle.dwc_clone.specs.Sources.{IsEmitted, IsSource};
+ghost use Rattle.dwc_clone.specs.TypeSteps.{AreNames};
+ghost use Rattle.dwc_clone.specs.WrappedEntries.{AddsWrapper, GivesChecked, GivesWrapped, GivesWrapperName};
+ghost use Rattle.dwc_clone.specs.declared.error.CloneError.TheVariants.{OutOfMemory};
+
+use crate::attribute::output_attribute;
+use crate::bounds::{nothing_seen, seen_behind};
+use crate::entry::{add_entry, depth_of, frame_in_force, of_memory};
+use crate::in_force::InForce;
+use crate::lineage::Lineage;
+use crate::type_entry::{type_id, type_of};
+use crate::type_name::{TypeNames, type_name};
+use crate::walk::{Walk, in_force_by};
+use crate::wrapper::{OpenWrapper, WrapperTexts, open_wrapper, wrapper_name, wrapper_texts};
+use crate::{CloneError, CloneSource, KnownTexts};
+use dwc_base::constants::DW_TAG_structure_type;
+use dwc_clif::TargetIsa;
+use dwc_read::Entry;
+use dwc_write::{StringTable, Unit, UnitEntryId};
+use std::alloc::Global;
+use std::vec::Vec;
+
+// Reads the attributes of an entry in order, of which nothing becomes.
+fn check_attributes(
+    alloc: Global,
+    isa: &dyn TargetIsa,
+    source: &CloneSource<'_, '_>,
+    in_force: &InForce<'_>,
+    begins: bool,
+    entry: &Entry<'_>,
+    strings: &mut StringTable,
+    known: &mut KnownTexts,
+) -> Result<(), CloneError>
+    requires functions { HaveAddends source.now.transform.now }
+    requires begins { begins ≡ begins_by_low_pc (list_source source.now.unit.now.sections source.now.unit.now.header) source.now.transform.now (entry_view entry.now) }
+    requires read { IsReadEntry (entry_view entry.now) }
+    requires texts { KnowsTexts source.now.unit.now.sections strings.old known.old }
+    ensures texts { KnowsTexts source.now.unit.now.sections strings.new known.new }
+    ensures checked { (number : ℕ) (s : UnitSource) → IsSource source.now number s → IsInForce (dwarf_registers isa.now) source.now s (placed_entry source.now (entry_view entry.now)) in_force.now → GivesChecked (dwarf_registers isa.now) source.now s (placed_entry source.now (entry_view entry.now)) strings.old strings.new result }
+{
+    let attributes = entry.attrs();
+    let mut seen = nothing_seen();
+    for attribute in attributes {
+        output_attribute(
+            alloc, isa, source, in_force, begins, seen, entry, attribute, strings, known,
+        )?;
+        seen = seen_behind(seen, attribute.0);
+    }
+    Ok(())
+}
+
+// Reads the name of the wrapper of an entry, behind the entry's attributes, of which nothing becomes.
+fn read_wrapper_name(
+    alloc: Global,
+    isa: &dyn TargetIsa,
+    source: &CloneSource<'_, '_>,
+    begins: bool,
+    entry: &Entry<'_>,
+    lineage: &Lineage,
+    names: &mut TypeNames,
+    strings: &mut StringTable,
+    known: &mut KnownTexts,
+) -> Result<Vec<u8>, CloneError>
+    requires functions { HaveAddends source.now.transform.now }
+    requires begins { begins ≡ begins_by_low_pc (list_source source.now.unit.now.sections source.now.unit.now.header) source.now.transform.now (entry_view entry.now) }
+    requires read { IsReadEntry (entry_view entry.now) }
+    requires texts { KnowsTexts source.now.unit.now.sections strings.old known.old }
+    requires plain { AreNames names.old }
+    ensures texts { KnowsTexts source.now.unit.now.sections strings.new known.new }
+    ensures plain { AreNames names.new }
+    ensures text { IfOk result (λ name. IsText name.items) }
+    ensures names { (number : ℕ) (s : UnitSource) → IsSource source.now number s → IsEmitted source.now s (placed_entry source.now (entry_view entry.now)) → KnowsNames source.now s names.old → OnOk result (KnowsNames source.now s names.new) }
+    ensures named { (number : ℕ) (s : UnitSource) → IsSource source.now number s → HasFrames source.now.module source.now.transform.now → IsEmitted source.now s (placed_entry source.now (entry_view entry.now)) → KnowsNames source.now s names.old → AreInForce (list_source source.now.unit.now.sections source.now.unit.now.header) source.now.transform.now s.entries (placed_entry source.now (entry_view entry.now)) lineage.now → is_wrapped (placed_entry source.now (entry_view entry.now)) ≡ true → GivesWrapperName (λ name. name.items) (dwarf_registers isa.now) source.now s (placed_entry source.now (entry_view entry.now)) strings.old strings.new result }
+{
+    let frame = frame_in_force(source, lineage);
+    let in_force = in_force_by(lineage, frame.as_ref());
+    check_attributes(alloc, isa, source, &in_force, begins, entry, strings, known)?;
+    let name = type_name(alloc, source, entry, names)?;
+    Ok(wrapper_name(alloc, entry.tag, &name)?)
+}
+
+// Adds the structure that an entry becomes, under a number that was reserved, and opens its wrapper.
+fn add_wrapper(
+    source: &CloneSource<'_, '_>,
+    entry: &Entry<'_>,
+    id: UnitEntryId,
+    texts: &WrapperTexts,
+    parents: &mut Vec<UnitEntryId>,
+    wrappers: &mut Vec<OpenWrapper>,
+    unit: &mut Unit,
+) -> Result<(), CloneError>
+    requires parents { AreKnown parents.old.items unit.old }
+    requires reserved { CanAdd id parents.old.items unit.old }
+    requires other { IsOther id.index (reverse wrappers.old.items) }
+    requires open { CanCloseAll (length unit.old.places) unit.old (reverse wrappers.old.items) }
+    ensures parents { OnOk result (AreKnown parents.new.items unit.new) }
+    ensures others { (k : ℕ) → IsReserved k unit.old → IsOther k (reverse wrappers.old.items) → k ≢ id.index → OnOk result (IsReserved k unit.new × IsOther k (reverse wrappers.new.items)) }
+    ensures open { OnOk result (CanCloseAll (length unit.new.places) unit.new (reverse wrappers.new.items)) }
+    ensures added { OnOk result (AddsWrapper source.now (placed_entry source.now (entry_view entry.now)) texts.now parents.old.items parents.new.items id wrappers.old.items wrappers.new.items unit.old unit.new) }
+    ensures memory { IfErr result (λ e. e ≡ OutOfMemory) }
+{
+    let depth = depth_of(entry);
+    let placed = of_memory(add_entry(unit, parents, depth, id, DW_TAG_structure_type))?;
+    let target = type_id(type_of(source, entry));
+    let wrapper = of_memory(open_wrapper(
+        unit,
+        depth,
+        placed.parent,
+        placed.id,
+        target,
+        source.wasm_ptr,
+        texts,
+    ))?;
+    wrappers.push(wrapper)?;
+    Ok(())
+}
+
+/// Adds the wrapper of a kept entry that is wrapped, under a number that was reserved; its types are added when it is closed. The
+/// entry's attributes are read before the name of its type. What is in force at the entry is on top of the lineage.
+pub(crate) fn wrap_entry(
+    alloc: Global,
+    isa: &dyn TargetIsa,
+    source: &CloneSource<'_, '_>,
+    begins: bool,
+    entry: &Entry<'_>,
+    id: UnitEntryId,
+    walk: &mut Walk,
+    unit: &mut Unit,
+    strings: &mut StringTable,
+    known: &mut KnownTexts,
+) -> Result<(), CloneError>
+    requires functions { HaveAddends source.now.transform.now }
+    requires begins { begins ≡ begins_by_low_pc (list_source source.now.unit.now.sections source.now.unit.now.header) source.now.transform.now (entry_view entry.now) }
+    requires read { IsReadEntry (entry_view entry.now) }
+    requires resolve { IsText source.now.module.names.resolve_memory.now }
+    requires parents { AreKnown walk.old.parents.items unit.old }
+    requires reserved { CanAdd id walk.old.parents.items unit.old }
+    requires other { IsOther id.index (reverse walk.old.open.items) }
+    requires open { CanCloseAll (length unit.old.places) unit.old (reverse walk.old.open.items) }
+    requires texts { KnowsTexts source.now.unit.now.sections strings.old known.old }
+    requires plain { AreNames walk.old.names }
+    ensures texts { KnowsTexts source.now.unit.now.sections strings.new known.new }
+    ensures parents { OnOk result (AreKnown walk.new.parents.items unit.new) }
+    ensures others { (k : ℕ) → IsReserved k unit.old → IsOther k (reverse walk.old.open.items) → k ≢ id.index → OnOk result (IsReserved k unit.new × IsOther k (reverse walk.new.open.items)) }
+    ensures open { OnOk result (CanCloseAll (length unit.new.places) unit.new (reverse walk.new.open.items)) }
+    ensures plain { AreNames walk.new.names }
+    ensures lineage { walk.new.lineage ≡ walk.old.lineage }
+    ensures contexts { walk.new.contexts ≡ walk.old.contexts }
+    ensures names { (number : ℕ) (s : UnitSource) → IsSource source.now number s → IsEmitted source.now s (placed_entry source.now (entry_view entry.now)) → KnowsNames source.now s walk.old.names → OnOk result (KnowsNames source.now s walk.new.names) }
+    ensures wrapped { (number : ℕ) (s : UnitSource) → IsSource source.now number s → HasFrames source.now.module source.now.transform.now → IsEmitted source.now s (placed_entry source.now (entry_view entry.now)) → KnowsNames source.now s walk.old.names → AreInForce (list_source source.now.unit.now.sections source.now.unit.now.header) source.now.transform.now s.entries (placed_entry source.now (entry_view entry.now)) walk.old.lineage → is_wrapped (placed_entry source.now (entry_view entry.now)) ≡ true → GivesWrapped (dwarf_registers isa.now) source.now s (placed_entry source.now (entry_view entry.now)) strings.old strings.new walk.old.parents.items walk.new.parents.items id walk.old.open.items walk.new.open.items unit.old unit.new result }
+{
+    let name = read_wrapper_name(
+        alloc,
+        isa,
+        source,
+        begins,
+        entry,
+        &walk.lineage,
+        &mut walk.names,
+        strings,
+        known,
+    )?;
+    let texts = of_memory(wrapper_texts(strings, source.module.names.resolve_memory, &name))?;
+    add_wrapper(
+        source,
+        entry,
+        id,
+        &texts,
+        &mut walk.parents,
+        &mut walk.open,
+        unit,
+    )
+}
