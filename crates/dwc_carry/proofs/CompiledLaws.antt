@@ -1,5 +1,5 @@
 -- The modules of a compilation by their places: their functions, and what is told of them.
-use Rattle.std.proofs.Common.{◌≡◌, ℕ, zero, suc, ◌+◌, add-one, ◌<◌, ◌≤◌, List, [], ◌∷◌, map, take, drop, length, get_or, slice_get, refl, ap, sym, subst, ◌∙◌, arith, true, false, Option, Some, None, All}
+use Rattle.std.proofs.Common.{◌≡◌, ℕ, zero, suc, ◌+◌, add-one, ◌<◌, ◌≤◌, List, [], ◌∷◌, map, take, drop, length, get_or, slice_get, refl, ap, sym, subst, ◌∙◌, arith, Option, Some, None, All}
 use Rattle.std.specs.Prelude.{IfSome, option_map}
 use Rattle.std.specs.Option.{unwrap_or}
 use Rattle.std.proofs.lemmas.List.{length-map}

@@ -1,5 +1,5 @@
 -- What is written of the units that are made for an input carries the lines of the input, and says its trees.
-use Rattle.std.proofs.Common.{◌≡◌, ℕ, suc, ◌+◌, ◌<◌, ◌≤◌, List, [], ◌∷◌, ◌++◌, map, length, refl, ap, sym, ◌∙◌, subst, arith, None, All}
+use Rattle.std.proofs.Common.{◌≡◌, ℕ, suc, ◌+◌, ◌<◌, ◌≤◌, List, [], ◌∷◌, ◌++◌, map, length, refl, ap, sym, ◌∙◌, subst, arith, Option, None, All}
 use Rattle.std.specs.List.{AllZip, flat_map}
 use Rattle.std.specs.Prelude.{sum_by}
 use Rattle.std.proofs.lemmas.List.{append-nil}
@@ -14,19 +14,19 @@ use Rattle.dwc_base.specs.Widest.{widest_lines_of}
 use Rattle.dwc_base.specs.DraftForests as Drafts
 use Rattle.dwc_base.specs.Forests.{carried_units, carried_units_of, wanted_units, wanted_units_of, trees_made, is_big, module_drafts}
 use Rattle.dwc_base.specs.Trees.{Tree}
-use Rattle.dwc_base.specs.TreeLaws.{HasAllTargets}
 use Rattle.dwc_write.specs.GivenLines.{GivenLines}
 use Rattle.dwc_write.specs.GivenTrees.{given_trees}
 use Rattle.dwc_write.specs.GivenUnits.{GivenUnit, IsWritable, AreWritable, ordered}
 use Rattle.dwc_write.specs.ReadBack.{IsReadUnit, ReadsBack, given_segments}
 use Rattle.dwc_write.specs.UsedTexts.{HaveTexts}
 use Rattle.dwc_write.specs.WidestGiven.{widest_table_for, widest_unit, widest_given}
-use Rattle.dwc_write.proofs.AddedInOrderTrees.{trees-in-order}
+use Rattle.dwc_write.proofs.AddedInOrderTrees.{trees-renumbered}
+use Rattle.dwc_write.specs.Renumbered.{place_at}
 use Rattle.dwc_write.proofs.AddedInOrderValues.{texts-in-order}
 use Rattle.dwc_carry.specs.MadeUnits.{HasWantedLines, AreMadeOf}
 use Rattle.dwc_carry.proofs.MadeLaws.{all-both, all-flat, made-in-order, texts_of_entry}
 
-module _ (size : ℕ) (texts : List (List ℕ)) where
+module _ (at : ℕ → ℕ → Option (ℕ × ℕ)) (size : ℕ) (texts : List (List ℕ)) where
   -- a unit that is read back carries what it was made of
   carries-unit : (s : Sections) (w : WantedUnit) (u : GivenUnit) (v : Unit) → HasWantedLines w u → IsReadUnit s (ordered u) v → HasLines s w v
   carries-unit s own_unit u v lines read = read.no_table (ap (λ (g : GivenLines). g.address_size) lines)
@@ -36,7 +36,7 @@ module _ (size : ℕ) (texts : List (List ℕ)) where
     carried = record { input = lines.input; input_read = lines.input_read; each = lines.images };
   }
 
-  carries-units : (s : Sections) (number : ℕ) (cs : List WantedUnit) (ts : List Tree) (us : List GivenUnit) (vs : List Unit) → AreMadeOf size texts number cs ts us → AllZip (IsReadUnit s) (map ordered us) vs → AllZip (HasLines s) cs vs
+  carries-units : (s : Sections) (number : ℕ) (cs : List WantedUnit) (ts : List Tree) (us : List GivenUnit) (vs : List Unit) → AreMadeOf at size texts number cs ts us → AllZip (IsReadUnit s) (map ordered us) vs → AllZip (HasLines s) cs vs
   carries-units s number [] [] [] [] made read = tt
   carries-units s number [] [] [] (v ∷ vs) made read = absurd read
   carries-units s number [] [] (u ∷ us) vs made read = absurd made
@@ -48,7 +48,7 @@ module _ (size : ℕ) (texts : List (List ℕ)) where
 
   -- Sections from which such units are read back carry the lines.
   pub lines-carried : (c : Compilation) (ts : List Tree) (us : List GivenUnit) (s : List OutputSection)
-      → ReadsBack c.order (map ordered us) s → AreMadeOf size texts 0 (wanted_units c) ts us → All (λ m. (units m.sections).fault ≡ None) c.modules → LinesCarried c s
+      → ReadsBack c.order (map ordered us) s → AreMadeOf at size texts 0 (wanted_units c) ts us → All (λ m. (units m.sections).fault ≡ None) c.modules → LinesCarried c s
   lines-carried c ts us s back made whole = record {
     whole = whole;
     output = back.read;
@@ -57,7 +57,7 @@ module _ (size : ℕ) (texts : List (List ℕ)) where
   }
 
   -- all have addresses of one size
-  pub made-sizes : (number : ℕ) (cs : List WantedUnit) (ts : List Tree) (us : List GivenUnit) → AreMadeOf size texts number cs ts us → All (λ u. u.address_size ≡ size) us
+  pub made-sizes : (number : ℕ) (cs : List WantedUnit) (ts : List Tree) (us : List GivenUnit) → AreMadeOf at size texts number cs ts us → All (λ u. u.address_size ≡ size) us
   made-sizes number [] [] [] made = All-nil (λ (u : GivenUnit). u.address_size ≡ size)
   made-sizes number [] [] (u ∷ us) made = absurd made
   made-sizes number [] (t ∷ ts) us made = absurd made
@@ -74,7 +74,7 @@ module _ (size : ℕ) (texts : List (List ℕ)) where
   unit-widest own_unit u lines = subst (λ (g : GivenLines). widest_table_for g.address_size g ≤ 0) (sym lines) (omega arith)
   unit-widest (carried_unit c) u lines = lines.widest
 
-  made-widest : (number : ℕ) (cs : List WantedUnit) (ts : List Tree) (us : List GivenUnit) → AreMadeOf size texts number cs ts us → sum_by (widest_unit Line) (map ordered us) ≤ sum_by widest_wanted cs
+  made-widest : (number : ℕ) (cs : List WantedUnit) (ts : List Tree) (us : List GivenUnit) → AreMadeOf at size texts number cs ts us → sum_by (widest_unit Line) (map ordered us) ≤ sum_by widest_wanted cs
   made-widest number [] [] [] made = omega arith
   made-widest number [] [] (u ∷ us) made = absurd made
   made-widest number [] (t ∷ ts) us made = absurd made
@@ -98,10 +98,10 @@ module _ (size : ℕ) (texts : List (List ℕ)) where
       omega (arith, own, split, carried, widest-carried (carried_units_of m), widest-modules ms)
 
   -- Their line tables are no longer, at their widest, than those of the input.
-  pub widest-given : (number : ℕ) (c : Compilation) (ts : List Tree) (us : List GivenUnit) → AreMadeOf size texts number (wanted_units c) ts us → widest_given Line (map ordered us) ≤ sum_by widest_lines_of (carried_units c)
+  pub widest-given : (number : ℕ) (c : Compilation) (ts : List Tree) (us : List GivenUnit) → AreMadeOf at size texts number (wanted_units c) ts us → widest_given Line (map ordered us) ≤ sum_by widest_lines_of (carried_units c)
   widest-given number c ts us made = omega (arith, made-widest number (wanted_units c) ts us made, widest-modules c.modules)
 
-  each-writable : (number : ℕ) (cs : List WantedUnit) (ts : List Tree) (us : List GivenUnit) → AreMadeOf size texts number cs ts us → All (IsWritable size) (map ordered us)
+  each-writable : (number : ℕ) (cs : List WantedUnit) (ts : List Tree) (us : List GivenUnit) → AreMadeOf at size texts number cs ts us → All (IsWritable size) (map ordered us)
   each-writable number [] [] [] made = All-nil (IsWritable size)
   each-writable number [] [] (u ∷ us) made = absurd made
   each-writable number [] (t ∷ ts) us made = absurd made
@@ -110,7 +110,7 @@ module _ (size : ℕ) (texts : List (List ℕ)) where
   each-writable number (c ∷ cs) (t ∷ ts) (u ∷ us) made = All-cons (IsWritable size) (ordered u) (map ordered us) made.0.writable (each-writable (suc number) cs ts us made.1)
 
   -- All of them can be written.
-  pub made-writable : (number : ℕ) (cs : List WantedUnit) (ts : List Tree) (us : List GivenUnit) → AreMadeOf size texts number cs ts us → AreWritable (map ordered us)
+  pub made-writable : (number : ℕ) (cs : List WantedUnit) (ts : List Tree) (us : List GivenUnit) → AreMadeOf at size texts number cs ts us → AreWritable (map ordered us)
   made-writable number [] [] [] made = All-nil (IsWritable 8)
   made-writable number [] [] (u ∷ us) made = absurd made
   made-writable number [] (t ∷ ts) us made = absurd made
@@ -121,7 +121,7 @@ module _ (size : ℕ) (texts : List (List ℕ)) where
 
   -- ---- texts and trees
 
-  named-texts : (number : ℕ) (cs : List WantedUnit) (ts : List Tree) (us : List GivenUnit) → AreMadeOf size texts number cs ts us → All (λ n. n < length texts) (flat_map (λ u. flat_map texts_of_entry u.additions) us)
+  named-texts : (number : ℕ) (cs : List WantedUnit) (ts : List Tree) (us : List GivenUnit) → AreMadeOf at size texts number cs ts us → All (λ n. n < length texts) (flat_map (λ u. flat_map texts_of_entry u.additions) us)
   named-texts number [] [] [] made = All-nil (λ (n : ℕ). n < length texts)
   named-texts number [] [] (u ∷ us) made = absurd made
   named-texts number [] (t ∷ ts) us made = absurd made
@@ -132,16 +132,16 @@ module _ (size : ℕ) (texts : List (List ℕ)) where
       (all-flat (λ (n : ℕ). n < length texts) texts_of_entry u.additions made.0.texts) (named-texts (suc number) cs ts us made.1)
 
   -- All texts that they name are in the table.
-  pub made-texts : (number : ℕ) (cs : List WantedUnit) (ts : List Tree) (us : List GivenUnit) → AreMadeOf size texts number cs ts us → HaveTexts texts (map ordered us)
+  pub made-texts : (number : ℕ) (cs : List WantedUnit) (ts : List Tree) (us : List GivenUnit) → AreMadeOf at size texts number cs ts us → HaveTexts texts (map ordered us)
   made-texts number cs ts us made =
-      let said = made-in-order size texts number cs ts us made in
+      let said = made-in-order at size texts number cs ts us made in
       subst (All (λ n. n < length texts)) (sym (texts-in-order said.depths us said.orders)) (named-texts number cs ts us made)
 
-  -- They say the trees, where each reference of these goes to an entry that is there.
-  pub made-trees : (cs : List WantedUnit) (ts : List Tree) (us : List GivenUnit) → AreMadeOf size texts 0 cs ts us → HasAllTargets ts → given_trees texts (map ordered us) ≡ ts
-  made-trees cs ts us made go =
-      let said = made-in-order size texts 0 cs ts us made in
-      trees-in-order texts said.depths us said.orders (subst HasAllTargets (sym said.says) go) ∙ said.says
+-- They say the trees, where numbers are put to the places of their entries.
+pub made-trees : (size : ℕ) (texts : List (List ℕ)) (cs : List WantedUnit) (ts : List Tree) (us : List GivenUnit) → AreMadeOf (place_at us) size texts 0 cs ts us → given_trees texts (map ordered us) ≡ ts
+made-trees size texts cs ts us made =
+    let said = made-in-order (place_at us) size texts 0 cs ts us made in
+    trees-renumbered texts said.depths us said.orders said.leads ∙ said.says
 
 -- The trees of an input are those of its modules.
 pub trees-of-modules : (c : Compilation) → trees_made c ≡ Drafts.trees_from 0 (map (module_drafts (is_big c.order)) c.modules)

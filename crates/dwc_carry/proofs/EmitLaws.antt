@@ -12,7 +12,6 @@ use Rattle.dwc_base.specs.ScopesCarried.{TranslationsKeepScopes}
 use Rattle.dwc_base.specs.TreeReading.{CarriesTrees}
 use Rattle.dwc_base.specs.Forests.{wanted_units, trees_made}
 use Rattle.dwc_base.specs.TreeLaws.{HasTextsOnce, have_short_expressions}
-use Rattle.dwc_base.proofs.ForestTargets.{made-targets}
 use Rattle.dwc_base.specs.OutputCarried.{widest}
 use Rattle.dwc_base.specs.OutputForm.{HaveTargetForm, HasDistinctNames}
 use Rattle.dwc_base.specs.Fields.{AreRelocated}
@@ -33,8 +32,9 @@ use Rattle.dwc_carry.specs.Refusals.{Told, refused, limit, memory, told, IsCause
 use Rattle.dwc_carry.specs.Inputs.{input_of, refusal_of}
 use Rattle.dwc_carry.specs.Transformed.{IsTransformed}
 use Rattle.dwc_carry.specs.Emits.{PassesLimit, Emits}
+use Rattle.dwc_write.specs.Renumbered.{place_at}
 use Rattle.dwc_carry.proofs.CompositionLaws.{lines-carried, made-sizes, made-trees, widest-given, made-writable}
-use Rattle.dwc_carry.proofs.ScopesMade.{MapsNumber, locations-carried, scopes-carried}
+use Rattle.dwc_carry.proofs.ScopesMade.{MapsNumber, contexts-carried, locations-carried, scopes-carried}
 
 -- Where something is written no expression of a location list is too long.
 short-written : (b : Bool) (s : Vec DwarfSection Global) → ◌≡◌ {A = Result (Vec DwarfSection Global) WriteError} (Ok s) (Err (write.TooLarge Expression)) ↔ (b ≡ false) → b ≡ true
@@ -57,7 +57,7 @@ module _ (order : Endian) (size : ℕ) (registers : Registers) (c : CompilationV
   module _ (texts : List (List ℕ)) (us : List GivenUnit) (accepted : refusal_of order size registers c ≡ None) (t : IsTransformed size (input_of order size registers c) texts us) where
     -- the units can be written
     pub transformed-writable : AreWritable (map ordered us)
-    transformed-writable = made-writable size texts 0 (wanted_units (input_of order size registers c)) (trees_made (input_of order size registers c)) us t.made
+    transformed-writable = made-writable (place_at us) size texts 0 (wanted_units (input_of order size registers c)) (trees_made (input_of order size registers c)) us t.made
 
     -- and all that they name is in the table of texts
     pub transformed-texts : HaveTexts texts (map ordered us)
@@ -67,7 +67,7 @@ module _ (order : Endian) (size : ℕ) (registers : Registers) (c : CompilationV
     same-trees : given_trees texts (map ordered us) ≡ trees_made (input_of order size registers c)
     same-trees =
         let input = input_of order size registers c in
-        made-trees size texts (wanted_units input) (trees_made input) us t.made (made-targets input)
+        made-trees size texts (wanted_units input) (trees_made input) us t.made
 
     -- what is written is emitted
     pub emits-sections : (s : Vec DwarfSection Global) → ReadsBack order (map ordered us) (map section_view s.items) → CarriesTrees order (given_trees texts (map ordered us)) (map section_view s.items) → HasTextsOnce (output_sections order (map section_view s.items))
@@ -79,15 +79,16 @@ module _ (order : Endian) (size : ℕ) (registers : Registers) (c : CompilationV
       accepted,
       record {
         output = record {
-          lines = lines-carried size texts (input_of order size registers c) (trees_made (input_of order size registers c)) us (map section_view s.items) back t.made t.whole;
+          lines = lines-carried (place_at us) size texts (input_of order size registers c) (trees_made (input_of order size registers c)) us (map section_view s.items) back t.made t.whole;
           wanted = given_trees texts (map ordered us);
           is_forest = t.trees;
           trees = says;
           targets = t.targets;
           scopes = scopes-carried number_maps order size registers c texts us accepted t.made keep;
           locations = locations-carried number_maps order size registers c texts us accepted t.made keep;
+          contexts = contexts-carried number_maps order size registers c texts us accepted t.made keep;
           texts = once;
-          form = form size (made-sizes size texts 0 (wanted_units (input_of order size registers c)) (trees_made (input_of order size registers c)) us t.made);
+          form = form size (made-sizes (place_at us) size texts 0 (wanted_units (input_of order size registers c)) (trees_made (input_of order size registers c)) us t.made);
           names = names;
           relocated = relocated;
         };
@@ -104,7 +105,7 @@ module _ (order : Endian) (size : ℕ) (registers : Registers) (c : CompilationV
         same name = subst (λ ts. widest_of_trees name (given_trees texts (map ordered us)) ≤ widest_of_trees name ts) same-trees (omega arith)
 
         go : (name : SectionName) → widest_said name texts (map ordered us) ≤ widest name (input_of order size registers c)
-        go Line = widest-given size texts 0 (input_of order size registers c) (trees_made (input_of order size registers c)) us t.made
+        go Line = widest-given (place_at us) size texts 0 (input_of order size registers c) (trees_made (input_of order size registers c)) us t.made
         go Abbrev = same Abbrev
         go Addr = same Addr
         go Info = same Info

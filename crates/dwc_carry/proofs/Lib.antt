@@ -22,6 +22,7 @@ pub mod TransformLaws
 pub mod UnitGives
 pub mod UnitLoopLaws
 pub mod UnitMade
+pub mod CarriedMade
 pub mod UnitSources
 pub mod UnitsInOrder
 pub mod WalkLaws

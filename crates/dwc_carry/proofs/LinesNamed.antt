@@ -5,17 +5,22 @@ use Rattle.std.specs.List.{filter_map, cons_option, list_any}
 use Rattle.std.proofs.lemmas.Bool.{eq-eqb, eqb-true}
 use Rattle.std.proofs.lemmas.List.Folds.{list_any-append}
 use Rattle.std.proofs.lemmas.List.Elements.{All-nil, All-cons, All-head, All-tail, All-append}
-use Rattle.dwc_base.specs.declared.constants.TheConstants.{DW_AT_stmt_list, DW_AT_ranges, DW_AT_endianity, DW_TAG_base_type, DW_TAG_compile_unit, DW_FORM_data1, DW_END_little}
+use Rattle.dwc_base.specs.declared.constants.TheConstants.{DW_AT_stmt_list, DW_AT_ranges, DW_AT_endianity, DW_TAG_base_type, DW_TAG_compile_unit, DW_TAG_entry_point, DW_TAG_formal_parameter, DW_TAG_inlined_subroutine, DW_TAG_pointer_type, DW_TAG_reference_type, DW_TAG_subprogram, DW_FORM_data1, DW_END_little}
 use Rattle.dwc_base.specs.declared.records.Address.TheVariants.{Symbol}
-use Rattle.dwc_base.specs.Values.{Value}
+use Rattle.dwc_base.specs.Values.{Value, is_one_of}
 use Rattle.dwc_base.specs.Functions.{Function}
 use Rattle.dwc_base.specs.Compiled.{ToldModule}
-use Rattle.dwc_base.specs.Kept.{Placed}
+use Rattle.dwc_base.specs.Kept.{Placed, parent_of}
 use Rattle.dwc_base.specs.Trees.{Interval, TreeValue, constant, line_table, ranges, Tree, set_attribute}
-use Rattle.dwc_base.specs.Drafts.{Goal, DraftValue, done}
+use Rattle.dwc_base.specs.Drafts.{Goal, itself, DraftValue, done}
 use Rattle.dwc_base.specs.DraftForests.{settled_value, settled, settled_entry}
 use Rattle.dwc_base.specs.Clones.{UnitSource, CodeRules, table_becomes, attribute_becomes, attributes_become, if_made, endianity, attributes_made}
-use Rattle.dwc_base.specs.CarriedDrafts.{draft_of}
+use Rattle.dwc_base.specs.CarriedDrafts.{draft_of, entry_made, unit_drafts}
+use Rattle.dwc_base.specs.ContextVariable.{context_entries}
+use Rattle.dwc_base.specs.LocationRules.{ExpressionSource}
+use Rattle.dwc_base.specs.ObjectPointers.{is_object_pointer, names_no_pointer, pointers_changed, points_to_object, unlike_this}
+use Rattle.dwc_base.specs.Texts.{TextSource}
+use Rattle.dwc_base.specs.Wrappers.{entries_made, with_wrapper}
 use Rattle.dwc_base.specs.Refusals.{Refusal}
 use Rattle.dwc_base.specs.Sections.{Sections}
 use Rattle.dwc_base.specs.Units.{UnitHeader}
@@ -23,7 +28,7 @@ use Rattle.dwc_base.specs.Entries.{Entry}
 use Rattle.dwc_base.specs.Lists.{list_source}
 use Rattle.dwc_base.specs.RawLists.{ListSource}
 use Rattle.dwc_base.specs.RangeAttributes.{begun_function, Extent, intervals, position, nowhere, extent, native_of_intervals, bounds as bounds_of, length_of, said_intervals, said_extent, range_attributes}
-use Rattle.dwc_base.specs.EntryRules.{code_rules}
+use Rattle.dwc_base.specs.EntryRules.{code_rules, rules_of_source, wrappers_of}
 use Rattle.dwc_base.proofs.ForestLaws.{Each, each_chosen}
 use Rattle.dwc_write.specs.declared.attributes.Attribute.{Attribute}
 use Rattle.dwc_write.specs.declared.attributes.AttributeValue.{AttributeValue}
@@ -302,3 +307,17 @@ root-says told fs t h es s big_endian places e root =
 
     stands : StandsFor all (filter_map (settled places) all)
     stands = settle-all places all (All-append IsNamedDraft (bounds ++ made) last (All-append IsNamedDraft bounds made others.0 become.0) (endianity-other big_endian e).0)
+
+-- The root of a unit is not wrapped, and no object pointer, so it becomes the first entry by itself.
+pub root-drafted : (c : ExpressionSource) (s : UnitSource) (big_endian : Bool) (e : Placed) (es : List Placed) → e.entry.tag ≡ DW_TAG_compile_unit
+    → unit_drafts c s big_endian (e ∷ es) ≡ draft_of (rules_of_source c) s big_endian e ∷ (context_entries c e ++ unit_drafts c s big_endian es)
+unfolding entries_made pointers_changed is_object_pointer
+root-drafted c s big_endian e es tag =
+    ap (λ (b : Bool). elim b [ true ↦ with_wrapper (wrappers_of c) e (unit_drafts c s big_endian es) | false ↦ entry_made c s big_endian e ++ unit_drafts c s big_endian es ]) (ap (λ t. (t == DW_TAG_pointer_type) || (t == DW_TAG_reference_type)) tag)
+    ∙ ap (λ (xs : List (ℕ × DraftValue)). record { depth = e.entry.depth; tag = e.entry.tag; origin = Some (e.entry.offset, itself); attributes = xs } ∷ (context_entries c e ++ unit_drafts c s big_endian es)) (same (wrappers_of c).texts c.entries (attributes_made (rules_of_source c) s big_endian e))
+  where
+    same : (texts : TextSource) (all : List Placed) (xs : List (ℕ × DraftValue)) → pointers_changed texts all e xs ≡ xs
+    same texts all xs =
+        ap₂ (λ (a b : Bool). if a then filter_map unlike_this xs else (if b then filter_map (names_no_pointer all e) xs else xs))
+        (ap (λ t. (t == DW_TAG_formal_parameter) && points_to_object texts all e (parent_of all e)) tag)
+        (ap (is_one_of (DW_TAG_subprogram ∷ DW_TAG_inlined_subroutine ∷ DW_TAG_entry_point ∷ [])) tag)

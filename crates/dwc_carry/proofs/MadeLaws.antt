@@ -1,16 +1,18 @@
 -- Units that are made as they are wanted: with more texts, and others behind them.
-use Rattle.std.proofs.Common.{◌≡◌, ℕ, suc, ◌+◌, ◌<◌, arith, refl, ap, sym, ◌∙◌, subst, List, [], ◌∷◌, ◌++◌, length, All}
+use Rattle.std.proofs.Common.{◌≡◌, ℕ, zero, suc, ◌+◌, ◌<◌, arith, refl, ap, sym, ◌∙◌, subst, List, [], ◌∷◌, ◌++◌, length, map, Option, Some, All}
 use Rattle.std.specs.List.{flat_map, AllZip}
 use Rattle.std.proofs.lemmas.List.{append-nil, append_assoc, length-append}
 use Rattle.std.proofs.lemmas.List.Elements.{All-nil, All-cons, All-head, All-tail}
 use Rattle.dwc_base.specs.Carried.{WantedUnit}
 use Rattle.dwc_base.specs.Trees.{Tree}
-use Rattle.dwc_write.specs.GivenUnits.{Addition, GivenUnit}
+use Rattle.std.specs.Prelude.{slice_get, option_map, option_and_then}
+use Rattle.dwc_write.specs.GivenUnits.{Addition, GivenUnit, place_of}
 use Rattle.dwc_write.specs.UsedTexts.{texts_of_attributes}
 use Rattle.dwc_write.specs.AddedInOrder.{IsInOrder, trees_meant}
+use Rattle.dwc_write.specs.Renumbered.{LeadsToEntries, place_at, renumbered_entry, renumbered_trees}
 use Rattle.dwc_write.proofs.AddedInOrderValues.{tree-meant-more}
 use Rattle.dwc_clone.specs.MadeValues.{Grows}
-use Rattle.dwc_carry.specs.MadeUnits.{IsMadeOf, AreMadeOf}
+use Rattle.dwc_carry.specs.MadeUnits.{LeadsTo, IsMadeOf, AreMadeOf}
 
 -- ---- tables of texts that grow
 
@@ -50,67 +52,98 @@ texts-more texts more es h =
     all-more (λ (e : Addition). All P (texts_of_entry e)) (λ (e : Addition). All Q (texts_of_entry e))
     (λ e has. all-more P Q (λ n less. omega (arith, less, length-append texts more)) (texts_of_entry e) has) es h
 
-made-with : (size : ℕ) (texts more : List (List ℕ)) (number : ℕ) (c : WantedUnit) (t : Tree) (u : GivenUnit) → IsMadeOf size texts number c t u → IsMadeOf size (texts ++ more) number c t u
-made-with size texts more number c t u h = record {
+made-with : (at : ℕ → ℕ → Option (ℕ × ℕ)) (size : ℕ) (texts more : List (List ℕ)) (number : ℕ) (c : WantedUnit) (t : Tree) (u : GivenUnit) → IsMadeOf at size texts number c t u → IsMadeOf at size (texts ++ more) number c t u
+made-with at size texts more number c t u h = record {
   has_lines = h.has_lines;
   depths = h.depths;
   order = h.order;
-  says = tree-meant-more texts more number h.depths u.additions (all-flat (λ n. n < length texts) texts_of_entry u.additions h.texts) ∙ h.says;
+  leads = h.leads;
+  says = ap (map (renumbered_entry at)) (tree-meant-more texts more number h.depths u.additions (all-flat (λ n. n < length texts) texts_of_entry u.additions h.texts)) ∙ h.says;
   texts = texts-more texts more u.additions h.texts;
   writable = h.writable;
 }
 
 -- ---- units in order
 
-made-more-with : (size : ℕ) (texts more : List (List ℕ)) (number : ℕ) (cs : List WantedUnit) (ts : List Tree) (us : List GivenUnit) → AreMadeOf size texts number cs ts us → AreMadeOf size (texts ++ more) number cs ts us
-made-more-with size texts more number [] [] [] h = h
-made-more-with size texts more number [] [] (u ∷ us) h = absurd h
-made-more-with size texts more number [] (t ∷ ts) us h = absurd h
-made-more-with size texts more number (c ∷ cs) [] us h = absurd h
-made-more-with size texts more number (c ∷ cs) (t ∷ ts) [] h = absurd h
-made-more-with size texts more number (c ∷ cs) (t ∷ ts) (u ∷ us) h = (made-with size texts more number c t u h.0, made-more-with size texts more (suc number) cs ts us h.1)
+made-more-with : (at : ℕ → ℕ → Option (ℕ × ℕ)) (size : ℕ) (texts more : List (List ℕ)) (number : ℕ) (cs : List WantedUnit) (ts : List Tree) (us : List GivenUnit) → AreMadeOf at size texts number cs ts us → AreMadeOf at size (texts ++ more) number cs ts us
+made-more-with at size texts more number [] [] [] h = h
+made-more-with at size texts more number [] [] (u ∷ us) h = absurd h
+made-more-with at size texts more number [] (t ∷ ts) us h = absurd h
+made-more-with at size texts more number (c ∷ cs) [] us h = absurd h
+made-more-with at size texts more number (c ∷ cs) (t ∷ ts) [] h = absurd h
+made-more-with at size texts more number (c ∷ cs) (t ∷ ts) (u ∷ us) h = (made-with at size texts more number c t u h.0, made-more-with at size texts more (suc number) cs ts us h.1)
 
 -- Units say the same with more texts.
-pub made-grown : (size : ℕ) (old new : List (List ℕ)) (number : ℕ) (cs : List WantedUnit) (ts : List Tree) (us : List GivenUnit) → Grows old new → AreMadeOf size old number cs ts us → AreMadeOf size new number cs ts us
-made-grown size old new number cs ts us grows h = subst (λ texts. AreMadeOf size texts number cs ts us) (sym grows.is) (made-more-with size old grows.more number cs ts us h)
+pub made-grown : (at : ℕ → ℕ → Option (ℕ × ℕ)) (size : ℕ) (old new : List (List ℕ)) (number : ℕ) (cs : List WantedUnit) (ts : List Tree) (us : List GivenUnit) → Grows old new → AreMadeOf at size old number cs ts us → AreMadeOf at size new number cs ts us
+made-grown at size old new number cs ts us grows h = subst (λ texts. AreMadeOf at size texts number cs ts us) (sym grows.is) (made-more-with at size old grows.more number cs ts us h)
 
 -- There is one for each tree.
-pub made-length : (size : ℕ) (texts : List (List ℕ)) (number : ℕ) (cs : List WantedUnit) (ts : List Tree) (us : List GivenUnit) → AreMadeOf size texts number cs ts us → length ts ≡ length us
-made-length size texts number [] [] [] h = refl
-made-length size texts number [] [] (u ∷ us) h = absurd h
-made-length size texts number [] (t ∷ ts) us h = absurd h
-made-length size texts number (c ∷ cs) [] us h = absurd h
-made-length size texts number (c ∷ cs) (t ∷ ts) [] h = absurd h
-made-length size texts number (c ∷ cs) (t ∷ ts) (u ∷ us) h = ap suc (made-length size texts (suc number) cs ts us h.1)
+pub made-length : (at : ℕ → ℕ → Option (ℕ × ℕ)) (size : ℕ) (texts : List (List ℕ)) (number : ℕ) (cs : List WantedUnit) (ts : List Tree) (us : List GivenUnit) → AreMadeOf at size texts number cs ts us → length ts ≡ length us
+made-length at size texts number [] [] [] h = refl
+made-length at size texts number [] [] (u ∷ us) h = absurd h
+made-length at size texts number [] (t ∷ ts) us h = absurd h
+made-length at size texts number (c ∷ cs) [] us h = absurd h
+made-length at size texts number (c ∷ cs) (t ∷ ts) [] h = absurd h
+made-length at size texts number (c ∷ cs) (t ∷ ts) (u ∷ us) h = ap suc (made-length at size texts (suc number) cs ts us h.1)
 
 -- others behind them
-pub made-both : (size : ℕ) (texts : List (List ℕ)) (number next : ℕ) (cs ds : List WantedUnit) (ts ws : List Tree) (us vs : List GivenUnit) → next ≡ number + length us
-    → AreMadeOf size texts number cs ts us → AreMadeOf size texts next ds ws vs → AreMadeOf size texts number (cs ++ ds) (ts ++ ws) (us ++ vs)
-made-both size texts number next [] ds [] ws [] vs is h k =
+pub made-both : (at : ℕ → ℕ → Option (ℕ × ℕ)) (size : ℕ) (texts : List (List ℕ)) (number next : ℕ) (cs ds : List WantedUnit) (ts ws : List Tree) (us vs : List GivenUnit) → next ≡ number + length us
+    → AreMadeOf at size texts number cs ts us → AreMadeOf at size texts next ds ws vs → AreMadeOf at size texts number (cs ++ ds) (ts ++ ws) (us ++ vs)
+made-both at size texts number next [] ds [] ws [] vs is h k =
     let same : next ≡ number = omega (arith, is) in
-    subst (λ n. AreMadeOf size texts n ds ws vs) same k
-made-both size texts number next [] ds [] ws (u ∷ us) vs is h k = absurd h
-made-both size texts number next [] ds (t ∷ ts) ws us vs is h k = absurd h
-made-both size texts number next (c ∷ cs) ds [] ws us vs is h k = absurd h
-made-both size texts number next (c ∷ cs) ds (t ∷ ts) ws [] vs is h k = absurd h
-made-both size texts number next (c ∷ cs) ds (t ∷ ts) ws (u ∷ us) vs is h k = (h.0, made-both size texts (suc number) next cs ds ts ws us vs (omega (arith, is)) h.1 k)
+    subst (λ n. AreMadeOf at size texts n ds ws vs) same k
+made-both at size texts number next [] ds [] ws (u ∷ us) vs is h k = absurd h
+made-both at size texts number next [] ds (t ∷ ts) ws us vs is h k = absurd h
+made-both at size texts number next (c ∷ cs) ds [] ws us vs is h k = absurd h
+made-both at size texts number next (c ∷ cs) ds (t ∷ ts) ws [] vs is h k = absurd h
+made-both at size texts number next (c ∷ cs) ds (t ∷ ts) ws (u ∷ us) vs is h k = (h.0, made-both at size texts (suc number) next cs ds ts ws us vs (omega (arith, is)) h.1 k)
 
--- Their entries are in file order, and say the trees.
-pub record SayInOrder (texts : List (List ℕ)) (number : ℕ) (ts : List Tree) (us : List GivenUnit) : Type 0 where
+-- Their entries are in file order, and say the trees where numbers are put to places.
+pub record SayInOrder (at : ℕ → ℕ → Option (ℕ × ℕ)) (texts : List (List ℕ)) (number : ℕ) (ts : List Tree) (us : List GivenUnit) : Type 0 where
   pub depths : List (List ℕ)
   pub orders : AllZip IsInOrder depths us
-  pub says : trees_meant texts number depths us ≡ ts
+  pub leads : All LeadsToEntries us
+  pub says : renumbered_trees at (trees_meant texts number depths us) ≡ ts
 
-pub made-in-order : (size : ℕ) (texts : List (List ℕ)) (number : ℕ) (cs : List WantedUnit) (ts : List Tree) (us : List GivenUnit) → AreMadeOf size texts number cs ts us → SayInOrder texts number ts us
-made-in-order size texts number [] [] [] h = record { depths = []; orders = tt; says = refl }
-made-in-order size texts number [] [] (u ∷ us) h = absurd h
-made-in-order size texts number [] (t ∷ ts) us h = absurd h
-made-in-order size texts number (c ∷ cs) [] us h = absurd h
-made-in-order size texts number (c ∷ cs) (t ∷ ts) [] h = absurd h
-made-in-order size texts number (c ∷ cs) (t ∷ ts) (u ∷ us) h =
-    let rest = made-in-order size texts (suc number) cs ts us h.1 in
+pub made-in-order : (at : ℕ → ℕ → Option (ℕ × ℕ)) (size : ℕ) (texts : List (List ℕ)) (number : ℕ) (cs : List WantedUnit) (ts : List Tree) (us : List GivenUnit) → AreMadeOf at size texts number cs ts us → SayInOrder at texts number ts us
+made-in-order at size texts number [] [] [] h = record { depths = []; orders = tt; leads = All-nil LeadsToEntries; says = refl }
+made-in-order at size texts number [] [] (u ∷ us) h = absurd h
+made-in-order at size texts number [] (t ∷ ts) us h = absurd h
+made-in-order at size texts number (c ∷ cs) [] us h = absurd h
+made-in-order at size texts number (c ∷ cs) (t ∷ ts) [] h = absurd h
+made-in-order at size texts number (c ∷ cs) (t ∷ ts) (u ∷ us) h =
+    let rest = made-in-order at size texts (suc number) cs ts us h.1 in
     record {
       depths = h.0.depths ∷ rest.depths;
       orders = (h.0.order, rest.orders);
-      says = ap (λ x. x ∷ trees_meant texts (suc number) rest.depths us) h.0.says ∙ ap (λ xs. t ∷ xs) rest.says;
+      leads = All-cons LeadsToEntries u us h.0.leads rest.leads;
+      says = ap (λ x. x ∷ renumbered_trees at (trees_meant texts (suc number) rest.depths us)) h.0.says ∙ ap (λ xs. t ∷ xs) rest.says;
     }
+
+-- ---- numbers that lead to places
+
+-- The places of all units' entries are those of their numbers.
+pub leads-there : (us : List GivenUnit) → LeadsTo (place_at us) 0 us
+leads-there us i u there number place at =
+    let same : i ≡ 0 + i = omega arith in
+    subst (λ k. place_at us k number ≡ Some (k, place)) same (ap (λ (o : Option GivenUnit). option_map (λ (p : ℕ). (i, p)) (option_and_then (λ (v : GivenUnit). place_of number v.places) o)) there ∙ ap (option_map (λ (p : ℕ). (i, p))) at)
+
+get-front : (us vs : List GivenUnit) (i : ℕ) (u : GivenUnit) → slice_get us i ≡ Some u → slice_get (us ++ vs) i ≡ Some u
+get-front [] vs i u h = absurd (cc)
+get-front (x ∷ us) vs zero u h = h
+get-front (x ∷ us) vs (suc i) u h = get-front us vs i u h
+
+get-behind : (us vs : List GivenUnit) (i : ℕ) → slice_get (us ++ vs) (length us + i) ≡ slice_get vs i
+get-behind [] vs i = ap (slice_get vs) (omega arith)
+get-behind (x ∷ us) vs i =
+    let next : suc (length us) + i ≡ suc (length us + i) = omega arith in
+    ap (slice_get (x ∷ (us ++ vs))) next ∙ get-behind us vs i
+
+-- Those of a part lead to their places too.
+pub leads-front : (at : ℕ → ℕ → Option (ℕ × ℕ)) (number : ℕ) (us vs : List GivenUnit) → LeadsTo at number (us ++ vs) → LeadsTo at number us
+leads-front at number us vs leads i u there n place is = leads i u (get-front us vs i u there) n place is
+
+pub leads-behind : (at : ℕ → ℕ → Option (ℕ × ℕ)) (number next : ℕ) (us vs : List GivenUnit) → next ≡ number + length us → LeadsTo at number (us ++ vs) → LeadsTo at next vs
+leads-behind at number next us vs counted leads i u there n place is =
+    let same : number + (length us + i) ≡ next + i = omega (arith, counted) in
+    subst (λ k. at k n ≡ Some (k, place)) same (leads (length us + i) u (get-behind us vs i ∙ there) n place is)

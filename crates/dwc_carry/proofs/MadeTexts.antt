@@ -1,6 +1,5 @@
 -- Texts that are added to a table have their numbers there.
 use Rattle.std.proofs.Common.{◌≡◌, ℕ, zero, suc, ◌+◌, ◌<◌, List, [], ◌∷◌, ◌++◌, length, map, drop, get_or, refl, ap, ap₂, sym, ◌∙◌, subst, arith, All, Bor}
-use Rattle.std.specs.Prelude.{fold}
 use Rattle.std.specs.List.{position_or_len, list_all}
 use Rattle.std.specs.Str.{bytes_eq}
 use Rattle.std.proofs.lemmas.List.{append_assoc, drop_more, get_or_append_left, length-append, length-map, map-append}

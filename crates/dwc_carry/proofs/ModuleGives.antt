@@ -1,15 +1,12 @@
 -- What is answered for a module, from what is answered for its units.
-use Rattle.std.proofs.Common.{◌≡◌, ℕ, List, [], ◌∷◌, ◌++◌, map, length, refl, ap, sym, ◌∙◌, subst, Bool, Some, None, Result, Ok, Err}
+use Rattle.std.proofs.Common.{◌≡◌, ℕ, List, [], ◌∷◌, ◌++◌, map, refl, ap, sym, ◌∙◌, subst, Bool, Some, None, Result, Ok, Err}
 use Rattle.std.specs.Prelude.{option_map, option_to_list}
 use Rattle.std.specs.List.{flat_map}
-use Rattle.std.proofs.lemmas.List.{append-nil}
-use Rattle.std.proofs.lemmas.List.Elements.{All-nil, All-cons}
 use Rattle.dwc_base.specs.declared.faults.Kind.TheVariants.{Compressed}
 use Rattle.dwc_base.specs.Sections.{Fault, unsupported}
-use Rattle.dwc_base.specs.Carried.{Unit, units, Module}
+use Rattle.dwc_base.specs.Carried.{units, Module}
 use Rattle.dwc_base.specs.Refusals.{Refusal, of_place, unit_refusal, first_of}
-use Rattle.dwc_base.specs.KeptModules.{kept_module, kept_in, carried_in}
-use Rattle.dwc_base.specs.CarriedDrafts.{source_of}
+use Rattle.dwc_base.specs.KeptModules.{kept_module, carried_in}
 use Rattle.dwc_base.specs.EntryRules.{named_faults}
 use Rattle.dwc_base.specs.ReachedEntries.{info_faults, unit_refusals}
 use Rattle.dwc_base.specs.ReachedEntries as Reached

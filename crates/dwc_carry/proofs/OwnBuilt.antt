@@ -1,6 +1,6 @@
 -- A module's own unit is built step by step.
-use Rattle.std.proofs.Common.{◌≡◌, ℕ, zero, suc, ◌+◌, ◌<◌, List, [], ◌∷◌, ◌++◌, length, map, get_or, refl, ap, ap₂, sym, ◌∙◌, subst, arith, Bool, true, false, None, All, Bor}
-use Rattle.std.specs.Prelude.{if◌then◌else◌, option_map, nat_lt}
+use Rattle.std.proofs.Common.{◌≡◌, ℕ, zero, suc, ◌+◌, ◌<◌, List, [], ◌∷◌, ◌++◌, length, map, get_or, refl, ap, ap₂, sym, ◌∙◌, subst, arith, true, false, None, All, Bor}
+use Rattle.std.specs.Prelude.{if◌then◌else◌, option_map, nat_lt, Option}
 use Rattle.std.specs.List.{list_all}
 use Rattle.std.proofs.lemmas.List.{length-map}
 use Rattle.std.proofs.lemmas.List.Elements.{All-nil, All-cons}
@@ -21,7 +21,7 @@ use Rattle.dwc_write.specs.TextTables.{IsText}
 use Rattle.dwc_write.specs.UsedTexts.{text_numbered}
 use Rattle.dwc_carry.specs.declared.own_entries.OwnTexts.{OwnTexts}
 use Rattle.dwc_carry.specs.Refusals.{in_reading}
-use Rattle.dwc_carry.specs.MadeUnits.{IsMadeOf}
+use Rattle.dwc_carry.specs.MadeUnits.{LeadsTo, IsMadeOf}
 use Rattle.dwc_carry.specs.MadeEntries.{IsDense, number_of, numbers_added, texts_added, with_additions, with_attributes}
 use Rattle.dwc_carry.specs.OwnAdditions.{context_additions, first_additions, last_additions, own_given, own_numbers, own_texts, place_of_set, root_addition, root_attributes}
 use Rattle.dwc_carry.specs.OwnUnits.{entry_of, own_tree}
@@ -94,7 +94,7 @@ indexed ids ns k a same less is =
 
 -- the texts of the unit have their numbers in the table
 pub own-added : (size number : ℕ) (old table : List (List ℕ)) (t : OwnTexts) (set_memory : List ℕ) (m : Memory) → table ≡ texts_added old (own_texts set_memory) → own_numbers t ≡ numbers_added old (own_texts set_memory)
-    → IsMadeOf size table number own_unit (own_tree number set_memory m) (own_given size t m)
+    → (at : ℕ → ℕ → Option (ℕ × ℕ)) → LeadsTo at number (own_given size t m ∷ []) → IsMadeOf at size table number own_unit (own_tree number set_memory m) (own_given size t m)
 own-added size number old table t set_memory m texts numbers =
     own-made size number table t set_memory (ap₂ (λ x ns. map (text_numbered x) ns) texts numbers ∙ numbers-named old (own_texts set_memory))
     (subst (λ x. All (λ n. n < length x) (own_numbers t)) (sym texts) (subst (λ ns. All (λ n. n < length (texts_added old (own_texts set_memory))) ns) (sym numbers) (numbers-inside old (own_texts set_memory)))) m

@@ -1,18 +1,26 @@
 -- A module's own unit, as it is added, says its tree.
-use Rattle.std.proofs.Common.{◌≡◌, ℕ, zero, suc, ◌+◌, ◌<◌, ◌≤◌, ◌⊎◌, List, [], ◌∷◌, ◌++◌, length, map, get_or, refl, ap, arith, lit<, lit≤, Bool, true, false, None, All}
-use Rattle.std.specs.Prelude.{nat_le, ◌&&◌}
+use Rattle.std.proofs.Common.{◌≡◌, ℕ, zero, suc, ◌+◌, ◌<◌, ◌≤◌, List, [], ◌∷◌, length, map, get_or, refl, ap, subst, ◌∙◌, arith, lit<, lit≤, Bool, true, false, cond, Option, Some, None, All}
+use Rattle.std.specs.Prelude.{nat_le, nat_lt, option_map, option_and_then}
+use Rattle.std.specs.Option.{option_or}
 use Rattle.std.specs.List.{list_all}
-use Rattle.std.proofs.lemmas.Bool.{and_parts, leb-true}
+use Rattle.std.proofs.lemmas.Bool.{and_parts, leb-true, ltb-true}
 use Rattle.std.proofs.lemmas.List.Elements.{All-nil, All-cons}
-use Rattle.dwc_base.proofs.ForestLaws.{Each}
+use Rattle.dwc_base.proofs.ForestLaws.{Each, Anywhere, SaysNoPlace, UnitSaysNoPlace}
+use Rattle.dwc_base.proofs.ForestTargets.{own-no-place}
+use Rattle.dwc_base.specs.Drafts.{Goal, made_of, own_entry, DraftValue, done, goes_to, Draft}
+use Rattle.dwc_base.specs.DraftForests.{place_of_goal}
+use Rattle.dwc_kept.proofs.NumberedGoals.{own-apart}
 use Rattle.dwc_base.specs.Carried.{own_unit}
 use Rattle.dwc_base.specs.Compiled.{Memory, no_memory, defined, imported}
 use Rattle.dwc_base.specs.OwnUnits as Own
-use Rattle.dwc_write.specs.AddedInOrder.{IsParent, IsInOrder, tree_meant}
+use Rattle.dwc_write.specs.AddedInOrder.{IsParent, IsInOrder, IsNumberedByPlaces, tree_meant}
+use Rattle.dwc_write.specs.Renumbered.{renumbered_entry}
+use Rattle.dwc_write.proofs.AddedInOrderUnits.{numbered-leads, numbered-place}
+use Rattle.dwc_write.proofs.SettledLaws.{IsPutAt, unit-put}
 use Rattle.dwc_write.specs.GivenUnits.{Addition, IsWritable, ordered}
 use Rattle.dwc_write.specs.UsedTexts.{text_numbered, texts_of_attributes}
 use Rattle.dwc_carry.specs.declared.own_entries.OwnTexts.{OwnTexts}
-use Rattle.dwc_carry.specs.MadeUnits.{IsMadeOf}
+use Rattle.dwc_carry.specs.MadeUnits.{LeadsTo, IsMadeOf}
 use Rattle.dwc_carry.specs.OwnAdditions.{own_additions, own_given, own_numbers, own_texts}
 use Rattle.dwc_carry.specs.OwnUnits.{own_tree}
 
@@ -54,7 +62,7 @@ plain-parents t (suc (suc (suc (suc (suc (suc (suc zero))))))) above within = of
 plain-parents t (suc (suc (suc (suc (suc (suc (suc (suc place)))))))) above within = absurd (omega (arith, within))
 
 in-order : (size : ℕ) (t : OwnTexts) (m : Memory) → IsInOrder (0 ∷ depths_below m) (own_given size t m)
-in-order size t (defined offset) = record { known = refl; order = record { counted = refl; some = lit< tt; root = refl; parents = parents } }
+in-order size t (defined offset) = record { counted = refl; some = lit< tt; root = refl; parents = parents }
   where
     parents : (place : ℕ) → 0 < place → place < 9 → IsParent (0 ∷ depths_below (defined offset)) (get_or (own_additions t (defined offset)) place (record { parent = 0; tag = 0; attributes = [] })).parent place
     parents zero above within = absurd (omega (arith, above))
@@ -75,8 +83,54 @@ in-order size t (defined offset) = record { known = refl; order = record { count
     parents (suc (suc (suc (suc (suc (suc (suc zero))))))) above within = of-root (depths_below (defined offset)) 6 refl (lit< tt) refl
     parents (suc (suc (suc (suc (suc (suc (suc (suc zero)))))))) above within = of-root (depths_below (defined offset)) 7 refl (lit< tt) refl
     parents (suc (suc (suc (suc (suc (suc (suc (suc (suc place))))))))) above within = absurd (omega (arith, within))
-in-order size t no_memory = record { known = refl; order = record { counted = refl; some = lit< tt; root = refl; parents = plain-parents t } }
-in-order size t (imported definition base) = record { known = refl; order = record { counted = refl; some = lit< tt; root = refl; parents = plain-parents t } }
+in-order size t no_memory = record { counted = refl; some = lit< tt; root = refl; parents = plain-parents t }
+in-order size t (imported definition base) = record { counted = refl; some = lit< tt; root = refl; parents = plain-parents t }
+
+-- the number of each entry is its place
+pub own-numbered : (size : ℕ) (t : OwnTexts) (m : Memory) → IsNumberedByPlaces (own_given size t m)
+own-numbered size t (defined offset) = refl
+own-numbered size t no_memory = refl
+own-numbered size t (imported definition base) = refl
+
+own-length : (size : ℕ) (t : OwnTexts) (set_memory : List ℕ) (m : Memory) → length (Own.own_unit set_memory m) ≡ length (own_given size t m).additions
+unfolding Own.own_unit
+own-length size t set_memory (defined offset) = refl
+own-length size t set_memory no_memory = refl
+own-length size t set_memory (imported definition base) = refl
+
+-- ---- numbers that are put to places
+
+says-all : (Has : Goal → Type 0) → ((g : Goal) → Has g) → (ds : List Draft) → UnitSaysNoPlace Anywhere ds → UnitSaysNoPlace Has ds
+says-all Has has [] h = tt
+says-all Has has (d ∷ ds) h = (attributes d.attributes h.0, says-all Has has ds h.1)
+  where
+    value : (name : ℕ) (v : DraftValue) → SaysNoPlace Anywhere (name, v) → SaysNoPlace Has (name, v)
+    value name (done v) k = k
+    value name (goes_to g) k = has g
+
+    attributes : (xs : List (ℕ × DraftValue)) → Each (SaysNoPlace Anywhere) xs → Each (SaysNoPlace Has) xs
+    attributes [] k = tt
+    attributes (x ∷ xs) k = (value x.0 x.1 k.0, attributes xs k.1)
+
+module _ (number : ℕ) (set_memory : List ℕ) (m : Memory) (at : ℕ → ℕ → Option (ℕ × ℕ)) (leads : (place : ℕ) → place < length (Own.own_unit set_memory m) → at number place ≡ Some (number, place)) where
+  abbrev places : Goal → Option (ℕ × ℕ)
+  places = place_of_goal number (record { own = Some (Own.own_unit set_memory m); carried = [] })
+
+  goal-put : (g : Goal) → IsPutAt at places places g
+  goal-put (made_of offset role) = (refl, nowhere (places (made_of offset role)) (ap (λ (o : Option ℕ). option_or (option_map (λ place. (number, place)) o) None) (own-apart offset role set_memory m)))
+    where
+      nowhere : (o : Option (ℕ × ℕ)) → o ≡ None → option_and_then (λ p. at p.0 p.1) o ≡ o
+      nowhere None e = refl
+      nowhere (Some p) e = absurd (cc)
+  goal-put (own_entry place) = (refl, there (nat_lt place (length (Own.own_unit set_memory m))) refl)
+    where
+      there : (b : Bool) → nat_lt place (length (Own.own_unit set_memory m)) ≡ b → option_and_then (λ p. at p.0 p.1) (cond {A = Option (ℕ × ℕ)} b (Some (number, place)) None) ≡ cond {A = Option (ℕ × ℕ)} b (Some (number, place)) None
+      there true is = leads place (ltb-true place (length (Own.own_unit set_memory m)) is)
+      there false is = refl
+
+  -- The tree of the unit says places already.
+  own-put : map (renumbered_entry at) (own_tree number set_memory m) ≡ own_tree number set_memory m
+  own-put = unit-put at places places (Own.own_unit set_memory m) (says-all (IsPutAt at places places) goal-put (Own.own_unit set_memory m) (own-no-place set_memory m))
 
 -- ---- what it says
 
@@ -128,5 +182,19 @@ module _ (size number : ℕ) (table : List (List ℕ)) (t : OwnTexts) (set_memor
     writable (imported definition base) = record { size = refl; ended = refl; named = refl }
 
     -- The unit is made as it is wanted.
-    pub own-made : (m : Memory) → IsMadeOf size table number own_unit (own_tree number set_memory m) (own_given size t m)
-    own-made m = record { has_lines = refl; depths = 0 ∷ depths_below m; order = in-order size t m; says = says m; texts = texts m; writable = writable m }
+    pub own-made : (m : Memory) (at : ℕ → ℕ → Option (ℕ × ℕ)) → LeadsTo at number (own_given size t m ∷ []) → IsMadeOf at size table number own_unit (own_tree number set_memory m) (own_given size t m)
+    own-made m at leads = record {
+      has_lines = refl;
+      depths = 0 ∷ depths_below m;
+      order = in-order size t m;
+      leads = numbered-leads (own_given size t m) (own-numbered size t m);
+      says = ap (map (renumbered_entry at)) (says m) ∙ own-put number set_memory m at there;
+      texts = texts m;
+      writable = writable m;
+    }
+      where
+        there : (place : ℕ) → place < length (Own.own_unit set_memory m) → at number place ≡ Some (number, place)
+        there place within =
+            let counted : number + 0 ≡ number = omega arith in
+            subst (λ k. at k place ≡ Some (k, place)) counted
+            (leads 0 (own_given size t m) refl place place (numbered-place (own_given size t m) place (own-numbered size t m) (omega (arith, within, own-length size t set_memory m))))

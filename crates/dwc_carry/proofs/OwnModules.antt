@@ -1,8 +1,8 @@
 -- What is added for a module: its own unit, and those that carry its units.
-use Rattle.std.proofs.Common.{◌≡◌, ℕ, suc, ◌+◌, List, [], ◌∷◌, ◌++◌, map, length, refl, ap, sym, ◌∙◌, subst, arith, Bool, Some, None}
+use Rattle.std.proofs.Common.{◌≡◌, ℕ, suc, ◌+◌, ◌<◌, List, [], ◌∷◌, ◌++◌, map, length, refl, ap, sym, ◌∙◌, subst, arith, Bool, Option, Some, None}
 use Rattle.std.specs.Prelude.{option_map}
 use Rattle.std.specs.List.{flat_map}
-use Rattle.std.proofs.lemmas.List.{append-nil, append_assoc, length-append}
+use Rattle.std.proofs.lemmas.List.{append-nil, append_assoc, length-append, length-map}
 use Rattle.std.proofs.lemmas.List.Elements.{All-nil, All-cons}
 use Rattle.dwc_base.specs.Carried.{Unit, units, Module, own_unit, carried_unit}
 use Rattle.dwc_base.specs.Compiled.{Memory, no_memory, defined, imported}
@@ -10,19 +10,22 @@ use Rattle.dwc_base.specs.OwnUnits as Own
 use Rattle.dwc_base.specs.Refusals.{Refusal, first_of}
 use Rattle.dwc_base.specs.KeptModules.{carried_in, kept_in}
 use Rattle.dwc_base.specs.CarriedDrafts.{source_of, unit_drafts, carried_drafts}
-use Rattle.dwc_base.specs.DraftForests.{place_of_goal, settled_unit, trees_from}
-use Rattle.dwc_base.specs.Forests.{kept_of, rules_of, carried_units_of, wanted_units_of, own_refusals, reading_refusals, module_refusals, module_drafts}
-use Rattle.dwc_base.specs.Trees.{Tree}
+use Rattle.dwc_base.specs.DraftForests.{place_of_goal, settled_entry, settled_unit, trees_from}
+use Rattle.dwc_base.specs.Forests.{kept_of, expressions_of, carried_units_of, wanted_units_of, own_refusals, reading_refusals, module_refusals, module_drafts}
 use Rattle.dwc_write.specs.declared.units.Dwarf.{Dwarf}
+use Rattle.dwc_write.specs.AddedInOrder.{IsNumberedByPlaces, tree_meant}
+use Rattle.dwc_write.specs.Renumbered.{renumbered_entry}
+use Rattle.dwc_write.proofs.AddedInOrderTrees.{tree-length}
+use Rattle.dwc_write.proofs.AddedInOrderUnits.{numbered-place}
 use Rattle.dwc_write.specs.GivenUnits.{GivenUnit}
 use Rattle.dwc_carry.specs.declared.error.DebugError.{DebugError}
 use Rattle.dwc_carry.specs.declared.synthetic_unit.ModuleSyntheticUnit.{ModuleSyntheticUnit}
 use Rattle.dwc_carry.specs.Refusals.{in_reading, RefusesReading}
-use Rattle.dwc_carry.specs.MadeUnits.{IsMadeOf, AreMadeOf}
+use Rattle.dwc_carry.specs.MadeUnits.{LeadsTo, IsMadeOf, AreMadeOf}
 use Rattle.dwc_carry.specs.OwnUnits.{own_tree, AddsOwnUnit}
 use Rattle.dwc_carry.specs.CarriedUnits.{wanted_of}
 use Rattle.dwc_carry.specs.CarriedModules.{AddsCarried, AddsModules}
-use Rattle.dwc_carry.proofs.MadeLaws.{grows-twice, made-grown}
+use Rattle.dwc_carry.proofs.MadeLaws.{grows-twice, leads-behind, leads-front, made-grown}
 use Rattle.dwc_carry.proofs.RefusalLaws.{first-behind, no-first, reading-more, unmapped}
 
 -- ---- trees
@@ -44,12 +47,23 @@ own-told size name told_name m told_memory old middle own names memories h = (
       (subst (λ x. AddsOwnUnit size name x old.units.units.items middle.units.units.items old.strings middle.strings own) memories h.1),
 )
 
+-- The places of a module's own unit are led to by their numbers.
+own-there : (at : ℕ → ℕ → Option (ℕ × ℕ)) (number size : ℕ) (set_memory : List ℕ) (m : Memory) (made : GivenUnit) {table : List (List ℕ)} → IsNumberedByPlaces made → IsMadeOf at size table number own_unit (own_tree number set_memory m) made → LeadsTo at number (made ∷ [])
+    → (place : ℕ) → place < length (Own.own_unit set_memory m) → at number place ≡ Some (number, place)
+own-there at number size set_memory m made {table} numbered is leads place within =
+    let settled = settled_unit (place_of_goal number (record { own = Some (Own.own_unit set_memory m); carried = [] })) (Own.own_unit set_memory m) in
+    let drafted : length settled ≡ length (Own.own_unit set_memory m) = length-map (Own.own_unit set_memory m) (settled_entry (place_of_goal number (record { own = Some (Own.own_unit set_memory m); carried = [] }))) in
+    let counted : length (tree_meant table number is.depths made.additions) ≡ length settled = sym (length-map (tree_meant table number is.depths made.additions) (renumbered_entry at)) ∙ ap length is.says in
+    let meant : length (tree_meant table number is.depths made.additions) ≡ length made.additions = tree-length table number is.depths made.additions is.order.counted in
+    let same : number + 0 ≡ number = omega arith in
+    subst (λ k. at k place ≡ Some (k, place)) same (leads 0 made refl place place (numbered-place made place numbered (omega (arith, within, drafted, counted, meant))))
+
 module _ (big_endian : Bool) (m : Module) where
-  carried-trees : (n : ℕ) → map (settled_unit (place_of_goal n (module_drafts big_endian m))) (carried_drafts (rules_of m) big_endian (kept_of m)) ≡ map (wanted_of big_endian m n) (carried_in (kept_of m))
+  carried-trees : (n : ℕ) → map (settled_unit (place_of_goal n (module_drafts big_endian m))) (carried_drafts (expressions_of m) big_endian (kept_of m)) ≡ map (wanted_of big_endian m n) (carried_in (kept_of m))
   unfolding carried_drafts
   carried-trees n = mapped (carried_in (kept_of m))
     where
-      mapped : (us : List Unit) → map (settled_unit (place_of_goal n (module_drafts big_endian m))) (map (λ u. unit_drafts (rules_of m u) (source_of (kept_of m) u) big_endian (kept_in (kept_of m) u)) us) ≡ map (wanted_of big_endian m n) us
+      mapped : (us : List Unit) → map (settled_unit (place_of_goal n (module_drafts big_endian m))) (map (λ u. unit_drafts (expressions_of m u) (source_of (kept_of m) u) big_endian (kept_in (kept_of m) u)) us) ≡ map (wanted_of big_endian m n) us
       mapped [] = refl
       mapped (u ∷ us) = ap (λ ts. wanted_of big_endian m n u ∷ ts) (mapped us)
 
@@ -58,7 +72,7 @@ module _ (big_endian : Bool) (m : Module) where
   module-trees n =
       append-nil _
       ∙ ap (λ ts. settled_unit (place_of_goal n (module_drafts big_endian m)) (Own.own_unit m.told.names.set_memory m.told.memory) ∷ ts) (carried-trees n)
-      ∙ ap (λ t. t ∷ map (wanted_of big_endian m n) (carried_in (kept_of m))) (sym (own-settled n m.told.names.set_memory m.told.memory (carried_drafts (rules_of m) big_endian (kept_of m))))
+      ∙ ap (λ t. t ∷ map (wanted_of big_endian m n) (carried_in (kept_of m))) (sym (own-settled n m.told.names.set_memory m.told.memory (carried_drafts (expressions_of m) big_endian (kept_of m))))
 
   -- ---- what is added
 
@@ -78,15 +92,19 @@ module _ (big_endian : Bool) (m : Module) where
       let memory = m.told.memory in
       let tree = own_tree n set_memory memory in
       let counted = own-counted size old middle own a in
-      let first = made-grown size middle.strings new.strings n (own_unit ∷ []) (tree ∷ []) (a.made ∷ []) u.grows (a.is, tt) in
-      let rest = subst (λ k. AreMadeOf size new.strings k (map carried_unit (carried_units_of m)) (map (wanted_of big_endian m n) (carried_in (kept_of m))) u.made) counted u.each in
-      let both : AreMadeOf size new.strings n (wanted_units_of m) (tree ∷ map (wanted_of big_endian m n) (carried_in (kept_of m))) (a.made ∷ u.made) = (first.0, rest) in
       record {
         made = a.made ∷ u.made;
         added = u.added ∙ ap (λ us. us ++ u.made) a.added ∙ append_assoc old.units.units.items (a.made ∷ []) u.made;
         grows = grows-twice old.strings middle.strings new.strings a.grows u.grows;
-        each = subst (λ ws. AreMadeOf size new.strings n ws (trees_from n (map (module_drafts big_endian) (m ∷ []))) (a.made ∷ u.made)) (sym (append-nil (wanted_units_of m)))
-            (subst (λ ts. AreMadeOf size new.strings n (wanted_units_of m) ts (a.made ∷ u.made)) (sym (module-trees n)) both);
+        each = λ at leads.
+            let own = leads-front at n (a.made ∷ []) u.made leads in
+            let first = made-grown at size middle.strings new.strings n (own_unit ∷ []) (tree ∷ []) (a.made ∷ []) u.grows (a.is at own, tt) in
+            let behind = leads-behind at n (length middle.units.units.items) (a.made ∷ []) u.made (omega (arith, counted)) leads in
+            let there = own-there at n size set_memory memory a.made a.numbered (a.is at own) own in
+            let rest = subst (λ k. AreMadeOf at size new.strings k (map carried_unit (carried_units_of m)) (map (wanted_of big_endian m n) (carried_in (kept_of m))) u.made) counted (u.each at behind there) in
+            let both : AreMadeOf at size new.strings n (wanted_units_of m) (tree ∷ map (wanted_of big_endian m n) (carried_in (kept_of m))) (a.made ∷ u.made) = (first.0, rest) in
+            subst (λ ws. AreMadeOf at size new.strings n ws (trees_from n (map (module_drafts big_endian) (m ∷ []))) (a.made ∷ u.made)) (sym (append-nil (wanted_units_of m)))
+            (subst (λ ts. AreMadeOf at size new.strings n (wanted_units_of m) ts (a.made ∷ u.made)) (sym (module-trees n)) both);
         whole = All-cons (λ (x : Module). (units x.sections).fault ≡ None) m [] b.whole (All-nil (λ (x : Module). (units x.sections).fault ≡ None));
       }
 

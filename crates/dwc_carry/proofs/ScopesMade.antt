@@ -12,7 +12,6 @@ use Rattle.dwc_base.specs.Compiled.{ToldModule}
 use Rattle.dwc_base.specs.Forests.{wanted_units, drafts_of, first_refusal, is_big, trees_made}
 use Rattle.dwc_base.specs.LocationsCarried.{LocationsCarried}
 use Rattle.dwc_base.specs.ScopesCarried.{AreNumbered, ScopesCarried, TranslationsKeepScopes}
-use Rattle.dwc_base.proofs.ForestTargets.{made-targets}
 use Rattle.dwc_base.proofs.LocationForest.{made-locations}
 use Rattle.dwc_base.proofs.ScopeForest.{made-scopes}
 use Rattle.dwc_clif.specs.AddressMaps.{address_map_view}
@@ -23,6 +22,9 @@ use Rattle.dwc_addr.specs.Transforms.{first_bad_map}
 use Rattle.dwc_write.specs.GivenTrees.{given_trees}
 use Rattle.dwc_write.specs.GivenUnits.{GivenUnit, ordered}
 use Rattle.dwc_carry.specs.Refusals.{in_reading}
+use Rattle.dwc_write.specs.Renumbered.{place_at}
+use Rattle.dwc_base.specs.ContextsCarried.{ContextsCarried}
+use Rattle.dwc_base.proofs.ContextForest.{made-contexts}
 use Rattle.dwc_carry.specs.MadeUnits.{AreMadeOf}
 use Rattle.dwc_carry.specs.Inputs.{names_of, module_view, modules_from, told_from, input_of, bad_map_from, bad_map, maps_refusal, refusal_of}
 use Rattle.dwc_carry.proofs.CompositionLaws.{made-trees}
@@ -52,22 +54,34 @@ module _ (number_maps : MapsNumber) where
 
   -- The units say the trees of an input of which nothing is refused, and so carry its scopes.
   pub scopes-carried : (order : Endian) (size : ℕ) (registers : Registers) (c : CompilationValue) (texts : List (List ℕ)) (us : List GivenUnit) → refusal_of order size registers c ≡ None
-      → AreMadeOf size texts 0 (wanted_units (input_of order size registers c)) (trees_made (input_of order size registers c)) us → ((fs : List Function) → TranslationsKeepScopes fs)
+      → AreMadeOf (place_at us) size texts 0 (wanted_units (input_of order size registers c)) (trees_made (input_of order size registers c)) us → ((fs : List Function) → TranslationsKeepScopes fs)
       → ScopesCarried (drafts_of (is_big order)) (wanted_units (input_of order size registers c)) (given_trees texts (map ordered us))
   scopes-carried order size registers c texts us accepted made keep =
       let input = input_of order size registers c in
       let good : bad_map c ≡ None = unmapped _ (bad_map c) (neither (maps_refusal c) (option_map in_reading (first_refusal input)) accepted).0 in
-      subst (ScopesCarried (drafts_of (is_big order)) (wanted_units input)) (sym (made-trees size texts (wanted_units input) (trees_made input) us made (made-targets input)))
+      subst (ScopesCarried (drafts_of (is_big order)) (wanted_units input)) (sym (made-trees size texts (wanted_units input) (trees_made input) us made))
       (made-scopes input (modules-numbered 0 0 c.translations c.functions (told_from registers (names_of c) 0 0 c.functions c.memory_offsets) good) keep)
 
   -- And so they carry its locations.
   pub locations-carried : (order : Endian) (size : ℕ) (registers : Registers) (c : CompilationValue) (texts : List (List ℕ)) (us : List GivenUnit) → refusal_of order size registers c ≡ None
-      → AreMadeOf size texts 0 (wanted_units (input_of order size registers c)) (trees_made (input_of order size registers c)) us → ((fs : List Function) → TranslationsKeepScopes fs)
+      → AreMadeOf (place_at us) size texts 0 (wanted_units (input_of order size registers c)) (trees_made (input_of order size registers c)) us → ((fs : List Function) → TranslationsKeepScopes fs)
       → LocationsCarried (drafts_of (is_big order)) (wanted_units (input_of order size registers c)) (given_trees texts (map ordered us))
   locations-carried order size registers c texts us accepted made keep =
       let input = input_of order size registers c in
       let both = neither (maps_refusal c) (option_map in_reading (first_refusal input)) accepted in
       let good : bad_map c ≡ None = unmapped _ (bad_map c) both.0 in
       let read : first_refusal input ≡ None = unmapped in_reading (first_refusal input) both.1 in
-      subst (LocationsCarried (drafts_of (is_big order)) (wanted_units input)) (sym (made-trees size texts (wanted_units input) (trees_made input) us made (made-targets input)))
+      subst (LocationsCarried (drafts_of (is_big order)) (wanted_units input)) (sym (made-trees size texts (wanted_units input) (trees_made input) us made))
       (made-locations input (modules-numbered 0 0 c.translations c.functions (told_from registers (names_of c) 0 0 c.functions c.memory_offsets) good) keep read)
+
+  -- And so the variables of its functions' contexts stand where they are to.
+  pub contexts-carried : (order : Endian) (size : ℕ) (registers : Registers) (c : CompilationValue) (texts : List (List ℕ)) (us : List GivenUnit) → refusal_of order size registers c ≡ None
+      → AreMadeOf (place_at us) size texts 0 (wanted_units (input_of order size registers c)) (trees_made (input_of order size registers c)) us → ((fs : List Function) → TranslationsKeepScopes fs)
+      → ContextsCarried (drafts_of (is_big order)) (wanted_units (input_of order size registers c)) (given_trees texts (map ordered us))
+  contexts-carried order size registers c texts us accepted made keep =
+      let input = input_of order size registers c in
+      let both = neither (maps_refusal c) (option_map in_reading (first_refusal input)) accepted in
+      let good : bad_map c ≡ None = unmapped _ (bad_map c) both.0 in
+      let read : first_refusal input ≡ None = unmapped in_reading (first_refusal input) both.1 in
+      subst (ContextsCarried (drafts_of (is_big order)) (wanted_units input)) (sym (made-trees size texts (wanted_units input) (trees_made input) us made))
+      (made-contexts input (modules-numbered 0 0 c.translations c.functions (told_from registers (names_of c) 0 0 c.functions c.memory_offsets) good) keep read)

@@ -27,7 +27,9 @@ use Rattle.dwc_write.specs.GivenUnits.{GivenUnit}
 use Rattle.dwc_carry.specs.declared.error.DebugError.{DebugError}
 use Rattle.dwc_image.specs.CarriedLines.{AreKept}
 use Rattle.dwc_carry.specs.Refusals.{InputRefusal, bad_address_map, in_reading, of_maps, Refuses}
-use Rattle.dwc_carry.specs.MadeUnits.{AreMadeOf}
+use Rattle.dwc_carry.specs.MadeUnits.{LeadsTo, AreMadeOf}
+use Rattle.dwc_write.specs.Renumbered.{place_at}
+use Rattle.dwc_carry.proofs.MadeLaws.{leads-there}
 use Rattle.dwc_carry.specs.CarriedModules.{AddsModules}
 use Rattle.dwc_carry.specs.Inputs.{names_of, functions_from, modules_of, input_of, bad_map_from, bad_map, maps_refusal}
 use Rattle.dwc_carry.specs.Transformed.{have_long, lengths_checked, IsTransformed}
@@ -140,13 +142,13 @@ forest-is : (c : Compilation) → first_refusal c ≡ None → forest c ≡ Ok (
 forest-is c none = ap (λ (o : Option Refusal). elim o [ Some refusal ↦ Err refusal | None ↦ Ok (trees_made c) ]) none
 
 -- Units that are made of its carried units are what it is transformed to.
-transformed-of : (size : ℕ) (c : Compilation) (texts : List (List ℕ)) (us : List GivenUnit) → first_refusal c ≡ None → AreMadeOf size texts 0 (wanted_units c) (trees_made c) us → All (λ m. (units m.sections).fault ≡ None) c.modules → IsTransformed size c texts us
+transformed-of : (size : ℕ) (c : Compilation) (texts : List (List ℕ)) (us : List GivenUnit) → first_refusal c ≡ None → AreMadeOf (place_at us) size texts 0 (wanted_units c) (trees_made c) us → All (λ m. (units m.sections).fault ≡ None) c.modules → IsTransformed size c texts us
 transformed-of size c texts us none made whole =
-    let same = made-trees size texts (wanted_units c) (trees_made c) us made (made-targets c) in
+    let same = made-trees size texts (wanted_units c) (trees_made c) us made in
     record {
       made = made;
       whole = whole;
-      texts = made-texts size texts 0 (wanted_units c) (trees_made c) us made;
+      texts = made-texts (place_at us) size texts 0 (wanted_units c) (trees_made c) us made;
       trees = forest-is c none ∙ ap (λ (ts : List Tree). Ok ts) (sym same);
       targets = subst HasAllTargets (sym same) (made-targets c);
     }
@@ -206,9 +208,10 @@ module _ (registers : Registers) (c : CompilationValue) (counted : IsCounted c.t
   input-transformed order size before texts us good short (none, k) =
       let input = input_of order size registers c in
       let accepted : input_refusal ≡ None = sym (input-refusals good short) ∙ none in
-      let made : AreMadeOf size texts 0 (flat_map wanted_units_of modules) (trees_made input) us =
-      subst (AreMadeOf size texts 0 (flat_map wanted_units_of modules) (trees_made input)) (sym k.added)
-      (subst (λ ts. AreMadeOf size texts 0 (flat_map wanted_units_of modules) ts k.made) (sym (trees-of-modules input)) k.each) in (
+      let leads : LeadsTo (place_at us) 0 k.made = subst (λ vs. LeadsTo (place_at us) 0 vs) k.added (leads-there us) in
+      let made : AreMadeOf (place_at us) size texts 0 (flat_map wanted_units_of modules) (trees_made input) us =
+      subst (AreMadeOf (place_at us) size texts 0 (flat_map wanted_units_of modules) (trees_made input)) (sym k.added)
+      (subst (λ ts. AreMadeOf (place_at us) size texts 0 (flat_map wanted_units_of modules) ts k.made) (sym (trees-of-modules input)) (k.each (place_at us) leads)) in (
         accepted,
         transformed-of size input texts us (unmapped in_reading (first_refusal input) (neither (maps_refusal c) reading_refusal accepted).1) made k.whole,
       )

@@ -1,9 +1,9 @@
 -- What is answered for a carried unit, from what its line program and its cloned entries answer.
-use Rattle.std.proofs.Common.{◌≡◌, ℕ, List, [], ◌∷◌, ◌++◌, length, ap, sym, subst, ◌∙◌, Bool, Option, None, Result, Ok, Err}
+use Rattle.std.proofs.Common.{◌≡◌, refl, ℕ, List, [], ◌∷◌, ◌++◌, length, ap, sym, subst, ◌∙◌, Bool, Option, None, Result, Ok, Err}
 use Rattle.std.specs.Prelude.{option_map}
 use Rattle.dwc_base.specs.Entries.{entries}
 use Rattle.dwc_base.specs.Indexed.{text_base}
-use Rattle.dwc_base.specs.Carried.{Module, carried_unit}
+use Rattle.dwc_base.specs.Carried.{Module}
 use Rattle.dwc_base.specs.Clones.{UnitSource}
 use Rattle.dwc_base.specs.CarriedDrafts.{source_of}
 use Rattle.dwc_base.specs.Forests.{kept_of}
@@ -13,7 +13,7 @@ use Rattle.dwc_kept.specs.declared.kept_units.KeptModule.{KeptModule}
 use Rattle.dwc_kept.specs.ReadUnits.{unit_read}
 use Rattle.dwc_clone.specs.declared.error.CloneError.{CloneError}
 use Rattle.dwc_clone.specs.declared.source.CloneSource.{CloneSource}
-use Rattle.dwc_clone.specs.Sources.{IsSource}
+use Rattle.dwc_clone.specs.Sources.{AreEmitted, IsSource}
 use Rattle.dwc_clone.specs.CompiledModules.{told_by, HasFrames}
 use Rattle.dwc_clone.specs.ClonedUnits.{picked, placed_in, AreClonable, GivesCloned}
 use Rattle.dwc_clone.specs.Lineages.{AreWalked}
@@ -24,10 +24,10 @@ use Rattle.dwc_carry.specs.declared.last_lines.LastLines.{LastLines}
 use Rattle.dwc_carry.specs.Refusals.{in_reading, of_cloning, RefusesReading}
 use Rattle.dwc_carry.specs.UnitPrograms.{CarriesNamed}
 use Rattle.dwc_carry.specs.LastLines.{IsLast, last_after}
-use Rattle.dwc_carry.specs.CarriedUnits.{IsUnitOf, refusals_of, wanted_of, AddsUnit}
-use Rattle.dwc_carry.specs.MadeUnits.{IsMadeOf}
+use Rattle.dwc_carry.specs.CarriedUnits.{IsUnitOf, refusals_of, AddsUnit, CarriesUnit}
+use Rattle.dwc_carry.specs.OwnUnits.{ReferToOwn}
 use Rattle.dwc_carry.proofs.LastLaws.{last-carried}
-use Rattle.dwc_carry.proofs.UnitSources.{read_of, unit-in, unit-is, no-fault, clonable, source-is}
+use Rattle.dwc_carry.proofs.UnitSources.{read_of, unit-in, unit-is, no-fault, clonable, are-emitted, source-is}
 use Rattle.dwc_carry.proofs.UnitMade.{entries-are, files-known, clone-refused, made-of, accepted}
 use Rattle.dwc_carry.proofs.WalkLaws.{walked}
 
@@ -35,13 +35,14 @@ use Rattle.dwc_carry.proofs.WalkLaws.{walked}
 abbrev pub AnswersCloned : Registers → CloneSource → List ℕ → List (List ℕ) → List (List ℕ) → GivenUnit → Result GivenUnit CloneError → Type 0
 AnswersCloned registers k kept old new begun result =
     (number : ℕ) (s : UnitSource) → IsSource k number s → HasFrames k.module k.transform.now → (entries k.unit.now.sections k.unit.now.header).fault ≡ None → AreClonable (picked kept (entries k.unit.now.sections k.unit.now.header).items)
+    → AreEmitted k s number (picked kept (entries k.unit.now.sections k.unit.now.header).items)
     → AreWalked s.entries (placed_in k.unit.now.header.offset (picked kept (entries k.unit.now.sections k.unit.now.header).items))
     → GivesCloned registers k number s (picked kept (entries k.unit.now.sections k.unit.now.header).items) old new begun result
 
 module _ (registers : Registers) (k : CloneSource) (compile : Bool) (table : Option ℕ) (c : Module) (m : KeptModule) (first number : ℕ) (kept : List ℕ)
     (of : IsUnitOf c k.transform.now (told_by registers k.module) m first number k.places.now kept (read_of k compile table)) (frames : HasFrames k.module k.transform.now) (size : ℕ) (old new : List (List ℕ)) (begun : GivenUnit)
     (carries : CarriesNamed k.transform.now k.unit.now.sections k.unit.now.header size table k.files begun.lines)
-    (none : option_map in_reading (lines_refusal k.unit.now.sections k.unit.now.header table) ≡ None) where
+    (none : option_map in_reading (lines_refusal k.unit.now.sections k.unit.now.header table) ≡ None) (refers : ReferToOwn first c.told.memory k.vmctx_ptr k.wasm_ptr) where
   -- its kept entries are walked with their parents
   entries-walked : AreWalked (source_of (kept_of c) (unit_read c.sections k.unit.now.header)).entries (placed_in k.unit.now.header.offset (picked kept (entries k.unit.now.sections k.unit.now.header).items))
   unfolding source_of
@@ -52,8 +53,9 @@ module _ (registers : Registers) (k : CloneSource) (compile : Bool) (table : Opt
   answered : (result : Result GivenUnit CloneError) → AnswersCloned registers k kept old new begun result
       → GivesCloned registers k number (source_of (kept_of c) (unit_read c.sections k.unit.now.header)) (picked kept (entries k.unit.now.sections k.unit.now.header).items) old new begun result
   answered result answers =
-      answers number (source_of (kept_of c) (unit_read c.sections k.unit.now.header)) (source-is k compile table (told_by registers k.module) c m first number kept of (files-known registers k compile table c m first number kept of size begun.lines carries))
-      frames (no-fault k compile table (told_by registers k.module) c m first number kept of) (clonable k compile table (told_by registers k.module) c m first number kept of) entries-walked
+      answers number (source_of (kept_of c) (unit_read c.sections k.unit.now.header)) (source-is k compile table (told_by registers k.module) c m first number kept of refl refers (files-known registers k compile table c m first number kept of size begun.lines carries))
+      frames (no-fault k compile table (told_by registers k.module) c m first number kept of) (clonable k compile table (told_by registers k.module) c m first number kept of)
+      (are-emitted k compile table (told_by registers k.module) c m first number kept of) entries-walked
 
   -- an entry is refused
   pub entries-refused : (e : CloneError) → AnswersCloned registers k kept old new begun (Err e) → RefusesReading (first_of (refusals_of c (unit_read c.sections k.unit.now.header))) (of_cloning e)
@@ -65,19 +67,19 @@ module _ (registers : Registers) (k : CloneSource) (compile : Bool) (table : Opt
       → IsLast k.transform.now size k.unit.now.sections before.units.units.items last
       → behind ≡ last_after table k.unit.now.header.address_size (text_base k.unit.now.sections k.unit.now.header) k.files id last
       → (option_map in_reading (first_of (refusals_of c (unit_read c.sections k.unit.now.header))) ≡ None)
-      × (AddsUnit size k.big_endian c first (unit_read c.sections k.unit.now.header) before after × IsLast c.functions size c.sections after.units.units.items behind)
+      × (AddsUnit size k.big_endian c first k.places.now (unit_read c.sections k.unit.now.header) before after × IsLast c.functions size c.sections after.units.units.items behind)
   unit-added made before after id last behind sized answers at olds news added placed known next =
       let cloned = answered (Ok made) answers in
       let u = unit_read c.sections k.unit.now.header in
-      let is = made-of registers k compile table c m first number kept of size old new begun made sized carries cloned in (
-        accepted registers k compile table c m first number kept of size old new begun made sized carries cloned none,
+      let is = made-of registers k compile table c m first number kept of size old new begun made sized carries refers cloned in (
+        accepted registers k compile table c m first number kept of size old new begun made sized carries refers cloned none,
         (
           record {
             made = made;
             added = added;
             grows = record { more = cloned.grows.more; is = sym news ∙ cloned.grows.is ∙ ap (λ xs. xs ++ cloned.grows.more) olds };
-            is = subst (λ n. IsMadeOf size after.strings n (carried_unit (record { module_of = c; unit = u })) (wanted_of k.big_endian c first u) made) at
-                (subst (λ ts. IsMadeOf size ts number (carried_unit (record { module_of = c; unit = u })) (wanted_of k.big_endian c first u) made) news is);
+            is = subst (λ n. CarriesUnit size k.big_endian c first k.places.now after.strings n u made) at
+                (subst (λ ts. CarriesUnit size k.big_endian c first k.places.now ts number u made) news is);
           },
           subst (λ us. IsLast c.functions size c.sections us behind) (sym added)
               (subst (λ s. IsLast c.functions size s (before.units.units.items ++ made ∷ []) behind) (unit-is k compile table (told_by registers k.module) c m first number kept of).sections

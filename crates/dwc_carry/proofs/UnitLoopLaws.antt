@@ -8,10 +8,9 @@ use Rattle.std.proofs.lemmas.List.Elements.{All-nil, All-cons, All-head, All-tai
 use Rattle.dwc_base.specs.Functions.{Function}
 use Rattle.dwc_base.specs.Compiled.{ToldModule}
 use Rattle.dwc_base.specs.Units.{UnitHeader}
-use Rattle.dwc_base.specs.Carried.{Unit, Module, WantedUnit, carried_unit}
+use Rattle.dwc_base.specs.Carried.{Unit, Module, carried_unit}
 use Rattle.dwc_base.specs.Refusals.{Refusal, first_of}
 use Rattle.dwc_base.specs.KeptModules.{carried_in}
-use Rattle.dwc_base.specs.Trees.{Tree}
 use Rattle.dwc_base.specs.Forests.{kept_of}
 use Rattle.dwc_kept.specs.declared.read_unit.ReadUnit.{ReadUnit}
 use Rattle.dwc_kept.specs.declared.kept_units.KeptModule.{KeptModule}
@@ -29,28 +28,38 @@ use Rattle.dwc_write.specs.UsedTexts.{texts_of_attributes}
 use Rattle.dwc_write.proofs.AddedInOrderValues.{tree-meant-more}
 use Rattle.dwc_carry.specs.declared.error.DebugError.{DebugError}
 use Rattle.dwc_carry.specs.Refusals.{in_reading, RefusesReading}
-use Rattle.dwc_carry.specs.MadeUnits.{IsMadeOf, AreMadeOf}
+use Rattle.dwc_write.specs.declared.attributes.DebugInfoRef.{DebugInfoRef}
+use Rattle.dwc_carry.specs.OwnUnits.{ReferToOwn}
+use Rattle.dwc_carry.specs.MadeUnits.{LeadsTo, AreMadeOf}
 use Rattle.dwc_carry.specs.ModulePlaces.{carried_offsets, emitted, numbered_lists}
-use Rattle.dwc_carry.specs.CarriedUnits.{IsOfModule, IsUnitOf, wanted_of, refusals_of, AddsUnit, AddsUnits}
+use Rattle.dwc_carry.specs.CarriedUnits.{IsOfModule, IsUnitOf, wanted_of, refusals_of, CarriesUnit, CarryUnits, AddsUnit, AddsUnits}
 use Rattle.dwc_carry.proofs.RefusalLaws.{unmapped, reading-more, first-behind, no-first}
 use Rattle.dwc_carry.proofs.UnitsInOrder.{inside, in-parts, UnitsFrom, module-stand}
 use Rattle.dwc_carry.proofs.ModulePlaceLaws.{emitted-some, emitted-none}
 use Rattle.dwc_carry.proofs.PlaceLaws.{own-place}
+use Rattle.dwc_carry.proofs.CarriedMade.{carried-made}
 
 -- ---- a table of texts that has grown
 
 texts-more : (before after : List (List ℕ)) (ns : List ℕ) → Grows before after → All (λ n. n < length before) ns → All (λ n. n < length after) ns
 texts-more before after ns grows h = All-weaker (λ n. n < length before) (λ n. n < length after) (λ n less. omega (arith, less, ap length grows.is, length-append before grows.more)) ns h
 
--- A unit that was made says the same with it.
-pub made-more : (size : ℕ) (before after : List (List ℕ)) (number : ℕ) (c : WantedUnit) (t : Tree) (u : GivenUnit) → Grows before after → IsMadeOf size before number c t u → IsMadeOf size after number c t u
-made-more size before after number c t u grows h = record {
+-- A unit that carries one says the same with it.
+pub carries-more : (size : ℕ) (big_endian : Bool) (c : Module) (first : ℕ) (places : List EmittedEntry) (before after : List (List ℕ)) (number : ℕ) (u : Unit) (g : GivenUnit) → Grows before after → CarriesUnit size big_endian c first places before number u g
+    → CarriesUnit size big_endian c first places after number u g
+carries-more size big_endian c first places before after number u g grows h = record {
   has_lines = h.has_lines;
   depths = h.depths;
   order = h.order;
-  says = ap (λ ts. tree_meant ts number h.depths u.additions) grows.is
-      ∙ tree-meant-more before grows.more number h.depths u.additions (all-flat u.additions h.texts) ∙ h.says;
-  texts = All-weaker (λ e. All (λ n. n < length before) (texts_of_attributes e.attributes)) (λ e. All (λ n. n < length after) (texts_of_attributes e.attributes)) (λ e k. texts-more before after (texts_of_attributes e.attributes) grows k) u.additions h.texts;
+  leads = h.leads;
+  goals = h.goals;
+  kept = h.kept;
+  own = h.own;
+  numbers = h.numbers;
+  numbered = h.numbered;
+  says = ap (λ ts. tree_meant ts number h.depths g.additions) grows.is
+      ∙ tree-meant-more before grows.more number h.depths g.additions (all-flat g.additions h.texts) ∙ h.says;
+  texts = All-weaker (λ e. All (λ n. n < length before) (texts_of_attributes e.attributes)) (λ e. All (λ n. n < length after) (texts_of_attributes e.attributes)) (λ e k. texts-more before after (texts_of_attributes e.attributes) grows k) g.additions h.texts;
   writable = h.writable;
 }
   where
@@ -161,8 +170,12 @@ module _ (c : Module) (m : KeptModule) (size : ℕ) (big_endian : Bool) (first :
   abbrev carried_left : List ReadUnit → List Unit
   carried_left rest = map of_read (filter (is_carried_read m.kept) rest)
 
+  -- where the offsets of kept entries stand
+  abbrev placed : List EmittedEntry
+  placed = numbered_lists (suc first) (emitted m.kept m.units.items)
+
   abbrev Made : List (List ℕ) → ℕ → List ReadUnit → List GivenUnit → Type 0
-  Made table number rest us = AreMadeOf size table number (map carried_unit (map (λ u. record { module_of = c; unit = u }) (carried_left rest))) (map (wanted_of big_endian c first) (carried_left rest)) us
+  Made table number rest us = CarryUnits size big_endian c first placed table number (carried_left rest) us
 
   abbrev Refused : List ReadUnit → List Refusal
   Refused rest = flat_map (refusals_of c) (carried_left rest)
@@ -198,13 +211,13 @@ module _ (c : Module) (m : KeptModule) (size : ℕ) (big_endian : Bool) (first :
         added = h.added;
         grows = h.grows;
         each = λ after grown more k.
-            h.each after grown more (subst (λ rs. AreMadeOf size after (length new.units.units.items) (map carried_unit (map (λ u. record { module_of = c; unit = u }) (map of_read rs))) (map (wanted_of big_endian c first) (map of_read rs)) more) (sym (left-none none)) k);
+            h.each after grown more (subst (λ rs. CarryUnits size big_endian c first placed after (length new.units.units.items) (map of_read rs) more) (sym (left-none none)) k);
         accepted = sym (ap (λ rs. flat_map (refusals_of c) (map of_read rs)) (left-none none)) ∙ h.accepted;
         place = front-none m.kept (suc first) (length new.units.units.items) all r rest h.place none;
       }
 
       -- a unit that is carried
-      pub units-some : 0 < length (carried_offsets m.kept r) → (next : Dwarf) → (option_map in_reading (first_of (refusals_of c (of_read r))) ≡ None) → AddsUnit size big_endian c first (of_read r) new next → UnitsSoFar all old next rest
+      pub units-some : 0 < length (carried_offsets m.kept r) → (next : Dwarf) → (option_map in_reading (first_of (refusals_of c (of_read r))) ≡ None) → AddsUnit size big_endian c first placed (of_read r) new next → UnitsSoFar all old next rest
       units-some some next none a =
           let long : length next.units.units.items ≡ suc (length new.units.units.items) = ap length a.added ∙ length-append new.units.units.items (a.made ∷ []) ∙ omega arith in
           record {
@@ -214,8 +227,8 @@ module _ (c : Module) (m : KeptModule) (size : ℕ) (big_endian : Bool) (first :
             each = λ after grown more k.
                 subst (λ us. Made after (length old.units.units.items) all us) (sym (append_assoc h.made (a.made ∷ []) more))
                 (h.each after (grows-more new.strings next.strings after a.grows grown) (a.made ∷ more)
-                (subst (λ rs. AreMadeOf size after (length new.units.units.items) (map carried_unit (map (λ u. record { module_of = c; unit = u }) (map of_read rs))) (map (wanted_of big_endian c first) (map of_read rs)) (a.made ∷ more)) (sym (left-some some))
-                (made-more size next.strings after (length new.units.units.items) (carried_unit (record { module_of = c; unit = of_read r })) (wanted_of big_endian c first (of_read r)) a.made grown a.is, subst (λ n. Made after n rest more) long k)));
+                (subst (λ rs. CarryUnits size big_endian c first placed after (length new.units.units.items) (map of_read rs) (a.made ∷ more)) (sym (left-some some))
+                (carries-more size big_endian c first placed next.strings after (length new.units.units.items) (of_read r) a.made grown a.is, subst (λ n. Made after n rest more) long k)));
             accepted =
                 sym (ap (λ rs. flat_map (refusals_of c) (map of_read rs)) (left-some some)
                 ∙ ap (λ xs. xs ++ Refused rest) (no-first (refusals_of c (of_read r)) (unmapped in_reading (first_of (refusals_of c (of_read r))) none)))
@@ -230,17 +243,23 @@ module _ (c : Module) (m : KeptModule) (size : ℕ) (big_endian : Bool) (first :
           (λ x is. sym (ap first_of h.accepted) ∙ ap (λ rs. first_of (flat_map (refusals_of c) (map of_read rs))) (left-some some) ∙ first-behind (refusals_of c (of_read r)) (Refused rest) x is) met
 
     -- behind the last one
-    pub units-done : UnitsSoFar all old new [] → all ≡ m.units.items → IsOfModule c c.functions c.told m
+    pub units-done : length old.units.units.items ≡ suc first → UnitsSoFar all old new [] → all ≡ m.units.items → IsOfModule c c.functions c.told m
         → (option_map in_reading (first_of (flat_map (refusals_of c) (carried_in (kept_of c)))) ≡ None) × AddsUnits size big_endian c first old new
-    units-done h are of =
-        let carried : carried_in (kept_of c) ≡ carried_left all = carried-read c m of.is ∙ ap carried_left (sym are) in (
-          ap (λ us. option_map in_reading (first_of (flat_map (refusals_of c) us))) carried ∙ ap (λ rs. option_map in_reading (first_of rs)) (sym h.accepted),
+    units-done counted h are of =
+        let carried_is : carried_in (kept_of c) ≡ carried_left all = carried-read c m of.is ∙ ap carried_left (sym are) in
+        let carry : Made new.strings (length old.units.units.items) all h.made = subst (λ us. Made new.strings (length old.units.units.items) all us) (append-nil h.made) (h.each new.strings (grows-none new.strings) [] tt) in
+        let there : CarryUnits size big_endian c first placed new.strings (suc first) (map of_read (filter (is_carried_read m.kept) m.units.items)) h.made =
+        subst (λ n. CarryUnits size big_endian c first placed new.strings n (map of_read (filter (is_carried_read m.kept) m.units.items)) h.made) counted
+        (subst (λ rs. CarryUnits size big_endian c first placed new.strings (length old.units.units.items) (map of_read (filter (is_carried_read m.kept) rs)) h.made) are carry) in (
+          ap (λ us. option_map in_reading (first_of (flat_map (refusals_of c) us))) carried_is ∙ ap (λ rs. option_map in_reading (first_of rs)) (sym h.accepted),
           record {
             made = h.made;
             added = h.added;
             grows = h.grows;
-            each = subst (λ us. AreMadeOf size new.strings (length old.units.units.items) (map carried_unit (map (λ u. record { module_of = c; unit = u }) us)) (map (wanted_of big_endian c first) us) h.made) (sym carried)
-                (subst (λ us. Made new.strings (length old.units.units.items) all us) (append-nil h.made) (h.each new.strings (grows-none new.strings) [] tt));
+            each = λ at leads own_there.
+                subst (λ us. AreMadeOf at size new.strings (length old.units.units.items) (map carried_unit (map (λ u. record { module_of = c; unit = u }) us)) (map (wanted_of big_endian c first) us) h.made) (sym (carried-read c m of.is))
+                (subst (λ n. AreMadeOf at size new.strings n (map carried_unit (map (λ u. record { module_of = c; unit = u }) (map of_read (filter (is_carried_read m.kept) m.units.items)))) (map (wanted_of big_endian c first) (map of_read (filter (is_carried_read m.kept) m.units.items))) h.made) (sym counted)
+                (carried-made c m of.is size big_endian first placed refl new.strings at own_there h.made there (subst (λ n. LeadsTo at n h.made) counted leads)));
           },
         )
 
@@ -288,3 +307,11 @@ of-itself c fs told m of = record { functions = refl; told_is = refl; is = of.is
 -- Places that stand from a number on stand behind the module's own unit.
 pub places-behind : (m : KeptModule) (number own : ℕ) (places : List EmittedEntry) → number ≡ suc own → places ≡ numbered_lists number (emitted m.kept m.units.items) → places ≡ numbered_lists (suc own) (emitted m.kept m.units.items)
 places-behind m number own places at are = are ∙ ap (λ n. numbered_lists n (emitted m.kept m.units.items)) at
+
+-- What is added by places is added by the same ones.
+pub added-at : (size : ℕ) (big_endian : Bool) (c : Module) (first : ℕ) (here there : List EmittedEntry) (u : Unit) (old new : Dwarf) → here ≡ there → AddsUnit size big_endian c first here u old new → AddsUnit size big_endian c first there u old new
+added-at size big_endian c first here there u old new same a = subst (λ ps. AddsUnit size big_endian c first ps u old new) same a
+
+-- References to the own unit of a module, by what is told of the module.
+pub own-refers : (told : ToldModule) (c : Module) (fs : List Function) (m : KeptModule) (first : ℕ) {context address : DebugInfoRef} → IsOfModule c fs told m → ReferToOwn first told.memory context address → ReferToOwn first c.told.memory context address
+own-refers told c fs m first {context} {address} of refers = subst (λ (t : ToldModule). ReferToOwn first t.memory context address) (sym of.told_is) refers

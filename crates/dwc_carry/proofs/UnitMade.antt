@@ -1,7 +1,7 @@
 -- The unit of the output that is made of a carried unit of a module, and what is refused of it.
 use Rattle.std.proofs.Common.{◌≡◌, ℕ, ◌≤◌, List, [], ◌∷◌, ◌++◌, refl, ap, ap₂, sym, subst, ◌∙◌, arith, Bool, true, false, Option, Some, None, Ok}
 use Rattle.std.specs.Prelude.{◌==◌, ◌||◌, ◌&&◌, is_some, option_map, option_to_list, if◌then◌else◌, Result}
-use Rattle.std.specs.List.{filter, filter_map, flat_map, cons_option, list_any, find, AllZip}
+use Rattle.std.specs.List.{filter, flat_map, list_any, find, AllZip}
 use Rattle.dwc_base.specs.declared.constants.TheConstants.{DW_AT_stmt_list}
 use Rattle.dwc_base.specs.Reading.{◌>>=◌}
 use Rattle.dwc_base.specs.Sections.{Sections, Fault}
@@ -11,25 +11,22 @@ use Rattle.dwc_base.specs.Entries.{Entry, entries, attribute}
 use Rattle.dwc_base.specs.Indexed.{text_base}
 use Rattle.dwc_base.specs.LineRows.{LineTable, line_table}
 use Rattle.dwc_base.specs.Images.{is_carried_segment, IsImageOf}
-use Rattle.dwc_base.specs.Carried.{Unit, Module, carried_unit, root, line_offset, table_of_root, table_of_unit, segments_of, segments_of_unit}
+use Rattle.dwc_base.specs.Carried.{Unit, Module, root, line_offset, table_of_root, table_of_unit, segments_of, segments_of_unit}
 use Rattle.dwc_base.specs.Refusals.{Refusal, table_offset, lines_refusal, unit_refusal, first_of}
 use Rattle.dwc_base.specs.Widest.{widest_table}
-use Rattle.dwc_base.specs.Drafts.{Goal, made_of, itself, DraftValue, done, goes_to, Draft}
-use Rattle.dwc_base.specs.DraftForests.{settled, settled_unit, place_of_goal}
-use Rattle.dwc_base.specs.Trees.{Tree, entry, TreeValue, set_in_order}
-use Rattle.dwc_base.specs.Clones.{entry_refusals}
+use Rattle.dwc_base.specs.Drafts.{Goal, Draft}
+use Rattle.dwc_base.specs.DraftForests.{settled_unit}
+use Rattle.dwc_base.specs.Clones.{UnitSource, entry_refusals}
 use Rattle.dwc_base.specs.KeptModules.{kept_module, kept_in}
 use Rattle.dwc_base.specs.CarriedDrafts.{readable_table, source_of, unit_drafts}
 use Rattle.dwc_base.specs.ReachedEntries.{kept_refusals}
 use Rattle.dwc_base.specs.EntryRules.{code_rules}
-use Rattle.dwc_base.specs.Forests.{kept_of, rules_of, module_drafts}
+use Rattle.dwc_base.specs.Forests.{kept_of, expressions_of, rules_of, drafts_of}
 use Rattle.dwc_kept.specs.declared.kept_units.KeptModule.{KeptModule}
 use Rattle.dwc_kept.specs.KeptUnits.{IsTree}
 use Rattle.dwc_kept.specs.ReadUnits.{unit_read}
 use Rattle.dwc_kept.specs.declared.read_unit.ReadUnit.{ReadUnit}
 use Rattle.dwc_base.proofs.InLists.{contains-in}
-use Rattle.dwc_base.proofs.ForestLaws.{Each, SaysNoPlace, UnitSaysNoPlace}
-use Rattle.dwc_base.proofs.ForestTargets.{unit-no-place}
 use Rattle.dwc_kept.proofs.KeptModuleLaws.{read-unit, read-entries}
 use Rattle.dwc_base.specs.Functions.{Function}
 use Rattle.dwc_base.specs.Compiled.{ToldModule}
@@ -39,9 +36,8 @@ use Rattle.dwc_clone.specs.declared.error.CloneError.{CloneError}
 use Rattle.dwc_clone.specs.declared.source.CloneSource.{CloneSource}
 use Rattle.dwc_clone.specs.Errors.{refusal_told}
 use Rattle.dwc_clone.specs.CompiledModules.{told_by}
-use Rattle.dwc_clone.specs.OutputPlaces.{goal_place}
 use Rattle.dwc_clone.specs.Sources.{AreFiles}
-use Rattle.dwc_clone.specs.ClonedUnits.{picked, placed_in, depths_of, clone_rules, clone_refusals, clone_wanted, IsCloned, TellsFirst}
+use Rattle.dwc_clone.specs.ClonedUnits.{picked, placed_in, depths_of, draft_depths, source_with, clone_rules, clone_refusals, clone_drafts, goal_number, AreNumbered, IsCloned, TellsFirst}
 use Rattle.dwc_write.specs.GivenLines.{GivenLines}
 use Rattle.dwc_write.specs.GivenUnits.{GivenUnit, names_lines, in_file_order}
 use Rattle.dwc_write.specs.ReadBack.{given_segments}
@@ -49,31 +45,12 @@ use Rattle.dwc_write.specs.WidestGiven.{widest_table_for}
 use Rattle.dwc_carry.specs.declared.error.DebugError.{DebugError}
 use Rattle.dwc_carry.specs.Refusals.{in_reading, of_cloning, RefusesReading}
 use Rattle.dwc_carry.specs.UnitPrograms.{CarriesNamed}
-use Rattle.dwc_carry.specs.MadeUnits.{IsMadeOf}
-use Rattle.dwc_carry.specs.CarriedUnits.{IsUnitOf, wanted_of, refusals_of}
+use Rattle.dwc_carry.specs.OwnUnits.{ReferToOwn}
+use Rattle.dwc_carry.specs.CarriedUnits.{IsUnitOf, CarriesUnit, refusals_of}
 use Rattle.dwc_carry.proofs.RefusalLaws.{unmapped, reading-more, first-behind}
 use Rattle.dwc_carry.proofs.CauseLaws.{clone-told}
-use Rattle.dwc_carry.proofs.PlaceLaws.{goal-place}
-use Rattle.dwc_carry.proofs.LinesNamed.{tree_says, has_lines, tree-names, root-says}
-use Rattle.dwc_carry.proofs.UnitSources.{read_of, unit-in, unit-is, picked-are, clonable, first-root}
-
--- ---- what trees say where their goals are at the same places
-
--- a goal is at the same place by both
-abbrev Agrees : (Goal → Option (ℕ × ℕ)) → (Goal → Option (ℕ × ℕ)) → Goal → Type 0
-Agrees p q g = p g ≡ q g
-
-attribute-same : (p q : Goal → Option (ℕ × ℕ)) (name : ℕ) (v : DraftValue) → SaysNoPlace (Agrees p q) (name, v) → settled p (name, v) ≡ settled q (name, v)
-attribute-same p q name (done v) same = refl
-attribute-same p q name (goes_to g) same = ap (λ (o : Option (ℕ × ℕ)). option_map (λ (v : TreeValue). (name, v)) (option_map (λ (x : ℕ × ℕ). entry x.0 x.1) o)) same
-
-attributes-same : (p q : Goal → Option (ℕ × ℕ)) (xs : List (ℕ × DraftValue)) → Each (SaysNoPlace (Agrees p q)) xs → filter_map (settled p) xs ≡ filter_map (settled q) xs
-attributes-same p q [] same = refl
-attributes-same p q (x ∷ xs) same = ap₂ (λ (o : Option (ℕ × TreeValue)) (ys : List (ℕ × TreeValue)). cons_option o ys) (attribute-same p q x.0 x.1 same.0) (attributes-same p q xs same.1)
-
-unit-same : (p q : Goal → Option (ℕ × ℕ)) (ds : List Draft) → UnitSaysNoPlace (Agrees p q) ds → settled_unit p ds ≡ settled_unit q ds
-unit-same p q [] same = refl
-unit-same p q (d ∷ ds) same = ap₂ (λ (as' : List (ℕ × TreeValue)) (es : Tree). record { depth = d.depth; tag = d.tag; attributes = set_in_order as' } ∷ es) (attributes-same p q d.attributes same.0) (unit-same p q ds same.1)
+use Rattle.dwc_carry.proofs.LinesNamed.{tree_says, has_lines, tree-names, root-says, root-drafted}
+use Rattle.dwc_carry.proofs.UnitSources.{read_of, unit-in, unit-is, picked-are, clonable, first-root, own-unit}
 
 -- ---- the line table that a root names
 
@@ -221,12 +198,17 @@ module _ (registers : Registers) (k : CloneSource) (compile : Bool) (table : Opt
       ap (λ t. code_rules t k.transform.now k.unit.now.sections h (kept_of c).entries) (sym (of.module_is).told_is)
       ∙ ap₂ (λ fs s. code_rules c.told fs s h (kept_of c).entries) same-functions same-sections
 
-  wanted-is : clone_wanted registers k (source_of (kept_of c) u) es ≡ wanted_of k.big_endian c first u
-  wanted-is =
-      ap (λ es'. settled_unit (goal_place k.places.now) (unit_drafts (clone_rules registers k (source_of (kept_of c) u)) (source_of (kept_of c) u) k.big_endian es')) entries-are
-      ∙ ap (λ rules. settled_unit (goal_place k.places.now) (unit_drafts rules (source_of (kept_of c) u) k.big_endian (kept_in (kept_of c) u))) rules-are
-      ∙ unit-same (goal_place k.places.now) (place_of_goal first (module_drafts k.big_endian c)) (unit_drafts (rules_of c u) (source_of (kept_of c) u) k.big_endian (kept_in (kept_of c) u))
-      (unit-no-place (Agrees (goal_place k.places.now) (place_of_goal first (module_drafts k.big_endian c))) (λ offset. ap (λ ps. goal_place ps (made_of offset itself)) of.places_are ∙ goal-place c m (of.module_is).is k.big_endian first offset) c u (source_of (kept_of c) u) k.big_endian (kept_in (kept_of c) u))
+  expressions-are : source_with registers k (source_of (kept_of c) u) ≡ expressions_of c u
+  unfolding source_of
+  expressions-are =
+      ap (λ t. record { sections = k.unit.now.sections; header = h; functions = k.transform.now; told = t; entries = (kept_of c).entries }) (sym (of.module_is).told_is)
+      ∙ ap₂ (λ fs s. record { sections = s; header = h; functions = fs; told = c.told; entries = (kept_of c).entries }) same-functions same-sections
+
+  -- what is made of its entries is what is made of the unit
+  drafts-are : clone_drafts registers k (source_of (kept_of c) u) es ≡ drafts_of k.big_endian (record { module_of = c; unit = u })
+  drafts-are =
+      ap (unit_drafts (source_with registers k (source_of (kept_of c) u)) (source_of (kept_of c) u) k.big_endian) entries-are
+      ∙ ap (λ x. unit_drafts x (source_of (kept_of c) u) k.big_endian (kept_in (kept_of c) u)) expressions-are
 
   kept-refused : clone_refusals registers k (source_of (kept_of c) u) es ≡ kept_refusals (rules_of c) (kept_of c) u
   unfolding kept_refusals
@@ -248,7 +230,7 @@ module _ (registers : Registers) (k : CloneSource) (compile : Bool) (table : Opt
   -- ---- the unit
 
   module _ (size : ℕ) (old new : List (List ℕ)) (begun made : GivenUnit) (sized : begun.address_size ≡ size) (carries : CarriesNamed k.transform.now k.unit.now.sections h size table k.files begun.lines)
-      (cloned : IsCloned registers k number (source_of (kept_of c) u) es old new begun made) where
+      (refers : ReferToOwn first c.told.memory k.vmctx_ptr k.wasm_ptr) (cloned : IsCloned registers k number (source_of (kept_of c) u) es old new begun made) where
     known : KnownTable c u begun.lines
     known = table-known size begun.lines carries
 
@@ -259,21 +241,28 @@ module _ (registers : Registers) (k : CloneSource) (compile : Bool) (table : Opt
     unfolding source_of kept_module
     source-table = ap readable_table known.is_read
 
+    abbrev source : UnitSource
+    source = source_of (kept_of c) u
+
+    abbrev goals : Goal → Option (ℕ × ℕ)
+    goals = goal_number k number cloned.roles
+
     names : names_lines (in_file_order made.additions) ≡ is_some made.lines.address_size
     unfolding source_of
     names =
         let fit = clonable k compile table told c m first number kept of in
         let at : root u ≡ Some fit.root = first-root k compile table told c m first number kept of fit.root fit.others (sym (picked-are k compile table told c m first number kept of) ∙ fit.are) in
-        tree-names new number (depths_of es) made.additions (cloned.order).order.counted
+        tree-names new number (draft_depths (clone_drafts registers k source es)) made.additions cloned.order.counted
         ∙ ap tree_says cloned.says
-        ∙ ap (λ xs. tree_says (clone_wanted registers k (source_of (kept_of c) u) xs)) fit.are
-        ∙ root-says told k.transform.now k.unit.now.sections h (kept_of c).entries (source_of (kept_of c) u) k.big_endian (goal_place k.places.now) (record { unit = h.offset; entry = fit.root }) (root-tree fit.root fit.others (subst (λ (xs : List Entry). IsTree (depths_of xs)) fit.are fit.tree))
+        ∙ ap (λ xs. tree_says (settled_unit goals (clone_drafts registers k source xs))) fit.are
+        ∙ ap (λ ds. tree_says (settled_unit goals ds)) (root-drafted (source_with registers k source) source k.big_endian (record { unit = h.offset; entry = fit.root }) (placed_in h.offset fit.others) fit.tag)
+        ∙ root-says told k.transform.now k.unit.now.sections h (kept_of c).entries source k.big_endian goals (record { unit = h.offset; entry = fit.root }) (root-tree fit.root fit.others (subst (λ (xs : List Entry). IsTree (depths_of xs)) fit.are fit.tree))
         ∙ ap (λ t. is_some t && has_lines fit.root.attributes) source-table
         ∙ known.there fit.root at
         ∙ known.sized
         ∙ sym (ap (λ (g : GivenLines). is_some g.address_size) cloned.lines)
 
-    pub made-of : IsMadeOf size new number (carried_unit (record { module_of = c; unit = u })) (wanted_of k.big_endian c first u) made
+    pub made-of : CarriesUnit size k.big_endian c first k.places.now new number u made
     unfolding segments_of_unit
     made-of = record {
       has_lines = record {
@@ -282,9 +271,15 @@ module _ (registers : Registers) (k : CloneSource) (compile : Bool) (table : Opt
         images = subst (λ g. AllZip (IsImageOf c.functions) (filter (is_carried_segment c.functions) (segments_of known.t)) (given_segments g)) (sym cloned.lines) known.images;
         widest = subst (λ (g : GivenLines). widest_table_for g.address_size g ≤ widest_table c.functions (table_of_unit c.sections u)) (sym cloned.lines) (subst (λ t. widest_table_for begun.lines.address_size begun.lines ≤ widest_table c.functions t) (sym known.is_read) known.widest);
       };
-      depths = depths_of es;
+      depths = draft_depths (clone_drafts registers k source es);
       order = cloned.order;
-      says = cloned.says ∙ wanted-is;
+      leads = cloned.leads;
+      goals = goals;
+      kept = λ offset. refl;
+      own = λ place. ap (λ (n : ℕ). Some (n, place)) (own-unit k compile table told c m first number kept of refl refers);
+      numbers = cloned.numbers;
+      numbered = subst (λ (ds : List Draft). AreNumbered goals number ds cloned.numbers made) drafts-are cloned.numbered;
+      says = cloned.says ∙ ap (settled_unit goals) drafts-are;
       texts = cloned.texts;
       writable = record {
         size = cloned.size ∙ sized;

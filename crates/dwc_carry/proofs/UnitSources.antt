@@ -1,11 +1,12 @@
 -- What a unit of a module is cloned with is as the definitions have it, and its kept entries can be cloned.
-use Rattle.std.proofs.Common.{◌≡◌, ℕ, suc, ◌<◌, List, [], ◌∷◌, length, map, refl, ap, sym, subst, ◌∙◌, inl, inr, arith, Bool, true, false, cond, Option, Some, None, All}
-use Rattle.std.specs.Prelude.{◌==◌, if◌then◌else◌, option_and_then}
+use Rattle.std.proofs.Common.{◌≡◌, ℕ, suc, ◌<◌, List, [], ◌∷◌, length, map, refl, ap, ap₂, sym, subst, ◌∙◌, inl, inr, arith, Bool, true, false, cond, Option, Some, None, All}
+use Rattle.std.specs.Prelude.{Contains, ◌==◌, ◌&&◌, if◌then◌else◌, option_and_then}
+use Rattle.std.specs.Option.{is_some}
 use Rattle.std.specs.List.{filter, AllZip}
-use Rattle.std.proofs.lemmas.Bool.{eq-eqb, eqb-true, ne_eqb}
+use Rattle.std.proofs.lemmas.Bool.{eq-eqb, eqb-true, ne_eqb, lt-ltb}
 use Rattle.std.proofs.lemmas.List.{length-map}
 use Rattle.std.proofs.lemmas.List.Elements.{All-head, All-tail, All-cons}
-use Rattle.dwc_base.specs.declared.constants.TheConstants.{DW_TAG_compile_unit}
+use Rattle.dwc_base.specs.declared.constants.TheConstants.{DW_TAG_compile_unit, DW_TAG_formal_parameter}
 use Rattle.dwc_base.specs.Sections.{Sections, Fault}
 use Rattle.dwc_base.specs.Listing.{Listing}
 use Rattle.dwc_base.specs.Units.{UnitHeader, unit_headers}
@@ -14,9 +15,11 @@ use Rattle.dwc_base.specs.ReadValues.{IsReadEntry}
 use Rattle.dwc_base.specs.Carried.{Unit, Module, units, units_of_headers, root, has_root_tag}
 use Rattle.dwc_base.specs.EntryRules.{is_required}
 use Rattle.dwc_base.specs.Indexed.{texts_of_unit}
-use Rattle.dwc_base.specs.Kept.{Placed}
+use Rattle.dwc_base.specs.Kept.{Placed, parent_of}
 use Rattle.dwc_base.specs.Functions.{Function}
-use Rattle.dwc_base.specs.Compiled.{ToldModule}
+use Rattle.dwc_base.specs.Compiled.{ToldModule, Memory}
+use Rattle.dwc_base.specs.OwnUnits.{place_of_context_pointer, place_of_wasm_pointer}
+use Rattle.dwc_base.specs.TypeNames.{type_of}
 use Rattle.dwc_base.specs.Targets.{target_of}
 use Rattle.dwc_base.specs.Trees.{place_among}
 use Rattle.dwc_base.specs.KeptModules.{kept_module}
@@ -29,19 +32,26 @@ use Rattle.dwc_base.specs.UnitOffsets.{RiseIn}
 use Rattle.dwc_kept.specs.KeptUnits.{is_in_unit, stands_at, kept_of_unit, IsTree, AreEntryOffsets}
 use Rattle.dwc_kept.specs.ReadEntries.{named_offset}
 use Rattle.dwc_kept.specs.ReadUnits.{unit_read, IsReadUnit, IsKeptModule, is_carried_read}
-use Rattle.dwc_base.proofs.InLists.{IsIn, contains-in}
+use Rattle.dwc_base.proofs.InLists.{IsIn, contains-in, in-contains, filter-in}
+use Rattle.dwc_expr.specs.Frames.{memory_view}
+use Rattle.dwc_kept.proofs.KeptAlone.{read-alone}
+use Rattle.dwc_kept.proofs.KeptGoals.{carried, inside}
+use Rattle.dwc_kept.proofs.KeptEmitted.{emitted-kept, kept-between, kept-emitted, read-rises}
+use Rattle.dwc_kept.proofs.KeptTypes.{keeps-placed, place-kept, type-placed}
+use Rattle.dwc_write.specs.declared.attributes.DebugInfoRef.{DebugInfoRef}
 use Rattle.dwc_kept.proofs.ReadLaws.{first-unit, first-fault}
-use Rattle.dwc_kept.proofs.KeptStanding.{UnitsStand}
 use Rattle.dwc_kept.proofs.KeptInUnits.{are-kept}
-use Rattle.dwc_kept.proofs.KeptModuleLaws.{read-unit, read-in, read-within, read-tree, read-root, read-reference, read-lists}
+use Rattle.dwc_kept.proofs.KeptModuleLaws.{read-unit, read-within, read-tree, read-root, read-reference, read-named, read-inside, read-lists}
 use Rattle.dwc_clone.specs.declared.source.CloneSource.{CloneSource}
-use Rattle.dwc_clone.specs.Sources.{AreFiles, IsSource}
+use Rattle.dwc_clone.specs.Sources.{AreEmitted, AreFiles, IsSource, IsEmitted, IsReadAlone, own_unit_of, unit_of as unit_referred}
+use Rattle.dwc_carry.specs.OwnUnits.{entry_of, ReferToOwn}
 use Rattle.dwc_clone.specs.OutputPlaces.{place_of}
 use Rattle.dwc_clone.specs.ClonedUnits.{picked, depths_of, AreClonable}
 use Rattle.dwc_carry.specs.ModulePlaces.{emitted}
 use Rattle.dwc_carry.specs.CarriedUnits.{IsOfModule, IsUnitOf}
 use Rattle.dwc_carry.proofs.UnitsInOrder.{emitted-carried}
 use Rattle.dwc_carry.proofs.PlaceLaws.{lists-among}
+use Rattle.dwc_carry.proofs.WalkLaws.{keeps-parameter, parent-unit}
 
 -- ---- lists
 
@@ -83,11 +93,6 @@ fault-none s (h ∷ hs) last k none i = go (entries s h).fault refl (λ n j. fau
 whole-fault : (s : Sections) (k : UnitHeader) → (units s).fault ≡ None → IsIn k (unit_headers s).items → (entries s k).fault ≡ None
 unfolding units
 whole-fault s k none i = fault-none s (unit_headers s).items (unit_headers s).fault k none i
-
-unit-rises : (from : ℕ) (us : List Unit) (u : Unit) → UnitsStand from us → IsIn u us → RiseIn u.header.offset u.header.end u.entries
-unit-rises from [] u h i = absurd i
-unit-rises from (v ∷ vs) u h (inl e) = subst (λ w. RiseIn w.header.offset w.header.end w.entries) (sym e) h.2
-unit-rises from (v ∷ vs) u h (inr i) = unit-rises v.header.end vs u h.4 i
 
 -- ---- the entries at the offsets of those that pass a test
 
@@ -184,7 +189,7 @@ module _ (k : CloneSource) (compile : Bool) (table : Option ℕ) (told : ToldMod
   no-fault = ap (λ s. (entries s k.unit.now.header).fault) unit-is.sections ∙ whole-fault c.sections k.unit.now.header is.whole header-there
 
   rises : RiseIn k.unit.now.header.offset k.unit.now.header.end (entries c.sections k.unit.now.header).items
-  rises = unit-rises 0 (kept_of c).units unit_of (are-kept (λ u. is_required c.functions c.sections u.header) c is.whole).stand (read-in c m is (read_of k compile table) unit-in)
+  rises = read-rises c m is (read_of k compile table) unit-in
 
   -- The entries at the offsets are the unit's kept ones.
   pub picked-are : picked kept (entries k.unit.now.sections k.unit.now.header).items ≡ kept_of_unit m.kept unit_of
@@ -220,18 +225,80 @@ module _ (k : CloneSource) (compile : Bool) (table : Option ℕ) (told : ToldMod
   place-is : (o : ℕ) → place_of k.places.now o ≡ place_among (λ j. j == o) (suc first) (emitted m.kept m.units.items)
   place-is o = ap (λ ps. place_of ps o) of.places_are ∙ lists-among (suc first) (emitted m.kept m.units.items) o
 
-  pub source-is : AreFiles k.files k.unit.now.header.version (source_of (kept_of c) unit_of).table → IsSource k number (source_of (kept_of c) unit_of)
+  -- the unit that was read is one of the carried ones
+  in-carried : IsIn (read_of k compile table) (carried m)
+  in-carried =
+      filter-in (is_carried_read m.kept) m.units.items (read_of k compile table) unit-in
+      (ap₂ (λ a b. a && b) compile-is.0 (lt-ltb 0 (length (filter (is_in_unit k.unit.now.header) m.kept)) (subst (λ (os : List ℕ). 0 < length os) compile-is.1 of.some)))
+
+  -- whether an offset has a place
+  placed-is : (o : ℕ) → is_some (place_of k.places.now o) ≡ is_some (place_among (λ j. j == o) (suc first) (map (inside m.kept) (carried m)))
+  placed-is o = ap is_some (place-is o ∙ ap (place_among (λ j. j == o) (suc first)) (emitted-carried m.kept m.units.items))
+
+  -- Its entries that are in the output are those at the offsets, one behind another in the unit of the number.
+  pub are-emitted : AreEmitted k (source_of (kept_of c) unit_of) number (picked kept (entries k.unit.now.sections k.unit.now.header).items)
   unfolding source_of kept_module
-  source-is files = record {
-    version = refl;
-    texts = ap (λ s. texts_of_unit s k.unit.now.header) (sym unit-is.sections);
-    files = files;
-    targets = λ e v own.
-        option-same (λ (f : Placed). place_of k.places.now f.entry.offset) (λ f. place_among (λ j. j == f.entry.offset) (suc first) (emitted m.kept m.units.items)) (target_of (kept_of c).entries e v) (λ f. place-is f.entry.offset)
-        ∙ read-reference c m is (read_of k compile table) unit-in (emitted m.kept m.units.items) lists-are (suc first) e own v
-        ∙ option-same (λ offset. place_among (λ j. j == offset) (suc first) (emitted m.kept m.units.items)) (place_of k.places.now) (named_offset k.unit.now.header.offset k.unit.now.header.end v) (λ offset. sym (place-is offset));
-    own = of.own;
-  }
+  are-emitted = subst (AreEmitted k (source_of (kept_of c) unit_of) number) (sym picked-are) (record {
+    each = λ i e at.
+        let found = kept-emitted c m is (read_of k compile table) unit-in in-carried (suc first) i e at in
+        let there = kept-between c m is (read_of k compile table) unit-in i e at in
+        let placed : place_of k.places.now e.offset ≡ Some (found.0, i) = place-is e.offset ∙ ap (place_among (λ j. j == e.offset) (suc first)) (emitted-carried m.kept m.units.items) ∙ found.1 in
+        placed ∙ ap (λ n. Some (n, i)) (of.own e.offset (found.0, i) there.0 there.1 placed);
+    all = λ f emitted.
+        in-contains (kept_of_unit m.kept unit_of) f.entry
+        (emitted-kept c m is (read_of k compile table) unit-in (suc first) f (contains-in (kept_of c).entries f emitted.among) emitted.unit (sym (placed-is f.entry.offset) ∙ emitted.kept));
+  })
+
+  module _ (memory : told.memory ≡ memory_view k.module.memory) (refers : ReferToOwn first c.told.memory k.vmctx_ptr k.wasm_ptr) where
+    memory-is : c.told.memory ≡ memory_view k.module.memory
+    memory-is = ap (λ (t : ToldModule). t.memory) (of.module_is).told_is ∙ memory
+
+    pub own-unit : own_unit_of k ≡ first
+    own-unit = ap (λ (r : DebugInfoRef). unit_referred r) refers.context_pointer
+
+    types-emitted : (e f : Placed) → IsEmitted k (source_of (kept_of c) unit_of) e → type_of (source_of (kept_of c) unit_of).entries e ≡ Some f → IsEmitted k (source_of (kept_of c) unit_of) f
+    unfolding source_of kept_module
+    types-emitted e f emitted type =
+        let placed = type-placed c m is (read_of k compile table) in-carried unit-in (suc first) e f (contains-in (kept_of c).entries e emitted.among) emitted.unit (sym (placed-is e.entry.offset) ∙ emitted.kept) type in
+        record { among = in-contains (kept_of c).entries f placed.0; unit = placed.1; kept = placed-is f.entry.offset ∙ placed.2 }
+
+    read-so : (e : Placed) → IsEmitted k (source_of (kept_of c) unit_of) e → IsReadAlone k e.entry
+    unfolding source_of kept_module
+    read-so e emitted =
+        let there = read-alone c m is (read_of k compile table) unit-in e (contains-in (kept_of c).entries e emitted.among) emitted.unit in
+        record { read = there.read; is = there.is; offset = there.offset; tag = there.tag; attributes = there.attributes }
+
+    parameters-emitted : (e p : Placed) → IsEmitted k (source_of (kept_of c) unit_of) p → Contains (source_of (kept_of c) unit_of).entries e → e.entry.tag ≡ DW_TAG_formal_parameter → parent_of (source_of (kept_of c) unit_of).entries e ≡ Some p → IsEmitted k (source_of (kept_of c) unit_of) e
+    unfolding source_of kept_module
+    parameters-emitted e p emitted among tag parent =
+        let there = contains-in (kept_of c).entries e among in
+        let own : e.unit ≡ k.unit.now.header.offset = parent-unit (kept_of c) (are-kept (λ u. is_required c.functions c.sections u.header) c is.whole) e p there parent ∙ emitted.unit in
+        record {
+          among = among;
+          unit = own;
+          kept = placed-is e.entry.offset
+              ∙ keeps-placed c m is (read_of k compile table) in-carried unit-in (suc first) p e (contains-in (kept_of c).entries p emitted.among) there own (sym (placed-is p.entry.offset) ∙ emitted.kept) (keeps-parameter (kept_of c).entries e p parent tag);
+        }
+
+    pub source-is : AreFiles k.files k.unit.now.header.version (source_of (kept_of c) unit_of).table → IsSource k number (source_of (kept_of c) unit_of)
+    unfolding source_of kept_module
+    source-is files = record {
+      version = refl;
+      texts = ap (λ s. texts_of_unit s k.unit.now.header) (sym unit-is.sections);
+      files = files;
+      targets = λ e v own.
+          option-same (λ (f : Placed). place_of k.places.now f.entry.offset) (λ f. place_among (λ j. j == f.entry.offset) (suc first) (emitted m.kept m.units.items)) (target_of (kept_of c).entries e v) (λ f. place-is f.entry.offset)
+          ∙ read-reference c m is (read_of k compile table) unit-in (emitted m.kept m.units.items) lists-are (suc first) e own v
+          ∙ option-same (λ offset. place_among (λ j. j == offset) (suc first) (emitted m.kept m.units.items)) (place_of k.places.now) (named_offset k.unit.now.header.offset k.unit.now.header.end v) (λ offset. sym (place-is offset));
+      named = λ e f v own at placed. read-named c m is (read_of k compile table) unit-in e f own v at (place-kept c m is f.entry.offset (suc first) (sym (placed-is f.entry.offset) ∙ placed));
+      inside = λ f among. read-inside c m is (read_of k compile table) unit-in f (contains-in (kept_of c).entries f among);
+      own = of.own;
+      context = refers.context_pointer ∙ ap₂ (λ (n : ℕ) (x : Memory). entry_of n (place_of_context_pointer x)) (sym own-unit) memory-is;
+      address = refers.wasm_pointer ∙ ap₂ (λ (n : ℕ) (x : Memory). entry_of n (place_of_wasm_pointer x)) (sym own-unit) memory-is;
+      types = types-emitted;
+      alone = read-so;
+      parameters = parameters-emitted;
+    }
 
 -- The entries of a unit of a module were read.
 pub entries-of-read : (c : Module) (fs : List Function) (told : ToldModule) (m : KeptModule) (r : ReadUnit) → IsOfModule c fs told m → IsIn r m.units.items → All IsReadEntry (entries r.unit.sections r.unit.header).items

@@ -1,16 +1,17 @@
 -- The entries of a module stand in file order, each at most one deeper than the one before it, and the kept ones of a unit hold their
 -- parents.
-use Rattle.std.proofs.Common.{◌≡◌, ◌≢◌, ℕ, suc, ◌+◌, ◌<◌, ◌≤◌, ◌⊎◌, List, [], ◌∷◌, ◌++◌, take, refl, ap, sym, subst, ◌∙◌, inl, inr, arith, one-add, Bool, true, false, cond, Option, Some, None}
+use Rattle.std.proofs.Common.{◌≡◌, ◌≢◌, ℕ, suc, ◌+◌, ◌<◌, ◌≤◌, ◌⊎◌, List, [], ◌∷◌, ◌++◌, take, refl, ap, ap₂, sym, subst, ◌∙◌, inl, inr, arith, one-add, Bool, true, false, cond, Option, Some, None}
 use Rattle.std.specs.Prelude.{◌==◌, ◌&&◌, ◌||◌, not}
 use Rattle.std.specs.Option.{unwrap_or}
 use Rattle.std.specs.List.{filter, prefix_len, take_while}
 use Rattle.std.proofs.lemmas.Bool.{cases_eq, eq-eqb, eqb-true, eqb-false, ne_eqb, not_from_false}
 use Rattle.std.proofs.lemmas.Option.{none-some}
+use Rattle.dwc_base.specs.declared.constants.TheConstants.{DW_TAG_constant, DW_TAG_formal_parameter, DW_TAG_namespace, DW_TAG_variable}
 use Rattle.dwc_base.specs.Entries.{Entry}
 use Rattle.dwc_base.specs.EntryRules.{is_required}
 use Rattle.dwc_base.specs.Carried.{Unit, Module, placed_entries}
 use Rattle.dwc_base.specs.Forests.{kept_of}
-use Rattle.dwc_base.specs.Kept.{Placed, is_parent, is_part_of, keeps, parent_of, refers_to, same_place}
+use Rattle.dwc_base.specs.Kept.{Placed, is_parent, is_part_of, is_part_tag, keeps, parent_of, refers_to, same_place}
 use Rattle.dwc_base.specs.KeptEntries.{has_place}
 use Rattle.dwc_base.specs.KeptModules.{KeptModule, kept_in}
 use Rattle.dwc_base.specs.Scopes.{Rises, Steps}
@@ -22,9 +23,9 @@ use Rattle.dwc_kept.specs.declared.read_unit.ReadUnit.{ReadUnit}
 use Rattle.dwc_kept.specs.KeptUnits.{AreBelow, IsTree, kept_of_unit, offsets_kept, stands_at}
 use Rattle.dwc_kept.specs.ReadUnits.{IsKeptModule, unit_read}
 use Rattle.dwc_kept.proofs.KeptDepths.{depths_of}
-use Rattle.dwc_kept.proofs.KeptInUnits.{AreKept, Rising, are-kept, in-unit, kept-entry, rising-units}
+use Rattle.dwc_kept.proofs.KeptInUnits.{AreKept, Rising, are-kept, in-unit, kept-entry, of-unit, rising-units}
 use Rattle.dwc_kept.proofs.KeptModuleLaws.{read-in}
-use Rattle.dwc_kept.proofs.KeptStanding.{UnitsStand, placed_at, unit-from}
+use Rattle.dwc_kept.proofs.KeptStanding.{UnitsStand, placed_at, placed-unit, unit-from}
 use Rattle.dwc_clone.specs.Lineages.{AreWalked}
 
 -- ---- parents, looked for from the first entry on
@@ -191,6 +192,31 @@ is-parent es e p h = rw h (eq-eqb p.entry.offset p.entry.offset refl)
 
 keeps-parent : (es : List Placed) (e p : Placed) → parent_of es e ≡ Some p → keeps es e p ≡ true
 keeps-parent es e p h = ap (λ b. b || refers_to e p || (is_parent es p e && is_part_of e p)) (is-parent es e p h)
+
+-- An entry keeps the parameters below it.
+pub keeps-parameter : (es : List Placed) (e p : Placed) → parent_of es e ≡ Some p → e.entry.tag ≡ DW_TAG_formal_parameter → keeps es p e ≡ true
+keeps-parameter es e p h tag =
+    go (is_parent es p e) (refers_to p e) (is_parent es e p) (is_part_of p e) (is-parent es e p h)
+    (ap (λ t. is_part_tag t || (((t == DW_TAG_variable) || (t == DW_TAG_constant)) && not ((p.entry.depth == 0) || (p.entry.tag == DW_TAG_namespace)))) tag)
+  where
+    go : (a b x y : Bool) → x ≡ true → y ≡ true → (a || b || (x && y)) ≡ true
+    go true b x y one both = refl
+    go false true x y one both = refl
+    go false false x y one both = ap₂ (λ v w. v && w) one both
+
+-- The parent of an entry of a module is one of its unit.
+pub parent-unit : (m : KeptModule) → AreKept m → (e p : Placed) → IsIn e m.entries → parent_of m.entries e ≡ Some p → e.unit ≡ p.unit
+parent-unit m are e p i h =
+    let there = subst (IsIn e) are.entries i in
+    let at = placed-unit 0 m.units e are.stand there in
+    let v = at.0 in
+    let among = subst (IsIn e) (of-unit 0 m.units v are.stand at.1) (filter-in (λ q. q.unit == v.header.offset) (placed_entries m.units) e there (eq-eqb e.unit v.header.offset (at.2).unit_is)) in
+    let some : 0 < e.entry.depth = omega (arith, (found-parent m.entries e p h).1) in
+    let own = units-parent 0 m.units v e are.stand at.1 among some in
+    (at.2).unit_is ∙ sym own.2 ∙ ap (λ (q : Placed). q.unit) (one own.0 (sym own.1 ∙ ap (λ es. parent_of es e) (sym are.entries) ∙ h))
+  where
+    one : (q : Placed) → ◌≡◌ {A = Option Placed} (Some q) (Some p) → q ≡ p
+    one q k = cc
 
 module _ (m : KeptModule) (are : AreKept m) (u : Unit) (i : IsIn u m.units) where
   abbrev is_kept : Placed → Bool

@@ -1,5 +1,5 @@
 -- What is made of the modules of an input.
-use Rattle.std.specs.Prelude.{◌≡◌, ℕ, List, ◌++◌, map, length, Bool, None, Result, All}
+use Rattle.std.specs.Prelude.{◌≡◌, ℕ, List, ◌++◌, map, length, Bool, Option, None, Result, All}
 use Rattle.std.specs.List.{flat_map}
 use Rattle.dwc_base.specs.declared.wasm.ModuleTranslation.{ModuleTranslation}
 use Rattle.dwc_base.specs.Translations.{translation_sections}
@@ -14,7 +14,7 @@ use Rattle.dwc_write.specs.GivenUnits.{GivenUnit}
 use Rattle.dwc_clone.specs.MadeValues.{Grows}
 use Rattle.dwc_carry.specs.declared.error.DebugError.{DebugError}
 use Rattle.dwc_carry.specs.Refusals.{ReadsOr}
-use Rattle.dwc_carry.specs.MadeUnits.{AreMadeOf}
+use Rattle.dwc_carry.specs.MadeUnits.{LeadsTo, AreMadeOf}
 use Rattle.dwc_carry.specs.CarriedUnits.{AddsUnits}
 
 -- a module, with the functions that its transform keeps and what is told of it
@@ -41,7 +41,7 @@ pub record AddsModules (size : ℕ) (big_endian : Bool) (ms : List Module) (old 
   pub made : List GivenUnit
   pub added : new ≡ old ++ made
   pub grows : Grows before after
-  pub each : AreMadeOf size after (length old) (flat_map wanted_units_of ms) (trees_from (length old) (map (module_drafts big_endian) ms)) made
+  pub each : (at : ℕ → ℕ → Option (ℕ × ℕ)) → LeadsTo at (length old) made → AreMadeOf at size after (length old) (flat_map wanted_units_of ms) (trees_from (length old) (map (module_drafts big_endian) ms)) made
   pub whole : All (λ m. (units m.sections).fault ≡ None) ms
 
 -- They are added, or the first refusal is answered.

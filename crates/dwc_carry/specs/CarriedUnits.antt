@@ -6,11 +6,12 @@ use Rattle.dwc_base.specs.Functions.{Function}
 use Rattle.dwc_base.specs.Compiled.{ToldModule}
 use Rattle.dwc_base.specs.Carried.{Unit, Module, carried_unit}
 use Rattle.dwc_base.specs.Refusals.{Refusal, unit_refusal, first_of}
-use Rattle.dwc_base.specs.KeptModules.{carried_in, kept_in}
-use Rattle.dwc_base.specs.CarriedDrafts.{source_of, unit_drafts}
+use Rattle.dwc_base.specs.KeptModules.{carried_in}
+use Rattle.dwc_base.specs.Drafts.{Goal, made_of, own_entry, itself}
 use Rattle.dwc_base.specs.DraftForests.{place_of_goal, settled_unit}
+use Rattle.dwc_base.specs.OwnUnits.{own_unit}
 use Rattle.dwc_base.specs.ReachedEntries.{unit_refusals}
-use Rattle.dwc_base.specs.Forests.{kept_of, rules_of, carried_units_of, module_drafts}
+use Rattle.dwc_base.specs.Forests.{kept_of, rules_of, carried_units_of, drafts_of, module_drafts}
 use Rattle.dwc_base.specs.Trees.{Tree}
 use Rattle.dwc_kept.specs.declared.read_unit.ReadUnit.{ReadUnit}
 use Rattle.dwc_kept.specs.declared.kept_units.KeptModule.{KeptModule}
@@ -19,12 +20,16 @@ use Rattle.dwc_clone.specs.declared.places.EmittedEntry.{EmittedEntry}
 use Rattle.dwc_clone.specs.OutputPlaces.{place_of}
 use Rattle.dwc_clone.specs.MadeValues.{Grows}
 use Rattle.dwc_write.specs.declared.units.Dwarf.{Dwarf}
-use Rattle.dwc_write.specs.GivenUnits.{GivenUnit}
+use Rattle.dwc_write.specs.AddedInOrder.{IsInOrder, tree_meant}
+use Rattle.dwc_write.specs.Renumbered.{LeadsToEntries}
+use Rattle.dwc_write.specs.GivenUnits.{GivenUnit, IsWritable, ordered}
+use Rattle.dwc_write.specs.UsedTexts.{texts_of_attributes}
+use Rattle.dwc_clone.specs.ClonedUnits.{AreNumbered}
 use Rattle.dwc_carry.specs.declared.error.DebugError.{DebugError}
 use Rattle.dwc_carry.specs.declared.last_lines.LastLines.{LastLines}
 use Rattle.dwc_carry.specs.Refusals.{ReadsOr}
 use Rattle.dwc_carry.specs.LastLines.{IsLast}
-use Rattle.dwc_carry.specs.MadeUnits.{IsMadeOf, AreMadeOf}
+use Rattle.dwc_carry.specs.MadeUnits.{LeadsTo, HasLinesOf, AreMadeOf}
 use Rattle.dwc_carry.specs.ModulePlaces.{carried_offsets, emitted, numbered_lists}
 
 -- ---- a module
@@ -48,7 +53,7 @@ refusals_of c u = unit_refusals (unit_refusal c.sections) (rules_of c) (kept_of 
 
 -- what its unit of the output is to say, where the module's own unit, the first of the module, has a number there
 abbrev pub wanted_of : Bool → Module → ℕ → Unit → Tree
-wanted_of big_endian c first u = settled_unit (place_of_goal first (module_drafts big_endian c)) (unit_drafts (rules_of c u) (source_of (kept_of c) u) big_endian (kept_in (kept_of c) u))
+wanted_of big_endian c first u = settled_unit (place_of_goal first (module_drafts big_endian c)) (drafts_of big_endian (record { module_of = c; unit = u }))
 
 -- ---- one unit
 
@@ -62,26 +67,50 @@ pub record IsUnitOf (c : Module) (fs : List Function) (told : ToldModule) (m : K
   pub places_are : places ≡ numbered_lists (suc first) (emitted m.kept m.units.items)
   pub own : (offset : ℕ) (p : ℕ × ℕ) → r.unit.header.offset ≤ offset → offset < r.unit.header.end → place_of places offset ≡ Some p → p.0 ≡ number
 
+-- A unit to be written, of a number, carries a unit of a module, whose own unit is the first of the module, where the offsets of kept entries
+-- have numbers: it has the lines of that; and what its kept entries become was added in file order, under some numbers, and says with
+-- these what it is to say.
+pub record CarriesUnit (size : ℕ) (big_endian : Bool) (c : Module) (first : ℕ) (places : List EmittedEntry) (table : List (List ℕ)) (number : ℕ) (u : Unit) (made : GivenUnit) : Type 0 where
+  pub has_lines : HasLinesOf (record { module_of = c; unit = u }) made
+  pub depths : List ℕ
+  pub order : IsInOrder depths made
+  pub leads : LeadsToEntries made
+  pub goals : Goal → Option (ℕ × ℕ)
+  pub kept : (offset : ℕ) → goals (made_of offset itself) ≡ place_of places offset
+  pub own : (place : ℕ) → goals (own_entry place) ≡ Some (first, place)
+  pub numbers : List ℕ
+  pub numbered : AreNumbered goals number (drafts_of big_endian (record { module_of = c; unit = u })) numbers made
+  pub says : tree_meant table number depths made.additions ≡ settled_unit goals (drafts_of big_endian (record { module_of = c; unit = u }))
+  pub texts : All (λ e. All (λ n. n < length table) (texts_of_attributes e.attributes)) made.additions
+  pub writable : IsWritable size (ordered made)
+
 -- A unit is added that carries it, and the table of texts has grown.
-pub record AddsUnit (size : ℕ) (big_endian : Bool) (c : Module) (first : ℕ) (u : Unit) (old new : Dwarf) : Type 0 where
+pub record AddsUnit (size : ℕ) (big_endian : Bool) (c : Module) (first : ℕ) (places : List EmittedEntry) (u : Unit) (old new : Dwarf) : Type 0 where
   pub made : GivenUnit
   pub added : new.units.units.items ≡ old.units.units.items ++ made ∷ []
   pub grows : Grows old.strings new.strings
-  pub is : IsMadeOf size new.strings (length old.units.units.items) (carried_unit (record { module_of = c; unit = u })) (wanted_of big_endian c first u) made
+  pub is : CarriesUnit size big_endian c first places new.strings (length old.units.units.items) u made
 
 -- It is added, and the line table that was carried last is known; or the first refusal is answered.
-abbrev pub GivesUnit : ℕ → Bool → Module → ℕ → Unit → Dwarf → Dwarf → Result (Option LastLines) DebugError → Type 0
-GivesUnit size big_endian c first u old new result =
-    ReadsOr (λ last. AddsUnit size big_endian c first u old new × IsLast c.functions size c.sections new.units.units.items last) (first_of (refusals_of c u)) result
+abbrev pub GivesUnit : ℕ → Bool → Module → ℕ → List EmittedEntry → Unit → Dwarf → Dwarf → Result (Option LastLines) DebugError → Type 0
+GivesUnit size big_endian c first places u old new result =
+    ReadsOr (λ last. AddsUnit size big_endian c first places u old new × IsLast c.functions size c.sections new.units.units.items last) (first_of (refusals_of c u)) result
 
 -- ---- all of a module
+
+-- Units, of which the first has a number, carry units of a module, one to one and in order.
+abbrev pub CarryUnits : ℕ → Bool → Module → ℕ → List EmittedEntry → List (List ℕ) → ℕ → List Unit → List GivenUnit → Type 0
+CarryUnits size big_endian c first places table number [] [] = Prim.Unit {0}
+CarryUnits size big_endian c first places table number (u ∷ us) (g ∷ gs) = CarriesUnit size big_endian c first places table number u g × CarryUnits size big_endian c first places table (suc number) us gs
+CarryUnits size big_endian c first places table number _ _ = ⊥
 
 -- Units are added that carry the carried units of a module, one to one and in order, and the table of texts has grown.
 pub record AddsUnits (size : ℕ) (big_endian : Bool) (c : Module) (first : ℕ) (old new : Dwarf) : Type 0 where
   pub made : List GivenUnit
   pub added : new.units.units.items ≡ old.units.units.items ++ made
   pub grows : Grows old.strings new.strings
-  pub each : AreMadeOf size new.strings (length old.units.units.items) (map carried_unit (carried_units_of c)) (map (wanted_of big_endian c first) (carried_in (kept_of c))) made
+  pub each : (at : ℕ → ℕ → Option (ℕ × ℕ)) → LeadsTo at (length old.units.units.items) made → ((place : ℕ) → place < length (own_unit c.told.names.set_memory c.told.memory) → at first place ≡ Some (first, place))
+      → AreMadeOf at size new.strings (length old.units.units.items) (map carried_unit (carried_units_of c)) (map (wanted_of big_endian c first) (carried_in (kept_of c))) made
 
 -- They are added, or the first refusal is answered.
 abbrev pub GivesUnits : ℕ → Bool → Module → ℕ → Dwarf → Dwarf → Result (Prim.Unit {0}) DebugError → Type 0

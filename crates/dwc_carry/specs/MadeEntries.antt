@@ -1,9 +1,8 @@
 -- Entries that stem from none of the input, as they are added to a unit of the output.
-use Rattle.std.specs.Prelude.{◌≡◌, ℕ, ◌<◌, suc, List, [], ◌∷◌, map, length, fold, true, All}
+use Rattle.std.specs.Prelude.{◌≡◌, ℕ, ◌<◌, suc, List, [], ◌∷◌, fold, true, All}
 use Rattle.std.specs.List.{position_or_len}
 use Rattle.std.specs.Str.{bytes_eq}
 use Rattle.dwc_base.specs.TreeLaws.{with_new_text}
-use Rattle.dwc_write.specs.declared.attributes.Attribute.{Attribute}
 use Rattle.dwc_write.specs.declared.attributes.AttributeValue.{AttributeValue}
 use Rattle.dwc_write.specs.declared.attributes.AttributeValue.TheVariants as write
 use Rattle.dwc_write.specs.declared.strings.StringId.{StringId}

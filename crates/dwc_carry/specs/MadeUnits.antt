@@ -1,5 +1,5 @@
 -- The units of the output: the one that a module has of its own, and those that carry units of the input.
-use Rattle.std.specs.Prelude.{◌≡◌, ℕ, suc, ◌<◌, ◌≤◌, List, [], ◌∷◌, length, None, Ok, All}
+use Rattle.std.specs.Prelude.{◌≡◌, ℕ, suc, ◌+◌, ◌<◌, ◌≤◌, List, [], ◌∷◌, map, length, slice_get, Option, Some, None, Ok, All}
 use Rattle.std.specs.List.{filter, AllZip}
 use Rattle.dwc_base.specs.LineRows.{Segment}
 use Rattle.dwc_base.specs.Images.{is_carried_segment, IsImageOf}
@@ -7,8 +7,9 @@ use Rattle.dwc_base.specs.Carried.{CarriedUnit, WantedUnit, own_unit, carried_un
 use Rattle.dwc_base.specs.Widest.{widest_lines_of}
 use Rattle.dwc_base.specs.Trees.{Tree}
 use Rattle.dwc_write.specs.AddedInOrder.{IsInOrder, tree_meant}
+use Rattle.dwc_write.specs.Renumbered.{renumbered_entry, LeadsToEntries}
 use Rattle.dwc_write.specs.GivenLines.{no_lines}
-use Rattle.dwc_write.specs.GivenUnits.{GivenUnit, IsWritable, ordered}
+use Rattle.dwc_write.specs.GivenUnits.{GivenUnit, IsWritable, ordered, place_of}
 use Rattle.dwc_write.specs.ReadBack.{given_segments}
 use Rattle.dwc_write.specs.UsedTexts.{texts_of_attributes}
 use Rattle.dwc_write.specs.WidestGiven.{widest_table_for}
@@ -26,19 +27,24 @@ abbrev pub HasWantedLines : WantedUnit → GivenUnit → Type 0
 HasWantedLines own_unit u = u.lines ≡ no_lines None
 HasWantedLines (carried_unit c) u = HasLinesOf c u
 
+-- Each number of some units, of which the first has a number, that has a place there leads to it.
+abbrev pub LeadsTo : (ℕ → ℕ → Option (ℕ × ℕ)) → ℕ → List GivenUnit → Type 0
+LeadsTo at first us = (i : ℕ) (u : GivenUnit) → slice_get us i ≡ Some u → (number place : ℕ) → place_of number u.places ≡ Some place → at (first + i) number ≡ Some (first + i, place)
+
 -- A unit to be written, of a number, with addresses of a size, is made as it is wanted, and is to say a tree: it has the lines that it is
--- to have; its entries were added in file order, and say that tree with a table of texts, where the entries of all units stand in the
--- order of their numbers.
-pub record IsMadeOf (size : ℕ) (table : List (List ℕ)) (number : ℕ) (w : WantedUnit) (wanted : Tree) (u : GivenUnit) : Type 0 where
+-- to have; its entries were added in file order, and say that tree with a table of texts, where the numbers of all units' entries are put
+-- to places.
+pub record IsMadeOf (at : ℕ → ℕ → Option (ℕ × ℕ)) (size : ℕ) (table : List (List ℕ)) (number : ℕ) (w : WantedUnit) (wanted : Tree) (u : GivenUnit) : Type 0 where
   pub has_lines : HasWantedLines w u
   pub depths : List ℕ
   pub order : IsInOrder depths u
-  pub says : tree_meant table number depths u.additions ≡ wanted
+  pub leads : LeadsToEntries u
+  pub says : map (renumbered_entry at) (tree_meant table number depths u.additions) ≡ wanted
   pub texts : All (λ e. All (λ n. n < length table) (texts_of_attributes e.attributes)) u.additions
   pub writable : IsWritable size (ordered u)
 
 -- Units, of which the first has a number, are made as they are wanted, one to one and in order, and are to say some trees.
-abbrev pub AreMadeOf : ℕ → List (List ℕ) → ℕ → List WantedUnit → List Tree → List GivenUnit → Type 0
-AreMadeOf size table number [] [] [] = Unit {0}
-AreMadeOf size table number (w ∷ ws) (t ∷ ts) (u ∷ us) = IsMadeOf size table number w t u × AreMadeOf size table (suc number) ws ts us
-AreMadeOf size table number _ _ _ = ⊥
+abbrev pub AreMadeOf : (ℕ → ℕ → Option (ℕ × ℕ)) → ℕ → List (List ℕ) → ℕ → List WantedUnit → List Tree → List GivenUnit → Type 0
+AreMadeOf at size table number [] [] [] = Unit {0}
+AreMadeOf at size table number (w ∷ ws) (t ∷ ts) (u ∷ us) = IsMadeOf at size table number w t u × AreMadeOf at size table (suc number) ws ts us
+AreMadeOf at size table number _ _ _ = ⊥

@@ -1,5 +1,5 @@
 -- The unit that a module has of its own, added to those of the output.
-use Rattle.std.specs.Prelude.{◌≡◌, ℕ, suc, List, [], ◌∷◌, ◌++◌, length, slice_get, Some, None, option_map, Result}
+use Rattle.std.specs.Prelude.{◌≡◌, ℕ, List, [], ◌∷◌, ◌++◌, length, slice_get, Option, Some, option_map, Result}
 use Rattle.std.specs.Option.{unwrap_or}
 use Rattle.dwc_base.specs.Carried.{own_unit}
 use Rattle.dwc_base.specs.Compiled.{Memory, no_memory}
@@ -17,7 +17,8 @@ use Rattle.dwc_write.specs.GivenUnits.{GivenUnit}
 use Rattle.dwc_clone.specs.MadeValues.{Grows}
 use Rattle.dwc_carry.specs.declared.error.DebugError.{DebugError}
 use Rattle.dwc_carry.specs.declared.synthetic_unit.ModuleSyntheticUnit.{ModuleSyntheticUnit}
-use Rattle.dwc_carry.specs.MadeUnits.{IsMadeOf}
+use Rattle.dwc_write.specs.AddedInOrder.{IsNumberedByPlaces}
+use Rattle.dwc_carry.specs.MadeUnits.{LeadsTo, IsMadeOf}
 use Rattle.dwc_carry.specs.Refusals.{ReadsOr}
 
 -- the linear memory of the module at a place
@@ -32,14 +33,19 @@ own_tree number set_memory m = settled_unit (place_of_goal number (record { own 
 abbrev pub entry_of : ℕ → ℕ → DebugInfoRef
 entry_of number place = Entry (record { index = number }) (record { index = place })
 
+-- References go to the two types of a module's own unit, of a number, that others refer to.
+pub record ReferToOwn (number : ℕ) (m : Memory) (context address : DebugInfoRef) : Type 0 where
+  pub context_pointer : context ≡ entry_of number (place_of_context_pointer m)
+  pub wasm_pointer : address ≡ entry_of number (place_of_wasm_pointer m)
+
 -- A module's own unit is added, which says its tree, and the two types that others refer to are told; the table of texts has grown.
 pub record AddsOwnUnit (size : ℕ) (set_memory : List ℕ) (m : Memory) (old new : List GivenUnit) (before after : List (List ℕ)) (own : ModuleSyntheticUnit) : Type 0 where
   pub made : GivenUnit
   pub added : new ≡ old ++ made ∷ []
   pub grows : Grows before after
-  pub is : IsMadeOf size after (length old) own_unit (own_tree (length old) set_memory m) made
-  pub context_pointer : own.vmctx_ptr ≡ entry_of (length old) (place_of_context_pointer m)
-  pub wasm_pointer : own.wasm_ptr ≡ entry_of (length old) (place_of_wasm_pointer m)
+  pub is : (at : ℕ → ℕ → Option (ℕ × ℕ)) → LeadsTo at (length old) (made ∷ []) → IsMadeOf at size after (length old) own_unit (own_tree (length old) set_memory m) made
+  pub numbered : IsNumberedByPlaces made
+  pub refers : ReferToOwn (length old) m own.vmctx_ptr own.wasm_ptr
 
 -- It is added, or its memory is refused.
 abbrev pub GivesOwnUnit : ℕ → List ℕ → Memory → List GivenUnit → List GivenUnit → List (List ℕ) → List (List ℕ) → Result ModuleSyntheticUnit DebugError → Type 0

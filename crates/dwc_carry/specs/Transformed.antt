@@ -15,6 +15,7 @@ use Rattle.dwc_base.specs.Forests.{wanted_units, trees_made, forest}
 use Rattle.dwc_base.specs.TreeLaws.{HasAllTargets}
 use Rattle.dwc_write.specs.UsedTexts.{HaveTexts}
 use Rattle.dwc_write.specs.GivenTrees.{given_trees}
+use Rattle.dwc_write.specs.Renumbered.{place_at}
 use Rattle.dwc_write.specs.GivenUnits.{GivenUnit, ordered}
 use Rattle.dwc_carry.specs.declared.error.DebugError.{DebugError}
 use Rattle.dwc_carry.specs.declared.error.DebugError.TheVariants.{TooLarge}
@@ -37,7 +38,7 @@ lengths_checked fss = if have_long fss then Err (TooLarge Addend) else Ok tt
 -- Units that are made as they are wanted for an input, whose modules are read to their ends, and that say the trees of its forest with
 -- a table of texts, which has all that they name.
 pub record IsTransformed (size : ℕ) (c : Compilation) (table : List (List ℕ)) (us : List GivenUnit) : Type 0 where
-  pub made : AreMadeOf size table 0 (wanted_units c) (trees_made c) us
+  pub made : AreMadeOf (place_at us) size table 0 (wanted_units c) (trees_made c) us
   pub whole : All (λ m. (units m.sections).fault ≡ None) c.modules
   pub texts : HaveTexts table (map ordered us)
   pub trees : forest c ≡ Ok (given_trees table (map ordered us))

@@ -4,8 +4,10 @@ ghost use Rattle.dwc_base.specs.declared.section_name.SectionName.TheVariants.{I
 ghost use Rattle.dwc_base.specs.Addends.{HaveAddends};
 ghost use Rattle.dwc_base.specs.Translations.{translation_sections};
 ghost use Rattle.dwc_image.specs.CarriedLines.{AreKept};
+ghost use Rattle.dwc_write.specs.TextTables.{IsText};
 ghost use Rattle.dwc_clone.specs.CompiledModules.{told_by, HasFrames};
 ghost use Rattle.dwc_carry.specs.CarriedModules.{transformed_module, GivesCarried, GivesModules};
+ghost use Rattle.dwc_carry.specs.OwnUnits.{ReferToOwn};
 ghost use Rattle.dwc_carry.specs.Inputs.{functions_from, modules_of};
 
 use crate::carry_units::carry_units;
@@ -40,6 +42,7 @@ fn carry_module(
     translation: &ModuleTranslation<'_>,
     transform: &AddressTransform,
     compiled: &CompiledModule<'_>,
+    own: &ModuleSyntheticUnit,
     form: OutputForm,
     dwarf: &mut Dwarf,
 ) -> Result<(), DebugError>
@@ -48,7 +51,9 @@ fn carry_module(
     requires functions { AreKept transform.now }
     requires addends { HaveAddends transform.now }
     requires frames { HasFrames compiled.now transform.now }
+    requires names { IsText compiled.now.names.resolve_memory.now }
     requires behind { 0 < length dwarf.old.units.units.items }
+    requires own { (number : ℕ) → length dwarf.old.units.units.items ≡ suc number → ReferToOwn number (told_by (dwarf_registers isa.now) compiled.now).memory own.now.vmctx_ptr own.now.wasm_ptr }
     ensures { (own : ℕ) → length dwarf.old.units.units.items ≡ suc own → GivesCarried form.encoding.address_size form.big_endian (transformed_module translation.now transform.now (told_by (dwarf_registers isa.now) compiled.now)) own dwarf.old dwarf.new result }
 {
     if let Some(offset) = translation.compressed {
@@ -60,7 +65,7 @@ fn carry_module(
     let module = kept_module(alloc, sections_of(translation), transform)?;
     let places = module_places(alloc, &module, dwarf.units.len())?;
     carry_units(
-        alloc, isa, &module, &places, transform, compiled, form, dwarf,
+        alloc, isa, &module, &places, transform, compiled, own, form, dwarf,
     )
 }
 
@@ -90,7 +95,7 @@ pub(crate) fn carry_modules(
         let compiled = compiled_module(compilation, module);
         let translation = &translations[i];
         let transform = &transforms[i];
-        ModuleSyntheticUnit::new(
+        let own = ModuleSyntheticUnit::new(
             alloc,
             module,
             compilation,
@@ -98,7 +103,16 @@ pub(crate) fn carry_modules(
             &mut dwarf.units,
             &mut dwarf.strings,
         )?;
-        carry_module(alloc, isa, translation, transform, &compiled, form, dwarf)?;
+        carry_module(
+            alloc,
+            isa,
+            translation,
+            transform,
+            &compiled,
+            &own,
+            form,
+            dwarf,
+        )?;
     }
     Ok(())
 }

@@ -7,17 +7,19 @@ ghost use Rattle.dwc_base.specs.ReadValues.{IsReadEntry};
 ghost use Rattle.dwc_kept.specs.declared.kept_units.KeptModule.{KeptModule as KeptModuleValue};
 ghost use Rattle.dwc_kept.specs.ReadUnits.{unit_read};
 ghost use Rattle.dwc_image.specs.CarriedLines.{AreKept};
+ghost use Rattle.dwc_write.specs.TextTables.{IsText};
 ghost use Rattle.dwc_clone.specs.CompiledModules.{told_by, HasFrames};
 ghost use Rattle.dwc_clone.specs.KnownTexts.{KnowsTexts};
 ghost use Rattle.dwc_carry.specs.LastLines.{IsLast};
 ghost use Rattle.dwc_carry.specs.ModulePlaces.{emitted, numbered_lists};
+ghost use Rattle.dwc_carry.specs.OwnUnits.{ReferToOwn};
 ghost use Rattle.dwc_carry.specs.CarriedUnits.{IsOfModule, HasModule, IsUnitOf, GivesUnit, GivesUnits};
 
-use crate::DebugError;
 use crate::begun_unit::{BegunUnit, begun_unit};
 use crate::last_lines::{LastLines, last_after};
 use crate::module_places::carried_entries;
 use crate::output_form::OutputForm;
+use crate::{DebugError, ModuleSyntheticUnit};
 use dwc_addr::AddressTransform;
 use dwc_clif::TargetIsa;
 use dwc_clone::{CloneSource, CompiledModule, KnownTexts, Places, clone_unit};
@@ -36,6 +38,7 @@ fn carry_unit(
     last: Option<LastLines>,
     transform: &AddressTransform,
     compiled: &CompiledModule<'_>,
+    own: &ModuleSyntheticUnit,
     form: OutputForm,
     dwarf: &mut Dwarf,
     known: &mut KnownTexts,
@@ -45,11 +48,12 @@ fn carry_unit(
     requires functions { AreKept transform.now }
     requires addends { HaveAddends transform.now }
     requires frames { HasFrames compiled.now transform.now }
+    requires names { IsText compiled.now.names.resolve_memory.now }
     requires known { IsLast transform.now form.encoding.address_size read.now.unit.sections dwarf.old.units.units.items last }
     requires read { All IsReadEntry (entries_of read.now.unit.sections read.now.unit.header).items }
     requires texts { KnowsTexts read.now.unit.sections dwarf.old.strings known.old }
     ensures texts { KnowsTexts read.now.unit.sections dwarf.new.strings known.new }
-    ensures added { (c : Module) (m : KeptModuleValue) (first : ℕ) → IsUnitOf c transform.now (told_by (dwarf_registers isa.now) compiled.now) m first (length dwarf.old.units.units.items) places.now kept.now read.now → GivesUnit form.encoding.address_size form.big_endian c first (unit_read c.sections read.now.unit.header) dwarf.old dwarf.new result }
+    ensures added { (c : Module) (m : KeptModuleValue) (first : ℕ) → IsUnitOf c transform.now (told_by (dwarf_registers isa.now) compiled.now) m first (length dwarf.old.units.units.items) places.now kept.now read.now → ReferToOwn first c.told.memory own.now.vmctx_ptr own.now.wasm_ptr → GivesUnit form.encoding.address_size form.big_endian c first places.now (unit_read c.sections read.now.unit.header) dwarf.old dwarf.new result }
 {
     let BegunUnit { unit, files } = begun_unit(
         alloc,
@@ -64,6 +68,8 @@ fn carry_unit(
         transform,
         module: *compiled,
         places,
+        vmctx_ptr: own.vmctx_ptr_die_ref(),
+        wasm_ptr: own.wasm_ptr_die_ref(),
         files,
         big_endian: form.big_endian,
     };
@@ -85,6 +91,7 @@ pub(crate) fn carry_units(
     places: &Places,
     transform: &AddressTransform,
     compiled: &CompiledModule<'_>,
+    own: &ModuleSyntheticUnit,
     form: OutputForm,
     dwarf: &mut Dwarf,
 ) -> Result<(), DebugError>
@@ -93,8 +100,10 @@ pub(crate) fn carry_units(
     requires functions { AreKept transform.now }
     requires addends { HaveAddends transform.now }
     requires frames { HasFrames compiled.now transform.now }
+    requires names { IsText compiled.now.names.resolve_memory.now }
     requires read { HasModule transform.now (told_by (dwarf_registers isa.now) compiled.now) read_module.now }
     requires behind { 0 < length dwarf.old.units.units.items }
+    requires own { (number : ℕ) → length dwarf.old.units.units.items ≡ suc number → ReferToOwn number (told_by (dwarf_registers isa.now) compiled.now).memory own.now.vmctx_ptr own.now.wasm_ptr }
     requires places { places.now ≡ numbered_lists (length dwarf.old.units.units.items) (emitted read_module.now.kept read_module.now.units.items) }
     ensures { (c : Module) (own : ℕ) → length dwarf.old.units.units.items ≡ suc own → IsOfModule c transform.now (told_by (dwarf_registers isa.now) compiled.now) read_module.now → GivesUnits form.encoding.address_size form.big_endian c own dwarf.old dwarf.new result }
 {
@@ -105,7 +114,8 @@ pub(crate) fn carry_units(
         let kept = carried_entries(read_module, read);
         if kept.len() > 0 {
             last = carry_unit(
-                alloc, isa, read, kept, places, last, transform, compiled, form, dwarf, &mut known,
+                alloc, isa, read, kept, places, last, transform, compiled, own, form, dwarf,
+                &mut known,
             )?;
         }
     }

@@ -6,6 +6,7 @@ ghost use Rattle.dwc_clif.specs.Registers.{Registers};
 ghost use Rattle.dwc_addr.specs.Numbers.{first_number};
 ghost use Rattle.dwc_addr.specs.Compilations.{functions_at};
 ghost use Rattle.dwc_expr.specs.Frames.{memory_view};
+ghost use Rattle.dwc_write.specs.TextTables.{IsText};
 ghost use Rattle.dwc_clone.specs.CompiledModules.{told_by, HasFrames};
 ghost use Rattle.dwc_carry.specs.Inputs.{names_of, told_from};
 ghost use Rattle.dwc_carry.specs.OwnUnits.{memory_at};
@@ -24,6 +25,7 @@ pub(crate) fn compiled_module<'a>(
     requires counted { length compilation.now.functions ≡ length compilation.now.translations }
     ensures told { (registers : Registers) → slice_get (told_from registers (names_of compilation.now) 0 0 compilation.now.functions compilation.now.memory_offsets) «module».0 ≡ Some (told_by registers result) }
     ensures set_memory { result.names.set_memory.now ≡ compilation.now.set_memory }
+    ensures resolve_memory { IsText result.names.resolve_memory.now }
     ensures memory { memory_view result.memory ≡ memory_at compilation.now «module».0 }
     ensures frames { (code_offset : ℕ) → HasFrames result (functions_of code_offset (first_number compilation.now.functions «module».0) (map address_map_view (functions_at compilation.now «module».0))) }
 {

@@ -20,7 +20,7 @@ mod transform;
 
 pub use dependencies::build_dependencies;
 pub use die_ref::resolve_die_ref;
-pub use dwc_clone::InheritedAttr;
+pub use dwc_clone::{InheritedAttr, SubprogramContext, append_vmctx_info};
 pub use emit::emit_dwarf;
 pub use error::DebugError;
 pub use synthetic_unit::ModuleSyntheticUnit;

@@ -54,8 +54,8 @@ carry_module-requires-clause-frames g c =
     (c.index-translations-i.is ∙ ap (λ ts. get_or ts c.loop-i.i t) c.translations-translations.ensures.translations) c.index-transforms-i.is (c.compiled_module-compiled.ensures.told registers) c.compiled_module-compiled.ensures.frames in
     next.frames
 
-pub returns-in_err-new : goal.returns-in_err-new
-returns-in_err-new g c =
+pub returns-in_err-own : goal.returns-in_err-own
+returns-in_err-own g c =
     let compilation = c.args.compilation.now in
     let less : c.loop-i.i < length compilation.translations = rw c.translations-translations.ensures.translations at c.loop-i-test.true in
     let registers = (goal.TargetIsa-dyn g c.args.isa.now).dwarf_registers c.args.isa.now.1 in
@@ -75,7 +75,7 @@ returns-in_err-new g c =
     let texts = c.loop-i.dwarf.strings in
     let here : ModulesSoFar size big ms old before new texts (m ∷ rest) = subst (λ xs. ModulesSoFar size big ms old before new texts xs) next.left c.loop-i.invariant in
     let p = err_from_is_err_and c.from_residual.result c.from_residual.ensures.1 in
-    rw (p.1, p.2) (modules-refused size big ms old before new texts m rest c.in_err-new.field-0.0 here (own-refused big m c.in_err-new.field-0.0 (subst (λ x. RefusesReading (first_of (own_refusals x)) c.in_err-new.field-0.0) (sym c.compiled_module-compiled.ensures.memory) c.in_err-new.ensures.added)))
+    rw (p.1, p.2) (modules-refused size big ms old before new texts m rest c.in_err-own.field-0.0 here (own-refused big m c.in_err-own.field-0.0 (subst (λ x. RefusesReading (first_of (own_refusals x)) c.in_err-own.field-0.0) (sym c.compiled_module-compiled.ensures.memory) c.in_err-own.ensures.added)))
 
 pub returns-in_err-carry_module : goal.returns-in_err-carry_module
 returns-in_err-carry_module g c =
@@ -99,8 +99,8 @@ returns-in_err-carry_module g c =
     let here : ModulesSoFar size big ms old before new texts (m ∷ rest) = subst (λ xs. ModulesSoFar size big ms old before new texts xs) next.left c.loop-i.invariant in
     let p = err_from_is_err_and c.from_residual-in_err-carry_module.result c.from_residual-in_err-carry_module.ensures.1 in
     let middle : Dwarf = record { units = c.new.new.out_units; strings = c.new.new.out_strings } in
-    let own = own-told size compilation.set_memory m.told.names.set_memory (memory_at compilation c.loop-i.i) m.told.memory c.loop-i.dwarf middle c.in_ok-new.field-0 (sym c.compiled_module-compiled.ensures.set_memory) (sym c.compiled_module-compiled.ensures.memory) c.in_ok-new.ensures.added in
-    rw (p.1, p.2) (modules-refused size big ms old before new texts m rest c.in_err-carry_module.field-0.0 here (carried-refused big m own.0 c.in_err-carry_module.field-0.0 (c.in_err-carry_module.ensures (length new) (own-counted big m size c.loop-i.dwarf middle c.in_ok-new.field-0 own.1))))
+    let own = own-told size compilation.set_memory m.told.names.set_memory (memory_at compilation c.loop-i.i) m.told.memory c.loop-i.dwarf middle c.in_ok-own.own (sym c.compiled_module-compiled.ensures.set_memory) (sym c.compiled_module-compiled.ensures.memory) c.in_ok-own.ensures.added in
+    rw (p.1, p.2) (modules-refused size big ms old before new texts m rest c.in_err-carry_module.field-0.0 here (carried-refused big m own.0 c.in_err-carry_module.field-0.0 (c.in_err-carry_module.ensures (length new) (own-counted big m size c.loop-i.dwarf middle c.in_ok-own.own own.1))))
 
 pub loop-i-preserved : goal.loop-i-preserved
 loop-i-preserved g c =
@@ -123,9 +123,9 @@ loop-i-preserved g c =
     let texts = c.loop-i.dwarf.strings in
     let here : ModulesSoFar size big ms old before new texts (m ∷ rest) = subst (λ xs. ModulesSoFar size big ms old before new texts xs) next.left c.loop-i.invariant in
     let middle : Dwarf = record { units = c.new.new.out_units; strings = c.new.new.out_strings } in
-    let own = own-told size compilation.set_memory m.told.names.set_memory (memory_at compilation c.loop-i.i) m.told.memory c.loop-i.dwarf middle c.in_ok-new.field-0 (sym c.compiled_module-compiled.ensures.set_memory) (sym c.compiled_module-compiled.ensures.memory) c.in_ok-new.ensures.added in
-    let carried = c.in_ok-carry_module.ensures (length new) (own-counted big m size c.loop-i.dwarf middle c.in_ok-new.field-0 own.1) in
-    modules-one size big ms old before new c.carry_module.new.dwarf.units.units.items texts c.carry_module.new.dwarf.strings m rest here (none-refused big m own.0 carried.0, module-both big m size c.loop-i.dwarf middle c.carry_module.new.dwarf c.in_ok-new.field-0 own.1 carried.1)
+    let own = own-told size compilation.set_memory m.told.names.set_memory (memory_at compilation c.loop-i.i) m.told.memory c.loop-i.dwarf middle c.in_ok-own.own (sym c.compiled_module-compiled.ensures.set_memory) (sym c.compiled_module-compiled.ensures.memory) c.in_ok-own.ensures.added in
+    let carried = c.in_ok-carry_module.ensures (length new) (own-counted big m size c.loop-i.dwarf middle c.in_ok-own.own own.1) in
+    modules-one size big ms old before new c.carry_module.new.dwarf.units.units.items texts c.carry_module.new.dwarf.strings m rest here (none-refused big m own.0 carried.0, module-both big m size c.loop-i.dwarf middle c.carry_module.new.dwarf c.in_ok-own.own own.1 carried.1)
 
 pub returns : goal.returns
 returns g c =

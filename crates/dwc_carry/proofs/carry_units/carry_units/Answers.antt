@@ -7,7 +7,9 @@ use Rattle.dwc_clone.specs.CompiledModules.{told_by}
 use Rattle.dwc_clone.specs.KnownTexts.{KnowsTexts}
 use Rattle.dwc_carry.specs.LastLines.{IsLast}
 use Rattle.dwc_carry.specs.CarriedUnits.{IsOfModule}
-use Rattle.dwc_carry.proofs.UnitLoopLaws.{UnitsSoFar, units-begin, units-done, units-none, units-some, units-refused, refused-all, unit-there, units-left, unit-next, of-itself, places-behind}
+use Rattle.dwc_kept.specs.ReadUnits.{unit_read}
+use Rattle.dwc_carry.specs.ModulePlaces.{emitted, numbered_lists}
+use Rattle.dwc_carry.proofs.UnitLoopLaws.{added-at, own-refers, UnitsSoFar, units-begin, units-done, units-none, units-some, units-refused, refused-all, unit-there, units-left, unit-next, of-itself, places-behind}
 use Rattle.dwc_carry.proofs.UnitSources.{entries-of-read}
 use Rattle.dwc_carry.proofs.carry_units.carry_units.Goals.{then-kept-gt0+in_ok-last, else-kept-gt0}
 use Rattle.dwc_carry.proofs.carry_units.carry_units.Goals as goal
@@ -65,7 +67,7 @@ returns-in_err-last g c = λ d first at of.
     let p = err_from_is_err_and c.from_residual.result c.from_residual.ensures.1 in
     rw (p.1, p.2)
     (refused-all d m size big first m.units.items old new refl (of-itself d fs told m of) c.in_err-last.field-0.0
-    (units-refused d m size big first m.units.items old new r (drop (c.loop-i.i + 1) m.units.items) here some c.in_err-last.field-0.0 (c.in_err-last.ensures.added d m first one)))
+    (units-refused d m size big first m.units.items old new r (drop (c.loop-i.i + 1) m.units.items) here some c.in_err-last.field-0.0 (c.in_err-last.ensures.added d m first one (own-refers (told_by ((goal.TargetIsa-dyn g c.args.isa.now).dwarf_registers c.args.isa.now.1) c.args.compiled.now) d fs m first of (c.requires.own first at)))))
 
 pub loop-i-preserved : goal.loop-i-preserved
 loop-i-preserved g c =
@@ -87,8 +89,8 @@ loop-i-preserved g c =
       | then-kept-gt0+in_ok-last w ↦
           let some = subst (λ xs. 0 < length xs) c.carried_entries-kept.ensures w.if-kept-gt0.true in
           record {
-            added = λ d first at of. let given = w.in_ok-last.ensures.added d m first (one d first at of w.if-kept-gt0.true) in rw w.dwarf-is (units-some d m size big first m.units.items old new r rest (here d first at of) some w.carry_unit.new.dwarf given.0 given.1.0);
-            known = λ d of. let given = w.in_ok-last.ensures.added d m before (one d before (omega (arith, c.requires.behind)) of w.if-kept-gt0.true) in
+            added = λ d first at of. let given = w.in_ok-last.ensures.added d m first (one d first at of w.if-kept-gt0.true) (own-refers told d fs m first of (c.requires.own first at)) in rw w.dwarf-is (units-some d m size big first m.units.items old new r rest (here d first at of) some w.carry_unit.new.dwarf given.0 (added-at size big d first c.args.places.now (numbered_lists (suc first) (emitted m.kept m.units.items)) (unit_read d.sections r.unit.header) new w.carry_unit.new.dwarf (places-behind m (length old.units.units.items) first c.args.places.now at c.requires.places) given.1.0));
+            known = λ d of. let at : length old.units.units.items ≡ suc before = omega (arith, c.requires.behind) in let given = w.in_ok-last.ensures.added d m before (one d before at of w.if-kept-gt0.true) (own-refers told d fs m before of (c.requires.own before at)) in
                 rw (w.dwarf-is, w.last-is) (subst (λ gs. IsLast gs size d.sections w.carry_unit.new.dwarf.units.units.items w.in_ok-last.last) of.functions given.1.1);
             texts = λ d of. rw (w.dwarf-is, w.known-is) (subst (λ s. KnowsTexts s w.carry_unit.new.dwarf.strings w.carry_unit.new.known) (read-unit d m of.is r (unit-there fs told m c.loop-i.i r less c.index-read.ensures)).sections w.in_ok-last.ensures.texts);
           }
@@ -108,4 +110,4 @@ returns g c = λ d first at of.
     let old = c.args.dwarf.now in
     let new = c.loop-i.dwarf in
     let past : length m.units.items ≤ c.loop-i.i = omega (arith, c.loop-i-test.false, c.len-i-end.ensures, m.units.ok) in
-    units-done d m size big first m.units.items old new (subst (UnitsSoFar d m size big first m.units.items old new) (drop_all c.loop-i.i m.units.items past) (c.loop-i.invariant.added d first at of)) refl (of-itself d c.args.transform.now told m of)
+    units-done d m size big first m.units.items old new at (subst (UnitsSoFar d m size big first m.units.items old new) (drop_all c.loop-i.i m.units.items past) (c.loop-i.invariant.added d first at of)) refl (of-itself d c.args.transform.now told m of)

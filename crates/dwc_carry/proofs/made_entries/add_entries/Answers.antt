@@ -1,4 +1,4 @@
-use Rattle.std.proofs.Common.{◌<◌, ◌+◌, ◌∙◌, [], ap, arith, drop, length, slice_index_or, subst, sym}
+use Rattle.std.proofs.Common.{◌+◌, ◌∙◌, [], ap, arith, drop, length, slice_index_or, subst, sym}
 use Rattle.dwc_write.specs.GivenUnits.{IsAdded}
 use Rattle.dwc_write.specs.declared.units.UnitEntryId.{UnitEntryId}
 use Rattle.dwc_carry.specs.declared.made_entries.MadeEntry.{MadeEntry}

@@ -1,4 +1,4 @@
-use Rattle.std.proofs.Common.{◌<◌, ◌+◌, ◌∙◌, arith, drop, length, map, slice_index_or}
+use Rattle.std.proofs.Common.{◌+◌, ◌∙◌, arith, drop, map}
 use Rattle.dwc_carry.proofs.MadeTexts.{next-added, next-grows, next-numbers, next-text}
 use Rattle.dwc_carry.proofs.made_entries.add_texts.Goals as goal
 

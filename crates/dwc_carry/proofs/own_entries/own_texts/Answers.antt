@@ -1,4 +1,4 @@
-use Rattle.std.proofs.Common.{◌≡◌, ◌∷◌, [], ◌∙◌, ap, arith, refl, subst, sym, lit<, map}
+use Rattle.std.proofs.Common.{◌≡◌, ◌∷◌, [], ◌∙◌, ap, refl, subst, sym, lit<, map}
 use Rattle.dwc_write.specs.TextTables.{IsText}
 use Rattle.dwc_carry.specs.MadeEntries.{numbers_added, texts_added}
 use Rattle.dwc_carry.specs.OwnAdditions.{own_texts}

@@ -1,13 +1,15 @@
-use Rattle.std.proofs.Common.{◌≡◌, ◌∙◌, ap, length, subst, sym, false}
+use Rattle.std.proofs.Common.{◌≡◌, ◌∙◌, ap, length, subst, sym, [], ◌∷◌}
 use Rattle.std.specs.Prelude.{option_map}
 use Rattle.std.specs.Option.{unwrap_or}
 use Rattle.dwc_base.specs.Carried.{own_unit}
 use Rattle.dwc_base.specs.Compiled.{no_memory}
 use Rattle.dwc_base.specs.OwnUnits as Own
 use Rattle.dwc_expr.specs.Frames.{memory_view}
-use Rattle.dwc_carry.specs.MadeUnits.{IsMadeOf}
+use Rattle.dwc_carry.specs.MadeUnits.{LeadsTo, IsMadeOf}
+use Rattle.dwc_write.specs.AddedInOrder.{IsNumberedByPlaces}
+use Rattle.dwc_carry.proofs.OwnMade.{own-numbered}
 use Rattle.dwc_carry.specs.MadeEntries.{numbers_added, texts_added}
-use Rattle.dwc_carry.specs.OwnAdditions.{own_given, own_numbers, own_texts, place_of_set}
+use Rattle.dwc_carry.specs.OwnAdditions.{own_given, own_texts, place_of_set}
 use Rattle.dwc_carry.specs.OwnUnits.{memory_at, own_tree}
 use Rattle.dwc_carry.proofs.OwnBuilt.{near-accepted, own-added, pointer-is, wasm-is}
 use Rattle.dwc_carry.proofs.synthetic_unit.ModuleSyntheticUnit.new.Goals as goal
@@ -25,15 +27,21 @@ returns-clause-added c =
     let t = c.in_ok-texts.texts in
     let size = c.args.encoding.address_size in
     let number = length c.args.out_units.now.units.items in
+    let made : c.in_ok-unit.unit ≡ own_given size t m = c.in_ok-unit.ensures ∙ ap (own_given size t) same in
     let place = c.set_place-pointer.ensures ∙ ap place_of_set same in (
       near-accepted m (ap Own.is_too_far (sym same) ∙ sym c.is_too_far.ensures ∙ c.if-is_too_far.false),
       record {
         made = c.in_ok-unit.unit;
         added = c.in_ok-id.ensures.ok;
         grows = c.own_texts.ensures.grows;
-        is = subst (λ u. IsMadeOf size table number own_unit (own_tree number compilation.set_memory m) u) (sym (c.in_ok-unit.ensures ∙ ap (own_given size t) same))
-            (own-added size number old table t compilation.set_memory m (c.in_ok-texts.ensures.added ∙ ap (λ n. texts_added old (own_texts n)) named) (c.in_ok-texts.ensures.numbers ∙ ap (λ n. numbers_added old (own_texts n)) named));
-        context_pointer = pointer-is m c.set_place-pointer.result number c.in_ok-id.id c.entry_of.result place c.in_ok-id.ensures.id c.entry_of.ensures;
-        wasm_pointer = wasm-is m c.set_place-pointer.result number c.in_ok-id.id c.entry_of-2.result place c.in_ok-id.ensures.id c.entry_of-2.ensures;
+        is = λ at leads.
+            subst (λ u. IsMadeOf at size table number own_unit (own_tree number compilation.set_memory m) u) (sym made)
+            (own-added size number old table t compilation.set_memory m (c.in_ok-texts.ensures.added ∙ ap (λ n. texts_added old (own_texts n)) named) (c.in_ok-texts.ensures.numbers ∙ ap (λ n. numbers_added old (own_texts n)) named) at
+            (subst (λ u. LeadsTo at number (u ∷ [])) made leads));
+        numbered = subst (λ u. IsNumberedByPlaces u) (sym made) (own-numbered size t m);
+        refers = record {
+          context_pointer = pointer-is m c.set_place-pointer.result number c.in_ok-id.id c.entry_of.result place c.in_ok-id.ensures.id c.entry_of.ensures;
+          wasm_pointer = wasm-is m c.set_place-pointer.result number c.in_ok-id.id c.entry_of-2.result place c.in_ok-id.ensures.id c.entry_of-2.ensures;
+        };
       },
     )
