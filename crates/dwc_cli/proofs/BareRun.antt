@@ -1,13 +1,13 @@
 -- The module without sections of DWARF from its bytes to the printed text, which holds the module's own unit alone.
-use Rattle.std.proofs.Common.{◌≡◌, zero, suc, arith, List, [], ◌∷◌, get_or, Some, None, false, refl, sym, ap, subst, ◌∙◌, true≢false}
-use Rattle.std.specs.Prelude.{ℕ, ◌==◌, All, codes, drop}
+use Rattle.std.proofs.Common.{◌≡◌, ◌≤◌, ◌+◌, zero, suc, arith, List, [], ◌∷◌, get_or, Some, None, true, false, refl, sym, ap, subst, ◌∙◌, true≢false}
+use Rattle.std.specs.Prelude.{ℕ, ◌==◌, ◌&&◌, nat_le, Bool, All, AllPairs, codes, drop}
 use Rattle.std.specs.List.{AllZip}
-use Rattle.std.proofs.lemmas.Bool.{eq-eqb}
+use Rattle.std.proofs.lemmas.Bool.{eq-eqb, leb-true, and_parts}
 use Rattle.std.proofs.lemmas.List.Elements.{All-cons, All-nil}
 use Rattle.std.proofs.lemmas.List.Kept.{AllPairs-cons}
 use Rattle.dwc_base.specs.declared.records.Endian.TheVariants.{Little}
 use Rattle.dwc_base.specs.declared.section_name.SectionName.TheVariants.{Abbrev, Info, Str}
-use Rattle.dwc_base.specs.Outputs.{OutputSection, output_sections}
+use Rattle.dwc_base.specs.Outputs.{OutputRelocation, OutputSection, output_sections}
 use Rattle.dwc_base.specs.Fields.{fields_at, fields_of_entry, fields_of_section, relocations_of_fields, IsRelocated, AreRelocated}
 use Rattle.dwc_base.specs.Carried.{units}
 use Rattle.dwc_base.specs.Forests.{wanted_units}
@@ -17,7 +17,6 @@ use Rattle.dwc_base.specs.OutputCarried.{OutputCarried}
 use Rattle.dwc_base.proofs.OnLiterals.{lines_on_literals}
 use Rattle.dwc_base.proofs.OwnTrees.{own_tree, own_abbreviations, own_info, own_texts, own_relocations}
 use Rattle.dwc_base.proofs.CarriedSmall.{own_unit_out}
-use Rattle.dwc_base.proofs.FieldCases.{each-behind}
 use Rattle.dwc_base.proofs.OutputSmall.{HasForm, Differ, none-differ}
 use Rattle.dwc_cli.specs.Inputs.{compilation_of}
 use Rattle.dwc_cli.specs.Printed.{printed}
@@ -75,6 +74,24 @@ relocations-bare : relocations_of_fields (fields_of_section (output_sections Lit
 unfolding lines_on_literals fields_of_section fields_at fields_of_entry
 relocations-bare = refl
 
+-- whether none of some relocations stands before a place, nor before the end of the one in front of it
+abbrev stand_behind : ℕ → List OutputRelocation → Bool
+stand_behind place [] = true
+stand_behind place (r ∷ rs) = nat_le place r.offset && stand_behind (r.offset + r.size) rs
+
+all-behind : (from place : ℕ) (rs : List OutputRelocation) → from ≤ place → stand_behind place rs ≡ true → All (λ r. from ≤ r.offset) rs
+all-behind from place [] before h = All-nil (λ r. from ≤ r.offset)
+all-behind from place (r ∷ rs) before h =
+    let parts = and_parts (nat_le place r.offset) (stand_behind (r.offset + r.size) rs) h in
+    let here : place ≤ r.offset = leb-true place r.offset parts.0 in
+    All-cons (λ r. from ≤ r.offset) r rs (omega (arith, before, here)) (all-behind from (r.offset + r.size) rs (omega (arith, before, here)) parts.1)
+
+each-behind : (place : ℕ) (rs : List OutputRelocation) → stand_behind place rs ≡ true → AllPairs (λ (a b : OutputRelocation). a.offset + a.size ≤ b.offset) rs
+each-behind place [] h = λ i j d less within. absurd (omega (arith, within))
+each-behind place (r ∷ rs) h =
+    let parts = and_parts (nat_le place r.offset) (stand_behind (r.offset + r.size) rs) h in
+    AllPairs-cons (λ (a b : OutputRelocation). a.offset + a.size ≤ b.offset) r rs (all-behind (r.offset + r.size) (r.offset + r.size) rs (omega arith) parts.1) (each-behind (r.offset + r.size) rs parts.1)
+
 related-bare : AreRelocated Little output_bare
 unfolding lines_on_literals fields_of_section
 related-bare =
@@ -95,6 +112,7 @@ carried-bare = record {
   targets = refl;
   scopes = (tt, tt);
   locations = (tt, tt);
+  contexts = (tt, tt);
   texts = refl;
   form = form-bare;
   names = names-bare;

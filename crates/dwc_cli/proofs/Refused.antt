@@ -1,26 +1,28 @@
 -- For each clause of a run but those on what is written: an input that meets the clause's premise, and an answer that the
 -- clause refuses.
-use Rattle.std.proofs.Common.{◌≡◌, ◌≢◌, ℕ, zero, suc, ◌+◌, ◌-◌, ◌^◌, ◌<◌, ◌≤◌, List, [], ◌∷◌, length, Some, None, Ok, Err, Result, true, false, refl, ap, subst, sym, ◌∙◌, arith, lit<, lit≤, inl, inr}
+use Rattle.std.proofs.Common.{◌≡◌, ◌≢◌, ℕ, zero, suc, ◌+◌, ◌-◌, ◌^◌, ◌<◌, ◌≤◌, List, [], ◌∷◌, length, get_or, Some, None, Ok, Err, Result, true, false, refl, ap, subst, sym, ◌∙◌, arith, lit<, lit≤, inl, inr}
 use Rattle.std.specs.Prelude.{◌⊎◌, All, Option, is_some, IsNone, codes, option_map}
 use Rattle.std.proofs.Math.ListN.{replicate}
 use Rattle.std.proofs.lemmas.List.{length-replicate}
 use Rattle.std.proofs.lemmas.Bool.{true≢false}
-use Rattle.dwc_base.specs.declared.section_name.SectionName.TheVariants.{Abbrev, Addr, Info, Line, LineStr, Loc, Loclists, Ranges, Rnglists, Str, StrOffsets, CuIndex, Frame}
-use Rattle.dwc_base.specs.declared.section_name.SectionName.{SectionName}
+use Rattle.dwc_base.specs.declared.section_name.SectionName.TheVariants.{Info}
+use Rattle.dwc_base.specs.declared.records.Endian.TheVariants.{Little}
+use Rattle.dwc_base.specs.Compiled.{ToldModule, no_memory, defined}
+use Rattle.dwc_base.specs.Functions.{AddressMap}
+use Rattle.dwc_base.specs.Carried.{Module, Compilation}
+use Rattle.dwc_base.proofs.CarriedSmall.{module_small}
 use Rattle.dwc_base.specs.declared.faults.What.TheVariants.{Entry as EntryRead, UnitHeader as HeaderRead}
 use Rattle.dwc_base.specs.declared.faults.Kind.TheVariants.{Format64, Compressed}
 use Rattle.dwc_base.specs.Sections.{unsupported, unreadable}
 use Rattle.dwc_base.specs.Refusals.{Refusal, of_place, missing_file, bad_label, lacks_memory, unmapped_register, long_jump, far_memory}
-use Rattle.dwc_base.specs.Forests.{first_refusal, trees_made}
-use Rattle.dwc_base.specs.OutputCarried.{widest}
-use Rattle.dwc_base.specs.TreeLaws.{have_short_expressions}
+use Rattle.dwc_base.specs.Forests.{first_refusal}
 use Rattle.dwc_base.specs.Wasm.{WasmModule}
 use Rattle.dwc_base.proofs.SmallModule.{file_small}
 use Rattle.dwc_cli.specs.MapFile.{map_of_bytes}
 use Rattle.dwc_cli.specs.Inputs.{Loaded, loaded, paths_of, wasm_modules, defined_counts, compilation_of, shared_in}
 use Rattle.dwc_cli.specs.RunStatus.{Rose, most_bytes, IsOneOf, run_statuses, IsStatus, IsTooLong, UsageCause, MissingCause, InputCauses, NamedCauses, refusal_status, refusal_statuses, PassesLimit, LoadedCauses, RunsWell, IsValid}
 use Rattle.dwc_cli.proofs.Examples.{map_bytes_small, map-small}
-use Rattle.dwc_cli.proofs.WholeRun.{whole_on_literals, refusal_of, input_small, read_in, read_small}
+use Rattle.dwc_cli.proofs.WholeRun.{whole_on_literals, refusal_of, input_small, read_in, read_small, told_bare, told-bare, runtime_names, accepted-small, short-small, narrow-small}
 use Rattle.dwc_cli.proofs.BrokenInputs.{file_64, file_5, file_undeclared, file_compressed, file_no_directory, file_two_faults, file_cut, file_old, map_bytes_falls, map_bytes_missing, map_bytes_two, map_bytes_shared, map_bytes_shared_falls, map_bytes_second_falls, map_bytes_far, map_bytes_near}
 use Rattle.dwc_cli.proofs.Answers.{refused, is_status_among, three_files, one_file, two_files, right_words, three_words, of_one, of_two, names, names-two, lacks_module, lacks_map, lacks_second}
 
@@ -361,13 +363,35 @@ unfolding whole_on_literals
 refusal-first = refl
 
 -- and the second one's where the first is read
-refusal-second : refusal_of (loaded (of_two map_bytes_two file_small file_64)) ≡ Some (of_place (unsupported Format64 0))
+-- the address map of the function of a symbol, in the maps of one module and of two
+abbrev of_symbol : ℕ → AddressMap
+of_symbol symbol = record { symbol = Some symbol; start = Some 22; end = Some 33; body_offset = 0; body_len = 30; entries = (5, Some 25) ∷ (15, Some 30) ∷ [] }
+
+-- the module at a place of an input
+abbrev module_at : ℕ → Loaded → Module
+module_at place read = get_or (compilation_of read).modules place module_small
+
+-- two such modules, with what is told of them
+abbrev two_told : Loaded → ToldModule → ToldModule → Compilation
+two_told read first second = record { order = Little; pointer_bytes = 8; modules = record (module_at 0 read) { told = first } ∷ record (module_at 1 read) { told = second } ∷ [] }
+
+second-told : compilation_of (read_of_two map_bytes_two file_small file_64) ≡ two_told (read_of_two map_bytes_two file_small file_64) (told_bare runtime_names 0 no_memory) (told_bare runtime_names 1 no_memory)
 unfolding whole_on_literals
-refusal-second = refl
+second-told = λ i. two_told (read_of_two map_bytes_two file_small file_64) (told-bare runtime_names 0 0 (of_symbol 0) no_memory i) (told-bare runtime_names 1 1 (of_symbol 1) no_memory i)
+
+second-refused : first_refusal (two_told (read_of_two map_bytes_two file_small file_64) (told_bare runtime_names 0 no_memory) (told_bare runtime_names 1 no_memory)) ≡ Some (of_place (unsupported Format64 0))
+unfolding whole_on_literals
+second-refused = refl
+
+second-read : loaded (of_two map_bytes_two file_small file_64) ≡ Some (read_of_two map_bytes_two file_small file_64)
+unfolding whole_on_literals
+second-read = refl
+
+refusal-second : first_refusal (compilation_of (read_of_two map_bytes_two file_small file_64)) ≡ Some (of_place (unsupported Format64 0))
+refusal-second = ap first_refusal second-told ∙ second-refused
 
 second-success : CausesOfTwo map_bytes_two file_small file_64 0 → ⊥
-unfolding whole_on_literals
-second-success h = refused_always (read_of_two map_bytes_two file_small file_64) (of_place (unsupported Format64 0)) 0 refl refl (loaded_causes_of_two map_bytes_two file_small file_64 0 (read_of_two map_bytes_two file_small file_64) refl h)
+second-success h = refused_always (read_of_two map_bytes_two file_small file_64) (of_place (unsupported Format64 0)) 0 refusal-second refl (loaded_causes_of_two map_bytes_two file_small file_64 0 (read_of_two map_bytes_two file_small file_64) second-read h)
 
 -- where an expression is refused: neither success nor another refusal
 label-success : (read : Loaded) (label : ℕ) → first_refusal (compilation_of read) ≡ Some (bad_label label) → LoadedCauses read 0 → ⊥
@@ -396,9 +420,20 @@ refusal-far : refusal_of (loaded (of_one map_bytes_far file_small)) ≡ Some far
 unfolding whole_on_literals
 refusal-far = refl
 
-refusal-near : refusal_of (loaded (of_one map_bytes_near file_small)) ≡ None
+near-told : compilation_of (read_of map_bytes_near file_small) ≡ record { order = Little; pointer_bytes = 8; modules = record (module_at 0 (read_of map_bytes_near file_small)) { told = told_bare runtime_names 0 (defined 4294967287) } ∷ [] }
 unfolding whole_on_literals
-refusal-near = refl
+near-told = λ i. record { order = Little; pointer_bytes = 8; modules = record (module_at 0 (read_of map_bytes_near file_small)) { told = told-bare runtime_names 0 0 (of_symbol 0) (defined 4294967287) i } ∷ [] }
+
+near-accepted : first_refusal (record { order = Little; pointer_bytes = 8; modules = record (module_at 0 (read_of map_bytes_near file_small)) { told = told_bare runtime_names 0 (defined 4294967287) } ∷ [] }) ≡ None
+unfolding whole_on_literals
+near-accepted = refl
+
+near-read : loaded (of_one map_bytes_near file_small) ≡ Some (read_of map_bytes_near file_small)
+unfolding whole_on_literals
+near-read = refl
+
+refusal-near : refusal_of (loaded (of_one map_bytes_near file_small)) ≡ None
+refusal-near = ap refusal_of near-read ∙ (ap first_refusal near-told ∙ near-accepted)
 
 refusal-far_unreadable : refusal_of (loaded (of_one map_bytes_far file_undeclared)) ≡ Some far_memory
 unfolding whole_on_literals
@@ -414,46 +449,19 @@ far-success h = far 0 refl h
 far-no_memory : Causes map_bytes_far file_small 15 → ⊥
 far-no_memory h = far 15 refl h
 
--- nothing of the small input is refused
-small-refused : (status : ℕ) → IsOneOf refusal_statuses status → Causes map_bytes_small file_small status → ⊥
-unfolding whole_on_literals
-small-refused status one h = let impossible = (loaded_causes map_bytes_small file_small status read_small refl h).refused.only one in none≢some impossible
-  where
-    none≢some : ◌≡◌ {A = Option ℕ} None (Some status) → ⊥
-    none≢some e = cc
-
--- ---- a section that is too large
-
 -- what is read of the small input
 pub small-read : loaded input_small ≡ Some read_small
 unfolding whole_on_literals
 small-read = refl
 
--- no section of it can be long
-small-widest : (name : SectionName) → widest name (compilation_of read_small) < 2 ^ 31
-unfolding whole_on_literals
-small-widest Abbrev = lit< tt
-small-widest Addr = lit< tt
-small-widest Info = lit< tt
-small-widest Line = lit< tt
-small-widest LineStr = lit< tt
-small-widest Loc = lit< tt
-small-widest Loclists = lit< tt
-small-widest Ranges = lit< tt
-small-widest Rnglists = lit< tt
-small-widest Str = lit< tt
-small-widest StrOffsets = lit< tt
-small-widest CuIndex = lit< tt
-small-widest Frame = lit< tt
+-- nothing of it is refused
+small-refused : (status : ℕ) → IsOneOf refusal_statuses status → Causes map_bytes_small file_small status → ⊥
+small-refused status one h = let impossible = (loaded_causes map_bytes_small file_small status read_small small-read h).refused.only one in none≢some (sym (ap (option_map refusal_status) accepted-small) ∙ impossible)
+  where
+    none≢some : ◌≡◌ {A = Option ℕ} None (Some status) → ⊥
+    none≢some e = cc
 
--- and none of its expressions is too long
-small-short : have_short_expressions (trees_made (compilation_of read_small)) ≡ true
-unfolding whole_on_literals
-small-short = refl
-
-small-accepted : first_refusal (compilation_of read_small) ≡ None
-unfolding whole_on_literals
-small-accepted = refl
+-- ---- a section that is too large
 
 small-too_large : Causes map_bytes_small file_small 20 → ⊥
 small-too_large h = go ((loaded_causes map_bytes_small file_small 20 read_small small-read h).too_large refl)
@@ -462,9 +470,9 @@ small-too_large h = go ((loaded_causes map_bytes_small file_small 20 read_small 
     clash e = cc
 
     go : (option_map refusal_status (first_refusal (compilation_of read_small)) ≡ Some 20) ⊎ ((first_refusal (compilation_of read_small) ≡ None) × PassesLimit (compilation_of read_small)) → ⊥
-    go (inl is) = clash (sym (ap (option_map refusal_status) small-accepted) ∙ is)
-    go (inr (accepted, inl (name, large))) = let small = small-widest name in omega (arith, small, large)
-    go (inr (accepted, inr long)) = true≢false (sym small-short ∙ long)
+    go (inl is) = clash (sym (ap (option_map refusal_status) accepted-small) ∙ is)
+    go (inr (accepted, inl (name, large))) = let small = narrow-small name in omega (arith, small, large)
+    go (inr (accepted, inr long)) = true≢false (sym short-small ∙ long)
 
 -- ---- a run answers no other status
 
@@ -482,7 +490,7 @@ status-17 h = refused run_statuses 17 refl h
 -- the small run is well
 valid-small : IsValid read_small
 unfolding whole_on_literals
-valid-small = record { distinct = refl; maps = refl; accepted = refl; small = small-widest; short = small-short }
+valid-small = record { distinct = refl; maps = refl; accepted = accepted-small; small = narrow-small; short = short-small }
 
 -- its files are short
 short_small : All (λ bytes. length bytes ≤ most_bytes) (map_bytes_small ∷ file_small ∷ [])

@@ -22,7 +22,7 @@ use Rattle.dwc_base.proofs.SmallModule.{file_small}
 use Rattle.dwc_cli.proofs.Examples.{map_bytes_small}
 use Rattle.dwc_cli.proofs.PrintedLaws.{printed_injective}
 use Rattle.dwc_cli.proofs.OnLiterals.{printed_on_literals}
-use Rattle.dwc_cli.proofs.WholeRun.{whole_on_literals, input_small, read_in, read_small, lines_carried-small, output_carried-small}
+use Rattle.dwc_cli.proofs.WholeRun.{whole_on_literals, input_small, read_in, read_small, accepted-small, short-small, lines_carried-small, output_carried-small}
 use Rattle.dwc_cli.proofs.BrokenInputs.{file_64, file_no_directory, with_small_map}
 use Rattle.dwc_cli.proofs.Answers.{three_files, right_words, names}
 use Rattle.dwc_cli.proofs.Refused.{small-read}
@@ -75,7 +75,8 @@ output_wrong =
       body = 0x39 ∷ 0x00 ∷ 0x00 ∷ 0x00 ∷ 0x04 ∷ 0x00 ∷ 0x1B ∷ 0x00 ∷ 0x00 ∷ 0x00 ∷ 0x01 ∷ 0x01 ∷ 0x01 ∷ 0xFB ∷ 0x0E ∷ 0x0D ∷ 0x00 ∷ 0x01 ∷ 0x01 ∷ 0x01 ∷ 0x01 ∷ 0x00 ∷ 0x00 ∷ 0x00 ∷ 0x01 ∷ 0x00 ∷ 0x00 ∷ 0x01 ∷ 0x00 ∷ 0x61 ∷ 0x2E ∷ 0x63 ∷ 0x00 ∷ 0x00 ∷ 0x00 ∷ 0x00 ∷ 0x00 ∷ 0x00 ∷ 0x09 ∷ 0x02 ∷ 0x00 ∷ 0x00 ∷ 0x00 ∷ 0x00 ∷ 0x00 ∷ 0x00 ∷ 0x00 ∷ 0x00 ∷ 0x03 ∷ 0x01 ∷ 0x01 ∷ 0x03 ∷ 0x02 ∷ 0x02 ∷ 0x0F ∷ 0x01 ∷ 0x02 ∷ 0x0F ∷ 0x00 ∷ 0x01 ∷ 0x01 ∷ [];
       relocations = record { offset = 40; size = 8; target = function 0; addend = pos 0 } ∷ [];
     }
-    ∷ get_or output_small 3 no_section ∷ []
+    ∷ get_or output_small 3 no_section
+    ∷ get_or output_small 4 no_section ∷ []
 
 -- it is read as the module's own unit and one more, whose one segment has line 4 from byte 15 on
 wrong-units : units (output_sections Little output_wrong) ≡ record { items = own_unit_out ∷ unit_out ∷ []; fault = None }
@@ -197,7 +198,7 @@ no_front h =
 -- the first ten bytes of the wanted text are one
 front-small : FrontCarries input_small (Some []) (Some (codes "section .d"))
 unfolding whole_on_literals printed_on_literals
-front-small = record { read = read_small; is_read = refl; accepted = refl; sections = output_small; plain = refl; carried = output_carried-small; short = refl; count = 10; written = refl }
+front-small = record { read = read_small; is_read = refl; accepted = accepted-small; sections = output_small; plain = refl; carried = output_carried-small; short = short-small; count = 10; written = refl }
 
 -- ---- inputs of which something is refused: no text, nor a front of one
 

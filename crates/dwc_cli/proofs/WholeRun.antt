@@ -1,29 +1,33 @@
 -- The small module from its bytes and its map's bytes to the printed text.
-use Rattle.std.proofs.Common.{◌≡◌, ℕ, ◌+◌, zero, suc, arith, List, [], ◌∷◌, ◌++◌, get_or, map, Some, None, Option, false, inl, inr, refl, subst, sym, ◌∙◌, true≢false}
-use Rattle.std.specs.Prelude.{All, Contains}
+use Rattle.std.proofs.Common.{◌≡◌, ℕ, ◌+◌, ◌<◌, ◌^◌, ◌-◌, zero, suc, List, [], ◌∷◌, get_or, map, slice_get, Some, None, Option, true, refl, ap, subst, sym, ◌∙◌, lit<}
+use Rattle.std.specs.Option.{unwrap_or}
+use Rattle.std.specs.Ordering.{nat_cmp}
+use Rattle.std.specs.FinMap as finite
+use Rattle.std.specs.FinMap.{get-empty}
+use Rattle.std.specs.Prelude.{codes}
 use Rattle.dwc_base.proofs.OnLiterals.{files_on_literals}
 use Rattle.dwc_base.proofs.DraftsOnLiterals.{drafts_on_literals}
 use Rattle.dwc_base.proofs.SmallModule.{file_small}
-use Rattle.dwc_base.proofs.LineTables.{function_small, segments_small}
-use Rattle.dwc_base.proofs.CarriedSmall.{module_small, unit_small, own_unit_out, unit_out, image_small, output_small, output-read, no_lines-read, images-read, image-small}
-use Rattle.dwc_base.specs.declared.section_name.SectionName.TheVariants.{Abbrev, Info, Line, Str}
-use Rattle.dwc_base.specs.Functions.{Function}
-use Rattle.dwc_base.specs.Carried.{Unit, Module, units}
-use Rattle.dwc_base.specs.Entries.{Entry}
-use Rattle.dwc_base.specs.Forests.{carried_units, wanted_units, drafts_of, first_refusal}
+use Rattle.dwc_base.proofs.Readings.{sections_small}
+use Rattle.dwc_base.proofs.LineTables.{function_small}
+use Rattle.dwc_base.proofs.CarriedSmall as Base
+use Rattle.dwc_base.proofs.CarriedSmall.{module_small, unit_small, compilation_small, output_small}
+use Rattle.dwc_base.specs.declared.records.Endian.TheVariants.{Little}
+use Rattle.dwc_base.specs.declared.section_name.SectionName.{SectionName}
+use Rattle.dwc_base.specs.declared.section_name.SectionName.TheVariants.{Abbrev, Addr, Info, Line, LineStr, Loc, Loclists, Ranges, Rnglists, Str, StrOffsets, CuIndex, Frame}
+use Rattle.dwc_base.specs.Compiled.{LinkageNames, Memory, no_memory, ToldModule}
+use Rattle.dwc_base.specs.Functions.{AddressMap, Function}
+use Rattle.dwc_base.specs.Carried.{Unit}
+use Rattle.dwc_base.specs.Forests.{carried_units, first_refusal, trees_made}
 use Rattle.dwc_base.specs.LinesCarried.{LinesCarried}
-use Rattle.dwc_base.specs.LocationRules.{ExpressionSource}
-use Rattle.dwc_base.specs.LocationsCarried.{CarriesLocations, LocationsCarried, expressions_of}
 use Rattle.dwc_base.specs.Refusals.{Refusal, missing_file}
-use Rattle.dwc_base.specs.Trees.{TreeEntry}
-use Rattle.dwc_base.specs.Values.{Value, is_location_name}
-use Rattle.dwc_base.proofs.ForestLaws.{Each}
-use Rattle.dwc_base.proofs.InLists.{IsIn, contains-in}
+use Rattle.dwc_base.specs.TreeLaws.{have_short_expressions}
 use Rattle.dwc_base.specs.OutputCarried.{OutputCarried, widest}
-use Rattle.dwc_base.proofs.TreesSmall.{tree_small, trees_small, carries-small as trees_carried-small}
-use Rattle.dwc_base.proofs.OutputSmall.{form-small, names-small, targets-small, scopes-small, texts-small}
+use Rattle.dwc_base.proofs.TreesSmall.{trees_small, forest-small, carries-small as trees_carried-small}
+use Rattle.dwc_base.proofs.OutputSmall.{form-small, names-small, targets-small, scopes-small, locations-small, contexts-small, texts-small}
 use Rattle.dwc_base.proofs.FieldCases.{related-small}
-use Rattle.dwc_cli.specs.Inputs.{Input, Loaded, loaded, compilation_of}
+use Rattle.dwc_cli.specs.MapFile.{MapFunction}
+use Rattle.dwc_cli.specs.Inputs.{Input, Loaded, loaded, compilation_of, ranges_of, told_of}
 use Rattle.dwc_cli.proofs.OnLiterals.{map_on_literals}
 use Rattle.dwc_cli.specs.Printed.{printed}
 use Rattle.dwc_cli.specs.RunStatus.{Carries}
@@ -57,16 +61,12 @@ functions-small : functions_of (loaded input_small) ≡ (function_small ∷ []) 
 unfolding whole_on_literals
 functions-small = refl
 
-accepted-small : refusal_of (loaded input_small) ≡ None
-unfolding whole_on_literals
-accepted-small = refl
-
 carried-small : carried_of (loaded input_small) ≡ unit_small ∷ []
 unfolding whole_on_literals
 carried-small = refl
 
--- the small module's sections are 85, 104, 61 and 108 bytes long; in the first two its own unit stands in front
-widths-small : widths_of (loaded input_small) ≡ (698 + 152) ∷ (176 + 63) ∷ 271 ∷ 108 ∷ []
+-- the small module's sections are 96, 118, 61, 16 and 116 bytes long; in the first two its own unit stands in front
+widths-small : widths_of (loaded input_small) ≡ (698 + 253) ∷ (176 + 95) ∷ 271 ∷ 116 ∷ []
 unfolding whole_on_literals
 widths-small = refl
 
@@ -78,65 +78,129 @@ read_in (Some l) = l
 abbrev pub read_small : Loaded
 read_small = read_in (loaded input_small)
 
-whole-small : All (λ m. (units m.sections).fault ≡ None) (compilation_of read_small).modules
-unfolding whole_on_literals
-whole-small zero d h = refl
-whole-small (suc k) d h = absurd (omega arith)
+-- ---- what is told of modules of one function whose map has no labels and no registers
 
-pub lines_carried-small : LinesCarried (compilation_of read_small) output_small
-unfolding whole_on_literals
-lines_carried-small = record {
-  whole = whole-small;
-  output = own_unit_out ∷ unit_out ∷ [];
-  output_read = output-read;
-  each = (no_lines-read, (record { images = image_small ∷ []; images_read = images-read; carried = record { input = segments_small; input_read = refl; each = ((function_small, refl, image-small), tt) } }, tt));
+-- such a function
+abbrev bare_function : AddressMap → MapFunction
+bare_function a = record { address_map = a; labels = finite.empty }
+
+-- no value lies anywhere
+nowhere : (a : AddressMap) (place label : ℕ) → unwrap_or (slice_get (ranges_of (bare_function a) ∷ []) place) (λ label. []) label ≡ []
+nowhere a zero label = ap (λ ranges. unwrap_or ranges []) (get-empty nat_cmp label)
+nowhere a (suc place) label = refl
+
+-- so much is told of the module at a place, whose function has a number
+abbrev pub told_bare : LinkageNames → ℕ → Memory → ToldModule
+told_bare names place memory = record { place = place; values = λ function label. []; memory = memory; register = λ r. None; names = names }
+
+pub told-bare : (names : LinkageNames) (place number : ℕ) (a : AddressMap) (memory : Memory) → told_of finite.empty names place number (record { functions = bare_function a ∷ []; memory = memory }) ≡ told_bare names place memory
+told-bare names place number a memory = λ i. record {
+  place = place;
+  values = λ function label. nowhere a (function - number) label i;
+  memory = memory;
+  register = λ r. get-empty nat_cmp r i;
+  names = names;
 }
 
--- none of the attributes of the small module has the name of a location
-none-named : {A : Type 0} (P : A → Type 0) (before after as' : List A) (a : A) → Each P as' → as' ≡ before ++ a ∷ after → P a
-none-named P [] after as' a each are = (subst (Each P) are each).0
-none-named P (b ∷ before) after as' a each are = none-named P before after (before ++ a ∷ after) a (subst (Each P) are each).1 refl
+-- ---- the small input is the small compilation
 
-Unnamed : ℕ × Value → Type 0
-Unnamed a = is_location_name a.0 ≡ false
+abbrev pub runtime_names : LinkageNames
+runtime_names = record { set_memory = codes "set_mem"; resolve_memory = codes "resolve_mem" }
 
-carries-no_location : (c : ExpressionSource) (e : Entry) (out : TreeEntry) → Contains unit_small.entries e → CarriesLocations c (record { unit = unit_small.header.offset; entry = e }) out
-unfolding Unnamed
-carries-no_location c e out among = λ before after a plain are named last. absurd (true≢false (sym named ∙ none-named Unnamed before after e.attributes a (here e (contains-in unit_small.entries e among)) are))
-  where
-    here : (e : Entry) → IsIn e unit_small.entries → Each Unnamed e.attributes
-    here e (inl same) = rw same (refl, tt)
-    here e (inr (inl same)) = rw same (refl, (refl, tt))
-    here e (inr (inr none)) = absurd none
+abbrev address_map_small : AddressMap
+address_map_small = record { symbol = Some 0; start = Some 22; end = Some 33; body_offset = 0; body_len = 30; entries = (5, Some 25) ∷ (8, None) ∷ (15, Some 30) ∷ (23, None) ∷ [] }
 
-abbrev said_at : ℕ → TreeEntry
-said_at place = get_or tree_small place (record { depth = 0; tag = 0; attributes = [] })
-
-locations-small : LocationsCarried (drafts_of false) (wanted_units (compilation_of read_small)) trees_small
+bytes-small : (name : SectionName) → (get_or (compilation_of read_small).modules 0 module_small).sections.bytes name ≡ sections_small.bytes name
 unfolding whole_on_literals
-locations-small =
-    let m : Module = get_or (compilation_of read_small).modules 0 module_small in
-    let c : ExpressionSource = expressions_of (record { module_of = m; unit = unit_small }) in
-    (tt, (((λ e among made. carries-no_location c e (said_at 0) among), ((λ e among made. carries-no_location c e (said_at 1) among), tt)), tt))
+bytes-small Abbrev = refl
+bytes-small Addr = refl
+bytes-small Info = refl
+bytes-small Line = refl
+bytes-small LineStr = refl
+bytes-small Loc = refl
+bytes-small Loclists = refl
+bytes-small Ranges = refl
+bytes-small Rnglists = refl
+bytes-small Str = refl
+bytes-small StrOffsets = refl
+bytes-small CuIndex = refl
+bytes-small Frame = refl
 
--- the wanted output carries the whole small input
-pub output_carried-small : OutputCarried (compilation_of read_small) output_small
+pub compilation-small : compilation_of read_small ≡ compilation_small
 unfolding whole_on_literals
-output_carried-small = record {
-  lines = lines_carried-small;
+compilation-small = λ i. record {
+  order = Little;
+  pointer_bytes = 8;
+  modules =
+      record {
+        sections = record { order = Little; bytes = λ name. bytes-small name i; relocations = λ name. [] };
+        functions = function_small ∷ [];
+        told = told-bare runtime_names 0 0 address_map_small no_memory i;
+        compressed = None;
+      } ∷ [];
+}
+
+-- ---- nothing of it is refused, and nothing is too large
+
+none-refused : first_refusal compilation_small ≡ None
+unfolding whole_on_literals
+none-refused = refl
+
+pub accepted-small : first_refusal (compilation_of read_small) ≡ None
+accepted-small = ap first_refusal compilation-small ∙ none-refused
+
+all-short : have_short_expressions (trees_made compilation_small) ≡ true
+unfolding whole_on_literals
+all-short = refl
+
+pub short-small : have_short_expressions (trees_made (compilation_of read_small)) ≡ true
+short-small = ap (λ c. have_short_expressions (trees_made c)) compilation-small ∙ all-short
+
+-- no section of it can be long
+all-narrow : (name : SectionName) → widest name compilation_small < 2 ^ 31
+unfolding whole_on_literals
+all-narrow Abbrev = lit< tt
+all-narrow Addr = lit< tt
+all-narrow Info = lit< tt
+all-narrow Line = lit< tt
+all-narrow LineStr = lit< tt
+all-narrow Loc = lit< tt
+all-narrow Loclists = lit< tt
+all-narrow Ranges = lit< tt
+all-narrow Rnglists = lit< tt
+all-narrow Str = lit< tt
+all-narrow StrOffsets = lit< tt
+all-narrow CuIndex = lit< tt
+all-narrow Frame = lit< tt
+
+pub narrow-small : (name : SectionName) → widest name (compilation_of read_small) < 2 ^ 31
+narrow-small name = subst (λ c. widest name c < 2 ^ 31) (sym compilation-small) (all-narrow name)
+
+-- ---- the wanted output carries it whole
+
+pub lines_carried-small : LinesCarried (compilation_of read_small) output_small
+lines_carried-small = subst (λ c. LinesCarried c output_small) (sym compilation-small) Base.lines_carried-small
+
+carried_whole : OutputCarried compilation_small output_small
+carried_whole = record {
+  lines = Base.lines_carried-small;
   wanted = trees_small;
-  is_forest = refl;
+  is_forest = forest-small;
   trees = trees_carried-small;
   targets = targets-small;
   scopes = scopes-small;
   locations = locations-small;
+  contexts = contexts-small;
   texts = texts-small;
   form = form-small;
   names = names-small;
   relocated = related-small;
 }
 
+pub output_carried-small : OutputCarried (compilation_of read_small) output_small
+output_carried-small = subst (λ c. OutputCarried c output_small) (sym compilation-small) carried_whole
+
 -- the text of the wanted output is an answer with status 0
 pub carries-small : Carries input_small (Some []) (Some (printed output_small))
 unfolding whole_on_literals
-carries-small = record { read = read_small; is_read = refl; accepted = refl; sections = output_small; plain = refl; carried = output_carried-small; short = refl; written = refl }
+carries-small = record { read = read_small; is_read = refl; accepted = accepted-small; sections = output_small; plain = refl; carried = output_carried-small; short = short-small; written = refl }
