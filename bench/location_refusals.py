@@ -1,7 +1,7 @@
 """Cases of what is refused of expressions and location lists, in which order, and of what the map says of values."""
 
 from entry_cases import BASE_TYPE, DATA8, GREATEST, HIGH_PC, LENGTH, LINES, LOW_PC, NAME, RANGES, SEC_OFFSET, STRP, SUBPROGRAM, VARIABLE, Entry, root, subprogram, to
-from location_cases import BASE, BYTE_SIZE, DEFAULT, DEFINED, ENDS, FRAME_BASE, IN_LIST, INDEX_BASE, INDEX_ENDS, INDEX_LENGTH, OFFSETS, REGISTERS, SHIFT
+from location_cases import BASE, BYTE_SIZE, DEFAULT, DEFINED, ENDS, FRAME_BASE, IN_LIST, INDEX_BASE, INDEX_ENDS, INDEX_LENGTH, OFFSETS, PART, REGISTERS, SHIFT
 from location_cases import START_LENGTH, VMCTX, WHOLE, at, block, by_index, cfa, framed, in_five, in_list, listed_variable, loc, loclists, plain, reg, two_modules, variable
 from make_modules import u32, uleb
 from range_cases import EXPRLOC, LOCATION, MOST, PLACES, SECOND, SMALL, low, within
@@ -117,7 +117,8 @@ def bad_labels(made):
     refused("such a range of the value of a frame base", 4, framed(variable("91 12 9F"), base="ED 00 04 9F"))
     refused("such a range of the context pointer", VMCTX, plain("ED 00 03"), labels=[BAD_VMCTX])
     refused("such a range of the context pointer before a later value's", VMCTX, plain("31 06 ED 00 04 22 9F"), labels=[{**BAD, **BAD_VMCTX}])
-    refused("such a range of a value before the context pointer's at the end", 4, plain("ED 00 04"), labels=[{**BAD, **BAD_VMCTX, 4: BAD[4]}])
+    refused("such a range of the context pointer before that of a value", VMCTX, plain("ED 00 04"), labels=[{**BAD, **BAD_VMCTX, 4: BAD[4]}])
+    refused("such a range of the context pointer, which no expression needs", VMCTX, plain("31", "31 9F"), labels=[BAD_VMCTX])
     refused("such a range where the scope has no code", 4, within(block(variable("ED 00 04 9F"), begin=1, end=2)))
     refused("such a range under a name that may have no list", 4, within(Entry(VARIABLE, at("ED 00 04 9F", BYTE_SIZE))))
     refused("such a range in a list", 4, within(listed_variable()), sections=[loc((5, 6, "31"), (10, 11, "ED 00 04 9F"))])
@@ -127,7 +128,6 @@ def bad_labels(made):
     carried("such a range where the scope is empty", within(block(variable("ED 00 04 9F"), begin=5, end=5)), places=[])
     carried("such a range where no scope is in force", root(subprogram(), attributes=(LINES, at("ED 00 04 9F"))), places=[])
     carried("such a range of an expression that is not supported", plain("ED 00 04 50", "ED 00 04 91 12"), places=[])
-    carried("such a range of the context pointer, and an expression that stays", plain("31", "31 9F"), labels=[BAD_VMCTX], places=["31", "319f"])
     carried("such a range in a list of an empty interval", within(listed_variable()), sections=[loc((5, 5, "ED 00 04 9F"), (5, 6, "31"))], places=["[5-15 31]"])
     of_type = root(subprogram(to("b")), Entry(BASE_TYPE, in_list(name=0x19), key="b"))
     carried("such a range in a list where no frame is in force", of_type, sections=[loc((5, 6, "ED 00 04 9F"))], places=["[]"])
@@ -145,8 +145,9 @@ def no_memory(made):
     unmapped = lambda name, register, *units, memory=DEFINED, **more: refused(name, 16, f"UnmappedRegister {register}", *units, memory=memory, **more)
     unmapped("a value in a register without a number", 1, on_base, registers=[[2, 14]])
     unmapped("the context pointer in a register without a number", 2, on_base, registers=[[1, 12]])
-    unmapped("of two registers without a number that of the first part", 1, on_base, registers=[])
-    unmapped("a value alone in a register without a number", 1, plain("ED 00 03 9F"), registers=[], memory=None)
+    unmapped("the context pointer in a register without a number before a value in one", 2, on_base, registers=[])
+    unmapped("of two registers without a number that of the first part", 1, plain("ED 00 03 ED 00 04 22 9F"), labels=[{**PART, 4: [reg(0, 30, 9)]}], registers=[[2, 14]])
+    unmapped("a value alone in a register without a number", 1, plain("ED 00 03 9F"), registers=[[2, 14]], memory=None)
     unmapped("a register without a number on a later byte", 9, plain("ED 00 03 9F"), labels=[{3: [reg(0, 10, 1), cfa(10, 20, 8), reg(20, 21, 9)]}])
     later = {3: [reg(0, 10, 1), reg(10, 20, 8)], 4: [reg(0, 10, 9), reg(10, 20, 1)]}
     unmapped("of two registers without a number that of the first byte", 9, plain("ED 00 03 ED 00 04 22 9F"), labels=[later])
@@ -249,7 +250,7 @@ def expressions_of_lists(made):
     refused("a list with a length that is too long before its expressions", 20, TOO_LONG, in_five(listed_variable()), sections=[long])
     refused("of a list the first expression that is refused, as it is built", 14, "BadLabelRange 4", within(listed_variable()), **old((5, 6, "ED 00 04 9F"), (5, 6, "10"), labels=[BAD]))
     refused("of a list the first expression that is refused, as it is read", 10, unread(10, ".debug_loc"), within(listed_variable()), **old((5, 6, "10"), (5, 6, "ED 00 04 9F"), labels=[BAD]))
-    refused("of a list the first expression that is refused, in its order", 16, "UnmappedRegister 1", within(listed_variable()), **old((10, 11, IN_LIST), (5, 6, "ED 00 04 9F"), labels=[BAD], registers=[]))
+    refused("of a list the first expression that is refused, in its order", 16, "UnmappedRegister 1", within(listed_variable()), **old((10, 11, IN_LIST), (5, 6, "ED 00 04 9F"), labels=[BAD], registers=[[2, 14]]))
 
 
 # ---- orders

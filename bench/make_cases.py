@@ -4,8 +4,8 @@
     make_cases.py [--check]
 
 What a run prints is worked out by plain_run.py, which has nothing of the program; where a status other than 0 is wanted, it and
-the line stand here by hand, and so do the printed texts and the rows of worked examples. With --check nothing is written, but
-llvm-dwarfdump and readelf are asked what they read in the outputs.
+the line stand here by hand, and so do the printed texts of worked examples, and of many outputs the rows, the places or the entries.
+With --check nothing is written, but llvm-dwarfdump, readelf and eu-readelf are asked what they read in the outputs.
 """
 
 import json
@@ -13,77 +13,30 @@ import os
 import sys
 
 import check_cases
+import context_cases
 import entry_cases
+import listed_trees
 import location_cases
 import location_refusals
+import object_pointer_cases
 import own_unit_cases
 import plain_run
 import range_cases
+import type_name_cases
+import wrapper_cases
+import wrapper_refusals
 from form_cases import FORMS, REFUSED_FORMS
 from make_modules import custom, functions_module, map_of as map_of_modules, sleb, u32, uleb
+from small_module import ABBREVIATIONS, ENTRIES, FRONT, MAP, ONE_FILE, PREAMBLE, PROGRAM, ROOT, SMALL, SOURCES, function, line_table, map_of, module, sized, unit
 from worked_texts import BIG_TEXT, FOUR_TEXT, OWN_TEXT, SMALL_TEXT, TWO_TEXT
 
 BENCH = os.path.dirname(__file__)
 CRATE = os.path.join(BENCH, "..", "crates", "dwc_cases")
 
-# ---- the small module
-
-PREAMBLE = b"\0asm\x01\0\0\0"
-FRONT = PREAMBLE + bytes.fromhex("010401600000 03020100 0A0D010B00010101010101010101 0B")
-ROOT = bytes.fromhex("01 11 01 1017 0000")
-SUBPROGRAM = bytes.fromhex("02 2E 00 1101 1206 0000")
-ABBREVIATIONS = ROOT + SUBPROGRAM + b"\0"
-ENTRIES = bytes.fromhex("01 00000000 02 02000000 0B000000 00")
-PROGRAM = bytes.fromhex("0005020200000001 02030301 01 020503 0101 0203 000101")
-PARAMETERS = bytes.fromhex("01 01 01 FB 0E 0D 000101010100000001000001")
-ONE_FILE = bytes.fromhex("00 612E6300000000 00")
-
-
-def sized(contents):
-    return u32(len(contents)) + contents
-
-
-def unit(entries=ENTRIES, version=4, size=4, table=0, kind=1):
-    """A unit of a version from 2 to 5, of an address size and with the offset of its abbreviation table."""
-    version_bytes = version.to_bytes(2, "little")
-    if version == 5:
-        return sized(version_bytes + bytes([kind, size]) + u32(table) + entries)
-    return sized(version_bytes + u32(table) + bytes([size]) + entries)
-
-
-def line_table(program=PROGRAM, version=4, names=ONE_FILE, sizes=(4, 0), parameters=PARAMETERS):
-    """A line table of a version from 2 to 5; the versions 2 and 3 have no count of operations."""
-    fields = (parameters if version >= 4 else parameters[:1] + parameters[2:]) + names
-    front = version.to_bytes(2, "little") + (bytes(sizes) if version == 5 else b"")
-    return sized(front + sized(fields) + program)
-
-
-def module(abbreviations=ABBREVIATIONS, info=None, line=None, others=(), front=FRONT):
-    """A module with these sections; of two of one name the later counts."""
-    info = unit() if info is None else info
-    line = line_table() if line is None else line
-    sections = [(".debug_abbrev", abbreviations), (".debug_info", info), (".debug_line", line), *others]
-    return front + b"".join(custom(name, contents) for name, contents in sections)
-
-
-SMALL = module()
-SOURCES = [[5, 25], [8, None], [15, 30], [23, None]]
-
-
-def function(symbol=0, start=22, end=33, length=30, entries=SOURCES):
-    return {"symbol": symbol, "start": start, "end": end, "body_len": length, "map": entries}
-
-
-def map_of(*modules, **target):
-    value = {"target": {"arch": "x86_64", **target}, "names": ["set_mem", "resolve_mem"]}
-    value["modules"] = [module if isinstance(module, dict) else {"functions": module} for module in modules]
-    return json.dumps(value, separators=(",", ":"))
-
-
-MAP = map_of([function()])
-
-
 # ---- files of cases
+
+READINGS = {"text": str, "rows": check_cases.rows_of, "code": check_cases.code_of, "places": check_cases.places_of}
+READINGS |= {"contexts": check_cases.contexts_of, "texts": check_cases.texts_of, "tree": listed_trees.tree_of, "wrappers": listed_trees.wrappers_of}
 
 
 class Cases:
@@ -104,16 +57,14 @@ class Cases:
         """A run that must end with a status and a line."""
         self.add("run", name, [*(f"word {word}" for word in words), *self.files(files)], f"status {status}\ndwarfcarry: {line}\n")
 
-    def carried(self, name, map_text, *modules, text=None, rows=None, code=None, places=None, texts=None):
-        """A run that must end well; its text, the rows (line and native offset) of each sequence, what entries say of their code or of
-        the places of values, or the texts that stand in it may be given by hand."""
+    def carried(self, name, map_text, *modules, **wanted):
+        """A run that must end well. What it prints, or what one of the readings reads of this, may be given by hand."""
         printed = plain_run.printed_text(map_text.encode(), list(modules))
         for check in (plain_run.check_bytes, plain_run.check_scopes, plain_run.check_locations):
             check(map_text.encode(), list(modules))
-        read = [(text, str), (rows, check_cases.rows_of), (code, check_cases.code_of), (places, check_cases.places_of), (texts, check_cases.texts_of)]
-        for wanted, said in read:
-            if wanted is not None and wanted != said(printed):
-                sys.exit(f"{name}: {said(printed)}")
+        for what, value in wanted.items():
+            if value is not None and value != READINGS[what](printed):
+                sys.exit(f"{name}: {READINGS[what](printed)}")
         paths = [f"{i}.wasm" for i in range(len(modules))]
         files = [("map.json", map_text), *zip(paths, modules)]
         parts = [f"word {word}" for word in ["map.json", *paths]]
@@ -774,6 +725,10 @@ def main():
         range_cases.range_cases(Cases("ranges.txt"), module, map_of),
         location_refusals.refusal_cases(location_cases.location_cases(Cases("locations.txt"), module, map_of), FRONT),
         own_unit_cases.own_unit_cases(Cases("own_units.txt"), module, map_of),
+        wrapper_refusals.wrapper_refusals(wrapper_cases.wrapper_cases(Cases("wrappers.txt"), module, map_of)),
+        type_name_cases.type_name_cases(Cases("type_names.txt"), module, map_of),
+        object_pointer_cases.object_pointer_cases(Cases("object_pointers.txt"), module, map_of),
+        context_cases.context_cases(Cases("contexts.txt"), module, map_of),
         line_cases(),
         listing_cases(),
     ]

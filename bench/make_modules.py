@@ -29,6 +29,10 @@ Entries of any kind:
 - blocks: one function of N sources, with a block for each of them.
 - long_list: the same with one block, whose range list has an interval for every second source.
 
+Pointers:
+
+- pointers: N pointers that go to one chain of 1,000 constants and pointers, in turn, and a base type behind them.
+
 Where values lie:
 
 - variables: N variables on a frame base in a register, in one function of 20 sources.
@@ -444,6 +448,34 @@ def long_list_module(count):
     return wasm + custom(".debug_ranges", pairs + bytes(8)), functions
 
 
+# ---- pointers
+
+# A compile unit, a subprogram with children, and of entries with a type: parameters, constants and pointers; and a base type with a name.
+POINTERS = bytes.fromhex("011101 0000 022E01 1101 1206 0000 030500 4913 0000 042600 4913 0000 050F00 4913 0000 062400 030E 0000 00")
+CONSTANT, POINTER, BASE_TYPE = 4, 5, 6
+TYPED_SIZE = 1 + 4
+STEPS_OF_A_CHAIN = 1000
+
+
+def typed(number, target):
+    return bytes([number]) + u32(target)
+
+
+def pointers_module(count):
+    """Parameters, of which each has a pointer of its own, and the chain of types that all these pointers go to."""
+    pointers = FIRST_ENTRY + SUBPROGRAM_SIZE + count * TYPED_SIZE + 1
+    chain = pointers + count * TYPED_SIZE
+
+    def info(start):
+        parameters = b"".join(typed(PARAMETER, pointers + i * TYPED_SIZE) for i in range(count))
+        steps = b"".join(typed(POINTER if i % 2 else CONSTANT, chain + (i + 1) * TYPED_SIZE) for i in range(STEPS_OF_A_CHAIN))
+        types = typed(POINTER, chain) * count + steps + bytes([BASE_TYPE]) + u32(0)
+        return unit_of(bytes([1, 2]) + u32(start) + u32(BODY) + parameters + b"\0" + types)
+
+    wasm, functions = one_function(BODY, info, no_lines, POINTERS, [[0, 0]])
+    return wasm + custom(".debug_str", b"t\0"), functions
+
+
 # ---- where values lie
 
 # A compile unit, a subprogram with a frame base, and variables with an expression or a location list.
@@ -509,6 +541,7 @@ KINDS = {
     "nested": lambda n: [nested_module(n)],
     "blocks": lambda n: [blocks_module(n)],
     "long_list": lambda n: [long_list_module(n)],
+    "pointers": lambda n: [pointers_module(n)],
     "variables": lambda n: [variables_module(n)],
     "long_locations": lambda n: [long_locations_module(n)],
     "placed": lambda n: [placed_module(n)],
@@ -534,6 +567,7 @@ SIZES = {
     "nested": [50000, 100000],
     "blocks": [50000, 100000],
     "long_list": [100000, 200000],
+    "pointers": [50000, 100000],
     "variables": [50000, 100000],
     "long_locations": [50000, 100000],
     "placed": [100000, 200000],

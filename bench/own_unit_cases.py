@@ -114,6 +114,7 @@ def module_cases(made):
 
 OWN = ["WasmtimeModuleSyntheticUnit", "wasmtime", "u8", "u8*", "WasmtimeVMContext", "memory", "set_mem", "set", "WasmtimeVMContext*", "WebAssemblyPtr"]
 WITHOUT_MEMORY = [text for text in OWN if text != "memory"]
+CARRIED, CARRIED_WITHOUT = OWN + ["__vmctx"], WITHOUT_MEMORY + ["__vmctx"]  # with that of a carried subprogram
 
 
 def named(*names):
@@ -126,19 +127,19 @@ def text_cases(made):
     """Texts of the input that are texts of the own unit stand once, where that unit has them."""
     for text in OWN:
         here = made.module_of(named(text))
-        made.all_carried(f"a text `{text}` of the input", [here], [DEFINED], texts=OWN)
-        behind = WITHOUT_MEMORY + ["memory"] if text == "memory" else WITHOUT_MEMORY
+        made.all_carried(f"a text `{text}` of the input", [here], [DEFINED], texts=CARRIED)
+        behind = CARRIED_WITHOUT + ["memory"] * (text == "memory")
         made.all_carried(f"a text `{text}` of the input without a memory", [here], [None], texts=behind)
     others = ["u", "8*", "u8 *", "U8", "", "VMContext*", "WebAssemblyPtr*", "resolve_mem"]
-    made.all_carried("texts that are parts of those of an own unit", [made.module_of(named(*others))], [DEFINED], texts=OWN + others)
+    made.all_carried("texts that are parts of those of an own unit", [made.module_of(named(*others))], [DEFINED], texts=CARRIED + others)
     mixed = ["x", "set", "y", "u8*", "x", "wasmtime"]
-    made.all_carried("texts of both", [made.module_of(named(*mixed))], [DEFINED], texts=OWN + ["x", "y"])
+    made.all_carried("texts of both", [made.module_of(named(*mixed))], [DEFINED], texts=CARRIED + ["x", "y"])
     section = (".debug_str", b"\0wasmtime\0u8*\0")
     by_offset = root(subprogram(*[(name, STRP, u32(at)) for name, at in ((NAME, 1), (0x25, 5), (0x6E, 10), (0x1B, 11))]))
-    made.all_carried("texts by offsets", [made.module_of(by_offset, sections=[section])], [None], texts=[*WITHOUT_MEMORY, "time", "8*"])
+    made.all_carried("texts by offsets", [made.module_of(by_offset, sections=[section])], [None], texts=[*WITHOUT_MEMORY, "time", "8*", "__vmctx"])
     first, second = made.module_of(named("x", "memory")), made.module_of(named("y", "x"))
-    made.all_carried("texts of two modules", [first, second], [None, DEFINED], texts=[*WITHOUT_MEMORY, "x", "memory", "y"])
-    made.all_carried("texts of two modules, of which the first has a memory", [first, second], [DEFINED, None], texts=[*OWN, "x", "y"])
+    made.all_carried("texts of two modules", [first, second], [None, DEFINED], texts=[*CARRIED_WITHOUT, "x", "memory", "y"])
+    made.all_carried("texts of two modules, of which the first has a memory", [first, second], [DEFINED, None], texts=[*CARRIED, "x", "y"])
 
 
 def name_cases(made):
@@ -147,9 +148,9 @@ def name_cases(made):
         texts = list(dict.fromkeys(name if text == "set_mem" else text for text in OWN))
         without = list(dict.fromkeys(name if text == "set_mem" else text for text in WITHOUT_MEMORY))
         short = name if len(name) < 100 else f"of {len(name)} letters"
-        made.all_carried(f"the name `{short}`", [made.module_of(named("x", ""))], [DEFINED], names=(name, "y"), texts=[*texts, "x", *[""] * (name != "")])
+        made.all_carried(f"the name `{short}`", [made.module_of(named("x", ""))], [DEFINED], names=(name, "y"), texts=[*texts, "__vmctx", "x", *[""] * (name != "")])
         made.all_carried(f"the name `{short}` without a memory", [made.module_of()], [None], names=(name, name), texts=without)
-    made.all_carried("a name that the input has", [made.module_of(named("f", "set_mem"))], [None], texts=[*WITHOUT_MEMORY, "f"])
+    made.all_carried("a name that the input has", [made.module_of(named("f", "set_mem"))], [None], texts=[*CARRIED_WITHOUT, "f"])
 
 
 # ---- what is refused

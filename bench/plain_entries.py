@@ -3,8 +3,11 @@
 from dataclasses import dataclass, field
 
 TAG_COMPILE_UNIT, TAG_SUBPROGRAM, TAG_NAMESPACE, TAG_VARIABLE, TAG_CONSTANT, TAG_BASE_TYPE = 0x11, 0x2E, 0x39, 0x34, 0x27, 0x24
+TAG_ARRAY_TYPE, TAG_ENTRY_POINT, TAG_FORMAL_PARAMETER, TAG_MEMBER, TAG_POINTER_TYPE, TAG_REFERENCE_TYPE = 0x01, 0x03, 0x05, 0x0D, 0x0F, 0x10
+TAG_STRUCTURE_TYPE, TAG_INLINED_SUBROUTINE, TAG_CONST_TYPE, TAG_TEMPLATE_TYPE = 0x13, 0x1D, 0x26, 0x2F
 AT_SIBLING, AT_STMT_LIST, AT_LOW_PC, AT_HIGH_PC, AT_RANGES, AT_START_SCOPE = 0x01, 0x10, 0x11, 0x12, 0x55, 0x2C
-AT_NAME, AT_TYPE = 0x03, 0x49
+AT_NAME, AT_TYPE, AT_LOCATION, AT_BYTE_SIZE, AT_LANGUAGE, AT_PRODUCER, AT_ARTIFICIAL = 0x03, 0x49, 0x02, 0x0B, 0x13, 0x25, 0x34
+AT_MEMBER_LOCATION, AT_ENCODING, AT_OBJECT_POINTER, AT_LINKAGE_NAME = 0x38, 0x3E, 0x64, 0x6E
 AT_DECL_FILE, AT_CALL_FILE, AT_ENDIANITY, AT_FRAME_BASE = 0x3A, 0x58, 0x65, 0x40
 AT_STR_OFFSETS_BASE, AT_ADDR_BASE, AT_RNGLISTS_BASE, AT_LOCLISTS_BASE = 0x72, 0x73, 0x74, 0x8C
 LOCATION_NAMES = (0x02, 0x19, 0x2A, 0x38, 0x40, 0x46, 0x48, 0x4A, 0x4D)
@@ -105,6 +108,10 @@ class Unit:
     @property
     def root(self):
         return self.entries[0] if self.entries else Entry(0, 0, 0, [])
+
+    def entry_at(self, offset):
+        """The entry that begins at an offset."""
+        return next((entry for entry in self.entries if entry.offset == offset), None)
 
     @property
     def line_table(self):

@@ -74,6 +74,10 @@ class Compiled:
         return self.parts + (Deref(),) * self.need_deref
 
     @property
+    def reads_memory(self):
+        return any(isinstance(part, Deref) for part in self.placed_parts)
+
+    @property
     def needed_labels(self):
         needs = [part.label if isinstance(part, Local) else VMCTX for part in self.placed_parts if isinstance(part, (Local, Deref))]
         return list(dict.fromkeys(needs))
@@ -184,11 +188,15 @@ def joined(parts):
 # ---- places
 
 
+def place_at(function, label, byte):
+    """Where a label lies at a byte of a function: where the last of its ranges that has the byte says; None where none has it."""
+    return next((place for start, end, place in reversed(function.labels.get(label, [])) if start <= byte < end), None)
+
+
 @cache
 def places_of(function, label):
-    """Where a label lies at each byte of a function: where the last of its ranges that has the byte says; None where none has it."""
-    ranges = function.labels.get(label, [])[::-1]
-    return [next((place for start, end, place in ranges if start <= byte < end), None) for byte in range(function.length)]
+    """Where a label lies at each byte of a function."""
+    return [place_at(function, label, byte) for byte in range(function.length)]
 
 
 def bytes_of_scope(ranges):
@@ -211,6 +219,8 @@ class Run:
 
 def runs_of_labels(ranges, labels, frame):
     """The longest runs of the bytes of native ranges on which each label has one place, and whether all bytes are in one."""
+    if labels and not (frame and all(frame.labels.get(label) for label in labels)):
+        return [], not ranges
     runs, covers = [], True
     for function, held in bytes_of_scope(ranges):
         columns = [places_of(function, label) if function is frame else [None] * function.length for label in labels]
@@ -255,7 +265,7 @@ def built(compiled, ranges, frame, machine):
             raise Refused(f"BadLabelRange {label}")
     runs, covers = runs_of_labels(ranges, labels, frame)
     for run in runs:
-        if VMCTX in labels and machine.memory is None:
+        if compiled.reads_memory and machine.memory is None:
             raise Refused(f"InvalidAttributeValue {machine.module}")
         for kind, number in run.places:
             if kind == "reg":

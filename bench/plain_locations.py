@@ -5,10 +5,11 @@ from dataclasses import dataclass
 
 from plain_entries import AT_FRAME_BASE, AT_HIGH_PC, AT_LOCLISTS_BASE, AT_LOW_PC, AT_RANGES, LOCATION_NAMES, TAG_SUBPROGRAM
 from plain_entries import Reader, Refused, address_of
-from plain_expressions import Compiled, built, compiled
+from plain_expressions import VMCTX, Compiled, Local, built, compiled
 from plain_ranges import TooLong, extent, first_base, function_begun, interval_of, translated_intervals
 
 CALL_FRAME = b"\x9C"  # the canonical frame address, which every frame base becomes
+CONTEXT = Compiled((Local(VMCTX, True),), False)  # the context pointer alone
 
 # What each kind of entry of a list says from version 5 on, and its operands: an index of an address, a number, an address.
 KINDS = {1: ("base", "i"), 2: ("ends", "ii"), 3: ("length", "in"), 4: ("offsets", "nn"), 5: ("default", ""), 6: ("base", "a"), 7: ("ends", "aa"), 8: ("length", "an")}
@@ -130,6 +131,23 @@ def location_made(sections, unit, entry, given, machine, name, value):
     if name == AT_FRAME_BASE:
         return "expression", CALL_FRAME
     return None if expression is None else expression_made(expression, given, machine, name)
+
+
+def read_location(sections, unit, entry, given, name, value):
+    """Reads an expression or a location list, of which nothing is built."""
+    if value[0] == "expression":
+        compiled_at(".debug_info", value[2], value[1], None if name == AT_FRAME_BASE else given.base)
+        return
+    section, locations = locations_of(sections, unit, entry, value)
+    for _, place, data in locations:
+        compiled_at(section, place, data, given.base)
+
+
+def context_locations(given, machine):
+    """Where the context pointer lies over a scope, which may be empty."""
+    if not given.scope:
+        return []
+    return built(CONTEXT, translated_intervals(given.scope, machine.function_at), given.frame, machine)[0]
 
 
 def expression_made(expression, given, machine, name):

@@ -8,11 +8,13 @@ from functools import partial
 
 import plain_ranges
 from plain_entries import Reader, Refused, Unit, kept_offsets, read_table, read_units, sleb, uleb
-from plain_entries import AT_FRAME_BASE, AT_HIGH_PC, AT_LOW_PC, AT_RANGES, AT_STMT_LIST, DROPPED_NAMES, TAG_COMPILE_UNIT
-from plain_expressions import Machine, built, compiled, places_of
-from plain_locations import is_location, locations_of
+from plain_entries import AT_FRAME_BASE, AT_HIGH_PC, AT_LOW_PC, AT_RANGES, AT_STMT_LIST, DROPPED_NAMES, TAG_COMPILE_UNIT, TAG_SUBPROGRAM
+from plain_expressions import Machine, built, compiled, place_at
+from plain_locations import CONTEXT, is_location, locations_of
 from plain_own_units import own_unit
-from plain_trees import Carried, entries_in_force, tree_of, write_tree
+from plain_spelling import write_units
+from plain_trees import Carried, entries_in_force, tree_of
+from plain_wrappers import KINDS
 
 DROPPED = (0, 0xFFFFFFFF)
 NOT_PLACED = (AT_LOW_PC, AT_HIGH_PC, AT_RANGES, AT_FRAME_BASE, AT_STMT_LIST, *DROPPED_NAMES)  # no expression of these names is built
@@ -436,16 +438,16 @@ def printed_text(map_bytes, modules):
     """The text that a run on a map and modules prints."""
     files = [read_wasm(data) for data in modules]
     told, maps = read_map(map_bytes, [code for code, _ in files])
-    target, (set_name, _) = told["target"], told["names"]
-    writer, units = Writer(target), []
+    target, (set_name, resolve_name) = told["target"], told["names"]
+    writer, units, is_big = Writer(target), [], target.get("big_endian", False)
     for (_, sections), (functions, machine) in zip(files, maps):
-        units.append((own_unit(len(units), set_name, machine.memory), None))
+        units.append((own_unit(machine.module, set_name, machine.memory), None))
         carried = list(carried_units(sections, machine))
-        places = {e.offset: (len(units) + i, j) for i, unit in enumerate(carried) for j, e in enumerate(unit.entries)}
+        emitted = {entry.offset for unit in carried for entry in unit.entries}
         for unit in carried:
-            units.append((tree_of(unit, places, target.get("big_endian", False)), len(writer.line.body)))
+            units.append((tree_of(unit, emitted, is_big, resolve_name), len(writer.line.body)))
             write_lines(writer, unit.table, functions)
-    write_tree(writer, units)
+    write_units(writer, units)
     return writer.printed()
 
 
@@ -530,8 +532,13 @@ def check_scope(function, intervals, at, native):
 
 
 def uses_of(carried):
-    """The expressions that are built over intervals: those of the attributes of an entry, and those of its location lists."""
+    """The expressions that are built over intervals: those of the attributes of an entry that is not wrapped, those of its location lists,
+    and where the context is."""
     for entry, given in entries_in_force(carried):
+        if entry.tag == TAG_SUBPROGRAM and given.scope:
+            yield CONTEXT, given.scope, given.frame
+        if entry.tag in KINDS:
+            continue
         values = [value for name, value in entry.attributes if is_location(value) and (value[0] != "expression" or name not in NOT_PLACED)]
         for value in values:
             if value[0] == "expression":
@@ -551,16 +558,15 @@ def check_locations(map_bytes, modules):
             labels = [] if expression.code is not None else expression.needed_labels
             for function in functions:
                 native = [(start, end) for owner, start, end, _ in ranges if owner is function]
-                columns = [places_of(function, label) if function is frame else [None] * function.length for label in labels]
-                check_location(function, scope, at, native, columns)
+                check_location(function, scope, at, native, labels, function is frame)
 
 
-def check_location(function, scope, at, native, columns):
+def check_location(function, scope, at, native, labels, is_frame):
     if len({n for n, _ in function.sources}) < len(function.sources):
         return
     for byte in bytes_of(function):
         covered, source = any(start <= byte < end for start, end in native), source_of(function, byte)
-        is_placed = all(column[byte] is not None for column in columns)
+        is_placed = all(is_frame and place_at(function, label, byte) is not None for label in labels)
         assert is_placed or not covered
         if source is not None:
             assert not covered or any(begin <= source <= end for begin, end in scope)

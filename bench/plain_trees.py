@@ -1,14 +1,16 @@
-"""What the kept entries of a unit become, and how the units of an output are spelled. (DWARF 4, section 7.5.)"""
+"""What the kept entries of a unit become. (DWARF 4 and 5, chapters 2 and 5; this project's own rules.)"""
 
 from dataclasses import dataclass
 
-from plain_entries import AT_CALL_FILE, AT_DECL_FILE, AT_ENDIANITY, AT_HIGH_PC, AT_LOW_PC, AT_RANGES, AT_STMT_LIST
-from plain_entries import DROPPED_NAMES, TAG_BASE_TYPE, address_of, is_range_list, sleb, target_of, text_of, uleb
+from plain_entries import AT_CALL_FILE, AT_DECL_FILE, AT_ENDIANITY, AT_HIGH_PC, AT_LOCATION, AT_LOW_PC, AT_NAME, AT_RANGES, AT_STMT_LIST, AT_TYPE
+from plain_entries import DROPPED_NAMES, TAG_BASE_TYPE, TAG_SUBPROGRAM, TAG_VARIABLE, address_of, is_range_list, target_of, text_of
 from plain_expressions import Machine
-from plain_locations import InForce, in_force, is_location, location_made
+from plain_locations import InForce, context_locations, in_force, is_location, location_made, read_location
+from plain_made import DATA1, UDATA, Made, constant, in_section, text
+from plain_own_units import CONTEXT_POINTER
+from plain_pointers import names_pointer, object_pointers, unlike_this
 from plain_ranges import intervals_of, range_attributes, translated_address, translated_intervals
-
-FIXED = {0x0B: 1, 0x05: 2, 0x06: 4, 0x07: 8}
+from plain_wrappers import KINDS, wrapper
 
 
 @dataclass
@@ -32,8 +34,9 @@ def file_number(unit, table, number):
     return number + (version == 5) if inside else None
 
 
-def value_made(carried, entry, given, places, name, value):
-    """What a value becomes: a kind, and what is of that kind; None where it goes."""
+def value_made(carried, entry, given, emitted, name, value):
+    """What a value becomes: a kind, and what is of that kind; None where it goes. `emitted` are the offsets of the entries of the module
+    that are in the output."""
     kind, sections, unit, table, function_at = value[0], carried.sections, carried.unit, carried.table, carried.machine.function_at
     if name in DROPPED_NAMES:
         return None
@@ -45,14 +48,15 @@ def value_made(carried, entry, given, places, name, value):
         return None
     if kind == "constant" and name in (AT_DECL_FILE, AT_CALL_FILE):
         number = file_number(unit, table, value[2])
-        return None if number is None else ("constant", 0x0F, number)
+        return None if number is None else constant(UDATA, number)
     if kind == "constant":
-        return ("constant", 0x0D if value[1] == 0x21 else value[1], value[2])
+        return constant(0x0D if value[1] == 0x21 else value[1], value[2])
     if kind in ("flag", "block"):
         return value
     if kind in ("unit", "info"):
-        place = places.get(target_of(unit, value))
-        return None if place is None else (kind, place)
+        target = target_of(unit, value)
+        goes = target not in emitted or names_pointer(unit, entry, name, value)
+        return None if goes else (kind, (carried.machine.module, target))
     if kind in ("address", "address index"):
         return translated_address(address_of(sections, unit, value), function_at)
     if is_range_list(value):
@@ -69,112 +73,57 @@ def entries_in_force(carried):
         yield entry, above[entry.depth]
 
 
-def tree_of(carried, places, is_big):
-    """The entries of the output: depth, tag, and attributes by name."""
-    tree = []
+def entry_made(carried, entry, given, emitted, is_big):
+    """What an entry becomes that is not wrapped."""
+    attributes = range_attributes(carried.sections, carried.unit, entry, carried.machine.function_at)
+    for name, value in entry.attributes:
+        made = value_made(carried, entry, given, emitted, name, value)
+        if made is not None:
+            attributes[name] = made
+    if is_big and entry.tag == TAG_BASE_TYPE:
+        attributes[AT_ENDIANITY] = constant(DATA1, 2)
+    return Made(entry.depth, entry.tag, attributes, (carried.machine.module, entry.offset))
+
+
+def context_variable(carried, entry, given):
+    """What a subprogram gets before its children: where the context is over the scope, if one is in force."""
+    if entry.tag != TAG_SUBPROGRAM or given.scope is None:
+        return []
+    to_context = in_section((carried.machine.module, CONTEXT_POINTER))
+    lies = ("locations", context_locations(given, carried.machine))
+    return [Made(entry.depth + 1, TAG_VARIABLE, {AT_NAME: text("__vmctx"), AT_TYPE: to_context, AT_LOCATION: lies})]
+
+
+def read_alone(carried, entry, given, emitted):
+    """Reads the attributes of a wrapped entry, of which nothing is built."""
+    range_attributes(carried.sections, carried.unit, entry, carried.machine.function_at)
+    for name, value in entry.attributes:
+        if is_location(value) and name not in DROPPED_NAMES and name != AT_STMT_LIST:
+            read_location(carried.sections, carried.unit, entry, given, name, value)
+        else:
+            value_made(carried, entry, given, emitted, name, value)
+
+
+def tree_of(carried, emitted, is_big, resolve_name):
+    """The entries of the output, in order."""
+    tree, behind, pointers = [], [], object_pointers(carried)
     for entry, given in entries_in_force(carried):
-        attributes = range_attributes(carried.sections, carried.unit, entry, carried.machine.function_at)
-        for name, value in entry.attributes:
-            made = value_made(carried, entry, given, places, name, value)
-            if made is not None:
-                attributes[name] = made
-        if is_big and entry.tag == TAG_BASE_TYPE:
-            attributes[AT_ENDIANITY] = ("constant", 0x0B, 2)
-        tree.append((entry.depth, entry.tag, attributes))
+        close(tree, behind, entry.depth)
+        if entry.tag in KINDS:
+            read_alone(carried, entry, given, emitted)
+            made, others = wrapper(carried, entry, resolve_name)
+            tree += made
+            behind.append((entry.depth, others))
+        else:
+            made = entry_made(carried, entry, given, emitted, is_big)
+            if entry.offset in pointers:
+                made.attributes = unlike_this(made.attributes)
+            tree += [made, *context_variable(carried, entry, given)]
+    close(tree, behind, 0)
     return tree
 
 
-# ---- spelling
-
-
-def form_of(value):
-    forms = {"address": 0x01, "flag": 0x0C, "block": 0x09, "text": 0x0E, "unit": 0x13, "info": 0x10}
-    forms |= {"lines": 0x17, "ranges": 0x17, "locations": 0x17, "expression": 0x18}
-    return value[1] if value[0] == "constant" else forms[value[0]]
-
-
-def number_bytes(writer, form, bits):
-    if form in FIXED:
-        return writer.number(bits, FIXED[form])
-    return uleb(bits) if form == 0x0F else sleb(bits - (1 << 64) if bits >= 1 << 63 else bits)
-
-
-def size_of(writer, value):
-    kind = value[0]
-    if kind == "constant":
-        return len(number_bytes(writer, value[1], value[2]))
-    if kind in ("block", "expression"):
-        return len(uleb(len(value[1]))) + len(value[1])
-    return {"address": writer.size, "flag": 1}.get(kind, 4)
-
-
-def shapes_of(tree):
-    """For each entry its tag, whether it has children, and its names and forms."""
-    below = [depth for depth, _, _ in tree[1:]] + [0]
-    return [(tag, depth < next_depth, tuple((n, form_of(v)) for n, v in attributes.items())) for (depth, tag, attributes), next_depth in zip(tree, below)]
-
-
-def places_in(writer, tree, start):
-    """Where each entry stands, and where the unit ends."""
-    shapes = shapes_of(tree)
-    codes = {shape: i + 1 for i, shape in enumerate(dict.fromkeys(shapes))}
-    at, places = start + 11, []
-    for i, ((_, _, attributes), shape) in enumerate(zip(tree, shapes)):
-        places.append(at)
-        at += len(uleb(codes[shape])) + sum(size_of(writer, v) for v in attributes.values()) + ends_behind(tree, i)
-    return codes, shapes, places, at
-
-
-def ends_behind(tree, i):
-    """How many lists of children end behind an entry: those that the next entry does not stand in."""
-    following = tree[i + 1][0] if i + 1 < len(tree) else 0
-    return max(0, tree[i][0] - following)
-
-
-def write_tree(writer, units):
-    """The units of an output, one behind another: the tree of each, and where its line table stands."""
-    laid, at = [], 0
-    for tree, _ in units:
-        laid.append((at, *places_in(writer, tree, at)))
-        at = laid[-1][-1]
-    for (tree, lines_at), (start, codes, shapes, places, end) in zip(units, laid):
-        table_at = len(writer.abbrev.body)
-        for (tag, children, forms), code in codes.items():
-            writer.abbrev.body += uleb(code) + uleb(tag) + bytes([children])
-            writer.abbrev.body += b"".join(uleb(name) + uleb(form) for name, form in forms) + b"\0\0"
-        writer.abbrev.body.append(0)
-        writer.info.body += writer.number(end - start - 4, 4) + writer.number(4, 2)
-        writer.offset(writer.info, writer.abbrev, table_at)
-        writer.info.body.append(writer.size)
-        for i, ((_, _, attributes), shape) in enumerate(zip(tree, shapes)):
-            writer.info.body += uleb(codes[shape])
-            for value in attributes.values():
-                write_value(writer, value, start, lines_at, laid)
-            writer.info.body += bytes(ends_behind(tree, i))
-
-
-def write_value(writer, value, start, lines_at, laid):
-    kind, info = value[0], writer.info
-    if kind == "constant":
-        info.body += number_bytes(writer, value[1], value[2])
-    elif kind == "flag":
-        info.body.append(value[1])
-    elif kind in ("block", "expression"):
-        info.body += uleb(len(value[1])) + value[1]
-    elif kind == "address":
-        writer.address(info, *value[1:])
-    elif kind == "ranges":
-        writer.range_list(info, value[1])
-    elif kind == "locations":
-        writer.location_list(info, value[1])
-    elif kind == "text":
-        writer.text(info, value[1])
-    elif kind == "lines":
-        writer.offset(info, writer.line, lines_at)
-    else:
-        unit, entry = value[1]
-        place = laid[unit][3][entry]
-        if kind == "unit":
-            info.body += writer.number(place - start, 4)
-        else:
-            writer.offset(info, info, place)
+def close(tree, behind, depth):
+    """What stands behind the wrappers that end before an entry at a depth."""
+    while behind and behind[-1][0] >= depth:
+        tree += behind.pop()[1]

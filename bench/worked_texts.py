@@ -90,151 +90,225 @@ BIG_MEMORY_ENTRIES = "00000057" "0004" "00000000" "04" "0100000000" "0000001c" "
 BIG_MEMORY_ENTRIES += "050000003e" "0000001d" "50" "0600000045" "0000004d" "070000004a" "01" "0000" "0300000051" "00000026" "0800000064" "0407" "00"
 BIG_MEMORY_TEXT = MEMORY_TEXT.replace(MEMORY_ENTRIES, BIG_MEMORY_ENTRIES)
 
-# ---- in front of carried units
+# ---- in front of carried units, whose subprograms say where the context is
 
+CONTEXT_TEXT = b"__vmctx\0".hex()
+NOWHERE = f"""section .debug_loc 16
+{"00" * 16}
+"""
 SMALL_LINES = """section .debug_line 61
 3900000004001b000000010101fb0e0d00010101010000000100000100612e63000000000000090200000000000000000301010301020f01020f000101
 reloc 40 8 func 0 0
 """
 
 # The small module: a root and a subprogram.
-SMALL_TEXT = f"""section .debug_abbrev 85
-{OWN_ABBREVIATIONS}01110110170000022e001101120f000000
-section .debug_info 104
-{OWN_ENTRIES}170000000400440000000801000000000200000000000000001e00
+SMALL_TEXT = f"""section .debug_abbrev 96
+{OWN_ABBREVIATIONS}01110110170000022e011101120f0000033400030e49100217000000
+section .debug_info 118
+{OWN_ENTRIES}250000000400440000000801000000000200000000000000001e036c0000003c000000000000000000
 {OWN_RELOCATIONS}reloc 83 4 section .debug_abbrev 68
 reloc 89 4 section .debug_line 0
 reloc 94 8 func 0 0
-{SMALL_LINES}section .debug_str 108
-{OWN_TEXTS}
+reloc 104 4 section .debug_str 108
+reloc 108 4 section .debug_info 60
+reloc 112 4 section .debug_loc 0
+{SMALL_LINES}{NOWHERE}section .debug_str 116
+{OWN_TEXTS}{CONTEXT_TEXT}
 """
 
 # A module of two of these, of which the second is for function 1.
-TWO_TEXT = f"""section .debug_abbrev 170
-{OWN_ABBREVIATIONS}01110110170000022e001101120f000000{OWN_ABBREVIATIONS}01110110170000022e001101120f000000
-section .debug_info 208
-{OWN_ENTRIES}170000000400440000000801000000000200000000000000001e00{OWN_ENTRIES.replace("040000000000", "040055000000")}1700000004009900000008013d0000000200000000000000001e00
+TWO_TEXT = f"""section .debug_abbrev 192
+{SMALL_TEXT.splitlines()[1] * 2}
+section .debug_info 236
+{OWN_ENTRIES}250000000400440000000801000000000200000000000000001e036c0000003c000000000000000000{OWN_ENTRIES.replace("040000000000", "040060000000")}250000000400a400000008013d0000000200000000000000001e036c000000b2000000100000000000
 {OWN_RELOCATIONS}reloc 83 4 section .debug_abbrev 68
 reloc 89 4 section .debug_line 0
 reloc 94 8 func 0 0
-reloc 110 4 section .debug_abbrev 85
-reloc 116 4 section .debug_str 0
-reloc 120 4 section .debug_str 28
-reloc 127 4 section .debug_str 37
-reloc 134 4 section .debug_str 40
-reloc 143 4 section .debug_str 44
-reloc 148 4 section .debug_str 62
-reloc 152 4 section .debug_str 70
-reloc 165 4 section .debug_str 74
-reloc 174 4 section .debug_str 93
-reloc 187 4 section .debug_abbrev 153
-reloc 193 4 section .debug_line 61
-reloc 198 8 func 1 0
+reloc 104 4 section .debug_str 108
+reloc 108 4 section .debug_info 60
+reloc 112 4 section .debug_loc 0
+reloc 124 4 section .debug_abbrev 96
+reloc 130 4 section .debug_str 0
+reloc 134 4 section .debug_str 28
+reloc 141 4 section .debug_str 37
+reloc 148 4 section .debug_str 40
+reloc 157 4 section .debug_str 44
+reloc 162 4 section .debug_str 62
+reloc 166 4 section .debug_str 70
+reloc 179 4 section .debug_str 74
+reloc 188 4 section .debug_str 93
+reloc 201 4 section .debug_abbrev 164
+reloc 207 4 section .debug_line 61
+reloc 212 8 func 1 0
+reloc 222 4 section .debug_str 108
+reloc 226 4 section .debug_info 178
+reloc 230 4 section .debug_loc 16
 section .debug_line 122
 {SMALL_LINES.splitlines()[1] * 2}
 reloc 40 8 func 0 0
 reloc 101 8 func 1 0
-section .debug_str 108
-{OWN_TEXTS}
+section .debug_loc 32
+{"00" * 32}
+section .debug_str 116
+{OWN_TEXTS}{CONTEXT_TEXT}
 """
 
 # A subprogram `f` of a type `int`.
-NAMED_TEXT = f"""section .debug_abbrev 96
-{OWN_ABBREVIATIONS}01110110170000022e001101120f030e49130000032400030e000000
-section .debug_info 117
-{OWN_ENTRIES}240000000400440000000801000000000200000000000000001e6c00000022000000036e00000000
+NAMED_TEXT = f"""section .debug_abbrev 107
+{OWN_ABBREVIATIONS}01110110170000022e011101120f030e49130000033400030e491002170000042400030e000000
+section .debug_info 131
+{OWN_ENTRIES}320000000400440000000801000000000200000000000000001e6c00000030000000036e0000003c0000000000000000047600000000
 {OWN_RELOCATIONS}reloc 83 4 section .debug_abbrev 68
 reloc 89 4 section .debug_line 0
 reloc 94 8 func 0 0
 reloc 103 4 section .debug_str 108
 reloc 112 4 section .debug_str 110
-{SMALL_LINES}section .debug_str 114
-{OWN_TEXTS}6600696e7400
+reloc 116 4 section .debug_info 60
+reloc 120 4 section .debug_loc 0
+reloc 126 4 section .debug_str 118
+{SMALL_LINES}{NOWHERE}section .debug_str 122
+{OWN_TEXTS}6600{CONTEXT_TEXT}696e7400
 """
 
 # The same where no entry begins at the place of the type.
-UNTYPED_TEXT = f"""section .debug_abbrev 87
-{OWN_ABBREVIATIONS}01110110170000022e001101120f030e000000
-section .debug_info 108
-{OWN_ENTRIES}1b0000000400440000000801000000000200000000000000001e6c00000000
+UNTYPED_TEXT = f"""section .debug_abbrev 98
+{OWN_ABBREVIATIONS}01110110170000022e011101120f030e0000033400030e49100217000000
+section .debug_info 122
+{OWN_ENTRIES}290000000400440000000801000000000200000000000000001e6c000000036e0000003c000000000000000000
 {OWN_RELOCATIONS}reloc 83 4 section .debug_abbrev 68
 reloc 89 4 section .debug_line 0
 reloc 94 8 func 0 0
 reloc 103 4 section .debug_str 108
-{SMALL_LINES}section .debug_str 110
-{OWN_TEXTS}6600
+reloc 108 4 section .debug_str 110
+reloc 112 4 section .debug_info 60
+reloc 116 4 section .debug_loc 0
+{SMALL_LINES}{NOWHERE}section .debug_str 118
+{OWN_TEXTS}6600{CONTEXT_TEXT}
+"""
+
+# A subprogram of a type that it names by its place in the section, which is another in the output.
+PLACED_TEXT = f"""section .debug_abbrev 105
+{OWN_ABBREVIATIONS}01110110170000022e011101120f49100000033400030e491002170000042400030e000000
+section .debug_info 127
+{OWN_ENTRIES}2e0000000400440000000801000000000200000000000000001e79000000036c0000003c0000000000000000047400000000
+{OWN_RELOCATIONS}reloc 83 4 section .debug_abbrev 68
+reloc 89 4 section .debug_line 0
+reloc 94 8 func 0 0
+reloc 103 4 section .debug_info 121
+reloc 108 4 section .debug_str 108
+reloc 112 4 section .debug_info 60
+reloc 116 4 section .debug_loc 0
+reloc 122 4 section .debug_str 116
+{SMALL_LINES}{NOWHERE}section .debug_str 118
+{OWN_TEXTS}{CONTEXT_TEXT}6200
 """
 
 # A block of code in the middle of the subprogram's.
-BOUNDS_TEXT = f"""section .debug_abbrev 94
-{OWN_ABBREVIATIONS}01110110170000022e011101120f0000030b001101120f000000
-section .debug_info 115
-{OWN_ENTRIES}220000000400440000000801000000000200000000000000001e030500000000000000120000
+BOUNDS_TEXT = f"""section .debug_abbrev 105
+{OWN_ABBREVIATIONS}01110110170000022e011101120f0000033400030e491002170000040b001101120f000000
+section .debug_info 128
+{OWN_ENTRIES}2f0000000400440000000801000000000200000000000000001e036c0000003c00000000000000040500000000000000120000
 {OWN_RELOCATIONS}reloc 83 4 section .debug_abbrev 68
 reloc 89 4 section .debug_line 0
 reloc 94 8 func 0 0
-reloc 104 8 func 0 5
-{SMALL_LINES}section .debug_str 108
-{OWN_TEXTS}
+reloc 104 4 section .debug_str 108
+reloc 108 4 section .debug_info 60
+reloc 112 4 section .debug_loc 0
+reloc 117 8 func 0 5
+{SMALL_LINES}{NOWHERE}section .debug_str 116
+{OWN_TEXTS}{CONTEXT_TEXT}
 """
 
 # A block of two pieces of code.
-LIST_TEXT = f"""section .debug_abbrev 92
-{OWN_ABBREVIATIONS}01110110170000022e011101120f0000030b005517000000
-section .debug_info 110
-{OWN_ENTRIES}1d0000000400440000000801000000000200000000000000001e03000000000000
+LIST_TEXT = f"""section .debug_abbrev 103
+{OWN_ABBREVIATIONS}01110110170000022e011101120f0000033400030e491002170000040b005517000000
+section .debug_info 123
+{OWN_ENTRIES}2a0000000400440000000801000000000200000000000000001e036c0000003c0000000000000004000000000000
 {OWN_RELOCATIONS}reloc 83 4 section .debug_abbrev 68
 reloc 89 4 section .debug_line 0
 reloc 94 8 func 0 0
-reloc 104 4 section .debug_ranges 0
+reloc 104 4 section .debug_str 108
+reloc 108 4 section .debug_info 60
+reloc 112 4 section .debug_loc 0
+reloc 117 4 section .debug_ranges 0
 {SMALL_LINES}section .debug_ranges 48
 05000000000000000f000000000000000f000000000000001e0000000000000000000000000000000000000000000000
 reloc 0 8 func 0 5
 reloc 8 8 func 0 15
 reloc 16 8 func 0 15
 reloc 24 8 func 0 30
-section .debug_str 108
-{OWN_TEXTS}
+{NOWHERE}section .debug_str 116
+{OWN_TEXTS}{CONTEXT_TEXT}
 """
 
-# A variable on a frame base, over a part of its scope and over all of it.
-PART_TEXT = f"""section .debug_abbrev 107
-{MEMORY_ABBREVIATIONS}01110110170000022e011101120f401800000334000217000000
-section .debug_info 126
-{MEMORY_ENTRIES}1f0000000400510000000801000000000200000000000000001e019c03000000000000
-{MEMORY_RELOCATIONS}reloc 97 4 section .debug_abbrev 81
-reloc 103 4 section .debug_line 0
-reloc 108 8 func 0 0
-reloc 120 4 section .debug_loc 0
-{SMALL_LINES}section .debug_loc 50
-0000000000000000140000000000000010007c0023127ed00006160cffffffff1a2200000000000000000000000000000000
-reloc 0 8 func 0 0
-reloc 8 8 func 0 20
-section .debug_str 115
-{MEMORY_TEXTS}
-"""
-
-WHOLE_TEXT = f"""section .debug_abbrev 107
-{MEMORY_ABBREVIATIONS}01110110170000022e011101120f401800000334000218000000
+# A variable on a frame base, over a part of its scope and over all of it; the context is in a register.
+PART_TEXT = f"""section .debug_abbrev 118
+{MEMORY_ABBREVIATIONS}01110110170000022e011101120f40180000033400030e4910021700000434000217000000
 section .debug_info 139
-{MEMORY_ENTRIES}2c0000000400510000000801000000000200000000000000001e019c03107c0023127ed00006160cffffffff1a220000
+{MEMORY_ENTRIES}2c0000000400510000000801000000000200000000000000001e019c03730000004a0000000000000004230000000000
 {MEMORY_RELOCATIONS}reloc 97 4 section .debug_abbrev 81
 reloc 103 4 section .debug_line 0
 reloc 108 8 func 0 0
-{SMALL_LINES}section .debug_str 115
-{MEMORY_TEXTS}
+reloc 120 4 section .debug_str 115
+reloc 124 4 section .debug_info 74
+reloc 128 4 section .debug_loc 0
+reloc 133 4 section .debug_loc 35
+{SMALL_LINES}section .debug_loc 85
+00000000000000001e0000000000000001005e000000000000000000000000000000000000000000000000140000000000000010007c0023127ed00006160cffffffff1a2200000000000000000000000000000000
+reloc 0 8 func 0 0
+reloc 8 8 func 0 30
+reloc 35 8 func 0 0
+reloc 43 8 func 0 20
+section .debug_str 123
+{MEMORY_TEXTS}{CONTEXT_TEXT}
 """
 
-# A subprogram of a type that it names by its place in the section, which is another in the output.
-PLACED_TEXT = f"""section .debug_abbrev 94
-{OWN_ABBREVIATIONS}01110110170000022e001101120f49100000032400030e000000
-section .debug_info 113
-{OWN_ENTRIES}200000000400440000000801000000000200000000000000001e6b000000036c00000000
+WHOLE_TEXT = f"""section .debug_abbrev 118
+{MEMORY_ABBREVIATIONS}01110110170000022e011101120f40180000033400030e4910021700000434000218000000
+section .debug_info 152
+{MEMORY_ENTRIES}390000000400510000000801000000000200000000000000001e019c03730000004a0000000000000004107c0023127ed00006160cffffffff1a220000
+{MEMORY_RELOCATIONS}reloc 97 4 section .debug_abbrev 81
+reloc 103 4 section .debug_line 0
+reloc 108 8 func 0 0
+reloc 120 4 section .debug_str 115
+reloc 124 4 section .debug_info 74
+reloc 128 4 section .debug_loc 0
+{SMALL_LINES}section .debug_loc 35
+00000000000000001e0000000000000001005e00000000000000000000000000000000
+reloc 0 8 func 0 0
+reloc 8 8 func 0 30
+section .debug_str 123
+{MEMORY_TEXTS}{CONTEXT_TEXT}
+"""
+
+# A subprogram whose type is a pointer to itself, which becomes a wrapper.
+WRAPPER_TEXTS = b"WebAssemblyPtrWrapper<??>\0T\0__ptr\0resolve_mem\0ptr\0operator*\0operator->\0".hex()
+WRAPPER_ABBREVIATIONS = "01110110170000" "022e011101120f49130000" "033400030e491002170000" "041301030e0b0b0000" "052f00030e49130000" "060d00030e4910380b0000"
+WRAPPER_ABBREVIATIONS += "072e016e0e030e49130000" "0805004913340c0000" "090f0049130000" "0a100049130000" "00"
+WRAPPER_ENTRIES = "8e000000" "0400" "44000000" "08" "0100000000" "020000000000000000" "1e" "2c000000" "036c000000" "3c000000" "00000000" "00"
+WRAPPER_ENTRIES += "0474000000" "04" "058e000000" "2c000000" "0690000000" "45000000" "00"
+WRAPPER_ENTRIES += "0796000000" "a2000000" "8c000000" "0882000000" "01" "00" "0796000000" "a6000000" "87000000" "0882000000" "01" "00"
+WRAPPER_ENTRIES += "0796000000" "b0000000" "8c000000" "0882000000" "01" "00" "00" "092c000000" "0a2c000000" "092c000000" "00"
+WRAPPER_TEXT = f"""section .debug_abbrev 161
+{OWN_ABBREVIATIONS}{WRAPPER_ABBREVIATIONS}
+section .debug_info 223
+{OWN_ENTRIES}{WRAPPER_ENTRIES}
 {OWN_RELOCATIONS}reloc 83 4 section .debug_abbrev 68
 reloc 89 4 section .debug_line 0
 reloc 94 8 func 0 0
-reloc 103 4 section .debug_info 107
 reloc 108 4 section .debug_str 108
-{SMALL_LINES}section .debug_str 110
-{OWN_TEXTS}6200
+reloc 112 4 section .debug_info 60
+reloc 116 4 section .debug_loc 0
+reloc 122 4 section .debug_str 116
+reloc 128 4 section .debug_str 142
+reloc 137 4 section .debug_str 144
+reloc 141 4 section .debug_info 69
+reloc 147 4 section .debug_str 150
+reloc 151 4 section .debug_str 162
+reloc 167 4 section .debug_str 150
+reloc 171 4 section .debug_str 166
+reloc 187 4 section .debug_str 150
+reloc 191 4 section .debug_str 176
+{SMALL_LINES}{NOWHERE}section .debug_str 187
+{OWN_TEXTS}{CONTEXT_TEXT}{WRAPPER_TEXTS}
 """
