@@ -9,7 +9,7 @@ use Rattle.dwc_base.proofs.DraftsOnLiterals.{drafts_on_literals}
 use Rattle.dwc_base.proofs.Readings.{three_sections, sections_small, header_small}
 use Rattle.dwc_base.proofs.Numbers.{at_place}
 use Rattle.dwc_base.proofs.OwnTrees.{own_abbreviations, own_content, own_info, own_texts, empty_list, to_section, own_relocations}
-use Rattle.dwc_base.proofs.SmallModule.{told_small}
+use Rattle.dwc_base.proofs.SmallModule.{file_small_told, told_small}
 use Rattle.dwc_base.proofs.LineTables.{line_in, function_small, segments_small, at_line, line_of_a_c}
 use Rattle.dwc_base.specs.declared.records.Endian.TheVariants.{Little}
 use Rattle.dwc_base.specs.declared.records.Address.TheVariants.{Constant, Symbol}
@@ -21,6 +21,7 @@ use Rattle.dwc_base.specs.LineRows.{Segment, row_in_force}
 use Rattle.dwc_base.specs.Images.{row_for_byte, IsImage}
 use Rattle.dwc_base.specs.Outputs.{OutputSection, function, output_sections}
 use Rattle.dwc_base.specs.Carried.{Unit, units, Module, Compilation, CarriedUnit}
+use Rattle.dwc_base.specs.ToldFiles.{bare_file}
 use Rattle.dwc_base.specs.Forests.{carried_units}
 use Rattle.dwc_base.specs.LinesCarried.{AreImages, LinesCarried}
 use Rattle.dwc_base.specs.Compiled.{nothing_told}
@@ -57,10 +58,10 @@ output_small =
     ∷ record { name = codes ".debug_str"; body = own_texts ++ codes "__vmctx" ++ 0x00 ∷ []; relocations = [] } ∷ []
 
 abbrev pub module_small : Module
-module_small = record { sections = sections_small; functions = function_small ∷ []; told = told_small; compressed = None }
+module_small = record { sections = sections_small; functions = function_small ∷ []; told = told_small; file = file_small_told; compressed = None }
 
 abbrev pub compilation_small : Compilation
-compilation_small = record { order = Little; pointer_bytes = 8; modules = module_small ∷ [] }
+compilation_small = record { order = Little; pointer_bytes = 8; modules = module_small ∷ []; next_id = 0 }
 
 abbrev pub unit_small : Unit
 unit_small = record { header = header_small; entries = record { offset = 11; depth = 0; tag = 0x11; attributes = (0x10, line_reference 0) ∷ [] } ∷ record { offset = 16; depth = 1; tag = 0x2E; attributes = (0x11, address (Constant 2)) ∷ (0x12, constant 0x06 11) ∷ [] } ∷ [] }
@@ -173,7 +174,7 @@ not_image-small h = let same : 4 ≡ 3 = ap line_in (h.agrees 15 (lit< tt)) in o
 
 -- A module in the 64-bit format has no units, but its lines are not carried by an output without sections.
 abbrev pub compilation_64 : Compilation
-compilation_64 = record { order = Little; pointer_bytes = 8; modules = record { sections = three_sections [] (0xFF ∷ 0xFF ∷ 0xFF ∷ 0xFF ∷ []) []; functions = function_small ∷ []; told = nothing_told; compressed = None } ∷ [] }
+compilation_64 = record { order = Little; pointer_bytes = 8; modules = record { sections = three_sections [] (0xFF ∷ 0xFF ∷ 0xFF ∷ 0xFF ∷ []) []; functions = function_small ∷ []; told = nothing_told; file = bare_file 20; compressed = None } ∷ []; next_id = 0 }
 
 units-64 : carried_units compilation_64 ≡ []
 unfolding drafts_on_literals

@@ -10,12 +10,13 @@ use Rattle.dwc_base.specs.declared.faults.Kind.TheVariants.{Compressed}
 use Rattle.dwc_base.specs.declared.section_name.SectionName.TheVariants.{Line, Abbrev, Info, Ranges, Loc}
 use Rattle.dwc_base.specs.Sections.{unreadable, unsupported}
 use Rattle.dwc_base.specs.Carried.{Module}
+use Rattle.dwc_base.specs.ToldFiles.{bare_file}
 use Rattle.dwc_base.specs.Refusals.{Refusal, of_place, missing_file, long_function}
 use Rattle.dwc_base.specs.Forests.{first_refusal}
 use Rattle.dwc_base.specs.Compiled.{nothing_told}
 
 abbrev pub refusal_of : List Module → Option Refusal
-refusal_of ms = first_refusal (record { order = Little; pointer_bytes = 8; modules = ms })
+refusal_of ms = first_refusal (record { order = Little; pointer_bytes = 8; modules = ms; next_id = 0 })
 
 no_refusal : refusal_of (module_with abbreviations_small info_small line_small ∷ []) ≡ None
 unfolding drafts_on_literals
@@ -99,7 +100,7 @@ root_behind_lines = refl
 
 -- A function that is too long comes first, of whichever module.
 unfoldable pub long_module : Module
-long_module = record { sections = (module_with abbreviations_small info_small line_small).sections; functions = a_function 0 (Some 0) 2 13 0x80000000 [] ∷ []; told = nothing_told; compressed = None }
+long_module = record { sections = (module_with abbreviations_small info_small line_small).sections; functions = a_function 0 (Some 0) 2 13 0x80000000 [] ∷ []; told = nothing_told; file = bare_file 20; compressed = None }
 
 function_first : refusal_of (module_with abbreviations_small info_small (0x38 ∷ 0x00 ∷ []) ∷ long_module ∷ []) ≡ Some long_function
 unfolding drafts_on_literals long_module

@@ -10,6 +10,7 @@ use Rattle.dwc_base.specs.Sections.{Sections, Fault, unreadable}
 use Rattle.dwc_base.specs.Values.{constant, expression, range_index}
 use Rattle.dwc_base.specs.Kept.{Placed}
 use Rattle.dwc_base.specs.Carried.{units}
+use Rattle.dwc_base.specs.ToldFiles.{bare_file}
 use Rattle.dwc_base.specs.Trees.{TreeEntry, TreeValue}
 use Rattle.dwc_base.specs.Lists.{list_source, ranges_of_value}
 use Rattle.dwc_base.specs.Forests.{kept_of}
@@ -121,7 +122,7 @@ unfolding ranges_on_literals
 unit-lists = refl
 
 -- the second shows code by its start, and keeps its root
-unit-kept : map (λ p. p.entry.offset) (kept_of (record { sections = bytes_of_unit 1 0; functions = small_functions; told = nothing_told; compressed = None })).kept ≡ 12 ∷ 24 ∷ []
+unit-kept : map (λ p. p.entry.offset) (kept_of (record { sections = bytes_of_unit 1 0; functions = small_functions; told = nothing_told; file = bare_file 0; compressed = None })).kept ≡ 12 ∷ 24 ∷ []
 unfolding ranges_on_literals
 unit-kept = refl
 

@@ -118,7 +118,7 @@ contents_of-shorter id u =
         Holds-bind (λ x. Unit {0}) _ (imports_at count.0 count.1) _ (Holds-any _) (λ found x.
         Holds-bind (λ x. Unit {0}) _ (exactly found) _ (Holds-any _) (λ n x. omega arith)))
 
-    counted_functions : Holds (λ c. length (custom_left c) ≤ length u.left) (field uleb_at u >>= λ count. type_numbers_at count.0 count.1 >>= λ found. exactly found >>= λ n. Ok (functions n))
+    counted_functions : Holds (λ c. length (custom_left c) ≤ length u.left) (field uleb_at u >>= λ count. type_numbers_at count.0 count.1 >>= λ found. exactly found >>= λ n. Ok (functions n u))
     counted_functions =
         Holds-bind (λ x. Unit {0}) _ (field uleb_at u) _ (Holds-any _) (λ count x.
         Holds-bind (λ x. Unit {0}) _ (type_numbers_at count.0 count.1) _ (Holds-any _) (λ found x.

@@ -26,7 +26,7 @@ last_of-option xs None d = ap (λ ys. unwrap_or (last_of ys) d) (append-nil xs)
 last_of-option xs (Some x) d = ap (λ o. unwrap_or o d) (last_of-push xs x)
 
 -- of one thing more, the last that passes is it or the one before
-last_of-more : {A B : Type 0} (f : A → Option B) (xs : List A) (x : A) (d : B) → unwrap_or (last_of (filter_map f (xs ++ x ∷ []))) d ≡ unwrap_or (f x) (unwrap_or (last_of (filter_map f xs)) d)
+pub last_of-more : {A B : Type 0} (f : A → Option B) (xs : List A) (x : A) (d : B) → unwrap_or (last_of (filter_map f (xs ++ x ∷ []))) d ≡ unwrap_or (f x) (unwrap_or (last_of (filter_map f xs)) d)
 last_of-more f xs x d = ap (λ ys. unwrap_or (last_of ys) d) (filter_map-append f xs (x ∷ [])) ∙ last_of-option (filter_map f xs) (f x) d
 
 module _ (done : List WasmSection) (s : WasmSection) where
@@ -35,7 +35,7 @@ module _ (done : List WasmSection) (s : WasmSection) where
   number-more pick = last_of-more (λ x. pick x.contents) done s 0
 
   -- the contents of a custom section, of one section more
-  custom-more : (title : List ℕ) → custom_section title (done ++ s ∷ []) ≡ unwrap_or (contents_named title s.contents) (custom_section title done)
+  pub custom-more : (title : List ℕ) → custom_section title (done ++ s ∷ []) ≡ unwrap_or (contents_named title s.contents) (custom_section title done)
   unfolding custom_section
   custom-more title = last_of-more (λ x. contents_named title x.contents) done s []
 
@@ -65,8 +65,8 @@ held-noted (custom title u) Frame m n h = refl
 held-noted (custom title u) at m n h = h (section_text at) ∙ named_or (bytes_eq title (section_text at)) u.left (held m at)
 held-noted (imports k) Frame m n h = refl
 held-noted (imports k) at m n h = h (section_text at)
-held-noted (functions k) Frame m n h = refl
-held-noted (functions k) at m n h = h (section_text at)
+held-noted (functions k v) Frame m n h = refl
+held-noted (functions k v) at m n h = h (section_text at)
 held-noted (code u) Frame m n h = refl
 held-noted (code u) at m n h = h (section_text at)
 held-noted (other id u) Frame m n h = refl
@@ -82,10 +82,6 @@ IsTranslation-more old new done s n h = record {
   code_section_offset = n.code_section_offset ∙ ap (unwrap_or (code_place s.contents)) h.code_section_offset ∙ sym (number-more done s code_place);
   imported_funcs = n.imported_funcs ∙ ap (unwrap_or (imported_functions s.contents)) h.imported_funcs ∙ sym (number-more done s imported_functions);
   defined_funcs = n.defined_funcs ∙ ap (unwrap_or (defined_functions s.contents)) h.defined_funcs ∙ sym (number-more done s defined_functions);
-  module_name = n.module_name ∙ h.module_name;
-  func_names = ap (λ v. v.items) n.func_names ∙ h.func_names;
-  local_names = ap (λ v. v.items) n.local_names ∙ h.local_names;
-  funcs = ap (λ v. v.items) n.funcs ∙ h.funcs;
   path = n.path ∙ h.path;
 }
 
@@ -111,6 +107,6 @@ noted-inside (custom title u) at before most new old = go (bytes_eq title (secti
     go true = new
     go false = old
 noted-inside (imports n) at before most new old = old
-noted-inside (functions n) at before most new old = old
+noted-inside (functions n v) at before most new old = old
 noted-inside (code u) at before most new old = old
 noted-inside (other id u) at before most new old = old

@@ -5,6 +5,7 @@ use Rattle.dwc_base.specs.declared.records.Endian.TheVariants.{Little}
 use Rattle.dwc_base.specs.declared.section_name.SectionName.TheVariants.{Abbrev, Addr, Info, Line, LineStr, Str, StrOffsets}
 use Rattle.dwc_base.specs.Sections.{Sections}
 use Rattle.dwc_base.specs.Carried.{Compilation}
+use Rattle.dwc_base.specs.ToldFiles.{bare_file}
 use Rattle.dwc_base.specs.Outputs.{OutputRelocation, OutputSection}
 use Rattle.dwc_base.proofs.LineTables.{function_small}
 use Rattle.dwc_base.specs.Trees.{TreeValue, TreeEntry}
@@ -21,7 +22,7 @@ an_input abbreviations info line strings line_strings offsets addresses = record
 
 -- one module with the small module's function, for a target of a byte order
 abbrev pub a_compilation : Endian → Sections → Compilation
-a_compilation order sections = record { order = order; pointer_bytes = 8; modules = record { sections = sections; functions = function_small ∷ []; told = told_small; compressed = None } ∷ [] }
+a_compilation order sections = record { order = order; pointer_bytes = 8; modules = record { sections = sections; functions = function_small ∷ []; told = told_small; file = bare_file 20; compressed = None } ∷ []; next_id = 0 }
 
 abbrev pub an_entry : ℕ → ℕ → List (ℕ × TreeValue) → TreeEntry
 an_entry depth tag attributes = record { depth = depth; tag = tag; attributes = attributes }

@@ -8,6 +8,7 @@ use Rattle.dwc_base.specs.declared.section_name.SectionName.TheVariants.{Info}
 use Rattle.dwc_base.specs.Reading.{coded}
 use Rattle.dwc_base.specs.Sections.{unreadable}
 use Rattle.dwc_base.specs.Carried.{Compilation}
+use Rattle.dwc_base.specs.ToldFiles.{bare_file}
 use Rattle.dwc_base.specs.Runs.{interval_of}
 use Rattle.dwc_base.specs.Trees.{Tree, TreeValue, address, constant, line_table, expression, locations}
 use Rattle.dwc_base.specs.Compiled.{in_register, LabelRange, Memory, no_memory, defined}
@@ -48,8 +49,10 @@ compilation_of info local_3 memory registers = record {
     sections = three_sections abbreviations_variable info line_small;
     functions = function_small ∷ [];
     told = record told_small { values = λ function. labels_of local_3; memory = memory; register = coded registers };
+    file = bare_file 20;
     compressed = None;
   } ∷ [];
+  next_id = 0;
 }
 
 abbrev pub numbered : List (ℕ × ℕ)

@@ -8,12 +8,13 @@ use Rattle.dwc_base.proofs.LineTables.{function_small}
 use Rattle.dwc_base.specs.declared.section_name.SectionName.TheVariants.{Line, Abbrev, Info}
 use Rattle.dwc_base.specs.declared.records.Endian.TheVariants.{Little}
 use Rattle.dwc_base.specs.Carried.{Module}
+use Rattle.dwc_base.specs.ToldFiles.{bare_file}
 use Rattle.dwc_base.specs.Forests.{carried_units_of}
 use Rattle.dwc_base.specs.OutputCarried.{widest}
 use Rattle.dwc_base.specs.Compiled.{nothing_told}
 
 abbrev pub module_with : List ℕ → List ℕ → List ℕ → Module
-module_with a i l = record { sections = three_sections a i l; functions = function_small ∷ []; told = nothing_told; compressed = None }
+module_with a i l = record { sections = three_sections a i l; functions = function_small ∷ []; told = nothing_told; file = bare_file 20; compressed = None }
 
 -- a row names file 9
 abbrev pub line_9 : List ℕ
@@ -43,7 +44,7 @@ abbrev pub info_no_lines : List ℕ
 info_no_lines = 0x12 ∷ 0x00 ∷ 0x00 ∷ 0x00 ∷ 0x04 ∷ 0x00 ∷ 0x00 ∷ 0x00 ∷ 0x00 ∷ 0x00 ∷ 0x04 ∷ 0x01 ∷ 0x02 ∷ 0x02 ∷ 0x00 ∷ 0x00 ∷ 0x00 ∷ 0x0B ∷ 0x00 ∷ 0x00 ∷ 0x00 ∷ 0x00 ∷ []
 
 abbrev pub widths_of_module : Module → List ℕ
-widths_of_module m = map (λ name. widest name (record { order = Little; pointer_bytes = 8; modules = m ∷ [] })) (Abbrev ∷ Info ∷ Line ∷ [])
+widths_of_module m = map (λ name. widest name (record { order = Little; pointer_bytes = 8; modules = m ∷ []; next_id = 0 })) (Abbrev ∷ Info ∷ Line ∷ [])
 
 -- the module's own unit, and the carried one
 widths-no_lines : widths_of_module (module_with abbreviations_no_lines info_no_lines []) ≡ (698 + 233) ∷ (176 + 91) ∷ 0 ∷ []

@@ -6,8 +6,11 @@ use Rattle.dwc_base.specs.declared.wasm.ModuleTranslation.{ModuleTranslation}
 use Rattle.dwc_base.specs.Reading.{Unread}
 use Rattle.dwc_base.specs.Listing.{Listing, at_end, broken, item}
 use Rattle.dwc_base.specs.Wasm.{WasmSection, next_wasm_section, wasm_sections, module_from_sections}
+use Rattle.dwc_base.specs.declared.function_sections.FunctionSections.{FunctionSections}
+use Rattle.dwc_base.specs.FunctionSections.{HoldsLast, NotesContents}
 use Rattle.dwc_base.specs.Translations.{custom_left, IsTranslation, Notes, section_bytes}
 use Rattle.dwc_base.proofs.SectionWalk.{IsInside, next_wasm_section-fewer, next_wasm_section-inside, wasm_sections-end, wasm_sections-item, wasm_sections-broken}
+use Rattle.dwc_base.proofs.HeldSections.{HoldsLast-more}
 use Rattle.dwc_base.proofs.Translated.{IsTranslation-more, held-none, noted-inside}
 
 -- what was met before a place, and what is met from it on
@@ -15,30 +18,33 @@ abbrev pub in_front : List WasmSection → Listing ℕ WasmSection → Listing �
 in_front done rest = record { items = done ++ rest.items; fault = rest.fault }
 
 -- The sections from the start up to a place were met, and a translation took note of them.
-pub record Walked (start now : Unread) (t : ModuleTranslation) : Type 0 where
+pub record Walked (start now : Unread) (t : ModuleTranslation) (f : FunctionSections) : Type 0 where
   pub done : List WasmSection
   pub walked : in_front done (wasm_sections now) ≡ wasm_sections start
   pub noted : IsTranslation t (module_from_sections done)
+  pub held : HoldsLast f done
   pub room : length now.left ≤ length start.left
   pub inside : (name : SectionName) → length (section_bytes t.sections name) ≤ length start.left
 
 -- none was met
-pub Walked-none : (u : Unread) (t : ModuleTranslation) → IsTranslation t (module_from_sections []) → Walked u u t
-Walked-none u t h = record {
+pub Walked-none : (u : Unread) (t : ModuleTranslation) (f : FunctionSections) → IsTranslation t (module_from_sections []) → HoldsLast f [] → Walked u u t f
+Walked-none u t f h held = record {
   done = [];
   walked = refl;
   noted = h;
+  held = held;
   room = omega arith;
   inside = λ name. let empty : section_bytes t.sections name ≡ [] = h.sections name ∙ held-none name in rw empty (omega arith);
 }
 
-module _ (start now : Unread) (t : ModuleTranslation) (w : Walked start now t) where
+module _ (start now : Unread) (t : ModuleTranslation) (f : FunctionSections) (w : Walked start now t f) where
   -- one more was met
-  pub Walked-more : (next : Unread) (new : ModuleTranslation) (s : WasmSection) → next_wasm_section now ≡ item s next → Notes t new s → Walked start next new
-  Walked-more next new s met notes = record {
+  pub Walked-more : (next : Unread) (new : ModuleTranslation) (g : FunctionSections) (s : WasmSection) → next_wasm_section now ≡ item s next → Notes t new s → NotesContents f g s.contents → Walked start next new g
+  Walked-more next new g s met notes told = record {
     done = w.done ++ s ∷ [];
     walked = ap (λ xs. record { items = xs; fault = (wasm_sections next).fault }) (append_assoc w.done (s ∷ []) (wasm_sections next).items) ∙ ap (in_front w.done) (sym (wasm_sections-item now next s met)) ∙ w.walked;
     noted = IsTranslation-more t new w.done s notes w.noted;
+    held = HoldsLast-more f g w.done s told w.held;
     room = omega (arith, w.room, shrinks);
     inside = λ name. rw (notes.sections name) (noted-inside s.contents name (section_bytes t.sections name) (length start.left) (omega (arith, here.inside, w.room)) (w.inside name));
   }

@@ -8,6 +8,7 @@ use Rattle.dwc_base.specs.declared.records.Address.TheVariants.{Constant, Symbol
 use Rattle.dwc_base.specs.LineRows.{Segment, Row, RowContents, row_in_force}
 use Rattle.dwc_base.specs.Images.{row_for_byte, IsImage, IsImageOf, function_of_segment, start_of_segment, is_carried_segment}
 use Rattle.dwc_base.specs.Carried.{CarriedUnit, segments_of_unit}
+use Rattle.dwc_base.specs.ToldFiles.{bare_file}
 use Rattle.dwc_base.specs.LinesCarried.{AreImages}
 use Rattle.dwc_base.specs.Compiled.{nothing_told}
 use Rattle.dwc_base.proofs.OnLiterals.{lines_on_literals}
@@ -112,7 +113,7 @@ below_start = image-by_table 6 (at_line 0 9 ∷ []) (Some 7) (at_line 0 9 ∷ []
 
 -- the small unit with another line table
 abbrev pub with_lines : List ℕ → CarriedUnit
-with_lines lines = record { module_of = record { sections = three_sections abbreviations_small info_small lines; functions = function_small ∷ []; told = nothing_told; compressed = None }; unit = unit_small }
+with_lines lines = record { module_of = record { sections = three_sections abbreviations_small info_small lines; functions = function_small ∷ []; told = nothing_told; file = bare_file 20; compressed = None }; unit = unit_small }
 
 -- the carried segments among known ones, and images of them
 abbrev pub Zipped : List Segment → List Segment → Type 0

@@ -9,6 +9,7 @@ use Rattle.dwc_base.specs.declared.section_name.SectionName.TheVariants.{Info}
 use Rattle.dwc_base.specs.Reading.{coded}
 use Rattle.dwc_base.specs.Sections.{unreadable}
 use Rattle.dwc_base.specs.Carried.{Compilation}
+use Rattle.dwc_base.specs.ToldFiles.{bare_file}
 use Rattle.dwc_base.specs.Compiled.{in_register, LabelRange}
 use Rattle.dwc_base.specs.Outputs.{OutputSection, function, output_sections}
 use Rattle.dwc_base.specs.Parts.{context_label}
@@ -60,8 +61,10 @@ compilation_of context info = record {
     sections = three_sections abbreviations info [];
     functions = function_small ∷ [];
     told = record told_small { values = λ number label. unwrap_or (coded ((context_label, context) ∷ []) label) []; register = coded ((2, 14) ∷ []) };
+    file = bare_file 20;
     compressed = None;
   } ∷ [];
+  next_id = 0;
 }
 
 -- ---- trees

@@ -12,6 +12,7 @@ use Rattle.dwc_base.specs.Entries.{Entry, entries, attribute}
 use Rattle.dwc_base.specs.LineRows.{LineTable, line_table, Segment, segments}
 use Rattle.dwc_base.specs.Functions.{Function}
 use Rattle.dwc_base.specs.Compiled.{ToldModule}
+use Rattle.dwc_base.specs.ToldFiles.{ToldFile}
 use Rattle.dwc_base.specs.Kept.{Placed}
 use Rattle.dwc_base.specs.declared.constants.TheConstants.{DW_AT_stmt_list, DW_TAG_compile_unit}
 
@@ -66,19 +67,21 @@ segments_of (Some t) = segments t
 unfoldable pub segments_of_unit : Sections → Unit → Result (List Segment) Fault
 segments_of_unit s u = table_of_unit s u >>= λ t. Ok (segments_of t)
 
--- a module of an input: its sections, its defined functions, what is told of it beside them, and the place of its first compressed
--- section
+-- a module of an input: its sections, its defined functions, what its code generator and what its file tell of it beside them, and the
+-- place of its first compressed section
 pub record Module : Type 0 where
   pub sections : Sections
   pub functions : List Function
   pub told : ToldModule
+  pub file : ToldFile
   pub compressed : Option ℕ
 
--- an input, and the byte order and address size of the target
+-- an input, the byte order and address size of the target, and the number of the next generated name
 pub record Compilation : Type 0 where
   pub order : Endian
   pub pointer_bytes : ℕ
   pub modules : List Module
+  pub next_id : ℕ
 
 -- the entries of some units, with the offset of their unit
 abbrev pub placed_entries : List Unit → List Placed

@@ -15,9 +15,12 @@ use Rattle.dwc_base.specs.declared.wasm_fields.BrokenField.{BrokenField}
 use Rattle.dwc_base.specs.declared.wasm_walk.Contents.{Contents}
 use Rattle.dwc_base.specs.declared.wasm_walk.Contents.TheVariants.{Custom, Imports, Functions, Code, Other}
 use Rattle.dwc_base.specs.declared.wasm_walk.Section.{Section}
+use Rattle.dwc_base.specs.declared.wasm.WalkedSections.{WalkedSections}
 use Rattle.dwc_base.specs.Reading.{Unread}
 use Rattle.dwc_base.specs.Sections.{Sections, section_text}
 use Rattle.dwc_base.specs.Listing.{Next, at_end, broken, item}
+use Rattle.dwc_base.specs.FunctionSections.{HoldsLast}
+use Rattle.dwc_base.specs.TranslationNames.{TellsNames}
 use Rattle.dwc_base.specs.Wasm as spec
 use Rattle.dwc_base.specs.Wasm.{FileRead, WasmSection, WasmModule, wasm_module, held, contents_named, imported_functions, defined_functions, code_place, is_compressed, preamble, wasm_sections, module_from_sections}
 
@@ -61,7 +64,7 @@ input_sections = Abbrev ∷ Addr ∷ Info ∷ Line ∷ LineStr ∷ Loc ∷ Locli
 abbrev pub section_titled : List ℕ → Option SectionName
 section_titled title = find (λ name. bytes_eq (section_text name) title) input_sections
 
--- The translation holds what DWARF wants of a module, and no more.
+-- The translation holds the sections of a module and what DWARF wants to know of it; see `TellsNames` for names and types.
 pub record IsTranslation (t : ModuleTranslation) (m : WasmModule) : Type 0 where
   pub sections : (name : SectionName) → section_bytes t.sections name ≡ held m name
   pub dwo_sections : (name : SectionName) → section_bytes t.dwo_sections name ≡ []
@@ -69,16 +72,16 @@ pub record IsTranslation (t : ModuleTranslation) (m : WasmModule) : Type 0 where
   pub code_section_offset : t.code_section_offset ≡ m.code_offset
   pub imported_funcs : t.imported_funcs ≡ m.imported
   pub defined_funcs : t.defined_funcs ≡ m.defined
-  pub module_name : t.module_name ≡ None
-  pub func_names : t.func_names.items ≡ []
-  pub local_names : t.local_names.items ≡ []
-  pub funcs : t.funcs.items ≡ []
   pub path : t.path ≡ None
+
+-- It tells names and types besides.
+abbrev pub IsWholeTranslation : ModuleTranslation → WasmModule → Type 0
+IsWholeTranslation t m = IsTranslation t m × TellsNames t m
 
 -- What a translation of a file is: one of the module that the file is; else the place of the first field that breaks
 -- the grammar, or want of memory.
 abbrev pub TranslatesFile : List ℕ → Result ModuleTranslation WasmFault → Type 0
-TranslatesFile bytes (Ok t) = (m : WasmModule) × (wasm_module bytes ≡ Ok m) × IsTranslation t m
+TranslatesFile bytes (Ok t) = (m : WasmModule) × (wasm_module bytes ≡ Ok m) × IsWholeTranslation t m
 TranslatesFile bytes (Err (Malformed offset)) = wasm_module bytes ≡ Err offset
 TranslatesFile bytes (Err OutOfMemory) = Unit {0}
 
@@ -105,7 +108,7 @@ GivesLastPart view read (Err b) = read ≡ Err b.offset
 abbrev pub custom_left : spec.Contents → List ℕ
 custom_left (spec.custom title u) = u.left
 custom_left (spec.imports n) = []
-custom_left (spec.functions n) = []
+custom_left (spec.functions n v) = []
 custom_left (spec.code u) = []
 custom_left (spec.other id u) = []
 
@@ -113,7 +116,7 @@ custom_left (spec.other id u) = []
 abbrev pub contents_view : Contents → spec.Contents
 contents_view (Custom name u) = spec.custom name.now u
 contents_view (Imports n) = spec.imports n
-contents_view (Functions n) = spec.functions n
+contents_view (Functions n u) = spec.functions n u
 contents_view (Code u) = spec.code u
 contents_view (Other id u) = spec.other id u
 
@@ -136,7 +139,7 @@ titled_bytes name title contents before = if bytes_eq title (section_text name) 
 abbrev pub noted : spec.Contents → SectionName → List ℕ → List ℕ
 noted (spec.custom title u) name before = titled_bytes name title u.left before
 noted (spec.imports n) name before = before
-noted (spec.functions n) name before = before
+noted (spec.functions n v) name before = before
 noted (spec.code u) name before = before
 noted (spec.other id u) name before = before
 
@@ -163,8 +166,8 @@ pub record Notes (old new : ModuleTranslation) (s : WasmSection) : Type 0 where
 abbrev pub sections_start : List ℕ → Result Unread ℕ
 sections_start bytes = if starts_with nat_eq bytes preamble then Ok (record { order = Little; place = 8; left = drop 8 bytes }) else Err 0
 
--- What a translation of the sections from a place on is: one of all of them; else the place of the first field that
--- breaks the grammar.
-abbrev pub TranslatesSections : Unread → Result ModuleTranslation BrokenField → Type 0
-TranslatesSections u (Ok t) = (all : List WasmSection) × (wasm_sections u ≡ record { items = all; fault = None }) × IsTranslation t (module_from_sections all)
-TranslatesSections u (Err b) = (before : List WasmSection) × (wasm_sections u ≡ record { items = before; fault = Some b.offset })
+-- What a walk over the sections from a place on gives: a translation of all of them, and those that tell of functions; else the place of
+-- the first field that breaks the grammar.
+abbrev pub WalksSections : Unread → Result WalkedSections BrokenField → Type 0
+WalksSections u (Ok w) = (all : List WasmSection) × (wasm_sections u ≡ record { items = all; fault = None }) × IsTranslation w.translation (module_from_sections all) × HoldsLast w.functions all
+WalksSections u (Err b) = (before : List WasmSection) × (wasm_sections u ≡ record { items = before; fault = Some b.offset })

@@ -121,11 +121,11 @@ abbrev pub exactly : {A : Type 0} → A × Unread → Result A ℕ
 exactly read = elim (length (read.1).left == 0) [ true ↦ Ok read.0 | false ↦ Err (read.1).place ]
 
 -- What a section holds: a custom one its name and contents, the imports how many functions, the functions
--- how many, the code its contents. (Sections 5.5.3, 5.5.5, 5.5.6 and 5.5.13.)
+-- how many and the contents with that count, the code its contents. (Sections 5.5.3, 5.5.5, 5.5.6 and 5.5.13.)
 pub data Contents : Type 0 where
   custom : List ℕ → Unread → Contents
   imports : ℕ → Contents
-  functions : ℕ → Contents
+  functions : ℕ → Unread → Contents
   code : Unread → Contents
   other : ℕ → Unread → Contents
 
@@ -137,7 +137,7 @@ contents_of id u =
       | false ↦ elim (id == 2) [
         | true ↦ (field uleb_at u >>= λ count. imports_at count.0 count.1 >>= λ found. exactly found >>= λ n. Ok (imports n))
         | false ↦ elim (id == 3) [
-          | true ↦ (field uleb_at u >>= λ count. type_numbers_at count.0 count.1 >>= λ found. exactly found >>= λ n. Ok (functions n))
+          | true ↦ (field uleb_at u >>= λ count. type_numbers_at count.0 count.1 >>= λ found. exactly found >>= λ n. Ok (functions n u))
           | false ↦ Ok (if id == 10 then code u else other id u)
         ]
       ]
@@ -197,7 +197,7 @@ last_of (x ∷ xs) = Some (unwrap_or (last_of xs) x)
 abbrev pub contents_named : List ℕ → Contents → Option (List ℕ)
 contents_named name (custom title u) = if bytes_eq title name then Some u.left else None
 contents_named name (imports n) = None
-contents_named name (functions n) = None
+contents_named name (functions n v) = None
 contents_named name (code u) = None
 contents_named name (other id u) = None
 
@@ -209,13 +209,13 @@ custom_section name sections = unwrap_or (last_of (filter_map (λ s. contents_na
 abbrev pub imported_functions : Contents → Option ℕ
 imported_functions (imports n) = Some n
 imported_functions (custom title u) = None
-imported_functions (functions n) = None
+imported_functions (functions n v) = None
 imported_functions (code u) = None
 imported_functions (other id u) = None
 
 -- how many functions a function section defines
 abbrev pub defined_functions : Contents → Option ℕ
-defined_functions (functions n) = Some n
+defined_functions (functions n v) = Some n
 defined_functions (custom title u) = None
 defined_functions (imports n) = None
 defined_functions (code u) = None
@@ -226,14 +226,14 @@ abbrev pub code_place : Contents → Option ℕ
 code_place (code u) = Some u.place
 code_place (custom title u) = None
 code_place (imports n) = None
-code_place (functions n) = None
+code_place (functions n v) = None
 code_place (other id u) = None
 
 -- whether a custom section's name begins with `.zdebug_`
 abbrev pub is_compressed : Contents → Bool
 is_compressed (custom title u) = starts_with nat_eq title (codes ".zdebug_")
 is_compressed (imports n) = false
-is_compressed (functions n) = false
+is_compressed (functions n v) = false
 is_compressed (code u) = false
 is_compressed (other id u) = false
 

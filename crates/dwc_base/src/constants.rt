@@ -83,6 +83,8 @@ pub const DW_AT_language: u16 = 0x13;
 
 pub const DW_AT_string_length: u16 = 0x19;
 
+pub const DW_AT_comp_dir: u16 = 0x1b;
+
 pub const DW_AT_lower_bound: u16 = 0x22;
 
 pub const DW_AT_producer: u16 = 0x25;
@@ -100,6 +102,8 @@ pub const DW_AT_artificial: u16 = 0x34;
 pub const DW_AT_count: u16 = 0x37;
 
 pub const DW_AT_decl_file: u16 = 0x3a;
+
+pub const DW_AT_decl_line: u16 = 0x3b;
 
 pub const DW_AT_data_member_location: u16 = 0x38;
 
@@ -152,7 +156,11 @@ pub const DW_AT_loclists_base: u16 = 0x8c;
 // The one of these that is a vendor's.
 pub const DW_AT_GNU_locviews: u16 = 0x2137;
 
-// The encoding of a base type. (Table 7.11.)
+// The encodings of a base type. (Table 7.11.)
+pub const DW_ATE_float: u8 = 0x04;
+
+pub const DW_ATE_signed: u8 = 0x05;
+
 pub const DW_ATE_unsigned: u8 = 0x07;
 
 // The byte orders of a base type. (Table 7.13.)
@@ -453,3 +461,42 @@ pub const DW_LLE_base_address: u8 = 0x06;
 pub const DW_LLE_start_end: u8 = 0x07;
 
 pub const DW_LLE_start_length: u8 = 0x08;
+
+// Instructions of call frames; those with an operand in their low six bits stand with zeros there. (DWARF 5, section 7.24.)
+pub const DW_CFA_nop: u8 = 0x00;
+
+pub const DW_CFA_advance_loc1: u8 = 0x02;
+
+pub const DW_CFA_advance_loc2: u8 = 0x03;
+
+pub const DW_CFA_advance_loc4: u8 = 0x04;
+
+pub const DW_CFA_offset_extended: u8 = 0x05;
+
+pub const DW_CFA_restore_extended: u8 = 0x06;
+
+pub const DW_CFA_undefined: u8 = 0x07;
+
+pub const DW_CFA_same_value: u8 = 0x08;
+
+pub const DW_CFA_remember_state: u8 = 0x0a;
+
+pub const DW_CFA_restore_state: u8 = 0x0b;
+
+pub const DW_CFA_def_cfa: u8 = 0x0c;
+
+pub const DW_CFA_def_cfa_register: u8 = 0x0d;
+
+pub const DW_CFA_def_cfa_offset: u8 = 0x0e;
+
+pub const DW_CFA_offset_extended_sf: u8 = 0x11;
+
+pub const DW_CFA_def_cfa_sf: u8 = 0x12;
+
+pub const DW_CFA_def_cfa_offset_sf: u8 = 0x13;
+
+pub const DW_CFA_advance_loc: u8 = 0x40;
+
+pub const DW_CFA_offset: u8 = 0x80;
+
+pub const DW_CFA_restore: u8 = 0xc0;

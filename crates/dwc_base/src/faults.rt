@@ -1,6 +1,6 @@
 //! Why bytes are not DWARF that is read, and what can grow too large.
 use crate::SectionName;
-use std::alloc::AllocFailed;
+use std::alloc::{AllocError, AllocFailed};
 
 /// What was read where a fault was met.
 #[derive(Clone, Copy, Debug, PartialEq, Eq)]
@@ -88,6 +88,17 @@ impl<T: Drop> From<AllocFailed<T>> for NotRead {
     ghost from_gives = { λ _ e. e ≡ OutOfMemory };
 
     fn from(_: AllocFailed<T>) -> NotRead {
+        NotRead::OutOfMemory
+    }
+}
+
+impl From<AllocError> for NotRead {
+    ghost use Rattle.std.specs.Prelude.{◌≡◌};
+    ghost use Rattle.dwc_base.specs.declared.faults.NotRead.TheVariants.{OutOfMemory};
+
+    ghost from_gives = { λ _ e. e ≡ OutOfMemory };
+
+    fn from(_: AllocError) -> NotRead {
         NotRead::OutOfMemory
     }
 }

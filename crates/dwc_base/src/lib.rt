@@ -6,6 +6,7 @@ pub mod constants;
 mod cursor;
 mod faults;
 pub mod fields;
+mod function_sections;
 mod imports;
 mod leb128;
 mod output;
@@ -15,6 +16,8 @@ mod section_bytes;
 mod section_name;
 mod wasm;
 mod wasm_fields;
+mod wasm_functions;
+mod wasm_names;
 mod wasm_sections;
 mod wasm_walk;
 

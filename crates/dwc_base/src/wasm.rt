@@ -1,16 +1,21 @@
 //! The reader of WebAssembly files: the sections of DWARF, lent, and the few facts that DWARF wants besides.
 //! (WebAssembly 1.0, section 5.5.)
-ghost use Rattle.std.specs.Prelude.{◌≡◌, ◌≤◌, ◌<◌, ◌^◌, [], None, length, IfOk};
+ghost use Rattle.std.specs.Prelude.{◌≡◌, ◌≤◌, ◌<◌, ◌^◌, List, [], None, length, IfOk};
 ghost use Rattle.dwc_base.specs.declared.section_name.SectionName.{SectionName};
-ghost use Rattle.dwc_base.specs.Wasm.{module_from_sections};
-ghost use Rattle.dwc_base.specs.Translations.{IsTranslation, TranslatesFile, TranslatesSections, GivesLastPart, Notes, sections_start, first_compressed, section_bytes, section_view, custom_left};
+ghost use Rattle.dwc_base.specs.Wasm.{WasmModule, WasmSection, module_from_sections};
+ghost use Rattle.dwc_base.specs.FunctionSections.{HoldsLast};
+ghost use Rattle.dwc_base.specs.TranslationNames.{HasSortedNames, TellsNames};
+ghost use Rattle.dwc_base.specs.Translations.{IsTranslation, TranslatesFile, WalksSections, GivesLastPart, Notes, sections_start, first_compressed, section_bytes, section_view, custom_left};
 
+use crate::function_sections::FunctionSections;
 use crate::section_bytes::SectionBytes;
 use crate::wasm_fields::BrokenField;
+use crate::wasm_functions::function_types;
+use crate::wasm_names::names_in;
 use crate::wasm_sections::WasmSections;
 use crate::wasm_walk::{Contents, Section, next_section};
 use crate::{Cursor, Endian};
-use std::alloc::Global;
+use std::alloc::{AllocError, Global};
 use thiserror::Error;
 
 // The magic number and version 1.
@@ -37,6 +42,17 @@ impl From<BrokenField> for WasmFault {
         WasmFault::Malformed {
             offset: broken.offset,
         }
+    }
+}
+
+impl From<AllocError> for WasmFault {
+    ghost use Rattle.std.specs.Prelude.{◌≡◌};
+    ghost use Rattle.dwc_base.specs.declared.wasm.WasmFault.TheVariants.{OutOfMemory};
+
+    ghost from_gives = { λ _ e. e ≡ OutOfMemory };
+
+    fn from(_: AllocError) -> WasmFault {
+        WasmFault::OutOfMemory
     }
 }
 
@@ -72,13 +88,13 @@ pub struct ModuleTranslation<'d> {
     pub imported_funcs: u32,
     /// How many functions the file defines.
     pub defined_funcs: u32,
-    /// The name of the module. It is not read yet, nor are the three fields behind it.
+    /// The name of the module, if one is told.
     pub module_name: Option<&'d str>,
-    /// The names of functions by number.
+    /// The names of functions by their numbers, imported functions first, in rising order; of two of one function the later counts.
     pub func_names: Vec<(u32, &'d str)>,
-    /// The names of locals by the numbers of the function and the local.
+    /// The names of locals by the numbers of their function and their own, parameters first, likewise.
     pub local_names: Vec<(u32, u32, &'d str)>,
-    /// The defined functions.
+    /// The types of the locals of each defined function, in order; empty where they cannot be read.
     pub funcs: Vec<FunctionMeta>,
     /// The path of the file, which the caller sets.
     pub path: Option<&'d str>,
@@ -117,7 +133,7 @@ impl<'d> ModuleTranslation<'d> {
                 self.sections.note(name, SectionBytes { bytes });
             }
             Contents::Imports { functions } => self.imported_funcs = functions,
-            Contents::Functions { functions } => self.defined_funcs = functions,
+            Contents::Functions { functions, .. } => self.defined_funcs = functions,
             Contents::Code { body } => self.code_section_offset = body.place() as u64,
             Contents::Other { .. } => {}
         }
@@ -125,15 +141,21 @@ impl<'d> ModuleTranslation<'d> {
 }
 
 /// Reads a WebAssembly file: the sections of DWARF, lent, of equal names the later; how many functions it imports and
-/// defines; where the contents of its code section are; and the first section that is compressed. Import and function
-/// sections and the names of custom sections are read whole, and all else is lent as it is. The numbers of DWARF in it are
-/// little-endian. [`WasmFault::Malformed`] comes exactly where the grammar fails. It takes time linear in the file.
+/// defines; where the contents of its code section are; the first section that is compressed; and the names of the module, its
+/// functions and their locals, with the types of these. Import and function sections and the names of custom sections are read whole, and
+/// all else is lent as it is; of types, bodies and names what cannot be read tells nothing. The numbers of DWARF in it are little-endian. It
+/// takes time linear in the file and in what it answers, and a logarithm more for names.
+///
+/// # Errors
+/// [`WasmFault::Malformed`] exactly where the grammar fails. [`WasmFault::OutOfMemory`] for want of memory.
 pub fn split_wasm<'d>(alloc: Global, bytes: &'d [u8]) -> Result<ModuleTranslation<'d>, WasmFault>
     ensures translated { TranslatesFile bytes.now result }
     ensures inside { IfOk result (λ t. (name : SectionName) → length (section_bytes t.sections name) ≤ length bytes.now) }
+    ensures sorted { IfOk result HasSortedNames }
 {
     let cursor = behind_preamble(bytes)?;
-    Ok(translate(alloc, cursor)?)
+    let walked = walk_sections(alloc, cursor)?;
+    Ok(with_names(alloc, walked.translation, walked.functions)?)
 }
 
 // The place of the first compressed section, behind a custom section at a place with a title.
@@ -159,17 +181,50 @@ fn behind_preamble<'d>(bytes: &'d [u8]) -> Result<Cursor<'d>, BrokenField>
     Ok(cursor)
 }
 
+// What the sections of a file hold: a translation without names, and the sections that tell of functions.
+#[derive(Drop)]
+struct WalkedSections<'d> {
+    translation: ModuleTranslation<'d>,
+    functions: FunctionSections<'d>,
+}
+
 // What the sections from a place on hold.
-fn translate<'d>(
+fn walk_sections<'d>(
     alloc: Global,
     mut cursor: Cursor<'d>,
-) -> Result<ModuleTranslation<'d>, BrokenField>
-    ensures translated { TranslatesSections cursor.entry result }
-    ensures inside { IfOk result (λ t. (name : SectionName) → length (section_bytes t.sections name) ≤ length cursor.entry.left) }
+) -> Result<WalkedSections<'d>, BrokenField>
+    ensures walked { WalksSections cursor.entry result }
+    ensures inside { IfOk result (λ w. (name : SectionName) → length (section_bytes (w.translation).sections name) ≤ length cursor.entry.left) }
 {
     let mut translation = ModuleTranslation::empty(alloc);
+    let mut functions = FunctionSections::none();
     while let Some(section) = next_section(&mut cursor)? {
+        functions.note(&section.contents);
         translation.note(section);
     }
-    Ok(translation)
+    Ok(WalkedSections {
+        translation,
+        functions,
+    })
+}
+
+// A translation with the names and types that sections tell.
+fn with_names<'d>(
+    alloc: Global,
+    translation: ModuleTranslation<'d>,
+    sections: FunctionSections<'d>,
+) -> Result<ModuleTranslation<'d>, AllocError>
+    ensures kept { (m : WasmModule) → IsTranslation translation.entry m → IfOk result (λ t. IsTranslation t m) }
+    ensures sections { IfOk result (λ t. t.sections ≡ (translation.entry).sections) }
+    ensures told { (all : List WasmSection) → HoldsLast sections.entry all → IfOk result (λ t. TellsNames t (module_from_sections all)) }
+{
+    let names = names_in(alloc, sections.names.unread())?;
+    let funcs = function_types(alloc, sections.types, sections.functions, sections.code)?;
+    Ok(ModuleTranslation {
+        module_name: names.module,
+        func_names: names.functions,
+        local_names: names.locals,
+        funcs,
+        ..translation
+    })
 }

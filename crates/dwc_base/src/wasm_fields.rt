@@ -1,7 +1,7 @@
 //! The fields of a WebAssembly file: names, bytes and limits. (WebAssembly 1.0, sections 5.2 and 5.3.)
 ghost use Rattle.std.specs.Prelude.{◌≡◌, nat_lt, ◌==◌, ◌||◌};
 ghost use Rattle.dwc_base.specs.Cursors.{Gives};
-ghost use Rattle.dwc_base.specs.Wasm.{field, name_at, byte_at, limits_at, section_bytes_at};
+ghost use Rattle.dwc_base.specs.Wasm.{field, name_at, u32_at, byte_at, limits_at, section_bytes_at};
 ghost use Rattle.dwc_base.specs.Translations.{GivesPart};
 
 use crate::{Cursor, CursorFault, Flaw};
@@ -43,9 +43,9 @@ pub fn name_field<'d>(cursor: &mut Cursor<'d>) -> Result<&'d str, BrokenField>
     name(cursor).map_err(|_| BrokenField { offset })
 }
 
-// A length and a name in UTF-8.
+/// A length and a name in UTF-8.
 #[tactic(auto, unfolding(crate::specs::Wasm::name_at))]
-fn name<'d>(cursor: &mut Cursor<'d>) -> Result<&'d str, Flaw>
+pub(crate) fn name<'d>(cursor: &mut Cursor<'d>) -> Result<&'d str, Flaw>
     ensures { Gives (λ x. x.now) (name_at cursor.old) cursor.new result }
 {
     let size = cursor.uleb()?;
@@ -97,4 +97,16 @@ pub fn limits(cursor: &mut Cursor<'_>) -> Result<(), BrokenField>
     } else {
         Ok(())
     }
+}
+
+/// A number below 2^32.
+#[tactic(auto, unfolding(crate::specs::Wasm::u32_at))]
+pub(crate) fn u32_number(cursor: &mut Cursor<'_>) -> Result<u32, Flaw>
+    ensures { Gives (λ n. n) (u32_at cursor.old) cursor.new result }
+{
+    let number = cursor.uleb()?;
+    if number >= 1 << 32 {
+        return Err(Flaw::Malformed);
+    }
+    Ok(number as u32)
 }

@@ -18,12 +18,12 @@ const FUNCTION: u8 = 3;
 const CODE: u8 = 10;
 
 /// What a section holds: a custom one its name and the bytes behind it, the imports how many functions, the functions how
-/// many; all else is lent.
+/// many and the contents with that count; all else is lent.
 #[derive(Drop)]
 pub enum Contents<'d> {
     Custom { name: &'d str, rest: Cursor<'d> },
     Imports { functions: u32 },
-    Functions { functions: u32 },
+    Functions { functions: u32, body: Cursor<'d> },
     Code { body: Cursor<'d> },
     Other { id: u8, body: Cursor<'d> },
 }
@@ -100,10 +100,11 @@ fn read_contents<'d>(id: u8, mut part: Cursor<'d>) -> Result<Contents<'d>, Broke
             Ok(Contents::Imports { functions })
         }
         FUNCTION => {
+            let body = part.fork();
             let count = part.uleb()?;
             let functions = type_numbers(count, &mut part)?;
             let functions = exactly(functions, &part)?;
-            Ok(Contents::Functions { functions })
+            Ok(Contents::Functions { functions, body })
         }
         CODE => Ok(Contents::Code { body: part }),
         _ => Ok(Contents::Other { id, body: part }),

@@ -12,9 +12,5 @@ returns c = record {
   code_section_offset = refl;
   imported_funcs = refl;
   defined_funcs = refl;
-  module_name = refl;
-  func_names = c.new.ensures.items;
-  local_names = c.new-2.ensures.items;
-  funcs = c.new-3.ensures.items;
   path = refl;
 }
