@@ -1,3 +1,2 @@
-pub mod FrameCases
 pub mod RegisterLaws
 pub mod LabelLaws

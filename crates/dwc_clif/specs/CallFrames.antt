@@ -1,47 +1,37 @@
--- Call frames (DWARF 5, section 6.4).
-use Rattle.std.specs.Prelude.{ℕ, ℤ, pos, negsuc, suc, ◌%◌, ◌==◌, List, Bool, true, not, ◌&&◌, Option, Some, None}
-use Rattle.std.specs.List.{list_all}
+-- Call frames, as the definitions see them (DWARF 5, section 6.4).
+use Rattle.std.specs.Prelude.{map, Option, option_map}
+use Rattle.dwc_base.specs.CallFrames.{FrameInstruction, def_cfa, def_cfa_register, def_cfa_offset, restore, undefined, same_value, saved_at, remember_state, restore_state, CommonEntry, FrameDescription}
+use Rattle.dwc_base.specs.UnwindRecords.{UnwindRecord, description_told, system_v, windows_x64, windows_arm64}
 use Rattle.dwc_clif.specs.declared.cie.Cie.{Cie}
 use Rattle.dwc_clif.specs.declared.frame_op.FrameOp.{FrameOp}
-use Rattle.dwc_clif.specs.declared.frame_op.FrameOp.TheVariants.{Cfa, CfaOffset, Offset}
+use Rattle.dwc_clif.specs.declared.frame_op.FrameOp.TheVariants.{Cfa, CfaRegister, CfaOffset, Restore, Undefined, SameValue, Offset, RememberState, RestoreState}
+use Rattle.dwc_clif.specs.declared.metadata.CompiledFunctionMetadata.{CompiledFunctionMetadata}
+use Rattle.dwc_clif.specs.declared.unwind_info.CfaUnwindInfo.{CfaUnwindInfo}
+use Rattle.dwc_clif.specs.declared.unwind_info.UnwindInfo.{UnwindInfo}
+use Rattle.dwc_clif.specs.declared.unwind_info.UnwindInfo.TheVariants.{SystemV, WindowsX64, WindowsArm64}
 
--- a common information entry (section 6.4.1)
-pub record CommonEntry : Type 0 where
-  pub code_factor : ℕ
-  pub data_factor : ℤ
-  pub return_register : ℕ
-  pub ops : List FrameOp
+abbrev pub instruction_view : FrameOp → FrameInstruction
+instruction_view (Cfa register offset) = def_cfa register offset
+instruction_view (CfaRegister register) = def_cfa_register register
+instruction_view (CfaOffset offset) = def_cfa_offset offset
+instruction_view (Restore register) = restore register
+instruction_view (Undefined register) = undefined register
+instruction_view (SameValue register) = same_value register
+instruction_view (Offset register offset) = saved_at register offset
+instruction_view RememberState = remember_state
+instruction_view RestoreState = restore_state
 
 abbrev pub cie_view : Cie → CommonEntry
-cie_view c = record { code_factor = c.code_factor; data_factor = c.data_factor; return_register = c.return_register; ops = c.ops.items }
+cie_view c = record { code_factor = c.code_factor; data_factor = c.data_factor; return_register = c.return_register; instructions = map instruction_view c.ops.items }
 
--- an offset that is below 0
-abbrev pub below_zero : ℤ → Option ℤ
-below_zero (pos n) = None
-below_zero (negsuc n) = Some (negsuc n)
+abbrev pub description_view : CfaUnwindInfo → FrameDescription
+description_view info = record { length = info.len; instructions = map (λ op. (op.0, instruction_view op.1)) info.ops.items }
 
--- the offset of an instruction that is written in units of the data factor (section 6.4.2)
-abbrev pub factored_offset : FrameOp → Option ℤ
-factored_offset (Offset register offset) = Some offset
-factored_offset (Cfa register offset) = below_zero offset
-factored_offset (CfaOffset offset) = below_zero offset
-factored_offset _ = None
+abbrev pub unwind_view : UnwindInfo → UnwindRecord
+unwind_view (SystemV info) = system_v (description_view info)
+unwind_view (WindowsX64 codes) = windows_x64 codes.items
+unwind_view (WindowsArm64 codes) = windows_arm64 codes.0.items
 
--- a number without its sign
-abbrev pub magnitude : ℤ → ℕ
-magnitude (pos n) = n
-magnitude (negsuc n) = suc n
-
--- whether a number, if there is one, is so many times a factor that is not 0
-abbrev pub is_multiple_of : ℤ → Option ℤ → Bool
-is_multiple_of factor None = true
-is_multiple_of factor (Some z) = magnitude z % magnitude factor == 0
-
--- Whether an entry can be written: its factors are not 0, and its factored offsets are multiples of the data factor.
-abbrev pub is_sound : CommonEntry → Bool
-is_sound c = not (c.code_factor == 0) && not (magnitude c.data_factor == 0) && list_all (λ op. is_multiple_of c.data_factor (factored_offset op)) c.ops
-
--- an entry, if there is one, can be written
-abbrev pub is_sound_if : Option CommonEntry → Bool
-is_sound_if None = true
-is_sound_if (Some c) = is_sound c
+-- A function's frame description.
+abbrev pub description_of_metadata : CompiledFunctionMetadata → Option FrameDescription
+description_of_metadata m = description_told (option_map unwind_view m.unwind_info) (option_map description_view m.cfa_unwind_info)

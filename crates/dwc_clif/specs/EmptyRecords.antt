@@ -12,9 +12,11 @@ pub record IsEmptyMap (m : FunctionAddressMap) : Type 0 where
   pub body_offset : m.body_offset ≡ 0
   pub body_len : m.body_len ≡ 0
 
--- an empty map, no labels, and no places
+-- an empty map, no labels, nothing of how it unwinds, and no places
 pub record IsEmptyMetadata (m : CompiledFunctionMetadata) : Type 0 where
   pub address_map : IsEmptyMap m.address_map
   pub labels : m.value_labels_ranges ≡ finite.empty
+  pub unwind_info : m.unwind_info ≡ None
+  pub cfa_unwind_info : m.cfa_unwind_info ≡ None
   pub start : m.start_srcloc.offset ≡ None
   pub end : m.end_srcloc.offset ≡ None

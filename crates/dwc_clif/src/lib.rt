@@ -9,6 +9,7 @@ mod isa;
 mod metadata;
 mod reg;
 mod table_isa;
+mod unwind_info;
 mod value_label;
 mod value_labels_ranges;
 
@@ -20,5 +21,6 @@ pub use isa::TargetIsa;
 pub use metadata::CompiledFunctionMetadata;
 pub use reg::Reg;
 pub use table_isa::TableIsa;
+pub use unwind_info::{ArmCodes, CfaUnwindInfo, UnwindInfo};
 pub use value_label::{LabelValueLoc, ValueLabel, ValueLocRange, get_vmctx_value_label};
 pub use value_labels_ranges::{Labels, ValueLabelsRanges};

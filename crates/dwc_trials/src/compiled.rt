@@ -57,6 +57,8 @@ fn compiled(
             body_len: 30,
         },
         value_labels_ranges: ValueLabelsRanges::new(alloc),
+        unwind_info: None,
+        cfa_unwind_info: None,
         start_srcloc: start,
         end_srcloc: end,
     })
