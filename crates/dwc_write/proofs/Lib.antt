@@ -14,6 +14,10 @@ pub mod ReadWritten
 pub mod ReadSections
 pub mod ReadSmall
 pub mod Appended
+pub mod FrameNumbers
+pub mod FrameEntries
+pub mod FrameOutputs
+pub mod FrameWidths
 pub mod SizedBytes
 pub mod Whole
 pub mod LineLaws

@@ -5,10 +5,10 @@ use Rattle.std.specs.Option.{is_some}
 use Rattle.std.specs.List.{cons_option, filter_map, fold}
 use Rattle.std.proofs.lemmas.Bool.{true≢false, ltb-true}
 use Rattle.dwc_base.specs.Trees.{TreeValue, address, constant, flag, block, expression, text, line_table, ranges, locations, entry, nothing, TreeEntry, Tree, set_attribute, set_in_order}
-use Rattle.dwc_base.specs.TreeLaws.{goes_somewhere, size_of_unit}
+use Rattle.dwc_base.specs.TreeLaws.{goes_somewhere}
 use Rattle.dwc_base.specs.TreeReading.{entry_or_nothing}
 use Rattle.dwc_base.specs.Drafts.{Goal, DraftValue, done, goes_to, Draft}
-use Rattle.dwc_base.specs.DraftForests.{settled_value, settled, settled_entry, settled_unit}
+use Rattle.dwc_base.specs.DraftForests.{settled, settled_entry, settled_unit}
 use Rattle.dwc_base.proofs.ForestLaws.{Each, SaysNoPlace, EntrySaysNoPlace, UnitSaysNoPlace}
 use Rattle.dwc_write.specs.Renumbered.{renumbered, renumbered_attribute, renumbered_entry}
 

@@ -48,16 +48,16 @@ use Rattle.dwc_write.proofs.SizeLaws.{below_length, sleb-most}
 use Rattle.dwc_write.proofs.EntriesLaws.{code-there, next-first}
 use Rattle.dwc_write.proofs.ReadBackLaws.{FitsShape, vec-short, uses-fit, uses-length, lines_for, lines-are, lengths-both}
 
-uleb-10 : (n : ℕ) → n < 2 ^ 64 → length (uleb_bytes n) ≤ 10
+pub uleb-10 : (n : ℕ) → n < 2 ^ 64 → length (uleb_bytes n) ≤ 10
 uleb-10 n small = uleb_bytes-length 9 n (omega arith)
 
 -- ---- signed numbers
 
-sleb-10 : (z : ℤ) → nat_abs z ≤ 2 ^ 64 → length (sleb_bytes z) ≤ 10
+pub sleb-10 : (z : ℤ) → nat_abs z ≤ 2 ^ 64 → length (sleb_bytes z) ≤ 10
 sleb-10 (pos n) small = sleb-most n small
 sleb-10 (negsuc n) small = omega (arith, below_length n, sleb-most n (omega (arith, small)))
 
-sleb-fits : (z : ℤ) → FitsSigned w64 z → length (sleb_bytes z) ≤ 10
+pub sleb-fits : (z : ℤ) → FitsSigned w64 z → length (sleb_bytes z) ≤ 10
 sleb-fits z fits = sleb-10 z (grind (arith, ints))
 
 step-widest : (before line : ℕ) → before < 2 ^ 32 → line < 2 ^ 32 → length (sleb_bytes (pos line -ℤ pos before)) ≤ 10

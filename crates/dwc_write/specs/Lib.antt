@@ -5,6 +5,7 @@ pub mod SpelledUnits
 pub mod SpelledLines
 pub mod SpelledSections
 pub mod Writers
+pub mod Frames
 pub mod GivenLines
 pub mod RangeLists
 pub mod Lists

@@ -35,3 +35,24 @@ impl From<AllocError> for WriteError {
         WriteError::OutOfMemory
     }
 }
+
+/// Why a frame table is not written.
+#[derive(Debug, Drop)]
+pub enum FrameError {
+    /// The code offsets of a function's frame description fall, or are no multiples of the code factor.
+    InvalidFrameCodeOffset { symbol: usize },
+    /// A factored offset of a function's frame description is no multiple of the data factor.
+    InvalidFrameDataOffset { symbol: usize },
+    Write(WriteError),
+}
+
+impl From<WriteError> for FrameError {
+    ghost use Rattle.std.specs.Prelude.{◌≡◌};
+    ghost use Rattle.dwc_write.specs.declared.error.FrameError.TheVariants.{Write};
+
+    ghost from_gives = { λ error e. e ≡ Write error };
+
+    fn from(error: WriteError) -> FrameError {
+        FrameError::Write(error)
+    }
+}
