@@ -13,3 +13,4 @@ pub mod CanCarryLaws
 pub mod NameLaws
 pub mod PlainNames
 pub mod OrderLaws
+pub mod SimulatedLaws

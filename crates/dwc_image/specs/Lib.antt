@@ -2,3 +2,4 @@ pub mod CarriedLines
 pub mod ImageRows
 pub mod ImageSequences
 pub mod RunRows
+pub mod SimulatedSequences

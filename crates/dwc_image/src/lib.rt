@@ -4,5 +4,7 @@
 mod image;
 mod lines;
 mod sequence;
+mod simulated;
 
 pub use lines::carried_lines;
+pub use simulated::{add_simulated, simulated_lines};
