@@ -18,9 +18,7 @@ use Rattle.dwc_base.specs.TypeNames.{in_utf8, name_of, utf8_text}
 use Rattle.dwc_base.specs.Values.{Value}
 use Rattle.dwc_clone.specs.declared.error.CloneError.TheVariants.{Read}
 use Rattle.dwc_write.specs.TextTables.{IsText}
-use Rattle.dwc_clone.specs.declared.type_name.ChainEnd.{ChainEnd}
-use Rattle.dwc_clone.specs.TypeChains.{GivesRead, behind, behind_name, in_front, last_name}
-use Rattle.dwc_clone.specs.TypeSteps.{named_chain}
+use Rattle.dwc_clone.specs.TypeChains.{GivesRead, behind, behind_name, in_front, named_chain}
 
 -- a type more at the end stands first behind the name
 behind-push : (tags : List ℕ) (tag : ℕ) → behind (tags ++ tag ∷ []) ≡ behind_name tag ++ behind tags
@@ -71,6 +69,6 @@ behind-text (tag ∷ tags) = All-append (λ b. 0 < b) (behind tags) (behind_name
     go false false true = plain-text (codes "[]") refl
     go false false false = All-nil (λ b. 0 < b)
 
--- The name of a chain has none where the name of its end has none.
-pub chain-text : (tags : List ℕ) (last : ChainEnd) → IsText (last_name last) → IsText (named_chain tags last)
-chain-text tags last text = All-append (λ b. 0 < b) (in_front tags) (last_name last ++ behind tags) (front-text tags) (All-append (λ b. 0 < b) (last_name last) (behind tags) text (behind-text tags))
+-- The name of a chain has none where the name of its last type has none.
+pub chain-text : (tags last : List ℕ) → IsText last → IsText (named_chain tags last)
+chain-text tags last text = All-append (λ b. 0 < b) (in_front tags) (last ++ behind tags) (front-text tags) (All-append (λ b. 0 < b) last (behind tags) text (behind-text tags))

@@ -26,6 +26,8 @@ pub mod ChainNameLaws
 pub mod TypeFoundLaws
 pub mod TypeStepLaws
 pub mod ChainWalkLaws
+pub mod DerivedTypeLaws
+pub mod KnownTypeLaws
 pub mod NotedNameLaws
 pub mod OpenWrapperLaws
 pub mod MadeEntryLaws

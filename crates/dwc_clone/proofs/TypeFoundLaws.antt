@@ -59,10 +59,6 @@ is-found c e t is = go (offset_in_unit c (attribute DW_AT_type e)) refl is
 pub same-type : (c : CloneSource) (e f : Entry) (t : ℕ × ℕ) → type_found c e ≡ Some t → offset_in_unit c (attribute DW_AT_type f) ≡ Some t.0 → type_found c f ≡ Some t
 same-type c e f t is at = ap (found_at c) (at ∙ sym (is-found c e t is).at) ∙ is
 
--- It is in the output.
-pub found-placed : (c : CloneSource) (e : Entry) (t : ℕ × ℕ) → type_found c e ≡ Some t → is_some (place_of c.places.now t.0) ≡ true
-found-placed c e t is = ap is_some (is-found c e t is).placed
-
 -- ---- references
 
 -- A value is a reference within the unit.

@@ -53,6 +53,10 @@ refused-as {A} {B} view other (Err fault) named e none same is = subst (λ r. Gi
         err-is : (x y : Refusal) → ◌≡◌ {A = Result A Refusal} (Err x) (Err y) → x ≡ y
         err-is x y h = ap (λ (r : Result A Refusal). refused_or r x) h
 
+-- It is one of the same reading, seen in another way.
+pub refused-alike : {A X Y : Type 0} (view : X → A) (other : Y → A) (read : Result A Fault) (e : CloneError) → GivesRead view read (Err e) → GivesRead other read (Err e)
+refused-alike view other read e given = refused-as view other read read e (λ a is none. gives-none other read e none) (λ fault is. is) given
+
 -- ---- one type
 
 module _ (c : CloneSource) (number : ℕ) (s : UnitSource) (f : Placed) (entry : Entry) (source : IsSource c number s) (like : IsAlike entry f.entry) where
@@ -65,7 +69,7 @@ module _ (c : CloneSource) (number : ℕ) (s : UnitSource) (f : Placed) (entry :
 
   pub name-refusal : {X Y : Type 0} (view : X → Option (List ℕ)) (other : Y → Option (List ℕ)) (e : CloneError) → GivesRead view (name_of (texts_of_unit c.unit.now.sections c.unit.now.header) (placed_entry c entry)) (Err e) → GivesRead other (name_of s.texts f) (Err e)
   name-refusal view other e given =
-      refused-as view other (name_of s.texts f) (name_of s.texts f) e (λ a is none. gives-none other (name_of s.texts f) e none) (λ fault is. is) (name-given view (Err e) given)
+      refused-alike view other (name_of s.texts f) e (name-given view (Err e) given)
 
   -- The last type.
   pub last-given : name_of (texts_of_unit c.unit.now.sections c.unit.now.header) (placed_entry c entry) ≡ Ok None → is_some (derived_name entry.tag) ≡ false → GivesStep c s f (Ok Last)

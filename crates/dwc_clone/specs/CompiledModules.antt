@@ -1,9 +1,11 @@
 -- What a code generator tells of a module beside its address maps, as the definitions have it.
-use Rattle.std.specs.Prelude.{◌≡◌, ℕ, ◌≤◌, ◌<◌, ◌+◌, List, [], map, length, IfSome, All}
+use Rattle.std.specs.Prelude.{◌≡◌, ℕ, ◌≤◌, ◌<◌, ◌+◌, List, [], map, length, Option, IfSome, All}
 use Rattle.std.specs.Option.{unwrap_or}
 use Rattle.std.specs.FinMap as finite
-use Rattle.dwc_base.specs.Compiled.{LabelRange, LinkageNames, ToldModule, values_from}
+use Rattle.dwc_base.specs.Compiled.{LabelRange, LinkageNames, ToldModule, frames_from, labels_from, values_from}
+use Rattle.dwc_base.specs.CallFrames.{FrameDescription}
 use Rattle.dwc_base.specs.Functions.{Function}
+use Rattle.dwc_clif.specs.CallFrames.{description_of_metadata}
 use Rattle.dwc_clif.specs.Registers.{Registers}
 use Rattle.dwc_clif.specs.ValueLabels.{LabelledRanges}
 use Rattle.dwc_addr.specs.declared.linkage_names.LinkageNames as declared
@@ -20,6 +22,14 @@ ranges_of values label = unwrap_or (finite.get values label) []
 abbrev pub values_in : List Compiled → List (ℕ → List LabelRange)
 values_in fs = map (λ f. λ label. ranges_of (f.1).value_labels_ranges label) fs
 
+-- the labels of those values
+abbrev pub labels_in : List Compiled → List (List ℕ)
+labels_in fs = map (λ f. finite.keys (f.1).value_labels_ranges) fs
+
+-- how those functions unwind
+abbrev pub frames_in : List Compiled → List (Option FrameDescription)
+frames_in fs = map (λ f. description_of_metadata f.1) fs
+
 -- the names of functions of the run time
 abbrev pub names_view : declared.LinkageNames → LinkageNames
 names_view n = record { set_memory = n.set_memory.now; resolve_memory = n.resolve_memory.now }
@@ -29,6 +39,8 @@ abbrev pub told_module : ℕ → ℕ → List Compiled → ModuleMemoryOffset �
 told_module place first fs memory registers names = record {
   place = place;
   values = values_from first (values_in fs);
+  labels = labels_from first (labels_in fs);
+  frames = frames_from first (frames_in fs);
   memory = memory_view memory;
   register = λ r. finite.get registers r;
   names = names;

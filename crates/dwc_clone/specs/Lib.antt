@@ -18,6 +18,7 @@ pub mod OpenWrappers
 pub mod ContextPlaces
 pub mod TypeChains
 pub mod TypeSteps
+pub mod DerivedTypes
 pub mod KnownNames
 pub mod Tellings
 pub mod ParameterContexts

@@ -3,16 +3,12 @@ use Rattle.std.specs.Prelude.{◌≡◌, ℕ, List, [], ◌∷◌, ◌++◌, ◌
 use Rattle.dwc_base.specs.declared.constants.TheConstants.{DW_AT_type, DW_TAG_array_type, DW_TAG_const_type, DW_TAG_pointer_type, DW_TAG_reference_type}
 use Rattle.dwc_base.specs.Entries.{Entry, attribute}
 use Rattle.dwc_base.specs.Sections.{Fault}
-use Rattle.dwc_base.specs.TypeNames.{unknown}
 use Rattle.dwc_base.specs.Refusals.{of_place}
 use Rattle.dwc_base.specs.Values.{Value, unit_reference}
 use Rattle.dwc_kept.specs.ReadEntries.{named_offset}
 use Rattle.dwc_clone.specs.declared.error.CloneError.{CloneError}
 use Rattle.dwc_clone.specs.declared.source.CloneSource.{CloneSource}
 use Rattle.dwc_clone.specs.declared.type_entry.TypeEntry.{TypeEntry}
-use Rattle.dwc_clone.specs.declared.type_name.ChainEnd.{ChainEnd}
-use Rattle.dwc_clone.specs.declared.type_name.ChainEnd.TheVariants.{Named, Unknown, Met}
-use Rattle.dwc_clone.specs.declared.type_name.TypeChain.{TypeChain}
 use Rattle.dwc_clone.specs.Errors.{refusal_told}
 use Rattle.dwc_clone.specs.MadeValues.{RefusesSo}
 use Rattle.dwc_clone.specs.OutputPlaces.{place_of}
@@ -48,15 +44,9 @@ abbrev pub behind : List ℕ → List ℕ
 behind [] = []
 behind (tag ∷ tags) = behind tags ++ behind_name tag
 
--- the name of the last type of a chain
-abbrev pub last_name : ChainEnd → List ℕ
-last_name (Named text) = text.now
-last_name Unknown = unknown
-last_name Met = unknown
-
--- the name of a chain
-abbrev pub chain_name : TypeChain → List ℕ
-chain_name chain = in_front chain.tags.items ++ (last_name chain.end ++ behind chain.tags.items)
+-- the name of a chain of types of some tags, by the name of the last
+abbrev pub named_chain : List ℕ → List ℕ → List ℕ
+named_chain tags last = in_front tags ++ (last ++ behind tags)
 
 -- ---- answers
 

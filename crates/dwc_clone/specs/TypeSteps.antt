@@ -1,28 +1,24 @@
--- Types that are read one after another, each derived from the next, and the entries that are met there.
-use Rattle.std.specs.Prelude.{◌≡◌, ℕ, List, [], ◌++◌, is_some, true, IfSome, Option, Some, None, option_map, Result, Ok, Err}
+-- Types that are read one after another, each derived from the next.
+use Rattle.std.specs.Prelude.{◌≡◌, ℕ, List, [], is_some, true, IfSome, Option, Some, None, option_map, Result, Ok, Err}
 use Rattle.std.specs.Ordering.{nat_cmp}
 use Rattle.std.specs.BTreeMap.{get}
-use Rattle.std.specs.BTreeSet.{BTreeSet, contains}
 use Rattle.dwc_base.specs.Entries.{Entry}
 use Rattle.dwc_base.specs.Kept.{Placed}
 use Rattle.dwc_base.specs.Clones.{UnitSource}
 use Rattle.dwc_base.specs.TypeNames.{derived_name, name_of}
-use Rattle.dwc_base.specs.Values.{is_one_of}
 use Rattle.dwc_read.specs.declared.entry.Entry.{Entry as ReadEntry}
 use Rattle.dwc_read.specs.EntriesSeen.{entry_view}
 use Rattle.dwc_write.specs.TextTables.{IsText}
 use Rattle.dwc_clone.specs.declared.error.CloneError.{CloneError}
 use Rattle.dwc_clone.specs.declared.source.CloneSource.{CloneSource}
 use Rattle.dwc_clone.specs.declared.type_entry.TypeEntry.{TypeEntry}
-use Rattle.dwc_clone.specs.declared.type_name.ChainEnd.{ChainEnd}
-use Rattle.dwc_clone.specs.declared.type_name.ChainEnd.TheVariants.{Named as EndsNamed, Unknown, Met}
+use Rattle.dwc_clone.specs.declared.type_name.KnownTypes.{KnownTypes}
 use Rattle.dwc_clone.specs.declared.type_name.TypeNames.{TypeNames}
 use Rattle.dwc_clone.specs.declared.type_name.TypeStep.{TypeStep}
 use Rattle.dwc_clone.specs.declared.type_name.TypeStep.TheVariants.{Named, Last, Derived}
 use Rattle.dwc_clone.specs.Errors.{refusal_told}
-use Rattle.dwc_clone.specs.OutputPlaces.{place_of}
 use Rattle.dwc_clone.specs.Sources.{IsEmitted, IsSource}
-use Rattle.dwc_clone.specs.TypeChains.{GivesRead, behind, in_front, last_name, type_found, type_view}
+use Rattle.dwc_clone.specs.TypeChains.{GivesRead, type_found, type_view}
 
 -- ---- the entry of a type
 
@@ -51,15 +47,6 @@ GivesStep c s f (Err error) = GivesRead {X = Option (List ℕ)} (λ name. name) 
 abbrev pub ReadsStep : CloneSource → ℕ → Result TypeStep CloneError → Type 0
 ReadsStep c offset step = (number : ℕ) (s : UnitSource) (f : Placed) → IsSource c number s → IsEmitted c s f → f.entry.offset ≡ offset → GivesStep c s f step
 
--- a type that is found is in the output
-abbrev pub IsPlaced : CloneSource → Option TypeEntry → Type 0
-IsPlaced c next = IfSome next (λ t. is_some (place_of c.places.now t.offset) ≡ true)
-
--- the type that an entry is derived from
-abbrev pub next_type : TypeStep → Option TypeEntry
-next_type (Derived tag next) = next
-next_type _ = None
-
 -- the name of an entry
 abbrev pub step_name : TypeStep → List ℕ
 step_name (Named text) = text.now
@@ -74,22 +61,13 @@ pub record IsOfType (c : CloneSource) (s : UnitSource) (e : Placed) (first : Typ
   pub emitted : IsEmitted c s e
   pub type_is : type_found c e.entry ≡ Some (type_view first)
 
--- A set has the offsets of a list, and no other.
-abbrev pub IsSetOf : List ℕ → BTreeSet ℕ → Type 0
-IsSetOf offsets met = (offset : ℕ) → contains nat_cmp met offset ≡ is_one_of offsets offset
+-- ---- names that are kept
 
--- the name of a chain of some tags, by its end
-abbrev pub named_chain : List ℕ → ChainEnd → List ℕ
-named_chain tags last = in_front tags ++ (last_name last ++ behind tags)
+-- Those of the types at the ends of chains have no zero byte.
+pub record HaveTexts (types : KnownTypes) : Type 0 where
+  pub each : (offset : ℕ) → IfSome (get nat_cmp types.ends offset) (λ name. IsText name.items)
 
--- something holds where a chain ends at no entry that was met
-abbrev pub IfEnds : ChainEnd → Type 0 → Type 0
-IfEnds (EndsNamed text) P = P
-IfEnds Unknown P = P
-IfEnds Met P = Unit {0}
-
--- ---- names that are noted
-
--- They have no zero byte.
+-- Nor have those of all types.
 pub record AreNames (names : TypeNames) : Type 0 where
-  pub each : (offset : ℕ) → IfSome (get nat_cmp names.names offset) (λ name. IsText name.items)
+  pub each : (offset : ℕ) → IfSome (get nat_cmp names.names offset) (λ noted. IsText noted.name.items)
+  pub types : HaveTexts names.types

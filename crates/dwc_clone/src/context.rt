@@ -78,7 +78,8 @@ fn add_context(
 }
 
 /// Adds the variable `__vmctx` to a unit below a parent: of the type that `vmctx_ptr_die_ref` refers to, a pointer to the context of the
-/// module, and at the places where that lies over a scope in the frame of a function, if one is given. They may be none.
+/// module, and at the places where that lies over a scope in the frame of a function, if one is given. They may be none. The parent was
+/// added to the unit, and no function of `addr_tr` with a symbol is longer than 2^31 - 1 bytes, so that addends say its bytes.
 ///
 /// # Errors
 /// `BadLabelRange` where the context has a range in the frame that begins above its end; `UnmappedRegister` where it lies in a register

@@ -1,5 +1,5 @@
 //! The names of the types that pointers and references go to. (DWARF 4 and 5, sections 5.1 to 5.5.)
-ghost use Rattle.std.specs.Prelude.{◌≡◌, ◌∷◌, ◌++◌, ℕ, [], is_some, true, None, Ok, Some, option_map, IfOk, IfSome, OnOk};
+ghost use Rattle.std.specs.Prelude.{◌≡◌, ◌++◌, ◌<◌, ◌==◌, ◌≢◌, ℕ, [], false, is_some, length, set, slice_get, true, None, Ok, Some, option_map, IfErr, IfOk, IfSome, OnOk};
 ghost use Rattle.std.specs.Ordering.{nat_cmp};
 ghost use Rattle.std.specs.Str.{is_utf8};
 ghost use Rattle.std.specs.BTreeMap.{get};
@@ -7,19 +7,18 @@ ghost use Rattle.dwc_base.specs.Cursors.{slice_bytes};
 ghost use Rattle.dwc_base.specs.Indexed.{texts_of_unit};
 ghost use Rattle.dwc_base.specs.Kept.{Placed};
 ghost use Rattle.dwc_base.specs.Clones.{UnitSource};
-ghost use Rattle.dwc_base.specs.Entries.{attribute};
 ghost use Rattle.dwc_base.specs.ReadValues.{IsReadEntry};
 ghost use Rattle.dwc_base.specs.TypeNames.{derived_name, name_of, type_name};
-ghost use Rattle.dwc_base.specs.declared.constants.TheConstants.{DW_AT_name as name_code};
 ghost use Rattle.dwc_read.specs.EntriesSeen.{entry_view};
 ghost use Rattle.dwc_write.specs.TextTables.{IsText};
 ghost use Rattle.dwc_clone.specs.declared.source.CloneSource.{CloneSource};
 ghost use Rattle.dwc_clone.specs.ClonedEntries.{placed_entry};
-ghost use Rattle.dwc_clone.specs.KnownNames.{KnowsNames, NamesType};
-ghost use Rattle.dwc_clone.specs.OutputPlaces.{place_of};
+ghost use Rattle.dwc_clone.specs.DerivedTypes.{AddsUnmet, at_walk, end_of, is_at};
+ghost use Rattle.dwc_clone.specs.KnownNames.{EndsSo, IfAway, IfEnds, IsAway, IsFresh, IsRead, KnowsNames, KnowsTypes, NamesEntry, NamesType};
 ghost use Rattle.dwc_clone.specs.Sources.{IsEmitted, IsSource};
-ghost use Rattle.dwc_clone.specs.TypeChains.{GivesRead, behind, behind_name, chain_name, in_front, last_name, type_found, type_view};
-ghost use Rattle.dwc_clone.specs.TypeSteps.{AreNames, GivesAlike, IfEnds, IsOfType, IsPlaced, IsSetOf, ReadsStep, named_chain, next_type, step_name};
+ghost use Rattle.dwc_clone.specs.TypeChains.{GivesRead, behind, behind_name, in_front, named_chain, type_found, type_view};
+ghost use Rattle.dwc_clone.specs.TypeSteps.{AreNames, GivesAlike, HaveTexts, IsOfType, ReadsStep, step_name};
+ghost use Rattle.dwc_clone.specs.declared.type_name.DerivedType.{DerivedType};
 
 use crate::text::text_of;
 use crate::type_entry::{TypeEntry, type_of};
@@ -30,16 +29,55 @@ use dwc_base::constants::{
 use dwc_base::{SectionName, What};
 use dwc_read::Entry;
 use std::alloc::{AllocError, Global};
-use std::collections::{BTreeMap, BTreeSet};
+use std::collections::BTreeMap;
 
 // The name of what has none.
 const UNKNOWN: &[u8] = b"??";
 
-/// The names of types, by the offsets of their entries, so that a chain of types is followed once, however many pointers go to it. Only
-/// such are noted as hang on no entry that was met before.
+/// The names of types, by the offsets of their entries, so that a name is made once for all that go to a type; and the types that were read
+/// for them, so that each is read once, however many chains go through it.
 #[derive(Drop)]
 pub(crate) struct TypeNames {
-    names: BTreeMap<u64, Vec<u8>>,
+    names: BTreeMap<u64, TypeName>,
+    types: KnownTypes,
+}
+
+// The name of a type, for all entries of that type but the one at an offset.
+#[derive(Drop)]
+struct TypeName {
+    name: Vec<u8>,
+    but: u64,
+}
+
+// The types that were read: those that are derived from others, and the names of those that end a chain.
+#[derive(Drop)]
+struct KnownTypes {
+    derived: Vec<DerivedType>,
+    // the place among them of each, by its offset
+    places: BTreeMap<u64, usize>,
+    // the names of the others, by their offsets
+    ends: BTreeMap<u64, Vec<u8>>,
+    // how many chains were followed
+    walks: u64,
+}
+
+// A type without a name that is derived from another: its tag, that type, and where this may stand; and the number of the chain that it was
+// met on last, from 1 on.
+#[derive(Clone, Copy)]
+struct DerivedType {
+    offset: u64,
+    tag: u16,
+    next: Option<TypeEntry>,
+    near: usize,
+    walk: u64,
+}
+
+// A name by a chain that was followed for an entry: that of its last type, `??` where it has none and where an entry is met again, or that of
+// its first. It holds for all entries of the first type but the one at an offset; without an offset for the entry that is named alone.
+#[derive(Drop)]
+struct ChainName {
+    name: Vec<u8>,
+    but: Option<u64>,
 }
 
 impl TypeNames {
@@ -50,23 +88,22 @@ impl TypeNames {
     {
         TypeNames {
             names: BTreeMap::new(alloc),
+            types: no_types(alloc),
         }
     }
 }
 
-// How a chain of types ends: with one that has a name, with one that has none and is derived from no other, or with one that was met.
-#[derive(Clone, Copy)]
-enum ChainEnd<'d> {
-    Named(&'d [u8]),
-    Unknown,
-    Met,
-}
-
-// A chain of types: the tags of those that are derived from the next one, the outermost first, and how it ends.
-#[derive(Drop)]
-struct TypeChain<'d> {
-    tags: Vec<u16>,
-    end: ChainEnd<'d>,
+// No types yet.
+fn no_types(alloc: Global) -> KnownTypes
+    ensures texts { HaveTexts result }
+    ensures types { (source : CloneSource) (s : UnitSource) → KnowsTypes source s result }
+{
+    KnownTypes {
+        derived: Vec::new(alloc),
+        places: BTreeMap::new(alloc),
+        ends: BTreeMap::new(alloc),
+        walks: 0,
+    }
 }
 
 // A type of a chain, as it is read: one that has a name; one that has none and is derived from no other; or one that has none, by its tag,
@@ -142,7 +179,6 @@ fn read_step<'d>(
     offset: u64,
 ) -> Result<TypeStep<'d>, CloneError>
     ensures step { ReadsStep source.now offset result }
-    ensures placed { IfOk result (λ step. IsPlaced source.now (next_type step)) }
     ensures text { IfOk result (λ step. IsText (step_name step)) }
 {
     let entry = type_entry(alloc, source, offset)?;
@@ -155,53 +191,236 @@ fn read_step<'d>(
     Ok(TypeStep::Derived(entry.tag, type_of(source, &entry)))
 }
 
-// Follows the types from one on, each derived from the next, and answers how their chain ends. `met` are the entries that were met, and
-// `tags` get those of the types that are derived from the next one.
-fn follow_chain<'d>(
-    alloc: Global,
-    source: &CloneSource<'_, 'd>,
-    first: TypeEntry,
-    met: &mut BTreeSet<u64>,
-    tags: &mut Vec<u16>,
-) -> Result<ChainEnd<'d>, CloneError>
-    requires placed { is_some (place_of source.now.places.now first.offset) ≡ true }
-    requires empty { tags.old.items ≡ [] }
-    ensures named { (s : UnitSource) (e : Placed) → IsOfType source.now s e first → IsSetOf (e.entry.offset ∷ []) met.old → GivesRead (named_chain tags.new.items) (type_name s.texts s.entries e) result }
-    ensures others { (s : UnitSource) (e : Placed) → IsOfType source.now s e first → attribute name_code e.entry ≡ None → IfOk result (λ last. IfEnds last (type_name s.texts s.entries e ≡ Ok (named_chain tags.new.items last))) }
-    ensures text { IfOk result (λ last. IsText (last_name last)) }
+// Whether the derived type at a place is the one at an offset.
+fn is_at(types: &[DerivedType], place: usize, offset: u64) -> bool
+    ensures { result ≡ is_at types.now place offset }
 {
-    let mut next = Some(first);
-    while let Some(named) = next {
-        if !met.insert(named.offset)? {
-            return Ok(ChainEnd::Met);
-        }
-        match read_step(alloc, source, named.offset)? {
-            TypeStep::Named(name) => return Ok(ChainEnd::Named(name)),
-            TypeStep::Last => return Ok(ChainEnd::Unknown),
-            TypeStep::Derived(tag, base) => {
-                tags.push(tag)?;
-                next = base;
-            }
-        }
+    match types.get(place) {
+        Some(found) => found.offset == offset,
+        None => false,
     }
-    Ok(ChainEnd::Unknown)
 }
 
-// The types from one on, each derived from the next. `met` are the entries that were met.
-fn chain_from<'d>(
-    alloc: Global,
-    source: &CloneSource<'_, 'd>,
-    first: TypeEntry,
-    met: &mut BTreeSet<u64>,
-) -> Result<TypeChain<'d>, CloneError>
-    requires { is_some (place_of source.now.places.now first.offset) ≡ true }
-    ensures named { (s : UnitSource) (e : Placed) → IsOfType source.now s e first → IsSetOf (e.entry.offset ∷ []) met.old → GivesRead chain_name (type_name s.texts s.entries e) result }
-    ensures others { (s : UnitSource) (e : Placed) → IsOfType source.now s e first → attribute name_code e.entry ≡ None → IfOk result (λ chain. IfEnds chain.«end» (type_name s.texts s.entries e ≡ Ok (chain_name chain))) }
-    ensures text { IfOk result (λ chain. IsText (chain_name chain)) }
+// The place of the derived type at an offset, if it was read; `near` is where it may stand.
+fn place_of(types: &KnownTypes, offset: u64, near: usize) -> Option<usize>
+    ensures at { IfSome result (λ place. is_at types.now.derived.items place offset ≡ true) }
+    ensures none { (i : ℕ) → get nat_cmp types.now.places offset ≡ Some i → is_at types.now.derived.items i offset ≡ true → is_some result ≡ true }
 {
-    let mut tags = Vec::new(alloc);
-    let end = follow_chain(alloc, source, first, met, &mut tags)?;
-    Ok(TypeChain { tags, end })
+    if is_at(&types.derived, near, offset) {
+        return Some(near);
+    }
+    match types.places.get(&offset) {
+        Some(place) => {
+            if is_at(&types.derived, *place, offset) {
+                Some(*place)
+            } else {
+                None
+            }
+        }
+        None => None,
+    }
+}
+
+// Where the type that a derived type goes to may stand: where it stands, or behind all.
+fn near_place(types: &KnownTypes, next: Option<TypeEntry>) -> usize {
+    match next {
+        Some(named) => match types.places.get(&named.offset) {
+            Some(place) => *place,
+            None => types.derived.len() + 1,
+        },
+        None => 0,
+    }
+}
+
+// Keeps a derived type that was read at an offset, and answers its place.
+fn keep_derived(
+    types: &mut KnownTypes,
+    offset: u64,
+    tag: u16,
+    next: Option<TypeEntry>,
+) -> Result<usize, AllocError>
+    requires texts { HaveTexts types.old }
+    ensures texts { HaveTexts types.new }
+    ensures walks { types.new.walks ≡ types.old.walks }
+    ensures adds { OnOk result (AddsUnmet types.old.derived.items types.new.derived.items) }
+    ensures at { IfOk result (λ place. is_at types.new.derived.items place offset ≡ true) }
+    ensures types { (source : CloneSource) (s : UnitSource) → IsRead source s offset tag next → IsAway types.old.derived.items offset → KnowsTypes source s types.old → OnOk result (KnowsTypes source s types.new) }
+{
+    let place = types.derived.len();
+    let near = near_place(types, next);
+    types.derived.push(DerivedType {
+        offset,
+        tag,
+        next,
+        near,
+        walk: 0,
+    })?;
+    types.places.insert(offset, place)?;
+    Ok(place)
+}
+
+// Keeps the name of a type at an offset that ends a chain.
+fn keep_end(
+    alloc: Global,
+    types: &mut KnownTypes,
+    offset: u64,
+    name: &[u8],
+) -> Result<(), AllocError>
+    requires texts { HaveTexts types.old }
+    requires text { IsText name.now }
+    ensures texts { HaveTexts types.new }
+    ensures walks { types.new.walks ≡ types.old.walks }
+    ensures same { types.new.derived.items ≡ types.old.derived.items }
+    ensures name { OnOk result (end_of types.new offset ≡ name.now) }
+    ensures types { (source : CloneSource) (s : UnitSource) → EndsSo source s offset name.now → KnowsTypes source s types.old → OnOk result (KnowsTypes source s types.new) }
+{
+    let name = name.to_vec(alloc)?;
+    types.ends.insert(offset, name)?;
+    Ok(())
+}
+
+// The name of a type at an offset that ends a chain.
+fn end_name<'n>(types: &'n KnownTypes, offset: u64) -> &'n [u8]
+    ensures { result.now ≡ end_of types.now offset }
+{
+    match types.ends.get(&offset) {
+        Some(name) => name.as_slice(),
+        None => UNKNOWN,
+    }
+}
+
+// Reads the type at an offset, of which no derived type was kept, and answers its place if it is one; otherwise its name is kept.
+fn read_type(
+    alloc: Global,
+    source: &CloneSource<'_, '_>,
+    offset: u64,
+    types: &mut KnownTypes,
+) -> Result<Option<usize>, CloneError>
+    requires texts { HaveTexts types.old }
+    ensures texts { HaveTexts types.new }
+    ensures walks { types.new.walks ≡ types.old.walks }
+    ensures adds { OnOk result (AddsUnmet types.old.derived.items types.new.derived.items) }
+    ensures at { IfOk result (λ found. IfSome found (λ place. is_at types.new.derived.items place offset ≡ true)) }
+    ensures types { (s : UnitSource) → IsAway types.old.derived.items offset → KnowsTypes source.now s types.old → OnOk result (KnowsTypes source.now s types.new) }
+    ensures ending { (s : UnitSource) → KnowsTypes source.now s types.old → IfEnds result (EndsSo source.now s offset (end_of types.new offset)) }
+    ensures refused { IfErr result (λ e. ReadsStep source.now offset (Err e)) }
+{
+    if let Some(_) = types.ends.get(&offset) {
+        return Ok(None);
+    }
+    match read_step(alloc, source, offset)? {
+        TypeStep::Named(name) => {
+            keep_end(alloc, types, offset, name)?;
+            Ok(None)
+        }
+        TypeStep::Last => {
+            keep_end(alloc, types, offset, UNKNOWN)?;
+            Ok(None)
+        }
+        TypeStep::Derived(tag, next) => Ok(Some(keep_derived(types, offset, tag, next)?)),
+    }
+}
+
+// The place of the type at an offset, if it is derived from another; otherwise its name is kept. `near` is where it may stand.
+fn find_type(
+    alloc: Global,
+    source: &CloneSource<'_, '_>,
+    offset: u64,
+    near: usize,
+    types: &mut KnownTypes,
+) -> Result<Option<usize>, CloneError>
+    requires texts { HaveTexts types.old }
+    ensures texts { HaveTexts types.new }
+    ensures walks { types.new.walks ≡ types.old.walks }
+    ensures adds { OnOk result (AddsUnmet types.old.derived.items types.new.derived.items) }
+    ensures at { IfOk result (λ found. IfSome found (λ place. is_at types.new.derived.items place offset ≡ true)) }
+    ensures types { (s : UnitSource) → KnowsTypes source.now s types.old → OnOk result (KnowsTypes source.now s types.new) }
+    ensures away { (s : UnitSource) → KnowsTypes source.now s types.old → IfAway result (IsAway types.old.derived.items offset) }
+    ensures ending { (s : UnitSource) → KnowsTypes source.now s types.old → IfEnds result (EndsSo source.now s offset (end_of types.new offset)) }
+    ensures refused { IfErr result (λ e. ReadsStep source.now offset (Err e)) }
+{
+    match place_of(types, offset, near) {
+        Some(place) => Ok(Some(place)),
+        None => read_type(alloc, source, offset, types),
+    }
+}
+
+// Meets the derived type at a place on the chain of a number; None where it was met on it before.
+fn meet(types: &mut KnownTypes, place: usize, walk: u64) -> Option<DerivedType>
+    requires inside { place < length types.old.derived.items }
+    requires texts { HaveTexts types.old }
+    ensures texts { HaveTexts types.new }
+    ensures rest { types.new ≡ record { derived = types.new.derived; places = types.old.places; ends = types.old.ends; walks = types.old.walks } }
+    ensures met { IfSome result (λ met. slice_get types.old.derived.items place ≡ Some met) }
+    ensures first { IfSome result (λ met. (met.walk == walk) ≡ false) }
+    ensures changed { IfSome result (λ met. types.new.derived.items ≡ set types.old.derived.items place (at_walk walk met)) }
+    ensures same { result ≡ None → types.new ≡ types.old }
+    ensures again { result ≡ None → (met : DerivedType) → slice_get types.old.derived.items place ≡ Some met → (met.walk == walk) ≡ true }
+{
+    let met = types.derived[place];
+    if met.walk == walk {
+        return None;
+    }
+    types.derived[place] = DerivedType {
+        offset: met.offset,
+        tag: met.tag,
+        next: met.next,
+        near: met.near,
+        walk,
+    };
+    Some(met)
+}
+
+// A name by a chain, for all but an entry.
+fn name_for(alloc: Global, name: &[u8], but: Option<u64>) -> Result<ChainName, AllocError>
+    ensures name { IfOk result (λ last. last.name.items ≡ name.now) }
+    ensures but { IfOk result (λ last. last.but ≡ but) }
+{
+    let name = name.to_vec(alloc)?;
+    Ok(ChainName { name, but })
+}
+
+// Follows the types from one on, each derived from the next, for the entry at an offset, and answers the name of the last. `walk` is the
+// number of their chain, and `tags` get those of the types that are derived from the next one.
+fn follow_chain(
+    alloc: Global,
+    source: &CloneSource<'_, '_>,
+    own: u64,
+    first: TypeEntry,
+    walk: u64,
+    types: &mut KnownTypes,
+    tags: &mut Vec<u16>,
+) -> Result<ChainName, CloneError>
+    requires texts { HaveTexts types.old }
+    requires walk { types.old.walks ≡ walk }
+    requires counted { 0 < walk }
+    requires empty { tags.old.items ≡ [] }
+    ensures texts { HaveTexts types.new }
+    ensures text { IfOk result (λ last. IsText last.name.items) }
+    ensures types { (s : UnitSource) → KnowsTypes source.now s types.old → OnOk result (KnowsTypes source.now s types.new) }
+    ensures named { (s : UnitSource) (e : Placed) → IsOfType source.now s e first → e.entry.offset ≡ own → KnowsTypes source.now s types.old → IsFresh walk types.old.derived.items → GivesRead (λ last. named_chain tags.new.items last.name.items) (type_name s.texts s.entries e) result }
+    ensures others { (s : UnitSource) (e : Placed) → IsOfType source.now s e first → KnowsTypes source.now s types.old → IsFresh walk types.old.derived.items → IfOk result (λ last. IfSome last.but (λ but. e.entry.offset ≢ but → type_name s.texts s.entries e ≡ Ok (named_chain tags.new.items last.name.items))) }
+{
+    let mut next = Some(first);
+    let mut near = types.derived.len();
+    let mut last = own;
+    while let Some(named) = next {
+        if named.offset == own {
+            return Ok(name_for(alloc, UNKNOWN, None)?);
+        }
+        let Some(place) = find_type(alloc, source, named.offset, near, types)? else {
+            let name = end_name(types, named.offset);
+            return Ok(name_for(alloc, name, Some(named.offset))?);
+        };
+        let Some(met) = meet(types, place, walk) else {
+            return Ok(name_for(alloc, UNKNOWN, Some(last))?);
+        };
+        tags.push(met.tag)?;
+        next = met.next;
+        near = met.near;
+        last = named.offset;
+    }
+    Ok(name_for(alloc, UNKNOWN, Some(last))?)
 }
 
 // Puts what stands in front of a name for types of some tags, the outermost first.
@@ -240,86 +459,100 @@ fn put_behind(out: &mut Vec<u8>, tags: &[u16]) -> Result<(), AllocError>
     Ok(())
 }
 
-// The name of a chain.
-fn chain_name(alloc: Global, chain: &TypeChain<'_>) -> Result<Vec<u8>, AllocError>
-    ensures { IfOk result (λ name. name.items ≡ chain_name chain.now) }
+// The name of a chain of types of some tags, the outermost first, by the name of the last.
+fn chain_name(alloc: Global, tags: &[u16], last: &[u8]) -> Result<Vec<u8>, AllocError>
+    ensures { IfOk result (λ name. name.items ≡ named_chain tags.now last.now) }
 {
     let mut name = Vec::new(alloc);
-    put_in_front(&mut name, &chain.tags)?;
-    match chain.end {
-        ChainEnd::Named(last) => name.extend_from_slice(last)?,
-        ChainEnd::Unknown | ChainEnd::Met => name.extend_from_slice(UNKNOWN)?,
-    }
-    put_behind(&mut name, &chain.tags)?;
+    put_in_front(&mut name, tags)?;
+    name.extend_from_slice(last)?;
+    put_behind(&mut name, tags)?;
     Ok(name)
 }
 
-// Notes the name of the type at an offset.
-fn note(alloc: Global, names: &mut TypeNames, offset: u64, name: &[u8]) -> Result<(), AllocError>
-    requires texts { AreNames names.old }
-    requires text { IsText name.now }
-    ensures texts { AreNames names.new }
-    ensures names { (source : CloneSource) (s : UnitSource) → NamesType source s offset name.now → KnowsNames source s names.old → KnowsNames source s names.new }
+// The name of the type of an entry, by the first type of its chain, and which others have it too.
+fn read_name(
+    alloc: Global,
+    source: &CloneSource<'_, '_>,
+    own: u64,
+    first: TypeEntry,
+    types: &mut KnownTypes,
+) -> Result<ChainName, CloneError>
+    requires texts { HaveTexts types.old }
+    ensures texts { HaveTexts types.new }
+    ensures text { IfOk result (λ made. IsText made.name.items) }
+    ensures types { (s : UnitSource) → KnowsTypes source.now s types.old → OnOk result (KnowsTypes source.now s types.new) }
+    ensures name { (s : UnitSource) (e : Placed) → IsOfType source.now s e first → e.entry.offset ≡ own → KnowsTypes source.now s types.old → GivesRead (λ made. made.name.items) (type_name s.texts s.entries e) result }
+    ensures others { (s : UnitSource) (e : Placed) → IsOfType source.now s e first → KnowsTypes source.now s types.old → IfOk result (λ made. IfSome made.but (λ but. e.entry.offset ≢ but → type_name s.texts s.entries e ≡ Ok made.name.items)) }
 {
-    let name = name.to_vec(alloc)?;
-    names.names.insert(offset, name)?;
-    Ok(())
+    let Some(walk) = types.walks.checked_add(1) else {
+        return Err(CloneError::OutOfMemory);
+    };
+    types.walks = walk;
+    let mut tags = Vec::new(alloc);
+    let last = follow_chain(alloc, source, own, first, walk, types, &mut tags)?;
+    let name = chain_name(alloc, &tags, &last.name)?;
+    Ok(ChainName {
+        name,
+        but: last.but,
+    })
 }
 
-// Notes the name of the type at an offset, unless its chain ends at an entry that was met.
-fn note_ended(
+// Notes the name of the type at an offset, for all but one entry.
+fn note(
     alloc: Global,
     names: &mut TypeNames,
     offset: u64,
-    last: ChainEnd<'_>,
+    but: Option<u64>,
     name: &[u8],
 ) -> Result<(), AllocError>
     requires texts { AreNames names.old }
     requires text { IsText name.now }
     ensures texts { AreNames names.new }
-    ensures names { (source : CloneSource) (s : UnitSource) → IfEnds last.entry (NamesType source s offset name.now) → KnowsNames source s names.old → KnowsNames source s names.new }
+    ensures names { (source : CloneSource) (s : UnitSource) → IfSome but (λ but. NamesType source s offset but name.now) → KnowsNames source s names.old → OnOk result (KnowsNames source s names.new) }
 {
-    match last {
-        ChainEnd::Met => Ok(()),
-        ChainEnd::Named(_) | ChainEnd::Unknown => note(alloc, names, offset, name),
+    if let Some(but) = but {
+        let name = name.to_vec(alloc)?;
+        names.names.insert(offset, TypeName { name, but })?;
+    }
+    Ok(())
+}
+
+// The name that is noted of the type at an offset, for the entry at another.
+fn noted<'n>(names: &'n TypeNames, own: u64, offset: u64) -> Option<&'n [u8]>
+    requires texts { AreNames names.now }
+    ensures text { IfSome result (λ name. IsText name.now) }
+    ensures noted { (source : CloneSource) (s : UnitSource) → KnowsNames source s names.now → IfSome result (λ name. NamesEntry source s offset own name.now) }
+{
+    match names.names.get(&offset) {
+        Some(noted) => {
+            if noted.but == own {
+                None
+            } else {
+                Some(noted.name.as_slice())
+            }
+        }
+        None => None,
     }
 }
 
-// The name of the type of an entry, which is met from the start; it is noted where it hangs on no entry that was met.
-fn read_name(
+// Makes the name of the type of an entry, by the first type of its chain, and notes it.
+fn make_name(
     alloc: Global,
     source: &CloneSource<'_, '_>,
-    entry: &Entry<'_>,
+    own: u64,
     first: TypeEntry,
     names: &mut TypeNames,
 ) -> Result<Vec<u8>, CloneError>
-    requires first { type_found source.now (entry_view entry.now) ≡ Some (type_view first) }
     requires texts { AreNames names.old }
     ensures texts { AreNames names.new }
     ensures text { IfOk result (λ name. IsText name.items) }
-    ensures names { (number : ℕ) (s : UnitSource) → IsSource source.now number s → KnowsNames source.now s names.old → OnOk result (KnowsNames source.now s names.new) }
-    ensures name { (number : ℕ) (s : UnitSource) → IsSource source.now number s → IsEmitted source.now s (placed_entry source.now (entry_view entry.now)) → GivesRead (λ name. name.items) (type_name s.texts s.entries (placed_entry source.now (entry_view entry.now))) result }
+    ensures names { (number : ℕ) (s : UnitSource) (e : Placed) → IsSource source.now number s → type_found source.now e.entry ≡ Some (type_view first) → KnowsNames source.now s names.old → OnOk result (KnowsNames source.now s names.new) }
+    ensures name { (s : UnitSource) (e : Placed) → IsOfType source.now s e first → e.entry.offset ≡ own → KnowsNames source.now s names.old → GivesRead (λ name. name.items) (type_name s.texts s.entries e) result }
 {
-    let mut met = BTreeSet::new(alloc);
-    met.insert(entry.offset)?;
-    let chain = chain_from(alloc, source, first, &mut met)?;
-    let name = chain_name(alloc, &chain)?;
-    note_ended(alloc, names, first.offset, chain.end, &name)?;
-    Ok(name)
-}
-
-// The name that is noted of a type, for an entry without a name: such a one stands in no chain that ends.
-fn noted<'n>(names: &'n TypeNames, entry: &Entry<'_>, first: TypeEntry) -> Option<&'n [u8]>
-    ensures unnamed { IfSome result (λ name. attribute name_code (entry_view entry.now) ≡ None) }
-    ensures noted { IfSome result (λ name. option_map (λ text. text.items) (get nat_cmp names.now.names first.offset) ≡ Some name.now) }
-{
-    if entry.attr(DW_AT_name).is_some() {
-        return None;
-    }
-    match names.names.get(&first.offset) {
-        Some(name) => Some(name.as_slice()),
-        None => None,
-    }
+    let made = read_name(alloc, source, own, first, &mut names.types)?;
+    note(alloc, names, first.offset, made.but, &made.name)?;
+    Ok(made.name)
 }
 
 /// The name of the type of an entry: its own, or else by the type that it is derived from; `??` where there is none, and
@@ -343,8 +576,8 @@ pub(crate) fn type_name(
     let Some(first) = type_of(source, entry) else {
         return Ok(UNKNOWN.to_vec(alloc)?);
     };
-    match noted(names, entry, first) {
+    match noted(names, entry.offset, first.offset) {
         Some(name) => Ok(name.to_vec(alloc)?),
-        None => read_name(alloc, source, entry, first, names),
+        None => make_name(alloc, source, entry.offset, first, names),
     }
 }

@@ -14,7 +14,7 @@ returns-in_default-clause-name c number s source emitted known =
     untyped src number s (placed_entry src (entry_view c.args.entry.now)) source emitted none ∙ ap (λ n. Ok n) (sym same)
 
 pub returns-in-None-clause-names : goal.returns-in-None-clause-names
-returns-in-None-clause-names c number s source emitted known = c.read_name.ensures.names number s source known
-
-pub returns-in-None-clause-name : goal.returns-in-None-clause-name
-returns-in-None-clause-name c number s source emitted known = c.read_name.ensures.name number s source emitted
+returns-in-None-clause-names c number s source emitted known =
+    let src = c.args.source.now in
+    let type_is = sym c.type_of.ensures ∙ ap (option_map type_view) c.in-Some.is in
+    c.make_name.ensures.names number s (placed_entry src (entry_view c.args.entry.now)) source type_is known

@@ -175,6 +175,14 @@ loop-next-preserved g c =
           subst (λ es. AreAmong registers src number s roles all es next c.args.strings.now c.loop-next.strings c.args.begun c.loop-next.unit walk.parents.items (reverse walk.open.items) walk.lineage walk.contexts walk.names) past (c.loop-next.invariant.cloned number s roles source frames can emitted walked numbers);
     }
 
+pub returns-in_err-of_memory-2-clause-cloned : goal.returns-in_err-of_memory-2-clause-cloned
+returns-in_err-of_memory-2-clause-cloned g c number s source frames none can emitted walked =
+    let registers = (goal.TargetIsa-dyn g c.args.isa.now).dwarf_registers c.args.isa.now.1 in
+    let src = c.args.source.now in
+    let all = picked c.args.kept.now (entries_of src.unit.now.sections src.unit.now.header).items in
+    let q = err_from_is_err_and c.from_residual-in_err-of_memory-2.result c.from_residual-in_err-of_memory-2.ensures.1 in
+    rw (q.1, q.2) (subst (TellsFirst (clone_refusals registers src s all)) (sym (ap refusal_told c.in_err-of_memory-2.ensures)) tt)
+
 pub returns-clause-cloned : goal.returns-clause-cloned
 returns-clause-cloned g c number s source frames none can emitted walked =
     let registers = (goal.TargetIsa-dyn g c.args.isa.now).dwarf_registers c.args.isa.now.1 in
