@@ -3,6 +3,7 @@ use Rattle.std.specs.Prelude.{◌≡◌, ℕ, List, ◌++◌, map, length, Bool,
 use Rattle.std.specs.List.{flat_map}
 use Rattle.dwc_base.specs.declared.wasm.ModuleTranslation.{ModuleTranslation}
 use Rattle.dwc_base.specs.Translations.{translation_sections}
+use Rattle.dwc_base.specs.TranslationNames.{told_file}
 use Rattle.dwc_base.specs.Functions.{Function}
 use Rattle.dwc_base.specs.Compiled.{ToldModule}
 use Rattle.dwc_base.specs.Carried.{units, Module}
@@ -19,7 +20,7 @@ use Rattle.dwc_carry.specs.CarriedUnits.{AddsUnits}
 
 -- a module, with the functions that its transform keeps and what is told of it
 abbrev pub transformed_module : ModuleTranslation → List Function → ToldModule → Module
-transformed_module t fs told = record { sections = translation_sections t; functions = fs; told = told; compressed = t.compressed }
+transformed_module t fs told = record { sections = translation_sections t; functions = fs; told = told; file = told_file t; compressed = t.compressed }
 
 -- ---- what is read of a module
 

@@ -5,6 +5,7 @@ use Rattle.dwc_base.specs.declared.records.Endian.{Endian}
 use Rattle.dwc_base.specs.declared.records.MapFault.{MapFault}
 use Rattle.dwc_base.specs.declared.wasm.ModuleTranslation.{ModuleTranslation}
 use Rattle.dwc_base.specs.Translations.{translation_sections}
+use Rattle.dwc_base.specs.TranslationNames.{told_file}
 use Rattle.dwc_base.specs.Functions.{Function, functions_of}
 use Rattle.dwc_base.specs.Carried.{Module, Compilation}
 use Rattle.dwc_base.specs.Compiled.{LinkageNames, ToldModule}
@@ -27,7 +28,7 @@ told_from registers names place number (fs ∷ fss) (offset ∷ offsets) = told_
 
 -- a module of a translation and of the functions compiled from it, of which the first has a number, with what is told of it
 abbrev pub module_view : ℕ → ModuleTranslation → List Compiled → ToldModule → Module
-module_view number t fs told = record { sections = translation_sections t; functions = functions_of t.code_section_offset number (map address_map_view fs); told = told; compressed = t.compressed }
+module_view number t fs told = record { sections = translation_sections t; functions = functions_of t.code_section_offset number (map address_map_view fs); told = told; file = told_file t; compressed = t.compressed }
 
 -- modules in order, whose functions are numbered over all of them from a number on
 abbrev pub modules_from : ℕ → List ModuleTranslation → List (List Compiled) → List ToldModule → List Module
@@ -52,7 +53,7 @@ modules_of registers c = modules_from 0 c.translations c.functions (told_from re
 
 -- the input of a compilation for a target of a byte order, an address size, and numbers of registers
 abbrev pub input_of : Endian → ℕ → Registers → CompilationValue → Compilation
-input_of order pointer_bytes registers c = record { order = order; pointer_bytes = pointer_bytes; modules = modules_of registers c }
+input_of order pointer_bytes registers c = record { order = order; pointer_bytes = pointer_bytes; modules = modules_of registers c; next_id = c.next_id }
 
 -- the first bad map of modules from a place on: the place of its module, that of its function, and the first rule it breaks
 abbrev pub bad_map_from : ℕ → List ModuleTranslation → List (List Compiled) → Option (ℕ × (ℕ × MapFault))

@@ -10,5 +10,6 @@ pub mod ModulePlaces
 pub mod CarriedUnits
 pub mod CarriedModules
 pub mod Inputs
+pub mod UnitPathParts
 pub mod Transformed
 pub mod Emits

@@ -17,6 +17,7 @@ mod output_form;
 mod own_entries;
 mod synthetic_unit;
 mod transform;
+mod unit_path;
 
 pub use dependencies::build_dependencies;
 pub use die_ref::resolve_die_ref;
