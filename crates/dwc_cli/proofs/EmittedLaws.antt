@@ -13,10 +13,12 @@ use Rattle.dwc_base.specs.declared.records.MapFault.{MapFault}
 use Rattle.dwc_base.specs.declared.output.DwarfSection.{DwarfSection}
 use Rattle.dwc_base.specs.declared.wasm.ModuleTranslation.{ModuleTranslation}
 use Rattle.dwc_base.specs.SharedSymbols.{shared_symbol}
-use Rattle.dwc_base.specs.Compiled.{LinkageNames, ToldModule, values_from}
+use Rattle.dwc_base.specs.Compiled.{LinkageNames, ToldModule, frames_from, labels_from, values_from}
 use Rattle.dwc_base.specs.Functions.{AddressMap, map_fault, functions_of}
 use Rattle.dwc_base.specs.Wasm.{WasmModule, module_sections}
-use Rattle.dwc_base.specs.Translations.{translation_sections, IsTranslation}
+use Rattle.dwc_base.specs.Translations.{translation_sections, IsWholeTranslation}
+use Rattle.dwc_base.specs.TranslationNames.{told_file}
+use Rattle.dwc_base.specs.ToldFiles.{file_of}
 use Rattle.dwc_base.specs.Carried.{Module, Compilation}
 use Rattle.dwc_base.specs.Refusals.{Refusal}
 use Rattle.dwc_base.specs.Forests.{first_refusal, trees_made}
@@ -24,10 +26,12 @@ use Rattle.dwc_base.specs.TreeLaws.{have_short_expressions}
 use Rattle.dwc_base.specs.OutputCarried.{OutputCarried}
 use Rattle.dwc_write.specs.Writers.{IsSound}
 use Rattle.dwc_base.proofs.Translated.{translation_sections-is}
+use Rattle.dwc_base.proofs.WasmNameLaws.{told_file-is}
 use Rattle.dwc_clif.specs.AddressMaps.{address_map_view}
+use Rattle.dwc_clif.specs.CallFrames.{description_of_metadata}
 use Rattle.dwc_clif.specs.Registers.{Registers, registers_of}
 use Rattle.dwc_expr.specs.Frames.{memory_view}
-use Rattle.dwc_clone.specs.CompiledModules.{values_in, told_module}
+use Rattle.dwc_clone.specs.CompiledModules.{frames_in, labels_in, values_in, told_module}
 use Rattle.dwc_addr.specs.Numbers.{Compiled, function_count, symbols_in, all_symbols, symbol_view}
 use Rattle.dwc_addr.specs.Transforms.{first_bad_map}
 use Rattle.dwc_carry.specs.Inputs as carry
@@ -76,19 +80,38 @@ values-same : (fs : List Compiled) → values_in fs ≡ map ranges_of (map views
 values-same [] = refl
 values-same (f ∷ fs) = ap (λ vs. ranges_of (views.function_view f) ∷ vs) (values-same fs)
 
-told-same : (registers : Registers) (names : LinkageNames) (place number : ℕ) (m : MapModule) → told_module place number m.functions.items m.memory registers names ≡ told_of registers names place number (views.module_view m)
-told-same registers names place number m = ap (λ vs. record { place = place; values = values_from number vs; memory = memory_view m.memory; register = λ r. finite.get registers r; names = names }) (values-same m.functions.items)
+-- and their labels
+labels-same : (fs : List Compiled) → labels_in fs ≡ map (λ (f : value.MapFunction). finite.keys f.labels) (map views.function_view fs)
+labels-same [] = refl
+labels-same (f ∷ fs) = ap (λ ls. finite.keys (f.1).value_labels_ranges ∷ ls) (labels-same fs)
 
-module-same : (number : ℕ) (t : ModuleTranslation) (w : WasmModule) (fs gs : List AddressMap) (told seen : ToldModule) → fs ≡ gs → told ≡ seen → IsTranslation t w
-    → ◌≡◌ {A = Module} (record { sections = translation_sections t; functions = functions_of t.code_section_offset number fs; told = told; compressed = t.compressed }) (record { sections = module_sections w; functions = functions_of w.code_offset number gs; told = seen; compressed = w.compressed })
-module-same number t w fs gs told seen maps tells is = λ i. record {
-  sections = translation_sections-is t w is i;
-  functions = functions_of (is.code_section_offset i) number (maps i);
-  told = tells i;
-  compressed = is.compressed i;
+-- and how they unwind
+frames-same : (fs : List Compiled) → frames_in fs ≡ map (λ (f : value.MapFunction). f.frame) (map views.function_view fs)
+frames-same [] = refl
+frames-same (f ∷ fs) = ap (λ ds. description_of_metadata f.1 ∷ ds) (frames-same fs)
+
+told-same : (registers : Registers) (names : LinkageNames) (place number : ℕ) (m : MapModule) → told_module place number m.functions.items m.memory registers names ≡ told_of registers names place number (views.module_view m)
+told-same registers names place number m = λ i. record {
+  place = place;
+  values = values_from number (values-same m.functions.items i);
+  labels = labels_from number (labels-same m.functions.items i);
+  frames = frames_from number (frames-same m.functions.items i);
+  memory = memory_view m.memory;
+  register = λ r. finite.get registers r;
+  names = names;
 }
 
-pub modules-same : (registers : Registers) (names : LinkageNames) (place number : ℕ) (ts : List ModuleTranslation) (ws : List WasmModule) (ms : List MapModule) → AllZip IsTranslation ts ws
+module-same : (number : ℕ) (t : ModuleTranslation) (w : WasmModule) (fs gs : List AddressMap) (told seen : ToldModule) → fs ≡ gs → told ≡ seen → IsWholeTranslation t w
+    → ◌≡◌ {A = Module} (record { sections = translation_sections t; functions = functions_of t.code_section_offset number fs; told = told; file = told_file t; compressed = t.compressed }) (record { sections = module_sections w; functions = functions_of w.code_offset number gs; told = seen; file = file_of None w; compressed = w.compressed })
+module-same number t w fs gs told seen maps tells is = λ i. record {
+  sections = translation_sections-is t w is.0 i;
+  functions = functions_of ((is.0).code_section_offset i) number (maps i);
+  told = tells i;
+  file = told_file-is t w is i;
+  compressed = (is.0).compressed i;
+}
+
+pub modules-same : (registers : Registers) (names : LinkageNames) (place number : ℕ) (ts : List ModuleTranslation) (ws : List WasmModule) (ms : List MapModule) → AllZip IsWholeTranslation ts ws
     → carry.modules_from number ts (functions_in ms) (carry.told_from registers names place number (functions_in ms) (memories_in ms)) ≡ modules_of registers names place number ws (modules_in ms)
 modules-same registers names place number [] [] ms h = refl
 modules-same registers names place number [] (w ∷ ws) ms h = absurd h
@@ -116,14 +139,14 @@ bad-joined : (m : ℕ) (o : Option (ℕ × MapFault)) (rest : Option (ℕ × (�
 bad-joined m None rest = refl
 bad-joined m (Some bad) rest = refl
 
-pub bad-same : (place : ℕ) (ts : List ModuleTranslation) (ws : List WasmModule) (ms : List MapModule) → AllZip IsTranslation ts ws → option_map bad_view (carry.bad_map_from place ts (functions_in ms)) ≡ bad_module place ws (modules_in ms)
+pub bad-same : (place : ℕ) (ts : List ModuleTranslation) (ws : List WasmModule) (ms : List MapModule) → AllZip IsWholeTranslation ts ws → option_map bad_view (carry.bad_map_from place ts (functions_in ms)) ≡ bad_module place ws (modules_in ms)
 bad-same place [] [] ms h = refl
 bad-same place [] (w ∷ ws) ms h = absurd h
 bad-same place (t ∷ ts) [] ms h = absurd h
 bad-same place (t ∷ ts) (w ∷ ws) [] h = refl
 bad-same place (t ∷ ts) (w ∷ ws) (m ∷ ms) h =
     bad-joined place (first_bad_map t.code_section_offset 0 (map address_map_view m.functions.items)) (carry.bad_map_from (suc place) ts (functions_in ms))
-    ∙ rw (bad-function place t.code_section_offset 0 m.functions.items, (h.0).code_section_offset, bad-same (suc place) ts ws ms h.1) refl
+    ∙ rw (bad-function place t.code_section_offset 0 m.functions.items, (h.0.0).code_section_offset, bad-same (suc place) ts ws ms h.1) refl
 
 -- ---- shared symbols
 
@@ -144,7 +167,7 @@ abbrev order_in : MapFile → Endian
 order_in f = if f.target.big_endian then Big else Little
 
 abbrev of_modules : MapFile → List Module → Compilation
-of_modules f ms = record { order = order_in f; pointer_bytes = f.target.pointer_bytes; modules = ms }
+of_modules f ms = record { order = order_in f; pointer_bytes = f.target.pointer_bytes; modules = ms; next_id = 0 }
 
 -- DWARF's numbers of the registers of a map
 abbrev registers_in : MapFile → Registers
@@ -163,7 +186,11 @@ compiled ts f read seen = record {
 
 -- ---- what hinders
 
-module _ (c : CompilationValue) (order : Endian) (size : ℕ) (registers : Registers) (read : Loaded) (is : IsCompiled order size registers (carry.names_of c) c.translations c.functions c.memory_offsets read) where
+module _ (c : CompilationValue) (order : Endian) (size : ℕ) (registers : Registers) (read : Loaded) (is : IsCompiled order size registers (carry.names_of c) c.translations c.functions c.memory_offsets read) (new : c.next_id ≡ 0) where
+  -- what was read is the compilation's input
+  input-is : compilation_of read ≡ carry.input_of order size registers c
+  input-is = is.input ∙ ap (λ n. record { order = order; pointer_bytes = size; modules = carry.modules_of registers c; next_id = n }) (sym new)
+
   first-is : (bad : Option (ℕ × (ℕ × MapFault))) (refusal : Option Refusal) → first_status None (option_map bad_view bad) refusal
       ≡ option_map input_status (option_or (option_map (λ bad. bad_address_map bad.0 bad.1.0 bad.1.1) bad) (option_map in_reading refusal))
   first-is (Some bad) refusal = refl
@@ -175,15 +202,15 @@ module _ (c : CompilationValue) (order : Endian) (size : ℕ) (registers : Regis
   hindrance-is none =
       ap (λ shared. first_status shared (bad_map read) (first_refusal (compilation_of read))) (is.symbols ∙ none)
       ∙ ap (λ bad. first_status None bad (first_refusal (compilation_of read))) is.maps
-      ∙ ap (λ input. first_status None (option_map bad_view (carry.bad_map c)) (first_refusal input)) is.input
+      ∙ ap (λ input. first_status None (option_map bad_view (carry.bad_map c)) (first_refusal input)) input-is
       ∙ first-is (carry.bad_map c) (first_refusal (carry.input_of order size registers c))
 
   pub emitted : shared_symbol (map symbol_view (all_symbols c.functions)) ≡ None → (s : Vec DwarfSection Global) → emits.Emits order size registers c (Ok s) → IsEmitted read (map section_view s.items)
   emitted none s h = record {
     unhindered = hindrance-is none ∙ ap (option_map input_status) h.0;
-    carried = subst (λ input. OutputCarried input (map section_view s.items)) (sym is.input) h.1.output;
-    short = ap (λ input. have_short_expressions (trees_made input)) is.input ∙ h.1.short;
-    sound = subst (λ input. All (IsSound input.order) (map section_view s.items)) (sym is.input) h.1.sound;
+    carried = subst (λ input. OutputCarried input (map section_view s.items)) (sym input-is) h.1.output;
+    short = ap (λ input. have_short_expressions (trees_made input)) input-is ∙ h.1.short;
+    sound = subst (λ input. All (IsSound input.order) (map section_view s.items)) (sym input-is) h.1.sound;
   }
 
   pub refused-emitting : shared_symbol (map symbol_view (all_symbols c.functions)) ≡ None → (e : DebugError) → emits.Emits order size registers c (Err e) → IsCause read (carrying_status e)
@@ -191,7 +218,7 @@ module _ (c : CompilationValue) (order : Endian) (size : ℕ) (registers : Regis
     where
       -- a limit that the output passes
       limit : carry.refusal_of order size registers c ≡ None → PassesLimit (carry.input_of order size registers c) → IsCause read 20
-      limit accepted passes = inr (inr (refl, hindrance-is none ∙ ap (option_map input_status) accepted, subst PassesLimit (sym is.input) passes))
+      limit accepted passes = inr (inr (refl, hindrance-is none ∙ ap (option_map input_status) accepted, subst PassesLimit (sym input-is) passes))
 
       go : (t : Told) → refusals.IsCause (emits.PassesLimit (carry.input_of order size registers c)) (carry.refusal_of order size registers c) t → IsCause read (told_status t)
       go (refusals.refused r) h = inr (inl (hindrance-is none ∙ ap (option_map input_status) h))

@@ -16,7 +16,7 @@ map_bytes_small = codes "{\"target\":{\"arch\":\"x86_64\"},\"names\":[\"set_mem\
 
 abbrev pub map_small : MapFile
 map_small = record {
-  target = record { architecture = X86_64; big_endian = false; pointer_bytes = 8; registers = finite.empty };
+  target = record { architecture = X86_64; big_endian = false; pointer_bytes = 8; registers = finite.empty; common_entry = None };
   set_memory = codes "set_mem";
   resolve_memory = codes "resolve_mem";
   modules =
@@ -25,6 +25,7 @@ map_small = record {
             record {
               address_map = record { symbol = Some 0; start = Some 22; end = Some 33; body_offset = 0; body_len = 30; entries = (5, Some 25) ∷ (8, None) ∷ (15, Some 30) ∷ (23, None) ∷ [] };
               labels = finite.empty;
+              frame = None;
             } ∷ [];
         memory = no_memory;
       } ∷ [];

@@ -1,7 +1,8 @@
 -- Map files: which have a value, and the values of fields that may be missing.
-use Rattle.std.proofs.Common.{◌≡◌, ℕ, List, [], ◌∷◌, Some, None, true, false, refl}
+use Rattle.std.proofs.Common.{◌≡◌, ℕ, pos, negsuc, List, [], ◌∷◌, Some, None, true, false, refl}
 use Rattle.std.specs.Prelude.{Bool, Option, codes, is_some, map}
 use Rattle.std.specs.FinMap as finite
+use Rattle.dwc_base.specs.CallFrames.{FrameDescription, def_cfa, remember_state}
 use Rattle.dwc_base.specs.Functions.{AddressMap}
 use Rattle.dwc_clif.specs.declared.architecture.Architecture.TheVariants.{Aarch64, Pulley}
 use Rattle.dwc_cli.specs.MapFile.{MapFile, Target, map_of_bytes}
@@ -20,18 +21,23 @@ abbrev pub functions_in : Option MapFile → List (List AddressMap)
 functions_in None = []
 functions_in (Some m) = map (λ x. map (λ f. f.address_map) x.functions) m.modules
 
+-- and how their frames change
+abbrev pub frames_in : Option MapFile → List (List (Option FrameDescription))
+frames_in None = []
+frames_in (Some m) = map (λ x. map (λ f. f.frame) x.functions) m.modules
+
 -- the smallest map
 plain : HasValue (codes "{\"target\":{\"arch\":\"pulley\"},\"names\":[\"a\",\"b\"],\"modules\":[{\"functions\":[{\"symbol\":7,\"start\":22,\"end\":33,\"body_len\":30,\"map\":[[5,25]]}]}]}") true
 unfolding map_on_literals
 plain = refl
 
 -- the byte order is little, pointers have 8 bytes and no register has a number where nothing is said
-target_defaults : target_in (map_of_bytes (1 ∷ []) (codes "{\"target\":{\"arch\":\"pulley\"},\"names\":[\"a\",\"b\"],\"modules\":[{\"functions\":[{\"symbol\":7,\"start\":22,\"end\":33,\"body_len\":30,\"map\":[[5,25]]}]}]}")) ≡ Some (record { architecture = Pulley; big_endian = false; pointer_bytes = 8; registers = finite.empty })
+target_defaults : target_in (map_of_bytes (1 ∷ []) (codes "{\"target\":{\"arch\":\"pulley\"},\"names\":[\"a\",\"b\"],\"modules\":[{\"functions\":[{\"symbol\":7,\"start\":22,\"end\":33,\"body_len\":30,\"map\":[[5,25]]}]}]}")) ≡ Some (record { architecture = Pulley; big_endian = false; pointer_bytes = 8; registers = finite.empty; common_entry = None })
 unfolding map_on_literals
 target_defaults = refl
 
 -- a target that tells both
-target_told : target_in (map_of_bytes (1 ∷ []) (codes "{\"target\":{\"arch\":\"aarch64\",\"big_endian\":true,\"pointer_bytes\":4},\"names\":[\"a\",\"b\"],\"modules\":[{\"functions\":[{\"symbol\":7,\"start\":22,\"end\":33,\"body_len\":30,\"map\":[[5,25]]}]}]}")) ≡ Some (record { architecture = Aarch64; big_endian = true; pointer_bytes = 4; registers = finite.empty })
+target_told : target_in (map_of_bytes (1 ∷ []) (codes "{\"target\":{\"arch\":\"aarch64\",\"big_endian\":true,\"pointer_bytes\":4},\"names\":[\"a\",\"b\"],\"modules\":[{\"functions\":[{\"symbol\":7,\"start\":22,\"end\":33,\"body_len\":30,\"map\":[[5,25]]}]}]}")) ≡ Some (record { architecture = Aarch64; big_endian = true; pointer_bytes = 4; registers = finite.empty; common_entry = None })
 unfolding map_on_literals
 target_told = refl
 
@@ -169,3 +175,27 @@ list = refl
 no_utf8 : map_of_bytes (1 ∷ []) (0xFF ∷ []) ≡ None
 unfolding map_on_literals
 no_utf8 = refl
+
+-- what the frames of a target share, and how the frame of a function changes
+cie_told : target_in (map_of_bytes (1 ∷ []) (codes "{\"target\":{\"arch\":\"pulley\",\"cie\":{\"code_factor\":1,\"data_factor\":-8,\"return_register\":16,\"ops\":[[\"cfa\",7,8]]}},\"names\":[\"a\",\"b\"],\"modules\":[{\"functions\":[{\"symbol\":7,\"start\":22,\"end\":33,\"body_len\":30,\"map\":[[5,25]]}]}]}")) ≡ Some (record {
+  architecture = Pulley;
+  big_endian = false;
+  pointer_bytes = 8;
+  registers = finite.empty;
+  common_entry = Some (record { code_factor = 1; data_factor = negsuc 7; return_register = 16; instructions = def_cfa 7 (pos 8) ∷ [] });
+})
+unfolding map_on_literals
+cie_told = refl
+
+frame_told : frames_in (map_of_bytes (1 ∷ []) (codes "{\"target\":{\"arch\":\"pulley\"},\"names\":[\"a\",\"b\"],\"modules\":[{\"functions\":[{\"symbol\":7,\"start\":22,\"end\":33,\"body_len\":30,\"map\":[[5,25]],\"frame\":{\"len\":30,\"ops\":[[1,[\"remember\"]]]}}]}]}")) ≡ (Some (record { length = 30; instructions = (1, remember_state) ∷ [] }) ∷ []) ∷ []
+unfolding map_on_literals
+frame_told = refl
+
+-- a common information entry that cannot be written, and a frame that is a list
+cie_unsound : HasValue (codes "{\"target\":{\"arch\":\"pulley\",\"cie\":{\"code_factor\":1,\"data_factor\":0,\"return_register\":16,\"ops\":[[\"cfa\",7,8]]}},\"names\":[\"a\",\"b\"],\"modules\":[{\"functions\":[{\"symbol\":7,\"start\":22,\"end\":33,\"body_len\":30,\"map\":[[5,25]]}]}]}") false
+unfolding map_on_literals
+cie_unsound = refl
+
+frame_list : HasValue (codes "{\"target\":{\"arch\":\"pulley\"},\"names\":[\"a\",\"b\"],\"modules\":[{\"functions\":[{\"symbol\":7,\"start\":22,\"end\":33,\"body_len\":30,\"map\":[[5,25]],\"frame\":[]}]}]}") false
+unfolding map_on_literals
+frame_list = refl

@@ -9,9 +9,12 @@ use Rattle.serde_json.specs.View.{view}
 use Rattle.serde_json.specs.Data.{Data, null, boolean, number, string, array, object}
 use Rattle.serde_json.specs.Find.{get_member}
 use Rattle.dwc_base.specs.declared.wasm.ModuleTranslation.{ModuleTranslation}
+use Rattle.dwc_base.specs.CallFrames.{CommonEntry, is_sound, is_sound_if}
 use Rattle.dwc_base.specs.Reading.{coded}
 use Rattle.dwc_cli.specs.declared.map_file.MapFile.{MapFile as DeclaredMap}
-use Rattle.dwc_cli.specs.MapFile.{◌>>=◌, only_if, Target, MapFile, number_below, value_or, with_default, required, list_of, pair_of, text_of, truth_of, members_of, architecture_of, pointer_bytes_of, register_numbers_of, target_of, map_module_of, have_counts, is_countable, map_value, IsMapFor}
+use Rattle.dwc_cli.specs.MapFile.{Target, MapFile, architecture_of, pointer_bytes_of, register_numbers_of, target_of, map_module_of, have_counts, is_countable, map_value, IsMapFor}
+use Rattle.dwc_cli.specs.MapValues.{◌>>=◌, only_if, number_below, value_or, with_default, required, list_of, pair_of, text_of, truth_of, members_of, u8_of, i8_of, nullable}
+use Rattle.dwc_cli.specs.MapFrames.{instruction_of, cie_of, cie_in}
 use Rattle.dwc_cli.specs.MapViews.{map_file_view}
 use Rattle.dwc_addr.specs.Compilations.{AreNames}
 use Rattle.dwc_cli.proofs.MapKinds.{pair_of_parts}
@@ -56,9 +59,52 @@ target-size d t e =
     let big_endian = bind-some (with_default (codes "big_endian") false truth_of ms.0) _ t architecture.2 in
     let pointer_bytes = bind-some (with_default (codes "pointer_bytes") 8 pointer_bytes_of ms.0) _ t big_endian.2 in
     let registers = bind-some (with_default (codes "registers") finite.empty register_numbers_of ms.0) _ t pointer_bytes.2 in
-    let is : pointer_bytes.0 ≡ t.pointer_bytes = ap (λ (x : Target). x.pointer_bytes) (same_some _ t registers.2) in
+    let common_entry = bind-some (cie_in ms.0) _ t registers.2 in
+    let is : pointer_bytes.0 ≡ t.pointer_bytes = ap (λ (x : Target). x.pointer_bytes) (same_some _ t common_entry.2) in
     let size = size_or (get_member (codes "pointer_bytes") ms.0) pointer_bytes.0 pointer_bytes.1 in
     subst (λ n. (n ≡ 4) ⊎ (n ≡ 8)) is size
+
+-- an entry that has a value can be written
+entry-sound : (d : Data) (c : CommonEntry) → cie_of d ≡ Some c → is_sound c ≡ true
+unfolding cie_of
+entry-sound d c e =
+    let ms = bind-some (members_of d) _ c e in
+    let code_factor = bind-some (required (codes "code_factor") u8_of ms.0) _ c ms.2 in
+    let data_factor = bind-some (required (codes "data_factor") i8_of ms.0) _ c code_factor.2 in
+    let return_register = bind-some (required (codes "return_register") u8_of ms.0) _ c data_factor.2 in
+    let instructions = bind-some (required (codes "ops") (list_of instruction_of) ms.0) _ c return_register.2 in
+    let whole : CommonEntry = record { code_factor = code_factor.0; data_factor = data_factor.0; return_register = return_register.0; instructions = instructions.0 } in
+    let kept = only_if-some (is_sound whole) whole c instructions.2 in
+    subst (λ x. is_sound x ≡ true) kept.1 kept.0
+
+some-sound : (o : Option CommonEntry) (c : Option CommonEntry) → ((x : CommonEntry) → o ≡ Some x → is_sound x ≡ true) → option_map Some o ≡ Some c → is_sound_if c ≡ true
+some-sound None c sound e = absurd (cc)
+some-sound (Some x) c sound e = subst (λ y. is_sound_if y ≡ true) (same_some (Some x) c e) (sound x refl)
+
+entry_if-sound : (d : Data) (c : Option CommonEntry) → nullable cie_of d ≡ Some c → is_sound_if c ≡ true
+entry_if-sound null c e = subst (λ y. is_sound_if y ≡ true) (same_some None c e) refl
+entry_if-sound (boolean b) c e = some-sound (cie_of (boolean b)) c (entry-sound (boolean b)) e
+entry_if-sound (number n) c e = some-sound (cie_of (number n)) c (entry-sound (number n)) e
+entry_if-sound (string s) c e = some-sound (cie_of (string s)) c (entry-sound (string s)) e
+entry_if-sound (array ds) c e = some-sound (cie_of (array ds)) c (entry-sound (array ds)) e
+entry_if-sound (object ms) c e = some-sound (cie_of (object ms)) c (entry-sound (object ms)) e
+
+told-sound : (o : Option Data) (c : Option CommonEntry) → value_or None (nullable cie_of) o ≡ Some c → is_sound_if c ≡ true
+told-sound None c e = subst (λ y. is_sound_if y ≡ true) (same_some None c e) refl
+told-sound (Some d) c e = entry_if-sound d c e
+
+-- what the frames of a target share can be written
+target-sound : (d : Data) (t : Target) → target_of d ≡ Some t → is_sound_if t.common_entry ≡ true
+unfolding target_of
+target-sound d t e =
+    let ms = bind-some (members_of d) _ t e in
+    let architecture = bind-some (required (codes "arch") architecture_of ms.0) _ t ms.2 in
+    let big_endian = bind-some (with_default (codes "big_endian") false truth_of ms.0) _ t architecture.2 in
+    let pointer_bytes = bind-some (with_default (codes "pointer_bytes") 8 pointer_bytes_of ms.0) _ t big_endian.2 in
+    let registers = bind-some (with_default (codes "registers") finite.empty register_numbers_of ms.0) _ t pointer_bytes.2 in
+    let common_entry = bind-some (cie_in ms.0) _ t registers.2 in
+    let is : common_entry.0 ≡ t.common_entry = ap (λ (x : Target). x.common_entry) (same_some _ t common_entry.2) in
+    subst (λ c. is_sound_if c ≡ true) is (told-sound (get_member (codes "cie") ms.0) common_entry.0 common_entry.1)
 
 neither : (a b : Bool) → (a || b) ≡ false → (a ≡ false) × (b ≡ false)
 neither true b e = absurd (true≢false e)
@@ -106,7 +152,7 @@ map_value-fits defined d m e =
     let tests = both (have_counts defined modules.0) (is_countable modules.0) kept.0 in
     let value = bind-some (get_member (codes "target") ms.0) target_of target.0 target.1 in
     let texts = bind-some (get_member (codes "names") ms.0) (pair_of text_of text_of) names.0 names.1 in
-    subst (IsMapFor defined) kept.1 (record { counts = tests.0; countable = tests.1; pointer = target-size value.0 target.0 value.2; names = pair-plain texts.0 names.0 texts.2 })
+    subst (IsMapFor defined) kept.1 (record { counts = tests.0; countable = tests.1; pointer = target-size value.0 target.0 value.2; names = pair-plain texts.0 names.0 texts.2; sound = target-sound value.0 target.0 value.2 })
 
 -- a map that a JSON value is, if it is one
 pub map_value-read : {E : Type 0} (result : Result (Option DeclaredMap) E) (defined : List ℕ) (json : Option Value) → IfOk result (λ o. option_map map_file_view o ≡ option_and_then (λ v. map_value defined (view v)) json) → IfOk result (λ o. IfSome o (λ f. IsMapFor defined (map_file_view f)))

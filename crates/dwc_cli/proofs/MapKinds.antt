@@ -9,7 +9,8 @@ use Rattle.serde_json.specs.Read.{read}
 use Rattle.serde_json.specs.Find.{as_array}
 use Rattle.serde_json.specs.View.{items_view}
 use Rattle.serde_json.specs.declared.value.Value.{Value}
-use Rattle.dwc_cli.specs.MapFile.{MapModule, named_in, architectures, pair_of, four_of, list_of, table_in, table_of, all_items, have_counts, map_value, map_of_bytes, ◌>>=◌}
+use Rattle.dwc_cli.specs.MapFile.{MapModule, architectures, have_counts, map_value, map_of_bytes}
+use Rattle.dwc_cli.specs.MapValues.{named_in, pair_of, four_of, list_of, table_in, table_of, all_items, ◌>>=◌}
 
 -- a test that cannot hold is false
 false_from_not : (b : Bool) → (b ≡ true → ⊥) → b ≡ false

@@ -5,11 +5,12 @@ use Rattle.std.specs.Fmt.{digits}
 use Rattle.hex.specs.Hex.{encode_with}
 use Rattle.serde_json.proofs.OnLiterals.{serde_json_on_literals}
 use Rattle.dwc_cli.specs.MapFile.{register_numbers_of, target_of, label_range_of, labels_of, map_function_of, memory_of, map_module_of, map_value, map_of_bytes}
+use Rattle.dwc_cli.specs.MapFrames.{frame_of, cie_of}
 use Rattle.dwc_cli.specs.Printed.{printed}
 use lib.Utf8.{encode}
 
 unfoldable pub map_on_literals : ℕ
-unfolding is_utf8 chars encode serde_json_on_literals register_numbers_of target_of label_range_of labels_of map_function_of memory_of map_module_of map_value map_of_bytes
+unfolding is_utf8 chars encode serde_json_on_literals frame_of cie_of register_numbers_of target_of label_range_of labels_of map_function_of memory_of map_module_of map_value map_of_bytes
 map_on_literals = 0
 
 unfoldable pub printed_on_literals : ℕ

@@ -6,7 +6,8 @@ use Rattle.serde_json.specs.Read.{read}
 use Rattle.dwc_base.specs.Compiled.{in_register, at_frame_offset, Memory, no_memory, defined, imported}
 use Rattle.dwc_clif.specs.Registers.{Registers}
 use Rattle.dwc_clif.specs.ValueLabels.{LabelledRanges}
-use Rattle.dwc_cli.specs.MapFile.{◌>>=◌, Target, MapFunction, MapModule, target_of, map_function_of, map_module_of}
+use Rattle.dwc_cli.specs.MapFile.{Target, MapFunction, MapModule, target_of, map_function_of, map_module_of}
+use Rattle.dwc_cli.specs.MapValues.{◌>>=◌}
 use Rattle.dwc_cli.proofs.OnLiterals.{map_on_literals}
 
 -- DWARF's numbers of registers by a text of a target

@@ -1,6 +1,6 @@
 -- For each clause of a run but those on what is written: an input that meets the clause's premise, and an answer that the
 -- clause refuses.
-use Rattle.std.proofs.Common.{◌≡◌, ◌≢◌, ℕ, zero, suc, ◌+◌, ◌-◌, ◌^◌, ◌<◌, ◌≤◌, List, [], ◌∷◌, length, get_or, Some, None, Ok, Err, Result, true, false, refl, ap, subst, sym, ◌∙◌, arith, lit<, lit≤, inl, inr}
+use Rattle.std.proofs.Common.{◌≡◌, ◌≢◌, ℕ, zero, suc, ◌+◌, ◌-◌, ◌^◌, ◌<◌, ◌≤◌, List, [], ◌∷◌, length, get_or, Some, None, Ok, Err, Result, false, refl, ap, subst, sym, ◌∙◌, arith, lit<, lit≤, inl, inr}
 use Rattle.std.specs.Prelude.{◌⊎◌, All, Option, is_some, IsNone, codes, option_map}
 use Rattle.std.proofs.Math.ListN.{replicate}
 use Rattle.std.proofs.lemmas.List.{length-replicate}
@@ -373,7 +373,7 @@ module_at place read = get_or (compilation_of read).modules place module_small
 
 -- two such modules, with what is told of them
 abbrev two_told : Loaded → ToldModule → ToldModule → Compilation
-two_told read first second = record { order = Little; pointer_bytes = 8; modules = record (module_at 0 read) { told = first } ∷ record (module_at 1 read) { told = second } ∷ [] }
+two_told read first second = record { order = Little; pointer_bytes = 8; modules = record (module_at 0 read) { told = first } ∷ record (module_at 1 read) { told = second } ∷ []; next_id = 0 }
 
 second-told : compilation_of (read_of_two map_bytes_two file_small file_64) ≡ two_told (read_of_two map_bytes_two file_small file_64) (told_bare runtime_names 0 no_memory) (told_bare runtime_names 1 no_memory)
 unfolding whole_on_literals
@@ -420,11 +420,11 @@ refusal-far : refusal_of (loaded (of_one map_bytes_far file_small)) ≡ Some far
 unfolding whole_on_literals
 refusal-far = refl
 
-near-told : compilation_of (read_of map_bytes_near file_small) ≡ record { order = Little; pointer_bytes = 8; modules = record (module_at 0 (read_of map_bytes_near file_small)) { told = told_bare runtime_names 0 (defined 4294967287) } ∷ [] }
+near-told : compilation_of (read_of map_bytes_near file_small) ≡ record { order = Little; pointer_bytes = 8; modules = record (module_at 0 (read_of map_bytes_near file_small)) { told = told_bare runtime_names 0 (defined 4294967287) } ∷ []; next_id = 0 }
 unfolding whole_on_literals
-near-told = λ i. record { order = Little; pointer_bytes = 8; modules = record (module_at 0 (read_of map_bytes_near file_small)) { told = told-bare runtime_names 0 0 (of_symbol 0) (defined 4294967287) i } ∷ [] }
+near-told = λ i. record { order = Little; pointer_bytes = 8; modules = record (module_at 0 (read_of map_bytes_near file_small)) { told = told-bare runtime_names 0 0 (of_symbol 0) (defined 4294967287) i } ∷ []; next_id = 0 }
 
-near-accepted : first_refusal (record { order = Little; pointer_bytes = 8; modules = record (module_at 0 (read_of map_bytes_near file_small)) { told = told_bare runtime_names 0 (defined 4294967287) } ∷ [] }) ≡ None
+near-accepted : first_refusal (record { order = Little; pointer_bytes = 8; modules = record (module_at 0 (read_of map_bytes_near file_small)) { told = told_bare runtime_names 0 (defined 4294967287) } ∷ []; next_id = 0 }) ≡ None
 unfolding whole_on_literals
 near-accepted = refl
 

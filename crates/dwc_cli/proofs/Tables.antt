@@ -13,7 +13,7 @@ use Rattle.serde_json.specs.View.{view, items_view}
 use Rattle.serde_json.specs.declared.value.Value.{Value}
 use Rattle.dwc_clif.specs.declared.reg.Reg.{Reg}
 use Rattle.dwc_clif.specs.Registers.{numbers}
-use Rattle.dwc_cli.specs.MapFile.{◌>>=◌, only_if, u32_of, pair_of, all_items, has_key, have_distinct_keys, table_by, table_in}
+use Rattle.dwc_cli.specs.MapValues.{◌>>=◌, only_if, u32_of, pair_of, all_items, has_key, have_distinct_keys, table_by, table_in}
 
 module _ {X : Type 0} where
   -- the keys of a finite map are those of its pairs

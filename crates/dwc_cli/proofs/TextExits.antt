@@ -4,7 +4,7 @@ use Rattle.std.specs.Prelude.{unwrap_or}
 use Rattle.std.specs.List.{AllZip}
 use Rattle.dwc_base.specs.declared.wasm.ModuleTranslation.{ModuleTranslation}
 use Rattle.dwc_base.specs.Outputs.{OutputSection}
-use Rattle.dwc_base.specs.Translations.{IsTranslation}
+use Rattle.dwc_base.specs.Translations.{IsWholeTranslation}
 use Rattle.dwc_base.specs.Wasm.{WasmModule}
 use Rattle.dwc_cli.specs.declared.map_file.MapFile.{MapFile as DeclaredMap}
 use Rattle.dwc_cli.specs.MapFile as value
@@ -153,11 +153,11 @@ none_from None h = refl
 none_from (Some x) h = absurd (h x refl)
 
 -- the translations define what the modules define
-pub counts-same : (ts : List ModuleTranslation) (ws : List WasmModule) → AllZip IsTranslation ts ws → map (λ t. t.defined_funcs) ts ≡ defined_counts ws
+pub counts-same : (ts : List ModuleTranslation) (ws : List WasmModule) → AllZip IsWholeTranslation ts ws → map (λ t. t.defined_funcs) ts ≡ defined_counts ws
 counts-same [] [] each = refl
 counts-same [] (w ∷ ws) each = absurd each
 counts-same (t ∷ ts) [] each = absurd each
-counts-same (t ∷ ts) (w ∷ ws) each = λ i. each.0.defined_funcs i ∷ counts-same ts ws each.1 i
+counts-same (t ∷ ts) (w ∷ ws) each = λ i. each.0.0.defined_funcs i ∷ counts-same ts ws each.1 i
 
 -- what was read, where translations and a map are
 pub record WasRead (ts : List ModuleTranslation) (f : DeclaredMap) (input : Input) : Type 0 where
@@ -165,7 +165,7 @@ pub record WasRead (ts : List ModuleTranslation) (f : DeclaredMap) (input : Inpu
   pub read_as : IsReadAs ts f read
   pub is_read : IsRead input read
 
-pub was_read : (ts : List ModuleTranslation) (f : DeclaredMap) (input : Input) → (ws : List WasmModule) × (wasm_modules input.modules ≡ Ok ws) × AllZip IsTranslation ts ws → Some (map_file_view f) ≡ map_of_bytes (map (λ t. t.defined_funcs) ts) input.map_bytes → WasRead ts f input
+pub was_read : (ts : List ModuleTranslation) (f : DeclaredMap) (input : Input) → (ws : List WasmModule) × (wasm_modules input.modules ≡ Ok ws) × AllZip IsWholeTranslation ts ws → Some (map_file_view f) ≡ map_of_bytes (map (λ t. t.defined_funcs) ts) input.map_bytes → WasRead ts f input
 was_read ts f input (ws, are_wasm, each) is_map = record {
   read = record { wasm = ws; map_file = map_file_view f };
   read_as = record { wasm = each; map_is = refl };
@@ -173,5 +173,5 @@ was_read ts f input (ws, are_wasm, each) is_map = record {
 }
 
 -- where translations are and no map
-pub Refuses-no_map : (ts : List ModuleTranslation) (input : Input) → (ws : List WasmModule) × (wasm_modules input.modules ≡ Ok ws) × AllZip IsTranslation ts ws → None ≡ map_of_bytes (map (λ t. t.defined_funcs) ts) input.map_bytes → Refuses input 6
+pub Refuses-no_map : (ts : List ModuleTranslation) (input : Input) → (ws : List WasmModule) × (wasm_modules input.modules ≡ Ok ws) × AllZip IsWholeTranslation ts ws → None ≡ map_of_bytes (map (λ t. t.defined_funcs) ts) input.map_bytes → Refuses input 6
 Refuses-no_map ts input (ws, are_wasm, each) no_map = Refuses-map input ws are_wasm (subst (λ ns. map_of_bytes ns input.map_bytes ≡ None) (counts-same ts ws each) (sym no_map))

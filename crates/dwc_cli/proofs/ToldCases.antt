@@ -4,15 +4,16 @@ use Rattle.std.specs.Prelude.{codes, Option, map, unwrap_or}
 use Rattle.std.specs.FinMap as finite
 use Rattle.std.specs.FinMap.{get-from_entries}
 use Rattle.std.specs.Cmp.{nat_cmp_total}
+use Rattle.dwc_base.specs.CallFrames.{def_cfa_offset}
 use Rattle.dwc_base.specs.Compiled.{LabelRange, in_register, at_frame_offset, no_memory, defined, ToldModule, nothing_told}
 use Rattle.dwc_base.proofs.SmallModule.{file_small}
 use Rattle.dwc_cli.specs.Inputs.{Loaded, loaded, compilation_of}
 use Rattle.dwc_cli.proofs.Answers.{of_two}
 use Rattle.dwc_cli.proofs.WholeRun.{whole_on_literals}
 
--- a map of two modules: registers, a memory of the second, and where values lie in its function
+-- a map of two modules: registers, a memory of the second, and where values lie in its function and how that unwinds
 abbrev pub map_bytes_told : List ℕ
-map_bytes_told = codes "{\"target\":{\"arch\":\"x86_64\",\"registers\":[[7,5],[0,3]]},\"names\":[\"set_mem\",\"resolve_mem\"],\"modules\":[{\"functions\":[{\"symbol\":0,\"start\":22,\"end\":33,\"body_len\":30,\"map\":[[5,25],[15,30]]}]},{\"memory\":{\"defined\":80},\"functions\":[{\"symbol\":1,\"start\":22,\"end\":33,\"body_len\":30,\"map\":[[5,25],[15,30]],\"labels\":[[4,[[0,9,\"reg\",7]]],[2,[[0,9,\"cfa\",16],[3,5,\"reg\",0]]]]}]}]}"
+map_bytes_told = codes "{\"target\":{\"arch\":\"x86_64\",\"registers\":[[7,5],[0,3]]},\"names\":[\"set_mem\",\"resolve_mem\"],\"modules\":[{\"functions\":[{\"symbol\":0,\"start\":22,\"end\":33,\"body_len\":30,\"map\":[[5,25],[15,30]]}]},{\"memory\":{\"defined\":80},\"functions\":[{\"symbol\":1,\"start\":22,\"end\":33,\"body_len\":30,\"map\":[[5,25],[15,30]],\"labels\":[[4,[[0,9,\"reg\",7]]],[2,[[0,9,\"cfa\",16],[3,5,\"reg\",0]]]],\"frame\":{\"len\":30,\"ops\":[[1,[\"cfa_offset\",16]]]}}]}]}"
 
 abbrev pub told_of_modules : Option Loaded → List ToldModule
 told_of_modules None = []
@@ -88,3 +89,16 @@ label_4-first = ap (λ o. unwrap_or o []) (finite.get-empty {X = List LabelRange
 label_4-other : told_second.values 2 4 ≡ []
 unfolding whole_on_literals
 label_4-other = refl
+
+-- how the second module's function unwinds; of the first module's, and of one of another number, nothing is told
+frame_1 : told_second.frames 1 ≡ Some (record { length = 30; instructions = (1, def_cfa_offset (pos 16)) ∷ [] })
+unfolding whole_on_literals
+frame_1 = refl
+
+frame_0 : told_first.frames 0 ≡ None
+unfolding whole_on_literals
+frame_0 = refl
+
+frame_2 : told_second.frames 2 ≡ None
+unfolding whole_on_literals
+frame_2 = refl

@@ -8,7 +8,7 @@ use Rattle.dwc_base.specs.declared.wasm.ModuleTranslation.{ModuleTranslation}
 use Rattle.dwc_base.specs.declared.wasm.WasmFault.{WasmFault}
 use Rattle.dwc_base.specs.declared.wasm.WasmFault.TheVariants.{Malformed, OutOfMemory}
 use Rattle.dwc_base.specs.Wasm.{WasmModule}
-use Rattle.dwc_base.specs.Translations.{IsTranslation, TranslatesFile}
+use Rattle.dwc_base.specs.Translations.{IsWholeTranslation, TranslatesFile}
 use Rattle.dwc_cli.specs.Inputs.{with_module, wasm_modules}
 use Rattle.dwc_cli.specs.Failures.{wasm_status}
 use Rattle.dwc_cli.specs.Answers.{IsBroken}
@@ -36,7 +36,7 @@ each-more R (a ∷ xs) (b ∷ ys) x y h r = (h.0, each-more R xs ys x y h.1 r)
 -- Some files are walked, and those that are left decide.
 pub record Walked (translations : List ModuleTranslation) (left all : List (List ℕ)) : Type 0 where
   pub done : List WasmModule
-  pub each : AllZip IsTranslation translations done
+  pub each : AllZip IsWholeTranslation translations done
   pub rest : joined done (wasm_modules left) ≡ wasm_modules all
 
 pub Walked-none : (all : List (List ℕ)) → Walked [] all all
@@ -50,7 +50,7 @@ files-from files i file within is = rw (add-one, drop-cons files i file within, 
 pub Walked-more : (translations : List ModuleTranslation) (t : ModuleTranslation) (bytes : List ℕ) (left all : List (List ℕ)) → TranslatesFile bytes (Ok t) → Walked translations (bytes ∷ left) all → Walked (translations ++ (t ∷ [])) left all
 Walked-more translations t bytes left all (w, is_wasm, is_translation) walked = record {
   done = walked.done ++ (w ∷ []);
-  each = each-more IsTranslation translations walked.done t w walked.each is_translation;
+  each = each-more IsWholeTranslation translations walked.done t w walked.each is_translation;
   rest = joined-more walked.done w (wasm_modules left) ∙ ap (λ r. joined walked.done (with_module r (wasm_modules left))) (sym is_wasm) ∙ walked.rest;
 }
 
@@ -60,7 +60,7 @@ Walked-broken translations (Malformed offset) status bytes left all broken is wa
 Walked-broken translations OutOfMemory status bytes left all broken is walked = inl is
 
 -- all files are walked
-pub Walked-all : (translations : List ModuleTranslation) (all : List (List ℕ)) → Walked translations [] all → (ws : List WasmModule) × (wasm_modules all ≡ Ok ws) × AllZip IsTranslation translations ws
+pub Walked-all : (translations : List ModuleTranslation) (all : List (List ℕ)) → Walked translations [] all → (ws : List WasmModule) × (wasm_modules all ≡ Ok ws) × AllZip IsWholeTranslation translations ws
 Walked-all translations all walked = (walked.done ++ [], sym walked.rest, rw (append-nil walked.done) walked.each)
   where
     append-nil : (ws : List WasmModule) → ws ++ [] ≡ ws

@@ -1,13 +1,14 @@
 -- The small module from its bytes and its map's bytes to the printed text.
-use Rattle.std.proofs.Common.{◌≡◌, ℕ, ◌+◌, ◌<◌, ◌^◌, ◌-◌, zero, suc, List, [], ◌∷◌, get_or, map, slice_get, Some, None, Option, true, refl, ap, subst, sym, ◌∙◌, lit<}
+use Rattle.std.proofs.Common.{◌≡◌, ℕ, ◌+◌, ◌<◌, ◌^◌, ◌-◌, zero, suc, arith, List, [], ◌∷◌, length, get_or, map, slice_get, Some, None, Option, true, refl, ap, subst, sym, ◌∙◌, lit<}
 use Rattle.std.specs.Option.{unwrap_or}
 use Rattle.std.specs.Ordering.{nat_cmp}
 use Rattle.std.specs.FinMap as finite
-use Rattle.std.specs.FinMap.{get-empty}
+use Rattle.std.specs.FinMap.{get-empty, len-empty, len-entries}
 use Rattle.std.specs.Prelude.{codes}
 use Rattle.dwc_base.proofs.OnLiterals.{files_on_literals}
 use Rattle.dwc_base.proofs.DraftsOnLiterals.{drafts_on_literals}
-use Rattle.dwc_base.proofs.SmallModule.{file_small}
+use Rattle.dwc_base.proofs.NamesOnLiterals.{functions_on_literals, names_on_literals}
+use Rattle.dwc_base.proofs.SmallModule.{file_small, file_small_told}
 use Rattle.dwc_base.proofs.Readings.{sections_small}
 use Rattle.dwc_base.proofs.LineTables.{function_small}
 use Rattle.dwc_base.proofs.CarriedSmall as Base
@@ -15,7 +16,7 @@ use Rattle.dwc_base.proofs.CarriedSmall.{module_small, unit_small, compilation_s
 use Rattle.dwc_base.specs.declared.records.Endian.TheVariants.{Little}
 use Rattle.dwc_base.specs.declared.section_name.SectionName.{SectionName}
 use Rattle.dwc_base.specs.declared.section_name.SectionName.TheVariants.{Abbrev, Addr, Info, Line, LineStr, Loc, Loclists, Ranges, Rnglists, Str, StrOffsets, CuIndex, Frame}
-use Rattle.dwc_base.specs.Compiled.{LinkageNames, Memory, no_memory, ToldModule}
+use Rattle.dwc_base.specs.Compiled.{LabelRange, LinkageNames, Memory, no_memory, ToldModule}
 use Rattle.dwc_base.specs.Functions.{AddressMap, Function}
 use Rattle.dwc_base.specs.Carried.{Unit}
 use Rattle.dwc_base.specs.Forests.{carried_units, first_refusal, trees_made}
@@ -34,7 +35,7 @@ use Rattle.dwc_cli.specs.RunStatus.{Carries}
 use Rattle.dwc_cli.proofs.Examples.{map_bytes_small, map_small}
 
 unfoldable pub whole_on_literals : ℕ
-unfolding drafts_on_literals files_on_literals map_on_literals loaded
+unfolding functions_on_literals names_on_literals drafts_on_literals files_on_literals map_on_literals loaded
 whole_on_literals = 0
 
 abbrev pub input_small : Input
@@ -82,21 +83,40 @@ read_small = read_in (loaded input_small)
 
 -- such a function
 abbrev bare_function : AddressMap → MapFunction
-bare_function a = record { address_map = a; labels = finite.empty }
+bare_function a = record { address_map = a; labels = finite.empty; frame = None }
 
 -- no value lies anywhere
 nowhere : (a : AddressMap) (place label : ℕ) → unwrap_or (slice_get (ranges_of (bare_function a) ∷ []) place) (λ label. []) label ≡ []
 nowhere a zero label = ap (λ ranges. unwrap_or ranges []) (get-empty nat_cmp label)
 nowhere a (suc place) label = refl
 
+-- and none has a label
+no_labels : finite.entries (finite.empty {K = ℕ} {X = List LabelRange} {R = nat_cmp}) ≡ []
+no_labels = none_in _ (sym (len-entries (finite.empty {K = ℕ} {X = List LabelRange} {R = nat_cmp})) ∙ len-empty nat_cmp (List LabelRange))
+  where
+    none_in : (es : List (ℕ × List LabelRange)) → length es ≡ 0 → es ≡ []
+    none_in [] e = refl
+    none_in (x ∷ es) e = absurd (omega (arith, e))
+
+unlabelled : (a : AddressMap) (place : ℕ) → unwrap_or (slice_get (finite.keys (bare_function a).labels ∷ []) place) [] ≡ []
+unlabelled a zero = ap (map (λ (e : ℕ × List LabelRange). e.0)) no_labels
+unlabelled a (suc place) = refl
+
+-- and of none is told how it unwinds
+unframed : (a : AddressMap) (place : ℕ) → unwrap_or (slice_get ((bare_function a).frame ∷ []) place) None ≡ None
+unframed a zero = refl
+unframed a (suc place) = refl
+
 -- so much is told of the module at a place, whose function has a number
 abbrev pub told_bare : LinkageNames → ℕ → Memory → ToldModule
-told_bare names place memory = record { place = place; values = λ function label. []; memory = memory; register = λ r. None; names = names }
+told_bare names place memory = record { place = place; values = λ function label. []; labels = λ function. []; frames = λ function. None; memory = memory; register = λ r. None; names = names }
 
 pub told-bare : (names : LinkageNames) (place number : ℕ) (a : AddressMap) (memory : Memory) → told_of finite.empty names place number (record { functions = bare_function a ∷ []; memory = memory }) ≡ told_bare names place memory
 told-bare names place number a memory = λ i. record {
   place = place;
   values = λ function label. nowhere a (function - number) label i;
+  labels = λ function. unlabelled a (function - number) i;
+  frames = λ function. unframed a (function - number) i;
   memory = memory;
   register = λ r. get-empty nat_cmp r i;
   names = names;
@@ -136,8 +156,10 @@ compilation-small = λ i. record {
         sections = record { order = Little; bytes = λ name. bytes-small name i; relocations = λ name. [] };
         functions = function_small ∷ [];
         told = told-bare runtime_names 0 0 address_map_small no_memory i;
+        file = file_small_told;
         compressed = None;
       } ∷ [];
+  next_id = 0;
 }
 
 -- ---- nothing of it is refused, and nothing is too large

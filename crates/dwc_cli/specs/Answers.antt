@@ -10,7 +10,7 @@ use Rattle.dwc_base.specs.Forests.{first_refusal, trees_made}
 use Rattle.dwc_base.specs.OutputCarried.{OutputCarried}
 use Rattle.dwc_base.specs.TreeLaws.{have_short_expressions}
 use Rattle.dwc_base.specs.Wasm.{WasmModule}
-use Rattle.dwc_base.specs.Translations.{IsTranslation}
+use Rattle.dwc_base.specs.Translations.{IsWholeTranslation}
 use Rattle.dwc_write.specs.Writers.{IsSound}
 use Rattle.dwc_cli.specs.declared.failure.Failure.{Failure}
 use Rattle.dwc_cli.specs.declared.map_file.MapFile.{MapFile}
@@ -47,12 +47,12 @@ IsBroken files status = (status ≡ 9) ⊎ ((status ≡ 5) × ((place : ℕ) × 
 
 -- translations of some files are those of the modules that the files are
 abbrev pub TranslatesFiles : List (List ℕ) → Result (Vec ModuleTranslation Global) Failure → Type 0
-TranslatesFiles files (Ok ts) = (ws : List WasmModule) × (wasm_modules files ≡ Ok ws) × AllZip IsTranslation ts.items ws
+TranslatesFiles files (Ok ts) = (ws : List WasmModule) × (wasm_modules files ≡ Ok ws) × AllZip IsWholeTranslation ts.items ws
 TranslatesFiles files (Err failure) = IsBroken files (failure_status failure)
 
 -- what was read of the modules and of the map
 pub record IsReadAs (translations : List ModuleTranslation) (map_file : MapFile) (read : Loaded) : Type 0 where
-  pub wasm : AllZip IsTranslation translations read.wasm
+  pub wasm : AllZip IsWholeTranslation translations read.wasm
   pub map_is : map_file_view map_file ≡ read.map_file
 
 -- the status of the first hindrance in the order of work: a shared symbol, a bad address map, and what is refused in reading

@@ -8,11 +8,13 @@ use Rattle.dwc_base.specs.declared.records.Endian.TheVariants.{Little, Big}
 use Rattle.dwc_base.specs.declared.records.MapFault.{MapFault}
 use Rattle.dwc_base.specs.Wasm.{WasmModule, wasm_module, module_sections}
 use Rattle.dwc_base.specs.Functions.{map_fault, functions_of}
-use Rattle.dwc_base.specs.Compiled.{LabelRange, LinkageNames, ToldModule, values_from}
+use Rattle.dwc_base.specs.Compiled.{LabelRange, LinkageNames, ToldModule, frames_from, labels_from, values_from}
+use Rattle.dwc_base.specs.ToldFiles.{file_of}
 use Rattle.dwc_base.specs.Carried.{Module, Compilation}
 use Rattle.dwc_base.specs.SharedSymbols.{shared_symbol}
 use Rattle.dwc_clif.specs.Registers.{Registers}
-use Rattle.dwc_cli.specs.MapFile.{◌>>=◌, MapFile, MapFunction, MapModule, map_of_bytes}
+use Rattle.dwc_cli.specs.MapFile.{MapFile, MapFunction, MapModule, map_of_bytes}
+use Rattle.dwc_cli.specs.MapValues.{◌>>=◌}
 
 -- the words of a run: the path of the map, and those of the modules, one at least
 pub record Paths : Type 0 where
@@ -68,7 +70,15 @@ names_of m = record { set_memory = m.set_memory; resolve_memory = m.resolve_memo
 
 -- what is told of the module at a place, of whose functions the first has a number, for a target that numbers registers, with names
 abbrev pub told_of : Registers → LinkageNames → ℕ → ℕ → MapModule → ToldModule
-told_of registers names place number m = record { place = place; values = values_from number (map ranges_of m.functions); memory = m.memory; register = λ r. finite.get registers r; names = names }
+told_of registers names place number m = record {
+  place = place;
+  values = values_from number (map ranges_of m.functions);
+  labels = labels_from number (map (λ f. finite.keys f.labels) m.functions);
+  frames = frames_from number (map (λ f. f.frame) m.functions);
+  memory = m.memory;
+  register = λ r. finite.get registers r;
+  names = names;
+}
 
 -- the modules of a compilation from a place on: the sections of a file, the functions of the map, numbered over all modules, and what
 -- the map tells beside them
@@ -80,13 +90,14 @@ modules_of registers names place number (w ∷ ws) (m ∷ ms) =
       sections = module_sections w;
       functions = functions_of w.code_offset number (map (λ f. f.address_map) m.functions);
       told = told_of registers names place number m;
+      file = file_of None w;
       compressed = w.compressed;
     }
     ∷ modules_of registers names (suc place) (number + length m.functions) ws ms
 
 -- the compilation of a map and modules
 abbrev pub compilation : MapFile → List WasmModule → Compilation
-compilation m ws = record { order = if m.target.big_endian then Big else Little; pointer_bytes = m.target.pointer_bytes; modules = modules_of m.target.registers (names_of m) 0 0 ws m.modules }
+compilation m ws = record { order = if m.target.big_endian then Big else Little; pointer_bytes = m.target.pointer_bytes; modules = modules_of m.target.registers (names_of m) 0 0 ws m.modules; next_id = 0 }
 
 -- what was read of an input: its modules, and its map
 pub record Loaded : Type 0 where

@@ -1,14 +1,13 @@
 -- The value of a map file, from the JSON that it holds. It has none where a required field is missing, a number is a
 -- float or out of its range, or anything is of the wrong kind; unknown fields are passed over.
-use Rattle.std.specs.Prelude.{◌≡◌, ◌⊎◌, ℕ, ◌-◌, ◌^◌, ◌==◌, ℤ, pos, ◌-ℤ◌, int_le, List, [], ◌∷◌, length, Bool, true, false, nat_lt, not, ◌&&◌, if◌then◌else◌, Option, Some, None, option_map, codes, sum_by}
-use Rattle.std.specs.Ordering.{nat_cmp}
+use Rattle.std.specs.Prelude.{◌≡◌, ◌⊎◌, ℕ, ◌^◌, ◌==◌, List, [], ◌∷◌, length, Bool, true, false, nat_lt, ◌&&◌, Option, Some, None, option_map, codes, sum_by}
 use Rattle.std.specs.FinMap as finite
-use Rattle.std.specs.List.{list_any}
-use Rattle.std.specs.Str.{bytes_eq, is_utf8}
-use Rattle.serde_json.specs.Data.{unsigned, negative, Data, null, boolean, number, string, array, object, Items, no_items, item, Members}
+use Rattle.std.specs.Str.{is_utf8}
+use Rattle.serde_json.specs.Data.{Data, null}
 use Rattle.serde_json.specs.Find.{get_member}
 use Rattle.serde_json.specs.Read.{read}
 use Rattle.dwc_base.specs.Reading.{coded}
+use Rattle.dwc_base.specs.CallFrames.{CommonEntry, FrameDescription, is_sound_if}
 use Rattle.dwc_base.specs.Functions.{AddressMap}
 use Rattle.dwc_base.specs.Compiled as told
 use Rattle.dwc_base.specs.Compiled.{Place, in_register, at_frame_offset, LabelRange, Memory, no_memory}
@@ -16,30 +15,23 @@ use Rattle.dwc_clif.specs.declared.architecture.Architecture.{Architecture}
 use Rattle.dwc_clif.specs.declared.architecture.Architecture.TheVariants.{X86_64, Aarch64, S390x, Riscv64, Pulley}
 use Rattle.dwc_clif.specs.Registers.{Registers}
 use Rattle.dwc_clif.specs.ValueLabels.{LabelledRanges}
+use Rattle.dwc_cli.specs.MapValues.{◌>>=◌, only_if, number_below, u16_of, u32_of, i64_of, nullable, source_of, truth_of, text_of, list_of, pair_of, four_of, table_of, members_of, required, with_default, named_in}
+use Rattle.dwc_cli.specs.MapFrames.{cie_in, frame_in}
 use Rattle.dwc_addr.specs.Compilations.{AreNames}
 
--- one value behind another, none where the first is none
-infixl 10 ◌>>=◌
-abbrev pub ◌>>=◌ : {A B : Type 0} → Option A → (A → Option B) → Option B
-None >>= next = None
-(Some x) >>= next = next x
-
--- a value only where a test holds
-abbrev pub only_if : {A : Type 0} → Bool → A → Option A
-only_if true x = Some x
-only_if false x = None
-
--- the target that the code was compiled for, with DWARF's numbers of its registers
+-- the target that the code was compiled for, with DWARF's numbers of its registers, and what its frames share
 pub record Target : Type 0 where
   pub architecture : Architecture
   pub big_endian : Bool
   pub pointer_bytes : ℕ
   pub registers : Registers
+  pub common_entry : Option CommonEntry
 
--- a function of the map: its address map, and where the values of its labels lie
+-- a function of the map: its address map, where the values of its labels lie, and how its frame changes
 pub record MapFunction : Type 0 where
   pub address_map : AddressMap
   pub labels : LabelledRanges
+  pub frame : Option FrameDescription
 
 -- a module of the map: its functions, and its linear memory
 pub record MapModule : Type 0 where
@@ -53,118 +45,11 @@ pub record MapFile : Type 0 where
   pub resolve_memory : List ℕ
   pub modules : List MapModule
 
--- ---- kinds of values
-
--- a whole number below a limit
-abbrev pub number_below : ℕ → Data → Option ℕ
-number_below limit (number (unsigned n)) = only_if (nat_lt n limit) n
-number_below limit _ = None
-
--- a number below 2 ^ 32
-abbrev pub u32_of : Data → Option ℕ
-u32_of d = number_below (2 ^ 32) d
-
--- a whole number of 64 bits with a sign
-abbrev pub i64_of : Data → Option ℤ
-i64_of (number (unsigned n)) = only_if (nat_lt n (2 ^ 63)) (pos n)
-i64_of (number (negative z)) = only_if (int_le (pos 0 -ℤ pos (2 ^ 63)) z) z
-i64_of _ = None
-
--- a number, or null for none
-abbrev pub nullable : {A : Type 0} → (Data → Option A) → Data → Option (Option A)
-nullable kind null = Some None
-nullable kind d = option_map Some (kind d)
-
--- a file offset of a source, or null for no source
-abbrev pub source_of : Data → Option (Option ℕ)
-source_of d = nullable (number_below (2 ^ 32 - 1)) d
-
--- a truth value
-abbrev pub truth_of : Data → Option Bool
-truth_of (boolean b) = Some b
-truth_of _ = None
-
--- a text without a zero character
-abbrev pub text_of : Data → Option (List ℕ)
-text_of (string text) = only_if (not (list_any (λ c. c == 0) text)) text
-text_of _ = None
-
--- all items of a list, each of a kind
-abbrev pub all_items : {A : Type 0} → (Data → Option A) → Items → Option (List A)
-all_items kind no_items = Some []
-all_items kind (item d ds) = do
-  x ← kind d
-  xs ← all_items kind ds
-  Some (x ∷ xs)
-
--- a list of items of a kind
-abbrev pub list_of : {A : Type 0} → (Data → Option A) → Data → Option (List A)
-list_of kind (array ds) = all_items kind ds
-list_of kind _ = None
-
--- a list of two items, each of its kind
-abbrev pub pair_of : {A B : Type 0} → (Data → Option A) → (Data → Option B) → Data → Option (A × B)
-pair_of first second (array (item d (item e no_items))) = do
-  x ← first d
-  y ← second e
-  Some (x, y)
-pair_of first second _ = None
-
--- the items of a list of four
-abbrev pub four_of : Data → Option (Data × Data × Data × Data)
-four_of (array (item d (item e (item f (item g no_items))))) = Some (d, e, f, g)
-four_of _ = None
-
--- whether a number is the first of some pair
-abbrev pub has_key : {X : Type 0} → List (ℕ × X) → ℕ → Bool
-has_key rows key = list_any (λ r. key == r.0) rows
-
--- whether no two of some pairs have one first number
-abbrev pub have_distinct_keys : {X : Type 0} → List (ℕ × X) → Bool
-have_distinct_keys [] = true
-have_distinct_keys (row ∷ rows) = not (has_key rows row.0) && have_distinct_keys rows
-
--- the finite map of some pairs, whose first numbers are distinct
-abbrev pub table_by : {X : Type 0} → List (ℕ × X) → Option (finite.FinMap nat_cmp X)
-table_by rows = only_if (have_distinct_keys rows) (finite.from_entries rows)
-
--- the finite map of items that are pairs of a number below 2 ^ 32 and a value of a kind
-abbrev pub table_in : {X : Type 0} → (Data → Option X) → Items → Option (finite.FinMap nat_cmp X)
-table_in kind ds = all_items (pair_of u32_of kind) ds >>= table_by
-
--- a table by numbers below 2 ^ 32
-abbrev pub table_of : {X : Type 0} → (Data → Option X) → Data → Option (finite.FinMap nat_cmp X)
-table_of kind (array ds) = table_in kind ds
-table_of kind _ = None
-
--- the members of an object
-abbrev pub members_of : Data → Option Members
-members_of (object ms) = Some ms
-members_of _ = None
-
--- a field that is required, and one that has a default
-abbrev pub required : {A : Type 0} → List ℕ → (Data → Option A) → Members → Option A
-required name kind ms = get_member name ms >>= kind
-
--- a value that may be missing
-abbrev pub value_or : {A : Type 0} → A → (Data → Option A) → Option Data → Option A
-value_or default kind None = Some default
-value_or default kind (Some d) = kind d
-
--- a field that may be missing
-abbrev pub with_default : {A : Type 0} → List ℕ → A → (Data → Option A) → Members → Option A
-with_default name default kind ms = value_or default kind (get_member name ms)
-
 -- ---- objects
 
 -- the architectures by their names
 abbrev pub architectures : List (List ℕ × Architecture)
 architectures = (codes "x86_64", X86_64) ∷ (codes "aarch64", Aarch64) ∷ (codes "s390x", S390x) ∷ (codes "riscv64", Riscv64) ∷ (codes "pulley", Pulley) ∷ []
-
--- what stands in a table of names at a name
-abbrev pub named_in : {A : Type 0} → List (List ℕ × A) → List ℕ → Option A
-named_in [] name = None
-named_in (row ∷ rows) name = if bytes_eq row.0 name then Some row.1 else named_in rows name
 
 -- an architecture by its name
 abbrev pub architecture_of : Data → Option Architecture
@@ -173,10 +58,6 @@ architecture_of d = text_of d >>= named_in architectures
 -- 4 or 8
 abbrev pub pointer_bytes_of : Data → Option ℕ
 pointer_bytes_of d = number_below 9 d >>= λ n. coded ((4, 4) ∷ (8, 8) ∷ []) n
-
--- a number below 2 ^ 16
-abbrev pub u16_of : Data → Option ℕ
-u16_of d = number_below (2 ^ 16) d
 
 -- DWARF's numbers of registers
 unfoldable pub register_numbers_of : Data → Option Registers
@@ -190,7 +71,8 @@ target_of d = do
   big_endian ← with_default (codes "big_endian") false truth_of ms
   pointer_bytes ← with_default (codes "pointer_bytes") 8 pointer_bytes_of ms
   registers ← with_default (codes "registers") finite.empty register_numbers_of ms
-  Some (record { architecture = architecture; big_endian = big_endian; pointer_bytes = pointer_bytes; registers = registers })
+  common_entry ← cie_in ms
+  Some (record { architecture = architecture; big_endian = big_endian; pointer_bytes = pointer_bytes; registers = registers; common_entry = common_entry })
 
 -- the kinds of places by their names
 abbrev pub places : List (List ℕ × (Data → Option Place))
@@ -213,7 +95,7 @@ label_range_of d = do
 unfoldable pub labels_of : Data → Option LabelledRanges
 labels_of d = table_of (list_of label_range_of) d
 
--- a function with its address map and its labels
+-- a function with its address map, its labels and its frame
 unfoldable pub map_function_of : Data → Option MapFunction
 map_function_of d = do
   ms ← members_of d
@@ -224,9 +106,11 @@ map_function_of d = do
   body_len ← required (codes "body_len") u32_of ms
   entries ← required (codes "map") (list_of (pair_of u32_of source_of)) ms
   labels ← with_default (codes "labels") finite.empty labels_of ms
+  frame ← frame_in ms
   Some (record {
     address_map = record { symbol = symbol; start = start; end = end; body_offset = body_offset; body_len = body_len; entries = entries };
     labels = labels;
+    frame = frame;
   })
 
 -- the memory of another module, by two offsets
@@ -280,9 +164,11 @@ map_of_bytes defined bytes = do
   map_value defined d
 
 -- What is said of each map that is read for modules that define so many functions: the modules are as many as these, with as
--- many functions; modules and functions can be numbered with 32 bits; an address has 4 or 8 bytes; and the names have no zero byte.
+-- many functions; modules and functions can be numbered with 32 bits; an address has 4 or 8 bytes; the names have no zero byte; and a
+-- common information entry can be written.
 pub record IsMapFor (defined : List ℕ) (m : MapFile) : Type 0 where
   pub counts : have_counts defined m.modules ≡ true
   pub countable : is_countable m.modules ≡ true
   pub pointer : (m.target.pointer_bytes ≡ 4) ⊎ (m.target.pointer_bytes ≡ 8)
   pub names : AreNames m.set_memory m.resolve_memory
+  pub sound : is_sound_if m.target.common_entry ≡ true

@@ -1,20 +1,25 @@
 -- The program's own map file, seen as the value of a map.
-use Rattle.std.specs.Prelude.{◌≡◌, ℕ, List, map, string_bytes, Option, Some, option_map, option_and_then, Vec}
+use Rattle.std.specs.Prelude.{◌≡◌, ℕ, List, map, string_bytes, Option, Some, None, option_map, option_and_then, Vec}
 use Rattle.std.specs.Global.{Global}
 use Rattle.std.specs.FinMap as finite
 use Rattle.serde_json.specs.declared.value.Value.{Value}
+use Rattle.serde_json.specs.Data.{Items}
 use Rattle.serde_json.specs.View.{view, items_view}
 use Rattle.dwc_base.specs.declared.records.SymbolId.{SymbolId}
+use Rattle.dwc_base.specs.CallFrames.{CommonEntry, FrameDescription}
 use Rattle.dwc_base.specs.Compiled.{LabelRange, LinkageNames}
 use Rattle.dwc_clif.specs.declared.metadata.CompiledFunctionMetadata.{CompiledFunctionMetadata}
 use Rattle.dwc_clif.specs.declared.value_label.ValueLabel.{ValueLabel}
 use Rattle.dwc_clif.specs.declared.value_label.ValueLocRange.{ValueLocRange}
 use Rattle.dwc_clif.specs.ValueLabels.{range_view}
 use Rattle.dwc_clif.specs.AddressMaps.{address_map_view}
+use Rattle.dwc_clif.specs.CallFrames.{cie_view, description_of_metadata}
 use Rattle.dwc_clif.specs.Registers.{registers_of}
 use Rattle.dwc_expr.specs.Frames.{memory_view}
 use Rattle.dwc_cli.specs.MapFile as value
-use Rattle.dwc_cli.specs.MapFile.{◌>>=◌}
+use Rattle.dwc_cli.specs.MapFrames as frames
+use Rattle.dwc_cli.specs.MapValues.{◌>>=◌, u32_of, nullable, source_of, all_items, pair_of, value_or}
+use Rattle.dwc_cli.specs.declared.frames.CieFields.{CieFields}
 use Rattle.dwc_cli.specs.declared.map_file.FunctionFields.{FunctionFields}
 use Rattle.dwc_cli.specs.declared.map_file.TargetFields.{TargetFields}
 use Rattle.dwc_cli.specs.declared.map_file.Target.{Target}
@@ -23,16 +28,34 @@ use Rattle.dwc_cli.specs.declared.map_file.MapModule.{MapModule}
 use Rattle.dwc_cli.specs.declared.map_file.MapFile.{MapFile}
 
 abbrev pub target_view : Target → value.Target
-target_view t = record { architecture = t.arch; big_endian = t.big_endian; pointer_bytes = t.pointer_bytes; registers = registers_of t.registers.items }
+target_view t = record { architecture = t.arch; big_endian = t.big_endian; pointer_bytes = t.pointer_bytes; registers = registers_of t.registers.items; common_entry = option_map cie_view t.cie }
 
--- a target from its fields, whose registers are still a value; none where this is no table of registers
+-- a target from its fields, whose registers and common information entry are still values; none where these are no table of
+-- registers and no entry
 abbrev pub target_with : TargetFields → Option value.Target
-target_with f = value.value_or finite.empty value.register_numbers_of (option_map (λ v. view v.now) f.registers) >>= λ registers. Some (record {
-  architecture = f.arch;
-  big_endian = f.big_endian;
-  pointer_bytes = f.pointer_bytes;
-  registers = registers;
+target_with f =
+    value_or finite.empty value.register_numbers_of (option_map (λ v. view v.now) f.registers)
+    >>= λ registers. value_or None (nullable frames.cie_of) (option_map (λ v. view v.now) f.cie)
+    >>= λ common_entry. Some (record {
+      architecture = f.arch;
+      big_endian = f.big_endian;
+      pointer_bytes = f.pointer_bytes;
+      registers = registers;
+      common_entry = common_entry;
+    })
+
+-- a common information entry from its fields, whose instructions are still values; none where these are none, or it cannot be written
+abbrev pub cie_with : CieFields → Option CommonEntry
+cie_with f = all_items frames.instruction_of (items_view f.ops.now) >>= λ instructions. frames.if_sound (record {
+  code_factor = f.code_factor;
+  data_factor = f.data_factor;
+  return_register = f.return_register;
+  instructions = instructions;
 })
+
+-- a frame record from its length and its instructions, which are still values; none where these are none
+abbrev pub frame_with : ℕ → Items → Option FrameDescription
+frame_with length values = all_items (pair_of u32_of frames.instruction_of) values >>= λ instructions. Some (record { length = length; instructions = instructions })
 
 -- the names of a map: of the function that sets the memory, and of the one that resolves an address in it
 abbrev pub names_view : Names → List ℕ × List ℕ
@@ -46,12 +69,13 @@ linkage_names n = record { set_memory = string_bytes n.set; resolve_memory = str
 abbrev pub label_view : ValueLabel × Vec ValueLocRange Global → ℕ × List LabelRange
 label_view l = ((l.0).0, map range_view (l.1).items)
 
--- a function from its fields, whose entries and labels are still values; none where these are no entries or no labels
+-- a function from its fields, whose entries, labels and frame are still values; none where these are no entries, no labels or no frame
 abbrev pub function_with : FunctionFields → Option value.MapFunction
 function_with f =
-    value.all_items (value.pair_of value.u32_of value.source_of) (items_view f.entries.now)
-    >>= λ entries. value.value_or finite.empty value.labels_of (option_map (λ v. view v.now) f.labels)
-    >>= λ labels. Some (record {
+    all_items (pair_of u32_of source_of) (items_view f.entries.now)
+    >>= λ entries. value_or finite.empty value.labels_of (option_map (λ v. view v.now) f.labels)
+    >>= λ labels. value_or None (nullable frames.frame_of) (option_map (λ v. view v.now) f.frame)
+    >>= λ frame. Some (record {
       address_map = record {
         symbol = option_map (λ s. s.0) f.symbol;
         start = f.start.offset;
@@ -61,11 +85,12 @@ function_with f =
         entries = entries;
       };
       labels = labels;
+      frame = frame;
     })
 
 -- a function that has a symbol or none
 abbrev pub function_view : Option SymbolId × CompiledFunctionMetadata → value.MapFunction
-function_view f = record { address_map = address_map_view f; labels = (f.1).value_labels_ranges }
+function_view f = record { address_map = address_map_view f; labels = (f.1).value_labels_ranges; frame = description_of_metadata f.1 }
 
 abbrev pub module_view : MapModule → value.MapModule
 module_view m = record { functions = map function_view m.functions.items; memory = memory_view m.memory }

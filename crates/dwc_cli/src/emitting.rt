@@ -1,6 +1,8 @@
 //! The sections of DWARF for the functions of a map.
-ghost use Rattle.std.specs.Prelude.{◌≡◌, ◌⊎◌, map, if◌then◌else◌, IfOk, string_bytes};
+ghost use Rattle.std.specs.Prelude.{◌≡◌, ◌⊎◌, true, map, option_map, if◌then◌else◌, IfOk, string_bytes};
 ghost use Rattle.dwc_base.specs.declared.records.Endian.TheVariants.{Little, Big};
+ghost use Rattle.dwc_base.specs.CallFrames.{is_sound_if};
+ghost use Rattle.dwc_clif.specs.CallFrames.{cie_view};
 ghost use Rattle.dwc_clif.specs.Registers.{registers_of};
 ghost use Rattle.dwc_addr.specs.Compilations.{lists, IsCounted, AreNames};
 ghost use Rattle.dwc_carry.specs.Emits as emitting;
@@ -108,13 +110,15 @@ fn functions_of(
     Ok(functions)
 }
 
-// The target of a map. A map does not tell what frames share.
+// The target of a map.
 fn table_of(alloc: Global, target: Target) -> Result<TableIsa, AllocError>
-    requires { (target.pointer_bytes ≡ 4) ⊎ (target.pointer_bytes ≡ 8) }
+    requires size { (target.pointer_bytes ≡ 4) ⊎ (target.pointer_bytes ≡ 8) }
+    requires sound { is_sound_if (option_map cie_view target.cie) ≡ true }
     ensures order { IfOk result (λ isa. isa.order ≡ if target.big_endian then Big else Little) }
     ensures size { IfOk result (λ isa. isa.pointer_bytes ≡ target.pointer_bytes) }
     ensures registers { IfOk result (λ isa. isa.registers ≡ registers_of target.registers.items) }
     ensures architecture { IfOk result (λ isa. isa.architecture ≡ target.arch) }
+    ensures entry { IfOk result (λ isa. isa.common_entry ≡ option_map cie_view target.cie) }
 {
     let order = if target.big_endian {
         Endian::Big
@@ -127,7 +131,7 @@ fn table_of(alloc: Global, target: Target) -> Result<TableIsa, AllocError>
         order,
         target.pointer_bytes,
         target.registers,
-        None,
+        target.cie,
     )
 }
 

@@ -3,7 +3,8 @@ ghost use Rattle.std.specs.Prelude.{◌≡◌, ◌==◌, option_map, Some};
 ghost use Rattle.std.specs.List.{list_any};
 ghost use Rattle.serde_json.specs.View.{view, items_view, members_view};
 ghost use Rattle.serde_json.specs.Find.{get_member, as_array};
-ghost use Rattle.dwc_cli.specs.MapFile.{u32_of, u16_of, i64_of, source_of, nullable, truth_of, text_of, pointer_bytes_of, architecture_of, members_of, pair_of, four_of};
+ghost use Rattle.dwc_cli.specs.MapFile.{pointer_bytes_of, architecture_of};
+ghost use Rattle.dwc_cli.specs.MapValues.{u32_of, u16_of, u8_of, i8_of, i32_of, i64_of, source_of, nullable, truth_of, text_of, members_of, pair_of, four_of};
 
 use dwc_base::{FilePos, SymbolId};
 use dwc_clif::Architecture;
@@ -23,6 +24,30 @@ pub(crate) fn short_number(value: &Value) -> Option<u16>
 {
     let number = value.as_u64()?;
     u16::try_from(number).ok()
+}
+
+/// A whole number below 2^8.
+pub(crate) fn byte_number(value: &Value) -> Option<u8>
+    ensures { result ≡ u8_of (view value.now) }
+{
+    let number = value.as_u64()?;
+    u8::try_from(number).ok()
+}
+
+/// A whole number of 8 bits with a sign.
+pub(crate) fn signed_byte(value: &Value) -> Option<i8>
+    ensures { result ≡ i8_of (view value.now) }
+{
+    let number = value.as_i64()?;
+    i8::try_from(number).ok()
+}
+
+/// A whole number of 32 bits with a sign.
+pub(crate) fn signed_offset(value: &Value) -> Option<i32>
+    ensures { result ≡ i32_of (view value.now) }
+{
+    let number = value.as_i64()?;
+    i32::try_from(number).ok()
 }
 
 /// A whole number of 64 bits with a sign.

@@ -3,7 +3,8 @@ ghost use Rattle.std.specs.Prelude.{◌≡◌, map, option_map, IfOk};
 ghost use Rattle.std.specs.FinMap as finite;
 ghost use Rattle.serde_json.specs.View.{view, items_view};
 ghost use Rattle.dwc_clif.specs.ValueLabels.{place_view, range_view};
-ghost use Rattle.dwc_cli.specs.MapFile.{u32_of, pair_of, all_items, list_of, table_in, value_or, place_of, label_range_of, labels_of};
+ghost use Rattle.dwc_cli.specs.MapFile.{place_of, label_range_of, labels_of};
+ghost use Rattle.dwc_cli.specs.MapValues.{u32_of, pair_of, all_items, list_of, table_in, value_or};
 ghost use Rattle.dwc_cli.specs.MapViews.{label_view};
 
 use crate::json_fields::{four, items, pair, plain_text, signed_number, whole_number};

@@ -6,6 +6,7 @@ mod calls;
 mod command;
 mod emitting;
 mod failure;
+mod frames;
 mod front;
 mod host;
 mod input_files;

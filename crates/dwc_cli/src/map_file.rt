@@ -2,9 +2,11 @@
 ghost use Rattle.std.specs.Prelude.{ℕ, List, ◌≡◌, ◌&&◌, map, option_map, option_and_then, IfOk, IfSome, Some, None};
 ghost use Rattle.serde_json.specs.View.{view, items_view};
 ghost use Rattle.dwc_clif.specs.AddressMaps.{entry_view};
-ghost use Rattle.dwc_cli.specs.MapFile.{target_of, text_of, u32_of, source_of, pair_of, all_items, list_of, map_function_of, map_module_of, map_value, map_of_bytes, have_counts, is_countable, IsMapFor};
+ghost use Rattle.dwc_cli.specs.MapFile.{target_of, map_function_of, map_module_of, map_value, map_of_bytes, have_counts, is_countable, IsMapFor};
+ghost use Rattle.dwc_cli.specs.MapValues.{text_of, u32_of, source_of, pair_of, all_items, list_of};
 ghost use Rattle.dwc_cli.specs.MapViews.{IsJsonOf, target_with, target_view, names_view, function_with, function_view, module_view, map_file_view, told_sources, mapped_sources, HaveOneSource, ModulesHaveOneSource};
 
+use crate::frames::{read_cie, read_frame};
 use crate::json_fields::{
     architecture, items, member, members, pair, plain_text, pointer_bytes, source, symbol,
     whole_number,
@@ -15,7 +17,7 @@ use crate::registers::read_registers;
 use dwc_addr::ModuleMemoryOffset;
 use dwc_base::{FilePos, ModuleTranslation, SymbolId};
 use dwc_clif::{
-    Architecture, CompiledFunctionMetadata, FunctionAddressMap, InstructionAddressMap, Reg,
+    Architecture, Cie, CompiledFunctionMetadata, FunctionAddressMap, InstructionAddressMap, Reg,
 };
 use serde_json::Value;
 use std::alloc::{AllocError, Global};
@@ -33,6 +35,8 @@ pub struct Target {
     pub pointer_bytes: u8,
     /// Its registers, each once, with DWARF's numbers of them.
     pub registers: Vec<(Reg, u16)>,
+    /// What its frames share, if this is told; it can be written.
+    pub cie: Option<Cie>,
 }
 
 /// The names of the two functions that give access to a module's memory.
@@ -62,13 +66,14 @@ pub struct MapFile {
     pub modules: Vec<MapModule>,
 }
 
-// The fields of a target, the value of its registers not yet read.
+// The fields of a target, the values of its registers and of its common information entry not yet read.
 #[derive(Clone, Copy)]
 struct TargetFields<'v> {
     arch: Architecture,
     big_endian: bool,
     pointer_bytes: u8,
     registers: Option<&'v Value>,
+    cie: Option<&'v Value>,
 }
 
 #[tactic(auto, unfolding(crate::specs::MapFile::target_of))]
@@ -90,6 +95,7 @@ fn target_fields(value: &Value) -> Option<TargetFields<'_>>
         big_endian,
         pointer_bytes,
         registers: member(fields, "registers"),
+        cie: member(fields, "cie"),
     })
 }
 
@@ -102,11 +108,15 @@ fn read_target(alloc: Global, value: &Value) -> Result<Option<Target>, AllocErro
     let Some(registers) = read_registers(alloc, fields.registers)? else {
         return Ok(None);
     };
+    let Some(cie) = read_cie(alloc, fields.cie)? else {
+        return Ok(None);
+    };
     Ok(Some(Target {
         arch: fields.arch,
         big_endian: fields.big_endian,
         pointer_bytes: fields.pointer_bytes,
         registers,
+        cie,
     }))
 }
 
@@ -128,7 +138,7 @@ fn read_names(alloc: Global, value: &Value) -> Result<Option<Names>, AllocError>
     Ok(Some(Names { set, resolve }))
 }
 
-// The fields of a function, the values of its entries and of its labels not yet read.
+// The fields of a function, the values of its entries, of its labels and of its frame not yet read.
 #[derive(Drop)]
 struct FunctionFields<'v> {
     symbol: Option<SymbolId>,
@@ -138,6 +148,7 @@ struct FunctionFields<'v> {
     body_len: u32,
     entries: &'v [Value],
     labels: Option<&'v Value>,
+    frame: Option<&'v Value>,
 }
 
 #[tactic(auto, using(crate::proofs::MapKinds::list_of_items), unfolding(crate::specs::MapFile::map_function_of))]
@@ -162,6 +173,7 @@ fn function_fields(value: &Value) -> Option<FunctionFields<'_>>
         body_len,
         entries,
         labels: member(fields, "labels"),
+        frame: member(fields, "frame"),
     })
 }
 
@@ -196,7 +208,7 @@ fn read_entries(
     Ok(Some(entries))
 }
 
-// A function's symbol, address map and labels.
+// A function's symbol, address map, labels and frame.
 fn read_function(
     alloc: Global,
     value: &Value,
@@ -213,6 +225,9 @@ fn read_function(
     let Some(value_labels_ranges) = read_labels(alloc, fields.labels)? else {
         return Ok(None);
     };
+    let Some(cfa_unwind_info) = read_frame(alloc, fields.frame)? else {
+        return Ok(None);
+    };
     let address_map = FunctionAddressMap {
         instructions,
         start_srcloc: fields.start,
@@ -223,6 +238,8 @@ fn read_function(
     let metadata = CompiledFunctionMetadata {
         address_map,
         value_labels_ranges,
+        unwind_info: None,
+        cfa_unwind_info,
         start_srcloc: fields.start,
         end_srcloc: fields.end,
     };
@@ -408,11 +425,12 @@ fn defined_counts(alloc: Global, modules: &[ModuleTranslation<'_>]) -> Result<Ve
 ///
 /// Answers `Ok(None)` exactly where the bytes have no value as a map: they are not UTF-8 or no JSON text of at most 127
 /// levels, a required field is missing, a value is of the wrong kind or out of its range, a register or a label of a function
-/// stands twice, or the modules are not as many as these, with as many functions as each of these defines. Unknown fields
-/// are passed over, and of two members of one name the later counts.
+/// stands twice, a common information entry cannot be written, or the modules are not as many as these, with as many functions
+/// as each of these defines. Unknown fields are passed over, and of two members of one name the later counts.
 ///
-/// A map that is answered has the modules and functions that are asked for, fewer than 2^32 each, addresses of 4 or 8 bytes, and
-/// names without a zero byte. The begin and the end of a function are the same in its record and in its address map.
+/// A map that is answered has the modules and functions that are asked for, fewer than 2^32 each, addresses of 4 or 8 bytes,
+/// names without a zero byte, and no common information entry that cannot be written. The begin and the end of a function are the
+/// same in its record and in its address map.
 ///
 /// # Errors
 ///

@@ -3,7 +3,8 @@ ghost use Rattle.std.specs.Prelude.{◌≡◌, option_map};
 ghost use Rattle.serde_json.specs.View.{view};
 ghost use Rattle.dwc_base.specs.Compiled.{no_memory};
 ghost use Rattle.dwc_expr.specs.Frames.{memory_view};
-ghost use Rattle.dwc_cli.specs.MapFile.{value_or, imported_of, memory_of};
+ghost use Rattle.dwc_cli.specs.MapFile.{imported_of, memory_of};
+ghost use Rattle.dwc_cli.specs.MapValues.{value_or};
 
 use crate::json_fields::{member, members, pair, whole_number};
 use dwc_addr::ModuleMemoryOffset;

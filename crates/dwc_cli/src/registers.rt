@@ -3,7 +3,8 @@ ghost use Rattle.std.specs.Prelude.{◌≡◌, map, option_map, IfOk};
 ghost use Rattle.std.specs.FinMap as finite;
 ghost use Rattle.serde_json.specs.View.{view, items_view};
 ghost use Rattle.dwc_clif.specs.Registers.{numbers, registers_of};
-ghost use Rattle.dwc_cli.specs.MapFile.{u32_of, u16_of, pair_of, all_items, have_distinct_keys, value_or, register_numbers_of};
+ghost use Rattle.dwc_cli.specs.MapFile.{register_numbers_of};
+ghost use Rattle.dwc_cli.specs.MapValues.{u32_of, u16_of, pair_of, all_items, have_distinct_keys, value_or};
 
 use crate::json_fields::{items, pair, short_number, whole_number};
 use dwc_clif::Reg;

@@ -1,4 +1,4 @@
-use Rattle.std.proofs.Common.{◌≡◌, map, sym, subst, None}
+use Rattle.std.proofs.Common.{◌≡◌, map, refl, sym, subst, None}
 use Rattle.std.proofs.lemmas.Result.{err_from_is_err_and}
 use Rattle.dwc_base.specs.SharedSymbols.{shared_symbol}
 use Rattle.dwc_addr.specs.Numbers.{all_symbols, symbol_view}
@@ -23,8 +23,9 @@ returns-in_err-emitted_for c = λ read is.
     let named : IsCompiled isa.order isa.pointer_bytes isa.registers (record { set_memory = c.deref.result.now; resolve_memory = c.deref-2.result.now }) c.args.translations.now (lists c.args.functions.now) c.args.memory_offsets.items read = rw (c.deref.ensures, c.deref-2.ensures) is in
     let given = sym (c.in_ok-compilation.ensures).value in
     let seen = subst (λ v. IsCompiled isa.order isa.pointer_bytes isa.registers (names_of v) v.translations v.functions v.memory_offsets read) given named in
+    let new = subst (λ v. v.next_id ≡ 0) given refl in
     let none = subst (λ v. shared_symbol (map symbol_view (all_symbols v.functions)) ≡ None) given (c.in_ok-compilation.ensures).distinct in
-    rw (p.1, p.2) (refused-emitting c.in_ok-compilation.compilation isa.order isa.pointer_bytes isa.registers read seen none c.in_err-emitted_for.field-0.0 c.in_err-emitted_for.ensures)
+    rw (p.1, p.2) (refused-emitting c.in_ok-compilation.compilation isa.order isa.pointer_bytes isa.registers read seen new none c.in_err-emitted_for.field-0.0 c.in_err-emitted_for.ensures)
 
 pub returns : goal.returns
 returns c = λ read is.
@@ -32,5 +33,6 @@ returns c = λ read is.
     let named : IsCompiled isa.order isa.pointer_bytes isa.registers (record { set_memory = c.deref.result.now; resolve_memory = c.deref-2.result.now }) c.args.translations.now (lists c.args.functions.now) c.args.memory_offsets.items read = rw (c.deref.ensures, c.deref-2.ensures) is in
     let given = sym (c.in_ok-compilation.ensures).value in
     let seen = subst (λ v. IsCompiled isa.order isa.pointer_bytes isa.registers (names_of v) v.translations v.functions v.memory_offsets read) given named in
+    let new = subst (λ v. v.next_id ≡ 0) given refl in
     let none = subst (λ v. shared_symbol (map symbol_view (all_symbols v.functions)) ≡ None) given (c.in_ok-compilation.ensures).distinct in
-    emitted c.in_ok-compilation.compilation isa.order isa.pointer_bytes isa.registers read seen none c.in_ok-emitted_for.field-0 c.in_ok-emitted_for.ensures
+    emitted c.in_ok-compilation.compilation isa.order isa.pointer_bytes isa.registers read seen new none c.in_ok-emitted_for.field-0 c.in_ok-emitted_for.ensures

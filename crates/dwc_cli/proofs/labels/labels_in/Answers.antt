@@ -1,7 +1,8 @@
 use Rattle.std.proofs.Common.{Some, map, option_map, ◌∙◌, sym, ap, arith}
 use Rattle.std.specs.Prelude.{is_some}
 use Rattle.dwc_clif.specs.ValueLabels.{range_view}
-use Rattle.dwc_cli.specs.MapFile.{list_of, label_range_of}
+use Rattle.dwc_cli.specs.MapFile.{label_range_of}
+use Rattle.dwc_cli.specs.MapValues.{list_of}
 use Rattle.dwc_cli.specs.MapViews.{label_view}
 use Rattle.dwc_cli.proofs.Tables.{values-unread, values-twice, values-more, is_some-map}
 use Rattle.dwc_cli.proofs.labels.labels_in.Goals as goal

@@ -1,6 +1,7 @@
 use Rattle.std.proofs.Common.{◌≡◌, ◌≤◌, drop, length, Some}
 use Rattle.serde_json.specs.View.{items_view}
-use Rattle.dwc_cli.specs.MapFile.{list_of, label_range_of, table_in}
+use Rattle.dwc_cli.specs.MapFile.{label_range_of}
+use Rattle.dwc_cli.specs.MapValues.{list_of, table_in}
 use Rattle.dwc_cli.proofs.labels.labels_in.Given as goal
 
 -- the labels are those of the values from k on

@@ -1,7 +1,8 @@
 use Rattle.std.proofs.Common.{◌≡◌, ◌++◌, map, drop, option_map}
 use Rattle.serde_json.specs.View.{items_view}
 use Rattle.dwc_clif.specs.ValueLabels.{range_view}
-use Rattle.dwc_cli.specs.MapFile.{label_range_of, all_items}
+use Rattle.dwc_cli.specs.MapFile.{label_range_of}
+use Rattle.dwc_cli.specs.MapValues.{all_items}
 use Rattle.dwc_cli.proofs.labels.read_ranges.Given as goal
 
 -- the ranges so far, and those of the values to come, are those of all values

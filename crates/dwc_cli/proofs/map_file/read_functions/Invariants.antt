@@ -1,6 +1,7 @@
 use Rattle.std.proofs.Common.{◌≡◌, ◌++◌, map, drop, option_map}
 use Rattle.serde_json.specs.View.{items_view}
-use Rattle.dwc_cli.specs.MapFile.{map_function_of, all_items}
+use Rattle.dwc_cli.specs.MapFile.{map_function_of}
+use Rattle.dwc_cli.specs.MapValues.{all_items}
 use Rattle.dwc_cli.specs.MapViews.{function_view, HaveOneSource}
 use Rattle.dwc_cli.proofs.map_file.read_functions.Given as goal
 

@@ -1,7 +1,8 @@
 use Rattle.std.proofs.Common.{◌≡◌, ◌++◌, map, drop, option_map}
 use Rattle.serde_json.specs.View.{items_view}
 use Rattle.dwc_cli.specs.MapViews.{module_view, ModulesHaveOneSource}
-use Rattle.dwc_cli.specs.MapFile.{map_module_of, all_items}
+use Rattle.dwc_cli.specs.MapFile.{map_module_of}
+use Rattle.dwc_cli.specs.MapValues.{all_items}
 use Rattle.dwc_cli.proofs.map_file.read_modules.Given as goal
 
 -- the modules so far, and those of the values to come, are those of all values

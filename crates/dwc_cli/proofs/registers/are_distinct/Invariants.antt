@@ -1,7 +1,7 @@
 use Rattle.std.proofs.Common.{◌≡◌, ℕ, ◌≤◌, map, drop, length, nat_cmp, true}
 use Rattle.std.specs.BTreeSet.{contains}
 use Rattle.dwc_clif.specs.Registers.{numbers}
-use Rattle.dwc_cli.specs.MapFile.{has_key, have_distinct_keys}
+use Rattle.dwc_cli.specs.MapValues.{has_key, have_distinct_keys}
 use Rattle.dwc_cli.proofs.registers.are_distinct.Given as goal
 
 -- the registers from k on are distinct, and are those that were seen

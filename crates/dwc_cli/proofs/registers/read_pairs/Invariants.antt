@@ -1,7 +1,7 @@
 use Rattle.std.proofs.Common.{◌≡◌, ◌++◌, map, drop, option_map}
 use Rattle.serde_json.specs.View.{items_view}
 use Rattle.dwc_clif.specs.Registers.{numbers}
-use Rattle.dwc_cli.specs.MapFile.{u32_of, u16_of, pair_of, all_items}
+use Rattle.dwc_cli.specs.MapValues.{u32_of, u16_of, pair_of, all_items}
 use Rattle.dwc_cli.proofs.registers.read_pairs.Given as goal
 
 -- the pairs so far, and those of the values to come, are those of all values
