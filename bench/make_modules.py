@@ -32,6 +32,9 @@ Entries of any kind:
 Pointers:
 
 - pointers: N pointers that go to one chain of 1,000 constants and pointers, in turn, and a base type behind them.
+- named_pointers: N pointers with names of their own that go to one chain of 1,000 constants.
+- pointer_chain: N pointers, each of which goes to the next, and a base type behind them; their names have N bytes and fewer.
+- pointer_cycle: the same with the last going to the first; their names have N bytes.
 
 Where values lie:
 
@@ -210,6 +213,27 @@ def functions_module(count, first_symbol=0):
             }
         )
     return wasm, functions
+
+
+def text(name):
+    """A name with its length."""
+    return uleb(len(name)) + name
+
+
+def names_of(count):
+    """The section of names: of so many functions, the last first, and of two locals of each."""
+    def locals_of(i):
+        return uleb(i) + b"\2" + uleb(1) + text(b"size") + uleb(0) + text(b"at")
+
+    functions = uleb(count) + b"".join(uleb(i) + text(b"function_%d" % i) for i in reversed(range(count)))
+    locals_named = uleb(count) + b"".join(locals_of(i) for i in range(count))
+    return custom("name", section(1, functions) + section(2, locals_named))
+
+
+def names_module(count):
+    """A module of so many functions, with names of these and of their locals."""
+    wasm, functions = functions_module(count)
+    return wasm + names_of(count), functions
 
 
 def segments_module(rows):
@@ -450,10 +474,12 @@ def long_list_module(count):
 
 # ---- pointers
 
-# A compile unit, a subprogram with children, and of entries with a type: parameters, constants and pointers; and a base type with a name.
-POINTERS = bytes.fromhex("011101 0000 022E01 1101 1206 0000 030500 4913 0000 042600 4913 0000 050F00 4913 0000 062400 030E 0000 00")
-CONSTANT, POINTER, BASE_TYPE = 4, 5, 6
+# A compile unit, a subprogram with children, and of entries with a type: parameters, constants and pointers; a base type with a name; and
+# pointers with a name.
+POINTERS = bytes.fromhex("011101 0000 022E01 1101 1206 0000 030500 4913 0000 042600 4913 0000 050F00 4913 0000 062400 030E 0000 070F00 030E 4913 0000 00")
+CONSTANT, POINTER, BASE_TYPE, NAMED_POINTER = 4, 5, 6, 7
 TYPED_SIZE = 1 + 4
+NAMED_SIZE = 1 + 4 + 4
 STEPS_OF_A_CHAIN = 1000
 
 
@@ -461,19 +487,63 @@ def typed(number, target):
     return bytes([number]) + u32(target)
 
 
-def pointers_module(count):
-    """Parameters, of which each has a pointer of its own, and the chain of types that all these pointers go to."""
-    pointers = FIRST_ENTRY + SUBPROGRAM_SIZE + count * TYPED_SIZE + 1
-    chain = pointers + count * TYPED_SIZE
+def typed_module(count, made):
+    """Parameters of one function, and the types behind it, by the offset of the first type: those of the parameters, and all."""
+    targets, types = made(FIRST_ENTRY + SUBPROGRAM_SIZE + count * TYPED_SIZE + 1)
 
     def info(start):
-        parameters = b"".join(typed(PARAMETER, pointers + i * TYPED_SIZE) for i in range(count))
-        steps = b"".join(typed(POINTER if i % 2 else CONSTANT, chain + (i + 1) * TYPED_SIZE) for i in range(STEPS_OF_A_CHAIN))
-        types = typed(POINTER, chain) * count + steps + bytes([BASE_TYPE]) + u32(0)
+        parameters = b"".join(typed(PARAMETER, target) for target in targets)
         return unit_of(bytes([1, 2]) + u32(start) + u32(BODY) + parameters + b"\0" + types)
 
     wasm, functions = one_function(BODY, info, no_lines, POINTERS, [[0, 0]])
     return wasm + custom(".debug_str", b"t\0"), functions
+
+
+def chain_to_base(chain, tags):
+    """Types at an offset, each derived from the next, and a base type behind them."""
+    steps = b"".join(typed(tags[i % len(tags)], chain + (i + 1) * TYPED_SIZE) for i in range(STEPS_OF_A_CHAIN))
+    return steps + bytes([BASE_TYPE]) + u32(0)
+
+
+def pointers_module(count):
+    """Parameters, of which each has a pointer of its own, and the chain of types that all these pointers go to."""
+
+    def made(first):
+        chain = first + count * TYPED_SIZE
+        targets = range(first, chain, TYPED_SIZE)
+        return targets, typed(POINTER, chain) * count + chain_to_base(chain, [CONSTANT, POINTER])
+
+    return typed_module(count, made)
+
+
+def named_pointers_module(count):
+    """The same with a name for each pointer, and a chain of constants."""
+
+    def made(first):
+        chain = first + count * NAMED_SIZE
+        targets = range(first, chain, NAMED_SIZE)
+        return targets, (bytes([NAMED_POINTER]) + u32(0) + u32(chain)) * count + chain_to_base(chain, [CONSTANT])
+
+    return typed_module(count, made)
+
+
+def pointer_chain_module(count):
+    """A parameter, and the chain of pointers that it goes to, with a base type behind them."""
+
+    def made(first):
+        pointers = b"".join(typed(POINTER, first + (i + 1) * TYPED_SIZE) for i in range(count))
+        return [first], pointers + bytes([BASE_TYPE]) + u32(0)
+
+    return typed_module(1, made)
+
+
+def pointer_cycle_module(count):
+    """A parameter, and pointers of which each goes to the next, and the last to the first."""
+
+    def made(first):
+        return [first], b"".join(typed(POINTER, first + (i + 1) % count * TYPED_SIZE) for i in range(count))
+
+    return typed_module(1, made)
 
 
 # ---- where values lie
@@ -526,6 +596,7 @@ def expressions_module(count):
 KINDS = {
     "functions": lambda n: [functions_module(n)],
     "modules": lambda n: [functions_module(n, i * n) for i in range(3)],
+    "names": lambda n: [names_module(n)],
     "segments": lambda n: [segments_module(n)],
     "units": lambda n: [units_module(n)],
     "shapes": lambda n: [shapes_module(n)],
@@ -542,6 +613,9 @@ KINDS = {
     "blocks": lambda n: [blocks_module(n)],
     "long_list": lambda n: [long_list_module(n)],
     "pointers": lambda n: [pointers_module(n)],
+    "named_pointers": lambda n: [named_pointers_module(n)],
+    "pointer_chain": lambda n: [pointer_chain_module(n)],
+    "pointer_cycle": lambda n: [pointer_cycle_module(n)],
     "variables": lambda n: [variables_module(n)],
     "long_locations": lambda n: [long_locations_module(n)],
     "placed": lambda n: [placed_module(n)],
@@ -552,6 +626,7 @@ KINDS = {
 SIZES = {
     "functions": [1000, 25000, 50000],
     "modules": [5000, 10000],
+    "names": [25000, 50000],
     "segments": [5000, 10000],
     "units": [5000, 10000],
     "shapes": [30000, 60000],
@@ -568,6 +643,9 @@ SIZES = {
     "blocks": [50000, 100000],
     "long_list": [100000, 200000],
     "pointers": [50000, 100000],
+    "named_pointers": [50000, 100000],
+    "pointer_chain": [4000, 8000],
+    "pointer_cycle": [4000, 8000],
     "variables": [50000, 100000],
     "long_locations": [50000, 100000],
     "placed": [100000, 200000],
