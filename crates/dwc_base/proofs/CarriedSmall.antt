@@ -61,7 +61,7 @@ abbrev pub module_small : Module
 module_small = record { sections = sections_small; functions = function_small ∷ []; told = told_small; file = file_small_told; compressed = None }
 
 abbrev pub compilation_small : Compilation
-compilation_small = record { order = Little; pointer_bytes = 8; modules = module_small ∷ []; next_id = 0 }
+compilation_small = record { order = Little; pointer_bytes = 8; modules = module_small ∷ []; next_id = 0; common_entry = None }
 
 abbrev pub unit_small : Unit
 unit_small = record { header = header_small; entries = record { offset = 11; depth = 0; tag = 0x11; attributes = (0x10, line_reference 0) ∷ [] } ∷ record { offset = 16; depth = 1; tag = 0x2E; attributes = (0x11, address (Constant 2)) ∷ (0x12, constant 0x06 11) ∷ [] } ∷ [] }
@@ -174,7 +174,7 @@ not_image-small h = let same : 4 ≡ 3 = ap line_in (h.agrees 15 (lit< tt)) in o
 
 -- A module in the 64-bit format has no units, but its lines are not carried by an output without sections.
 abbrev pub compilation_64 : Compilation
-compilation_64 = record { order = Little; pointer_bytes = 8; modules = record { sections = three_sections [] (0xFF ∷ 0xFF ∷ 0xFF ∷ 0xFF ∷ []) []; functions = function_small ∷ []; told = nothing_told; file = bare_file 20; compressed = None } ∷ []; next_id = 0 }
+compilation_64 = record { order = Little; pointer_bytes = 8; modules = record { sections = three_sections [] (0xFF ∷ 0xFF ∷ 0xFF ∷ 0xFF ∷ []) []; functions = function_small ∷ []; told = nothing_told; file = bare_file 20; compressed = None } ∷ []; next_id = 0; common_entry = None }
 
 units-64 : carried_units compilation_64 ≡ []
 unfolding drafts_on_literals

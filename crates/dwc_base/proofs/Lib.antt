@@ -121,6 +121,8 @@ pub mod OnFrames
 pub mod FrameCases
 pub mod FrameRefusals
 pub mod FrameSizes
+pub mod FramesApart
+pub mod FramesSmall
 pub mod SimulatedInputs
 pub mod UnitPathCases
 pub mod SimulatedUnitCases

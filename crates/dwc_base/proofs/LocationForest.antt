@@ -35,7 +35,7 @@ use Rattle.dwc_base.specs.LocationAttributes.{LocationRefusal, of_place, of_buil
 use Rattle.dwc_base.specs.LocationRules.{ExpressionSource, given_expression, expression_becomes, in_force_at, listed_by, listed_become, lists_of, locations_become}
 use Rattle.dwc_base.specs.EntryRules.{code_value_becomes, of_list, of_location, wrappers_of, rules_of_source}
 use Rattle.dwc_base.specs.RangeRefusals.{has_name}
-use Rattle.dwc_base.specs.Forests.{kept_of, expressions_of, rules_of, wanted_units, is_big, drafts_of, function_refusals, own_refusals, reading_refusals, module_refusals, refusals, first_refusal, trees_made}
+use Rattle.dwc_base.specs.Forests.{kept_of, expressions_of, rules_of, wanted_units, is_big, drafts_of, function_refusals, own_refusals, reading_refusals, module_refusals, refusals, first_refusal, trees_made, refused_frames}
 use Rattle.dwc_base.specs.ScopesCarried.{AreNumbered, TranslationsKeepScopes, KeepsScope, value_of_entry}
 use Rattle.dwc_base.specs.LocationsCarried.{LocationUse, over_scope, over_intervals, use_over, interval_used, intervals_used, use_of, IntervalSaysWhere, ListSaysWhere, ValueSaysWhere, NameSaysWhere, CarriesLocations, UnitCarriesLocations, UnitHasLocations, LocationsCarried}
 use Rattle.dwc_base.proofs.InLists.{IsIn, in-filter}
@@ -390,7 +390,8 @@ no-first (x ∷ xs) h = absurd (cc)
 -- of an input of which nothing is refused nothing is of a module
 pub none-refused : (c : Compilation) → first_refusal c ≡ None → (m : Module) → IsIn m c.modules → module_refusals m ≡ []
 none-refused c accepted m i =
-    each-none module_refusals c.modules m (both-none (flat_map (λ (n : Module). function_refusals n.functions) c.modules) (flat_map module_refusals c.modules) (no-first (refusals c) accepted)).1 i
+    let behind = (both-none (flat_map (λ (n : Module). function_refusals n.functions) c.modules) (flat_map module_refusals c.modules ++ refused_frames c) (no-first (refusals c) accepted)).1 in
+    each-none module_refusals c.modules m (both-none (flat_map module_refusals c.modules) (refused_frames c) behind).0 i
 
 -- The trees that are made of an input of which nothing is refused, whose functions have good maps and numbers of their own, carry its
 -- locations.

@@ -214,4 +214,5 @@ output_carried-small = record {
   form = form-small;
   names = names-small;
   relocated = related-small;
+  frames = refl;
 }

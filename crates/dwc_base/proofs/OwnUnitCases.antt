@@ -104,18 +104,19 @@ in-front : trees_made (record {
   pointer_bytes = 8;
   modules = without_sections no_memory ∷ with_memory (defined 0) line_small ∷ without_sections (defined 80) ∷ with_memory (imported 8 16) line_small ∷ [];
   next_id = 0;
+  common_entry = None;
 })
     ≡ own_tree 0 ∷ own_tree_with 1 0 ∷ tree_with_own 1 7 ∷ own_tree_with 3 80 ∷ own_tree 4 ∷ tree_with_own 4 6 ∷ []
 unfolding drafts_on_literals
 in-front = refl
 
 -- its constants are the same for a target of the other byte order
-other-order : trees_made (record { order = Big; pointer_bytes = 4; modules = without_sections (defined 80) ∷ []; next_id = 0 }) ≡ own_tree_with 0 80 ∷ []
+other-order : trees_made (record { order = Big; pointer_bytes = 4; modules = without_sections (defined 80) ∷ []; next_id = 0; common_entry = None }) ≡ own_tree_with 0 80 ∷ []
 unfolding drafts_on_literals
 other-order = refl
 
 -- no module has no unit
-no-modules : trees_made (record { order = Little; pointer_bytes = 8; modules = []; next_id = 0 }) ≡ []
+no-modules : trees_made (record { order = Little; pointer_bytes = 8; modules = []; next_id = 0; common_entry = None }) ≡ []
 unfolding drafts_on_literals
 no-modules = refl
 

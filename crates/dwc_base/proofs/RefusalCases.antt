@@ -1,8 +1,10 @@
 -- What is refused of an input, and in which order.
-use Rattle.std.proofs.Common.{◌≡◌, ℕ, List, [], ◌∷◌, ◌++◌, Option, Some, None, refl}
+use Rattle.std.proofs.Common.{◌≡◌, ℕ, pos, negsuc, List, [], ◌∷◌, ◌++◌, Option, Some, None, refl}
 use Rattle.dwc_base.proofs.DraftsOnLiterals.{drafts_on_literals}
 use Rattle.dwc_base.proofs.SmallModule.{abbreviations_small, info_small, line_small}
 use Rattle.dwc_base.proofs.RunCases.{a_function}
+use Rattle.dwc_base.proofs.LineTables.{function_small}
+use Rattle.dwc_base.proofs.FrameCases.{a_common_entry, a_description, usual_entry}
 use Rattle.dwc_base.proofs.Variants.{module_with, info_0, line_9, abbreviations_variable}
 use Rattle.dwc_base.specs.declared.records.Endian.TheVariants.{Little}
 use Rattle.dwc_base.specs.declared.faults.What.TheVariants.{LineTable as LineTableRead, Abbreviation, UnitHeader as UnitHeaderRead, Entry as EntryRead, RangeList, LocationList}
@@ -11,12 +13,19 @@ use Rattle.dwc_base.specs.declared.section_name.SectionName.TheVariants.{Line, A
 use Rattle.dwc_base.specs.Sections.{unreadable, unsupported}
 use Rattle.dwc_base.specs.Carried.{Module}
 use Rattle.dwc_base.specs.ToldFiles.{bare_file}
-use Rattle.dwc_base.specs.Refusals.{Refusal, of_place, missing_file, long_function}
+use Rattle.dwc_base.specs.Refusals.{Refusal, of_place, missing_file, long_function, far_memory, of_frame}
 use Rattle.dwc_base.specs.Forests.{first_refusal}
-use Rattle.dwc_base.specs.Compiled.{nothing_told}
+use Rattle.dwc_base.specs.Functions.{Function}
+use Rattle.dwc_base.specs.Compiled.{defined, frames_from, nothing_told}
+use Rattle.dwc_base.specs.CallFrames.{def_cfa_offset, remember_state, saved_at, CommonEntry, FrameDescription}
+use Rattle.dwc_base.specs.FrameRefusals.{bad_code_offset, bad_data_offset}
+
+-- the refusal of some modules for a target with a common entry, and for one without
+abbrev refusal_with : Option CommonEntry → List Module → Option Refusal
+refusal_with common ms = first_refusal (record { order = Little; pointer_bytes = 8; modules = ms; next_id = 0; common_entry = common })
 
 abbrev pub refusal_of : List Module → Option Refusal
-refusal_of ms = first_refusal (record { order = Little; pointer_bytes = 8; modules = ms; next_id = 0 })
+refusal_of ms = refusal_with None ms
 
 no_refusal : refusal_of (module_with abbreviations_small info_small line_small ∷ []) ≡ None
 unfolding drafts_on_literals
@@ -105,3 +114,117 @@ long_module = record { sections = (module_with abbreviations_small info_small li
 function_first : refusal_of (module_with abbreviations_small info_small (0x38 ∷ 0x00 ∷ []) ∷ long_module ∷ []) ≡ Some long_function
 unfolding drafts_on_literals long_module
 function_first = refl
+
+-- ---- frames
+
+-- where the target has the common entry of x86-64
+abbrev refusal_framed : List Module → Option Refusal
+refusal_framed ms = refusal_with (Some usual_entry) ms
+
+-- a good description; one whose code offsets fall; one with a factored offset that is no multiple of -8; and one with both
+abbrev good : FrameDescription
+good = a_description 30 ((1, def_cfa_offset (pos 16)) ∷ [])
+
+abbrev falling : FrameDescription
+falling = a_description 30 ((4, remember_state) ∷ (2, remember_state) ∷ [])
+
+abbrev odd : FrameDescription
+odd = a_description 30 ((1, saved_at 16 (negsuc 8)) ∷ [])
+
+abbrev odd_falling : FrameDescription
+odd_falling = a_description 30 ((4, saved_at 16 (negsuc 8)) ∷ (2, remember_state) ∷ [])
+
+-- the small module with other functions, whose frames are told from that of a number on
+abbrev module_framed : List Function → ℕ → List (Option FrameDescription) → Module
+module_framed functions first frames = record (module_with abbreviations_small info_small line_small) { functions = functions; told = record nothing_told { frames = frames_from first frames } }
+
+-- with its own function, and the frame of that
+abbrev small_framed : FrameDescription → Module
+small_framed frame = module_framed (function_small ∷ []) 0 (Some frame ∷ [])
+
+-- behind its code another function, and its number
+abbrev next_function : Option ℕ → ℕ → Function
+next_function symbol number = a_function number symbol 13 20 30 []
+
+good_frame : refusal_framed (small_framed good ∷ []) ≡ None
+unfolding drafts_on_literals
+good_frame = refl
+
+code_offset_refused : refusal_framed (small_framed falling ∷ []) ≡ Some (of_frame (bad_code_offset 0))
+unfolding drafts_on_literals
+code_offset_refused = refl
+
+data_offset_refused : refusal_framed (small_framed odd ∷ []) ≡ Some (of_frame (bad_data_offset 0))
+unfolding drafts_on_literals
+data_offset_refused = refl
+
+-- of one description its code offsets come first
+code_before_data : refusal_framed (small_framed odd_falling ∷ []) ≡ Some (of_frame (bad_code_offset 0))
+unfolding drafts_on_literals
+code_before_data = refl
+
+-- Of two functions the first one's is told, whatever is wrong in it: of one module, and of two.
+function_by_function : refusal_framed (module_framed (function_small ∷ next_function (Some 1) 1 ∷ []) 0 (Some odd ∷ Some falling ∷ []) ∷ []) ≡ Some (of_frame (bad_data_offset 0))
+unfolding drafts_on_literals
+function_by_function = refl
+
+frame_by_module : refusal_framed (small_framed odd ∷ module_framed (next_function (Some 1) 1 ∷ []) 1 (Some falling ∷ []) ∷ []) ≡ Some (of_frame (bad_data_offset 0))
+unfolding drafts_on_literals
+frame_by_module = refl
+
+-- behind a good one, and behind a function of which none is told
+second_refused : refusal_framed (module_framed (function_small ∷ next_function (Some 1) 1 ∷ []) 0 (Some good ∷ Some odd_falling ∷ []) ∷ []) ≡ Some (of_frame (bad_code_offset 1))
+unfolding drafts_on_literals
+second_refused = refl
+
+untold_passed : refusal_framed (module_framed (function_small ∷ next_function (Some 1) 1 ∷ []) 0 (None ∷ Some odd ∷ []) ∷ []) ≡ Some (of_frame (bad_data_offset 1))
+unfolding drafts_on_literals
+untold_passed = refl
+
+-- the factors are those of the common entry: by 2 the code offset 1 is wrong, and by -3 the offset -9 is not
+code_factor_counts : refusal_with (Some (a_common_entry 2 (negsuc 7) 16 [])) (small_framed good ∷ []) ≡ Some (of_frame (bad_code_offset 0))
+unfolding drafts_on_literals
+code_factor_counts = refl
+
+data_factor_counts : refusal_with (Some (a_common_entry 1 (negsuc 2) 16 [])) (small_framed odd ∷ []) ≡ None
+unfolding drafts_on_literals
+data_factor_counts = refl
+
+-- what is read, and a memory too far, come before a bad frame: of its own module, and of a later one
+lines_before_frame : refusal_framed (record (small_framed falling) { sections = (module_with abbreviations_small info_small (0x38 ∷ 0x00 ∷ [])).sections } ∷ []) ≡ Some (of_place (unreadable LineTableRead Line 0))
+unfolding drafts_on_literals
+lines_before_frame = refl
+
+later_lines_before_frame : refusal_framed (small_framed falling ∷ module_with abbreviations_small info_small (0x38 ∷ 0x00 ∷ []) ∷ []) ≡ Some (of_place (unreadable LineTableRead Line 0))
+unfolding drafts_on_literals
+later_lines_before_frame = refl
+
+later_file_before_frame : refusal_framed (small_framed falling ∷ module_with abbreviations_small info_small line_9 ∷ []) ≡ Some (missing_file 0)
+unfolding drafts_on_literals
+later_file_before_frame = refl
+
+memory_before_frame : refusal_framed (small_framed falling ∷ record (small_framed good) { told = record nothing_told { memory = defined 4294967288 } } ∷ []) ≡ Some far_memory
+unfolding drafts_on_literals
+memory_before_frame = refl
+
+-- a long function does too, as it does before what is read
+long_before_frame : refusal_framed (small_framed falling ∷ long_module ∷ []) ≡ Some long_function
+unfolding drafts_on_literals long_module
+long_before_frame = refl
+
+long_before_all : refusal_framed (small_framed falling ∷ module_with abbreviations_small info_small (0x38 ∷ 0x00 ∷ []) ∷ long_module ∷ []) ≡ Some long_function
+unfolding drafts_on_literals long_module
+long_before_all = refl
+
+-- nothing is refused of a bad frame without a common entry, nor of one of a function without a symbol
+no_common_entry : refusal_of (small_framed odd_falling ∷ []) ≡ None
+unfolding drafts_on_literals
+no_common_entry = refl
+
+no_symbol : refusal_framed (module_framed (a_function 0 None 2 13 30 [] ∷ []) 0 (Some odd_falling ∷ []) ∷ []) ≡ None
+unfolding drafts_on_literals
+no_symbol = refl
+
+second_without_symbol : refusal_framed (module_framed (function_small ∷ next_function None 1 ∷ []) 0 (Some good ∷ Some odd_falling ∷ []) ∷ []) ≡ None
+unfolding drafts_on_literals
+second_without_symbol = refl

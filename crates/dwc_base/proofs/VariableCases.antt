@@ -53,6 +53,7 @@ compilation_of info local_3 memory registers = record {
     compressed = None;
   } ∷ [];
   next_id = 0;
+  common_entry = None;
 }
 
 abbrev pub numbered : List (ℕ × ℕ)

@@ -44,7 +44,7 @@ abbrev pub info_no_lines : List ℕ
 info_no_lines = 0x12 ∷ 0x00 ∷ 0x00 ∷ 0x00 ∷ 0x04 ∷ 0x00 ∷ 0x00 ∷ 0x00 ∷ 0x00 ∷ 0x00 ∷ 0x04 ∷ 0x01 ∷ 0x02 ∷ 0x02 ∷ 0x00 ∷ 0x00 ∷ 0x00 ∷ 0x0B ∷ 0x00 ∷ 0x00 ∷ 0x00 ∷ 0x00 ∷ []
 
 abbrev pub widths_of_module : Module → List ℕ
-widths_of_module m = map (λ name. widest name (record { order = Little; pointer_bytes = 8; modules = m ∷ []; next_id = 0 })) (Abbrev ∷ Info ∷ Line ∷ [])
+widths_of_module m = map (λ name. widest name (record { order = Little; pointer_bytes = 8; modules = m ∷ []; next_id = 0; common_entry = None })) (Abbrev ∷ Info ∷ Line ∷ [])
 
 -- the module's own unit, and the carried one
 widths-no_lines : widths_of_module (module_with abbreviations_no_lines info_no_lines []) ≡ (698 + 233) ∷ (176 + 91) ∷ 0 ∷ []

@@ -65,6 +65,7 @@ compilation_of context info = record {
     compressed = None;
   } ∷ [];
   next_id = 0;
+  common_entry = None;
 }
 
 -- ---- trees

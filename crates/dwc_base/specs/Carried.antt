@@ -11,6 +11,7 @@ use Rattle.dwc_base.specs.Indexed.{text_base}
 use Rattle.dwc_base.specs.Entries.{Entry, entries, attribute}
 use Rattle.dwc_base.specs.LineRows.{LineTable, line_table, Segment, segments}
 use Rattle.dwc_base.specs.Functions.{Function}
+use Rattle.dwc_base.specs.CallFrames.{CommonEntry}
 use Rattle.dwc_base.specs.Compiled.{ToldModule}
 use Rattle.dwc_base.specs.ToldFiles.{ToldFile}
 use Rattle.dwc_base.specs.Kept.{Placed}
@@ -76,12 +77,14 @@ pub record Module : Type 0 where
   pub file : ToldFile
   pub compressed : Option ℕ
 
--- an input, the byte order and address size of the target, and the number of the next generated name
+-- an input, the byte order and address size of the target, the number of the next generated name, and what the frames of all functions
+-- share, if the target has frames of this kind
 pub record Compilation : Type 0 where
   pub order : Endian
   pub pointer_bytes : ℕ
   pub modules : List Module
   pub next_id : ℕ
+  pub common_entry : Option CommonEntry
 
 -- the entries of some units, with the offset of their unit
 abbrev pub placed_entries : List Unit → List Placed

@@ -1,5 +1,5 @@
 -- The trees that an output is to say, and why an input is refused. (This project's own rules.)
-use Rattle.std.specs.Prelude.{List, [], ◌∷◌, ◌++◌, map, Bool, true, false, if◌then◌else◌, Option, Some, None, Result, Ok, Err}
+use Rattle.std.specs.Prelude.{ℕ, List, [], ◌∷◌, ◌++◌, map, Bool, true, false, if◌then◌else◌, Option, Some, None, Result, Ok, Err}
 use Rattle.std.specs.List.{filter_map, flat_map}
 use Rattle.dwc_base.specs.declared.records.Endian.{Endian}
 use Rattle.dwc_base.specs.declared.records.Endian.TheVariants.{Little, Big}
@@ -7,7 +7,10 @@ use Rattle.dwc_base.specs.Carried.{Unit, Module, Compilation, CarriedUnit, Wante
 use Rattle.dwc_base.specs.Compiled.{Memory}
 use Rattle.dwc_base.specs.Functions.{Function}
 use Rattle.dwc_base.specs.Addends.{is_long}
-use Rattle.dwc_base.specs.Refusals.{Refusal, of_place, long_function, far_memory, unit_refusal, first_of}
+use Rattle.dwc_base.specs.Refusals.{Refusal, of_place, long_function, far_memory, of_frame, unit_refusal, first_of}
+use Rattle.dwc_base.specs.CallFrames.{FrameDescription}
+use Rattle.dwc_base.specs.FrameRefusals.{frame_refusals}
+use Rattle.dwc_base.specs.FramesCarried.{descriptions}
 use Rattle.dwc_base.specs.KeptModules.{KeptModule, kept_module, carried_in, kept_in}
 use Rattle.dwc_base.specs.Clones.{CodeRules}
 use Rattle.dwc_base.specs.CarriedDrafts.{source_of, unit_drafts, carried_drafts}
@@ -65,9 +68,17 @@ module_refusals m = own_refusals m.told.memory ++ reading_refusals m
 abbrev pub function_refusals : List Function → List Refusal
 function_refusals fs = filter_map (λ f. if is_long f then Some long_function else None) fs
 
--- what is refused of an input: of the functions of all modules, and then of what is read, module by module
+-- the frame descriptions of the functions of all modules
+abbrev pub frame_descriptions : Compilation → List (ℕ × FrameDescription)
+frame_descriptions c = flat_map (λ m. descriptions m.told.frames m.functions) c.modules
+
+-- what is refused of them
+abbrev pub refused_frames : Compilation → List Refusal
+refused_frames c = map of_frame (frame_refusals c.common_entry (frame_descriptions c))
+
+-- what is refused of an input: of the functions of all modules, then of what is read, module by module, and then of frames
 abbrev pub refusals : Compilation → List Refusal
-refusals c = flat_map (λ m. function_refusals m.functions) c.modules ++ flat_map module_refusals c.modules
+refusals c = flat_map (λ m. function_refusals m.functions) c.modules ++ (flat_map module_refusals c.modules ++ refused_frames c)
 
 -- the refusal of an input: the first of these
 abbrev pub first_refusal : Compilation → Option Refusal

@@ -8,6 +8,8 @@ use Rattle.dwc_base.specs.declared.output.DwarfSection.{DwarfSection}
 use Rattle.dwc_base.specs.declared.output.DwarfSectionReloc.{DwarfSectionReloc}
 use Rattle.dwc_base.specs.declared.output.DwarfSectionRelocTarget.{DwarfSectionRelocTarget}
 use Rattle.dwc_base.specs.declared.output.DwarfSectionRelocTarget.TheVariants.{Func, Section}
+use Rattle.dwc_base.specs.declared.section_name.SectionName.{SectionName}
+use Rattle.dwc_base.specs.declared.section_name.SectionName.TheVariants.{Frame}
 use Rattle.dwc_base.specs.Sections.{Sections, Relocation, section_text}
 
 -- what a field is to hold beside its addend: a function's address, or a section's
@@ -36,13 +38,19 @@ function_relocation r = elim r.target [ function n ↦ Some (record { offset = r
 abbrev pub section_named : List ℕ → List OutputSection → Option OutputSection
 section_named name sections = find (λ s. bytes_eq s.name name) sections
 
--- The sections of an output as DWARF. A section relocation changes nothing, since the field holds its addend.
+-- The bytes of a section of an output, and its relocations of functions, by its name: nothing of the frames, which are no input of a reader of
+-- entries and lines. A section relocation changes nothing, since the field holds its addend.
+abbrev pub output_bytes : List OutputSection → SectionName → List ℕ
+output_bytes sections Frame = []
+output_bytes sections name = unwrap_or (option_map (λ s. s.body) (section_named (section_text name) sections)) []
+
+abbrev pub output_relocations : List OutputSection → SectionName → List Relocation
+output_relocations sections Frame = []
+output_relocations sections name = unwrap_or (option_map (λ s. filter_map function_relocation s.relocations) (section_named (section_text name) sections)) []
+
+-- The sections of an output as DWARF.
 abbrev pub output_sections : Endian → List OutputSection → Sections
-output_sections order sections = record {
-  order = order;
-  bytes = λ name. unwrap_or (option_map (λ s. s.body) (section_named (section_text name) sections)) [];
-  relocations = λ name. unwrap_or (option_map (λ s. filter_map function_relocation s.relocations) (section_named (section_text name) sections)) [];
-}
+output_sections order sections = record { order = order; bytes = output_bytes sections; relocations = output_relocations sections }
 
 -- ---- the program's own records, seen as these
 

@@ -7,12 +7,14 @@ use Rattle.dwc_base.specs.Entries.{Entry, attribute}
 use Rattle.dwc_base.specs.LineRows.{LineTable, line_table}
 use Rattle.dwc_base.specs.LineFiles.{has_all_files}
 use Rattle.dwc_base.specs.Carried.{Unit, root, line_offset}
+use Rattle.dwc_base.specs.FrameRefusals.{FrameRefusal}
 use Rattle.dwc_base.specs.declared.constants.TheConstants.{DW_AT_stmt_list}
 
 -- A place that cannot be read or is of a refused kind; a line table, by its offset, that names a file or a directory
 -- that is not there, or one with an empty name; a function that is longer than an addend can say; a start plus a length that is
 -- no address; of an expression a label that has a range which begins above its end, the linear memory of the module at a place,
--- which has none, a register without a DWARF number, or a jump that goes too far; or a linear memory too far behind in its context.
+-- which has none, a register without a DWARF number, or a jump that goes too far; a linear memory too far behind in its context; or the frame
+-- description of a function, which cannot be written.
 pub data Refusal : Type 0 where
   of_place : Fault → Refusal
   missing_file : ℕ → Refusal
@@ -23,6 +25,7 @@ pub data Refusal : Type 0 where
   unmapped_register : ℕ → Refusal
   long_jump : Refusal
   far_memory : Refusal
+  of_frame : FrameRefusal → Refusal
 
 -- the refusal of the line table at an offset
 abbrev pub table_refusal : ℕ → Result LineTable Fault → Option Refusal
