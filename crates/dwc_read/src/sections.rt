@@ -1,7 +1,7 @@
 //! The sections that hold DWARF, of input and of output alike.
 ghost use Rattle.std.specs.Prelude.{◌≡◌, ◌<◌, ◌^◌, length, map, option_map, All};
 ghost use Rattle.dwc_base.specs.Translations.{translation_sections};
-ghost use Rattle.dwc_base.specs.Outputs.{section_view, section_named, output_sections};
+ghost use Rattle.dwc_base.specs.Outputs.{section_view, section_named, output_bytes, output_relocations as relocations_in, output_sections};
 ghost use Rattle.dwc_read.specs.Named.{bytes_named, relocations_named};
 
 use dwc_base::{DwarfSection, Endian, ModuleTranslation, Relocations, SectionName, WasmSections};
@@ -85,7 +85,7 @@ impl<'d> Sections<'d> {
     {
         match self.held {
             Held::Module(sections) => all_below_256(sections.get(name)),
-            Held::Output(sections) => all_below_256(body_of(sections, name.text())),
+            Held::Output(sections) => all_below_256(output_body(sections, name)),
         }
     }
 
@@ -95,7 +95,7 @@ impl<'d> Sections<'d> {
     {
         match self.held {
             Held::Module(_) => Relocations::none(),
-            Held::Output(sections) => relocations_of(sections, name.text()),
+            Held::Output(sections) => output_relocations(sections, name),
         }
     }
 }
@@ -106,6 +106,26 @@ fn all_below_256(bytes: &[u8]) -> &[u8]
     ensures below { All (λ b. b < 256) bytes.now }
 {
     bytes
+}
+
+// The bytes of a section of an output: none of the frames, which are not read.
+fn output_body<'d>(sections: &'d [DwarfSection], name: SectionName) -> &'d [u8]
+    ensures { result.now ≡ output_bytes (map section_view sections.now) name }
+{
+    match name {
+        SectionName::Frame => &[],
+        _ => body_of(sections, name.text()),
+    }
+}
+
+// The same of its function relocations.
+fn output_relocations<'d>(sections: &'d [DwarfSection], name: SectionName) -> Relocations<'d>
+    ensures { result ≡ relocations_in (map section_view sections.now) name }
+{
+    match name {
+        SectionName::Frame => Relocations::none(),
+        _ => relocations_of(sections, name.text()),
+    }
 }
 
 // The first section of a name.
