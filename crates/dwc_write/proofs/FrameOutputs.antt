@@ -1,17 +1,18 @@
 -- The section of call frames from its entries, and that it is refused only where it is too large.
-use Rattle.std.proofs.Common.{◌≡◌, ℕ, ◌+◌, ◌≤◌, refl, ap, subst, ◌∙◌, arith, List, [], ◌∷◌, ◌++◌, length, length-append}
+use Rattle.std.proofs.Common.{lit<, pos, ◌≡◌, ℕ, ◌+◌, ◌≤◌, refl, ap, subst, ◌∙◌, arith, List, [], ◌∷◌, ◌++◌, length, length-append}
 use Rattle.std.specs.List.{flat_map}
 use Rattle.dwc_base.specs.declared.records.Endian.{Endian}
 use Rattle.dwc_base.specs.declared.section_name.SectionName.TheVariants.{Frame}
 use Rattle.dwc_base.specs.Sections.{section_text}
-use Rattle.dwc_base.specs.Outputs.{OutputSection}
+use Rattle.dwc_base.specs.Outputs.{OutputRelocation, OutputSection, function}
 use Rattle.dwc_base.specs.CallFrames.{CommonEntry, FrameDescription}
 use Rattle.dwc_base.specs.FrameSections.{common_bytes, description_bytes, descriptions_relocations, description_relocations, frame_section}
 use Rattle.dwc_write.specs.declared.error.WriteError.{WriteError}
-use Rattle.dwc_write.specs.declared.error.WriteError.TheVariants.{TooLarge, OutOfMemory}
-use Rattle.dwc_write.specs.declared.error.FrameError.TheVariants.{Write}
+use Rattle.dwc_write.specs.declared.error.WriteError.TheVariants.{TooLarge, InvalidFrameCodeOffset, InvalidFrameDataOffset, OutOfMemory}
 use Rattle.dwc_write.specs.Frames.{IsFrameRefusal, description_at}
+use Rattle.dwc_base.proofs.FrameSizes.{relocations-inside}
 use Rattle.dwc_write.specs.Spelled.{at_places}
+use Rattle.dwc_write.specs.SpelledRelocations.{DoRelocationsRise, RelocationsRise}
 use Rattle.dwc_write.specs.Writers.{IsPast, IsSizeRefusal, Refuses, Writing, appended, section_of}
 use Rattle.dwc_write.proofs.RefusalLaws.{past-limit, past-more}
 
@@ -56,6 +57,35 @@ functions-refused order size c ds a b e new common refused =
     past-more Frame Frame _ _ e refl (λ large. omega (arith, large, body-length order size c ds)) at
 
 -- a refusal for a size is one for a greater size, of a frame table
-pub widely-refused : (n widest : ℕ) (e : WriteError) → n ≤ widest → IsSizeRefusal (IsPast Frame n) e → IsFrameRefusal widest (Write e)
+pub widely-refused : (n widest : ℕ) (e : WriteError) → n ≤ widest → IsSizeRefusal (IsPast Frame n) e → IsFrameRefusal widest e
 widely-refused n widest OutOfMemory less refused = tt
 widely-refused n widest (TooLarge what) less refused = past-limit Frame n widest (section_of what) (λ large. omega (arith, large, less)) refused
+widely-refused n widest (InvalidFrameCodeOffset symbol) less refused = tt
+widely-refused n widest (InvalidFrameDataOffset symbol) less refused = tt
+
+-- ---- relocations
+
+entry-long : (order : Endian) (size : ℕ) (c : CommonEntry) (d : ℕ × FrameDescription) → 8 + size ≤ length (description_bytes order size c d)
+entry-long order size c d =
+    let own : OutputRelocation = record { offset = 0; size = 0; target = function 0; addend = pos 0 } in
+    omega (arith, relocations-inside order size c 0 (d ∷ []) 1 own (lit< tt), length-append (description_bytes order size c d) [])
+
+descriptions-rise : (order : Endian) (size : ℕ) (c : CommonEntry) (low place : ℕ) (ds : List (ℕ × FrameDescription)) → low ≤ place → RelocationsRise low (place + length (flat_map (description_bytes order size c) ds)) (descriptions_relocations order size c place ds)
+descriptions-rise order size c low place [] before = omega (arith, before)
+descriptions-rise order size c low place (d ∷ ds) before =
+    let bytes = description_bytes order size c d in
+    let others = flat_map (description_bytes order size c) ds in
+    let next = place + length bytes in
+    let behind_it : place + 8 + size ≤ next = omega (arith, entry-long order size c d) in
+    let ends : next + length others ≡ place + length (bytes ++ others) = omega (arith, length-append bytes others) in
+    let rest = subst (λ end. RelocationsRise (place + 8 + size) end (descriptions_relocations order size c next ds)) ends (descriptions-rise order size c (place + 8 + size) next ds behind_it) in
+    (omega (arith, before), (omega arith, rest))
+
+-- They stand one behind another.
+pub section-rises : (order : Endian) (size : ℕ) (c : CommonEntry) (ds : List (ℕ × FrameDescription)) → DoRelocationsRise (frame_section order size c ds)
+unfolding frame_section
+section-rises order size c ds =
+    let common = common_bytes order size c in
+    let entries = flat_map (description_bytes order size c) ds in
+    let ends : length common + length entries ≡ length (common ++ entries) = omega (arith, length-append common entries) in
+    subst (λ end. RelocationsRise 0 end (descriptions_relocations order size c (length common) ds)) ends (descriptions-rise order size c 0 (length common) ds (omega arith))

@@ -5,7 +5,7 @@ use Rattle.std.specs.List.{AllZip, flat_map}
 use Rattle.std.proofs.lemmas.List.Sums.{sum_by-cons}
 use Rattle.dwc_base.specs.declared.records.Endian.{Endian}
 use Rattle.dwc_write.specs.declared.error.WriteError.{WriteError}
-use Rattle.dwc_write.specs.declared.error.WriteError.TheVariants.{TooLarge, OutOfMemory}
+use Rattle.dwc_write.specs.declared.error.WriteError.TheVariants.{TooLarge, InvalidFrameCodeOffset, InvalidFrameDataOffset, OutOfMemory}
 use Rattle.dwc_write.specs.Spelled.{at_places}
 use Rattle.dwc_write.specs.SpelledUnits.{WrittenAttribute, shaped}
 use Rattle.dwc_write.specs.GivenUnits.{EntryShape, GivenEntry, OrderedUnit, no_places, size_of, written_attribute, written_attributes, written_entries}
@@ -37,12 +37,16 @@ spelled-done spell view (x ∷ xs) (suc i) past = spelled-done spell view xs i (
 -- a refusal on the way is one of the whole
 pub advance-refused : (result : Result ℕ WriteError) (e : WriteError) (behind more place total : ℕ) → ((error : WriteError) × (result ≡ Err error) × (error ≡ e)) → Advances (Err e) behind more → behind + more ≤ place + total → Advances result place total
 advance-refused result OutOfMemory behind more place total p refused less = absurd refused
+advance-refused result (InvalidFrameCodeOffset symbol) behind more place total p refused less = absurd refused
+advance-refused result (InvalidFrameDataOffset symbol) behind more place total p refused less = absurd refused
 advance-refused result (TooLarge what) behind more place total p refused less =
     let is : result ≡ Err (TooLarge what) = p.1 ∙ ap Err p.2 in
     rw (is) (past-limit Info _ _ (section_of what) (λ large. omega (arith, large, less)) refused)
 
 pub advance-free : (result : Result ℕ WriteError) (e : WriteError) (behind more place total : ℕ) → ((error : WriteError) × (result ≡ Err error) × (error ≡ e)) → Advances (Err e) behind more → behind + more ≤ place + total → AdvancesOrMemory result place total
 advance-free result OutOfMemory behind more place total p refused less = absurd refused
+advance-free result (InvalidFrameCodeOffset symbol) behind more place total p refused less = absurd refused
+advance-free result (InvalidFrameDataOffset symbol) behind more place total p refused less = absurd refused
 advance-free result (TooLarge what) behind more place total p refused less =
     let is : result ≡ Err (TooLarge what) = p.1 ∙ ap Err p.2 in
     rw (is) (past-limit Info _ _ (section_of what) (λ large. omega (arith, large, less)) refused)

@@ -53,6 +53,7 @@ pub mod ListsStand
 pub mod ShortLaws
 pub mod ReadTrees
 pub mod OutputForms
+pub mod FramesBehind
 pub mod ReadFields
 pub mod ReadLineFields
 pub mod RelatedLaws

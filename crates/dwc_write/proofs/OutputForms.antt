@@ -7,7 +7,7 @@ use Rattle.std.proofs.lemmas.List.Elements.{All-cons, All-nil}
 use Rattle.std.proofs.lemmas.List.Kept.{AllPairs-cons}
 use Rattle.dwc_base.specs.declared.records.Endian.{Endian}
 use Rattle.dwc_base.specs.declared.section_name.SectionName.{SectionName}
-use Rattle.dwc_base.specs.declared.section_name.SectionName.TheVariants.{Abbrev, Info, Line, Loc, Ranges, Str}
+use Rattle.dwc_base.specs.declared.section_name.SectionName.TheVariants.{Abbrev, Frame, Info, Line, Loc, Ranges, Str}
 use Rattle.dwc_base.specs.Sections.{section_text}
 use Rattle.dwc_base.specs.Outputs.{OutputRelocation, OutputSection}
 use Rattle.dwc_base.specs.OutputForm.{HasDistinctNames}
@@ -24,10 +24,10 @@ pub last-written : (P : OutputSection → Type 0) (name : SectionName) (bytes : 
 last-written P name [] rs here = All-nil P
 last-written P name (b ∷ bytes) rs here = All-cons P _ [] here (All-nil P)
 
-abbrev Differ : OutputSection → OutputSection → Type 0
+abbrev pub Differ : OutputSection → OutputSection → Type 0
 Differ x y = x.name ≢ y.name
 
-none-differ : HasDistinctNames []
+pub none-differ : HasDistinctNames []
 none-differ i j d less within = absurd (omega arith)
 
 distinct-written : (name : SectionName) (bytes : List ℕ) (rs : List OutputRelocation) (others : List OutputSection) → All (λ t. section_text name ≢ t.name) others → HasDistinctNames others → HasDistinctNames (section_unless_empty name bytes rs ++ others)
@@ -67,3 +67,25 @@ distinct-six x y z v l w q r t k =
 
 pub distinct-names : (order : Endian) (texts : List (List ℕ)) (us : List OrderedUnit) → HasDistinctNames (spelled_sections order texts us)
 distinct-names order texts us = distinct-six _ _ _ _ _ _ _ _ _ _
+
+-- ---- the frames have another name
+
+-- a section beside the frames
+abbrev pub IsOther : OutputSection → Type 0
+IsOther s = bytes_eq s.name (section_text Frame) ≡ false
+
+others-six : (x y z v l w : List ℕ) (q r t k : List OutputRelocation)
+    → All IsOther (section_unless_empty Abbrev x [] ++ (section_unless_empty Info y q ++ (section_unless_empty Line z r ++ (section_unless_empty Ranges v t ++ (section_unless_empty Loc l k ++ section_unless_empty Str w [])))))
+others-six x y z v l w q r t k =
+    let texts = section_unless_empty Str w [] in
+    let locations = section_unless_empty Loc l k ++ texts in
+    let lists = section_unless_empty Ranges v t ++ locations in
+    let lines = section_unless_empty Line z r ++ lists in
+    all-written IsOther Abbrev x [] (section_unless_empty Info y q ++ lines) refl
+    (all-written IsOther Info y q lines refl
+    (all-written IsOther Line z r lists refl
+    (all-written IsOther Ranges v t locations refl
+    (all-written IsOther Loc l k texts refl (last-written IsOther Str w [] refl)))))
+
+pub all-others : (order : Endian) (texts : List (List ℕ)) (us : List OrderedUnit) → All IsOther (spelled_sections order texts us)
+all-others order texts us = others-six _ _ _ _ _ _ _ _ _ _

@@ -4,7 +4,7 @@ use Rattle.std.specs.Prelude.{◌↔◌, IfErr, IsSomeAnd}
 use Rattle.std.proofs.lemmas.Result.{IfErr-at_err}
 use Rattle.dwc_base.specs.declared.section_name.SectionName.{SectionName}
 use Rattle.dwc_write.specs.declared.error.WriteError.{WriteError}
-use Rattle.dwc_write.specs.declared.error.WriteError.TheVariants.{TooLarge, OutOfMemory}
+use Rattle.dwc_write.specs.declared.error.WriteError.TheVariants.{TooLarge, InvalidFrameCodeOffset, InvalidFrameDataOffset, OutOfMemory}
 use Rattle.dwc_base.specs.declared.faults.Limit.TheVariants.{Expression}
 use Rattle.dwc_write.specs.Writers.{HoldsOf, IsPast, IsRefusalFor, IsSizeRefusal, most_bytes, section_of}
 
@@ -14,6 +14,8 @@ some-weaker P Q weaker (Some name) h = weaker name h
 
 pub refusal-weaker : (P Q : SectionName → Type 0) → ((name : SectionName) → P name → Q name) → (e : WriteError) → IsSizeRefusal P e → IsSizeRefusal Q e
 refusal-weaker P Q weaker OutOfMemory refused = tt
+refusal-weaker P Q weaker (InvalidFrameCodeOffset symbol) refused = absurd refused
+refusal-weaker P Q weaker (InvalidFrameDataOffset symbol) refused = absurd refused
 refusal-weaker P Q weaker (TooLarge what) refused = some-weaker P Q weaker (section_of what) refused
 
 -- a section's refusal
@@ -31,6 +33,8 @@ past-limit own n total s more h = some-weaker (IsPast own n) (IsPast own total) 
 -- a refusal for a size is one where others may be for an expression
 pub size-refusal : (Q : Type 0) (P : SectionName → Type 0) (e : WriteError) → IsSizeRefusal P e → IsRefusalFor Q P e
 size-refusal Q P OutOfMemory refused = tt
+size-refusal Q P (InvalidFrameCodeOffset symbol) refused = absurd refused
+size-refusal Q P (InvalidFrameDataOffset symbol) refused = absurd refused
 size-refusal Q P (TooLarge what) refused = go (section_of what) refused
   where
     go : (s : Option SectionName) → IsSomeAnd s P → HoldsOf ((what ≡ Expression) × Q) P s

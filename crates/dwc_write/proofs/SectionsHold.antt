@@ -90,10 +90,11 @@ module _ (order : Endian) (x y z v l w : List ℕ) (q r t k : List OutputRelocat
   of-name : (name : SectionName) → section_named (section_text name) sections_of_six ≡ section_in six name
   of-name name = ap (section_named (section_text name)) are-written ∙ found six name
 
-  bytes-of : (name : SectionName) (body : List ℕ) (rs : List OutputRelocation) → section_in six name ≡ option_or (as_section name body rs) None → (output_sections order sections_of_six).bytes name ≡ body
+  bytes-of : (name : SectionName) (body : List ℕ) (rs : List OutputRelocation) → section_in six name ≡ option_or (as_section name body rs) None → bytes_in (section_named (section_text name) sections_of_six) ≡ body
   bytes-of name body rs is = ap bytes_in (of-name name ∙ is) ∙ bytes-are name body rs
 
-  relocations-of : (name : SectionName) (body : List ℕ) (rs : List OutputRelocation) → (body ≡ [] → rs ≡ []) → section_in six name ≡ option_or (as_section name body rs) None → (output_sections order sections_of_six).relocations name ≡ filter_map function_relocation rs
+  relocations-of : (name : SectionName) (body : List ℕ) (rs : List OutputRelocation) → (body ≡ [] → rs ≡ []) → section_in six name ≡ option_or (as_section name body rs) None
+      → unwrap_or (option_map (λ s. filter_map function_relocation s.relocations) (section_named (section_text name) sections_of_six)) [] ≡ filter_map function_relocation rs
   relocations-of name body rs none is = ap (λ o. unwrap_or (option_map (λ (s : OutputSection). filter_map function_relocation s.relocations) o) []) (of-name name ∙ is) ∙ relocations-are name body rs none
 
   pub sections-hold : (y ≡ [] → q ≡ []) → (z ≡ [] → r ≡ []) → (v ≡ [] → t ≡ []) → (l ≡ [] → k ≡ []) → Holds order x y z v l w q r t k (output_sections order sections_of_six)

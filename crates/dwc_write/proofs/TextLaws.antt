@@ -9,7 +9,7 @@ use Rattle.std.proofs.lemmas.List.Elements.{All-push, All-nil}
 use Rattle.dwc_base.specs.TreeLaws.{texts_ended}
 use Rattle.dwc_base.specs.Outputs.{OutputRelocation}
 use Rattle.dwc_write.specs.declared.error.WriteError.{WriteError}
-use Rattle.dwc_write.specs.declared.error.WriteError.TheVariants.{TooLarge, OutOfMemory}
+use Rattle.dwc_write.specs.declared.error.WriteError.TheVariants.{TooLarge, InvalidFrameCodeOffset, InvalidFrameDataOffset, OutOfMemory}
 use Rattle.dwc_write.specs.declared.text_layout.TextLayout.{TextLayout}
 use Rattle.dwc_write.specs.Spelled.{at_places}
 use Rattle.dwc_base.specs.declared.section_name.SectionName.TheVariants.{Str}
@@ -129,6 +129,8 @@ module _ (texts : List (List ℕ)) where
 
   pub behind-refused : (e : WriteError) (place n : ℕ) (text : List ℕ) → BehindText (Err e) place text → place + length (text ++ 0 ∷ []) ≡ n → IsTextRefusal e n
   behind-refused OutOfMemory place n text refused same = absurd refused
+  behind-refused (InvalidFrameCodeOffset symbol) place n text refused same = absurd refused
+  behind-refused (InvalidFrameDataOffset symbol) place n text refused same = absurd refused
   behind-refused (TooLarge what) place n text refused same = past-limit Str _ _ (section_of what) (λ large. omega (arith, large, same)) refused
 
   -- ---- texts of several numbers

@@ -8,7 +8,7 @@ use Rattle.dwc_base.specs.declared.records.Endian.{Endian}
 use Rattle.dwc_base.specs.declared.records.Endian.TheVariants.{Little}
 use Rattle.dwc_base.specs.declared.section_name.SectionName.TheVariants.{Abbrev, Info, Line, Loc, Ranges}
 use Rattle.dwc_write.specs.declared.error.WriteError.{WriteError}
-use Rattle.dwc_write.specs.declared.error.WriteError.TheVariants.{TooLarge, OutOfMemory}
+use Rattle.dwc_write.specs.declared.error.WriteError.TheVariants.{TooLarge, InvalidFrameCodeOffset, InvalidFrameDataOffset, OutOfMemory}
 use Rattle.dwc_write.specs.SpelledTables.{table_bytes}
 use Rattle.dwc_write.specs.SpelledSections.{placed_unit_bytes, lines_bytes}
 use Rattle.dwc_write.specs.GivenLines.{FitsLines}
@@ -90,6 +90,8 @@ layout-large order texts us i large = omega (arith, large, sum_by-take-le (unit_
 -- a refusal of such a length
 pub too-long : (e : WriteError) (place more : ℕ) → Advances (Err e) place more → IsTooLong e (place + more)
 too-long OutOfMemory place more refused = absurd refused
+too-long (InvalidFrameCodeOffset symbol) place more refused = absurd refused
+too-long (InvalidFrameDataOffset symbol) place more refused = absurd refused
 too-long (TooLarge what) place more refused = refused
 
 pub refused-long : (order : Endian) (texts : List (List ℕ)) (us : List OrderedUnit) (e : WriteError) (n : ℕ) → IsTooLong e n → (most_bytes < n → most_bytes < length (all_info_bytes order (all_places order texts us) us)) → IsRefusal order texts us e

@@ -4,19 +4,20 @@ use Rattle.std.specs.Int.{w8, w32}
 use Rattle.std.specs.List.{All, flat_map}
 use Rattle.dwc_base.specs.declared.records.Endian.{Endian}
 use Rattle.dwc_base.specs.CallFrames.{FrameInstruction, def_cfa, def_cfa_register, def_cfa_offset, restore, undefined, same_value, saved_at, remember_state, restore_state, CommonEntry, FrameDescription}
-use Rattle.dwc_base.specs.FrameSections.{FrameNumber, frame_number_bytes, description_relocations}
+use Rattle.dwc_base.specs.FrameSections.{FrameNumber, frame_number_bytes, description_relocations, frame_section_if}
+use Rattle.dwc_base.specs.FramesCarried.{widest_frames}
 use Rattle.dwc_base.specs.NumberBytes.{number_bytes}
 use Rattle.dwc_base.specs.Outputs.{OutputRelocation, OutputSection, section_view}
 use Rattle.dwc_base.specs.declared.output.DwarfSection.{DwarfSection}
 use Rattle.dwc_base.specs.declared.section_name.SectionName.TheVariants.{Frame}
-use Rattle.dwc_base.specs.FrameRefusals.{FrameRefusal, bad_code_offset, bad_data_offset}
+use Rattle.dwc_base.specs.FrameRefusals.{FrameRefusal, bad_code_offset, bad_data_offset, frame_refusals}
 use Rattle.dwc_clif.specs.CallFrames.{instruction_view, description_view, cie_view}
 use Rattle.dwc_clif.specs.declared.frame_op.FrameOp.{FrameOp}
 use Rattle.dwc_clif.specs.declared.unwind_info.CfaUnwindInfo.{CfaUnwindInfo}
-use Rattle.dwc_write.specs.declared.error.FrameError.{FrameError}
-use Rattle.dwc_write.specs.declared.error.FrameError.TheVariants.{InvalidFrameCodeOffset, InvalidFrameDataOffset, Write}
-use Rattle.dwc_write.specs.declared.error.WriteError.TheVariants.{TooLarge, OutOfMemory}
+use Rattle.dwc_write.specs.declared.error.WriteError.{WriteError}
+use Rattle.dwc_write.specs.declared.error.WriteError.TheVariants.{TooLarge, InvalidFrameCodeOffset, InvalidFrameDataOffset, OutOfMemory}
 use Rattle.dwc_write.specs.declared.frames.FrameTable.{FrameTable}
+use Rattle.dwc_write.specs.GivenUnits.{GivenUnit, ordered, size_of}
 use Rattle.dwc_write.specs.Writers.{IsPast, section_of}
 
 -- the bytes of numbers, one behind another
@@ -54,12 +55,12 @@ FitsInstruction restore_state = Unit {0}
 -- ---- refusals
 
 -- the error for a refusal
-abbrev pub frame_error : FrameRefusal → FrameError
+abbrev pub frame_error : FrameRefusal → WriteError
 frame_error (bad_code_offset function) = InvalidFrameCodeOffset function
 frame_error (bad_data_offset function) = InvalidFrameDataOffset function
 
 -- The first refusal is answered, if there is one.
-abbrev pub checked : List FrameRefusal → Result (Unit {0}) FrameError
+abbrev pub checked : List FrameRefusal → Result (Unit {0}) WriteError
 checked [] = Ok tt
 checked (r ∷ rs) = Err (frame_error r)
 
@@ -69,7 +70,7 @@ first_refusal [] = None
 first_refusal (r ∷ rs) = Some r
 
 -- the refusal of a frame that a call answers, if it answers one
-abbrev pub told_refusal : {A : Type 0} → Result A FrameError → Option FrameRefusal
+abbrev pub told_refusal : {A : Type 0} → Result A WriteError → Option FrameRefusal
 told_refusal (Err (InvalidFrameCodeOffset function)) = Some (bad_code_offset function)
 told_refusal (Err (InvalidFrameDataOffset function)) = Some (bad_data_offset function)
 told_refusal _ = None
@@ -90,6 +91,26 @@ entry_bytes order size rest = number_bytes order 4 (4 + size + length rest) ++ (
 abbrev pub table_view : FrameTable → CommonEntry × List (ℕ × FrameDescription)
 table_view t = (cie_view t.cie, map function_view t.functions.items)
 
+-- the common entry of a table, if there is one, and its descriptions
+abbrev pub common_given : Option FrameTable → Option CommonEntry
+common_given None = None
+common_given (Some t) = Some (table_view t).0
+
+abbrev pub descriptions_given : Option FrameTable → List (ℕ × FrameDescription)
+descriptions_given None = []
+descriptions_given (Some t) = (table_view t).1
+
+-- The section of a table, if there is one, in an output with some units, by whose first the size of an address goes.
+abbrev pub given_frames : Endian → Option FrameTable → List GivenUnit → List OutputSection
+given_frames order frames us = frame_section_if order (size_of (map ordered us)) (common_given frames) (descriptions_given frames)
+
+-- what is refused of a table, if there is one, and how long its section can be at most
+abbrev pub refused_frames : Option FrameTable → List FrameRefusal
+refused_frames frames = frame_refusals (common_given frames) (descriptions_given frames)
+
+abbrev pub widest_given_frames : Option FrameTable → ℕ
+widest_given_frames frames = widest_frames (common_given frames) (descriptions_given frames)
+
 -- a section, if there is one
 abbrev pub optional_section : Option DwarfSection → List OutputSection
 optional_section None = []
@@ -102,7 +123,7 @@ pub record FitsCommon (c : CommonEntry) : Type 0 where
   pub instructions : All FitsInstruction c.instructions
 
 -- A refusal that is one of a frame, one for want of memory, or one of a section that is too large at its widest.
-abbrev pub IsFrameRefusal : ℕ → FrameError → Type 0
-IsFrameRefusal widest (Write OutOfMemory) = Unit {0}
-IsFrameRefusal widest (Write (TooLarge what)) = IsSomeAnd (section_of what) (IsPast Frame widest)
+abbrev pub IsFrameRefusal : ℕ → WriteError → Type 0
+IsFrameRefusal widest OutOfMemory = Unit {0}
+IsFrameRefusal widest (TooLarge what) = IsSomeAnd (section_of what) (IsPast Frame widest)
 IsFrameRefusal widest _ = Unit {0}

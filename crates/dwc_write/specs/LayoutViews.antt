@@ -3,7 +3,7 @@ use Rattle.std.specs.Prelude.{◌≡◌, ℕ, ◌+◌, ◌<◌, ◌≤◌, List,
 use Rattle.std.specs.List.{All}
 use Rattle.dwc_base.specs.declared.section_name.SectionName.TheVariants.{Info}
 use Rattle.dwc_write.specs.declared.error.WriteError.{WriteError}
-use Rattle.dwc_write.specs.declared.error.WriteError.TheVariants.{TooLarge, OutOfMemory}
+use Rattle.dwc_write.specs.declared.error.WriteError.TheVariants.{TooLarge}
 use Rattle.dwc_write.specs.declared.layout.UnitLayout.{UnitLayout}
 use Rattle.dwc_write.specs.declared.entries.Spelling.{Spelling}
 use Rattle.dwc_write.specs.Writers.{IsPast, IsSizeRefusal, most_bytes, section_of}
@@ -34,8 +34,8 @@ pub record IsLaidOut (u : GivenUnit) (l : UnitLayout) : Type 0 where
 -- A place is passed on by so many bytes, or is refused as it would be past the most that `.debug_info` holds.
 abbrev pub Advances : Result ℕ WriteError → ℕ → ℕ → Type 0
 Advances (Ok end) place more = (end ≡ place + more) × (end ≤ most_bytes)
-Advances (Err OutOfMemory) place more = ⊥
 Advances (Err (TooLarge what)) place more = IsSomeAnd (section_of what) (IsPast Info (place + more))
+Advances (Err _) place more = ⊥
 
 -- the same, or want of memory
 abbrev pub AdvancesOrMemory : Result ℕ WriteError → ℕ → ℕ → Type 0

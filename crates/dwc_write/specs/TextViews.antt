@@ -3,7 +3,7 @@ use Rattle.std.specs.Prelude.{◌≡◌, ℕ, ◌+◌, ◌<◌, ◌≤◌, List,
 use Rattle.std.specs.List.{All}
 use Rattle.dwc_base.specs.declared.section_name.SectionName.TheVariants.{Str}
 use Rattle.dwc_write.specs.declared.error.WriteError.{WriteError}
-use Rattle.dwc_write.specs.declared.error.WriteError.TheVariants.{TooLarge, OutOfMemory}
+use Rattle.dwc_write.specs.declared.error.WriteError.TheVariants.{TooLarge}
 use Rattle.dwc_write.specs.declared.text_layout.TextLayout.{TextLayout}
 use Rattle.dwc_write.specs.Writers.{IsPast, IsSizeRefusal, most_bytes, section_of}
 use Rattle.dwc_write.specs.GivenUnits.{place_of}
@@ -24,8 +24,8 @@ IsTextRefusal e size = IsSizeRefusal (IsPast Str size) e
 -- A place is passed on by a text and its zero, or is refused as it would be past the most that `.debug_str` holds.
 abbrev pub BehindText : Result ℕ WriteError → ℕ → List ℕ → Type 0
 BehindText (Ok behind) place text = (behind ≡ place + length (text ++ (0 ∷ []))) × (behind ≤ most_bytes)
-BehindText (Err OutOfMemory) place text = ⊥
 BehindText (Err (TooLarge what)) place text = IsSomeAnd (section_of what) (IsPast Str (place + length (text ++ (0 ∷ []))))
+BehindText (Err _) place text = ⊥
 
 -- Texts of some numbers are used behind those that are, or are too long.
 abbrev pub UsesTexts : List (List ℕ) → TextLayout → TextLayout → Result (Unit {0}) WriteError → List ℕ → Type 0

@@ -43,6 +43,7 @@ section_of _ = None
 abbrev pub IsSizeRefusal : (SectionName → Type 0) → WriteError → Type 0
 IsSizeRefusal P OutOfMemory = Unit {0}
 IsSizeRefusal P (TooLarge what) = IsSomeAnd (section_of what) P
+IsSizeRefusal P _ = ⊥
 
 -- P holds of a section, where there is one, and else Q.
 abbrev pub HoldsOf : Type 0 → (SectionName → Type 0) → Option SectionName → Type 0
@@ -53,6 +54,7 @@ HoldsOf Q P (Some name) = P name
 abbrev pub IsRefusalFor : Type 0 → (SectionName → Type 0) → WriteError → Type 0
 IsRefusalFor Q P OutOfMemory = Unit {0}
 IsRefusalFor Q P (TooLarge what) = HoldsOf ((what ≡ Expression) × Q) P (section_of what)
+IsRefusalFor Q P _ = ⊥
 
 -- Of a section of this name so many bytes are too many.
 abbrev pub IsPast : SectionName → ℕ → SectionName → Type 0

@@ -10,6 +10,12 @@ pub enum WriteError {
     /// no other limit.
     #[error("too large: {what:?}")]
     TooLarge { what: Limit },
+    /// The code offsets of a function's frame description fall, or are no multiples of the code factor.
+    #[error("invalid code offset in a frame of function {symbol}")]
+    InvalidFrameCodeOffset { symbol: usize },
+    /// A factored offset of a function's frame description is no multiple of the data factor.
+    #[error("invalid data offset in a frame of function {symbol}")]
+    InvalidFrameDataOffset { symbol: usize },
     #[error("out of memory")]
     OutOfMemory,
 }
@@ -33,26 +39,5 @@ impl From<AllocError> for WriteError {
 
     fn from(_: AllocError) -> WriteError {
         WriteError::OutOfMemory
-    }
-}
-
-/// Why a frame table is not written.
-#[derive(Debug, Drop)]
-pub enum FrameError {
-    /// The code offsets of a function's frame description fall, or are no multiples of the code factor.
-    InvalidFrameCodeOffset { symbol: usize },
-    /// A factored offset of a function's frame description is no multiple of the data factor.
-    InvalidFrameDataOffset { symbol: usize },
-    Write(WriteError),
-}
-
-impl From<WriteError> for FrameError {
-    ghost use Rattle.std.specs.Prelude.{◌≡◌};
-    ghost use Rattle.dwc_write.specs.declared.error.FrameError.TheVariants.{Write};
-
-    ghost from_gives = { λ error e. e ≡ Write error };
-
-    fn from(error: WriteError) -> FrameError {
-        FrameError::Write(error)
     }
 }

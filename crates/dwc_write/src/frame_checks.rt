@@ -2,16 +2,16 @@
 ghost use Rattle.std.specs.Prelude.{◌≡◌, ◌<◌, ◌^◌, FitsSigned, Some, map, nat_abs};
 ghost use Rattle.std.specs.Int.{w8};
 ghost use Rattle.std.specs.List.{All, list_all};
-ghost use Rattle.dwc_base.specs.CallFrames.{below_zero, has_factored_offset, is_multiple_of};
+ghost use Rattle.dwc_base.specs.CallFrames.{has_factored_offset};
 ghost use Rattle.dwc_base.specs.FrameRefusals.{description_refusals, frame_refusals, has_code_offsets as are_code_offsets, has_data_offsets as are_data_offsets};
 ghost use Rattle.dwc_clif.specs.CallFrames.{cie_view, description_view, instruction_view};
 ghost use Rattle.dwc_write.specs.Frames.{FitsCommon, FitsInstruction, advancing_view, checked, function_view};
 
-use crate::error::FrameError;
+use crate::WriteError;
 use dwc_clif::{CfaUnwindInfo, Cie, FrameOp};
 
 /// Whether the descriptions of functions can be written; else the first that cannot.
-pub fn check_frames(cie: &Cie, functions: &[(usize, CfaUnwindInfo)]) -> Result<(), FrameError>
+pub fn check_frames(cie: &Cie, functions: &[(usize, CfaUnwindInfo)]) -> Result<(), WriteError>
     requires code { 0 < cie.now.code_factor }
     requires data { 0 < nat_abs cie.now.data_factor }
     ensures { result ≡ checked (frame_refusals (Some (cie_view cie.now)) (map function_view functions.now)) }
@@ -23,17 +23,17 @@ pub fn check_frames(cie: &Cie, functions: &[(usize, CfaUnwindInfo)]) -> Result<(
 }
 
 // Whether the description of a function can be written.
-fn check_function(cie: &Cie, function: &(usize, CfaUnwindInfo)) -> Result<(), FrameError>
+fn check_function(cie: &Cie, function: &(usize, CfaUnwindInfo)) -> Result<(), WriteError>
     requires code { 0 < cie.now.code_factor }
     requires data { 0 < nat_abs cie.now.data_factor }
     ensures { result ≡ checked (description_refusals (cie_view cie.now) (function_view function.now)) }
 {
     let (symbol, info) = function;
     if !has_code_offsets(cie.code_factor, &info.ops) {
-        return Err(FrameError::InvalidFrameCodeOffset { symbol: *symbol });
+        return Err(WriteError::InvalidFrameCodeOffset { symbol: *symbol });
     }
     if !has_data_offsets(cie, &info.ops) {
-        return Err(FrameError::InvalidFrameDataOffset { symbol: *symbol });
+        return Err(WriteError::InvalidFrameDataOffset { symbol: *symbol });
     }
     Ok(())
 }
@@ -60,44 +60,12 @@ fn has_data_offsets(cie: &Cie, ops: &[(u32, FrameOp)]) -> bool
     ensures { result ≡ list_all (λ i. has_factored_offset cie.now.data_factor i.1) (map advancing_view ops.now) }
 {
     for i in 0..ops.len() {
-        if !has_units(ops[i].1, cie.data_factor) {
+        let (_, op) = ops[i];
+        if !op.has_factored_offset(cie.data_factor) {
             return false;
         }
     }
     true
-}
-
-// Whether the factored offset of an instruction, if it has one, is a multiple of the data factor.
-fn has_units(op: FrameOp, factor: i8) -> bool
-    requires { 0 < nat_abs factor }
-    ensures { result ≡ has_factored_offset factor (instruction_view op) }
-{
-    match op {
-        FrameOp::Cfa(_, offset) => is_multiple_below_0(offset, factor),
-        FrameOp::CfaOffset(offset) => is_multiple_below_0(offset, factor),
-        FrameOp::Offset(_, offset) => is_multiple(offset, factor),
-        _ => true,
-    }
-}
-
-// Whether an offset is from 0 on or a multiple of the data factor.
-fn is_multiple_below_0(offset: i32, factor: i8) -> bool
-    requires { 0 < nat_abs factor }
-    ensures { result ≡ is_multiple_of factor (below_zero offset) }
-{
-    if offset < 0 {
-        is_multiple(offset, factor)
-    } else {
-        true
-    }
-}
-
-// Whether an offset is a multiple of the data factor.
-fn is_multiple(offset: i32, factor: i8) -> bool
-    requires { 0 < nat_abs factor }
-    ensures { result ≡ is_multiple_of factor (Some offset) }
-{
-    offset.unsigned_abs() % u32::from(factor.unsigned_abs()) == 0
 }
 
 /// How large the numbers of functions' instructions are.

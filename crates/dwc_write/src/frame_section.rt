@@ -9,6 +9,7 @@ ghost use Rattle.dwc_base.specs.Outputs.{section_view};
 ghost use Rattle.dwc_clif.specs.CallFrames.{cie_view};
 ghost use Rattle.dwc_write.specs.Frames.{Puts, PutsIn, advancing_view, description_at, entry_bytes, function_view, numbers_bytes};
 ghost use Rattle.dwc_write.specs.Spelled.{at_places};
+ghost use Rattle.dwc_write.specs.SpelledRelocations.{DoRelocationsRise};
 ghost use Rattle.dwc_write.specs.Writers.{IsPast, IsSizeRefusal, IsSound, Refuses, Writes, appended, most_bytes};
 
 use crate::append::{bytes_4, put_sized};
@@ -35,6 +36,7 @@ pub fn write_section(
     requires data { 0 < nat_abs cie.now.data_factor }
     ensures section { IfOk result (λ s. section_view s ≡ frame_section order size (cie_view cie.now) (map function_view functions.now)) }
     ensures sound { IfOk result (λ s. IsSound order (section_view s)) }
+    ensures rise { IfOk result (λ s. DoRelocationsRise (section_view s)) }
     ensures large { IfErr result (λ e. IsSizeRefusal (IsPast Frame (length (frame_section order size (cie_view cie.now) (map function_view functions.now)).body)) e) }
 {
     let mut frames = WriterRelocate::new(alloc, order, SectionName::Frame)?;

@@ -1,4 +1,4 @@
-//! The writer of DWARF: line programs, units with their entries, and the sections that hold them. What is written is read
+//! The writer of DWARF: line programs, units with their entries, frame tables, and the sections that hold them. What is written is read
 //! back by the definitions as it was given.
 #![tactic(auto)]
 

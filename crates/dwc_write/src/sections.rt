@@ -1,15 +1,18 @@
 //! The sections of an output.
-ghost use Rattle.std.specs.Prelude.{◌≡◌, ◌<◌, ◌≤◌, ◌↔◌, ℕ, List, ◌++◌, false, get_or, length, Err, OnOk, IfOk, IfErr, IsOkUnless, map};
+ghost use Rattle.std.specs.Prelude.{◌≡◌, ◌<◌, ◌≤◌, ◌↔◌, ◌⊎◌, ℕ, List, ◌++◌, false, true, get_or, length, None, Err, OnOk, IfOk, IfErr, IsOkUnless, map};
 ghost use Rattle.dwc_base.specs.declared.records.Endian.{Endian};
 ghost use Rattle.std.specs.List.{All, AllZip};
 ghost use Rattle.dwc_base.specs.Carried.{units};
-ghost use Rattle.dwc_base.specs.Fields.{AreRelocated};
+ghost use Rattle.dwc_base.specs.CallFrames.{is_sound_if};
+ghost use Rattle.dwc_base.specs.Fields.{AreRelocated, IsRelocated};
+ghost use Rattle.dwc_base.specs.FramesCarried.{FramesCarried, others_in};
 ghost use Rattle.dwc_base.specs.OutputForm.{HasDistinctNames, HaveTargetForm};
 ghost use Rattle.dwc_base.specs.Outputs.{output_sections, section_view};
 ghost use Rattle.dwc_base.specs.TreeLaws.{HasTextsOnce, have_short_expressions};
 ghost use Rattle.dwc_base.specs.declared.faults.Limit.TheVariants.{Expression};
 ghost use Rattle.dwc_base.specs.TreeReading.{CarriesTrees};
 ghost use Rattle.dwc_write.specs.declared.error.WriteError.TheVariants.{OutOfMemory, TooLarge};
+ghost use Rattle.dwc_write.specs.Frames.{IsFrameRefusal, common_given, descriptions_given, first_refusal, given_frames, optional_section, refused_frames, told_refusal, widest_given_frames};
 ghost use Rattle.dwc_write.specs.GivenLines.{FitsLines};
 ghost use Rattle.dwc_write.specs.GivenTrees.{given_trees};
 ghost use Rattle.dwc_write.specs.GivenUnits.{AreShortUnits, AreWritable, FitsOrdered, HaveShortLists, ordered, size_of};
@@ -26,13 +29,14 @@ ghost use Rattle.dwc_write.specs.WidestGiven.{IsWideRefusal};
 ghost use Rattle.dwc_write.specs.Writers.{IsSound, most_bytes};
 
 use crate::entries::{Spelling, write_unit};
+use crate::frames::{check_table, write_table};
 use crate::layout::{UnitLayout, lay_out};
 use crate::list_places::ListPlaces;
 use crate::lists::{ListKind, write_lists};
 use crate::short_lists::have_short_lists;
 use crate::tables::write_lines;
 use crate::text_layout::{lay_out_texts, write_texts};
-use crate::{Dwarf, Unit, WriteError, WriterRelocate};
+use crate::{Dwarf, FrameTable, Unit, WriteError, WriterRelocate};
 use dwc_base::{DwarfSection, Endian, Limit, SectionName};
 use std::alloc::Global;
 
@@ -47,10 +51,68 @@ pub(crate) struct Sections {
 }
 
 /// The sections `.debug_abbrev`, `.debug_info`, `.debug_line`, `.debug_ranges`, `.debug_loc` and `.debug_str` of some units of version 4,
-/// in this order; those that are empty are left out. Each text that an entry names stands once, in the order of first use, and no other.
-/// `TooLarge` is answered for an expression exactly where one of a location list has more than 65,535 bytes, which comes first, else for
-/// a section only where it would have more than 2^31 - 1 bytes, and `OutOfMemory` for want of memory. (DWARF 4, sections 2.6, 6.2 and 7.5.)
+/// in this order, and `.debug_frame` of a frame table behind them; those that are empty are left out. Each text that an entry names
+/// stands once, in the order of first use, and no other.
+///
+/// # Errors
+/// `InvalidFrameCodeOffset` and `InvalidFrameDataOffset` are answered exactly for the first frame description that cannot be written,
+/// which comes first of all. `TooLarge` is answered for an expression exactly where one of a location list has more than 65,535 bytes,
+/// which comes next, else for a section only where it would have more than 2^31 - 1 bytes, and `OutOfMemory` for want of memory. (DWARF 4,
+/// sections 2.6, 6.2, 6.4 and 7.5.)
 pub fn write_sections(
+    alloc: Global,
+    dwarf: Dwarf,
+    frames: Option<FrameTable>,
+    order: Endian,
+) -> Result<Vec<DwarfSection>, WriteError>
+    requires units { AreWritable (map ordered dwarf.units.units.items) }
+    requires texts { HaveTexts dwarf.strings (map ordered dwarf.units.units.items) }
+    requires sound { is_sound_if (common_given frames) ≡ true }
+    requires unit { 0 < length (descriptions_given frames) → 0 < length dwarf.units.units.items }
+    ensures sections { IfOk result (λ s. map section_view s.items ≡ spelled_sections order dwarf.strings (map ordered dwarf.units.units.items) ++ given_frames order frames dwarf.units.units.items) }
+    ensures sound { IfOk result (λ s. All (IsSound order) (map section_view s.items)) }
+    ensures rise { IfOk result (λ s. All DoRelocationsRise (map section_view s.items)) }
+    ensures read { IfOk result (λ s. ReadsBack order (map ordered dwarf.units.units.items) (map section_view s.items)) }
+    ensures trees { IfOk result (λ s. CarriesTrees order (given_trees dwarf.strings (map ordered dwarf.units.units.items)) (map section_view s.items)) }
+    ensures texts_once { IfOk result (λ s. HasTextsOnce (output_sections order (map section_view s.items))) }
+    ensures form { IfOk result (λ s. (size : ℕ) → All (λ u. u.address_size ≡ size) dwarf.units.units.items → HaveTargetForm size (units (output_sections order (map section_view s.items))).items) }
+    ensures names { IfOk result (λ s. HasDistinctNames (map section_view s.items)) }
+    ensures relocated { IfOk result (λ s. All (IsRelocated (output_sections order (map section_view s.items))) (others_in (map section_view s.items))) }
+    ensures frames { IfOk result (λ s. FramesCarried order (size_of (map ordered dwarf.units.units.items)) (common_given frames) (descriptions_given frames) (map section_view s.items)) }
+    ensures refused { told_refusal result ≡ first_refusal (refused_frames frames) }
+    ensures expressions { first_refusal (refused_frames frames) ≡ None → ((result ≡ Err (TooLarge Expression)) ↔ (have_short_expressions (given_trees dwarf.strings (map ordered dwarf.units.units.items)) ≡ false)) }
+    ensures large { IfErr result (λ e. IsRefusal order dwarf.strings (map ordered dwarf.units.units.items) e ⊎ IsFrameRefusal (widest_given_frames frames) e) }
+    ensures widest { IfErr result (λ e. IsWideRefusal dwarf.strings (map ordered dwarf.units.units.items) e ⊎ IsFrameRefusal (widest_given_frames frames) e) }
+{
+    check_table(&frames)?;
+    let size = address_size_of(dwarf.units.units.as_slice());
+    let mut sections = write_unit_sections(alloc, dwarf, order)?;
+    let section = write_table(alloc, order, size, &frames)?;
+    push_optional(&mut sections, section)?;
+    Ok(sections)
+}
+
+// The size of the addresses of units, which is that of the first.
+fn address_size_of(units: &[Unit]) -> u8
+    ensures size { result ≡ size_of (map ordered units.now) }
+    ensures known { (result ≡ 4) ⊎ (result ≡ 8) }
+{
+    match units {
+        [] => 8,
+        [first, ..] => address_size(first),
+    }
+}
+
+// The size of the addresses of a unit.
+fn address_size(unit: &Unit) -> u8
+    ensures size { result ≡ unit.now.address_size }
+    ensures known { (result ≡ 4) ⊎ (result ≡ 8) }
+{
+    unit.address_size
+}
+
+// The sections of units and of the texts that they name.
+fn write_unit_sections(
     alloc: Global,
     dwarf: Dwarf,
     order: Endian,
@@ -248,5 +310,20 @@ fn push_section(list: &mut Vec<DwarfSection>, writer: WriterRelocate) -> Result<
         return Ok(());
     }
     list.push(writer.take())?;
+    Ok(())
+}
+
+// A section behind others, if there is one.
+fn push_optional(
+    list: &mut Vec<DwarfSection>,
+    section: Option<DwarfSection>,
+) -> Result<(), WriteError>
+    ensures section { OnOk result (map section_view list.new.items ≡ map section_view list.old.items ++ optional_section section) }
+    ensures memory { IsOkUnless result OutOfMemory }
+{
+    match section {
+        None => {}
+        Some(section) => list.push(section)?,
+    }
     Ok(())
 }

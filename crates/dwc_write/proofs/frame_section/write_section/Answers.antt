@@ -1,8 +1,9 @@
-use Rattle.std.proofs.Common.{◌≡◌, ap, ◌∙◌, map, Err}
+use Rattle.std.proofs.Common.{◌≡◌, ap, subst, sym, ◌∙◌, map, Err}
 use Rattle.std.proofs.lemmas.Result.{err_from_is_err_and}
 use Rattle.dwc_clif.specs.CallFrames.{cie_view}
 use Rattle.dwc_write.specs.Frames.{function_view}
-use Rattle.dwc_write.proofs.FrameOutputs.{common-refused, functions-refused, section-whole}
+use Rattle.dwc_write.specs.SpelledRelocations.{DoRelocationsRise}
+use Rattle.dwc_write.proofs.FrameOutputs.{common-refused, functions-refused, section-rises, section-whole}
 use Rattle.dwc_write.proofs.frame_section.write_section.Goals as goal
 
 pub returns-in_err-write_common-clause-large : goal.returns-in_err-write_common-clause-large
@@ -20,3 +21,9 @@ returns-in_err-write_functions-clause-large c =
 pub returns-clause-section : goal.returns-clause-section
 returns-clause-section c =
     section-whole c.args.order c.args.size (cie_view c.args.cie.now) (map function_view c.args.functions.now) c.in_ok-frames.frames c.write_common.new.frames c.write_functions.new.frames _ c.in_ok-frames.ensures.ok c.in_ok-write_common.ensures c.in_ok-write_functions.ensures c.take.ensures.section
+
+pub returns-clause-rise : goal.returns-clause-rise
+returns-clause-rise c =
+    let ds = map function_view c.args.functions.now in
+    let is = section-whole c.args.order c.args.size (cie_view c.args.cie.now) ds c.in_ok-frames.frames c.write_common.new.frames c.write_functions.new.frames _ c.in_ok-frames.ensures.ok c.in_ok-write_common.ensures c.in_ok-write_functions.ensures c.take.ensures.section in
+    subst DoRelocationsRise (sym is) (section-rises c.args.order c.args.size (cie_view c.args.cie.now) ds)

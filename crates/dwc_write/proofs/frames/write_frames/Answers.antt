@@ -4,7 +4,6 @@ use Rattle.dwc_base.specs.FrameSections.{frame_section}
 use Rattle.dwc_base.specs.FramesCarried.{widest_frames}
 use Rattle.dwc_clif.specs.CallFrames.{cie_view}
 use Rattle.dwc_clif.specs.declared.unwind_info.CfaUnwindInfo.{CfaUnwindInfo}
-use Rattle.dwc_write.specs.declared.error.FrameError.TheVariants.{Write}
 use Rattle.dwc_write.specs.Frames.{function_view}
 use Rattle.dwc_write.proofs.FrameOutputs.{widely-refused}
 use Rattle.dwc_write.proofs.FrameWidths.{frames-within}
@@ -13,7 +12,7 @@ use Rattle.dwc_write.proofs.frames.write_frames.Goals as goal
 pub returns-in_err-section-clause-large : goal.returns-in_err-section-clause-large
 returns-in_err-section-clause-large c =
     let p = err_from_is_err_and c.from_residual-in_err-section.result c.from_residual-in_err-section.ensures.1 in
-    let is : c.from_residual-in_err-section.result ≡ Err (Write c.in_err-section.field-0.0) = p.1 ∙ ap Err p.2 in
+    let is : c.from_residual-in_err-section.result ≡ Err c.in_err-section.field-0.0 = p.1 ∙ ap Err p.2 in
     let entry = cie_view c.args.table.now.cie in
     let fs = c.as_slice-functions.result.now in
     let some : 0 < length fs = search rules in

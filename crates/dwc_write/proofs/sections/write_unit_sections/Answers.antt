@@ -1,0 +1,239 @@
+use Rattle.std.proofs.Common.{◌≡◌, ◌<◌, ℕ, refl, ap, sym, subst, ◌∙◌, List, [], length, map}
+use Rattle.std.specs.List.{All}
+use Rattle.std.proofs.lemmas.List.Elements.{All-map}
+use Rattle.std.proofs.lemmas.Result.{IfErr-weaker, err_from_is_err_and}
+use Rattle.dwc_base.specs.Fields.{AreRelocated}
+use Rattle.dwc_base.specs.OutputForm.{HasDistinctNames}
+use Rattle.dwc_base.specs.Outputs.{OutputSection, output_sections, section_view}
+use Rattle.dwc_base.specs.TreeLaws.{HasTextsOnce, have_short_expressions}
+use Rattle.dwc_base.specs.TreeReading.{CarriesTrees}
+use Rattle.dwc_write.specs.declared.error.WriteError.TheVariants.{OutOfMemory}
+use Rattle.dwc_write.specs.GivenTrees.{given_trees}
+use Rattle.dwc_write.specs.ReadBack.{ReadsBack}
+use Rattle.dwc_write.specs.SpelledOutput.{WrittenSections, sections_of}
+use Rattle.dwc_write.specs.SpelledRelocations.{DoRelocationsRise}
+use Rattle.dwc_write.specs.GivenUnits.{OrderedUnit, ordered}
+use Rattle.dwc_base.specs.declared.section_name.SectionName.TheVariants.{Str}
+use Rattle.dwc_write.specs.Writers.{IsSound, Writing, most_bytes}
+use Rattle.dwc_write.specs.LayoutViews.{whole_view}
+use Rattle.dwc_write.specs.SpelledOutput.{IsRefusal, all_places, all_units, section_bytes}
+use Rattle.dwc_write.specs.TextTables.{AreTexts}
+use Rattle.dwc_write.specs.TextViews.{IsTextLayout}
+use Rattle.dwc_write.specs.UsedTexts.{texts_bytes, texts_used}
+use Rattle.dwc_write.specs.WidestGiven.{IsWideRefusal}
+use Rattle.dwc_write.proofs.ReadTexts.{all-placed, laid-short, text-places-are}
+use Rattle.dwc_write.proofs.SaidTexts.{texts-widely}
+use Rattle.dwc_write.proofs.TextsOnce.{texts-once}
+use Rattle.dwc_write.proofs.WideLaws.{err-exit}
+use Rattle.dwc_write.proofs.RefusalLaws.{memory-refusal, none-for-expressions, past-among, size-refusal}
+use Rattle.dwc_write.proofs.OutputLaws.{all-appended, refusal-of-all, if-ok-both, if-ok-weaker, output-sections, sections-rise}
+use Rattle.dwc_write.proofs.OutputForms.{distinct-names}
+use Rattle.dwc_write.proofs.ReadBackLaws.{reads-back}
+use Rattle.dwc_write.proofs.ReadTrees.{carries-trees, target-form}
+use Rattle.dwc_write.proofs.RelatedLaws.{are-relocated}
+use Rattle.dwc_write.proofs.ShortLaws.{short-trees, tested}
+use Rattle.dwc_write.proofs.sections.write_unit_sections.Goals as goal
+
+pub returns-then-not-have_short_lists-clause-expressions : goal.returns-then-not-have_short_lists-clause-expressions
+returns-then-not-have_short_lists-clause-expressions c =
+    let us = map ordered c.args.dwarf.units.units.items in
+    let table = c.args.dwarf.strings in
+    let none = sym (tested table c.as_slice-units.result.now c.args.dwarf.units.units.items c.have_short_lists.result c.as_slice-units.ensures.value c.have_short_lists.ensures) ∙ c.if-not-have_short_lists.true in
+    (λ is. none, λ long. refl)
+
+pub returns-then-not-have_short_lists-clause-large : goal.returns-then-not-have_short_lists-clause-large
+returns-then-not-have_short_lists-clause-large c =
+    let us = map ordered c.args.dwarf.units.units.items in
+    let table = c.args.dwarf.strings in
+    let none = sym (tested table c.as_slice-units.result.now c.args.dwarf.units.units.items c.have_short_lists.result c.as_slice-units.ensures.value c.have_short_lists.ensures) ∙ c.if-not-have_short_lists.true in
+    (refl, none)
+
+pub returns-then-not-have_short_lists-clause-widest : goal.returns-then-not-have_short_lists-clause-widest
+returns-then-not-have_short_lists-clause-widest c =
+    let us = map ordered c.args.dwarf.units.units.items in
+    let table = c.args.dwarf.strings in
+    let none = sym (tested table c.as_slice-units.result.now c.args.dwarf.units.units.items c.have_short_lists.result c.as_slice-units.ensures.value c.have_short_lists.ensures) ∙ c.if-not-have_short_lists.true in
+    (refl, none)
+
+pub returns-in_err-layouts-clause-large : goal.returns-in_err-layouts-clause-large
+returns-in_err-layouts-clause-large c =
+    let us = map ordered c.args.dwarf.units.units.items in
+    let table = c.args.dwarf.strings in
+    let p = err_from_is_err_and c.from_residual.result c.from_residual.ensures.1 in
+    err-exit (λ e. IsRefusal c.args.order table us e) _ _ p ((rw (c.as_slice-units.ensures.value) at c.in_err-layouts.ensures.large) c.args.order table)
+
+pub returns-in_err-layouts-clause-expressions : goal.returns-in_err-layouts-clause-expressions
+returns-in_err-layouts-clause-expressions c =
+    let us = map ordered c.args.dwarf.units.units.items in
+    let table = c.args.dwarf.strings in
+    let all = sym (tested table c.as_slice-units.result.now c.args.dwarf.units.units.items c.have_short_lists.result c.as_slice-units.ensures.value c.have_short_lists.ensures) ∙ c.if-not-have_short_lists.false in
+    none-for-expressions (have_short_expressions (given_trees table us)) (λ name. most_bytes < length (section_bytes c.args.order table us name)) _ all (returns-in_err-layouts-clause-large c)
+
+pub returns-in_err-layouts-clause-widest : goal.returns-in_err-layouts-clause-widest
+returns-in_err-layouts-clause-widest c =
+    let us = map ordered c.args.dwarf.units.units.items in
+    let table = c.args.dwarf.strings in
+    let p = err_from_is_err_and c.from_residual.result c.from_residual.ensures.1 in
+    err-exit (λ e. IsWideRefusal table us e) _ _ p ((rw (c.as_slice-units.ensures.value) at c.in_err-layouts.ensures.widest) table)
+
+pub returns-in_err-text_layout-clause-large : goal.returns-in_err-text_layout-clause-large
+returns-in_err-text_layout-clause-large c =
+    let us = map ordered c.args.dwarf.units.units.items in
+    let table = c.args.dwarf.strings in
+    let p = err_from_is_err_and c.from_residual-in_err-text_layout.result c.from_residual-in_err-text_layout.ensures.1 in
+    let large = past-among (λ m. length (section_bytes c.args.order table us m)) Str _ _ (λ large. large) (rw (c.as_slice-units.ensures.value, c.as_slice-texts.ensures) at c.in_err-text_layout.ensures.large) in
+    err-exit (λ e. IsRefusal c.args.order table us e) _ _ p (size-refusal _ (λ m. most_bytes < length (section_bytes c.args.order table us m)) _ large)
+
+pub returns-in_err-text_layout-clause-expressions : goal.returns-in_err-text_layout-clause-expressions
+returns-in_err-text_layout-clause-expressions c =
+    let us = map ordered c.args.dwarf.units.units.items in
+    let table = c.args.dwarf.strings in
+    let all = sym (tested table c.as_slice-units.result.now c.args.dwarf.units.units.items c.have_short_lists.result c.as_slice-units.ensures.value c.have_short_lists.ensures) ∙ c.if-not-have_short_lists.false in
+    none-for-expressions (have_short_expressions (given_trees table us)) (λ name. most_bytes < length (section_bytes c.args.order table us name)) _ all (returns-in_err-text_layout-clause-large c)
+
+pub returns-in_err-text_layout-clause-widest : goal.returns-in_err-text_layout-clause-widest
+returns-in_err-text_layout-clause-widest c =
+    let us = map ordered c.args.dwarf.units.units.items in
+    let table = c.args.dwarf.strings in
+    let texts : AreTexts table = subst AreTexts c.drop-in_err-text_layout.view_is c.drop-in_err-text_layout.invariant in
+    let p = err_from_is_err_and c.from_residual-in_err-text_layout.result c.from_residual-in_err-text_layout.ensures.1 in
+    err-exit (λ e. IsWideRefusal table us e) _ _ p (texts-widely table us _ texts c.requires.texts (rw (c.as_slice-units.ensures.value, c.as_slice-texts.ensures) at c.in_err-text_layout.ensures.large))
+
+pub write_units-requires-clause-texts : goal.write_units-requires-clause-texts
+write_units-requires-clause-texts c =
+    λ id. rw (c.deref-3.ensures.value) (laid-short _ c.in_ok-text_layout.text_layout id c.in_ok-text_layout.ensures.laid)
+
+pub returns-in_err-sections-clause-large : goal.returns-in_err-sections-clause-large
+returns-in_err-sections-clause-large c =
+    let us = map ordered c.args.dwarf.units.units.items in
+    let table = c.args.dwarf.strings in
+    let l = c.in_ok-text_layout.text_layout in
+    let laid : IsTextLayout table l = rw (c.as_slice-texts.ensures) at c.in_ok-text_layout.ensures.laid in
+    let used : l.used.items ≡ texts_used us = rw (c.as_slice-units.ensures.value) at c.in_ok-text_layout.ensures.used in
+    let placed = rw (c.as_slice-units.ensures.value) at (c.in_ok-layouts.ensures.places c.args.order) in
+    let are : whole_view c.deref-2.result.now c.deref-3.result.now ≡ all_places c.args.order table us = rw (c.deref-2.ensures.value, c.deref-3.ensures.value) (all-placed _ _ _ _ placed (text-places-are table us l laid used)) in
+    let p = err_from_is_err_and c.from_residual-in_err-sections.result c.from_residual-in_err-sections.ensures.1 in
+    err-exit (λ e. IsRefusal c.args.order table us e) _ _ p (refusal-of-all c.args.order (whole_view c.deref-2.result.now c.deref-3.result.now) table us _ are (rw (c.as_slice-units.ensures.value) at c.in_err-sections.ensures.large))
+
+pub returns-in_err-sections-clause-expressions : goal.returns-in_err-sections-clause-expressions
+returns-in_err-sections-clause-expressions c =
+    let us = map ordered c.args.dwarf.units.units.items in
+    let table = c.args.dwarf.strings in
+    let all = sym (tested table c.as_slice-units.result.now c.args.dwarf.units.units.items c.have_short_lists.result c.as_slice-units.ensures.value c.have_short_lists.ensures) ∙ c.if-not-have_short_lists.false in
+    none-for-expressions (have_short_expressions (given_trees table us)) (λ name. most_bytes < length (section_bytes c.args.order table us name)) _ all (returns-in_err-sections-clause-large c)
+
+pub returns-in_err-sections-clause-widest : goal.returns-in_err-sections-clause-widest
+returns-in_err-sections-clause-widest c =
+    let us = map ordered c.args.dwarf.units.units.items in
+    let table = c.args.dwarf.strings in
+    let p = err_from_is_err_and c.from_residual-in_err-sections.result c.from_residual-in_err-sections.ensures.1 in
+    err-exit (λ e. IsWideRefusal table us e) _ _ p ((rw (c.as_slice-units.ensures.value) at c.in_err-sections.ensures.widest) table)
+
+pub write_units-requires-clause-expressions : goal.write_units-requires-clause-expressions
+write_units-requires-clause-expressions c =
+    let us = map ordered c.args.dwarf.units.units.items in
+    let table = c.args.dwarf.strings in
+    let all = sym (tested table c.as_slice-units.result.now c.args.dwarf.units.units.items c.have_short_lists.result c.as_slice-units.ensures.value c.have_short_lists.ensures) ∙ c.if-not-have_short_lists.false in
+    rw (c.as_slice-units.ensures.value) (short-trees table us all)
+
+pub returns-in_err-strings-clause-expressions : goal.returns-in_err-strings-clause-expressions
+returns-in_err-strings-clause-expressions c =
+    let us = map ordered c.args.dwarf.units.units.items in
+    let table = c.args.dwarf.strings in
+    let all = sym (tested table c.as_slice-units.result.now c.args.dwarf.units.units.items c.have_short_lists.result c.as_slice-units.ensures.value c.have_short_lists.ensures) ∙ c.if-not-have_short_lists.false in
+    let p = err_from_is_err_and c.from_residual-in_err-strings.result c.from_residual-in_err-strings.ensures.1 in
+    none-for-expressions (have_short_expressions (given_trees table us)) (λ name. most_bytes < length (section_bytes c.args.order table us name)) _ all (err-exit (λ e. IsRefusal c.args.order table us e) _ _ p (memory-refusal _ (λ name. most_bytes < length (section_bytes c.args.order table us name)) _ c.in_err-strings.ensures.memory))
+
+pub returns-clause-expressions : goal.returns-clause-expressions
+returns-clause-expressions c =
+    let us = map ordered c.args.dwarf.units.units.items in
+    let table = c.args.dwarf.strings in
+    let all = sym (tested table c.as_slice-units.result.now c.args.dwarf.units.units.items c.have_short_lists.result c.as_slice-units.ensures.value c.have_short_lists.ensures) ∙ c.if-not-have_short_lists.false in
+    none-for-expressions (have_short_expressions (given_trees table us)) (λ name. most_bytes < length (section_bytes c.args.order table us name)) _ all (IfErr-weaker c.gather.result (λ e. e ≡ OutOfMemory) (λ e. IsRefusal c.args.order table us e) (memory-refusal _ (λ name. most_bytes < length (section_bytes c.args.order table us name))) c.gather.ensures.memory)
+
+pub returns-clause-sections : goal.returns-clause-sections
+returns-clause-sections c =
+    let us = map ordered c.args.dwarf.units.units.items in
+    let table = c.args.dwarf.strings in
+    let l = c.in_ok-text_layout.text_layout in
+    let laid : IsTextLayout table l = rw (c.as_slice-texts.ensures) at c.in_ok-text_layout.ensures.laid in
+    let used : l.used.items ≡ texts_used us = rw (c.as_slice-units.ensures.value) at c.in_ok-text_layout.ensures.used in
+    let placed = rw (c.as_slice-units.ensures.value) at (c.in_ok-layouts.ensures.places c.args.order) in
+    let are : whole_view c.deref-2.result.now c.deref-3.result.now ≡ all_places c.args.order table us = rw (c.deref-2.ensures.value, c.deref-3.ensures.value) (all-placed _ _ _ _ placed (text-places-are table us l laid used)) in
+    let all = rw (c.as_slice-units.ensures.value) at c.in_ok-sections.ensures.ok in
+    let body : texts_bytes table l.used.items ≡ texts_bytes table (texts_used us) = ap (texts_bytes table) used in
+    let strings = (rw (c.as_slice-texts.ensures) at c.in_ok-strings.ensures.ok) ∙ ap (λ (bytes : List ℕ). record { order = c.args.order; name = Str; body = bytes; relocations = [] }) body in
+    if-ok-weaker c.gather.result _ _
+    (λ s h. h ∙ ap (λ (w : WrittenSections). sections_of w c.in_ok-strings.strings) all ∙ ap (λ (w : Writing). sections_of (all_units c.args.order (whole_view c.deref-2.result.now c.deref-3.result.now) us) w) strings ∙ output-sections c.args.order _ table us are c.requires.units) c.gather.ensures.sections
+
+pub returns-clause-sound : goal.returns-clause-sound
+returns-clause-sound c =
+    let us = map ordered c.args.dwarf.units.units.items in
+    let table = c.args.dwarf.strings in
+    let all = (rw (c.as_slice-units.ensures.value) at c.in_ok-sections.ensures.ok) ∙ all-appended c.args.order _ us c.requires.units in
+    c.gather.ensures.sound c.args.order (ap (λ (w : WrittenSections). w.abbrev_section.order) all) (ap (λ (w : WrittenSections). w.info_section.order) all) (ap (λ (w : WrittenSections). w.line_section.order) all) (ap (λ (w : WrittenSections). w.ranges_section.order) all) (ap (λ (w : WrittenSections). w.locations_section.order) all) (ap (λ (w : Writing). w.order) c.in_ok-strings.ensures.ok)
+
+pub returns-clause-rise : goal.returns-clause-rise
+returns-clause-rise c =
+    let us = map ordered c.args.dwarf.units.units.items in
+    let table = c.args.dwarf.strings in
+    let P : List OutputSection → Type 0 = λ ss. All DoRelocationsRise ss in
+    if-ok-weaker c.gather.result _ _ (λ s is. subst P (sym is) (sections-rise c.args.order table us)) (returns-clause-sections c)
+
+pub returns-clause-read : goal.returns-clause-read
+returns-clause-read c =
+    let us = map ordered c.args.dwarf.units.units.items in
+    let table = c.args.dwarf.strings in
+    let fits = rw (c.as_slice-units.ensures.value) at c.in_ok-sections.ensures.fits in
+    let lines = rw (c.as_slice-units.ensures.value) at c.in_ok-sections.ensures.lines in
+    let Q : List OutputSection → Type 0 = λ ss. All (IsSound c.args.order) ss in
+    let P : List OutputSection → Type 0 = λ ss. ReadsBack c.args.order us ss in
+    if-ok-both c.gather.result _ _ _ (λ s is sound. subst P (sym is) (reads-back c.args.order table us c.requires.units fits lines (subst Q is sound))) (returns-clause-sections c) (returns-clause-sound c)
+
+pub returns-clause-trees : goal.returns-clause-trees
+returns-clause-trees c =
+    let us = map ordered c.args.dwarf.units.units.items in
+    let table = c.args.dwarf.strings in
+    let fits = rw (c.as_slice-units.ensures.value) at c.in_ok-sections.ensures.fits in
+    let lines = rw (c.as_slice-units.ensures.value) at c.in_ok-sections.ensures.lines in
+    let all = sym (tested table c.as_slice-units.result.now c.args.dwarf.units.units.items c.have_short_lists.result c.as_slice-units.ensures.value c.have_short_lists.ensures) ∙ c.if-not-have_short_lists.false in
+    let short = short-trees table us all in
+    let Q : List OutputSection → Type 0 = λ ss. All (IsSound c.args.order) ss in
+    let texts : AreTexts table = subst AreTexts c.drop-2.view_is c.drop-2.invariant in
+    let P : List OutputSection → Type 0 = λ ss. CarriesTrees c.args.order (given_trees table us) ss in
+    if-ok-both c.gather.result _ _ _ (λ s is sound. subst P (sym is) (carries-trees c.args.order table us c.requires.units c.requires.texts short texts.plain fits lines (subst Q is sound))) (returns-clause-sections c) (returns-clause-sound c)
+
+pub returns-clause-texts_once : goal.returns-clause-texts_once
+returns-clause-texts_once c =
+    let us = map ordered c.args.dwarf.units.units.items in
+    let table = c.args.dwarf.strings in
+    let fits = rw (c.as_slice-units.ensures.value) at c.in_ok-sections.ensures.fits in
+    let lines = rw (c.as_slice-units.ensures.value) at c.in_ok-sections.ensures.lines in
+    let Q : List OutputSection → Type 0 = λ ss. All (IsSound c.args.order) ss in
+    let texts : AreTexts table = subst AreTexts c.drop-2.view_is c.drop-2.invariant in
+    let P : List OutputSection → Type 0 = λ ss. HasTextsOnce (output_sections c.args.order ss) in
+    if-ok-both c.gather.result _ _ _ (λ s is sound. subst P (sym is) (texts-once c.args.order table us c.requires.units c.requires.texts texts fits lines (subst Q is sound))) (returns-clause-sections c) (returns-clause-sound c)
+
+pub returns-clause-form : goal.returns-clause-form
+returns-clause-form c =
+    let us = c.args.dwarf.units.units.items in
+    if-ok-weaker c.gather.result _ _
+    (λ s back size sized. target-form c.args.order (map ordered us) (map section_view s.items) size (All-map (λ (u : OrderedUnit). u.address_size ≡ size) ordered us sized) back)
+    (returns-clause-read c)
+
+pub returns-clause-names : goal.returns-clause-names
+returns-clause-names c =
+    let us = map ordered c.args.dwarf.units.units.items in
+    let table = c.args.dwarf.strings in
+    if-ok-weaker c.gather.result _ _ (λ s is. subst HasDistinctNames (sym is) (distinct-names c.args.order table us)) (returns-clause-sections c)
+
+pub returns-clause-relocated : goal.returns-clause-relocated
+returns-clause-relocated c =
+    let us = map ordered c.args.dwarf.units.units.items in
+    let table = c.args.dwarf.strings in
+    let fits = rw (c.as_slice-units.ensures.value) at c.in_ok-sections.ensures.fits in
+    let lines = rw (c.as_slice-units.ensures.value) at c.in_ok-sections.ensures.lines in
+    let all = sym (tested table c.as_slice-units.result.now c.args.dwarf.units.units.items c.have_short_lists.result c.as_slice-units.ensures.value c.have_short_lists.ensures) ∙ c.if-not-have_short_lists.false in
+    let short = short-trees table us all in
+    let Q : List OutputSection → Type 0 = λ ss. All (IsSound c.args.order) ss in
+    if-ok-both c.gather.result _ _ _ (λ s is sound. subst (AreRelocated c.args.order) (sym is) (are-relocated c.args.order table us c.requires.units short fits lines (subst Q is sound))) (returns-clause-sections c) (returns-clause-sound c)
