@@ -32,6 +32,7 @@ use Rattle.dwc_clone.specs.ParameterContexts.{Contexts, with_context}
 use Rattle.dwc_clone.specs.Sources.{IsSource}
 use Rattle.dwc_clone.specs.WrappedEntries.{GivesWrapped, IsWrapped}
 use Rattle.dwc_clone.specs.PlainEntries.{GivesItself, IsItself}
+use Rattle.dwc_clone.proofs.NotedNameLaws.{names-grown}
 use Rattle.dwc_clone.proofs.DraftPaths.{follow-from, path-long}
 use Rattle.dwc_clone.proofs.EntryMade.{CanBeItself, itself-behind, itself-first, root-plain, wrapped-built}
 use Rattle.dwc_clone.proofs.EntrySteps.{closed-length, ready}
@@ -174,7 +175,7 @@ module _ (registers : Registers) (c : CloneSource) (number : ℕ) (s : UnitSourc
     (so : AreClonedSoFar registers c number s roles es (e ∷ others) old t0 begun u0 parents wrappers lineage contexts names) where
   pub cloned-next : (new : List (List ℕ)) (v : GivenUnit) (path : List UnitEntryId) (opened : List OpenWrapper) (next_lineage : Stacks) (next_contexts : Contexts) (next_names : TypeNames)
       → AreBuilt registers c number s roles (es ++ e ∷ others) others new begun v path opened → numbers_in v ≡ numbers_in u0 + numbers_taken registers c s (placed_entry c e) → CanFollow path others → Grows t0 new → entry_refusals (clone_rules registers c s) s (placed_entry c e) ≡ []
-      → next_lineage ≡ with_entry (list_source c.unit.now.sections c.unit.now.header) c.transform.now e lineage → next_contexts ≡ with_context c e contexts → KnowsNames c s next_names
+      → next_lineage ≡ with_entry (list_source c.unit.now.sections c.unit.now.header) c.transform.now e lineage → next_contexts ≡ with_context c e contexts → KnowsNames c s new next_names
       → AreClonedSoFar registers c number s roles (es ++ e ∷ []) others old new begun v path opened next_lineage next_contexts next_names
   cloned-next new v path opened next_lineage next_contexts next_names built taken follow grows free entered told known =
       let sources = list_source c.unit.now.sections c.unit.now.header in
@@ -207,20 +208,21 @@ module _ (registers : Registers) (c : CloneSource) (number : ℕ) (s : UnitSourc
   pub gives-itself_cloned : (source : IsSource c number s) (id : UnitEntryId) (u1 v : GivenUnit) (left after : List OpenWrapper) (new : List (List ℕ)) (path : List UnitEntryId) (next_lineage : Stacks) (next_contexts : Contexts) (next_names : TypeNames)
       → (can : CanBeItself registers c number s source roles (es ++ e ∷ others) begun e others t0 parents u1 id left) → numbers_in u1 ≡ numbers_in u0 → after ≡ left
       → ((it : IsItself (goal_number c number roles) registers c number s (placed_entry c e) t0 new parents path can.placed can.base can.added v) → CanFollow path others)
-      → next_lineage ≡ with_entry (list_source c.unit.now.sections c.unit.now.header) c.transform.now e lineage → next_contexts ≡ with_context c e contexts → KnowsNames c s next_names
+      → next_lineage ≡ with_entry (list_source c.unit.now.sections c.unit.now.header) c.transform.now e lineage → next_contexts ≡ with_context c e contexts → next_names ≡ names
       → (r : Result (Unit {0}) CloneError) → GivesItself (goal_number c number roles) registers c number s (placed_entry c e) t0 new parents path can.placed can.base can.added v r
       → GivesEntry registers c number s roles es e others old new begun v path after next_lineage next_contexts next_names r
   gives-itself_cloned source id u1 v still after new path next_lineage next_contexts next_names can count same follow entered told known (Ok done) it =
       let both = can.makes new path v it in
+      let grows = grows-on t0 it.texts new (it.given).grows it.grows in
       cloned-next new v path after next_lineage next_contexts next_names (subst (AreBuilt registers c number s roles (es ++ e ∷ others) others new begun v path) (sym same) both.0)
-      (both.1 ∙ ap (λ n. n + numbers_taken registers c s (placed_entry c e)) count) (follow it) (grows-on t0 it.texts new (it.given).grows it.grows) it.accepted entered told known
+      (both.1 ∙ ap (λ n. n + numbers_taken registers c s (placed_entry c e)) count) (follow it) grows it.accepted entered told (subst (KnowsNames c s new) (sym known) (names-grown c s t0 new names grows so.known))
   gives-itself_cloned source id u1 v still after new path next_lineage next_contexts next_names can count same follow entered told known (Err error) refused = refused
 
   -- The same of one that is wrapped.
   pub gives-wrapped_cloned : (id : UnitEntryId) (u1 v : GivenUnit) (before behind : List OpenWrapper) (new : List (List ℕ)) (path : List UnitEntryId) (next_lineage : Stacks) (next_contexts : Contexts) (next_names : TypeNames) → numbers_in u1 ≡ numbers_in u0
       → (IsWrapped registers c s (placed_entry c e) t0 new parents path id before behind u1 v → AreBuilt registers c number s roles (es ++ e ∷ others) others new begun v path (reverse behind) × (numbers_in v ≡ numbers_in u1 + numbers_taken registers c s (placed_entry c e)) × CanFollow path others)
       → next_lineage ≡ with_entry (list_source c.unit.now.sections c.unit.now.header) c.transform.now e lineage → next_contexts ≡ with_context c e contexts
-      → (r : Result (Unit {0}) CloneError) → OnOk r (KnowsNames c s next_names) → GivesWrapped registers c s (placed_entry c e) t0 new parents path id before behind u1 v r
+      → (r : Result (Unit {0}) CloneError) → OnOk r (KnowsNames c s new next_names) → GivesWrapped registers c s (placed_entry c e) t0 new parents path id before behind u1 v r
       → GivesEntry registers c number s roles es e others old new begun v path (reverse behind) next_lineage next_contexts next_names r
   gives-wrapped_cloned id u1 v before behind new path next_lineage next_contexts next_names count makes entered told (Ok done) known it =
       let all_of = makes it in

@@ -34,7 +34,8 @@ use Rattle.dwc_clone.proofs.TextLaws.{Grows-same, IsAdded, added, reported-ok}
 
 -- ---- a table that grows
 
-numbered-grown : (old new : List (List ℕ)) (t : List ℕ) (id : StringId) → Grows old new → IsNumbered old t id → IsNumbered new t id
+-- A text keeps its number.
+pub numbered-grown : (old new : List (List ℕ)) (t : List ℕ) (id : StringId) → Grows old new → IsNumbered old t id → IsNumbered new t id
 numbered-grown old new t id grows is =
     let inside : id.index < length (old ++ grows.more) = omega (arith, length-append old grows.more, is.inside) in
     record {

@@ -124,7 +124,7 @@ pub record AreAmong (registers : Registers) (c : CloneSource) (number : ℕ) (s 
   pub whole : es ++ left ≡ all
 
 pub among-start : (registers : Registers) (c : CloneSource) (number : ℕ) (s : UnitSource) (roles : ℕ → Role → Option ℕ) (all : List Entry) (old : List (List ℕ)) (begun u : GivenUnit) (count : ℕ) (parents : List UnitEntryId) (wrappers : List OpenWrapper) (lineage : Stacks) (contexts : Contexts) (names : TypeNames)
-    → begun ≡ new_unit begun.address_size begun.lines → u ≡ reserved_more count begun → parents ≡ [] → wrappers ≡ [] → lineage ≡ no_stacks → contexts ≡ [] → KnowsNames c s names → AreClonable all → AreRoles registers c s roles (length u.places) (placed_in c.unit.now.header.offset all)
+    → begun ≡ new_unit begun.address_size begun.lines → u ≡ reserved_more count begun → parents ≡ [] → wrappers ≡ [] → lineage ≡ no_stacks → contexts ≡ [] → KnowsNames c s old names → AreClonable all → AreRoles registers c s roles (length u.places) (placed_in c.unit.now.header.offset all)
     → AreAmong registers c number s roles all all 0 old old begun u parents wrappers lineage contexts names
 among-start registers c number s roles all old begun u count parents wrappers lineage contexts names begun_is is no_parents no_wrappers no_lineage no_contexts known can numbers = record {
   es = [];

@@ -15,6 +15,7 @@ use Rattle.dwc_base.specs.LocationRules.{in_force_at}
 use Rattle.dwc_base.specs.TypeNames.{type_name}
 use Rattle.dwc_base.specs.Wrappers.{is_wrapped, name_fault, name_or_unknown, wrapper_name, wrapper_refusals}
 use Rattle.dwc_clif.specs.Registers.{Registers}
+use Rattle.dwc_write.specs.declared.strings.StringId.{StringId}
 use Rattle.dwc_write.specs.declared.units.UnitEntryId.{UnitEntryId}
 use Rattle.dwc_write.specs.GivenUnits.{GivenUnit}
 use Rattle.dwc_write.specs.TextTables.{IsText}
@@ -24,13 +25,15 @@ use Rattle.dwc_clone.specs.declared.source.CloneSource.{CloneSource}
 use Rattle.dwc_clone.specs.declared.wrapper.OpenWrapper.{OpenWrapper}
 use Rattle.dwc_clone.specs.declared.wrapper.WrapperTexts.{WrapperTexts}
 use Rattle.dwc_clone.specs.Errors.{refusal_told}
+use Rattle.dwc_clone.specs.KnownNames.{GivesNumber}
+use Rattle.dwc_clone.specs.KnownTexts.{IsNumbered}
 use Rattle.dwc_clone.specs.MadeValues.{Grows, RefusesSo}
 use Rattle.dwc_clone.specs.ClonedUnits.{TellsFirst, clone_rules, source_with}
 use Rattle.dwc_clone.specs.ClonedEntries.{values_refused}
 use Rattle.dwc_clone.specs.Sources.{IsSource}
 use Rattle.dwc_clone.specs.TypeChains.{GivesRead}
 use Rattle.dwc_clone.specs.OpenWrappers.{HasWrapperTexts}
-use Rattle.dwc_clone.specs.WrappedEntries.{AddsWrapper, AreChecked, GivesWrapped, IsWrapperNamed}
+use Rattle.dwc_clone.specs.WrappedEntries.{AddsWrapper, AreChecked, GivesWrapped, GivesWrapperName, IsWrapperNamed}
 use Rattle.dwc_clone.proofs.EntryValues.{grows-on}
 
 -- ---- texts
@@ -81,8 +84,8 @@ module _ (registers : Registers) (c : CloneSource) (number : ℕ) (s : UnitSourc
       in-front (x ∷ xs) ys is = is
 
   -- Where nothing is refused of them, the fault of the name is.
-  pub name-refused : {V : Type 0} (view : V → List ℕ) (e : CloneError) → values_refused registers c s p [] p.entry.attributes ≡ [] → GivesRead view (type_name s.texts s.entries p) (Err e) → TellsFirst (entry_refusals (clone_rules registers c s) s p) (refusal_told e)
-  name-refused view e accepted read =
+  name-refused : (e : CloneError) → values_refused registers c s p [] p.entry.attributes ≡ [] → GivesRead {X = List ℕ} (λ name. name) (type_name s.texts s.entries p) (Err e) → TellsFirst (entry_refusals (clone_rules registers c s) s p) (refusal_told e)
+  name-refused e accepted read =
       subst (λ xs. TellsFirst xs (refusal_told e)) (sym (refused-wrapped ∙ ap (λ xs. xs ++ map of_place (name_fault (type_name s.texts s.entries p))) accepted)) (go (type_name s.texts s.entries p) read)
     where
       no : (name : List ℕ) (told : Option Refusal) → RefusesSo {A = List ℕ} (Ok name) told → TellsFirst [] told
@@ -93,23 +96,24 @@ module _ (registers : Registers) (c : CloneSource) (number : ℕ) (s : UnitSourc
       one fault None refuses = tt
       one fault (Some refusal) refuses = cc
 
-      go : (r : Result (List ℕ) Fault) → GivesRead view r (Err e) → TellsFirst (map of_place (name_fault r)) (refusal_told e)
+      go : (r : Result (List ℕ) Fault) → GivesRead {X = List ℕ} (λ name. name) r (Err e) → TellsFirst (map of_place (name_fault r)) (refusal_told e)
       go (Ok name) read = no name (refusal_told e) read
       go (Err fault) read = one fault (refusal_told e) read
 
-  -- The wrapper has its name.
-  pub wrapper-named : (old new : List (List ℕ)) (name whole : List ℕ) → AreChecked registers c s p old new → type_name s.texts s.entries p ≡ Ok name → whole ≡ wrapper_name p.entry.tag name → IsWrapperNamed registers c s p old new whole
-  wrapper-named old new name whole checked read is = record {
-    grows = checked.grows;
-    accepted = refused-wrapped ∙ ap (λ xs. xs ++ map of_place (name_fault (type_name s.texts s.entries p))) checked.accepted ∙ ap (λ r. map of_place (name_fault r)) read;
-    is = is ∙ ap (λ r. wrapper_name p.entry.tag (name_or_unknown r)) (sym read);
+  -- The wrapper has its name; or the first refusal is told.
+  pub gives-name : (old middle new : List (List ℕ)) (r : Result StringId CloneError) → AreChecked registers c s p old middle → Grows middle new → GivesNumber s new p r → GivesWrapperName registers c s p old new r
+  gives-name old middle new (Ok id) checked grows named = record {
+    grows = grows-on old middle new checked.grows grows;
+    accepted = refused-wrapped ∙ ap (λ xs. xs ++ map of_place (name_fault (type_name s.texts s.entries p))) checked.accepted ∙ ap (λ r. map of_place (name_fault r)) named.read;
+    is = subst (λ r. IsNumbered new (wrapper_name p.entry.tag (name_or_unknown r)) id) (sym named.read) named.number;
   }
+  gives-name old middle new (Err e) checked grows refused = name-refused e checked.accepted refused
 
 -- ---- the whole entry
 
 -- What a call gives that adds the wrapper which was named.
-pub gives-wrapped : (registers : Registers) (c : CloneSource) (s : UnitSource) (p : Placed) (old middle new : List (List ℕ)) (name : List ℕ) (texts : WrapperTexts) (parents path : List UnitEntryId) (id : UnitEntryId) (before behind : List OpenWrapper) (u0 u : GivenUnit) (r : Result (Unit {0}) CloneError)
-    → IsWrapperNamed registers c s p old middle name → Grows middle new → HasWrapperTexts new c.module.names.resolve_memory.now name texts → IfErr r (λ e. e ≡ OutOfMemory) → OnOk r (AddsWrapper c p texts parents path id before behind u0 u)
+pub gives-wrapped : (registers : Registers) (c : CloneSource) (s : UnitSource) (p : Placed) (old middle new : List (List ℕ)) (name : StringId) (texts : WrapperTexts) (parents path : List UnitEntryId) (id : UnitEntryId) (before behind : List OpenWrapper) (u0 u : GivenUnit) (r : Result (Unit {0}) CloneError)
+    → IsWrapperNamed registers c s p old middle name → Grows middle new → ((wrapper : List ℕ) → IsNumbered middle wrapper name → HasWrapperTexts new c.module.names.resolve_memory.now wrapper texts) → IfErr r (λ e. e ≡ OutOfMemory) → OnOk r (AddsWrapper c p texts parents path id before behind u0 u)
     → GivesWrapped registers c s p old new parents path id before behind u0 u r
 gives-wrapped registers c s p old middle new name texts parents path id before behind u0 u (Ok done) named grows has memory adds = record {
   grows = grows-on old middle new named.grows grows;
@@ -118,7 +122,7 @@ gives-wrapped registers c s p old middle new name texts parents path id before b
   bare = adds.bare;
   added = adds.added;
   texts = texts;
-  named = subst (λ n. HasWrapperTexts new c.module.names.resolve_memory.now n texts) named.is has;
+  named = has (wrapper_name p.entry.tag (name_or_unknown (type_name s.texts s.entries p))) named.is;
   wrapper = adds.wrapper;
   opened = adds.opened;
   is = adds.is;

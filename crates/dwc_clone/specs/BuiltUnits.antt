@@ -133,7 +133,7 @@ pub record AreClonedSoFar (registers : Registers) (c : CloneSource) (number : �
   pub numbers : AreRoles registers c s roles (length u.places) (placed_in c.unit.now.header.offset left)
   pub entered : lineage ≡ with_entries (list_source c.unit.now.sections c.unit.now.header) c.transform.now es no_stacks
   pub told : contexts ≡ contexts_behind c es
-  pub known : KnowsNames c s names
+  pub known : KnowsNames c s texts names
 
 -- An entry more is cloned; or the first refusal of it.
 abbrev pub GivesEntry : Registers → CloneSource → ℕ → UnitSource → (ℕ → Role → Option ℕ) → List Entry → Entry → List Entry → List (List ℕ) → List (List ℕ) → GivenUnit → GivenUnit → List UnitEntryId → List OpenWrapper → Stacks → Contexts → TypeNames → Result (Unit {0}) CloneError → Type 0

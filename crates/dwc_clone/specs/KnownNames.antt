@@ -1,22 +1,26 @@
--- The types that were read of a unit and the names that were made, and what is known by them.
-use Rattle.std.specs.Prelude.{◌≡◌, ℕ, ◌≤◌, ◌≢◌, ◌⊎◌, false, List, slice_get, Option, Some, None, IfSome, Result, Ok, Err}
+-- The types that were read of a unit and the names of wrappers that were made, and what is known by them.
+use Rattle.std.specs.Prelude.{◌≡◌, ℕ, ◌==◌, ◌≤◌, ◌≢◌, ◌⊎◌, Bool, true, false, List, slice_get, Option, Some, None, IfSome, Result, Ok, Err}
 use Rattle.std.specs.Ordering.{nat_cmp}
-use Rattle.std.specs.BTreeMap.{get}
-use Rattle.dwc_base.specs.declared.constants.TheConstants.{DW_AT_type}
+use Rattle.std.specs.BTreeMap.{BTreeMap, get}
+use Rattle.dwc_base.specs.declared.constants.TheConstants.{DW_AT_type, DW_TAG_pointer_type}
 use Rattle.dwc_base.specs.Entries.{attribute}
 use Rattle.dwc_base.specs.Kept.{Placed}
 use Rattle.dwc_base.specs.Clones.{UnitSource}
 use Rattle.dwc_base.specs.TypeNames.{derived_name, name_of, type_name, unknown}
+use Rattle.dwc_base.specs.Wrappers.{wrapper_name}
+use Rattle.dwc_write.specs.declared.strings.StringId.{StringId}
 use Rattle.dwc_clone.specs.declared.error.CloneError.{CloneError}
 use Rattle.dwc_clone.specs.declared.source.CloneSource.{CloneSource}
 use Rattle.dwc_clone.specs.declared.type_entry.TypeEntry.{TypeEntry}
 use Rattle.dwc_clone.specs.declared.type_name.DerivedType.{DerivedType}
 use Rattle.dwc_clone.specs.declared.type_name.KnownTypes.{KnownTypes}
+use Rattle.dwc_clone.specs.declared.type_name.NotedName.{NotedName}
 use Rattle.dwc_clone.specs.declared.type_name.TypeNames.{TypeNames}
 use Rattle.dwc_clone.specs.declared.type_name.TypeStep.TheVariants.{Derived}
 use Rattle.dwc_clone.specs.DerivedTypes.{is_at, met_in}
+use Rattle.dwc_clone.specs.KnownTexts.{IsNumbered}
 use Rattle.dwc_clone.specs.Sources.{IsEmitted, IsSource}
-use Rattle.dwc_clone.specs.TypeChains.{offset_in_unit}
+use Rattle.dwc_clone.specs.TypeChains.{GivesRead, offset_in_unit}
 use Rattle.dwc_clone.specs.TypeSteps.{GivesStep}
 
 -- The type at an offset has no name, and is derived from another.
@@ -38,18 +42,35 @@ pub record KnowsTypes (c : CloneSource) (s : UnitSource) (types : KnownTypes) : 
   pub derived : (place : ℕ) (t : DerivedType) → slice_get types.derived.items place ≡ Some t → IsKept c s types place t
   pub ends : (offset : ℕ) → IfSome (get nat_cmp types.ends offset) (λ name. EndsSo c s offset name.items)
 
--- A name is that of the type at an offset for each entry in the output that has that type, but for the one at an offset.
-abbrev pub NamesType : CloneSource → UnitSource → ℕ → ℕ → List ℕ → Type 0
-NamesType c s offset but name = (e : Placed) → IsEmitted c s e → offset_in_unit c (attribute DW_AT_type e.entry) ≡ Some offset → e.entry.offset ≢ but → type_name s.texts s.entries e ≡ Ok name
+-- The name of the type of an entry can be read, and that of its wrapper has a number in a table of texts.
+pub record IsWrapperName (s : UnitSource) (texts : List (List ℕ)) (e : Placed) (id : StringId) : Type 0 where
+  pub name : List ℕ
+  pub read : type_name s.texts s.entries e ≡ Ok name
+  pub number : IsNumbered texts (wrapper_name e.entry.tag name) id
+
+-- A call gives that number; or it wants memory, or tells the fault that reading the name meets.
+abbrev pub GivesNumber : UnitSource → List (List ℕ) → Placed → Result StringId CloneError → Type 0
+GivesNumber s texts e (Ok id) = IsWrapperName s texts e id
+GivesNumber s texts e (Err error) = GivesRead {X = List ℕ} (λ name. name) (type_name s.texts s.entries e) (Err error)
+
+-- A number is that of the name of the wrapper of each entry in the output that is a pointer, or is none, and has the type at an offset, but
+-- for the one at an offset.
+abbrev pub NamesWrappers : CloneSource → UnitSource → List (List ℕ) → Bool → ℕ → ℕ → StringId → Type 0
+NamesWrappers c s texts pointer offset but id = (e : Placed) → IsEmitted c s e → (e.entry.tag == DW_TAG_pointer_type) ≡ pointer → offset_in_unit c (attribute DW_AT_type e.entry) ≡ Some offset → e.entry.offset ≢ but → IsWrapperName s texts e id
 
 -- It is so for the entry at an offset.
-abbrev pub NamesEntry : CloneSource → UnitSource → ℕ → ℕ → List ℕ → Type 0
-NamesEntry c s offset own name = (e : Placed) → IsEmitted c s e → offset_in_unit c (attribute DW_AT_type e.entry) ≡ Some offset → e.entry.offset ≡ own → type_name s.texts s.entries e ≡ Ok name
+abbrev pub NamesWrapper : CloneSource → UnitSource → List (List ℕ) → Bool → ℕ → ℕ → StringId → Type 0
+NamesWrapper c s texts pointer offset own id = (e : Placed) → IsEmitted c s e → (e.entry.tag == DW_TAG_pointer_type) ≡ pointer → offset_in_unit c (attribute DW_AT_type e.entry) ≡ Some offset → e.entry.offset ≡ own → IsWrapperName s texts e id
 
--- So is each name that is noted; and the types are known.
-pub record KnowsNames (c : CloneSource) (s : UnitSource) (names : TypeNames) : Type 0 where
+-- So is each number of a map, by the offsets of the types.
+pub record AreWrapperNames (c : CloneSource) (s : UnitSource) (texts : List (List ℕ)) (pointer : Bool) (noted : BTreeMap ℕ NotedName) : Type 0 where
+  pub each : (offset : ℕ) → IfSome (get nat_cmp noted offset) (λ n. NamesWrappers c s texts pointer offset n.but n.name)
+
+-- So are those that are noted, of pointers and of references, in a table of texts; and the types are known.
+pub record KnowsNames (c : CloneSource) (s : UnitSource) (texts : List (List ℕ)) (names : TypeNames) : Type 0 where
   pub types : KnowsTypes c s names.types
-  pub each : (offset : ℕ) → IfSome (get nat_cmp names.names offset) (λ noted. NamesType c s offset noted.but noted.name.items)
+  pub pointers : AreWrapperNames c s texts true names.pointers
+  pub references : AreWrapperNames c s texts false names.references
 
 -- None is the one at an offset.
 abbrev pub IsAway : List DerivedType → ℕ → Type 0

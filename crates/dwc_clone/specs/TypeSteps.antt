@@ -67,7 +67,6 @@ pub record IsOfType (c : CloneSource) (s : UnitSource) (e : Placed) (first : Typ
 pub record HaveTexts (types : KnownTypes) : Type 0 where
   pub each : (offset : ℕ) → IfSome (get nat_cmp types.ends offset) (λ name. IsText name.items)
 
--- Nor have those of all types.
-pub record AreNames (names : TypeNames) : Type 0 where
-  pub each : (offset : ℕ) → IfSome (get nat_cmp names.names offset) (λ noted. IsText noted.name.items)
-  pub types : HaveTexts names.types
+-- So it is of the types that names were made of.
+abbrev pub AreNames : TypeNames → Type 0
+AreNames names = HaveTexts names.types

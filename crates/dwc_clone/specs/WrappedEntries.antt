@@ -6,6 +6,7 @@ use Rattle.dwc_base.specs.Clones.{UnitSource, entry_refusals}
 use Rattle.dwc_base.specs.TypeNames.{type_name}
 use Rattle.dwc_base.specs.Wrappers.{name_or_unknown, wrapper_name}
 use Rattle.dwc_clif.specs.Registers.{Registers}
+use Rattle.dwc_write.specs.declared.strings.StringId.{StringId}
 use Rattle.dwc_write.specs.declared.units.UnitEntryId.{UnitEntryId}
 use Rattle.dwc_write.specs.GivenUnits.{GivenUnit}
 use Rattle.dwc_clone.specs.declared.entry.PlacedEntry.{PlacedEntry}
@@ -14,6 +15,7 @@ use Rattle.dwc_clone.specs.declared.source.CloneSource.{CloneSource}
 use Rattle.dwc_clone.specs.declared.wrapper.OpenWrapper.{OpenWrapper}
 use Rattle.dwc_clone.specs.declared.wrapper.WrapperTexts.{WrapperTexts}
 use Rattle.dwc_clone.specs.Errors.{refusal_told}
+use Rattle.dwc_clone.specs.KnownTexts.{IsNumbered}
 use Rattle.dwc_clone.specs.MadeValues.{Grows}
 use Rattle.dwc_clone.specs.ClonedUnits.{TellsFirst, clone_rules}
 use Rattle.dwc_clone.specs.ClonedEntries.{AddsBelow, last_parent, values_refused}
@@ -33,15 +35,15 @@ GivesChecked registers c s p old new (Err e) = TellsFirst (values_refused regist
 abbrev pub target_id : CloneSource → Placed → Option UnitEntryId
 target_id c p = option_map (λ t. record { index = t.1 }) (type_found c p.entry)
 
--- The name of the wrapper of an entry was read behind its attributes, of which nothing is refused.
-pub record IsWrapperNamed (registers : Registers) (c : CloneSource) (s : UnitSource) (p : Placed) (old new : List (List ℕ)) (name : List ℕ) : Type 0 where
+-- The name of the wrapper of an entry was read behind its attributes, of which nothing is refused, and has a number in the table of texts.
+pub record IsWrapperNamed (registers : Registers) (c : CloneSource) (s : UnitSource) (p : Placed) (old new : List (List ℕ)) (name : StringId) : Type 0 where
   pub grows : Grows old new
   pub accepted : entry_refusals (clone_rules registers c s) s p ≡ []
-  pub is : name ≡ wrapper_name p.entry.tag (name_or_unknown (type_name s.texts s.entries p))
+  pub is : IsNumbered new (wrapper_name p.entry.tag (name_or_unknown (type_name s.texts s.entries p))) name
 
-abbrev pub GivesWrapperName : {V : Type 0} → (V → List ℕ) → Registers → CloneSource → UnitSource → Placed → List (List ℕ) → List (List ℕ) → Result V CloneError → Type 0
-GivesWrapperName bytes registers c s p old new (Ok name) = IsWrapperNamed registers c s p old new (bytes name)
-GivesWrapperName bytes registers c s p old new (Err e) = TellsFirst (entry_refusals (clone_rules registers c s) s p) (refusal_told e)
+abbrev pub GivesWrapperName : Registers → CloneSource → UnitSource → Placed → List (List ℕ) → List (List ℕ) → Result StringId CloneError → Type 0
+GivesWrapperName registers c s p old new (Ok name) = IsWrapperNamed registers c s p old new name
+GivesWrapperName registers c s p old new (Err e) = TellsFirst (entry_refusals (clone_rules registers c s) s p) (refusal_told e)
 
 -- A structure was added for an entry, below the last of some entries that are the parents of its depth, and was given what a wrapper
 -- with some texts has; it is then the last one of its depth, and the innermost wrapper that is open.

@@ -16,7 +16,7 @@ ghost use Rattle.dwc_clone.specs.Sources.{AreFiles, IsSource};
 ghost use Rattle.dwc_clone.specs.ClonedUnits.{IsInForce, clone_rules};
 ghost use Rattle.dwc_clone.specs.KnownTexts.{KnowsTexts};
 ghost use Rattle.dwc_clone.specs.AttributesSeen.{seen_among};
-ghost use Rattle.dwc_clone.specs.MadeValues.{GivesMade, Says, SaysMore};
+ghost use Rattle.dwc_clone.specs.MadeValues.{GivesMade, Grows, Says, SaysMore};
 
 use crate::bounds::{AttributesSeen, check_bound};
 use crate::in_force::InForce;
@@ -68,6 +68,7 @@ pub(crate) fn output_attribute(
     ensures made { (number : ℕ) (s : UnitSource) (e : Placed) (before : List (ℕ × Value)) → IsSource source.now number s → e.unit ≡ source.now.unit.now.header.offset → e.entry ≡ entry_view entry.now → seen ≡ seen_among before → IsInForce (dwarf_registers isa.now) source.now s e in_force.now → GivesMade (SaysMore source.now.places.now number attribute.now.0 strings.old strings.new) (attribute_becomes (clone_rules (dwarf_registers isa.now) source.now s) s e before (attribute_view attribute.now)) result }
     ensures fits { IfOk result (λ v. (size : ℕ) → IfSome v (FitsValue size attribute.now.0)) }
     ensures known { KnowsTexts source.now.unit.now.sections strings.new known.new }
+    ensures grows { Grows strings.old strings.new }
 {
     let (name, value) = *attribute;
     if is_dropped_name(name) {

@@ -1,5 +1,5 @@
-//! The names of the types that pointers and references go to. (DWARF 4 and 5, sections 5.1 to 5.5.)
-ghost use Rattle.std.specs.Prelude.{◌≡◌, ◌++◌, ◌<◌, ◌==◌, ◌≢◌, ℕ, [], false, is_some, length, set, slice_get, true, None, Ok, Some, option_map, IfErr, IfOk, IfSome, OnOk};
+//! The names of the types that pointers and references go to, and of their wrappers by these. (DWARF 4 and 5, sections 5.1 to 5.5.)
+ghost use Rattle.std.specs.Prelude.{◌≡◌, ◌++◌, ◌<◌, ◌==◌, ◌≢◌, ℕ, [], Bool, List, false, is_some, length, set, slice_get, true, None, Ok, Some, option_map, IfErr, IfOk, IfSome, OnOk};
 ghost use Rattle.std.specs.Ordering.{nat_cmp};
 ghost use Rattle.std.specs.Str.{is_utf8};
 ghost use Rattle.std.specs.BTreeMap.{get};
@@ -9,43 +9,51 @@ ghost use Rattle.dwc_base.specs.Kept.{Placed};
 ghost use Rattle.dwc_base.specs.Clones.{UnitSource};
 ghost use Rattle.dwc_base.specs.ReadValues.{IsReadEntry};
 ghost use Rattle.dwc_base.specs.TypeNames.{derived_name, name_of, type_name};
+ghost use Rattle.dwc_base.specs.Wrappers.{wrapper_name};
 ghost use Rattle.dwc_read.specs.EntriesSeen.{entry_view};
 ghost use Rattle.dwc_write.specs.TextTables.{IsText};
 ghost use Rattle.dwc_clone.specs.declared.source.CloneSource.{CloneSource};
 ghost use Rattle.dwc_clone.specs.ClonedEntries.{placed_entry};
 ghost use Rattle.dwc_clone.specs.DerivedTypes.{AddsUnmet, at_walk, end_of, is_at};
-ghost use Rattle.dwc_clone.specs.KnownNames.{EndsSo, IfAway, IfEnds, IsAway, IsFresh, IsRead, KnowsNames, KnowsTypes, NamesEntry, NamesType};
+ghost use Rattle.dwc_clone.specs.KnownNames.{AreWrapperNames, EndsSo, GivesNumber, IfAway, IfEnds, IsAway, IsFresh, IsRead, KnowsNames, KnowsTypes, NamesWrapper, NamesWrappers};
+ghost use Rattle.dwc_clone.specs.KnownTexts.{IsNumbered};
+ghost use Rattle.dwc_clone.specs.MadeValues.{Grows};
 ghost use Rattle.dwc_clone.specs.Sources.{IsEmitted, IsSource};
 ghost use Rattle.dwc_clone.specs.TypeChains.{GivesRead, behind, behind_name, in_front, named_chain, type_found, type_view};
 ghost use Rattle.dwc_clone.specs.TypeSteps.{AreNames, GivesAlike, HaveTexts, IsOfType, ReadsStep, step_name};
+ghost use Rattle.dwc_clone.specs.declared.error.CloneError.TheVariants.{OutOfMemory};
 ghost use Rattle.dwc_clone.specs.declared.type_name.DerivedType.{DerivedType};
 
+use crate::entry::of_memory;
 use crate::text::text_of;
 use crate::type_entry::{TypeEntry, type_of};
+use crate::wrapper::{add_text, wrapper_name};
 use crate::{CloneError, CloneSource};
 use dwc_base::constants::{
     DW_AT_name, DW_TAG_array_type, DW_TAG_const_type, DW_TAG_pointer_type, DW_TAG_reference_type,
 };
 use dwc_base::{SectionName, What};
 use dwc_read::Entry;
+use dwc_write::{StringId, StringTable};
 use std::alloc::{AllocError, Global};
 use std::collections::BTreeMap;
 
 // The name of what has none.
 const UNKNOWN: &[u8] = b"??";
 
-/// The names of types, by the offsets of their entries, so that a name is made once for all that go to a type; and the types that were read
-/// for them, so that each is read once, however many chains go through it.
+/// The names of the wrappers of pointers and of references, by the offsets of the types that these go to, so that a name is made and added
+/// once for all that go to a type; and the types that were read for them, so that each is read once, however many chains go through it.
 #[derive(Drop)]
 pub(crate) struct TypeNames {
-    names: BTreeMap<u64, TypeName>,
+    pointers: BTreeMap<u64, NotedName>,
+    references: BTreeMap<u64, NotedName>,
     types: KnownTypes,
 }
 
-// The name of a type, for all entries of that type but the one at an offset.
-#[derive(Drop)]
-struct TypeName {
-    name: Vec<u8>,
+// The number in the table of texts of the name of the wrappers of all that go to a type but the one at an offset.
+#[derive(Clone, Copy)]
+struct NotedName {
+    name: StringId,
     but: u64,
 }
 
@@ -84,10 +92,11 @@ impl TypeNames {
     /// No names yet.
     pub(crate) fn new(alloc: Global) -> TypeNames
         ensures texts { AreNames result }
-        ensures names { (source : CloneSource) (s : UnitSource) → KnowsNames source s result }
+        ensures names { (source : CloneSource) (s : UnitSource) (texts : List (List ℕ)) → KnowsNames source s texts result }
     {
         TypeNames {
-            names: BTreeMap::new(alloc),
+            pointers: BTreeMap::new(alloc),
+            references: BTreeMap::new(alloc),
             types: no_types(alloc),
         }
     }
@@ -498,86 +507,115 @@ fn read_name(
     })
 }
 
-// Notes the name of the type at an offset, for all but one entry.
-fn note(
+// Adds the name of the wrapper of an entry of a tag, by the name of its type.
+fn add_name(
     alloc: Global,
+    tag: u16,
+    name: &[u8],
+    strings: &mut StringTable,
+) -> Result<StringId, CloneError>
+    requires { IsText name.now }
+    ensures grows { Grows strings.old strings.new }
+    ensures number { IfOk result (IsNumbered strings.new (wrapper_name tag name.now)) }
+    ensures memory { IfErr result (λ e. e ≡ OutOfMemory) }
+{
+    let whole = wrapper_name(alloc, tag, name)?;
+    Ok(of_memory(add_text(strings, &whole))?)
+}
+
+// Notes the number of the name of the wrappers of pointers, or of references, by a tag, that go to the type at an offset, for all but one.
+fn note(
     names: &mut TypeNames,
+    tag: u16,
     offset: u64,
     but: Option<u64>,
-    name: &[u8],
+    name: StringId,
 ) -> Result<(), AllocError>
-    requires texts { AreNames names.old }
-    requires text { IsText name.now }
-    ensures texts { AreNames names.new }
-    ensures names { (source : CloneSource) (s : UnitSource) → IfSome but (λ but. NamesType source s offset but name.now) → KnowsNames source s names.old → OnOk result (KnowsNames source s names.new) }
+    ensures types { names.new.types ≡ names.old.types }
+    ensures names { (source : CloneSource) (s : UnitSource) (texts : List (List ℕ)) → IfSome but (λ but. NamesWrappers source s texts (tag == DW_TAG_pointer_type) offset but name) → KnowsNames source s texts names.old → OnOk result (KnowsNames source s texts names.new) }
 {
-    if let Some(but) = but {
-        let name = name.to_vec(alloc)?;
-        names.names.insert(offset, TypeName { name, but })?;
+    let Some(but) = but else {
+        return Ok(());
+    };
+    if tag == DW_TAG_pointer_type {
+        names.pointers.insert(offset, NotedName { name, but })?;
+    } else {
+        names.references.insert(offset, NotedName { name, but })?;
     }
     Ok(())
 }
 
-// The name that is noted of the type at an offset, for the entry at another.
-fn noted<'n>(names: &'n TypeNames, own: u64, offset: u64) -> Option<&'n [u8]>
-    requires texts { AreNames names.now }
-    ensures text { IfSome result (λ name. IsText name.now) }
-    ensures noted { (source : CloneSource) (s : UnitSource) → KnowsNames source s names.now → IfSome result (λ name. NamesEntry source s offset own name.now) }
+// The number that is noted of the type at an offset, for the entry at another.
+fn noted_in(names: &BTreeMap<u64, NotedName>, own: u64, offset: u64) -> Option<StringId>
+    ensures { (source : CloneSource) (s : UnitSource) (texts : List (List ℕ)) (pointer : Bool) → AreWrapperNames source s texts pointer names.now → IfSome result (NamesWrapper source s texts pointer offset own) }
 {
-    match names.names.get(&offset) {
+    match names.get(&offset) {
         Some(noted) => {
             if noted.but == own {
                 None
             } else {
-                Some(noted.name.as_slice())
+                Some(noted.name)
             }
         }
         None => None,
     }
 }
 
-// Makes the name of the type of an entry, by the first type of its chain, and notes it.
+// The number of the name of the wrapper of the entry at an offset, a pointer or a reference by its tag, that is noted of the type at another.
+fn noted(names: &TypeNames, tag: u16, own: u64, offset: u64) -> Option<StringId>
+    ensures { (source : CloneSource) (s : UnitSource) (texts : List (List ℕ)) → KnowsNames source s texts names.now → IfSome result (NamesWrapper source s texts (tag == DW_TAG_pointer_type) offset own) }
+{
+    if tag == DW_TAG_pointer_type {
+        return noted_in(&names.pointers, own, offset);
+    }
+    noted_in(&names.references, own, offset)
+}
+
+// Makes and adds the name of the wrapper of an entry, by the first type of its chain, and notes its number.
 fn make_name(
     alloc: Global,
     source: &CloneSource<'_, '_>,
-    own: u64,
+    entry: &Entry<'_>,
     first: TypeEntry,
     names: &mut TypeNames,
-) -> Result<Vec<u8>, CloneError>
+    strings: &mut StringTable,
+) -> Result<StringId, CloneError>
     requires texts { AreNames names.old }
     ensures texts { AreNames names.new }
-    ensures text { IfOk result (λ name. IsText name.items) }
-    ensures names { (number : ℕ) (s : UnitSource) (e : Placed) → IsSource source.now number s → type_found source.now e.entry ≡ Some (type_view first) → KnowsNames source.now s names.old → OnOk result (KnowsNames source.now s names.new) }
-    ensures name { (s : UnitSource) (e : Placed) → IsOfType source.now s e first → e.entry.offset ≡ own → KnowsNames source.now s names.old → GivesRead (λ name. name.items) (type_name s.texts s.entries e) result }
+    ensures grows { Grows strings.old strings.new }
+    ensures names { (number : ℕ) (s : UnitSource) → IsSource source.now number s → type_found source.now (entry_view entry.now) ≡ Some (type_view first) → KnowsNames source.now s strings.old names.old → OnOk result (KnowsNames source.now s strings.new names.new) }
+    ensures name { (s : UnitSource) → IsOfType source.now s (placed_entry source.now (entry_view entry.now)) first → KnowsNames source.now s strings.old names.old → GivesNumber s strings.new (placed_entry source.now (entry_view entry.now)) result }
 {
-    let made = read_name(alloc, source, own, first, &mut names.types)?;
-    note(alloc, names, first.offset, made.but, &made.name)?;
-    Ok(made.name)
+    let made = read_name(alloc, source, entry.offset, first, &mut names.types)?;
+    let name = add_name(alloc, entry.tag, &made.name, strings)?;
+    note(names, entry.tag, first.offset, made.but, name)?;
+    Ok(name)
 }
 
-/// The name of the type of an entry: its own, or else by the type that it is derived from; `??` where there is none, and
-/// where an entry is met again.
+/// The number in the table of texts of the name of the wrapper of an entry, by the name of its type: the type's own, or else by the type that
+/// it is derived from; `??` where there is none, and where an entry is met again.
 ///
 /// # Errors
 /// At the entry that is named: `Read` `Text` for a name that cannot be read, `Read` `BaseName` for one that is no UTF-8. `OutOfMemory` for
 /// want of memory.
-pub(crate) fn type_name(
+pub(crate) fn name_of_wrapper(
     alloc: Global,
     source: &CloneSource<'_, '_>,
     entry: &Entry<'_>,
     names: &mut TypeNames,
-) -> Result<Vec<u8>, CloneError>
+    strings: &mut StringTable,
+) -> Result<StringId, CloneError>
     requires texts { AreNames names.old }
     ensures texts { AreNames names.new }
-    ensures text { IfOk result (λ name. IsText name.items) }
-    ensures names { (number : ℕ) (s : UnitSource) → IsSource source.now number s → IsEmitted source.now s (placed_entry source.now (entry_view entry.now)) → KnowsNames source.now s names.old → OnOk result (KnowsNames source.now s names.new) }
-    ensures name { (number : ℕ) (s : UnitSource) → IsSource source.now number s → IsEmitted source.now s (placed_entry source.now (entry_view entry.now)) → KnowsNames source.now s names.old → GivesRead (λ v. v.items) (type_name s.texts s.entries (placed_entry source.now (entry_view entry.now))) result }
+    ensures grows { Grows strings.old strings.new }
+    ensures names { (number : ℕ) (s : UnitSource) → IsSource source.now number s → IsEmitted source.now s (placed_entry source.now (entry_view entry.now)) → KnowsNames source.now s strings.old names.old → OnOk result (KnowsNames source.now s strings.new names.new) }
+    ensures name { (number : ℕ) (s : UnitSource) → IsSource source.now number s → IsEmitted source.now s (placed_entry source.now (entry_view entry.now)) → KnowsNames source.now s strings.old names.old → GivesNumber s strings.new (placed_entry source.now (entry_view entry.now)) result }
 {
     let Some(first) = type_of(source, entry) else {
-        return Ok(UNKNOWN.to_vec(alloc)?);
+        return add_name(alloc, entry.tag, UNKNOWN, strings);
     };
-    match noted(names, entry.offset, first.offset) {
-        Some(name) => Ok(name.to_vec(alloc)?),
-        None => make_name(alloc, source, entry.offset, first, names),
+    match noted(names, entry.tag, entry.offset, first.offset) {
+        Some(name) => Ok(name),
+        None => make_name(alloc, source, entry, first, names, strings),
     }
 }

@@ -24,7 +24,7 @@ ghost use Rattle.dwc_clone.specs.declared.places.EmittedEntry.{EmittedEntry};
 ghost use Rattle.dwc_clone.specs.Sources.{AreFiles, IsSource};
 ghost use Rattle.dwc_clone.specs.ClonedUnits.{IsInForce, clone_rules};
 ghost use Rattle.dwc_clone.specs.KnownTexts.{KnowsTexts};
-ghost use Rattle.dwc_clone.specs.MadeValues.{GivesMade, Says, SaysMore, any_reference, is_address, own_reference, target_place};
+ghost use Rattle.dwc_clone.specs.MadeValues.{GivesMade, Grows, Says, SaysMore, any_reference, is_address, own_reference, target_place};
 
 use crate::extent::carried_address;
 use crate::in_force::InForce;
@@ -84,6 +84,7 @@ fn text(
     ensures made { (places : List EmittedEntry) (number : ℕ) → GivesMade (SaysMore places number name strings.old strings.new) (text_drafted of_place (reported Text Info offset (text_named (texts_of_unit source.now.unit.now.sections source.now.unit.now.header) (value_view value.entry)))) result }
     ensures fits { IfOk result (λ v. (size : ℕ) → IfSome v (FitsValue size name)) }
     ensures known { KnowsTexts source.now.unit.now.sections strings.new known.new }
+    ensures grows { Grows strings.old strings.new }
 {
     let place = text_place_of(source.unit, offset, value)?;
     if let Some(Some(id)) = known.find(place) {
@@ -190,6 +191,7 @@ pub(crate) fn output_value(
     ensures made { (unit : ℕ) (s : UnitSource) (e : Placed) (before : List (ℕ × Value)) → IsSource source.now unit s → e.unit ≡ source.now.unit.now.header.offset → e.entry ≡ entry_view entry.now → length before ≡ number → IsInForce (dwarf_registers isa.now) source.now s e in_force.now → GivesMade (SaysMore source.now.places.now unit name strings.old strings.new) (value_becomes (clone_rules (dwarf_registers isa.now) source.now s) s e before name (value_view value.entry)) result }
     ensures fits { IfOk result (λ v. (size : ℕ) → IfSome v (FitsValue size name)) }
     ensures known { KnowsTexts source.now.unit.now.sections strings.new known.new }
+    ensures grows { Grows strings.old strings.new }
 {
     match value {
         InputValue::Constant { form, bits } => Ok(constant(source.files, name, form, bits)),

@@ -8,7 +8,7 @@ ghost use Rattle.dwc_expr.specs.Frames.{frame_view};
 ghost use Rattle.dwc_clone.specs.declared.source.CloneSource.{CloneSource};
 ghost use Rattle.dwc_clone.specs.ClonedUnits.{IsInForce, source_with};
 ghost use Rattle.dwc_clone.specs.Lineages.{AreInForce};
-ghost use Rattle.std.specs.Prelude.{◌≡◌, [], option_map};
+ghost use Rattle.std.specs.Prelude.{◌≡◌, ℕ, List, [], option_map};
 ghost use Rattle.dwc_clone.specs.KnownNames.{KnowsNames};
 ghost use Rattle.dwc_clone.specs.Lineages.{no_stacks};
 ghost use Rattle.dwc_clone.specs.TypeSteps.{AreNames};
@@ -33,7 +33,7 @@ pub(crate) struct Walk {
     pub parents: Vec<UnitEntryId>,
     /// The wrappers whose types are still to be added, the innermost last.
     pub open: Vec<OpenWrapper>,
-    /// The names of types that were read.
+    /// The names of wrappers that were made, and the types that were read for them.
     pub names: TypeNames,
 }
 
@@ -44,7 +44,7 @@ pub(crate) fn begin_walk(alloc: Global) -> Walk
     ensures parents { result.parents.items ≡ [] }
     ensures wrappers { result.open.items ≡ [] }
     ensures plain { AreNames result.names }
-    ensures names { (source : CloneSource) (s : UnitSource) → KnowsNames source s result.names }
+    ensures names { (source : CloneSource) (s : UnitSource) (texts : List (List ℕ)) → KnowsNames source s texts result.names }
 {
     Walk {
         lineage: Lineage::new(alloc),

@@ -1,5 +1,5 @@
 //! Clones pointers and references: a wrapper stands in the place of each.
-ghost use Rattle.std.specs.Prelude.{◌≡◌, ◌≢◌, ℕ, length, reverse, true, IfErr, IfOk, OnOk};
+ghost use Rattle.std.specs.Prelude.{◌≡◌, ◌≢◌, ℕ, length, reverse, true, IfErr, OnOk};
 ghost use Rattle.dwc_base.specs.Addends.{HaveAddends};
 ghost use Rattle.dwc_base.specs.Clones.{UnitSource};
 ghost use Rattle.dwc_base.specs.Lists.{list_source};
@@ -15,6 +15,7 @@ ghost use Rattle.dwc_clone.specs.CompiledModules.{HasFrames};
 ghost use Rattle.dwc_clone.specs.KnownNames.{KnowsNames};
 ghost use Rattle.dwc_clone.specs.KnownTexts.{KnowsTexts};
 ghost use Rattle.dwc_clone.specs.Lineages.{AreInForce};
+ghost use Rattle.dwc_clone.specs.MadeValues.{Grows};
 ghost use Rattle.dwc_clone.specs.OpenWrappers.{CanCloseAll, IsOther};
 ghost use Rattle.dwc_clone.specs.Sources.{IsEmitted, IsSource};
 ghost use Rattle.dwc_clone.specs.TypeSteps.{AreNames};
@@ -27,14 +28,14 @@ use crate::entry::{add_entry, depth_of, frame_in_force, of_memory};
 use crate::in_force::InForce;
 use crate::lineage::Lineage;
 use crate::type_entry::{type_id, type_of};
-use crate::type_name::{TypeNames, type_name};
+use crate::type_name::{TypeNames, name_of_wrapper};
 use crate::walk::{Walk, in_force_by};
-use crate::wrapper::{OpenWrapper, WrapperTexts, open_wrapper, wrapper_name, wrapper_texts};
+use crate::wrapper::{OpenWrapper, WrapperTexts, open_wrapper, wrapper_texts};
 use crate::{CloneError, CloneSource, KnownTexts};
 use dwc_base::constants::DW_TAG_structure_type;
 use dwc_clif::TargetIsa;
 use dwc_read::Entry;
-use dwc_write::{StringTable, Unit, UnitEntryId};
+use dwc_write::{StringId, StringTable, Unit, UnitEntryId};
 use std::alloc::Global;
 use std::vec::Vec;
 
@@ -54,6 +55,7 @@ fn check_attributes(
     requires read { IsReadEntry (entry_view entry.now) }
     requires texts { KnowsTexts source.now.unit.now.sections strings.old known.old }
     ensures texts { KnowsTexts source.now.unit.now.sections strings.new known.new }
+    ensures grows { Grows strings.old strings.new }
     ensures checked { (number : ℕ) (s : UnitSource) → IsSource source.now number s → IsInForce (dwarf_registers isa.now) source.now s (placed_entry source.now (entry_view entry.now)) in_force.now → GivesChecked (dwarf_registers isa.now) source.now s (placed_entry source.now (entry_view entry.now)) strings.old strings.new result }
 {
     let attributes = entry.attrs();
@@ -67,7 +69,8 @@ fn check_attributes(
     Ok(())
 }
 
-// Reads the name of the wrapper of an entry, behind the entry's attributes, of which nothing becomes.
+// Reads the name of the wrapper of an entry, behind the entry's attributes, of which nothing becomes, and answers its number in the table of
+// texts.
 fn read_wrapper_name(
     alloc: Global,
     isa: &dyn TargetIsa,
@@ -78,7 +81,7 @@ fn read_wrapper_name(
     names: &mut TypeNames,
     strings: &mut StringTable,
     known: &mut KnownTexts,
-) -> Result<Vec<u8>, CloneError>
+) -> Result<StringId, CloneError>
     requires functions { HaveAddends source.now.transform.now }
     requires begins { begins ≡ begins_by_low_pc (list_source source.now.unit.now.sections source.now.unit.now.header) source.now.transform.now (entry_view entry.now) }
     requires read { IsReadEntry (entry_view entry.now) }
@@ -86,15 +89,13 @@ fn read_wrapper_name(
     requires plain { AreNames names.old }
     ensures texts { KnowsTexts source.now.unit.now.sections strings.new known.new }
     ensures plain { AreNames names.new }
-    ensures text { IfOk result (λ name. IsText name.items) }
-    ensures names { (number : ℕ) (s : UnitSource) → IsSource source.now number s → IsEmitted source.now s (placed_entry source.now (entry_view entry.now)) → KnowsNames source.now s names.old → OnOk result (KnowsNames source.now s names.new) }
-    ensures named { (number : ℕ) (s : UnitSource) → IsSource source.now number s → HasFrames source.now.module source.now.transform.now → IsEmitted source.now s (placed_entry source.now (entry_view entry.now)) → KnowsNames source.now s names.old → AreInForce (list_source source.now.unit.now.sections source.now.unit.now.header) source.now.transform.now s.entries (placed_entry source.now (entry_view entry.now)) lineage.now → is_wrapped (placed_entry source.now (entry_view entry.now)) ≡ true → GivesWrapperName (λ name. name.items) (dwarf_registers isa.now) source.now s (placed_entry source.now (entry_view entry.now)) strings.old strings.new result }
+    ensures names { (number : ℕ) (s : UnitSource) → IsSource source.now number s → IsEmitted source.now s (placed_entry source.now (entry_view entry.now)) → KnowsNames source.now s strings.old names.old → OnOk result (KnowsNames source.now s strings.new names.new) }
+    ensures named { (number : ℕ) (s : UnitSource) → IsSource source.now number s → HasFrames source.now.module source.now.transform.now → IsEmitted source.now s (placed_entry source.now (entry_view entry.now)) → KnowsNames source.now s strings.old names.old → AreInForce (list_source source.now.unit.now.sections source.now.unit.now.header) source.now.transform.now s.entries (placed_entry source.now (entry_view entry.now)) lineage.now → is_wrapped (placed_entry source.now (entry_view entry.now)) ≡ true → GivesWrapperName (dwarf_registers isa.now) source.now s (placed_entry source.now (entry_view entry.now)) strings.old strings.new result }
 {
     let frame = frame_in_force(source, lineage);
     let in_force = in_force_by(lineage, frame.as_ref());
     check_attributes(alloc, isa, source, &in_force, begins, entry, strings, known)?;
-    let name = type_name(alloc, source, entry, names)?;
-    Ok(wrapper_name(alloc, entry.tag, &name)?)
+    name_of_wrapper(alloc, source, entry, names, strings)
 }
 
 // Adds the structure that an entry becomes, under a number that was reserved, and opens its wrapper.
@@ -164,8 +165,8 @@ pub(crate) fn wrap_entry(
     ensures plain { AreNames walk.new.names }
     ensures lineage { walk.new.lineage ≡ walk.old.lineage }
     ensures contexts { walk.new.contexts ≡ walk.old.contexts }
-    ensures names { (number : ℕ) (s : UnitSource) → IsSource source.now number s → IsEmitted source.now s (placed_entry source.now (entry_view entry.now)) → KnowsNames source.now s walk.old.names → OnOk result (KnowsNames source.now s walk.new.names) }
-    ensures wrapped { (number : ℕ) (s : UnitSource) → IsSource source.now number s → HasFrames source.now.module source.now.transform.now → IsEmitted source.now s (placed_entry source.now (entry_view entry.now)) → KnowsNames source.now s walk.old.names → AreInForce (list_source source.now.unit.now.sections source.now.unit.now.header) source.now.transform.now s.entries (placed_entry source.now (entry_view entry.now)) walk.old.lineage → is_wrapped (placed_entry source.now (entry_view entry.now)) ≡ true → GivesWrapped (dwarf_registers isa.now) source.now s (placed_entry source.now (entry_view entry.now)) strings.old strings.new walk.old.parents.items walk.new.parents.items id walk.old.open.items walk.new.open.items unit.old unit.new result }
+    ensures names { (number : ℕ) (s : UnitSource) → IsSource source.now number s → IsEmitted source.now s (placed_entry source.now (entry_view entry.now)) → KnowsNames source.now s strings.old walk.old.names → OnOk result (KnowsNames source.now s strings.new walk.new.names) }
+    ensures wrapped { (number : ℕ) (s : UnitSource) → IsSource source.now number s → HasFrames source.now.module source.now.transform.now → IsEmitted source.now s (placed_entry source.now (entry_view entry.now)) → KnowsNames source.now s strings.old walk.old.names → AreInForce (list_source source.now.unit.now.sections source.now.unit.now.header) source.now.transform.now s.entries (placed_entry source.now (entry_view entry.now)) walk.old.lineage → is_wrapped (placed_entry source.now (entry_view entry.now)) ≡ true → GivesWrapped (dwarf_registers isa.now) source.now s (placed_entry source.now (entry_view entry.now)) strings.old strings.new walk.old.parents.items walk.new.parents.items id walk.old.open.items walk.new.open.items unit.old unit.new result }
 {
     let name = read_wrapper_name(
         alloc,
@@ -178,7 +179,7 @@ pub(crate) fn wrap_entry(
         strings,
         known,
     )?;
-    let texts = of_memory(wrapper_texts(strings, source.module.names.resolve_memory, &name))?;
+    let texts = of_memory(wrapper_texts(strings, source.module.names.resolve_memory, name))?;
     add_wrapper(
         source,
         entry,

@@ -1,5 +1,5 @@
 //! What pointers and references become: structures that hold an address of linear memory.
-ghost use Rattle.std.specs.Prelude.{◌≡◌, ℕ, length, reverse, IfOk, OnOk};
+ghost use Rattle.std.specs.Prelude.{◌≡◌, ℕ, List, length, reverse, IfOk, OnOk};
 ghost use Rattle.dwc_write.specs.GivenUnits.{IsAdded, IsReserved, with_reserved};
 ghost use Rattle.dwc_write.specs.TextTables.{IsText};
 ghost use Rattle.dwc_clone.specs.KnownTexts.{IsNumbered};
@@ -64,19 +64,18 @@ pub(crate) struct WrapperTexts {
     arrow: StringId,
 }
 
-/// Adds the texts of a wrapper of a name; `resolve` is the function that makes a native pointer of an address.
+/// Adds the texts of a wrapper behind its name, which is there; `resolve` is the function that makes a native pointer of an address.
 pub(crate) fn wrapper_texts(
     strings: &mut StringTable,
     resolve: &str,
-    name: &[u8],
+    name: StringId,
 ) -> Result<WrapperTexts, WriteError>
     requires resolve { IsText resolve.now }
-    requires name { IsText name.now }
     ensures grows { Grows strings.old strings.new }
-    ensures texts { IfOk result (HasWrapperTexts strings.new resolve.now name.now) }
+    ensures texts { (wrapper : List ℕ) → IsNumbered strings.old wrapper name → IfOk result (HasWrapperTexts strings.new resolve.now wrapper) }
 {
     Ok(WrapperTexts {
-        name: add_text(strings, name)?,
+        name,
         target: add_text(strings, b"T")?,
         address: add_text(strings, b"__ptr")?,
         resolve: add_text(strings, resolve.as_bytes())?,

@@ -4,7 +4,6 @@ use Rattle.dwc_base.specs.Lists.{list_source}
 use Rattle.dwc_read.specs.EntriesSeen.{entry_view}
 use Rattle.dwc_write.specs.GivenUnits.{IsReserved}
 use Rattle.dwc_clone.specs.BuiltUnits.{TakesRoles, numbers_taken}
-use Rattle.dwc_clone.specs.KnownNames.{KnowsNames}
 use Rattle.dwc_clone.specs.ClonedUnits.{goal_number}
 use Rattle.dwc_clone.specs.ClonedEntries.{CanAdd, placed_entry}
 use Rattle.dwc_clone.specs.Lineages.{AreInForce}
@@ -152,6 +151,6 @@ returns-clause-cloned g c number s roles es others old begun source frames emitt
     gives-itself_cloned registers src number s roles es x others old t0 begun u0 parents ws0 c.args.walk.now.lineage c.args.walk.now.contexts c.args.walk.now.names so source id u1 v ws1 (reverse c.clone_itself.new.walk.open.items) new path c.clone_itself.new.walk.lineage c.clone_itself.new.walk.contexts c.clone_itself.new.walk.names can count
     (ap (λ ws. reverse ws.items) c.clone_itself.ensures.wrappers)
     (λ it. follows-next registers src number s roles x others old t0 begun u0 ws0 es parents source can.placed.id path standing it.path_is)
-    (c.clone_itself.ensures.lineage ∙ c.in_ok-enter.ensures.entered) (c.clone_itself.ensures.contexts ∙ c.in_ok-telling.ensures.contexts) (subst (KnowsNames src s) (sym c.clone_itself.ensures.names) so.known)
+    (c.clone_itself.ensures.lineage ∙ c.in_ok-enter.ensures.entered) (c.clone_itself.ensures.contexts ∙ c.in_ok-telling.ensures.contexts) c.clone_itself.ensures.names
     c.clone_itself.result
     (c.clone_itself.ensures.itself number s (goal_number src number roles) can.bare_unit can.base can.placed can.added source frames (λ offset. refl) force telling plain can.adds can.last)

@@ -51,7 +51,7 @@ loop-next-init g c =
       fault = ap (λ (l : Listing Fault Entry). l.fault) c.in_ok-entries.ensures.start;
       cloned = λ number s roles source frames can emitted walked numbers.
           subst (λ (l : Listing Fault Entry). AreAmong registers src number s roles all (picked kept l.items) 0 c.args.strings.now c.args.strings.now begun u walk.parents.items (reverse walk.open.items) walk.lineage walk.contexts walk.names) (sym c.in_ok-entries.ensures.start)
-          (among-start registers src number s roles all c.args.strings.now begun u count walk.parents.items (reverse walk.open.items) walk.lineage walk.contexts walk.names c.requires.begun is w.parents no_wrappers w.lineage w.contexts (w.names src s) can
+          (among-start registers src number s roles all c.args.strings.now begun u count walk.parents.items (reverse walk.open.items) walk.lineage walk.contexts walk.names c.requires.begun is w.parents no_wrappers w.lineage w.contexts (w.names src s c.args.strings.now) can
           (subst (λ v. AreRoles registers src s roles (length v.places) (placed_in src.unit.now.header.offset all)) (sym is) numbers));
     }
 

@@ -1,4 +1,4 @@
-use Rattle.std.proofs.Common.{ap, sym, ◌∙◌, Some, Ok, option_map}
+use Rattle.std.proofs.Common.{ap, subst, sym, ◌∙◌, Some, Ok, option_map}
 use Rattle.std.proofs.lemmas.Result.{err_from_is_err_and}
 use Rattle.dwc_base.specs.Cursors.{slice_bytes}
 use Rattle.dwc_base.specs.Indexed.{texts_of_unit}
@@ -8,8 +8,9 @@ use Rattle.dwc_base.specs.Trees as Trees
 use Rattle.dwc_base.specs.Clones.{text_drafted}
 use Rattle.dwc_read.specs.Faults.{fault_seen}
 use Rattle.dwc_read.specs.ValuesSeen.{value_view}
+use Rattle.dwc_clone.specs.MadeValues.{Grows}
 use Rattle.dwc_clone.proofs.ErrorLaws.{told-reading}
-use Rattle.dwc_clone.proofs.TextLaws.{reported-text-read, text-says}
+use Rattle.dwc_clone.proofs.TextLaws.{added, reported-text-read, text-says}
 use Rattle.dwc_clone.proofs.KnownLaws.{added-known, known-says, unplaced-refused}
 use Rattle.dwc_clone.proofs.value.text.Goals as goal
 
@@ -35,6 +36,12 @@ returns-in_err-note-clause-known c =
     let read = c.in_ok-text.ensures.text ∙ ap (λ o. Ok (option_map slice_bytes o)) c.in-Some.is in
     let known = added-known u.sections u.header (value_view c.args.value) c.args.offset c.args.strings.now c.add.new.self c.args.known.now c.in-Some.text.now c.in-Ok.id c.in_ok-place.place c.requires.known c.in-Ok.ensures.ok c.in-Ok.ensures.id c.in_ok-place.ensures.place read in
     c.note.ensures u.sections c.add.new.self known.0 known.1
+
+pub returns-in_err-note-clause-grows : goal.returns-in_err-note-clause-grows
+returns-in_err-note-clause-grows c = subst (Grows c.args.strings.now) (sym c.in-Ok.ensures.ok) (added c.in-Some.text.now c.args.strings.now).grows
+
+pub returns-clause-grows : goal.returns-clause-grows
+returns-clause-grows c = subst (Grows c.args.strings.now) (sym c.in-Ok.ensures.ok) (added c.in-Some.text.now c.args.strings.now).grows
 
 pub returns-clause-made : goal.returns-clause-made
 returns-clause-made c = λ places number. record {

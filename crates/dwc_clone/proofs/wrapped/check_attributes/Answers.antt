@@ -5,7 +5,7 @@ use Rattle.dwc_read.specs.ValuesSeen.{attribute_view}
 use Rattle.dwc_read.specs.EntriesSeen.{entry_view}
 use Rattle.dwc_read.proofs.ReadValueLaws.{attrs-read}
 use Rattle.dwc_clone.specs.ClonedEntries.{placed_entry}
-use Rattle.dwc_clone.proofs.EntryValues.{attributes-drop, seen-next}
+use Rattle.dwc_clone.proofs.EntryValues.{attributes-drop, grows-not, grows-on, seen-next}
 use Rattle.dwc_clone.proofs.CheckedAttributes.{AreReadSoFar, read-end, read-more, read-refused, read-start}
 use Rattle.dwc_clone.proofs.wrapped.check_attributes.Goals as goal
 
@@ -13,6 +13,7 @@ pub loop-attribute-init : goal.loop-attribute-init
 loop-attribute-init g c = let registers = (goal.TargetIsa-dyn g c.args.isa.now).dwarf_registers c.args.isa.now.1 in record {
   seen = c.nothing_seen-seen.ensures;
   texts = c.requires.texts;
+  grows = grows-not c.args.strings.now;
   read = λ number s source force.
       let p = placed_entry c.args.source.now (entry_view c.args.entry.now) in
       subst (λ xs. AreReadSoFar registers c.args.source.now s p c.args.strings.now c.args.strings.now c.nothing_seen-seen.result xs) (sym c.attrs-attributes.ensures) (read-start registers c.args.source.now s p c.args.strings.now c.nothing_seen-seen.result c.nothing_seen-seen.ensures);
@@ -35,6 +36,7 @@ loop-attribute-preserved g c =
     record {
       seen = seen-next c.attrs-attributes.result.now c.loop-attribute.attribute-index _ c.seen_behind-seen.result c.loop-attribute-test.true (c.seen_behind-seen.ensures (take c.loop-attribute.attribute-index (map attribute_view c.attrs-attributes.result.now)) _ c.loop-attribute.invariant.seen);
       texts = c.in_ok-output_attribute.ensures.known;
+      grows = grows-on c.args.strings.now c.loop-attribute.strings c.output_attribute.new.strings c.loop-attribute.invariant.grows c.in_ok-output_attribute.ensures.grows;
       read = λ number s source force.
           let p = placed_entry c.args.source.now (entry_view c.args.entry.now) in
           let so = subst (λ xs. AreReadSoFar registers c.args.source.now s p c.args.strings.now c.loop-attribute.strings c.loop-attribute.seen xs) (attributes-drop c.attrs-attributes.result.now c.loop-attribute.attribute-index _ c.loop-attribute-test.true) (c.loop-attribute.invariant.read number s source force) in

@@ -5,6 +5,7 @@ use Rattle.dwc_read.specs.EntriesSeen.{entry_view}
 use Rattle.dwc_clone.specs.AttributesSeen.{seen_among}
 use Rattle.dwc_clone.specs.Sources.{IsSource}
 use Rattle.dwc_clone.specs.KnownTexts.{KnowsTexts}
+use Rattle.dwc_clone.specs.MadeValues.{Grows}
 use Rattle.dwc_clone.specs.ClonedUnits.{IsInForce}
 use Rattle.dwc_clone.specs.ClonedEntries.{placed_entry}
 use Rattle.dwc_clone.proofs.CheckedAttributes.{AreReadSoFar}
@@ -17,6 +18,7 @@ invariant-loop-attribute g l =
     record {
       seen : l.seen ≡ seen_among (take l.attribute-index (map attribute_view l.attributes));
       texts : KnowsTexts l.source.unit.now.sections l.strings l.known;
+      grows : Grows l.fn.strings l.strings;
       read : (number : ℕ) (s : UnitSource) → IsSource l.source number s → IsInForce registers l.source s (placed_entry l.source (entry_view l.entry)) l.in_force
           → AreReadSoFar registers l.source s (placed_entry l.source (entry_view l.entry)) l.fn.strings l.strings l.seen (drop l.attribute-index (map attribute_view l.attributes));
     }
