@@ -1,5 +1,5 @@
 -- What is written of the units that are made for an input carries the lines of the input, and says its trees.
-use Rattle.std.proofs.Common.{◌≡◌, ℕ, suc, ◌+◌, ◌<◌, ◌≤◌, List, [], ◌∷◌, ◌++◌, map, length, refl, ap, sym, ◌∙◌, subst, arith, Option, None, All}
+use Rattle.std.proofs.Common.{◌≡◌, ℕ, suc, ◌+◌, ◌<◌, ◌≤◌, List, [], ◌∷◌, ◌++◌, map, length, refl, ap, sym, ◌∙◌, subst, arith, Option, Some, None, Ok, Err, All}
 use Rattle.std.specs.List.{AllZip, flat_map}
 use Rattle.std.specs.Prelude.{sum_by}
 use Rattle.std.proofs.lemmas.List.{append-nil}
@@ -12,7 +12,8 @@ use Rattle.dwc_base.specs.Carried.{Unit, units, CarriedUnit, WantedUnit, own_uni
 use Rattle.dwc_base.specs.LinesCarried.{HasLines, LinesCarried}
 use Rattle.dwc_base.specs.Widest.{widest_lines_of}
 use Rattle.dwc_base.specs.DraftForests as Drafts
-use Rattle.dwc_base.specs.Forests.{carried_units, carried_units_of, wanted_units, wanted_units_of, trees_made, is_big, module_drafts}
+use Rattle.dwc_base.specs.Forests.{carried_units, carried_units_of, first_refusal, forest, wanted_units, wanted_units_of, trees_made, is_big, module_drafts}
+use Rattle.dwc_base.specs.Refusals.{Refusal}
 use Rattle.dwc_base.specs.Trees.{Tree}
 use Rattle.dwc_write.specs.GivenLines.{GivenLines}
 use Rattle.dwc_write.specs.GivenTrees.{given_trees}
@@ -147,3 +148,7 @@ made-trees size texts cs ts us made =
 pub trees-of-modules : (c : Compilation) → trees_made c ≡ Drafts.trees_from 0 (map (module_drafts (is_big c.order)) c.modules)
 unfolding Drafts.forest
 trees-of-modules c = append-nil (Drafts.trees_from 0 (map (module_drafts (is_big c.order)) c.modules))
+
+-- the forest of an input of which nothing is refused
+pub forest-is : (c : Compilation) → first_refusal c ≡ None → forest c ≡ Ok (trees_made c)
+forest-is c none = ap (λ (o : Option Refusal). elim o [ Some refusal ↦ Err refusal | None ↦ Ok (trees_made c) ]) none

@@ -1,5 +1,7 @@
 -- What is emitted of a compilation, from what is transformed and what is written.
-use Rattle.std.proofs.Common.{◌≡◌, ◌↔◌, ℕ, List, map, arith, None, Result, Ok, Err, Vec, All, ◌≤◌, refl, ap, sym, ◌∙◌, subst, Bool, true, false}
+use Rattle.std.proofs.Common.{◌≡◌, ◌↔◌, ℕ, List, map, length, arith, Option, Some, None, Result, Ok, Err, Vec, All, ◌<◌, ◌≤◌, ◌^◌, inl, inr, refl, ap, sym, ◌∙◌, subst, Bool, true, false}
+use Rattle.std.specs.Prelude.{◌⊎◌, option_map}
+use Rattle.std.specs.Option.{option_or}
 use Rattle.std.specs.Global.{Global}
 use Rattle.dwc_base.specs.declared.records.Endian.{Endian}
 use Rattle.dwc_base.specs.declared.faults.Limit.TheVariants.{Section, Addend, Range, Jump, Expression, Vmctx}
@@ -10,30 +12,38 @@ use Rattle.dwc_base.specs.Functions.{Function}
 use Rattle.dwc_base.specs.Outputs.{output_sections, section_view}
 use Rattle.dwc_base.specs.ScopesCarried.{TranslationsKeepScopes}
 use Rattle.dwc_base.specs.TreeReading.{CarriesTrees}
-use Rattle.dwc_base.specs.Forests.{wanted_units, trees_made}
+use Rattle.dwc_base.specs.Forests.{first_refusal, frame_descriptions, wanted_units, trees_made}
 use Rattle.dwc_base.specs.TreeLaws.{HasTextsOnce, have_short_expressions}
 use Rattle.dwc_base.specs.OutputCarried.{widest}
 use Rattle.dwc_base.specs.OutputForm.{HaveTargetForm, HasDistinctNames}
-use Rattle.dwc_base.specs.Fields.{AreRelocated}
+use Rattle.dwc_base.specs.Fields.{IsRelocated}
+use Rattle.dwc_base.specs.CallFrames.{CommonEntry}
+use Rattle.dwc_base.specs.FramesCarried.{FramesCarried, others_in}
+use Rattle.dwc_base.specs.Refusals.{of_frame}
+use Rattle.dwc_base.specs.Trees.{Tree}
 use Rattle.dwc_base.specs.WidestTrees.{widest_of_trees}
 use Rattle.dwc_write.specs.GivenTrees.{given_trees}
-use Rattle.dwc_base.specs.Carried.{units}
+use Rattle.dwc_base.specs.Carried.{units, Compilation}
 use Rattle.dwc_clif.specs.Registers.{Registers}
 use Rattle.dwc_addr.specs.Compilations.{CompilationValue}
 use Rattle.dwc_write.specs.declared.error.WriteError.{WriteError}
 use Rattle.dwc_write.specs.declared.error.WriteError.TheVariants as write
-use Rattle.dwc_write.specs.GivenUnits.{GivenUnit, AreWritable, ordered}
+use Rattle.dwc_write.specs.GivenUnits.{GivenUnit, AreWritable, ordered, size_of}
+use Rattle.dwc_write.specs.Frames as frames
+use Rattle.dwc_write.specs.declared.frames.FrameTable.{FrameTable}
 use Rattle.dwc_write.specs.ReadBack.{ReadsBack}
 use Rattle.dwc_write.specs.UsedTexts.{HaveTexts}
 use Rattle.dwc_write.specs.WidestGiven.{widest_said, IsWideRefusal}
-use Rattle.dwc_write.specs.Writers.{IsSound}
+use Rattle.dwc_write.specs.Writers.{IsSound, IsPast}
 use Rattle.dwc_carry.specs.declared.error.DebugError.{DebugError}
-use Rattle.dwc_carry.specs.Refusals.{Told, refused, limit, memory, told, IsCause, Refuses, of_writing}
-use Rattle.dwc_carry.specs.Inputs.{input_of, refusal_of}
+use Rattle.dwc_carry.specs.Refusals.{in_reading, Told, refused, limit, memory, told, IsCause, Refuses, of_writing}
+use Rattle.dwc_carry.specs.Inputs.{input_of, maps_refusal, refusal_of}
 use Rattle.dwc_carry.specs.Transformed.{IsTransformed}
 use Rattle.dwc_carry.specs.Emits.{PassesLimit, Emits}
 use Rattle.dwc_write.specs.Renumbered.{place_at}
-use Rattle.dwc_carry.proofs.CompositionLaws.{lines-carried, made-sizes, made-trees, widest-given, made-writable}
+use Rattle.dwc_carry.proofs.FramesRefused.{IsTable, frames-refused, refused-first, section-sized, table-refused, table-section, table-widest, unit-there}
+use Rattle.dwc_carry.proofs.CompositionLaws.{forest-is, lines-carried, made-sizes, made-trees, widest-given, made-writable}
+use Rattle.dwc_carry.proofs.RefusalLaws.{refuses-more, unmapped}
 use Rattle.dwc_carry.proofs.ScopesMade.{MapsNumber, contexts-carried, locations-carried, scopes-carried}
 
 -- Where something is written no expression of a location list is too long.
@@ -44,87 +54,140 @@ short-written false s h = absurd (clash (h.1 refl))
     clash : ◌≡◌ {A = Result (Vec DwarfSection Global) WriteError} (Ok s) (Err (write.TooLarge Expression)) → ⊥
     clash e = cc
 
-module _ (order : Endian) (size : ℕ) (registers : Registers) (c : CompilationValue) where
+-- neither of two refusals is there
+second-none : {A : Type 0} (a b : Option A) → option_or a b ≡ None → b ≡ None
+second-none None b h = h
+second-none (Some x) b h = absurd (cc)
+
+module _ (order : Endian) (size : ℕ) (registers : Registers) (c : CompilationValue) (texts : List (List ℕ)) (us : List GivenUnit) (t : IsTransformed size (input_of order size registers None c) texts us) where
+  -- the units can be written
+  pub transformed-writable : AreWritable (map ordered us)
+  transformed-writable =
+      let input = input_of order size registers None c in
+      made-writable (place_at us) size texts 0 (wanted_units input) (trees_made input) us t.made
+
+  -- and all that they name is in the table of texts
+  pub transformed-texts : HaveTexts texts (map ordered us)
+  transformed-texts = t.texts
+
+module _ (order : Endian) (size : ℕ) (registers : Registers) (entry : Option CommonEntry) (c : CompilationValue) where
+  abbrev input : Compilation
+  input = input_of order size registers entry c
+
   -- the input is refused
-  pub emits-refused : (e : DebugError) → Refuses (refusal_of order size registers c) e → Emits order size registers c (Err e)
-  emits-refused e = go (told e)
+  input-refused : (e : DebugError) → Refuses (refusal_of order size registers entry c) e → Emits order size registers entry c (Err e)
+  input-refused e = go (told e)
     where
-      go : (t : Told) → IsCause (λ what. ⊥) (refusal_of order size registers c) t → IsCause (PassesLimit (input_of order size registers c)) (refusal_of order size registers c) t
+      go : (t : Told) → IsCause (λ what. ⊥) (refusal_of order size registers entry c) t → IsCause (PassesLimit input) (refusal_of order size registers entry c) t
       go (refused r) h = h
       go (limit what) h = absurd h.1
       go memory h = tt
 
-  module _ (texts : List (List ℕ)) (us : List GivenUnit) (accepted : refusal_of order size registers c ≡ None) (t : IsTransformed size (input_of order size registers c) texts us) where
-    -- the units can be written
-    pub transformed-writable : AreWritable (map ordered us)
-    transformed-writable = made-writable (place_at us) size texts 0 (wanted_units (input_of order size registers c)) (trees_made (input_of order size registers c)) us t.made
+  -- before its frames
+  pub emits-refused : (e : DebugError) → Refuses (refusal_of order size registers None c) e → Emits order size registers entry c (Err e)
+  emits-refused e h = input-refused e (refuses-more (refusal_of order size registers None c) (refusal_of order size registers entry c) e (refused-first order size registers entry c) h)
 
-    -- and all that they name is in the table of texts
-    pub transformed-texts : HaveTexts texts (map ordered us)
-    transformed-texts = t.texts
-
+  module _ (texts : List (List ℕ)) (us : List GivenUnit) (accepted : refusal_of order size registers None c ≡ None) (t : IsTransformed size (input_of order size registers None c) texts us) where
     -- the trees of the units are those of the carried units
-    same-trees : given_trees texts (map ordered us) ≡ trees_made (input_of order size registers c)
-    same-trees =
-        let input = input_of order size registers c in
-        made-trees size texts (wanted_units input) (trees_made input) us t.made
+    same-trees : given_trees texts (map ordered us) ≡ trees_made input
+    same-trees = made-trees size texts (wanted_units input) (trees_made input) us t.made
 
-    -- what is written is emitted
-    pub emits-sections : (s : Vec DwarfSection Global) → ReadsBack order (map ordered us) (map section_view s.items) → CarriesTrees order (given_trees texts (map ordered us)) (map section_view s.items) → HasTextsOnce (output_sections order (map section_view s.items))
-        → ((n : ℕ) → All (λ u. u.address_size ≡ n) us → HaveTargetForm n (units (output_sections order (map section_view s.items))).items)
-        → ◌≡◌ {A = Result (Vec DwarfSection Global) WriteError} (Ok s) (Err (write.TooLarge Expression)) ↔ (have_short_expressions (given_trees texts (map ordered us)) ≡ false)
-        → HasDistinctNames (map section_view s.items) → AreRelocated order (map section_view s.items) → All (IsSound order) (map section_view s.items)
-        → ((fs : List Function) → TranslationsKeepScopes fs) → MapsNumber → Emits order size registers c (Ok s)
-    emits-sections s back says once form long names relocated sound keep number_maps = (
-      accepted,
-      record {
-        output = record {
-          lines = lines-carried (place_at us) size texts (input_of order size registers c) (trees_made (input_of order size registers c)) us (map section_view s.items) back t.made t.whole;
-          wanted = given_trees texts (map ordered us);
-          is_forest = t.trees;
-          trees = says;
-          targets = t.targets;
-          scopes = scopes-carried number_maps order size registers c texts us accepted t.made keep;
-          locations = locations-carried number_maps order size registers c texts us accepted t.made keep;
-          contexts = contexts-carried number_maps order size registers c texts us accepted t.made keep;
-          texts = once;
-          form = form size (made-sizes (place_at us) size texts 0 (wanted_units (input_of order size registers c)) (trees_made (input_of order size registers c)) us t.made);
-          names = names;
-          relocated = relocated;
-        };
-        sound = sound;
-        short = ap have_short_expressions (sym same-trees) ∙ short-written (have_short_expressions (given_trees texts (map ordered us))) s long;
-      },
-    )
+    module _ (table : Option FrameTable) (framed : IsTable entry (frame_descriptions input) table) where
+      -- a table that describes a function stands with a unit
+      described-there : 0 < length (frame_descriptions input) → 0 < length us
+      described-there = unit-there (place_at us) size texts input (trees_made input) us t.made
 
-    -- what is counted over the trees of the units is counted over those of the carried units
-    said-widest : (name : SectionName) → widest_said name texts (map ordered us) ≤ widest name (input_of order size registers c)
-    said-widest = go
-      where
-        same : (name : SectionName) → widest_of_trees name (given_trees texts (map ordered us)) ≤ widest_of_trees name (trees_made (input_of order size registers c))
-        same name = subst (λ ts. widest_of_trees name (given_trees texts (map ordered us)) ≤ widest_of_trees name ts) same-trees (omega arith)
+      pub transformed-unit : 0 < length (frames.descriptions_given table) → 0 < length us
+      transformed-unit some = described-there (fewer table framed some)
+        where
+          fewer : (table : Option FrameTable) → IsTable entry (frame_descriptions input) table → 0 < length (frames.descriptions_given table) → 0 < length (frame_descriptions input)
+          fewer None framed some = absurd (omega (arith, some))
+          fewer (Some x) framed some = subst (λ ds. 0 < length ds) framed.described some
 
-        go : (name : SectionName) → widest_said name texts (map ordered us) ≤ widest name (input_of order size registers c)
-        go Line = widest-given (place_at us) size texts 0 (input_of order size registers c) (trees_made (input_of order size registers c)) us t.made
-        go Abbrev = same Abbrev
-        go Addr = same Addr
-        go Info = same Info
-        go LineStr = same LineStr
-        go Loc = same Loc
-        go Loclists = same Loclists
-        go Ranges = same Ranges
-        go Rnglists = same Rnglists
-        go Str = same Str
-        go StrOffsets = same StrOffsets
-        go CuIndex = same CuIndex
-        go Frame = same Frame
+      -- what the writer refuses of the table is refused of the input
+      first-refused : refusal_of order size registers entry c ≡ option_map in_reading (option_map of_frame (frames.first_refusal (frames.refused_frames table)))
+      first-refused =
+          frames-refused order size registers entry c accepted
+          ∙ ap (λ rs. option_map in_reading (option_map of_frame (frames.first_refusal rs))) (sym (table-refused (frame_descriptions input) entry table framed))
 
-    -- writing is refused
-    pub emits-large : (e : WriteError) → IsWideRefusal texts (map ordered us) e → Emits order size registers c (Err (of_writing e))
-    emits-large (write.TooLarge (Section name)) large = (accepted, omega (arith, large, said-widest name))
-    emits-large (write.TooLarge Expression) large = (accepted, ap have_short_expressions (sym same-trees) ∙ large.1)
-    emits-large (write.TooLarge Addend) large = absurd (cc)
-    emits-large (write.TooLarge Range) large = absurd (cc)
-    emits-large (write.TooLarge Jump) large = absurd (cc)
-    emits-large (write.TooLarge Vmctx) large = absurd (cc)
-    emits-large write.OutOfMemory large = tt
+      pub emits-accepted : frames.first_refusal (frames.refused_frames table) ≡ None → refusal_of order size registers entry c ≡ None
+      emits-accepted none = first-refused ∙ ap (λ r. option_map in_reading (option_map of_frame r)) none
+
+      -- what is written is emitted
+      pub emits-sections : (s : Vec DwarfSection Global) → ReadsBack order (map ordered us) (map section_view s.items) → CarriesTrees order (given_trees texts (map ordered us)) (map section_view s.items) → HasTextsOnce (output_sections order (map section_view s.items))
+          → ((n : ℕ) → All (λ u. u.address_size ≡ n) us → HaveTargetForm n (units (output_sections order (map section_view s.items))).items)
+          → frames.told_refusal {A = Vec DwarfSection Global} (Ok s) ≡ frames.first_refusal (frames.refused_frames table)
+          → (frames.first_refusal (frames.refused_frames table) ≡ None → ◌≡◌ {A = Result (Vec DwarfSection Global) WriteError} (Ok s) (Err (write.TooLarge Expression)) ↔ (have_short_expressions (given_trees texts (map ordered us)) ≡ false))
+          → HasDistinctNames (map section_view s.items) → All (IsRelocated (output_sections order (map section_view s.items))) (others_in (map section_view s.items))
+          → FramesCarried order (size_of (map ordered us)) (frames.common_given table) (frames.descriptions_given table) (map section_view s.items) → All (IsSound order) (map section_view s.items)
+          → ((fs : List Function) → TranslationsKeepScopes fs) → MapsNumber → Emits order size registers entry c (Ok s)
+      emits-sections s back says once form good long names relocated framed_so sound keep number_maps =
+          let sizes = made-sizes (place_at us) size texts 0 (wanted_units input) (trees_made input) us t.made in
+          let none = emits-accepted (sym good) in (
+            none,
+            record {
+              output = record {
+                lines = lines-carried (place_at us) size texts input (trees_made input) us (map section_view s.items) back t.made t.whole;
+                wanted = given_trees texts (map ordered us);
+                is_forest = forest-is input (unmapped in_reading (first_refusal input) (second-none (maps_refusal c) (option_map in_reading (first_refusal input)) none)) ∙ ap (λ (ts : List Tree). Ok ts) (sym same-trees);
+                trees = says;
+                targets = t.targets;
+                scopes = scopes-carried number_maps order size registers entry c texts us none t.made keep;
+                locations = locations-carried number_maps order size registers entry c texts us none t.made keep;
+                contexts = contexts-carried number_maps order size registers entry c texts us none t.made keep;
+                texts = once;
+                form = form size sizes;
+                names = names;
+                relocated = relocated;
+                frames = framed_so ∙ table-section (frame_descriptions input) order (size_of (map ordered us)) entry table framed ∙ section-sized order size entry (frame_descriptions input) us sizes described-there;
+              };
+              sound = sound;
+              short = ap have_short_expressions (sym same-trees) ∙ short-written (have_short_expressions (given_trees texts (map ordered us))) s (long (sym good));
+            },
+          )
+
+      -- what is counted over the trees of the units is counted over those of the carried units
+      said-widest : (name : SectionName) → widest_said name texts (map ordered us) ≤ widest name input
+      said-widest = go
+        where
+          same : (name : SectionName) → widest_of_trees name (given_trees texts (map ordered us)) ≤ widest_of_trees name (trees_made input)
+          same name = subst (λ ts. widest_of_trees name (given_trees texts (map ordered us)) ≤ widest_of_trees name ts) same-trees (omega arith)
+
+          go : (name : SectionName) → widest_said name texts (map ordered us) ≤ widest name input
+          go Line = widest-given (place_at us) size texts 0 input (trees_made input) us t.made
+          go Abbrev = same Abbrev
+          go Addr = same Addr
+          go Info = same Info
+          go LineStr = same LineStr
+          go Loc = same Loc
+          go Loclists = same Loclists
+          go Ranges = same Ranges
+          go Rnglists = same Rnglists
+          go Str = same Str
+          go StrOffsets = same StrOffsets
+          go CuIndex = same CuIndex
+          go Frame = omega arith
+
+      -- a section of frames that is too large
+      frames-large : (name : SectionName) → IsPast Frame (frames.widest_given_frames table) name → 2 ^ 31 ≤ widest name input
+      frames-large name past =
+          subst (λ n. 2 ^ 31 ≤ widest n input) (sym past.0) (omega (arith, past.1, table-widest (frame_descriptions input) entry table framed))
+
+      -- writing is refused
+      pub emits-large : (e : WriteError) → frames.told_refusal {A = Vec DwarfSection Global} (Err e) ≡ frames.first_refusal (frames.refused_frames table)
+          → IsWideRefusal texts (map ordered us) e ⊎ frames.IsFrameRefusal (frames.widest_given_frames table) e → Emits order size registers entry c (Err (of_writing e))
+      emits-large (write.InvalidFrameCodeOffset symbol) so large = first-refused ∙ ap (λ r. option_map in_reading (option_map of_frame r)) (sym so)
+      emits-large (write.InvalidFrameDataOffset symbol) so large = first-refused ∙ ap (λ r. option_map in_reading (option_map of_frame r)) (sym so)
+      emits-large (write.TooLarge (Section name)) so (inl large) = (emits-accepted (sym so), omega (arith, large, said-widest name))
+      emits-large (write.TooLarge (Section name)) so (inr past) = (emits-accepted (sym so), frames-large name past)
+      emits-large (write.TooLarge Expression) so (inl large) = (emits-accepted (sym so), ap have_short_expressions (sym same-trees) ∙ large.1)
+      emits-large (write.TooLarge Expression) so (inr past) = absurd past
+      emits-large (write.TooLarge Addend) so (inl large) = absurd (cc)
+      emits-large (write.TooLarge Addend) so (inr past) = absurd past
+      emits-large (write.TooLarge Range) so (inl large) = absurd (cc)
+      emits-large (write.TooLarge Range) so (inr past) = absurd past
+      emits-large (write.TooLarge Jump) so (inl large) = absurd (cc)
+      emits-large (write.TooLarge Jump) so (inr past) = absurd past
+      emits-large (write.TooLarge Vmctx) so (inl large) = absurd (cc)
+      emits-large (write.TooLarge Vmctx) so (inr past) = absurd past
+      emits-large write.OutOfMemory so large = tt

@@ -4,9 +4,20 @@ pub mod MadeTexts
 pub mod OwnMade
 pub mod OwnBuilt
 pub mod OwnModules
+pub mod SimulatedAdded
+pub mod SimulatedLaws
+pub mod SimulatedRoots
+pub mod SimulatedSteps
+pub mod SimulatedTexts
+pub mod SimulatedStays
+pub mod SimulatedMade
 pub mod CompiledLaws
 pub mod CompositionLaws
 pub mod EmitLaws
+pub mod CompiledFrameLaws
+pub mod FramesAdded
+pub mod FrameLaws
+pub mod FramesRefused
 pub mod LastLaws
 pub mod MadeLaws
 pub mod LengthLaws
@@ -26,3 +37,6 @@ pub mod CarriedMade
 pub mod UnitSources
 pub mod UnitsInOrder
 pub mod WalkLaws
+pub mod NameSearch
+pub mod PlainNames
+pub mod GroupLaws

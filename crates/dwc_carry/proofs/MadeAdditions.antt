@@ -28,7 +28,7 @@ value-known id name v u known = subst (λ ps. Rattle.std.specs.Prelude.is_some (
 -- ---- entries
 
 -- the attributes of the last entry
-last-given : (u : GivenUnit) (id parent tag : ℕ) (before : List Rattle.dwc_write.specs.declared.attributes.Attribute.Attribute) (as' : List (ℕ × MadeValue)) → id ≡ length u.places
+pub last-given : (u : GivenUnit) (id parent tag : ℕ) (before : List Rattle.dwc_write.specs.declared.attributes.Attribute.Attribute) (as' : List (ℕ × MadeValue)) → id ≡ length u.places
     → with_attributes id as' (with_entry (record { parent = parent; tag = tag; attributes = before }) u) ≡ with_entry (record { parent = parent; tag = tag; attributes = fold (λ so_far a. set_attribute a.0 (given_value a.1) so_far) before as' }) u
 last-given u id parent tag before [] is = refl
 last-given u id parent tag before (a ∷ as') is =

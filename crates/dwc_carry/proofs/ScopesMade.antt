@@ -6,6 +6,7 @@ use Rattle.std.specs.Option.{option_or}
 use Rattle.std.proofs.lemmas.List.Elements.{All-nil, All-cons}
 use Rattle.dwc_base.specs.declared.records.Endian.{Endian}
 use Rattle.dwc_base.specs.declared.wasm.ModuleTranslation.{ModuleTranslation}
+use Rattle.dwc_base.specs.CallFrames.{CommonEntry}
 use Rattle.dwc_base.specs.Functions.{AddressMap, Function, functions_of}
 use Rattle.dwc_base.specs.Carried.{Module}
 use Rattle.dwc_base.specs.Compiled.{ToldModule}
@@ -53,21 +54,21 @@ module _ (number_maps : MapsNumber) where
       (modules-numbered (suc place) (number + length fs) ts fss told both.1)
 
   -- The units say the trees of an input of which nothing is refused, and so carry its scopes.
-  pub scopes-carried : (order : Endian) (size : ℕ) (registers : Registers) (c : CompilationValue) (texts : List (List ℕ)) (us : List GivenUnit) → refusal_of order size registers c ≡ None
-      → AreMadeOf (place_at us) size texts 0 (wanted_units (input_of order size registers c)) (trees_made (input_of order size registers c)) us → ((fs : List Function) → TranslationsKeepScopes fs)
-      → ScopesCarried (drafts_of (is_big order)) (wanted_units (input_of order size registers c)) (given_trees texts (map ordered us))
-  scopes-carried order size registers c texts us accepted made keep =
-      let input = input_of order size registers c in
+  pub scopes-carried : (order : Endian) (size : ℕ) (registers : Registers) (entry : Option CommonEntry) (c : CompilationValue) (texts : List (List ℕ)) (us : List GivenUnit) → refusal_of order size registers entry c ≡ None
+      → AreMadeOf (place_at us) size texts 0 (wanted_units (input_of order size registers entry c)) (trees_made (input_of order size registers entry c)) us → ((fs : List Function) → TranslationsKeepScopes fs)
+      → ScopesCarried (drafts_of (is_big order)) (wanted_units (input_of order size registers entry c)) (given_trees texts (map ordered us))
+  scopes-carried order size registers entry c texts us accepted made keep =
+      let input = input_of order size registers entry c in
       let good : bad_map c ≡ None = unmapped _ (bad_map c) (neither (maps_refusal c) (option_map in_reading (first_refusal input)) accepted).0 in
       subst (ScopesCarried (drafts_of (is_big order)) (wanted_units input)) (sym (made-trees size texts (wanted_units input) (trees_made input) us made))
       (made-scopes input (modules-numbered 0 0 c.translations c.functions (told_from registers (names_of c) 0 0 c.functions c.memory_offsets) good) keep)
 
   -- And so they carry its locations.
-  pub locations-carried : (order : Endian) (size : ℕ) (registers : Registers) (c : CompilationValue) (texts : List (List ℕ)) (us : List GivenUnit) → refusal_of order size registers c ≡ None
-      → AreMadeOf (place_at us) size texts 0 (wanted_units (input_of order size registers c)) (trees_made (input_of order size registers c)) us → ((fs : List Function) → TranslationsKeepScopes fs)
-      → LocationsCarried (drafts_of (is_big order)) (wanted_units (input_of order size registers c)) (given_trees texts (map ordered us))
-  locations-carried order size registers c texts us accepted made keep =
-      let input = input_of order size registers c in
+  pub locations-carried : (order : Endian) (size : ℕ) (registers : Registers) (entry : Option CommonEntry) (c : CompilationValue) (texts : List (List ℕ)) (us : List GivenUnit) → refusal_of order size registers entry c ≡ None
+      → AreMadeOf (place_at us) size texts 0 (wanted_units (input_of order size registers entry c)) (trees_made (input_of order size registers entry c)) us → ((fs : List Function) → TranslationsKeepScopes fs)
+      → LocationsCarried (drafts_of (is_big order)) (wanted_units (input_of order size registers entry c)) (given_trees texts (map ordered us))
+  locations-carried order size registers entry c texts us accepted made keep =
+      let input = input_of order size registers entry c in
       let both = neither (maps_refusal c) (option_map in_reading (first_refusal input)) accepted in
       let good : bad_map c ≡ None = unmapped _ (bad_map c) both.0 in
       let read : first_refusal input ≡ None = unmapped in_reading (first_refusal input) both.1 in
@@ -75,11 +76,11 @@ module _ (number_maps : MapsNumber) where
       (made-locations input (modules-numbered 0 0 c.translations c.functions (told_from registers (names_of c) 0 0 c.functions c.memory_offsets) good) keep read)
 
   -- And so the variables of its functions' contexts stand where they are to.
-  pub contexts-carried : (order : Endian) (size : ℕ) (registers : Registers) (c : CompilationValue) (texts : List (List ℕ)) (us : List GivenUnit) → refusal_of order size registers c ≡ None
-      → AreMadeOf (place_at us) size texts 0 (wanted_units (input_of order size registers c)) (trees_made (input_of order size registers c)) us → ((fs : List Function) → TranslationsKeepScopes fs)
-      → ContextsCarried (drafts_of (is_big order)) (wanted_units (input_of order size registers c)) (given_trees texts (map ordered us))
-  contexts-carried order size registers c texts us accepted made keep =
-      let input = input_of order size registers c in
+  pub contexts-carried : (order : Endian) (size : ℕ) (registers : Registers) (entry : Option CommonEntry) (c : CompilationValue) (texts : List (List ℕ)) (us : List GivenUnit) → refusal_of order size registers entry c ≡ None
+      → AreMadeOf (place_at us) size texts 0 (wanted_units (input_of order size registers entry c)) (trees_made (input_of order size registers entry c)) us → ((fs : List Function) → TranslationsKeepScopes fs)
+      → ContextsCarried (drafts_of (is_big order)) (wanted_units (input_of order size registers entry c)) (given_trees texts (map ordered us))
+  contexts-carried order size registers entry c texts us accepted made keep =
+      let input = input_of order size registers entry c in
       let both = neither (maps_refusal c) (option_map in_reading (first_refusal input)) accepted in
       let good : bad_map c ≡ None = unmapped _ (bad_map c) both.0 in
       let read : first_refusal input ≡ None = unmapped in_reading (first_refusal input) both.1 in

@@ -11,7 +11,7 @@ use Rattle.dwc_base.specs.declared.records.MapFault.{MapFault}
 use Rattle.dwc_base.specs.declared.wasm.ModuleTranslation.{ModuleTranslation}
 use Rattle.dwc_base.specs.Functions.{Function, functions_of}
 use Rattle.dwc_base.specs.Carried.{Module, Compilation, units}
-use Rattle.dwc_base.specs.Forests.{wanted_units, wanted_units_of, first_refusal, forest, function_refusals, is_big, module_refusals, trees_made}
+use Rattle.dwc_base.specs.Forests.{wanted_units, wanted_units_of, first_refusal, function_refusals, is_big, module_refusals, trees_made}
 use Rattle.dwc_base.specs.Refusals.{Refusal, first_of}
 use Rattle.dwc_base.specs.Trees.{Tree}
 use Rattle.dwc_base.specs.TreeLaws.{HasAllTargets}
@@ -36,7 +36,7 @@ use Rattle.dwc_carry.specs.Transformed.{have_long, lengths_checked, IsTransforme
 use Rattle.dwc_carry.proofs.CompiledLaws.{all_functions, functions-are}
 use Rattle.dwc_carry.proofs.RefusalLaws.{unmapped, refuses-more}
 use Rattle.dwc_carry.proofs.LengthLaws.{all-short, some-long, checked-long, checked-short}
-use Rattle.dwc_carry.proofs.CompositionLaws.{made-texts, made-trees, trees-of-modules}
+use Rattle.dwc_carry.proofs.CompositionLaws.{forest-is, made-texts, made-trees, trees-of-modules}
 
 -- the refusal of a bad map
 abbrev map_refusal : Option (ℕ × (ℕ × MapFault)) → Option InputRefusal
@@ -137,10 +137,6 @@ all-kept c good = kept-all 0 0 c.translations c.functions (unmapped _ (bad_map c
 pub lengths-short : (c : CompilationValue) → Ok tt ≡ lengths_checked (functions_from 0 c.translations c.functions) → have_long (functions_from 0 c.translations c.functions) ≡ false
 lengths-short c h = checked-short (functions_from 0 c.translations c.functions) h
 
--- the forest of an input of which nothing is refused
-forest-is : (c : Compilation) → first_refusal c ≡ None → forest c ≡ Ok (trees_made c)
-forest-is c none = ap (λ (o : Option Refusal). elim o [ Some refusal ↦ Err refusal | None ↦ Ok (trees_made c) ]) none
-
 -- Units that are made of its carried units are what it is transformed to.
 transformed-of : (size : ℕ) (c : Compilation) (texts : List (List ℕ)) (us : List GivenUnit) → first_refusal c ≡ None → AreMadeOf (place_at us) size texts 0 (wanted_units c) (trees_made c) us → All (λ m. (units m.sections).fault ≡ None) c.modules → IsTransformed size c texts us
 transformed-of size c texts us none made whole =
@@ -167,7 +163,7 @@ module _ (registers : Registers) (c : CompilationValue) (counted : IsCounted c.t
 
   -- what is refused of the input behind its maps, and of it whole
   abbrev reading_refusal : Option InputRefusal
-  reading_refusal = option_map in_reading (first_of (flat_map (λ m. function_refusals m.functions) modules ++ flat_map module_refusals modules))
+  reading_refusal = option_map in_reading (first_of (flat_map (λ m. function_refusals m.functions) modules ++ (flat_map module_refusals modules ++ [])))
 
   abbrev input_refusal : Option InputRefusal
   input_refusal = option_or (maps_refusal c) reading_refusal
@@ -183,7 +179,8 @@ module _ (registers : Registers) (c : CompilationValue) (counted : IsCounted c.t
   -- what is refused of the modules is refused of the input, whose maps are good and whose functions short
   input-refusals : maps_refusal c ≡ None → have_long functions ≡ false → refusals_in modules ≡ input_refusal
   input-refusals good short =
-      ap (λ (longs : List Refusal). option_map in_reading (first_of (longs ++ flat_map module_refusals modules))) (sym (sym functions-refused ∙ all-short functions short))
+      ap (λ (read : List Refusal). option_map in_reading (first_of read)) (sym (append-nil (flat_map module_refusals modules)))
+      ∙ ap (λ (longs : List Refusal). option_map in_reading (first_of (longs ++ (flat_map module_refusals modules ++ [])))) (sym (sym functions-refused ∙ all-short functions short))
       ∙ ap (λ o. option_or o reading_refusal) (sym good)
 
   pub input-refused : (e : DebugError) → maps_refusal c ≡ None → have_long functions ≡ false → Refuses (refusals_in modules) e → Refuses input_refusal e
@@ -199,14 +196,14 @@ module _ (registers : Registers) (c : CompilationValue) (counted : IsCounted c.t
       let long = checked-long functions e h in
       subst (Refuses input_refusal) (sym long.1)
       (ap (λ o. option_or o reading_refusal) good
-      ∙ ap (λ (longs : List Refusal). option_map in_reading (first_of (longs ++ flat_map module_refusals modules))) (sym functions-refused)
-      ∙ ap (option_map in_reading) (some-long functions (flat_map module_refusals modules) long.0))
+      ∙ ap (λ (longs : List Refusal). option_map in_reading (first_of (longs ++ (flat_map module_refusals modules ++ [])))) (sym functions-refused)
+      ∙ ap (option_map in_reading) (some-long functions (flat_map module_refusals modules ++ []) long.0))
 
   -- the input is accepted, and the units that are added are those of it
   pub input-transformed : (order : Endian) (size : ℕ) (before texts : List (List ℕ)) (us : List GivenUnit) → maps_refusal c ≡ None → have_long functions ≡ false
-      → (refusals_in modules ≡ None) × AddsModules size (is_big order) modules [] us before texts → (input_refusal ≡ None) × IsTransformed size (input_of order size registers c) texts us
+      → (refusals_in modules ≡ None) × AddsModules size (is_big order) modules [] us before texts → (input_refusal ≡ None) × IsTransformed size (input_of order size registers None c) texts us
   input-transformed order size before texts us good short (none, k) =
-      let input = input_of order size registers c in
+      let input = input_of order size registers None c in
       let accepted : input_refusal ≡ None = sym (input-refusals good short) ∙ none in
       let leads : LeadsTo (place_at us) 0 k.made = subst (λ vs. LeadsTo (place_at us) 0 vs) k.added (leads-there us) in
       let made : AreMadeOf (place_at us) size texts 0 (flat_map wanted_units_of modules) (trees_made input) us =

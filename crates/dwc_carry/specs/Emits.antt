@@ -1,5 +1,5 @@
 -- The answers of emitting DWARF for a compilation.
-use Rattle.std.specs.Prelude.{◌≡◌, ℕ, ◌^◌, ◌≤◌, List, map, true, false, Result, Vec, All}
+use Rattle.std.specs.Prelude.{◌≡◌, ℕ, ◌^◌, ◌≤◌, List, map, true, false, Option, Result, Vec, All}
 use Rattle.std.specs.Global.{Global}
 use Rattle.dwc_base.specs.declared.faults.Limit.{Limit}
 use Rattle.dwc_base.specs.declared.faults.Limit.TheVariants.{Section, Expression}
@@ -7,6 +7,7 @@ use Rattle.dwc_base.specs.declared.records.Endian.{Endian}
 use Rattle.dwc_base.specs.declared.output.DwarfSection.{DwarfSection}
 use Rattle.dwc_base.specs.Outputs.{OutputSection, section_view}
 use Rattle.dwc_base.specs.Carried.{Compilation}
+use Rattle.dwc_base.specs.CallFrames.{CommonEntry}
 use Rattle.dwc_base.specs.Forests.{trees_made}
 use Rattle.dwc_base.specs.OutputCarried.{OutputCarried, widest}
 use Rattle.dwc_base.specs.TreeLaws.{have_short_expressions}
@@ -31,6 +32,6 @@ PassesLimit c _ = ⊥
 
 -- Sections are emitted where nothing is refused; or there is a cause: the first refusal; where nothing is refused a limit that the
 -- output passes; or want of memory.
-abbrev pub Emits : Endian → ℕ → Registers → CompilationValue → Result (Vec DwarfSection Global) DebugError → Type 0
-Emits order size registers c result =
-    GivesWithin (PassesLimit (input_of order size registers c)) (λ (s : Vec DwarfSection Global). IsEmitted (input_of order size registers c) (map section_view s.items)) (refusal_of order size registers c) result
+abbrev pub Emits : Endian → ℕ → Registers → Option CommonEntry → CompilationValue → Result (Vec DwarfSection Global) DebugError → Type 0
+Emits order size registers entry c result =
+    GivesWithin (PassesLimit (input_of order size registers entry c)) (λ (s : Vec DwarfSection Global). IsEmitted (input_of order size registers entry c) (map section_view s.items)) (refusal_of order size registers entry c) result

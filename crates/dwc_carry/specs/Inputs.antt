@@ -8,6 +8,7 @@ use Rattle.dwc_base.specs.Translations.{translation_sections}
 use Rattle.dwc_base.specs.TranslationNames.{told_file}
 use Rattle.dwc_base.specs.Functions.{Function, functions_of}
 use Rattle.dwc_base.specs.Carried.{Module, Compilation}
+use Rattle.dwc_base.specs.CallFrames.{CommonEntry}
 use Rattle.dwc_base.specs.Compiled.{LinkageNames, ToldModule}
 use Rattle.dwc_base.specs.Forests.{first_refusal}
 use Rattle.dwc_clif.specs.AddressMaps.{address_map_view}
@@ -51,9 +52,10 @@ names_of c = record { set_memory = c.set_memory; resolve_memory = c.resolve_memo
 abbrev pub modules_of : Registers → CompilationValue → List Module
 modules_of registers c = modules_from 0 c.translations c.functions (told_from registers (names_of c) 0 0 c.functions c.memory_offsets)
 
--- the input of a compilation for a target of a byte order, an address size, and numbers of registers
-abbrev pub input_of : Endian → ℕ → Registers → CompilationValue → Compilation
-input_of order pointer_bytes registers c = record { order = order; pointer_bytes = pointer_bytes; modules = modules_of registers c; next_id = c.next_id }
+-- the input of a compilation for a target of a byte order, an address size, numbers of registers, and what the frames of all functions
+-- share, if it has frames
+abbrev pub input_of : Endian → ℕ → Registers → Option CommonEntry → CompilationValue → Compilation
+input_of order pointer_bytes registers entry c = record { order = order; pointer_bytes = pointer_bytes; modules = modules_of registers c; next_id = c.next_id; common_entry = entry }
 
 -- the first bad map of modules from a place on: the place of its module, that of its function, and the first rule it breaks
 abbrev pub bad_map_from : ℕ → List ModuleTranslation → List (List Compiled) → Option (ℕ × (ℕ × MapFault))
@@ -69,5 +71,5 @@ abbrev pub maps_refusal : CompilationValue → Option InputRefusal
 maps_refusal c = option_map (λ bad. bad_address_map bad.0 bad.1.0 bad.1.1) (bad_map c)
 
 -- The refusal of a compilation for a target: that of its address maps, or else the first in the order of reading.
-abbrev pub refusal_of : Endian → ℕ → Registers → CompilationValue → Option InputRefusal
-refusal_of order pointer_bytes registers c = option_or (maps_refusal c) (option_map in_reading (first_refusal (input_of order pointer_bytes registers c)))
+abbrev pub refusal_of : Endian → ℕ → Registers → Option CommonEntry → CompilationValue → Option InputRefusal
+refusal_of order pointer_bytes registers entry c = option_or (maps_refusal c) (option_map in_reading (first_refusal (input_of order pointer_bytes registers entry c)))

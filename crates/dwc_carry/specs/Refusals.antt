@@ -4,7 +4,8 @@ use Rattle.dwc_base.specs.Sections.{unreadable, unsupported}
 use Rattle.dwc_base.specs.declared.records.MapFault.{MapFault}
 use Rattle.dwc_base.specs.declared.faults.Limit.{Limit}
 use Rattle.dwc_base.specs.declared.faults.Limit.TheVariants.{Section, Addend, Range, Jump, Expression, Vmctx}
-use Rattle.dwc_base.specs.Refusals.{Refusal, of_place, missing_file, long_function, long_range, bad_label, lacks_memory, unmapped_register, long_jump, far_memory}
+use Rattle.dwc_base.specs.Refusals.{Refusal, of_place, missing_file, long_function, long_range, bad_label, lacks_memory, unmapped_register, long_jump, far_memory, of_frame}
+use Rattle.dwc_base.specs.FrameRefusals.{bad_code_offset, bad_data_offset}
 use Rattle.dwc_read.specs.declared.fault.ReadFault.{ReadFault}
 use Rattle.dwc_read.specs.declared.fault.ReadFault.TheVariants as read
 use Rattle.dwc_addr.specs.declared.error.AddrError.{AddrError}
@@ -16,7 +17,7 @@ use Rattle.dwc_write.specs.declared.error.WriteError.TheVariants as write
 use Rattle.dwc_clone.specs.declared.error.CloneError.{CloneError}
 use Rattle.dwc_clone.specs.declared.error.CloneError.TheVariants as clone
 use Rattle.dwc_carry.specs.declared.error.DebugError.{DebugError}
-use Rattle.dwc_carry.specs.declared.error.DebugError.TheVariants.{Read, Unsupported, InvalidFileIndex, BadAddressMap, BadLabelRange, InvalidAttributeValue, UnmappedRegister, TooLarge, OutOfMemory}
+use Rattle.dwc_carry.specs.declared.error.DebugError.TheVariants.{Read, Unsupported, InvalidFileIndex, BadAddressMap, BadLabelRange, InvalidAttributeValue, UnmappedRegister, InvalidFrameCodeOffset, InvalidFrameDataOffset, TooLarge, OutOfMemory}
 
 -- a reader's refusal, and that of address maps
 abbrev pub of_reading : ReadFault → DebugError
@@ -49,6 +50,8 @@ of_cloning clone.OutOfMemory = OutOfMemory
 -- and that of the writer
 abbrev pub of_writing : WriteError → DebugError
 of_writing (write.TooLarge what) = TooLarge what
+of_writing (write.InvalidFrameCodeOffset symbol) = InvalidFrameCodeOffset symbol
+of_writing (write.InvalidFrameDataOffset symbol) = InvalidFrameDataOffset symbol
 of_writing write.OutOfMemory = OutOfMemory
 
 -- ---- what an error tells
@@ -73,6 +76,8 @@ told (BadAddressMap m func why) = refused (bad_address_map m func why)
 told (BadLabelRange label) = refused (in_reading (bad_label label.0))
 told (InvalidAttributeValue m) = refused (in_reading (lacks_memory m))
 told (UnmappedRegister register) = refused (in_reading (unmapped_register register.0))
+told (InvalidFrameCodeOffset symbol) = refused (in_reading (of_frame (bad_code_offset symbol)))
+told (InvalidFrameDataOffset symbol) = refused (in_reading (of_frame (bad_data_offset symbol)))
 told (TooLarge (Section name)) = limit (Section name)
 told (TooLarge Addend) = refused (in_reading long_function)
 told (TooLarge Range) = refused (in_reading long_range)

@@ -44,6 +44,6 @@ pub record IsTransformed (size : ℕ) (c : Compilation) (table : List (List ℕ)
   pub trees : forest c ≡ Ok (given_trees table (map ordered us))
   pub targets : HasAllTargets (given_trees table (map ordered us))
 
--- The units and the texts that they name, or a refusal.
+-- The units and the texts that they name, or a refusal; frames have no part in them.
 abbrev pub GivesDwarf : Endian → ℕ → Registers → CompilationValue → Result Dwarf DebugError → Type 0
-GivesDwarf order size registers c result = GivesOr (λ (d : Dwarf). IsTransformed size (input_of order size registers c) d.strings d.units.units.items) (refusal_of order size registers c) result
+GivesDwarf order size registers c result = GivesOr (λ (d : Dwarf). IsTransformed size (input_of order size registers None c) d.strings d.units.units.items) (refusal_of order size registers None c) result

@@ -3,6 +3,7 @@ ghost use Rattle.std.specs.Prelude.{◌≡◌};
 ghost use Rattle.dwc_carry.specs.Emits.{Emits};
 
 use crate::DebugError;
+use crate::frames::frame_table;
 use crate::transform::transform_dwarf;
 use dwc_addr::{Compilation, translations_keep_scopes};
 use dwc_base::DwarfSection;
@@ -10,8 +11,8 @@ use dwc_clif::TargetIsa;
 use dwc_write::write_sections;
 use std::alloc::Global;
 
-/// The sections of DWARF that those of a compilation carry over to, for a target. The compilation is left as it is. The work is
-/// linear in what is read and written.
+/// The sections of DWARF that those of a compilation carry over to, for a target, with the call frames of its functions behind them where
+/// the target has a common information entry. The compilation is left as it is. The work is linear in what is read and written.
 ///
 /// # Errors
 /// `BadAddressMap` exactly where a function's address map breaks a rule: the first module, its first such function, and the
@@ -19,7 +20,8 @@ use std::alloc::Global;
 /// none is: `Read`, `Unsupported`, `InvalidFileIndex`, `TooLarge` `Range` for a range whose start plus its length is no address, or
 /// `BadLabelRange`, `InvalidAttributeValue`, `UnmappedRegister` or `TooLarge` `Jump` for an expression that is built over its scope, or
 /// `TooLarge` `Vmctx` for a module whose memory is too far behind in its context,
-/// exactly where something is refused, for the first in the order of the work, module by module. Where nothing is refused: `TooLarge` `Expression`
+/// exactly where something is refused, for the first in the order of the work, module by module. Where nothing is: `InvalidFrameCodeOffset`
+/// or `InvalidFrameDataOffset` exactly where a function's frame description cannot be written, for the first. Where nothing is refused: `TooLarge` `Expression`
 /// exactly where an expression of a location list has more than 65,535 bytes; else `TooLarge` `Section` only for a section that could be
 /// longer than 2^31 - 1 bytes, each of its numbers at its widest. `OutOfMemory` for want of memory.
 pub fn emit_dwarf(
@@ -27,10 +29,11 @@ pub fn emit_dwarf(
     isa: &dyn TargetIsa,
     compilation: &mut Compilation<'_>,
 ) -> Result<Vec<DwarfSection>, DebugError>
-    ensures sections { Emits (byte_order isa.now) (pointer_size isa.now) (dwarf_registers isa.now) compilation.old result }
+    ensures sections { Emits (byte_order isa.now) (pointer_size isa.now) (dwarf_registers isa.now) (common_entry isa.now) compilation.old result }
     ensures unchanged { compilation.new ≡ compilation.old }
 {
     translations_keep_scopes();
     let dwarf = transform_dwarf(alloc, isa, compilation)?;
-    Ok(write_sections(alloc, dwarf, isa.endianness())?)
+    let frames = frame_table(alloc, isa, compilation)?;
+    Ok(write_sections(alloc, dwarf, frames, isa.endianness())?)
 }

@@ -55,6 +55,16 @@ pub enum DebugError {
     UnmappedRegister {
         register: Reg,
     },
+    /// The code offsets of a frame description fall, or are no multiples of the code factor; the function by its number.
+    #[error("InvalidFrameCodeOffset {symbol}")]
+    InvalidFrameCodeOffset {
+        symbol: usize,
+    },
+    /// A factored offset of a frame description is no multiple of the data factor; the function by its number.
+    #[error("InvalidFrameDataOffset {symbol}")]
+    InvalidFrameDataOffset {
+        symbol: usize,
+    },
     /// A section would be longer than it can be; a function with a symbol is longer than an addend can say; a range of the input ends
     /// where no address is; a jump of an expression goes further than it can; an expression of a location list is too long; or the linear
     /// memory of a module is too far behind in its context.
@@ -191,6 +201,12 @@ impl From<WriteError> for DebugError {
     fn from(error: WriteError) -> DebugError {
         match error {
             WriteError::TooLarge { what } => DebugError::TooLarge { what },
+            WriteError::InvalidFrameCodeOffset { symbol } => {
+                DebugError::InvalidFrameCodeOffset { symbol }
+            }
+            WriteError::InvalidFrameDataOffset { symbol } => {
+                DebugError::InvalidFrameDataOffset { symbol }
+            }
             WriteError::OutOfMemory => DebugError::OutOfMemory,
         }
     }

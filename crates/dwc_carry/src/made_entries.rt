@@ -6,6 +6,7 @@ ghost use Rattle.dwc_write.specs.declared.error.WriteError.TheVariants.{OutOfMem
 ghost use Rattle.dwc_clone.specs.MadeValues.{Grows};
 ghost use Rattle.dwc_carry.specs.MadeEntries.{AreBehind, FitsMade, addition_of, HaveFittingAttributes, IsDense, given_value, number_of, numbers_added, texts_added, with_additions, with_attributes};
 
+use dwc_base::constants::DW_FORM_data1;
 use dwc_write::{AttributeValue, StringId, StringTable, Unit, UnitEntryId, WriteError};
 use std::alloc::Global;
 
@@ -44,6 +45,16 @@ pub(crate) fn add_texts(
         ids.push(strings.add(texts[i])?)?;
     }
     Ok(ids)
+}
+
+/// A constant of one byte.
+pub(crate) fn data1(value: u8) -> MadeValue
+    ensures { result ≡ MadeValue.Constant DW_FORM_data1 value }
+{
+    MadeValue::Constant {
+        form: DW_FORM_data1,
+        bits: u64::from(value),
+    }
 }
 
 // A value as one of the output.

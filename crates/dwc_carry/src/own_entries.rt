@@ -9,15 +9,14 @@ ghost use Rattle.dwc_write.specs.declared.error.WriteError.TheVariants.{OutOfMem
 ghost use Rattle.dwc_carry.specs.MadeEntries.{IsDense, numbers_added, texts_added, with_additions, with_attributes};
 ghost use Rattle.dwc_carry.specs.OwnAdditions.{context_additions, first_additions, last_additions, own_given, own_numbers, own_texts, root_attributes};
 
-use crate::made_entries::{MadeEntry, MadeValue, add_entries, add_texts, set_attributes};
+use crate::made_entries::{MadeEntry, MadeValue, add_entries, add_texts, data1, set_attributes};
 use dwc_addr::ModuleMemoryOffset;
 use dwc_base::Encoding;
 use dwc_base::constants::{
     DW_AT_artificial, DW_AT_byte_size, DW_AT_data_member_location, DW_AT_encoding, DW_AT_language,
-    DW_AT_linkage_name, DW_AT_name, DW_AT_producer, DW_AT_type, DW_ATE_unsigned, DW_FORM_data1,
-    DW_FORM_data2, DW_FORM_data4, DW_FORM_udata, DW_LANG_C11, DW_TAG_base_type,
-    DW_TAG_formal_parameter, DW_TAG_member, DW_TAG_pointer_type, DW_TAG_structure_type,
-    DW_TAG_subprogram,
+    DW_AT_linkage_name, DW_AT_name, DW_AT_producer, DW_AT_type, DW_ATE_unsigned, DW_FORM_data2,
+    DW_FORM_data4, DW_FORM_udata, DW_LANG_C11, DW_TAG_base_type, DW_TAG_formal_parameter,
+    DW_TAG_member, DW_TAG_pointer_type, DW_TAG_structure_type, DW_TAG_subprogram,
 };
 use dwc_write::{LineProgram, StringId, StringTable, Unit, WriteError};
 use std::alloc::Global;
@@ -89,16 +88,6 @@ pub(crate) fn own_texts(
         context_pointer: ids[8],
         wasm_pointer: ids[9],
     })
-}
-
-// A constant of one byte.
-fn data1(value: u8) -> MadeValue
-    ensures { result ≡ MadeValue.Constant DW_FORM_data1 value }
-{
-    MadeValue::Constant {
-        form: DW_FORM_data1,
-        bits: u64::from(value),
-    }
 }
 
 // Adds the types of a byte and of a pointer to bytes.

@@ -24,16 +24,16 @@ fn has_zero(bytes: &[u8]) -> bool
     bytes.iter().any(|byte| *byte == 0)
 }
 
-// The bytes of a text, if it holds no zero byte.
-fn without_zero(text: &str) -> Option<&[u8]>
+/// The bytes of a text, if it holds no zero byte.
+pub(crate) fn without_zero(text: &str) -> Option<&[u8]>
     ensures { option_map (λ bytes. bytes.now) result ≡ without_zero (Some text.now) }
 {
     let bytes = text.as_bytes();
     if has_zero(bytes) { None } else { Some(bytes) }
 }
 
-// Two texts one behind the other.
-fn joined(alloc: Global, front: &[u8], back: &[u8]) -> Result<Vec<u8>, AllocError>
+/// Two texts one behind the other.
+pub(crate) fn joined(alloc: Global, front: &[u8], back: &[u8]) -> Result<Vec<u8>, AllocError>
     ensures { IfOk result (λ bytes. bytes.items ≡ front.now ++ back.now) }
 {
     let mut bytes = Vec::new(alloc);
