@@ -41,7 +41,7 @@ unfolding whole_on_literals
 whole-bare zero d h = refl
 whole-bare (suc k) d h = absurd (omega arith)
 
-bare-read : units (output_sections Little output_bare) ≡ record { items = own_unit_out ∷ []; fault = None }
+pub bare-read : units (output_sections Little output_bare) ≡ record { items = own_unit_out ∷ []; fault = None }
 unfolding whole_on_literals
 bare-read = refl
 
@@ -51,17 +51,17 @@ lines-bare = record { whole = whole-bare; output = own_unit_out ∷ []; output_r
 
 -- ---- its form
 
-form-bare : HaveTargetForm 8 (units (output_sections Little output_bare)).items
+pub form-bare : HaveTargetForm 8 (units (output_sections Little output_bare)).items
 form-bare = rw bare-read (All-cons HasForm own_unit_out [] (refl, refl) (All-nil HasForm))
 
 -- the names differ at their eighth letter
-abbrev letter : OutputSection → ℕ
+abbrev pub letter : OutputSection → ℕ
 letter s = get_or s.name 7 0
 
-differ : (x y : OutputSection) → (letter x == letter y) ≡ false → Differ x y
+pub differ : (x y : OutputSection) → (letter x == letter y) ≡ false → Differ x y
 differ x y apart = λ same. true≢false (sym (eq-eqb (letter x) (letter y) (ap (λ name. get_or name 7 0) same)) ∙ apart)
 
-names-bare : HasDistinctNames output_bare
+pub names-bare : HasDistinctNames output_bare
 names-bare =
     let first = get_or output_bare 0 no_section in
     let second = get_or output_bare 1 no_section in
@@ -92,7 +92,7 @@ each-behind place (r ∷ rs) h =
     let parts = and_parts (nat_le place r.offset) (stand_behind (r.offset + r.size) rs) h in
     AllPairs-cons (λ (a b : OutputRelocation). a.offset + a.size ≤ b.offset) r rs (all-behind (r.offset + r.size) (r.offset + r.size) rs (omega arith) parts.1) (each-behind (r.offset + r.size) rs parts.1)
 
-related-bare : AreRelocated Little output_bare
+pub related-bare : AreRelocated Little output_bare
 unfolding lines_on_literals fields_of_section
 related-bare =
     let R : OutputSection → Type 0 = IsRelocated (output_sections Little output_bare) in
@@ -117,6 +117,7 @@ carried-bare = record {
   form = form-bare;
   names = names-bare;
   relocated = related-bare;
+  frames = refl;
 }
 
 -- it is an answer with status 0

@@ -14,6 +14,7 @@ use Rattle.dwc_base.specs.declared.output.DwarfSection.{DwarfSection}
 use Rattle.dwc_base.specs.declared.wasm.ModuleTranslation.{ModuleTranslation}
 use Rattle.dwc_base.specs.SharedSymbols.{shared_symbol}
 use Rattle.dwc_base.specs.Compiled.{LinkageNames, ToldModule, frames_from, labels_from, values_from}
+use Rattle.dwc_base.specs.CallFrames.{CommonEntry}
 use Rattle.dwc_base.specs.Functions.{AddressMap, map_fault, functions_of}
 use Rattle.dwc_base.specs.Wasm.{WasmModule, module_sections}
 use Rattle.dwc_base.specs.Translations.{translation_sections, IsWholeTranslation}
@@ -28,7 +29,7 @@ use Rattle.dwc_write.specs.Writers.{IsSound}
 use Rattle.dwc_base.proofs.Translated.{translation_sections-is}
 use Rattle.dwc_base.proofs.WasmNameLaws.{told_file-is}
 use Rattle.dwc_clif.specs.AddressMaps.{address_map_view}
-use Rattle.dwc_clif.specs.CallFrames.{description_of_metadata}
+use Rattle.dwc_clif.specs.CallFrames.{cie_view, description_of_metadata}
 use Rattle.dwc_clif.specs.Registers.{Registers, registers_of}
 use Rattle.dwc_expr.specs.Frames.{memory_view}
 use Rattle.dwc_clone.specs.CompiledModules.{frames_in, labels_in, values_in, told_module}
@@ -166,8 +167,12 @@ of_view read v = record { wasm = read.wasm; map_file = v }
 abbrev order_in : MapFile → Endian
 order_in f = if f.target.big_endian then Big else Little
 
+-- what the frames of a map share
+abbrev entry_in : MapFile → Option CommonEntry
+entry_in f = option_map cie_view f.target.cie
+
 abbrev of_modules : MapFile → List Module → Compilation
-of_modules f ms = record { order = order_in f; pointer_bytes = f.target.pointer_bytes; modules = ms; next_id = 0 }
+of_modules f ms = record { order = order_in f; pointer_bytes = f.target.pointer_bytes; modules = ms; next_id = 0; common_entry = entry_in f }
 
 -- DWARF's numbers of the registers of a map
 abbrev registers_in : MapFile → Registers
@@ -177,7 +182,7 @@ registers_in f = registers_of f.target.registers.items
 abbrev names_in : MapFile → LinkageNames
 names_in f = views.linkage_names f.names
 
-pub compiled : (ts : List ModuleTranslation) (f : MapFile) (read : Loaded) → IsReadAs ts f read → IsCompiled (order_in f) f.target.pointer_bytes (registers_in f) (names_in f) ts (functions_in f.modules.items) (memories_in f.modules.items) read
+pub compiled : (ts : List ModuleTranslation) (f : MapFile) (read : Loaded) → IsReadAs ts f read → IsCompiled (order_in f) f.target.pointer_bytes (registers_in f) (entry_in f) (names_in f) ts (functions_in f.modules.items) (memories_in f.modules.items) read
 compiled ts f read seen = record {
   input = ap (λ v. compilation_of (of_view read v)) (sym seen.map_is) ∙ ap (of_modules f) (sym (modules-same (registers_in f) (names_in f) 0 0 ts read.wasm f.modules.items seen.wasm));
   maps = ap (λ v. bad_map (of_view read v)) (sym seen.map_is) ∙ sym (bad-same 0 ts read.wasm f.modules.items seen.wasm);
@@ -186,10 +191,10 @@ compiled ts f read seen = record {
 
 -- ---- what hinders
 
-module _ (c : CompilationValue) (order : Endian) (size : ℕ) (registers : Registers) (read : Loaded) (is : IsCompiled order size registers (carry.names_of c) c.translations c.functions c.memory_offsets read) (new : c.next_id ≡ 0) where
+module _ (c : CompilationValue) (order : Endian) (size : ℕ) (registers : Registers) (entry : Option CommonEntry) (read : Loaded) (is : IsCompiled order size registers entry (carry.names_of c) c.translations c.functions c.memory_offsets read) (new : c.next_id ≡ 0) where
   -- what was read is the compilation's input
-  input-is : compilation_of read ≡ carry.input_of order size registers c
-  input-is = is.input ∙ ap (λ n. record { order = order; pointer_bytes = size; modules = carry.modules_of registers c; next_id = n }) (sym new)
+  input-is : compilation_of read ≡ carry.input_of order size registers entry c
+  input-is = is.input ∙ ap (λ n. record { order = order; pointer_bytes = size; modules = carry.modules_of registers c; next_id = n; common_entry = entry }) (sym new)
 
   first-is : (bad : Option (ℕ × (ℕ × MapFault))) (refusal : Option Refusal) → first_status None (option_map bad_view bad) refusal
       ≡ option_map input_status (option_or (option_map (λ bad. bad_address_map bad.0 bad.1.0 bad.1.1) bad) (option_map in_reading refusal))
@@ -198,14 +203,14 @@ module _ (c : CompilationValue) (order : Endian) (size : ℕ) (registers : Regis
   first-is None None = refl
 
   -- where no two functions have one symbol, by the refusal of the input
-  hindrance-is : shared_symbol (map symbol_view (all_symbols c.functions)) ≡ None → hindrance read ≡ option_map input_status (carry.refusal_of order size registers c)
+  hindrance-is : shared_symbol (map symbol_view (all_symbols c.functions)) ≡ None → hindrance read ≡ option_map input_status (carry.refusal_of order size registers entry c)
   hindrance-is none =
       ap (λ shared. first_status shared (bad_map read) (first_refusal (compilation_of read))) (is.symbols ∙ none)
       ∙ ap (λ bad. first_status None bad (first_refusal (compilation_of read))) is.maps
       ∙ ap (λ input. first_status None (option_map bad_view (carry.bad_map c)) (first_refusal input)) input-is
-      ∙ first-is (carry.bad_map c) (first_refusal (carry.input_of order size registers c))
+      ∙ first-is (carry.bad_map c) (first_refusal (carry.input_of order size registers entry c))
 
-  pub emitted : shared_symbol (map symbol_view (all_symbols c.functions)) ≡ None → (s : Vec DwarfSection Global) → emits.Emits order size registers c (Ok s) → IsEmitted read (map section_view s.items)
+  pub emitted : shared_symbol (map symbol_view (all_symbols c.functions)) ≡ None → (s : Vec DwarfSection Global) → emits.Emits order size registers entry c (Ok s) → IsEmitted read (map section_view s.items)
   emitted none s h = record {
     unhindered = hindrance-is none ∙ ap (option_map input_status) h.0;
     carried = subst (λ input. OutputCarried input (map section_view s.items)) (sym input-is) h.1.output;
@@ -213,14 +218,14 @@ module _ (c : CompilationValue) (order : Endian) (size : ℕ) (registers : Regis
     sound = subst (λ input. All (IsSound input.order) (map section_view s.items)) (sym input-is) h.1.sound;
   }
 
-  pub refused-emitting : shared_symbol (map symbol_view (all_symbols c.functions)) ≡ None → (e : DebugError) → emits.Emits order size registers c (Err e) → IsCause read (carrying_status e)
+  pub refused-emitting : shared_symbol (map symbol_view (all_symbols c.functions)) ≡ None → (e : DebugError) → emits.Emits order size registers entry c (Err e) → IsCause read (carrying_status e)
   refused-emitting none e = go (told e)
     where
       -- a limit that the output passes
-      limit : carry.refusal_of order size registers c ≡ None → PassesLimit (carry.input_of order size registers c) → IsCause read 20
+      limit : carry.refusal_of order size registers entry c ≡ None → PassesLimit (carry.input_of order size registers entry c) → IsCause read 20
       limit accepted passes = inr (inr (refl, hindrance-is none ∙ ap (option_map input_status) accepted, subst PassesLimit (sym input-is) passes))
 
-      go : (t : Told) → refusals.IsCause (emits.PassesLimit (carry.input_of order size registers c)) (carry.refusal_of order size registers c) t → IsCause read (told_status t)
+      go : (t : Told) → refusals.IsCause (emits.PassesLimit (carry.input_of order size registers entry c)) (carry.refusal_of order size registers entry c) t → IsCause read (told_status t)
       go (refusals.refused r) h = inr (inl (hindrance-is none ∙ ap (option_map input_status) h))
       go (refusals.limit (Section name)) h = limit h.0 (inl (name, h.1))
       go (refusals.limit Addend) h = absurd h.1
@@ -233,10 +238,10 @@ module _ (c : CompilationValue) (order : Endian) (size : ℕ) (registers : Regis
 shared-some : (read : Loaded) (functions : ℕ × ℕ) → shared_in read ≡ Some functions → hindrance read ≡ Some 21
 shared-some read functions e = rw e refl
 
-pub refused-compiling : (A : Type 0) (ts : List ModuleTranslation) (fss : List (List Compiled)) (offsets : List ModuleMemoryOffset) (order : Endian) (size : ℕ) (registers : Registers) (names : LinkageNames) (read : Loaded) → IsCompiled order size registers names ts fss offsets read
+pub refused-compiling : (A : Type 0) (ts : List ModuleTranslation) (fss : List (List Compiled)) (offsets : List ModuleMemoryOffset) (order : Endian) (size : ℕ) (registers : Registers) (entry : Option CommonEntry) (names : LinkageNames) (read : Loaded) → IsCompiled order size registers entry names ts fss offsets read
     → (e : CompilationError) → AreDistinct {A = A} (all_symbols fss) (Err e) → IsCause read (compiling_status e)
-refused-compiling A ts fss offsets order size registers names read is (compiling.SharedSymbol first second) h = inr (inl (shared-some read (first, second) (is.symbols ∙ h)))
-refused-compiling A ts fss offsets order size registers names read is compiling.OutOfMemory h = inl refl
+refused-compiling A ts fss offsets order size registers entry names read is (compiling.SharedSymbol first second) h = inr (inl (shared-some read (first, second) (is.symbols ∙ h)))
+refused-compiling A ts fss offsets order size registers entry names read is compiling.OutOfMemory h = inl refl
 
 -- ---- counts
 

@@ -279,7 +279,7 @@ small-falls h = true≢false (sym ((loaded_causes map_bytes_small file_small 13 
 -- ---- what is refused in reading
 
 -- a status that is not that of the first refusal is refused, unless it is one that comes earlier
-refused_always : (read : Loaded) (r : Refusal) (status : ℕ) → first_refusal (compilation_of read) ≡ Some r → is_status_among (3 ∷ 4 ∷ 9 ∷ 13 ∷ 21 ∷ refusal_status r ∷ []) status ≡ false → LoadedCauses read status → ⊥
+pub refused_always : (read : Loaded) (r : Refusal) (status : ℕ) → first_refusal (compilation_of read) ≡ Some r → is_status_among (3 ∷ 4 ∷ 9 ∷ 13 ∷ 21 ∷ refusal_status r ∷ []) status ≡ false → LoadedCauses read status → ⊥
 refused_always read r status is none h = refused (3 ∷ 4 ∷ 9 ∷ 13 ∷ 21 ∷ refusal_status r ∷ []) status none (h.refused.always r is)
 
 -- the 64-bit format: of its statuses but 11, none is answered, nor 0, 8 or 20
@@ -373,7 +373,7 @@ module_at place read = get_or (compilation_of read).modules place module_small
 
 -- two such modules, with what is told of them
 abbrev two_told : Loaded → ToldModule → ToldModule → Compilation
-two_told read first second = record { order = Little; pointer_bytes = 8; modules = record (module_at 0 read) { told = first } ∷ record (module_at 1 read) { told = second } ∷ []; next_id = 0 }
+two_told read first second = record { order = Little; pointer_bytes = 8; modules = record (module_at 0 read) { told = first } ∷ record (module_at 1 read) { told = second } ∷ []; next_id = 0; common_entry = None }
 
 second-told : compilation_of (read_of_two map_bytes_two file_small file_64) ≡ two_told (read_of_two map_bytes_two file_small file_64) (told_bare runtime_names 0 no_memory) (told_bare runtime_names 1 no_memory)
 unfolding whole_on_literals
@@ -420,11 +420,11 @@ refusal-far : refusal_of (loaded (of_one map_bytes_far file_small)) ≡ Some far
 unfolding whole_on_literals
 refusal-far = refl
 
-near-told : compilation_of (read_of map_bytes_near file_small) ≡ record { order = Little; pointer_bytes = 8; modules = record (module_at 0 (read_of map_bytes_near file_small)) { told = told_bare runtime_names 0 (defined 4294967287) } ∷ []; next_id = 0 }
+near-told : compilation_of (read_of map_bytes_near file_small) ≡ record { order = Little; pointer_bytes = 8; modules = record (module_at 0 (read_of map_bytes_near file_small)) { told = told_bare runtime_names 0 (defined 4294967287) } ∷ []; next_id = 0; common_entry = None }
 unfolding whole_on_literals
-near-told = λ i. record { order = Little; pointer_bytes = 8; modules = record (module_at 0 (read_of map_bytes_near file_small)) { told = told-bare runtime_names 0 0 (of_symbol 0) (defined 4294967287) i } ∷ []; next_id = 0 }
+near-told = λ i. record { order = Little; pointer_bytes = 8; modules = record (module_at 0 (read_of map_bytes_near file_small)) { told = told-bare runtime_names 0 0 (of_symbol 0) (defined 4294967287) i } ∷ []; next_id = 0; common_entry = None }
 
-near-accepted : first_refusal (record { order = Little; pointer_bytes = 8; modules = record (module_at 0 (read_of map_bytes_near file_small)) { told = told_bare runtime_names 0 (defined 4294967287) } ∷ []; next_id = 0 }) ≡ None
+near-accepted : first_refusal (record { order = Little; pointer_bytes = 8; modules = record (module_at 0 (read_of map_bytes_near file_small)) { told = told_bare runtime_names 0 (defined 4294967287) } ∷ []; next_id = 0; common_entry = None }) ≡ None
 unfolding whole_on_literals
 near-accepted = refl
 
@@ -482,8 +482,8 @@ status-1 h = refused run_statuses 1 refl h
 status-7 : IsStatus 7 → ⊥
 status-7 h = refused run_statuses 7 refl h
 
-status-17 : IsStatus 17 → ⊥
-status-17 h = refused run_statuses 17 refl h
+status-19 : IsStatus 19 → ⊥
+status-19 h = refused run_statuses 19 refl h
 
 -- ---- where all is well, a run succeeds or wants memory
 

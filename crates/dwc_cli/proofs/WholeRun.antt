@@ -160,6 +160,7 @@ compilation-small = λ i. record {
         compressed = None;
       } ∷ [];
   next_id = 0;
+  common_entry = None;
 }
 
 -- ---- nothing of it is refused, and nothing is too large
@@ -217,6 +218,7 @@ carried_whole = record {
   form = form-small;
   names = names-small;
   relocated = related-small;
+  frames = refl;
 }
 
 pub output_carried-small : OutputCarried (compilation_of read_small) output_small

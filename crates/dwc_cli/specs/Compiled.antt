@@ -1,10 +1,11 @@
 -- Modules and their compiled functions, as what was read of an input.
-use Rattle.std.specs.Prelude.{◌≡◌, ℕ, List, map, option_map}
+use Rattle.std.specs.Prelude.{◌≡◌, ℕ, List, map, Option, option_map}
 use Rattle.dwc_base.specs.declared.records.Endian.{Endian}
 use Rattle.dwc_base.specs.declared.records.MapFault.{MapFault}
 use Rattle.dwc_base.specs.declared.wasm.ModuleTranslation.{ModuleTranslation}
 use Rattle.dwc_base.specs.SharedSymbols.{shared_symbol}
 use Rattle.dwc_base.specs.Compiled.{LinkageNames}
+use Rattle.dwc_base.specs.CallFrames.{CommonEntry}
 use Rattle.dwc_clif.specs.Registers.{Registers}
 use Rattle.dwc_addr.specs.declared.memory_offset.ModuleMemoryOffset.{ModuleMemoryOffset}
 use Rattle.dwc_addr.specs.Numbers.{Compiled, all_symbols, symbol_view}
@@ -15,9 +16,9 @@ use Rattle.dwc_cli.specs.Inputs.{Loaded, compilation_of, shared_in, BadMap, bad_
 abbrev pub bad_view : ℕ × (ℕ × MapFault) → BadMap
 bad_view bad = record { module_place = bad.0; function_place = bad.1.0; rule = bad.1.1 }
 
--- What was read is these translations, functions and memories, for a target of a byte order, an address size and numbers of registers,
--- with names of the run time's functions.
-pub record IsCompiled (order : Endian) (pointer_bytes : ℕ) (registers : Registers) (names : LinkageNames) (ts : List ModuleTranslation) (fss : List (List Compiled)) (offsets : List ModuleMemoryOffset) (read : Loaded) : Type 0 where
-  pub input : compilation_of read ≡ record { order = order; pointer_bytes = pointer_bytes; modules = carry.modules_from 0 ts fss (carry.told_from registers names 0 0 fss offsets); next_id = 0 }
+-- What was read is these translations, functions and memories, for a target of a byte order, an address size, numbers of registers and
+-- a common information entry, if it has one, with names of the run time's functions.
+pub record IsCompiled (order : Endian) (pointer_bytes : ℕ) (registers : Registers) (entry : Option CommonEntry) (names : LinkageNames) (ts : List ModuleTranslation) (fss : List (List Compiled)) (offsets : List ModuleMemoryOffset) (read : Loaded) : Type 0 where
+  pub input : compilation_of read ≡ record { order = order; pointer_bytes = pointer_bytes; modules = carry.modules_from 0 ts fss (carry.told_from registers names 0 0 fss offsets); next_id = 0; common_entry = entry }
   pub maps : bad_map read ≡ option_map bad_view (carry.bad_map_from 0 ts fss)
   pub symbols : shared_in read ≡ shared_symbol (map symbol_view (all_symbols fss))

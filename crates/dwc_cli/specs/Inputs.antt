@@ -97,7 +97,7 @@ modules_of registers names place number (w ∷ ws) (m ∷ ms) =
 
 -- the compilation of a map and modules
 abbrev pub compilation : MapFile → List WasmModule → Compilation
-compilation m ws = record { order = if m.target.big_endian then Big else Little; pointer_bytes = m.target.pointer_bytes; modules = modules_of m.target.registers (names_of m) 0 0 ws m.modules; next_id = 0 }
+compilation m ws = record { order = if m.target.big_endian then Big else Little; pointer_bytes = m.target.pointer_bytes; modules = modules_of m.target.registers (names_of m) 0 0 ws m.modules; next_id = 0; common_entry = m.target.common_entry }
 
 -- what was read of an input: its modules, and its map
 pub record Loaded : Type 0 where

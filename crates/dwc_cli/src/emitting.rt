@@ -65,7 +65,7 @@ fn compiled<'a>(
 ) -> Result<Vec<DwarfSection>, Failure<'static>>
     requires counted { IsCounted translations.now (lists functions.now) memory_offsets.items }
     requires names { AreNames (string_bytes names.now.set) (string_bytes names.now.resolve) }
-    ensures { (read : Loaded) → IsCompiled isa.now.order isa.now.pointer_bytes isa.now.registers (linkage_names names.now) translations.now (lists functions.now) memory_offsets.items read → Emits read result }
+    ensures { (read : Loaded) → IsCompiled isa.now.order isa.now.pointer_bytes isa.now.registers isa.now.common_entry (linkage_names names.now) translations.now (lists functions.now) memory_offsets.items read → Emits read result }
 {
     let names = LinkageNames {
         set_memory: &names.set,
@@ -91,7 +91,7 @@ fn emitted_for(
     isa: &TableIsa,
     compilation: &mut Compilation<'_>,
 ) -> Result<Vec<DwarfSection>, DebugError>
-    ensures { emitting.Emits isa.now.order isa.now.pointer_bytes isa.now.registers compilation.old result }
+    ensures { emitting.Emits isa.now.order isa.now.pointer_bytes isa.now.registers isa.now.common_entry compilation.old result }
 {
     emit_dwarf(alloc, isa, compilation)
 }

@@ -99,6 +99,8 @@ impl From<DebugError> for Failure<'_> {
             DebugError::BadLabelRange { .. } => Status::BadLabelRange,
             DebugError::InvalidAttributeValue { .. } => Status::InvalidAttributeValue,
             DebugError::UnmappedRegister { .. } => Status::UnmappedRegister,
+            DebugError::InvalidFrameCodeOffset { .. } => Status::InvalidFrameCodeOffset,
+            DebugError::InvalidFrameDataOffset { .. } => Status::InvalidFrameDataOffset,
             DebugError::TooLarge { .. } => Status::TooLarge,
             DebugError::OutOfMemory => return Failure::OutOfMemory,
         };

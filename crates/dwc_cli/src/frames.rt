@@ -2,7 +2,7 @@
 ghost use Rattle.std.specs.Prelude.{◌≡◌, ◌≢◌, ℕ, ℤ, nat_abs, map, option_map, option_and_then, IfOk, Some, None};
 ghost use Rattle.std.specs.List.{list_all};
 ghost use Rattle.serde_json.specs.View.{view, items_view};
-ghost use Rattle.dwc_base.specs.CallFrames.{FrameInstruction, below_zero, factored_offset, has_factored_offset, is_multiple_of, is_sound};
+ghost use Rattle.dwc_base.specs.CallFrames.{FrameInstruction, has_factored_offset, is_sound};
 ghost use Rattle.dwc_clif.specs.CallFrames.{instruction_view, cie_view, description_view};
 ghost use Rattle.dwc_cli.specs.MapValues.{u32_of, nullable, all_items, pair_of, value_or, named_in};
 ghost use Rattle.dwc_cli.specs.MapFrames.{alone, of_register, of_offset, of_both, instruction_kinds, instruction_of, frame_of, cie_of};
@@ -62,50 +62,13 @@ fn two_operands(operands: &[Value]) -> Option<(u16, i32)>
 
 // ---- What can be written
 
-// An offset that is below 0.
-fn offset_below_zero(offset: i32) -> Option<i32>
-    ensures { result ≡ below_zero offset }
-{
-    if offset < 0 { Some(offset) } else { None }
-}
-
-// The offset of an instruction that is written in units of the data factor.
-fn factored_offset_of(op: FrameOp) -> Option<i32>
-    ensures { result ≡ factored_offset (instruction_view op) }
-{
-    match op {
-        FrameOp::Offset(_, offset) => Some(offset),
-        FrameOp::Cfa(_, offset) => offset_below_zero(offset),
-        FrameOp::CfaOffset(offset) => offset_below_zero(offset),
-        _ => None,
-    }
-}
-
-// Whether an offset is so many times a factor. Of magnitudes, so that the lowest offset by -1 has no overflow.
-fn is_multiple(offset: i32, factor: i8) -> bool
-    requires { nat_abs factor ≢ 0 }
-    ensures { result ≡ is_multiple_of factor (Some offset) }
-{
-    offset.unsigned_abs() % u32::from(factor.unsigned_abs()) == 0
-}
-
-// Whether the offset of an instruction in units of the data factor, if it has one, is so many times the factor.
-fn has_multiple_offset(factor: i8, op: FrameOp) -> bool
-    requires { nat_abs factor ≢ 0 }
-    ensures { result ≡ has_factored_offset factor (instruction_view op) }
-{
-    match factored_offset_of(op) {
-        Some(offset) => is_multiple(offset, factor),
-        None => true,
-    }
-}
-
+// Whether the offsets of instructions in units of the data factor are so many times the factor.
 fn have_multiple_offsets(factor: i8, ops: &[FrameOp]) -> bool
     requires { nat_abs factor ≢ 0 }
     ensures { result ≡ list_all (has_factored_offset factor) (map instruction_view ops.now) }
 {
     for op in ops {
-        if !has_multiple_offset(factor, *op) {
+        if !op.has_factored_offset(factor) {
             return false;
         }
     }

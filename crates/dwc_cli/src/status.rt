@@ -33,6 +33,10 @@ pub enum Status {
     InvalidAttributeValue = 15,
     /// A value that an expression needs lies in a register without a number of DWARF.
     UnmappedRegister = 16,
+    /// The code offsets of a function's frame fall, or one is no multiple of the code factor.
+    InvalidFrameCodeOffset = 17,
+    /// A factored offset of a function's frame is no multiple of the data factor.
+    InvalidFrameDataOffset = 18,
     /// A section, a function or an expression is too long, a range ends at no address, a jump goes too far, or a memory is too far
     /// behind in its context.
     TooLarge = 20,

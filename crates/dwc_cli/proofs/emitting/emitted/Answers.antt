@@ -16,4 +16,4 @@ pub returns : goal.returns
 returns c = λ read seen.
     let functions = ap lists c.deref-2.ensures.value ∙ c.in_ok-functions.ensures in
     let memories = c.in_ok-memory_offsets.ensures ∙ ap (map (λ m. m.memory)) c.deref.ensures.value in
-    c.compiled.ensures read (rw (functions, memories, c.in_ok-isa.ensures.order, c.in_ok-isa.ensures.size, c.in_ok-isa.ensures.registers) (compiled c.args.translations.now c.args.map_file read seen))
+    c.compiled.ensures read (rw (functions, memories, c.in_ok-isa.ensures.order, c.in_ok-isa.ensures.size, c.in_ok-isa.ensures.registers, c.in_ok-isa.ensures.entry) (compiled c.args.translations.now c.args.map_file read seen))

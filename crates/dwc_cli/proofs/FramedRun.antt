@@ -1,0 +1,136 @@
+-- The module without sections of DWARF where the frame of its function is told, from its bytes to the printed text: the module's own unit, and
+-- the frames behind it. A text without them is no answer.
+use Rattle.std.proofs.Common.{◌≡◌, ◌<◌, ℕ, zero, suc, pos, arith, List, [], ◌∷◌, ◌++◌, get_or, length, Some, None, refl, sym, ap, subst, ◌∙◌}
+use Rattle.std.specs.Prelude.{Option, All, codes, true}
+use Rattle.std.specs.List.{list_all}
+use Rattle.std.proofs.lemmas.List.Quantifiers.{all_pairs_push}
+use Rattle.dwc_base.specs.declared.records.Endian.TheVariants.{Little}
+use Rattle.dwc_base.specs.Outputs.{OutputSection, function, section, output_sections}
+use Rattle.dwc_base.specs.Fields.{IsRelocated}
+use Rattle.dwc_base.specs.Carried.{units, Compilation}
+use Rattle.dwc_base.specs.FramesCarried.{others_in}
+use Rattle.dwc_base.specs.LinesCarried.{LinesCarried}
+use Rattle.dwc_base.specs.OutputForm.{HaveTargetForm, HasDistinctNames}
+use Rattle.dwc_base.specs.OutputCarried.{OutputCarried}
+use Rattle.dwc_base.proofs.FramesApart.{frames-apart}
+use Rattle.dwc_base.proofs.OnFrames.{frames_on_literals}
+use Rattle.dwc_base.proofs.OwnTrees.{own_tree}
+use Rattle.dwc_base.proofs.CarriedSmall.{own_unit_out}
+use Rattle.dwc_base.proofs.OutputSmall.{Differ}
+use Rattle.dwc_cli.specs.Inputs.{Input, Loaded, loaded, compilation_of}
+use Rattle.dwc_cli.specs.Printed.{printed, is_plain}
+use Rattle.dwc_cli.specs.RunStatus.{Carries}
+use Rattle.dwc_cli.proofs.PrintedLaws.{printed_injective}
+use Rattle.dwc_cli.proofs.WholeRun.{whole_on_literals, read_in}
+use Rattle.dwc_cli.proofs.BrokenInputs.{file_bare}
+use Rattle.dwc_cli.proofs.Answers.{of_one}
+use Rattle.dwc_cli.proofs.BareRun.{output_bare, bare-read, differ, form-bare, names-bare, related-bare}
+use Rattle.dwc_cli.proofs.RefusedFrames.{map_framed, usual, zero_symbol, grows}
+
+-- ---- the input
+
+abbrev input_framed : Input
+input_framed = of_one (map_framed usual zero_symbol grows) file_bare
+
+abbrev read_framed : Loaded
+read_framed = read_in (loaded input_framed)
+
+abbrev compilation_framed : Compilation
+compilation_framed = compilation_of read_framed
+
+framed-read : loaded input_framed ≡ Some read_framed
+unfolding whole_on_literals
+framed-read = refl
+
+-- ---- the output
+
+-- the common entry, and from 24 on the description of the function
+abbrev section_framed : OutputSection
+section_framed = record {
+  name = codes ".debug_frame";
+  body =
+      0x14 ∷ 0x00 ∷ 0x00 ∷ 0x00 ∷ 0xFF ∷ 0xFF ∷ 0xFF ∷ 0xFF ∷ 0x01 ∷ 0x00 ∷ 0x01 ∷ 0x78 ∷ 0x10 ∷ 0x0C ∷ 0x07 ∷ 0x08 ∷ 0x90 ∷ 0x01
+      ∷ 0x00 ∷ 0x00 ∷ 0x00 ∷ 0x00 ∷ 0x00 ∷ 0x00
+      ∷ 0x1C ∷ 0x00 ∷ 0x00 ∷ 0x00 ∷ 0x00 ∷ 0x00 ∷ 0x00 ∷ 0x00 ∷ 0x00 ∷ 0x00 ∷ 0x00 ∷ 0x00 ∷ 0x00 ∷ 0x00 ∷ 0x00 ∷ 0x00
+      ∷ 0x1E ∷ 0x00 ∷ 0x00 ∷ 0x00 ∷ 0x00 ∷ 0x00 ∷ 0x00 ∷ 0x00 ∷ 0x41 ∷ 0x0E ∷ 0x10 ∷ 0x00 ∷ 0x00 ∷ 0x00 ∷ 0x00 ∷ 0x00 ∷ [];
+  relocations =
+      record { offset = 28; size = 4; target = section (codes ".debug_frame"); addend = pos 0 }
+      ∷ record { offset = 32; size = 8; target = function 0; addend = pos 0 } ∷ [];
+}
+
+abbrev pub output_framed : List OutputSection
+output_framed = output_bare ++ section_framed ∷ []
+
+-- a reader of entries and lines sees what it sees without the frames
+same_sections : output_sections Little output_framed ≡ output_sections Little output_bare
+same_sections = frames-apart Little output_bare section_framed refl
+
+whole-framed : All (λ m. (units m.sections).fault ≡ None) compilation_framed.modules
+unfolding whole_on_literals
+whole-framed zero d h = refl
+whole-framed (suc k) d h = absurd (omega arith)
+
+lines-framed : LinesCarried compilation_framed output_framed
+unfolding whole_on_literals
+lines-framed = record { whole = whole-framed; output = own_unit_out ∷ []; output_read = ap units same_sections ∙ bare-read; each = (refl, tt) }
+
+form-framed : HaveTargetForm 8 (units (output_sections Little output_framed)).items
+form-framed = subst (λ s. HaveTargetForm 8 (units s).items) (sym same_sections) form-bare
+
+-- the name of the frames differs from the others' at its eighth letter
+each-differs : (k : ℕ) (d : OutputSection) → k < length output_bare → Differ (get_or output_bare k d) section_framed
+each-differs zero d within = differ (get_or output_bare 0 d) section_framed refl
+each-differs (suc zero) d within = differ (get_or output_bare 1 d) section_framed refl
+each-differs (suc (suc zero)) d within = differ (get_or output_bare 2 d) section_framed refl
+each-differs (suc (suc (suc k))) d within = absurd (omega (arith, within))
+
+names-framed : HasDistinctNames output_framed
+names-framed = all_pairs_push Differ output_bare section_framed names-bare each-differs
+
+related-framed : All (IsRelocated (output_sections Little output_framed)) (others_in output_framed)
+related-framed = subst (λ s. All (IsRelocated s) output_bare) (sym same_sections) related-bare
+
+-- ---- the text
+
+carried-framed : OutputCarried compilation_framed output_framed
+unfolding whole_on_literals frames_on_literals
+carried-framed = record {
+  lines = lines-framed;
+  wanted = own_tree 0 ∷ [];
+  is_forest = refl;
+  trees = refl;
+  targets = refl;
+  scopes = (tt, tt);
+  locations = (tt, tt);
+  contexts = (tt, tt);
+  texts = refl;
+  form = form-framed;
+  names = names-framed;
+  relocated = related-framed;
+  frames = refl;
+}
+
+-- it is an answer with status 0
+carries-framed : Carries input_framed (Some []) (Some (printed output_framed))
+unfolding whole_on_literals
+carries-framed = record { read = read_framed; is_read = refl; accepted = refl; sections = output_framed; plain = refl; carried = carried-framed; short = refl; written = refl }
+
+-- ---- other texts
+
+-- an answer 0 whose text is printed of plain sections says that these carry what is read
+carried_by : (known : List OutputSection) → list_all is_plain known ≡ true → Carries input_framed (Some []) (Some (printed known)) → OutputCarried compilation_framed known
+carried_by known plain h =
+    let text : ◌≡◌ {A = Option (List ℕ)} (Some (printed known)) (Some (printed h.sections)) = h.written in
+    let texts : printed known ≡ printed h.sections = cc in
+    let same : h.sections ≡ known = sym (printed_injective known h.sections plain h.plain texts) in
+    let found : loaded input_framed ≡ Some h.read = h.is_read in
+    let reads : h.read ≡ read_framed = cc (found, framed-read) in
+    subst (OutputCarried compilation_framed) same (subst (λ r. OutputCarried (compilation_of r) h.sections) reads h.carried)
+
+-- one without the frames is no answer 0
+lost : OutputCarried compilation_framed output_bare → ⊥
+unfolding whole_on_literals frames_on_literals
+lost h = omega (arith, ap length h.frames)
+
+text-lost : Carries input_framed (Some []) (Some (printed output_bare)) → ⊥
+text-lost h = lost (carried_by output_bare refl h)
