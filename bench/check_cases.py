@@ -10,6 +10,7 @@ import tempfile
 import plain_run
 from plain_entries import AT_HIGH_PC, AT_LOW_PC, AT_NAME, AT_RANGES, AT_TYPE, TAG_COMPILE_UNIT, Reader, read_units, target_of, text_of
 from plain_expressions import OPERANDS
+from printed_frames import read_frames, told_frames
 
 
 def sections_of(text):
@@ -115,6 +116,12 @@ def contexts_of(text):
 
 
 CONTEXT = b"__vmctx"
+
+
+def frames_of(text):
+    """The body of the frames of printed sections and their relocations; nothing where there are none."""
+    found = [[body.hex(), *(" ".join(words) for words in relocations)] for name, body, relocations in sections_of(text) if name == ".debug_frame"]
+    return found[0] if found else []
 
 
 def all_places(text):
@@ -379,10 +386,17 @@ def compared_locations(text, order, size, path, lines):
     return compared
 
 
+def compared_frames(told, path):
+    """The call frames that readelf prints, beside those that the map tells, where they differ."""
+    lines, _ = asked("readelf", "--debug-dump=frames", path)
+    pair = (read_frames(lines), told_frames(told))
+    return [pair] if pair[0] != pair[1] else []
+
+
 def check(outputs):
     """Asks outside tools of each output that has units: llvm-dwarfdump whether it reads them without complaint, and the same rows,
-    range lists, bounds and locations in them; readelf, whether it reads the same range lists and locations, and eu-readelf the same
-    locations, expressions and references."""
+    range lists, bounds and locations in them; readelf, whether it reads the same range lists and locations, and the frames that the map
+    tells, and eu-readelf the same locations, expressions and references."""
     bad = 0
     for name, map_text, text in outputs:
         sections = sections_of(text)
@@ -395,7 +409,7 @@ def check(outputs):
             path = os.path.join(folder, "output.o")
             with open(path, "wb") as file:
                 file.write(elf(order, size, [(section, body) for section, body, _ in sections]))
-            found = complaints(text, order, size, path)
+            found = complaints(text, order, size, path) + compared_frames(told, path)
         found += verified(sections, order, size, [f["body_len"] for module in told["modules"] for f in module["functions"]])
         if found:
             bad += 1

@@ -15,6 +15,7 @@ import sys
 import check_cases
 import context_cases
 import entry_cases
+import frame_cases
 import listed_trees
 import location_cases
 import location_refusals
@@ -36,7 +37,7 @@ CRATE = os.path.join(BENCH, "..", "crates", "dwc_cases")
 # ---- files of cases
 
 READINGS = {"text": str, "rows": check_cases.rows_of, "code": check_cases.code_of, "places": check_cases.places_of}
-READINGS |= {"contexts": check_cases.contexts_of, "texts": check_cases.texts_of, "tree": listed_trees.tree_of, "wrappers": listed_trees.wrappers_of}
+READINGS |= {"contexts": check_cases.contexts_of, "frames": check_cases.frames_of, "texts": check_cases.texts_of, "tree": listed_trees.tree_of, "wrappers": listed_trees.wrappers_of}
 
 
 class Cases:
@@ -729,6 +730,7 @@ def main():
         type_name_cases.type_name_cases(Cases("type_names.txt"), module, map_of),
         object_pointer_cases.object_pointer_cases(Cases("object_pointers.txt"), module, map_of),
         context_cases.context_cases(Cases("contexts.txt"), module, map_of),
+        frame_cases.frame_cases(Cases("frames.txt")),
         line_cases(),
         listing_cases(),
     ]

@@ -7,6 +7,7 @@ Of each kind, for each N, the files are FOLDER/KIND_N.json with FOLDER/KIND_N.0.
 
 - functions: N functions, each with a subprogram, a line sequence of 20 rows and an address map of 20 entries.
 - modules: three modules of N functions each under one map; there are three wasm files.
+- frames: N functions with a call frame of 20 instructions each.
 - segments: one function of N sources, and a DW_LNE_set_address before each of its N rows, as wasm-opt writes them.
 
 Hostile ones:
@@ -33,6 +34,7 @@ Pointers:
 
 - pointers: N pointers that go to one chain of 1,000 constants and pointers, in turn, and a base type behind them.
 - named_pointers: N pointers with names of their own that go to one chain of 1,000 constants.
+- one_long_chain: N pointers with names of their own that go to one chain of N constants.
 - pointer_chain: N pointers, each of which goes to the next, and a base type behind them; their names have N bytes and fewer.
 - pointer_cycle: the same with the last going to the first; their names have N bytes.
 
@@ -182,11 +184,13 @@ def body_of(size):
 
 
 def map_of(modules):
-    """The map of some modules by their functions. Where these have labels, it tells registers and memories too."""
+    """The map of some modules by their functions. Where these have labels, it tells registers and memories too; where frames, what they share."""
     has_labels = any("labels" in function for functions in modules for function in functions)
     registers, memory = ({"registers": [[1, 3], [2, 14]]}, {"memory": {"defined": 80}}) if has_labels else ({}, {})
+    has_frames = any("frame" in function for functions in modules for function in functions)
+    common = {"cie": {"code_factor": 1, "data_factor": -8, "return_register": 16, "ops": [["cfa", 7, 8]]}} if has_frames else {}
     return {
-        "target": {"arch": "x86_64", **registers},
+        "target": {"arch": "x86_64", **registers, **common},
         "names": ["set_mem", "resolve_mem"],
         "modules": [{"path": f"/bench/module{i}.wasm", **memory, "functions": fs} for i, fs in enumerate(modules)],
     }
@@ -234,6 +238,13 @@ def names_module(count):
     """A module of so many functions, with names of these and of their locals."""
     wasm, functions = functions_module(count)
     return wasm + names_of(count), functions
+
+
+def frames_module(count):
+    """A module of so many functions, each with a call frame of 20 instructions."""
+    wasm, functions = functions_module(count)
+    steps = [[5 * k, ["cfa_offset", 8 * k + 16] if k % 2 else ["offset", k % 16, -8 * k]] for k in range(ROWS)]
+    return wasm, [{**function, "frame": {"len": CODE, "ops": steps}} for function in functions]
 
 
 def segments_module(rows):
@@ -499,9 +510,9 @@ def typed_module(count, made):
     return wasm + custom(".debug_str", b"t\0"), functions
 
 
-def chain_to_base(chain, tags):
+def chain_to_base(chain, tags, steps_count=STEPS_OF_A_CHAIN):
     """Types at an offset, each derived from the next, and a base type behind them."""
-    steps = b"".join(typed(tags[i % len(tags)], chain + (i + 1) * TYPED_SIZE) for i in range(STEPS_OF_A_CHAIN))
+    steps = b"".join(typed(tags[i % len(tags)], chain + (i + 1) * TYPED_SIZE) for i in range(steps_count))
     return steps + bytes([BASE_TYPE]) + u32(0)
 
 
@@ -516,13 +527,13 @@ def pointers_module(count):
     return typed_module(count, made)
 
 
-def named_pointers_module(count):
-    """The same with a name for each pointer, and a chain of constants."""
+def named_pointers_module(count, steps_count=STEPS_OF_A_CHAIN):
+    """The same with a name for each pointer, and a chain of so many constants."""
 
     def made(first):
         chain = first + count * NAMED_SIZE
         targets = range(first, chain, NAMED_SIZE)
-        return targets, (bytes([NAMED_POINTER]) + u32(0) + u32(chain)) * count + chain_to_base(chain, [CONSTANT])
+        return targets, (bytes([NAMED_POINTER]) + u32(0) + u32(chain)) * count + chain_to_base(chain, [CONSTANT], steps_count)
 
     return typed_module(count, made)
 
@@ -597,6 +608,7 @@ KINDS = {
     "functions": lambda n: [functions_module(n)],
     "modules": lambda n: [functions_module(n, i * n) for i in range(3)],
     "names": lambda n: [names_module(n)],
+    "frames": lambda n: [frames_module(n)],
     "segments": lambda n: [segments_module(n)],
     "units": lambda n: [units_module(n)],
     "shapes": lambda n: [shapes_module(n)],
@@ -614,6 +626,7 @@ KINDS = {
     "long_list": lambda n: [long_list_module(n)],
     "pointers": lambda n: [pointers_module(n)],
     "named_pointers": lambda n: [named_pointers_module(n)],
+    "one_long_chain": lambda n: [named_pointers_module(n, n)],
     "pointer_chain": lambda n: [pointer_chain_module(n)],
     "pointer_cycle": lambda n: [pointer_cycle_module(n)],
     "variables": lambda n: [variables_module(n)],
@@ -627,6 +640,7 @@ SIZES = {
     "functions": [1000, 25000, 50000],
     "modules": [5000, 10000],
     "names": [25000, 50000],
+    "frames": [25000, 50000],
     "segments": [5000, 10000],
     "units": [5000, 10000],
     "shapes": [30000, 60000],
@@ -644,6 +658,7 @@ SIZES = {
     "long_list": [100000, 200000],
     "pointers": [50000, 100000],
     "named_pointers": [50000, 100000],
+    "one_long_chain": [20000, 40000],
     "pointer_chain": [4000, 8000],
     "pointer_cycle": [4000, 8000],
     "variables": [50000, 100000],

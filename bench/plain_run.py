@@ -10,6 +10,7 @@ import plain_ranges
 from plain_entries import Reader, Refused, Unit, kept_offsets, read_table, read_units, sleb, uleb
 from plain_entries import AT_FRAME_BASE, AT_HIGH_PC, AT_LOW_PC, AT_RANGES, AT_STMT_LIST, DROPPED_NAMES, TAG_COMPILE_UNIT, TAG_SUBPROGRAM
 from plain_expressions import Machine, built, compiled, place_at
+from plain_frames import refuse_frames, write_frames
 from plain_locations import CONTEXT, is_location, locations_of
 from plain_own_units import own_unit
 from plain_spelling import write_units
@@ -338,9 +339,9 @@ class Writer:
     def __init__(self, target):
         self.order = "big" if target.get("big_endian", False) else "little"
         self.size = target.get("pointer_bytes", 8)
-        names = (".debug_abbrev", ".debug_info", ".debug_line", ".debug_ranges", ".debug_loc", ".debug_str")
+        names = (".debug_abbrev", ".debug_info", ".debug_line", ".debug_ranges", ".debug_loc", ".debug_str", ".debug_frame")
         self.sections = [Section(name) for name in names]
-        self.abbrev, self.info, self.line, self.ranges, self.loc, self.str = self.sections
+        self.abbrev, self.info, self.line, self.ranges, self.loc, self.str, self.frame = self.sections
         self.texts = {}  # where each text stands
 
     def printed(self):
@@ -447,8 +448,17 @@ def printed_text(map_bytes, modules):
         for unit in carried:
             units.append((tree_of(unit, emitted, is_big, resolve_name), len(writer.line.body)))
             write_lines(writer, unit.table, functions)
+    cie, frames = target.get("cie"), frames_of(told["modules"])
+    refuse_frames(cie, frames)
     write_units(writer, units)
+    write_frames(writer, cie, frames)
     return writer.printed()
+
+
+def frames_of(modules):
+    """The frames of the functions with a symbol, each with its function's number over all modules."""
+    functions = [f for module in modules for f in module["functions"]]
+    return [(number, f["frame"]) for number, f in enumerate(functions) if f["symbol"] is not None and f.get("frame")]
 
 
 def write_lines(writer, table, functions):
