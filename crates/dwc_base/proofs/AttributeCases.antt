@@ -6,7 +6,7 @@ use Rattle.dwc_base.specs.declared.records.Address.TheVariants.{Symbol}
 use Rattle.dwc_base.specs.Sections.{Sections}
 use Rattle.dwc_base.specs.Outputs.{function}
 use Rattle.dwc_base.specs.Trees.{address, constant, flag, block, text, line_table, entry, Tree}
-use Rattle.dwc_base.specs.Forests.{trees_made, first_refusal}
+use Rattle.dwc_base.specs.Forests.{module_trees, first_refusal}
 use Rattle.dwc_base.specs.TreeReading.{CarriesTrees}
 use Rattle.dwc_base.proofs.DraftsOnLiterals.{drafts_on_literals}
 use Rattle.dwc_base.proofs.OwnTrees.{own_tree, own_abbreviations, own_info, own_texts, context_entry, empty_list}
@@ -19,7 +19,7 @@ input-name_twice = an_input (0x01 ∷ 0x11 ∷ 0x01 ∷ 0x10 ∷ 0x17 ∷ 0x00 �
 abbrev wanted-name_twice : List Tree
 wanted-name_twice = own_tree 0 ∷ (an_entry 0 0x11 ((0x10, line_table) ∷ []) ∷ an_entry 1 0x2E ((0x11, address (Symbol 0 (pos 0))) ∷ (0x12, constant 0x0F 30) ∷ (0x03, text (0x62 ∷ [])) ∷ (0x3B, constant 0x0B 1) ∷ []) ∷ context_entry 2 0 6 [] ∷ []) ∷ []
 
-forest-name_twice : trees_made (a_compilation Little input-name_twice) ≡ wanted-name_twice
+forest-name_twice : module_trees (a_compilation Little input-name_twice) ≡ wanted-name_twice
 unfolding drafts_on_literals
 forest-name_twice = refl
 
@@ -38,7 +38,7 @@ input-type_twice = an_input (0x01 ∷ 0x11 ∷ 0x01 ∷ 0x10 ∷ 0x17 ∷ 0x00 �
 abbrev wanted-type_twice : List Tree
 wanted-type_twice = own_tree 0 ∷ (an_entry 0 0x11 ((0x10, line_table) ∷ []) ∷ an_entry 1 0x2E ((0x11, address (Symbol 0 (pos 0))) ∷ (0x12, constant 0x0F 30) ∷ (0x49, entry 1 3) ∷ (0x3B, constant 0x0B 1) ∷ []) ∷ context_entry 2 0 6 [] ∷ an_entry 1 0x24 ((0x03, text (0x69 ∷ 0x6E ∷ 0x74 ∷ [])) ∷ []) ∷ []) ∷ []
 
-forest-type_twice : trees_made (a_compilation Little input-type_twice) ≡ wanted-type_twice
+forest-type_twice : module_trees (a_compilation Little input-type_twice) ≡ wanted-type_twice
 unfolding drafts_on_literals
 forest-type_twice = refl
 
@@ -57,7 +57,7 @@ input-type_and_text = an_input (0x01 ∷ 0x11 ∷ 0x01 ∷ 0x10 ∷ 0x17 ∷ 0x0
 abbrev wanted-type_and_text : List Tree
 wanted-type_and_text = own_tree 0 ∷ (an_entry 0 0x11 ((0x10, line_table) ∷ []) ∷ an_entry 1 0x2E ((0x11, address (Symbol 0 (pos 0))) ∷ (0x12, constant 0x0F 30) ∷ (0x49, entry 1 3) ∷ []) ∷ context_entry 2 0 6 [] ∷ an_entry 1 0x24 ((0x03, text (0x69 ∷ 0x6E ∷ 0x74 ∷ [])) ∷ []) ∷ []) ∷ []
 
-forest-type_and_text : trees_made (a_compilation Little input-type_and_text) ≡ wanted-type_and_text
+forest-type_and_text : module_trees (a_compilation Little input-type_and_text) ≡ wanted-type_and_text
 unfolding drafts_on_literals
 forest-type_and_text = refl
 
@@ -76,7 +76,7 @@ input-constants = an_input (0x01 ∷ 0x11 ∷ 0x01 ∷ 0x10 ∷ 0x17 ∷ 0x00 �
 abbrev wanted-constants : List Tree
 wanted-constants = own_tree 0 ∷ (an_entry 0 0x11 ((0x10, line_table) ∷ []) ∷ an_entry 1 0x2E ((0x11, address (Symbol 0 (pos 0))) ∷ (0x12, constant 0x0F 30) ∷ (0x1C, constant 0x0B 255) ∷ (0x13, constant 0x05 65535) ∷ (0x3B, constant 0x06 4294967295) ∷ (0x0B, constant 0x07 18446744073709551615) ∷ (0x3E, constant 0x0F 1099511627776) ∷ (0x22, constant 0x0D 18446744073709551614) ∷ (0x2F, constant 0x0D 18446744073709551613) ∷ (0x37, constant 0x0D 5) ∷ (0x39, constant 0x05 9) ∷ (0x2D, constant 0x0D 18446744073709551615) ∷ []) ∷ context_entry 2 0 6 [] ∷ []) ∷ []
 
-forest-constants : trees_made (a_compilation Little input-constants) ≡ wanted-constants
+forest-constants : module_trees (a_compilation Little input-constants) ≡ wanted-constants
 unfolding drafts_on_literals
 forest-constants = refl
 
@@ -95,7 +95,7 @@ input-flags = an_input (0x01 ∷ 0x11 ∷ 0x01 ∷ 0x10 ∷ 0x17 ∷ 0x00 ∷ 0x
 abbrev wanted-flags : List Tree
 wanted-flags = own_tree 0 ∷ (an_entry 0 0x11 ((0x10, line_table) ∷ []) ∷ an_entry 1 0x2E ((0x11, address (Symbol 0 (pos 0))) ∷ (0x12, constant 0x0F 30) ∷ (0x3F, flag false) ∷ (0x3C, flag true) ∷ (0x34, flag true) ∷ []) ∷ context_entry 2 0 6 [] ∷ []) ∷ []
 
-forest-flags : trees_made (a_compilation Little input-flags) ≡ wanted-flags
+forest-flags : module_trees (a_compilation Little input-flags) ≡ wanted-flags
 unfolding drafts_on_literals
 forest-flags = refl
 
@@ -114,7 +114,7 @@ input-blocks = an_input (0x01 ∷ 0x11 ∷ 0x01 ∷ 0x10 ∷ 0x17 ∷ 0x00 ∷ 0
 abbrev wanted-blocks : List Tree
 wanted-blocks = own_tree 0 ∷ (an_entry 0 0x11 ((0x10, line_table) ∷ []) ∷ an_entry 1 0x2E ((0x11, address (Symbol 0 (pos 0))) ∷ (0x12, constant 0x0F 30) ∷ (0x1C, block (0x01 ∷ [])) ∷ (0x2004, block (0x02 ∷ 0x03 ∷ [])) ∷ (0x2005, block ([])) ∷ (0x2006, block (0x04 ∷ [])) ∷ []) ∷ context_entry 2 0 6 [] ∷ []) ∷ []
 
-forest-blocks : trees_made (a_compilation Little input-blocks) ≡ wanted-blocks
+forest-blocks : module_trees (a_compilation Little input-blocks) ≡ wanted-blocks
 unfolding drafts_on_literals
 forest-blocks = refl
 
@@ -133,7 +133,7 @@ input-dropped_forms = an_input (0x01 ∷ 0x11 ∷ 0x01 ∷ 0x10 ∷ 0x17 ∷ 0x0
 abbrev wanted-dropped_forms : List Tree
 wanted-dropped_forms = own_tree 0 ∷ (an_entry 0 0x11 ((0x10, line_table) ∷ []) ∷ an_entry 1 0x2E ((0x11, address (Symbol 0 (pos 0))) ∷ (0x12, constant 0x0F 30) ∷ (0x3A, text (0x78 ∷ [])) ∷ []) ∷ context_entry 2 0 6 [] ∷ []) ∷ []
 
-forest-dropped_forms : trees_made (a_compilation Little input-dropped_forms) ≡ wanted-dropped_forms
+forest-dropped_forms : module_trees (a_compilation Little input-dropped_forms) ≡ wanted-dropped_forms
 unfolding drafts_on_literals
 forest-dropped_forms = refl
 
@@ -152,7 +152,7 @@ input-dropped_names = an_input (0x01 ∷ 0x11 ∷ 0x01 ∷ 0x10 ∷ 0x17 ∷ 0x0
 abbrev wanted-dropped_names : List Tree
 wanted-dropped_names = own_tree 0 ∷ (an_entry 0 0x11 ((0x10, line_table) ∷ []) ∷ an_entry 1 0x2E ((0x11, address (Symbol 0 (pos 0))) ∷ (0x12, constant 0x0F 30) ∷ []) ∷ context_entry 2 0 6 [] ∷ []) ∷ []
 
-forest-dropped_names : trees_made (a_compilation Little input-dropped_names) ≡ wanted-dropped_names
+forest-dropped_names : module_trees (a_compilation Little input-dropped_names) ≡ wanted-dropped_names
 unfolding drafts_on_literals
 forest-dropped_names = refl
 

@@ -20,10 +20,11 @@ use Rattle.dwc_base.specs.Values.{Value, address, constant, flag, info_reference
 use Rattle.dwc_base.specs.LineRows.{Segment, row_in_force}
 use Rattle.dwc_base.specs.Images.{row_for_byte, IsImage}
 use Rattle.dwc_base.specs.Outputs.{OutputSection, function, output_sections}
-use Rattle.dwc_base.specs.Carried.{Unit, units, Module, Compilation, CarriedUnit}
+use Rattle.dwc_base.specs.Carried.{Unit, units, Module, Compilation}
 use Rattle.dwc_base.specs.ToldFiles.{bare_file}
-use Rattle.dwc_base.specs.Forests.{carried_units}
-use Rattle.dwc_base.specs.LinesCarried.{AreImages, LinesCarried}
+use Rattle.dwc_base.specs.Forests.{carried_units, module_units}
+use Rattle.std.specs.List.{AllZip}
+use Rattle.dwc_base.specs.LinesCarried.{AreImages, HasLines, LinesCarried}
 use Rattle.dwc_base.specs.Compiled.{nothing_told}
 
 -- the entries of the carried unit, at 88, 93 and 103
@@ -153,15 +154,15 @@ pub images-small : AreImages (record { module_of = module_small; unit = unit_sma
 images-small = record { input = segments_small; input_read = input-read; each = ((function_small, refl, image-small), tt) }
 
 -- the small module's units are read up to their section's end
-whole-small : All (λ m. (units m.sections).fault ≡ None) compilation_small.modules
+pub whole-small : All (λ m. (units m.sections).fault ≡ None) compilation_small.modules
 unfolding drafts_on_literals
 whole-small zero d h = refl
 whole-small (suc k) d h = absurd (omega arith)
 
--- the output carries the lines of the small module
-pub lines_carried-small : LinesCarried compilation_small output_small
+-- the units of the output have the lines of those of the small module
+pub lines-small : AllZip (HasLines (output_sections Little output_small)) (module_units compilation_small) (own_unit_out ∷ unit_out ∷ [])
 unfolding drafts_on_literals
-lines_carried-small = record { whole = whole-small; output = own_unit_out ∷ unit_out ∷ []; output_read = output-read; each = (no_lines-read, (record { images = image_small ∷ []; images_read = images-read; carried = images-small }, tt)) }
+lines-small = (no_lines-read, (record { images = image_small ∷ []; images_read = images-read; carried = images-small }, tt))
 
 -- with another line at byte 15 it is no image
 not_image-small : IsImage

@@ -34,7 +34,7 @@ use Rattle.dwc_base.proofs.MadeDrafts.{made-at, IfMade, wrapper-made}
 use Rattle.dwc_base.proofs.DraftGroups.{Groups, none, more, StaysTogether, groups-made}
 use Rattle.dwc_base.proofs.LocationScopes.{label-says, scope-kept}
 use Rattle.dwc_base.proofs.LocationForest.{both-none, in-unit, kept-accepted, none-refused}
-use Rattle.dwc_base.proofs.UnitsMade.{all-in, units-made}
+use Rattle.dwc_base.proofs.UnitsMade.{all-in, last-always, units-made}
 
 -- ---- the variable
 
@@ -181,3 +181,4 @@ pub made-contexts : (c : Compilation) → All (λ (m : Module). AreNumbered m.fu
 made-contexts c numbered keep accepted =
     units-made c (UnitHasContexts (drafts_of (is_big c.order))) (λ t. tt)
     (λ m i u carried places. unit-leads (is_big c.order) m (keep m.functions) (all-in (λ (n : Module). AreNumbered n.functions) c.modules m numbered i) (none-refused c accepted m i) u carried places)
+    (last-always (UnitHasContexts (drafts_of (is_big c.order))) (λ name ms t. tt) c.next_id c.modules)

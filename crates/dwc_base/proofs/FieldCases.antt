@@ -116,7 +116,7 @@ all-behind from place (r ∷ rs) before h =
     let here : place ≤ r.offset = leb-true place r.offset parts.0 in
     All-cons (λ r. from ≤ r.offset) r rs (omega (arith, before, here)) (all-behind from (r.offset + r.size) rs (omega (arith, before, here)) parts.1)
 
-each-behind : (place : ℕ) (rs : List OutputRelocation) → begin_behind place rs ≡ true → AllPairs Behind rs
+pub each-behind : (place : ℕ) (rs : List OutputRelocation) → begin_behind place rs ≡ true → AllPairs Behind rs
 each-behind place [] h = λ i j d less within. absurd (omega (arith, within))
 each-behind place (r ∷ rs) h =
     let parts = and_parts (nat_le place r.offset) (begin_behind (r.offset + r.size) rs) h in

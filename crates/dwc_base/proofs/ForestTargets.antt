@@ -11,7 +11,7 @@ use Rattle.dwc_base.specs.Listing.{Listing}
 use Rattle.dwc_base.specs.Entries.{Entry}
 use Rattle.dwc_base.specs.RawLists.{ListSource}
 use Rattle.dwc_base.specs.Lists as Lists
-use Rattle.dwc_base.specs.Lists.{ListRefusal, list_source, ranges_of_value}
+use Rattle.dwc_base.specs.Lists.{ListRefusal, ranges_of_value}
 use Rattle.dwc_base.specs.RangeAttributes.{begun_function, Extent, intervals, position, nowhere, extent, native_of_intervals, carried_address, carried_ranges, bounds, length_of, said_intervals, said_extent, range_attributes}
 use Rattle.dwc_base.specs.RangeRules.{all_items, drafted, list_becomes, code_becomes, told_as}
 use Rattle.dwc_base.specs.Reading.{◌>>=◌}
@@ -42,7 +42,7 @@ use Rattle.dwc_base.specs.LocationAttributes as LocationAttributes
 use Rattle.dwc_base.specs.LocationAttributes.{LocationRefusal, ListedExpression, value_of_expression, value_of_locations, read_expression, read_locations}
 use Rattle.dwc_base.specs.LocationRules.{ExpressionSource, lists_of, in_force_at, given_expression, expression_becomes, listed_by, listed_become, locations_become}
 use Rattle.dwc_base.specs.EntryRules.{of_list, of_location, wrappers_of, rules_of_source}
-use Rattle.dwc_base.specs.Forests.{kept_of, expressions_of, is_big, module_drafts, trees_made}
+use Rattle.dwc_base.specs.Forests.{kept_of, expressions_of, is_big, module_drafts, module_trees}
 use Rattle.dwc_base.proofs.InLists.{IsIn}
 use Rattle.dwc_base.proofs.MadeDrafts.{each-made}
 use Rattle.dwc_base.proofs.PointerLaws.{each-changed}
@@ -347,6 +347,6 @@ modules-no-place : (big_endian : Bool) (ms : List Module) → Each (ModuleSaysNo
 modules-no-place big_endian [] = tt
 modules-no-place big_endian (m ∷ ms) = (module-no-place big_endian m, modules-no-place big_endian ms)
 
--- Every reference of the trees that are made of an input goes to an entry of these trees.
-pub made-targets : (c : Compilation) → HasAllTargets (trees_made c)
+-- Every reference of the trees that are made of the modules of an input goes to an entry of these trees.
+pub made-targets : (c : Compilation) → HasAllTargets (module_trees c)
 made-targets c = references-go (map (module_drafts (is_big c.order)) c.modules) (modules-no-place (is_big c.order) c.modules)

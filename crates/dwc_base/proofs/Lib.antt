@@ -122,7 +122,6 @@ pub mod FrameCases
 pub mod FrameRefusals
 pub mod FrameSizes
 pub mod FramesApart
-pub mod FramesSmall
 pub mod SimulatedInputs
 pub mod UnitPathCases
 pub mod SimulatedUnitCases

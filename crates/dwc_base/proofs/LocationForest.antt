@@ -21,7 +21,7 @@ use Rattle.dwc_base.specs.ReachedEntries as Reached
 use Rattle.dwc_base.specs.EntryRules.{named_faults}
 use Rattle.dwc_base.specs.Values.{Value, address, address_index, block, constant, dropped, expression, flag, info_reference, is_location_name, line_reference, location_index, location_reference, range_index, range_reference, text, text_reference, unit_reference}
 use Rattle.dwc_base.specs.Trees as Trees
-use Rattle.dwc_base.specs.Trees.{Interval, Location, Tree, TreeEntry, TreeValue, locations}
+use Rattle.dwc_base.specs.Trees.{Interval, Location, TreeEntry, TreeValue}
 use Rattle.dwc_base.specs.Drafts.{Goal, DraftValue, done}
 use Rattle.dwc_base.specs.DraftForests.{settled_entry, settled_unit}
 use Rattle.dwc_base.specs.Clones.{UnitSource, CodeRules, attribute_becomes, attributes_become, attributes_made, value_becomes, if_refused, entry_refusals}
@@ -35,13 +35,14 @@ use Rattle.dwc_base.specs.LocationAttributes.{LocationRefusal, of_place, of_buil
 use Rattle.dwc_base.specs.LocationRules.{ExpressionSource, given_expression, expression_becomes, in_force_at, listed_by, listed_become, lists_of, locations_become}
 use Rattle.dwc_base.specs.EntryRules.{code_value_becomes, of_list, of_location, wrappers_of, rules_of_source}
 use Rattle.dwc_base.specs.RangeRefusals.{has_name}
+use Rattle.dwc_base.specs.LastUnit.{last_refusals}
 use Rattle.dwc_base.specs.Forests.{kept_of, expressions_of, rules_of, wanted_units, is_big, drafts_of, function_refusals, own_refusals, reading_refusals, module_refusals, refusals, first_refusal, trees_made, refused_frames}
 use Rattle.dwc_base.specs.ScopesCarried.{AreNumbered, TranslationsKeepScopes, KeepsScope, value_of_entry}
 use Rattle.dwc_base.specs.LocationsCarried.{LocationUse, over_scope, over_intervals, use_over, interval_used, intervals_used, use_of, IntervalSaysWhere, ListSaysWhere, ValueSaysWhere, NameSaysWhere, CarriesLocations, UnitCarriesLocations, UnitHasLocations, LocationsCarried}
 use Rattle.dwc_base.proofs.InLists.{IsIn, in-filter}
 use Rattle.dwc_base.proofs.MadeDrafts.{unit-says}
 use Rattle.dwc_base.proofs.PointerLaws.{changed-said, location-untouched}
-use Rattle.dwc_base.proofs.UnitsMade.{all-in, units-made}
+use Rattle.dwc_base.proofs.UnitsMade.{LastIs, all-in, units-made}
 use Rattle.dwc_base.proofs.LocationScopes.{expression-says, interval-says, scope-kept}
 use Rattle.dwc_base.proofs.LastAttributes.{AreOthers, IsPlain, IsValue, SaysLast, become-both, location-plain, says-last, value_made}
 
@@ -390,13 +391,15 @@ no-first (x ∷ xs) h = absurd (cc)
 -- of an input of which nothing is refused nothing is of a module
 pub none-refused : (c : Compilation) → first_refusal c ≡ None → (m : Module) → IsIn m c.modules → module_refusals m ≡ []
 none-refused c accepted m i =
-    let behind = (both-none (flat_map (λ (n : Module). function_refusals n.functions) c.modules) (flat_map module_refusals c.modules ++ refused_frames c) (no-first (refusals c) accepted)).1 in
-    each-none module_refusals c.modules m (both-none (flat_map module_refusals c.modules) (refused_frames c) behind).0 i
+    let last = last_refusals c.next_id c.modules ++ refused_frames c in
+    let behind = (both-none (flat_map (λ (n : Module). function_refusals n.functions) c.modules) (flat_map module_refusals c.modules ++ last) (no-first (refusals c) accepted)).1 in
+    each-none module_refusals c.modules m (both-none (flat_map module_refusals c.modules) last behind).0 i
 
 -- The trees that are made of an input of which nothing is refused, whose functions have good maps and numbers of their own, carry its
--- locations.
-pub made-locations : (c : Compilation) → All (λ (m : Module). AreNumbered m.functions) c.modules → ((fs : List Function) → TranslationsKeepScopes fs) → first_refusal c ≡ None
+-- locations, if the last one does.
+pub made-locations : (c : Compilation) → All (λ (m : Module). AreNumbered m.functions) c.modules → ((fs : List Function) → TranslationsKeepScopes fs) → first_refusal c ≡ None → LastIs (UnitHasLocations (drafts_of (is_big c.order))) c.next_id c.modules
     → LocationsCarried (drafts_of (is_big c.order)) (wanted_units c) (trees_made c)
-made-locations c numbered keep accepted =
+made-locations c numbered keep accepted last =
     units-made c (UnitHasLocations (drafts_of (is_big c.order))) (λ t. tt)
     (λ m i u carried places. unit-carries (is_big c.order) m (keep m.functions) (all-in (λ (n : Module). AreNumbered n.functions) c.modules m numbered i) (none-refused c accepted m i) u places carried)
+    last

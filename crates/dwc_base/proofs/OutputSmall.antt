@@ -1,4 +1,4 @@
--- The output for the small module carries it whole: lines, entries, the form of units, names and relocations.
+-- The units of an output for the small module: their form, what their entries say, and names and texts.
 use Rattle.std.proofs.Common.{◌≡◌, ◌≢◌, ℕ, List, [], ◌∷◌, ◌++◌, get_or, refl, ap, sym, subst, ◌∙◌, inl, inr, arith, suc, Option, Some, None, Bool, true, false, true≢false, ◌==◌, map}
 use Rattle.std.specs.Prelude.{AllPairs, Contains, drop, is_some, if◌then◌else◌, ◌&&◌}
 use Rattle.std.proofs.lemmas.List.Elements.{All-cons, All-nil}
@@ -9,10 +9,9 @@ use Rattle.dwc_base.specs.Carried.{Unit, units}
 use Rattle.dwc_base.specs.TreeLaws.{HasAllTargets, HasTextsOnce}
 use Rattle.dwc_base.proofs.DraftsOnLiterals.{drafts_on_literals}
 use Rattle.dwc_base.specs.OutputForm.{HaveTargetForm, HasDistinctNames}
-use Rattle.dwc_base.specs.OutputCarried.{OutputCarried}
 use Rattle.dwc_base.specs.Entries.{Entry}
 use Rattle.dwc_base.specs.Lists.{list_source}
-use Rattle.dwc_base.specs.Forests.{expressions_of, wanted_units, drafts_of}
+use Rattle.dwc_base.specs.Forests.{expressions_of, module_units, drafts_of}
 use Rattle.dwc_base.specs.LocationsCarried.{SaysWhere, CarriesLocations, LocationsCarried}
 use Rattle.dwc_base.specs.ContextsCarried.{IsContext, CarriesContext, ContextsCarried}
 use Rattle.dwc_base.specs.Functions.{Function}
@@ -30,9 +29,8 @@ use Rattle.dwc_base.proofs.ForestLaws.{Each, none_is}
 use Rattle.dwc_base.proofs.InLists.{IsIn, contains-in}
 use Rattle.dwc_base.proofs.LineTables.{function_small}
 use Rattle.dwc_base.proofs.Readings.{sections_small, header_small}
-use Rattle.dwc_base.proofs.CarriedSmall.{module_small, unit_small, own_unit_out, unit_out, output-read, output_small, compilation_small, lines_carried-small}
-use Rattle.dwc_base.proofs.TreesSmall.{tree_small, trees_small, forest-small, carries-small}
-use Rattle.dwc_base.proofs.FieldCases.{related-small}
+use Rattle.dwc_base.proofs.CarriedSmall.{module_small, unit_small, own_unit_out, unit_out, output-read, output_small, compilation_small}
+use Rattle.dwc_base.proofs.TreesSmall.{tree_small, trees_small}
 
 abbrev pub HasForm : Unit → Type 0
 HasForm u = (u.header.version ≡ 4) × (u.header.address_size ≡ 8)
@@ -117,7 +115,7 @@ said_at place = get_or tree_small place (record { depth = 0; tag = 0; attributes
 abbrev draft_at : ℕ → Draft
 draft_at place = get_or (drafts_of false (record { module_of = module_small; unit = unit_small })) place (record { depth = 0; tag = 0; origin = None; attributes = [] })
 
-pub scopes-small : ScopesCarried (drafts_of false) (wanted_units compilation_small) trees_small
+pub scopes-small : ScopesCarried (drafts_of false) (module_units compilation_small) trees_small
 unfolding drafts_on_literals
 scopes-small = (tt, (((λ e among made. carries-no_scope e (said_at 0) among), ((λ e among made. carries-no_scope e (said_at 1) among), ((λ e among made. carries-no_scope e (said_at 2) among), tt))), tt))
 
@@ -138,7 +136,7 @@ carries-no_location e out among = λ before after a plain are named last. absurd
     here e (inr (inl same)) = rw same (refl, (refl, tt))
     here e (inr (inr none)) = absurd none
 
-pub locations-small : LocationsCarried (drafts_of false) (wanted_units compilation_small) trees_small
+pub locations-small : LocationsCarried (drafts_of false) (module_units compilation_small) trees_small
 unfolding drafts_on_literals
 locations-small = (tt, (((λ e among made. carries-no_location e (said_at 0) among), ((λ e among made. carries-no_location e (said_at 1) among), ((λ e among made. carries-no_location e (said_at 2) among), tt))), tt))
 
@@ -196,23 +194,6 @@ subprogram-leads e (inl same) = subst (LeadsAt 1) (sym same) (λ made. absurd (t
 subprogram-leads e (inr (inl same)) = subst (LeadsAt 1) (sym same) (λ made tag. context-small)
 subprogram-leads e (inr (inr none)) = absurd none
 
-pub contexts-small : ContextsCarried (drafts_of false) (wanted_units compilation_small) trees_small
+pub contexts-small : ContextsCarried (drafts_of false) (module_units compilation_small) trees_small
 unfolding drafts_on_literals
 contexts-small = (tt, (((λ e among. root-leads e (contains-in unit_small.entries e among)), ((λ e among. subprogram-leads e (contains-in unit_small.entries e among)), ((λ e among made. absurd (true≢false (sym made))), tt))), tt))
-
-output_carried-small : OutputCarried compilation_small output_small
-output_carried-small = record {
-  lines = lines_carried-small;
-  wanted = trees_small;
-  is_forest = forest-small;
-  trees = carries-small;
-  targets = targets-small;
-  scopes = scopes-small;
-  locations = locations-small;
-  contexts = contexts-small;
-  texts = texts-small;
-  form = form-small;
-  names = names-small;
-  relocated = related-small;
-  frames = refl;
-}

@@ -10,7 +10,7 @@ use Rattle.dwc_base.specs.Carried.{Module}
 use Rattle.dwc_base.specs.Compiled.{Memory, no_memory, defined, imported}
 use Rattle.dwc_base.specs.Drafts.{own_entry, goes_to, Draft}
 use Rattle.dwc_base.specs.DraftForests.{forest}
-use Rattle.dwc_base.specs.Forests.{trees_made}
+use Rattle.dwc_base.specs.Forests.{module_trees}
 use Rattle.dwc_base.specs.MadeEntries.{named, data1, made}
 use Rattle.dwc_base.specs.OwnUnits.{place_of_context_pointer, place_of_wasm_pointer, is_too_far, own_unit}
 use Rattle.dwc_base.specs.Outputs.{OutputSection, output_sections}
@@ -99,7 +99,7 @@ abbrev without_sections : Memory → Module
 without_sections memory = record (module_with [] [] []) { told = record told_small { memory = memory } }
 
 -- four modules, of which the second and the last have a carried unit, each with its own context
-in-front : trees_made (record {
+in-front : module_trees (record {
   order = Little;
   pointer_bytes = 8;
   modules = without_sections no_memory ∷ with_memory (defined 0) line_small ∷ without_sections (defined 80) ∷ with_memory (imported 8 16) line_small ∷ [];
@@ -111,12 +111,12 @@ unfolding drafts_on_literals
 in-front = refl
 
 -- its constants are the same for a target of the other byte order
-other-order : trees_made (record { order = Big; pointer_bytes = 4; modules = without_sections (defined 80) ∷ []; next_id = 0; common_entry = None }) ≡ own_tree_with 0 80 ∷ []
+other-order : module_trees (record { order = Big; pointer_bytes = 4; modules = without_sections (defined 80) ∷ []; next_id = 0; common_entry = None }) ≡ own_tree_with 0 80 ∷ []
 unfolding drafts_on_literals
 other-order = refl
 
 -- no module has no unit
-no-modules : trees_made (record { order = Little; pointer_bytes = 8; modules = []; next_id = 0; common_entry = None }) ≡ []
+no-modules : module_trees (record { order = Little; pointer_bytes = 8; modules = []; next_id = 0; common_entry = None }) ≡ []
 unfolding drafts_on_literals
 no-modules = refl
 

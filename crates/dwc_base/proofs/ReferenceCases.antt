@@ -6,7 +6,7 @@ use Rattle.dwc_base.specs.declared.records.Address.TheVariants.{Symbol}
 use Rattle.dwc_base.specs.Sections.{Sections}
 use Rattle.dwc_base.specs.Outputs.{function}
 use Rattle.dwc_base.specs.Trees.{address, constant, text, line_table, entry, Tree}
-use Rattle.dwc_base.specs.Forests.{trees_made, first_refusal}
+use Rattle.dwc_base.specs.Forests.{module_trees, first_refusal}
 use Rattle.dwc_base.specs.TreeReading.{CarriesTrees}
 use Rattle.dwc_base.proofs.DraftsOnLiterals.{drafts_on_literals}
 use Rattle.dwc_base.proofs.OwnTrees.{own_tree, own_abbreviations, own_info, own_texts, context_entry, empty_list}
@@ -19,7 +19,7 @@ input-row = an_input (0x01 ∷ 0x11 ∷ 0x01 ∷ 0x10 ∷ 0x17 ∷ 0x00 ∷ 0x00
 abbrev wanted-row : List Tree
 wanted-row = own_tree 0 ∷ (an_entry 0 0x11 ((0x10, line_table) ∷ []) ∷ an_entry 1 0x2E ((0x11, address (Symbol 0 (pos 0))) ∷ (0x12, constant 0x0F 30) ∷ (0x03, text (0x66 ∷ [])) ∷ (0x49, entry 1 3) ∷ []) ∷ context_entry 2 0 6 [] ∷ an_entry 1 0x24 ((0x03, text (0x69 ∷ 0x6E ∷ 0x74 ∷ [])) ∷ []) ∷ []) ∷ []
 
-forest-row : trees_made (a_compilation Little input-row) ≡ wanted-row
+forest-row : module_trees (a_compilation Little input-row) ≡ wanted-row
 unfolding drafts_on_literals
 forest-row = refl
 
@@ -38,7 +38,7 @@ input-nowhere = an_input (0x01 ∷ 0x11 ∷ 0x01 ∷ 0x10 ∷ 0x17 ∷ 0x00 ∷ 
 abbrev wanted-nowhere : List Tree
 wanted-nowhere = own_tree 0 ∷ (an_entry 0 0x11 ((0x10, line_table) ∷ []) ∷ an_entry 1 0x2E ((0x11, address (Symbol 0 (pos 0))) ∷ (0x12, constant 0x0F 30) ∷ (0x03, text (0x66 ∷ [])) ∷ []) ∷ context_entry 2 0 6 [] ∷ []) ∷ []
 
-forest-nowhere : trees_made (a_compilation Little input-nowhere) ≡ wanted-nowhere
+forest-nowhere : module_trees (a_compilation Little input-nowhere) ≡ wanted-nowhere
 unfolding drafts_on_literals
 forest-nowhere = refl
 
@@ -57,7 +57,7 @@ input-across = an_input (0x01 ∷ 0x11 ∷ 0x01 ∷ 0x10 ∷ 0x17 ∷ 0x00 ∷ 0
 abbrev wanted-across : List Tree
 wanted-across = own_tree 0 ∷ (an_entry 0 0x11 ((0x10, line_table) ∷ []) ∷ an_entry 1 0x2E ((0x11, address (Symbol 0 (pos 0))) ∷ (0x12, constant 0x0F 30) ∷ (0x49, entry 2 1) ∷ []) ∷ context_entry 2 0 6 [] ∷ an_entry 1 0x24 ((0x03, text (0x69 ∷ 0x6E ∷ 0x74 ∷ [])) ∷ []) ∷ []) ∷ (an_entry 0 0x11 ([]) ∷ an_entry 1 0x13 ((0x03, text (0x53 ∷ [])) ∷ []) ∷ an_entry 2 0x0D ((0x49, entry 1 3) ∷ (0x1D, entry 2 1) ∷ []) ∷ []) ∷ []
 
-forest-across : trees_made (a_compilation Little input-across) ≡ wanted-across
+forest-across : module_trees (a_compilation Little input-across) ≡ wanted-across
 unfolding drafts_on_literals
 forest-across = refl
 
@@ -76,7 +76,7 @@ input-past_unit = an_input (0x01 ∷ 0x11 ∷ 0x01 ∷ 0x10 ∷ 0x17 ∷ 0x00 �
 abbrev wanted-past_unit : List Tree
 wanted-past_unit = own_tree 0 ∷ (an_entry 0 0x11 ((0x10, line_table) ∷ []) ∷ an_entry 1 0x2E ((0x11, address (Symbol 0 (pos 0))) ∷ (0x12, constant 0x0F 30) ∷ []) ∷ context_entry 2 0 6 [] ∷ []) ∷ (an_entry 0 0x11 ([]) ∷ an_entry 1 0x2E ((0x11, address (Symbol 0 (pos 0))) ∷ (0x12, constant 0x0F 30) ∷ []) ∷ context_entry 2 0 6 [] ∷ []) ∷ []
 
-forest-past_unit : trees_made (a_compilation Little input-past_unit) ≡ wanted-past_unit
+forest-past_unit : module_trees (a_compilation Little input-past_unit) ≡ wanted-past_unit
 unfolding drafts_on_literals
 forest-past_unit = refl
 
@@ -95,7 +95,7 @@ input-to_partial = an_input (0x01 ∷ 0x11 ∷ 0x01 ∷ 0x10 ∷ 0x17 ∷ 0x00 �
 abbrev wanted-to_partial : List Tree
 wanted-to_partial = own_tree 0 ∷ (an_entry 0 0x11 ((0x10, line_table) ∷ []) ∷ an_entry 1 0x2E ((0x11, address (Symbol 0 (pos 0))) ∷ (0x12, constant 0x0F 30) ∷ (0x03, text (0x66 ∷ [])) ∷ []) ∷ context_entry 2 0 6 [] ∷ []) ∷ []
 
-forest-to_partial : trees_made (a_compilation Little input-to_partial) ≡ wanted-to_partial
+forest-to_partial : module_trees (a_compilation Little input-to_partial) ≡ wanted-to_partial
 unfolding drafts_on_literals
 forest-to_partial = refl
 
@@ -114,7 +114,7 @@ input-root_alone = an_input (0x01 ∷ 0x11 ∷ 0x01 ∷ 0x10 ∷ 0x17 ∷ 0x00 �
 abbrev wanted-root_alone : List Tree
 wanted-root_alone = own_tree 0 ∷ (an_entry 0 0x11 ((0x10, line_table) ∷ []) ∷ an_entry 1 0x2E ((0x11, address (Symbol 0 (pos 0))) ∷ (0x12, constant 0x0F 30) ∷ (0x31, entry 2 0) ∷ []) ∷ context_entry 2 0 6 [] ∷ []) ∷ (an_entry 0 0x11 ((0x03, text (0x75 ∷ [])) ∷ []) ∷ []) ∷ []
 
-forest-root_alone : trees_made (a_compilation Little input-root_alone) ≡ wanted-root_alone
+forest-root_alone : module_trees (a_compilation Little input-root_alone) ≡ wanted-root_alone
 unfolding drafts_on_literals
 forest-root_alone = refl
 
@@ -133,7 +133,7 @@ input-to_itself = an_input (0x01 ∷ 0x11 ∷ 0x01 ∷ 0x10 ∷ 0x17 ∷ 0x00 �
 abbrev wanted-to_itself : List Tree
 wanted-to_itself = own_tree 0 ∷ (an_entry 0 0x11 ((0x10, line_table) ∷ []) ∷ an_entry 1 0x2E ((0x11, address (Symbol 0 (pos 0))) ∷ (0x12, constant 0x0F 30) ∷ (0x31, entry 1 1) ∷ (0x47, entry 1 1) ∷ (0x18, entry 1 1) ∷ []) ∷ context_entry 2 0 6 [] ∷ []) ∷ []
 
-forest-to_itself : trees_made (a_compilation Little input-to_itself) ≡ wanted-to_itself
+forest-to_itself : module_trees (a_compilation Little input-to_itself) ≡ wanted-to_itself
 unfolding drafts_on_literals
 forest-to_itself = refl
 
@@ -152,7 +152,7 @@ input-sibling = an_input (0x01 ∷ 0x11 ∷ 0x01 ∷ 0x10 ∷ 0x17 ∷ 0x00 ∷ 
 abbrev wanted-sibling : List Tree
 wanted-sibling = own_tree 0 ∷ (an_entry 0 0x11 ((0x10, line_table) ∷ []) ∷ an_entry 1 0x2E ((0x11, address (Symbol 0 (pos 0))) ∷ (0x12, constant 0x0F 30) ∷ []) ∷ context_entry 2 0 6 [] ∷ []) ∷ []
 
-forest-sibling : trees_made (a_compilation Little input-sibling) ≡ wanted-sibling
+forest-sibling : module_trees (a_compilation Little input-sibling) ≡ wanted-sibling
 unfolding drafts_on_literals
 forest-sibling = refl
 
@@ -171,7 +171,7 @@ input-order = an_input (0x01 ∷ 0x11 ∷ 0x01 ∷ 0x10 ∷ 0x17 ∷ 0x00 ∷ 0x
 abbrev wanted-order : List Tree
 wanted-order = own_tree 0 ∷ (an_entry 0 0x11 ((0x10, line_table) ∷ []) ∷ an_entry 1 0x2E ((0x11, address (Symbol 0 (pos 0))) ∷ (0x12, constant 0x0F 30) ∷ (0x03, text (0x66 ∷ [])) ∷ (0x3B, constant 0x0B 7) ∷ []) ∷ context_entry 2 0 6 [] ∷ []) ∷ []
 
-forest-order : trees_made (a_compilation Little input-order) ≡ wanted-order
+forest-order : module_trees (a_compilation Little input-order) ≡ wanted-order
 unfolding drafts_on_literals
 forest-order = refl
 
@@ -190,7 +190,7 @@ input-two_functions = an_input (0x01 ∷ 0x11 ∷ 0x01 ∷ 0x10 ∷ 0x17 ∷ 0x0
 abbrev wanted-two_functions : List Tree
 wanted-two_functions = own_tree 0 ∷ (an_entry 0 0x11 ((0x10, line_table) ∷ []) ∷ an_entry 1 0x2E ((0x11, address (Symbol 0 (pos 0))) ∷ (0x12, constant 0x0F 30) ∷ []) ∷ context_entry 2 0 6 [] ∷ an_entry 2 0x05 ((0x03, text (0x70 ∷ [])) ∷ []) ∷ an_entry 1 0x39 ([]) ∷ an_entry 2 0x2E ((0x11, address (Symbol 0 (pos 0))) ∷ (0x12, constant 0x0F 30) ∷ []) ∷ context_entry 3 0 6 [] ∷ an_entry 3 0x34 ([]) ∷ an_entry 3 0x0B ([]) ∷ an_entry 4 0x34 ((0x03, text (0x76 ∷ [])) ∷ []) ∷ []) ∷ []
 
-forest-two_functions : trees_made (a_compilation Little input-two_functions) ≡ wanted-two_functions
+forest-two_functions : module_trees (a_compilation Little input-two_functions) ≡ wanted-two_functions
 unfolding drafts_on_literals
 forest-two_functions = refl
 

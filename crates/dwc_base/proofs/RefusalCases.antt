@@ -1,10 +1,12 @@
 -- What is refused of an input, and in which order.
 use Rattle.std.proofs.Common.{◌≡◌, ℕ, pos, negsuc, List, [], ◌∷◌, ◌++◌, Option, Some, None, refl}
+use Rattle.std.specs.Prelude.{codes}
 use Rattle.dwc_base.proofs.DraftsOnLiterals.{drafts_on_literals}
 use Rattle.dwc_base.proofs.SmallModule.{abbreviations_small, info_small, line_small}
 use Rattle.dwc_base.proofs.RunCases.{a_function}
 use Rattle.dwc_base.proofs.LineTables.{function_small}
 use Rattle.dwc_base.proofs.FrameCases.{a_common_entry, a_description, usual_entry}
+use Rattle.dwc_base.proofs.SimulatedInputs.{module_edges, in_range}
 use Rattle.dwc_base.proofs.Variants.{module_with, info_0, line_9, abbreviations_variable}
 use Rattle.dwc_base.specs.declared.records.Endian.TheVariants.{Little}
 use Rattle.dwc_base.specs.declared.faults.What.TheVariants.{LineTable as LineTableRead, Abbreviation, UnitHeader as UnitHeaderRead, Entry as EntryRead, RangeList, LocationList}
@@ -13,10 +15,10 @@ use Rattle.dwc_base.specs.declared.section_name.SectionName.TheVariants.{Line, A
 use Rattle.dwc_base.specs.Sections.{unreadable, unsupported}
 use Rattle.dwc_base.specs.Carried.{Module}
 use Rattle.dwc_base.specs.ToldFiles.{bare_file}
-use Rattle.dwc_base.specs.Refusals.{Refusal, of_place, missing_file, long_function, far_memory, of_frame}
+use Rattle.dwc_base.specs.Refusals.{Refusal, of_place, missing_file, long_function, unmapped_register, far_memory, bad_path, of_frame}
 use Rattle.dwc_base.specs.Forests.{first_refusal}
 use Rattle.dwc_base.specs.Functions.{Function}
-use Rattle.dwc_base.specs.Compiled.{defined, frames_from, nothing_told}
+use Rattle.dwc_base.specs.Compiled.{no_memory, defined, frames_from, nothing_told}
 use Rattle.dwc_base.specs.CallFrames.{def_cfa_offset, remember_state, saved_at, CommonEntry, FrameDescription}
 use Rattle.dwc_base.specs.FrameRefusals.{bad_code_offset, bad_data_offset}
 
@@ -228,3 +230,49 @@ no_symbol = refl
 second_without_symbol : refusal_framed (module_framed (function_small ∷ next_function None 1 ∷ []) 0 (Some good ∷ Some odd_falling ∷ []) ∷ []) ≡ None
 unfolding drafts_on_literals
 second_without_symbol = refl
+
+-- ---- the path of the last unit
+
+-- a module whose path is given
+abbrev with_path : Module → Module
+with_path m = record m { file = record m.file { path = Some (codes "/..") } }
+
+-- that of the first module counts alone
+path_refused : refusal_of (with_path (small_framed good) ∷ small_framed good ∷ []) ≡ Some bad_path
+unfolding drafts_on_literals
+path_refused = refl
+
+later_path_passed : refusal_of (small_framed good ∷ with_path (small_framed good) ∷ []) ≡ None
+unfolding drafts_on_literals
+later_path_passed = refl
+
+-- it comes behind what is read of all modules, and before a bad frame
+lines_before_path : refusal_of (with_path (small_framed good) ∷ module_with abbreviations_small info_small (0x38 ∷ 0x00 ∷ []) ∷ []) ≡ Some (of_place (unreadable LineTableRead Line 0))
+unfolding drafts_on_literals
+lines_before_path = refl
+
+path_before_frame : refusal_framed (with_path (small_framed falling) ∷ []) ≡ Some bad_path
+unfolding drafts_on_literals
+path_before_frame = refl
+
+-- ---- the variables of the last unit
+
+-- the edges of its rules with register 7, which has no number, for one of them
+abbrev with_register : Module
+with_register = module_edges no_memory abbreviations_small info_small line_small ((1, in_range 7 0 16 ∷ []) ∷ [])
+
+variable_refused : refusal_of (with_register ∷ []) ≡ Some (unmapped_register 7)
+unfolding drafts_on_literals
+variable_refused = refl
+
+path_before_variable : refusal_of (with_path with_register ∷ []) ≡ Some bad_path
+unfolding drafts_on_literals
+path_before_variable = refl
+
+lines_before_variable : refusal_of (with_register ∷ module_with abbreviations_small info_small (0x38 ∷ 0x00 ∷ []) ∷ []) ≡ Some (of_place (unreadable LineTableRead Line 0))
+unfolding drafts_on_literals
+lines_before_variable = refl
+
+variable_before_frame : refusal_framed (small_framed falling ∷ with_register ∷ []) ≡ Some (unmapped_register 7)
+unfolding drafts_on_literals
+variable_before_frame = refl

@@ -20,7 +20,7 @@ use Rattle.dwc_base.specs.RangeAttributes.{wasm_interval, native_of_intervals, b
 use Rattle.dwc_base.specs.ScopesCarried.{value_of_entry, bounded, listed_or, covered_intervals, KeepsScope, scope_of_intervals, scope_to_keep, CarriesScope, UnitHasScopes, ScopesCarried, AreNumbered, TranslationsKeepScopes}
 use Rattle.dwc_base.proofs.ForestLaws.{none_is}
 use Rattle.dwc_base.proofs.MadeDrafts.{unit-says}
-use Rattle.dwc_base.proofs.UnitsMade.{all-in, units-made}
+use Rattle.dwc_base.proofs.UnitsMade.{all-in, last-always, units-made}
 use Rattle.dwc_base.proofs.PointerLaws.{IsUntouched, changed-said}
 use Rattle.dwc_base.proofs.ScopeAttributes.{attributes-behind, entry_with, covered-behind, covered-extent, extent-said}
 
@@ -91,3 +91,4 @@ made-scopes c numbered keep =
     unit-says m u carried (is_big c.order) places (CarriesScope (lists_of e) m.functions)
     (λ p k is. entry-carries m.functions (keep m.functions) (all-in (λ (n : Module). AreNumbered n.functions) c.modules m numbered i) e refl (source_of (kept_of m) u) (is_big c.order) places p)
     (λ p k is out. wrapped-carries (lists_of e) m.functions p out is))
+    (last-always (UnitHasScopes (drafts_of (is_big c.order))) (λ name ms t. tt) c.next_id c.modules)

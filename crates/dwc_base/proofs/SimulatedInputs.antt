@@ -2,19 +2,18 @@
 use Rattle.std.proofs.Common.{ℕ, pos, List, [], ◌∷◌, Some, None, true, false}
 use Rattle.std.specs.Prelude.{◌==◌, Bool, Option, codes}
 use Rattle.std.specs.Option.{unwrap_or}
-use Rattle.std.specs.Fmt.{digits}
 use Rattle.dwc_base.specs.declared.records.Address.TheVariants.{Symbol}
 use Rattle.dwc_base.specs.Reading.{coded}
 use Rattle.dwc_base.specs.Functions.{Function}
+use Rattle.dwc_base.specs.declared.records.Endian.{Endian}
 use Rattle.dwc_base.specs.Carried.{Module}
+use Rattle.dwc_base.specs.Forests.{trees_made}
 use Rattle.dwc_base.specs.Compiled.{LabelRange, Memory, in_register}
 use Rattle.dwc_base.specs.Parts.{context_label}
 use Rattle.dwc_base.specs.Trees.{Interval, Location, TreeValue, TreeEntry, Tree, address, constant, text, line_table, ranges, locations}
 use Rattle.dwc_base.specs.Runs.{interval_of}
 use Rattle.dwc_base.specs.declared.wasm.ValType.TheVariants.{I32, I64, F32, F64, Other}
 use Rattle.dwc_base.specs.WasmFunctions.{LocalTypes, no_local_types}
-use Rattle.dwc_base.specs.ListedFunctions.{listed_functions}
-use Rattle.dwc_base.specs.SimulatedUnit.{label_located, simulated_unit, simulated_refusals}
 use Rattle.dwc_base.proofs.DraftsOnLiterals.{drafts_on_literals}
 use Rattle.dwc_base.proofs.SmallModule.{told_small}
 use Rattle.dwc_base.proofs.Readings.{three_sections}
@@ -23,8 +22,12 @@ use Rattle.dwc_base.proofs.Variants.{module_with}
 
 -- what stays shut of these units
 unfoldable pub simulated_on_literals : ℕ
-unfolding drafts_on_literals digits listed_functions label_located simulated_unit simulated_refusals
+unfolding drafts_on_literals
 simulated_on_literals = 0
+
+-- the trees of all units of an output of a byte order for modules, the next generated name having a number
+abbrev pub trees_of : Endian → ℕ → List Module → List Tree
+trees_of order next_id ms = trees_made (record { order = order; pointer_bytes = 8; modules = ms; next_id = next_id; common_entry = None })
 
 -- ---- modules
 

@@ -1,11 +1,13 @@
 -- The lines of functions without debugging information: at each byte, and as they are written and read again.
 use Rattle.std.proofs.Common.{◌≡◌, ℕ, pos, List, [], ◌∷◌, map, ◌+◌, ◌*◌, Some, None, true, false, refl}
-use Rattle.std.specs.Prelude.{Bool, codes}
+use Rattle.std.specs.Prelude.{Option, Bool, codes}
 use Rattle.dwc_base.specs.declared.records.Address.TheVariants.{Symbol}
 use Rattle.dwc_base.specs.LineRows.{Row}
 use Rattle.dwc_base.specs.SimulatedLines.{simulated_contents, simulated_row, simulated_segment}
 use Rattle.dwc_base.specs.ToldFiles.{bare_file}
-use Rattle.dwc_base.specs.LastUnit.{last_lines, widest_last}
+use Rattle.dwc_base.specs.Functions.{Function}
+use Rattle.dwc_base.specs.Carried.{Module, WantedUnit, own_unit, carried_unit, listed_unit}
+use Rattle.dwc_base.specs.LastUnit.{last_wanted, listed_in_files, widest_last}
 use Rattle.dwc_base.specs.Compiled.{no_memory}
 use Rattle.dwc_base.proofs.LineTables.{function_small}
 use Rattle.dwc_base.proofs.SmallModule.{abbreviations_small, info_small, line_small}
@@ -45,21 +47,30 @@ segment-bare = refl
 
 -- ---- what the last unit's lines are to be
 
-lines-unlinked : last_lines 0 (named_small (told_with abbreviations_small info_0 line_small) ∷ []) ≡ Some (codes "g.wasm", (20, function_small) ∷ [])
+-- the name of its file, and its functions
+abbrev lines_of : WantedUnit → Option (List ℕ × List (ℕ × Function))
+lines_of own_unit = None
+lines_of (carried_unit u) = None
+lines_of (listed_unit name ms) = Some (name, listed_in_files ms)
+
+abbrev last_lines : ℕ → List Module → List (Option (List ℕ × List (ℕ × Function)))
+last_lines next_id ms = map lines_of (last_wanted next_id ms)
+
+lines-unlinked : last_lines 0 (named_small (told_with abbreviations_small info_0 line_small) ∷ []) ≡ Some (codes "g.wasm", (20, function_small) ∷ []) ∷ []
 unfolding simulated_on_literals
 lines-unlinked = refl
 
-lines-linked : last_lines 0 (named_small (told_with abbreviations_small info_small line_small) ∷ []) ≡ Some (codes "g.wasm", [])
+lines-linked : last_lines 0 (named_small (told_with abbreviations_small info_small line_small) ∷ []) ≡ Some (codes "g.wasm", []) ∷ []
 unfolding simulated_on_literals
 lines-linked = refl
 
 -- of two modules each function with the offset of its own file
 lines-two : last_lines 7 (module_edges no_memory abbreviations_small info_small line_small [] ∷ record (named_small (told_with [] [] [])) { file = bare_file 100 } ∷ [])
-    ≡ Some (codes "m", (20, a_function (Some 2) 20 20 0 ((0, None) ∷ [])) ∷ (20, last_function) ∷ (100, function_small) ∷ [])
+    ≡ Some (codes "m", (20, a_function (Some 2) 20 20 0 ((0, None) ∷ [])) ∷ (20, last_function) ∷ (100, function_small) ∷ []) ∷ []
 unfolding simulated_on_literals
 lines-two = refl
 
-lines-none : last_lines 0 [] ≡ None
+lines-none : last_lines 0 [] ≡ []
 lines-none = refl
 
 -- ---- how long they can be

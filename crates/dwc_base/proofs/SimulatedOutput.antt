@@ -15,10 +15,9 @@ use Rattle.dwc_base.specs.Trees.{Tree}
 use Rattle.dwc_base.specs.TreeReading.{CarriesTrees, ranges_read}
 use Rattle.dwc_base.specs.TreeLaws.{HasTextsOnce, texts_ended}
 use Rattle.dwc_base.specs.SimulatedLines.{simulated_contents, simulated_segment, IsSimulated, CarriesListed}
-use Rattle.dwc_base.specs.SimulatedForests.{trees_with_last}
 use Rattle.dwc_base.proofs.LineTables.{function_small}
 use Rattle.dwc_base.proofs.OwnTrees.{own_tree, own_abbreviations, own_info, own_texts, to_section, own_relocations}
-use Rattle.dwc_base.proofs.SimulatedInputs.{simulated_on_literals, named_small, told_with, simulated_front, simulated_function}
+use Rattle.dwc_base.proofs.SimulatedInputs.{trees_of, simulated_on_literals, named_small, told_with, simulated_front, simulated_function}
 use Rattle.dwc_base.proofs.SmallModule.{abbreviations_small, line_small}
 use Rattle.dwc_base.proofs.Variants.{info_0}
 use Rattle.dwc_base.proofs.SimulatedLineLaws.{simulated_segment-is}
@@ -106,7 +105,7 @@ output_listed = output_with info_listed line_program_listed
 abbrev trees_listed : List Tree
 trees_listed = own_tree 0 ∷ simulated_front (codes "g.wasm") (codes "/m") (interval_of 0 (0, 30) ∷ []) (simulated_function 0 30 (codes "wasm-function[0]") 25 ∷ []) ∷ []
 
-wanted-listed : trees_with_last false 0 (named_small (told_with abbreviations_small info_0 line_small) ∷ []) ≡ trees_listed
+wanted-listed : trees_of Little 0 (named_small (told_with abbreviations_small info_0 line_small) ∷ []) ≡ trees_listed
 unfolding simulated_on_literals
 wanted-listed = refl
 

@@ -1,9 +1,9 @@
 -- The unit for functions without debugging information: which functions are listed, its entries on the edges of its rules, and what is
 -- refused of it.
-use Rattle.std.proofs.Common.{◌≡◌, ℕ, List, [], ◌∷◌, map, Some, None, true, false, refl}
+use Rattle.std.proofs.Common.{◌≡◌, ℕ, List, [], ◌∷◌, map, Some, None, refl}
 use Rattle.std.specs.Prelude.{codes, length}
 use Rattle.dwc_base.specs.Compiled.{LabelRange, no_memory, defined}
-use Rattle.dwc_base.specs.declared.records.Endian.TheVariants.{Little}
+use Rattle.dwc_base.specs.declared.records.Endian.TheVariants.{Little, Big}
 use Rattle.dwc_base.specs.declared.section_name.SectionName.TheVariants.{Abbrev, Info, Line, Ranges}
 use Rattle.dwc_base.specs.Carried.{Module}
 use Rattle.dwc_base.specs.Forests.{carried_units_of}
@@ -17,12 +17,11 @@ use Rattle.dwc_base.specs.ToldFiles.{bare_file, type_of_local}
 use Rattle.dwc_base.specs.Runs.{interval_of}
 use Rattle.dwc_base.specs.ListedFunctions.{listed_functions}
 use Rattle.dwc_base.specs.SimulatedUnit.{simulated_refusals}
-use Rattle.dwc_base.specs.SimulatedForests.{trees_with_last}
 use Rattle.dwc_base.proofs.OwnTrees.{own_tree, own_tree_with}
 use Rattle.dwc_base.proofs.SmallModule.{told_small, abbreviations_small, info_small, line_small}
 use Rattle.dwc_base.proofs.TreesSmall.{tree_with_own}
 use Rattle.dwc_base.proofs.Variants.{info_0}
-use Rattle.dwc_base.proofs.SimulatedInputs.{simulated_on_literals, named_small, told_with, a_function, functions_edges, module_edges, types_edges, in_range, simulated_front, simulated_function, simulated_local, lies_in}
+use Rattle.dwc_base.proofs.SimulatedInputs.{trees_of, simulated_on_literals, named_small, told_with, a_function, functions_edges, module_edges, types_edges, in_range, simulated_front, simulated_function, simulated_local, lies_in}
 
 -- ---- which functions are listed
 
@@ -103,24 +102,24 @@ types-wide = refl
 -- ---- whole trees
 
 -- the small module whose subprogram begins at 0: no unit is carried, and its function is listed
-unlinked : trees_with_last false 0 (named_small (told_with abbreviations_small info_0 line_small) ∷ [])
+unlinked : trees_of Little 0 (named_small (told_with abbreviations_small info_0 line_small) ∷ [])
     ≡ own_tree 0 ∷ simulated_front (codes "g.wasm") (codes "/m") (interval_of 0 (0, 30) ∷ []) (simulated_function 0 30 (codes "wasm-function[0]") 25 ∷ []) ∷ []
 unfolding simulated_on_literals
 unlinked = refl
 
 -- the small module itself: the root and the types alone, behind the carried unit
-linked : trees_with_last false 0 (named_small (told_with abbreviations_small info_small line_small) ∷ []) ≡ own_tree 0 ∷ tree_with_own 0 6 ∷ simulated_front (codes "g.wasm") (codes "/m") [] [] ∷ []
+linked : trees_of Little 0 (named_small (told_with abbreviations_small info_small line_small) ∷ []) ≡ own_tree 0 ∷ tree_with_own 0 6 ∷ simulated_front (codes "g.wasm") (codes "/m") [] [] ∷ []
 unfolding simulated_on_literals
 linked = refl
 
 -- a module without debugging sections and without a path, for a target of the other byte order
-no-sections : trees_with_last true 9 (told_with [] [] [] ∷ [])
+no-sections : trees_of Big 9 (told_with [] [] [] ∷ [])
     ≡ own_tree 0 ∷ simulated_front (codes "<gen-9>.wasm") (codes "/<wasm-module>") (interval_of 0 (0, 30) ∷ []) (simulated_function 0 30 (codes "wasm-function[0]") 25 ∷ []) ∷ []
 unfolding simulated_on_literals
 no-sections = refl
 
 -- no module has no unit
-no-modules : trees_with_last false 0 [] ≡ []
+no-modules : trees_of Little 0 [] ≡ []
 unfolding simulated_on_literals
 no-modules = refl
 
@@ -143,14 +142,14 @@ entries_edges unit own pointer =
     ∷ simulated_local 0x34 [] (entry unit 2) []
     ∷ simulated_local 0x34 (codes "__vmctx") (entry own pointer) (lies_in 3 0 16 (0x5E ∷ []) ∷ []) ∷ []
 
-edges : trees_with_last false 0 (module_edges no_memory abbreviations_small info_small line_small lying ∷ [])
+edges : trees_of Little 0 (module_edges no_memory abbreviations_small info_small line_small lying ∷ [])
     ≡ own_tree 0 ∷ tree_with_own 0 6 ∷ simulated_front (codes "m") (codes "/<wasm-module>") (interval_of 3 (0, 16) ∷ []) (entries_edges 2 0 6) ∷ []
 unfolding simulated_on_literals
 edges = refl
 
 -- with a memory the type of the context is at another place; without a carried unit the unit has another number, and the first function is
 -- listed with the context that is told of it
-edges-unlinked : trees_with_last false 0 (module_edges (defined 80) abbreviations_small info_0 line_small lying ∷ [])
+edges-unlinked : trees_of Little 0 (module_edges (defined 80) abbreviations_small info_0 line_small lying ∷ [])
     ≡ own_tree_with 0 80
     ∷ simulated_front (codes "m") (codes "/<wasm-module>") (interval_of 0 (0, 30) ∷ interval_of 3 (0, 16) ∷ []) (simulated_function 0 30 (codes "wasm-function[2]") 25 ∷ simulated_local 0x34 (codes "__vmctx") (entry 0 7) [] ∷ entries_edges 1 0 7)
     ∷ []
@@ -168,13 +167,13 @@ next_module = record (told_with [] [] []) {
 }
 
 -- behind the small module, whose path names the unit, and before it, where the number does
-two-modules : trees_with_last false 0 (named_small (told_with abbreviations_small info_small line_small) ∷ next_module ∷ [])
+two-modules : trees_of Little 0 (named_small (told_with abbreviations_small info_small line_small) ∷ next_module ∷ [])
     ≡ own_tree 0 ∷ tree_with_own 0 6 ∷ own_tree 2
     ∷ simulated_front (codes "g.wasm") (codes "/m") (interval_of 4 (0, 5) ∷ []) (simulated_function 4 5 (codes "wasm-function[0]") 102 ∷ simulated_local 0x34 (codes "__vmctx") (entry 2 6) [] ∷ []) ∷ []
 unfolding simulated_on_literals
 two-modules = refl
 
-other-order : trees_with_last false 3 (next_module ∷ named_small (told_with abbreviations_small info_small line_small) ∷ [])
+other-order : trees_of Little 3 (next_module ∷ named_small (told_with abbreviations_small info_small line_small) ∷ [])
     ≡ own_tree 0 ∷ own_tree 1 ∷ tree_with_own 1 6
     ∷ simulated_front (codes "<gen-3>.wasm") (codes "/<wasm-module>") (interval_of 4 (0, 5) ∷ []) (simulated_function 4 5 (codes "wasm-function[0]") 102 ∷ simulated_local 0x34 (codes "__vmctx") (entry 0 6) [] ∷ []) ∷ []
 unfolding simulated_on_literals

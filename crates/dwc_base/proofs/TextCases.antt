@@ -9,7 +9,7 @@ use Rattle.dwc_base.specs.Sections.{Sections, unreadable}
 use Rattle.dwc_base.specs.Outputs.{function}
 use Rattle.dwc_base.specs.Refusals.{of_place}
 use Rattle.dwc_base.specs.Trees.{address, constant, text, line_table, Tree}
-use Rattle.dwc_base.specs.Forests.{trees_made, first_refusal}
+use Rattle.dwc_base.specs.Forests.{module_trees, first_refusal}
 use Rattle.dwc_base.specs.TreeReading.{CarriesTrees}
 use Rattle.dwc_base.proofs.DraftsOnLiterals.{drafts_on_literals}
 use Rattle.dwc_base.proofs.OwnTrees.{own_tree, own_abbreviations, own_info, own_texts, context_entry, empty_list}
@@ -22,7 +22,7 @@ input-texts = an_input (0x01 ∷ 0x11 ∷ 0x01 ∷ 0x10 ∷ 0x17 ∷ 0x00 ∷ 0x
 abbrev wanted-texts : List Tree
 wanted-texts = own_tree 0 ∷ (an_entry 0 0x11 ((0x10, line_table) ∷ []) ∷ an_entry 1 0x2E ((0x11, address (Symbol 0 (pos 0))) ∷ (0x12, constant 0x0F 30) ∷ (0x03, text ([])) ∷ (0x25, text (0x69 ∷ 0x6E ∷ 0x74 ∷ [])) ∷ (0x1B, text (0x61 ∷ 0x62 ∷ [])) ∷ (0x6E, text ([])) ∷ []) ∷ context_entry 2 0 6 [] ∷ []) ∷ []
 
-forest-texts : trees_made (a_compilation Little input-texts) ≡ wanted-texts
+forest-texts : module_trees (a_compilation Little input-texts) ≡ wanted-texts
 unfolding drafts_on_literals
 forest-texts = refl
 
@@ -57,7 +57,7 @@ input-cut_after_drop = an_input (0x01 ∷ 0x11 ∷ 0x01 ∷ 0x10 ∷ 0x17 ∷ 0x
 abbrev wanted-cut_after_drop : List Tree
 wanted-cut_after_drop = own_tree 0 ∷ (an_entry 0 0x11 ((0x10, line_table) ∷ []) ∷ an_entry 1 0x2E ((0x11, address (Symbol 0 (pos 0))) ∷ (0x12, constant 0x0F 30) ∷ (0x03, text (0x66 ∷ [])) ∷ []) ∷ context_entry 2 0 6 [] ∷ []) ∷ []
 
-forest-cut_after_drop : trees_made (a_compilation Little input-cut_after_drop) ≡ wanted-cut_after_drop
+forest-cut_after_drop : module_trees (a_compilation Little input-cut_after_drop) ≡ wanted-cut_after_drop
 unfolding drafts_on_literals
 forest-cut_after_drop = refl
 
@@ -76,7 +76,7 @@ input-cut_not_kept = an_input (0x01 ∷ 0x11 ∷ 0x01 ∷ 0x10 ∷ 0x17 ∷ 0x00
 abbrev wanted-cut_not_kept : List Tree
 wanted-cut_not_kept = own_tree 0 ∷ (an_entry 0 0x11 ((0x10, line_table) ∷ []) ∷ an_entry 1 0x2E ((0x11, address (Symbol 0 (pos 0))) ∷ (0x12, constant 0x0F 30) ∷ []) ∷ context_entry 2 0 6 [] ∷ []) ∷ []
 
-forest-cut_not_kept : trees_made (a_compilation Little input-cut_not_kept) ≡ wanted-cut_not_kept
+forest-cut_not_kept : module_trees (a_compilation Little input-cut_not_kept) ≡ wanted-cut_not_kept
 unfolding drafts_on_literals
 forest-cut_not_kept = refl
 
@@ -103,7 +103,7 @@ input-indexed = an_input (0x01 ∷ 0x11 ∷ 0x01 ∷ 0x10 ∷ 0x17 ∷ 0x00 ∷ 
 abbrev wanted-indexed : List Tree
 wanted-indexed = own_tree 0 ∷ (an_entry 0 0x11 ((0x10, line_table) ∷ []) ∷ an_entry 1 0x2E ((0x11, address (Symbol 0 (pos 0))) ∷ (0x12, constant 0x0F 30) ∷ (0x03, text (0x69 ∷ 0x6E ∷ 0x74 ∷ [])) ∷ (0x25, text (0x63 ∷ 0x68 ∷ 0x61 ∷ 0x72 ∷ [])) ∷ (0x1B, text (0x69 ∷ 0x6E ∷ 0x74 ∷ [])) ∷ (0x6E, text (0x63 ∷ 0x68 ∷ 0x61 ∷ 0x72 ∷ [])) ∷ (0x2001, text (0x69 ∷ 0x6E ∷ 0x74 ∷ [])) ∷ []) ∷ context_entry 2 0 6 [] ∷ []) ∷ []
 
-forest-indexed : trees_made (a_compilation Little input-indexed) ≡ wanted-indexed
+forest-indexed : module_trees (a_compilation Little input-indexed) ≡ wanted-indexed
 unfolding drafts_on_literals
 forest-indexed = refl
 
@@ -130,7 +130,7 @@ input-indexed_base_data = an_input (0x01 ∷ 0x11 ∷ 0x01 ∷ 0x10 ∷ 0x17 ∷
 abbrev wanted-indexed_base_data : List Tree
 wanted-indexed_base_data = own_tree 0 ∷ (an_entry 0 0x11 ((0x10, line_table) ∷ []) ∷ an_entry 1 0x2E ((0x11, address (Symbol 0 (pos 0))) ∷ (0x12, constant 0x0F 30) ∷ (0x03, text (0x69 ∷ 0x6E ∷ 0x74 ∷ [])) ∷ []) ∷ context_entry 2 0 6 [] ∷ []) ∷ []
 
-forest-indexed_base_data : trees_made (a_compilation Little input-indexed_base_data) ≡ wanted-indexed_base_data
+forest-indexed_base_data : module_trees (a_compilation Little input-indexed_base_data) ≡ wanted-indexed_base_data
 unfolding drafts_on_literals
 forest-indexed_base_data = refl
 
@@ -165,7 +165,7 @@ input-indexed_split = an_input (0x01 ∷ 0x11 ∷ 0x01 ∷ 0x10 ∷ 0x17 ∷ 0x0
 abbrev wanted-indexed_split : List Tree
 wanted-indexed_split = own_tree 0 ∷ (an_entry 0 0x11 ((0x10, line_table) ∷ []) ∷ an_entry 1 0x2E ((0x11, address (Symbol 0 (pos 0))) ∷ (0x12, constant 0x0F 30) ∷ (0x03, text (0x63 ∷ 0x68 ∷ 0x61 ∷ 0x72 ∷ [])) ∷ []) ∷ context_entry 2 0 6 [] ∷ []) ∷ []
 
-forest-indexed_split : trees_made (a_compilation Little input-indexed_split) ≡ wanted-indexed_split
+forest-indexed_split : module_trees (a_compilation Little input-indexed_split) ≡ wanted-indexed_split
 unfolding drafts_on_literals
 forest-indexed_split = refl
 

@@ -1,5 +1,5 @@
--- The trees of the small module, and that an output for it carries these and no others.
-use Rattle.std.proofs.Common.{◌≡◌, ℕ, pos, List, [], ◌∷◌, Ok, Err, refl}
+-- The trees of the units for the small module, and that an output carries these and no others.
+use Rattle.std.proofs.Common.{◌≡◌, ℕ, pos, List, [], ◌∷◌, None, Err, refl}
 use Rattle.dwc_base.proofs.DraftsOnLiterals.{drafts_on_literals}
 use Rattle.dwc_base.proofs.OwnTrees.{own_tree, context_entry}
 use Rattle.dwc_base.proofs.CarriedSmall.{output_small, compilation_small, compilation_64}
@@ -10,7 +10,7 @@ use Rattle.dwc_base.specs.Sections.{unsupported}
 use Rattle.dwc_base.specs.Refusals.{of_place}
 use Rattle.dwc_base.specs.Trees.{Tree, address, constant, line_table}
 use Rattle.dwc_base.specs.TreeReading.{CarriesTrees}
-use Rattle.dwc_base.specs.Forests.{forest}
+use Rattle.dwc_base.specs.Forests.{first_refusal, module_trees, forest}
 
 -- A compile unit with its line table, and below it the subprogram of function 0, of length 30, with the variable of the context, which lies
 -- nowhere: the type of that is at a place in the own unit of a number.
@@ -27,9 +27,13 @@ tree_small = tree_with_own 0 6
 abbrev pub trees_small : List Tree
 trees_small = own_tree 0 ∷ tree_small ∷ []
 
-pub forest-small : forest compilation_small ≡ Ok trees_small
+pub trees-small : module_trees compilation_small ≡ trees_small
 unfolding drafts_on_literals
-forest-small = refl
+trees-small = refl
+
+pub not_refused-small : first_refusal compilation_small ≡ None
+unfolding drafts_on_literals
+not_refused-small = refl
 
 pub carries-small : CarriesTrees Little trees_small output_small
 unfolding drafts_on_literals

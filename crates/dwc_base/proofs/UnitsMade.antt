@@ -1,15 +1,15 @@
 -- What is said of each unit that is wanted and of the tree that is made for it is said of all units of an output.
-use Rattle.std.proofs.Common.{ℕ, ◌+◌, List, [], ◌∷◌, ◌++◌, map, length, Option, Bool, refl, sym, subst, inl, inr}
-use Rattle.std.specs.Prelude.{All, flat_map}
+use Rattle.std.proofs.Common.{ℕ, ◌+◌, List, [], ◌∷◌, ◌++◌, map, length, Option, None, Bool, refl, subst, inl, inr}
+use Rattle.std.specs.Prelude.{All, flat_map, option_to_list}
 use Rattle.std.specs.List.{AllZip}
-use Rattle.std.proofs.lemmas.List.{append-nil}
 use Rattle.dwc_base.specs.Trees.{Tree}
 use Rattle.dwc_base.specs.Drafts.{Goal, Draft}
 use Rattle.dwc_base.specs.DraftForests.{units_drafted, place_of_goal, settled_unit, trees_from, forest}
-use Rattle.dwc_base.specs.Carried.{Unit, Module, Compilation, WantedUnit, own_unit, carried_unit}
+use Rattle.dwc_base.specs.Carried.{Unit, Module, Compilation, WantedUnit, own_unit, carried_unit, listed_unit}
 use Rattle.dwc_base.specs.KeptModules.{carried_in}
 use Rattle.dwc_base.specs.CarriedDrafts.{carried_drafts}
-use Rattle.dwc_base.specs.Forests.{kept_of, wanted_units_of, wanted_units, is_big, drafts_of, module_drafts, trees_made}
+use Rattle.dwc_base.specs.Forests.{kept_of, wanted_units_of, module_units, wanted_units, is_big, drafts_of, module_drafts, trees_made}
+use Rattle.dwc_base.specs.LastUnit.{last_drafts, last_wanted}
 use Rattle.dwc_base.proofs.InLists.{IsIn, in-at}
 
 -- what all items have, each has
@@ -51,8 +51,18 @@ module _ (R : WantedUnit → Tree → Type 0) (big_endian : Bool) (own : (t : Tr
       zip-both R (wanted_units_of m) (map (settled_unit (place_of_goal number drafts)) (units_drafted drafts)) (flat_map wanted_units_of ms) (trees_from behind (map (module_drafts big_endian) ms))
       (module-units m number (each m (inl refl))) (all-units behind ms (λ n i. each n (inr i)))
 
--- What is said of an own unit whatever its tree, and of each carried unit, is said of all units of an output.
-pub units-made : (c : Compilation) (R : WantedUnit → Tree → Type 0) → ((t : Tree) → R own_unit t) → ((m : Module) → IsIn m c.modules → SaysEach R (is_big c.order) m) → AllZip R (wanted_units c) (trees_made c)
+-- What is said of the last unit that is wanted and of its tree, where there is a module.
+abbrev pub LastIs : (WantedUnit → Tree → Type 0) → ℕ → List Module → Type 0
+LastIs R next_id ms = AllZip R (last_wanted next_id ms) (map (settled_unit (λ goal. None)) (option_to_list (last_drafts next_id ms)))
+
+-- what is said whatever the modules
+pub last-always : (R : WantedUnit → Tree → Type 0) → ((name : List ℕ) (ms : List Module) (t : Tree) → R (listed_unit name ms) t) → (next_id : ℕ) (ms : List Module) → LastIs R next_id ms
+last-always R says next_id [] = tt
+last-always R says next_id (m ∷ ms) = (says _ (m ∷ ms) _, tt)
+
+-- What is said of an own unit whatever its tree, of each carried unit, and of the last one, is said of all units of an output.
+pub units-made : (c : Compilation) (R : WantedUnit → Tree → Type 0) → ((t : Tree) → R own_unit t) → ((m : Module) → IsIn m c.modules → SaysEach R (is_big c.order) m) → LastIs R c.next_id c.modules → AllZip R (wanted_units c) (trees_made c)
 unfolding forest
-units-made c R own each =
-    subst (λ (ts : List Tree). AllZip R (wanted_units c) ts) (sym (append-nil (trees_from 0 (map (module_drafts (is_big c.order)) c.modules)))) (all-units R (is_big c.order) own 0 c.modules each)
+units-made c R own each last =
+    zip-both R (module_units c) (trees_from 0 (map (module_drafts (is_big c.order)) c.modules)) (last_wanted c.next_id c.modules) (map (settled_unit (λ goal. None)) (option_to_list (last_drafts c.next_id c.modules)))
+    (all-units R (is_big c.order) own 0 c.modules each) last

@@ -47,10 +47,10 @@ abbrev pub widths_of_module : Module → List ℕ
 widths_of_module m = map (λ name. widest name (record { order = Little; pointer_bytes = 8; modules = m ∷ []; next_id = 0; common_entry = None })) (Abbrev ∷ Info ∷ Line ∷ [])
 
 -- the module's own unit, and the carried one
-widths-no_lines : widths_of_module (module_with abbreviations_no_lines info_no_lines []) ≡ (698 + 233) ∷ (176 + 91) ∷ 0 ∷ []
+widths-no_lines : widths_of_module (module_with abbreviations_no_lines info_no_lines []) ≡ (698 + 233 + 575) ∷ (176 + 91 + 117) ∷ 73 ∷ []
 unfolding drafts_on_literals
 widths-no_lines = refl
 
-widths-lines : widths_of_module (module_with abbreviations_small info_small line_small) ≡ (698 + 253) ∷ (176 + 95) ∷ 271 ∷ []
+widths-lines : widths_of_module (module_with abbreviations_small info_small line_small) ≡ (698 + 253 + 575) ∷ (176 + 95 + 117) ∷ (271 + 73) ∷ []
 unfolding drafts_on_literals
 widths-lines = refl

@@ -17,7 +17,7 @@ use Rattle.dwc_base.specs.Refusals.{Refusal, of_place, lacks_memory}
 use Rattle.dwc_base.specs.Trees.{Tree, address, constant, flag, text, entry}
 use Rattle.dwc_base.specs.TreeLaws.{HasAllTargets, HasTextsOnce, texts_ended}
 use Rattle.dwc_base.specs.TreeReading.{CarriesTrees}
-use Rattle.dwc_base.specs.Forests.{first_refusal, trees_made}
+use Rattle.dwc_base.specs.Forests.{first_refusal, module_trees}
 use Rattle.dwc_base.proofs.DraftsOnLiterals.{drafts_on_literals}
 use Rattle.dwc_base.proofs.LineTables.{function_small}
 use Rattle.dwc_base.proofs.OwnTrees.{own_tree, context_entry, own_abbreviations, own_info, own_texts, empty_list}
@@ -94,7 +94,7 @@ tree_this =
     ∷ an_entry 1 0x26 ((0x49, entry 1 17) ∷ [])
     ∷ an_entry 1 0x24 ((0x03, text (codes "char")) ∷ []) ∷ [])
 
-trees-this : trees_made (compilation_of [] info_this) ≡ own_tree 0 ∷ tree_this ∷ []
+trees-this : module_trees (compilation_of [] info_this) ≡ own_tree 0 ∷ tree_this ∷ []
 unfolding drafts_on_literals
 trees-this = refl
 

@@ -3,7 +3,8 @@ use Rattle.std.specs.Prelude.{ℕ, List, [], ◌∷◌, ◌++◌, map, Bool, tru
 use Rattle.std.specs.List.{filter_map, flat_map}
 use Rattle.dwc_base.specs.declared.records.Endian.{Endian}
 use Rattle.dwc_base.specs.declared.records.Endian.TheVariants.{Little, Big}
-use Rattle.dwc_base.specs.Carried.{Unit, Module, Compilation, CarriedUnit, WantedUnit, own_unit, carried_unit}
+use Rattle.dwc_base.specs.Carried.{Unit, Module, Compilation, CarriedUnit, WantedUnit}
+pub use Rattle.dwc_base.specs.CarriedUnits.{kept_of, carried_units_of, wanted_units_of}
 use Rattle.dwc_base.specs.Compiled.{Memory}
 use Rattle.dwc_base.specs.Functions.{Function}
 use Rattle.dwc_base.specs.Addends.{is_long}
@@ -11,36 +12,30 @@ use Rattle.dwc_base.specs.Refusals.{Refusal, of_place, long_function, far_memory
 use Rattle.dwc_base.specs.CallFrames.{FrameDescription}
 use Rattle.dwc_base.specs.FrameRefusals.{frame_refusals}
 use Rattle.dwc_base.specs.FramesCarried.{descriptions}
-use Rattle.dwc_base.specs.KeptModules.{KeptModule, kept_module, carried_in, kept_in}
+use Rattle.dwc_base.specs.KeptModules.{kept_in}
 use Rattle.dwc_base.specs.Clones.{CodeRules}
 use Rattle.dwc_base.specs.CarriedDrafts.{source_of, unit_drafts, carried_drafts}
 use Rattle.dwc_base.specs.Drafts.{Draft}
 use Rattle.dwc_base.specs.DraftForests.{ModuleDrafts}
 use Rattle.dwc_base.specs.DraftForests as Drafts
 use Rattle.dwc_base.specs.LocationRules.{ExpressionSource}
-use Rattle.dwc_base.specs.EntryRules.{is_required, named_faults, rules_of_source}
+use Rattle.dwc_base.specs.EntryRules.{named_faults, rules_of_source}
+use Rattle.dwc_base.specs.LastUnit.{last_drafts, last_refusals, last_wanted}
 use Rattle.dwc_base.specs.OwnUnits as Own
 use Rattle.dwc_base.specs.ReachedEntries as Reached
 use Rattle.dwc_base.specs.Trees.{Tree}
-
--- a module with its kept entries
-abbrev pub kept_of : Module → KeptModule
-kept_of m = kept_module (λ u. is_required m.functions m.sections u.header) m
-
--- the carried units of a module, in order
-abbrev pub carried_units_of : Module → List CarriedUnit
-carried_units_of m = map (λ u. record { module_of = m; unit = u }) (carried_in (kept_of m))
 
 -- the carried units of an input, module by module
 abbrev pub carried_units : Compilation → List CarriedUnit
 carried_units c = flat_map carried_units_of c.modules
 
--- The units of an output, in order: of each module its own and those of its carried units.
-abbrev pub wanted_units_of : Module → List WantedUnit
-wanted_units_of m = own_unit ∷ map carried_unit (carried_units_of m)
+-- the units of an output for the modules of an input: of each module its own and those of its carried units
+abbrev pub module_units : Compilation → List WantedUnit
+module_units c = flat_map wanted_units_of c.modules
 
+-- The units of an output, in order: those for the modules, and the last one.
 abbrev pub wanted_units : Compilation → List WantedUnit
-wanted_units c = flat_map wanted_units_of c.modules
+wanted_units c = module_units c ++ last_wanted c.next_id c.modules
 
 -- ---- refusals
 
@@ -76,9 +71,10 @@ frame_descriptions c = flat_map (λ m. descriptions m.told.frames m.functions) c
 abbrev pub refused_frames : Compilation → List Refusal
 refused_frames c = map of_frame (frame_refusals c.common_entry (frame_descriptions c))
 
--- what is refused of an input: of the functions of all modules, then of what is read, module by module, and then of frames
+-- what is refused of an input: of the functions of all modules, then of what is read, module by module, then of the last unit, and then of
+-- frames
 abbrev pub refusals : Compilation → List Refusal
-refusals c = flat_map (λ m. function_refusals m.functions) c.modules ++ (flat_map module_refusals c.modules ++ refused_frames c)
+refusals c = flat_map (λ m. function_refusals m.functions) c.modules ++ (flat_map module_refusals c.modules ++ (last_refusals c.next_id c.modules ++ refused_frames c))
 
 -- the refusal of an input: the first of these
 abbrev pub first_refusal : Compilation → Option Refusal
@@ -99,10 +95,14 @@ drafts_of big_endian u = unit_drafts (expressions_of u.module_of u.unit) (source
 abbrev pub module_drafts : Bool → Module → ModuleDrafts
 module_drafts big_endian m = record { own = Some (Own.own_unit m.told.names.set_memory m.told.memory); carried = carried_drafts (expressions_of m) big_endian (kept_of m) }
 
+-- the trees of the units that are made for the modules of an input
+abbrev pub module_trees : Compilation → List Tree
+module_trees c = Drafts.forest (map (module_drafts (is_big c.order)) c.modules) None
+
 -- the trees of the units that are made for an input
 abbrev pub trees_made : Compilation → List Tree
-trees_made c = Drafts.forest (map (module_drafts (is_big c.order)) c.modules) None
+trees_made c = Drafts.forest (map (module_drafts (is_big c.order)) c.modules) (last_drafts c.next_id c.modules)
 
--- The trees of an output, one for each unit, module by module; or the first refusal in the order of the work.
+-- The trees of an output, one for each unit, module by module, and the last; or the first refusal in the order of the work.
 abbrev pub forest : Compilation → Result (List Tree) Refusal
 forest c = elim (first_refusal c) [ Some refusal ↦ Err refusal | None ↦ Ok (trees_made c) ]

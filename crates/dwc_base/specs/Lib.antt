@@ -62,6 +62,7 @@ pub mod RawLists
 pub mod Lists
 pub mod LocationAttributes
 pub mod LocationRules
+pub mod PlacesSaid
 pub mod LocationsCarried
 pub mod ContextsCarried
 pub mod ExpressionPlaces
@@ -72,6 +73,7 @@ pub mod RangeRules
 pub mod Scopes
 pub mod ScopesCarried
 pub mod EntryRules
+pub mod CarriedUnits
 pub mod Forests
 pub mod LinesCarried
 pub mod OutputCarried
@@ -95,5 +97,4 @@ pub mod ListedFunctions
 pub mod SimulatedLines
 pub mod SimulatedUnit
 pub mod LastUnit
-pub mod SimulatedForests
 pub mod SimulatedLocations

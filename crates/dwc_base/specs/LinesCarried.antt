@@ -4,7 +4,9 @@ use Rattle.std.specs.List.{filter, AllZip}
 use Rattle.dwc_base.specs.Sections.{Sections}
 use Rattle.dwc_base.specs.LineRows.{Segment}
 use Rattle.dwc_base.specs.Images.{is_carried_segment, IsImageOf}
-use Rattle.dwc_base.specs.Carried.{Unit, units, table_of_unit, segments_of_unit, Compilation, CarriedUnit, WantedUnit, own_unit, carried_unit}
+use Rattle.dwc_base.specs.Carried.{Unit, units, table_of_unit, segments_of_unit, Compilation, CarriedUnit, WantedUnit, own_unit, carried_unit, listed_unit}
+use Rattle.dwc_base.specs.SimulatedLines.{CarriesListed}
+use Rattle.dwc_base.specs.LastUnit.{listed_in_files}
 use Rattle.dwc_base.specs.Forests.{wanted_units}
 use Rattle.dwc_base.specs.Outputs.{OutputSection, output_sections}
 
@@ -20,14 +22,15 @@ pub record CarriesUnit (output : Sections) (u : CarriedUnit) (v : Unit) : Type 0
   pub images_read : segments_of_unit output v ≡ Ok images
   pub carried : AreImages u images
 
--- a unit of the output has the lines that it is to have; a module's own has no line table
+-- a unit of the output has the lines that it is to have; a module's own has no line table, and the last one has those of the listed functions
 abbrev pub HasLines : Sections → WantedUnit → Unit → Type 0
 HasLines output own_unit v = table_of_unit output v ≡ Ok None
 HasLines output (carried_unit u) v = CarriesUnit output u v
+HasLines output (listed_unit name ms) v = CarriesListed output name (listed_in_files ms) v
 
 -- The lines of an input are carried by an output: the input's units are read up to their section's end, and the output's
 -- units are, in order, for each module its own without a line table, and one for each of its carried units, whose segments are the
--- images of that unit's carried segments.
+-- images of that unit's carried segments, and last one with a segment for each listed function.
 pub record LinesCarried (c : Compilation) (s : List OutputSection) : Type 0 where
   pub whole : All (λ m. (units m.sections).fault ≡ None) c.modules
   pub output : List Unit

@@ -5,7 +5,7 @@ use Rattle.dwc_base.specs.Functions.{Function}
 use Rattle.dwc_base.specs.Carried.{Module, CarriedUnit}
 use Rattle.dwc_base.specs.KeptModules.{kept_in}
 use Rattle.dwc_base.specs.RangeAttributes.{begun_in_unit}
-use Rattle.dwc_base.specs.Forests.{kept_of, carried_units_of}
+use Rattle.dwc_base.specs.CarriedUnits.{kept_of, carried_units_of}
 use Rattle.dwc_base.specs.DefinedFunctions.{DefinedFunction}
 
 -- the functions that kept subprograms of a carried unit begin in

@@ -1,13 +1,13 @@
 -- What it means that an output carries the locations of an input: where its entries say that values lie. (A law on the definitions of
 -- built expressions and of translation. DWARF 4 and 5, section 2.6.)
-use Rattle.std.specs.Prelude.{◌≡◌, ◌⊎◌, ℕ, ◌<◌, ◌≤◌, ◌==◌, List, [], ◌∷◌, ◌++◌, map, Bool, true, false, if◌then◌else◌, Option, Some, None, IfSome, is_some, Result, Ok, Err, All, Contains}
+use Rattle.std.specs.Prelude.{◌≡◌, ◌⊎◌, ℕ, ◌==◌, List, [], ◌∷◌, ◌++◌, map, Bool, true, false, if◌then◌else◌, Option, Some, None, IfSome, Result, Ok, Err, All, Contains}
 use Rattle.std.specs.List.{AllZip, flat_map}
 use Rattle.dwc_base.specs.declared.constants.TheConstants.{DW_AT_frame_base}
 use Rattle.dwc_base.specs.Values.{Value, expression, is_location_name}
 use Rattle.dwc_base.specs.Entries.{Entry}
 use Rattle.dwc_base.specs.Kept.{Placed}
-use Rattle.dwc_base.specs.Functions.{Function, function_at}
-use Rattle.dwc_base.specs.Carried.{CarriedUnit, WantedUnit, own_unit, carried_unit}
+use Rattle.dwc_base.specs.Functions.{Function}
+use Rattle.dwc_base.specs.Carried.{CarriedUnit, WantedUnit, own_unit, carried_unit, listed_unit}
 use Rattle.dwc_base.specs.Trees as Trees
 use Rattle.dwc_base.specs.Trees.{Interval, Location, TreeValue, locations, TreeEntry, Tree}
 use Rattle.dwc_base.specs.Drafts.{itself, Draft}
@@ -15,28 +15,16 @@ use Rattle.dwc_base.specs.DraftForests.{is_made_of}
 use Rattle.dwc_base.specs.RawLists.{is_location_list}
 use Rattle.dwc_base.specs.RangeRefusals.{has_name}
 use Rattle.dwc_base.specs.Parts.{CompiledParts, compiled, is_simple}
-use Rattle.dwc_base.specs.Placed.{Frame, needed_labels, all_placed, scope_intervals}
+use Rattle.dwc_base.specs.Placed.{Frame, needed_labels, scope_intervals}
 use Rattle.dwc_base.specs.LocationAttributes.{ListedExpression}
 use Rattle.dwc_base.specs.LocationRules.{ExpressionSource, in_force_at, listed_by}
-use Rattle.dwc_base.specs.ScopesCarried.{source_of_byte, HasDistinctSources, cover_byte, IsInSome, IsInOneOf, value_of_entry}
+use Rattle.dwc_base.specs.ScopesCarried.{value_of_entry}
 use Rattle.dwc_base.specs.Wrappers.{is_wrapped}
+pub use Rattle.dwc_base.specs.PlacesSaid.{SaysWhere}
+use Rattle.dwc_base.specs.SimulatedLocations.{LocatesLabels}
 use Rattle.dwc_base.specs.Forests.{expressions_of}
 
 -- ---- one expression over a scope
-
--- Intervals of an output say where a value lies over a scope, that needs some labels in a frame, in the functions of a module that have a
--- symbol: they lie in these functions; they cover no byte whose source lies outside all closed intervals of the scope, and none where a
--- label has no place; and of each interval of the scope every byte of its function whose source is from its begin to before its end and
--- where each label has a place. Nothing is said of a function in which two sources stand at one native offset.
-pub record SaysWhere (fs : List Function) (frame : Option Frame) (scope : List (ℕ × ℕ)) (labels : List ℕ) (is : List Interval) : Type 0 where
-  pub inside : All (IsInOneOf fs) is
-  pub no_more :
-      (f : Function) (byte source : ℕ) → Contains fs f → is_some f.symbol ≡ true → HasDistinctSources f → cover_byte is f.number byte ≡ true →
-      source_of_byte f byte ≡ Some source → IsInSome scope source
-  pub have_places : (function byte : ℕ) → cover_byte is function byte ≡ true → all_placed frame labels function byte ≡ true
-  pub no_less :
-      (interval : ℕ × ℕ) (f : Function) (byte source : ℕ) → Contains scope interval → function_at fs interval.0 ≡ Some f → HasDistinctSources f → byte < f.length →
-      source_of_byte f byte ≡ Some source → interval.0 ≤ source → source < interval.1 → all_placed frame labels f.number byte ≡ true → cover_byte is f.number byte ≡ true
 
 -- The intervals over which a value of an output says something of an expression over a scope: those of its list; where it is one
 -- expression, those of the whole scope; none where it is neither, or not there.
@@ -114,10 +102,11 @@ abbrev pub UnitCarriesLocations : (CarriedUnit → List Draft) → CarriedUnit �
 UnitCarriesLocations drafted u tree =
     AllZip (λ d out. (e : Entry) → Contains u.unit.entries e → is_made_of e.offset itself d ≡ true → CarriesLocations (expressions_of u.module_of u.unit) (record { unit = u.unit.header.offset; entry = e }) out) (drafted u) tree
 
--- a module's own unit has none
+-- a module's own unit has none; the last one has those of the labels of its functions
 abbrev pub UnitHasLocations : (CarriedUnit → List Draft) → WantedUnit → Tree → Type 0
 UnitHasLocations drafted own_unit tree = Unit {0}
 UnitHasLocations drafted (carried_unit u) tree = UnitCarriesLocations drafted u tree
+UnitHasLocations drafted (listed_unit name ms) tree = LocatesLabels ms tree
 
 -- The locations of an input are carried by the units of an output, each of which is to be one.
 abbrev pub LocationsCarried : (CarriedUnit → List Draft) → List WantedUnit → List Tree → Type 0

@@ -1,6 +1,6 @@
 -- What it means that an output carries an input: its lines, its entries and no others, their scopes and locations, and the form that every reader
 -- and linker relies on. (DWARF 4, chapters 2 and 6 and section 7.5.)
-use Rattle.std.specs.Prelude.{◌≡◌, ℕ, List, sum_by, Ok, All}
+use Rattle.std.specs.Prelude.{◌≡◌, ℕ, ◌+◌, List, sum_by, Ok, All}
 use Rattle.dwc_base.specs.declared.section_name.SectionName.{SectionName}
 use Rattle.dwc_base.specs.declared.section_name.SectionName.TheVariants.{Frame, Line}
 use Rattle.dwc_base.specs.Outputs.{OutputSection, output_sections}
@@ -17,6 +17,7 @@ use Rattle.dwc_base.specs.OutputForm.{HaveTargetForm, HasDistinctNames}
 use Rattle.dwc_base.specs.Fields.{IsRelocated}
 use Rattle.dwc_base.specs.FramesCarried.{FramesCarried, others_in, widest_frames}
 use Rattle.dwc_base.specs.Widest.{widest_lines_of}
+use Rattle.dwc_base.specs.LastUnit.{widest_last}
 use Rattle.dwc_base.specs.WidestTrees.{widest_of_trees}
 
 -- An output carries an input, of which nothing is refused: its lines; the trees of its forest, and no others, whose references all name
@@ -37,9 +38,9 @@ pub record OutputCarried (c : Compilation) (sections : List OutputSection) : Typ
   pub relocated : All (IsRelocated (output_sections c.order sections)) (others_in sections)
   pub frames : FramesCarried c.order c.pointer_bytes c.common_entry (frame_descriptions c) sections
 
--- How long a section of the output of an input can be at most: the line tables with the images of the carried sequences, what
--- says the trees of all units, and the frames.
+-- How long a section of the output of an input can be at most: the line tables with the images of the carried sequences and of the listed
+-- functions, what says the trees of all units, and the frames.
 abbrev pub widest : SectionName → Compilation → ℕ
-widest Line c = sum_by widest_lines_of (carried_units c)
+widest Line c = sum_by widest_lines_of (carried_units c) + widest_last c.next_id c.modules
 widest Frame c = widest_frames c.common_entry (frame_descriptions c)
 widest name c = widest_of_trees name (trees_made c)

@@ -8,7 +8,7 @@ use Rattle.dwc_base.specs.Carried.{Module}
 use Rattle.dwc_base.specs.Trees.{Location, locations, TreeEntry, Tree}
 use Rattle.dwc_base.specs.LocationRules.{frame_told}
 use Rattle.dwc_base.specs.ScopesCarried.{value_of_entry}
-use Rattle.dwc_base.specs.LocationsCarried.{SaysWhere}
+use Rattle.dwc_base.specs.PlacesSaid.{SaysWhere}
 use Rattle.dwc_base.specs.DefinedFunctions.{DefinedFunction}
 use Rattle.dwc_base.specs.ListedFunctions.{listed_functions}
 use Rattle.dwc_base.specs.SimulatedUnit.{has_entry}

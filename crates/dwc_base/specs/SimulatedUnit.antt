@@ -20,7 +20,7 @@ use Rattle.dwc_base.specs.LocationRules.{frame_told}
 use Rattle.dwc_base.specs.ContextVariable.{context_variable, located_or_none, location_refusals}
 use Rattle.dwc_base.specs.Refusals.{Refusal, first_of}
 use Rattle.dwc_base.specs.EntryRules.{of_build}
-use Rattle.dwc_base.specs.Forests.{wanted_units_of}
+use Rattle.dwc_base.specs.CarriedUnits.{wanted_units_of}
 use Rattle.dwc_base.specs.declared.wasm.ValType.{ValType}
 use Rattle.dwc_base.specs.declared.wasm.ValType.TheVariants.{I32, I64, F32, F64, Other}
 use Rattle.dwc_base.specs.ToldFiles.{is_parameter, type_of_local}
