@@ -1,5 +1,6 @@
 //! What is compiled together: modules, and the functions that are compiled from them.
-ghost use Rattle.std.specs.Prelude.{◌≡◌, ◌+◌, ◌<◌, ◌%◌, ◌^◌, map, length, slice_get, option_map, Some, IfOk};
+ghost use Rattle.std.specs.Prelude.{◌≡◌, ◌+◌, ◌<◌, ◌%◌, ◌^◌, map, length, slice_get, option_map, All, Some, IfOk};
+ghost use Rattle.dwc_base.specs.TranslationNames.{HasSortedNames};
 ghost use Rattle.dwc_addr.specs.Numbers.{first_number, all_symbols, AreDistinct};
 ghost use Rattle.dwc_addr.specs.Compilations.{CompilationValue, lists, functions_at, numbered, IsCounted, HasDistinctSymbols, AreNames};
 
@@ -31,7 +32,8 @@ pub struct Compilation<'a> {
 }
 
 impl<'a> Model for Compilation<'a> {
-    ghost use Rattle.std.specs.Prelude.{◌≡◌, option_map};
+    ghost use Rattle.std.specs.Prelude.{◌≡◌, All, option_map};
+    ghost use Rattle.dwc_base.specs.TranslationNames.{HasSortedNames};
     ghost use Rattle.std.specs.Coded.{codes};
     ghost use Rattle.dwc_clif.specs.ValueLabels.{labelled_code};
     ghost use Rattle.dwc_addr.specs.Numbers.{numbers_from, all_symbols};
@@ -52,12 +54,12 @@ impl<'a> Model for Compilation<'a> {
       next_id = c.next_id;
     } };
 
-    ghost invariant = { λ c. IsCounted c.translations.now (lists c.functions.now) c.memory_offsets.items × HasDistinctSymbols (lists c.functions.now) × (c.first_numbers.items ≡ numbers_from 0 (lists c.functions.now)) × (c.symbols.items ≡ all_symbols (lists c.functions.now)) × AreNames c.names.set_memory.now c.names.resolve_memory.now };
+    ghost invariant = { λ c. IsCounted c.translations.now (lists c.functions.now) c.memory_offsets.items × HasDistinctSymbols (lists c.functions.now) × (c.first_numbers.items ≡ numbers_from 0 (lists c.functions.now)) × (c.symbols.items ≡ all_symbols (lists c.functions.now)) × AreNames c.names.set_memory.now c.names.resolve_memory.now × All HasSortedNames c.translations.now };
 }
 
 impl<'a> Compilation<'a> {
-    /// The compilation of modules for a target: each module's translation, its functions in order, each with its symbol if it
-    /// has one, and the offset of its memory; the bytes of a package of split DWARF, if there is one; the names of two
+    /// The compilation of modules for a target: each module's translation, whose names stand by rising numbers, its functions in order, each
+    /// with its symbol if it has one, and the offset of its memory; the bytes of a package of split DWARF, if there is one; the names of two
     /// functions of the run time, which have no zero byte; and the counter of names that are made up.
     ///
     /// # Errors
@@ -75,6 +77,7 @@ impl<'a> Compilation<'a> {
     ) -> Result<Compilation<'a>, CompilationError>
         requires counted { IsCounted translations.now (lists functions.now) memory_offsets.items }
         requires names { AreNames names.set_memory.now names.resolve_memory.now }
+        requires sorted { All HasSortedNames translations.now }
         ensures distinct { AreDistinct (all_symbols (lists functions.now)) result }
         ensures value { IfOk result (λ c. c ≡ record { translations = translations.now; functions = lists functions.now; memory_offsets = memory_offsets.items; package_bytes = option_map (λ bytes. bytes.now) dwarf_package_bytes.entry; tunables = tunables.now; set_memory = names.entry.set_memory.now; resolve_memory = names.entry.resolve_memory.now; next_id = next_id }) }
     {
@@ -109,12 +112,13 @@ impl<'a> Compilation<'a> {
         self.next_id
     }
 
-    /// The modules' translations, in order. There are as many lists of functions, each with as many functions as its module
-    /// defines, and as many offsets of memories.
+    /// The modules' translations, in order, with names by rising numbers. There are as many lists of functions, each with as many functions as
+    /// its module defines, and as many offsets of memories.
     pub fn translations(&self) -> &'a [ModuleTranslation<'a>]
         ensures translations { result.now ≡ self.now.translations }
         ensures counted { IsCounted self.now.translations self.now.functions self.now.memory_offsets }
         ensures distinct { HasDistinctSymbols self.now.functions }
+        ensures sorted { All HasSortedNames self.now.translations }
     {
         self.translations
     }
