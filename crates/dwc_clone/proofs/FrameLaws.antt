@@ -48,6 +48,12 @@ told-frame registers m f number x named symbol at =
     ∙ ap (λ o. F f.symbol (unwrap_or o (λ label. []))) (sym there)
     ∙ ap (λ n. F f.symbol (unwrap_or (slice_get (values_in m.functions.now) (n - m.first_number)) (λ label. []))) (sym named)
 
+-- The labels of a function of a number are those that the module tells of it.
+pub told-labels : (registers : Registers) (m : CompiledModule) (number : ℕ) (x : Compiled) → slice_get m.functions.now (number - m.first_number) ≡ Some x → finite.keys (x.1).value_labels_ranges ≡ (told_by registers m).labels number
+told-labels registers m number x at =
+    ap (λ o. unwrap_or (option_map (λ (y : Compiled). finite.keys (y.1).value_labels_ranges) o) []) (sym at)
+    ∙ ap (λ o. unwrap_or o []) (sym (slice_get-map (λ (y : Compiled). finite.keys (y.1).value_labels_ranges) m.functions.now (number - m.first_number)))
+
 -- ---- the function in force
 
 -- What holds of all functions holds of one that is in force, which has a symbol.

@@ -2,6 +2,7 @@ pub mod ErrorLaws
 pub mod PlaceLaws
 pub mod TextLaws
 pub mod ReferenceLaws
+pub mod BegunNumberLaws
 pub mod BoundLaws
 pub mod ValueLaws
 pub mod EntryValues

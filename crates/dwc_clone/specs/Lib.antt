@@ -6,6 +6,7 @@ pub mod AttributesSeen
 pub mod OutputPlaces
 pub mod Sources
 pub mod MadeValues
+pub mod BegunNumbers
 pub mod ClonedUnits
 pub mod CompiledModules
 pub mod ClonedEntries

@@ -1,5 +1,6 @@
 //! What a code generator tells of a module.
-ghost use Rattle.std.specs.Prelude.{◌≡◌, ℕ, ◌≤◌, ◌<◌, ◌+◌, length, Some, option_map};
+ghost use Rattle.std.specs.Prelude.{◌≡◌, ◌≤◌, ◌<◌, ◌+◌, length, Some, IfSome};
+ghost use Rattle.std.specs.FinMap as finite;
 ghost use Rattle.dwc_base.specs.Functions.{Function};
 ghost use Rattle.dwc_base.specs.LocationRules.{frame_told};
 ghost use Rattle.dwc_clif.specs.Registers.{Registers};
@@ -28,8 +29,9 @@ pub struct CompiledModule<'c> {
 
 impl<'c> CompiledModule<'c> {
     /// What the function of a number, which has a symbol, tells to expressions; None where the module has no function of that number.
-    pub(crate) fn frame(&self, number: usize) -> Option<FunctionFrameInfo<'c>>
-        ensures { (registers : Registers) (f : Function) → f.number ≡ number → f.symbol ≡ Some number → self.now.first_number ≤ number → number < self.now.first_number + length self.now.functions.now → frame_view result ≡ Some (frame_told (told_by registers self.now) f) }
+    pub fn frame(&self, number: usize) -> Option<FunctionFrameInfo<'c>>
+        ensures frame { (registers : Registers) (f : Function) → f.number ≡ number → f.symbol ≡ Some number → self.now.first_number ≤ number → number < self.now.first_number + length self.now.functions.now → frame_view result ≡ Some (frame_told (told_by registers self.now) f) }
+        ensures labels { (registers : Registers) → IfSome result (λ frame. finite.keys frame.value_ranges.now ≡ (told_by registers self.now).labels number) }
     {
         let place = number.checked_sub(self.first_number)?;
         let (_, metadata) = self.functions.get(place)?;

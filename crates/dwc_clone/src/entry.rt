@@ -1,4 +1,5 @@
 //! Clones the kept entries of a unit, one after another.
+ghost use Rattle.std.specs.Option.{option_to_list};
 ghost use Rattle.std.specs.Prelude.{◌≡◌, ◌≢◌, ℕ, List, [], ◌∷◌, ◌++◌, false, length, reverse, take, Option, is_some, option_map, IfSome, IsSome, IfOk, OnOk, filter_map};
 ghost use Rattle.dwc_base.specs.Entries as Entries;
 ghost use Rattle.dwc_base.specs.Drafts.{Goal, Role};
@@ -22,6 +23,7 @@ ghost use Rattle.dwc_clif.specs.Registers.{Registers};
 ghost use Rattle.dwc_expr.specs.Frames.{frame_view};
 ghost use Rattle.dwc_clone.specs.CompiledModules.{HasFrames};
 ghost use Rattle.dwc_clone.specs.ClonedUnits.{IsInForce, placed_in, source_with};
+ghost use Rattle.dwc_clone.specs.BegunNumbers.{NotesFunctions};
 ghost use Rattle.dwc_clone.specs.BuiltUnits.{AreClonedSoFar, GivesEntry};
 ghost use Rattle.dwc_clone.specs.OpenWrappers.{CanCloseAll, IsOther, KeepsNumbers};
 ghost use Rattle.dwc_clone.specs.PlainEntries.{GivesItself};
@@ -36,6 +38,7 @@ ghost use Rattle.dwc_clone.specs.Tellings.{tell_of, telling_of};
 ghost use Rattle.dwc_clone.specs.ClonedEntries.{AddsBelow, AreKnown, CanAdd, GivesSet, IsGiven, IsLast, OfMemory, last_parent, placed_entry, with_made};
 
 use crate::attribute::output_attribute;
+use crate::begun_numbers::note_function;
 use crate::bounds::{nothing_seen, seen_behind};
 use crate::code::set_code;
 use crate::in_force::InForce;
@@ -57,6 +60,7 @@ use dwc_kept::{address_said, function_begun};
 use dwc_read::Entry;
 use dwc_write::{AttributeValue, StringTable, Unit, UnitEntryId, WriteError};
 use std::alloc::Global;
+use std::collections::BTreeSet;
 use std::vec::Vec;
 
 /// The depth of an entry below the root.
@@ -299,7 +303,8 @@ fn clone_itself(
 }
 
 /// Adds what a kept entry becomes, the next one in file order, under a number that was reserved for it. Wrappers that it does not lie in
-/// are closed before. `walk` is what is known of the entries before it, and then of it too.
+/// are closed before. `walk` is what is known of the entries before it, and then of it too. The number of the function that it begins in
+/// is added to `translated`.
 pub(crate) fn clone_entry(
     alloc: Global,
     isa: &dyn TargetIsa,
@@ -310,6 +315,7 @@ pub(crate) fn clone_entry(
     unit: &mut Unit,
     strings: &mut StringTable,
     known: &mut KnownTexts,
+    translated: &mut BTreeSet<usize>,
 ) -> Result<(), CloneError>
     requires functions { HaveAddends source.now.transform.now }
     requires read { IsReadEntry (entry_view entry.now) }
@@ -322,6 +328,7 @@ pub(crate) fn clone_entry(
     requires texts { KnowsTexts source.now.unit.now.sections strings.old known.old }
     ensures texts { KnowsTexts source.now.unit.now.sections strings.new known.new }
     ensures plain { AreNames walk.new.names }
+    ensures noted { OnOk result (NotesFunctions (option_to_list (begun_function (list_source source.now.unit.now.sections source.now.unit.now.header) source.now.transform.now (entry_view entry.now))) translated.old translated.new) }
     ensures parents { OnOk result (AreKnown walk.new.parents.items unit.new) }
     ensures others { (k : ℕ) → IsReserved k unit.old → IsOther k (reverse walk.old.open.items) → k ≢ id.index → OnOk result (IsReserved k unit.new × IsOther k (reverse walk.new.open.items)) }
     ensures wrappers { OnOk result (CanCloseAll (length unit.new.places) unit.new (reverse walk.new.open.items)) }
@@ -330,6 +337,7 @@ pub(crate) fn clone_entry(
     of_memory(close_wrappers(unit, &mut walk.open, depth_of(entry)))?;
     let telling = entry_told(alloc, source, entry, &mut walk.contexts)?;
     let function = function_begun(source.unit, entry, source.transform);
+    note_function(translated, function)?;
     let begins = function.is_some() && has_begin(source, entry);
     walk.lineage.enter(alloc, source, entry, function)?;
     if is_wrapped(entry) {

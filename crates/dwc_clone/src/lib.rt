@@ -2,6 +2,7 @@
 #![tactic(auto)]
 
 mod attribute;
+mod begun_numbers;
 mod bounds;
 mod code;
 mod compiled_module;

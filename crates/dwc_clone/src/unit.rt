@@ -1,11 +1,15 @@
 //! Clones the kept entries of a unit.
 ghost use Rattle.std.specs.Prelude.{◌≡◌, ◌-◌, ℕ, None, All, OnOk};
+ghost use Rattle.std.specs.List.{filter_map};
 ghost use Rattle.dwc_base.specs.Entries.{entries as entries_of};
+ghost use Rattle.dwc_base.specs.Lists.{list_source};
+ghost use Rattle.dwc_base.specs.RangeAttributes.{begun_function};
 ghost use Rattle.dwc_base.specs.Addends.{HaveAddends};
 ghost use Rattle.dwc_base.specs.Clones.{UnitSource};
 ghost use Rattle.dwc_base.specs.ReadValues.{IsReadEntry};
 ghost use Rattle.dwc_write.specs.GivenUnits.{new_unit};
 ghost use Rattle.dwc_write.specs.TextTables.{IsText};
+ghost use Rattle.dwc_clone.specs.BegunNumbers.{NotesFunctions};
 ghost use Rattle.dwc_clone.specs.Sources.{AreEmitted, IsSource};
 ghost use Rattle.dwc_clone.specs.KnownTexts.{KnowsTexts};
 ghost use Rattle.dwc_clone.specs.ClonedUnits.{picked, placed_in, AreClonable, GivesCloned};
@@ -20,6 +24,7 @@ use crate::{CloneError, CloneSource, KnownTexts};
 use dwc_clif::TargetIsa;
 use dwc_write::{StringTable, Unit, UnitEntryId, WriteError};
 use std::alloc::Global;
+use std::collections::BTreeSet;
 
 // Reserves the numbers of so many kept entries, of which the first is the root.
 fn reserve_kept(unit: &mut Unit, count: usize) -> Result<(), WriteError>
@@ -33,7 +38,8 @@ fn reserve_kept(unit: &mut Unit, count: usize) -> Result<(), WriteError>
 
 /// The unit of the output that is made of the kept entries of a unit: `begun`, which has a root alone, with one entry for each of those
 /// at `kept`, the offsets in `.debug_info` of the unit's kept entries in file order. The unit's entries are read once, up to the last
-/// kept one. Texts are added to `strings`, and noted in `known`, by which they are found when they are named again.
+/// kept one. Texts are added to `strings`, and noted in `known`, by which they are found when they are named again. The numbers of the
+/// functions that kept subprograms begin in are added to `translated`.
 ///
 /// # Errors
 /// What is refused first of the kept entries, in file order, attribute by attribute: `Read` with the entry's offset where a text, or an
@@ -48,6 +54,7 @@ pub fn clone_unit(
     begun: Unit,
     strings: &mut StringTable,
     known: &mut KnownTexts,
+    translated: &mut BTreeSet<usize>,
 ) -> Result<Unit, CloneError>
     requires functions { HaveAddends source.now.transform.now }
     requires begun { begun ≡ new_unit begun.address_size begun.lines }
@@ -55,6 +62,7 @@ pub fn clone_unit(
     requires names { IsText source.now.module.names.resolve_memory.now }
     requires texts { KnowsTexts source.now.unit.now.sections strings.old known.old }
     ensures texts { KnowsTexts source.now.unit.now.sections strings.new known.new }
+    ensures noted { OnOk result (NotesFunctions (filter_map (begun_function (list_source source.now.unit.now.sections source.now.unit.now.header) source.now.transform.now) (picked kept.now (entries_of source.now.unit.now.sections source.now.unit.now.header).items)) translated.old translated.new) }
     ensures cloned { (number : ℕ) (s : UnitSource) → IsSource source.now number s → HasFrames source.now.module source.now.transform.now → (entries_of source.now.unit.now.sections source.now.unit.now.header).fault ≡ None → AreClonable (picked kept.now (entries_of source.now.unit.now.sections source.now.unit.now.header).items) → AreEmitted source.now s number (picked kept.now (entries_of source.now.unit.now.sections source.now.unit.now.header).items) → AreWalked s.entries (placed_in source.now.unit.now.header.offset (picked kept.now (entries_of source.now.unit.now.sections source.now.unit.now.header).items)) → GivesCloned (dwarf_registers isa.now) source.now number s (picked kept.now (entries_of source.now.unit.now.sections source.now.unit.now.header).items) strings.old strings.new begun result }
 {
     let mut unit = begun;
@@ -67,7 +75,7 @@ pub fn clone_unit(
         if entry.offset == u64::from(kept[next]) {
             let id = UnitEntryId { index: next };
             clone_entry(
-                alloc, isa, source, entry, id, &mut walk, &mut unit, strings, known,
+                alloc, isa, source, entry, id, &mut walk, &mut unit, strings, known, translated,
             )?;
             next += 1;
         }

@@ -7,4 +7,4 @@ pub returns-in_err-frame : goal.returns-in_err-frame
 returns-in_err-frame c = λ registers s e frames force. ap frame_view c.from_residual.ensures ∙ frame-none registers c.args.source.now s e (c.in_err-frame.ensures ∙ force.frame)
 
 pub returns : goal.returns
-returns c = λ registers s e frames force. frame-some registers c.args.source.now s e c.in_ok-frame.field-0 c.frame-2.result frames (c.in_ok-frame.ensures ∙ force.frame) (c.frame-2.ensures registers)
+returns c = λ registers s e frames force. frame-some registers c.args.source.now s e c.in_ok-frame.field-0 c.frame-2.result frames (c.in_ok-frame.ensures ∙ force.frame) (c.frame-2.ensures.frame registers)

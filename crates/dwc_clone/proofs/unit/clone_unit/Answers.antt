@@ -1,8 +1,10 @@
-use Rattle.std.proofs.Common.{ℕ, ◌+◌, ◌-◌, ◌<◌, ◌≤◌, arith, ◌∷◌, Option, drop, length, sym, ap, subst, ◌∙◌}
+use Rattle.std.proofs.Common.{ℕ, ◌+◌, ◌-◌, ◌<◌, ◌≤◌, ◌≡◌, arith, [], ◌∷◌, Option, drop, length, filter_map, option_to_list, sym, ap, subst, ◌∙◌}
 use Rattle.std.specs.Prelude.{reverse}
 use Rattle.std.specs.List.{All}
 use Rattle.std.proofs.lemmas.List.Elements.{All-head, All-nil, All-tail}
 use Rattle.std.proofs.lemmas.Result.{err_from_is_err_and}
+use Rattle.dwc_base.specs.Lists.{list_source}
+use Rattle.dwc_base.specs.RangeAttributes.{begun_function}
 use Rattle.dwc_base.specs.Clones.{UnitSource}
 use Rattle.dwc_base.specs.Drafts.{Role}
 use Rattle.dwc_base.specs.Entries.{Entry, entries as entries_of}
@@ -19,8 +21,9 @@ use Rattle.dwc_clone.specs.CompiledModules.{HasFrames}
 use Rattle.dwc_clone.specs.Lineages.{AreWalked}
 use Rattle.dwc_clone.specs.OpenWrappers.{CanCloseAll, IsOther, reserved_more}
 use Rattle.dwc_clone.specs.Sources.{AreEmitted, IsSource}
+use Rattle.dwc_clone.proofs.BegunNumberLaws.{AreNotedSoFar, begun-first, noted_beside, noted-begin, noted-done, noted-more}
 use Rattle.dwc_clone.proofs.EntryValues.{succeeded}
-use Rattle.dwc_clone.proofs.UnitSteps.{AreAmong, advance-refused, among-end, among-more, among-refused, among-start, gone-not, gone-on, picked-here, picked-none, picked-not, picked-past, reserved-behind, root-known}
+use Rattle.dwc_clone.proofs.UnitSteps.{AreAmong, advance-refused, among-end, among-more, among-refused, among-start, can-add-next, gone-not, gone-on, picked-here, picked-none, picked-not, picked-past, reserved-behind, root-known}
 use Rattle.dwc_clone.proofs.WrapperRoles.{roles_from, unit-roles}
 use Rattle.dwc_clone.proofs.unit.clone_unit.Goals.{then-loop-next-test+in_ok-advance+else-branch, else-loop-next-test}
 use Rattle.dwc_clone.proofs.unit.clone_unit.Goals as goal
@@ -31,6 +34,7 @@ loop-next-init g c =
     let src = c.args.source.now in
     let kept = c.args.kept.now in
     let all = picked kept (entries_of src.unit.now.sections src.unit.now.header).items in
+    let begins = begun_function (list_source src.unit.now.sections src.unit.now.header) src.transform.now in
     let first = length (reserved_more (length kept - 1) c.args.begun).places in
     let count = length kept - 1 in
     let begun = c.args.begun in
@@ -48,6 +52,7 @@ loop-next-init g c =
       plain = w.plain;
       texts = c.requires.texts;
       read = subst (λ (l : Listing Fault Entry). All IsReadEntry l.items) (sym c.in_ok-entries.ensures.start) c.requires.read;
+      noted = subst (λ (l : Listing Fault Entry). AreNotedSoFar (filter_map begins (picked kept l.items)) (noted_beside c.args.translated.now (filter_map begins all)) c.args.translated.now) (sym c.in_ok-entries.ensures.start) (noted-begin (filter_map begins all) c.args.translated.now);
       fault = ap (λ (l : Listing Fault Entry). l.fault) c.in_ok-entries.ensures.start;
       cloned = λ number s roles source frames can emitted walked numbers.
           subst (λ (l : Listing Fault Entry). AreAmong registers src number s roles all (picked kept l.items) 0 c.args.strings.now c.args.strings.now begun u walk.parents.items (reverse walk.open.items) walk.lineage walk.contexts walk.names) (sym c.in_ok-entries.ensures.start)
@@ -78,6 +83,11 @@ clone_entry-requires-clause-read g c =
 
 pub clone_entry-requires-clause-other : goal.clone_entry-requires-clause-other
 clone_entry-requires-clause-other g c = (c.loop-next.invariant.reserved c.loop-next.next (omega arith) c.loop-next-test.true).1
+
+pub clone_entry-requires-clause-reserved : goal.clone_entry-requires-clause-reserved
+clone_entry-requires-clause-reserved g c =
+    let next = c.loop-next.next in
+    can-add-next (record { index = next }) c.loop-next.walk.parents.items c.loop-next.unit c.loop-next.invariant.first (c.loop-next.invariant.reserved next (omega arith) c.loop-next-test.true).0
 
 pub returns-in_err-clone_entry-clause-cloned : goal.returns-in_err-clone_entry-clause-cloned
 returns-in_err-clone_entry-clause-cloned g c number s source frames none can emitted walked =
@@ -111,6 +121,7 @@ loop-next-preserved-then-entry-from g c =
     let src = c.args.source.now in
     let kept = c.args.kept.now in
     let all = picked kept (entries_of src.unit.now.sections src.unit.now.header).items in
+    let begins = begun_function (list_source src.unit.now.sections src.unit.now.header) src.transform.now in
     let first = length (reserved_more (length kept - 1) c.args.begun).places in
     let next = c.loop-next.next in
     let old = c.loop-next.entries.left in
@@ -140,6 +151,8 @@ loop-next-preserved-then-entry-from g c =
       plain = c.in_ok-clone_entry.ensures.plain;
       texts = c.in_ok-clone_entry.ensures.texts;
       read = All-tail IsReadEntry c.advance.new.self.current new.items (subst (λ (l : Listing Fault Entry). All IsReadEntry l.items) front c.loop-next.invariant.read);
+      noted = noted-more (option_to_list (begins e)) (filter_map begins others) (noted_beside c.args.translated.now (filter_map begins all)) c.loop-next.translated c.clone_entry.new.translated c.in_ok-clone_entry.ensures.noted
+          (subst (λ fs. AreNotedSoFar fs (noted_beside c.args.translated.now (filter_map begins all)) c.loop-next.translated) (ap (filter_map begins) here ∙ begun-first begins e others) c.loop-next.invariant.noted);
       fault = sym (ap (λ (l : Listing Fault Entry). l.fault) front) ∙ c.loop-next.invariant.fault;
       cloned = λ number s roles source frames can emitted walked numbers.
           let a = among number s roles source frames can emitted walked numbers in
@@ -153,6 +166,7 @@ loop-next-preserved g c =
     let src = c.args.source.now in
     let kept = c.args.kept.now in
     let all = picked kept (entries_of src.unit.now.sections src.unit.now.header).items in
+    let begins = begun_function (list_source src.unit.now.sections src.unit.now.header) src.transform.now in
     let first = length (reserved_more (length kept - 1) c.args.begun).places in
     let next = c.loop-next.next in
     let old = c.loop-next.entries.left in
@@ -170,6 +184,7 @@ loop-next-preserved g c =
       plain = c.loop-next.invariant.plain;
       texts = c.loop-next.invariant.texts;
       read = All-tail IsReadEntry c.advance.new.self.current new.items (subst (λ (l : Listing Fault Entry). All IsReadEntry l.items) front c.loop-next.invariant.read);
+      noted = subst (λ es. AreNotedSoFar (filter_map begins es) (noted_beside c.args.translated.now (filter_map begins all)) c.loop-next.translated) past c.loop-next.invariant.noted;
       fault = sym (ap (λ (l : Listing Fault Entry). l.fault) front) ∙ c.loop-next.invariant.fault;
       cloned = λ number s roles source frames can emitted walked numbers.
           subst (λ es. AreAmong registers src number s roles all es next c.args.strings.now c.loop-next.strings c.args.begun c.loop-next.unit walk.parents.items (reverse walk.open.items) walk.lineage walk.contexts walk.names) past (c.loop-next.invariant.cloned number s roles source frames can emitted walked numbers);
@@ -202,3 +217,18 @@ returns-clause-cloned g c number s source frames none can emitted walked =
       | else-loop-next-test w ↦ picked-past kept c.loop-next.next c.loop-next.entries.left.items w.loop-next-test.false
     ])
     can c.loop-next.invariant.wrappers closed
+
+pub returns-clause-noted : goal.returns-clause-noted
+returns-clause-noted g c =
+    let src = c.args.source.now in
+    let kept = c.args.kept.now in
+    let all = picked kept (entries_of src.unit.now.sections src.unit.now.header).items in
+    let begins = begun_function (list_source src.unit.now.sections src.unit.now.header) src.transform.now in
+    let none : picked (drop c.loop-next.next kept) c.loop-next.entries.left.items ≡ [] =
+    elim c.loop-next-test.branch [
+      | then-loop-next-test+in_ok-advance+else-branch w ↦
+          ap (λ (l : Listing Fault Entry). picked (drop c.loop-next.next kept) l.items) (gone-not c.loop-next.entries.left w.advance.new.self.left w.advance.new.self.current w.in_ok-advance.field-0 w.in_ok-advance.ensures.next w.if-branch.false)
+          ∙ picked-none (drop c.loop-next.next kept)
+      | else-loop-next-test w ↦ picked-past kept c.loop-next.next c.loop-next.entries.left.items w.loop-next-test.false
+    ] in
+    noted-done (noted_beside c.args.translated.now (filter_map begins all)) c.loop-next.translated (subst (λ es. AreNotedSoFar (filter_map begins es) (noted_beside c.args.translated.now (filter_map begins all)) c.loop-next.translated) none c.loop-next.invariant.noted)

@@ -1,7 +1,9 @@
-use Rattle.std.proofs.Common.{◌≡◌, ℕ, ◌-◌, ◌<◌, ◌≤◌, [], Option, drop, length}
+use Rattle.std.proofs.Common.{◌≡◌, ℕ, ◌-◌, ◌<◌, ◌≤◌, [], Option, drop, length, filter_map}
 use Rattle.std.specs.Prelude.{reverse}
 use Rattle.std.specs.List.{All}
 use Rattle.dwc_base.specs.Entries.{entries as entries_of}
+use Rattle.dwc_base.specs.Lists.{list_source}
+use Rattle.dwc_base.specs.RangeAttributes.{begun_function}
 use Rattle.dwc_base.specs.Clones.{UnitSource}
 use Rattle.dwc_base.specs.Drafts.{Role}
 use Rattle.dwc_base.specs.ReadValues.{IsReadEntry}
@@ -15,6 +17,7 @@ use Rattle.dwc_clone.specs.KnownTexts.{KnowsTexts}
 use Rattle.dwc_clone.specs.OpenWrappers.{CanCloseAll, IsOther, reserved_more}
 use Rattle.dwc_clone.specs.ClonedEntries.{AreKnown}
 use Rattle.dwc_clone.specs.TypeSteps.{AreNames}
+use Rattle.dwc_clone.proofs.BegunNumberLaws.{AreNotedSoFar, noted_beside}
 use Rattle.dwc_clone.proofs.UnitSteps.{AreAmong}
 use Rattle.dwc_clone.proofs.unit.clone_unit.Given as goal
 
@@ -30,6 +33,8 @@ invariant-loop-next g l =
       plain : AreNames l.walk.names;
       texts : KnowsTexts l.source.unit.now.sections l.strings l.known;
       read : All IsReadEntry l.entries.left.items;
+      noted : AreNotedSoFar (filter_map (begun_function (list_source l.source.unit.now.sections l.source.unit.now.header) l.source.transform.now) (picked (drop l.next l.kept) l.entries.left.items))
+          (noted_beside l.fn.translated (filter_map (begun_function (list_source l.source.unit.now.sections l.source.unit.now.header) l.source.transform.now) (picked l.kept (entries_of l.source.unit.now.sections l.source.unit.now.header).items))) l.translated;
       fault : l.entries.left.fault ≡ (entries_of l.source.unit.now.sections l.source.unit.now.header).fault;
       cloned : (number : ℕ) (s : UnitSource) (roles : ℕ → Role → Option ℕ) → IsSource l.source number s → HasFrames l.source.module l.source.transform.now → AreClonable (picked l.kept (entries_of l.source.unit.now.sections l.source.unit.now.header).items)
           → AreEmitted l.source s number (picked l.kept (entries_of l.source.unit.now.sections l.source.unit.now.header).items)
