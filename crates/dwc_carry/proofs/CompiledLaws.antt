@@ -68,7 +68,7 @@ functions-length number [] fss same = refl
 functions-length number (t ∷ ts) [] same = absurd (omega (arith, same))
 functions-length number (t ∷ ts) (fs ∷ fss) same = ap suc (functions-length (number + length fs) ts fss (omega (arith, same)))
 
-told-length : (registers : Registers) (names : LinkageNames) (place number : ℕ) (fss : List (List Compiled)) (offsets : List ModuleMemoryOffset) → length offsets ≡ length fss → length (told_from registers names place number fss offsets) ≡ length fss
+pub told-length : (registers : Registers) (names : LinkageNames) (place number : ℕ) (fss : List (List Compiled)) (offsets : List ModuleMemoryOffset) → length offsets ≡ length fss → length (told_from registers names place number fss offsets) ≡ length fss
 told-length registers names place number [] offsets same = refl
 told-length registers names place number (fs ∷ fss) [] same = absurd (omega (arith, same))
 told-length registers names place number (fs ∷ fss) (offset ∷ offsets) same = ap suc (told-length registers names (suc place) (number + length fs) fss offsets (omega (arith, same)))

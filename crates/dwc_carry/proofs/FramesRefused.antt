@@ -9,6 +9,7 @@ use Rattle.dwc_base.specs.declared.records.Endian.{Endian}
 use Rattle.dwc_base.specs.CallFrames.{CommonEntry, FrameDescription}
 use Rattle.dwc_base.specs.Carried.{Compilation, Module}
 use Rattle.dwc_base.specs.Forests.{frame_descriptions, function_refusals, module_refusals, refused_frames, wanted_units}
+use Rattle.dwc_base.specs.LastUnit.{last_refusals}
 use Rattle.dwc_base.specs.FrameRefusals.{FrameRefusal, frame_refusals}
 use Rattle.dwc_base.specs.FrameSections.{frame_section_if}
 use Rattle.dwc_base.specs.FramesCarried.{widest_frames}
@@ -27,16 +28,23 @@ use Rattle.dwc_carry.proofs.RefusalLaws.{first-behind, no-first, unmapped}
 
 -- ---- refusals
 
--- what is refused first of some lists, of which the last comes behind all else
-first-of-all : (fs ms rs : List Refusal) (r : Refusal) → first_of (fs ++ (ms ++ [])) ≡ Some r → first_of (fs ++ (ms ++ rs)) ≡ Some r
-first-of-all fs ms rs r h =
-    let before : first_of (fs ++ ms) ≡ Some r = ap (λ (xs : List Refusal). first_of (fs ++ xs)) (sym (append-nil ms)) ∙ h in
-    ap (λ (xs : List Refusal). first_of xs) (sym (append_assoc fs ms rs)) ∙ first-behind (fs ++ ms) rs r before
+-- lists behind one another, of which the last comes behind all else
+all-behind : (fs ms ls rs : List Refusal) → fs ++ (ms ++ (ls ++ rs)) ≡ (fs ++ (ms ++ ls)) ++ rs
+all-behind fs ms ls rs = ap (λ xs. fs ++ xs) (sym (append_assoc ms ls rs)) ∙ sym (append_assoc fs (ms ++ ls) rs)
 
-none-before : (fs ms rs : List Refusal) → first_of (fs ++ (ms ++ [])) ≡ None → first_of (fs ++ (ms ++ rs)) ≡ first_of rs
-none-before fs ms rs h =
-    let before : fs ++ ms ≡ [] = no-first (fs ++ ms) (ap (λ (xs : List Refusal). first_of (fs ++ xs)) (sym (append-nil ms)) ∙ h) in
-    ap (λ (xs : List Refusal). first_of xs) (sym (append_assoc fs ms rs)) ∙ ap (λ (xs : List Refusal). first_of (xs ++ rs)) before
+none-behind : (fs ms ls : List Refusal) → fs ++ (ms ++ (ls ++ [])) ≡ fs ++ (ms ++ ls)
+none-behind fs ms ls = ap (λ xs. fs ++ (ms ++ xs)) (append-nil ls)
+
+-- what is refused first of some lists, of which the last comes behind all else
+first-of-all : (fs ms ls rs : List Refusal) (r : Refusal) → first_of (fs ++ (ms ++ (ls ++ []))) ≡ Some r → first_of (fs ++ (ms ++ (ls ++ rs))) ≡ Some r
+first-of-all fs ms ls rs r h =
+    let before : first_of (fs ++ (ms ++ ls)) ≡ Some r = ap (λ (xs : List Refusal). first_of xs) (sym (none-behind fs ms ls)) ∙ h in
+    ap (λ (xs : List Refusal). first_of xs) (all-behind fs ms ls rs) ∙ first-behind (fs ++ (ms ++ ls)) rs r before
+
+none-before : (fs ms ls rs : List Refusal) → first_of (fs ++ (ms ++ (ls ++ []))) ≡ None → first_of (fs ++ (ms ++ (ls ++ rs))) ≡ first_of rs
+none-before fs ms ls rs h =
+    let before : fs ++ (ms ++ ls) ≡ [] = no-first (fs ++ (ms ++ ls)) (ap (λ (xs : List Refusal). first_of xs) (sym (none-behind fs ms ls)) ∙ h) in
+    ap (λ (xs : List Refusal). first_of xs) (all-behind fs ms ls rs) ∙ ap (λ (xs : List Refusal). first_of (xs ++ rs)) before
 
 first-mapped : (rs : List FrameRefusal) → first_of (map of_frame rs) ≡ option_map of_frame (write.first_refusal rs)
 first-mapped [] = refl
@@ -49,19 +57,22 @@ module _ (order : Endian) (size : ℕ) (registers : Registers) (entry : Option C
   abbrev modules_refused : List Refusal
   modules_refused = flat_map module_refusals (modules_of registers c)
 
+  abbrev last_refused : List Refusal
+  last_refused = last_refusals c.next_id (modules_of registers c)
+
   abbrev frames_refused : List Refusal
   frames_refused = refused_frames (input_of order size registers entry c)
 
   -- what is refused of an input without its frames is refused of it
   pub refused-first : (r : InputRefusal) → refusal_of order size registers None c ≡ Some r → refusal_of order size registers entry c ≡ Some r
-  refused-first r = go (maps_refusal c) (first_of (functions_refused ++ (modules_refused ++ []))) refl
+  refused-first r = go (maps_refusal c) (first_of (functions_refused ++ (modules_refused ++ (last_refused ++ [])))) refl
     where
-      mapped : (o : Option Refusal) → first_of (functions_refused ++ (modules_refused ++ [])) ≡ o → option_map in_reading o ≡ Some r → option_map in_reading (first_of (functions_refused ++ (modules_refused ++ frames_refused))) ≡ Some r
+      mapped : (o : Option Refusal) → first_of (functions_refused ++ (modules_refused ++ (last_refused ++ []))) ≡ o → option_map in_reading o ≡ Some r → option_map in_reading (first_of (functions_refused ++ (modules_refused ++ (last_refused ++ frames_refused)))) ≡ Some r
       mapped None is h = absurd (cc)
-      mapped (Some x) is h = ap (option_map in_reading) (first-of-all functions_refused modules_refused frames_refused x is) ∙ h
+      mapped (Some x) is h = ap (option_map in_reading) (first-of-all functions_refused modules_refused last_refused frames_refused x is) ∙ h
 
-      go : (maps : Option InputRefusal) (o : Option Refusal) → first_of (functions_refused ++ (modules_refused ++ [])) ≡ o → option_or maps (option_map in_reading (first_of (functions_refused ++ (modules_refused ++ [])))) ≡ Some r
-          → option_or maps (option_map in_reading (first_of (functions_refused ++ (modules_refused ++ frames_refused)))) ≡ Some r
+      go : (maps : Option InputRefusal) (o : Option Refusal) → first_of (functions_refused ++ (modules_refused ++ (last_refused ++ []))) ≡ o → option_or maps (option_map in_reading (first_of (functions_refused ++ (modules_refused ++ (last_refused ++ []))))) ≡ Some r
+          → option_or maps (option_map in_reading (first_of (functions_refused ++ (modules_refused ++ (last_refused ++ frames_refused))))) ≡ Some r
       go (Some x) o is h = h
       go None o is h = mapped o is (ap (option_map in_reading) (sym is) ∙ h)
 
@@ -70,13 +81,13 @@ module _ (order : Endian) (size : ℕ) (registers : Registers) (entry : Option C
       → refusal_of order size registers entry c ≡ option_map in_reading (option_map of_frame (write.first_refusal (frame_refusals entry (frame_descriptions (input_of order size registers entry c)))))
   frames-refused = go (maps_refusal c)
     where
-      go : (maps : Option InputRefusal) → option_or maps (option_map in_reading (first_of (functions_refused ++ (modules_refused ++ [])))) ≡ None
-          → option_or maps (option_map in_reading (first_of (functions_refused ++ (modules_refused ++ frames_refused))))
+      go : (maps : Option InputRefusal) → option_or maps (option_map in_reading (first_of (functions_refused ++ (modules_refused ++ (last_refused ++ []))))) ≡ None
+          → option_or maps (option_map in_reading (first_of (functions_refused ++ (modules_refused ++ (last_refused ++ frames_refused)))))
           ≡ option_map in_reading (option_map of_frame (write.first_refusal (frame_refusals entry (frame_descriptions (input_of order size registers entry c)))))
       go (Some x) h = absurd (cc)
       go None h =
           ap (option_map in_reading)
-          (none-before functions_refused modules_refused frames_refused (unmapped in_reading (first_of (functions_refused ++ (modules_refused ++ []))) h)
+          (none-before functions_refused modules_refused last_refused frames_refused (unmapped in_reading (first_of (functions_refused ++ (modules_refused ++ (last_refused ++ [])))) h)
           ∙ first-mapped (frame_refusals entry (frame_descriptions (input_of order size registers entry c))))
 
 -- ---- tables

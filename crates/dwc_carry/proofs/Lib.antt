@@ -1,3 +1,4 @@
+pub mod BegunLaws
 pub mod CauseLaws
 pub mod MadeAdditions
 pub mod MadeTexts
@@ -11,6 +12,9 @@ pub mod SimulatedSteps
 pub mod SimulatedTexts
 pub mod SimulatedStays
 pub mod SimulatedMade
+pub mod VariableLaws
+pub mod VariableSteps
+pub mod FunctionSteps
 pub mod CompiledLaws
 pub mod CompositionLaws
 pub mod EmitLaws
@@ -19,6 +23,8 @@ pub mod FramesAdded
 pub mod FrameLaws
 pub mod FramesRefused
 pub mod LastLaws
+pub mod LastLocations
+pub mod LastTargets
 pub mod MadeLaws
 pub mod LengthLaws
 pub mod LinesNamed
@@ -40,3 +46,9 @@ pub mod WalkLaws
 pub mod NameSearch
 pub mod PlainNames
 pub mod GroupLaws
+pub mod TranslatedLaws
+pub mod ListedLaws
+pub mod ListedSteps
+pub mod PathLaws
+pub mod SimulatedModuleLaws
+pub mod LastUnitLaws

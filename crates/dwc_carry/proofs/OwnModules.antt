@@ -3,10 +3,11 @@ use Rattle.std.proofs.Common.{◌≡◌, ℕ, suc, ◌+◌, ◌<◌, List, [], �
 use Rattle.std.specs.Prelude.{option_map}
 use Rattle.std.specs.List.{flat_map}
 use Rattle.std.proofs.lemmas.List.{append-nil, append_assoc, length-append, length-map}
-use Rattle.std.proofs.lemmas.List.Elements.{All-nil, All-cons}
 use Rattle.dwc_base.specs.Carried.{Unit, units, Module, own_unit, carried_unit}
 use Rattle.dwc_base.specs.Compiled.{Memory, no_memory, defined, imported}
 use Rattle.dwc_base.specs.OwnUnits as Own
+use Rattle.dwc_base.specs.OwnUnits.{memory_members, place_of_context_pointer}
+use Rattle.dwc_base.specs.Drafts.{Draft}
 use Rattle.dwc_base.specs.Refusals.{Refusal, first_of}
 use Rattle.dwc_base.specs.KeptModules.{carried_in, kept_in}
 use Rattle.dwc_base.specs.CarriedDrafts.{source_of, unit_drafts, carried_drafts}
@@ -24,14 +25,15 @@ use Rattle.dwc_carry.specs.Refusals.{in_reading, RefusesReading}
 use Rattle.dwc_carry.specs.MadeUnits.{LeadsTo, IsMadeOf, AreMadeOf}
 use Rattle.dwc_carry.specs.OwnUnits.{own_tree, AddsOwnUnit}
 use Rattle.dwc_carry.specs.CarriedUnits.{wanted_of}
-use Rattle.dwc_carry.specs.CarriedModules.{AddsCarried, AddsModules}
+use Rattle.dwc_carry.specs.CarriedModules.{AddsCarried}
+use Rattle.dwc_carry.proofs.ModuleLoopLaws.{AddsModule}
 use Rattle.dwc_carry.proofs.MadeLaws.{grows-twice, leads-behind, leads-front, made-grown}
 use Rattle.dwc_carry.proofs.RefusalLaws.{first-behind, no-first, reading-more, unmapped}
 
 -- ---- trees
 
 -- the own unit refers to no carried one
-own-settled : (number : ℕ) (set_memory : List ℕ) (m : Memory) (carried : List (List Rattle.dwc_base.specs.Drafts.Draft)) → own_tree number set_memory m ≡ settled_unit (place_of_goal number (record { own = Some (Own.own_unit set_memory m); carried = carried })) (Own.own_unit set_memory m)
+own-settled : (number : ℕ) (set_memory : List ℕ) (m : Memory) (carried : List (List Draft)) → own_tree number set_memory m ≡ settled_unit (place_of_goal number (record { own = Some (Own.own_unit set_memory m); carried = carried })) (Own.own_unit set_memory m)
 unfolding Own.own_unit
 own-settled number set_memory (defined offset) carried = refl
 own-settled number set_memory no_memory carried = refl
@@ -46,6 +48,16 @@ own-told size name told_name m told_memory old middle own names memories h = (
   subst (λ n. AddsOwnUnit size n told_memory old.units.units.items middle.units.units.items old.strings middle.strings own) names
       (subst (λ x. AddsOwnUnit size name x old.units.units.items middle.units.units.items old.strings middle.strings own) memories h.1),
 )
+
+inside : (n k : ℕ) (ds ms : List Draft) → length ds ≡ n → length ms ≡ k → 6 + k < n → 6 + length ms < length ds
+inside n k ds ms long members below = omega (arith, long, members, below)
+
+-- The pointer to the context is an entry of the unit.
+context-inside : (set_memory : List ℕ) (m : Memory) → place_of_context_pointer m < length (Own.own_unit set_memory m)
+unfolding Own.own_unit
+context-inside set_memory (defined offset) = inside 9 1 (Own.own_unit set_memory (defined offset)) (memory_members (defined offset)) refl refl (omega arith)
+context-inside set_memory no_memory = inside 8 0 (Own.own_unit set_memory no_memory) (memory_members no_memory) refl refl (omega arith)
+context-inside set_memory (imported definition base) = inside 8 0 (Own.own_unit set_memory (imported definition base)) (memory_members (imported definition base)) refl refl (omega arith)
 
 -- The places of a module's own unit are led to by their numbers.
 own-there : (at : ℕ → ℕ → Option (ℕ × ℕ)) (number size : ℕ) (set_memory : List ℕ) (m : Memory) (made : GivenUnit) {table : List (List ℕ)} → IsNumberedByPlaces made → IsMadeOf at size table number own_unit (own_tree number set_memory m) made → LeadsTo at number (made ∷ [])
@@ -84,28 +96,32 @@ module _ (big_endian : Bool) (m : Module) where
   -- A module's own unit is added, and behind it those that carry its units.
   pub module-both : (size : ℕ) (old middle new : Dwarf) (own : ModuleSyntheticUnit)
       → AddsOwnUnit size m.told.names.set_memory m.told.memory old.units.units.items middle.units.units.items old.strings middle.strings own → AddsCarried size big_endian m (length old.units.units.items) middle new
-      → AddsModules size big_endian (m ∷ []) old.units.units.items new.units.units.items old.strings new.strings
+      → AddsModule size big_endian m old.units.units.items new.units.units.items old.strings new.strings
   module-both size old middle new own a b =
       let n = length old.units.units.items in
       let u = b.units_added in
       let set_memory = m.told.names.set_memory in
       let memory = m.told.memory in
       let tree = own_tree n set_memory memory in
-      let counted = own-counted size old middle own a in
+      let one_more = own-counted size old middle own a in
       record {
         made = a.made ∷ u.made;
         added = u.added ∙ ap (λ us. us ++ u.made) a.added ∙ append_assoc old.units.units.items (a.made ∷ []) u.made;
         grows = grows-twice old.strings middle.strings new.strings a.grows u.grows;
+        counted = ap suc (u.counted ∙ sym (length-map (carried_units_of m) carried_unit));
         each = λ at leads.
             let own = leads-front at n (a.made ∷ []) u.made leads in
             let first = made-grown at size middle.strings new.strings n (own_unit ∷ []) (tree ∷ []) (a.made ∷ []) u.grows (a.is at own, tt) in
-            let behind = leads-behind at n (length middle.units.units.items) (a.made ∷ []) u.made (omega (arith, counted)) leads in
+            let behind = leads-behind at n (length middle.units.units.items) (a.made ∷ []) u.made (omega (arith, one_more)) leads in
             let there = own-there at n size set_memory memory a.made a.numbered (a.is at own) own in
-            let rest = subst (λ k. AreMadeOf at size new.strings k (map carried_unit (carried_units_of m)) (map (wanted_of big_endian m n) (carried_in (kept_of m))) u.made) counted (u.each at behind there) in
+            let rest = subst (λ k. AreMadeOf at size new.strings k (map carried_unit (carried_units_of m)) (map (wanted_of big_endian m n) (carried_in (kept_of m))) u.made) one_more (u.each at behind there) in
             let both : AreMadeOf at size new.strings n (wanted_units_of m) (tree ∷ map (wanted_of big_endian m n) (carried_in (kept_of m))) (a.made ∷ u.made) = (first.0, rest) in
             subst (λ ws. AreMadeOf at size new.strings n ws (trees_from n (map (module_drafts big_endian) (m ∷ []))) (a.made ∷ u.made)) (sym (append-nil (wanted_units_of m)))
             (subst (λ ts. AreMadeOf at size new.strings n (wanted_units_of m) ts (a.made ∷ u.made)) (sym (module-trees n)) both);
-        whole = All-cons (λ (x : Module). (units x.sections).fault ≡ None) m [] b.whole (All-nil (λ (x : Module). (units x.sections).fault ≡ None));
+        context = λ at leads.
+            let own = leads-front at n (a.made ∷ []) u.made leads in
+            own-there at n size set_memory memory a.made a.numbered (a.is at own) own (place_of_context_pointer memory) (context-inside set_memory memory);
+        whole = b.whole;
       }
 
   -- ---- what is refused

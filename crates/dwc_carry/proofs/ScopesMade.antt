@@ -29,6 +29,7 @@ use Rattle.dwc_base.proofs.ContextForest.{made-contexts}
 use Rattle.dwc_carry.specs.MadeUnits.{AreMadeOf}
 use Rattle.dwc_carry.specs.Inputs.{names_of, module_view, modules_from, told_from, input_of, bad_map_from, bad_map, maps_refusal, refusal_of}
 use Rattle.dwc_carry.proofs.CompositionLaws.{made-trees}
+use Rattle.dwc_carry.proofs.LastLocations.{last-located}
 use Rattle.dwc_carry.proofs.RefusalLaws.{unmapped}
 
 -- functions of good maps have numbers of their own
@@ -72,8 +73,9 @@ module _ (number_maps : MapsNumber) where
       let both = neither (maps_refusal c) (option_map in_reading (first_refusal input)) accepted in
       let good : bad_map c ≡ None = unmapped _ (bad_map c) both.0 in
       let read : first_refusal input ≡ None = unmapped in_reading (first_refusal input) both.1 in
+      let numbered = modules-numbered 0 0 c.translations c.functions (told_from registers (names_of c) 0 0 c.functions c.memory_offsets) good in
       subst (LocationsCarried (drafts_of (is_big order)) (wanted_units input)) (sym (made-trees size texts (wanted_units input) (trees_made input) us made))
-      (made-locations input (modules-numbered 0 0 c.translations c.functions (told_from registers (names_of c) 0 0 c.functions c.memory_offsets) good) keep read)
+      (made-locations input numbered keep read (last-located (drafts_of (is_big order)) input numbered keep read))
 
   -- And so the variables of its functions' contexts stand where they are to.
   pub contexts-carried : (order : Endian) (size : ℕ) (registers : Registers) (entry : Option CommonEntry) (c : CompilationValue) (texts : List (List ℕ)) (us : List GivenUnit) → refusal_of order size registers entry c ≡ None

@@ -1,6 +1,6 @@
 -- The transforms of the modules of a compilation, and what is made of the modules with them.
 use Rattle.std.proofs.Common.{◌≡◌, ℕ, zero, suc, ◌+◌, add-one, ◌<◌, ◌≤◌, List, [], ◌∷◌, ◌++◌, map, take, drop, length, get_or, slice_get, refl, ap, sym, ◌∙◌, subst, arith, Option, Some, None, Err, All, Ok}
-use Rattle.std.specs.Prelude.{false, option_map}
+use Rattle.std.specs.Prelude.{false, option_map, option_to_list, sum_by}
 use Rattle.std.specs.Option.{option_or, unwrap_or}
 use Rattle.std.specs.List.{flat_map}
 use Rattle.std.proofs.lemmas.List.{append-nil, append_assoc, drop_more, drop_all}
@@ -11,11 +11,14 @@ use Rattle.dwc_base.specs.declared.records.MapFault.{MapFault}
 use Rattle.dwc_base.specs.declared.wasm.ModuleTranslation.{ModuleTranslation}
 use Rattle.dwc_base.specs.Functions.{Function, functions_of}
 use Rattle.dwc_base.specs.Carried.{Module, Compilation, units}
-use Rattle.dwc_base.specs.Forests.{wanted_units, wanted_units_of, first_refusal, function_refusals, is_big, module_refusals, trees_made}
+use Rattle.dwc_base.specs.Forests.{module_units, wanted_units, first_refusal, function_refusals, is_big, module_drafts, module_refusals, trees_made}
+use Rattle.dwc_base.specs.DraftForests.{settled_unit, trees_from}
+use Rattle.dwc_base.specs.LastUnit.{last_drafts, last_refusals, last_wanted}
+use Rattle.dwc_base.specs.SimulatedUnit.{unit_count}
 use Rattle.dwc_base.specs.Refusals.{Refusal, first_of}
 use Rattle.dwc_base.specs.Trees.{Tree}
 use Rattle.dwc_base.specs.TreeLaws.{HasAllTargets}
-use Rattle.dwc_base.proofs.ForestTargets.{made-targets}
+use Rattle.dwc_base.proofs.SimulatedUnitLaws.{last-number}
 use Rattle.dwc_clif.specs.AddressMaps.{address_map_view}
 use Rattle.dwc_clif.specs.Registers.{Registers}
 use Rattle.dwc_addr.specs.declared.error.AddrError.{AddrError}
@@ -26,17 +29,20 @@ use Rattle.dwc_addr.specs.Transforms.{first_bad_map, Transforms}
 use Rattle.dwc_write.specs.GivenUnits.{GivenUnit}
 use Rattle.dwc_carry.specs.declared.error.DebugError.{DebugError}
 use Rattle.dwc_image.specs.CarriedLines.{AreKept}
-use Rattle.dwc_carry.specs.Refusals.{InputRefusal, bad_address_map, in_reading, of_maps, Refuses}
+use Rattle.dwc_carry.specs.Refusals.{InputRefusal, bad_address_map, in_reading, of_maps, Refuses, RefusesReading}
 use Rattle.dwc_carry.specs.MadeUnits.{LeadsTo, AreMadeOf}
 use Rattle.dwc_write.specs.Renumbered.{place_at}
-use Rattle.dwc_carry.proofs.MadeLaws.{leads-there}
+use Rattle.dwc_carry.proofs.MadeLaws.{leads-behind, leads-front, leads-there, made-both, made-grown, made-length}
+use Rattle.dwc_carry.specs.declared.carry_modules.CarriedModules.{CarriedModules}
 use Rattle.dwc_carry.specs.CarriedModules.{AddsModules}
+use Rattle.dwc_carry.specs.LastUnits.{AddsLast}
 use Rattle.dwc_carry.specs.Inputs.{names_of, functions_from, modules_of, input_of, bad_map_from, bad_map, maps_refusal}
 use Rattle.dwc_carry.specs.Transformed.{have_long, lengths_checked, IsTransformed}
 use Rattle.dwc_carry.proofs.CompiledLaws.{all_functions, functions-are}
-use Rattle.dwc_carry.proofs.RefusalLaws.{unmapped, refuses-more}
+use Rattle.dwc_carry.proofs.LastTargets.{all-targets}
+use Rattle.dwc_carry.proofs.RefusalLaws.{first-behind, no-first, reading-more, refuses-more, unmapped}
 use Rattle.dwc_carry.proofs.LengthLaws.{all-short, some-long, checked-long, checked-short}
-use Rattle.dwc_carry.proofs.CompositionLaws.{forest-is, made-texts, made-trees, trees-of-modules}
+use Rattle.dwc_carry.proofs.CompositionLaws.{forest-is, made-texts, made-trees, trees-of-all}
 
 -- the refusal of a bad map
 abbrev map_refusal : Option (ℕ × (ℕ × MapFault)) → Option InputRefusal
@@ -129,6 +135,10 @@ kept-all number place (t ∷ ts) (fs ∷ fss) good =
       kept = refl;
     }) (kept-all (number + length fs) (suc place) ts fss two.1)
 
+-- no map is bad where none is refused
+pub maps-good : (c : CompilationValue) → maps_refusal c ≡ None → bad_map c ≡ None
+maps-good c good = unmapped _ (bad_map c) good
+
 -- the functions of all transforms are kept of good maps
 pub all-kept : (c : CompilationValue) → maps_refusal c ≡ None → All AreKept (functions_from 0 c.translations c.functions)
 all-kept c good = kept-all 0 0 c.translations c.functions (unmapped _ (bad_map c) good)
@@ -146,7 +156,7 @@ transformed-of size c texts us none made whole =
       whole = whole;
       texts = made-texts (place_at us) size texts 0 (wanted_units c) (trees_made c) us made;
       trees = forest-is c none ∙ ap (λ (ts : List Tree). Ok ts) (sym same);
-      targets = subst HasAllTargets (sym same) (made-targets c);
+      targets = subst HasAllTargets (sym same) (all-targets c);
     }
 
 module _ (registers : Registers) (c : CompilationValue) (counted : IsCounted c.translations c.functions c.memory_offsets) where
@@ -161,9 +171,13 @@ module _ (registers : Registers) (c : CompilationValue) (counted : IsCounted c.t
   abbrev refusals_in : List Module → Option InputRefusal
   refusals_in ms = option_map in_reading (first_of (flat_map module_refusals ms))
 
+  -- what is refused of the last unit
+  abbrev last_refused : List Refusal
+  last_refused = last_refusals c.next_id modules
+
   -- what is refused of the input behind its maps, and of it whole
   abbrev reading_refusal : Option InputRefusal
-  reading_refusal = option_map in_reading (first_of (flat_map (λ m. function_refusals m.functions) modules ++ (flat_map module_refusals modules ++ [])))
+  reading_refusal = option_map in_reading (first_of (flat_map (λ m. function_refusals m.functions) modules ++ (flat_map module_refusals modules ++ (last_refused ++ []))))
 
   abbrev input_refusal : Option InputRefusal
   input_refusal = option_or (maps_refusal c) reading_refusal
@@ -176,15 +190,26 @@ module _ (registers : Registers) (c : CompilationValue) (counted : IsCounted c.t
   functions-refused : flat_map function_refusals functions ≡ flat_map (λ (m : Module). function_refusals m.functions) modules
   functions-refused = ap (flat_map function_refusals) (sym (functions-are registers (names_of c) c.translations c.functions c.memory_offsets counted)) ∙ each-refused modules
 
-  -- what is refused of the modules is refused of the input, whose maps are good and whose functions short
-  input-refusals : maps_refusal c ≡ None → have_long functions ≡ false → refusals_in modules ≡ input_refusal
-  input-refusals good short =
-      ap (λ (read : List Refusal). option_map in_reading (first_of read)) (sym (append-nil (flat_map module_refusals modules)))
-      ∙ ap (λ (longs : List Refusal). option_map in_reading (first_of (longs ++ (flat_map module_refusals modules ++ [])))) (sym (sym functions-refused ∙ all-short functions short))
+  -- what is refused behind the lengths of functions is refused of the input, whose maps are good and whose functions short
+  behind-lengths : maps_refusal c ≡ None → have_long functions ≡ false → option_map in_reading (first_of (flat_map module_refusals modules ++ (last_refused ++ []))) ≡ input_refusal
+  behind-lengths good short =
+      ap (λ (longs : List Refusal). option_map in_reading (first_of (longs ++ (flat_map module_refusals modules ++ (last_refused ++ []))))) (sym (sym functions-refused ∙ all-short functions short))
       ∙ ap (λ o. option_or o reading_refusal) (sym good)
 
+  -- so is what is refused of the modules
   pub input-refused : (e : DebugError) → maps_refusal c ≡ None → have_long functions ≡ false → Refuses (refusals_in modules) e → Refuses input_refusal e
-  input-refused e good short h = subst (λ o. Refuses o e) (input-refusals good short) h
+  input-refused e good short h =
+      subst (λ o. Refuses o e) (behind-lengths good short)
+      (reading-more (first_of (flat_map module_refusals modules)) (first_of (flat_map module_refusals modules ++ (last_refused ++ []))) e (λ r is. first-behind (flat_map module_refusals modules) (last_refused ++ []) r is) h)
+
+  -- where nothing is refused of the modules, what is refused behind them is the last unit's
+  behind-modules : refusals_in modules ≡ None → first_of (flat_map module_refusals modules ++ (last_refused ++ [])) ≡ first_of last_refused
+  behind-modules none =
+      ap (λ (rs : List Refusal). first_of (rs ++ (last_refused ++ []))) (no-first (flat_map module_refusals modules) (unmapped in_reading (first_of (flat_map module_refusals modules)) none))
+      ∙ ap (λ (rs : List Refusal). first_of rs) (append-nil last_refused)
+
+  pub last-refused : (e : DebugError) → maps_refusal c ≡ None → have_long functions ≡ false → refusals_in modules ≡ None → RefusesReading (first_of last_refused) e → Refuses input_refusal e
+  last-refused e good short none h = subst (λ o. Refuses o e) (ap (option_map in_reading) (sym (behind-modules none)) ∙ behind-lengths good short) h
 
   -- a bad map refuses the input
   pub maps-refused : (e : DebugError) → Refuses (maps_refusal c) e → Refuses input_refusal e
@@ -194,21 +219,43 @@ module _ (registers : Registers) (c : CompilationValue) (counted : IsCounted c.t
   pub lengths-refused : (e : DebugError) → maps_refusal c ≡ None → Err e ≡ lengths_checked functions → Refuses input_refusal e
   lengths-refused e good h =
       let long = checked-long functions e h in
+      let behind : List Refusal = flat_map module_refusals modules ++ (last_refused ++ []) in
       subst (Refuses input_refusal) (sym long.1)
       (ap (λ o. option_or o reading_refusal) good
-      ∙ ap (λ (longs : List Refusal). option_map in_reading (first_of (longs ++ (flat_map module_refusals modules ++ [])))) (sym functions-refused)
-      ∙ ap (option_map in_reading) (some-long functions (flat_map module_refusals modules ++ []) long.0))
+      ∙ ap (λ (longs : List Refusal). option_map in_reading (first_of (longs ++ behind))) (sym functions-refused)
+      ∙ ap (option_map in_reading) (some-long functions behind long.0))
 
-  -- the input is accepted, and the units that are added are those of it
-  pub input-transformed : (order : Endian) (size : ℕ) (before texts : List (List ℕ)) (us : List GivenUnit) → maps_refusal c ≡ None → have_long functions ≡ false
-      → (refusals_in modules ≡ None) × AddsModules size (is_big order) modules [] us before texts → (input_refusal ≡ None) × IsTransformed size (input_of order size registers None c) texts us
-  input-transformed order size before texts us good short (none, k) =
-      let input = input_of order size registers None c in
-      let accepted : input_refusal ≡ None = sym (input-refusals good short) ∙ none in
-      let leads : LeadsTo (place_at us) 0 k.made = subst (λ vs. LeadsTo (place_at us) 0 vs) k.added (leads-there us) in
-      let made : AreMadeOf (place_at us) size texts 0 (flat_map wanted_units_of modules) (trees_made input) us =
-      subst (AreMadeOf (place_at us) size texts 0 (flat_map wanted_units_of modules) (trees_made input)) (sym k.added)
-      (subst (λ ts. AreMadeOf (place_at us) size texts 0 (flat_map wanted_units_of modules) ts k.made) (sym (trees-of-modules input)) (k.each (place_at us) leads)) in (
-        accepted,
-        transformed-of size input texts us (unmapped in_reading (first_refusal input) (neither (maps_refusal c) reading_refusal accepted).1) made k.whole,
-      )
+  module _ (order : Endian) (size : ℕ) (before between : List (List ℕ)) (vs : List GivenUnit) (carried : CarriedModules) (k : AddsModules size (is_big order) modules [] vs before between carried) where
+    -- the input without frames
+    abbrev input : Compilation
+    input = input_of order size registers None c
+
+    abbrev trees_of_modules : List Tree
+    trees_of_modules = trees_from 0 (map (module_drafts (is_big order)) modules)
+
+    -- So many units are made for the modules as the last one's number says.
+    pub units-numbered : length vs ≡ sum_by unit_count modules
+    units-numbered =
+        let leads : LeadsTo (place_at vs) 0 k.made = subst (λ us. LeadsTo (place_at vs) 0 us) k.added (leads-there vs) in
+        ap length k.added ∙ sym (made-length (place_at vs) size between 0 (module_units input) trees_of_modules k.made (k.each (place_at vs) leads)) ∙ last-number (is_big order) 0 modules
+
+    -- The input is accepted, and the units that are added are those of it.
+    pub input-transformed : (texts : List (List ℕ)) (us : List GivenUnit) → maps_refusal c ≡ None → have_long functions ≡ false → refusals_in modules ≡ None
+        → (option_map in_reading (first_of last_refused) ≡ None) × AddsLast size c.next_id modules vs us between texts → (input_refusal ≡ None) × IsTransformed size (input_of order size registers None c) texts us
+    input-transformed texts us good short none (last, l) =
+        let accepted : input_refusal ≡ None = sym (behind-lengths good short) ∙ ap (option_map in_reading) (behind-modules none) ∙ last in
+        let all : us ≡ k.made ++ l.made = l.added ∙ ap (λ ws. ws ++ l.made) k.added in
+        let counted : length vs ≡ 0 + length k.made = omega (arith, ap length k.added) in
+        let leads : LeadsTo (place_at us) 0 (k.made ++ l.made) = subst (λ ws. LeadsTo (place_at us) 0 ws) all (leads-there us) in
+        let front : LeadsTo (place_at us) 0 k.made = leads-front (place_at us) 0 k.made l.made leads in
+        let behind : LeadsTo (place_at us) (length vs) l.made = leads-behind (place_at us) 0 (length vs) k.made l.made counted leads in
+        let ends : List Tree = map (settled_unit (λ goal. None)) (option_to_list (last_drafts c.next_id modules)) in
+        let one = made-grown (place_at us) size between texts 0 (module_units input) trees_of_modules k.made l.grows (k.each (place_at us) front) in
+        let two = l.each (place_at us) behind (k.contexts (place_at us) front) in
+        let both = made-both (place_at us) size texts 0 (length vs) (module_units input) (last_wanted c.next_id modules) trees_of_modules ends k.made l.made counted one two in
+        let made : AreMadeOf (place_at us) size texts 0 (wanted_units input) (trees_made input) us =
+        subst (AreMadeOf (place_at us) size texts 0 (wanted_units input) (trees_made input)) (sym all)
+        (subst (λ ts. AreMadeOf (place_at us) size texts 0 (wanted_units input) ts (k.made ++ l.made)) (sym (trees-of-all input)) both) in (
+          accepted,
+          transformed-of size input texts us (unmapped in_reading (first_refusal input) (neither (maps_refusal c) reading_refusal accepted).1) made k.whole,
+        )

@@ -3,7 +3,7 @@ use Rattle.std.proofs.Common.{◌≡◌, ℕ, suc, ◌+◌, ◌<◌, ◌≤◌, 
 use Rattle.std.specs.Prelude.{option_map, nat_lt, ◌&&◌, if◌then◌else◌}
 use Rattle.std.specs.List.{filter, flat_map}
 use Rattle.std.proofs.lemmas.Bool.{lt-ltb, le-ltb}
-use Rattle.std.proofs.lemmas.List.{append-nil, append_assoc, length-append, drop_more}
+use Rattle.std.proofs.lemmas.List.{append-nil, append_assoc, length-append, length-map, drop_more}
 use Rattle.std.proofs.lemmas.List.Elements.{All-nil, All-cons, All-head, All-tail, All-append, All-weaker}
 use Rattle.dwc_base.specs.Functions.{Function}
 use Rattle.dwc_base.specs.Compiled.{ToldModule}
@@ -161,6 +161,29 @@ module _ (kept : List ℕ) where
         (emitted-above r.unit.header.end rest h.stand.2 r.unit.header.end (omega arith)) offset p low high
         (ap (λ xss. place_of (numbered_lists first xss) offset) (sym (h.split ∙ ap (λ xss. h.front ++ xss) (emitted-some kept r rest some))) ∙ ap (λ ps. place_of ps offset) (sym are) ∙ at)
 
+-- ---- whether a unit is carried
+
+module _ (kept : List ℕ) (r : ReadUnit) (rest : List ReadUnit) where
+  carried-is : is_carried_read kept r ≡ nat_lt 0 (length (carried_offsets kept r))
+  carried-is = go r.is_compile_unit
+    where
+      go : (b : Bool) → (b && nat_lt 0 (length (inside kept r))) ≡ nat_lt 0 (length (if b then filter (is_in_unit r.unit.header) kept else []))
+      go true = refl
+      go false = refl
+
+  pub left-none : length (carried_offsets kept r) ≤ 0 → filter (is_carried_read kept) (r ∷ rest) ≡ filter (is_carried_read kept) rest
+  left-none none = ap (λ b. cond {A = List ReadUnit} b (r ∷ filter (is_carried_read kept) rest) (filter (is_carried_read kept) rest)) (carried-is ∙ le-ltb 0 (length (carried_offsets kept r)) none)
+
+  pub left-some : 0 < length (carried_offsets kept r) → filter (is_carried_read kept) (r ∷ rest) ≡ r ∷ filter (is_carried_read kept) rest
+  left-some some = ap (λ b. cond {A = List ReadUnit} b (r ∷ filter (is_carried_read kept) rest) (filter (is_carried_read kept) rest)) (carried-is ∙ lt-ltb 0 (length (carried_offsets kept r)) some)
+
+-- Units that carry some are as many.
+carry-length : (size : ℕ) (big_endian : Bool) (c : Module) (first : ℕ) (places : List EmittedEntry) (table : List (List ℕ)) (number : ℕ) (us : List Unit) (gs : List GivenUnit) → CarryUnits size big_endian c first places table number us gs → length us ≡ length gs
+carry-length size big_endian c first places table number [] [] h = refl
+carry-length size big_endian c first places table number [] (g ∷ gs) h = absurd h
+carry-length size big_endian c first places table number (u ∷ us) [] h = absurd h
+carry-length size big_endian c first places table number (u ∷ us) (g ∷ gs) h = ap suc (carry-length size big_endian c first places table (suc number) us gs h.1)
+
 -- ---- what is added
 
 module _ (c : Module) (m : KeptModule) (size : ℕ) (big_endian : Bool) (first : ℕ) where
@@ -191,19 +214,6 @@ module _ (c : Module) (m : KeptModule) (size : ℕ) (big_endian : Bool) (first :
 
   module _ (all : List ReadUnit) (old new : Dwarf) where
     module _ (r : ReadUnit) (rest : List ReadUnit) (h : UnitsSoFar all old new (r ∷ rest)) where
-      carried-is : is_carried_read m.kept r ≡ nat_lt 0 (length (carried_offsets m.kept r))
-      carried-is = go r.is_compile_unit
-        where
-          go : (b : Bool) → (b && nat_lt 0 (length (inside m.kept r))) ≡ nat_lt 0 (length (if b then filter (is_in_unit r.unit.header) m.kept else []))
-          go true = refl
-          go false = refl
-
-      left-none : length (carried_offsets m.kept r) ≤ 0 → filter (is_carried_read m.kept) (r ∷ rest) ≡ filter (is_carried_read m.kept) rest
-      left-none none = ap (λ b. cond {A = List ReadUnit} b (r ∷ filter (is_carried_read m.kept) rest) (filter (is_carried_read m.kept) rest)) (carried-is ∙ le-ltb 0 (length (carried_offsets m.kept r)) none)
-
-      left-some : 0 < length (carried_offsets m.kept r) → filter (is_carried_read m.kept) (r ∷ rest) ≡ r ∷ filter (is_carried_read m.kept) rest
-      left-some some = ap (λ b. cond {A = List ReadUnit} b (r ∷ filter (is_carried_read m.kept) rest) (filter (is_carried_read m.kept) rest)) (carried-is ∙ lt-ltb 0 (length (carried_offsets m.kept r)) some)
-
       -- a unit that is not carried
       pub units-none : length (carried_offsets m.kept r) ≤ 0 → UnitsSoFar all old new rest
       units-none none = record {
@@ -211,8 +221,8 @@ module _ (c : Module) (m : KeptModule) (size : ℕ) (big_endian : Bool) (first :
         added = h.added;
         grows = h.grows;
         each = λ after grown more k.
-            h.each after grown more (subst (λ rs. CarryUnits size big_endian c first placed after (length new.units.units.items) (map of_read rs) more) (sym (left-none none)) k);
-        accepted = sym (ap (λ rs. flat_map (refusals_of c) (map of_read rs)) (left-none none)) ∙ h.accepted;
+            h.each after grown more (subst (λ rs. CarryUnits size big_endian c first placed after (length new.units.units.items) (map of_read rs) more) (sym (left-none m.kept r rest none)) k);
+        accepted = sym (ap (λ rs. flat_map (refusals_of c) (map of_read rs)) (left-none m.kept r rest none)) ∙ h.accepted;
         place = front-none m.kept (suc first) (length new.units.units.items) all r rest h.place none;
       }
 
@@ -227,10 +237,10 @@ module _ (c : Module) (m : KeptModule) (size : ℕ) (big_endian : Bool) (first :
             each = λ after grown more k.
                 subst (λ us. Made after (length old.units.units.items) all us) (sym (append_assoc h.made (a.made ∷ []) more))
                 (h.each after (grows-more new.strings next.strings after a.grows grown) (a.made ∷ more)
-                (subst (λ rs. CarryUnits size big_endian c first placed after (length new.units.units.items) (map of_read rs) (a.made ∷ more)) (sym (left-some some))
+                (subst (λ rs. CarryUnits size big_endian c first placed after (length new.units.units.items) (map of_read rs) (a.made ∷ more)) (sym (left-some m.kept r rest some))
                 (carries-more size big_endian c first placed next.strings after (length new.units.units.items) (of_read r) a.made grown a.is, subst (λ n. Made after n rest more) long k)));
             accepted =
-                sym (ap (λ rs. flat_map (refusals_of c) (map of_read rs)) (left-some some)
+                sym (ap (λ rs. flat_map (refusals_of c) (map of_read rs)) (left-some m.kept r rest some)
                 ∙ ap (λ xs. xs ++ Refused rest) (no-first (refusals_of c (of_read r)) (unmapped in_reading (first_of (refusals_of c (of_read r))) none)))
                 ∙ h.accepted;
             place = front-some m.kept (suc first) (length new.units.units.items) all r rest h.place (length next.units.units.items) long some;
@@ -240,26 +250,29 @@ module _ (c : Module) (m : KeptModule) (size : ℕ) (big_endian : Bool) (first :
       pub units-refused : 0 < length (carried_offsets m.kept r) → (e : DebugError) → RefusesReading (first_of (refusals_of c (of_read r))) e → RefusesReading (first_of (Refused all)) e
       units-refused some e met =
           reading-more (first_of (refusals_of c (of_read r))) (first_of (Refused all)) e
-          (λ x is. sym (ap first_of h.accepted) ∙ ap (λ rs. first_of (flat_map (refusals_of c) (map of_read rs))) (left-some some) ∙ first-behind (refusals_of c (of_read r)) (Refused rest) x is) met
+          (λ x is. sym (ap first_of h.accepted) ∙ ap (λ rs. first_of (flat_map (refusals_of c) (map of_read rs))) (left-some m.kept r rest some) ∙ first-behind (refusals_of c (of_read r)) (Refused rest) x is) met
 
     -- behind the last one
     pub units-done : length old.units.units.items ≡ suc first → UnitsSoFar all old new [] → all ≡ m.units.items → IsOfModule c c.functions c.told m
         → (option_map in_reading (first_of (flat_map (refusals_of c) (carried_in (kept_of c)))) ≡ None) × AddsUnits size big_endian c first old new
-    units-done counted h are of =
+    units-done at_begin h are of =
         let carried_is : carried_in (kept_of c) ≡ carried_left all = carried-read c m of.is ∙ ap carried_left (sym are) in
         let carry : Made new.strings (length old.units.units.items) all h.made = subst (λ us. Made new.strings (length old.units.units.items) all us) (append-nil h.made) (h.each new.strings (grows-none new.strings) [] tt) in
         let there : CarryUnits size big_endian c first placed new.strings (suc first) (map of_read (filter (is_carried_read m.kept) m.units.items)) h.made =
-        subst (λ n. CarryUnits size big_endian c first placed new.strings n (map of_read (filter (is_carried_read m.kept) m.units.items)) h.made) counted
+        subst (λ n. CarryUnits size big_endian c first placed new.strings n (map of_read (filter (is_carried_read m.kept) m.units.items)) h.made) at_begin
         (subst (λ rs. CarryUnits size big_endian c first placed new.strings (length old.units.units.items) (map of_read (filter (is_carried_read m.kept) rs)) h.made) are carry) in (
           ap (λ us. option_map in_reading (first_of (flat_map (refusals_of c) us))) carried_is ∙ ap (λ rs. option_map in_reading (first_of rs)) (sym h.accepted),
           record {
             made = h.made;
             added = h.added;
             grows = h.grows;
+            counted =
+                sym (carry-length size big_endian c first placed new.strings (suc first) (map of_read (filter (is_carried_read m.kept) m.units.items)) h.made there)
+                ∙ ap length (sym (carried-read c m of.is)) ∙ sym (length-map (carried_in (kept_of c)) (λ (u : Unit). record { module_of = c; unit = u }));
             each = λ at leads own_there.
                 subst (λ us. AreMadeOf at size new.strings (length old.units.units.items) (map carried_unit (map (λ u. record { module_of = c; unit = u }) us)) (map (wanted_of big_endian c first) us) h.made) (sym (carried-read c m of.is))
-                (subst (λ n. AreMadeOf at size new.strings n (map carried_unit (map (λ u. record { module_of = c; unit = u }) (map of_read (filter (is_carried_read m.kept) m.units.items)))) (map (wanted_of big_endian c first) (map of_read (filter (is_carried_read m.kept) m.units.items))) h.made) (sym counted)
-                (carried-made c m of.is size big_endian first placed refl new.strings at own_there h.made there (subst (λ n. LeadsTo at n h.made) counted leads)));
+                (subst (λ n. AreMadeOf at size new.strings n (map carried_unit (map (λ u. record { module_of = c; unit = u }) (map of_read (filter (is_carried_read m.kept) m.units.items)))) (map (wanted_of big_endian c first) (map of_read (filter (is_carried_read m.kept) m.units.items))) h.made) (sym at_begin)
+                (carried-made c m of.is size big_endian first placed refl new.strings at own_there h.made there (subst (λ n. LeadsTo at n h.made) at_begin leads)));
           },
         )
 

@@ -45,6 +45,7 @@ use Rattle.dwc_kept.proofs.KeptModuleLaws.{read-unit, read-within, read-tree, re
 use Rattle.dwc_clone.specs.declared.source.CloneSource.{CloneSource}
 use Rattle.dwc_clone.specs.Sources.{AreEmitted, AreFiles, IsSource, IsEmitted, IsReadAlone, own_unit_of, unit_of as unit_referred}
 use Rattle.dwc_carry.specs.OwnUnits.{entry_of, ReferToOwn}
+use Rattle.dwc_clone.specs.declared.places.EmittedEntry.{EmittedEntry}
 use Rattle.dwc_clone.specs.OutputPlaces.{place_of}
 use Rattle.dwc_clone.specs.ClonedUnits.{picked, depths_of, AreClonable}
 use Rattle.dwc_carry.specs.ModulePlaces.{emitted}
@@ -158,6 +159,17 @@ compiled kept os h false is some = absurd (omega (arith, some, ap length is))
 
 -- ---- one unit of a module
 
+-- The entries at the offsets of a unit's kept entries are these.
+pub picked-of : (fs : List Function) (told : ToldModule) (c : Module) (m : KeptModule) (first number : ℕ) (places : List EmittedEntry) (kept : List ℕ) (r : ReadUnit) → IsUnitOf c fs told m first number places kept r
+    → picked kept (entries r.unit.sections r.unit.header).items ≡ kept_of_unit m.kept (unit_read c.sections r.unit.header)
+picked-of fs told c m first number places kept r of =
+    let is = (of.module_is).is in
+    let there = contains-in m.units.items r of.one in
+    let offsets = (compiled m.kept kept r.unit.header r.is_compile_unit of.offsets of.some).1 ∙ read-within c m is r there in
+    ap (λ s. picked kept (entries s r.unit.header).items) (read-unit c m is r there).sections
+    ∙ ap (λ os. picked os (entries c.sections r.unit.header).items) offsets
+    ∙ picked-passing (stands_at m.kept) r.unit.header.offset r.unit.header.end (entries c.sections r.unit.header).items (read-rises c m is r there)
+
 -- The unit that is cloned, as it was read.
 abbrev pub read_of : CloneSource → Bool → Option ℕ → ReadUnit
 read_of k compile table = record { unit = k.unit.now; is_compile_unit = compile; line_table = table }
@@ -188,15 +200,9 @@ module _ (k : CloneSource) (compile : Bool) (table : Option ℕ) (told : ToldMod
   pub no-fault : (entries k.unit.now.sections k.unit.now.header).fault ≡ None
   no-fault = ap (λ s. (entries s k.unit.now.header).fault) unit-is.sections ∙ whole-fault c.sections k.unit.now.header is.whole header-there
 
-  rises : RiseIn k.unit.now.header.offset k.unit.now.header.end (entries c.sections k.unit.now.header).items
-  rises = read-rises c m is (read_of k compile table) unit-in
-
   -- The entries at the offsets are the unit's kept ones.
   pub picked-are : picked kept (entries k.unit.now.sections k.unit.now.header).items ≡ kept_of_unit m.kept unit_of
-  picked-are =
-      ap (λ s. picked kept (entries s k.unit.now.header).items) unit-is.sections
-      ∙ ap (λ os. picked os (entries c.sections k.unit.now.header).items) offsets-are
-      ∙ picked-passing (stands_at m.kept) k.unit.now.header.offset k.unit.now.header.end (entries c.sections k.unit.now.header).items rises
+  picked-are = picked-of k.transform.now told c m first number k.places.now kept (read_of k compile table) of
 
   all-read : All IsReadEntry (entries c.sections k.unit.now.header).items
   all-read = all-in (λ h. All IsReadEntry (entries c.sections h).items) (unit_headers c.sections).items k.unit.now.header (entries-read c.sections (of.module_is).bytes) header-there

@@ -16,7 +16,10 @@ use Rattle.dwc_clone.specs.MadeValues.{Grows}
 use Rattle.dwc_carry.specs.declared.error.DebugError.{DebugError}
 use Rattle.dwc_carry.specs.Refusals.{ReadsOr}
 use Rattle.dwc_carry.specs.MadeUnits.{LeadsTo, AreMadeOf}
+use Rattle.dwc_carry.specs.declared.carry_modules.CarriedModules.{CarriedModules}
 use Rattle.dwc_carry.specs.CarriedUnits.{AddsUnits}
+use Rattle.dwc_carry.specs.LastUnits.{AreTranslated, ReferToContexts}
+use Rattle.dwc_carry.specs.SimulatedDrafts.{ContextsStay}
 
 -- a module, with the functions that its transform keeps and what is told of it
 abbrev pub transformed_module : ModuleTranslation → List Function → ToldModule → Module
@@ -37,14 +40,18 @@ GivesCarried size big_endian m own old new result = ReadsOr (λ done. AddsCarrie
 -- ---- modules
 
 -- Units are added that are made for modules, whose units are read to their ends, and that are to say the trees of these; the table of
--- texts has grown.
-pub record AddsModules (size : ℕ) (big_endian : Bool) (ms : List Module) (old new : List GivenUnit) (before after : List (List ℕ)) : Type 0 where
+-- texts has grown. References go to the contexts of the modules, which lead there, and the numbers of the functions that kept subprograms
+-- begin in are noted, and no others.
+pub record AddsModules (size : ℕ) (big_endian : Bool) (ms : List Module) (old new : List GivenUnit) (before after : List (List ℕ)) (carried : CarriedModules) : Type 0 where
   pub made : List GivenUnit
   pub added : new ≡ old ++ made
   pub grows : Grows before after
   pub each : (at : ℕ → ℕ → Option (ℕ × ℕ)) → LeadsTo at (length old) made → AreMadeOf at size after (length old) (flat_map wanted_units_of ms) (trees_from (length old) (map (module_drafts big_endian) ms)) made
   pub whole : All (λ m. (units m.sections).fault ≡ None) ms
+  pub refers : ReferToContexts (length old) ms carried.vmctx_ptrs.items
+  pub contexts : (at : ℕ → ℕ → Option (ℕ × ℕ)) → LeadsTo at (length old) made → ContextsStay at (length old) ms
+  pub translated : AreTranslated ms carried.translated
 
 -- They are added, or the first refusal is answered.
-abbrev pub GivesModules : ℕ → Bool → List Module → Dwarf → Dwarf → Result (Unit {0}) DebugError → Type 0
-GivesModules size big_endian ms old new result = ReadsOr (λ done. AddsModules size big_endian ms old.units.units.items new.units.units.items old.strings new.strings) (first_of (flat_map module_refusals ms)) result
+abbrev pub GivesModules : ℕ → Bool → List Module → Dwarf → Dwarf → Result CarriedModules DebugError → Type 0
+GivesModules size big_endian ms old new result = ReadsOr (λ carried. AddsModules size big_endian ms old.units.units.items new.units.units.items old.strings new.strings carried) (first_of (flat_map module_refusals ms)) result

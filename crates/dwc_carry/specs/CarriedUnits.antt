@@ -109,6 +109,7 @@ pub record AddsUnits (size : ℕ) (big_endian : Bool) (c : Module) (first : ℕ)
   pub made : List GivenUnit
   pub added : new.units.units.items ≡ old.units.units.items ++ made
   pub grows : Grows old.strings new.strings
+  pub counted : length made ≡ length (carried_units_of c)
   pub each : (at : ℕ → ℕ → Option (ℕ × ℕ)) → LeadsTo at (length old.units.units.items) made → ((place : ℕ) → place < length (own_unit c.told.names.set_memory c.told.memory) → at first place ≡ Some (first, place))
       → AreMadeOf at size new.strings (length old.units.units.items) (map carried_unit (carried_units_of c)) (map (wanted_of big_endian c first) (carried_in (kept_of c))) made
 

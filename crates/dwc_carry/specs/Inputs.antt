@@ -11,6 +11,7 @@ use Rattle.dwc_base.specs.Carried.{Module, Compilation}
 use Rattle.dwc_base.specs.CallFrames.{CommonEntry}
 use Rattle.dwc_base.specs.Compiled.{LinkageNames, ToldModule}
 use Rattle.dwc_base.specs.Forests.{first_refusal}
+use Rattle.dwc_base.specs.UnitPaths.{next_id_behind}
 use Rattle.dwc_clif.specs.AddressMaps.{address_map_view}
 use Rattle.dwc_clif.specs.Registers.{Registers}
 use Rattle.dwc_addr.specs.declared.memory_offset.ModuleMemoryOffset.{ModuleMemoryOffset}
@@ -51,6 +52,10 @@ names_of c = record { set_memory = c.set_memory; resolve_memory = c.resolve_memo
 -- the modules of a compilation
 abbrev pub modules_of : Registers → CompilationValue → List Module
 modules_of registers c = modules_from 0 c.translations c.functions (told_from registers (names_of c) 0 0 c.functions c.memory_offsets)
+
+-- A compilation behind the path of its last unit: the number of the next generated name has risen where one was made.
+abbrev pub counted_behind : Registers → CompilationValue → CompilationValue
+counted_behind registers c = record c { next_id = next_id_behind c.next_id (modules_of registers c) }
 
 -- the input of a compilation for a target of a byte order, an address size, numbers of registers, and what the frames of all functions
 -- share, if it has frames

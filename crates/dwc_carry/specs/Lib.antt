@@ -14,6 +14,11 @@ pub mod CarriedModules
 pub mod CompiledFrames
 pub mod Inputs
 pub mod UnitPathParts
+pub mod ListedFiles
+pub mod LastUnits
+pub mod ListedModules
+pub mod ListedVariables
+pub mod ListedParts
 pub mod Transformed
 pub mod Emits
 pub mod ListedNames

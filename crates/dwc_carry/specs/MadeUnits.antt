@@ -3,7 +3,10 @@ use Rattle.std.specs.Prelude.{◌≡◌, ℕ, suc, ◌+◌, ◌<◌, ◌≤◌, 
 use Rattle.std.specs.List.{filter, AllZip}
 use Rattle.dwc_base.specs.LineRows.{Segment}
 use Rattle.dwc_base.specs.Images.{is_carried_segment, IsImageOf}
-use Rattle.dwc_base.specs.Carried.{CarriedUnit, WantedUnit, own_unit, carried_unit, segments_of_unit}
+use Rattle.dwc_base.specs.Carried.{CarriedUnit, WantedUnit, own_unit, carried_unit, listed_unit, segments_of_unit}
+use Rattle.dwc_base.specs.Functions.{Function}
+use Rattle.dwc_base.specs.SimulatedLines.{IsSimulated}
+use Rattle.dwc_base.specs.LastUnit.{listed_in_files, widest_listed}
 use Rattle.dwc_base.specs.Widest.{widest_lines_of}
 use Rattle.dwc_base.specs.Trees.{Tree}
 use Rattle.dwc_write.specs.AddedInOrder.{IsInOrder, tree_meant}
@@ -22,10 +25,17 @@ pub record HasLinesOf (c : CarriedUnit) (u : GivenUnit) : Type 0 where
   pub images : AllZip (IsImageOf c.module_of.functions) (filter (is_carried_segment c.module_of.functions) input) (given_segments u.lines)
   pub widest : widest_table_for u.lines.address_size u.lines ≤ widest_lines_of c
 
+-- The line program of a unit to be written has, in order, a segment for each of some functions, each with the offset of its own file's code,
+-- over one file of a name, and is no longer, at its widest, than what is allowed for them.
+pub record HasListedLines (name : List ℕ) (fs : List (ℕ × Function)) (u : GivenUnit) : Type 0 where
+  pub segments : AllZip (λ f segment. IsSimulated name f.0 f.1 segment) fs (given_segments u.lines)
+  pub widest : widest_table_for u.lines.address_size u.lines ≤ widest_listed name fs
+
 -- the lines that a unit is to have; a module's own has no line program
 abbrev pub HasWantedLines : WantedUnit → GivenUnit → Type 0
 HasWantedLines own_unit u = u.lines ≡ no_lines None
 HasWantedLines (carried_unit c) u = HasLinesOf c u
+HasWantedLines (listed_unit name ms) u = HasListedLines name (listed_in_files ms) u
 
 -- Each number of some units, of which the first has a number, that has a place there leads to it.
 abbrev pub LeadsTo : (ℕ → ℕ → Option (ℕ × ℕ)) → ℕ → List GivenUnit → Type 0

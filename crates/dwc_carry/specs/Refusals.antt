@@ -4,7 +4,7 @@ use Rattle.dwc_base.specs.Sections.{unreadable, unsupported}
 use Rattle.dwc_base.specs.declared.records.MapFault.{MapFault}
 use Rattle.dwc_base.specs.declared.faults.Limit.{Limit}
 use Rattle.dwc_base.specs.declared.faults.Limit.TheVariants.{Section, Addend, Range, Jump, Expression, Vmctx}
-use Rattle.dwc_base.specs.Refusals.{Refusal, of_place, missing_file, long_function, long_range, bad_label, lacks_memory, unmapped_register, long_jump, far_memory, of_frame}
+use Rattle.dwc_base.specs.Refusals.{Refusal, of_place, missing_file, long_function, long_range, bad_label, lacks_memory, unmapped_register, long_jump, far_memory, bad_path, of_frame}
 use Rattle.dwc_base.specs.FrameRefusals.{bad_code_offset, bad_data_offset}
 use Rattle.dwc_read.specs.declared.fault.ReadFault.{ReadFault}
 use Rattle.dwc_read.specs.declared.fault.ReadFault.TheVariants as read
@@ -17,7 +17,7 @@ use Rattle.dwc_write.specs.declared.error.WriteError.TheVariants as write
 use Rattle.dwc_clone.specs.declared.error.CloneError.{CloneError}
 use Rattle.dwc_clone.specs.declared.error.CloneError.TheVariants as clone
 use Rattle.dwc_carry.specs.declared.error.DebugError.{DebugError}
-use Rattle.dwc_carry.specs.declared.error.DebugError.TheVariants.{Read, Unsupported, InvalidFileIndex, BadAddressMap, BadLabelRange, InvalidAttributeValue, UnmappedRegister, InvalidFrameCodeOffset, InvalidFrameDataOffset, TooLarge, OutOfMemory}
+use Rattle.dwc_carry.specs.declared.error.DebugError.TheVariants.{Read, Unsupported, InvalidFileIndex, BadAddressMap, BadLabelRange, InvalidAttributeValue, UnmappedRegister, Path, InvalidFrameCodeOffset, InvalidFrameDataOffset, TooLarge, OutOfMemory}
 
 -- a reader's refusal, and that of address maps
 abbrev pub of_reading : ReadFault → DebugError
@@ -76,6 +76,7 @@ told (BadAddressMap m func why) = refused (bad_address_map m func why)
 told (BadLabelRange label) = refused (in_reading (bad_label label.0))
 told (InvalidAttributeValue m) = refused (in_reading (lacks_memory m))
 told (UnmappedRegister register) = refused (in_reading (unmapped_register register.0))
+told Path = refused (in_reading bad_path)
 told (InvalidFrameCodeOffset symbol) = refused (in_reading (of_frame (bad_code_offset symbol)))
 told (InvalidFrameDataOffset symbol) = refused (in_reading (of_frame (bad_data_offset symbol)))
 told (TooLarge (Section name)) = limit (Section name)

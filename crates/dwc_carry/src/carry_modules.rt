@@ -1,10 +1,12 @@
 //! The units of the output, from the modules of an input.
-ghost use Rattle.std.specs.Prelude.{◌≡◌, ◌⊎◌, ◌<◌, ℕ, suc, length, All};
+ghost use Rattle.std.specs.Prelude.{◌≡◌, ◌⊎◌, ◌<◌, ℕ, suc, length, All, OnOk};
 ghost use Rattle.dwc_base.specs.declared.section_name.SectionName.TheVariants.{Info};
 ghost use Rattle.dwc_base.specs.Addends.{HaveAddends};
+ghost use Rattle.dwc_base.specs.ListedFunctions.{begun_in_module};
 ghost use Rattle.dwc_base.specs.Translations.{translation_sections};
 ghost use Rattle.dwc_image.specs.CarriedLines.{AreKept};
 ghost use Rattle.dwc_write.specs.TextTables.{IsText};
+ghost use Rattle.dwc_clone.specs.BegunNumbers.{NotesFunctions};
 ghost use Rattle.dwc_clone.specs.CompiledModules.{told_by, HasFrames};
 ghost use Rattle.dwc_carry.specs.CarriedModules.{transformed_module, GivesCarried, GivesModules};
 ghost use Rattle.dwc_carry.specs.OwnUnits.{ReferToOwn};
@@ -21,8 +23,10 @@ use dwc_clif::TargetIsa;
 use dwc_clone::CompiledModule;
 use dwc_kept::kept_module;
 use dwc_read::Sections;
-use dwc_write::Dwarf;
+use dwc_write::{DebugInfoRef, Dwarf};
 use std::alloc::Global;
+use std::collections::BTreeSet;
+use std::vec::Vec;
 
 // The sections of a module, whose `.debug_info` is bytes.
 fn sections_of<'d>(translation: &ModuleTranslation<'d>) -> Sections<'d>
@@ -35,7 +39,7 @@ fn sections_of<'d>(translation: &ModuleTranslation<'d>) -> Sections<'d>
 }
 
 // Adds the units of the output that carry those of a module, behind its own: its entries are read once to find those that are kept, and
-// once more, unit by unit, to be cloned.
+// once more, unit by unit, to be cloned. The numbers of the functions that its kept subprograms begin in are added to `translated`.
 fn carry_module(
     alloc: Global,
     isa: &dyn TargetIsa,
@@ -45,6 +49,7 @@ fn carry_module(
     own: &ModuleSyntheticUnit,
     form: OutputForm,
     dwarf: &mut Dwarf,
+    translated: &mut BTreeSet<usize>,
 ) -> Result<(), DebugError>
     requires version { form.encoding.version ≡ 4 }
     requires size { (form.encoding.address_size ≡ 4) ⊎ (form.encoding.address_size ≡ 8) }
@@ -54,7 +59,8 @@ fn carry_module(
     requires names { IsText compiled.now.names.resolve_memory.now }
     requires behind { 0 < length dwarf.old.units.units.items }
     requires own { (number : ℕ) → length dwarf.old.units.units.items ≡ suc number → ReferToOwn number (told_by (dwarf_registers isa.now) compiled.now).memory own.now.vmctx_ptr own.now.wasm_ptr }
-    ensures { (own : ℕ) → length dwarf.old.units.units.items ≡ suc own → GivesCarried form.encoding.address_size form.big_endian (transformed_module translation.now transform.now (told_by (dwarf_registers isa.now) compiled.now)) own dwarf.old dwarf.new result }
+    ensures noted { OnOk result (NotesFunctions (begun_in_module (transformed_module translation.now transform.now (told_by (dwarf_registers isa.now) compiled.now))) translated.old translated.new) }
+    ensures added { (own : ℕ) → length dwarf.old.units.units.items ≡ suc own → GivesCarried form.encoding.address_size form.big_endian (transformed_module translation.now transform.now (told_by (dwarf_registers isa.now) compiled.now)) own dwarf.old dwarf.new result }
 {
     if let Some(offset) = translation.compressed {
         return Err(DebugError::Unsupported {
@@ -65,12 +71,21 @@ fn carry_module(
     let module = kept_module(alloc, sections_of(translation), transform)?;
     let places = module_places(alloc, &module, dwarf.units.len())?;
     carry_units(
-        alloc, isa, &module, &places, transform, compiled, own, form, dwarf,
+        alloc, isa, &module, &places, transform, compiled, own, form, dwarf, translated,
     )
 }
 
+/// What the units of modules tell to the unit behind them.
+#[derive(Drop)]
+pub(crate) struct CarriedModules {
+    /// The numbers of the functions that kept subprograms of carried units begin in.
+    pub translated: BTreeSet<usize>,
+    /// The type of a pointer to the context of each module.
+    pub vmctx_ptrs: Vec<DebugInfoRef>,
+}
+
 /// Adds the units of the output that are made for the modules of a compilation, in order, each module with its transform: of each its
-/// own, and those that carry its units.
+/// own, and those that carry its units. It answers what they tell to the unit behind them.
 ///
 /// # Errors
 /// The first refusal of a module, in order. `OutOfMemory` for want of memory.
@@ -81,7 +96,7 @@ pub(crate) fn carry_modules(
     transforms: &[AddressTransform],
     form: OutputForm,
     dwarf: &mut Dwarf,
-) -> Result<(), DebugError>
+) -> Result<CarriedModules, DebugError>
     requires version { form.encoding.version ≡ 4 }
     requires size { (form.encoding.address_size ≡ 4) ⊎ (form.encoding.address_size ≡ 8) }
     requires transforms { transforms.now ≡ functions_from 0 compilation.now.translations compilation.now.functions }
@@ -90,6 +105,8 @@ pub(crate) fn carry_modules(
     ensures { GivesModules form.encoding.address_size form.big_endian (modules_of (dwarf_registers isa.now) compilation.now) dwarf.old dwarf.new result }
 {
     let translations = compilation.translations();
+    let mut translated = BTreeSet::new(alloc);
+    let mut vmctx_ptrs = Vec::new(alloc);
     for i in 0..translations.len() {
         let module = StaticModuleIndex(i as u32);
         let compiled = compiled_module(compilation, module);
@@ -112,7 +129,12 @@ pub(crate) fn carry_modules(
             &own,
             form,
             dwarf,
+            &mut translated,
         )?;
+        vmctx_ptrs.push(own.vmctx_ptr_die_ref())?;
     }
-    Ok(())
+    Ok(CarriedModules {
+        translated,
+        vmctx_ptrs,
+    })
 }

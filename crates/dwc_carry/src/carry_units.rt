@@ -1,13 +1,15 @@
 //! The units of the output, from those of a module.
-ghost use Rattle.std.specs.Prelude.{◌≡◌, ◌<◌, ◌⊎◌, ℕ, suc, length, All};
+ghost use Rattle.std.specs.Prelude.{◌≡◌, ◌<◌, ◌⊎◌, ℕ, suc, length, All, OnOk};
 ghost use Rattle.dwc_base.specs.Addends.{HaveAddends};
 ghost use Rattle.dwc_base.specs.Carried.{Module};
+ghost use Rattle.dwc_base.specs.ListedFunctions.{begun_functions, begun_in_module};
 ghost use Rattle.dwc_base.specs.Entries.{entries as entries_of};
 ghost use Rattle.dwc_base.specs.ReadValues.{IsReadEntry};
 ghost use Rattle.dwc_kept.specs.declared.kept_units.KeptModule.{KeptModule as KeptModuleValue};
 ghost use Rattle.dwc_kept.specs.ReadUnits.{unit_read};
 ghost use Rattle.dwc_image.specs.CarriedLines.{AreKept};
 ghost use Rattle.dwc_write.specs.TextTables.{IsText};
+ghost use Rattle.dwc_clone.specs.BegunNumbers.{NotesFunctions};
 ghost use Rattle.dwc_clone.specs.CompiledModules.{told_by, HasFrames};
 ghost use Rattle.dwc_clone.specs.KnownTexts.{KnowsTexts};
 ghost use Rattle.dwc_carry.specs.LastLines.{IsLast};
@@ -26,9 +28,11 @@ use dwc_clone::{CloneSource, CompiledModule, KnownTexts, Places, clone_unit};
 use dwc_kept::{KeptModule, ReadUnit};
 use dwc_write::Dwarf;
 use std::alloc::Global;
+use std::collections::BTreeSet;
 
 // Adds the unit of the output that carries a unit, whose kept entries stand at some offsets, and answers the line table that was
-// carried last. `last` is the one before, in a unit of the output.
+// carried last. `last` is the one before, in a unit of the output. The numbers of the functions that its kept subprograms begin in are added
+// to `translated`.
 fn carry_unit(
     alloc: Global,
     isa: &dyn TargetIsa,
@@ -42,6 +46,7 @@ fn carry_unit(
     form: OutputForm,
     dwarf: &mut Dwarf,
     known: &mut KnownTexts,
+    translated: &mut BTreeSet<usize>,
 ) -> Result<Option<LastLines>, DebugError>
     requires version { form.encoding.version ≡ 4 }
     requires size { (form.encoding.address_size ≡ 4) ⊎ (form.encoding.address_size ≡ 8) }
@@ -53,6 +58,7 @@ fn carry_unit(
     requires read { All IsReadEntry (entries_of read.now.unit.sections read.now.unit.header).items }
     requires texts { KnowsTexts read.now.unit.sections dwarf.old.strings known.old }
     ensures texts { KnowsTexts read.now.unit.sections dwarf.new.strings known.new }
+    ensures noted { (c : Module) (m : KeptModuleValue) (first : ℕ) → IsUnitOf c transform.now (told_by (dwarf_registers isa.now) compiled.now) m first (length dwarf.old.units.units.items) places.now kept.now read.now → OnOk result (NotesFunctions (begun_functions (record { module_of = c; unit = unit_read c.sections read.now.unit.header })) translated.old translated.new) }
     ensures added { (c : Module) (m : KeptModuleValue) (first : ℕ) → IsUnitOf c transform.now (told_by (dwarf_registers isa.now) compiled.now) m first (length dwarf.old.units.units.items) places.now kept.now read.now → ReferToOwn first c.told.memory own.now.vmctx_ptr own.now.wasm_ptr → GivesUnit form.encoding.address_size form.big_endian c first places.now (unit_read c.sections read.now.unit.header) dwarf.old dwarf.new result }
 {
     let BegunUnit { unit, files } = begun_unit(
@@ -73,13 +79,23 @@ fn carry_unit(
         files,
         big_endian: form.big_endian,
     };
-    let unit = clone_unit(alloc, isa, &source, kept, unit, &mut dwarf.strings, known)?;
+    let unit = clone_unit(
+        alloc,
+        isa,
+        &source,
+        kept,
+        unit,
+        &mut dwarf.strings,
+        known,
+        translated,
+    )?;
     let id = dwarf.units.add(unit)?;
     Ok(last_after(read, files, id, last))
 }
 
 /// Adds the units of the output that carry those of a module, in order, behind its own; those that are not carried have none. A line table that units
-/// behind one another name is read and carried once, and so is a text, whichever units name it.
+/// behind one another name is read and carried once, and so is a text, whichever units name it. The numbers of the functions that their
+/// kept subprograms begin in are added to `translated`.
 ///
 /// # Errors
 /// What is refused first of the carried units in order: of each its line table, and then its kept entries. `OutOfMemory` for want of
@@ -94,6 +110,7 @@ pub(crate) fn carry_units(
     own: &ModuleSyntheticUnit,
     form: OutputForm,
     dwarf: &mut Dwarf,
+    translated: &mut BTreeSet<usize>,
 ) -> Result<(), DebugError>
     requires version { form.encoding.version ≡ 4 }
     requires size { (form.encoding.address_size ≡ 4) ⊎ (form.encoding.address_size ≡ 8) }
@@ -105,7 +122,8 @@ pub(crate) fn carry_units(
     requires behind { 0 < length dwarf.old.units.units.items }
     requires own { (number : ℕ) → length dwarf.old.units.units.items ≡ suc number → ReferToOwn number (told_by (dwarf_registers isa.now) compiled.now).memory own.now.vmctx_ptr own.now.wasm_ptr }
     requires places { places.now ≡ numbered_lists (length dwarf.old.units.units.items) (emitted read_module.now.kept read_module.now.units.items) }
-    ensures { (c : Module) (own : ℕ) → length dwarf.old.units.units.items ≡ suc own → IsOfModule c transform.now (told_by (dwarf_registers isa.now) compiled.now) read_module.now → GivesUnits form.encoding.address_size form.big_endian c own dwarf.old dwarf.new result }
+    ensures noted { (c : Module) → IsOfModule c transform.now (told_by (dwarf_registers isa.now) compiled.now) read_module.now → OnOk result (NotesFunctions (begun_in_module c) translated.old translated.new) }
+    ensures added { (c : Module) (own : ℕ) → length dwarf.old.units.units.items ≡ suc own → IsOfModule c transform.now (told_by (dwarf_registers isa.now) compiled.now) read_module.now → GivesUnits form.encoding.address_size form.big_endian c own dwarf.old dwarf.new result }
 {
     let mut last = None;
     let mut known = KnownTexts::new(alloc);
@@ -115,7 +133,7 @@ pub(crate) fn carry_units(
         if kept.len() > 0 {
             last = carry_unit(
                 alloc, isa, read, kept, places, last, transform, compiled, own, form, dwarf,
-                &mut known,
+                &mut known, translated,
             )?;
         }
     }

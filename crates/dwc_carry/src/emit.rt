@@ -1,6 +1,7 @@
 //! Emits the DWARF of a compilation for the native code of its functions.
-ghost use Rattle.std.specs.Prelude.{◌≡◌};
+ghost use Rattle.std.specs.Prelude.{◌≡◌, ◌⊎◌, IfErr, OnOk};
 ghost use Rattle.dwc_carry.specs.Emits.{Emits};
+ghost use Rattle.dwc_carry.specs.Inputs.{counted_behind};
 
 use crate::DebugError;
 use crate::frames::frame_table;
@@ -12,7 +13,8 @@ use dwc_write::write_sections;
 use std::alloc::Global;
 
 /// The sections of DWARF that those of a compilation carry over to, for a target, with the call frames of its functions behind them where
-/// the target has a common information entry. The compilation is left as it is. The work is linear in what is read and written.
+/// the target has a common information entry. The compilation is left as it is but for its counter of names, which rises where the path of
+/// the unit for functions without debugging information is made of it. The work is linear in what is read and written.
 ///
 /// # Errors
 /// `BadAddressMap` exactly where a function's address map breaks a rule: the first module, its first such function, and the
@@ -20,8 +22,8 @@ use std::alloc::Global;
 /// none is: `Read`, `Unsupported`, `InvalidFileIndex`, `TooLarge` `Range` for a range whose start plus its length is no address, or
 /// `BadLabelRange`, `InvalidAttributeValue`, `UnmappedRegister` or `TooLarge` `Jump` for an expression that is built over its scope, or
 /// `TooLarge` `Vmctx` for a module whose memory is too far behind in its context,
-/// exactly where something is refused, for the first in the order of the work, module by module. Where nothing is: `InvalidFrameCodeOffset`
-/// or `InvalidFrameDataOffset` exactly where a function's frame description cannot be written, for the first. Where nothing is refused: `TooLarge` `Expression`
+/// exactly where something is refused, for the first in the order of the work, module by module; then `Path` exactly where the path of the
+/// last unit names no file, and what is refused of the variables of its functions. Where nothing is: `InvalidFrameCodeOffset` or `InvalidFrameDataOffset` exactly where a function's frame description cannot be written, for the first. Where nothing is refused: `TooLarge` `Expression`
 /// exactly where an expression of a location list has more than 65,535 bytes; else `TooLarge` `Section` only for a section that could be
 /// longer than 2^31 - 1 bytes, each of its numbers at its widest. `OutOfMemory` for want of memory.
 pub fn emit_dwarf(
@@ -30,7 +32,8 @@ pub fn emit_dwarf(
     compilation: &mut Compilation<'_>,
 ) -> Result<Vec<DwarfSection>, DebugError>
     ensures sections { Emits (byte_order isa.now) (pointer_size isa.now) (dwarf_registers isa.now) (common_entry isa.now) compilation.old result }
-    ensures unchanged { compilation.new ≡ compilation.old }
+    ensures counter { OnOk result (compilation.new ≡ counted_behind (dwarf_registers isa.now) compilation.old) }
+    ensures refused { IfErr result (λ e. (compilation.new ≡ compilation.old) ⊎ (compilation.new ≡ counted_behind (dwarf_registers isa.now) compilation.old)) }
 {
     translations_keep_scopes();
     let dwarf = transform_dwarf(alloc, isa, compilation)?;

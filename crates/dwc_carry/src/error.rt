@@ -55,6 +55,9 @@ pub enum DebugError {
     UnmappedRegister {
         register: Reg,
     },
+    /// The path of the unit for functions without debugging information names no file: its name is empty, `.` or `..`.
+    #[error("Path")]
+    Path,
     /// The code offsets of a frame description fall, or are no multiples of the code factor; the function by its number.
     #[error("InvalidFrameCodeOffset {symbol}")]
     InvalidFrameCodeOffset {

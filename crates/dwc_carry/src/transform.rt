@@ -1,13 +1,15 @@
 //! The DWARF of a compilation, before it is written.
-ghost use Rattle.std.specs.Prelude.{◌≡◌, ◌⊎◌};
+ghost use Rattle.std.specs.Prelude.{◌≡◌, ◌⊎◌, IfErr, OnOk};
 ghost use Rattle.dwc_base.specs.Forests.{is_big};
 ghost use Rattle.dwc_addr.specs.Compilations.{IsCounted};
+ghost use Rattle.dwc_carry.specs.Inputs.{counted_behind};
 ghost use Rattle.dwc_carry.specs.Transformed.{GivesTransforms, GivesDwarf};
 
 use crate::DebugError;
 use crate::carry_modules::carry_modules;
 use crate::lengths::check_lengths;
 use crate::output_form::OutputForm;
+use crate::simulated_unit::generate_simulated_dwarf;
 use dwc_addr::{AddressTransform, Compilation};
 use dwc_base::{Encoding, Endian, StaticModuleIndex};
 use dwc_clif::TargetIsa;
@@ -15,7 +17,8 @@ use dwc_write::{Dwarf, StringTable, UnitTable};
 use std::alloc::Global;
 
 /// The units of DWARF for a compilation and a target: module by module and in order, the module's own, and one for each compile unit
-/// of which an entry is kept, with an entry for each kept one. The compilation is left as it is.
+/// of which an entry is kept, with an entry for each kept one; and behind these one for the functions without debugging information, where
+/// there is a module. The compilation is left as it is but for its counter of names, which rises where the path of that unit is made of it.
 ///
 /// # Errors
 /// `BadAddressMap` exactly where a function's address map breaks a rule: the first module, its first such function, and the
@@ -23,14 +26,16 @@ use std::alloc::Global;
 /// none is: `Read`, `Unsupported`, `InvalidFileIndex`, `TooLarge` `Range` for a range whose start plus its length is no address, or
 /// `BadLabelRange`, `InvalidAttributeValue`, `UnmappedRegister` or `TooLarge` `Jump` for an expression that is built over its scope, or
 /// `TooLarge` `Vmctx` for a module whose memory is too far behind in its context,
-/// exactly where something is refused, for the first in the order of the work, module by module. `OutOfMemory` for want of memory.
+/// exactly where something is refused, for the first in the order of the work, module by module; then `Path` exactly where the path of the
+/// last unit names no file, and what is refused of the variables of its functions. `OutOfMemory` for want of memory.
 pub fn transform_dwarf(
     alloc: Global,
     isa: &dyn TargetIsa,
     compilation: &mut Compilation<'_>,
 ) -> Result<Dwarf, DebugError>
     ensures units { GivesDwarf (byte_order isa.now) (pointer_size isa.now) (dwarf_registers isa.now) compilation.old result }
-    ensures unchanged { compilation.new ≡ compilation.old }
+    ensures counter { OnOk result (compilation.new ≡ counted_behind (dwarf_registers isa.now) compilation.old) }
+    ensures refused { IfErr result (λ e. (compilation.new ≡ compilation.old) ⊎ (compilation.new ≡ counted_behind (dwarf_registers isa.now) compilation.old)) }
 {
     let transforms = transforms(alloc, compilation)?;
     check_lengths(&transforms)?;
@@ -39,7 +44,18 @@ pub fn transform_dwarf(
         units: UnitTable::new(alloc),
         strings: StringTable::new(alloc),
     };
-    carry_modules(alloc, isa, compilation, &transforms, form, &mut dwarf)?;
+    let carried = carry_modules(alloc, isa, compilation, &transforms, form, &mut dwarf)?;
+    generate_simulated_dwarf(
+        alloc,
+        compilation,
+        &transforms,
+        &carried.translated,
+        form.encoding,
+        &carried.vmctx_ptrs,
+        &mut dwarf.units,
+        &mut dwarf.strings,
+        isa,
+    )?;
     Ok(dwarf)
 }
 

@@ -6,8 +6,8 @@ use Rattle.dwc_carry.specs.CarriedModules.{transformed_module}
 use Rattle.dwc_carry.proofs.ModuleGives.{compressed-refused, module-refused, module-gives}
 use Rattle.dwc_carry.proofs.carry_modules.carry_module.Goals as goal
 
-pub returns-in_err-module : goal.returns-in_err-module
-returns-in_err-module g c = λ own at.
+pub returns-in_err-module-clause-added : goal.returns-in_err-module-clause-added
+returns-in_err-module-clause-added g c = λ own at.
     let told = told_by ((goal.TargetIsa-dyn g c.args.isa.now).dwarf_registers c.args.isa.now.1) c.args.compiled.now in
     let p = err_from_is_err_and c.from_residual.result c.from_residual.ensures.1 in
     rw (p.1, p.2) (module-refused (transformed_module c.args.translation.now c.args.transform.now told) c.in_default.is c.in_err-module.field-0.0 (rw c.sections_of.ensures.sections at c.in_err-module.ensures))
@@ -24,15 +24,20 @@ carry_units-requires-clause-read g c = record {
 pub carry_units-requires-clause-places : goal.carry_units-requires-clause-places
 carry_units-requires-clause-places g c = c.in_ok-places.ensures ∙ ap (λ n. numbered_lists n (emitted c.in_ok-module.module.kept c.in_ok-module.module.units.items)) c.len.ensures
 
-pub returns : goal.returns
-returns g c = λ own at.
+pub returns-clause-added : goal.returns-clause-added
+returns-clause-added g c = λ own at.
     let told = told_by ((goal.TargetIsa-dyn g c.args.isa.now).dwarf_registers c.args.isa.now.1) c.args.compiled.now in
     let given = rw c.sections_of.ensures.sections at c.in_ok-module.ensures in
     let m = transformed_module c.args.translation.now c.args.transform.now told in
     module-gives m c.in_default.is c.args.form.encoding.address_size c.args.form.big_endian given.0 given.1.whole own c.args.dwarf.now c.carry_units.new.dwarf c.carry_units.result
-    (c.carry_units.ensures m own at (record { functions = refl; told_is = refl; is = given.1; bytes = c.sections_of.ensures.bytes }))
+    (c.carry_units.ensures.added m own at (record { functions = refl; told_is = refl; is = given.1; bytes = c.sections_of.ensures.bytes }))
 
-pub returns-in-Some : goal.returns-in-Some
-returns-in-Some g c = λ own at.
+pub returns-in-Some-clause-added : goal.returns-in-Some-clause-added
+returns-in-Some-clause-added g c = λ own at.
     let told = told_by ((goal.TargetIsa-dyn g c.args.isa.now).dwarf_registers c.args.isa.now.1) c.args.compiled.now in
     compressed-refused (transformed_module c.args.translation.now c.args.transform.now told) c.in-Some.offset c.in-Some.is
+
+pub returns-clause-noted : goal.returns-clause-noted
+returns-clause-noted g c =
+    let told = told_by ((goal.TargetIsa-dyn g c.args.isa.now).dwarf_registers c.args.isa.now.1) c.args.compiled.now in
+    c.carry_units.ensures.noted (transformed_module c.args.translation.now c.args.transform.now told) (record { functions = refl; told_is = refl; is = (rw c.sections_of.ensures.sections at c.in_ok-module.ensures).1; bytes = c.sections_of.ensures.bytes })

@@ -20,7 +20,7 @@ use Rattle.dwc_carry.proofs.carry_modules.carry_modules.Goals as goal
 pub loop-i-init : goal.loop-i-init
 loop-i-init g c =
     let ms = modules_of ((goal.TargetIsa-dyn g c.args.isa.now).dwarf_registers c.args.isa.now.1) c.args.compilation.now in
-    modules-begin c.args.form.encoding.address_size c.args.form.big_endian ms c.args.dwarf.now.units.units.items c.args.dwarf.now.strings
+    modules-begin c.args.form.encoding.address_size c.args.form.big_endian ms c.args.dwarf.now.units.units.items c.args.dwarf.now.strings c.new-vmctx_ptrs.result.items c.new-translated.result c.new-vmctx_ptrs.ensures.items c.new-translated.ensures.empty
 
 pub bounds-transforms-i : goal.bounds-transforms-i
 bounds-transforms-i g c =
@@ -73,9 +73,9 @@ returns-in_err-own g c =
     let before = c.args.dwarf.now.strings in
     let new = c.loop-i.dwarf.units.units.items in
     let texts = c.loop-i.dwarf.strings in
-    let here : ModulesSoFar size big ms old before new texts (m ∷ rest) = subst (λ xs. ModulesSoFar size big ms old before new texts xs) next.left c.loop-i.invariant in
+    let here : ModulesSoFar size big ms old before new texts c.loop-i.vmctx_ptrs.items c.loop-i.translated (m ∷ rest) = subst (λ xs. ModulesSoFar size big ms old before new texts c.loop-i.vmctx_ptrs.items c.loop-i.translated xs) next.left c.loop-i.invariant in
     let p = err_from_is_err_and c.from_residual.result c.from_residual.ensures.1 in
-    rw (p.1, p.2) (modules-refused size big ms old before new texts m rest c.in_err-own.field-0.0 here (own-refused big m c.in_err-own.field-0.0 (subst (λ x. RefusesReading (first_of (own_refusals x)) c.in_err-own.field-0.0) (sym c.compiled_module-compiled.ensures.memory) c.in_err-own.ensures.added)))
+    rw (p.1, p.2) (modules-refused size big ms old before new texts c.loop-i.vmctx_ptrs.items c.loop-i.translated m rest c.in_err-own.field-0.0 here (own-refused big m c.in_err-own.field-0.0 (subst (λ x. RefusesReading (first_of (own_refusals x)) c.in_err-own.field-0.0) (sym c.compiled_module-compiled.ensures.memory) c.in_err-own.ensures.added)))
 
 pub returns-in_err-carry_module : goal.returns-in_err-carry_module
 returns-in_err-carry_module g c =
@@ -96,11 +96,11 @@ returns-in_err-carry_module g c =
     let before = c.args.dwarf.now.strings in
     let new = c.loop-i.dwarf.units.units.items in
     let texts = c.loop-i.dwarf.strings in
-    let here : ModulesSoFar size big ms old before new texts (m ∷ rest) = subst (λ xs. ModulesSoFar size big ms old before new texts xs) next.left c.loop-i.invariant in
+    let here : ModulesSoFar size big ms old before new texts c.loop-i.vmctx_ptrs.items c.loop-i.translated (m ∷ rest) = subst (λ xs. ModulesSoFar size big ms old before new texts c.loop-i.vmctx_ptrs.items c.loop-i.translated xs) next.left c.loop-i.invariant in
     let p = err_from_is_err_and c.from_residual-in_err-carry_module.result c.from_residual-in_err-carry_module.ensures.1 in
     let middle : Dwarf = record { units = c.new.new.out_units; strings = c.new.new.out_strings } in
     let own = own-told size compilation.set_memory m.told.names.set_memory (memory_at compilation c.loop-i.i) m.told.memory c.loop-i.dwarf middle c.in_ok-own.own (sym c.compiled_module-compiled.ensures.set_memory) (sym c.compiled_module-compiled.ensures.memory) c.in_ok-own.ensures.added in
-    rw (p.1, p.2) (modules-refused size big ms old before new texts m rest c.in_err-carry_module.field-0.0 here (carried-refused big m own.0 c.in_err-carry_module.field-0.0 (c.in_err-carry_module.ensures (length new) (own-counted big m size c.loop-i.dwarf middle c.in_ok-own.own own.1))))
+    rw (p.1, p.2) (modules-refused size big ms old before new texts c.loop-i.vmctx_ptrs.items c.loop-i.translated m rest c.in_err-carry_module.field-0.0 here (carried-refused big m own.0 c.in_err-carry_module.field-0.0 (c.in_err-carry_module.ensures.added (length new) (own-counted big m size c.loop-i.dwarf middle c.in_ok-own.own own.1))))
 
 pub loop-i-preserved : goal.loop-i-preserved
 loop-i-preserved g c =
@@ -121,11 +121,14 @@ loop-i-preserved g c =
     let before = c.args.dwarf.now.strings in
     let new = c.loop-i.dwarf.units.units.items in
     let texts = c.loop-i.dwarf.strings in
-    let here : ModulesSoFar size big ms old before new texts (m ∷ rest) = subst (λ xs. ModulesSoFar size big ms old before new texts xs) next.left c.loop-i.invariant in
+    let here : ModulesSoFar size big ms old before new texts c.loop-i.vmctx_ptrs.items c.loop-i.translated (m ∷ rest) = subst (λ xs. ModulesSoFar size big ms old before new texts c.loop-i.vmctx_ptrs.items c.loop-i.translated xs) next.left c.loop-i.invariant in
     let middle : Dwarf = record { units = c.new.new.out_units; strings = c.new.new.out_strings } in
     let own = own-told size compilation.set_memory m.told.names.set_memory (memory_at compilation c.loop-i.i) m.told.memory c.loop-i.dwarf middle c.in_ok-own.own (sym c.compiled_module-compiled.ensures.set_memory) (sym c.compiled_module-compiled.ensures.memory) c.in_ok-own.ensures.added in
-    let carried = c.in_ok-carry_module.ensures (length new) (own-counted big m size c.loop-i.dwarf middle c.in_ok-own.own own.1) in
-    modules-one size big ms old before new c.carry_module.new.dwarf.units.units.items texts c.carry_module.new.dwarf.strings m rest here (none-refused big m own.0 carried.0, module-both big m size c.loop-i.dwarf middle c.carry_module.new.dwarf c.in_ok-own.own own.1 carried.1)
+    let carried = c.in_ok-carry_module.ensures.added (length new) (own-counted big m size c.loop-i.dwarf middle c.in_ok-own.own own.1) in
+    let refers = c.vmctx_ptr_die_ref.ensures ∙ (own.1.refers).context_pointer in
+    subst (λ rs. ModulesSoFar size big ms old before c.carry_module.new.dwarf.units.units.items c.carry_module.new.dwarf.strings rs c.carry_module.new.translated rest) (sym c.in_ok-push.ensures.items)
+    (modules-one size big ms old before new c.carry_module.new.dwarf.units.units.items texts c.carry_module.new.dwarf.strings c.loop-i.vmctx_ptrs.items c.vmctx_ptr_die_ref.result c.loop-i.translated c.carry_module.new.translated m rest here
+    (none-refused big m own.0 carried.0, module-both big m size c.loop-i.dwarf middle c.carry_module.new.dwarf c.in_ok-own.own own.1 carried.1) refers c.in_ok-carry_module.ensures.noted)
 
 pub returns : goal.returns
 returns g c =
@@ -140,4 +143,4 @@ returns g c =
     let texts = c.loop-i.dwarf.strings in
     let behind = rw c.translations-translations.ensures.translations at c.loop-i-test.false in
     let past : length ms ≤ c.loop-i.i = omega (arith, modules-length compilation.translations compilation.functions (told_from registers (names_of compilation) 0 0 compilation.functions compilation.memory_offsets), behind) in
-    modules-done size big ms old before new texts (subst (λ xs. ModulesSoFar size big ms old before new texts xs) (drop_all c.loop-i.i ms past) c.loop-i.invariant)
+    modules-done size big ms old before new texts (record { translated = c.loop-i.translated; vmctx_ptrs = c.loop-i.vmctx_ptrs }) (subst (λ xs. ModulesSoFar size big ms old before new texts c.loop-i.vmctx_ptrs.items c.loop-i.translated xs) (drop_all c.loop-i.i ms past) c.loop-i.invariant)

@@ -3,7 +3,7 @@ use Rattle.std.proofs.lemmas.Result.{err_from_is_err_and}
 use Rattle.dwc_image.specs.CarriedLines.{AreKept}
 use Rattle.dwc_base.specs.Addends.{HaveAddends}
 use Rattle.dwc_carry.proofs.LengthLaws.{all-addends}
-use Rattle.dwc_carry.proofs.TransformLaws.{all-kept, input-transformed, input-refused, maps-refused, lengths-refused, lengths-short}
+use Rattle.dwc_carry.proofs.TransformLaws.{all-kept, input-transformed, input-refused, last-refused, maps-good, maps-refused, lengths-refused, lengths-short, units-numbered}
 use Rattle.dwc_carry.proofs.transform.transform_dwarf.Goals as goal
 
 pub carry_modules-requires-clause-transforms : goal.carry_modules-requires-clause-transforms
@@ -18,11 +18,43 @@ carry_modules-requires-clause-addends g c =
     let short = lengths-short c.args.compilation.now (rw (c.deref.ensures.value, c.in_ok-transforms.ensures.transforms.1) at c.in_ok-check_lengths.ensures) in
     subst (All HaveAddends) (sym (c.deref-2.ensures.value ∙ c.in_ok-transforms.ensures.transforms.1)) (all-addends _ (all-kept c.args.compilation.now c.in_ok-transforms.ensures.transforms.0) short)
 
-pub returns-in_err-carry_modules-clause-units : goal.returns-in_err-carry_modules-clause-units
-returns-in_err-carry_modules-clause-units g c =
-    let p = err_from_is_err_and c.from_residual-in_err-carry_modules.result c.from_residual-in_err-carry_modules.ensures.1 in
+pub returns-in_err-carried-clause-units : goal.returns-in_err-carried-clause-units
+returns-in_err-carried-clause-units g c =
+    let p = err_from_is_err_and c.from_residual-in_err-carried.result c.from_residual-in_err-carried.ensures.1 in
     let short = lengths-short c.args.compilation.now (rw (c.deref.ensures.value, c.in_ok-transforms.ensures.transforms.1) at c.in_ok-check_lengths.ensures) in
-    rw (p.1, p.2) (input-refused _ c.args.compilation.now c.in_ok-transforms.ensures.counted c.in_err-carry_modules.field-0.0 c.in_ok-transforms.ensures.transforms.0 short c.in_err-carry_modules.ensures)
+    rw (p.1, p.2) (input-refused _ c.args.compilation.now c.in_ok-transforms.ensures.counted c.in_err-carried.field-0.0 c.in_ok-transforms.ensures.transforms.0 short c.in_err-carried.ensures)
+
+pub generate_simulated_dwarf-requires-clause-maps : goal.generate_simulated_dwarf-requires-clause-maps
+generate_simulated_dwarf-requires-clause-maps g c = maps-good c.args.compilation.now c.in_ok-transforms.ensures.transforms.0
+
+pub generate_simulated_dwarf-requires-clause-transforms : goal.generate_simulated_dwarf-requires-clause-transforms
+generate_simulated_dwarf-requires-clause-transforms g c = c.deref-3.ensures.value ∙ c.in_ok-transforms.ensures.transforms.1
+
+pub generate_simulated_dwarf-requires-clause-functions : goal.generate_simulated_dwarf-requires-clause-functions
+generate_simulated_dwarf-requires-clause-functions g c =
+    subst (All AreKept) (sym (c.deref-3.ensures.value ∙ c.in_ok-transforms.ensures.transforms.1)) (all-kept c.args.compilation.now c.in_ok-transforms.ensures.transforms.0)
+
+pub generate_simulated_dwarf-requires-clause-addends : goal.generate_simulated_dwarf-requires-clause-addends
+generate_simulated_dwarf-requires-clause-addends g c =
+    let short = lengths-short c.args.compilation.now (rw (c.deref.ensures.value, c.in_ok-transforms.ensures.transforms.1) at c.in_ok-check_lengths.ensures) in
+    subst (All HaveAddends) (sym (c.deref-3.ensures.value ∙ c.in_ok-transforms.ensures.transforms.1)) (all-addends _ (all-kept c.args.compilation.now c.in_ok-transforms.ensures.transforms.0) short)
+
+pub generate_simulated_dwarf-requires-clause-contexts : goal.generate_simulated_dwarf-requires-clause-contexts
+generate_simulated_dwarf-requires-clause-contexts g c = rw c.deref-4.ensures.value (rw c.new.ensures at c.in_ok-carried.ensures).1.refers
+
+pub generate_simulated_dwarf-requires-clause-translated : goal.generate_simulated_dwarf-requires-clause-translated
+generate_simulated_dwarf-requires-clause-translated g c = c.in_ok-carried.ensures.1.translated
+
+pub generate_simulated_dwarf-requires-clause-numbered : goal.generate_simulated_dwarf-requires-clause-numbered
+generate_simulated_dwarf-requires-clause-numbered g c =
+    units-numbered _ c.args.compilation.now c.in_ok-transforms.ensures.counted _ _ _ c.carry_modules.new.dwarf.strings c.carry_modules.new.dwarf.units.units.items c.in_ok-carried.carried
+    (rw (c.new.ensures, c.output_form-form.ensures.address_size, c.output_form-form.ensures.order) at c.in_ok-carried.ensures).1
+
+pub returns-in_err-generate_simulated_dwarf-clause-units : goal.returns-in_err-generate_simulated_dwarf-clause-units
+returns-in_err-generate_simulated_dwarf-clause-units g c =
+    let p = err_from_is_err_and c.from_residual-in_err-generate_simulated_dwarf.result c.from_residual-in_err-generate_simulated_dwarf.ensures.1 in
+    let short = lengths-short c.args.compilation.now (rw (c.deref.ensures.value, c.in_ok-transforms.ensures.transforms.1) at c.in_ok-check_lengths.ensures) in
+    rw (p.1, p.2) (last-refused _ c.args.compilation.now c.in_ok-transforms.ensures.counted c.in_err-generate_simulated_dwarf.field-0.0 c.in_ok-transforms.ensures.transforms.0 short c.in_ok-carried.ensures.0 c.in_err-generate_simulated_dwarf.ensures.added)
 
 pub returns-in_err-transforms-clause-units : goal.returns-in_err-transforms-clause-units
 returns-in_err-transforms-clause-units g c =
@@ -32,8 +64,9 @@ returns-in_err-transforms-clause-units g c =
 pub returns-clause-units : goal.returns-clause-units
 returns-clause-units g c =
     let short = lengths-short c.args.compilation.now (rw (c.deref.ensures.value, c.in_ok-transforms.ensures.transforms.1) at c.in_ok-check_lengths.ensures) in
-    input-transformed _ c.args.compilation.now c.in_ok-transforms.ensures.counted _ _ _ c.carry_modules.new.dwarf.strings c.carry_modules.new.dwarf.units.units.items c.in_ok-transforms.ensures.transforms.0 short
-    (rw (c.new.ensures, c.output_form-form.ensures.address_size, c.output_form-form.ensures.order) at c.in_ok-carry_modules.ensures)
+    let modules = rw (c.new.ensures, c.output_form-form.ensures.address_size, c.output_form-form.ensures.order) at c.in_ok-carried.ensures in
+    input-transformed _ c.args.compilation.now c.in_ok-transforms.ensures.counted _ _ _ c.carry_modules.new.dwarf.strings c.carry_modules.new.dwarf.units.units.items c.in_ok-carried.carried modules.1
+    c.generate_simulated_dwarf.new.out_strings c.generate_simulated_dwarf.new.out_units.units.items c.in_ok-transforms.ensures.transforms.0 short modules.0 (rw c.output_form-form.ensures.address_size at c.in_ok-generate_simulated_dwarf.ensures.added)
 
 pub returns-in_err-check_lengths-clause-units : goal.returns-in_err-check_lengths-clause-units
 returns-in_err-check_lengths-clause-units g c =

@@ -1,0 +1,22 @@
+use Rattle.std.proofs.Common.{ℕ, List}
+use Rattle.std.specs.List.{flat_map}
+use Rattle.dwc_base.specs.Carried.{Module}
+use Rattle.dwc_base.specs.Drafts.{Draft}
+use Rattle.dwc_base.specs.ListedFunctions.{listed_functions}
+use Rattle.dwc_base.specs.Refusals.{first_of}
+use Rattle.dwc_base.specs.SimulatedUnit.{variable_refusals}
+use Rattle.dwc_clone.specs.MadeValues.{Grows}
+use Rattle.dwc_carry.specs.ListedModules.{IsListedModule, LeftFunctions, listed_from}
+use Rattle.dwc_carry.specs.ListedVariables.{Extends}
+use Rattle.dwc_carry.specs.SimulatedDrafts.{HasFunctions}
+use Rattle.dwc_carry.proofs.simulated_functions.add_functions.Given as goal
+
+-- the listed functions from a place on are left
+abbrev pub invariant-loop-place : goal.invariant-loop-place
+invariant-loop-place g l = record {
+  grows : Grows l.fn.strings l.strings;
+  extends : Extends l.fn.unit l.unit;
+  left : (m : Module) (number own : ℕ) (behind whole : List Draft) → IsListedModule ((goal.TargetIsa-dyn g l.isa.now).dwarf_registers l.isa.now.1) m own l.translated l.module
+      → HasFunctions number own m l.fn.strings behind whole (listed_functions m) l.fn.unit
+      → LeftFunctions number own m behind whole (listed_from m l.place) (first_of (flat_map (variable_refusals m) (listed_functions m))) l.strings l.unit;
+}

@@ -1,0 +1,39 @@
+use Rattle.std.proofs.Common.{◌+◌, ap, ◌∙◌, sym, true, false, slice_get}
+use Rattle.std.specs.Option.{unwrap_or}
+use Rattle.dwc_addr.specs.Transforms.{function_view}
+use Rattle.dwc_carry.specs.ListedModules.{listed_from}
+use Rattle.dwc_carry.proofs.FunctionSteps.{function-gives, kept-at, kept-inside, left-listed, left-unlisted, left-unnamed, listed-unless}
+use Rattle.dwc_carry.proofs.simulated_functions.add_if_listed.Goals as goal
+
+pub returns-then-contains-clause-functions : goal.returns-then-contains-clause-functions
+returns-then-contains-clause-functions g c = λ m n own behind whole total lm left.
+    let registers = (goal.TargetIsa-dyn g c.args.isa.now).dwarf_registers c.args.isa.now.1 in
+    let l = c.args.module.now in
+    let place = c.args.place in
+    let f = c.index-map-place.result in
+    let inside = kept-inside c.map.result.now l.transform.now place c.map.ensures c.requires.inside in
+    let found = ap (λ fs. slice_get fs place) lm.functions ∙ kept-at c.map.result.now l.transform.now place c.map.ensures f inside c.index-map-place.is in
+    let unlisted = listed-unless registers m own c.args.translated.now l lm place (function_view f) c.in-Some.number true found c.in-Some.is (ap (λ o. unwrap_or o 0) c.in-Some.is) (sym c.contains.ensures ∙ c.if-contains.true) in
+    left-unlisted n own m behind whole place (function_view f) total found c.args.strings.now c.args.unit.now unlisted left
+
+pub returns-else-contains-clause-functions : goal.returns-else-contains-clause-functions
+returns-else-contains-clause-functions g c = λ m n own behind whole total lm left.
+    let registers = (goal.TargetIsa-dyn g c.args.isa.now).dwarf_registers c.args.isa.now.1 in
+    let l = c.args.module.now in
+    let place = c.args.place in
+    let f = c.index-map-place.result in
+    let inside = kept-inside c.map.result.now l.transform.now place c.map.ensures c.requires.inside in
+    let found = ap (λ fs. slice_get fs place) lm.functions ∙ kept-at c.map.result.now l.transform.now place c.map.ensures f inside c.index-map-place.is in
+    let listed = listed-unless registers m own c.args.translated.now l lm place (function_view f) c.in-Some.number false found c.in-Some.is (ap (λ o. unwrap_or o 0) c.in-Some.is) (sym c.contains.ensures ∙ c.if-contains.false) in
+    let first = left-listed n own m behind whole place (function_view f) total found c.args.strings.now c.args.unit.now listed left in
+    function-gives n own m behind whole (record { place = place; function = function_view f }) (listed_from m (place + 1)) total c.args.strings.now c.add_function.new.strings c.args.unit.now c.add_function.new.unit first c.add_function.result
+    (c.add_function.ensures.functions m n own c.args.translated.now (function_view f) first.made.ds lm found c.in-Some.is first.made.made)
+
+pub returns-in-None-clause-functions : goal.returns-in-None-clause-functions
+returns-in-None-clause-functions g c = λ m n own behind whole total lm left.
+    let l = c.args.module.now in
+    let place = c.args.place in
+    let f = c.index-map-place.result in
+    let inside = kept-inside c.map.result.now l.transform.now place c.map.ensures c.requires.inside in
+    let found = ap (λ fs. slice_get fs place) lm.functions ∙ kept-at c.map.result.now l.transform.now place c.map.ensures f inside c.index-map-place.is in
+    left-unnamed n own m behind whole place (function_view f) total found c.args.strings.now c.args.unit.now c.in-None.is left

@@ -1,0 +1,1 @@
+use Rattle.dwc_carry.proofs.simulated_variables.located.Goals as goal

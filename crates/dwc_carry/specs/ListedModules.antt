@@ -1,0 +1,52 @@
+-- The listed functions of a module, as they are added to the unit for functions without debugging information.
+use Rattle.std.specs.Prelude.{◌≡◌, ℕ, List, [], drop, Option, Result, Ok, Err}
+use Rattle.std.specs.BTreeSet.{BTreeSet}
+use Rattle.std.specs.List.{flat_map}
+use Rattle.dwc_base.specs.Carried.{Module}
+use Rattle.dwc_base.specs.DefinedFunctions.{DefinedFunction}
+use Rattle.dwc_base.specs.Drafts.{Draft}
+use Rattle.dwc_base.specs.ListedFunctions.{begun_in_module, defined_from, listed_among, listed_functions}
+use Rattle.dwc_base.specs.OwnUnits.{place_of_context_pointer}
+use Rattle.dwc_base.specs.Refusals.{Refusal, first_of}
+use Rattle.dwc_base.specs.SimulatedUnit.{variable_refusals}
+use Rattle.dwc_base.specs.TranslationNames.{told_file}
+use Rattle.dwc_clif.specs.Registers.{Registers}
+use Rattle.dwc_write.specs.GivenUnits.{GivenUnit}
+use Rattle.dwc_clone.specs.CompiledModules.{told_by, HasFrames}
+use Rattle.dwc_carry.specs.declared.error.DebugError.{DebugError}
+use Rattle.dwc_carry.specs.declared.simulated_functions.ListedModule.{ListedModule}
+use Rattle.dwc_carry.specs.LastUnits.{AreTranslatedOf}
+use Rattle.dwc_carry.specs.OwnUnits.{entry_of}
+use Rattle.dwc_carry.specs.Refusals.{ReadsOr, RefusesReading}
+use Rattle.dwc_carry.specs.SimulatedDrafts.{HasFunctions}
+
+-- What is given of a module tells that module, whose own unit has a number, and the noted numbers are those of the functions that kept
+-- subprograms of it begin in.
+pub record IsListedModule (registers : Registers) (m : Module) (own : ℕ) (translated : BTreeSet ℕ) (l : ListedModule) : Type 0 where
+  pub file : m.file ≡ told_file l.translation.now
+  pub functions : m.functions ≡ l.transform.now
+  pub told : m.told ≡ told_by registers l.compiled.now
+  pub frames : HasFrames l.compiled.now m.functions
+  pub context : l.vmctx_ptr ≡ entry_of own (place_of_context_pointer m.told.memory)
+  pub translated_are : AreTranslatedOf m translated
+
+-- The entries of its listed functions are added, or the first refusal of their variables is answered.
+abbrev pub GivesFunctions : ℕ → ℕ → Module → List Draft → List Draft → List (List ℕ) → GivenUnit → Result (Unit {0}) DebugError → Type 0
+GivesFunctions number own m behind whole after new result = ReadsOr (λ done. HasFunctions number own m after behind whole [] new) (first_of (flat_map (variable_refusals m) (listed_functions m))) result
+
+-- ---- one function after another
+
+-- the listed functions of a module from a place on
+abbrev pub listed_from : Module → ℕ → List DefinedFunction
+listed_from m place = listed_among (begun_in_module m) (defined_from place (drop place m.functions))
+
+-- The entries of some listed functions are added, of whose variables none is refused, and others are left: with these, what is refused
+-- first is that of all.
+pub record LeftFunctions (number own : ℕ) (m : Module) (behind whole : List Draft) (left : List DefinedFunction) (total : Option Refusal) (texts : List (List ℕ)) (u : GivenUnit) : Type 0 where
+  pub made : HasFunctions number own m texts behind whole left u
+  pub first : first_of (flat_map (variable_refusals m) left) ≡ total
+
+-- A call adds the entries of a function, so that others are left, or answers what is refused first.
+abbrev pub GivesFunction : ℕ → ℕ → Module → List Draft → List Draft → List DefinedFunction → Option Refusal → List (List ℕ) → GivenUnit → Result (Unit {0}) DebugError → Type 0
+GivesFunction number own m behind whole left total after new (Ok done) = LeftFunctions number own m behind whole left total after new
+GivesFunction number own m behind whole left total after new (Err e) = RefusesReading total e

@@ -1,0 +1,186 @@
+//! The unit for functions without debugging information, behind those of all modules.
+ghost use Rattle.std.specs.Prelude.{◌≡◌, ◌<◌, ◌⊎◌, map, None, true, length, sum_by, All, IfErr, IfOk, IsOkUnless, OnErr, OnOk};
+ghost use Rattle.dwc_base.specs.Addends.{HaveAddends};
+ghost use Rattle.dwc_base.specs.Carried.{Module};
+ghost use Rattle.dwc_base.specs.SimulatedUnit.{unit_count};
+ghost use Rattle.dwc_base.specs.TranslationNames.{told_file};
+ghost use Rattle.dwc_base.specs.UnitPaths.{is_file_name, path_name};
+ghost use Rattle.dwc_clif.specs.Registers.{Registers};
+ghost use Rattle.dwc_image.specs.CarriedLines.{AreKept};
+ghost use Rattle.dwc_image.specs.SimulatedSequences.{listed_view};
+ghost use Rattle.dwc_write.specs.TextTables.{IsText};
+ghost use Rattle.dwc_write.specs.declared.error.WriteError.TheVariants.{OutOfMemory};
+ghost use Rattle.dwc_clone.specs.MadeValues.{Grows};
+ghost use Rattle.dwc_carry.specs.Inputs.{bad_map, functions_from, modules_of};
+ghost use Rattle.dwc_carry.specs.LastUnits.{AreTranslated, GivesLast, GivesUnit, IsPathOf, IsTyped, ReferToContexts, counted_behind, counted_name};
+ghost use Rattle.dwc_carry.specs.ListedFiles.{CanWrite};
+ghost use Rattle.dwc_carry.specs.UnitPathParts.{IsUnitPath};
+
+use crate::DebugError;
+use crate::listed::{listed_functions, whole_ranges};
+use crate::simulated_entries::add_types;
+use crate::simulated_modules::add_modules;
+use crate::simulated_root::root_unit;
+use crate::simulated_texts::{root_texts, type_texts};
+use crate::unit_path::{UnitPath, is_file_name, path_name, unit_path};
+use dwc_addr::{AddressTransform, Compilation, FunctionMap};
+use dwc_base::{Encoding, ModuleTranslation};
+use dwc_clif::TargetIsa;
+use dwc_image::simulated_lines;
+use dwc_write::{DebugInfoRef, StringTable, Unit, UnitTable, WriteError};
+use std::alloc::{AllocError, Global};
+use std::collections::BTreeSet;
+
+// The unit of a path with its root and the types of numbers, for some listed functions.
+fn typed_unit(
+    alloc: Global,
+    encoding: Encoding,
+    path: &[u8],
+    functions: &[(u64, &FunctionMap)],
+    strings: &mut StringTable,
+) -> Result<Unit, WriteError>
+    requires version { encoding.version ≡ 4 }
+    requires size { (encoding.address_size ≡ 4) ⊎ (encoding.address_size ≡ 8) }
+    requires path { IsText path.now }
+    requires name { is_file_name (path_name path.now) ≡ true }
+    requires functions { All CanWrite (map listed_view functions.now) }
+    ensures grows { Grows strings.old strings.new }
+    ensures typed { IfOk result (IsTyped encoding.address_size path.now (map listed_view functions.now) strings.new) }
+    ensures memory { IsOkUnless result OutOfMemory }
+{
+    let ranges = whole_ranges(alloc, functions)?;
+    let lines = simulated_lines(alloc, encoding, path_name(path), functions)?;
+    let texts = root_texts(strings, path)?;
+    let types = type_texts(strings)?;
+    let mut unit = root_unit(alloc, encoding, lines, &texts, ranges)?;
+    add_types(&mut unit, &types)?;
+    Ok(unit)
+}
+
+// The unit of a path for the listed functions of all modules.
+fn simulated_unit(
+    alloc: Global,
+    isa: &dyn TargetIsa,
+    compilation: &Compilation<'_>,
+    transforms: &[AddressTransform],
+    translated: &BTreeSet<usize>,
+    vmctx_ptrs: &[DebugInfoRef],
+    encoding: Encoding,
+    path: &[u8],
+    strings: &mut StringTable,
+) -> Result<Unit, DebugError>
+    requires version { encoding.version ≡ 4 }
+    requires size { (encoding.address_size ≡ 4) ⊎ (encoding.address_size ≡ 8) }
+    requires transforms { transforms.now ≡ functions_from 0 compilation.now.translations compilation.now.functions }
+    requires maps { bad_map compilation.now ≡ None }
+    requires functions { All AreKept transforms.now }
+    requires addends { All HaveAddends transforms.now }
+    requires translated { AreTranslated (modules_of (dwarf_registers isa.now) compilation.now) translated.now }
+    requires contexts { ReferToContexts 0 (modules_of (dwarf_registers isa.now) compilation.now) vmctx_ptrs.now }
+    requires path { IsText path.now }
+    requires name { is_file_name (path_name path.now) ≡ true }
+    ensures { GivesUnit encoding.address_size path.now (modules_of (dwarf_registers isa.now) compilation.now) strings.old strings.new result }
+{
+    let functions = listed_functions(alloc, compilation, transforms, translated)?;
+    let mut unit = typed_unit(alloc, encoding, path, &functions, strings)?;
+    add_modules(
+        alloc,
+        isa,
+        compilation,
+        transforms,
+        translated,
+        vmctx_ptrs,
+        &mut unit,
+        strings,
+    )?;
+    Ok(unit)
+}
+
+// The path of the unit of a module, which has no zero byte.
+fn plain_path(
+    alloc: Global,
+    translation: &ModuleTranslation<'_>,
+    next_id: u64,
+) -> Result<UnitPath, AllocError>
+    ensures path { IfOk result (IsUnitPath translation.now next_id) }
+    ensures plain { (m : Module) → m.file ≡ told_file translation.now → IfOk result (λ u. IsText u.path.items) }
+{
+    unit_path(alloc, translation, next_id)
+}
+
+// Counts a name that is generated.
+fn count_name(compilation: &mut Compilation<'_>, is_generated: bool)
+    ensures { compilation.new ≡ counted_name is_generated compilation.old }
+{
+    if is_generated {
+        compilation.take_id();
+    }
+}
+
+// The path of the unit of a compilation that has a module; the counter of names rises where it is made of that.
+fn taken_path(alloc: Global, compilation: &mut Compilation<'_>) -> Result<Vec<u8>, AllocError>
+    requires { 0 < length compilation.old.translations }
+    ensures path { IfOk result (λ path. IsPathOf compilation.old path.items) }
+    ensures counter { (registers : Registers) → OnOk result (compilation.new ≡ counted_behind registers compilation.old) }
+    ensures unchanged { OnErr result (compilation.new ≡ compilation.old) }
+{
+    let translations = compilation.translations();
+    let path = plain_path(alloc, &translations[0], compilation.next_id())?;
+    count_name(compilation, path.is_generated);
+    Ok(path.path)
+}
+
+/// Adds the unit for functions without debugging information behind the units of all modules of a compilation: of version 4, with a
+/// path, a line table whose lines are offsets in the wasm files, the types of numbers, and an entry for each function with a symbol whose
+/// number is not among `translated`, with its parameters and variables. The path is that of the first module; without modules nothing is
+/// added. `addr_tr` are the transforms of the modules, `vmctx_ptr_die_refs` the types of pointers to their contexts, in order; `translated`
+/// are the numbers of the functions that kept subprograms of carried units begin in.
+///
+/// # Errors
+/// `Path` exactly where the name that the path ends with is empty, `.` or `..`. Where it is not: `BadLabelRange` and `UnmappedRegister`
+/// for the first variable that is refused. `OutOfMemory` for want of memory. The counter of names may have risen.
+pub fn generate_simulated_dwarf(
+    alloc: Global,
+    compilation: &mut Compilation<'_>,
+    addr_tr: &[AddressTransform],
+    translated: &BTreeSet<usize>,
+    out_encoding: Encoding,
+    vmctx_ptr_die_refs: &[DebugInfoRef],
+    out_units: &mut UnitTable,
+    out_strings: &mut StringTable,
+    isa: &dyn TargetIsa,
+) -> Result<(), DebugError>
+    requires version { out_encoding.version ≡ 4 }
+    requires size { (out_encoding.address_size ≡ 4) ⊎ (out_encoding.address_size ≡ 8) }
+    requires transforms { addr_tr.now ≡ functions_from 0 compilation.old.translations compilation.old.functions }
+    requires maps { bad_map compilation.old ≡ None }
+    requires functions { All AreKept addr_tr.now }
+    requires addends { All HaveAddends addr_tr.now }
+    requires translated { AreTranslated (modules_of (dwarf_registers isa.now) compilation.old) translated.now }
+    requires contexts { ReferToContexts 0 (modules_of (dwarf_registers isa.now) compilation.old) vmctx_ptr_die_refs.now }
+    requires numbered { length out_units.old.units.items ≡ sum_by unit_count (modules_of (dwarf_registers isa.now) compilation.old) }
+    ensures added { GivesLast out_encoding.address_size compilation.old.next_id (modules_of (dwarf_registers isa.now) compilation.old) out_units.old.units.items out_units.new.units.items out_strings.old out_strings.new result }
+    ensures counter { OnOk result (compilation.new ≡ counted_behind (dwarf_registers isa.now) compilation.old) }
+    ensures refused { IfErr result (λ e. (compilation.new ≡ compilation.old) ⊎ (compilation.new ≡ counted_behind (dwarf_registers isa.now) compilation.old)) }
+{
+    if compilation.translations().is_empty() {
+        return Ok(());
+    }
+    let path = taken_path(alloc, compilation)?;
+    if !is_file_name(path_name(&path)) {
+        return Err(DebugError::Path);
+    }
+    let unit = simulated_unit(
+        alloc,
+        isa,
+        compilation,
+        addr_tr,
+        translated,
+        vmctx_ptr_die_refs,
+        out_encoding,
+        &path,
+        out_strings,
+    )?;
+    out_units.add(unit)?;
+    Ok(())
+}
