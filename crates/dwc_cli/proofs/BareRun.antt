@@ -1,118 +1,141 @@
--- The module without sections of DWARF from its bytes to the printed text, which holds the module's own unit alone.
-use Rattle.std.proofs.Common.{◌≡◌, ◌≤◌, ◌+◌, zero, suc, arith, List, [], ◌∷◌, get_or, Some, None, true, false, refl, sym, ap, subst, ◌∙◌, true≢false}
-use Rattle.std.specs.Prelude.{ℕ, ◌==◌, ◌&&◌, nat_le, Bool, All, AllPairs, codes, drop}
+-- The module without sections of DWARF from its bytes to the printed text, which holds the module's own unit and the last one: its function is
+-- listed there.
+use Rattle.std.proofs.Common.{◌≡◌, zero, suc, arith, List, [], ◌∷◌, get_or, Some, None, true, refl, sym, ap, subst, ◌∙◌}
+use Rattle.std.specs.Prelude.{ℕ, All, codes}
 use Rattle.std.specs.List.{AllZip}
-use Rattle.std.proofs.lemmas.Bool.{eq-eqb, leb-true, and_parts}
-use Rattle.std.proofs.lemmas.List.Elements.{All-cons, All-nil}
-use Rattle.std.proofs.lemmas.List.Kept.{AllPairs-cons}
 use Rattle.dwc_base.specs.declared.records.Endian.TheVariants.{Little}
-use Rattle.dwc_base.specs.declared.section_name.SectionName.TheVariants.{Abbrev, Info, Str}
+use Rattle.dwc_base.specs.declared.section_name.SectionName.TheVariants.{Abbrev, Info, Line, Ranges, Str}
 use Rattle.dwc_base.specs.Outputs.{OutputRelocation, OutputSection, output_sections}
-use Rattle.dwc_base.specs.Fields.{fields_at, fields_of_entry, fields_of_section, relocations_of_fields, IsRelocated, AreRelocated}
-use Rattle.dwc_base.specs.Carried.{units}
-use Rattle.dwc_base.specs.Forests.{wanted_units}
+use Rattle.dwc_base.specs.Compiled.{no_memory}
+use Rattle.dwc_base.specs.Fields.{fields_at, fields_of_entry, fields_of_instructions, fields_of_line_table, fields_of_named, fields_of_section, relocations_of_fields, IsRelocated, AreRelocated}
+use Rattle.dwc_base.specs.Carried.{Compilation, units}
+use Rattle.dwc_base.specs.Forests.{first_refusal, trees_made, wanted_units}
 use Rattle.dwc_base.specs.LinesCarried.{HasLines, LinesCarried}
+use Rattle.dwc_base.specs.LineRows.{Segment}
 use Rattle.dwc_base.specs.OutputForm.{HaveTargetForm, HasDistinctNames}
 use Rattle.dwc_base.specs.OutputCarried.{OutputCarried}
-use Rattle.dwc_base.proofs.OnLiterals.{lines_on_literals}
-use Rattle.dwc_base.proofs.OwnTrees.{own_tree, own_abbreviations, own_info, own_texts, own_relocations}
-use Rattle.dwc_base.proofs.CarriedSmall.{own_unit_out}
-use Rattle.dwc_base.proofs.OutputSmall.{HasForm, Differ, none-differ}
-use Rattle.dwc_cli.specs.Inputs.{compilation_of}
+use Rattle.dwc_base.specs.Runs.{interval_of}
+use Rattle.dwc_base.specs.SimulatedLines.{simulated_segment}
+use Rattle.dwc_base.specs.TreeLaws.{have_short_expressions}
+use Rattle.dwc_base.specs.TreeReading.{ranges_read}
+use Rattle.dwc_base.specs.Trees.{Tree}
+use Rattle.dwc_base.proofs.FieldCases.{each-behind}
+use Rattle.dwc_base.proofs.LineTables.{function_small}
+use Rattle.dwc_base.proofs.OutputSmall.{HasForm}
+use Rattle.dwc_base.proofs.OwnTrees.{own_tree}
+use Rattle.dwc_base.proofs.SimulatedInputs.{simulated_front, simulated_function}
+use Rattle.dwc_base.proofs.SimulatedLineLaws.{simulated_segment-is}
+use Rattle.dwc_base.proofs.SimulatedOutput.{output_listed}
+use Rattle.dwc_cli.specs.Inputs.{Loaded, compilation_of}
 use Rattle.dwc_cli.specs.Printed.{printed}
 use Rattle.dwc_cli.specs.RunStatus.{Carries}
-use Rattle.dwc_cli.proofs.WholeRun.{whole_on_literals}
+use Rattle.dwc_cli.proofs.OutputParts.{all-from, names-from, no_section}
+use Rattle.dwc_cli.proofs.WholeRun.{whole_on_literals, told_bare, told-bare, one_told, runtime_names, path_small, address_map_small}
 use Rattle.dwc_cli.proofs.BrokenInputs.{file_bare, with_small_map}
 use Rattle.dwc_cli.proofs.RefusedTexts.{read_of, no_units}
 
+-- ---- the input, of whose function no label is told
+
+abbrev read_bare : Loaded
+read_bare = read_of file_bare
+
+abbrev pub compilation_bare : Compilation
+compilation_bare = one_told read_bare (told_bare runtime_names 0 no_memory)
+
+bare-told : compilation_of read_bare ≡ compilation_bare
+unfolding whole_on_literals
+bare-told = λ i. one_told read_bare (told-bare runtime_names 0 0 address_map_small no_memory (Some path_small) i)
+
+none-refused : first_refusal compilation_bare ≡ None
+unfolding whole_on_literals
+none-refused = refl
+
+all-short : have_short_expressions (trees_made compilation_bare) ≡ true
+unfolding whole_on_literals
+all-short = refl
+
+-- ---- the lines of the output
+
 abbrev pub output_bare : List OutputSection
-output_bare =
-    record { name = codes ".debug_abbrev"; body = own_abbreviations; relocations = [] }
-    ∷ record { name = codes ".debug_info"; body = own_info; relocations = own_relocations }
-    ∷ record { name = codes ".debug_str"; body = own_texts; relocations = [] } ∷ []
+output_bare = output_listed
 
-abbrev no_section : OutputSection
-no_section = record { name = []; body = []; relocations = [] }
-
--- ---- its lines: none
-
-whole-bare : All (λ m. (units m.sections).fault ≡ None) (compilation_of (read_of file_bare)).modules
+all-read : All (λ m. (units m.sections).fault ≡ None) compilation_bare.modules
 unfolding whole_on_literals
-whole-bare zero d h = refl
-whole-bare (suc k) d h = absurd (omega arith)
+all-read zero d h = refl
+all-read (suc k) d h = absurd (omega arith)
 
-pub bare-read : units (output_sections Little output_bare) ≡ record { items = own_unit_out ∷ []; fault = None }
-unfolding whole_on_literals
-bare-read = refl
+abbrev pub segment_bare : Segment
+segment_bare = simulated_segment (codes "g.wasm") 20 function_small
 
-lines-bare : LinesCarried (compilation_of (read_of file_bare)) output_bare
+lines-bare : LinesCarried compilation_bare output_bare
 unfolding whole_on_literals
-lines-bare = record { whole = whole-bare; output = own_unit_out ∷ []; output_read = bare-read; each = (refl, tt) }
+lines-bare = record {
+  whole = all-read;
+  output = (units (output_sections Little output_bare)).items;
+  output_read = refl;
+  each = (refl, (record { segments = segment_bare ∷ []; segments_read = refl; each = (simulated_segment-is (codes "g.wasm") 20 function_small refl refl, tt) }, tt));
+}
 
 -- ---- its form
 
 pub form-bare : HaveTargetForm 8 (units (output_sections Little output_bare)).items
-form-bare = rw bare-read (All-cons HasForm own_unit_out [] (refl, refl) (All-nil HasForm))
-
--- the names differ at their eighth letter
-abbrev pub letter : OutputSection → ℕ
-letter s = get_or s.name 7 0
-
-pub differ : (x y : OutputSection) → (letter x == letter y) ≡ false → Differ x y
-differ x y apart = λ same. true≢false (sym (eq-eqb (letter x) (letter y) (ap (λ name. get_or name 7 0) same)) ∙ apart)
+unfolding whole_on_literals
+form-bare = all-from HasForm (units (output_sections Little output_bare)).items ((refl, refl), ((refl, refl), tt))
 
 pub names-bare : HasDistinctNames output_bare
-names-bare =
-    let first = get_or output_bare 0 no_section in
-    let second = get_or output_bare 1 no_section in
-    let third = get_or output_bare 2 no_section in
-    AllPairs-cons Differ first (second ∷ third ∷ []) (All-cons (Differ first) second (third ∷ []) (differ first second refl) (All-cons (Differ first) third [] (differ first third refl) (All-nil (Differ first))))
-    (AllPairs-cons Differ second (third ∷ []) (All-cons (Differ second) third [] (differ second third refl) (All-nil (Differ second)))
-    (AllPairs-cons Differ third [] (All-nil (Differ third)) none-differ))
+names-bare = names-from output_bare refl
 
-relocations-bare : relocations_of_fields (fields_of_section (output_sections Little output_bare) Info) ≡ own_relocations
-unfolding lines_on_literals fields_of_section fields_at fields_of_entry
-relocations-bare = refl
+abbrev relocations_at : ℕ → List OutputRelocation
+relocations_at place = (get_or output_bare place no_section).relocations
 
--- whether none of some relocations stands before a place, nor before the end of the one in front of it
-abbrev stand_behind : ℕ → List OutputRelocation → Bool
-stand_behind place [] = true
-stand_behind place (r ∷ rs) = nat_le place r.offset && stand_behind (r.offset + r.size) rs
+relocated-info : relocations_of_fields (fields_of_section (output_sections Little output_bare) Info) ≡ relocations_at 1
+unfolding whole_on_literals fields_of_section fields_at fields_of_entry
+relocated-info = refl
 
-all-behind : (from place : ℕ) (rs : List OutputRelocation) → from ≤ place → stand_behind place rs ≡ true → All (λ r. from ≤ r.offset) rs
-all-behind from place [] before h = All-nil (λ r. from ≤ r.offset)
-all-behind from place (r ∷ rs) before h =
-    let parts = and_parts (nat_le place r.offset) (stand_behind (r.offset + r.size) rs) h in
-    let here : place ≤ r.offset = leb-true place r.offset parts.0 in
-    All-cons (λ r. from ≤ r.offset) r rs (omega (arith, before, here)) (all-behind from (r.offset + r.size) rs (omega (arith, before, here)) parts.1)
+relocated-line : relocations_of_fields (fields_of_section (output_sections Little output_bare) Line) ≡ relocations_at 2
+unfolding whole_on_literals fields_of_section fields_of_line_table fields_of_instructions
+relocated-line = refl
 
-each-behind : (place : ℕ) (rs : List OutputRelocation) → stand_behind place rs ≡ true → AllPairs (λ (a b : OutputRelocation). a.offset + a.size ≤ b.offset) rs
-each-behind place [] h = λ i j d less within. absurd (omega (arith, within))
-each-behind place (r ∷ rs) h =
-    let parts = and_parts (nat_le place r.offset) (stand_behind (r.offset + r.size) rs) h in
-    AllPairs-cons (λ (a b : OutputRelocation). a.offset + a.size ≤ b.offset) r rs (all-behind (r.offset + r.size) (r.offset + r.size) rs (omega arith) parts.1) (each-behind (r.offset + r.size) rs parts.1)
+relocated-ranges : relocations_of_fields (fields_of_section (output_sections Little output_bare) Ranges) ≡ relocations_at 3
+unfolding whole_on_literals fields_of_section fields_of_named
+relocated-ranges = refl
 
 pub related-bare : AreRelocated Little output_bare
-unfolding lines_on_literals fields_of_section
-related-bare =
-    let R : OutputSection → Type 0 = IsRelocated (output_sections Little output_bare) in
-    All-cons R (get_or output_bare 0 no_section) (drop 1 output_bare) (record { name = Abbrev; named = refl; fields = refl; rising = each-behind 0 [] refl })
-    (All-cons R (get_or output_bare 1 no_section) (drop 2 output_bare) (record { name = Info; named = refl; fields = sym relocations-bare; rising = each-behind 0 own_relocations refl })
-    (All-cons R (get_or output_bare 2 no_section) [] (record { name = Str; named = refl; fields = refl; rising = each-behind 0 [] refl }) (All-nil R)))
+unfolding fields_of_section
+related-bare = all-from (IsRelocated (output_sections Little output_bare)) output_bare (
+  record { name = Abbrev; named = refl; fields = refl; rising = each-behind 0 [] refl },
+  (
+    record { name = Info; named = refl; fields = sym relocated-info; rising = each-behind 0 (relocations_at 1) refl },
+    (
+      record { name = Line; named = refl; fields = sym relocated-line; rising = each-behind 0 (relocations_at 2) refl },
+      (
+        record { name = Ranges; named = refl; fields = sym relocated-ranges; rising = each-behind 0 (relocations_at 3) refl },
+        (
+          record { name = Str; named = refl; fields = refl; rising = each-behind 0 [] refl },
+          tt,
+        ),
+      ),
+    ),
+  ),
+)
 
 -- ---- the text
 
-carried-bare : OutputCarried (compilation_of (read_of file_bare)) output_bare
-unfolding whole_on_literals
-carried-bare = record {
+-- the own unit, and the last one with the function
+abbrev pub trees_bare : List Tree
+trees_bare = own_tree 0 ∷ simulated_front (codes "g.wasm") (codes "/m") (interval_of 0 (0, 30) ∷ []) (simulated_function 0 30 (codes "wasm-function[0]") 25 ∷ []) ∷ []
+
+carried_bare : OutputCarried compilation_bare output_bare
+unfolding whole_on_literals ranges_read
+carried_bare = record {
   lines = lines-bare;
-  wanted = own_tree 0 ∷ [];
+  wanted = trees_bare;
   is_forest = refl;
   trees = refl;
   targets = refl;
-  scopes = (tt, tt);
-  locations = (tt, tt);
-  contexts = (tt, tt);
+  scopes = (tt, (tt, tt));
+  locations = (tt, (tt, tt));
+  contexts = (tt, (tt, tt));
   texts = refl;
   form = form-bare;
   names = names-bare;
@@ -123,11 +146,20 @@ carried-bare = record {
 -- it is an answer with status 0
 carries-bare : Carries (with_small_map file_bare) (Some []) (Some (printed output_bare))
 unfolding whole_on_literals
-carries-bare = record { read = read_of file_bare; is_read = refl; accepted = refl; sections = output_bare; plain = refl; carried = carried-bare; short = refl; written = refl }
+carries-bare = record {
+  read = read_bare;
+  is_read = refl;
+  accepted = ap first_refusal bare-told ∙ none-refused;
+  sections = output_bare;
+  plain = refl;
+  carried = subst (λ c. OutputCarried c output_bare) (sym bare-told) carried_bare;
+  short = ap (λ c. have_short_expressions (trees_made c)) bare-told ∙ all-short;
+  written = refl;
+}
 
 -- and an output without units carries nothing, since the own unit is missing
-nothing_carried-bare : LinesCarried (compilation_of (read_of file_bare)) [] → ⊥
+nothing_carried-bare : LinesCarried (compilation_of read_bare) [] → ⊥
 unfolding whole_on_literals
 nothing_carried-bare h =
     let items : h.output ≡ [] = ap (λ l. l.items) (sym h.output_read ∙ no_units) in
-    subst (λ us. AllZip (HasLines (output_sections Little [])) (wanted_units (compilation_of (read_of file_bare))) us) items h.each
+    subst (λ us. AllZip (HasLines (output_sections Little [])) (wanted_units (compilation_of read_bare)) us) items h.each

@@ -27,7 +27,6 @@ use Rattle.dwc_base.specs.TreeLaws.{have_short_expressions}
 use Rattle.dwc_base.specs.OutputCarried.{OutputCarried}
 use Rattle.dwc_write.specs.Writers.{IsSound}
 use Rattle.dwc_base.proofs.Translated.{translation_sections-is}
-use Rattle.dwc_base.proofs.WasmNameLaws.{told_file-is}
 use Rattle.dwc_clif.specs.AddressMaps.{address_map_view}
 use Rattle.dwc_clif.specs.CallFrames.{cie_view, description_of_metadata}
 use Rattle.dwc_clif.specs.Registers.{Registers, registers_of}
@@ -56,6 +55,8 @@ use Rattle.dwc_cli.specs.RunStatus.{PassesLimit}
 use Rattle.dwc_cli.specs.Failures.{compiling_status, input_status, told_status, carrying_status}
 use Rattle.dwc_cli.specs.Answers.{first_status, hindrance, IsEmitted, IsCause, IsReadAs}
 use Rattle.dwc_cli.specs.Compiled.{bad_view, IsCompiled}
+use Rattle.dwc_cli.specs.ToldPaths.{HasPath, HavePaths}
+use Rattle.dwc_cli.proofs.PathLaws.{told_file-with_path, code_offset-is, counted-with_paths}
 
 -- the functions of each module of a map
 abbrev pub functions_in : List MapModule → List (List Compiled)
@@ -68,6 +69,14 @@ modules_in ms = map views.module_view ms
 -- and where their memories are found
 abbrev pub memories_in : List MapModule → List ModuleMemoryOffset
 memories_in ms = map (λ m. m.memory) ms
+
+-- and the paths of their files
+abbrev pub paths_in : List MapModule → List (Option (List ℕ))
+paths_in ms = map (λ m. views.path_view m.path) ms
+
+pub paths-same : (ms : List MapModule) → map views.path_view (map (λ m. m.path) ms) ≡ paths_in ms
+paths-same [] = refl
+paths-same (m ∷ ms) = ap (λ ps. views.path_view m.path ∷ ps) (paths-same ms)
 
 -- ---- the input
 
@@ -102,27 +111,32 @@ told-same registers names place number m = λ i. record {
   names = names;
 }
 
-module-same : (number : ℕ) (t : ModuleTranslation) (w : WasmModule) (fs gs : List AddressMap) (told seen : ToldModule) → fs ≡ gs → told ≡ seen → IsWholeTranslation t w
-    → ◌≡◌ {A = Module} (record { sections = translation_sections t; functions = functions_of t.code_section_offset number fs; told = told; file = told_file t; compressed = t.compressed }) (record { sections = module_sections w; functions = functions_of w.code_offset number gs; told = seen; file = file_of None w; compressed = w.compressed })
-module-same number t w fs gs told seen maps tells is = λ i. record {
-  sections = translation_sections-is t w is.0 i;
-  functions = functions_of ((is.0).code_section_offset i) number (maps i);
+module-same : (number : ℕ) (t u : ModuleTranslation) (w : WasmModule) (path : Option (List ℕ)) (fs gs : List AddressMap) (told seen : ToldModule) → fs ≡ gs → told ≡ seen → IsWholeTranslation t w → HasPath t path u
+    → ◌≡◌ {A = Module} (record { sections = translation_sections u; functions = functions_of u.code_section_offset number fs; told = told; file = told_file u; compressed = u.compressed }) (record { sections = module_sections w; functions = functions_of w.code_offset number gs; told = seen; file = file_of path w; compressed = w.compressed })
+module-same number t u w path fs gs told seen maps tells is has = λ i. record {
+  sections = (ap translation_sections has.same ∙ translation_sections-is t w is.0) i;
+  functions = functions_of (code_offset-is t u w path is has i) number (maps i);
   told = tells i;
-  file = told_file-is t w is i;
-  compressed = (is.0).compressed i;
+  file = told_file-with_path t u w path is has i;
+  compressed = (ap (λ x. x.compressed) has.same ∙ (is.0).compressed) i;
 }
 
-pub modules-same : (registers : Registers) (names : LinkageNames) (place number : ℕ) (ts : List ModuleTranslation) (ws : List WasmModule) (ms : List MapModule) → AllZip IsWholeTranslation ts ws
-    → carry.modules_from number ts (functions_in ms) (carry.told_from registers names place number (functions_in ms) (memories_in ms)) ≡ modules_of registers names place number ws (modules_in ms)
-modules-same registers names place number [] [] ms h = refl
-modules-same registers names place number [] (w ∷ ws) ms h = absurd h
-modules-same registers names place number (t ∷ ts) [] ms h = absurd h
-modules-same registers names place number (t ∷ ts) (w ∷ ws) [] h = refl
-modules-same registers names place number (t ∷ ts) (w ∷ ws) (m ∷ ms) h =
+pub modules-same : (registers : Registers) (names : LinkageNames) (place number : ℕ) (ts us : List ModuleTranslation) (ws : List WasmModule) (ms : List MapModule) → AllZip IsWholeTranslation ts ws → HavePaths ts (paths_in ms) us
+    → carry.modules_from number us (functions_in ms) (carry.told_from registers names place number (functions_in ms) (memories_in ms)) ≡ modules_of registers names place number ws (modules_in ms)
+modules-same registers names place number [] [] [] [] h has = refl
+modules-same registers names place number [] [] (w ∷ ws) ms h has = absurd h
+modules-same registers names place number (t ∷ ts) us [] ms h has = absurd h
+modules-same registers names place number (t ∷ ts) (u ∷ us) (w ∷ ws) (m ∷ ms) h has =
     let fs = m.functions.items in
     let count : length (map views.function_view fs) ≡ length fs = length-map fs views.function_view in
-    let first = module-same number t w (map address_map_view fs) (map (λ f. f.address_map) (map views.function_view fs)) (told_module place number fs m.memory registers names) (told_of registers names place number (views.module_view m)) (maps-same fs) (told-same registers names place number m) h.0 in
-    rw (first, count, modules-same registers names (suc place) (number + length fs) ts ws ms h.1) refl
+    let first = module-same number t u w (views.path_view m.path) (map address_map_view fs) (map (λ f. f.address_map) (map views.function_view fs)) (told_module place number fs m.memory registers names) (told_of registers names place number (views.module_view m)) (maps-same fs) (told-same registers names place number m) h.0 has.0 in
+    rw (first, count, modules-same registers names (suc place) (number + length fs) ts us ws ms h.1 has.1) refl
+modules-same registers names place number [] (u ∷ us) ws [] h has = absurd has
+modules-same registers names place number [] (u ∷ us) ws (m ∷ ms) h has = absurd has
+modules-same registers names place number [] [] ws (m ∷ ms) h has = absurd has
+modules-same registers names place number (t ∷ ts) [] (w ∷ ws) [] h has = absurd has
+modules-same registers names place number (t ∷ ts) [] (w ∷ ws) (m ∷ ms) h has = absurd has
+modules-same registers names place number (t ∷ ts) (u ∷ us) (w ∷ ws) [] h has = absurd has
 
 -- ---- the first bad address map
 
@@ -140,14 +154,19 @@ bad-joined : (m : ℕ) (o : Option (ℕ × MapFault)) (rest : Option (ℕ × (�
 bad-joined m None rest = refl
 bad-joined m (Some bad) rest = refl
 
-pub bad-same : (place : ℕ) (ts : List ModuleTranslation) (ws : List WasmModule) (ms : List MapModule) → AllZip IsWholeTranslation ts ws → option_map bad_view (carry.bad_map_from place ts (functions_in ms)) ≡ bad_module place ws (modules_in ms)
-bad-same place [] [] ms h = refl
-bad-same place [] (w ∷ ws) ms h = absurd h
-bad-same place (t ∷ ts) [] ms h = absurd h
-bad-same place (t ∷ ts) (w ∷ ws) [] h = refl
-bad-same place (t ∷ ts) (w ∷ ws) (m ∷ ms) h =
-    bad-joined place (first_bad_map t.code_section_offset 0 (map address_map_view m.functions.items)) (carry.bad_map_from (suc place) ts (functions_in ms))
-    ∙ rw (bad-function place t.code_section_offset 0 m.functions.items, (h.0.0).code_section_offset, bad-same (suc place) ts ws ms h.1) refl
+pub bad-same : (place : ℕ) (ts us : List ModuleTranslation) (ws : List WasmModule) (ms : List MapModule) → AllZip IsWholeTranslation ts ws → HavePaths ts (paths_in ms) us → option_map bad_view (carry.bad_map_from place us (functions_in ms)) ≡ bad_module place ws (modules_in ms)
+bad-same place [] [] [] [] h has = refl
+bad-same place [] [] (w ∷ ws) ms h has = absurd h
+bad-same place (t ∷ ts) us [] ms h has = absurd h
+bad-same place (t ∷ ts) (u ∷ us) (w ∷ ws) (m ∷ ms) h has =
+    bad-joined place (first_bad_map u.code_section_offset 0 (map address_map_view m.functions.items)) (carry.bad_map_from (suc place) us (functions_in ms))
+    ∙ rw (bad-function place u.code_section_offset 0 m.functions.items, code_offset-is t u w (views.path_view m.path) h.0 has.0, bad-same (suc place) ts us ws ms h.1 has.1) refl
+bad-same place [] (u ∷ us) ws [] h has = absurd has
+bad-same place [] (u ∷ us) ws (m ∷ ms) h has = absurd has
+bad-same place [] [] ws (m ∷ ms) h has = absurd has
+bad-same place (t ∷ ts) [] (w ∷ ws) [] h has = absurd has
+bad-same place (t ∷ ts) [] (w ∷ ws) (m ∷ ms) h has = absurd has
+bad-same place (t ∷ ts) (u ∷ us) (w ∷ ws) [] h has = absurd has
 
 -- ---- shared symbols
 
@@ -172,7 +191,7 @@ abbrev entry_in : MapFile → Option CommonEntry
 entry_in f = option_map cie_view f.target.cie
 
 abbrev of_modules : MapFile → List Module → Compilation
-of_modules f ms = record { order = order_in f; pointer_bytes = f.target.pointer_bytes; modules = ms; next_id = 0; common_entry = entry_in f }
+of_modules f ms = record { order = order_in f; pointer_bytes = f.target.pointer_bytes; modules = ms; next_id = f.next_id; common_entry = entry_in f }
 
 -- DWARF's numbers of the registers of a map
 abbrev registers_in : MapFile → Registers
@@ -182,19 +201,19 @@ registers_in f = registers_of f.target.registers.items
 abbrev names_in : MapFile → LinkageNames
 names_in f = views.linkage_names f.names
 
-pub compiled : (ts : List ModuleTranslation) (f : MapFile) (read : Loaded) → IsReadAs ts f read → IsCompiled (order_in f) f.target.pointer_bytes (registers_in f) (entry_in f) (names_in f) ts (functions_in f.modules.items) (memories_in f.modules.items) read
-compiled ts f read seen = record {
-  input = ap (λ v. compilation_of (of_view read v)) (sym seen.map_is) ∙ ap (of_modules f) (sym (modules-same (registers_in f) (names_in f) 0 0 ts read.wasm f.modules.items seen.wasm));
-  maps = ap (λ v. bad_map (of_view read v)) (sym seen.map_is) ∙ sym (bad-same 0 ts read.wasm f.modules.items seen.wasm);
+pub compiled : (ts us : List ModuleTranslation) (f : MapFile) (read : Loaded) → HavePaths ts (paths_in f.modules.items) us → IsReadAs ts f read → IsCompiled (order_in f) f.target.pointer_bytes (registers_in f) (entry_in f) (names_in f) us (functions_in f.modules.items) (memories_in f.modules.items) f.next_id read
+compiled ts us f read has seen = record {
+  input = ap (λ v. compilation_of (of_view read v)) (sym seen.map_is) ∙ ap (of_modules f) (sym (modules-same (registers_in f) (names_in f) 0 0 ts us read.wasm f.modules.items seen.wasm has));
+  maps = ap (λ v. bad_map (of_view read v)) (sym seen.map_is) ∙ sym (bad-same 0 ts us read.wasm f.modules.items seen.wasm has);
   symbols = ap (λ v. shared_in (of_view read v)) (sym seen.map_is) ∙ ap shared_symbol (sym (symbols-same f.modules.items));
 }
 
 -- ---- what hinders
 
-module _ (c : CompilationValue) (order : Endian) (size : ℕ) (registers : Registers) (entry : Option CommonEntry) (read : Loaded) (is : IsCompiled order size registers entry (carry.names_of c) c.translations c.functions c.memory_offsets read) (new : c.next_id ≡ 0) where
+module _ (c : CompilationValue) (order : Endian) (size : ℕ) (registers : Registers) (entry : Option CommonEntry) (read : Loaded) (is : IsCompiled order size registers entry (carry.names_of c) c.translations c.functions c.memory_offsets c.next_id read) where
   -- what was read is the compilation's input
   input-is : compilation_of read ≡ carry.input_of order size registers entry c
-  input-is = is.input ∙ ap (λ n. record { order = order; pointer_bytes = size; modules = carry.modules_of registers c; next_id = n; common_entry = entry }) (sym new)
+  input-is = is.input
 
   first-is : (bad : Option (ℕ × (ℕ × MapFault))) (refusal : Option Refusal) → first_status None (option_map bad_view bad) refusal
       ≡ option_map input_status (option_or (option_map (λ bad. bad_address_map bad.0 bad.1.0 bad.1.1) bad) (option_map in_reading refusal))
@@ -238,10 +257,10 @@ module _ (c : CompilationValue) (order : Endian) (size : ℕ) (registers : Regis
 shared-some : (read : Loaded) (functions : ℕ × ℕ) → shared_in read ≡ Some functions → hindrance read ≡ Some 21
 shared-some read functions e = rw e refl
 
-pub refused-compiling : (A : Type 0) (ts : List ModuleTranslation) (fss : List (List Compiled)) (offsets : List ModuleMemoryOffset) (order : Endian) (size : ℕ) (registers : Registers) (entry : Option CommonEntry) (names : LinkageNames) (read : Loaded) → IsCompiled order size registers entry names ts fss offsets read
+pub refused-compiling : (A : Type 0) (ts : List ModuleTranslation) (fss : List (List Compiled)) (offsets : List ModuleMemoryOffset) (order : Endian) (size : ℕ) (registers : Registers) (entry : Option CommonEntry) (names : LinkageNames) (next_id : ℕ) (read : Loaded) → IsCompiled order size registers entry names ts fss offsets next_id read
     → (e : CompilationError) → AreDistinct {A = A} (all_symbols fss) (Err e) → IsCause read (compiling_status e)
-refused-compiling A ts fss offsets order size registers entry names read is (compiling.SharedSymbol first second) h = inr (inl (shared-some read (first, second) (is.symbols ∙ h)))
-refused-compiling A ts fss offsets order size registers entry names read is compiling.OutOfMemory h = inl refl
+refused-compiling A ts fss offsets order size registers entry names next_id read is (compiling.SharedSymbol first second) h = inr (inl (shared-some read (first, second) (is.symbols ∙ h)))
+refused-compiling A ts fss offsets order size registers entry names next_id read is compiling.OutOfMemory h = inl refl
 
 -- ---- counts
 
@@ -269,8 +288,8 @@ counts-of (t ∷ ts) (m ∷ ms) e =
     (rw (count, others.0) refl, ap suc others.1)
 
 -- the modules and functions of a map are counted as the translations have them
-pub counted : (ts : List ModuleTranslation) (f : MapFile) → value.IsMapFor (map (λ t. t.defined_funcs) ts) (views.map_file_view f) → IsCounted ts (functions_in f.modules.items) (memories_in f.modules.items)
-counted ts f fits =
+counted-split : (ts : List ModuleTranslation) (f : MapFile) → value.IsMapFor (map (λ t. t.defined_funcs) ts) (views.map_file_view f) → IsCounted ts (functions_in f.modules.items) (memories_in f.modules.items)
+counted-split ts f fits =
     let ms = f.modules.items in
     let counts = counts-of ts ms fits.counts in
     let few = both (nat_lt (length (modules_in ms)) (2 ^ 32)) (nat_lt (sum_by (λ (m : value.MapModule). length m.functions) (modules_in ms)) (2 ^ 32)) fits.countable in
@@ -280,3 +299,11 @@ counted ts f fits =
       few_modules = subst (λ n. n < 2 ^ 32) counts.1 (ltb-true (length (modules_in ms)) (2 ^ 32) few.0);
       few_functions = subst (λ n. n < 2 ^ 32) (sym (count-of ms)) (ltb-true (sum_by (λ (m : value.MapModule). length m.functions) (modules_in ms)) (2 ^ 32) few.1);
     }
+
+-- there are as many modules as translations
+pub modules-counted : (ts : List ModuleTranslation) (f : MapFile) → value.IsMapFor (map (λ t. t.defined_funcs) ts) (views.map_file_view f) → length ts ≡ length f.modules.items
+modules-counted ts f fits = sym (counts-of ts f.modules.items fits.counts).1 ∙ length-map f.modules.items views.module_view
+
+-- and the translations with paths
+pub counted : (ts us : List ModuleTranslation) (f : MapFile) → HavePaths ts (paths_in f.modules.items) us → value.IsMapFor (map (λ t. t.defined_funcs) ts) (views.map_file_view f) → IsCounted us (functions_in f.modules.items) (memories_in f.modules.items)
+counted ts us f has fits = counted-with_paths ts us (paths_in f.modules.items) (functions_in f.modules.items) (memories_in f.modules.items) has (counted-split ts f fits)

@@ -1,31 +1,33 @@
--- The module without sections of DWARF where the frame of its function is told, from its bytes to the printed text: the module's own unit, and
--- the frames behind it. A text without them is no answer.
-use Rattle.std.proofs.Common.{◌≡◌, ◌<◌, ℕ, zero, suc, pos, arith, List, [], ◌∷◌, ◌++◌, get_or, length, Some, None, refl, sym, ap, subst, ◌∙◌}
+-- The module without sections of DWARF where the frame of its function is told, from its bytes to the printed text: the module's own unit, the
+-- last one, and the frames behind them. A text without these is no answer.
+use Rattle.std.proofs.Common.{◌≡◌, ℕ, zero, suc, pos, arith, List, [], ◌∷◌, ◌++◌, length, Some, None, refl, sym, ap, subst, ◌∙◌}
 use Rattle.std.specs.Prelude.{Option, All, codes, true}
 use Rattle.std.specs.List.{list_all}
-use Rattle.std.proofs.lemmas.List.Quantifiers.{all_pairs_push}
 use Rattle.dwc_base.specs.declared.records.Endian.TheVariants.{Little}
 use Rattle.dwc_base.specs.Outputs.{OutputSection, function, section, output_sections}
 use Rattle.dwc_base.specs.Fields.{IsRelocated}
 use Rattle.dwc_base.specs.Carried.{units, Compilation}
+use Rattle.dwc_base.specs.Forests.{trees_made}
 use Rattle.dwc_base.specs.FramesCarried.{others_in}
 use Rattle.dwc_base.specs.LinesCarried.{LinesCarried}
-use Rattle.dwc_base.specs.OutputForm.{HaveTargetForm, HasDistinctNames}
+use Rattle.dwc_base.specs.OutputForm.{HaveTargetForm}
 use Rattle.dwc_base.specs.OutputCarried.{OutputCarried}
+use Rattle.dwc_base.specs.TreeLaws.{have_short_expressions}
+use Rattle.dwc_base.specs.TreeReading.{ranges_read}
 use Rattle.dwc_base.proofs.FramesApart.{frames-apart}
+use Rattle.dwc_base.proofs.LineTables.{function_small}
 use Rattle.dwc_base.proofs.OnFrames.{frames_on_literals}
-use Rattle.dwc_base.proofs.OwnTrees.{own_tree}
-use Rattle.dwc_base.proofs.CarriedSmall.{own_unit_out}
-use Rattle.dwc_base.proofs.OutputSmall.{Differ}
+use Rattle.dwc_base.proofs.SimulatedLineLaws.{simulated_segment-is}
 use Rattle.dwc_cli.specs.Inputs.{Input, Loaded, loaded, compilation_of}
 use Rattle.dwc_cli.specs.Printed.{printed, is_plain}
 use Rattle.dwc_cli.specs.RunStatus.{Carries}
 use Rattle.dwc_cli.proofs.PrintedLaws.{printed_injective}
 use Rattle.dwc_cli.proofs.WholeRun.{whole_on_literals, read_in}
+use Rattle.dwc_cli.proofs.OutputParts.{names-from}
 use Rattle.dwc_cli.proofs.BrokenInputs.{file_bare}
 use Rattle.dwc_cli.proofs.Answers.{of_one}
-use Rattle.dwc_cli.proofs.BareRun.{output_bare, bare-read, differ, form-bare, names-bare, related-bare}
-use Rattle.dwc_cli.proofs.RefusedFrames.{map_framed, usual, zero_symbol, grows}
+use Rattle.dwc_cli.proofs.BareRun.{output_bare, trees_bare, segment_bare, form-bare, related-bare}
+use Rattle.dwc_cli.proofs.RefusedFrames.{map_framed, usual, zero_symbol, grows, frame_grows, compilation_with, told-grows, refusal-grows}
 
 -- ---- the input
 
@@ -36,7 +38,7 @@ abbrev read_framed : Loaded
 read_framed = read_in (loaded input_framed)
 
 abbrev compilation_framed : Compilation
-compilation_framed = compilation_of read_framed
+compilation_framed = compilation_with usual grows frame_grows
 
 framed-read : loaded input_framed ≡ Some read_framed
 unfolding whole_on_literals
@@ -65,27 +67,22 @@ output_framed = output_bare ++ section_framed ∷ []
 same_sections : output_sections Little output_framed ≡ output_sections Little output_bare
 same_sections = frames-apart Little output_bare section_framed refl
 
-whole-framed : All (λ m. (units m.sections).fault ≡ None) compilation_framed.modules
+all-read : All (λ m. (units m.sections).fault ≡ None) compilation_framed.modules
 unfolding whole_on_literals
-whole-framed zero d h = refl
-whole-framed (suc k) d h = absurd (omega arith)
+all-read zero d h = refl
+all-read (suc k) d h = absurd (omega arith)
 
 lines-framed : LinesCarried compilation_framed output_framed
 unfolding whole_on_literals
-lines-framed = record { whole = whole-framed; output = own_unit_out ∷ []; output_read = ap units same_sections ∙ bare-read; each = (refl, tt) }
+lines-framed = record {
+  whole = all-read;
+  output = (units (output_sections Little output_framed)).items;
+  output_read = refl;
+  each = (refl, (record { segments = segment_bare ∷ []; segments_read = refl; each = (simulated_segment-is (codes "g.wasm") 20 function_small refl refl, tt) }, tt));
+}
 
 form-framed : HaveTargetForm 8 (units (output_sections Little output_framed)).items
 form-framed = subst (λ s. HaveTargetForm 8 (units s).items) (sym same_sections) form-bare
-
--- the name of the frames differs from the others' at its eighth letter
-each-differs : (k : ℕ) (d : OutputSection) → k < length output_bare → Differ (get_or output_bare k d) section_framed
-each-differs zero d within = differ (get_or output_bare 0 d) section_framed refl
-each-differs (suc zero) d within = differ (get_or output_bare 1 d) section_framed refl
-each-differs (suc (suc zero)) d within = differ (get_or output_bare 2 d) section_framed refl
-each-differs (suc (suc (suc k))) d within = absurd (omega (arith, within))
-
-names-framed : HasDistinctNames output_framed
-names-framed = all_pairs_push Differ output_bare section_framed names-bare each-differs
 
 related-framed : All (IsRelocated (output_sections Little output_framed)) (others_in output_framed)
 related-framed = subst (λ s. All (IsRelocated s) output_bare) (sym same_sections) related-bare
@@ -93,27 +90,40 @@ related-framed = subst (λ s. All (IsRelocated s) output_bare) (sym same_section
 -- ---- the text
 
 carried-framed : OutputCarried compilation_framed output_framed
-unfolding whole_on_literals frames_on_literals
+unfolding whole_on_literals frames_on_literals ranges_read
 carried-framed = record {
   lines = lines-framed;
-  wanted = own_tree 0 ∷ [];
+  wanted = trees_bare;
   is_forest = refl;
   trees = refl;
   targets = refl;
-  scopes = (tt, tt);
-  locations = (tt, tt);
-  contexts = (tt, tt);
+  scopes = (tt, (tt, tt));
+  locations = (tt, (tt, tt));
+  contexts = (tt, (tt, tt));
   texts = refl;
   form = form-framed;
-  names = names-framed;
+  names = names-from output_framed refl;
   relocated = related-framed;
   frames = refl;
 }
 
+all-short : have_short_expressions (trees_made compilation_framed) ≡ true
+unfolding whole_on_literals
+all-short = refl
+
 -- it is an answer with status 0
 carries-framed : Carries input_framed (Some []) (Some (printed output_framed))
 unfolding whole_on_literals
-carries-framed = record { read = read_framed; is_read = refl; accepted = refl; sections = output_framed; plain = refl; carried = carried-framed; short = refl; written = refl }
+carries-framed = record {
+  read = read_framed;
+  is_read = refl;
+  accepted = refusal-grows;
+  sections = output_framed;
+  plain = refl;
+  carried = subst (λ c. OutputCarried c output_framed) (sym told-grows) carried-framed;
+  short = ap (λ c. have_short_expressions (trees_made c)) told-grows ∙ all-short;
+  written = refl;
+}
 
 -- ---- other texts
 
@@ -125,7 +135,8 @@ carried_by known plain h =
     let same : h.sections ≡ known = sym (printed_injective known h.sections plain h.plain texts) in
     let found : loaded input_framed ≡ Some h.read = h.is_read in
     let reads : h.read ≡ read_framed = cc (found, framed-read) in
-    subst (OutputCarried compilation_framed) same (subst (λ r. OutputCarried (compilation_of r) h.sections) reads h.carried)
+    let carried : OutputCarried (compilation_of read_framed) known = subst (OutputCarried (compilation_of read_framed)) same (subst (λ r. OutputCarried (compilation_of r) h.sections) reads h.carried) in
+    subst (λ c. OutputCarried c known) told-grows carried
 
 -- one without the frames is no answer 0
 lost : OutputCarried compilation_framed output_bare → ⊥

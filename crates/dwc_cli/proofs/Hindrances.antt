@@ -3,7 +3,7 @@ use Rattle.std.proofs.Common.{◌≡◌, ℕ, List, [], ◌∷◌, Option, Some,
 use Rattle.std.specs.Prelude.{option_map, unwrap_or, IsSome}
 use Rattle.dwc_base.specs.Outputs.{OutputSection}
 use Rattle.dwc_base.specs.Sections.{unreadable, unsupported}
-use Rattle.dwc_base.specs.Refusals.{Refusal, of_place, missing_file, long_function, long_range, bad_label, lacks_memory, unmapped_register, long_jump, far_memory, of_frame}
+use Rattle.dwc_base.specs.Refusals.{Refusal, of_place, missing_file, long_function, long_range, bad_label, lacks_memory, unmapped_register, long_jump, far_memory, bad_path, of_frame}
 use Rattle.dwc_base.specs.FrameRefusals.{bad_code_offset, bad_data_offset}
 use Rattle.dwc_base.specs.Forests.{first_refusal}
 use Rattle.dwc_cli.specs.Inputs.{BadMap, Loaded, compilation_of, shared_in, bad_map}
@@ -26,7 +26,7 @@ none-is_some (Some x) e some = absurd (cc)
 
 -- the statuses of a run whose lines are not carried
 abbrev pub carrying_statuses : List ℕ
-carrying_statuses = 9 ∷ 10 ∷ 11 ∷ 12 ∷ 13 ∷ 14 ∷ 15 ∷ 16 ∷ 17 ∷ 18 ∷ 20 ∷ 21 ∷ []
+carrying_statuses = 9 ∷ 10 ∷ 11 ∷ 12 ∷ 13 ∷ 14 ∷ 15 ∷ 16 ∷ 17 ∷ 18 ∷ 19 ∷ 20 ∷ 21 ∷ []
 
 -- ---- by the values of the three hindrances
 
@@ -93,6 +93,7 @@ hindered None None (Some (lacks_memory m)) status e = subst (Hindered None None 
 hindered None None (Some (unmapped_register register)) status e = subst (Hindered None None (Some (unmapped_register register))) (same_some 16 status e) (refused (unmapped_register register) (λ e. omega (arith, e)) (λ e. omega (arith, e)) (IsOneOf-from carrying_statuses 16 refl))
 hindered None None (Some long_jump) status e = subst (Hindered None None (Some long_jump)) (same_some 20 status e) (refused long_jump (λ e. omega (arith, e)) (λ e. omega (arith, e)) (IsOneOf-from carrying_statuses 20 refl))
 hindered None None (Some far_memory) status e = subst (Hindered None None (Some far_memory)) (same_some 20 status e) (refused far_memory (λ e. omega (arith, e)) (λ e. omega (arith, e)) (IsOneOf-from carrying_statuses 20 refl))
+hindered None None (Some bad_path) status e = subst (Hindered None None (Some bad_path)) (same_some 19 status e) (refused bad_path (λ e. omega (arith, e)) (λ e. omega (arith, e)) (IsOneOf-from carrying_statuses 19 refl))
 hindered None None (Some (of_frame (bad_code_offset f))) status e = subst (Hindered None None (Some (of_frame (bad_code_offset f)))) (same_some 17 status e) (refused (of_frame (bad_code_offset f)) (λ e. omega (arith, e)) (λ e. omega (arith, e)) (IsOneOf-from carrying_statuses 17 refl))
 hindered None None (Some (of_frame (bad_data_offset f))) status e = subst (Hindered None None (Some (of_frame (bad_data_offset f)))) (same_some 18 status e) (refused (of_frame (bad_data_offset f)) (λ e. omega (arith, e)) (λ e. omega (arith, e)) (IsOneOf-from carrying_statuses 18 refl))
 hindered None None None status e = absurd (none≢some e)
@@ -118,7 +119,7 @@ pub record Said (read : Loaded) (status : ℕ) : Type 0 where
 
 -- the statuses of hindrances, but for 20
 abbrev hindering_statuses : List ℕ
-hindering_statuses = 10 ∷ 11 ∷ 12 ∷ 13 ∷ 14 ∷ 15 ∷ 16 ∷ 17 ∷ 18 ∷ 21 ∷ []
+hindering_statuses = 10 ∷ 11 ∷ 12 ∷ 13 ∷ 14 ∷ 15 ∷ 16 ∷ 17 ∷ 18 ∷ 19 ∷ 21 ∷ []
 
 -- of a status that is none of these, where nothing hinders
 LoadedCauses-unhindered : (read : Loaded) (status : ℕ) → hindrance read ≡ None → is_one_of hindering_statuses status ≡ false → (status ≡ 20 → PassesLimit (compilation_of read)) → LoadedCauses read status

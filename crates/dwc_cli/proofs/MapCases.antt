@@ -1,5 +1,5 @@
 -- Map files: which have a value, and the values of fields that may be missing.
-use Rattle.std.proofs.Common.{◌≡◌, ℕ, pos, negsuc, List, [], ◌∷◌, Some, None, true, false, refl}
+use Rattle.std.proofs.Common.{◌≡◌, ℕ, pos, negsuc, List, [], ◌∷◌, ◌++◌, Some, None, true, false, refl}
 use Rattle.std.specs.Prelude.{Bool, Option, codes, is_some, map}
 use Rattle.std.specs.FinMap as finite
 use Rattle.dwc_base.specs.CallFrames.{FrameDescription, def_cfa, remember_state}
@@ -199,3 +199,75 @@ cie_unsound = refl
 frame_list : HasValue (codes "{\"target\":{\"arch\":\"pulley\"},\"names\":[\"a\",\"b\"],\"modules\":[{\"functions\":[{\"symbol\":7,\"start\":22,\"end\":33,\"body_len\":30,\"map\":[[5,25]],\"frame\":[]}]}]}") false
 unfolding map_on_literals
 frame_list = refl
+
+-- ---- paths, and the number of the next name that is made up
+
+-- the map of one function with more fields, and with more fields of its module
+abbrev with_fields : List ℕ → List ℕ → List ℕ
+with_fields fields of_module = codes "{\"target\":{\"arch\":\"pulley\"},\"names\":[\"a\",\"b\"]" ++ fields ++ codes ",\"modules\":[{\"functions\":[{\"symbol\":7,\"start\":22,\"end\":33,\"body_len\":30,\"map\":[[5,25]]}]" ++ of_module ++ codes "}]}"
+
+abbrev numbers_in : Option MapFile → List ℕ
+numbers_in None = []
+numbers_in (Some m) = m.next_id ∷ []
+
+abbrev number_read : List ℕ → List ℕ
+number_read fields = numbers_in (map_of_bytes (1 ∷ []) (with_fields fields []))
+
+abbrev paths_in : Option MapFile → List (Option (List ℕ))
+paths_in None = []
+paths_in (Some m) = map (λ x. x.path) m.modules
+
+abbrev path_read : List ℕ → List (Option (List ℕ))
+path_read of_module = paths_in (map_of_bytes (1 ∷ []) (with_fields [] of_module))
+
+-- 0 where nothing is said, the greatest number of 32 bits, and one more
+next_id_default : number_read [] ≡ 0 ∷ []
+unfolding map_on_literals
+next_id_default = refl
+
+next_id_last : number_read (codes ",\"next_id\":4294967295") ≡ 4294967295 ∷ []
+unfolding map_on_literals
+next_id_last = refl
+
+next_id_past : number_read (codes ",\"next_id\":4294967296") ≡ []
+unfolding map_on_literals
+next_id_past = refl
+
+-- a negative number, a text, and null
+next_id_negative : number_read (codes ",\"next_id\":-1") ≡ []
+unfolding map_on_literals
+next_id_negative = refl
+
+next_id_text : number_read (codes ",\"next_id\":\"1\"") ≡ []
+unfolding map_on_literals
+next_id_text = refl
+
+next_id_null : number_read (codes ",\"next_id\":null") ≡ []
+unfolding map_on_literals
+next_id_null = refl
+
+-- no path where nothing is said, a path, and an empty one
+path_default : path_read [] ≡ None ∷ []
+unfolding map_on_literals
+path_default = refl
+
+path_told : path_read (codes ",\"path\":\"/m/g.wasm\"") ≡ Some (codes "/m/g.wasm") ∷ []
+unfolding map_on_literals
+path_told = refl
+
+path_empty : path_read (codes ",\"path\":\"\"") ≡ Some [] ∷ []
+unfolding map_on_literals
+path_empty = refl
+
+-- null, a number, and a text with a zero character
+path_null : path_read (codes ",\"path\":null") ≡ []
+unfolding map_on_literals
+path_null = refl
+
+path_number : path_read (codes ",\"path\":1") ≡ []
+unfolding map_on_literals
+path_number = refl
+
+path_zero : path_read (codes ",\"path\":\"a\\u0000\"") ≡ []
+unfolding map_on_literals
+path_zero = refl

@@ -13,7 +13,7 @@ use Rattle.dwc_base.specs.CallFrames.{CommonEntry, is_sound, is_sound_if}
 use Rattle.dwc_base.specs.Reading.{coded}
 use Rattle.dwc_cli.specs.declared.map_file.MapFile.{MapFile as DeclaredMap}
 use Rattle.dwc_cli.specs.MapFile.{Target, MapFile, architecture_of, pointer_bytes_of, register_numbers_of, target_of, map_module_of, have_counts, is_countable, map_value, IsMapFor}
-use Rattle.dwc_cli.specs.MapValues.{◌>>=◌, only_if, number_below, value_or, with_default, required, list_of, pair_of, text_of, truth_of, members_of, u8_of, i8_of, nullable}
+use Rattle.dwc_cli.specs.MapValues.{◌>>=◌, only_if, number_below, value_or, with_default, required, list_of, pair_of, text_of, truth_of, members_of, u8_of, u32_of, i8_of, nullable}
 use Rattle.dwc_cli.specs.MapFrames.{instruction_of, cie_of, cie_in}
 use Rattle.dwc_cli.specs.MapViews.{map_file_view}
 use Rattle.dwc_addr.specs.Compilations.{AreNames}
@@ -147,8 +147,9 @@ map_value-fits defined d m e =
     let target = bind-some (required (codes "target") target_of ms.0) _ m ms.2 in
     let names = bind-some (required (codes "names") (pair_of text_of text_of) ms.0) _ m target.2 in
     let modules = bind-some (required (codes "modules") (list_of map_module_of) ms.0) _ m names.2 in
-    let whole : MapFile = record { target = target.0; set_memory = (names.0).0; resolve_memory = (names.0).1; modules = modules.0 } in
-    let kept = only_if-some (have_counts defined modules.0 && is_countable modules.0) whole m modules.2 in
+    let next_id = bind-some (with_default (codes "next_id") 0 u32_of ms.0) _ m modules.2 in
+    let whole : MapFile = record { target = target.0; set_memory = (names.0).0; resolve_memory = (names.0).1; modules = modules.0; next_id = next_id.0 } in
+    let kept = only_if-some (have_counts defined modules.0 && is_countable modules.0) whole m next_id.2 in
     let tests = both (have_counts defined modules.0) (is_countable modules.0) kept.0 in
     let value = bind-some (get_member (codes "target") ms.0) target_of target.0 target.1 in
     let texts = bind-some (get_member (codes "names") ms.0) (pair_of text_of text_of) names.0 names.1 in

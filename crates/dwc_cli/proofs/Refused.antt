@@ -377,7 +377,7 @@ two_told read first second = record { order = Little; pointer_bytes = 8; modules
 
 second-told : compilation_of (read_of_two map_bytes_two file_small file_64) ≡ two_told (read_of_two map_bytes_two file_small file_64) (told_bare runtime_names 0 no_memory) (told_bare runtime_names 1 no_memory)
 unfolding whole_on_literals
-second-told = λ i. two_told (read_of_two map_bytes_two file_small file_64) (told-bare runtime_names 0 0 (of_symbol 0) no_memory i) (told-bare runtime_names 1 1 (of_symbol 1) no_memory i)
+second-told = λ i. two_told (read_of_two map_bytes_two file_small file_64) (told-bare runtime_names 0 0 (of_symbol 0) no_memory None i) (told-bare runtime_names 1 1 (of_symbol 1) no_memory None i)
 
 second-refused : first_refusal (two_told (read_of_two map_bytes_two file_small file_64) (told_bare runtime_names 0 no_memory) (told_bare runtime_names 1 no_memory)) ≡ Some (of_place (unsupported Format64 0))
 unfolding whole_on_literals
@@ -422,7 +422,7 @@ refusal-far = refl
 
 near-told : compilation_of (read_of map_bytes_near file_small) ≡ record { order = Little; pointer_bytes = 8; modules = record (module_at 0 (read_of map_bytes_near file_small)) { told = told_bare runtime_names 0 (defined 4294967287) } ∷ []; next_id = 0; common_entry = None }
 unfolding whole_on_literals
-near-told = λ i. record { order = Little; pointer_bytes = 8; modules = record (module_at 0 (read_of map_bytes_near file_small)) { told = told-bare runtime_names 0 0 (of_symbol 0) (defined 4294967287) i } ∷ []; next_id = 0; common_entry = None }
+near-told = λ i. record { order = Little; pointer_bytes = 8; modules = record (module_at 0 (read_of map_bytes_near file_small)) { told = told-bare runtime_names 0 0 (of_symbol 0) (defined 4294967287) None i } ∷ []; next_id = 0; common_entry = None }
 
 near-accepted : first_refusal (record { order = Little; pointer_bytes = 8; modules = record (module_at 0 (read_of map_bytes_near file_small)) { told = told_bare runtime_names 0 (defined 4294967287) } ∷ []; next_id = 0; common_entry = None }) ≡ None
 unfolding whole_on_literals
@@ -455,7 +455,7 @@ unfolding whole_on_literals
 small-read = refl
 
 -- nothing of it is refused
-small-refused : (status : ℕ) → IsOneOf refusal_statuses status → Causes map_bytes_small file_small status → ⊥
+pub small-refused : (status : ℕ) → IsOneOf refusal_statuses status → Causes map_bytes_small file_small status → ⊥
 small-refused status one h = let impossible = (loaded_causes map_bytes_small file_small status read_small small-read h).refused.only one in none≢some (sym (ap (option_map refusal_status) accepted-small) ∙ impossible)
   where
     none≢some : ◌≡◌ {A = Option ℕ} None (Some status) → ⊥
@@ -482,8 +482,8 @@ status-1 h = refused run_statuses 1 refl h
 status-7 : IsStatus 7 → ⊥
 status-7 h = refused run_statuses 7 refl h
 
-status-19 : IsStatus 19 → ⊥
-status-19 h = refused run_statuses 19 refl h
+status-22 : IsStatus 22 → ⊥
+status-22 h = refused run_statuses 22 refl h
 
 -- ---- where all is well, a run succeeds or wants memory
 

@@ -1,5 +1,5 @@
 -- Wrong texts that the clauses on statuses 0 and 8 refuse, and a right answer.
-use Rattle.std.proofs.Common.{◌≡◌, ℕ, zero, suc, pos, List, [], ◌∷◌, ◌++◌, take, get_or, Some, None, Ok, true, refl, ap, subst, sym, ◌∙◌, arith}
+use Rattle.std.proofs.Common.{◌≡◌, ℕ, zero, suc, List, [], ◌∷◌, ◌++◌, take, get_or, Some, None, Ok, true, refl, ap, subst, sym, ◌∙◌, arith}
 use Rattle.std.specs.Prelude.{Option, is_some, codes}
 use Rattle.std.specs.List.{list_all, filter, AllZip}
 use Rattle.std.proofs.lemmas.Bool.{true≢false}
@@ -8,12 +8,12 @@ use Rattle.dwc_base.specs.declared.faults.Kind.TheVariants.{Format64}
 use Rattle.dwc_base.specs.Sections.{unsupported}
 use Rattle.dwc_base.specs.LineRows.{Segment}
 use Rattle.dwc_base.specs.Images.{IsImageOf, is_carried_segment}
-use Rattle.dwc_base.specs.Outputs.{OutputSection, output_sections, function}
+use Rattle.dwc_base.specs.Outputs.{OutputSection, output_sections}
 use Rattle.dwc_base.specs.Carried.{Module, units, segments_of_unit}
 use Rattle.dwc_base.specs.Forests.{wanted_units, first_refusal}
 use Rattle.dwc_base.specs.LinesCarried.{CarriesUnit, HasLines, LinesCarried}
-use Rattle.dwc_base.proofs.LineTables.{at_line, function_small, segments_small}
-use Rattle.dwc_base.proofs.CarriedSmall.{module_small, unit_small, own_unit_out, unit_out, image_small, output_small, image-small}
+use Rattle.dwc_base.proofs.LineTables.{at_line, segments_small}
+use Rattle.dwc_base.proofs.CarriedSmall.{module_small, unit_small, unit_out}
 use Rattle.dwc_base.proofs.WorkedImages.{Zipped, segment, image, image_in, not_image-at}
 use Rattle.dwc_cli.specs.Inputs.{Loaded, loaded, compilation_of}
 use Rattle.dwc_cli.specs.Printed.{printed, is_plain, line_feed}
@@ -22,7 +22,8 @@ use Rattle.dwc_base.proofs.SmallModule.{file_small}
 use Rattle.dwc_cli.proofs.Examples.{map_bytes_small}
 use Rattle.dwc_cli.proofs.PrintedLaws.{printed_injective}
 use Rattle.dwc_cli.proofs.OnLiterals.{printed_on_literals}
-use Rattle.dwc_cli.proofs.WholeRun.{whole_on_literals, input_small, read_in, read_small, accepted-small, short-small, lines_carried-small, output_carried-small}
+use Rattle.dwc_cli.proofs.WholeRun.{whole_on_literals, input_small, read_in, read_small, compilation_whole, compilation-small, accepted-small, short-small, all-read, carries_small, output_carried-small}
+use Rattle.dwc_cli.proofs.WholeOutput.{output_with, output_whole}
 use Rattle.dwc_cli.proofs.BrokenInputs.{file_64, file_no_directory, with_small_map}
 use Rattle.dwc_cli.proofs.Answers.{three_files, right_words, names}
 use Rattle.dwc_cli.proofs.Refused.{small-read}
@@ -62,27 +63,11 @@ empty_text h = refused-text [] refl nothing_carried h
 
 -- ---- a wrong line
 
-abbrev no_section : OutputSection
-no_section = record { name = []; body = []; relocations = [] }
-
--- the wanted output with its last line advanced by two
+-- the wanted output with the carried unit's last line advanced by two
 abbrev pub output_wrong : List OutputSection
-output_wrong =
-    get_or output_small 0 no_section
-    ∷ get_or output_small 1 no_section
-    ∷ record {
-      name = codes ".debug_line";
-      body = 0x39 ∷ 0x00 ∷ 0x00 ∷ 0x00 ∷ 0x04 ∷ 0x00 ∷ 0x1B ∷ 0x00 ∷ 0x00 ∷ 0x00 ∷ 0x01 ∷ 0x01 ∷ 0x01 ∷ 0xFB ∷ 0x0E ∷ 0x0D ∷ 0x00 ∷ 0x01 ∷ 0x01 ∷ 0x01 ∷ 0x01 ∷ 0x00 ∷ 0x00 ∷ 0x00 ∷ 0x01 ∷ 0x00 ∷ 0x00 ∷ 0x01 ∷ 0x00 ∷ 0x61 ∷ 0x2E ∷ 0x63 ∷ 0x00 ∷ 0x00 ∷ 0x00 ∷ 0x00 ∷ 0x00 ∷ 0x00 ∷ 0x09 ∷ 0x02 ∷ 0x00 ∷ 0x00 ∷ 0x00 ∷ 0x00 ∷ 0x00 ∷ 0x00 ∷ 0x00 ∷ 0x00 ∷ 0x03 ∷ 0x01 ∷ 0x01 ∷ 0x03 ∷ 0x02 ∷ 0x02 ∷ 0x0F ∷ 0x01 ∷ 0x02 ∷ 0x0F ∷ 0x00 ∷ 0x01 ∷ 0x01 ∷ [];
-      relocations = record { offset = 40; size = 8; target = function 0; addend = pos 0 } ∷ [];
-    }
-    ∷ get_or output_small 3 no_section
-    ∷ get_or output_small 4 no_section ∷ []
+output_wrong = output_with (0x39 ∷ 0x00 ∷ 0x00 ∷ 0x00 ∷ 0x04 ∷ 0x00 ∷ 0x1B ∷ 0x00 ∷ 0x00 ∷ 0x00 ∷ 0x01 ∷ 0x01 ∷ 0x01 ∷ 0xFB ∷ 0x0E ∷ 0x0D ∷ 0x00 ∷ 0x01 ∷ 0x01 ∷ 0x01 ∷ 0x01 ∷ 0x00 ∷ 0x00 ∷ 0x00 ∷ 0x01 ∷ 0x00 ∷ 0x00 ∷ 0x01 ∷ 0x00 ∷ 0x61 ∷ 0x2E ∷ 0x63 ∷ 0x00 ∷ 0x00 ∷ 0x00 ∷ 0x00 ∷ 0x00 ∷ 0x00 ∷ 0x09 ∷ 0x02 ∷ 0x00 ∷ 0x00 ∷ 0x00 ∷ 0x00 ∷ 0x00 ∷ 0x00 ∷ 0x00 ∷ 0x00 ∷ 0x03 ∷ 0x01 ∷ 0x01 ∷ 0x03 ∷ 0x02 ∷ 0x02 ∷ 0x0F ∷ 0x01 ∷ 0x02 ∷ 0x0F ∷ 0x00 ∷ 0x01 ∷ 0x01 ∷ [])
 
--- it is read as the module's own unit and one more, whose one segment has line 4 from byte 15 on
-wrong-units : units (output_sections Little output_wrong) ≡ record { items = own_unit_out ∷ unit_out ∷ []; fault = None }
-unfolding whole_on_literals
-wrong-units = refl
-
+-- the one segment of its carried unit has line 4 from byte 15 on
 wrong-segments : segments_of_unit (output_sections Little output_wrong) unit_out ≡ Ok (image (at_line 0 2 ∷ at_line 15 4 ∷ []) ∷ [])
 unfolding whole_on_literals
 wrong-segments = refl
@@ -99,7 +84,7 @@ module_read = first_module (compilation_of read_small).modules
 carries_unit : LinesCarried (compilation_of read_small) output_wrong → CarriesUnit (output_sections Little output_wrong) (record { module_of = module_read; unit = unit_small }) unit_out
 unfolding whole_on_literals
 carries_unit h =
-    let items : h.output ≡ own_unit_out ∷ unit_out ∷ [] = ap (λ l. l.items) (sym h.output_read ∙ wrong-units) in
+    let items : h.output ≡ (units (output_sections Little output_wrong)).items = ap (λ l. l.items) (sym h.output_read) in
     (subst (λ us. AllZip (HasLines (output_sections Little output_wrong)) (wanted_units (compilation_of read_small)) us) items h.each).1.0
 
 -- and its segments are images of the small segments
@@ -133,23 +118,26 @@ wrong_line h = refused-text output_wrong refl wrong_line_carried h
 -- A section of the 64-bit format stands first, and a list of sections that has the same text has it in a name: a reader of
 -- the text meets it, and the other list would carry the lines.
 abbrev pub output_hidden : List OutputSection
-output_hidden = record { name = codes ".debug_info 4" ++ line_feed ++ codes "ffffffff" ++ line_feed ++ codes "section x"; body = []; relocations = [] } ∷ output_small
+output_hidden = record { name = codes ".debug_info 4" ++ line_feed ++ codes "ffffffff" ++ line_feed ++ codes "section x"; body = []; relocations = [] } ∷ output_whole
 
 abbrev pub output_in_sight : List OutputSection
-output_in_sight = record { name = codes ".debug_info"; body = 0xFF ∷ 0xFF ∷ 0xFF ∷ 0xFF ∷ []; relocations = [] } ∷ record { name = codes "x"; body = []; relocations = [] } ∷ output_small
+output_in_sight = record { name = codes ".debug_info"; body = 0xFF ∷ 0xFF ∷ 0xFF ∷ 0xFF ∷ []; relocations = [] } ∷ record { name = codes "x"; body = []; relocations = [] } ∷ output_whole
 
 same_text-hidden : printed output_hidden ≡ printed output_in_sight
 unfolding printed_on_literals
 same_text-hidden = refl
 
-carried-hidden : LinesCarried (compilation_of read_small) output_hidden
+hidden : LinesCarried compilation_whole output_hidden
 unfolding whole_on_literals
-carried-hidden = record {
-  whole = lines_carried-small.whole;
-  output = own_unit_out ∷ unit_out ∷ [];
+hidden = record {
+  whole = all-read;
+  output = (units (output_sections Little output_hidden)).items;
   output_read = refl;
-  each = (refl, (record { images = image_small ∷ []; images_read = refl; carried = record { input = segments_small; input_read = refl; each = ((function_small, refl, image-small), tt) } }, tt));
+  each = (refl, (carries_small (output_sections Little output_hidden) refl, (record { segments = []; segments_read = refl; each = tt }, tt)));
 }
+
+carried-hidden : LinesCarried (compilation_of read_small) output_hidden
+carried-hidden = subst (λ c. LinesCarried c output_hidden) (sym compilation-small) hidden
 
 -- the list without hidden names is unreadable
 fault-in_sight : (units (output_sections Little output_in_sight)).fault ≡ Some (unsupported Format64 0)
@@ -172,12 +160,12 @@ first_byte [] e = omega (arith, e)
 first_byte (s ∷ ss) e = omega (arith, e)
 
 -- so an answer that drops what was written before is refused
-earlier_dropped : Succeeds (Some (three_files map_bytes_small file_small [])) right_words (Some (1 ∷ [])) (Some (printed output_small)) → ⊥
+earlier_dropped : Succeeds (Some (three_files map_bytes_small file_small [])) right_words (Some (1 ∷ [])) (Some (printed output_whole)) → ⊥
 earlier_dropped h =
     let carries = h input_small (names map_bytes_small file_small []) in
-    let text : ◌≡◌ {A = Option (List ℕ)} (Some (printed output_small)) (Some (1 ∷ printed carries.sections)) = carries.written in
-    let texts : printed output_small ≡ 1 ∷ printed carries.sections = cc in
-    first_byte output_small (ap (λ t. get_or t 0 0) texts)
+    let text : ◌≡◌ {A = Option (List ℕ)} (Some (printed output_whole)) (Some (1 ∷ printed carries.sections)) = carries.written in
+    let texts : printed output_whole ≡ 1 ∷ printed carries.sections = cc in
+    first_byte output_whole (ap (λ t. get_or t 0 0) texts)
 
 -- ---- status 8: what was written is the front of a text
 
@@ -198,7 +186,7 @@ no_front h =
 -- the first ten bytes of the wanted text are one
 front-small : FrontCarries input_small (Some []) (Some (codes "section .d"))
 unfolding whole_on_literals printed_on_literals
-front-small = record { read = read_small; is_read = refl; accepted = accepted-small; sections = output_small; plain = refl; carried = output_carried-small; short = short-small; count = 10; written = refl }
+front-small = record { read = read_small; is_read = refl; accepted = accepted-small; sections = output_whole; plain = refl; carried = output_carried-small; short = short-small; count = 10; written = refl }
 
 -- ---- inputs of which something is refused: no text, nor a front of one
 

@@ -2,7 +2,7 @@
 use Rattle.std.proofs.Common.{◌≡◌, ℕ, zero, suc, List, [], ◌∷◌, take, false, Option, Some, refl, sym, ◌∙◌, subst, arith}
 use Rattle.std.specs.Prelude.{Any}
 use Rattle.dwc_base.specs.Sections.{unreadable, unsupported}
-use Rattle.dwc_base.specs.Refusals.{Refusal, of_place, missing_file, long_function, long_range, bad_label, lacks_memory, unmapped_register, long_jump, far_memory, of_frame}
+use Rattle.dwc_base.specs.Refusals.{Refusal, of_place, missing_file, long_function, long_range, bad_label, lacks_memory, unmapped_register, long_jump, far_memory, bad_path, of_frame}
 use Rattle.dwc_base.specs.FrameRefusals.{bad_code_offset, bad_data_offset}
 use Rattle.dwc_cli.specs.Inputs.{Paths, paths_of, all_paths, Input, Loaded}
 use Rattle.dwc_cli.specs.RunStatus.{Files, Appended, IsOneOf, Succeeds, PrefixWritten, MissingCause, refusal_status, refusal_statuses, LoadedCauses, InputCauses, RunsWell, Rose}
@@ -110,6 +110,7 @@ TextCauses-write input causes =
     refused_not_done (unmapped_register register) = refl
     refused_not_done long_jump = refl
     refused_not_done far_memory = refl
+    refused_not_done bad_path = refl
     refused_not_done (of_frame (bad_code_offset f)) = refl
     refused_not_done (of_frame (bad_data_offset f)) = refl
 

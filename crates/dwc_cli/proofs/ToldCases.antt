@@ -11,9 +11,10 @@ use Rattle.dwc_cli.specs.Inputs.{Loaded, loaded, compilation_of}
 use Rattle.dwc_cli.proofs.Answers.{of_two}
 use Rattle.dwc_cli.proofs.WholeRun.{whole_on_literals}
 
--- a map of two modules: registers, a memory of the second, and where values lie in its function and how that unwinds
+-- a map of two modules: registers, the number of the next name, a memory and a path of the second, and where values lie in its function and
+-- how that unwinds
 abbrev pub map_bytes_told : List ℕ
-map_bytes_told = codes "{\"target\":{\"arch\":\"x86_64\",\"registers\":[[7,5],[0,3]]},\"names\":[\"set_mem\",\"resolve_mem\"],\"modules\":[{\"functions\":[{\"symbol\":0,\"start\":22,\"end\":33,\"body_len\":30,\"map\":[[5,25],[15,30]]}]},{\"memory\":{\"defined\":80},\"functions\":[{\"symbol\":1,\"start\":22,\"end\":33,\"body_len\":30,\"map\":[[5,25],[15,30]],\"labels\":[[4,[[0,9,\"reg\",7]]],[2,[[0,9,\"cfa\",16],[3,5,\"reg\",0]]]],\"frame\":{\"len\":30,\"ops\":[[1,[\"cfa_offset\",16]]]}}]}]}"
+map_bytes_told = codes "{\"target\":{\"arch\":\"x86_64\",\"registers\":[[7,5],[0,3]]},\"names\":[\"set_mem\",\"resolve_mem\"],\"next_id\":7,\"modules\":[{\"functions\":[{\"symbol\":0,\"start\":22,\"end\":33,\"body_len\":30,\"map\":[[5,25],[15,30]]}]},{\"path\":\"/n/h.wasm\",\"memory\":{\"defined\":80},\"functions\":[{\"symbol\":1,\"start\":22,\"end\":33,\"body_len\":30,\"map\":[[5,25],[15,30]],\"labels\":[[4,[[0,9,\"reg\",7]]],[2,[[0,9,\"cfa\",16],[3,5,\"reg\",0]]]],\"frame\":{\"len\":30,\"ops\":[[1,[\"cfa_offset\",16]]]}}]}]}"
 
 abbrev pub told_of_modules : Option Loaded → List ToldModule
 told_of_modules None = []
@@ -41,6 +42,23 @@ places = refl
 memories : told_first.memory ∷ told_second.memory ∷ [] ≡ no_memory ∷ defined 80 ∷ []
 unfolding whole_on_literals
 memories = refl
+
+-- the paths of their files, and the number
+abbrev paths_of_modules : Option Loaded → List (Option (List ℕ))
+paths_of_modules None = []
+paths_of_modules (Some l) = map (λ m. m.file.path) (compilation_of l).modules
+
+paths : paths_of_modules (loaded (of_two map_bytes_told file_small file_small)) ≡ None ∷ Some (codes "/n/h.wasm") ∷ []
+unfolding whole_on_literals
+paths = refl
+
+abbrev number_of : Option Loaded → List ℕ
+number_of None = []
+number_of (Some l) = (compilation_of l).next_id ∷ []
+
+number : number_of (loaded (of_two map_bytes_told file_small file_small)) ≡ 7 ∷ []
+unfolding whole_on_literals
+number = refl
 
 -- the names, for each module
 setting : told_first.names.set_memory ∷ told_second.names.set_memory ∷ [] ≡ codes "set_mem" ∷ codes "set_mem" ∷ []

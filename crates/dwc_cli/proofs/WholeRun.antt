@@ -1,38 +1,46 @@
--- The small module from its bytes and its map's bytes to the printed text.
-use Rattle.std.proofs.Common.{◌≡◌, ℕ, ◌+◌, ◌<◌, ◌^◌, ◌-◌, zero, suc, arith, List, [], ◌∷◌, length, get_or, map, slice_get, Some, None, Option, true, refl, ap, subst, sym, ◌∙◌, lit<}
+-- The small module from its bytes and its map's bytes to the printed text, which has the module's own unit, the carried one, and the last.
+use Rattle.std.proofs.Common.{◌≡◌, ℕ, ◌<◌, ◌^◌, ◌-◌, zero, suc, arith, List, [], ◌∷◌, length, get_or, map, slice_get, Some, None, Ok, Option, true, refl, ap, subst, sym, ◌∙◌, lit<}
 use Rattle.std.specs.Option.{unwrap_or}
 use Rattle.std.specs.Ordering.{nat_cmp}
 use Rattle.std.specs.FinMap as finite
 use Rattle.std.specs.FinMap.{get-empty, len-empty, len-entries}
-use Rattle.std.specs.Prelude.{codes}
+use Rattle.std.specs.Prelude.{All, codes}
 use Rattle.dwc_base.proofs.OnLiterals.{files_on_literals}
 use Rattle.dwc_base.proofs.DraftsOnLiterals.{drafts_on_literals}
 use Rattle.dwc_base.proofs.NamesOnLiterals.{functions_on_literals, names_on_literals}
 use Rattle.dwc_base.proofs.SmallModule.{file_small, file_small_told}
 use Rattle.dwc_base.proofs.Readings.{sections_small}
-use Rattle.dwc_base.proofs.LineTables.{function_small}
+use Rattle.dwc_base.proofs.LineTables.{function_small, segments_small}
 use Rattle.dwc_base.proofs.CarriedSmall as Base
-use Rattle.dwc_base.proofs.CarriedSmall.{module_small, unit_small, compilation_small, output_small}
+use Rattle.dwc_base.proofs.CarriedSmall.{module_small, unit_small, unit_out, compilation_small, image_small, image-small}
+use Rattle.dwc_base.proofs.FieldCases.{each-behind}
+use Rattle.dwc_base.proofs.SimulatedInputs.{named_small}
 use Rattle.dwc_base.specs.declared.records.Endian.TheVariants.{Little}
 use Rattle.dwc_base.specs.declared.section_name.SectionName.{SectionName}
 use Rattle.dwc_base.specs.declared.section_name.SectionName.TheVariants.{Abbrev, Addr, Info, Line, LineStr, Loc, Loclists, Ranges, Rnglists, Str, StrOffsets, CuIndex, Frame}
-use Rattle.dwc_base.specs.Compiled.{LabelRange, LinkageNames, Memory, no_memory, ToldModule}
+use Rattle.dwc_base.specs.Sections.{Sections}
+use Rattle.dwc_base.specs.CallFrames.{FrameDescription}
+use Rattle.dwc_base.specs.Compiled.{LabelRange, LinkageNames, Memory, no_memory, ToldModule, frames_from}
 use Rattle.dwc_base.specs.Functions.{AddressMap, Function}
-use Rattle.dwc_base.specs.Carried.{Unit}
+use Rattle.dwc_base.specs.Carried.{Unit, Compilation, units, segments_of_unit}
+use Rattle.dwc_base.specs.Fields.{fields_at, fields_of_entry, fields_of_instructions, fields_of_line_table, fields_of_named, fields_of_section, relocations_of_fields, IsRelocated, AreRelocated}
 use Rattle.dwc_base.specs.Forests.{carried_units, first_refusal, trees_made}
-use Rattle.dwc_base.specs.LinesCarried.{LinesCarried}
+use Rattle.dwc_base.specs.LinesCarried.{CarriesUnit, LinesCarried}
+use Rattle.dwc_base.specs.OutputForm.{HaveTargetForm}
+use Rattle.dwc_base.specs.Outputs.{OutputRelocation, output_sections}
 use Rattle.dwc_base.specs.Refusals.{Refusal, missing_file}
 use Rattle.dwc_base.specs.TreeLaws.{have_short_expressions}
+use Rattle.dwc_base.specs.TreeReading.{ranges_read}
 use Rattle.dwc_base.specs.OutputCarried.{OutputCarried, widest}
-use Rattle.dwc_base.proofs.TreesSmall.{trees_small, forest-small, carries-small as trees_carried-small}
-use Rattle.dwc_base.proofs.OutputSmall.{form-small, names-small, targets-small, scopes-small, locations-small, contexts-small, texts-small}
-use Rattle.dwc_base.proofs.FieldCases.{related-small}
+use Rattle.dwc_base.proofs.OutputSmall.{HasForm, scopes-small, locations-small, contexts-small}
 use Rattle.dwc_cli.specs.MapFile.{MapFunction}
 use Rattle.dwc_cli.specs.Inputs.{Input, Loaded, loaded, compilation_of, ranges_of, told_of}
 use Rattle.dwc_cli.proofs.OnLiterals.{map_on_literals}
 use Rattle.dwc_cli.specs.Printed.{printed}
 use Rattle.dwc_cli.specs.RunStatus.{Carries}
 use Rattle.dwc_cli.proofs.Examples.{map_bytes_small, map_small}
+use Rattle.dwc_cli.proofs.OutputParts.{all-from, names-from, no_section}
+use Rattle.dwc_cli.proofs.WholeOutput.{output_whole, trees_whole}
 
 unfoldable pub whole_on_literals : ℕ
 unfolding functions_on_literals names_on_literals drafts_on_literals files_on_literals map_on_literals loaded
@@ -66,8 +74,8 @@ carried-small : carried_of (loaded input_small) ≡ unit_small ∷ []
 unfolding whole_on_literals
 carried-small = refl
 
--- the small module's sections are 96, 118, 61, 16 and 116 bytes long; in the first two its own unit stands in front
-widths-small : widths_of (loaded input_small) ≡ (698 + 253) ∷ (176 + 95) ∷ 271 ∷ 116 ∷ []
+-- the sections of its output are 125, 181, 101 and 142 bytes long
+widths-small : widths_of (loaded input_small) ≡ 1526 ∷ 388 ∷ 338 ∷ 142 ∷ []
 unfolding whole_on_literals
 widths-small = refl
 
@@ -82,13 +90,13 @@ read_small = read_in (loaded input_small)
 -- ---- what is told of modules of one function whose map has no labels and no registers
 
 -- such a function
-abbrev bare_function : AddressMap → MapFunction
-bare_function a = record { address_map = a; labels = finite.empty; frame = None }
+abbrev bare_function : AddressMap → Option FrameDescription → MapFunction
+bare_function a frame = record { address_map = a; labels = finite.empty; frame = frame }
 
 -- no value lies anywhere
-nowhere : (a : AddressMap) (place label : ℕ) → unwrap_or (slice_get (ranges_of (bare_function a) ∷ []) place) (λ label. []) label ≡ []
-nowhere a zero label = ap (λ ranges. unwrap_or ranges []) (get-empty nat_cmp label)
-nowhere a (suc place) label = refl
+nowhere : (a : AddressMap) (frame : Option FrameDescription) (place label : ℕ) → unwrap_or (slice_get (ranges_of (bare_function a frame) ∷ []) place) (λ label. []) label ≡ []
+nowhere a frame zero label = ap (λ ranges. unwrap_or ranges []) (get-empty nat_cmp label)
+nowhere a frame (suc place) label = refl
 
 -- and none has a label
 no_labels : finite.entries (finite.empty {K = ℕ} {X = List LabelRange} {R = nat_cmp}) ≡ []
@@ -98,37 +106,56 @@ no_labels = none_in _ (sym (len-entries (finite.empty {K = ℕ} {X = List LabelR
     none_in [] e = refl
     none_in (x ∷ es) e = absurd (omega (arith, e))
 
-unlabelled : (a : AddressMap) (place : ℕ) → unwrap_or (slice_get (finite.keys (bare_function a).labels ∷ []) place) [] ≡ []
-unlabelled a zero = ap (map (λ (e : ℕ × List LabelRange). e.0)) no_labels
-unlabelled a (suc place) = refl
+unlabelled : (a : AddressMap) (frame : Option FrameDescription) (place : ℕ) → unwrap_or (slice_get (finite.keys (bare_function a frame).labels ∷ []) place) [] ≡ []
+unlabelled a frame zero = ap (map (λ (e : ℕ × List LabelRange). e.0)) no_labels
+unlabelled a frame (suc place) = refl
 
--- and of none is told how it unwinds
-unframed : (a : AddressMap) (place : ℕ) → unwrap_or (slice_get ((bare_function a).frame ∷ []) place) None ≡ None
+-- and of one may be told how it unwinds
+unframed : (a : AddressMap) (place : ℕ) → unwrap_or (slice_get ((bare_function a None).frame ∷ []) place) None ≡ None
 unframed a zero = refl
 unframed a (suc place) = refl
 
--- so much is told of the module at a place, whose function has a number
-abbrev pub told_bare : LinkageNames → ℕ → Memory → ToldModule
-told_bare names place memory = record { place = place; values = λ function label. []; labels = λ function. []; frames = λ function. None; memory = memory; register = λ r. None; names = names }
+-- so much is told of the module at a place, with the frames of its functions
+abbrev pub told_framed : LinkageNames → ℕ → Memory → (ℕ → Option FrameDescription) → ToldModule
+told_framed names place memory frames = record { place = place; values = λ function label. []; labels = λ function. []; frames = frames; memory = memory; register = λ r. None; names = names }
 
-pub told-bare : (names : LinkageNames) (place number : ℕ) (a : AddressMap) (memory : Memory) → told_of finite.empty names place number (record { functions = bare_function a ∷ []; memory = memory }) ≡ told_bare names place memory
-told-bare names place number a memory = λ i. record {
+-- where the function of the module has a number
+pub told-framed : (names : LinkageNames) (place number : ℕ) (a : AddressMap) (frame : Option FrameDescription) (memory : Memory) (path : Option (List ℕ))
+    → told_of finite.empty names place number (record { functions = bare_function a frame ∷ []; memory = memory; path = path }) ≡ told_framed names place memory (frames_from number (frame ∷ []))
+told-framed names place number a frame memory path = λ i. record {
   place = place;
-  values = λ function label. nowhere a (function - number) label i;
-  labels = λ function. unlabelled a (function - number) i;
-  frames = λ function. unframed a (function - number) i;
+  values = λ function label. nowhere a frame (function - number) label i;
+  labels = λ function. unlabelled a frame (function - number) i;
+  frames = frames_from number (frame ∷ []);
   memory = memory;
   register = λ r. get-empty nat_cmp r i;
   names = names;
 }
 
--- ---- the small input is the small compilation
+-- and where none is told
+abbrev pub told_bare : LinkageNames → ℕ → Memory → ToldModule
+told_bare names place memory = told_framed names place memory (λ function. None)
+
+pub told-bare : (names : LinkageNames) (place number : ℕ) (a : AddressMap) (memory : Memory) (path : Option (List ℕ)) → told_of finite.empty names place number (record { functions = bare_function a None ∷ []; memory = memory; path = path }) ≡ told_bare names place memory
+told-bare names place number a memory path = told-framed names place number a None memory path ∙ ap (told_framed names place memory) (λ i function. unframed a (function - number) i)
+
+-- the compilation of what was read of one module, with what is told of that
+abbrev pub one_told : Loaded → ToldModule → Compilation
+one_told read told = record (compilation_of read) { modules = record (get_or (compilation_of read).modules 0 module_small) { told = told } ∷ [] }
+
+-- ---- the small input is the small compilation, with a path
 
 abbrev pub runtime_names : LinkageNames
 runtime_names = record { set_memory = codes "set_mem"; resolve_memory = codes "resolve_mem" }
 
-abbrev address_map_small : AddressMap
+abbrev pub path_small : List ℕ
+path_small = codes "/m/g.wasm"
+
+abbrev pub address_map_small : AddressMap
 address_map_small = record { symbol = Some 0; start = Some 22; end = Some 33; body_offset = 0; body_len = 30; entries = (5, Some 25) ∷ (8, None) ∷ (15, Some 30) ∷ (23, None) ∷ [] }
+
+abbrev pub compilation_whole : Compilation
+compilation_whole = record compilation_small { modules = named_small module_small ∷ [] }
 
 bytes-small : (name : SectionName) → (get_or (compilation_of read_small).modules 0 module_small).sections.bytes name ≡ sections_small.bytes name
 unfolding whole_on_literals
@@ -146,7 +173,7 @@ bytes-small StrOffsets = refl
 bytes-small CuIndex = refl
 bytes-small Frame = refl
 
-pub compilation-small : compilation_of read_small ≡ compilation_small
+pub compilation-small : compilation_of read_small ≡ compilation_whole
 unfolding whole_on_literals
 compilation-small = λ i. record {
   order = Little;
@@ -155,8 +182,8 @@ compilation-small = λ i. record {
       record {
         sections = record { order = Little; bytes = λ name. bytes-small name i; relocations = λ name. [] };
         functions = function_small ∷ [];
-        told = told-bare runtime_names 0 0 address_map_small no_memory i;
-        file = file_small_told;
+        told = told-bare runtime_names 0 0 address_map_small no_memory (Some path_small) i;
+        file = record file_small_told { path = Some path_small };
         compressed = None;
       } ∷ [];
   next_id = 0;
@@ -165,14 +192,14 @@ compilation-small = λ i. record {
 
 -- ---- nothing of it is refused, and nothing is too large
 
-none-refused : first_refusal compilation_small ≡ None
+none-refused : first_refusal compilation_whole ≡ None
 unfolding whole_on_literals
 none-refused = refl
 
 pub accepted-small : first_refusal (compilation_of read_small) ≡ None
 accepted-small = ap first_refusal compilation-small ∙ none-refused
 
-all-short : have_short_expressions (trees_made compilation_small) ≡ true
+all-short : have_short_expressions (trees_made compilation_whole) ≡ true
 unfolding whole_on_literals
 all-short = refl
 
@@ -180,7 +207,7 @@ pub short-small : have_short_expressions (trees_made (compilation_of read_small)
 short-small = ap (λ c. have_short_expressions (trees_made c)) compilation-small ∙ all-short
 
 -- no section of it can be long
-all-narrow : (name : SectionName) → widest name compilation_small < 2 ^ 31
+all-narrow : (name : SectionName) → widest name compilation_whole < 2 ^ 31
 unfolding whole_on_literals
 all-narrow Abbrev = lit< tt
 all-narrow Addr = lit< tt
@@ -199,32 +226,100 @@ all-narrow Frame = lit< tt
 pub narrow-small : (name : SectionName) → widest name (compilation_of read_small) < 2 ^ 31
 narrow-small name = subst (λ c. widest name c < 2 ^ 31) (sym compilation-small) (all-narrow name)
 
--- ---- the wanted output carries it whole
+-- ---- the lines of the wanted output
 
-pub lines_carried-small : LinesCarried (compilation_of read_small) output_small
-lines_carried-small = subst (λ c. LinesCarried c output_small) (sym compilation-small) Base.lines_carried-small
+pub all-read : All (λ m. (units m.sections).fault ≡ None) compilation_whole.modules
+unfolding whole_on_literals
+all-read zero d h = refl
+all-read (suc k) d h = absurd (omega arith)
 
-carried_whole : OutputCarried compilation_small output_small
+-- the images of the small unit's segments
+pub carries_small : (output : Sections) → segments_of_unit output unit_out ≡ Ok (image_small ∷ []) → CarriesUnit output (record { module_of = named_small module_small; unit = unit_small }) unit_out
+carries_small output read = record { images = image_small ∷ []; images_read = read; carried = record { input = segments_small; input_read = Base.input-read; each = ((function_small, refl, image-small), tt) } }
+
+lines_whole : LinesCarried compilation_whole output_whole
+unfolding whole_on_literals
+lines_whole = record {
+  whole = all-read;
+  output = (units (output_sections Little output_whole)).items;
+  output_read = refl;
+  each = (refl, (carries_small (output_sections Little output_whole) refl, (record { segments = []; segments_read = refl; each = tt }, tt)));
+}
+
+pub lines_carried-small : LinesCarried (compilation_of read_small) output_whole
+lines_carried-small = subst (λ c. LinesCarried c output_whole) (sym compilation-small) lines_whole
+
+-- ---- its form
+
+form-whole : HaveTargetForm 8 (units (output_sections Little output_whole)).items
+unfolding whole_on_literals
+form-whole = all-from HasForm (units (output_sections Little output_whole)).items ((refl, refl), ((refl, refl), ((refl, refl), tt)))
+
+abbrev relocations_at : ℕ → List OutputRelocation
+relocations_at place = (get_or output_whole place no_section).relocations
+
+relocated-info : relocations_of_fields (fields_of_section (output_sections Little output_whole) Info) ≡ relocations_at 1
+unfolding whole_on_literals fields_of_section fields_at fields_of_entry
+relocated-info = refl
+
+relocated-line : relocations_of_fields (fields_of_section (output_sections Little output_whole) Line) ≡ relocations_at 2
+unfolding whole_on_literals fields_of_section fields_of_line_table fields_of_instructions
+relocated-line = refl
+
+relocated-ranges : relocations_of_fields (fields_of_section (output_sections Little output_whole) Ranges) ≡ []
+unfolding whole_on_literals fields_of_section fields_of_named
+relocated-ranges = refl
+
+relocated-loc : relocations_of_fields (fields_of_section (output_sections Little output_whole) Loc) ≡ []
+unfolding whole_on_literals fields_of_section fields_of_named
+relocated-loc = refl
+
+related-whole : AreRelocated Little output_whole
+unfolding fields_of_section
+related-whole = all-from (IsRelocated (output_sections Little output_whole)) output_whole (
+  record { name = Abbrev; named = refl; fields = refl; rising = each-behind 0 [] refl },
+  (
+    record { name = Info; named = refl; fields = sym relocated-info; rising = each-behind 0 (relocations_at 1) refl },
+    (
+      record { name = Line; named = refl; fields = sym relocated-line; rising = each-behind 0 (relocations_at 2) refl },
+      (
+        record { name = Ranges; named = refl; fields = sym relocated-ranges; rising = each-behind 0 [] refl },
+        (
+          record { name = Loc; named = refl; fields = sym relocated-loc; rising = each-behind 0 [] refl },
+          (
+            record { name = Str; named = refl; fields = refl; rising = each-behind 0 [] refl },
+            tt,
+          ),
+        ),
+      ),
+    ),
+  ),
+)
+
+-- ---- it carries the small input whole
+
+carried_whole : OutputCarried compilation_whole output_whole
+unfolding whole_on_literals ranges_read
 carried_whole = record {
-  lines = Base.lines_carried-small;
-  wanted = trees_small;
-  is_forest = forest-small;
-  trees = trees_carried-small;
-  targets = targets-small;
-  scopes = scopes-small;
-  locations = locations-small;
-  contexts = contexts-small;
-  texts = texts-small;
-  form = form-small;
-  names = names-small;
-  relocated = related-small;
+  lines = lines_whole;
+  wanted = trees_whole;
+  is_forest = refl;
+  trees = refl;
+  targets = refl;
+  scopes = (tt, (scopes-small.1.0, (tt, tt)));
+  locations = (tt, (locations-small.1.0, (tt, tt)));
+  contexts = (tt, (contexts-small.1.0, (tt, tt)));
+  texts = refl;
+  form = form-whole;
+  names = names-from output_whole refl;
+  relocated = related-whole;
   frames = refl;
 }
 
-pub output_carried-small : OutputCarried (compilation_of read_small) output_small
-output_carried-small = subst (λ c. OutputCarried c output_small) (sym compilation-small) carried_whole
+pub output_carried-small : OutputCarried (compilation_of read_small) output_whole
+output_carried-small = subst (λ c. OutputCarried c output_whole) (sym compilation-small) carried_whole
 
 -- the text of the wanted output is an answer with status 0
-pub carries-small : Carries input_small (Some []) (Some (printed output_small))
+pub carries-small : Carries input_small (Some []) (Some (printed output_whole))
 unfolding whole_on_literals
-carries-small = record { read = read_small; is_read = refl; accepted = accepted-small; sections = output_small; plain = refl; carried = output_carried-small; short = short-small; written = refl }
+carries-small = record { read = read_small; is_read = refl; accepted = accepted-small; sections = output_whole; plain = refl; carried = output_carried-small; short = short-small; written = refl }

@@ -102,7 +102,7 @@ abbrev pub reading_statuses : List ℕ
 reading_statuses = 3 ∷ 4 ∷ 9 ∷ []
 
 abbrev pub text_statuses : List ℕ
-text_statuses = 5 ∷ 6 ∷ 9 ∷ 10 ∷ 11 ∷ 12 ∷ 13 ∷ 14 ∷ 15 ∷ 16 ∷ 17 ∷ 18 ∷ 20 ∷ 21 ∷ []
+text_statuses = 5 ∷ 6 ∷ 9 ∷ 10 ∷ 11 ∷ 12 ∷ 13 ∷ 14 ∷ 15 ∷ 16 ∷ 17 ∷ 18 ∷ 19 ∷ 20 ∷ 21 ∷ []
 
 abbrev pub IsReadingStatus : ℕ → Type 0
 IsReadingStatus status = IsOneOf reading_statuses status

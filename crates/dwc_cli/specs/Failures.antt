@@ -32,6 +32,7 @@ status_code statuses.InvalidAttributeValue = 15
 status_code statuses.UnmappedRegister = 16
 status_code statuses.InvalidFrameCodeOffset = 17
 status_code statuses.InvalidFrameDataOffset = 18
+status_code statuses.Path = 19
 status_code statuses.TooLarge = 20
 status_code statuses.SharedSymbol = 21
 

@@ -33,17 +33,19 @@ pub record MapFunction : Type 0 where
   pub labels : LabelledRanges
   pub frame : Option FrameDescription
 
--- a module of the map: its functions, and its linear memory
+-- a module of the map: its functions, its linear memory, and the path of its file
 pub record MapModule : Type 0 where
   pub functions : List MapFunction
   pub memory : Memory
+  pub path : Option (List ℕ)
 
--- the value of a map: the target, the names of two symbols, and the modules
+-- the value of a map: the target, the names of two symbols, the modules, and the number of the next name that is made up
 pub record MapFile : Type 0 where
   pub target : Target
   pub set_memory : List ℕ
   pub resolve_memory : List ℕ
   pub modules : List MapModule
+  pub next_id : ℕ
 
 -- ---- objects
 
@@ -128,13 +130,18 @@ unfoldable pub memory_of : Data → Option Memory
 memory_of null = Some no_memory
 memory_of d = members_of d >>= λ ms. memory_by (get_member (codes "defined") ms) (get_member (codes "imported") ms)
 
--- a module with its functions and its memory
+-- the path of a file, a text
+abbrev pub path_of : Data → Option (Option (List ℕ))
+path_of d = option_map Some (text_of d)
+
+-- a module with its functions, its memory and the path of its file
 unfoldable pub map_module_of : Data → Option MapModule
 map_module_of d = do
   ms ← members_of d
   functions ← required (codes "functions") (list_of map_function_of) ms
   memory ← with_default (codes "memory") no_memory memory_of ms
-  Some (record { functions = functions; memory = memory })
+  path ← with_default (codes "path") None path_of ms
+  Some (record { functions = functions; memory = memory; path = path })
 
 -- whether each module has as many functions as are defined in it
 abbrev pub have_counts : List ℕ → List MapModule → Bool
@@ -154,7 +161,8 @@ map_value defined d = do
   target ← required (codes "target") target_of ms
   names ← required (codes "names") (pair_of text_of text_of) ms
   modules ← required (codes "modules") (list_of map_module_of) ms
-  only_if (have_counts defined modules && is_countable modules) (record { target = target; set_memory = names.0; resolve_memory = names.1; modules = modules })
+  next_id ← with_default (codes "next_id") 0 u32_of ms
+  only_if (have_counts defined modules && is_countable modules) (record { target = target; set_memory = names.0; resolve_memory = names.1; modules = modules; next_id = next_id })
 
 -- The map that some bytes are: they are UTF-8, a JSON text with at most 127 levels, and its value is a map.
 unfoldable pub map_of_bytes : List ℕ → List ℕ → Option MapFile

@@ -1,5 +1,5 @@
 -- The program's own map file, seen as the value of a map.
-use Rattle.std.specs.Prelude.{◌≡◌, ℕ, List, map, string_bytes, Option, Some, None, option_map, option_and_then, Vec}
+use Rattle.std.specs.Prelude.{◌≡◌, ℕ, List, map, String, string_bytes, Option, Some, None, option_map, option_and_then, Vec}
 use Rattle.std.specs.Global.{Global}
 use Rattle.std.specs.FinMap as finite
 use Rattle.serde_json.specs.declared.value.Value.{Value}
@@ -92,8 +92,12 @@ function_with f =
 abbrev pub function_view : Option SymbolId × CompiledFunctionMetadata → value.MapFunction
 function_view f = record { address_map = address_map_view f; labels = (f.1).value_labels_ranges; frame = description_of_metadata f.1 }
 
+-- the path of a file, if it is told
+abbrev pub path_view : Option (String Global) → Option (List ℕ)
+path_view path = option_map string_bytes path
+
 abbrev pub module_view : MapModule → value.MapModule
-module_view m = record { functions = map function_view m.functions.items; memory = memory_view m.memory }
+module_view m = record { functions = map function_view m.functions.items; memory = memory_view m.memory; path = path_view m.path }
 
 -- the sources of a function's begin and end, as its record tells them beside its address map, and as the address map does
 abbrev pub told_sources : Option SymbolId × CompiledFunctionMetadata → Option ℕ × Option ℕ
@@ -120,4 +124,5 @@ map_file_view m = record {
   set_memory = string_bytes m.names.set;
   resolve_memory = string_bytes m.names.resolve;
   modules = map module_view m.modules.items;
+  next_id = m.next_id;
 }

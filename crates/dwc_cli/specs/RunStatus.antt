@@ -8,7 +8,7 @@ use Rattle.dwc_base.specs.declared.section_name.SectionName.{SectionName}
 use Rattle.dwc_base.specs.Sections.{unreadable, unsupported}
 use Rattle.dwc_base.specs.Wasm.{WasmModule}
 use Rattle.dwc_base.specs.Outputs.{OutputSection}
-use Rattle.dwc_base.specs.Refusals.{Refusal, of_place, missing_file, long_function, long_range, bad_label, lacks_memory, unmapped_register, long_jump, far_memory, of_frame}
+use Rattle.dwc_base.specs.Refusals.{Refusal, of_place, missing_file, long_function, long_range, bad_label, lacks_memory, unmapped_register, long_jump, far_memory, bad_path, of_frame}
 use Rattle.dwc_base.specs.FrameRefusals.{bad_code_offset, bad_data_offset}
 use Rattle.dwc_base.specs.Carried.{Compilation}
 use Rattle.dwc_base.specs.Forests.{first_refusal, trees_made}
@@ -130,8 +130,8 @@ pub record AddressMapCause (read : Loaded) (status : ℕ) : Type 0 where
 
 -- the status of a refusal: of a place that is outside the grammar, of one of a refused kind, of a missing file, of a function that is too
 -- long, of a range that ends at no address; and of an expression: of a label with a range that begins above its end, of a module that lacks
--- a memory, of a register without a number, and of a jump that goes too far; of a memory too far behind in its context; and of the frame
--- description of a function, for its code offsets or for a factored offset
+-- a memory, of a register without a number, and of a jump that goes too far; of a memory too far behind in its context; of a path of the
+-- last unit that names no file; and of the frame description of a function, for its code offsets or for a factored offset
 abbrev pub refusal_status : Refusal → ℕ
 refusal_status (of_place (unreadable what section offset)) = 10
 refusal_status (of_place (unsupported kind offset)) = 11
@@ -143,12 +143,13 @@ refusal_status (lacks_memory m) = 15
 refusal_status (unmapped_register register) = 16
 refusal_status long_jump = 20
 refusal_status far_memory = 20
+refusal_status bad_path = 19
 refusal_status (of_frame (bad_code_offset f)) = 17
 refusal_status (of_frame (bad_data_offset f)) = 18
 
 -- the statuses of what is refused in reading, but for 20
 abbrev pub refusal_statuses : List ℕ
-refusal_statuses = 10 ∷ 11 ∷ 12 ∷ 14 ∷ 15 ∷ 16 ∷ 17 ∷ 18 ∷ []
+refusal_statuses = 10 ∷ 11 ∷ 12 ∷ 14 ∷ 15 ∷ 16 ∷ 17 ∷ 18 ∷ 19 ∷ []
 
 -- These: exactly where the first refusal in the order of reading is of that kind, but for what comes earlier.
 pub record RefusalCause (read : Loaded) (status : ℕ) : Type 0 where
@@ -185,7 +186,7 @@ InputCauses files words status = (input : Input) → Names files words input →
 
 -- a run answers one of these
 abbrev pub run_statuses : List ℕ
-run_statuses = 0 ∷ 2 ∷ 3 ∷ 4 ∷ 5 ∷ 6 ∷ 8 ∷ 9 ∷ 10 ∷ 11 ∷ 12 ∷ 13 ∷ 14 ∷ 15 ∷ 16 ∷ 17 ∷ 18 ∷ 20 ∷ 21 ∷ []
+run_statuses = 0 ∷ 2 ∷ 3 ∷ 4 ∷ 5 ∷ 6 ∷ 8 ∷ 9 ∷ 10 ∷ 11 ∷ 12 ∷ 13 ∷ 14 ∷ 15 ∷ 16 ∷ 17 ∷ 18 ∷ 19 ∷ 20 ∷ 21 ∷ []
 
 -- and nothing else
 abbrev pub IsStatus : ℕ → Type 0

@@ -25,7 +25,7 @@ pub(crate) fn text_of(alloc: Global, files: InputFiles) -> Result<Vec<u8>, Failu
     let Some(map_file) = map_of_json(alloc, json, &translations)? else {
         return Err(Failure::MalformedMap);
     };
-    let sections = emitted(alloc, map_file, &translations)?;
+    let sections = emitted(alloc, map_file, translations)?;
     Ok(printed(alloc, &sections)?)
 }
 

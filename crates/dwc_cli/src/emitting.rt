@@ -1,14 +1,16 @@
 //! The sections of DWARF for the functions of a map.
-ghost use Rattle.std.specs.Prelude.{◌≡◌, ◌⊎◌, true, map, option_map, if◌then◌else◌, IfOk, string_bytes};
+ghost use Rattle.std.specs.Prelude.{◌≡◌, ◌⊎◌, true, map, length, option_map, if◌then◌else◌, IfOk, All, string_bytes};
 ghost use Rattle.dwc_base.specs.declared.records.Endian.TheVariants.{Little, Big};
 ghost use Rattle.dwc_base.specs.CallFrames.{is_sound_if};
+ghost use Rattle.dwc_base.specs.TranslationNames.{HasSortedNames};
 ghost use Rattle.dwc_clif.specs.CallFrames.{cie_view};
 ghost use Rattle.dwc_clif.specs.Registers.{registers_of};
 ghost use Rattle.dwc_addr.specs.Compilations.{lists, IsCounted, AreNames};
 ghost use Rattle.dwc_carry.specs.Emits as emitting;
 ghost use Rattle.dwc_cli.specs.Inputs.{Loaded};
 ghost use Rattle.dwc_cli.specs.MapFile.{IsMapFor};
-ghost use Rattle.dwc_cli.specs.MapViews.{map_file_view, linkage_names};
+ghost use Rattle.dwc_cli.specs.MapViews.{path_view, map_file_view, linkage_names};
+ghost use Rattle.dwc_cli.specs.ToldPaths.{HavePaths};
 ghost use Rattle.dwc_cli.specs.Answers.{IsReadAs, Emits};
 ghost use Rattle.dwc_cli.specs.Compiled.{IsCompiled};
 
@@ -31,26 +33,61 @@ const TUNABLES: Tunables = Tunables {
 pub(crate) fn emitted(
     alloc: Global,
     map_file: MapFile,
-    translations: &[ModuleTranslation<'_>],
+    translations: Vec<ModuleTranslation<'_>>,
 ) -> Result<Vec<DwarfSection>, Failure<'static>>
-    requires { IsMapFor (map (λ t. t.defined_funcs) translations.now) (map_file_view map_file) }
-    ensures { (read : Loaded) → IsReadAs translations.now map_file read → Emits read result }
+    requires fits { IsMapFor (map (λ t. t.defined_funcs) translations.items) (map_file_view map_file) }
+    requires sorted { All HasSortedNames translations.items }
+    ensures { (read : Loaded) → IsReadAs translations.entry.items map_file read → Emits read result }
 {
     let MapFile {
         target,
         names,
         modules,
+        next_id,
     } = map_file;
-    let memory_offsets = memories_of(alloc, &modules)?;
-    let functions = functions_of(alloc, modules)?;
+    let ModuleParts {
+        functions,
+        memory_offsets,
+        paths,
+    } = parts_of(alloc, modules)?;
+    let translations = with_paths(translations, &paths);
+    emitted_at(
+        alloc,
+        target,
+        &translations,
+        &functions,
+        &names,
+        memory_offsets,
+        u64::from(next_id),
+    )
+}
+
+// The sections of DWARF of modules for a target, for the functions that are compiled from them.
+fn emitted_at(
+    alloc: Global,
+    target: Target,
+    translations: &[ModuleTranslation<'_>],
+    functions: &[Vec<(Option<SymbolId>, CompiledFunctionMetadata)>],
+    names: &Names,
+    memory_offsets: Vec<ModuleMemoryOffset>,
+    next_id: u64,
+) -> Result<Vec<DwarfSection>, Failure<'static>>
+    requires size { (target.pointer_bytes ≡ 4) ⊎ (target.pointer_bytes ≡ 8) }
+    requires sound { is_sound_if (option_map cie_view target.cie) ≡ true }
+    requires counted { IsCounted translations.now (lists functions.now) memory_offsets.items }
+    requires names { AreNames (string_bytes names.now.set) (string_bytes names.now.resolve) }
+    requires sorted { All HasSortedNames translations.now }
+    ensures { (read : Loaded) → IsCompiled (if target.big_endian then Big else Little) target.pointer_bytes (registers_of target.registers.items) (option_map cie_view target.cie) (linkage_names names.now) translations.now (lists functions.now) memory_offsets.items next_id read → Emits read result }
+{
     let isa = table_of(alloc, target)?;
     compiled(
         alloc,
         &isa,
         translations,
-        &functions,
-        &names,
+        functions,
+        names,
         memory_offsets,
+        next_id,
     )
 }
 
@@ -62,10 +99,12 @@ fn compiled<'a>(
     functions: &'a [Vec<(Option<SymbolId>, CompiledFunctionMetadata)>],
     names: &'a Names,
     memory_offsets: Vec<ModuleMemoryOffset>,
+    next_id: u64,
 ) -> Result<Vec<DwarfSection>, Failure<'static>>
     requires counted { IsCounted translations.now (lists functions.now) memory_offsets.items }
     requires names { AreNames (string_bytes names.now.set) (string_bytes names.now.resolve) }
-    ensures { (read : Loaded) → IsCompiled isa.now.order isa.now.pointer_bytes isa.now.registers isa.now.common_entry (linkage_names names.now) translations.now (lists functions.now) memory_offsets.items read → Emits read result }
+    requires sorted { All HasSortedNames translations.now }
+    ensures { (read : Loaded) → IsCompiled isa.now.order isa.now.pointer_bytes isa.now.registers isa.now.common_entry (linkage_names names.now) translations.now (lists functions.now) memory_offsets.items next_id read → Emits read result }
 {
     let names = LinkageNames {
         set_memory: &names.set,
@@ -80,7 +119,7 @@ fn compiled<'a>(
         &TUNABLES,
         memory_offsets,
         names,
-        0,
+        next_id,
     )?;
     Ok(emitted_for(alloc, isa, &mut compilation)?)
 }
@@ -96,18 +135,56 @@ fn emitted_for(
     emit_dwarf(alloc, isa, compilation)
 }
 
-// The functions of some modules of a map, module by module.
-fn functions_of(
-    alloc: Global,
-    modules: Vec<MapModule>,
-) -> Result<Vec<Vec<(Option<SymbolId>, CompiledFunctionMetadata)>>, AllocError>
-    ensures { IfOk result (λ functions. lists functions.items ≡ map (λ m. m.functions.items) modules.items) }
+// What a map tells of its modules, module by module.
+#[derive(Drop)]
+struct ModuleParts {
+    functions: Vec<Vec<(Option<SymbolId>, CompiledFunctionMetadata)>>,
+    memory_offsets: Vec<ModuleMemoryOffset>,
+    // The paths of their files, where they are told.
+    paths: Vec<Option<String>>,
+}
+
+// The functions, the memories and the paths of some modules of a map.
+fn parts_of(alloc: Global, modules: Vec<MapModule>) -> Result<ModuleParts, AllocError>
+    ensures functions { IfOk result (λ parts. lists parts.functions.items ≡ map (λ m. m.functions.items) modules.items) }
+    ensures memories { IfOk result (λ parts. parts.memory_offsets.items ≡ map (λ m. m.memory) modules.items) }
+    ensures paths { IfOk result (λ parts. parts.paths.items ≡ map (λ m. m.path) modules.items) }
 {
     let mut functions = Vec::with_capacity(alloc, modules.len())?;
+    let mut memory_offsets = Vec::with_capacity(alloc, modules.len())?;
+    let mut paths = Vec::with_capacity(alloc, modules.len())?;
     for module in modules {
         functions.push(module.functions)?;
+        memory_offsets.push(module.memory)?;
+        paths.push(module.path)?;
     }
-    Ok(functions)
+    Ok(ModuleParts {
+        functions,
+        memory_offsets,
+        paths,
+    })
+}
+
+// Translations with the paths of their files, of which there are as many.
+fn with_paths<'d>(
+    mut translations: Vec<ModuleTranslation<'d>>,
+    paths: &'d [Option<String>],
+) -> Vec<ModuleTranslation<'d>>
+    requires { length translations.items ≡ length paths.now }
+    ensures { HavePaths translations.entry.items (map path_view paths.now) result.items }
+{
+    set_paths(&mut translations, paths);
+    translations
+}
+
+// Sets the path of the file in each translation.
+fn set_paths<'d>(translations: &mut [ModuleTranslation<'d>], paths: &'d [Option<String>])
+    requires { length translations.old ≡ length paths.now }
+    ensures { HavePaths translations.old (map path_view paths.now) translations.new }
+{
+    for i in 0..paths.len() {
+        translations[i].path = paths[i].as_deref();
+    }
 }
 
 // The target of a map.
@@ -133,15 +210,4 @@ fn table_of(alloc: Global, target: Target) -> Result<TableIsa, AllocError>
         target.registers,
         target.cie,
     )
-}
-
-// Where the memories of some modules of a map are found, module by module.
-fn memories_of(alloc: Global, modules: &[MapModule]) -> Result<Vec<ModuleMemoryOffset>, AllocError>
-    ensures { IfOk result (λ offsets. offsets.items ≡ map (λ m. m.memory) modules.now) }
-{
-    let mut offsets = Vec::with_capacity(alloc, modules.len())?;
-    for module in modules {
-        offsets.push(module.memory)?;
-    }
-    Ok(offsets)
 }

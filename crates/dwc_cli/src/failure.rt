@@ -99,6 +99,7 @@ impl From<DebugError> for Failure<'_> {
             DebugError::BadLabelRange { .. } => Status::BadLabelRange,
             DebugError::InvalidAttributeValue { .. } => Status::InvalidAttributeValue,
             DebugError::UnmappedRegister { .. } => Status::UnmappedRegister,
+            DebugError::Path => Status::Path,
             DebugError::InvalidFrameCodeOffset { .. } => Status::InvalidFrameCodeOffset,
             DebugError::InvalidFrameDataOffset { .. } => Status::InvalidFrameDataOffset,
             DebugError::TooLarge { .. } => Status::TooLarge,

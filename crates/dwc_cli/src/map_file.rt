@@ -1,10 +1,10 @@
 //! The map file: what a code generator tells of the functions that it compiled, as a JSON object.
-ghost use Rattle.std.specs.Prelude.{ℕ, List, ◌≡◌, ◌&&◌, map, option_map, option_and_then, IfOk, IfSome, Some, None};
+ghost use Rattle.std.specs.Prelude.{ℕ, List, ◌≡◌, map, option_map, option_and_then, IfOk, IfSome, Some, None};
 ghost use Rattle.serde_json.specs.View.{view, items_view};
 ghost use Rattle.dwc_clif.specs.AddressMaps.{entry_view};
-ghost use Rattle.dwc_cli.specs.MapFile.{target_of, map_function_of, map_module_of, map_value, map_of_bytes, have_counts, is_countable, IsMapFor};
-ghost use Rattle.dwc_cli.specs.MapValues.{text_of, u32_of, source_of, pair_of, all_items, list_of};
-ghost use Rattle.dwc_cli.specs.MapViews.{IsJsonOf, target_with, target_view, names_view, function_with, function_view, module_view, map_file_view, told_sources, mapped_sources, HaveOneSource, ModulesHaveOneSource};
+ghost use Rattle.dwc_cli.specs.MapFile.{target_of, map_function_of, path_of, map_module_of, map_value, map_of_bytes, have_counts, is_countable, IsMapFor};
+ghost use Rattle.dwc_cli.specs.MapValues.{text_of, u32_of, source_of, pair_of, all_items, value_or};
+ghost use Rattle.dwc_cli.specs.MapViews.{IsJsonOf, path_view, target_with, target_view, names_view, function_with, function_view, module_view, map_file_view, told_sources, mapped_sources, HaveOneSource, ModulesHaveOneSource};
 
 use crate::frames::{read_cie, read_frame};
 use crate::json_fields::{
@@ -55,6 +55,8 @@ pub struct MapModule {
     pub functions: Vec<(Option<SymbolId>, CompiledFunctionMetadata)>,
     /// Where its memory is found.
     pub memory: ModuleMemoryOffset,
+    /// The path of its file, if this is told.
+    pub path: Option<String>,
 }
 
 /// The value of a map file, with the defaults of the fields that it leaves out.
@@ -64,6 +66,8 @@ pub struct MapFile {
     pub names: Names,
     /// The modules in the order of the program's words.
     pub modules: Vec<MapModule>,
+    /// The number of the next name that is made up.
+    pub next_id: u32,
 }
 
 // The fields of a target, the values of its registers and of its common information entry not yet read.
@@ -264,6 +268,19 @@ fn read_functions(
     Ok(Some(functions))
 }
 
+// The path of a module's file, from its value; without a value there is none.
+fn read_path(alloc: Global, value: Option<&Value>) -> Result<Option<Option<String>>, AllocError>
+    ensures { IfOk result (λ o. option_map path_view o ≡ value_or None path_of (option_map (λ v. view v.now) value.entry)) }
+{
+    let Some(value) = value else {
+        return Ok(Some(None));
+    };
+    let Some(path) = plain_text(value) else {
+        return Ok(None);
+    };
+    Ok(Some(Some(String::from_str(alloc, path)?)))
+}
+
 #[tactic(auto, using(crate::proofs::MapKinds::list_of_items), unfolding(crate::specs::MapFile::map_module_of))]
 fn read_module(alloc: Global, value: &Value) -> Result<Option<MapModule>, AllocError>
     ensures value { IfOk result (λ o. option_map module_view o ≡ map_module_of (view value.now)) }
@@ -281,7 +298,14 @@ fn read_module(alloc: Global, value: &Value) -> Result<Option<MapModule>, AllocE
     let Some(memory) = read_memory(member(fields, "memory")) else {
         return Ok(None);
     };
-    Ok(Some(MapModule { functions, memory }))
+    let Some(path) = read_path(alloc, member(fields, "path"))? else {
+        return Ok(None);
+    };
+    Ok(Some(MapModule {
+        functions,
+        memory,
+        path,
+    }))
 }
 
 fn read_modules(alloc: Global, values: &[Value]) -> Result<Option<Vec<MapModule>>, AllocError>
@@ -331,6 +355,16 @@ fn can_be_numbered(modules: &[MapModule]) -> bool
     true
 }
 
+// The number of the next name that is made up, from its value; it begins with 0.
+fn read_next_id(value: Option<&Value>) -> Option<u32>
+    ensures { result ≡ value_or 0 u32_of (option_map (λ v. view v.now) value.entry) }
+{
+    match value {
+        Some(value) => whole_number(value),
+        None => Some(0),
+    }
+}
+
 #[tactic(auto, using(crate::proofs::MapKinds::list_of_items), unfolding(crate::specs::MapFile::map_value))]
 fn read_map(alloc: Global, value: &Value, defined: &[u32]) -> Result<Option<MapFile>, AllocError>
     ensures value { IfOk result (λ o. option_map map_file_view o ≡ map_value defined.now (view value.now)) }
@@ -357,6 +391,9 @@ fn read_map(alloc: Global, value: &Value, defined: &[u32]) -> Result<Option<MapF
     let Some(modules) = read_modules(alloc, values)? else {
         return Ok(None);
     };
+    let Some(next_id) = read_next_id(member(fields, "next_id")) else {
+        return Ok(None);
+    };
     if !has_counts(&modules, defined) || !can_be_numbered(&modules) {
         return Ok(None);
     }
@@ -364,6 +401,7 @@ fn read_map(alloc: Global, value: &Value, defined: &[u32]) -> Result<Option<MapF
         target,
         names,
         modules,
+        next_id,
     }))
 }
 
@@ -429,7 +467,7 @@ fn defined_counts(alloc: Global, modules: &[ModuleTranslation<'_>]) -> Result<Ve
 /// as each of these defines. Unknown fields are passed over, and of two members of one name the later counts.
 ///
 /// A map that is answered has the modules and functions that are asked for, fewer than 2^32 each, addresses of 4 or 8 bytes,
-/// names without a zero byte, and no common information entry that cannot be written. The begin and the end of a function are the
+/// names and paths without a zero byte, and no common information entry that cannot be written. The begin and the end of a function are the
 /// same in its record and in its address map.
 ///
 /// # Errors

@@ -37,6 +37,8 @@ pub enum Status {
     InvalidFrameCodeOffset = 17,
     /// A factored offset of a function's frame is no multiple of the data factor.
     InvalidFrameDataOffset = 18,
+    /// The path of the unit for functions without debugging information names no file.
+    Path = 19,
     /// A section, a function or an expression is too long, a range ends at no address, a jump goes too far, or a memory is too far
     /// behind in its context.
     TooLarge = 20,

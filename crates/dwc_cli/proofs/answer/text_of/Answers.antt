@@ -6,6 +6,7 @@ use Rattle.dwc_cli.specs.MapViews.{map_file_view}
 use Rattle.dwc_cli.specs.Failures.{failure_status}
 use Rattle.dwc_cli.specs.Inputs.{Input, Loaded}
 use Rattle.dwc_cli.specs.Answers.{IsInputOf, IsBroken, TranslatesFiles, IsReadAs, IsTextStatus, text_statuses}
+use Rattle.dwc_cli.proofs.PathLaws.{sorted-whole}
 use Rattle.dwc_cli.proofs.Statuses.{IsOneOf-from}
 use Rattle.dwc_cli.proofs.TextExits.{Refuses, Refuses-memory, Refuses-broken, Refuses-no_map, Refuses-cause, broken-status, cause-text_status, Gives, Gives-emitted, was_read, none_from}
 use Rattle.dwc_cli.proofs.answer.text_of.Goals as goal
@@ -62,6 +63,12 @@ returns-in_default-clause-causes c = λ input is. (map_refused c input is).cause
 pub returns-in_default-clause-complete : goal.returns-in_default-clause-complete
 returns-in_default-clause-complete c = λ input is. (map_refused c input is).complete
 
+-- ---- the sections
+
+-- the translations have their names in order
+pub emitted-requires-clause-sorted : goal.emitted-requires-clause-sorted
+emitted-requires-clause-sorted c = let held = c.in_ok-translations.ensures in sorted-whole c.in_ok-translations.translations.items held.0 held.2
+
 -- ---- no sections are emitted
 
 sections_refused : (c : goal.After-drop-modules-in_err-sections) (input : Input) → IsInputOf c.args.files input → Refuses input (failure_status c.in_err-sections.field-0.0)
@@ -71,8 +78,7 @@ sections_refused c input is =
     let found = subst (λ ms. TranslatesFiles ms (Ok c.in_ok-translations.translations)) is.modules held in
     let seen = ap (option_map map_file_view) (sym c.in-Some.is) ∙ c.in_ok-map_file.ensures.value input.map_bytes is.json in
     let was = was_read ts c.in-Some.map_file input found (rw (c.deref-2.ensures.value) at seen) in
-    let read_as = subst (λ us. IsReadAs us c.in-Some.map_file was.read) (sym c.deref-3.ensures.value) was.read_as in
-    Refuses-cause input was.read (failure_status c.in_err-sections.field-0.0) was.is_read (c.in_err-sections.ensures was.read read_as)
+    Refuses-cause input was.read (failure_status c.in_err-sections.field-0.0) was.is_read (c.in_err-sections.ensures was.read was.read_as)
 
 sections_status : (c : goal.After-drop-modules-in_err-sections) → IsTextStatus (failure_status c.in_err-sections.field-0.0)
 sections_status c =
@@ -80,8 +86,7 @@ sections_status c =
     let held = subst (λ ms. TranslatesFiles (map (λ m. m.items) ms) (Ok c.in_ok-translations.translations)) c.deref.ensures.value c.in_ok-translations.ensures in
     let read : Loaded = record { wasm = held.0; map_file = map_file_view c.in-Some.map_file } in
     let told : IsReadAs ts c.in-Some.map_file read = record { wasm = held.2; map_is = refl } in
-    let read_as = subst (λ us. IsReadAs us c.in-Some.map_file read) (sym c.deref-3.ensures.value) told in
-    cause-text_status read (failure_status c.in_err-sections.field-0.0) (c.in_err-sections.ensures read read_as)
+    cause-text_status read (failure_status c.in_err-sections.field-0.0) (c.in_err-sections.ensures read told)
 
 pub returns-in_err-sections-clause-causes : goal.returns-in_err-sections-clause-causes
 returns-in_err-sections-clause-causes c = λ input is.
@@ -117,9 +122,8 @@ text_given c input is =
     let found = subst (λ ms. TranslatesFiles ms (Ok c.in_ok-translations.translations)) is.modules held in
     let seen = ap (option_map map_file_view) (sym c.in-Some.is) ∙ c.in_ok-map_file.ensures.value input.map_bytes is.json in
     let was = was_read ts c.in-Some.map_file input found (rw (c.deref-2.ensures.value) at seen) in
-    let read_as = subst (λ us. IsReadAs us c.in-Some.map_file was.read) (sym c.deref-3.ensures.value) was.read_as in
     let sections = map section_view c.in_ok-sections.sections.items in
-    rw (c.in_ok-printed.ensures.text, c.deref-4.ensures.value) (Gives-emitted input was.read sections was.is_read (c.in_ok-sections.ensures was.read read_as))
+    rw (c.in_ok-printed.ensures.text, c.deref-3.ensures.value) (Gives-emitted input was.read sections was.is_read (c.in_ok-sections.ensures was.read was.read_as))
 
 pub returns-clause-carried : goal.returns-clause-carried
 returns-clause-carried c = λ input is. (text_given c input is).carried

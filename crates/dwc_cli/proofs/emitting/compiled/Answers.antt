@@ -1,4 +1,4 @@
-use Rattle.std.proofs.Common.{◌≡◌, map, refl, sym, subst, None}
+use Rattle.std.proofs.Common.{◌≡◌, map, sym, subst, None}
 use Rattle.std.proofs.lemmas.Result.{err_from_is_err_and}
 use Rattle.dwc_base.specs.SharedSymbols.{shared_symbol}
 use Rattle.dwc_addr.specs.Numbers.{all_symbols, symbol_view}
@@ -13,26 +13,24 @@ pub returns-in_err-compilation : goal.returns-in_err-compilation
 returns-in_err-compilation c = λ read is.
     let p = err_from_is_err_and c.from_residual.result c.from_residual.ensures.1 in
     let isa = c.args.isa.now in
-    rw (p.1, p.2) (refused-compiling CompilationValue c.args.translations.now _ c.args.memory_offsets.items isa.order isa.pointer_bytes isa.registers isa.common_entry _ read is c.in_err-compilation.field-0.0 (c.in_err-compilation.ensures).distinct)
+    rw (p.1, p.2) (refused-compiling CompilationValue c.args.translations.now _ c.args.memory_offsets.items isa.order isa.pointer_bytes isa.registers isa.common_entry _ c.args.next_id read is c.in_err-compilation.field-0.0 (c.in_err-compilation.ensures).distinct)
 
 -- no DWARF is emitted
 pub returns-in_err-emitted_for : goal.returns-in_err-emitted_for
 returns-in_err-emitted_for c = λ read is.
     let p = err_from_is_err_and c.from_residual-in_err-emitted_for.result c.from_residual-in_err-emitted_for.ensures.1 in
     let isa = c.args.isa.now in
-    let named : IsCompiled isa.order isa.pointer_bytes isa.registers isa.common_entry (record { set_memory = c.deref.result.now; resolve_memory = c.deref-2.result.now }) c.args.translations.now (lists c.args.functions.now) c.args.memory_offsets.items read = rw (c.deref.ensures, c.deref-2.ensures) is in
+    let named : IsCompiled isa.order isa.pointer_bytes isa.registers isa.common_entry (record { set_memory = c.deref.result.now; resolve_memory = c.deref-2.result.now }) c.args.translations.now (lists c.args.functions.now) c.args.memory_offsets.items c.args.next_id read = rw (c.deref.ensures, c.deref-2.ensures) is in
     let given = sym (c.in_ok-compilation.ensures).value in
-    let seen = subst (λ v. IsCompiled isa.order isa.pointer_bytes isa.registers isa.common_entry (names_of v) v.translations v.functions v.memory_offsets read) given named in
-    let new = subst (λ v. v.next_id ≡ 0) given refl in
+    let seen = subst (λ v. IsCompiled isa.order isa.pointer_bytes isa.registers isa.common_entry (names_of v) v.translations v.functions v.memory_offsets v.next_id read) given named in
     let none = subst (λ v. shared_symbol (map symbol_view (all_symbols v.functions)) ≡ None) given (c.in_ok-compilation.ensures).distinct in
-    rw (p.1, p.2) (refused-emitting c.in_ok-compilation.compilation isa.order isa.pointer_bytes isa.registers isa.common_entry read seen new none c.in_err-emitted_for.field-0.0 c.in_err-emitted_for.ensures)
+    rw (p.1, p.2) (refused-emitting c.in_ok-compilation.compilation isa.order isa.pointer_bytes isa.registers isa.common_entry read seen none c.in_err-emitted_for.field-0.0 c.in_err-emitted_for.ensures)
 
 pub returns : goal.returns
 returns c = λ read is.
     let isa = c.args.isa.now in
-    let named : IsCompiled isa.order isa.pointer_bytes isa.registers isa.common_entry (record { set_memory = c.deref.result.now; resolve_memory = c.deref-2.result.now }) c.args.translations.now (lists c.args.functions.now) c.args.memory_offsets.items read = rw (c.deref.ensures, c.deref-2.ensures) is in
+    let named : IsCompiled isa.order isa.pointer_bytes isa.registers isa.common_entry (record { set_memory = c.deref.result.now; resolve_memory = c.deref-2.result.now }) c.args.translations.now (lists c.args.functions.now) c.args.memory_offsets.items c.args.next_id read = rw (c.deref.ensures, c.deref-2.ensures) is in
     let given = sym (c.in_ok-compilation.ensures).value in
-    let seen = subst (λ v. IsCompiled isa.order isa.pointer_bytes isa.registers isa.common_entry (names_of v) v.translations v.functions v.memory_offsets read) given named in
-    let new = subst (λ v. v.next_id ≡ 0) given refl in
+    let seen = subst (λ v. IsCompiled isa.order isa.pointer_bytes isa.registers isa.common_entry (names_of v) v.translations v.functions v.memory_offsets v.next_id read) given named in
     let none = subst (λ v. shared_symbol (map symbol_view (all_symbols v.functions)) ≡ None) given (c.in_ok-compilation.ensures).distinct in
-    emitted c.in_ok-compilation.compilation isa.order isa.pointer_bytes isa.registers isa.common_entry read seen new none c.in_ok-emitted_for.field-0 c.in_ok-emitted_for.ensures
+    emitted c.in_ok-compilation.compilation isa.order isa.pointer_bytes isa.registers isa.common_entry read seen none c.in_ok-emitted_for.field-0 c.in_ok-emitted_for.ensures
