@@ -1,5 +1,6 @@
 //! Calls that no run makes: the entry that a reference goes to, what is kept of units, and the numbers of texts.
-ghost use Rattle.std.specs.Prelude.{◌≡◌, [], ◌∷◌, map};
+ghost use Rattle.std.specs.Prelude.{◌≡◌, [], ◌∷◌, map, All};
+ghost use Rattle.dwc_base.specs.TranslationNames.{HasSortedNames};
 
 use crate::compiled::transform_of;
 use crate::module_file::SMALL;
@@ -45,7 +46,8 @@ fn texts_have_one_number_each(rt: HostRuntime) -> Result<(), Fail> {
 
 // What is kept of a module that defines one function.
 fn kept_of(alloc: Global, modules: &[ModuleTranslation<'_>]) -> Result<Kept, Fail>
-    requires { map (λ m. m.defined_funcs) modules.now ≡ 1 ∷ [] }
+    requires modules { map (λ m. m.defined_funcs) modules.now ≡ 1 ∷ [] }
+    requires sorted { All HasSortedNames modules.now }
 {
     let transform = transform_of(alloc, modules, (22, 33), &[])?;
     let units = Units::new(Sections::of_module(&modules[0]));

@@ -1,5 +1,6 @@
 //! A module that defines one function, compiled.
-ghost use Rattle.std.specs.Prelude.{◌≡◌, [], ◌∷◌, map, length, IfOk};
+ghost use Rattle.std.specs.Prelude.{◌≡◌, [], ◌∷◌, map, length, IfOk, All};
+ghost use Rattle.dwc_base.specs.TranslationNames.{HasSortedNames};
 ghost use Rattle.dwc_addr.specs.Compilations.{lists, AreNames};
 
 use dwc_addr::{AddressTransform, Compilation, LinkageNames, ModuleMemoryOffset};
@@ -90,6 +91,7 @@ fn transform_over<'a>(
     requires modules { map (λ m. m.defined_funcs) modules.now ≡ 1 ∷ [] }
     requires functions { map length (lists functions.now) ≡ 1 ∷ [] }
     requires names { AreNames names.set_memory.now names.resolve_memory.now }
+    requires sorted { All HasSortedNames modules.now }
 {
     let mut offsets = Vec::new(alloc);
     offsets.push(ModuleMemoryOffset::None)?;
@@ -121,7 +123,8 @@ pub(crate) fn transform_of(
     source: (u32, u32),
     entries: &[MapEntry],
 ) -> Result<AddressTransform, Fail>
-    requires { map (λ m. m.defined_funcs) modules.now ≡ 1 ∷ [] }
+    requires modules { map (λ m. m.defined_funcs) modules.now ≡ 1 ∷ [] }
+    requires sorted { All HasSortedNames modules.now }
 {
     let isa = target(alloc)?;
     let functions = functions(alloc, compiled(alloc, source, entries)?)?;
