@@ -28,6 +28,26 @@ def sections_of(text):
     return sections
 
 
+def front_of(text):
+    """The sections of a printed text, of which those that are wanted may be the front."""
+    return text
+
+
+def is_front(what, wanted, read):
+    """Whether an output begins with what is wanted: its sections with those of the units for modules, and its texts with theirs. Behind these comes
+    what the last unit adds, which is for functions without debugging information."""
+    if what == "texts":
+        return read[: len(wanted)] == wanted
+    if what != "front":
+        return False
+    sections = {name: (body, relocations) for name, body, relocations in sections_of(read)}
+    return all(begins(sections.get(name), body, relocations) for name, body, relocations in sections_of(wanted))
+
+
+def begins(section, body, relocations):
+    return section is not None and section[0][: len(body)] == body and section[1][: len(relocations)] == relocations
+
+
 def body_of(text, name):
     return next((bytes(body) for other, body, _ in sections_of(text) if other == name), b"")
 
@@ -71,12 +91,37 @@ def table_rows(table, order):
     return sequences
 
 
-def code_of(text):
-    """What the entries of printed sections say of their code, with the lowest byte of a number first: of each that says something
-    `LOW+LENGTH`, `LOW`, or `[BEGIN-END ..]` for a list."""
+def last_lines(text):
+    """Of each line sequence of the last unit, with the lowest byte of a number first, its length and its rows: offsets, lines, and whether the prologue
+    ends there."""
     sections = {name: bytes(body) for name, body, _ in sections_of(text)}
-    entries = [(unit, entry) for unit in read_units(sections) for entry in unit.entries] if sections else []
+    unit, sequences, rows = read_units(sections)[-1], [], []
+    for kind, value in plain_run.read_line_table(sections, unit, unit.line_table).steps:
+        if kind == "row":
+            assert (value.file, value.discriminator, value.is_stmt, value.column) == (1, 1, True, 0)
+            rows.append((value.offset, value.line, "prologue_end" if value.prologue_end else ""))
+        elif kind == "end":
+            sequences.append((value, rows))
+            rows = []
+    return sequences
+
+
+def code_of(text):
+    """What the entries of the units for modules say of their code, with the lowest byte of a number first: of each that says something
+    `LOW+LENGTH`, `LOW`, or `[BEGIN-END ..]` for a list."""
+    return code_in(text, module_units)
+
+
+def code_in(text, units_of):
+    """The same of the units that are chosen."""
+    sections = {name: bytes(body) for name, body, _ in sections_of(text)}
+    entries = [(unit, entry) for unit in units_of(sections) for entry in unit.entries]
     return [said for unit, entry in entries if (said := entry_code(sections, unit, entry))]
+
+
+def module_units(sections):
+    """The units for modules: all but the last, which is for functions without debugging information."""
+    return read_units(sections)[:-1]
 
 
 def entry_code(sections, unit, entry):
@@ -125,9 +170,9 @@ def frames_of(text):
 
 
 def all_places(text):
-    """The name of each entry that says where something is, and what it says, with the lowest byte of a number first."""
+    """The name of each entry of the units for modules that says where something is, and what it says, with the lowest byte of a number first."""
     sections = {name: bytes(body) for name, body, _ in sections_of(text)}
-    for unit, entry in ((unit, entry) for unit in read_units(sections) for entry in unit.entries):
+    for unit, entry in ((unit, entry) for unit in module_units(sections) for entry in unit.entries):
         name = entry.value(AT_NAME)
         for value in (value for _, value in entry.attributes if value[0] in ("expression", "locations")):
             yield name and text_of(sections, unit, name), value_said(sections, unit, value)
@@ -362,7 +407,7 @@ def complaints(text, order, size, path):
     compared.append((of_entries, [pair for pair in lists if pair[0] in dict(of_entries)]))  # readelf reads those of `ranges` alone
     if units is not None:
         compared.append((len(of_entries), sum("DW_AT_ranges" in line for line in units)))
-        compared += [(printed_code(units), code_of(text))] if order == "little" else []
+        compared += [(printed_code(units), code_in(text, read_units))] if order == "little" else []
     compared += compared_locations(text, order, size, path, locations)
     found = [pair for pair in compared if pair[0] != pair[1]]
     bad = [line for line in (units or []) + locations if "decoding error" in line]

@@ -220,13 +220,13 @@ def refused_places(made):
     made.carried("a context with a register without a number that is covered", within(), labels=[covered], contexts=[f"[{EVERYWHERE}]"])
     outside = root(subprogram(to("d", SPECIFICATION)), Entry(BLOCK, low(14), until(25), children=[declared("d")]))
     bad = {VMCTX: [reg(9, 4, 9)]}
-    made.carried("ranges of the context of a function that no subprogram begins in", outside, functions=[SMALL, SECOND], labels=[ALL, bad], contexts=[f"[{EVERYWHERE}]", "[]"])
+    made.refused("ranges of the context of a function that no subprogram begins in", 14, label, outside, functions=[SMALL, SECOND], labels=[ALL, bad])
     made.refused("a context of the second of two subprograms", 14, label, root(subprogram(), Entry(SUBPROGRAM, low(14), LENGTH)), functions=[SMALL, SECOND], labels=[ALL, bad])
     made.refused("a context in a register where the target has none", 16, unmapped(2), within(), labels=[ALL], registers=[])
     unkept = root(subprogram(), Entry(SUBPROGRAM, low(1), LENGTH))
     made.carried("a subprogram in no function, beside one with a context", unkept, labels=[ALL], contexts=[f"[{EVERYWHERE}]"])
     partial = root(Entry(SUBPROGRAM, low(14), LENGTH), tag=0x3C)
-    made.carried("a context of a unit that is not carried", within(), partial, functions=[SMALL, SECOND], labels=[ALL, bad], contexts=[f"[{EVERYWHERE}]"])
+    made.refused("a context of a unit that is not carried", 14, label, within(), partial, functions=[SMALL, SECOND], labels=[ALL, bad])
 
 
 def order_of_refusals(made):

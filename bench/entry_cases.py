@@ -89,10 +89,10 @@ def to(key, name=TYPE):
 def entry_cases(cases, module, small_map):
     """`module` makes a module of abbreviations, units and further sections; `small_map` makes the map of a target."""
 
-    def carried(name, *units, sections=(), big=False, text=None):
+    def carried(name, *units, sections=(), big=False, front=None):
         made = Info(*units)
         others = [(section, contents) for section, contents in sections]
-        cases.carried(name, small_map(big_endian=big) if big else small_map(), module(made.abbrev, made.info, others=others), text=text)
+        cases.carried(name, small_map(big_endian=big) if big else small_map(), module(made.abbrev, made.info, others=others), front=front)
 
     def refused(name, status, line, *units, sections=()):
         made = Info(*units)
@@ -101,8 +101,8 @@ def entry_cases(cases, module, small_map):
     strings = [(".debug_str", b"f\0int\0char\0")]
     f = (NAME, STRP, u32(0))
     integer, char = Entry(BASE_TYPE, (NAME, STRP, u32(2)), key="int"), Entry(BASE_TYPE, (NAME, STRP, u32(6)))
-    carried("a type that is named, and one that is not", root(subprogram(f, to("int")), integer, char), sections=strings, text=NAMED_TEXT)
-    carried("a type at which no entry begins", root(subprogram(f, (TYPE, REF4, u32(17))), integer, char), sections=strings, text=UNTYPED_TEXT)
+    carried("a type that is named, and one that is not", root(subprogram(f, to("int")), integer, char), sections=strings, front=NAMED_TEXT)
+    carried("a type at which no entry begins", root(subprogram(f, (TYPE, REF4, u32(17))), integer, char), sections=strings, front=UNTYPED_TEXT)
     kept_cases(carried)
     reference_cases(carried)
     value_cases(carried)

@@ -6,7 +6,7 @@ its place in the section, and `49>>0:NAME` one to an entry of an own unit, by it
 
 import re
 
-from check_cases import sections_of, value_said
+from check_cases import entry_code, module_units, sections_of, value_said
 from plain_entries import AT_HIGH_PC, AT_LOW_PC, AT_NAME, AT_RANGES, AT_STMT_LIST, read_units, target_of, text_of
 
 OF_CODE = (AT_LOW_PC, AT_HIGH_PC, AT_RANGES, AT_STMT_LIST)
@@ -19,12 +19,22 @@ def is_own(sections, unit):
 
 
 def tree_of(text):
-    """The entries of all units that are no own units, with the lowest byte of a number first."""
+    """The entries of all units that carry one of the input, with the lowest byte of a number first."""
+    sections = {name: bytes(body) for name, body, _ in sections_of(text)}
+    units = module_units(sections)
+    places = {entry.offset: (u, p) for u, unit in enumerate(units) for p, entry in enumerate(unit.entries)}
+    told = lambda place: told_place(sections, units, *places[place])
+    return [words_of(sections, unit, entry, told) for unit in units if not is_own(sections, unit) for entry in unit.entries]
+
+
+def last_of(text):
+    """The entries of the last unit, each with what it says of its code."""
     sections = {name: bytes(body) for name, body, _ in sections_of(text)}
     units = read_units(sections)
     places = {entry.offset: (u, p) for u, unit in enumerate(units) for p, entry in enumerate(unit.entries)}
     told = lambda place: told_place(sections, units, *places[place])
-    return [words_of(sections, unit, entry, told) for unit in units if not is_own(sections, unit) for entry in unit.entries]
+    lines = [(words_of(sections, units[-1], entry, told), entry_code(sections, units[-1], entry)) for entry in units[-1].entries]
+    return [" ".join(words + ([code] if code else [])) for words, code in lines]
 
 
 def told_place(sections, units, u, p):

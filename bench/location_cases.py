@@ -149,8 +149,8 @@ def location_cases(cases, module, map_of):
 def worked_cases(made):
     """Worked examples, whose outcome stands here by hand."""
     on_base = framed(variable("91 12"))
-    made.carried("a variable on a frame base that is in a register over part of its scope", on_base, places=["9c", f"[0-20 {ON_BASE}{MEMORY}]"], text=PART_TEXT)
-    made.carried("a variable on a frame base that is in a register over all of its scope", on_base, labels=[WHOLE], places=["9c", ON_BASE + MEMORY], text=WHOLE_TEXT)
+    made.carried("a variable on a frame base that is in a register over part of its scope", on_base, places=["9c", f"[0-20 {ON_BASE}{MEMORY}]"], front=PART_TEXT)
+    made.carried("a variable on a frame base that is in a register over all of its scope", on_base, labels=[WHOLE], places=["9c", ON_BASE + MEMORY], front=WHOLE_TEXT)
     three = [{0: [reg(0, 25, 1)], 1: [reg(5, 30, 2)], 2: [reg(0, 10, 3), reg(20, 30, 3)]}]
     sum_of_three = "7c007e00227300229f"
     inner = block(variable("ED 00 00 ED 00 01 22 ED 00 02 22 9F"), begin=11, end=17)

@@ -341,7 +341,7 @@ def map_cases(made, front):
         for number, value in enumerate(values):
             made.cases.refused_module(f"{field} {number} of a map that has no value", 6, "malformed map", front, map_text=text.replace(old, value))
     for number, (old, new, wanted) in enumerate(HAVE_VALUES):
-        made.cases.carried(f"values {number} of a map that has one", text.replace(old, new), front, text=wanted)
+        made.cases.carried(f"values {number} of a map that has one", text.replace(old, new), front, front=wanted)
     on_base = made.made([framed(variable("91 12"))], [], [SMALL])[0]
     without = lambda piece: text.replace(piece, "").replace(",,", ",").replace("{,", "{").replace(",}", "}")
     made.refused_modules("a map without registers", 16, "UnmappedRegister 1", without(TARGET), on_base)

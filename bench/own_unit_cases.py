@@ -40,8 +40,8 @@ class Cases(location_cases.Cases):
         value = json.loads(self.map_of(*modules, **{"registers": REGISTERS, **target}))
         return json.dumps({**value, "names": names}, separators=(",", ":"))
 
-    def all_carried(self, name, modules, memories, text=None, texts=None, **told):
-        self.cases.carried(name, self.map_text(*memories, **told), *modules, text=text, texts=texts)
+    def all_carried(self, name, modules, memories, front=None, texts=None, **told):
+        self.cases.carried(name, self.map_text(*memories, **told), *modules, front=front, texts=texts)
 
     def all_refused(self, name, status, line, modules, memories, **told):
         """The plain program does not know compressed sections and files that are not there."""
@@ -74,20 +74,20 @@ def placed():
 def memory_cases(made):
     """Each memory, alone and in front of a carried unit, and each target."""
     for name, memory, text in MEMORIES:
-        made.all_carried(f"{name}, alone", [made.module_of()], [memory], text=text)
+        made.all_carried(f"{name}, alone", [made.module_of()], [memory], front=text)
         made.all_carried(f"{name}, in front of a unit", [made.module_of(placed())], [memory])
     by_place = root(subprogram((TYPE, REF_ADDR, Label("b", whole=True))), base_type(b"b", "b"))
-    made.all_carried("a reference of the section behind an own unit", [made.module_of(by_place)], [None], text=PLACED_TEXT)
+    made.all_carried("a reference of the section behind an own unit", [made.module_of(by_place)], [None], front=PLACED_TEXT)
     for target in TARGETS:
         name = f"{'big' if target['big_endian'] else 'little'} endian, addresses of {target['pointer_bytes']} bytes"
         text = BIG_MEMORY_TEXT if target["big_endian"] and target["pointer_bytes"] == 4 else None
-        made.all_carried(f"a memory, {name}", [made.module_of()], [DEFINED], text=text, **target)
+        made.all_carried(f"a memory, {name}", [made.module_of()], [DEFINED], front=text, **target)
         made.all_carried(f"a memory in front of a unit, {name}", [made.module_of(placed())], [DEFINED], **target)
     for number, memory in enumerate([TOO_FAR, {"defined": GREATEST}]):
         made.all_refused(f"a memory {number} that is too far", *REFUSED, [made.module_of()], [memory])
         made.all_refused(f"a memory {number} that is too far in front of a unit", *REFUSED, [made.module_of(placed())], [memory])
     none = json.dumps({"target": {"arch": "x86_64"}, "names": ["set_mem", "resolve_mem"], "modules": [{"functions": []}]})
-    made.cases.carried("a module of no function", none, TYPES, text=OWN_TEXT)
+    made.cases.carried("a module of no function", none, TYPES, front=OWN_TEXT)
 
 
 def module_cases(made):

@@ -11,6 +11,7 @@ from plain_entries import Reader, Refused, Unit, kept_offsets, read_table, read_
 from plain_entries import AT_FRAME_BASE, AT_HIGH_PC, AT_LOW_PC, AT_RANGES, AT_STMT_LIST, DROPPED_NAMES, TAG_COMPILE_UNIT, TAG_SUBPROGRAM
 from plain_expressions import Machine, built, compiled, place_at
 from plain_frames import refuse_frames, write_frames
+from plain_last_unit import begun_functions, last_unit, told_file
 from plain_locations import CONTEXT, is_location, locations_of
 from plain_own_units import own_unit
 from plain_spelling import write_units
@@ -440,7 +441,7 @@ def printed_text(map_bytes, modules):
     files = [read_wasm(data) for data in modules]
     told, maps = read_map(map_bytes, [code for code, _ in files])
     target, (set_name, resolve_name) = told["target"], told["names"]
-    writer, units, is_big = Writer(target), [], target.get("big_endian", False)
+    writer, units, begun, is_big = Writer(target), [], set(), target.get("big_endian", False)
     for (_, sections), (functions, machine) in zip(files, maps):
         units.append((own_unit(machine.module, set_name, machine.memory), None))
         carried = list(carried_units(sections, machine))
@@ -448,11 +449,23 @@ def printed_text(map_bytes, modules):
         for unit in carried:
             units.append((tree_of(unit, emitted, is_big, resolve_name), len(writer.line.body)))
             write_lines(writer, unit.table, functions)
+            begun |= begun_functions(unit)
+    paths = [module.get("path") for module in told["modules"]]
+    tree, name, listed = last_unit(paths, told.get("next_id", 0), [told_file(data) for data in modules], maps, begun)
+    units.append((tree, len(writer.line.body)))
+    writer.line_table(Table(4, [], [(0, name)]), [(function, listed_rows(code, function)) for code, function in listed])
     cie, frames = target.get("cie"), frames_of(told["modules"])
     refuse_frames(cie, frames)
     write_units(writer, units)
     write_frames(writer, cie, frames)
     return writer.printed()
+
+
+def listed_rows(code, function):
+    """The rows of a function without debugging information, whose lines are offsets in its file: one at 0, and one for each recorded source, of which the
+    first ends the prologue."""
+    rows = [Row(native, line=code + wasm, prologue_end=i == 0, discriminator=1) for i, (native, wasm) in enumerate(function.sources)]
+    return [Row(0, line=0, discriminator=1), *rows]
 
 
 def frames_of(modules):
@@ -501,6 +514,20 @@ def check_bytes(map_bytes, modules):
             image = image_of(start, rows, function) if function else []
             for byte in bytes_of(function) if image else ():
                 assert in_force(image, byte) == row_for_byte(start, rows, function, byte)
+
+
+def check_listed(map_bytes, modules):
+    """Whether a function without debugging information has, at each byte, the line that is the place in its file of the last recorded source at or below
+    that, and 0 before any."""
+    files = [read_wasm(data) for data in modules]
+    told, maps = read_map(map_bytes, [code for code, _ in files])
+    begun = set().union(*(begun_functions(carried) for _, carried in carried_of(map_bytes, modules)))
+    paths = [module.get("path") for module in told["modules"]]
+    _, _, listed = last_unit(paths, told.get("next_id", 0), [told_file(data) for data in modules], maps, begun)
+    for code, function in listed:
+        for byte in bytes_of(function):
+            below = [wasm for native, wasm in function.sources if native <= byte]
+            assert in_force(listed_rows(code, function), byte).line == (code + below[-1] if below else 0)
 
 
 def carried_of(map_bytes, modules):

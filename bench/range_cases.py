@@ -74,9 +74,9 @@ class Cases:
         info, (front, told) = Info(*units), program_of(functions)
         return self.module(info.abbrev, info.info, others=list(sections), front=front), told
 
-    def carried(self, name, *units, sections=(), functions=(SMALL,), code=None, text=None, target=None):
+    def carried(self, name, *units, sections=(), functions=(SMALL,), code=None, front=None, target=None):
         made, told = self.made(units, sections, functions)
-        self.cases.carried(name, self.map_of(told, **(target or {})), made, text=text, code=code)
+        self.cases.carried(name, self.map_of(told, **(target or {})), made, front=front, code=code)
 
     def refused(self, name, status, line, *units, sections=(), functions=(SMALL,)):
         made, told = self.made(units, sections, functions)
@@ -149,10 +149,10 @@ def range_cases(cases, module, map_of):
 
 def worked_cases(made):
     """Worked examples, whose outcome stands here by hand."""
-    made.carried("a block of five bytes", within(block(low(5), for_bytes(5))), code=["0+30", "5+18"], text=BOUNDS_TEXT)
+    made.carried("a block of five bytes", within(block(low(5), for_bytes(5))), code=["0+30", "5+18"], front=BOUNDS_TEXT)
     made.carried("a block up to an address", within(block(low(6), until(9))), code=["0+30", "8+7"])
     two = [pairs((5, 6), (10, 11))]
-    made.carried("a block of two intervals", within(block(LISTED)), sections=two, code=["0+30", "[5-15 15-30]"], text=LIST_TEXT)
+    made.carried("a block of two intervals", within(block(LISTED)), sections=two, code=["0+30", "[5-15 15-30]"], front=LIST_TEXT)
     made.carried("a block of an empty interval", within(block(LISTED)), sections=[pairs((7, 7))], code=["0+30"])
     labels = [label(address) for address in (10, 20, 0, 12, 18, 25, GREATEST)]
     made.carried("labels at addresses", within(*labels, begin=10), functions=[TEN], code=["0+30", "0", "30", "0", "5", "23", "30", "0"])

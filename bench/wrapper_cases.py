@@ -70,7 +70,7 @@ def worked_cases(made):
     made.tree("a pointer to a constant character", [naming("p", pointer("c", "p"), const, CHAR)], [lines])
     itself = root(subprogram(to("p")), pointer("p", "p"))
     made.tree("a pointer to itself", [itself], [["0 11", "1 2e 49>p", context(2), *wrapped(1, "p", "??", "p")]])
-    made.carried("a pointer to itself, of which the whole text is known", itself, labels=[{}], memory=None, text=WRAPPER_TEXT)
+    made.carried("a pointer to itself, of which the whole text is known", itself, labels=[{}], memory=None, front=WRAPPER_TEXT)
     of_itself = naming("p", pointer("c", "p"), Entry(CONST, to("c"), key="c"))
     made.tree("a pointer to a constant of itself", [of_itself], [lines_of("p", *wrapped(1, "p", "const ??", "c"), "1 26 =c 49>c")])
     refers = wrapped(1, "r", "char", "char", kind="Ref")
