@@ -35,10 +35,10 @@ use Rattle.dwc_clone.specs.CompiledModules.{frames_in, labels_in, values_in, tol
 use Rattle.dwc_addr.specs.Numbers.{Compiled, function_count, symbols_in, all_symbols, symbol_view}
 use Rattle.dwc_addr.specs.Transforms.{first_bad_map}
 use Rattle.dwc_carry.specs.Inputs as carry
-use Rattle.dwc_cli.specs.declared.map_file.MapModule.{MapModule}
-use Rattle.dwc_cli.specs.MapFile as value
-use Rattle.dwc_cli.specs.MapViews as views
-use Rattle.dwc_cli.specs.declared.map_file.MapFile.{MapFile}
+use Rattle.dwc_map.specs.declared.map_file.MapModule.{MapModule}
+use Rattle.dwc_map.specs.MapFile as value
+use Rattle.dwc_map.specs.MapViews as views
+use Rattle.dwc_map.specs.declared.map_file.MapFile.{MapFile}
 use Rattle.dwc_base.specs.Outputs.{section_view}
 use Rattle.dwc_addr.specs.declared.compilation_error.CompilationError.{CompilationError}
 use Rattle.dwc_addr.specs.declared.compilation_error.CompilationError.TheVariants as compiling

@@ -6,10 +6,11 @@ use Rattle.std.specs.FinMap as finite
 use Rattle.dwc_base.specs.Compiled.{no_memory}
 use Rattle.dwc_base.specs.Outputs.{OutputSection, function, section}
 use Rattle.dwc_clif.specs.declared.architecture.Architecture.TheVariants.{X86_64}
-use Rattle.dwc_cli.specs.MapFile.{MapFile, map_of_bytes}
+use Rattle.dwc_map.specs.MapFile.{MapFile, map_of_bytes}
 use Rattle.dwc_cli.specs.Printed.{printed, line_feed, is_plain}
 use Rattle.dwc_cli.proofs.WholeOutput.{output_whole}
-use Rattle.dwc_cli.proofs.OnLiterals.{map_on_literals, printed_on_literals}
+use Rattle.dwc_cli.proofs.OnLiterals.{printed_on_literals}
+use Rattle.dwc_map.proofs.OnLiterals.{map_on_literals}
 
 abbrev pub map_bytes_small : List ℕ
 map_bytes_small = codes "{\"target\":{\"arch\":\"x86_64\"},\"names\":[\"set_mem\",\"resolve_mem\"],\"modules\":[{\"path\":\"/m/g.wasm\",\"functions\":[{\"symbol\":0,\"start\":22,\"end\":33,\"body_len\":30,\"map\":[[5,25],[8,null],[15,30],[23,null]]}]}]}"

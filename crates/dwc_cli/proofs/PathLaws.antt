@@ -17,7 +17,7 @@ use Rattle.dwc_base.proofs.WasmNameLaws.{TellsNames-sorted}
 use Rattle.dwc_addr.specs.declared.memory_offset.ModuleMemoryOffset.{ModuleMemoryOffset}
 use Rattle.dwc_addr.specs.Numbers.{Compiled}
 use Rattle.dwc_addr.specs.Compilations.{IsCounted}
-use Rattle.dwc_cli.specs.MapViews.{path_view}
+use Rattle.dwc_map.specs.MapViews.{path_view}
 use Rattle.dwc_cli.specs.ToldPaths.{HasPath, HavePaths}
 
 -- what such a translation tells of its file is what the file tells, with the path

@@ -18,7 +18,7 @@ use Rattle.dwc_base.specs.Refusals.{Refusal, of_place, missing_file, bad_label, 
 use Rattle.dwc_base.specs.Forests.{first_refusal}
 use Rattle.dwc_base.specs.Wasm.{WasmModule}
 use Rattle.dwc_base.proofs.SmallModule.{file_small}
-use Rattle.dwc_cli.specs.MapFile.{map_of_bytes}
+use Rattle.dwc_map.specs.MapFile.{map_of_bytes}
 use Rattle.dwc_cli.specs.Inputs.{Loaded, loaded, paths_of, wasm_modules, defined_counts, compilation_of, shared_in}
 use Rattle.dwc_cli.specs.RunStatus.{Rose, most_bytes, IsOneOf, run_statuses, IsStatus, IsTooLong, UsageCause, MissingCause, InputCauses, NamedCauses, refusal_status, refusal_statuses, PassesLimit, LoadedCauses, RunsWell, IsValid}
 use Rattle.dwc_cli.proofs.Examples.{map_bytes_small, map-small}

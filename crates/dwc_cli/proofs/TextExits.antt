@@ -6,10 +6,10 @@ use Rattle.dwc_base.specs.declared.wasm.ModuleTranslation.{ModuleTranslation}
 use Rattle.dwc_base.specs.Outputs.{OutputSection}
 use Rattle.dwc_base.specs.Translations.{IsWholeTranslation}
 use Rattle.dwc_base.specs.Wasm.{WasmModule}
-use Rattle.dwc_cli.specs.declared.map_file.MapFile.{MapFile as DeclaredMap}
-use Rattle.dwc_cli.specs.MapFile as value
-use Rattle.dwc_cli.specs.MapFile.{map_of_bytes}
-use Rattle.dwc_cli.specs.MapViews.{map_file_view}
+use Rattle.dwc_map.specs.declared.map_file.MapFile.{MapFile as DeclaredMap}
+use Rattle.dwc_map.specs.MapFile as value
+use Rattle.dwc_map.specs.MapFile.{map_of_bytes}
+use Rattle.dwc_map.specs.MapViews.{map_file_view}
 use Rattle.dwc_cli.specs.Inputs.{Input, wasm_modules, defined_counts, Loaded, loaded}
 use Rattle.dwc_cli.specs.Printed.{printed}
 use Rattle.dwc_cli.specs.RunStatus.{IsOneOf, LoadedCauses}

@@ -33,9 +33,9 @@ use Rattle.dwc_base.specs.TreeLaws.{have_short_expressions}
 use Rattle.dwc_base.specs.TreeReading.{ranges_read}
 use Rattle.dwc_base.specs.OutputCarried.{OutputCarried, widest}
 use Rattle.dwc_base.proofs.OutputSmall.{HasForm, scopes-small, locations-small, contexts-small}
-use Rattle.dwc_cli.specs.MapFile.{MapFunction}
+use Rattle.dwc_map.specs.MapFile.{MapFunction}
 use Rattle.dwc_cli.specs.Inputs.{Input, Loaded, loaded, compilation_of, ranges_of, told_of}
-use Rattle.dwc_cli.proofs.OnLiterals.{map_on_literals}
+use Rattle.dwc_map.proofs.OnLiterals.{map_on_literals}
 use Rattle.dwc_cli.specs.Printed.{printed}
 use Rattle.dwc_cli.specs.RunStatus.{Carries}
 use Rattle.dwc_cli.proofs.Examples.{map_bytes_small, map_small}

@@ -1,5 +1,5 @@
 -- What the parts of a run say of its input and its status.
-use Rattle.std.specs.Prelude.{◌≡◌, ◌⊎◌, ℕ, List, [], ◌∷◌, map, true, Option, Some, None, Result, Ok, Err, All, Any, Vec}
+use Rattle.std.specs.Prelude.{◌≡◌, ◌⊎◌, ℕ, List, [], ◌∷◌, map, true, Option, Some, None, option_map, Result, Ok, Err, All, Any, Vec}
 use Rattle.std.specs.Global.{Global}
 use Rattle.std.specs.List.{list_all, AllZip}
 use Rattle.dwc_base.specs.declared.output.DwarfSection.{DwarfSection}
@@ -13,9 +13,10 @@ use Rattle.dwc_base.specs.Wasm.{WasmModule}
 use Rattle.dwc_base.specs.Translations.{IsWholeTranslation}
 use Rattle.dwc_write.specs.Writers.{IsSound}
 use Rattle.dwc_cli.specs.declared.failure.Failure.{Failure}
-use Rattle.dwc_cli.specs.declared.map_file.MapFile.{MapFile}
+use Rattle.dwc_map.specs.declared.map_file.MapFile.{MapFile}
 use Rattle.dwc_cli.specs.declared.input_files.InputFiles.{InputFiles}
-use Rattle.dwc_cli.specs.MapViews.{IsJsonOf, map_file_view}
+use Rattle.dwc_map.specs.MapFile.{map_in_bytes}
+use Rattle.dwc_map.specs.MapViews.{map_file_view}
 use Rattle.dwc_cli.specs.Inputs.{Paths, all_paths, Input, all_files, wasm_modules, Loaded, loaded, compilation_of, shared_in, BadMap, bad_map}
 use Rattle.dwc_cli.specs.Printed.{printed, is_plain, is_line}
 use Rattle.dwc_cli.specs.RunStatus.{Files, Rose, Appended, IsOneOf, WasmCause, MapCause, refusal_status, PassesLimit, LoadedCauses, IsValid}
@@ -32,9 +33,9 @@ abbrev pub message_of : {T : Type 0} → Result T Failure → List ℕ
 message_of (Ok x) = []
 message_of (Err failure) = failure_message failure
 
--- what is held of the files of an input: the JSON value of its map's bytes, if they are one, and the bytes of its modules
+-- what is held of the files of an input: the map that its map's bytes are, if they are one, and the bytes of its modules
 pub record IsInputOf (files : InputFiles) (input : Input) : Type 0 where
-  pub json : IsJsonOf input.map_bytes files.json
+  pub map_is : option_map map_file_view files.map_file ≡ map_in_bytes input.map_bytes
   pub modules : map (λ m. m.items) files.modules.items ≡ input.modules
 
 -- where the files are told, these are the bytes of those that the words name, and none is too long

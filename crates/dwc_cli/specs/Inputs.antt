@@ -13,8 +13,8 @@ use Rattle.dwc_base.specs.ToldFiles.{file_of}
 use Rattle.dwc_base.specs.Carried.{Module, Compilation}
 use Rattle.dwc_base.specs.SharedSymbols.{shared_symbol}
 use Rattle.dwc_clif.specs.Registers.{Registers}
-use Rattle.dwc_cli.specs.MapFile.{MapFile, MapFunction, MapModule, map_of_bytes}
-use Rattle.dwc_cli.specs.MapValues.{◌>>=◌}
+use Rattle.dwc_map.specs.MapFile.{MapFile, MapFunction, MapModule, map_of_bytes}
+use Rattle.dwc_map.specs.MapValues.{◌>>=◌}
 
 -- the words of a run: the path of the map, and those of the modules, one at least
 pub record Paths : Type 0 where

@@ -14,7 +14,7 @@ use Rattle.dwc_base.specs.Carried.{Compilation}
 use Rattle.dwc_base.specs.Forests.{first_refusal, trees_made}
 use Rattle.dwc_base.specs.OutputCarried.{OutputCarried, widest}
 use Rattle.dwc_base.specs.TreeLaws.{have_short_expressions}
-use Rattle.dwc_cli.specs.MapFile.{map_of_bytes}
+use Rattle.dwc_map.specs.MapFile.{map_of_bytes}
 use Rattle.dwc_cli.specs.Inputs.{Paths, paths_of, all_paths, Input, all_files, wasm_modules, defined_counts, Loaded, loaded, compilation_of, shared_in, bad_map}
 use Rattle.dwc_cli.specs.Printed.{printed, is_plain}
 

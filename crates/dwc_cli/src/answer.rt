@@ -1,5 +1,7 @@
 //! The text that a run prints.
-ghost use Rattle.std.specs.Prelude.{map, IfOk, IfErr};
+ghost use Rattle.std.specs.Prelude.{map, IfOk, IfErr, IfSome};
+ghost use Rattle.dwc_map.specs.MapFile.{IsMap};
+ghost use Rattle.dwc_map.specs.MapViews.{map_file_view};
 ghost use Rattle.dwc_cli.specs.Inputs.{Input};
 ghost use Rattle.dwc_cli.specs.Failures.{failure_status};
 ghost use Rattle.dwc_cli.specs.Answers.{status_of, IsInputOf, TranslatesFiles, CarriesText, TextCauses, IsTextStatus, GivesText};
@@ -7,22 +9,22 @@ ghost use Rattle.dwc_cli.specs.Answers.{status_of, IsInputOf, TranslatesFiles, C
 use crate::emitting::emitted;
 use crate::failure::Failure;
 use crate::input_files::InputFiles;
-use crate::map_file::map_of_json;
 use crate::printing::printed;
 use dwc_base::{ModuleTranslation, split_wasm};
+use dwc_map::map_for;
 use std::alloc::Global;
 
-// The printed text of an input: of the sections of DWARF of its modules, rewritten for the code that its map tells of. The map's
-// JSON value ends before any section is read.
+// The printed text of an input: of the sections of DWARF of its modules, rewritten for the code that its map tells of.
 pub(crate) fn text_of(alloc: Global, files: InputFiles) -> Result<Vec<u8>, Failure<'static>>
+    requires kinds { IfSome files.map_file (λ f. IsMap (map_file_view f)) }
     ensures carried { (input : Input) → IsInputOf files input → IfOk result (λ text. CarriesText input text.items) }
     ensures causes { (input : Input) → IsInputOf files input → TextCauses input (status_of result) }
     ensures status { IfErr result (λ failure. IsTextStatus (failure_status failure)) }
     ensures complete { (input : Input) → IsInputOf files input → GivesText input (status_of result) }
 {
-    let InputFiles { json, modules } = files;
+    let InputFiles { map_file, modules } = files;
     let translations = translations_of(alloc, &modules)?;
-    let Some(map_file) = map_of_json(alloc, json, &translations)? else {
+    let Some(map_file) = map_for(map_file, &translations) else {
         return Err(Failure::MalformedMap);
     };
     let sections = emitted(alloc, map_file, translations)?;

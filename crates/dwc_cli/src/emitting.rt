@@ -8,18 +8,18 @@ ghost use Rattle.dwc_clif.specs.Registers.{registers_of};
 ghost use Rattle.dwc_addr.specs.Compilations.{lists, IsCounted, AreNames};
 ghost use Rattle.dwc_carry.specs.Emits as emitting;
 ghost use Rattle.dwc_cli.specs.Inputs.{Loaded};
-ghost use Rattle.dwc_cli.specs.MapFile.{IsMapFor};
-ghost use Rattle.dwc_cli.specs.MapViews.{path_view, map_file_view, linkage_names};
+ghost use Rattle.dwc_map.specs.MapFile.{IsMapFor};
+ghost use Rattle.dwc_map.specs.MapViews.{path_view, map_file_view, linkage_names};
 ghost use Rattle.dwc_cli.specs.ToldPaths.{HavePaths};
 ghost use Rattle.dwc_cli.specs.Answers.{IsReadAs, Emits};
 ghost use Rattle.dwc_cli.specs.Compiled.{IsCompiled};
 
 use crate::failure::Failure;
-use crate::map_file::{MapFile, MapModule, Names, Target};
 use dwc_addr::{Compilation, LinkageNames, ModuleMemoryOffset};
 use dwc_base::{DwarfSection, Endian, ModuleTranslation, SymbolId, Tunables};
 use dwc_carry::{DebugError, emit_dwarf};
 use dwc_clif::{CompiledFunctionMetadata, TableIsa};
+use dwc_map::{MapFile, MapModule, Names, Target};
 use std::alloc::{AllocError, Global};
 
 // How code is generated and laid out, as far as a map does not tell it.

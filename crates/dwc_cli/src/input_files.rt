@@ -1,11 +1,11 @@
 //! The files of a run.
 
-use serde_json::Value;
+use dwc_map::MapFile;
 
-// What is held of the files that the words of a run name: the JSON value of the map's bytes, None where they are no JSON text, and
-// the bytes of the modules.
+// What is held of the files that the words of a run name: the map that the map's bytes are, None where they are none, and the bytes of the
+// modules.
 #[derive(Drop)]
 pub(crate) struct InputFiles {
-    pub(crate) json: Option<Value>,
+    pub(crate) map_file: Option<MapFile>,
     pub(crate) modules: Vec<Vec<u8>>,
 }

@@ -1,20 +1,20 @@
 //! Reading the files that the words of a run name.
-ghost use Rattle.std.specs.Prelude.{ℕ, List, ◌≡◌, ◌≤◌, ◌<◌, ◌↔◌, map, length, string_bytes, IfOk, IfErr, Any};
+ghost use Rattle.std.specs.Prelude.{ℕ, List, ◌≡◌, ◌≤◌, ◌<◌, ◌↔◌, map, option_map, string_bytes, IfOk, IfErr, IfSome, Any};
 ghost use Rattle.std.specs.List.{AllZip};
 ghost use Rattle.dwc_cli.specs.RunStatus.{Rose, most_bytes};
 ghost use Rattle.dwc_cli.specs.Inputs.{Input, all_paths};
 ghost use Rattle.dwc_cli.specs.Edge.{IsReadFile, IsLongFile, paths_view};
-ghost use Rattle.dwc_cli.specs.MapViews.{IsJsonOf};
+ghost use Rattle.dwc_map.specs.MapFile.{map_in_bytes, IsMap};
+ghost use Rattle.dwc_map.specs.MapViews.{map_file_view};
 ghost use Rattle.dwc_cli.specs.Failures.{failure_status, fault_message, length_message};
 ghost use Rattle.dwc_cli.specs.Answers.{status_of, message_of, IsInputOf, IsInput, IsReadingStatus};
 
 use crate::failure::Failure;
 use crate::input_files::InputFiles;
 use crate::loading::{LoadError, load};
-use crate::map_file::json_of;
 use crate::source::Source;
 use crate::words::Paths;
-use serde_json::Value;
+use dwc_map::{MapFile, map_of_any};
 use std::alloc::{AllocError, Global};
 
 // Reads the map, and then the modules in order. The map's bytes end before a module is read.
@@ -24,6 +24,7 @@ pub(crate) fn read_input<'w, S: Source>(
     paths: &Paths<'w>,
 ) -> Result<InputFiles, Failure<'w>>
     ensures input { IfOk result (λ read. (input : Input) × IsInputOf read input × IsInput (S.files source.old) (paths_view paths.now) input) }
+    ensures kinds { IfOk result (λ read. IfSome read.map_file (λ f. IsMap (map_file_view f))) }
     ensures too_long { (status_of result ≡ 4) ↔ (most_bytes < S.taken source.new) }
     ensures longest { S.longest source.old ≤ most_bytes → ((status_of result ≡ 4) ↔ (most_bytes < S.longest source.new)) }
     ensures long_file { status_of result ≡ 4 → Any (IsLongFile (S.files source.old)) (all_paths (paths_view paths.now)) }
@@ -33,18 +34,19 @@ pub(crate) fn read_input<'w, S: Source>(
     ensures length_told { status_of result ≡ 4 → Any (λ path. message_of result ≡ length_message path) (all_paths (paths_view paths.now)) }
     ensures later { S.faults source.old ≤ S.faults source.new }
 {
-    let json = read_map(alloc, source, paths.map_path)?;
+    let map_file = read_map(alloc, source, paths.map_path)?;
     let modules = read_files(alloc, source, paths.module_paths)?;
-    Ok(InputFiles { json, modules })
+    Ok(InputFiles { map_file, modules })
 }
 
-// Reads the map, and answers the JSON value of its bytes.
+// Reads the map, and answers the map that its bytes are; None where they are none.
 fn read_map<'w, S: Source>(
     alloc: Global,
     source: &mut S,
     path: &'w str,
-) -> Result<Option<Value>, Failure<'w>>
-    ensures file { IfOk result (λ json. (bytes : List ℕ) × IsReadFile (S.files source.old) path.now bytes × IsJsonOf bytes json) }
+) -> Result<Option<MapFile>, Failure<'w>>
+    ensures file { IfOk result (λ read. (bytes : List ℕ) × IsReadFile (S.files source.old) path.now bytes × (option_map map_file_view read ≡ map_in_bytes bytes)) }
+    ensures kinds { IfOk result (λ read. IfSome read (λ f. IsMap (map_file_view f))) }
     ensures too_long { (status_of result ≡ 4) ↔ (most_bytes < S.taken source.new) }
     ensures longest { S.longest source.old ≤ most_bytes → ((status_of result ≡ 4) ↔ (most_bytes < S.longest source.new)) }
     ensures long_file { status_of result ≡ 4 → IsLongFile (S.files source.old) path.now }
@@ -56,14 +58,15 @@ fn read_map<'w, S: Source>(
     ensures later { S.faults source.old ≤ S.faults source.new }
 {
     let bytes = read_file(alloc, source, path)?;
-    Ok(json_from(alloc, bytes)?)
+    Ok(map_from(alloc, bytes)?)
 }
 
-// The JSON value of some bytes, which end with this call; None where they are no JSON text.
-fn json_from(alloc: Global, bytes: Vec<u8>) -> Result<Option<Value>, AllocError>
-    ensures { IfOk result (IsJsonOf bytes.items) }
+// The map that some bytes are, which end with this call; None where they are none.
+fn map_from(alloc: Global, bytes: Vec<u8>) -> Result<Option<MapFile>, AllocError>
+    ensures value { IfOk result (λ read. option_map map_file_view read ≡ map_in_bytes bytes.items) }
+    ensures kinds { IfOk result (λ read. IfSome read (λ f. IsMap (map_file_view f))) }
 {
-    json_of(alloc, &bytes)
+    map_of_any(alloc, &bytes)
 }
 
 // Reads some files in order.

@@ -2,7 +2,8 @@ use Rattle.std.proofs.Common.{map, Ok, refl, sym, ap, ◌∙◌, subst}
 use Rattle.std.specs.Prelude.{option_map}
 use Rattle.std.proofs.lemmas.Result.{err_from_is_err_and}
 use Rattle.dwc_base.specs.Outputs.{section_view}
-use Rattle.dwc_cli.specs.MapViews.{map_file_view}
+use Rattle.dwc_map.specs.MapViews.{map_file_view}
+use Rattle.dwc_map.proofs.MapFits.{map-of_bytes}
 use Rattle.dwc_cli.specs.Failures.{failure_status}
 use Rattle.dwc_cli.specs.Inputs.{Input, Loaded}
 use Rattle.dwc_cli.specs.Answers.{IsInputOf, IsBroken, TranslatesFiles, IsReadAs, IsTextStatus, text_statuses}
@@ -13,10 +14,10 @@ use Rattle.dwc_cli.proofs.answer.text_of.Goals as goal
 
 -- ---- a module is refused
 
-module_broken : (c : goal.Joined-json) → IsBroken (map (λ m. m.items) c.args.files.modules.items) (failure_status c.in_err-translations.field-0.0)
+module_broken : (c : goal.Joined-map_file) → IsBroken (map (λ m. m.items) c.args.files.modules.items) (failure_status c.in_err-translations.field-0.0)
 module_broken c = subst (λ ms. IsBroken (map (λ m. m.items) ms) (failure_status c.in_err-translations.field-0.0)) c.deref.ensures.value c.in_err-translations.ensures
 
-module_refused : (c : goal.Joined-json) (input : Input) → IsInputOf c.args.files input → Refuses input (failure_status c.in_err-translations.field-0.0)
+module_refused : (c : goal.Joined-map_file) (input : Input) → IsInputOf c.args.files input → Refuses input (failure_status c.in_err-translations.field-0.0)
 module_refused c input is =
     let status = failure_status c.in_err-translations.field-0.0 in
     Refuses-broken input status (subst (λ ms. IsBroken ms status) is.modules (module_broken c))
@@ -36,25 +37,15 @@ returns-in_err-translations-clause-complete c = λ input is.
     let p = err_from_is_err_and c.from_residual.result c.from_residual.ensures.1 in
     rw (p.1, p.2) (module_refused c input is).complete
 
--- ---- the map is not read, or has no value
-
-pub returns-in_err-map_file-clause-causes : goal.returns-in_err-map_file-clause-causes
-returns-in_err-map_file-clause-causes c = λ input is.
-    let p = err_from_is_err_and c.from_residual-in_err-map_file.result c.from_residual-in_err-map_file.ensures.1 in
-    rw (p.1, p.2) (Refuses-memory input).causes
-
-pub returns-in_err-map_file-clause-status : goal.returns-in_err-map_file-clause-status
-returns-in_err-map_file-clause-status c =
-    let p = err_from_is_err_and c.from_residual-in_err-map_file.result c.from_residual-in_err-map_file.ensures.1 in
-    rw (p.1, p.2) (IsOneOf-from text_statuses 9 refl)
+-- ---- the map is none of the modules
 
 map_refused : (c : goal.After-drop-modules-in_default) (input : Input) → IsInputOf c.args.files input → Refuses input 6
 map_refused c input is =
     let ts = c.in_ok-translations.translations.items in
     let held = subst (λ ms. TranslatesFiles (map (λ m. m.items) ms) (Ok c.in_ok-translations.translations)) c.deref.ensures.value c.in_ok-translations.ensures in
     let found = subst (λ ms. TranslatesFiles ms (Ok c.in_ok-translations.translations)) is.modules held in
-    let none = none_from c.in_ok-map_file.field-0 c.in_default.not-Some in
-    let seen = ap (option_map map_file_view) (sym none) ∙ c.in_ok-map_file.ensures.value input.map_bytes is.json in
+    let none = none_from c.map_for.result c.in_default.not-Some in
+    let seen = ap (option_map map_file_view) (sym none) ∙ map-of_bytes _ c.args.files.map_file c.map_for.result c.map_for.ensures.value input.map_bytes is.map_is in
     Refuses-no_map ts input found (rw (c.deref-2.ensures.value) at seen)
 
 pub returns-in_default-clause-causes : goal.returns-in_default-clause-causes
@@ -76,7 +67,7 @@ sections_refused c input is =
     let ts = c.in_ok-translations.translations.items in
     let held = subst (λ ms. TranslatesFiles (map (λ m. m.items) ms) (Ok c.in_ok-translations.translations)) c.deref.ensures.value c.in_ok-translations.ensures in
     let found = subst (λ ms. TranslatesFiles ms (Ok c.in_ok-translations.translations)) is.modules held in
-    let seen = ap (option_map map_file_view) (sym c.in-Some.is) ∙ c.in_ok-map_file.ensures.value input.map_bytes is.json in
+    let seen = ap (option_map map_file_view) (sym c.in-Some.is) ∙ map-of_bytes _ c.args.files.map_file c.map_for.result c.map_for.ensures.value input.map_bytes is.map_is in
     let was = was_read ts c.in-Some.map_file input found (rw (c.deref-2.ensures.value) at seen) in
     Refuses-cause input was.read (failure_status c.in_err-sections.field-0.0) was.is_read (c.in_err-sections.ensures was.read was.read_as)
 
@@ -115,12 +106,17 @@ returns-in_err-printed-clause-status c =
     let p = err_from_is_err_and c.from_residual-in_err-printed.result c.from_residual-in_err-printed.ensures.1 in
     rw (p.1, p.2) (IsOneOf-from text_statuses 9 refl)
 
+pub returns-in_err-printed-clause-complete : goal.returns-in_err-printed-clause-complete
+returns-in_err-printed-clause-complete c = λ input is.
+    let p = err_from_is_err_and c.from_residual-in_err-printed.result c.from_residual-in_err-printed.ensures.1 in
+    rw (p.1, p.2) (Refuses-memory input).complete
+
 text_given : (c : goal.After-drop-modules-2) (input : Input) → IsInputOf c.args.files input → Gives input c.in_ok-printed.field-0.items
 text_given c input is =
     let ts = c.in_ok-translations.translations.items in
     let held = subst (λ ms. TranslatesFiles (map (λ m. m.items) ms) (Ok c.in_ok-translations.translations)) c.deref.ensures.value c.in_ok-translations.ensures in
     let found = subst (λ ms. TranslatesFiles ms (Ok c.in_ok-translations.translations)) is.modules held in
-    let seen = ap (option_map map_file_view) (sym c.in-Some.is) ∙ c.in_ok-map_file.ensures.value input.map_bytes is.json in
+    let seen = ap (option_map map_file_view) (sym c.in-Some.is) ∙ map-of_bytes _ c.args.files.map_file c.map_for.result c.map_for.ensures.value input.map_bytes is.map_is in
     let was = was_read ts c.in-Some.map_file input found (rw (c.deref-2.ensures.value) at seen) in
     let sections = map section_view c.in_ok-sections.sections.items in
     rw (c.in_ok-printed.ensures.text, c.deref-3.ensures.value) (Gives-emitted input was.read sections was.is_read (c.in_ok-sections.ensures was.read was.read_as))

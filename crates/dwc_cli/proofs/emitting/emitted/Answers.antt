@@ -1,7 +1,7 @@
 use Rattle.std.proofs.Common.{map, length, ap, sym, ◌∙◌, subst}
 use Rattle.std.proofs.lemmas.List.{length-map}
 use Rattle.dwc_addr.specs.Compilations.{lists}
-use Rattle.dwc_cli.specs.MapViews.{path_view}
+use Rattle.dwc_map.specs.MapViews.{path_view}
 use Rattle.dwc_cli.specs.ToldPaths.{HavePaths}
 use Rattle.dwc_cli.proofs.PathLaws.{sorted-with_paths}
 use Rattle.dwc_cli.proofs.EmittedLaws.{paths_in, paths-same, modules-counted, counted, compiled}

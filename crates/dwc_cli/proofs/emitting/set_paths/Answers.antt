@@ -1,6 +1,6 @@
 use Rattle.std.proofs.Common.{◌≡◌, ◌<◌, ◌∙◌, sym, ap, arith, add-one, length, map}
 use Rattle.std.proofs.lemmas.List.{length-map, length-set}
-use Rattle.dwc_cli.specs.MapViews.{path_view}
+use Rattle.dwc_map.specs.MapViews.{path_view}
 use Rattle.dwc_cli.proofs.PathLaws.{first_paths-more, all_paths-set, path-at}
 use Rattle.dwc_cli.proofs.emitting.set_paths.Goals as goal
 

@@ -1,5 +1,5 @@
 use Rattle.std.proofs.Common.{◌≡◌, length, map}
-use Rattle.dwc_cli.specs.MapViews.{path_view}
+use Rattle.dwc_map.specs.MapViews.{path_view}
 use Rattle.dwc_cli.proofs.PathLaws.{HaveFirstPaths}
 use Rattle.dwc_cli.proofs.emitting.set_paths.Given as goal
 

@@ -14,7 +14,7 @@ returns-in_err-modules-clause-long_file g c = λ e.
     let paths = map string_bytes c.args.paths.now.module_paths.now in
     let p = err_from_is_err_and c.from_residual-in_err-modules.result c.from_residual-in_err-modules.ensures.1 in
     let four = sym (ap failure_status p.2) ∙ sym (ap status_of p.1) ∙ e in
-    let long = subst (λ fs. Any (IsLongFile fs) paths) c.in_ok-json.ensures.files (c.in_err-modules.ensures.long_file four) in
+    let long = subst (λ fs. Any (IsLongFile fs) paths) c.in_ok-map_file.ensures.files (c.in_err-modules.ensures.long_file four) in
     Any-more (IsLongFile files) c.args.paths.now.map_path.now paths long
 
 pub returns-in_err-modules-clause-fault_told : goal.returns-in_err-modules-clause-fault_told
@@ -39,6 +39,6 @@ pub returns-clause-input : goal.returns-clause-input
 returns-clause-input g c =
     let paths = map string_bytes c.args.paths.now.module_paths.now in
     let modules = map (λ m. m.items) c.in_ok-modules.modules.items in
-    let told = c.in_ok-json.ensures.file in
-    let read = subst (λ fs. AllZip (IsReadFile fs) paths modules) c.in_ok-json.ensures.files c.in_ok-modules.ensures.files_read in
-    (record { map_bytes = told.0; modules = modules }, record { json = told.2; modules = refl }, (told.1, read))
+    let told = c.in_ok-map_file.ensures.file in
+    let read = subst (λ fs. AllZip (IsReadFile fs) paths modules) c.in_ok-map_file.ensures.files c.in_ok-modules.ensures.files_read in
+    (record { map_bytes = told.0; modules = modules }, record { map_is = told.2; modules = refl }, (told.1, read))

@@ -1,0 +1,13 @@
+pub mod OnLiterals
+pub mod MapKinds
+pub mod FrameKinds
+pub mod Tables
+pub mod MapFits
+pub mod MapCases
+pub mod MapFrameCases
+pub mod TokenLists
+pub mod TokenMembers
+pub mod TokenKinds
+pub mod TokenNumbers
+pub mod TokenEntries
+pub mod RecordCases

@@ -1,0 +1,5 @@
+pub mod MapValues
+pub mod MapFrames
+pub mod MapFile
+pub mod MapViews
+pub mod ByTokens

@@ -1,0 +1,373 @@
+//! A map file by the tokens of its text: no value is made of the entries of its functions, which are most of it. A map is read so where each
+//! object has the fields that are known and the numbers are whole; any other, and what is no map, is left to the plain way.
+ghost use Rattle.std.specs.Prelude.{◌≡◌, ◌<◌, ◌-◌, ◌^◌, ℕ, List, ◌∷◌, map, codes, length, Some, IfOk, OnOk};
+ghost use Rattle.json.specs.Token.{begin_array, begin_object, end_array, number};
+ghost use Rattle.serde_json.specs.View.{members_view};
+ghost use Rattle.dwc_clif.specs.AddressMaps.{entry_view};
+ghost use Rattle.dwc_map.specs.ByTokens.{IsNumber, IsSource, Puts, Tells, TellsItems, TellsMembers};
+ghost use Rattle.dwc_map.specs.MapFile.{entries_of, functions_of, map_function_of, map_in, map_in_bytes, map_module_of, modules_of};
+ghost use Rattle.dwc_map.specs.MapValues.{pair_of, source_of, u32_of};
+ghost use Rattle.dwc_map.specs.MapViews.{function_view, map_file_view, module_view, told_sources, mapped_sources, HaveOneSource, ModulesHaveOneSource};
+
+use crate::function::function_from;
+use crate::map_file::{MapFile, MapModule, map_from};
+use crate::module::module_from;
+use crate::stop::Stop;
+use crate::tokens::{put_value, read_value, whole_of};
+use dwc_base::{FilePos, SymbolId};
+use dwc_clif::{CompiledFunctionMetadata, InstructionAddressMap};
+use json::{Reader, Scratch, Token};
+use serde_json::{Map, Value};
+use std::alloc::Global;
+
+// How deep the lists and objects of a map may nest.
+const DEPTH: usize = 127;
+
+// Takes the bracket that opens a list.
+fn begin_list(reader: &mut Reader<'_>) -> Result<(), Stop>
+    ensures { OnOk result (reader.old ≡ begin_array ∷ reader.new) }
+{
+    match reader.next() {
+        Some(Token::BeginArray) => Ok(()),
+        _ => Err(Stop::Unusual),
+    }
+}
+
+// Takes the bracket that closes a list.
+fn end_list(reader: &mut Reader<'_>) -> Result<(), Stop>
+    ensures { OnOk result (reader.old ≡ end_array ∷ reader.new) }
+{
+    match reader.next() {
+        Some(Token::EndArray) => Ok(()),
+        _ => Err(Stop::Unusual),
+    }
+}
+
+// Takes the brace that opens an object.
+fn begin_object(reader: &mut Reader<'_>) -> Result<(), Stop>
+    ensures { OnOk result (reader.old ≡ begin_object ∷ reader.new) }
+{
+    match reader.next() {
+        Some(Token::BeginObject) => Ok(()),
+        _ => Err(Stop::Unusual),
+    }
+}
+
+// The whole number below 2^32 that a text writes.
+fn number_in(text: &str) -> Result<u32, Stop>
+    ensures { IfOk result (λ n. IsNumber text.now n) }
+{
+    let Some(number) = whole_of(text) else {
+        return Err(Stop::Unusual);
+    };
+    match u32::try_from(number) {
+        Ok(number) => Ok(number),
+        Err(_) => Err(Stop::Unusual),
+    }
+}
+
+// Takes a whole number below 2^32.
+fn read_number(reader: &mut Reader<'_>) -> Result<u32, Stop>
+    ensures { IfOk result (λ n. (s : List ℕ) × (reader.old ≡ number s ∷ reader.new) × IsNumber s n) }
+{
+    match reader.next() {
+        Some(Token::Number(text)) => number_in(text),
+        _ => Err(Stop::Unusual),
+    }
+}
+
+// Takes the offset of a source, or null for no source.
+fn read_source(reader: &mut Reader<'_>) -> Result<FilePos, Stop>
+    ensures { IfOk result (λ p. IsSource reader.old p.offset reader.new) }
+{
+    match reader.next() {
+        Some(Token::Null) => Ok(FilePos::default()),
+        Some(Token::Number(text)) => source_in(text),
+        _ => Err(Stop::Unusual),
+    }
+}
+
+// The offset of a source, below 2^32 - 1, that a text writes.
+fn source_in(text: &str) -> Result<FilePos, Stop>
+    ensures { IfOk result (λ p. (n : ℕ) × (p.offset ≡ Some n) × IsNumber text.now n × (n < 2 ^ 32 - 1)) }
+{
+    let offset = number_in(text)?;
+    if offset == u32::MAX {
+        return Err(Stop::Unusual);
+    }
+    Ok(FilePos::new(offset))
+}
+
+// A pair of a code offset and the source of the code from there on.
+fn read_entry(reader: &mut Reader<'_>, depth: usize) -> Result<InstructionAddressMap, Stop>
+    requires { 0 < depth }
+    ensures told { IfOk result (λ e. Tells depth (pair_of u32_of source_of) reader.old (entry_view e) reader.new) }
+    ensures shorter { OnOk result (length reader.new < length reader.old) }
+{
+    begin_list(reader)?;
+    let code_offset = read_number(reader)?;
+    let srcloc = read_source(reader)?;
+    end_list(reader)?;
+    Ok(InstructionAddressMap {
+        srcloc,
+        code_offset,
+    })
+}
+
+// The entries of a function.
+fn read_entries(
+    alloc: Global,
+    reader: &mut Reader<'_>,
+    depth: usize,
+) -> Result<Vec<InstructionAddressMap>, Stop>
+    requires { 1 < depth }
+    ensures told { IfOk result (λ es. Tells depth entries_of reader.old (map entry_view es.items) reader.new) }
+    ensures shorter { OnOk result (length reader.new < length reader.old) }
+{
+    begin_list(reader)?;
+    entries_inside(alloc, reader, depth - 1)
+}
+
+// The entries of a function, behind the bracket that opens their list.
+fn entries_inside(
+    alloc: Global,
+    reader: &mut Reader<'_>,
+    depth: usize,
+) -> Result<Vec<InstructionAddressMap>, Stop>
+    requires { 0 < depth }
+    ensures told { IfOk result (λ es. TellsItems depth (pair_of u32_of source_of) reader.old (map entry_view es.items) reader.new) }
+    ensures shorter { OnOk result (length reader.new < length reader.old) }
+{
+    let mut entries = Vec::new(alloc);
+    'items: while !reader.take_end_array() {
+        let entry = read_entry(reader, depth)?;
+        entries.push(entry)?;
+    }
+    Ok(entries)
+}
+
+// Reads the value of a field and puts it among others.
+fn read_field(
+    alloc: Global,
+    reader: &mut Reader<'_>,
+    depth: usize,
+    name: &str,
+    fields: &mut Map<String, Value>,
+) -> Result<(), Stop>
+    ensures puts { OnOk result (Puts depth name.now reader.old (members_view fields.old.entries) (members_view fields.new.entries) reader.new) }
+    ensures shorter { OnOk result (length reader.new < length reader.old) }
+{
+    let field = read_value(alloc, reader, depth)?;
+    put_value(alloc, fields, name, field)
+}
+
+// The entries of a function and its other fields, behind the brace that opens it.
+fn function_members(
+    alloc: Global,
+    reader: &mut Reader<'_>,
+    depth: usize,
+) -> Result<(Map<String, Value>, Vec<InstructionAddressMap>), Stop>
+    requires { 1 < depth }
+    ensures told { IfOk result (λ r. TellsMembers depth (codes "map") entries_of reader.old (members_view r.0.entries) (map entry_view r.1.items) reader.new) }
+    ensures shorter { OnOk result (length reader.new < length reader.old) }
+{
+    let mut fields = Map::new(alloc);
+    let mut entries = None;
+    'members: while let Some(name) = reader.next_key()? {
+        if name == "map" {
+            entries = Some(read_entries(alloc, reader, depth)?);
+        } else {
+            read_field(alloc, reader, depth, name, &mut fields)?;
+        }
+    }
+    match entries {
+        Some(entries) => Ok((fields, entries)),
+        None => Err(Stop::Unusual),
+    }
+}
+
+fn read_function(
+    alloc: Global,
+    reader: &mut Reader<'_>,
+    depth: usize,
+) -> Result<(Option<SymbolId>, CompiledFunctionMetadata), Stop>
+    requires { 2 < depth }
+    ensures told { IfOk result (λ f. Tells depth map_function_of reader.old (function_view f) reader.new) }
+    ensures sources { IfOk result (λ f. told_sources f ≡ mapped_sources f) }
+    ensures shorter { OnOk result (length reader.new < length reader.old) }
+{
+    begin_object(reader)?;
+    let (fields, entries) = function_members(alloc, reader, depth - 1)?;
+    match function_from(alloc, &fields, entries)? {
+        Some(function) => Ok(function),
+        None => Err(Stop::Unusual),
+    }
+}
+
+fn read_functions(
+    alloc: Global,
+    reader: &mut Reader<'_>,
+    depth: usize,
+) -> Result<Vec<(Option<SymbolId>, CompiledFunctionMetadata)>, Stop>
+    requires { 3 < depth }
+    ensures told { IfOk result (λ fs. Tells depth functions_of reader.old (map function_view fs.items) reader.new) }
+    ensures sources { IfOk result (λ fs. HaveOneSource fs.items) }
+    ensures shorter { OnOk result (length reader.new < length reader.old) }
+{
+    begin_list(reader)?;
+    functions_inside(alloc, reader, depth - 1)
+}
+
+// The functions of a module, behind the bracket that opens their list.
+fn functions_inside(
+    alloc: Global,
+    reader: &mut Reader<'_>,
+    depth: usize,
+) -> Result<Vec<(Option<SymbolId>, CompiledFunctionMetadata)>, Stop>
+    requires { 2 < depth }
+    ensures told { IfOk result (λ fs. TellsItems depth map_function_of reader.old (map function_view fs.items) reader.new) }
+    ensures sources { IfOk result (λ fs. HaveOneSource fs.items) }
+    ensures shorter { OnOk result (length reader.new < length reader.old) }
+{
+    let mut functions = Vec::new(alloc);
+    'items: while !reader.take_end_array() {
+        let function = read_function(alloc, reader, depth)?;
+        functions.push(function)?;
+    }
+    Ok(functions)
+}
+
+// The functions of a module and its other fields, behind the brace that opens it.
+fn module_members(
+    alloc: Global,
+    reader: &mut Reader<'_>,
+    depth: usize,
+) -> Result<
+    (
+        Map<String, Value>,
+        Vec<(Option<SymbolId>, CompiledFunctionMetadata)>,
+    ),
+    Stop,
+>
+    requires { 3 < depth }
+    ensures told { IfOk result (λ r. TellsMembers depth (codes "functions") functions_of reader.old (members_view r.0.entries) (map function_view r.1.items) reader.new) }
+    ensures sources { IfOk result (λ r. HaveOneSource r.1.items) }
+    ensures shorter { OnOk result (length reader.new < length reader.old) }
+{
+    let mut fields = Map::new(alloc);
+    let mut functions = None;
+    'members: while let Some(name) = reader.next_key()? {
+        if name == "functions" {
+            functions = Some(read_functions(alloc, reader, depth)?);
+        } else {
+            read_field(alloc, reader, depth, name, &mut fields)?;
+        }
+    }
+    match functions {
+        Some(functions) => Ok((fields, functions)),
+        None => Err(Stop::Unusual),
+    }
+}
+
+fn read_module(alloc: Global, reader: &mut Reader<'_>, depth: usize) -> Result<MapModule, Stop>
+    requires { 4 < depth }
+    ensures told { IfOk result (λ m. Tells depth map_module_of reader.old (module_view m) reader.new) }
+    ensures sources { IfOk result (λ m. HaveOneSource m.functions.items) }
+    ensures shorter { OnOk result (length reader.new < length reader.old) }
+{
+    begin_object(reader)?;
+    let (fields, functions) = module_members(alloc, reader, depth - 1)?;
+    match module_from(alloc, &fields, functions)? {
+        Some(module) => Ok(module),
+        None => Err(Stop::Unusual),
+    }
+}
+
+fn read_modules(
+    alloc: Global,
+    reader: &mut Reader<'_>,
+    depth: usize,
+) -> Result<Vec<MapModule>, Stop>
+    requires { 5 < depth }
+    ensures told { IfOk result (λ ms. Tells depth modules_of reader.old (map module_view ms.items) reader.new) }
+    ensures sources { IfOk result (λ ms. ModulesHaveOneSource ms.items) }
+    ensures shorter { OnOk result (length reader.new < length reader.old) }
+{
+    begin_list(reader)?;
+    modules_inside(alloc, reader, depth - 1)
+}
+
+// The modules of a map, behind the bracket that opens their list.
+fn modules_inside(
+    alloc: Global,
+    reader: &mut Reader<'_>,
+    depth: usize,
+) -> Result<Vec<MapModule>, Stop>
+    requires { 4 < depth }
+    ensures told { IfOk result (λ ms. TellsItems depth map_module_of reader.old (map module_view ms.items) reader.new) }
+    ensures sources { IfOk result (λ ms. ModulesHaveOneSource ms.items) }
+    ensures shorter { OnOk result (length reader.new < length reader.old) }
+{
+    let mut modules = Vec::new(alloc);
+    'items: while !reader.take_end_array() {
+        let module = read_module(alloc, reader, depth)?;
+        modules.push(module)?;
+    }
+    Ok(modules)
+}
+
+// The modules of a map and its other fields, behind the brace that opens it.
+fn map_members(
+    alloc: Global,
+    reader: &mut Reader<'_>,
+    depth: usize,
+) -> Result<(Map<String, Value>, Vec<MapModule>), Stop>
+    requires { 5 < depth }
+    ensures told { IfOk result (λ r. TellsMembers depth (codes "modules") modules_of reader.old (members_view r.0.entries) (map module_view r.1.items) reader.new) }
+    ensures sources { IfOk result (λ r. ModulesHaveOneSource r.1.items) }
+    ensures shorter { OnOk result (length reader.new < length reader.old) }
+{
+    let mut fields = Map::new(alloc);
+    let mut modules = None;
+    'members: while let Some(name) = reader.next_key()? {
+        if name == "modules" {
+            modules = Some(read_modules(alloc, reader, depth)?);
+        } else {
+            read_field(alloc, reader, depth, name, &mut fields)?;
+        }
+    }
+    match modules {
+        Some(modules) => Ok((fields, modules)),
+        None => Err(Stop::Unusual),
+    }
+}
+
+fn read_map(alloc: Global, reader: &mut Reader<'_>, depth: usize) -> Result<MapFile, Stop>
+    requires { 6 < depth }
+    ensures told { IfOk result (λ m. Tells depth map_in reader.old (map_file_view m) reader.new) }
+    ensures sources { IfOk result (λ m. ModulesHaveOneSource m.modules.items) }
+{
+    begin_object(reader)?;
+    let (fields, modules) = map_members(alloc, reader, depth - 1)?;
+    match map_from(alloc, &fields, modules)? {
+        Some(map) => Ok(map),
+        None => Err(Stop::Unusual),
+    }
+}
+
+/// The map that some bytes are, read token by token.
+pub(crate) fn map_by_tokens(alloc: Global, bytes: &[u8]) -> Result<MapFile, Stop>
+    ensures told { IfOk result (λ m. map_in_bytes bytes.now ≡ Some (map_file_view m)) }
+    ensures sources { IfOk result (λ m. ModulesHaveOneSource m.modules.items) }
+{
+    let Ok(text) = str::from_utf8(bytes) else {
+        return Err(Stop::Unusual);
+    };
+    let mut scratch = Scratch::new(alloc);
+    let mut reader = Reader::new(text, &mut scratch)?;
+    let map = read_map(alloc, &mut reader, DEPTH)?;
+    if reader.next().is_some() {
+        return Err(Stop::Unusual);
+    }
+    Ok(map)
+}

@@ -1,0 +1,155 @@
+//! The functions of a map file: each with its symbol, address map, labels and frame.
+ghost use Rattle.std.specs.Prelude.{ℕ, List, Option, ◌≡◌, map, option_map, option_and_then, IfOk, IfSome};
+ghost use Rattle.serde_json.specs.View.{view, items_view, members_view};
+ghost use Rattle.dwc_clif.specs.AddressMaps.{entry_view};
+ghost use Rattle.dwc_map.specs.MapFile.{function_in, map_function_of};
+ghost use Rattle.dwc_map.specs.MapValues.{u32_of, source_of, pair_of, all_items};
+ghost use Rattle.dwc_map.specs.MapViews.{function_with, function_view, told_sources, mapped_sources, HaveOneSource};
+
+use crate::frames::read_frame;
+use crate::json_fields::{items, member, members, pair, source, symbol, whole_number};
+use crate::labels::read_labels;
+use dwc_base::{FilePos, SymbolId};
+use dwc_clif::{CompiledFunctionMetadata, FunctionAddressMap, InstructionAddressMap};
+use serde_json::{Map, Value};
+use std::alloc::{AllocError, Global};
+
+// The fields of a function beside its entries, the values of its labels and of its frame not yet read.
+#[derive(Clone, Copy)]
+struct FunctionFields<'v> {
+    symbol: Option<SymbolId>,
+    start: FilePos,
+    end: FilePos,
+    body_offset: u32,
+    body_len: u32,
+    labels: Option<&'v Value>,
+    frame: Option<&'v Value>,
+}
+
+fn function_fields(fields: &Map<String, Value>) -> Option<FunctionFields<'_>>
+    ensures { (entries : List (ℕ × Option ℕ)) → function_in entries (members_view fields.now.entries) ≡ option_and_then (function_with entries) result }
+{
+    let symbol = symbol(member(fields, "symbol")?)?;
+    let start = source(member(fields, "start")?)?;
+    let end = source(member(fields, "end")?)?;
+    let body_offset = match member(fields, "body_offset") {
+        Some(field) => whole_number(field)?,
+        None => 0,
+    };
+    let body_len = whole_number(member(fields, "body_len")?)?;
+    Some(FunctionFields {
+        symbol,
+        start,
+        end,
+        body_offset,
+        body_len,
+        labels: member(fields, "labels"),
+        frame: member(fields, "frame"),
+    })
+}
+
+/// A function with these entries, by the other fields of its object; None where one is missing or of the wrong kind.
+pub(crate) fn function_from(
+    alloc: Global,
+    fields: &Map<String, Value>,
+    instructions: Vec<InstructionAddressMap>,
+) -> Result<Option<(Option<SymbolId>, CompiledFunctionMetadata)>, AllocError>
+    ensures value { IfOk result (λ o. option_map function_view o ≡ function_in (map entry_view instructions.items) (members_view fields.now.entries)) }
+    ensures sources { IfOk result (λ o. IfSome o (λ f. told_sources f ≡ mapped_sources f)) }
+{
+    let Some(fields) = function_fields(fields) else {
+        return Ok(None);
+    };
+    let Some(value_labels_ranges) = read_labels(alloc, fields.labels)? else {
+        return Ok(None);
+    };
+    let Some(cfa_unwind_info) = read_frame(alloc, fields.frame)? else {
+        return Ok(None);
+    };
+    let address_map = FunctionAddressMap {
+        instructions,
+        start_srcloc: fields.start,
+        end_srcloc: fields.end,
+        body_offset: fields.body_offset as usize,
+        body_len: fields.body_len,
+    };
+    let metadata = CompiledFunctionMetadata {
+        address_map,
+        value_labels_ranges,
+        unwind_info: None,
+        cfa_unwind_info,
+        start_srcloc: fields.start,
+        end_srcloc: fields.end,
+    };
+    Ok(Some((fields.symbol, metadata)))
+}
+
+// A pair of a code offset and the source of the code from there on.
+#[tactic(auto, using(crate::proofs::MapKinds::pair_of_parts))]
+fn read_entry(value: &Value) -> Option<InstructionAddressMap>
+    ensures { option_map entry_view result ≡ pair_of u32_of source_of (view value.now) }
+{
+    let (code_offset, srcloc) = pair(value)?;
+    let code_offset = whole_number(code_offset)?;
+    let srcloc = source(srcloc)?;
+    Some(InstructionAddressMap {
+        srcloc,
+        code_offset,
+    })
+}
+
+fn read_entries(
+    alloc: Global,
+    values: &[Value],
+) -> Result<Option<Vec<InstructionAddressMap>>, AllocError>
+    ensures { IfOk result (λ o. option_map (λ v. map entry_view v.items) o
+        ≡ all_items (pair_of u32_of source_of) (items_view values.now)) }
+{
+    let mut entries = Vec::with_capacity(alloc, values.len())?;
+    for value in values {
+        let Some(entry) = read_entry(value) else {
+            return Ok(None);
+        };
+        entries.push(entry)?;
+    }
+    Ok(Some(entries))
+}
+
+#[tactic(auto, using(crate::proofs::MapKinds::list_of_items), unfolding(crate::specs::MapFile::map_function_of))]
+fn read_function(
+    alloc: Global,
+    value: &Value,
+) -> Result<Option<(Option<SymbolId>, CompiledFunctionMetadata)>, AllocError>
+    ensures value { IfOk result (λ o. option_map function_view o ≡ map_function_of (view value.now)) }
+    ensures sources { IfOk result (λ o. IfSome o (λ f. told_sources f ≡ mapped_sources f)) }
+{
+    let Some(fields) = members(value) else {
+        return Ok(None);
+    };
+    let Some(values) = member(fields, "map").and_then(items) else {
+        return Ok(None);
+    };
+    let Some(entries) = read_entries(alloc, values)? else {
+        return Ok(None);
+    };
+    function_from(alloc, fields, entries)
+}
+
+/// Functions in order, by their values; None where one is of the wrong kind.
+pub(crate) fn read_functions(
+    alloc: Global,
+    values: &[Value],
+) -> Result<Option<Vec<(Option<SymbolId>, CompiledFunctionMetadata)>>, AllocError>
+    ensures value { IfOk result (λ o. option_map (λ v. map function_view v.items) o
+        ≡ all_items map_function_of (items_view values.now)) }
+    ensures sources { IfOk result (λ o. IfSome o (λ v. HaveOneSource v.items)) }
+{
+    let mut functions = Vec::with_capacity(alloc, values.len())?;
+    for value in values {
+        let Some(function) = read_function(alloc, value)? else {
+            return Ok(None);
+        };
+        functions.push(function)?;
+    }
+    Ok(Some(functions))
+}
