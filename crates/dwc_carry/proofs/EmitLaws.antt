@@ -40,6 +40,7 @@ use Rattle.dwc_carry.specs.Refusals.{in_reading, Told, refused, limit, memory, t
 use Rattle.dwc_carry.specs.Inputs.{input_of, maps_refusal, refusal_of}
 use Rattle.dwc_carry.specs.Transformed.{IsTransformed}
 use Rattle.dwc_carry.specs.Emits.{PassesLimit, Emits}
+use Rattle.dwc_carry.specs.OutputNames.{are_of_output}
 use Rattle.dwc_write.specs.Renumbered.{place_at}
 use Rattle.dwc_carry.proofs.FramesRefused.{IsTable, frames-refused, refused-first, section-sized, table-refused, table-section, table-widest, unit-there}
 use Rattle.dwc_carry.proofs.CompositionLaws.{forest-is, lines-carried, made-sizes, made-trees, widest-given, made-writable}
@@ -119,9 +120,9 @@ module _ (order : Endian) (size : ℕ) (registers : Registers) (entry : Option C
           → frames.told_refusal {A = Vec DwarfSection Global} (Ok s) ≡ frames.first_refusal (frames.refused_frames table)
           → (frames.first_refusal (frames.refused_frames table) ≡ None → ◌≡◌ {A = Result (Vec DwarfSection Global) WriteError} (Ok s) (Err (write.TooLarge Expression)) ↔ (have_short_expressions (given_trees texts (map ordered us)) ≡ false))
           → HasDistinctNames (map section_view s.items) → All (IsRelocated (output_sections order (map section_view s.items))) (others_in (map section_view s.items))
-          → FramesCarried order (size_of (map ordered us)) (frames.common_given table) (frames.descriptions_given table) (map section_view s.items) → All (IsSound order) (map section_view s.items)
+          → FramesCarried order (size_of (map ordered us)) (frames.common_given table) (frames.descriptions_given table) (map section_view s.items) → All (IsSound order) (map section_view s.items) → are_of_output (map section_view s.items) ≡ true
           → ((fs : List Function) → TranslationsKeepScopes fs) → MapsNumber → Emits order size registers entry c (Ok s)
-      emits-sections s back says once form good long names relocated framed_so sound keep number_maps =
+      emits-sections s back says once form good long names relocated framed_so sound known keep number_maps =
           let sizes = made-sizes (place_at us) size texts 0 (wanted_units input) (trees_made input) us t.made in
           let none = emits-accepted (sym good) in (
             none,
@@ -142,6 +143,7 @@ module _ (order : Endian) (size : ℕ) (registers : Registers) (entry : Option C
                 frames = framed_so ∙ table-section (frame_descriptions input) order (size_of (map ordered us)) entry table framed ∙ section-sized order size entry (frame_descriptions input) us sizes described-there;
               };
               sound = sound;
+              known = known;
               short = ap have_short_expressions (sym same-trees) ∙ short-written (have_short_expressions (given_trees texts (map ordered us))) s (long (sym good));
             },
           )

@@ -52,3 +52,4 @@ pub mod ListedSteps
 pub mod PathLaws
 pub mod SimulatedModuleLaws
 pub mod LastUnitLaws
+mod OutputNameLaws

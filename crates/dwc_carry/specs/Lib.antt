@@ -23,3 +23,4 @@ pub mod Transformed
 pub mod Emits
 pub mod ListedNames
 pub mod LocalGroups
+pub mod OutputNames

@@ -235,6 +235,7 @@ module _ (c : CompilationValue) (order : Endian) (size : ℕ) (registers : Regis
     carried = subst (λ input. OutputCarried input (map section_view s.items)) (sym input-is) h.1.output;
     short = ap (λ input. have_short_expressions (trees_made input)) input-is ∙ h.1.short;
     sound = subst (λ input. All (IsSound input.order) (map section_view s.items)) (sym input-is) h.1.sound;
+    known = h.1.known;
   }
 
   pub refused-emitting : shared_symbol (map symbol_view (all_symbols c.functions)) ≡ None → (e : DebugError) → emits.Emits order size registers entry c (Err e) → IsCause read (carrying_status e)

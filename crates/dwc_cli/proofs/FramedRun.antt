@@ -120,6 +120,7 @@ carries-framed = record {
   accepted = refusal-grows;
   sections = output_framed;
   plain = refl;
+  known = refl;
   carried = subst (λ c. OutputCarried c output_framed) (sym told-grows) carried-framed;
   short = ap (λ c. have_short_expressions (trees_made c)) told-grows ∙ all-short;
   written = refl;

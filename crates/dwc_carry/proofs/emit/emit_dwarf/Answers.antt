@@ -1,6 +1,9 @@
+use Rattle.std.proofs.Common.{ap, ◌∙◌}
 use Rattle.std.proofs.lemmas.Result.{err_from_is_err_and}
 use Rattle.dwc_base.specs.declared.records.Endian.TheVariants.{Little}
+use Rattle.dwc_carry.specs.OutputNames.{are_of_output}
 use Rattle.dwc_carry.proofs.FramesRefused.{table-is}
+use Rattle.dwc_carry.proofs.OutputNameLaws.{written-of_output}
 use Rattle.dwc_carry.proofs.EmitLaws.{transformed-writable, transformed-texts, transformed-unit, emits-refused, emits-sections, emits-large}
 use Rattle.dwc_carry.proofs.emit.emit_dwarf.Goals as goal
 
@@ -34,4 +37,5 @@ returns-clause-sections g c =
     (rw c.endianness.ensures at c.in_ok-write_sections.ensures.read) (rw c.endianness.ensures at c.in_ok-write_sections.ensures.trees) (rw c.endianness.ensures at c.in_ok-write_sections.ensures.texts_once)
     (rw c.endianness.ensures at c.in_ok-write_sections.ensures.form) c.in_ok-write_sections.ensures.refused c.in_ok-write_sections.ensures.expressions
     c.in_ok-write_sections.ensures.names (rw c.endianness.ensures at c.in_ok-write_sections.ensures.relocated) (rw c.endianness.ensures at c.in_ok-write_sections.ensures.frames) (rw c.endianness.ensures at c.in_ok-write_sections.ensures.sound)
+    (ap are_of_output c.in_ok-write_sections.ensures.sections ∙ written-of_output c.endianness.result c.in_ok-dwarf.dwarf.strings c.in_ok-dwarf.dwarf.units.units.items c.in_ok-frames.frames)
     c.translations_keep_scopes.ensures.keep c.translations_keep_scopes.ensures.made
