@@ -27,6 +27,7 @@ use Rattle.dwc_base.specs.ScopesCarried.{AreNumbered, TranslationsKeepScopes}
 use Rattle.dwc_base.specs.LocationsCarried.{SaysWhere}
 use Rattle.dwc_base.specs.ContextsCarried.{IsContext, BeginWithContext, CarriesContext, EachBehind, UnitHasContexts, ContextsCarried}
 use Rattle.dwc_base.specs.Forests.{kept_of, expressions_of, rules_of, wanted_units, is_big, drafts_of, first_refusal, module_refusals, trees_made}
+use Rattle.dwc_base.specs.ListedFunctions.{is_begun}
 use Rattle.dwc_base.proofs.InLists.{IsIn, contains-in}
 use Rattle.dwc_base.proofs.EntryOffsets.{same-entry, kept-placed, carried-read}
 use Rattle.dwc_base.proofs.ForestLaws.{Each}
@@ -181,4 +182,4 @@ pub made-contexts : (c : Compilation) → All (λ (m : Module). AreNumbered m.fu
 made-contexts c numbered keep accepted =
     units-made c (UnitHasContexts (drafts_of (is_big c.order))) (λ t. tt)
     (λ m i u carried places. unit-leads (is_big c.order) m (keep m.functions) (all-in (λ (n : Module). AreNumbered n.functions) c.modules m numbered i) (none-refused c accepted m i) u carried places)
-    (last-always (UnitHasContexts (drafts_of (is_big c.order))) (λ name ms t. tt) c.next_id c.modules)
+    (last-always (UnitHasContexts (drafts_of (is_big c.order))) (is_begun c.modules) (λ name ms t. tt) c.next_id c.modules)

@@ -36,6 +36,7 @@ use Rattle.dwc_base.specs.LocationRules.{ExpressionSource, given_expression, exp
 use Rattle.dwc_base.specs.EntryRules.{code_value_becomes, of_list, of_location, wrappers_of, rules_of_source}
 use Rattle.dwc_base.specs.RangeRefusals.{has_name}
 use Rattle.dwc_base.specs.LastUnit.{last_refusals}
+use Rattle.dwc_base.specs.ListedFunctions.{is_begun}
 use Rattle.dwc_base.specs.Forests.{kept_of, expressions_of, rules_of, wanted_units, is_big, drafts_of, function_refusals, own_refusals, reading_refusals, module_refusals, refusals, first_refusal, trees_made, refused_frames}
 use Rattle.dwc_base.specs.ScopesCarried.{AreNumbered, TranslationsKeepScopes, KeepsScope, value_of_entry}
 use Rattle.dwc_base.specs.LocationsCarried.{LocationUse, over_scope, over_intervals, use_over, interval_used, intervals_used, use_of, IntervalSaysWhere, ListSaysWhere, ValueSaysWhere, NameSaysWhere, CarriesLocations, UnitCarriesLocations, UnitHasLocations, LocationsCarried}
@@ -391,13 +392,13 @@ no-first (x ∷ xs) h = absurd (cc)
 -- of an input of which nothing is refused nothing is of a module
 pub none-refused : (c : Compilation) → first_refusal c ≡ None → (m : Module) → IsIn m c.modules → module_refusals m ≡ []
 none-refused c accepted m i =
-    let last = last_refusals c.next_id c.modules ++ refused_frames c in
+    let last = last_refusals (is_begun c.modules) c.next_id c.modules ++ refused_frames c in
     let behind = (both-none (flat_map (λ (n : Module). function_refusals n.functions) c.modules) (flat_map module_refusals c.modules ++ last) (no-first (refusals c) accepted)).1 in
     each-none module_refusals c.modules m (both-none (flat_map module_refusals c.modules) last behind).0 i
 
 -- The trees that are made of an input of which nothing is refused, whose functions have good maps and numbers of their own, carry its
 -- locations, if the last one does.
-pub made-locations : (c : Compilation) → All (λ (m : Module). AreNumbered m.functions) c.modules → ((fs : List Function) → TranslationsKeepScopes fs) → first_refusal c ≡ None → LastIs (UnitHasLocations (drafts_of (is_big c.order))) c.next_id c.modules
+pub made-locations : (c : Compilation) → All (λ (m : Module). AreNumbered m.functions) c.modules → ((fs : List Function) → TranslationsKeepScopes fs) → first_refusal c ≡ None → LastIs (UnitHasLocations (drafts_of (is_big c.order))) (is_begun c.modules) c.next_id c.modules
     → LocationsCarried (drafts_of (is_big c.order)) (wanted_units c) (trees_made c)
 made-locations c numbered keep accepted last =
     units-made c (UnitHasLocations (drafts_of (is_big c.order))) (λ t. tt)

@@ -18,6 +18,7 @@ use Rattle.dwc_base.specs.EntryRules.{wrappers_of, rules_of_source}
 use Rattle.dwc_base.specs.Forests.{kept_of, expressions_of, wanted_units, is_big, drafts_of, trees_made}
 use Rattle.dwc_base.specs.RangeAttributes.{wasm_interval, native_of_intervals, begun_function, Extent, intervals, position, nowhere, extent, range_attributes}
 use Rattle.dwc_base.specs.ScopesCarried.{value_of_entry, bounded, listed_or, covered_intervals, KeepsScope, scope_of_intervals, scope_to_keep, CarriesScope, UnitHasScopes, ScopesCarried, AreNumbered, TranslationsKeepScopes}
+use Rattle.dwc_base.specs.ListedFunctions.{is_begun}
 use Rattle.dwc_base.proofs.ForestLaws.{none_is}
 use Rattle.dwc_base.proofs.MadeDrafts.{unit-says}
 use Rattle.dwc_base.proofs.UnitsMade.{all-in, last-always, units-made}
@@ -91,4 +92,4 @@ made-scopes c numbered keep =
     unit-says m u carried (is_big c.order) places (CarriesScope (lists_of e) m.functions)
     (λ p k is. entry-carries m.functions (keep m.functions) (all-in (λ (n : Module). AreNumbered n.functions) c.modules m numbered i) e refl (source_of (kept_of m) u) (is_big c.order) places p)
     (λ p k is out. wrapped-carries (lists_of e) m.functions p out is))
-    (last-always (UnitHasScopes (drafts_of (is_big c.order))) (λ name ms t. tt) c.next_id c.modules)
+    (last-always (UnitHasScopes (drafts_of (is_big c.order))) (is_begun c.modules) (λ name ms t. tt) c.next_id c.modules)

@@ -8,6 +8,7 @@ use Rattle.dwc_base.specs.ToldFiles.{bare_file}
 use Rattle.dwc_base.specs.Functions.{Function}
 use Rattle.dwc_base.specs.Carried.{Module, WantedUnit, own_unit, carried_unit, listed_unit}
 use Rattle.dwc_base.specs.LastUnit.{last_wanted, listed_in_files, widest_last}
+use Rattle.dwc_base.specs.ListedFunctions.{is_begun}
 use Rattle.dwc_base.specs.Compiled.{no_memory}
 use Rattle.dwc_base.proofs.LineTables.{function_small}
 use Rattle.dwc_base.proofs.SmallModule.{abbreviations_small, info_small, line_small}
@@ -51,10 +52,10 @@ segment-bare = refl
 abbrev lines_of : WantedUnit → Option (List ℕ × List (ℕ × Function))
 lines_of own_unit = None
 lines_of (carried_unit u) = None
-lines_of (listed_unit name ms) = Some (name, listed_in_files ms)
+lines_of (listed_unit name translated ms) = Some (name, listed_in_files translated ms)
 
 abbrev last_lines : ℕ → List Module → List (Option (List ℕ × List (ℕ × Function)))
-last_lines next_id ms = map lines_of (last_wanted next_id ms)
+last_lines next_id ms = map lines_of (last_wanted (is_begun ms) next_id ms)
 
 lines-unlinked : last_lines 0 (named_small (told_with abbreviations_small info_0 line_small) ∷ []) ≡ Some (codes "g.wasm", (20, function_small) ∷ []) ∷ []
 unfolding simulated_on_literals
@@ -65,8 +66,8 @@ unfolding simulated_on_literals
 lines-linked = refl
 
 -- of two modules each function with the offset of its own file
-lines-two : last_lines 7 (module_edges no_memory abbreviations_small info_small line_small [] ∷ record (named_small (told_with [] [] [])) { file = bare_file 100 } ∷ [])
-    ≡ Some (codes "m", (20, a_function (Some 2) 20 20 0 ((0, None) ∷ [])) ∷ (20, last_function) ∷ (100, function_small) ∷ []) ∷ []
+lines-two : last_lines 7 (module_edges no_memory abbreviations_small info_small line_small [] ∷ record (named_small (told_with [] [] [])) { functions = a_function (Some 4) 2 9 5 ((0, Some 2) ∷ []) ∷ []; file = bare_file 100 } ∷ [])
+    ≡ Some (codes "m", (20, a_function (Some 2) 20 20 0 ((0, None) ∷ [])) ∷ (20, last_function) ∷ (100, a_function (Some 4) 2 9 5 ((0, Some 2) ∷ [])) ∷ []) ∷ []
 unfolding simulated_on_literals
 lines-two = refl
 
@@ -76,6 +77,6 @@ lines-none = refl
 -- ---- how long they can be
 
 -- without a listed function a header alone, with one three rows for two sources, and nothing without a module
-widest : map (widest_last 0) ((named_small (told_with abbreviations_small info_small line_small) ∷ []) ∷ (named_small (told_with abbreviations_small info_0 line_small) ∷ []) ∷ [] ∷ []) ≡ 67 ∷ (67 + (43 + 3 * 82)) ∷ 0 ∷ []
+widest : map (λ ms. widest_last (is_begun ms) 0 ms) ((named_small (told_with abbreviations_small info_small line_small) ∷ []) ∷ (named_small (told_with abbreviations_small info_0 line_small) ∷ []) ∷ [] ∷ []) ≡ 67 ∷ (67 + (43 + 3 * 82)) ∷ 0 ∷ []
 unfolding simulated_on_literals
 widest = refl

@@ -15,7 +15,7 @@ use Rattle.dwc_base.specs.TreeLaws.{HasAllTargets}
 use Rattle.dwc_base.specs.declared.wasm.ValType.TheVariants.{I32, I64, F32, F64, Other}
 use Rattle.dwc_base.specs.ToldFiles.{bare_file, type_of_local}
 use Rattle.dwc_base.specs.Runs.{interval_of}
-use Rattle.dwc_base.specs.ListedFunctions.{listed_functions}
+use Rattle.dwc_base.specs.ListedFunctions.{is_begun, listed_functions}
 use Rattle.dwc_base.specs.SimulatedUnit.{simulated_refusals}
 use Rattle.dwc_base.proofs.OwnTrees.{own_tree, own_tree_with}
 use Rattle.dwc_base.proofs.SmallModule.{told_small, abbreviations_small, info_small, line_small}
@@ -26,7 +26,7 @@ use Rattle.dwc_base.proofs.SimulatedInputs.{trees_of, simulated_on_literals, nam
 -- ---- which functions are listed
 
 abbrev numbers_listed : Module → List ℕ
-numbers_listed m = map (λ d. d.function.number) (listed_functions m)
+numbers_listed m = map (λ d. d.function.number) (listed_functions (is_begun (m ∷ [])) m)
 
 -- some functions with the sections of the small module or a variant
 abbrev with_functions : List Function → List ℕ → List ℕ → Module
@@ -185,8 +185,11 @@ targets = refl
 
 -- ---- refusals
 
+abbrev refused_in : List Module → List Refusal
+refused_in ms = simulated_refusals (is_begun ms) ms
+
 abbrev refused : List (ℕ × List LabelRange) → List Refusal
-refused values = simulated_refusals (module_edges no_memory abbreviations_small info_small line_small values ∷ [])
+refused values = refused_in (module_edges no_memory abbreviations_small info_small line_small values ∷ [])
 
 -- by rising labels, a range that begins above its end, and a register without a number, over the function's source; it needs no memory
 refusals : map refused (

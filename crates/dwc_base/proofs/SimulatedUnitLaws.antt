@@ -74,12 +74,12 @@ functions-shallow unit own m (d ∷ ds) =
     ((omega arith, omega arith), each_filter_map (label_entry unit own m d) Shallow (m.told.labels d.function.number) (labels-shallow unit own m d (m.told.labels d.function.number)))
     (functions-shallow unit own m ds)
 
-modules-shallow : (unit own : ℕ) (ms : List Module) → Each Shallow (modules_entries unit own ms)
-modules-shallow unit own [] = tt
-modules-shallow unit own (m ∷ ms) =
-    each_both Shallow (flat_map (function_entries unit own m) (listed_functions m)) (modules_entries unit (own + unit_count m) ms) (functions-shallow unit own m (listed_functions m)) (modules-shallow unit (own + unit_count m) ms)
+modules-shallow : (translated : ℕ → Bool) (unit own : ℕ) (ms : List Module) → Each Shallow (modules_entries translated unit own ms)
+modules-shallow translated unit own [] = tt
+modules-shallow translated unit own (m ∷ ms) =
+    each_both Shallow (flat_map (function_entries unit own m) (listed_functions translated m)) (modules_entries translated unit (own + unit_count m) ms) (functions-shallow unit own m (listed_functions translated m)) (modules-shallow translated unit (own + unit_count m) ms)
 
 -- The unit is in file order.
-pub simulated-in_order : (path : List ℕ) (ms : List Module) → IsInFileOrder (simulated_unit path ms)
+pub simulated-in_order : (translated : ℕ → Bool) (path : List ℕ) (ms : List Module) → IsInFileOrder (simulated_unit translated path ms)
 unfolding simulated_unit
-simulated-in_order path ms = goes-on 1 (modules_entries (sum_by unit_count ms) 0 ms) (omega arith) (modules-shallow (sum_by unit_count ms) 0 ms)
+simulated-in_order translated path ms = goes-on 1 (modules_entries translated (sum_by unit_count ms) 0 ms) (omega arith) (modules-shallow translated (sum_by unit_count ms) 0 ms)

@@ -10,6 +10,7 @@ use Rattle.dwc_base.specs.KeptModules.{carried_in}
 use Rattle.dwc_base.specs.CarriedDrafts.{carried_drafts}
 use Rattle.dwc_base.specs.Forests.{kept_of, wanted_units_of, module_units, wanted_units, is_big, drafts_of, module_drafts, trees_made}
 use Rattle.dwc_base.specs.LastUnit.{last_drafts, last_wanted}
+use Rattle.dwc_base.specs.ListedFunctions.{is_begun}
 use Rattle.dwc_base.proofs.InLists.{IsIn, in-at}
 
 -- what all items have, each has
@@ -52,17 +53,17 @@ module _ (R : WantedUnit → Tree → Type 0) (big_endian : Bool) (own : (t : Tr
       (module-units m number (each m (inl refl))) (all-units behind ms (λ n i. each n (inr i)))
 
 -- What is said of the last unit that is wanted and of its tree, where there is a module.
-abbrev pub LastIs : (WantedUnit → Tree → Type 0) → ℕ → List Module → Type 0
-LastIs R next_id ms = AllZip R (last_wanted next_id ms) (map (settled_unit (λ goal. None)) (option_to_list (last_drafts next_id ms)))
+abbrev pub LastIs : (WantedUnit → Tree → Type 0) → (ℕ → Bool) → ℕ → List Module → Type 0
+LastIs R translated next_id ms = AllZip R (last_wanted translated next_id ms) (map (settled_unit (λ goal. None)) (option_to_list (last_drafts translated next_id ms)))
 
 -- what is said whatever the modules
-pub last-always : (R : WantedUnit → Tree → Type 0) → ((name : List ℕ) (ms : List Module) (t : Tree) → R (listed_unit name ms) t) → (next_id : ℕ) (ms : List Module) → LastIs R next_id ms
-last-always R says next_id [] = tt
-last-always R says next_id (m ∷ ms) = (says _ (m ∷ ms) _, tt)
+pub last-always : (R : WantedUnit → Tree → Type 0) (translated : ℕ → Bool) → ((name : List ℕ) (ms : List Module) (t : Tree) → R (listed_unit name translated ms) t) → (next_id : ℕ) (ms : List Module) → LastIs R translated next_id ms
+last-always R translated says next_id [] = tt
+last-always R translated says next_id (m ∷ ms) = (says _ (m ∷ ms) _, tt)
 
 -- What is said of an own unit whatever its tree, of each carried unit, and of the last one, is said of all units of an output.
-pub units-made : (c : Compilation) (R : WantedUnit → Tree → Type 0) → ((t : Tree) → R own_unit t) → ((m : Module) → IsIn m c.modules → SaysEach R (is_big c.order) m) → LastIs R c.next_id c.modules → AllZip R (wanted_units c) (trees_made c)
+pub units-made : (c : Compilation) (R : WantedUnit → Tree → Type 0) → ((t : Tree) → R own_unit t) → ((m : Module) → IsIn m c.modules → SaysEach R (is_big c.order) m) → LastIs R (is_begun c.modules) c.next_id c.modules → AllZip R (wanted_units c) (trees_made c)
 unfolding forest
 units-made c R own each last =
-    zip-both R (module_units c) (trees_from 0 (map (module_drafts (is_big c.order)) c.modules)) (last_wanted c.next_id c.modules) (map (settled_unit (λ goal. None)) (option_to_list (last_drafts c.next_id c.modules)))
+    zip-both R (module_units c) (trees_from 0 (map (module_drafts (is_big c.order)) c.modules)) (last_wanted (is_begun c.modules) c.next_id c.modules) (map (settled_unit (λ goal. None)) (option_to_list (last_drafts (is_begun c.modules) c.next_id c.modules)))
     (all-units R (is_big c.order) own 0 c.modules each) last

@@ -52,7 +52,7 @@ UnitCarriesContexts drafted u tree =
 abbrev pub UnitHasContexts : (CarriedUnit → List Draft) → WantedUnit → Tree → Type 0
 UnitHasContexts drafted own_unit tree = Unit {0}
 UnitHasContexts drafted (carried_unit u) tree = UnitCarriesContexts drafted u tree
-UnitHasContexts drafted (listed_unit name ms) tree = Unit {0}
+UnitHasContexts drafted (listed_unit name translated ms) tree = Unit {0}
 
 -- The contexts of an input are carried by the units of an output, each of which is to be one.
 abbrev pub ContextsCarried : (CarriedUnit → List Draft) → List WantedUnit → List Tree → Type 0

@@ -21,6 +21,7 @@ use Rattle.dwc_base.specs.DraftForests as Drafts
 use Rattle.dwc_base.specs.LocationRules.{ExpressionSource}
 use Rattle.dwc_base.specs.EntryRules.{named_faults, rules_of_source}
 use Rattle.dwc_base.specs.LastUnit.{last_drafts, last_refusals, last_wanted}
+use Rattle.dwc_base.specs.ListedFunctions.{is_begun}
 use Rattle.dwc_base.specs.OwnUnits as Own
 use Rattle.dwc_base.specs.ReachedEntries as Reached
 use Rattle.dwc_base.specs.Trees.{Tree}
@@ -35,7 +36,7 @@ module_units c = flat_map wanted_units_of c.modules
 
 -- The units of an output, in order: those for the modules, and the last one.
 abbrev pub wanted_units : Compilation → List WantedUnit
-wanted_units c = module_units c ++ last_wanted c.next_id c.modules
+wanted_units c = module_units c ++ last_wanted (is_begun c.modules) c.next_id c.modules
 
 -- ---- refusals
 
@@ -74,7 +75,7 @@ refused_frames c = map of_frame (frame_refusals c.common_entry (frame_descriptio
 -- what is refused of an input: of the functions of all modules, then of what is read, module by module, then of the last unit, and then of
 -- frames
 abbrev pub refusals : Compilation → List Refusal
-refusals c = flat_map (λ m. function_refusals m.functions) c.modules ++ (flat_map module_refusals c.modules ++ (last_refusals c.next_id c.modules ++ refused_frames c))
+refusals c = flat_map (λ m. function_refusals m.functions) c.modules ++ (flat_map module_refusals c.modules ++ (last_refusals (is_begun c.modules) c.next_id c.modules ++ refused_frames c))
 
 -- the refusal of an input: the first of these
 abbrev pub first_refusal : Compilation → Option Refusal
@@ -101,7 +102,7 @@ module_trees c = Drafts.forest (map (module_drafts (is_big c.order)) c.modules) 
 
 -- the trees of the units that are made for an input
 abbrev pub trees_made : Compilation → List Tree
-trees_made c = Drafts.forest (map (module_drafts (is_big c.order)) c.modules) (last_drafts c.next_id c.modules)
+trees_made c = Drafts.forest (map (module_drafts (is_big c.order)) c.modules) (last_drafts (is_begun c.modules) c.next_id c.modules)
 
 -- The trees of an output, one for each unit, module by module, and the last; or the first refusal in the order of the work.
 abbrev pub forest : Compilation → Result (List Tree) Refusal

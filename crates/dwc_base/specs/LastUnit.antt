@@ -1,6 +1,6 @@
 -- The last unit of an output, which is for the functions without debugging information of all modules: its entries, its lines, how long
--- these can be, and what is refused. (This project's own rule.)
-use Rattle.std.specs.Prelude.{ℕ, suc, ◌+◌, List, [], ◌∷◌, ◌++◌, map, length, sum_by, Option, Some, None}
+-- these can be, and what is refused, by the numbers of the functions that are translated. (This project's own rule.)
+use Rattle.std.specs.Prelude.{ℕ, suc, ◌+◌, List, [], ◌∷◌, ◌++◌, map, length, sum_by, Bool, Option, Some, None}
 use Rattle.std.specs.List.{flat_map}
 use Rattle.dwc_base.specs.Functions.{Function, recorded_sources}
 use Rattle.dwc_base.specs.Widest.{widest_header, widest_image}
@@ -12,32 +12,32 @@ use Rattle.dwc_base.specs.ListedFunctions.{listed_functions}
 use Rattle.dwc_base.specs.SimulatedUnit.{simulated_unit, simulated_refusals}
 
 -- The entries of the last unit, where there is a module, the next generated name having a number.
-abbrev pub last_drafts : ℕ → List Module → Option (List Draft)
-last_drafts next_id [] = None
-last_drafts next_id (m ∷ ms) = Some (simulated_unit (unit_path next_id m) (m ∷ ms))
+abbrev pub last_drafts : (ℕ → Bool) → ℕ → List Module → Option (List Draft)
+last_drafts translated next_id [] = None
+last_drafts translated next_id (m ∷ ms) = Some (simulated_unit translated (unit_path next_id m) (m ∷ ms))
 
 -- the listed functions of modules, in order, each with the offset in its file that the contents of the code section begin at
-abbrev pub listed_in_files : List Module → List (ℕ × Function)
-listed_in_files ms = flat_map (λ m. map (λ d. (m.file.code_offset, d.function)) (listed_functions m)) ms
+abbrev pub listed_in_files : (ℕ → Bool) → List Module → List (ℕ × Function)
+listed_in_files translated ms = flat_map (λ m. map (λ d. (m.file.code_offset, d.function)) (listed_functions translated m)) ms
 
 -- The last unit as it is wanted, where there is a module: by the name of its file, and by the modules.
-abbrev pub last_wanted : ℕ → List Module → List WantedUnit
-last_wanted next_id [] = []
-last_wanted next_id (m ∷ ms) = listed_unit (path_name (unit_path next_id m)) (m ∷ ms) ∷ []
+abbrev pub last_wanted : (ℕ → Bool) → ℕ → List Module → List WantedUnit
+last_wanted translated next_id [] = []
+last_wanted translated next_id (m ∷ ms) = listed_unit (path_name (unit_path next_id m)) translated (m ∷ ms) ∷ []
 
 -- how long a line table of one file of a name with these functions can be at most: each has a row more than it has recorded sources
 abbrev pub widest_listed : List ℕ → List (ℕ × Function) → ℕ
 widest_listed name fs = widest_header [] (record { directory = 0; name = name } ∷ []) + sum_by (λ f. widest_image (suc (length (recorded_sources f.1)))) fs
 
 -- How long the line table of the last unit can be at most; without a module there is none.
-abbrev pub widest_last : ℕ → List Module → ℕ
-widest_last next_id [] = 0
-widest_last next_id (m ∷ ms) = widest_listed (path_name (unit_path next_id m)) (listed_in_files (m ∷ ms))
+abbrev pub widest_last : (ℕ → Bool) → ℕ → List Module → ℕ
+widest_last translated next_id [] = 0
+widest_last translated next_id (m ∷ ms) = widest_listed (path_name (unit_path next_id m)) (listed_in_files translated (m ∷ ms))
 
 -- what is refused of its path
 abbrev pub path_refusals : ℕ → List Module → List Refusal
 path_refusals next_id ms = elim (refused_path next_id ms) [ Some path ↦ bad_path ∷ [] | None ↦ [] ]
 
 -- What is refused of the last unit: its path, and then the variables of its functions.
-abbrev pub last_refusals : ℕ → List Module → List Refusal
-last_refusals next_id ms = path_refusals next_id ms ++ simulated_refusals ms
+abbrev pub last_refusals : (ℕ → Bool) → ℕ → List Module → List Refusal
+last_refusals translated next_id ms = path_refusals next_id ms ++ simulated_refusals translated ms

@@ -26,7 +26,7 @@ pub record CarriesUnit (output : Sections) (u : CarriedUnit) (v : Unit) : Type 0
 abbrev pub HasLines : Sections → WantedUnit → Unit → Type 0
 HasLines output own_unit v = table_of_unit output v ≡ Ok None
 HasLines output (carried_unit u) v = CarriesUnit output u v
-HasLines output (listed_unit name ms) v = CarriesListed output name (listed_in_files ms) v
+HasLines output (listed_unit name translated ms) v = CarriesListed output name (listed_in_files translated ms) v
 
 -- The lines of an input are carried by an output: the input's units are read up to their section's end, and the output's
 -- units are, in order, for each module its own without a line table, and one for each of its carried units, whose segments are the

@@ -1,4 +1,5 @@
--- The functions without debugging information: those with a symbol that no carried unit tells of. (This project's own rule.)
+-- The functions without debugging information: those with a symbol that are not translated, that is to say that no carried unit tells of.
+-- (This project's own rule.)
 use Rattle.std.specs.Prelude.{ℕ, suc, ◌==◌, List, [], ◌∷◌, Bool, not, ◌&&◌, is_some}
 use Rattle.std.specs.List.{filter, filter_map, flat_map, list_any}
 use Rattle.dwc_base.specs.Functions.{Function}
@@ -16,19 +17,27 @@ begun_functions u = filter_map (λ e. begun_in_unit u e.entry) (kept_in (kept_of
 abbrev pub begun_in_module : Module → List Function
 begun_in_module m = flat_map begun_functions (carried_units_of m)
 
+-- whether a number is that of one of some functions
+abbrev pub is_number_of : List Function → ℕ → Bool
+is_number_of fs n = list_any (λ f. f.number == n) fs
+
+-- Whether a kept subprogram of a carried unit of some modules begins in the function of a number.
+abbrev pub is_begun : List Module → ℕ → Bool
+is_begun ms = is_number_of (flat_map begun_in_module ms)
+
 -- functions with their places, of which the first has one
 abbrev pub defined_from : ℕ → List Function → List DefinedFunction
 defined_from place [] = []
 defined_from place (f ∷ fs) = record { place = place; function = f } ∷ defined_from (suc place) fs
 
--- whether a function has a symbol and is none of those that are begun
-abbrev pub is_listed : List Function → Function → Bool
-is_listed begun f = is_some f.symbol && not (list_any (λ g. g.number == f.number) begun)
+-- whether a function has a symbol and its number is none of those that are translated
+abbrev pub is_listed : (ℕ → Bool) → Function → Bool
+is_listed translated f = is_some f.symbol && not (translated f.number)
 
 -- those of some functions
-abbrev pub listed_among : List Function → List DefinedFunction → List DefinedFunction
-listed_among begun ds = filter (λ d. is_listed begun d.function) ds
+abbrev pub listed_among : (ℕ → Bool) → List DefinedFunction → List DefinedFunction
+listed_among translated ds = filter (λ d. is_listed translated d.function) ds
 
--- The listed functions of a module, in order: those with a symbol in which no kept subprogram of a carried unit begins.
-unfoldable pub listed_functions : Module → List DefinedFunction
-listed_functions m = listed_among (begun_in_module m) (defined_from 0 m.functions)
+-- The listed functions of a module, in order: those with a symbol whose numbers are none of the translated ones.
+unfoldable pub listed_functions : (ℕ → Bool) → Module → List DefinedFunction
+listed_functions translated m = listed_among translated (defined_from 0 m.functions)

@@ -106,7 +106,7 @@ UnitCarriesLocations drafted u tree =
 abbrev pub UnitHasLocations : (CarriedUnit → List Draft) → WantedUnit → Tree → Type 0
 UnitHasLocations drafted own_unit tree = Unit {0}
 UnitHasLocations drafted (carried_unit u) tree = UnitCarriesLocations drafted u tree
-UnitHasLocations drafted (listed_unit name ms) tree = LocatesLabels ms tree
+UnitHasLocations drafted (listed_unit name translated ms) tree = LocatesLabels translated ms tree
 
 -- The locations of an input are carried by the units of an output, each of which is to be one.
 abbrev pub LocationsCarried : (CarriedUnit → List Draft) → List WantedUnit → List Tree → Type 0

@@ -127,7 +127,7 @@ UnitCarriesScopes drafted u tree =
 abbrev pub UnitHasScopes : (CarriedUnit → List Draft) → WantedUnit → Tree → Type 0
 UnitHasScopes drafted own_unit tree = Unit {0}
 UnitHasScopes drafted (carried_unit u) tree = UnitCarriesScopes drafted u tree
-UnitHasScopes drafted (listed_unit name ms) tree = Unit {0}
+UnitHasScopes drafted (listed_unit name translated ms) tree = Unit {0}
 
 -- The scopes of an input are carried by the units of an output, each of which is to be one.
 abbrev pub ScopesCarried : (CarriedUnit → List Draft) → List WantedUnit → List Tree → Type 0

@@ -1,6 +1,6 @@
 -- What it means that the unit for functions without debugging information says where their values lie. (A law on the definitions of built
 -- expressions and of translation. DWARF 4 and 5, sections 2.6 and 4.1.)
-use Rattle.std.specs.Prelude.{◌≡◌, ℕ, ◌==◌, List, [], ◌∷◌, map, Some}
+use Rattle.std.specs.Prelude.{◌≡◌, ℕ, ◌==◌, List, [], ◌∷◌, map, Bool, Some}
 use Rattle.std.specs.List.{AllZip, filter, flat_map}
 use Rattle.dwc_base.specs.declared.constants.TheConstants.{DW_AT_location}
 use Rattle.dwc_base.specs.Functions.{Function}
@@ -24,8 +24,8 @@ abbrev pub uses_in_function : Module → DefinedFunction → List LabelUse
 uses_in_function m d = map (λ label. record { module_of = m; function = d.function; label = label }) (filter (has_entry m d) (m.told.labels d.function.number))
 
 -- those of the listed functions of all modules, in order
-abbrev pub label_uses : List Module → List LabelUse
-label_uses ms = flat_map (λ m. flat_map (uses_in_function m) (listed_functions m)) ms
+abbrev pub label_uses : (ℕ → Bool) → List Module → List LabelUse
+label_uses translated ms = flat_map (λ m. flat_map (uses_in_function m) (listed_functions translated m)) ms
 
 -- An entry of an output says where the value of a label lies over all of its function's source.
 pub record IsLocated (u : LabelUse) (out : TreeEntry) : Type 0 where
@@ -34,5 +34,5 @@ pub record IsLocated (u : LabelUse) (out : TreeEntry) : Type 0 where
   pub says : SaysWhere u.module_of.functions (Some (frame_told u.module_of.told u.function)) ((u.function.start, u.function.end) ∷ []) (u.label ∷ []) (map (λ l. l.over) located)
 
 -- The entries below the functions of the unit say so, one for each label with an entry, in order.
-abbrev pub LocatesLabels : List Module → Tree → Type 0
-LocatesLabels ms tree = AllZip IsLocated (label_uses ms) (filter (λ out. out.depth == 2) tree)
+abbrev pub LocatesLabels : (ℕ → Bool) → List Module → Tree → Type 0
+LocatesLabels translated ms tree = AllZip IsLocated (label_uses translated ms) (filter (λ out. out.depth == 2) tree)

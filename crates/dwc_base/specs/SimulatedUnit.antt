@@ -1,5 +1,5 @@
--- The unit of an output for the functions without debugging information of all modules: its entries, and what is refused of them. (This
--- project's own tree; DWARF 4 and 5, sections 3.1.1, 3.3, 4.1 and 5.1.)
+-- The unit of an output for the functions without debugging information of all modules, whose numbers are none of those that are translated:
+-- its entries, and what is refused of them. (This project's own tree; DWARF 4 and 5, sections 3.1.1, 3.3, 4.1 and 5.1.)
 use Rattle.std.specs.Prelude.{ℕ, ◌+◌, ◌==◌, pos, List, [], ◌∷◌, ◌++◌, length, map, sum_by, Bool, ◌||◌, if◌then◌else◌, Option, Some, None, option_map, option_and_then, is_some, Result, codes}
 use Rattle.std.specs.List.{filter, filter_map, flat_map}
 use Rattle.std.specs.Option.{unwrap_or}
@@ -46,8 +46,8 @@ abbrev pub whole_interval : Function → Option Interval
 whole_interval f = if f.length == 0 then None else Some (interval_of f.number (0, f.length))
 
 -- those of the listed functions of a module
-abbrev pub whole_intervals : Module → List Interval
-whole_intervals m = filter_map (λ d. whole_interval d.function) (listed_functions m)
+abbrev pub whole_intervals : (ℕ → Bool) → Module → List Interval
+whole_intervals translated m = filter_map (λ d. whole_interval d.function) (listed_functions translated m)
 
 -- ---- types
 
@@ -142,13 +142,13 @@ abbrev pub unit_count : Module → ℕ
 unit_count m = length (wanted_units_of m)
 
 -- the entries of the listed functions of modules, in the unit of a number; the first module's own unit has a number
-abbrev pub modules_entries : ℕ → ℕ → List Module → List Draft
-modules_entries unit own [] = []
-modules_entries unit own (m ∷ ms) = flat_map (function_entries unit own m) (listed_functions m) ++ modules_entries unit (own + unit_count m) ms
+abbrev pub modules_entries : (ℕ → Bool) → ℕ → ℕ → List Module → List Draft
+modules_entries translated unit own [] = []
+modules_entries translated unit own (m ∷ ms) = flat_map (function_entries unit own m) (listed_functions translated m) ++ modules_entries translated unit (own + unit_count m) ms
 
 -- The unit of a path, which stands behind those of all modules: the root, the types, and the listed functions in order.
-unfoldable pub simulated_unit : List ℕ → List Module → List Draft
-simulated_unit path ms = simulated_root path (flat_map (λ m. whole_intervals m) ms) ∷ base_types ++ modules_entries (sum_by unit_count ms) 0 ms
+unfoldable pub simulated_unit : (ℕ → Bool) → List ℕ → List Module → List Draft
+simulated_unit translated path ms = simulated_root path (flat_map (whole_intervals translated) ms) ∷ base_types ++ modules_entries translated (sum_by unit_count ms) 0 ms
 
 -- ---- refusals
 
@@ -161,5 +161,5 @@ abbrev pub variable_refusals : Module → DefinedFunction → List Refusal
 variable_refusals m d = flat_map (λ label. map (of_build m.told.place) (location_refusals (Some (label_located m d.function label)))) (filter (has_entry m d) (m.told.labels d.function.number))
 
 -- What is refused of the variables of the unit, in order.
-unfoldable pub simulated_refusals : List Module → List Refusal
-simulated_refusals ms = flat_map (λ m. flat_map (variable_refusals m) (listed_functions m)) ms
+unfoldable pub simulated_refusals : (ℕ → Bool) → List Module → List Refusal
+simulated_refusals translated ms = flat_map (λ m. flat_map (variable_refusals m) (listed_functions translated m)) ms

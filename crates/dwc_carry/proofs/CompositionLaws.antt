@@ -1,5 +1,5 @@
 -- What is written of the units that are made for an input carries the lines of the input, and says its trees.
-use Rattle.std.proofs.Common.{◌≡◌, ℕ, suc, ◌+◌, ◌<◌, ◌≤◌, List, [], ◌∷◌, ◌++◌, map, length, refl, ap, sym, ◌∙◌, subst, arith, Option, Some, None, Ok, Err, All}
+use Rattle.std.proofs.Common.{◌≡◌, ℕ, suc, ◌+◌, ◌<◌, ◌≤◌, List, [], ◌∷◌, ◌++◌, map, length, refl, ap, sym, ◌∙◌, subst, arith, Bool, Option, Some, None, Ok, Err, All}
 use Rattle.std.specs.List.{AllZip, flat_map}
 use Rattle.std.specs.Prelude.{option_to_list, sum_by}
 use Rattle.std.proofs.lemmas.List.Elements.{All-nil, All-cons}
@@ -10,6 +10,7 @@ use Rattle.dwc_base.specs.Outputs.{OutputSection, output_sections}
 use Rattle.dwc_base.specs.Carried.{Unit, units, CarriedUnit, WantedUnit, own_unit, carried_unit, listed_unit, Module, Compilation}
 use Rattle.dwc_base.specs.LastUnit.{last_drafts, last_wanted, listed_in_files, widest_last, widest_listed}
 use Rattle.dwc_base.specs.LinesCarried.{HasLines, LinesCarried}
+use Rattle.dwc_base.specs.ListedFunctions.{is_begun}
 use Rattle.dwc_base.specs.Widest.{widest_lines_of}
 use Rattle.dwc_base.specs.DraftForests as Drafts
 use Rattle.dwc_base.specs.Forests.{carried_units, carried_units_of, first_refusal, forest, module_units, wanted_units, wanted_units_of, trees_made, is_big, module_drafts}
@@ -36,7 +37,7 @@ module _ (at : ℕ → ℕ → Option (ℕ × ℕ)) (size : ℕ) (texts : List (
     images_read = read.lines;
     carried = record { input = lines.input; input_read = lines.input_read; each = lines.images };
   }
-  carries-unit s (listed_unit name ms) u v lines read = record { segments = given_segments u.lines; segments_read = read.lines; each = lines.segments }
+  carries-unit s (listed_unit name translated ms) u v lines read = record { segments = given_segments u.lines; segments_read = read.lines; each = lines.segments }
 
   carries-units : (s : Sections) (number : ℕ) (cs : List WantedUnit) (ts : List Tree) (us : List GivenUnit) (vs : List Unit) → AreMadeOf at size texts number cs ts us → AllZip (IsReadUnit s) (map ordered us) vs → AllZip (HasLines s) cs vs
   carries-units s number [] [] [] [] made read = tt
@@ -71,12 +72,12 @@ module _ (at : ℕ → ℕ → Option (ℕ × ℕ)) (size : ℕ) (texts : List (
   abbrev widest_wanted : WantedUnit → ℕ
   widest_wanted own_unit = 0
   widest_wanted (carried_unit c) = widest_lines_of c
-  widest_wanted (listed_unit name ms) = widest_listed name (listed_in_files ms)
+  widest_wanted (listed_unit name translated ms) = widest_listed name (listed_in_files translated ms)
 
   unit-widest : (w : WantedUnit) (u : GivenUnit) → HasWantedLines w u → widest_table_for u.lines.address_size u.lines ≤ widest_wanted w
   unit-widest own_unit u lines = subst (λ (g : GivenLines). widest_table_for g.address_size g ≤ 0) (sym lines) (omega arith)
   unit-widest (carried_unit c) u lines = lines.widest
-  unit-widest (listed_unit name ms) u lines = lines.widest
+  unit-widest (listed_unit name translated ms) u lines = lines.widest
 
   made-widest : (number : ℕ) (cs : List WantedUnit) (ts : List Tree) (us : List GivenUnit) → AreMadeOf at size texts number cs ts us → sum_by (widest_unit Line) (map ordered us) ≤ sum_by widest_wanted cs
   made-widest number [] [] [] made = omega arith
@@ -102,14 +103,14 @@ module _ (at : ℕ → ℕ → Option (ℕ × ℕ)) (size : ℕ) (texts : List (
       omega (arith, own, split, carried, widest-carried (carried_units_of m), widest-modules ms)
 
   -- the last unit has its own
-  widest-behind : (next_id : ℕ) (ms : List Module) → sum_by widest_wanted (last_wanted next_id ms) ≡ widest_last next_id ms
-  widest-behind next_id [] = refl
-  widest-behind next_id (m ∷ ms) = omega arith
+  widest-behind : (translated : ℕ → Bool) (next_id : ℕ) (ms : List Module) → sum_by widest_wanted (last_wanted translated next_id ms) ≡ widest_last translated next_id ms
+  widest-behind translated next_id [] = refl
+  widest-behind translated next_id (m ∷ ms) = omega arith
 
   -- Their line tables are no longer, at their widest, than those of the input.
-  pub widest-given : (number : ℕ) (c : Compilation) (ts : List Tree) (us : List GivenUnit) → AreMadeOf at size texts number (wanted_units c) ts us → widest_given Line (map ordered us) ≤ sum_by widest_lines_of (carried_units c) + widest_last c.next_id c.modules
+  pub widest-given : (number : ℕ) (c : Compilation) (ts : List Tree) (us : List GivenUnit) → AreMadeOf at size texts number (wanted_units c) ts us → widest_given Line (map ordered us) ≤ sum_by widest_lines_of (carried_units c) + widest_last (is_begun c.modules) c.next_id c.modules
   widest-given number c ts us made =
-      omega (arith, made-widest number (wanted_units c) ts us made, sum_by-append widest_wanted (module_units c) (last_wanted c.next_id c.modules), widest-modules c.modules, widest-behind c.next_id c.modules)
+      omega (arith, made-widest number (wanted_units c) ts us made, sum_by-append widest_wanted (module_units c) (last_wanted (is_begun c.modules) c.next_id c.modules), widest-modules c.modules, widest-behind (is_begun c.modules) c.next_id c.modules)
 
   each-writable : (number : ℕ) (cs : List WantedUnit) (ts : List Tree) (us : List GivenUnit) → AreMadeOf at size texts number cs ts us → All (IsWritable size) (map ordered us)
   each-writable number [] [] [] made = All-nil (IsWritable size)
@@ -154,7 +155,7 @@ made-trees size texts cs ts us made =
     trees-renumbered texts said.depths us said.orders said.leads ∙ said.says
 
 -- The trees of an input are those of its modules, and the last.
-pub trees-of-all : (c : Compilation) → trees_made c ≡ Drafts.trees_from 0 (map (module_drafts (is_big c.order)) c.modules) ++ map (Drafts.settled_unit (λ goal. None)) (option_to_list (last_drafts c.next_id c.modules))
+pub trees-of-all : (c : Compilation) → trees_made c ≡ Drafts.trees_from 0 (map (module_drafts (is_big c.order)) c.modules) ++ map (Drafts.settled_unit (λ goal. None)) (option_to_list (last_drafts (is_begun c.modules) c.next_id c.modules))
 unfolding Drafts.forest
 trees-of-all c = refl
 

@@ -15,7 +15,7 @@ use Rattle.dwc_base.specs.TreeReading.{CarriesTrees}
 use Rattle.dwc_base.specs.Forests.{first_refusal, frame_descriptions, wanted_units, trees_made}
 use Rattle.dwc_base.specs.TreeLaws.{HasTextsOnce, have_short_expressions}
 use Rattle.dwc_base.specs.OutputCarried.{widest}
-use Rattle.dwc_base.specs.OutputForm.{HaveTargetForm, HasDistinctNames}
+use Rattle.dwc_base.specs.OutputForm.{HaveTargetForm, HasDistinctNames, are_of_output}
 use Rattle.dwc_base.specs.Fields.{IsRelocated}
 use Rattle.dwc_base.specs.CallFrames.{CommonEntry}
 use Rattle.dwc_base.specs.FramesCarried.{FramesCarried, others_in}
@@ -40,7 +40,6 @@ use Rattle.dwc_carry.specs.Refusals.{in_reading, Told, refused, limit, memory, t
 use Rattle.dwc_carry.specs.Inputs.{input_of, maps_refusal, refusal_of}
 use Rattle.dwc_carry.specs.Transformed.{IsTransformed}
 use Rattle.dwc_carry.specs.Emits.{PassesLimit, Emits}
-use Rattle.dwc_carry.specs.OutputNames.{are_of_output}
 use Rattle.dwc_write.specs.Renumbered.{place_at}
 use Rattle.dwc_carry.proofs.FramesRefused.{IsTable, frames-refused, refused-first, section-sized, table-refused, table-section, table-widest, unit-there}
 use Rattle.dwc_carry.proofs.CompositionLaws.{forest-is, lines-carried, made-sizes, made-trees, widest-given, made-writable}
@@ -53,6 +52,14 @@ short-written true s h = refl
 short-written false s h = absurd (clash (h.1 refl))
   where
     clash : ◌≡◌ {A = Result (Vec DwarfSection Global) WriteError} (Ok s) (Err (write.TooLarge Expression)) → ⊥
+    clash e = cc
+
+-- Where writing is refused for a section no expression of a location list is too long.
+short-refused : (b : Bool) (name : SectionName) → ◌≡◌ {A = Result (Vec DwarfSection Global) WriteError} (Err (write.TooLarge (Section name))) (Err (write.TooLarge Expression)) ↔ (b ≡ false) → b ≡ true
+short-refused true name h = refl
+short-refused false name h = absurd (clash (h.1 refl))
+  where
+    clash : ◌≡◌ {A = Result (Vec DwarfSection Global) WriteError} (Err (write.TooLarge (Section name))) (Err (write.TooLarge Expression)) → ⊥
     clash e = cc
 
 -- neither of two refusals is there
@@ -139,11 +146,11 @@ module _ (order : Endian) (size : ℕ) (registers : Registers) (entry : Option C
                 texts = once;
                 form = form size sizes;
                 names = names;
+                known = known;
                 relocated = relocated;
                 frames = framed_so ∙ table-section (frame_descriptions input) order (size_of (map ordered us)) entry table framed ∙ section-sized order size entry (frame_descriptions input) us sizes described-there;
               };
               sound = sound;
-              known = known;
               short = ap have_short_expressions (sym same-trees) ∙ short-written (have_short_expressions (given_trees texts (map ordered us))) s (long (sym good));
             },
           )
@@ -175,21 +182,28 @@ module _ (order : Endian) (size : ℕ) (registers : Registers) (entry : Option C
       frames-large name past =
           subst (λ n. 2 ^ 31 ≤ widest n input) (sym past.0) (omega (arith, past.1, table-widest (frame_descriptions input) entry table framed))
 
+      -- a section is refused where no expression is too long
+      sections-large : (name : SectionName) → frames.first_refusal (frames.refused_frames table) ≡ None
+          → ◌≡◌ {A = Result (Vec DwarfSection Global) WriteError} (Err (write.TooLarge (Section name))) (Err (write.TooLarge Expression)) ↔ (have_short_expressions (given_trees texts (map ordered us)) ≡ false)
+          → 2 ^ 31 ≤ widest name input → Emits order size registers entry c (Err (of_writing (write.TooLarge (Section name))))
+      sections-large name none long large = (emits-accepted none, (ap have_short_expressions (sym same-trees) ∙ short-refused (have_short_expressions (given_trees texts (map ordered us))) name long, large))
+
       -- writing is refused
       pub emits-large : (e : WriteError) → frames.told_refusal {A = Vec DwarfSection Global} (Err e) ≡ frames.first_refusal (frames.refused_frames table)
+          → (frames.first_refusal (frames.refused_frames table) ≡ None → ◌≡◌ {A = Result (Vec DwarfSection Global) WriteError} (Err e) (Err (write.TooLarge Expression)) ↔ (have_short_expressions (given_trees texts (map ordered us)) ≡ false))
           → IsWideRefusal texts (map ordered us) e ⊎ frames.IsFrameRefusal (frames.widest_given_frames table) e → Emits order size registers entry c (Err (of_writing e))
-      emits-large (write.InvalidFrameCodeOffset symbol) so large = first-refused ∙ ap (λ r. option_map in_reading (option_map of_frame r)) (sym so)
-      emits-large (write.InvalidFrameDataOffset symbol) so large = first-refused ∙ ap (λ r. option_map in_reading (option_map of_frame r)) (sym so)
-      emits-large (write.TooLarge (Section name)) so (inl large) = (emits-accepted (sym so), omega (arith, large, said-widest name))
-      emits-large (write.TooLarge (Section name)) so (inr past) = (emits-accepted (sym so), frames-large name past)
-      emits-large (write.TooLarge Expression) so (inl large) = (emits-accepted (sym so), ap have_short_expressions (sym same-trees) ∙ large.1)
-      emits-large (write.TooLarge Expression) so (inr past) = absurd past
-      emits-large (write.TooLarge Addend) so (inl large) = absurd (cc)
-      emits-large (write.TooLarge Addend) so (inr past) = absurd past
-      emits-large (write.TooLarge Range) so (inl large) = absurd (cc)
-      emits-large (write.TooLarge Range) so (inr past) = absurd past
-      emits-large (write.TooLarge Jump) so (inl large) = absurd (cc)
-      emits-large (write.TooLarge Jump) so (inr past) = absurd past
-      emits-large (write.TooLarge Vmctx) so (inl large) = absurd (cc)
-      emits-large (write.TooLarge Vmctx) so (inr past) = absurd past
-      emits-large write.OutOfMemory so large = tt
+      emits-large (write.InvalidFrameCodeOffset symbol) so long large = first-refused ∙ ap (λ r. option_map in_reading (option_map of_frame r)) (sym so)
+      emits-large (write.InvalidFrameDataOffset symbol) so long large = first-refused ∙ ap (λ r. option_map in_reading (option_map of_frame r)) (sym so)
+      emits-large (write.TooLarge (Section name)) so long (inl large) = sections-large name (sym so) (long (sym so)) (omega (arith, large, said-widest name))
+      emits-large (write.TooLarge (Section name)) so long (inr past) = sections-large name (sym so) (long (sym so)) (frames-large name past)
+      emits-large (write.TooLarge Expression) so long (inl large) = (emits-accepted (sym so), ap have_short_expressions (sym same-trees) ∙ large.1)
+      emits-large (write.TooLarge Expression) so long (inr past) = absurd past
+      emits-large (write.TooLarge Addend) so long (inl large) = absurd (cc)
+      emits-large (write.TooLarge Addend) so long (inr past) = absurd past
+      emits-large (write.TooLarge Range) so long (inl large) = absurd (cc)
+      emits-large (write.TooLarge Range) so long (inr past) = absurd past
+      emits-large (write.TooLarge Jump) so long (inl large) = absurd (cc)
+      emits-large (write.TooLarge Jump) so long (inr past) = absurd past
+      emits-large (write.TooLarge Vmctx) so long (inl large) = absurd (cc)
+      emits-large (write.TooLarge Vmctx) so long (inr past) = absurd past
+      emits-large write.OutOfMemory so long large = tt

@@ -10,6 +10,7 @@ use Rattle.dwc_base.specs.CallFrames.{CommonEntry, FrameDescription}
 use Rattle.dwc_base.specs.Carried.{Compilation, Module}
 use Rattle.dwc_base.specs.Forests.{frame_descriptions, function_refusals, module_refusals, refused_frames, wanted_units}
 use Rattle.dwc_base.specs.LastUnit.{last_refusals}
+use Rattle.dwc_base.specs.ListedFunctions.{is_begun}
 use Rattle.dwc_base.specs.FrameRefusals.{FrameRefusal, frame_refusals}
 use Rattle.dwc_base.specs.FrameSections.{frame_section_if}
 use Rattle.dwc_base.specs.FramesCarried.{widest_frames}
@@ -58,7 +59,7 @@ module _ (order : Endian) (size : ℕ) (registers : Registers) (entry : Option C
   modules_refused = flat_map module_refusals (modules_of registers c)
 
   abbrev last_refused : List Refusal
-  last_refused = last_refusals c.next_id (modules_of registers c)
+  last_refused = last_refusals (is_begun (modules_of registers c)) c.next_id (modules_of registers c)
 
   abbrev frames_refused : List Refusal
   frames_refused = refused_frames (input_of order size registers entry c)

@@ -1,7 +1,6 @@
 -- A module, function by function.
 use Rattle.std.proofs.Common.{◌≡◌, ℕ, ◌+◌, add-one, arith, ◌<◌, ◌≤◌, refl, sym, ap, subst, ◌∙◌, List, [], ◌∷◌, ◌++◌, drop, get_or, length, map, cond, Bool, true, false, Option, Some, None, Result, Ok, Err, All}
-use Rattle.std.specs.Prelude.{◌&&◌, not, is_some, option_map, slice_get, IfSome, Contains}
-use Rattle.std.specs.BTreeSet.{BTreeSet}
+use Rattle.std.specs.Prelude.{◌&&◌, not, is_some, option_map, slice_get, IfSome}
 use Rattle.std.specs.FinMap as finite
 use Rattle.std.specs.List.{flat_map}
 use Rattle.std.specs.Option.{unwrap_or}
@@ -14,7 +13,7 @@ use Rattle.dwc_base.specs.Compiled.{ToldModule}
 use Rattle.dwc_base.specs.DefinedFunctions.{DefinedFunction, types_at}
 use Rattle.dwc_base.specs.Drafts.{Draft}
 use Rattle.dwc_base.specs.Functions.{Function, Recorded}
-use Rattle.dwc_base.specs.ListedFunctions.{begun_in_module, defined_from, is_listed, listed_among, listed_functions}
+use Rattle.dwc_base.specs.ListedFunctions.{defined_from, is_listed, listed_among, listed_functions}
 use Rattle.dwc_base.specs.LocationRules.{frame_told}
 use Rattle.dwc_base.specs.Refusals.{Refusal, first_of}
 use Rattle.dwc_base.specs.SimulatedUnit.{first_source, function_entries, function_index, function_name, variable_refusals}
@@ -30,7 +29,6 @@ use Rattle.dwc_expr.specs.Frames.{frame_view}
 use Rattle.dwc_write.specs.declared.strings.StringId.{StringId}
 use Rattle.dwc_write.specs.AddedInOrder.{with_entry}
 use Rattle.dwc_write.specs.GivenUnits.{GivenUnit}
-use Rattle.dwc_clone.specs.BegunNumbers.{is_noted, is_number_of}
 use Rattle.dwc_clone.specs.CompiledModules.{AreNumberedFrom, told_by}
 use Rattle.dwc_clone.specs.KnownTexts.{IsNumbered}
 use Rattle.dwc_clone.specs.MadeValues.{Grows}
@@ -116,7 +114,7 @@ numbered-at first count fs place number x all found symbol =
 pub never-none : {A : Type 0} (x : A) → ◌≡◌ {A = Option A} None (Some x) → ⊥
 never-none x is = absurd (cc)
 
-module _ (registers : Registers) (m : Module) (own : ℕ) (noted : BTreeSet ℕ) (l : ListedModule) (lm : IsListedModule registers m own noted l) (place : ℕ) (x : Function) where
+module _ (registers : Registers) (m : Module) (own : ℕ) (l : ListedModule) (lm : IsListedModule registers m own l) (place : ℕ) (x : Function) where
   -- What is given of a listed function of a listed module tells that function.
   pub function-listed : (f : ListedFunction) → l.translation.now.imported_funcs + place ≡ f.index → f.locals.now ≡ types_at m (record { place = place; function = x }) → frame_view (Some f.frame) ≡ Some (frame_told (told_by registers l.compiled.now) x) → f.scope ≡ (x.start, x.end)
       → IsListedFunction registers m (record { place = place; function = x }) own l f
@@ -157,38 +155,35 @@ module _ (registers : Registers) (m : Module) (own : ℕ) (noted : BTreeSet ℕ)
       go (Ok done) given = (ap (λ (rs : List Refusal). option_map in_reading (first_of rs)) all ∙ given.0, variables-done n own m d before texts entry u given.1)
       go (Err e) given = subst (λ (rs : List Refusal). RefusesReading (first_of rs) e) (sym all) given
 
-  -- A function whose number is noted is none of the listed ones, and the others with a symbol are listed.
-  pub listed-unless : (number : ℕ) (b : Bool) → slice_get m.functions place ≡ Some x → x.symbol ≡ Some number → x.number ≡ number → is_noted noted number ≡ b → is_listed (begun_in_module m) x ≡ not b
-  listed-unless number b found symbol numbered is =
-      let among : Contains m.functions x = (place, slice_get_within m.functions place x found, get_or_from_slice_get m.functions place x x found) in
-      ap (λ (o : Option ℕ). is_some o && not (is_number_of (begun_in_module m) x.number)) symbol
-      ∙ ap not (sym (lm.translated_are x among (ap is_some symbol)) ∙ ap (is_noted noted) numbered ∙ is)
+-- A function whose number is among the translated ones is none of the listed ones, and the others with a symbol are listed.
+pub listed-unless : (translated : ℕ → Bool) (x : Function) (number : ℕ) (b : Bool) → x.symbol ≡ Some number → x.number ≡ number → translated number ≡ b → is_listed translated x ≡ not b
+listed-unless translated x number b symbol numbered is = ap (λ (o : Option ℕ). is_some o && not (translated x.number)) symbol ∙ ap (λ n. not (translated n)) numbered ∙ ap not is
 
 -- ---- what is left
 
 -- What is listed from a place on: the function there, if it is, and what is behind it.
-pub listed-step : (m : Module) (i : ℕ) (f : Function) → i < length m.functions → get_or m.functions i f ≡ f
-    → listed_from m i ≡ cond (is_listed (begun_in_module m) f) (record { place = i; function = f } ∷ listed_from m (i + 1)) (listed_from m (i + 1))
-listed-step m i f inside there =
-    ap (λ fs. listed_among (begun_in_module m) (defined_from i fs)) (drop_more m.functions i f inside ∙ ap (λ g. g ∷ drop (i + 1) m.functions) there)
-    ∙ ap (λ n. cond (is_listed (begun_in_module m) f) (record { place = i; function = f } ∷ listed_among (begun_in_module m) (defined_from n (drop (i + 1) m.functions))) (listed_among (begun_in_module m) (defined_from n (drop (i + 1) m.functions)))) (sym (add-one i))
+pub listed-step : (translated : ℕ → Bool) (m : Module) (i : ℕ) (f : Function) → i < length m.functions → get_or m.functions i f ≡ f
+    → listed_from translated m i ≡ cond (is_listed translated f) (record { place = i; function = f } ∷ listed_from translated m (i + 1)) (listed_from translated m (i + 1))
+listed-step translated m i f inside there =
+    ap (λ fs. listed_among translated (defined_from i fs)) (drop_more m.functions i f inside ∙ ap (λ g. g ∷ drop (i + 1) m.functions) there)
+    ∙ ap (λ n. cond (is_listed translated f) (record { place = i; function = f } ∷ listed_among translated (defined_from n (drop (i + 1) m.functions))) (listed_among translated (defined_from n (drop (i + 1) m.functions)))) (sym (add-one i))
 
-module _ (n own : ℕ) (m : Module) (behind whole : List Draft) (place : ℕ) (x : Function) (total : Option Refusal) (found : slice_get m.functions place ≡ Some x) where
-  step : (b : Bool) → is_listed (begun_in_module m) x ≡ b → listed_from m place ≡ cond b (record { place = place; function = x } ∷ listed_from m (place + 1)) (listed_from m (place + 1))
+module _ (translated : ℕ → Bool) (n own : ℕ) (m : Module) (behind whole : List Draft) (place : ℕ) (x : Function) (total : Option Refusal) (found : slice_get m.functions place ≡ Some x) where
+  step : (b : Bool) → is_listed translated x ≡ b → listed_from translated m place ≡ cond b (record { place = place; function = x } ∷ listed_from translated m (place + 1)) (listed_from translated m (place + 1))
   step b is =
-      listed-step m place x (slice_get_within m.functions place x found) (get_or_from_slice_get m.functions place x x found)
-      ∙ ap (λ (b : Bool). cond {A = List DefinedFunction} b (record { place = place; function = x } ∷ listed_from m (place + 1)) (listed_from m (place + 1))) is
+      listed-step translated m place x (slice_get_within m.functions place x found) (get_or_from_slice_get m.functions place x x found)
+      ∙ ap (λ (b : Bool). cond {A = List DefinedFunction} b (record { place = place; function = x } ∷ listed_from translated m (place + 1)) (listed_from translated m (place + 1))) is
 
   -- A function that is not listed is passed by.
-  pub left-unlisted : (texts : List (List ℕ)) (u : GivenUnit) → is_listed (begun_in_module m) x ≡ false → LeftFunctions n own m behind whole (listed_from m place) total texts u → LeftFunctions n own m behind whole (listed_from m (place + 1)) total texts u
+  pub left-unlisted : (texts : List (List ℕ)) (u : GivenUnit) → is_listed translated x ≡ false → LeftFunctions n own m behind whole (listed_from translated m place) total texts u → LeftFunctions n own m behind whole (listed_from translated m (place + 1)) total texts u
   left-unlisted texts u is left = subst (λ ds. LeftFunctions n own m behind whole ds total texts u) (step false is) left
 
-  pub left-unnamed : (texts : List (List ℕ)) (u : GivenUnit) → x.symbol ≡ None → LeftFunctions n own m behind whole (listed_from m place) total texts u → LeftFunctions n own m behind whole (listed_from m (place + 1)) total texts u
-  left-unnamed texts u none left = left-unlisted texts u (ap (λ (o : Option ℕ). is_some o && not (is_number_of (begun_in_module m) x.number)) none) left
+  pub left-unnamed : (texts : List (List ℕ)) (u : GivenUnit) → x.symbol ≡ None → LeftFunctions n own m behind whole (listed_from translated m place) total texts u → LeftFunctions n own m behind whole (listed_from translated m (place + 1)) total texts u
+  left-unnamed texts u none left = left-unlisted texts u (ap (λ (o : Option ℕ). is_some o && not (translated x.number)) none) left
 
   -- One that is listed is the first of those that are left.
-  pub left-listed : (texts : List (List ℕ)) (u : GivenUnit) → is_listed (begun_in_module m) x ≡ true → LeftFunctions n own m behind whole (listed_from m place) total texts u
-      → LeftFunctions n own m behind whole (record { place = place; function = x } ∷ listed_from m (place + 1)) total texts u
+  pub left-listed : (texts : List (List ℕ)) (u : GivenUnit) → is_listed translated x ≡ true → LeftFunctions n own m behind whole (listed_from translated m place) total texts u
+      → LeftFunctions n own m behind whole (record { place = place; function = x } ∷ listed_from translated m (place + 1)) total texts u
   left-listed texts u is left = subst (λ ds. LeftFunctions n own m behind whole ds total texts u) (step true is) left
 
 -- It is added, or its first refusal is answered, which is that of all.
@@ -201,16 +196,16 @@ function-gives n own m behind whole d rest total old new u v left (Ok done) give
 function-gives n own m behind whole d rest total old new u v left (Err e) gives =
     reading-more (first_of (variable_refusals m d)) total e (λ r is. sym left.first ∙ first-behind (variable_refusals m d) (flat_map (variable_refusals m) rest) r is) gives
 
-module _ (n own : ℕ) (m : Module) (behind whole : List Draft) (texts : List (List ℕ)) (u : GivenUnit) where
+module _ (translated : ℕ → Bool) (n own : ℕ) (m : Module) (behind whole : List Draft) (texts : List (List ℕ)) (u : GivenUnit) where
   -- Before the first function all listed ones are left.
-  pub functions-left : HasFunctions n own m texts behind whole (listed_functions m) u → LeftFunctions n own m behind whole (listed_from m 0) (first_of (flat_map (variable_refusals m) (listed_functions m))) texts u
+  pub functions-left : HasFunctions n own m texts behind whole (listed_functions translated m) u → LeftFunctions n own m behind whole (listed_from translated m 0) (first_of (flat_map (variable_refusals m) (listed_functions translated m))) texts u
   unfolding listed_functions
   functions-left has = record { made = has; first = refl }
 
   -- Behind the last one none is left.
-  pub functions-past : (place : ℕ) (total : Option Refusal) → length m.functions ≤ place → LeftFunctions n own m behind whole (listed_from m place) total texts u → (option_map in_reading total ≡ None) × HasFunctions n own m texts behind whole [] u
+  pub functions-past : (place : ℕ) (total : Option Refusal) → length m.functions ≤ place → LeftFunctions n own m behind whole (listed_from translated m place) total texts u → (option_map in_reading total ≡ None) × HasFunctions n own m texts behind whole [] u
   functions-past place total past left =
-      let gone : listed_from m place ≡ [] = ap (λ fs. listed_among (begun_in_module m) (defined_from place fs)) (drop_all place m.functions past) in
+      let gone : listed_from translated m place ≡ [] = ap (λ fs. listed_among translated (defined_from place fs)) (drop_all place m.functions past) in
       let none : LeftFunctions n own m behind whole [] total texts u = subst (λ ds. LeftFunctions n own m behind whole ds total texts u) gone left in
       (ap (option_map in_reading) (sym none.first), none.made)
 

@@ -15,7 +15,7 @@ use Rattle.dwc_base.specs.EntryRules.{of_build}
 use Rattle.dwc_base.specs.Forests.{first_refusal, function_refusals, module_refusals, refused_frames, refusals}
 use Rattle.dwc_base.specs.Functions.{Function}
 use Rattle.dwc_base.specs.LastUnit.{last_refusals, path_refusals}
-use Rattle.dwc_base.specs.ListedFunctions.{listed_functions}
+use Rattle.dwc_base.specs.ListedFunctions.{is_begun, listed_functions}
 use Rattle.dwc_base.specs.LocationsCarried.{UnitHasLocations}
 use Rattle.dwc_base.specs.Parts.{context_label}
 use Rattle.dwc_base.specs.RangeAttributes.{native_of_intervals}
@@ -103,18 +103,22 @@ module _ (m : Module) (numbered : AreNumbered m.functions) (keep : TranslationsK
 abbrev HasNumbers : Module → Type 0
 HasNumbers m = AreNumbered m.functions
 
-modules-located : (unit own : ℕ) (ms : List Module) → All HasNumbers ms → ((fs : List Function) → TranslationsKeepScopes fs) → flat_map (λ m. flat_map (variable_refusals m) (listed_functions m)) ms ≡ [] → AllZip IsLocated (label_uses ms) (below (modules_entries unit own ms))
-modules-located unit own [] numbered keep h = tt
-modules-located unit own (m ∷ ms) numbered keep h =
-    let two = both-none (flat_map (variable_refusals m) (listed_functions m)) (flat_map (λ n. flat_map (variable_refusals n) (listed_functions n)) ms) h in
-    subst (AllZip IsLocated (flat_map (uses_in_function m) (listed_functions m) ++ label_uses ms)) (sym (below-both (flat_map (function_entries unit own m) (listed_functions m)) (modules_entries unit (own + unit_count m) ms)))
-    (zip-both IsLocated (flat_map (uses_in_function m) (listed_functions m)) (below (flat_map (function_entries unit own m) (listed_functions m))) (label_uses ms) (below (modules_entries unit (own + unit_count m) ms))
-    (functions-located m (All-head HasNumbers m ms numbered) (keep m.functions) unit own (listed_functions m) two.0)
-    (modules-located unit (own + unit_count m) ms (All-tail HasNumbers m ms numbered) keep two.1))
+modules-located : (translated : ℕ → Bool) (unit own : ℕ) (ms : List Module) → All HasNumbers ms → ((fs : List Function) → TranslationsKeepScopes fs) → flat_map (λ m. flat_map (variable_refusals m) (listed_functions translated m)) ms ≡ []
+    → AllZip IsLocated (label_uses translated ms) (below (modules_entries translated unit own ms))
+modules-located translated unit own [] numbered keep h = tt
+modules-located translated unit own (m ∷ ms) numbered keep h =
+    let ds = listed_functions translated m in
+    let rest = modules_entries translated unit (own + unit_count m) ms in
+    let two = both-none (flat_map (variable_refusals m) ds) (flat_map (λ n. flat_map (variable_refusals n) (listed_functions translated n)) ms) h in
+    subst (AllZip IsLocated (flat_map (uses_in_function m) ds ++ label_uses translated ms)) (sym (below-both (flat_map (function_entries unit own m) ds) rest))
+    (zip-both IsLocated (flat_map (uses_in_function m) ds) (below (flat_map (function_entries unit own m) ds)) (label_uses translated ms) (below rest)
+    (functions-located m (All-head HasNumbers m ms numbered) (keep m.functions) unit own ds two.0)
+    (modules-located translated unit (own + unit_count m) ms (All-tail HasNumbers m ms numbered) keep two.1))
 
-unit-located : (path : List ℕ) (ms : List Module) → All HasNumbers ms → ((fs : List Function) → TranslationsKeepScopes fs) → simulated_refusals ms ≡ [] → LocatesLabels ms (settled_unit (λ goal. None) (simulated_unit path ms))
+unit-located : (translated : ℕ → Bool) (path : List ℕ) (ms : List Module) → All HasNumbers ms → ((fs : List Function) → TranslationsKeepScopes fs) → simulated_refusals translated ms ≡ []
+    → LocatesLabels translated ms (settled_unit (λ goal. None) (simulated_unit translated path ms))
 unfolding simulated_unit simulated_refusals
-unit-located path ms numbered keep h = modules-located (sum_by unit_count ms) 0 ms numbered keep h
+unit-located translated path ms numbered keep h = modules-located translated (sum_by unit_count ms) 0 ms numbered keep h
 
 -- without a first there is none
 no-first : {A : Type 0} (xs : List A) → first_of xs ≡ None → xs ≡ []
@@ -122,17 +126,17 @@ no-first [] h = refl
 no-first (x ∷ xs) h = absurd (cc)
 
 -- of an input of which nothing is refused nothing is of the variables of the last unit
-none-refused : (c : Compilation) → first_refusal c ≡ None → simulated_refusals c.modules ≡ []
+none-refused : (c : Compilation) → first_refusal c ≡ None → simulated_refusals (is_begun c.modules) c.modules ≡ []
 none-refused c accepted =
-    let last = last_refusals c.next_id c.modules ++ refused_frames c in
+    let last = last_refusals (is_begun c.modules) c.next_id c.modules ++ refused_frames c in
     let behind = (both-none (flat_map (λ (n : Module). function_refusals n.functions) c.modules) (flat_map module_refusals c.modules ++ last) (no-first (refusals c) accepted)).1 in
     let ends = (both-none (flat_map module_refusals c.modules) last behind).1 in
-    (both-none (path_refusals c.next_id c.modules) (simulated_refusals c.modules) (both-none (last_refusals c.next_id c.modules) (refused_frames c) ends).0).1
+    (both-none (path_refusals c.next_id c.modules) (simulated_refusals (is_begun c.modules) c.modules) (both-none (last_refusals (is_begun c.modules) c.next_id c.modules) (refused_frames c) ends).0).1
 
 -- The last unit of an input of which nothing is refused, whose functions have good maps and numbers of their own, has its locations.
-pub last-located : (drafted : CarriedUnit → List Draft) (c : Compilation) → All HasNumbers c.modules → ((fs : List Function) → TranslationsKeepScopes fs) → first_refusal c ≡ None → LastIs (UnitHasLocations drafted) c.next_id c.modules
-last-located drafted c numbered keep accepted = go c.modules numbered (none-refused c accepted)
+pub last-located : (drafted : CarriedUnit → List Draft) (c : Compilation) → All HasNumbers c.modules → ((fs : List Function) → TranslationsKeepScopes fs) → first_refusal c ≡ None → LastIs (UnitHasLocations drafted) (is_begun c.modules) c.next_id c.modules
+last-located drafted c numbered keep accepted = go (is_begun c.modules) c.modules numbered (none-refused c accepted)
   where
-    go : (ms : List Module) → All HasNumbers ms → simulated_refusals ms ≡ [] → LastIs (UnitHasLocations drafted) c.next_id ms
-    go [] numbered h = tt
-    go (m ∷ ms) numbered h = (unit-located _ (m ∷ ms) numbered keep h, tt)
+    go : (translated : ℕ → Bool) (ms : List Module) → All HasNumbers ms → simulated_refusals translated ms ≡ [] → LastIs (UnitHasLocations drafted) translated c.next_id ms
+    go translated [] numbered h = tt
+    go translated (m ∷ ms) numbered h = (unit-located translated _ (m ∷ ms) numbered keep h, tt)

@@ -11,7 +11,8 @@ use Rattle.dwc_base.specs.DefinedFunctions.{DefinedFunction, types_at}
 use Rattle.dwc_base.specs.DraftForests.{units_drafted, place_of_goal, settled_entry, settled_unit, trees_from, forest}
 use Rattle.dwc_base.specs.Drafts.{Draft, Goal, done}
 use Rattle.dwc_base.specs.Forests.{is_big, module_drafts, module_trees, trees_made}
-use Rattle.dwc_base.specs.ListedFunctions.{listed_functions}
+use Rattle.dwc_base.specs.LastUnit.{last_drafts}
+use Rattle.dwc_base.specs.ListedFunctions.{is_begun, listed_functions}
 use Rattle.dwc_base.specs.MadeEntries.{made, named}
 use Rattle.dwc_base.specs.OwnUnits.{own_unit, place_of_context_pointer}
 use Rattle.dwc_base.specs.Parts.{context_label}
@@ -150,19 +151,19 @@ module _ (ts : List Tree) where
       function-all-go : Each (Goes ts) (function_entries unit own m d)
       function-all-go = (function-goes m d, some-go (label_entry unit own m d) label-goes (m.told.labels d.function.number))
 
-    modules-go : (own : ℕ) (ms : List Module) → ContextsThere ts own ms → Each (Goes ts) (modules_entries unit own ms)
-    modules-go own [] contexts = tt
-    modules-go own (m ∷ ms) contexts =
-        each_both (Goes ts) (flat_map (function_entries unit own m) (listed_functions m)) (modules_entries unit (own + unit_count m) ms)
-        (lists-go (function_entries unit own m) (function-all-go own m contexts.0) (listed_functions m))
-        (modules-go (own + unit_count m) ms contexts.1)
+    modules-go : (translated : ℕ → Bool) (own : ℕ) (ms : List Module) → ContextsThere ts own ms → Each (Goes ts) (modules_entries translated unit own ms)
+    modules-go translated own [] contexts = tt
+    modules-go translated own (m ∷ ms) contexts =
+        each_both (Goes ts) (flat_map (function_entries unit own m) (listed_functions translated m)) (modules_entries translated unit (own + unit_count m) ms)
+        (lists-go (function_entries unit own m) (function-all-go own m contexts.0) (listed_functions translated m))
+        (modules-go translated (own + unit_count m) ms contexts.1)
 
   -- The last unit goes somewhere, where the types and the pointers to contexts are there.
-  simulated-goes : (path : List ℕ) (ms : List Module) → ((place : ℕ) → place < 5 → IsThere ts (sum_by unit_count ms) place) → ContextsThere ts 0 ms → unit_goes ts (settled_unit (λ goal. None) (simulated_unit path ms)) ≡ true
+  simulated-goes : (translated : ℕ → Bool) (path : List ℕ) (ms : List Module) → ((place : ℕ) → place < 5 → IsThere ts (sum_by unit_count ms) place) → ContextsThere ts 0 ms → unit_goes ts (settled_unit (λ goal. None) (simulated_unit translated path ms)) ≡ true
   unfolding simulated_unit
-  simulated-goes path ms types contexts =
-      all-go ts (simulated_root path (flat_map (λ m. whole_intervals m) ms) ∷ base_types ++ modules_entries (sum_by unit_count ms) 0 ms)
-      (root-goes path (flat_map (λ m. whole_intervals m) ms), each_both (Goes ts) base_types (modules_entries (sum_by unit_count ms) 0 ms) types-go (modules-go (sum_by unit_count ms) types 0 ms contexts))
+  simulated-goes translated path ms types contexts =
+      all-go ts (simulated_root path (flat_map (whole_intervals translated) ms) ∷ base_types ++ modules_entries translated (sum_by unit_count ms) 0 ms)
+      (root-goes path (flat_map (whole_intervals translated) ms), each_both (Goes ts) base_types (modules_entries translated (sum_by unit_count ms) 0 ms) types-go (modules-go (sum_by unit_count ms) types translated 0 ms contexts))
 
 -- ---- what it refers to
 
@@ -204,28 +205,30 @@ module _ (big_endian : Bool) where
       )
 
 -- the types are in the last unit
-types-within : (path : List ℕ) (ms : List Module) (place : ℕ) → place < 5 → place < length (simulated_unit path ms)
+types-within : (translated : ℕ → Bool) (path : List ℕ) (ms : List Module) (place : ℕ) → place < 5 → place < length (simulated_unit translated path ms)
 unfolding simulated_unit
-types-within path ms place less = omega (arith, less)
+types-within translated path ms place less = omega (arith, less)
 
 -- Every reference of the trees that are made of an input goes to an entry of these trees.
 pub all-targets : (c : Compilation) → HasAllTargets (trees_made c)
 unfolding forest
-all-targets c = go c.modules (made-targets c)
+all-targets c = go (is_begun c.modules) c.modules (made-targets c)
   where
-    go : (ms : List Module) → HasAllTargets (module_trees (record c { modules = ms })) → HasAllTargets (trees_made (record c { modules = ms }))
-    go [] h = h
-    go (m ∷ ms) h =
+    -- the trees of modules with the last one behind them
+    go : (translated : ℕ → Bool) (ms : List Module) → HasAllTargets (module_trees (record c { modules = ms }))
+        → HasAllTargets (forest (map (module_drafts (is_big c.order)) ms) (last_drafts translated c.next_id ms))
+    go translated [] h = h
+    go translated (m ∷ ms) h =
         let ts : List Tree = trees_of (is_big c.order) 0 (m ∷ ms) in
         let path : List ℕ = unit_path c.next_id m in
-        let last : Tree = settled_unit (λ goal. None) (simulated_unit path (m ∷ ms)) in
+        let last : Tree = settled_unit (λ goal. None) (simulated_unit translated path (m ∷ ms)) in
         let all : List Tree = ts ++ last ∷ [] in
         let before : list_all (unit_goes ts) ts ≡ true = subst (λ us. list_all (unit_goes us) us ≡ true) (append-nil ts) h in
         let number : sum_by unit_count (m ∷ ms) ≡ length ts = sym (last-number (is_big c.order) 0 (m ∷ ms)) in
-        let size : size_of_unit all (sum_by unit_count (m ∷ ms)) ≡ length (simulated_unit path (m ∷ ms)) =
-        ap (size_of_unit all) number ∙ size-behind ts last [] ∙ length-map (simulated_unit path (m ∷ ms)) (settled_entry (λ (goal : Goal). None)) in
+        let size : size_of_unit all (sum_by unit_count (m ∷ ms)) ≡ length (simulated_unit translated path (m ∷ ms)) =
+        ap (size_of_unit all) number ∙ size-behind ts last [] ∙ length-map (simulated_unit translated path (m ∷ ms)) (settled_entry (λ (goal : Goal). None)) in
         all-append (unit_goes all) ts (last ∷ [])
         (all-so (unit_goes ts) (unit_goes all) (λ t goes. all-so (goes_somewhere ts) (goes_somewhere all) (goes-more ts (last ∷ [])) (values_of t) goes) ts before)
         (both-of (unit_goes all last) true
-        (simulated-goes all path (m ∷ ms) (λ place less. lt-ltb place (size_of_unit all (sum_by unit_count (m ∷ ms))) (subst (λ n. place < n) (sym size) (types-within path (m ∷ ms) place less))) (contexts-there (is_big c.order) [] (last ∷ []) 0 (m ∷ ms) refl))
+        (simulated-goes all translated path (m ∷ ms) (λ place less. lt-ltb place (size_of_unit all (sum_by unit_count (m ∷ ms))) (subst (λ n. place < n) (sym size) (types-within translated path (m ∷ ms) place less))) (contexts-there (is_big c.order) [] (last ∷ []) 0 (m ∷ ms) refl))
         refl)

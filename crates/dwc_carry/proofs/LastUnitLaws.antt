@@ -32,8 +32,8 @@ use Rattle.dwc_clone.specs.NativeExtents.{AreRanges}
 use Rattle.dwc_carry.specs.declared.error.DebugError.{DebugError}
 use Rattle.dwc_carry.specs.declared.simulated_entries.TypeTexts.{TypeTexts}
 use Rattle.dwc_carry.specs.declared.simulated_root.RootTexts.{RootTexts}
-use Rattle.dwc_carry.specs.Inputs.{modules_from, modules_of, names_of, told_from}
-use Rattle.dwc_carry.specs.LastUnits.{AddsLast, IsLast, IsPathOf, IsTyped, counted_behind}
+use Rattle.dwc_carry.specs.Inputs.{counted_behind, modules_from, modules_of, names_of, told_from}
+use Rattle.dwc_carry.specs.LastUnits.{AddsLast, IsLast, IsPathOf, IsTyped}
 use Rattle.dwc_carry.specs.ListedFiles.{CanWrite, intervals_of}
 use Rattle.dwc_carry.specs.MadeEntries.{with_additions}
 use Rattle.dwc_carry.specs.MadeUnits.{HasListedLines, IsMadeOf, LeadsTo}
@@ -106,15 +106,15 @@ listed-lines name size fs u fit is = record {
 -- ---- the whole unit
 
 -- Behind the root and the types all modules are left.
-pub modules-left : (size : ℕ) (path : List ℕ) (ms : List Module) (fs : List (ℕ × Function)) (texts : List (List ℕ)) (u : GivenUnit) → fs ≡ listed_in_files ms → IsTyped size path fs texts u → HasModules (sum_by unit_count ms) 0 texts (simulated_unit path ms) ms u
-modules-left size path ms fs texts u is typed =
-    modules-begun texts path ms u
-    (subst (λ whole. IsSimulated (sum_by unit_count ms) texts (simulated_root path whole ∷ base_types) u) (ap intervals_of is ∙ all-intervals ms) (typed.simulated (sum_by unit_count ms)))
+pub modules-left : (translated : ℕ → Bool) (size : ℕ) (path : List ℕ) (ms : List Module) (fs : List (ℕ × Function)) (texts : List (List ℕ)) (u : GivenUnit) → fs ≡ listed_in_files translated ms → IsTyped size path fs texts u → HasModules translated (sum_by unit_count ms) 0 texts (simulated_unit translated path ms) ms u
+modules-left translated size path ms fs texts u is typed =
+    modules-begun translated texts path ms u
+    (subst (λ whole. IsSimulated (sum_by unit_count ms) texts (simulated_root path whole ∷ base_types) u) (ap intervals_of is ∙ all-intervals translated ms) (typed.simulated (sum_by unit_count ms)))
 
 -- The unit is what it is to be, once their entries are added.
-pub last-made : (size : ℕ) (path : List ℕ) (ms : List Module) (fs : List (ℕ × Function)) (before middle after : List (List ℕ)) (u v : GivenUnit) → fs ≡ listed_in_files ms → All CanWrite fs → Grows before middle → Grows middle after
-    → IsTyped size path fs middle u → ((size : ℕ) (lines : GivenLines) (root : Addition) → BeginsWith size lines root u → BeginsWith size lines root v) → IsSimulated (sum_by unit_count ms) after (simulated_unit path ms) v → IsLast size path ms before after v
-last-made size path ms fs before middle after u v is fit first second typed begins says =
+pub last-made : (translated : ℕ → Bool) (size : ℕ) (path : List ℕ) (ms : List Module) (fs : List (ℕ × Function)) (before middle after : List (List ℕ)) (u v : GivenUnit) → fs ≡ listed_in_files translated ms → All CanWrite fs → Grows before middle → Grows middle after
+    → IsTyped size path fs middle u → ((size : ℕ) (lines : GivenLines) (root : Addition) → BeginsWith size lines root u → BeginsWith size lines root v) → IsSimulated (sum_by unit_count ms) after (simulated_unit translated path ms) v → IsLast translated size path ms before after v
+last-made translated size path ms fs before middle after u v is fit first second typed begins says =
     let program : GivenLines = simulated_program size (path_name path) fs in
     let begun = begins size program (simulated_root_addition typed.names typed.list) typed.begins in
     record {
@@ -150,31 +150,31 @@ path-refusals next_id m ms b is = ap (λ (c : Bool). refused_among (if c then No
     told true = refl
     told false = refl
 
-module _ (next_id : ℕ) (m : Module) (ms : List Module) (path : List ℕ) (of : path ≡ unit_path next_id m) where
+module _ (translated : ℕ → Bool) (next_id : ℕ) (m : Module) (ms : List Module) (path : List ℕ) (of : path ≡ unit_path next_id m) where
   named-so : (b : Bool) → is_file_name (path_name path) ≡ b → is_file_name (path_name (unit_path next_id m)) ≡ b
   named-so b is = ap (λ p. is_file_name (path_name p)) (sym of) ∙ is
 
-  refusals-of : is_file_name (path_name path) ≡ true → last_refusals next_id (m ∷ ms) ≡ simulated_refusals (m ∷ ms)
-  refusals-of named = ap (λ rs. rs ++ simulated_refusals (m ∷ ms)) (path-refusals next_id m ms true (named-so true named))
+  refusals-of : is_file_name (path_name path) ≡ true → last_refusals translated next_id (m ∷ ms) ≡ simulated_refusals translated (m ∷ ms)
+  refusals-of named = ap (λ rs. rs ++ simulated_refusals translated (m ∷ ms)) (path-refusals next_id m ms true (named-so true named))
 
-  refused-of : is_file_name (path_name path) ≡ false → first_of (last_refusals next_id (m ∷ ms)) ≡ Some bad_path
-  refused-of unnamed = ap (λ rs. first_of (rs ++ simulated_refusals (m ∷ ms))) (path-refusals next_id m ms false (named-so false unnamed))
+  refused-of : is_file_name (path_name path) ≡ false → first_of (last_refusals translated next_id (m ∷ ms)) ≡ Some bad_path
+  refused-of unnamed = ap (λ rs. first_of (rs ++ simulated_refusals translated (m ∷ ms))) (path-refusals next_id m ms false (named-so false unnamed))
 
-  added-of : (size : ℕ) (old new : List GivenUnit) (before after : List (List ℕ)) (u : GivenUnit) → length old ≡ sum_by unit_count (m ∷ ms) → new ≡ old ++ u ∷ [] → IsLast size path (m ∷ ms) before after u
-      → AddsLast size next_id (m ∷ ms) old new before after
+  added-of : (size : ℕ) (old new : List GivenUnit) (before after : List (List ℕ)) (u : GivenUnit) → length old ≡ sum_by unit_count (m ∷ ms) → new ≡ old ++ u ∷ [] → IsLast translated size path (m ∷ ms) before after u
+      → AddsLast translated size next_id (m ∷ ms) old new before after
   added-of size old new before after u counted added last = record {
     made = u ∷ [];
     added = added;
     grows = last.grows;
     each = λ at leads contexts. (
-      subst (λ p. IsMadeOf at size after (length old) (listed_unit (path_name p) (m ∷ ms)) (settled_unit (λ goal. None) (simulated_unit p (m ∷ ms))) u) of
-          (subst (λ n. IsMadeOf at size after n (listed_unit (path_name path) (m ∷ ms)) (settled_unit (λ goal. None) (simulated_unit path (m ∷ ms))) u) (sym counted)
-          (whole-made at size after (listed_unit (path_name path) (m ∷ ms)) path (m ∷ ms) u last.lines last.simulated (subst (λ n. LeadsTo at n (u ∷ [])) counted leads) contexts last.writable)),
+      subst (λ p. IsMadeOf at size after (length old) (listed_unit (path_name p) translated (m ∷ ms)) (settled_unit (λ goal. None) (simulated_unit translated p (m ∷ ms))) u) of
+          (subst (λ n. IsMadeOf at size after n (listed_unit (path_name path) translated (m ∷ ms)) (settled_unit (λ goal. None) (simulated_unit translated path (m ∷ ms))) u) (sym counted)
+          (whole-made translated at size after (listed_unit (path_name path) translated (m ∷ ms)) path (m ∷ ms) u last.lines last.simulated (subst (λ n. LeadsTo at n (u ∷ [])) counted leads) contexts last.writable)),
       tt,
     );
   }
 
-module _ (registers : Registers) (c : CompilationValue) (path : List ℕ) (of : IsPathOf c path) (counted : IsCounted c.translations c.functions c.memory_offsets) (some : 0 < length c.translations) where
+module _ (translated : ℕ → Bool) (registers : Registers) (c : CompilationValue) (path : List ℕ) (of : IsPathOf c path) (counted : IsCounted c.translations c.functions c.memory_offsets) (some : 0 < length c.translations) where
   abbrev modules : List Module
   modules = modules_of registers c
 
@@ -188,24 +188,24 @@ module _ (registers : Registers) (c : CompilationValue) (path : List ℕ) (of : 
   pub path-text : IsText path
   path-text = (of registers first.m first.ms first.is).1
 
-  same-refusals : is_file_name (path_name path) ≡ true → last_refusals c.next_id modules ≡ simulated_refusals modules
-  same-refusals named = subst (λ xs. last_refusals c.next_id xs ≡ simulated_refusals xs) (sym first.is) (refusals-of c.next_id first.m first.ms path of-first named)
+  same-refusals : is_file_name (path_name path) ≡ true → last_refusals translated c.next_id modules ≡ simulated_refusals translated modules
+  same-refusals named = subst (λ xs. last_refusals translated c.next_id xs ≡ simulated_refusals translated xs) (sym first.is) (refusals-of translated c.next_id first.m first.ms path of-first named)
 
   -- A path whose name names no file is refused.
-  pub path-refused : is_file_name (path_name path) ≡ false → option_map in_reading (first_of (last_refusals c.next_id modules)) ≡ Some (in_reading bad_path)
-  path-refused unnamed = ap (option_map in_reading) (subst (λ xs. first_of (last_refusals c.next_id xs) ≡ Some bad_path) (sym first.is) (refused-of c.next_id first.m first.ms path of-first unnamed))
+  pub path-refused : is_file_name (path_name path) ≡ false → option_map in_reading (first_of (last_refusals translated c.next_id modules)) ≡ Some (in_reading bad_path)
+  path-refused unnamed = ap (option_map in_reading) (subst (λ xs. first_of (last_refusals translated c.next_id xs) ≡ Some bad_path) (sym first.is) (refused-of translated c.next_id first.m first.ms path of-first unnamed))
 
   -- and else the first variable that is
-  pub unit-refused : (e : DebugError) → is_file_name (path_name path) ≡ true → RefusesReading (first_of (simulated_refusals modules)) e → RefusesReading (first_of (last_refusals c.next_id modules)) e
+  pub unit-refused : (e : DebugError) → is_file_name (path_name path) ≡ true → RefusesReading (first_of (simulated_refusals translated modules)) e → RefusesReading (first_of (last_refusals translated c.next_id modules)) e
   unit-refused e named met = subst (λ (rs : List Refusal). RefusesReading (first_of rs) e) (sym (same-refusals named)) met
 
   -- The unit is added.
   pub last-added : (size : ℕ) (old new : List GivenUnit) (before after : List (List ℕ)) (u : GivenUnit) → is_file_name (path_name path) ≡ true → length old ≡ sum_by unit_count modules → new ≡ old ++ u ∷ []
-      → (option_map in_reading (first_of (simulated_refusals modules)) ≡ None) × IsLast size path modules before after u → (option_map in_reading (first_of (last_refusals c.next_id modules)) ≡ None) × AddsLast size c.next_id modules old new before after
+      → (option_map in_reading (first_of (simulated_refusals translated modules)) ≡ None) × IsLast translated size path modules before after u → (option_map in_reading (first_of (last_refusals translated c.next_id modules)) ≡ None) × AddsLast translated size c.next_id modules old new before after
   last-added size old new before after u named numbered added (none, last) = (
     ap (λ (rs : List Refusal). option_map in_reading (first_of rs)) (same-refusals named) ∙ none,
-    subst (λ xs. AddsLast size c.next_id xs old new before after) (sym first.is)
-        (added-of c.next_id first.m first.ms path of-first size old new before after u (subst (λ xs. length old ≡ sum_by unit_count xs) first.is numbered) added (subst (λ xs. IsLast size path xs before after u) first.is last)),
+    subst (λ xs. AddsLast translated size c.next_id xs old new before after) (sym first.is)
+        (added-of translated c.next_id first.m first.ms path of-first size old new before after u (subst (λ xs. length old ≡ sum_by unit_count xs) first.is numbered) added (subst (λ xs. IsLast translated size path xs before after u) first.is last)),
   )
 
 -- ---- without modules
@@ -217,15 +217,15 @@ modules-none registers c none = go c.translations none
     go [] none = refl
     go (t ∷ ts) none = absurd (omega (arith, none))
 
-nothing-added : (size next_id : ℕ) (old : List GivenUnit) (before : List (List ℕ)) → (option_map in_reading (first_of (last_refusals next_id [])) ≡ None) × AddsLast size next_id [] old old before before
+nothing-added : (translated : ℕ → Bool) (size next_id : ℕ) (old : List GivenUnit) (before : List (List ℕ)) → (option_map in_reading (first_of (last_refusals translated next_id [])) ≡ None) × AddsLast translated size next_id [] old old before before
 unfolding simulated_refusals
-nothing-added size next_id old before = (refl, record { made = []; added = sym (append-nil old); grows = grows-same before; each = λ at leads contexts. tt })
+nothing-added translated size next_id old before = (refl, record { made = []; added = sym (append-nil old); grows = grows-same before; each = λ at leads contexts. tt })
 
 -- Nothing is added.
-pub none-added : (registers : Registers) (c : CompilationValue) (size : ℕ) (old : List GivenUnit) (before : List (List ℕ)) → length c.translations ≡ 0
-    → (option_map in_reading (first_of (last_refusals c.next_id (modules_of registers c))) ≡ None) × AddsLast size c.next_id (modules_of registers c) old old before before
-none-added registers c size old before none =
-    subst (λ xs. (option_map in_reading (first_of (last_refusals c.next_id xs)) ≡ None) × AddsLast size c.next_id xs old old before before) (sym (modules-none registers c none)) (nothing-added size c.next_id old before)
+pub none-added : (translated : ℕ → Bool) (registers : Registers) (c : CompilationValue) (size : ℕ) (old : List GivenUnit) (before : List (List ℕ)) → length c.translations ≡ 0
+    → (option_map in_reading (first_of (last_refusals translated c.next_id (modules_of registers c))) ≡ None) × AddsLast translated size c.next_id (modules_of registers c) old old before before
+none-added translated registers c size old before none =
+    subst (λ xs. (option_map in_reading (first_of (last_refusals translated c.next_id xs)) ≡ None) × AddsLast translated size c.next_id xs old old before before) (sym (modules-none registers c none)) (nothing-added translated size c.next_id old before)
 
 -- The counter stays as it is.
 pub none-counted : (registers : Registers) (c : CompilationValue) → length c.translations ≡ 0 → c ≡ counted_behind registers c

@@ -46,7 +46,6 @@ pub mod WalkLaws
 pub mod NameSearch
 pub mod PlainNames
 pub mod GroupLaws
-pub mod TranslatedLaws
 pub mod ListedLaws
 pub mod ListedSteps
 pub mod PathLaws

@@ -1,12 +1,11 @@
--- The listed functions of a compilation, as transforms and the noted numbers tell them, are those of its modules; they can be written.
+-- The listed functions of a compilation, as transforms and the translated numbers tell them, are those of its modules; they can be written.
 use Rattle.std.proofs.Common.{◌≡◌, ℕ, zero, suc, ◌+◌, ◌-◌, ◌<◌, ◌≤◌, ◌^◌, List, [], ◌∷◌, ◌++◌, map, cond, get_or, length, refl, ap, ap₂, sym, ◌∙◌, subst, arith, Bool, true, false, Option, Some, None, All}
-use Rattle.std.specs.Prelude.{◌==◌, ◌&&◌, not, is_some, nat_lt, nat_le, if◌then◌else◌, option_map, Contains, IfSome}
-use Rattle.std.specs.BTreeSet.{BTreeSet}
+use Rattle.std.specs.Prelude.{◌==◌, ◌&&◌, not, is_some, nat_lt, nat_le, if◌then◌else◌, option_map, IfSome}
 use Rattle.std.specs.List.{cons_option, filter_map, flat_map}
 use Rattle.std.specs.Option.{option_or, unwrap_or}
 use Rattle.std.proofs.lemmas.Bool.{and_parts, leb-true, ltb-false}
 use Rattle.std.proofs.lemmas.List.{length-map}
-use Rattle.std.proofs.lemmas.List.Elements.{All-nil, All-cons, All-head, All-tail, All-append, All-contains_itself, All-map, All-weaker, filter_map-append}
+use Rattle.std.proofs.lemmas.List.Elements.{All-nil, All-cons, All-head, All-tail, All-append, All-map, filter_map-append}
 use Rattle.dwc_base.specs.declared.records.MapFault.{MapFault}
 use Rattle.dwc_base.specs.declared.records.MapFault.TheVariants.{BodyOffset, BeforeCodeSection, Reversed, CodeFalls, CodePastBody, SourceOutside}
 use Rattle.dwc_base.specs.declared.wasm.ModuleTranslation.{ModuleTranslation}
@@ -16,7 +15,7 @@ use Rattle.dwc_base.specs.Compiled.{ToldModule}
 use Rattle.dwc_base.specs.DefinedFunctions.{DefinedFunction}
 use Rattle.dwc_base.specs.Functions.{AddressMap, Function, Recorded, bounds_fault, entry_fault, function_of, functions_of, is_source_within, map_fault, recorded_entry, recorded_sources, wasm_entry}
 use Rattle.dwc_base.specs.LastUnit.{listed_in_files}
-use Rattle.dwc_base.specs.ListedFunctions.{begun_in_module, defined_from, is_listed, listed_among, listed_functions}
+use Rattle.dwc_base.specs.ListedFunctions.{defined_from, is_listed, listed_among, listed_functions}
 use Rattle.dwc_base.specs.Refusals.{first_of}
 use Rattle.dwc_base.specs.SimulatedUnit.{whole_interval, whole_intervals}
 use Rattle.dwc_clif.specs.AddressMaps.{address_map_view}
@@ -27,58 +26,41 @@ use Rattle.dwc_addr.specs.Transforms.{first_bad_map}
 use Rattle.dwc_addr.proofs.EntryLaws.{all-good}
 use Rattle.dwc_image.specs.ImageRows.{IsOrdered}
 use Rattle.dwc_image.proofs.OrderLaws.{kept-ordered}
-use Rattle.dwc_clone.specs.BegunNumbers.{is_noted, is_number_of}
 use Rattle.dwc_carry.specs.Inputs.{bad_map, bad_map_from, functions_from, modules_from, modules_of, names_of, told_from}
-use Rattle.dwc_carry.specs.LastUnits.{AreTranslated, AreTranslatedOf}
-use Rattle.dwc_carry.specs.ListedFiles.{CanWrite, HasFirstLine, HasLowEnd, intervals_of, is_left, left_in, left_of}
+use Rattle.dwc_carry.specs.ListedFiles.{CanWrite, HasFirstLine, HasLowEnd, intervals_of, left_in, left_of}
 use Rattle.dwc_carry.proofs.CompiledLaws.{counted-length, told-length}
 use Rattle.dwc_carry.proofs.RefusalLaws.{unmapped}
-use Rattle.dwc_carry.proofs.TranslatedLaws.{all-translated, functions-count}
 
 -- ---- they are those of the modules
 
--- a function with a symbol is listed where its number is not noted
-agrees : (translated : BTreeSet ℕ) (m : Module) → AreTranslatedOf m translated → All (λ f. is_left translated f ≡ is_listed (begun_in_module m) f) m.functions
-agrees translated m of = All-weaker (Contains m.functions) (λ f. is_left translated f ≡ is_listed (begun_in_module m) f) (λ f among. go f among (is_some f.symbol) refl) m.functions (All-contains_itself m.functions)
+module-left : (translated : ℕ → Bool) (code_offset place : ℕ) (fs : List Function) → left_of translated code_offset fs ≡ map (λ d. (code_offset, d.function)) (listed_among translated (defined_from place fs))
+module-left translated code_offset place [] = refl
+module-left translated code_offset place (f ∷ fs) = go (is_listed translated f) (module-left translated code_offset (suc place) fs)
   where
-    go : (f : Function) → Contains m.functions f → (b : Bool) → is_some f.symbol ≡ b → (b && not (is_noted translated f.number)) ≡ (b && not (is_number_of (begun_in_module m) f.number))
-    go f among true is = ap not (of f among is)
-    go f among false is = refl
+    go : (b : Bool) → left_of translated code_offset fs ≡ map (λ d. (code_offset, d.function)) (listed_among translated (defined_from (suc place) fs))
+        → ◌≡◌ {A = List (ℕ × Function)} (if b then (code_offset, f) ∷ left_of translated code_offset fs else left_of translated code_offset fs)
+        (map (λ d. (code_offset, d.function)) (cond {A = List DefinedFunction} b (record { place = place; function = f } ∷ listed_among translated (defined_from (suc place) fs)) (listed_among translated (defined_from (suc place) fs))))
+    go true more = ap (λ (xs : List (ℕ × Function)). (code_offset, f) ∷ xs) more
+    go false more = more
 
-module-left : (translated : BTreeSet ℕ) (begun : List Function) (code_offset place : ℕ) (fs : List Function) → All (λ f. is_left translated f ≡ is_listed begun f) fs
-    → left_of translated code_offset fs ≡ map (λ d. (code_offset, d.function)) (listed_among begun (defined_from place fs))
-module-left translated begun code_offset place [] same = refl
-module-left translated begun code_offset place (f ∷ fs) same =
-    go (is_left translated f) (is_listed begun f) (All-head (λ g. is_left translated g ≡ is_listed begun g) f fs same) (module-left translated begun code_offset (suc place) fs (All-tail (λ g. is_left translated g ≡ is_listed begun g) f fs same))
-  where
-    go : (a b : Bool) → a ≡ b → left_of translated code_offset fs ≡ map (λ d. (code_offset, d.function)) (listed_among begun (defined_from (suc place) fs))
-        → ◌≡◌ {A = List (ℕ × Function)} (if a then (code_offset, f) ∷ left_of translated code_offset fs else left_of translated code_offset fs)
-        (map (λ d. (code_offset, d.function)) (cond {A = List DefinedFunction} b (record { place = place; function = f } ∷ listed_among begun (defined_from (suc place) fs)) (listed_among begun (defined_from (suc place) fs))))
-    go true true e more = ap (λ (xs : List (ℕ × Function)). (code_offset, f) ∷ xs) more
-    go false false e more = more
-    go true false e more = absurd (cc)
-    go false true e more = absurd (cc)
-
-modules-left : (translated : BTreeSet ℕ) (number : ℕ) (ts : List ModuleTranslation) (fss : List (List Compiled)) (told : List ToldModule) → length fss ≡ length ts → length told ≡ length ts
-    → All (λ m. AreTranslatedOf m translated) (modules_from number ts fss told) → left_in translated ts (functions_from number ts fss) ≡ listed_in_files (modules_from number ts fss told)
+modules-left : (translated : ℕ → Bool) (number : ℕ) (ts : List ModuleTranslation) (fss : List (List Compiled)) (told : List ToldModule) → length fss ≡ length ts → length told ≡ length ts
+    → left_in translated ts (functions_from number ts fss) ≡ listed_in_files translated (modules_from number ts fss told)
 unfolding listed_functions
-modules-left translated number [] fss told same counted all = refl
-modules-left translated number (t ∷ ts) [] told same counted all = absurd (omega (arith, same))
-modules-left translated number (t ∷ ts) (fs ∷ fss) [] same counted all = absurd (omega (arith, counted))
-modules-left translated number (t ∷ ts) (fs ∷ fss) (x ∷ told) same counted all =
-    let m : Module = Rattle.dwc_carry.specs.Inputs.module_view number t fs x in
-    let ms = modules_from (number + length fs) ts fss told in
+modules-left translated number [] fss told same counted = refl
+modules-left translated number (t ∷ ts) [] told same counted = absurd (omega (arith, same))
+modules-left translated number (t ∷ ts) (fs ∷ fss) [] same counted = absurd (omega (arith, counted))
+modules-left translated number (t ∷ ts) (fs ∷ fss) (x ∷ told) same counted =
     ap₂ (λ (xs ys : List (ℕ × Function)). xs ++ ys)
-    (module-left translated (begun_in_module m) t.code_section_offset 0 m.functions (agrees translated m (All-head (λ n. AreTranslatedOf n translated) m ms all)))
-    (modules-left translated (number + length fs) ts fss told (omega (arith, same)) (omega (arith, counted)) (All-tail (λ n. AreTranslatedOf n translated) m ms all))
+    (module-left translated t.code_section_offset 0 (functions_of t.code_section_offset number (map address_map_view fs)))
+    (modules-left translated (number + length fs) ts fss told (omega (arith, same)) (omega (arith, counted)))
 
--- The functions that are left by all numbers that are noted are the listed ones.
-pub all-left : (registers : Registers) (c : CompilationValue) (translated : BTreeSet ℕ) → IsCounted c.translations c.functions c.memory_offsets → AreTranslated (modules_of registers c) translated
-    → left_in translated c.translations (functions_from 0 c.translations c.functions) ≡ listed_in_files (modules_of registers c)
-all-left registers c translated counted noted =
+-- The functions that are left by the translated numbers are the listed ones.
+pub all-left : (registers : Registers) (c : CompilationValue) (translated : ℕ → Bool) → IsCounted c.translations c.functions c.memory_offsets
+    → left_in translated c.translations (functions_from 0 c.translations c.functions) ≡ listed_in_files translated (modules_of registers c)
+all-left registers c translated counted =
     let same = counted-length c.translations c.functions c.memory_offsets counted in
     modules-left translated 0 c.translations c.functions (told_from registers (names_of c) 0 0 c.functions c.memory_offsets) same
-    (told-length registers (names_of c) 0 0 c.functions c.memory_offsets (counted.offsets_given ∙ sym same) ∙ same) (all-translated registers c translated noted)
+    (told-length registers (names_of c) 0 0 c.functions c.memory_offsets (counted.offsets_given ∙ sym same) ∙ same)
 
 -- ---- their intervals
 
@@ -87,11 +69,11 @@ module-intervals code_offset [] = refl
 module-intervals code_offset (d ∷ ds) = ap (cons_option (whole_interval d.function)) (module-intervals code_offset ds)
 
 -- The code of the listed functions of modules is that of each of these.
-pub all-intervals : (ms : List Module) → intervals_of (listed_in_files ms) ≡ flat_map (λ m. whole_intervals m) ms
-all-intervals [] = refl
-all-intervals (m ∷ ms) =
-    filter_map-append (λ (f : ℕ × Function). whole_interval f.1) (map (λ d. (m.file.code_offset, d.function)) (listed_functions m)) (listed_in_files ms)
-    ∙ ap₂ (λ xs ys. xs ++ ys) (module-intervals m.file.code_offset (listed_functions m)) (all-intervals ms)
+pub all-intervals : (translated : ℕ → Bool) (ms : List Module) → intervals_of (listed_in_files translated ms) ≡ flat_map (whole_intervals translated) ms
+all-intervals translated [] = refl
+all-intervals translated (m ∷ ms) =
+    filter_map-append (λ (f : ℕ × Function). whole_interval f.1) (map (λ d. (m.file.code_offset, d.function)) (listed_functions translated m)) (listed_in_files translated ms)
+    ∙ ap₂ (λ xs ys. xs ++ ys) (module-intervals m.file.code_offset (listed_functions translated m)) (all-intervals translated ms)
 
 -- ---- they can be written
 
@@ -156,21 +138,21 @@ ordered-one code_offset number m good =
       kept = refl;
     }))
 
-short-one : (translated : BTreeSet ℕ) (f : Function) → is_left translated f ≡ true → is_long f ≡ false → f.length < 2 ^ 31
+short-one : (translated : ℕ → Bool) (f : Function) → is_listed translated f ≡ true → is_long f ≡ false → f.length < 2 ^ 31
 short-one translated f left short =
-    let named = (and_parts (is_some f.symbol) (not (is_noted translated f.number)) left).0 in
+    let named = (and_parts (is_some f.symbol) (not (translated f.number)) left).0 in
     let low = ltb-false longest_function f.length (sym (ap (λ b. b && nat_lt longest_function f.length) named) ∙ short) in
     omega (arith, low)
 
-fit-more : (translated : BTreeSet ℕ) (code_offset : ℕ) (f : Function) (rest : List (ℕ × Function)) → IsOrdered f → All (HasLine code_offset) (recorded_sources f) → is_long f ≡ false → All CanWrite rest
-    → All CanWrite (if is_left translated f then (code_offset, f) ∷ rest else rest)
-fit-more translated code_offset f rest ordered lines short more = go (is_left translated f) refl
+fit-more : (translated : ℕ → Bool) (code_offset : ℕ) (f : Function) (rest : List (ℕ × Function)) → IsOrdered f → All (HasLine code_offset) (recorded_sources f) → is_long f ≡ false → All CanWrite rest
+    → All CanWrite (if is_listed translated f then (code_offset, f) ∷ rest else rest)
+fit-more translated code_offset f rest ordered lines short more = go (is_listed translated f) refl
   where
-    go : (b : Bool) → is_left translated f ≡ b → All CanWrite (if b then (code_offset, f) ∷ rest else rest)
+    go : (b : Bool) → is_listed translated f ≡ b → All CanWrite (if b then (code_offset, f) ∷ rest else rest)
     go false is = more
     go true is = All-cons CanWrite (code_offset, f) rest (record { lists = record { order = ordered; lines = lines }; short = short-one translated f is short }) more
 
-module-fits : (translated : BTreeSet ℕ) (code_offset number : ℕ) (ms : List AddressMap) → All (λ m. map_fault code_offset m ≡ None) ms → All IsLow ms → All (λ f. is_long f ≡ false) (functions_of code_offset number ms)
+module-fits : (translated : ℕ → Bool) (code_offset number : ℕ) (ms : List AddressMap) → All (λ m. map_fault code_offset m ≡ None) ms → All IsLow ms → All (λ f. is_long f ≡ false) (functions_of code_offset number ms)
     → All CanWrite (left_of translated code_offset (functions_of code_offset number ms))
 module-fits translated code_offset number [] good low short = All-nil CanWrite
 module-fits translated code_offset number (m ∷ ms) good low short =
@@ -185,7 +167,7 @@ neither : {A : Type 0} (o p : Option A) → option_or o p ≡ None → (o ≡ No
 neither None p h = (refl, h)
 neither (Some x) p h = absurd (cc)
 
-modules-fit : (translated : BTreeSet ℕ) (number place : ℕ) (ts : List ModuleTranslation) (fss : List (List Compiled)) → bad_map_from place ts fss ≡ None → All (All HasLowEnd) fss → All HaveAddends (functions_from number ts fss)
+modules-fit : (translated : ℕ → Bool) (number place : ℕ) (ts : List ModuleTranslation) (fss : List (List Compiled)) → bad_map_from place ts fss ≡ None → All (All HasLowEnd) fss → All HaveAddends (functions_from number ts fss)
     → All CanWrite (left_in translated ts (functions_from number ts fss))
 modules-fit translated number place [] fss good low addends = All-nil CanWrite
 modules-fit translated number place (t ∷ ts) [] good low addends = All-nil CanWrite
@@ -201,7 +183,7 @@ modules-fit translated number place (t ∷ ts) (fs ∷ fss) good low addends =
     (modules-fit translated (number + length fs) (suc place) ts fss two.1 (All-tail (All HasLowEnd) fs fss low) (All-tail HaveAddends gs rest addends))
 
 -- Where no address map is bad, all that are left can be written.
-pub all-fit : (translated : BTreeSet ℕ) (c : CompilationValue) → bad_map c ≡ None → All (All HasLowEnd) c.functions → All HaveAddends (functions_from 0 c.translations c.functions)
+pub all-fit : (translated : ℕ → Bool) (c : CompilationValue) → bad_map c ≡ None → All (All HasLowEnd) c.functions → All HaveAddends (functions_from 0 c.translations c.functions)
     → All CanWrite (left_in translated c.translations (functions_from 0 c.translations c.functions))
 all-fit translated c good low addends = modules-fit translated 0 0 c.translations c.functions good low addends
 
@@ -252,6 +234,10 @@ modules-lines number place (x ∷ ts) (fs ∷ fss) (suc i) t gs good low inside 
     let maps = map address_map_view fs in
     let rest = (neither (option_map (λ (bad : ℕ × MapFault). (place, bad)) (first_bad_map x.code_section_offset 0 maps)) (bad_map_from (suc place) ts fss) good).1 in
     modules-lines (number + length fs) (suc place) ts fss i t gs rest (All-tail (All HasLowEnd) fs fss low) (omega (arith, inside))
+
+functions-count : (code_offset number : ℕ) (ms : List AddressMap) → length (functions_of code_offset number ms) ≡ length ms
+functions-count code_offset number [] = refl
+functions-count code_offset number (m ∷ ms) = omega (arith, functions-count code_offset (number + 1) ms)
 
 -- a module has no more functions than all have
 module-count : (number : ℕ) (ts : List ModuleTranslation) (fss : List (List Compiled)) (i : ℕ) (gs : List Function) → i < length (functions_from number ts fss) → length (get_or (functions_from number ts fss) i gs) ≤ function_count fss

@@ -3,7 +3,6 @@ use Rattle.std.proofs.Common.{◌≡◌, ℕ, zero, suc, ◌+◌, ◌<◌, ◌�
 use Rattle.std.specs.Prelude.{◌==◌, if◌then◌else◌, FitsSigned}
 use Rattle.std.specs.Borrow.{Bor}
 use Rattle.std.specs.Int.{w32}
-use Rattle.std.specs.BTreeSet.{BTreeSet}
 use Rattle.std.specs.List.{cons_option}
 use Rattle.std.proofs.lemmas.Bool.{eqb-true, false_from_ne_true}
 use Rattle.std.proofs.lemmas.Int.{ints}
@@ -13,13 +12,14 @@ use Rattle.dwc_base.specs.declared.records.Address.{Address}
 use Rattle.dwc_base.specs.declared.records.Address.TheVariants.{Symbol}
 use Rattle.dwc_base.specs.declared.wasm.ModuleTranslation.{ModuleTranslation}
 use Rattle.dwc_base.specs.Functions.{Function}
+use Rattle.dwc_base.specs.ListedFunctions.{is_listed}
 use Rattle.dwc_base.specs.SimulatedUnit.{whole_interval}
 use Rattle.dwc_base.specs.Trees.{Interval}
 use Rattle.dwc_addr.specs.declared.function_map.FunctionMap.{FunctionMap}
 use Rattle.dwc_image.specs.SimulatedSequences.{listed_view}
 use Rattle.dwc_write.specs.RangeLists.{FitsRange, interval_of}
 use Rattle.dwc_clone.specs.NativeExtents.{AreRanges}
-use Rattle.dwc_carry.specs.ListedFiles.{CanWrite, intervals_of, is_left, left_in, left_of}
+use Rattle.dwc_carry.specs.ListedFiles.{CanWrite, intervals_of, left_in, left_of}
 
 -- what is left to show of all
 pub all-more : {A : Type 0} (P : A → Type 0) (xs : List A) (i : ℕ) (d : A) → i < length xs → (All P (drop i xs) → All P xs) → P (get_or xs i d) → All P (drop (i + 1) xs) → All P xs
@@ -28,18 +28,18 @@ all-more P xs i d inside left here rest = left (subst (All P) (sym (drop_more xs
 pub all-done : {A : Type 0} (P : A → Type 0) (xs : List A) (i : ℕ) → length xs ≤ i → (All P (drop i xs) → All P xs) → All P xs
 all-done P xs i past left = left (subst (All P) (sym (drop_all i xs past)) (All-nil P))
 
-module _ (translated : BTreeSet ℕ) where
+module _ (translated : ℕ → Bool) where
   -- ---- the functions of a module
 
   -- a function more, which is listed
-  pub function-more : (code_offset : ℕ) (f : Function) (rest : List Function) (before whole : List (ℕ × Function)) → is_left translated f ≡ true → before ++ left_of translated code_offset (f ∷ rest) ≡ whole → (before ++ (code_offset, f) ∷ []) ++ left_of translated code_offset rest ≡ whole
+  pub function-more : (code_offset : ℕ) (f : Function) (rest : List Function) (before whole : List (ℕ × Function)) → is_listed translated f ≡ true → before ++ left_of translated code_offset (f ∷ rest) ≡ whole → (before ++ (code_offset, f) ∷ []) ++ left_of translated code_offset rest ≡ whole
   function-more code_offset f rest before whole is h =
       append_assoc before ((code_offset, f) ∷ []) (left_of translated code_offset rest)
       ∙ ap (λ (b : Bool). before ++ (if b then (code_offset, f) ∷ left_of translated code_offset rest else left_of translated code_offset rest)) (sym is)
       ∙ h
 
   -- one more that is not
-  pub function-none : (code_offset : ℕ) (f : Function) (rest : List Function) (before whole : List (ℕ × Function)) → is_left translated f ≡ false → before ++ left_of translated code_offset (f ∷ rest) ≡ whole → before ++ left_of translated code_offset rest ≡ whole
+  pub function-none : (code_offset : ℕ) (f : Function) (rest : List Function) (before whole : List (ℕ × Function)) → is_listed translated f ≡ false → before ++ left_of translated code_offset (f ∷ rest) ≡ whole → before ++ left_of translated code_offset rest ≡ whole
   function-none code_offset f rest before whole is h =
       ap (λ (b : Bool). before ++ (if b then (code_offset, f) ∷ left_of translated code_offset rest else left_of translated code_offset rest)) (sym is) ∙ h
 

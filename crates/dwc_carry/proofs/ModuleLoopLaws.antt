@@ -9,13 +9,13 @@ use Rattle.dwc_base.specs.Carried.{units, Module}
 use Rattle.dwc_base.specs.Refusals.{Refusal, first_of}
 use Rattle.dwc_base.specs.DraftForests.{units_drafted, place_of_goal, settled_unit, trees_from}
 use Rattle.dwc_base.specs.Forests.{wanted_units_of, module_refusals, module_drafts}
-use Rattle.dwc_base.specs.ListedFunctions.{begun_in_module}
+use Rattle.dwc_base.specs.ListedFunctions.{begun_in_module, is_number_of}
 use Rattle.dwc_base.specs.OwnUnits.{place_of_context_pointer}
 use Rattle.dwc_base.specs.SimulatedUnit.{unit_count}
 use Rattle.dwc_base.specs.Trees.{Tree}
 use Rattle.dwc_write.specs.GivenUnits.{GivenUnit}
 use Rattle.dwc_write.specs.declared.attributes.DebugInfoRef.{DebugInfoRef}
-use Rattle.dwc_clone.specs.BegunNumbers.{is_number_of, NotesFunctions}
+use Rattle.dwc_clone.specs.BegunNumbers.{NotesFunctions}
 use Rattle.dwc_clone.specs.MadeValues.{Grows}
 use Rattle.dwc_clone.proofs.BegunNumberLaws.{AreNotedSoFar, none-noted, noted-done, noted-more}
 use Rattle.dwc_carry.specs.declared.error.DebugError.{DebugError}

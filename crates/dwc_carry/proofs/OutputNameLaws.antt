@@ -6,6 +6,7 @@ use Rattle.dwc_base.specs.declared.section_name.SectionName.{SectionName}
 use Rattle.dwc_base.specs.declared.section_name.SectionName.TheVariants.{Abbrev, Info, Line, Loc, Ranges, Str}
 use Rattle.dwc_base.specs.CallFrames.{CommonEntry, FrameDescription}
 use Rattle.dwc_base.specs.FrameSections.{frame_section, frame_section_if}
+use Rattle.dwc_base.specs.OutputForm.{are_of_output, is_of_output}
 use Rattle.dwc_base.specs.Outputs.{OutputRelocation, OutputSection}
 use Rattle.dwc_base.specs.Sections.{section_text}
 use Rattle.dwc_write.specs.declared.frames.FrameTable.{FrameTable}
@@ -16,7 +17,6 @@ use Rattle.dwc_write.specs.Lists.{locations_in, ranges_in}
 use Rattle.dwc_write.specs.SpelledOutput.{abbrev_bytes, all_info_bytes, all_lines_bytes, all_lists_bytes, all_lists_relocations, all_places, section_unless_empty, spelled_sections, units_placed}
 use Rattle.dwc_write.specs.SpelledRelocations.{info_relocations, lines_relocations}
 use Rattle.dwc_write.specs.UsedTexts.{strings_bytes}
-use Rattle.dwc_carry.specs.OutputNames.{are_of_output, is_of_output}
 
 both : (xs ys : List OutputSection) → are_of_output xs ≡ true → are_of_output ys ≡ true → are_of_output (xs ++ ys) ≡ true
 both [] ys first second = second

@@ -18,8 +18,8 @@ use Rattle.dwc_addr.specs.Numbers.{Compiled}
 use Rattle.dwc_write.specs.SpelledLines.{FitsName}
 use Rattle.dwc_write.specs.TextTables.{IsText}
 use Rattle.dwc_carry.specs.declared.unit_path.UnitPath.{UnitPath}
-use Rattle.dwc_carry.specs.Inputs.{modules_from, modules_of, names_of, told_from}
-use Rattle.dwc_carry.specs.LastUnits.{IsPathOf, counted_behind, counted_name}
+use Rattle.dwc_carry.specs.Inputs.{counted_behind, modules_from, modules_of, names_of, told_from}
+use Rattle.dwc_carry.specs.LastUnits.{IsPathOf, counted_name}
 use Rattle.dwc_carry.specs.UnitPathParts.{IsUnitPath}
 use Rattle.dwc_carry.proofs.CompiledLaws.{counted-length, told-length}
 use Rattle.dwc_carry.proofs.PlainNames.{plain_bytes}

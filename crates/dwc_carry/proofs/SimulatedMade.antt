@@ -1,5 +1,5 @@
 -- The unit for functions without debugging information, once all its entries are added, is made as it is wanted.
-use Rattle.std.proofs.Common.{◌≡◌, ℕ, suc, ◌+◌, ◌<◌, arith, refl, ap, sym, subst, ◌∙◌, List, [], ◌∷◌, ◌++◌, map, length, Option, Some, None}
+use Rattle.std.proofs.Common.{◌≡◌, ℕ, suc, ◌+◌, ◌<◌, arith, refl, ap, sym, subst, ◌∙◌, List, [], ◌∷◌, ◌++◌, map, length, Bool, Option, Some, None}
 use Rattle.std.specs.Prelude.{is_some, sum_by}
 use Rattle.std.specs.List.{flat_map}
 use Rattle.std.proofs.lemmas.List.{length-map}
@@ -69,14 +69,14 @@ place-there at number place u leads dense within =
     subst (λ k. at k place ≡ Some (k, place)) counted (leads 0 u refl place place (numbered-place u place dense within))
 
 -- The unit of a path, behind those of all modules, is made as it is wanted.
-pub whole-made : (at : ℕ → ℕ → Option (ℕ × ℕ)) (size : ℕ) (table : List (List ℕ)) (w : WantedUnit) (path : List ℕ) (ms : List Module) (u : GivenUnit) → HasWantedLines w u → IsSimulated (sum_by unit_count ms) table (simulated_unit path ms) u
-    → LeadsTo at (sum_by unit_count ms) (u ∷ []) → ContextsStay at 0 ms → IsWritable size (ordered u) → IsMadeOf at size table (sum_by unit_count ms) w (settled_unit (λ goal. None) (simulated_unit path ms)) u
+pub whole-made : (translated : ℕ → Bool) (at : ℕ → ℕ → Option (ℕ × ℕ)) (size : ℕ) (table : List (List ℕ)) (w : WantedUnit) (path : List ℕ) (ms : List Module) (u : GivenUnit) → HasWantedLines w u → IsSimulated (sum_by unit_count ms) table (simulated_unit translated path ms) u
+    → LeadsTo at (sum_by unit_count ms) (u ∷ []) → ContextsStay at 0 ms → IsWritable size (ordered u) → IsMadeOf at size table (sum_by unit_count ms) w (settled_unit (λ goal. None) (simulated_unit translated path ms)) u
 unfolding simulated_unit
-whole-made at size table w path ms u lines so leads contexts can =
+whole-made translated at size table w path ms u lines so leads contexts can =
     let order = so.drafted.order in
     let number = sum_by unit_count ms in
-    let behind = modules_entries number 0 ms in
-    let root = simulated_root path (flat_map (λ m. whole_intervals m) ms) in
+    let behind = modules_entries translated number 0 ms in
+    let root = simulated_root path (flat_map (whole_intervals translated) ms) in
     let counted : length (draft_depths (root ∷ (base_types ++ behind))) ≡ suc (suc (suc (suc (suc (length behind))))) = length-map (root ∷ (base_types ++ behind)) (λ (d : Draft). d.depth) in
     let types : (place : ℕ) → place < 5 → at number place ≡ Some (number, place) = λ place below. place-there at number place u leads so.dense (omega (arith, below, counted, order.counted)) in
-    simulated-made at size table number w (simulated_unit path ms) u lines so (unit-stays at path ms types contexts) can
+    simulated-made at size table number w (simulated_unit translated path ms) u lines so (unit-stays at translated path ms types contexts) can

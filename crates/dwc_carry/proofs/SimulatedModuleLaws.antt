@@ -1,10 +1,8 @@
 -- The loop over modules that adds the entries of their listed functions.
-use Rattle.std.proofs.Common.{◌≡◌, ℕ, zero, suc, ◌+◌, ◌<◌, ◌≤◌, List, [], ◌∷◌, ◌++◌, drop, length, get_or, refl, ap, sym, ◌∙◌, subst, arith, None, Ok, Err, All}
+use Rattle.std.proofs.Common.{◌≡◌, ℕ, zero, suc, ◌+◌, ◌<◌, ◌≤◌, List, [], ◌∷◌, ◌++◌, drop, length, get_or, refl, ap, sym, ◌∙◌, subst, arith, Bool, None, Ok, Err}
 use Rattle.std.specs.Prelude.{option_map}
-use Rattle.std.specs.BTreeSet.{BTreeSet}
 use Rattle.std.specs.List.{flat_map}
 use Rattle.std.proofs.lemmas.List.{drop_all, drop_more, length-map}
-use Rattle.std.proofs.lemmas.List.Elements.{All-drop, All-head}
 use Rattle.dwc_base.specs.declared.wasm.ModuleTranslation.{ModuleTranslation}
 use Rattle.dwc_base.specs.Carried.{Module}
 use Rattle.dwc_base.specs.Drafts.{Draft}
@@ -24,7 +22,7 @@ use Rattle.dwc_carry.specs.declared.error.DebugError.{DebugError}
 use Rattle.dwc_clone.specs.declared.compiled_module.CompiledModule.{CompiledModule}
 use Rattle.dwc_carry.specs.CarriedModules.{transformed_module}
 use Rattle.dwc_carry.specs.Inputs.{functions_from, modules_of, names_of}
-use Rattle.dwc_carry.specs.LastUnits.{AreTranslatedOf, ReferToContexts}
+use Rattle.dwc_carry.specs.LastUnits.{ReferToContexts}
 use Rattle.dwc_carry.specs.ListedParts.{AddsModule, ArePartsOf}
 use Rattle.dwc_carry.specs.MadeEntries.{IsDense}
 use Rattle.dwc_carry.specs.OwnUnits.{entry_of}
@@ -58,30 +56,25 @@ refers-inside registers c rs i counted less refers =
     let inside = transforms-inside c (functions_from 0 c.translations c.functions) i counted less refl in
     omega (arith, inside, ap length all, length-map (modules_of registers c) (λ (m : Module). m.functions), refers-length 0 (modules_of registers c) rs refers)
 
-module _ (translated : BTreeSet ℕ) where
-  -- what holds of all modules holds of the one that is next
-  pub translated-next : (ms : List Module) (i : ℕ) (m : Module) (rest : List Module) → drop i ms ≡ m ∷ rest → All (λ n. AreTranslatedOf n translated) ms → AreTranslatedOf m translated
-  translated-next ms i m rest is all = All-head (λ n. AreTranslatedOf n translated) m rest (subst (All (λ n. AreTranslatedOf n translated)) is (All-drop (λ n. AreTranslatedOf n translated) i ms all))
-
 -- ---- the loop
 
 -- The entries of the modules from a place on are left; those before are accepted, and references go to the contexts of those that are left.
-pub record ModulesLeft (number : ℕ) (whole : List Draft) (ms : List Module) (refs : List DebugInfoRef) (texts : List (List ℕ)) (u : GivenUnit) (i : ℕ) : Type 0 where
+pub record ModulesLeft (translated : ℕ → Bool) (number : ℕ) (whole : List Draft) (ms : List Module) (refs : List DebugInfoRef) (texts : List (List ℕ)) (u : GivenUnit) (i : ℕ) : Type 0 where
   pub own : ℕ
-  pub has : HasModules number own texts whole (drop i ms) u
+  pub has : HasModules translated number own texts whole (drop i ms) u
   pub refers : ReferToContexts own (drop i ms) (drop i refs)
-  pub accepted : simulated_refusals (drop i ms) ≡ simulated_refusals ms
+  pub accepted : simulated_refusals translated (drop i ms) ≡ simulated_refusals translated ms
 
 -- What the loop keeps.
-pub record ModulesAdded (ms : List Module) (refs : List DebugInfoRef) (before : List (List ℕ)) (first : GivenUnit) (texts : List (List ℕ)) (u : GivenUnit) (i : ℕ) : Type 0 where
+pub record ModulesAdded (translated : ℕ → Bool) (ms : List Module) (refs : List DebugInfoRef) (before : List (List ℕ)) (first : GivenUnit) (texts : List (List ℕ)) (u : GivenUnit) (i : ℕ) : Type 0 where
   pub grows : Grows before texts
   pub dense : IsDense u
   pub some : 0 < length u.additions
   pub begins : (size : ℕ) (lines : GivenLines) (root : Addition) → BeginsWith size lines root first → BeginsWith size lines root u
-  pub entries : (number : ℕ) (whole : List Draft) → HasModules number 0 before whole ms first → ModulesLeft number whole ms refs texts u i
+  pub entries : (number : ℕ) (whole : List Draft) → HasModules translated number 0 before whole ms first → ModulesLeft translated number whole ms refs texts u i
 
-module _ (ms : List Module) (refs : List DebugInfoRef) (before : List (List ℕ)) (first : GivenUnit) where
-  pub added-begin : ReferToContexts 0 ms refs → IsDense first → 0 < length first.additions → ModulesAdded ms refs before first before first 0
+module _ (translated : ℕ → Bool) (ms : List Module) (refs : List DebugInfoRef) (before : List (List ℕ)) (first : GivenUnit) where
+  pub added-begin : ReferToContexts 0 ms refs → IsDense first → 0 < length first.additions → ModulesAdded translated ms refs before first before first 0
   added-begin refers dense some = record {
     grows = grows-same before;
     dense = dense;
@@ -90,8 +83,8 @@ module _ (ms : List Module) (refs : List DebugInfoRef) (before : List (List ℕ)
     entries = λ number whole h. record { own = 0; has = h; refers = refers; accepted = refl };
   }
 
-  module _ (registers : Registers) (translated : BTreeSet ℕ) (texts : List (List ℕ)) (u : GivenUnit) (i : ℕ) (h : ModulesAdded ms refs before first texts u i) (t : ModuleTranslation) (fs : List Function) (compiled : CompiledModule) (r : DebugInfoRef) (m : Module)
-      (made : m ≡ transformed_module t fs (told_by registers compiled)) (frames : HasFrames compiled fs) (left : drop i ms ≡ m ∷ drop (i + 1) ms) (noted : AreTranslatedOf m translated)
+  module _ (registers : Registers) (texts : List (List ℕ)) (u : GivenUnit) (i : ℕ) (h : ModulesAdded translated ms refs before first texts u i) (t : ModuleTranslation) (fs : List Function) (compiled : CompiledModule) (r : DebugInfoRef) (m : Module)
+      (made : m ≡ transformed_module t fs (told_by registers compiled)) (frames : HasFrames compiled fs) (left : drop i ms ≡ m ∷ drop (i + 1) ms)
       (inside : i < length refs) (at : r ≡ get_or refs i r) where
     -- the reference of the next module
     refers-next : (own : ℕ) → ReferToContexts own (drop i ms) (drop i refs) → (r ≡ entry_of own (place_of_context_pointer m.told.memory)) × ReferToContexts (own + unit_count m) (drop (i + 1) ms) (drop (i + 1) refs)
@@ -101,47 +94,46 @@ module _ (ms : List Module) (refs : List DebugInfoRef) (before : List (List ℕ)
         (at ∙ both.0, both.1)
 
     -- what is given tells it
-    listed-next : (own : ℕ) → ReferToContexts own (drop i ms) (drop i refs) → ArePartsOf registers m own translated t fs compiled r
+    listed-next : (own : ℕ) → ReferToContexts own (drop i ms) (drop i refs) → ArePartsOf registers m own t fs compiled r
     listed-next own refers = record {
       file = ap (λ (n : Module). n.file) made;
       functions = ap (λ (n : Module). n.functions) made;
       told = ap (λ (n : Module). n.told) made;
       frames = subst (HasFrames compiled) (sym (ap (λ (n : Module). n.functions) made)) frames;
       context_is = (refers-next own refers).0;
-      translated_are = noted;
     }
 
     -- what is refused of it, and behind it
-    refused-next : simulated_refusals (drop i ms) ≡ flat_map (variable_refusals m) (listed_functions m) ++ simulated_refusals (drop (i + 1) ms)
+    refused-next : simulated_refusals translated (drop i ms) ≡ flat_map (variable_refusals m) (listed_functions translated m) ++ simulated_refusals translated (drop (i + 1) ms)
     unfolding simulated_refusals
-    refused-next = ap simulated_refusals left
+    refused-next = ap (simulated_refusals translated) left
 
-    module _ (number : ℕ) (whole : List Draft) (k : ModulesLeft number whole ms refs texts u i) where
+    module _ (number : ℕ) (whole : List Draft) (k : ModulesLeft translated number whole ms refs texts u i) where
       abbrev behind : List Draft
-      behind = modules_entries number (k.own + unit_count m) (drop (i + 1) ms)
+      behind = modules_entries translated number (k.own + unit_count m) (drop (i + 1) ms)
 
       -- its functions are left
-      next-begun : HasFunctions number k.own m texts behind whole (listed_functions m) u
-      next-begun = functions-begun number k.own m (drop (i + 1) ms) whole texts u (subst (λ ns. HasModules number k.own texts whole ns u) left k.has)
+      next-begun : HasFunctions number k.own m texts behind whole (listed_functions translated m) u
+      next-begun = functions-begun translated number k.own m (drop (i + 1) ms) whole texts u (subst (λ ns. HasModules translated number k.own texts whole ns u) left k.has)
 
-      next-done : (after : List (List ℕ)) (v : GivenUnit) → (option_map in_reading (first_of (flat_map (variable_refusals m) (listed_functions m))) ≡ None) × HasFunctions number k.own m after behind whole [] v → ModulesLeft number whole ms refs after v (i + 1)
+      next-done : (after : List (List ℕ)) (v : GivenUnit) → (option_map in_reading (first_of (flat_map (variable_refusals m) (listed_functions translated m))) ≡ None) × HasFunctions number k.own m after behind whole [] v → ModulesLeft translated number whole ms refs after v (i + 1)
       next-done after v (none, has) = record {
         own = k.own + unit_count m;
-        has = functions-done number k.own m (drop (i + 1) ms) whole after v has;
+        has = functions-done translated number k.own m (drop (i + 1) ms) whole after v has;
         refers = (refers-next k.own k.refers).1;
-        accepted = sym (ap (λ rs. rs ++ simulated_refusals (drop (i + 1) ms)) (no-first (flat_map (variable_refusals m) (listed_functions m)) (unmapped in_reading (first_of (flat_map (variable_refusals m) (listed_functions m))) none))) ∙ sym refused-next ∙ k.accepted;
+        accepted = sym (ap (λ rs. rs ++ simulated_refusals translated (drop (i + 1) ms)) (no-first (flat_map (variable_refusals m) (listed_functions translated m)) (unmapped in_reading (first_of (flat_map (variable_refusals m) (listed_functions translated m))) none))) ∙ sym refused-next ∙ k.accepted;
       }
 
-      next-refused : (e : DebugError) → RefusesReading (first_of (flat_map (variable_refusals m) (listed_functions m))) e → RefusesReading (first_of (simulated_refusals ms)) e
+      next-refused : (e : DebugError) → RefusesReading (first_of (flat_map (variable_refusals m) (listed_functions translated m))) e → RefusesReading (first_of (simulated_refusals translated ms)) e
       next-refused e met =
-          reading-more (first_of (flat_map (variable_refusals m) (listed_functions m))) (first_of (simulated_refusals ms)) e
-          (λ x is. ap (λ (rs : List Refusal). first_of rs) (sym k.accepted ∙ refused-next) ∙ first-behind (flat_map (variable_refusals m) (listed_functions m)) (simulated_refusals (drop (i + 1) ms)) x is) met
+          reading-more (first_of (flat_map (variable_refusals m) (listed_functions translated m))) (first_of (simulated_refusals translated ms)) e
+          (λ x is. ap (λ (rs : List Refusal). first_of rs) (sym k.accepted ∙ refused-next) ∙ first-behind (flat_map (variable_refusals m) (listed_functions translated m)) (simulated_refusals translated (drop (i + 1) ms)) x is) met
 
     -- A module more.
     pub added-more : (after : List (List ℕ)) (v : GivenUnit) → Grows texts after → IsDense v → 0 < length v.additions
         → ((size : ℕ) (lines : GivenLines) (root : Addition) → BeginsWith size lines root u → BeginsWith size lines root v)
         → AddsModule registers translated t fs compiled r texts after u v (Ok tt)
-        → ModulesAdded ms refs before first after v (i + 1)
+        → ModulesAdded translated ms refs before first after v (i + 1)
     added-more after v grows dense some begins gives = record {
       grows = grows-twice before texts after h.grows grows;
       dense = dense;
@@ -155,18 +147,18 @@ module _ (ms : List Module) (refs : List DebugInfoRef) (before : List (List ℕ)
     -- A module that is refused.
     pub added-refused : (number : ℕ) (whole : List Draft) (after : List (List ℕ)) (v : GivenUnit) (e : DebugError)
         → AddsModule registers translated t fs compiled r texts after u v (Err e)
-        → HasModules number 0 before whole ms first → RefusesReading (first_of (simulated_refusals ms)) e
+        → HasModules translated number 0 before whole ms first → RefusesReading (first_of (simulated_refusals translated ms)) e
     added-refused number whole after v e gives is =
         let k = h.entries number whole is in
         next-refused number whole k e (gives m number k.own (behind number whole k) whole (listed-next k.own k.refers) (next-begun number whole k))
 
   -- Behind the last one.
-  pub added-done : (texts : List (List ℕ)) (u : GivenUnit) (i : ℕ) → length ms ≤ i → ModulesAdded ms refs before first texts u i → (number : ℕ) (whole : List Draft) → HasModules number 0 before whole ms first
-      → (option_map in_reading (first_of (simulated_refusals ms)) ≡ None) × IsSimulated number texts whole u
+  pub added-done : (texts : List (List ℕ)) (u : GivenUnit) (i : ℕ) → length ms ≤ i → ModulesAdded translated ms refs before first texts u i → (number : ℕ) (whole : List Draft) → HasModules translated number 0 before whole ms first
+      → (option_map in_reading (first_of (simulated_refusals translated ms)) ≡ None) × IsSimulated number texts whole u
   unfolding simulated_refusals
   added-done texts u i past h = λ number whole is.
       let k = h.entries number whole is in
       let none = drop_all i ms past in (
-        ap (λ (rs : List Refusal). option_map in_reading (first_of rs)) (sym k.accepted ∙ ap simulated_refusals none),
-        modules-done number k.own texts whole u (subst (λ ns. HasModules number k.own texts whole ns u) none k.has),
+        ap (λ (rs : List Refusal). option_map in_reading (first_of rs)) (sym k.accepted ∙ ap (simulated_refusals translated) none),
+        modules-done translated number k.own texts whole u (subst (λ ns. HasModules translated number k.own texts whole ns u) none k.has),
       )

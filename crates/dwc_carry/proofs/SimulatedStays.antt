@@ -90,15 +90,15 @@ module _ (at : ℕ → ℕ → Option (ℕ × ℕ)) where
       functions-stay : Each (StaysAt at) (function_entries unit own m d)
       functions-stay = (function-stays m d, some-stays (label_entry unit own m d) label-stays (m.told.labels d.function.number))
 
-    modules-stay : (own : ℕ) (ms : List Module) → ContextsStay at own ms → Each (StaysAt at) (modules_entries unit own ms)
-    modules-stay own [] contexts = tt
-    modules-stay own (m ∷ ms) contexts =
-        each_both (StaysAt at) (flat_map (function_entries unit own m) (listed_functions m)) (modules_entries unit (own + unit_count m) ms)
-        (lists-stay (function_entries unit own m) (functions-stay own m contexts.0) (listed_functions m))
-        (modules-stay (own + unit_count m) ms contexts.1)
+    modules-stay : (translated : ℕ → Bool) (own : ℕ) (ms : List Module) → ContextsStay at own ms → Each (StaysAt at) (modules_entries translated unit own ms)
+    modules-stay translated own [] contexts = tt
+    modules-stay translated own (m ∷ ms) contexts =
+        each_both (StaysAt at) (flat_map (function_entries unit own m) (listed_functions translated m)) (modules_entries translated unit (own + unit_count m) ms)
+        (lists-stay (function_entries unit own m) (functions-stay own m contexts.0) (listed_functions translated m))
+        (modules-stay translated (own + unit_count m) ms contexts.1)
 
   -- The unit behind those of all modules stays.
-  pub unit-stays : (path : List ℕ) (ms : List Module) → ((place : ℕ) → place < 5 → at (sum_by unit_count ms) place ≡ Some (sum_by unit_count ms, place)) → ContextsStay at 0 ms → Each (StaysAt at) (simulated_unit path ms)
+  pub unit-stays : (translated : ℕ → Bool) (path : List ℕ) (ms : List Module) → ((place : ℕ) → place < 5 → at (sum_by unit_count ms) place ≡ Some (sum_by unit_count ms, place)) → ContextsStay at 0 ms → Each (StaysAt at) (simulated_unit translated path ms)
   unfolding simulated_unit
-  unit-stays path ms types contexts =
-      (root-stays path (flat_map (λ m. whole_intervals m) ms), each_both (StaysAt at) base_types (modules_entries (sum_by unit_count ms) 0 ms) types-stay (modules-stay (sum_by unit_count ms) types 0 ms contexts))
+  unit-stays translated path ms types contexts =
+      (root-stays path (flat_map (whole_intervals translated) ms), each_both (StaysAt at) base_types (modules_entries translated (sum_by unit_count ms) 0 ms) types-stay (modules-stay (sum_by unit_count ms) types translated 0 ms contexts))

@@ -92,20 +92,20 @@ module _ (number own : ℕ) (m : Module) (behind whole : List Draft) where
 -- ---- modules
 
 -- Behind the root and the types all modules are left.
-pub modules-begun : (texts : List (List ℕ)) (path : List ℕ) (ms : List Module) (u : GivenUnit) → IsSimulated (sum_by unit_count ms) texts (simulated_root path (flat_map (λ m. whole_intervals m) ms) ∷ base_types) u
-    → HasModules (sum_by unit_count ms) 0 texts (simulated_unit path ms) ms u
+pub modules-begun : (translated : ℕ → Bool) (texts : List (List ℕ)) (path : List ℕ) (ms : List Module) (u : GivenUnit) → IsSimulated (sum_by unit_count ms) texts (simulated_root path (flat_map (whole_intervals translated) ms) ∷ base_types) u
+    → HasModules translated (sum_by unit_count ms) 0 texts (simulated_unit translated path ms) ms u
 unfolding simulated_unit
-modules-begun texts path ms u made = record { ds = simulated_root path (flat_map (λ m. whole_intervals m) ms) ∷ base_types; made = made; all = refl }
+modules-begun translated texts path ms u made = record { ds = simulated_root path (flat_map (whole_intervals translated) ms) ∷ base_types; made = made; all = refl }
 
-module _ (number own : ℕ) (m : Module) (ms : List Module) (whole : List Draft) (texts : List (List ℕ)) (u : GivenUnit) where
+module _ (translated : ℕ → Bool) (number own : ℕ) (m : Module) (ms : List Module) (whole : List Draft) (texts : List (List ℕ)) (u : GivenUnit) where
   -- A module is begun: all its listed functions are left.
-  pub functions-begun : HasModules number own texts whole (m ∷ ms) u → HasFunctions number own m texts (modules_entries number (own + unit_count m) ms) whole (listed_functions m) u
+  pub functions-begun : HasModules translated number own texts whole (m ∷ ms) u → HasFunctions number own m texts (modules_entries translated number (own + unit_count m) ms) whole (listed_functions translated m) u
   functions-begun has = record { ds = has.ds; made = has.made; all = has.all }
 
   -- No function of it is left.
-  pub functions-done : HasFunctions number own m texts (modules_entries number (own + unit_count m) ms) whole [] u → HasModules number (own + unit_count m) texts whole ms u
+  pub functions-done : HasFunctions number own m texts (modules_entries translated number (own + unit_count m) ms) whole [] u → HasModules translated number (own + unit_count m) texts whole ms u
   functions-done has = record { ds = has.ds; made = has.made; all = has.all }
 
 -- No module is left.
-pub modules-done : (number own : ℕ) (texts : List (List ℕ)) (whole : List Draft) (u : GivenUnit) → HasModules number own texts whole [] u → IsSimulated number texts whole u
-modules-done number own texts whole u has = subst (λ ds. IsSimulated number texts ds u) (sym (append-nil has.ds) ∙ has.all) has.made
+pub modules-done : (translated : ℕ → Bool) (number own : ℕ) (texts : List (List ℕ)) (whole : List Draft) (u : GivenUnit) → HasModules translated number own texts whole [] u → IsSimulated number texts whole u
+modules-done translated number own texts whole u has = subst (λ ds. IsSimulated number texts ds u) (sym (append-nil has.ds) ∙ has.all) has.made

@@ -1,6 +1,7 @@
 -- The transforms of the modules of a compilation, and what is made of the modules with them.
-use Rattle.std.proofs.Common.{◌≡◌, ℕ, zero, suc, ◌+◌, add-one, ◌<◌, ◌≤◌, List, [], ◌∷◌, ◌++◌, map, take, drop, length, get_or, slice_get, refl, ap, sym, ◌∙◌, subst, arith, Option, Some, None, Err, All, Ok}
-use Rattle.std.specs.Prelude.{false, option_map, option_to_list, sum_by}
+use Rattle.std.proofs.Common.{◌≡◌, ℕ, zero, suc, ◌+◌, add-one, ◌<◌, ◌≤◌, List, [], ◌∷◌, ◌++◌, map, take, drop, length, get_or, slice_get, refl, ap, sym, ◌∙◌, subst, arith, Bool, Option, Some, None, Err, All, Ok}
+use Rattle.std.specs.Prelude.{false, is_some, option_map, option_to_list, sum_by, true}
+use Rattle.std.specs.BTreeSet.{BTreeSet}
 use Rattle.std.specs.Option.{option_or, unwrap_or}
 use Rattle.std.specs.List.{flat_map}
 use Rattle.std.proofs.lemmas.List.{append-nil, append_assoc, drop_more, drop_all}
@@ -14,6 +15,7 @@ use Rattle.dwc_base.specs.Carried.{Module, Compilation, units}
 use Rattle.dwc_base.specs.Forests.{module_units, wanted_units, first_refusal, function_refusals, is_big, module_drafts, module_refusals, trees_made}
 use Rattle.dwc_base.specs.DraftForests.{settled_unit, trees_from}
 use Rattle.dwc_base.specs.LastUnit.{last_drafts, last_refusals, last_wanted}
+use Rattle.dwc_base.specs.ListedFunctions.{is_begun}
 use Rattle.dwc_base.specs.SimulatedUnit.{unit_count}
 use Rattle.dwc_base.specs.Refusals.{Refusal, first_of}
 use Rattle.dwc_base.specs.Trees.{Tree}
@@ -27,16 +29,18 @@ use Rattle.dwc_addr.specs.Numbers.{Compiled, function_count, first_number}
 use Rattle.dwc_addr.specs.Compilations.{CompilationValue, functions_at, code_offset_at, IsCounted}
 use Rattle.dwc_addr.specs.Transforms.{first_bad_map, Transforms}
 use Rattle.dwc_write.specs.GivenUnits.{GivenUnit}
+use Rattle.dwc_clone.specs.BegunNumbers.{is_noted}
 use Rattle.dwc_carry.specs.declared.error.DebugError.{DebugError}
 use Rattle.dwc_image.specs.CarriedLines.{AreKept}
-use Rattle.dwc_carry.specs.Refusals.{InputRefusal, bad_address_map, in_reading, of_maps, Refuses, RefusesReading}
+use Rattle.dwc_carry.specs.Refusals as refusals
+use Rattle.dwc_carry.specs.Refusals.{InputRefusal, IsCause, Told, bad_address_map, in_reading, memory, of_maps, told, Refuses, RefusesReading}
 use Rattle.dwc_carry.specs.MadeUnits.{LeadsTo, AreMadeOf}
 use Rattle.dwc_write.specs.Renumbered.{place_at}
 use Rattle.dwc_carry.proofs.MadeLaws.{leads-behind, leads-front, leads-there, made-both, made-grown, made-length}
 use Rattle.dwc_carry.specs.declared.carry_modules.CarriedModules.{CarriedModules}
 use Rattle.dwc_carry.specs.CarriedModules.{AddsModules}
-use Rattle.dwc_carry.specs.LastUnits.{AddsLast}
-use Rattle.dwc_carry.specs.Inputs.{names_of, functions_from, modules_of, input_of, bad_map_from, bad_map, maps_refusal}
+use Rattle.dwc_carry.specs.LastUnits.{AddsLast, AreTranslated}
+use Rattle.dwc_carry.specs.Inputs.{names_of, functions_from, modules_of, input_of, bad_map_from, bad_map, maps_refusal, refused_before_path}
 use Rattle.dwc_carry.specs.Transformed.{have_long, lengths_checked, IsTransformed}
 use Rattle.dwc_carry.proofs.CompiledLaws.{all_functions, functions-are}
 use Rattle.dwc_carry.proofs.LastTargets.{all-targets}
@@ -159,6 +163,22 @@ transformed-of size c texts us none made whole =
       targets = subst HasAllTargets (sym same) (all-targets c);
     }
 
+-- An error of what refuses nothing is want of memory.
+pub late-memory : (o : Option InputRefusal) (e : DebugError) → Refuses o e → is_some o ≡ false → told e ≡ memory
+late-memory o e = go (told e)
+  where
+    clash : true ≡ false → ⊥
+    clash is = cc
+
+    go : (t : Told) → IsCause (λ what. ⊥) o t → is_some o ≡ false → t ≡ memory
+    go (refusals.refused r) h none = absurd (clash (sym (ap is_some h) ∙ none))
+    go (refusals.limit what) h none = absurd h.1
+    go memory h none = refl
+
+-- the noted numbers are those of the functions that are begun
+same-numbers : (ms : List Module) (translated : BTreeSet ℕ) → AreTranslated ms translated → is_noted translated ≡ is_begun ms
+same-numbers ms translated noted = λ i n. noted n i
+
 module _ (registers : Registers) (c : CompilationValue) (counted : IsCounted c.translations c.functions c.memory_offsets) where
   -- the modules of the input, and the functions of these
   abbrev modules : List Module
@@ -173,7 +193,7 @@ module _ (registers : Registers) (c : CompilationValue) (counted : IsCounted c.t
 
   -- what is refused of the last unit
   abbrev last_refused : List Refusal
-  last_refused = last_refusals c.next_id modules
+  last_refused = last_refusals (is_begun modules) c.next_id modules
 
   -- what is refused of the input behind its maps, and of it whole
   abbrev reading_refusal : Option InputRefusal
@@ -208,8 +228,11 @@ module _ (registers : Registers) (c : CompilationValue) (counted : IsCounted c.t
       ap (λ (rs : List Refusal). first_of (rs ++ (last_refused ++ []))) (no-first (flat_map module_refusals modules) (unmapped in_reading (first_of (flat_map module_refusals modules)) none))
       ∙ ap (λ (rs : List Refusal). first_of rs) (append-nil last_refused)
 
-  pub last-refused : (e : DebugError) → maps_refusal c ≡ None → have_long functions ≡ false → refusals_in modules ≡ None → RefusesReading (first_of last_refused) e → Refuses input_refusal e
-  last-refused e good short none h = subst (λ o. Refuses o e) (ap (option_map in_reading) (sym (behind-modules none)) ∙ behind-lengths good short) h
+  pub last-refused : (e : DebugError) (translated : BTreeSet ℕ) → maps_refusal c ≡ None → have_long functions ≡ false → refusals_in modules ≡ None → AreTranslated modules translated
+      → RefusesReading (first_of (last_refusals (is_noted translated) c.next_id modules)) e → Refuses input_refusal e
+  last-refused e translated good short none noted h =
+      subst (λ o. Refuses o e) (ap (option_map in_reading) (sym (behind-modules none)) ∙ behind-lengths good short)
+      (subst (λ (begun : ℕ → Bool). RefusesReading (first_of (last_refusals begun c.next_id modules)) e) (same-numbers modules translated noted) h)
 
   -- a bad map refuses the input
   pub maps-refused : (e : DebugError) → Refuses (maps_refusal c) e → Refuses input_refusal e
@@ -224,6 +247,40 @@ module _ (registers : Registers) (c : CompilationValue) (counted : IsCounted c.t
       (ap (λ o. option_or o reading_refusal) good
       ∙ ap (λ (longs : List Refusal). option_map in_reading (first_of (longs ++ behind))) (sym functions-refused)
       ∙ ap (option_map in_reading) (some-long functions behind long.0))
+
+  -- ---- what is refused before the path of the last unit is made
+
+  -- what is refused of functions and modules
+  abbrev early_reading : Option InputRefusal
+  early_reading = option_map in_reading (first_of (flat_map (λ m. function_refusals m.functions) modules ++ flat_map module_refusals modules))
+
+  -- where maps are good and functions short, what is refused of modules
+  before-path : maps_refusal c ≡ None → have_long functions ≡ false → refused_before_path registers c ≡ refusals_in modules
+  before-path good short =
+      ap (λ o. option_or o early_reading) good
+      ∙ ap (λ (longs : List Refusal). option_map in_reading (first_of (longs ++ flat_map module_refusals modules))) (sym functions-refused ∙ all-short functions short)
+
+  pub early-maps : (e : DebugError) → Refuses (maps_refusal c) e → Refuses (refused_before_path registers c) e
+  early-maps e h = refuses-more (maps_refusal c) (refused_before_path registers c) e (λ r is. ap (λ o. option_or o early_reading) is) h
+
+  pub early-lengths : (e : DebugError) → maps_refusal c ≡ None → Err e ≡ lengths_checked functions → Refuses (refused_before_path registers c) e
+  early-lengths e good h =
+      let long = checked-long functions e h in
+      let behind : List Refusal = flat_map module_refusals modules in
+      subst (Refuses (refused_before_path registers c)) (sym long.1)
+      (ap (λ o. option_or o early_reading) good
+      ∙ ap (λ (longs : List Refusal). option_map in_reading (first_of (longs ++ behind))) (sym functions-refused)
+      ∙ ap (option_map in_reading) (some-long functions behind long.0))
+
+  pub early-modules : (e : DebugError) → maps_refusal c ≡ None → have_long functions ≡ false → Refuses (refusals_in modules) e → Refuses (refused_before_path registers c) e
+  early-modules e good short h = subst (λ o. Refuses o e) (sym (before-path good short)) h
+
+  -- nothing is where nothing is refused of modules
+  pub never-early : maps_refusal c ≡ None → have_long functions ≡ false → refusals_in modules ≡ None → is_some (refused_before_path registers c) ≡ true → ⊥
+  never-early good short none some = clash (sym (ap is_some (before-path good short ∙ none)) ∙ some)
+    where
+      clash : false ≡ true → ⊥
+      clash e = cc
 
   module _ (order : Endian) (size : ℕ) (before between : List (List ℕ)) (vs : List GivenUnit) (carried : CarriedModules) (k : AddsModules size (is_big order) modules [] vs before between carried) where
     -- the input without frames
@@ -241,18 +298,22 @@ module _ (registers : Registers) (c : CompilationValue) (counted : IsCounted c.t
 
     -- The input is accepted, and the units that are added are those of it.
     pub input-transformed : (texts : List (List ℕ)) (us : List GivenUnit) → maps_refusal c ≡ None → have_long functions ≡ false → refusals_in modules ≡ None
-        → (option_map in_reading (first_of last_refused) ≡ None) × AddsLast size c.next_id modules vs us between texts → (input_refusal ≡ None) × IsTransformed size (input_of order size registers None c) texts us
-    input-transformed texts us good short none (last, l) =
+        → (option_map in_reading (first_of (last_refusals (is_noted carried.translated) c.next_id modules)) ≡ None) × AddsLast (is_noted carried.translated) size c.next_id modules vs us between texts
+        → (input_refusal ≡ None) × IsTransformed size (input_of order size registers None c) texts us
+    input-transformed texts us good short none given =
+        let same = same-numbers modules carried.translated k.translated in
+        let last = subst (λ (begun : ℕ → Bool). option_map in_reading (first_of (last_refusals begun c.next_id modules)) ≡ None) same given.0 in
+        let l = subst (λ (begun : ℕ → Bool). AddsLast begun size c.next_id modules vs us between texts) same given.1 in
         let accepted : input_refusal ≡ None = sym (behind-lengths good short) ∙ ap (option_map in_reading) (behind-modules none) ∙ last in
         let all : us ≡ k.made ++ l.made = l.added ∙ ap (λ ws. ws ++ l.made) k.added in
         let counted : length vs ≡ 0 + length k.made = omega (arith, ap length k.added) in
         let leads : LeadsTo (place_at us) 0 (k.made ++ l.made) = subst (λ ws. LeadsTo (place_at us) 0 ws) all (leads-there us) in
         let front : LeadsTo (place_at us) 0 k.made = leads-front (place_at us) 0 k.made l.made leads in
         let behind : LeadsTo (place_at us) (length vs) l.made = leads-behind (place_at us) 0 (length vs) k.made l.made counted leads in
-        let ends : List Tree = map (settled_unit (λ goal. None)) (option_to_list (last_drafts c.next_id modules)) in
+        let ends : List Tree = map (settled_unit (λ goal. None)) (option_to_list (last_drafts (is_begun modules) c.next_id modules)) in
         let one = made-grown (place_at us) size between texts 0 (module_units input) trees_of_modules k.made l.grows (k.each (place_at us) front) in
         let two = l.each (place_at us) behind (k.contexts (place_at us) front) in
-        let both = made-both (place_at us) size texts 0 (length vs) (module_units input) (last_wanted c.next_id modules) trees_of_modules ends k.made l.made counted one two in
+        let both = made-both (place_at us) size texts 0 (length vs) (module_units input) (last_wanted (is_begun modules) c.next_id modules) trees_of_modules ends k.made l.made counted one two in
         let made : AreMadeOf (place_at us) size texts 0 (wanted_units input) (trees_made input) us =
         subst (AreMadeOf (place_at us) size texts 0 (wanted_units input) (trees_made input)) (sym all)
         (subst (λ ts. AreMadeOf (place_at us) size texts 0 (wanted_units input) ts (k.made ++ l.made)) (sym (trees-of-all input)) both) in (

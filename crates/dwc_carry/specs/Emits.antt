@@ -17,18 +17,16 @@ use Rattle.dwc_write.specs.Writers.{IsSound}
 use Rattle.dwc_carry.specs.declared.error.DebugError.{DebugError}
 use Rattle.dwc_carry.specs.Refusals.{GivesWithin}
 use Rattle.dwc_carry.specs.Inputs.{input_of, refusal_of}
-use Rattle.dwc_carry.specs.OutputNames.{are_of_output}
 
--- Sections carry an input, and are sound, and there is none that an output has not; no expression of a location list is too long.
+-- Sections carry an input, and are sound; no expression of a location list is too long.
 pub record IsEmitted (c : Compilation) (sections : List OutputSection) : Type 0 where
   pub output : OutputCarried c sections
   pub sound : All (IsSound c.order) sections
-  pub known : are_of_output sections ≡ true
   pub short : have_short_expressions (trees_made c) ≡ true
 
--- The output of an input passes a limit: a section could be longer than it can be, or an expression of a location list is.
+-- The output of an input passes a limit: an expression of a location list is longer than it can be; or where none is, a section could be.
 abbrev pub PassesLimit : Compilation → Limit → Type 0
-PassesLimit c (Section name) = 2 ^ 31 ≤ widest name c
+PassesLimit c (Section name) = (have_short_expressions (trees_made c) ≡ true) × (2 ^ 31 ≤ widest name c)
 PassesLimit c Expression = have_short_expressions (trees_made c) ≡ false
 PassesLimit c _ = ⊥
 

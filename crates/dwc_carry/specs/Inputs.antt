@@ -1,5 +1,6 @@
 -- The input that a compilation is: its modules, whose functions are numbered over all of them, and the first bad address map.
-use Rattle.std.specs.Prelude.{ℕ, suc, ◌+◌, List, [], ◌∷◌, map, length, Option, None, option_map}
+use Rattle.std.specs.Prelude.{ℕ, suc, ◌+◌, List, [], ◌∷◌, ◌++◌, map, length, Option, None, option_map}
+use Rattle.std.specs.List.{flat_map}
 use Rattle.std.specs.Option.{option_or}
 use Rattle.dwc_base.specs.declared.records.Endian.{Endian}
 use Rattle.dwc_base.specs.declared.records.MapFault.{MapFault}
@@ -10,7 +11,8 @@ use Rattle.dwc_base.specs.Functions.{Function, functions_of}
 use Rattle.dwc_base.specs.Carried.{Module, Compilation}
 use Rattle.dwc_base.specs.CallFrames.{CommonEntry}
 use Rattle.dwc_base.specs.Compiled.{LinkageNames, ToldModule}
-use Rattle.dwc_base.specs.Forests.{first_refusal}
+use Rattle.dwc_base.specs.Forests.{first_refusal, function_refusals, module_refusals}
+use Rattle.dwc_base.specs.Refusals.{first_of}
 use Rattle.dwc_base.specs.UnitPaths.{next_id_behind}
 use Rattle.dwc_clif.specs.AddressMaps.{address_map_view}
 use Rattle.dwc_clif.specs.Registers.{Registers}
@@ -74,6 +76,12 @@ bad_map c = bad_map_from 0 c.translations c.functions
 -- the refusal of a compilation's address maps: that of the first bad one
 abbrev pub maps_refusal : CompilationValue → Option InputRefusal
 maps_refusal c = option_map (λ bad. bad_address_map bad.0 bad.1.0 bad.1.1) (bad_map c)
+
+-- What is refused of a compilation before the path of its last unit is made: its address maps, functions that are too long, or something of
+-- a module.
+abbrev pub refused_before_path : Registers → CompilationValue → Option InputRefusal
+refused_before_path registers c =
+    option_or (maps_refusal c) (option_map in_reading (first_of (flat_map (λ m. function_refusals m.functions) (modules_of registers c) ++ flat_map module_refusals (modules_of registers c))))
 
 -- The refusal of a compilation for a target: that of its address maps, or else the first in the order of reading.
 abbrev pub refusal_of : Endian → ℕ → Registers → Option CommonEntry → CompilationValue → Option InputRefusal

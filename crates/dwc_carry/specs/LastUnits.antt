@@ -1,17 +1,16 @@
 -- The unit for functions without debugging information, added behind those of all modules.
-use Rattle.std.specs.Prelude.{◌≡◌, ℕ, ◌+◌, ◌%◌, ◌^◌, ◌<◌, Bool, if◌then◌else◌, List, [], ◌∷◌, ◌++◌, map, length, sum_by, true, is_some, Option, None, option_to_list, Result, Contains}
+use Rattle.std.specs.Prelude.{◌≡◌, ℕ, ◌+◌, ◌%◌, ◌^◌, ◌<◌, Bool, if◌then◌else◌, List, [], ◌∷◌, ◌++◌, map, length, sum_by, Option, None, option_to_list, Result}
 use Rattle.std.specs.BTreeSet.{BTreeSet}
-use Rattle.std.specs.List.{flat_map}
 use Rattle.dwc_base.specs.Carried.{Module}
 use Rattle.dwc_base.specs.Functions.{Function}
 use Rattle.dwc_base.specs.Refusals.{first_of}
 use Rattle.dwc_base.specs.OwnUnits.{place_of_context_pointer}
 use Rattle.dwc_base.specs.DraftForests.{settled_unit}
-use Rattle.dwc_base.specs.ListedFunctions.{begun_in_module}
+use Rattle.dwc_base.specs.ListedFunctions.{is_begun}
 use Rattle.dwc_base.specs.Drafts.{Draft}
 use Rattle.dwc_base.specs.SimulatedUnit.{base_types, simulated_refusals, simulated_root, simulated_unit, unit_count}
 use Rattle.dwc_base.specs.LastUnit.{last_drafts, last_refusals, last_wanted, listed_in_files}
-use Rattle.dwc_base.specs.UnitPaths.{next_id_behind, path_name, unit_path}
+use Rattle.dwc_base.specs.UnitPaths.{path_name, unit_path}
 use Rattle.dwc_addr.specs.Compilations.{CompilationValue}
 use Rattle.dwc_clif.specs.Registers.{Registers}
 use Rattle.dwc_image.specs.SimulatedSequences.{simulated_program}
@@ -19,7 +18,7 @@ use Rattle.dwc_write.specs.declared.lists.RangeList.{RangeList}
 use Rattle.dwc_write.specs.declared.attributes.DebugInfoRef.{DebugInfoRef}
 use Rattle.dwc_write.specs.GivenUnits.{GivenUnit, IsWritable, ordered}
 use Rattle.dwc_write.specs.TextTables.{IsText}
-use Rattle.dwc_clone.specs.BegunNumbers.{is_noted, is_number_of}
+use Rattle.dwc_clone.specs.BegunNumbers.{is_noted}
 use Rattle.dwc_clone.specs.MadeValues.{Grows}
 use Rattle.dwc_carry.specs.declared.error.DebugError.{DebugError}
 use Rattle.dwc_carry.specs.declared.simulated_root.RootTexts.{RootTexts}
@@ -42,11 +41,7 @@ ReferToContexts own _ _ = ⊥
 
 -- The noted numbers are those of the functions that kept subprograms of the carried units of modules begin in.
 abbrev pub AreTranslated : List Module → BTreeSet ℕ → Type 0
-AreTranslated ms translated = (n : ℕ) → is_noted translated n ≡ is_number_of (flat_map begun_in_module ms) n
-
--- Of the functions of a module that have a symbol those are noted that kept subprograms of its own begin in.
-abbrev pub AreTranslatedOf : Module → BTreeSet ℕ → Type 0
-AreTranslatedOf m translated = (f : Function) → Contains m.functions f → is_some f.symbol ≡ true → is_noted translated f.number ≡ is_number_of (begun_in_module m) f.number
+AreTranslated ms translated = (n : ℕ) → is_noted translated n ≡ is_begun ms n
 
 -- ---- the unit, before it is added
 
@@ -61,19 +56,20 @@ pub record IsTyped (size : ℕ) (path : List ℕ) (fs : List (ℕ × Function)) 
   pub simulated : (number : ℕ) → IsSimulated number texts (simulated_root path (intervals_of fs) ∷ base_types) u
 
 -- The entries of modules are added, whose units are told before, or the first refusal of their variables is answered.
-abbrev pub GivesEntries : ℕ → List Draft → List Module → List (List ℕ) → GivenUnit → Result (Unit {0}) DebugError → Type 0
-GivesEntries number whole ms after new result = ReadsOr (λ done. IsSimulated number after whole new) (first_of (simulated_refusals ms)) result
+abbrev pub GivesEntries : (ℕ → Bool) → ℕ → List Draft → List Module → List (List ℕ) → GivenUnit → Result (Unit {0}) DebugError → Type 0
+GivesEntries translated number whole ms after new result = ReadsOr (λ done. IsSimulated number after whole new) (first_of (simulated_refusals translated ms)) result
 
--- A unit of a path says the entries of modules, behind whose units it is to stand, and has their lines; the table of texts has grown.
-pub record IsLast (size : ℕ) (path : List ℕ) (ms : List Module) (before after : List (List ℕ)) (u : GivenUnit) : Type 0 where
+-- A unit of a path says the entries of modules, behind whose units it is to stand, and has their lines, by the numbers that are translated;
+-- the table of texts has grown.
+pub record IsLast (translated : ℕ → Bool) (size : ℕ) (path : List ℕ) (ms : List Module) (before after : List (List ℕ)) (u : GivenUnit) : Type 0 where
   pub grows : Grows before after
-  pub lines : HasListedLines (path_name path) (listed_in_files ms) u
-  pub simulated : IsSimulated (sum_by unit_count ms) after (simulated_unit path ms) u
+  pub lines : HasListedLines (path_name path) (listed_in_files translated ms) u
+  pub simulated : IsSimulated (sum_by unit_count ms) after (simulated_unit translated path ms) u
   pub writable : IsWritable size (ordered u)
 
 -- It is made, or the first refusal of their variables is answered.
-abbrev pub GivesUnit : ℕ → List ℕ → List Module → List (List ℕ) → List (List ℕ) → Result GivenUnit DebugError → Type 0
-GivesUnit size path ms before after result = ReadsOr (IsLast size path ms before after) (first_of (simulated_refusals ms)) result
+abbrev pub GivesUnit : (ℕ → Bool) → ℕ → List ℕ → List Module → List (List ℕ) → List (List ℕ) → Result GivenUnit DebugError → Type 0
+GivesUnit translated size path ms before after result = ReadsOr (IsLast translated size path ms before after) (first_of (simulated_refusals translated ms)) result
 
 -- A path is that of the unit of the modules of a compilation, for any target, and has no zero byte.
 abbrev pub IsPathOf : CompilationValue → List ℕ → Type 0
@@ -83,20 +79,16 @@ IsPathOf c path = (registers : Registers) (m : Module) (ms : List Module) → mo
 abbrev pub counted_name : Bool → CompilationValue → CompilationValue
 counted_name is_generated c = record c { next_id = if is_generated then (c.next_id + 1) % 2 ^ 64 else c.next_id }
 
--- a compilation whose counter of names is behind that path
-abbrev pub counted_behind : Registers → CompilationValue → CompilationValue
-counted_behind registers c = record c { next_id = next_id_behind c.next_id (modules_of registers c) }
-
 -- ---- the unit
 
 -- The unit is added, where there is a module, that is to say its tree and has its lines; the table of texts has grown.
-pub record AddsLast (size next_id : ℕ) (ms : List Module) (old new : List GivenUnit) (before after : List (List ℕ)) : Type 0 where
+pub record AddsLast (translated : ℕ → Bool) (size next_id : ℕ) (ms : List Module) (old new : List GivenUnit) (before after : List (List ℕ)) : Type 0 where
   pub made : List GivenUnit
   pub added : new ≡ old ++ made
   pub grows : Grows before after
   pub each : (at : ℕ → ℕ → Option (ℕ × ℕ)) → LeadsTo at (length old) made → ContextsStay at 0 ms
-      → AreMadeOf at size after (length old) (last_wanted next_id ms) (map (settled_unit (λ goal. None)) (option_to_list (last_drafts next_id ms))) made
+      → AreMadeOf at size after (length old) (last_wanted translated next_id ms) (map (settled_unit (λ goal. None)) (option_to_list (last_drafts translated next_id ms))) made
 
 -- It is added, or the first refusal is answered.
-abbrev pub GivesLast : ℕ → ℕ → List Module → List GivenUnit → List GivenUnit → List (List ℕ) → List (List ℕ) → Result (Unit {0}) DebugError → Type 0
-GivesLast size next_id ms old new before after result = ReadsOr (λ done. AddsLast size next_id ms old new before after) (first_of (last_refusals next_id ms)) result
+abbrev pub GivesLast : (ℕ → Bool) → ℕ → ℕ → List Module → List GivenUnit → List GivenUnit → List (List ℕ) → List (List ℕ) → Result (Unit {0}) DebugError → Type 0
+GivesLast translated size next_id ms old new before after result = ReadsOr (λ done. AddsLast translated size next_id ms old new before after) (first_of (last_refusals translated next_id ms)) result

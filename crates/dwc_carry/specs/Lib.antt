@@ -23,4 +23,3 @@ pub mod Transformed
 pub mod Emits
 pub mod ListedNames
 pub mod LocalGroups
-pub mod OutputNames

@@ -1,28 +1,23 @@
--- The listed functions of all modules, as transforms and the noted numbers tell them, and their code.
-use Rattle.std.specs.Prelude.{ℕ, ◌+◌, ◌<◌, ◌^◌, List, [], ◌∷◌, ◌++◌, Bool, not, ◌&&◌, is_some, if◌then◌else◌, IfSome}
-use Rattle.std.specs.BTreeSet.{BTreeSet}
+-- The listed functions of all modules, as transforms and the translated numbers tell them, and their code.
+use Rattle.std.specs.Prelude.{ℕ, ◌+◌, ◌<◌, ◌^◌, List, [], ◌∷◌, ◌++◌, Bool, if◌then◌else◌, IfSome}
 use Rattle.std.specs.List.{filter_map}
 use Rattle.dwc_base.specs.declared.wasm.ModuleTranslation.{ModuleTranslation}
 use Rattle.dwc_base.specs.Functions.{Function}
+use Rattle.dwc_base.specs.ListedFunctions.{is_listed}
 use Rattle.dwc_base.specs.SimulatedUnit.{first_source, whole_interval}
 use Rattle.dwc_base.specs.Trees.{Interval}
 use Rattle.dwc_addr.specs.Numbers.{Compiled}
 use Rattle.dwc_image.specs.SimulatedSequences.{CanList}
-use Rattle.dwc_clone.specs.BegunNumbers.{is_noted}
 
 -- ---- which are listed
 
--- whether a function has a symbol and its number is not noted
-abbrev pub is_left : BTreeSet ℕ → Function → Bool
-is_left translated f = is_some f.symbol && not (is_noted translated f.number)
-
--- such functions of a module, each with the offset in its file that the contents of the code section begin at
-abbrev pub left_of : BTreeSet ℕ → ℕ → List Function → List (ℕ × Function)
+-- those of a module, each with the offset in its file that the contents of the code section begin at
+abbrev pub left_of : (ℕ → Bool) → ℕ → List Function → List (ℕ × Function)
 left_of translated code_offset [] = []
-left_of translated code_offset (f ∷ fs) = if is_left translated f then (code_offset, f) ∷ left_of translated code_offset fs else left_of translated code_offset fs
+left_of translated code_offset (f ∷ fs) = if is_listed translated f then (code_offset, f) ∷ left_of translated code_offset fs else left_of translated code_offset fs
 
 -- Those of all modules, in order.
-abbrev pub left_in : BTreeSet ℕ → List ModuleTranslation → List (List Function) → List (ℕ × Function)
+abbrev pub left_in : (ℕ → Bool) → List ModuleTranslation → List (List Function) → List (ℕ × Function)
 left_in translated [] fss = []
 left_in translated (t ∷ ts) [] = []
 left_in translated (t ∷ ts) (fs ∷ fss) = left_of translated t.code_section_offset fs ++ left_in translated ts fss

@@ -1,11 +1,10 @@
 -- The listed functions of a module, as they are added to the unit for functions without debugging information.
-use Rattle.std.specs.Prelude.{◌≡◌, ℕ, List, [], drop, Option, Result, Ok, Err}
-use Rattle.std.specs.BTreeSet.{BTreeSet}
+use Rattle.std.specs.Prelude.{◌≡◌, ℕ, List, [], drop, Bool, Option, Result, Ok, Err}
 use Rattle.std.specs.List.{flat_map}
 use Rattle.dwc_base.specs.Carried.{Module}
 use Rattle.dwc_base.specs.DefinedFunctions.{DefinedFunction}
 use Rattle.dwc_base.specs.Drafts.{Draft}
-use Rattle.dwc_base.specs.ListedFunctions.{begun_in_module, defined_from, listed_among, listed_functions}
+use Rattle.dwc_base.specs.ListedFunctions.{defined_from, listed_among, listed_functions}
 use Rattle.dwc_base.specs.OwnUnits.{place_of_context_pointer}
 use Rattle.dwc_base.specs.Refusals.{Refusal, first_of}
 use Rattle.dwc_base.specs.SimulatedUnit.{variable_refusals}
@@ -15,30 +14,27 @@ use Rattle.dwc_write.specs.GivenUnits.{GivenUnit}
 use Rattle.dwc_clone.specs.CompiledModules.{told_by, HasFrames}
 use Rattle.dwc_carry.specs.declared.error.DebugError.{DebugError}
 use Rattle.dwc_carry.specs.declared.simulated_functions.ListedModule.{ListedModule}
-use Rattle.dwc_carry.specs.LastUnits.{AreTranslatedOf}
 use Rattle.dwc_carry.specs.OwnUnits.{entry_of}
 use Rattle.dwc_carry.specs.Refusals.{ReadsOr, RefusesReading}
 use Rattle.dwc_carry.specs.SimulatedDrafts.{HasFunctions}
 
--- What is given of a module tells that module, whose own unit has a number, and the noted numbers are those of the functions that kept
--- subprograms of it begin in.
-pub record IsListedModule (registers : Registers) (m : Module) (own : ℕ) (translated : BTreeSet ℕ) (l : ListedModule) : Type 0 where
+-- What is given of a module tells that module, whose own unit has a number.
+pub record IsListedModule (registers : Registers) (m : Module) (own : ℕ) (l : ListedModule) : Type 0 where
   pub file : m.file ≡ told_file l.translation.now
   pub functions : m.functions ≡ l.transform.now
   pub told : m.told ≡ told_by registers l.compiled.now
   pub frames : HasFrames l.compiled.now m.functions
   pub context : l.vmctx_ptr ≡ entry_of own (place_of_context_pointer m.told.memory)
-  pub translated_are : AreTranslatedOf m translated
 
 -- The entries of its listed functions are added, or the first refusal of their variables is answered.
-abbrev pub GivesFunctions : ℕ → ℕ → Module → List Draft → List Draft → List (List ℕ) → GivenUnit → Result (Unit {0}) DebugError → Type 0
-GivesFunctions number own m behind whole after new result = ReadsOr (λ done. HasFunctions number own m after behind whole [] new) (first_of (flat_map (variable_refusals m) (listed_functions m))) result
+abbrev pub GivesFunctions : (ℕ → Bool) → ℕ → ℕ → Module → List Draft → List Draft → List (List ℕ) → GivenUnit → Result (Unit {0}) DebugError → Type 0
+GivesFunctions translated number own m behind whole after new result = ReadsOr (λ done. HasFunctions number own m after behind whole [] new) (first_of (flat_map (variable_refusals m) (listed_functions translated m))) result
 
 -- ---- one function after another
 
 -- the listed functions of a module from a place on
-abbrev pub listed_from : Module → ℕ → List DefinedFunction
-listed_from m place = listed_among (begun_in_module m) (defined_from place (drop place m.functions))
+abbrev pub listed_from : (ℕ → Bool) → Module → ℕ → List DefinedFunction
+listed_from translated m place = listed_among translated (defined_from place (drop place m.functions))
 
 -- The entries of some listed functions are added, of whose variables none is refused, and others are left: with these, what is refused
 -- first is that of all.

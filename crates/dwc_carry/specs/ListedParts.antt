@@ -1,6 +1,5 @@
 -- The parts of a module whose functions are listed.
-use Rattle.std.specs.Prelude.{◌≡◌, ℕ, List, Result}
-use Rattle.std.specs.BTreeSet.{BTreeSet}
+use Rattle.std.specs.Prelude.{◌≡◌, ℕ, List, Bool, Result}
 use Rattle.dwc_base.specs.declared.wasm.ModuleTranslation.{ModuleTranslation}
 use Rattle.dwc_base.specs.Carried.{Module}
 use Rattle.dwc_base.specs.Drafts.{Draft}
@@ -14,22 +13,19 @@ use Rattle.dwc_write.specs.GivenUnits.{GivenUnit}
 use Rattle.dwc_clone.specs.declared.compiled_module.CompiledModule.{CompiledModule}
 use Rattle.dwc_clone.specs.CompiledModules.{HasFrames, told_by}
 use Rattle.dwc_carry.specs.declared.error.DebugError.{DebugError}
-use Rattle.dwc_carry.specs.LastUnits.{AreTranslatedOf}
 use Rattle.dwc_carry.specs.ListedModules.{GivesFunctions}
 use Rattle.dwc_carry.specs.OwnUnits.{entry_of}
 use Rattle.dwc_carry.specs.SimulatedDrafts.{HasFunctions}
 
--- The parts of a module tell it, whose own unit has a number, and the noted numbers are those of the functions that kept subprograms of it
--- begin in.
-pub record ArePartsOf (registers : Registers) (m : Module) (own : ℕ) (translated : BTreeSet ℕ) (t : ModuleTranslation) (fs : List Function) (compiled : CompiledModule) (context : DebugInfoRef) : Type 0 where
+-- The parts of a module tell it, whose own unit has a number.
+pub record ArePartsOf (registers : Registers) (m : Module) (own : ℕ) (t : ModuleTranslation) (fs : List Function) (compiled : CompiledModule) (context : DebugInfoRef) : Type 0 where
   pub file : m.file ≡ told_file t
   pub functions : m.functions ≡ fs
   pub told : m.told ≡ told_by registers compiled
   pub frames : HasFrames compiled m.functions
   pub context_is : context ≡ entry_of own (place_of_context_pointer m.told.memory)
-  pub translated_are : AreTranslatedOf m translated
 
 -- The entries of the listed functions of each such module are added, or the first refusal of their variables is answered.
-abbrev pub AddsModule : Registers → BTreeSet ℕ → ModuleTranslation → List Function → CompiledModule → DebugInfoRef → List (List ℕ) → List (List ℕ) → GivenUnit → GivenUnit → Result (Unit {0}) DebugError → Type 0
+abbrev pub AddsModule : Registers → (ℕ → Bool) → ModuleTranslation → List Function → CompiledModule → DebugInfoRef → List (List ℕ) → List (List ℕ) → GivenUnit → GivenUnit → Result (Unit {0}) DebugError → Type 0
 AddsModule registers translated t fs compiled context before after old new result =
-    (m : Module) (number own : ℕ) (behind whole : List Draft) → ArePartsOf registers m own translated t fs compiled context → HasFunctions number own m before behind whole (listed_functions m) old → GivesFunctions number own m behind whole after new result
+    (m : Module) (number own : ℕ) (behind whole : List Draft) → ArePartsOf registers m own t fs compiled context → HasFunctions number own m before behind whole (listed_functions translated m) old → GivesFunctions translated number own m behind whole after new result

@@ -35,7 +35,7 @@ pub record HasListedLines (name : List ℕ) (fs : List (ℕ × Function)) (u : G
 abbrev pub HasWantedLines : WantedUnit → GivenUnit → Type 0
 HasWantedLines own_unit u = u.lines ≡ no_lines None
 HasWantedLines (carried_unit c) u = HasLinesOf c u
-HasWantedLines (listed_unit name ms) u = HasListedLines name (listed_in_files ms) u
+HasWantedLines (listed_unit name translated ms) u = HasListedLines name (listed_in_files translated ms) u
 
 -- Each number of some units, of which the first has a number, that has a place there leads to it.
 abbrev pub LeadsTo : (ℕ → ℕ → Option (ℕ × ℕ)) → ℕ → List GivenUnit → Type 0

@@ -1,5 +1,5 @@
 -- The unit for functions without debugging information, while its entries are added one behind another in file order.
-use Rattle.std.specs.Prelude.{◌≡◌, ℕ, ◌+◌, ◌<◌, List, [], ◌∷◌, ◌++◌, length, All, Option, Some, None}
+use Rattle.std.specs.Prelude.{◌≡◌, ℕ, ◌+◌, ◌<◌, List, [], ◌∷◌, ◌++◌, length, All, Bool, Option, Some, None}
 use Rattle.std.specs.List.{filter_map, flat_map}
 use Rattle.dwc_base.specs.Carried.{Module}
 use Rattle.dwc_base.specs.DefinedFunctions.{DefinedFunction}
@@ -48,11 +48,11 @@ pub record HasFunctions (number own : ℕ) (m : Module) (texts : List (List ℕ)
   pub made : IsSimulated number texts ds u
   pub all : ds ++ (flat_map (function_entries number own m) left ++ behind) ≡ whole
 
--- The same of modules, whose own units are numbered from one on.
-pub record HasModules (number own : ℕ) (texts : List (List ℕ)) (whole : List Draft) (left : List Module) (u : GivenUnit) : Type 0 where
+-- The same of modules, whose own units are numbered from one on, by the numbers that are translated.
+pub record HasModules (translated : ℕ → Bool) (number own : ℕ) (texts : List (List ℕ)) (whole : List Draft) (left : List Module) (u : GivenUnit) : Type 0 where
   pub ds : List Draft
   pub made : IsSimulated number texts ds u
-  pub all : ds ++ modules_entries number own left ≡ whole
+  pub all : ds ++ modules_entries translated number own left ≡ whole
 
 -- ---- what does not change while entries are added
 

@@ -1,7 +1,8 @@
 //! Emits the DWARF of a compilation for the native code of its functions.
-ghost use Rattle.std.specs.Prelude.{◌≡◌, ◌⊎◌, IfErr, OnOk};
+ghost use Rattle.std.specs.Prelude.{◌≡◌, ◌⊎◌, false, is_some, true, IfErr, OnOk};
 ghost use Rattle.dwc_carry.specs.Emits.{Emits};
-ghost use Rattle.dwc_carry.specs.Inputs.{counted_behind};
+ghost use Rattle.dwc_carry.specs.Inputs.{counted_behind, refused_before_path};
+ghost use Rattle.dwc_carry.specs.Refusals.{memory, told};
 
 use crate::DebugError;
 use crate::frames::frame_table;
@@ -14,7 +15,8 @@ use std::alloc::Global;
 
 /// The sections of DWARF that those of a compilation carry over to, for a target, with the call frames of its functions behind them where
 /// the target has a common information entry. The compilation is left as it is but for its counter of names, which rises where the path of
-/// the unit for functions without debugging information is made of it. The work is linear in what is read and written.
+/// the unit for functions without debugging information is made of it: not where an address map, a length or a module is refused. The work is
+/// linear in what is read and written.
 ///
 /// # Errors
 /// `BadAddressMap` exactly where a function's address map breaks a rule: the first module, its first such function, and the
@@ -34,6 +36,8 @@ pub fn emit_dwarf(
     ensures sections { Emits (byte_order isa.now) (pointer_size isa.now) (dwarf_registers isa.now) (common_entry isa.now) compilation.old result }
     ensures counter { OnOk result (compilation.new ≡ counted_behind (dwarf_registers isa.now) compilation.old) }
     ensures refused { IfErr result (λ e. (compilation.new ≡ compilation.old) ⊎ (compilation.new ≡ counted_behind (dwarf_registers isa.now) compilation.old)) }
+    ensures early { is_some (refused_before_path (dwarf_registers isa.now) compilation.old) ≡ true → compilation.new ≡ compilation.old }
+    ensures late { is_some (refused_before_path (dwarf_registers isa.now) compilation.old) ≡ false → IfErr result (λ e. (told e ≡ memory) ⊎ (compilation.new ≡ counted_behind (dwarf_registers isa.now) compilation.old)) }
 {
     translations_keep_scopes();
     let dwarf = transform_dwarf(alloc, isa, compilation)?;

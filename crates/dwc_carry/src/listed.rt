@@ -1,12 +1,14 @@
 //! The functions without debugging information of a compilation, and their code.
 ghost use Rattle.std.specs.Prelude.{◌≡◌, ◌++◌, ◌<◌, ◌^◌, pos, map, None, All, IfOk, IfSome, OnOk};
 ghost use Rattle.dwc_base.specs.Addends.{HaveAddends};
+ghost use Rattle.dwc_base.specs.ListedFunctions.{is_listed};
 ghost use Rattle.dwc_addr.specs.Compilations.{IsCounted};
 ghost use Rattle.dwc_addr.specs.Transforms.{function_view};
 ghost use Rattle.dwc_image.specs.SimulatedSequences.{listed_view};
+ghost use Rattle.dwc_clone.specs.BegunNumbers.{is_noted};
 ghost use Rattle.dwc_clone.specs.NativeExtents.{AreRanges};
 ghost use Rattle.dwc_carry.specs.Inputs.{bad_map, functions_from};
-ghost use Rattle.dwc_carry.specs.ListedFiles.{CanWrite, HasLowEnd, intervals_of, is_left, left_in, left_of};
+ghost use Rattle.dwc_carry.specs.ListedFiles.{CanWrite, HasLowEnd, intervals_of, left_in, left_of};
 
 use dwc_addr::{AddressTransform, Compilation, FunctionMap};
 use dwc_base::{Address, StaticModuleIndex, SymbolId};
@@ -17,7 +19,7 @@ use std::collections::BTreeSet;
 
 // Whether a function has a symbol and its number is not among `translated`.
 fn is_listed(function: &FunctionMap, translated: &BTreeSet<usize>) -> bool
-    ensures { result ≡ is_left translated.now (function_view function.now) }
+    ensures { result ≡ is_listed (is_noted translated.now) (function_view function.now) }
 {
     match function.symbol {
         Some(number) => !translated.contains(&number),
@@ -32,7 +34,7 @@ fn add_listed<'a>(
     translated: &BTreeSet<usize>,
     listed: &mut Vec<(u64, &'a FunctionMap)>,
 ) -> Result<(), AllocError>
-    ensures { OnOk result (map listed_view listed.new.items ≡ map listed_view listed.old.items ++ left_of translated.now code_offset (map function_view functions.now)) }
+    ensures { OnOk result (map listed_view listed.new.items ≡ map listed_view listed.old.items ++ left_of (is_noted translated.now) code_offset (map function_view functions.now)) }
 {
     for function in functions {
         if is_listed(function, translated) {
@@ -80,7 +82,7 @@ pub(crate) fn listed_functions<'a>(
     requires addends { All HaveAddends transforms.now }
     ensures counted { IsCounted compilation.now.translations compilation.now.functions compilation.now.memory_offsets }
     ensures low { All (All HasLowEnd) compilation.now.functions }
-    ensures listed { IfOk result (λ v. map listed_view v.items ≡ left_in translated.now compilation.now.translations transforms.now) }
+    ensures listed { IfOk result (λ v. map listed_view v.items ≡ left_in (is_noted translated.now) compilation.now.translations transforms.now) }
     ensures fit { IfOk result (λ v. All CanWrite (map listed_view v.items)) }
 {
     all_ends_are_low(compilation);

@@ -1,6 +1,5 @@
 //! The listed functions of a module, with their parameters and variables, in the unit for functions without debugging information.
 ghost use Rattle.std.specs.Prelude.{◌≡◌, ◌<◌, ◌+◌, ◌++◌, ◌^◌, ℕ, List, Option, Some, length, slice_get, All, IfOk, IsOkUnless, OnOk};
-ghost use Rattle.std.specs.BTreeSet as Sets;
 ghost use Rattle.dwc_base.specs.Addends.{HaveAddends};
 ghost use Rattle.dwc_base.specs.Carried.{Module};
 ghost use Rattle.dwc_base.specs.DefinedFunctions.{DefinedFunction};
@@ -14,6 +13,7 @@ ghost use Rattle.dwc_addr.specs.Transforms.{function_view};
 ghost use Rattle.dwc_image.specs.CarriedLines.{AreKept};
 ghost use Rattle.dwc_write.specs.GivenLines.{GivenLines};
 ghost use Rattle.dwc_write.specs.GivenUnits.{Addition};
+ghost use Rattle.dwc_clone.specs.BegunNumbers.{is_noted};
 ghost use Rattle.dwc_clone.specs.MadeValues.{Grows};
 ghost use Rattle.dwc_carry.specs.declared.error.DebugError.TheVariants.{OutOfMemory};
 ghost use Rattle.dwc_carry.specs.ListedFiles.{HasFirstLine};
@@ -106,7 +106,7 @@ fn add_function(
     requires some { 0 < length unit.old.additions }
     ensures grows { Grows strings.old strings.new }
     ensures extends { OnOk result (Extends unit.old unit.new) }
-    ensures functions { (m : Module) (n own : ℕ) (noted : Sets.BTreeSet ℕ) (f : Function) (before : List Draft) → IsListedModule (dwarf_registers isa.now) m own noted «module».now → slice_get m.functions place ≡ Some f → f.symbol ≡ Some number → IsSimulated n strings.old before unit.old → ReadsOr (λ done. IsSimulated n strings.new (before ++ function_entries n own m (record { place = place; function = f })) unit.new) (first_of (variable_refusals m (record { place = place; function = f }))) result }
+    ensures functions { (m : Module) (n own : ℕ) (f : Function) (before : List Draft) → IsListedModule (dwarf_registers isa.now) m own «module».now → slice_get m.functions place ≡ Some f → f.symbol ≡ Some number → IsSimulated n strings.old before unit.old → ReadsOr (λ done. IsSimulated n strings.new (before ++ function_entries n own m (record { place = place; function = f })) unit.new) (first_of (variable_refusals m (record { place = place; function = f }))) result }
 {
     let function = &module.transform.map()[place];
     let (index, entry) = begin_function(
@@ -153,7 +153,7 @@ fn add_if_listed(
     requires some { 0 < length unit.old.additions }
     ensures grows { Grows strings.old strings.new }
     ensures extends { OnOk result (Extends unit.old unit.new) }
-    ensures functions { (m : Module) (number own : ℕ) (behind whole : List Draft) (total : Option Refusal) → IsListedModule (dwarf_registers isa.now) m own translated.now «module».now → LeftFunctions number own m behind whole (listed_from m place) total strings.old unit.old → GivesFunction number own m behind whole (listed_from m (place + 1)) total strings.new unit.new result }
+    ensures functions { (m : Module) (number own : ℕ) (behind whole : List Draft) (total : Option Refusal) → IsListedModule (dwarf_registers isa.now) m own «module».now → LeftFunctions number own m behind whole (listed_from (is_noted translated.now) m place) total strings.old unit.old → GivesFunction number own m behind whole (listed_from (is_noted translated.now) m (place + 1)) total strings.new unit.new result }
 {
     let function = &module.transform.map()[place];
     match function.symbol {
@@ -191,7 +191,7 @@ pub(crate) fn add_functions(
     ensures dense { OnOk result (IsDense unit.new) }
     ensures some { OnOk result (0 < length unit.new.additions) }
     ensures begins { (size : ℕ) (lines : GivenLines) (root : Addition) → BeginsWith size lines root unit.old → OnOk result (BeginsWith size lines root unit.new) }
-    ensures functions { (m : Module) (number own : ℕ) (behind whole : List Draft) → IsListedModule (dwarf_registers isa.now) m own translated.now «module».now → HasFunctions number own m strings.old behind whole (listed_functions m) unit.old → GivesFunctions number own m behind whole strings.new unit.new result }
+    ensures functions { (m : Module) (number own : ℕ) (behind whole : List Draft) → IsListedModule (dwarf_registers isa.now) m own «module».now → HasFunctions number own m strings.old behind whole (listed_functions (is_noted translated.now) m) unit.old → GivesFunctions (is_noted translated.now) number own m behind whole strings.new unit.new result }
 {
     for place in 0..module.transform.map().len() {
         add_if_listed(alloc, isa, module, place, translated, unit, strings)?;

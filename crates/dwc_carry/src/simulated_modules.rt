@@ -6,9 +6,10 @@ ghost use Rattle.dwc_base.specs.TranslationNames.{HasSortedNames};
 ghost use Rattle.dwc_image.specs.CarriedLines.{AreKept};
 ghost use Rattle.dwc_write.specs.GivenLines.{GivenLines};
 ghost use Rattle.dwc_write.specs.GivenUnits.{Addition};
+ghost use Rattle.dwc_clone.specs.BegunNumbers.{is_noted};
 ghost use Rattle.dwc_clone.specs.MadeValues.{Grows};
 ghost use Rattle.dwc_carry.specs.Inputs.{bad_map, functions_from, modules_of};
-ghost use Rattle.dwc_carry.specs.LastUnits.{AreTranslated, GivesEntries, ReferToContexts};
+ghost use Rattle.dwc_carry.specs.LastUnits.{GivesEntries, ReferToContexts};
 ghost use Rattle.dwc_carry.specs.ListedFiles.{HasFirstLine, HasLowEnd};
 ghost use Rattle.dwc_carry.specs.ListedParts.{AddsModule};
 ghost use Rattle.dwc_carry.specs.MadeEntries.{IsDense};
@@ -48,7 +49,7 @@ fn add_module(
     ensures dense { OnOk result (IsDense unit.new) }
     ensures some { OnOk result (0 < length unit.new.additions) }
     ensures begins { (size : ℕ) (lines : GivenLines) (root : Addition) → BeginsWith size lines root unit.old → OnOk result (BeginsWith size lines root unit.new) }
-    ensures functions { AddsModule (dwarf_registers isa.now) translated.now translation.now transform.now compiled.now vmctx_ptr.now strings.old strings.new unit.old unit.new result }
+    ensures functions { AddsModule (dwarf_registers isa.now) (is_noted translated.now) translation.now transform.now compiled.now vmctx_ptr.now strings.old strings.new unit.old unit.new result }
 {
     let module = ListedModule {
         translation: &*translation,
@@ -79,13 +80,12 @@ pub(crate) fn add_modules(
     requires low { All (All HasLowEnd) compilation.now.functions }
     requires functions { All AreKept transforms.now }
     requires addends { All HaveAddends transforms.now }
-    requires translated { AreTranslated (modules_of (dwarf_registers isa.now) compilation.now) translated.now }
     requires contexts { ReferToContexts 0 (modules_of (dwarf_registers isa.now) compilation.now) vmctx_ptrs.now }
     requires dense { IsDense unit.old }
     requires some { 0 < length unit.old.additions }
     ensures grows { Grows strings.old strings.new }
     ensures begins { (size : ℕ) (lines : GivenLines) (root : Addition) → BeginsWith size lines root unit.old → OnOk result (BeginsWith size lines root unit.new) }
-    ensures entries { (number : ℕ) (whole : List Draft) → HasModules number 0 strings.old whole (modules_of (dwarf_registers isa.now) compilation.now) unit.old → GivesEntries number whole (modules_of (dwarf_registers isa.now) compilation.now) strings.new unit.new result }
+    ensures entries { (number : ℕ) (whole : List Draft) → HasModules (is_noted translated.now) number 0 strings.old whole (modules_of (dwarf_registers isa.now) compilation.now) unit.old → GivesEntries (is_noted translated.now) number whole (modules_of (dwarf_registers isa.now) compilation.now) strings.new unit.new result }
 {
     let translations = compilation.translations();
     for i in 0..translations.len() {

@@ -10,10 +10,12 @@ ghost use Rattle.dwc_image.specs.CarriedLines.{AreKept};
 ghost use Rattle.dwc_image.specs.SimulatedSequences.{listed_view};
 ghost use Rattle.dwc_write.specs.TextTables.{IsText};
 ghost use Rattle.dwc_write.specs.declared.error.WriteError.TheVariants.{OutOfMemory};
+ghost use Rattle.dwc_clone.specs.BegunNumbers.{is_noted};
 ghost use Rattle.dwc_clone.specs.MadeValues.{Grows};
-ghost use Rattle.dwc_carry.specs.Inputs.{bad_map, functions_from, modules_of};
-ghost use Rattle.dwc_carry.specs.LastUnits.{AreTranslated, GivesLast, GivesUnit, IsPathOf, IsTyped, ReferToContexts, counted_behind, counted_name};
+ghost use Rattle.dwc_carry.specs.Inputs.{bad_map, counted_behind, functions_from, modules_of};
+ghost use Rattle.dwc_carry.specs.LastUnits.{GivesLast, GivesUnit, IsPathOf, IsTyped, ReferToContexts, counted_name};
 ghost use Rattle.dwc_carry.specs.ListedFiles.{CanWrite};
+ghost use Rattle.dwc_carry.specs.Refusals.{memory, told};
 ghost use Rattle.dwc_carry.specs.UnitPathParts.{IsUnitPath};
 
 use crate::DebugError;
@@ -75,11 +77,10 @@ fn simulated_unit(
     requires maps { bad_map compilation.now ≡ None }
     requires functions { All AreKept transforms.now }
     requires addends { All HaveAddends transforms.now }
-    requires translated { AreTranslated (modules_of (dwarf_registers isa.now) compilation.now) translated.now }
     requires contexts { ReferToContexts 0 (modules_of (dwarf_registers isa.now) compilation.now) vmctx_ptrs.now }
     requires path { IsText path.now }
     requires name { is_file_name (path_name path.now) ≡ true }
-    ensures { GivesUnit encoding.address_size path.now (modules_of (dwarf_registers isa.now) compilation.now) strings.old strings.new result }
+    ensures { GivesUnit (is_noted translated.now) encoding.address_size path.now (modules_of (dwarf_registers isa.now) compilation.now) strings.old strings.new result }
 {
     let functions = listed_functions(alloc, compilation, transforms, translated)?;
     let mut unit = typed_unit(alloc, encoding, path, &functions, strings)?;
@@ -134,11 +135,12 @@ fn taken_path(alloc: Global, compilation: &mut Compilation<'_>) -> Result<Vec<u8
 /// path, a line table whose lines are offsets in the wasm files, the types of numbers, and an entry for each function with a symbol whose
 /// number is not among `translated`, with its parameters and variables. The path is that of the first module; without modules nothing is
 /// added. `addr_tr` are the transforms of the modules, `vmctx_ptr_die_refs` the types of pointers to their contexts, in order; `translated`
-/// are the numbers of the functions that kept subprograms of carried units begin in.
+/// are the numbers of functions that have entries already, as those that kept subprograms of carried units begin in.
 ///
 /// # Errors
 /// `Path` exactly where the name that the path ends with is empty, `.` or `..`. Where it is not: `BadLabelRange` and `UnmappedRegister`
-/// for the first variable that is refused. `OutOfMemory` for want of memory. The counter of names may have risen.
+/// for the first variable that is refused. `OutOfMemory` for want of memory. The counter of names has risen where the path is made of it, but
+/// for want of memory, where it may have.
 pub fn generate_simulated_dwarf(
     alloc: Global,
     compilation: &mut Compilation<'_>,
@@ -156,12 +158,12 @@ pub fn generate_simulated_dwarf(
     requires maps { bad_map compilation.old ≡ None }
     requires functions { All AreKept addr_tr.now }
     requires addends { All HaveAddends addr_tr.now }
-    requires translated { AreTranslated (modules_of (dwarf_registers isa.now) compilation.old) translated.now }
     requires contexts { ReferToContexts 0 (modules_of (dwarf_registers isa.now) compilation.old) vmctx_ptr_die_refs.now }
     requires numbered { length out_units.old.units.items ≡ sum_by unit_count (modules_of (dwarf_registers isa.now) compilation.old) }
-    ensures added { GivesLast out_encoding.address_size compilation.old.next_id (modules_of (dwarf_registers isa.now) compilation.old) out_units.old.units.items out_units.new.units.items out_strings.old out_strings.new result }
+    ensures added { GivesLast (is_noted translated.now) out_encoding.address_size compilation.old.next_id (modules_of (dwarf_registers isa.now) compilation.old) out_units.old.units.items out_units.new.units.items out_strings.old out_strings.new result }
     ensures counter { OnOk result (compilation.new ≡ counted_behind (dwarf_registers isa.now) compilation.old) }
     ensures refused { IfErr result (λ e. (compilation.new ≡ compilation.old) ⊎ (compilation.new ≡ counted_behind (dwarf_registers isa.now) compilation.old)) }
+    ensures counted { IfErr result (λ e. (told e ≡ memory) ⊎ (compilation.new ≡ counted_behind (dwarf_registers isa.now) compilation.old)) }
 {
     if compilation.translations().is_empty() {
         return Ok(());

@@ -1,8 +1,9 @@
 //! The DWARF of a compilation, before it is written.
-ghost use Rattle.std.specs.Prelude.{◌≡◌, ◌⊎◌, IfErr, OnOk};
+ghost use Rattle.std.specs.Prelude.{◌≡◌, ◌⊎◌, false, is_some, true, IfErr, OnOk};
 ghost use Rattle.dwc_base.specs.Forests.{is_big};
 ghost use Rattle.dwc_addr.specs.Compilations.{IsCounted};
-ghost use Rattle.dwc_carry.specs.Inputs.{counted_behind};
+ghost use Rattle.dwc_carry.specs.Inputs.{counted_behind, refused_before_path};
+ghost use Rattle.dwc_carry.specs.Refusals.{memory, told};
 ghost use Rattle.dwc_carry.specs.Transformed.{GivesTransforms, GivesDwarf};
 
 use crate::DebugError;
@@ -18,7 +19,8 @@ use std::alloc::Global;
 
 /// The units of DWARF for a compilation and a target: module by module and in order, the module's own, and one for each compile unit
 /// of which an entry is kept, with an entry for each kept one; and behind these one for the functions without debugging information, where
-/// there is a module. The compilation is left as it is but for its counter of names, which rises where the path of that unit is made of it.
+/// there is a module. The compilation is left as it is but for its counter of names, which rises where the path of that unit is made of it:
+/// not where an address map, a length or a module is refused.
 ///
 /// # Errors
 /// `BadAddressMap` exactly where a function's address map breaks a rule: the first module, its first such function, and the
@@ -36,6 +38,8 @@ pub fn transform_dwarf(
     ensures units { GivesDwarf (byte_order isa.now) (pointer_size isa.now) (dwarf_registers isa.now) compilation.old result }
     ensures counter { OnOk result (compilation.new ≡ counted_behind (dwarf_registers isa.now) compilation.old) }
     ensures refused { IfErr result (λ e. (compilation.new ≡ compilation.old) ⊎ (compilation.new ≡ counted_behind (dwarf_registers isa.now) compilation.old)) }
+    ensures early { is_some (refused_before_path (dwarf_registers isa.now) compilation.old) ≡ true → compilation.new ≡ compilation.old }
+    ensures late { is_some (refused_before_path (dwarf_registers isa.now) compilation.old) ≡ false → IfErr result (λ e. (told e ≡ memory) ⊎ (compilation.new ≡ counted_behind (dwarf_registers isa.now) compilation.old)) }
 {
     let transforms = transforms(alloc, compilation)?;
     check_lengths(&transforms)?;

@@ -139,6 +139,7 @@ carried_bare = record {
   texts = refl;
   form = form-bare;
   names = names-bare;
+  known = refl;
   relocated = related-bare;
   frames = refl;
 }
@@ -152,7 +153,6 @@ carries-bare = record {
   accepted = ap first_refusal bare-told ∙ none-refused;
   sections = output_bare;
   plain = refl;
-  known = refl;
   carried = subst (λ c. OutputCarried c output_bare) (sym bare-told) carried_bare;
   short = ap (λ c. have_short_expressions (trees_made c)) bare-told ∙ all-short;
   written = refl;

@@ -235,7 +235,6 @@ module _ (c : CompilationValue) (order : Endian) (size : ℕ) (registers : Regis
     carried = subst (λ input. OutputCarried input (map section_view s.items)) (sym input-is) h.1.output;
     short = ap (λ input. have_short_expressions (trees_made input)) input-is ∙ h.1.short;
     sound = subst (λ input. All (IsSound input.order) (map section_view s.items)) (sym input-is) h.1.sound;
-    known = h.1.known;
   }
 
   pub refused-emitting : shared_symbol (map symbol_view (all_symbols c.functions)) ≡ None → (e : DebugError) → emits.Emits order size registers entry c (Err e) → IsCause read (carrying_status e)
@@ -247,7 +246,7 @@ module _ (c : CompilationValue) (order : Endian) (size : ℕ) (registers : Regis
 
       go : (t : Told) → refusals.IsCause (emits.PassesLimit (carry.input_of order size registers entry c)) (carry.refusal_of order size registers entry c) t → IsCause read (told_status t)
       go (refusals.refused r) h = inr (inl (hindrance-is none ∙ ap (option_map input_status) h))
-      go (refusals.limit (Section name)) h = limit h.0 (inl (name, h.1))
+      go (refusals.limit (Section name)) h = limit h.0 (inl (name, h.1.1))
       go (refusals.limit Addend) h = absurd h.1
       go (refusals.limit Range) h = absurd h.1
       go (refusals.limit Jump) h = absurd h.1

@@ -103,6 +103,7 @@ carried-framed = record {
   texts = refl;
   form = form-framed;
   names = names-from output_framed refl;
+  known = refl;
   relocated = related-framed;
   frames = refl;
 }
@@ -120,7 +121,6 @@ carries-framed = record {
   accepted = refusal-grows;
   sections = output_framed;
   plain = refl;
-  known = refl;
   carried = subst (λ c. OutputCarried c output_framed) (sym told-grows) carried-framed;
   short = ap (λ c. have_short_expressions (trees_made c)) told-grows ∙ all-short;
   written = refl;

@@ -195,7 +195,6 @@ carries-emitted read sections h = record {
   accepted = (unhindered (shared_in read) (bad_map read) (first_refusal (compilation_of read)) h.unhindered).accepted;
   sections = sections;
   plain = plain-sound (compilation_of read).order sections h.sound;
-  known = h.known;
   carried = h.carried;
   short = h.short;
   text_is = refl;

@@ -186,7 +186,7 @@ no_front h =
 -- the first ten bytes of the wanted text are one
 front-small : FrontCarries input_small (Some []) (Some (codes "section .d"))
 unfolding whole_on_literals printed_on_literals
-front-small = record { read = read_small; is_read = refl; accepted = accepted-small; sections = output_whole; plain = refl; known = refl; carried = output_carried-small; short = short-small; count = 10; written = refl }
+front-small = record { read = read_small; is_read = refl; accepted = accepted-small; sections = output_whole; plain = refl; carried = output_carried-small; short = short-small; count = 10; written = refl }
 
 -- ---- inputs of which something is refused: no text, nor a front of one
 

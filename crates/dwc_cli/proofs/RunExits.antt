@@ -67,7 +67,6 @@ Succeeds-read files words p read text before now is_p is_input carries written =
       accepted = c.carries.accepted;
       sections = c.carries.sections;
       plain = c.carries.plain;
-      known = c.carries.known;
       carried = c.carries.carried;
       short = c.carries.short;
       written = subst (Appended before now) c.carries.text_is written;
@@ -83,7 +82,6 @@ PrefixWritten-read files words p read text before now is_p is_input carries fron
       accepted = c.carries.accepted;
       sections = c.carries.sections;
       plain = c.carries.plain;
-      known = c.carries.known;
       carried = c.carries.carried;
       short = c.carries.short;
       count = front.0;

@@ -312,6 +312,7 @@ carried_whole = record {
   texts = refl;
   form = form-whole;
   names = names-from output_whole refl;
+  known = refl;
   relocated = related-whole;
   frames = refl;
 }
@@ -322,4 +323,4 @@ output_carried-small = subst (λ c. OutputCarried c output_whole) (sym compilati
 -- the text of the wanted output is an answer with status 0
 pub carries-small : Carries input_small (Some []) (Some (printed output_whole))
 unfolding whole_on_literals
-carries-small = record { read = read_small; is_read = refl; accepted = accepted-small; sections = output_whole; plain = refl; known = refl; carried = output_carried-small; short = short-small; written = refl }
+carries-small = record { read = read_small; is_read = refl; accepted = accepted-small; sections = output_whole; plain = refl; carried = output_carried-small; short = short-small; written = refl }

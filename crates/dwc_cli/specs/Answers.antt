@@ -12,7 +12,6 @@ use Rattle.dwc_base.specs.TreeLaws.{have_short_expressions}
 use Rattle.dwc_base.specs.Wasm.{WasmModule}
 use Rattle.dwc_base.specs.Translations.{IsWholeTranslation}
 use Rattle.dwc_write.specs.Writers.{IsSound}
-use Rattle.dwc_carry.specs.OutputNames.{are_of_output}
 use Rattle.dwc_cli.specs.declared.failure.Failure.{Failure}
 use Rattle.dwc_map.specs.declared.map_file.MapFile.{MapFile}
 use Rattle.dwc_cli.specs.declared.input_files.InputFiles.{InputFiles}
@@ -74,7 +73,6 @@ pub record IsEmitted (read : Loaded) (sections : List OutputSection) : Type 0 wh
   pub carried : OutputCarried (compilation_of read) sections
   pub short : have_short_expressions (trees_made (compilation_of read)) ≡ true
   pub sound : All (IsSound (compilation_of read).order) sections
-  pub known : are_of_output sections ≡ true
 
 -- why no sections are emitted, by the status: for want of memory, by a hindrance, or for a limit that is passed
 abbrev pub IsCause : Loaded → ℕ → Type 0
@@ -90,7 +88,6 @@ pub record CarriesRead (read : Loaded) (text : List ℕ) : Type 0 where
   pub accepted : first_refusal (compilation_of read) ≡ None
   pub sections : List OutputSection
   pub plain : list_all is_plain sections ≡ true
-  pub known : are_of_output sections ≡ true
   pub carried : OutputCarried (compilation_of read) sections
   pub short : have_short_expressions (trees_made (compilation_of read)) ≡ true
   pub text_is : text ≡ printed sections

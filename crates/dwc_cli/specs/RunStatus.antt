@@ -14,7 +14,6 @@ use Rattle.dwc_base.specs.Carried.{Compilation}
 use Rattle.dwc_base.specs.Forests.{first_refusal, trees_made}
 use Rattle.dwc_base.specs.OutputCarried.{OutputCarried, widest}
 use Rattle.dwc_base.specs.TreeLaws.{have_short_expressions}
-use Rattle.dwc_carry.specs.OutputNames.{are_of_output}
 use Rattle.dwc_map.specs.MapFile.{map_of_bytes}
 use Rattle.dwc_cli.specs.Inputs.{Paths, paths_of, all_paths, Input, all_files, wasm_modules, defined_counts, Loaded, loaded, compilation_of, shared_in, bad_map}
 use Rattle.dwc_cli.specs.Printed.{printed, is_plain}
@@ -47,7 +46,6 @@ pub record Carries (input : Input) (before now : Option (List ℕ)) : Type 0 whe
   pub accepted : first_refusal (compilation_of read) ≡ None
   pub sections : List OutputSection
   pub plain : list_all is_plain sections ≡ true
-  pub known : are_of_output sections ≡ true
   pub carried : OutputCarried (compilation_of read) sections
   pub short : have_short_expressions (trees_made (compilation_of read)) ≡ true
   pub written : Appended before now (printed sections)
@@ -111,7 +109,6 @@ pub record FrontCarries (input : Input) (before now : Option (List ℕ)) : Type 
   pub accepted : first_refusal (compilation_of read) ≡ None
   pub sections : List OutputSection
   pub plain : list_all is_plain sections ≡ true
-  pub known : are_of_output sections ≡ true
   pub carried : OutputCarried (compilation_of read) sections
   pub short : have_short_expressions (trees_made (compilation_of read)) ≡ true
   pub count : ℕ

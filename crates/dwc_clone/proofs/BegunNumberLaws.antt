@@ -7,7 +7,8 @@ use Rattle.std.specs.BTreeSet.{BTreeSet, IsEmpty}
 use Rattle.std.specs.Ordering.{nat_cmp}
 use Rattle.std.proofs.lemmas.List.Folds.{list_any-append}
 use Rattle.dwc_base.specs.Functions.{Function}
-use Rattle.dwc_clone.specs.BegunNumbers.{is_noted, is_number_of, NotesFunctions}
+use Rattle.dwc_clone.specs.BegunNumbers.{is_noted, NotesFunctions}
+use Rattle.dwc_base.specs.ListedFunctions.{is_number_of}
 
 or-false : (a : Bool) → (a || false) ≡ a
 or-false true = refl

@@ -1,5 +1,5 @@
 //! What a code generator tells of a module.
-ghost use Rattle.std.specs.Prelude.{◌≡◌, ◌≤◌, ◌<◌, ◌+◌, length, Some, IfSome};
+ghost use Rattle.std.specs.Prelude.{◌≡◌, ◌≤◌, ◌<◌, ◌+◌, ◌&&◌, length, is_some, nat_le, nat_lt, Some, IfSome};
 ghost use Rattle.std.specs.FinMap as finite;
 ghost use Rattle.dwc_base.specs.Functions.{Function};
 ghost use Rattle.dwc_base.specs.LocationRules.{frame_told};
@@ -30,6 +30,7 @@ pub struct CompiledModule<'c> {
 impl<'c> CompiledModule<'c> {
     /// What the function of a number, which has a symbol, tells to expressions; None where the module has no function of that number.
     pub fn frame(&self, number: usize) -> Option<FunctionFrameInfo<'c>>
+        ensures present { is_some result ≡ (nat_le self.now.first_number number && nat_lt number (self.now.first_number + length self.now.functions.now)) }
         ensures frame { (registers : Registers) (f : Function) → f.number ≡ number → f.symbol ≡ Some number → self.now.first_number ≤ number → number < self.now.first_number + length self.now.functions.now → frame_view result ≡ Some (frame_told (told_by registers self.now) f) }
         ensures labels { (registers : Registers) → IfSome result (λ frame. finite.keys frame.value_ranges.now ≡ (told_by registers self.now).labels number) }
     {

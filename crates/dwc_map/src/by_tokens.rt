@@ -1,5 +1,5 @@
-//! A map file by the tokens of its text: no value is made of the entries of its functions, which are most of it. A map is read so where each
-//! object has the fields that are known and the numbers are whole; any other, and what is no map, is left to the plain way.
+//! A map file by the tokens of its text: no value is made of the entries of its functions, which are most of it. A map is read so where its
+//! numbers are whole, those of fields that nobody knows too; any other, and what is no map, is left to the plain way.
 ghost use Rattle.std.specs.Prelude.{◌≡◌, ◌<◌, ◌-◌, ◌^◌, ℕ, List, ◌∷◌, map, codes, length, Some, IfOk, OnOk};
 ghost use Rattle.json.specs.Token.{begin_array, begin_object, end_array, number};
 ghost use Rattle.serde_json.specs.View.{members_view};

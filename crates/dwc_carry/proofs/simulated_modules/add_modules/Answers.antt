@@ -5,20 +5,20 @@ use Rattle.std.proofs.lemmas.Result.{err_from_is_err_and}
 use Rattle.dwc_base.specs.Addends.{HaveAddends}
 use Rattle.dwc_base.specs.TranslationNames.{HasSortedNames}
 use Rattle.dwc_image.specs.CarriedLines.{AreKept}
+use Rattle.dwc_clone.specs.BegunNumbers.{is_noted}
 use Rattle.dwc_clone.specs.CompiledModules.{told_by}
 use Rattle.dwc_carry.specs.CarriedModules.{transformed_module}
 use Rattle.dwc_carry.specs.Inputs.{modules_of, names_of, told_from}
 use Rattle.dwc_carry.proofs.CompiledLaws.{module-next, modules-length, transforms-inside}
 use Rattle.dwc_carry.proofs.ListedLaws.{few-functions, first-lines}
 use Rattle.dwc_carry.proofs.MadeLaws.{grows-twice}
-use Rattle.dwc_carry.proofs.SimulatedModuleLaws.{added-begin, added-done, added-more, added-refused, inside-left, refers-inside, refers-length, translated-next}
-use Rattle.dwc_carry.proofs.TranslatedLaws.{all-translated}
+use Rattle.dwc_carry.proofs.SimulatedModuleLaws.{added-begin, added-done, added-more, added-refused, inside-left, refers-inside, refers-length}
 use Rattle.dwc_carry.proofs.simulated_modules.add_modules.Goals as goal
 
 pub loop-i-init : goal.loop-i-init
 loop-i-init g c =
     let ms = modules_of ((goal.TargetIsa-dyn g c.args.isa.now).dwarf_registers c.args.isa.now.1) c.args.compilation.now in
-    added-begin ms c.args.vmctx_ptrs.now c.args.strings.now c.args.unit.now c.requires.contexts c.requires.dense c.requires.some
+    added-begin (is_noted c.args.translated.now) ms c.args.vmctx_ptrs.now c.args.strings.now c.args.unit.now c.requires.contexts c.requires.dense c.requires.some
 
 pub bounds-transforms-i : goal.bounds-transforms-i
 bounds-transforms-i g c =
@@ -84,8 +84,7 @@ loop-i-preserved g c =
     let rest = drop (c.loop-i.i + 1) ms in
     let m = transformed_module t fs (told_by registers compiled) in
     let inside : c.loop-i.i < length refs = omega (arith, inside-left ms c.loop-i.i m rest next.left, refers-length 0 ms refs c.requires.contexts) in
-    let noted = translated-next c.args.translated.now ms c.loop-i.i m rest next.left (all-translated registers compilation c.args.translated.now c.requires.translated) in
-    added-more ms refs c.args.strings.now c.args.unit.now registers c.args.translated.now c.loop-i.strings c.loop-i.unit c.loop-i.i c.loop-i.invariant t fs compiled _ m refl next.frames next.left noted inside (get_or_default refs c.loop-i.i _ _ inside)
+    added-more (is_noted c.args.translated.now) ms refs c.args.strings.now c.args.unit.now registers c.loop-i.strings c.loop-i.unit c.loop-i.i c.loop-i.invariant t fs compiled _ m refl next.frames next.left inside (get_or_default refs c.loop-i.i _ _ inside)
     c.add_module.new.strings c.add_module.new.unit c.in_ok-add_module.ensures.grows c.in_ok-add_module.ensures.dense c.in_ok-add_module.ensures.some c.in_ok-add_module.ensures.begins c.in_ok-add_module.ensures.functions
 
 pub returns-in_err-add_module-clause-grows : goal.returns-in_err-add_module-clause-grows
@@ -106,10 +105,9 @@ returns-in_err-add_module-clause-entries g c = λ number whole has.
     let rest = drop (c.loop-i.i + 1) ms in
     let m = transformed_module t fs (told_by registers compiled) in
     let inside : c.loop-i.i < length refs = omega (arith, inside-left ms c.loop-i.i m rest next.left, refers-length 0 ms refs c.requires.contexts) in
-    let noted = translated-next c.args.translated.now ms c.loop-i.i m rest next.left (all-translated registers compilation c.args.translated.now c.requires.translated) in
     let p = err_from_is_err_and c.from_residual.result c.from_residual.ensures.1 in
     rw (p.1, p.2)
-    (added-refused ms refs c.args.strings.now c.args.unit.now registers c.args.translated.now c.loop-i.strings c.loop-i.unit c.loop-i.i c.loop-i.invariant t fs compiled _ m refl next.frames next.left noted inside (get_or_default refs c.loop-i.i _ _ inside)
+    (added-refused (is_noted c.args.translated.now) ms refs c.args.strings.now c.args.unit.now registers c.loop-i.strings c.loop-i.unit c.loop-i.i c.loop-i.invariant t fs compiled _ m refl next.frames next.left inside (get_or_default refs c.loop-i.i _ _ inside)
     number whole c.add_module.new.strings c.add_module.new.unit c.in_err-add_module.field-0.0 c.in_err-add_module.ensures.functions has)
 
 pub returns-clause-entries : goal.returns-clause-entries
@@ -119,4 +117,4 @@ returns-clause-entries g c = λ number whole has.
     let ms = modules_of registers compilation in
     let behind = rw c.translations-translations.ensures.translations at c.loop-i-test.false in
     let past : length ms ≤ c.loop-i.i = omega (arith, modules-length compilation.translations compilation.functions (told_from registers (names_of compilation) 0 0 compilation.functions compilation.memory_offsets), behind) in
-    added-done ms c.args.vmctx_ptrs.now c.args.strings.now c.args.unit.now c.loop-i.strings c.loop-i.unit c.loop-i.i past c.loop-i.invariant number whole has
+    added-done (is_noted c.args.translated.now) ms c.args.vmctx_ptrs.now c.args.strings.now c.args.unit.now c.loop-i.strings c.loop-i.unit c.loop-i.i past c.loop-i.invariant number whole has

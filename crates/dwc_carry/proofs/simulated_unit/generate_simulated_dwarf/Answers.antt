@@ -7,6 +7,7 @@ use Rattle.dwc_base.specs.Refusals.{first_of}
 use Rattle.dwc_base.specs.SimulatedUnit.{simulated_refusals}
 use Rattle.dwc_base.specs.UnitPaths.{is_file_name, path_name}
 use Rattle.dwc_write.specs.TextTables.{IsText}
+use Rattle.dwc_clone.specs.BegunNumbers.{is_noted}
 use Rattle.dwc_carry.specs.Inputs.{modules_of}
 use Rattle.dwc_carry.specs.LastUnits.{GivesUnit}
 use Rattle.dwc_carry.specs.Refusals.{RefusesReading}
@@ -17,7 +18,7 @@ pub returns-then-is_empty-clause-added : goal.returns-then-is_empty-clause-added
 returns-then-is_empty-clause-added g c =
     let registers = (goal.TargetIsa-dyn g c.args.isa.now).dwarf_registers c.args.isa.now.1 in
     let none = sym (ap length c.translations.ensures.translations) ∙ eqb-true (length c.translations.result.now) 0 (sym c.is_empty.ensures ∙ c.if-is_empty.true) in
-    none-added registers c.args.compilation.now c.args.out_encoding.address_size c.args.out_units.now.units.items c.args.out_strings.now none
+    none-added (is_noted c.args.translated.now) registers c.args.compilation.now c.args.out_encoding.address_size c.args.out_units.now.units.items c.args.out_strings.now none
 
 pub returns-then-not-is_file_name-clause-added : goal.returns-then-not-is_file_name-clause-added
 returns-then-not-is_file_name-clause-added g c =
@@ -26,7 +27,7 @@ returns-then-not-is_file_name-clause-added g c =
     let some : 0 < length compilation.translations = subst (λ ts. 0 < length ts) c.translations.ensures.translations (not-none c.translations.result.now (sym c.is_empty.ensures ∙ c.if-is_empty.false)) in
     let path : List ℕ = c.in_ok-path.path.items in
     let tested = c.is_file_name.ensures ∙ ap is_file_name (c.path_name.ensures ∙ ap path_name c.deref.ensures.value) in
-    path-refused registers compilation path c.in_ok-path.ensures.path c.translations.ensures.counted some (sym tested ∙ c.if-not-is_file_name.true)
+    path-refused (is_noted c.args.translated.now) registers compilation path c.in_ok-path.ensures.path c.translations.ensures.counted some (sym tested ∙ c.if-not-is_file_name.true)
 
 pub simulated_unit-requires-clause-path : goal.simulated_unit-requires-clause-path
 simulated_unit-requires-clause-path g c =
@@ -34,7 +35,7 @@ simulated_unit-requires-clause-path g c =
     let compilation = c.args.compilation.now in
     let some : 0 < length compilation.translations = subst (λ ts. 0 < length ts) c.translations.ensures.translations (not-none c.translations.result.now (sym c.is_empty.ensures ∙ c.if-is_empty.false)) in
     let path : List ℕ = c.in_ok-path.path.items in
-    subst IsText (sym c.deref-2.ensures.value) (path-text registers compilation path c.in_ok-path.ensures.path c.translations.ensures.counted some)
+    subst IsText (sym c.deref-2.ensures.value) (path-text (is_noted c.args.translated.now) registers compilation path c.in_ok-path.ensures.path c.translations.ensures.counted some)
 
 pub returns-in_err-unit-clause-added : goal.returns-in_err-unit-clause-added
 returns-in_err-unit-clause-added g c =
@@ -45,9 +46,9 @@ returns-in_err-unit-clause-added g c =
     let tested = c.is_file_name.ensures ∙ ap is_file_name (c.path_name.ensures ∙ ap path_name c.deref.ensures.value) in
     let same = same-modules registers compilation c.taken_path.new.compilation (c.in_ok-path.ensures.counter registers) in
     let e = c.in_err-unit.field-0.0 in
-    let met : RefusesReading (first_of (simulated_refusals (modules_of registers compilation))) e = subst (λ (ms : List Module). RefusesReading (first_of (simulated_refusals ms)) e) same c.in_err-unit.ensures in
+    let met : RefusesReading (first_of (simulated_refusals (is_noted c.args.translated.now) (modules_of registers compilation))) e = subst (λ (ms : List Module). RefusesReading (first_of (simulated_refusals (is_noted c.args.translated.now) ms)) e) same c.in_err-unit.ensures in
     let p = err_from_is_err_and c.from_residual-in_err-unit.result c.from_residual-in_err-unit.ensures.1 in
-    rw (p.1, p.2) (unit-refused registers compilation path c.in_ok-path.ensures.path c.translations.ensures.counted some e (sym tested ∙ c.if-not-is_file_name.false) met)
+    rw (p.1, p.2) (unit-refused (is_noted c.args.translated.now) registers compilation path c.in_ok-path.ensures.path c.translations.ensures.counted some e (sym tested ∙ c.if-not-is_file_name.false) met)
 
 pub returns-clause-added : goal.returns-clause-added
 returns-clause-added g c =
@@ -61,6 +62,6 @@ returns-clause-added g c =
     let before = c.args.out_strings.now in
     let after = c.simulated_unit.new.strings in
     let u = c.in_ok-unit.unit in
-    let given : GivesUnit size c.deref-2.result.now (modules_of registers compilation) before after (Ok u) = subst (λ (ms : List Module). GivesUnit size c.deref-2.result.now ms before after (Ok u)) same c.in_ok-unit.ensures in
-    let last : GivesUnit size path (modules_of registers compilation) before after (Ok u) = subst (λ (p : List ℕ). GivesUnit size p (modules_of registers compilation) before after (Ok u)) c.deref-2.ensures.value given in
-    last-added registers compilation path c.in_ok-path.ensures.path c.translations.ensures.counted some size c.args.out_units.now.units.items c.add.new.self.units.items before after u (sym tested ∙ c.if-not-is_file_name.false) c.requires.numbered c.in_ok-add.ensures.ok last
+    let given : GivesUnit (is_noted c.args.translated.now) size c.deref-2.result.now (modules_of registers compilation) before after (Ok u) = subst (λ (ms : List Module). GivesUnit (is_noted c.args.translated.now) size c.deref-2.result.now ms before after (Ok u)) same c.in_ok-unit.ensures in
+    let last : GivesUnit (is_noted c.args.translated.now) size path (modules_of registers compilation) before after (Ok u) = subst (λ (p : List ℕ). GivesUnit (is_noted c.args.translated.now) size p (modules_of registers compilation) before after (Ok u)) c.deref-2.ensures.value given in
+    last-added (is_noted c.args.translated.now) registers compilation path c.in_ok-path.ensures.path c.translations.ensures.counted some size c.args.out_units.now.units.items c.add.new.self.units.items before after u (sym tested ∙ c.if-not-is_file_name.false) c.requires.numbered c.in_ok-add.ensures.ok last

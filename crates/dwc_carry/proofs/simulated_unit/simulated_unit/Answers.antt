@@ -3,6 +3,7 @@ use Rattle.std.specs.Prelude.{sum_by}
 use Rattle.std.proofs.lemmas.Result.{err_from_is_err_and}
 use Rattle.dwc_base.specs.SimulatedUnit.{simulated_unit, unit_count}
 use Rattle.dwc_image.specs.SimulatedSequences.{listed_view}
+use Rattle.dwc_clone.specs.BegunNumbers.{is_noted}
 use Rattle.dwc_carry.specs.Inputs.{modules_of}
 use Rattle.dwc_carry.specs.LastUnits.{IsTyped}
 use Rattle.dwc_carry.specs.ListedFiles.{CanWrite, left_in}
@@ -22,6 +23,7 @@ add_modules-requires-clause-some g c = c.in_ok-unit.ensures.typed.some
 pub returns-in_err-add_modules : goal.returns-in_err-add_modules
 returns-in_err-add_modules g c =
     let compilation = c.args.compilation.now in
+    let translated = is_noted c.args.translated.now in
     let registers = (goal.TargetIsa-dyn g c.args.isa.now).dwarf_registers c.args.isa.now.1 in
     let ms = modules_of registers compilation in
     let size = c.args.encoding.address_size in
@@ -29,14 +31,15 @@ returns-in_err-add_modules g c =
     let middle = c.typed_unit.new.strings in
     let u = c.in_ok-unit.unit in
     let fs = map listed_view c.in_ok-functions.functions.items in
-    let listed = c.in_ok-functions.ensures.listed ∙ ap (left_in c.args.translated.now compilation.translations) c.requires.transforms ∙ all-left registers compilation c.args.translated.now c.in_ok-functions.ensures.counted c.requires.translated in
+    let listed = c.in_ok-functions.ensures.listed ∙ ap (left_in translated compilation.translations) c.requires.transforms ∙ all-left registers compilation translated c.in_ok-functions.ensures.counted in
     let typed = subst (λ xs. IsTyped size path (map listed_view xs) middle u) c.deref.ensures.value c.in_ok-unit.ensures.typed in
     let p = err_from_is_err_and c.from_residual-in_err-add_modules.result c.from_residual-in_err-add_modules.ensures.1 in
-    rw (p.1, p.2) (c.in_err-add_modules.ensures.entries (sum_by unit_count ms) (simulated_unit path ms) (modules-left size path ms fs middle u listed typed))
+    rw (p.1, p.2) (c.in_err-add_modules.ensures.entries (sum_by unit_count ms) (simulated_unit translated path ms) (modules-left translated size path ms fs middle u listed typed))
 
 pub returns : goal.returns
 returns g c =
     let compilation = c.args.compilation.now in
+    let translated = is_noted c.args.translated.now in
     let registers = (goal.TargetIsa-dyn g c.args.isa.now).dwarf_registers c.args.isa.now.1 in
     let ms = modules_of registers compilation in
     let size = c.args.encoding.address_size in
@@ -44,9 +47,9 @@ returns g c =
     let middle = c.typed_unit.new.strings in
     let u = c.in_ok-unit.unit in
     let fs = map listed_view c.in_ok-functions.functions.items in
-    let listed = c.in_ok-functions.ensures.listed ∙ ap (left_in c.args.translated.now compilation.translations) c.requires.transforms ∙ all-left registers compilation c.args.translated.now c.in_ok-functions.ensures.counted c.requires.translated in
+    let listed = c.in_ok-functions.ensures.listed ∙ ap (left_in translated compilation.translations) c.requires.transforms ∙ all-left registers compilation translated c.in_ok-functions.ensures.counted in
     let typed = subst (λ xs. IsTyped size path (map listed_view xs) middle u) c.deref.ensures.value c.in_ok-unit.ensures.typed in
-    let entries = c.in_ok-add_modules.ensures.entries (sum_by unit_count ms) (simulated_unit path ms) (modules-left size path ms fs middle u listed typed) in (
+    let entries = c.in_ok-add_modules.ensures.entries (sum_by unit_count ms) (simulated_unit translated path ms) (modules-left translated size path ms fs middle u listed typed) in (
       entries.0,
-      last-made size path ms fs c.args.strings.now middle c.add_modules.new.strings u c.add_modules.new.unit listed c.in_ok-functions.ensures.fit c.typed_unit.ensures.grows c.add_modules.ensures.grows typed c.in_ok-add_modules.ensures.begins entries.1,
+      last-made translated size path ms fs c.args.strings.now middle c.add_modules.new.strings u c.add_modules.new.unit listed c.in_ok-functions.ensures.fit c.typed_unit.ensures.grows c.add_modules.ensures.grows typed c.in_ok-add_modules.ensures.begins entries.1,
     )
