@@ -80,7 +80,8 @@ fn simulated_unit(
     requires contexts { ReferToContexts 0 (modules_of (dwarf_registers isa.now) compilation.now) vmctx_ptrs.now }
     requires path { IsText path.now }
     requires name { is_file_name (path_name path.now) ≡ true }
-    ensures { GivesUnit (is_noted translated.now) encoding.address_size path.now (modules_of (dwarf_registers isa.now) compilation.now) strings.old strings.new result }
+    ensures grows { Grows strings.old strings.new }
+    ensures unit { GivesUnit (is_noted translated.now) encoding.address_size path.now (modules_of (dwarf_registers isa.now) compilation.now) strings.old strings.new result }
 {
     let functions = listed_functions(alloc, compilation, transforms, translated)?;
     let mut unit = typed_unit(alloc, encoding, path, &functions, strings)?;
@@ -139,8 +140,8 @@ fn taken_path(alloc: Global, compilation: &mut Compilation<'_>) -> Result<Vec<u8
 ///
 /// # Errors
 /// `Path` exactly where the name that the path ends with is empty, `.` or `..`. Where it is not: `BadLabelRange` and `UnmappedRegister`
-/// for the first variable that is refused. `OutOfMemory` for want of memory. The counter of names has risen where the path is made of it, but
-/// for want of memory, where it may have.
+/// for the first variable that is refused. `OutOfMemory` for want of memory. The units are then as before, and the texts may have more behind
+/// them. The counter of names has risen where the path is made of it, but for want of memory, where it may have.
 pub fn generate_simulated_dwarf(
     alloc: Global,
     compilation: &mut Compilation<'_>,
@@ -161,6 +162,8 @@ pub fn generate_simulated_dwarf(
     requires contexts { ReferToContexts 0 (modules_of (dwarf_registers isa.now) compilation.old) vmctx_ptr_die_refs.now }
     requires numbered { length out_units.old.units.items ≡ sum_by unit_count (modules_of (dwarf_registers isa.now) compilation.old) }
     ensures added { GivesLast (is_noted translated.now) out_encoding.address_size compilation.old.next_id (modules_of (dwarf_registers isa.now) compilation.old) out_units.old.units.items out_units.new.units.items out_strings.old out_strings.new result }
+    ensures units { OnErr result (out_units.new.units.items ≡ out_units.old.units.items) }
+    ensures texts { Grows out_strings.old out_strings.new }
     ensures counter { OnOk result (compilation.new ≡ counted_behind (dwarf_registers isa.now) compilation.old) }
     ensures refused { IfErr result (λ e. (compilation.new ≡ compilation.old) ⊎ (compilation.new ≡ counted_behind (dwarf_registers isa.now) compilation.old)) }
     ensures counted { IfErr result (λ e. (told e ≡ memory) ⊎ (compilation.new ≡ counted_behind (dwarf_registers isa.now) compilation.old)) }

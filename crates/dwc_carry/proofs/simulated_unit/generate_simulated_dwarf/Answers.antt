@@ -46,7 +46,7 @@ returns-in_err-unit-clause-added g c =
     let tested = c.is_file_name.ensures ∙ ap is_file_name (c.path_name.ensures ∙ ap path_name c.deref.ensures.value) in
     let same = same-modules registers compilation c.taken_path.new.compilation (c.in_ok-path.ensures.counter registers) in
     let e = c.in_err-unit.field-0.0 in
-    let met : RefusesReading (first_of (simulated_refusals (is_noted c.args.translated.now) (modules_of registers compilation))) e = subst (λ (ms : List Module). RefusesReading (first_of (simulated_refusals (is_noted c.args.translated.now) ms)) e) same c.in_err-unit.ensures in
+    let met : RefusesReading (first_of (simulated_refusals (is_noted c.args.translated.now) (modules_of registers compilation))) e = subst (λ (ms : List Module). RefusesReading (first_of (simulated_refusals (is_noted c.args.translated.now) ms)) e) same c.in_err-unit.ensures.unit in
     let p = err_from_is_err_and c.from_residual-in_err-unit.result c.from_residual-in_err-unit.ensures.1 in
     rw (p.1, p.2) (unit-refused (is_noted c.args.translated.now) registers compilation path c.in_ok-path.ensures.path c.translations.ensures.counted some e (sym tested ∙ c.if-not-is_file_name.false) met)
 
@@ -62,6 +62,6 @@ returns-clause-added g c =
     let before = c.args.out_strings.now in
     let after = c.simulated_unit.new.strings in
     let u = c.in_ok-unit.unit in
-    let given : GivesUnit (is_noted c.args.translated.now) size c.deref-2.result.now (modules_of registers compilation) before after (Ok u) = subst (λ (ms : List Module). GivesUnit (is_noted c.args.translated.now) size c.deref-2.result.now ms before after (Ok u)) same c.in_ok-unit.ensures in
+    let given : GivesUnit (is_noted c.args.translated.now) size c.deref-2.result.now (modules_of registers compilation) before after (Ok u) = subst (λ (ms : List Module). GivesUnit (is_noted c.args.translated.now) size c.deref-2.result.now ms before after (Ok u)) same c.in_ok-unit.ensures.unit in
     let last : GivesUnit (is_noted c.args.translated.now) size path (modules_of registers compilation) before after (Ok u) = subst (λ (p : List ℕ). GivesUnit (is_noted c.args.translated.now) size p (modules_of registers compilation) before after (Ok u)) c.deref-2.ensures.value given in
     last-added (is_noted c.args.translated.now) registers compilation path c.in_ok-path.ensures.path c.translations.ensures.counted some size c.args.out_units.now.units.items c.add.new.self.units.items before after u (sym tested ∙ c.if-not-is_file_name.false) c.requires.numbered c.in_ok-add.ensures.ok last

@@ -9,6 +9,7 @@ use Rattle.dwc_carry.specs.LastUnits.{IsTyped}
 use Rattle.dwc_carry.specs.ListedFiles.{CanWrite, left_in}
 use Rattle.dwc_carry.proofs.LastUnitLaws.{last-made, modules-left}
 use Rattle.dwc_carry.proofs.ListedLaws.{all-left}
+use Rattle.dwc_carry.proofs.MadeLaws.{grows-same, grows-twice}
 use Rattle.dwc_carry.proofs.simulated_unit.simulated_unit.Goals as goal
 
 pub typed_unit-requires-clause-functions : goal.typed_unit-requires-clause-functions
@@ -20,8 +21,8 @@ add_modules-requires-clause-dense g c = c.in_ok-unit.ensures.typed.dense
 pub add_modules-requires-clause-some : goal.add_modules-requires-clause-some
 add_modules-requires-clause-some g c = c.in_ok-unit.ensures.typed.some
 
-pub returns-in_err-add_modules : goal.returns-in_err-add_modules
-returns-in_err-add_modules g c =
+pub returns-in_err-add_modules-clause-unit : goal.returns-in_err-add_modules-clause-unit
+returns-in_err-add_modules-clause-unit g c =
     let compilation = c.args.compilation.now in
     let translated = is_noted c.args.translated.now in
     let registers = (goal.TargetIsa-dyn g c.args.isa.now).dwarf_registers c.args.isa.now.1 in
@@ -36,8 +37,8 @@ returns-in_err-add_modules g c =
     let p = err_from_is_err_and c.from_residual-in_err-add_modules.result c.from_residual-in_err-add_modules.ensures.1 in
     rw (p.1, p.2) (c.in_err-add_modules.ensures.entries (sum_by unit_count ms) (simulated_unit translated path ms) (modules-left translated size path ms fs middle u listed typed))
 
-pub returns : goal.returns
-returns g c =
+pub returns-clause-unit : goal.returns-clause-unit
+returns-clause-unit g c =
     let compilation = c.args.compilation.now in
     let translated = is_noted c.args.translated.now in
     let registers = (goal.TargetIsa-dyn g c.args.isa.now).dwarf_registers c.args.isa.now.1 in
@@ -53,3 +54,12 @@ returns g c =
       entries.0,
       last-made translated size path ms fs c.args.strings.now middle c.add_modules.new.strings u c.add_modules.new.unit listed c.in_ok-functions.ensures.fit c.typed_unit.ensures.grows c.add_modules.ensures.grows typed c.in_ok-add_modules.ensures.begins entries.1,
     )
+
+pub returns-in_err-add_modules-clause-grows : goal.returns-in_err-add_modules-clause-grows
+returns-in_err-add_modules-clause-grows g c = grows-twice c.args.strings.now c.typed_unit.new.strings c.add_modules.new.strings c.typed_unit.ensures.grows c.add_modules.ensures.grows
+
+pub returns-clause-grows : goal.returns-clause-grows
+returns-clause-grows g c = grows-twice c.args.strings.now c.typed_unit.new.strings c.add_modules.new.strings c.typed_unit.ensures.grows c.add_modules.ensures.grows
+
+pub returns-in_err-functions-clause-grows : goal.returns-in_err-functions-clause-grows
+returns-in_err-functions-clause-grows g c = grows-same c.args.strings.now
