@@ -1,8 +1,8 @@
 -- What every output has beside its lines and trees: the form of its units, and sections of names of their own, none but those that an output
--- may have. (DWARF 4, sections 7 and 7.5.1.1; the choice of version 4 is this project's own.)
-use Rattle.std.specs.Prelude.{◌≡◌, ◌≢◌, ℕ, List, [], ◌∷◌, Bool, All, AllPairs}
-use Rattle.std.specs.List.{list_all, list_any}
+-- may have, in their order. (DWARF 4, sections 7 and 7.5.1.1; the choice of version 4 is this project's own.)
+use Rattle.std.specs.Prelude.{◌≡◌, ◌≢◌, ℕ, List, [], ◌∷◌, Bool, true, false, if◌then◌else◌, All, AllPairs}
 use Rattle.std.specs.Str.{bytes_eq}
+use Rattle.dwc_base.specs.declared.section_name.SectionName.{SectionName}
 use Rattle.dwc_base.specs.declared.section_name.SectionName.TheVariants.{Abbrev, Frame, Info, Line, Loc, Ranges, Str}
 use Rattle.dwc_base.specs.Outputs.{OutputSection}
 use Rattle.dwc_base.specs.Carried.{Unit}
@@ -16,10 +16,17 @@ HaveTargetForm pointer_bytes us = All (λ u. (u.header.version ≡ 4) × (u.head
 abbrev pub HasDistinctNames : List OutputSection → Type 0
 HasDistinctNames sections = AllPairs (λ x y. x.name ≢ y.name) sections
 
--- whether a section is one of abbreviations, entries, line tables, range lists, location lists, texts or call frames
-abbrev pub is_of_output : OutputSection → Bool
-is_of_output s = list_any (λ name. bytes_eq (section_text name) s.name) (Abbrev ∷ Info ∷ Line ∷ Ranges ∷ Loc ∷ Str ∷ Frame ∷ [])
+-- the names that sections of an output may have, in the order in which they stand: those of abbreviations, entries, line tables, range lists,
+-- location lists, texts and call frames
+abbrev pub names_of_output : List SectionName
+names_of_output = Abbrev ∷ Info ∷ Line ∷ Ranges ∷ Loc ∷ Str ∷ Frame ∷ []
 
--- Whether all sections are such.
+-- whether sections have some of these names, in order
+abbrev pub stand_in_order : List SectionName → List OutputSection → Bool
+stand_in_order names [] = true
+stand_in_order [] (s ∷ ss) = false
+stand_in_order (name ∷ names) (s ∷ ss) = if bytes_eq (section_text name) s.name then stand_in_order names ss else stand_in_order names (s ∷ ss)
+
+-- Whether sections are those of an output: each of another of the names that it may have, in their order.
 abbrev pub are_of_output : List OutputSection → Bool
-are_of_output sections = list_all is_of_output sections
+are_of_output sections = stand_in_order names_of_output sections

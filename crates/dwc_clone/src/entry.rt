@@ -285,7 +285,7 @@ fn clone_itself(
     ensures numbers { OnOk result (KeepsNumbers id.index unit.old unit.new) }
     ensures lineage { walk.new.lineage ≡ walk.old.lineage }
     ensures contexts { walk.new.contexts ≡ walk.old.contexts }
-    ensures wrappers { walk.new.open ≡ walk.old.open }
+    ensures wrappers { walk.new.opened ≡ walk.old.opened }
     ensures names { walk.new.names ≡ walk.old.names }
     ensures itself { (number : ℕ) (s : UnitSource) (goals : Goal → Option (ℕ × ℕ)) (bare base : GivenUnit) (placed : PlacedEntry) (e : Addition) → IsSource source.now number s → HasFrames source.now.module source.now.transform.now → ArePlaced source.now.places.now goals → AreInForce (list_source source.now.unit.now.sections source.now.unit.now.header) source.now.transform.now s.entries (placed_entry source.now (entry_view entry.now)) walk.old.lineage → telling ≡ telling_of s.texts s.entries (placed_entry source.now (entry_view entry.now)) → is_wrapped (placed_entry source.now (entry_view entry.now)) ≡ false → AddsBelow (last_parent (entry_view entry.now).depth walk.old.parents.items) id (entry_view entry.now).tag unit.old bare placed → IsLast strings.old placed.id base e bare → GivesItself goals (dwarf_registers isa.now) source.now number s (placed_entry source.now (entry_view entry.now)) strings.old strings.new walk.old.parents.items walk.new.parents.items placed base e unit.new result }
 {
@@ -322,19 +322,19 @@ pub(crate) fn clone_entry(
     requires resolve { IsText source.now.module.names.resolve_memory.now }
     requires parents { AreKnown walk.old.parents.items unit.old }
     requires reserved { CanAdd id walk.old.parents.items unit.old }
-    requires other { IsOther id.index (reverse walk.old.open.items) }
-    requires wrappers { CanCloseAll (length unit.old.places) unit.old (reverse walk.old.open.items) }
+    requires other { IsOther id.index (reverse walk.old.opened.items) }
+    requires wrappers { CanCloseAll (length unit.old.places) unit.old (reverse walk.old.opened.items) }
     requires plain { AreNames walk.old.names }
     requires texts { KnowsTexts source.now.unit.now.sections strings.old known.old }
     ensures texts { KnowsTexts source.now.unit.now.sections strings.new known.new }
     ensures plain { AreNames walk.new.names }
     ensures noted { OnOk result (NotesFunctions (option_to_list (begun_function (list_source source.now.unit.now.sections source.now.unit.now.header) source.now.transform.now (entry_view entry.now))) translated.old translated.new) }
     ensures parents { OnOk result (AreKnown walk.new.parents.items unit.new) }
-    ensures others { (k : ℕ) → IsReserved k unit.old → IsOther k (reverse walk.old.open.items) → k ≢ id.index → OnOk result (IsReserved k unit.new × IsOther k (reverse walk.new.open.items)) }
-    ensures wrappers { OnOk result (CanCloseAll (length unit.new.places) unit.new (reverse walk.new.open.items)) }
-    ensures cloned { (number : ℕ) (s : UnitSource) (roles : ℕ → Role → Option ℕ) (es others : List Entries.Entry) (old : List (List ℕ)) (begun : GivenUnit) → IsSource source.now number s → HasFrames source.now.module source.now.transform.now → AreEmitted source.now s number (es ++ entry_view entry.now ∷ others) → AreWalked s.entries (placed_in source.now.unit.now.header.offset (es ++ entry_view entry.now ∷ others)) → id.index ≡ length es → AreClonedSoFar (dwarf_registers isa.now) source.now number s roles es (entry_view entry.now ∷ others) old strings.old begun unit.old walk.old.parents.items (reverse walk.old.open.items) walk.old.lineage walk.old.contexts walk.old.names → GivesEntry (dwarf_registers isa.now) source.now number s roles es (entry_view entry.now) others old strings.new begun unit.new walk.new.parents.items (reverse walk.new.open.items) walk.new.lineage walk.new.contexts walk.new.names result }
+    ensures others { (k : ℕ) → IsReserved k unit.old → IsOther k (reverse walk.old.opened.items) → k ≢ id.index → OnOk result (IsReserved k unit.new × IsOther k (reverse walk.new.opened.items)) }
+    ensures wrappers { OnOk result (CanCloseAll (length unit.new.places) unit.new (reverse walk.new.opened.items)) }
+    ensures cloned { (number : ℕ) (s : UnitSource) (roles : ℕ → Role → Option ℕ) (es others : List Entries.Entry) (old : List (List ℕ)) (begun : GivenUnit) → IsSource source.now number s → HasFrames source.now.module source.now.transform.now → AreEmitted source.now s number (es ++ entry_view entry.now ∷ others) → AreWalked s.entries (placed_in source.now.unit.now.header.offset (es ++ entry_view entry.now ∷ others)) → id.index ≡ length es → AreClonedSoFar (dwarf_registers isa.now) source.now number s roles es (entry_view entry.now ∷ others) old strings.old begun unit.old walk.old.parents.items (reverse walk.old.opened.items) walk.old.lineage walk.old.contexts walk.old.names → GivesEntry (dwarf_registers isa.now) source.now number s roles es (entry_view entry.now) others old strings.new begun unit.new walk.new.parents.items (reverse walk.new.opened.items) walk.new.lineage walk.new.contexts walk.new.names result }
 {
-    of_memory(close_wrappers(unit, &mut walk.open, depth_of(entry)))?;
+    of_memory(close_wrappers(unit, &mut walk.opened, depth_of(entry)))?;
     let telling = entry_told(alloc, source, entry, &mut walk.contexts)?;
     let function = function_begun(source.unit, entry, source.transform);
     note_function(translated, function)?;

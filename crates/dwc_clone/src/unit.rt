@@ -80,6 +80,6 @@ pub fn clone_unit(
             next += 1;
         }
     }
-    of_memory(close_wrappers(&mut unit, &mut walk.open, 0))?;
+    of_memory(close_wrappers(&mut unit, &mut walk.opened, 0))?;
     Ok(unit)
 }

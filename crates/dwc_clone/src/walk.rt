@@ -32,7 +32,7 @@ pub(crate) struct Walk {
     /// The last of them and those that it stands below, by their depths.
     pub parents: Vec<UnitEntryId>,
     /// The wrappers whose types are still to be added, the innermost last.
-    pub open: Vec<OpenWrapper>,
+    pub opened: Vec<OpenWrapper>,
     /// The names of wrappers that were made, and the types that were read for them.
     pub names: TypeNames,
 }
@@ -42,7 +42,7 @@ pub(crate) fn begin_walk(alloc: Global) -> Walk
     ensures lineage { result.lineage ≡ no_stacks }
     ensures contexts { result.contexts ≡ [] }
     ensures parents { result.parents.items ≡ [] }
-    ensures wrappers { result.open.items ≡ [] }
+    ensures wrappers { result.opened.items ≡ [] }
     ensures plain { AreNames result.names }
     ensures names { (source : CloneSource) (s : UnitSource) (texts : List (List ℕ)) → KnowsNames source s texts result.names }
 {
@@ -50,7 +50,7 @@ pub(crate) fn begin_walk(alloc: Global) -> Walk
         lineage: Lineage::new(alloc),
         contexts: InheritedAttr::new(alloc),
         parents: Vec::new(alloc),
-        open: Vec::new(alloc),
+        opened: Vec::new(alloc),
         names: TypeNames::new(alloc),
     }
 }

@@ -154,19 +154,19 @@ pub(crate) fn wrap_entry(
     requires resolve { IsText source.now.module.names.resolve_memory.now }
     requires parents { AreKnown walk.old.parents.items unit.old }
     requires reserved { CanAdd id walk.old.parents.items unit.old }
-    requires other { IsOther id.index (reverse walk.old.open.items) }
-    requires open { CanCloseAll (length unit.old.places) unit.old (reverse walk.old.open.items) }
+    requires other { IsOther id.index (reverse walk.old.opened.items) }
+    requires open { CanCloseAll (length unit.old.places) unit.old (reverse walk.old.opened.items) }
     requires texts { KnowsTexts source.now.unit.now.sections strings.old known.old }
     requires plain { AreNames walk.old.names }
     ensures texts { KnowsTexts source.now.unit.now.sections strings.new known.new }
     ensures parents { OnOk result (AreKnown walk.new.parents.items unit.new) }
-    ensures others { (k : ℕ) → IsReserved k unit.old → IsOther k (reverse walk.old.open.items) → k ≢ id.index → OnOk result (IsReserved k unit.new × IsOther k (reverse walk.new.open.items)) }
-    ensures open { OnOk result (CanCloseAll (length unit.new.places) unit.new (reverse walk.new.open.items)) }
+    ensures others { (k : ℕ) → IsReserved k unit.old → IsOther k (reverse walk.old.opened.items) → k ≢ id.index → OnOk result (IsReserved k unit.new × IsOther k (reverse walk.new.opened.items)) }
+    ensures open { OnOk result (CanCloseAll (length unit.new.places) unit.new (reverse walk.new.opened.items)) }
     ensures plain { AreNames walk.new.names }
     ensures lineage { walk.new.lineage ≡ walk.old.lineage }
     ensures contexts { walk.new.contexts ≡ walk.old.contexts }
     ensures names { (number : ℕ) (s : UnitSource) → IsSource source.now number s → IsEmitted source.now s (placed_entry source.now (entry_view entry.now)) → KnowsNames source.now s strings.old walk.old.names → OnOk result (KnowsNames source.now s strings.new walk.new.names) }
-    ensures wrapped { (number : ℕ) (s : UnitSource) → IsSource source.now number s → HasFrames source.now.module source.now.transform.now → IsEmitted source.now s (placed_entry source.now (entry_view entry.now)) → KnowsNames source.now s strings.old walk.old.names → AreInForce (list_source source.now.unit.now.sections source.now.unit.now.header) source.now.transform.now s.entries (placed_entry source.now (entry_view entry.now)) walk.old.lineage → is_wrapped (placed_entry source.now (entry_view entry.now)) ≡ true → GivesWrapped (dwarf_registers isa.now) source.now s (placed_entry source.now (entry_view entry.now)) strings.old strings.new walk.old.parents.items walk.new.parents.items id walk.old.open.items walk.new.open.items unit.old unit.new result }
+    ensures wrapped { (number : ℕ) (s : UnitSource) → IsSource source.now number s → HasFrames source.now.module source.now.transform.now → IsEmitted source.now s (placed_entry source.now (entry_view entry.now)) → KnowsNames source.now s strings.old walk.old.names → AreInForce (list_source source.now.unit.now.sections source.now.unit.now.header) source.now.transform.now s.entries (placed_entry source.now (entry_view entry.now)) walk.old.lineage → is_wrapped (placed_entry source.now (entry_view entry.now)) ≡ true → GivesWrapped (dwarf_registers isa.now) source.now s (placed_entry source.now (entry_view entry.now)) strings.old strings.new walk.old.parents.items walk.new.parents.items id walk.old.opened.items walk.new.opened.items unit.old unit.new result }
 {
     let name = read_wrapper_name(
         alloc,
@@ -186,7 +186,7 @@ pub(crate) fn wrap_entry(
         id,
         &texts,
         &mut walk.parents,
-        &mut walk.open,
+        &mut walk.opened,
         unit,
     )
 }

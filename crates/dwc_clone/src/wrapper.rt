@@ -127,23 +127,23 @@ fn data1(bits: u8) -> MadeValue
 // Adds the type that a wrapper goes to, and the address that it holds, which is of a type.
 fn add_members(
     unit: &mut Unit,
-    open: &OpenWrapper,
+    opened: &OpenWrapper,
     texts: &WrapperTexts,
     address_type: DebugInfoRef,
 ) -> Result<(), WriteError>
-    requires { IsAdded open.now.wrapper.index unit.old }
-    ensures { OnOk result (unit.new ≡ members_added open.now texts.now address_type unit.old) }
+    requires { IsAdded opened.now.wrapper.index unit.old }
+    ensures { OnOk result (unit.new ≡ members_added opened.now texts.now address_type unit.old) }
 {
     let target = add_made(
         unit,
-        open.wrapper,
+        opened.wrapper,
         DW_TAG_template_type_parameter,
         &[(DW_AT_name, MadeValue::Text(texts.target))],
     )?;
-    set_type(unit, target, open.target)?;
+    set_type(unit, target, opened.target)?;
     add_made(
         unit,
-        open.wrapper,
+        opened.wrapper,
         DW_TAG_member,
         &[
             (DW_AT_name, MadeValue::Text(texts.address)),
@@ -157,17 +157,17 @@ fn add_members(
 // Adds a function of a wrapper, of a name and a type, which takes a pointer to the wrapper.
 fn add_method(
     unit: &mut Unit,
-    open: &OpenWrapper,
+    opened: &OpenWrapper,
     texts: &WrapperTexts,
     name: StringId,
     gives: UnitEntryId,
 ) -> Result<(), WriteError>
-    requires { IsAdded open.now.wrapper.index unit.old }
-    ensures { OnOk result (unit.new ≡ method_added open.now texts.now name gives unit.old) }
+    requires { IsAdded opened.now.wrapper.index unit.old }
+    ensures { OnOk result (unit.new ≡ method_added opened.now texts.now name gives unit.old) }
 {
     let method = add_made(
         unit,
-        open.wrapper,
+        opened.wrapper,
         DW_TAG_subprogram,
         &[
             (DW_AT_linkage_name, MadeValue::Text(texts.resolve)),
@@ -180,7 +180,7 @@ fn add_method(
         method,
         DW_TAG_formal_parameter,
         &[
-            (DW_AT_type, MadeValue::Entry(open.types.to_wrapper)),
+            (DW_AT_type, MadeValue::Entry(opened.types.to_wrapper)),
             (DW_AT_artificial, MadeValue::Flag(true)),
         ],
     )?;
@@ -215,7 +215,7 @@ pub(crate) fn open_wrapper(
     ensures unit { IfOk result (λ w. unit.new ≡ wrapper_added w texts.now address_type unit.old) }
 {
     let types = reserve_types(unit)?;
-    let open = OpenWrapper {
+    let opened = OpenWrapper {
         depth,
         parent,
         wrapper,
@@ -230,46 +230,46 @@ pub(crate) fn open_wrapper(
             (DW_AT_byte_size, data1(4)),
         ],
     )?;
-    add_members(unit, &open, texts, address_type)?;
-    add_method(unit, &open, texts, texts.pointer, types.pointer)?;
-    add_method(unit, &open, texts, texts.dereference, types.reference)?;
-    add_method(unit, &open, texts, texts.arrow, types.pointer)?;
-    Ok(open)
+    add_members(unit, &opened, texts, address_type)?;
+    add_method(unit, &opened, texts, texts.pointer, types.pointer)?;
+    add_method(unit, &opened, texts, texts.dereference, types.reference)?;
+    add_method(unit, &opened, texts, texts.arrow, types.pointer)?;
+    Ok(opened)
 }
 
 // Adds the types behind a wrapper.
-fn add_types(unit: &mut Unit, open: &OpenWrapper) -> Result<(), WriteError>
-    requires { CanClose unit.old open.now }
-    ensures { OnOk result (unit.new ≡ types_added open.now unit.old) }
+fn add_types(unit: &mut Unit, opened: &OpenWrapper) -> Result<(), WriteError>
+    requires { CanClose unit.old opened.now }
+    ensures { OnOk result (unit.new ≡ types_added opened.now unit.old) }
 {
-    let types = open.types;
-    unit.add_reserved(types.to_wrapper, open.parent, DW_TAG_pointer_type)?;
-    set_type(unit, types.to_wrapper, Some(open.wrapper))?;
-    unit.add_reserved(types.reference, open.parent, DW_TAG_reference_type)?;
-    set_type(unit, types.reference, open.target)?;
-    unit.add_reserved(types.pointer, open.parent, DW_TAG_pointer_type)?;
-    set_type(unit, types.pointer, open.target)
+    let types = opened.types;
+    unit.add_reserved(types.to_wrapper, opened.parent, DW_TAG_pointer_type)?;
+    set_type(unit, types.to_wrapper, Some(opened.wrapper))?;
+    unit.add_reserved(types.reference, opened.parent, DW_TAG_reference_type)?;
+    set_type(unit, types.reference, opened.target)?;
+    unit.add_reserved(types.pointer, opened.parent, DW_TAG_pointer_type)?;
+    set_type(unit, types.pointer, opened.target)
 }
 
 /// Closes the wrappers in front of an entry of a depth that does not lie in them, the innermost first.
 pub(crate) fn close_wrappers(
     unit: &mut Unit,
-    open: &mut Vec<OpenWrapper>,
+    opened: &mut Vec<OpenWrapper>,
     depth: usize,
 ) -> Result<(), WriteError>
-    requires { CanCloseAll (length unit.old.places) unit.old (reverse «open».old.items) }
-    ensures unit { OnOk result (unit.new ≡ closed_from depth (reverse «open».old.items) unit.old) }
-    ensures still { OnOk result (reverse «open».new.items ≡ still_open depth (reverse «open».old.items)) }
-    ensures closable { OnOk result (CanCloseAll (length unit.new.places) unit.new (reverse «open».new.items)) }
+    requires { CanCloseAll (length unit.old.places) unit.old (reverse opened.old.items) }
+    ensures unit { OnOk result (unit.new ≡ closed_from depth (reverse opened.old.items) unit.old) }
+    ensures still { OnOk result (reverse opened.new.items ≡ still_open depth (reverse opened.old.items)) }
+    ensures closable { OnOk result (CanCloseAll (length unit.new.places) unit.new (reverse opened.new.items)) }
     ensures added { (k : ℕ) → IsAdded k unit.old → OnOk result (IsAdded k unit.new) }
-    ensures reserved { (k : ℕ) → IsReserved k unit.old → IsOther k (reverse «open».old.items) → OnOk result (IsReserved k unit.new) }
+    ensures reserved { (k : ℕ) → IsReserved k unit.old → IsOther k (reverse opened.old.items) → OnOk result (IsReserved k unit.new) }
 {
-    while let Some(wrapper) = open.last().copied() {
+    while let Some(wrapper) = opened.last().copied() {
         if wrapper.depth < depth {
             break;
         }
         add_types(unit, &wrapper)?;
-        open.truncate(open.len() - 1);
+        opened.truncate(opened.len() - 1);
     }
     Ok(())
 }

@@ -23,8 +23,8 @@ pub wrap_entry-requires-clause-other : goal.wrap_entry-requires-clause-other
 wrap_entry-requires-clause-other g c =
     let x = entry_view c.args.entry.now in
     let depth = c.depth_of.result in
-    let ws0 = reverse c.args.walk.now.open.items in
-    let ws1 = reverse c.close_wrappers.new.open.items in
+    let ws0 = reverse c.args.walk.now.opened.items in
+    let ws1 = reverse c.close_wrappers.new.opened.items in
     let u0 = c.args.unit.now in
     let u1 = c.close_wrappers.new.unit in
     let still : ws1 ≡ still_open x.depth ws0 = succeeded c.close_wrappers.result c.in_ok-of_memory.field-0 c.in_ok-of_memory.ensures c.close_wrappers.ensures.still ∙ ap (λ d. still_open d ws0) c.depth_of.ensures in
@@ -36,8 +36,8 @@ pub returns-then-is_wrapped-clause-others : goal.returns-then-is_wrapped-clause-
 returns-then-is_wrapped-clause-others g c = λ k reserved other apart.
     let x = entry_view c.args.entry.now in
     let depth = c.depth_of.result in
-    let ws0 = reverse c.args.walk.now.open.items in
-    let ws1 = reverse c.close_wrappers.new.open.items in
+    let ws0 = reverse c.args.walk.now.opened.items in
+    let ws1 = reverse c.close_wrappers.new.opened.items in
     let u0 = c.args.unit.now in
     let u1 = c.close_wrappers.new.unit in
     let still : ws1 ≡ still_open x.depth ws0 = succeeded c.close_wrappers.result c.in_ok-of_memory.field-0 c.in_ok-of_memory.ensures c.close_wrappers.ensures.still ∙ ap (λ d. still_open d ws0) c.depth_of.ensures in
@@ -49,8 +49,8 @@ pub returns-clause-others : goal.returns-clause-others
 returns-clause-others g c = λ k reserved other apart.
     let x = entry_view c.args.entry.now in
     let depth = c.depth_of.result in
-    let ws0 = reverse c.args.walk.now.open.items in
-    let ws1 = reverse c.close_wrappers.new.open.items in
+    let ws0 = reverse c.args.walk.now.opened.items in
+    let ws1 = reverse c.close_wrappers.new.opened.items in
     let u0 = c.args.unit.now in
     let u1 = c.close_wrappers.new.unit in
     let still : ws1 ≡ still_open x.depth ws0 = succeeded c.close_wrappers.result c.in_ok-of_memory.field-0 c.in_ok-of_memory.ensures c.close_wrappers.ensures.still ∙ ap (λ d. still_open d ws0) c.depth_of.ensures in
@@ -62,8 +62,8 @@ pub returns-clause-wrappers : goal.returns-clause-wrappers
 returns-clause-wrappers g c =
     let x = entry_view c.args.entry.now in
     let depth = c.depth_of.result in
-    let ws0 = reverse c.args.walk.now.open.items in
-    let ws1 = reverse c.close_wrappers.new.open.items in
+    let ws0 = reverse c.args.walk.now.opened.items in
+    let ws1 = reverse c.close_wrappers.new.opened.items in
     let u0 = c.args.unit.now in
     let u1 = c.close_wrappers.new.unit in
     let still : ws1 ≡ still_open x.depth ws0 = succeeded c.close_wrappers.result c.in_ok-of_memory.field-0 c.in_ok-of_memory.ensures c.close_wrappers.ensures.still ∙ ap (λ d. still_open d ws0) c.depth_of.ensures in
@@ -80,8 +80,8 @@ pub returns-then-is_wrapped-clause-cloned : goal.returns-then-is_wrapped-clause-
 returns-then-is_wrapped-clause-cloned g c number s roles es others old begun source frames emitted walked place so =
     let x = entry_view c.args.entry.now in
     let depth = c.depth_of.result in
-    let ws0 = reverse c.args.walk.now.open.items in
-    let ws1 = reverse c.close_wrappers.new.open.items in
+    let ws0 = reverse c.args.walk.now.opened.items in
+    let ws1 = reverse c.close_wrappers.new.opened.items in
     let u0 = c.args.unit.now in
     let u1 = c.close_wrappers.new.unit in
     let still : ws1 ≡ still_open x.depth ws0 = succeeded c.close_wrappers.result c.in_ok-of_memory.field-0 c.in_ok-of_memory.ensures c.close_wrappers.ensures.still ∙ ap (λ d. still_open d ws0) c.depth_of.ensures in
@@ -101,8 +101,8 @@ returns-then-is_wrapped-clause-cloned g c number s roles es others old begun sou
     let add = subst (CanAdd id parents) unit_is (can-add-kept id parents u0 u1 (λ r. reserved1 id.index r c.requires.other) c.requires.reserved) in
     let placed_at = emitted.each (length es) x (at-place src s es others x) ∙ ap (λ n. Some (number, n)) (sym place) in
     let wrapped = sym (c.is_wrapped.ensures p refl) ∙ c.if-is_wrapped.true in
-    let before = c.close_wrappers.new.open.items in
-    let behind = c.wrap_entry.new.walk.open.items in
+    let before = c.close_wrappers.new.opened.items in
+    let behind = c.wrap_entry.new.walk.opened.items in
     let path = c.wrap_entry.new.walk.parents.items in
     let new = c.wrap_entry.new.strings in
     let v = c.wrap_entry.new.unit in
@@ -120,8 +120,8 @@ pub returns-clause-cloned : goal.returns-clause-cloned
 returns-clause-cloned g c number s roles es others old begun source frames emitted walked place so =
     let x = entry_view c.args.entry.now in
     let depth = c.depth_of.result in
-    let ws0 = reverse c.args.walk.now.open.items in
-    let ws1 = reverse c.close_wrappers.new.open.items in
+    let ws0 = reverse c.args.walk.now.opened.items in
+    let ws1 = reverse c.close_wrappers.new.opened.items in
     let u0 = c.args.unit.now in
     let u1 = c.close_wrappers.new.unit in
     let still : ws1 ≡ still_open x.depth ws0 = succeeded c.close_wrappers.result c.in_ok-of_memory.field-0 c.in_ok-of_memory.ensures c.close_wrappers.ensures.still ∙ ap (λ d. still_open d ws0) c.depth_of.ensures in
@@ -148,7 +148,7 @@ returns-clause-cloned g c number s roles es others old begun source frames emitt
     let first = can-itself registers src number s roles x others old t0 begun u0 ws0 es parents source (length u0.places) id standing c.requires.wrappers plain add placed_at place in
     let can = subst (λ ws. CanBeItself registers src number s source roles all begun x others t0 parents u1 id ws) (sym still) (subst (λ w. CanBeItself registers src number s source roles all begun x others t0 parents w id (still_open x.depth ws0)) (sym unit_is) first) in
     let telling = c.in_ok-telling.ensures.told number s es others source emitted walked so.told in
-    gives-itself_cloned registers src number s roles es x others old t0 begun u0 parents ws0 c.args.walk.now.lineage c.args.walk.now.contexts c.args.walk.now.names so source id u1 v ws1 (reverse c.clone_itself.new.walk.open.items) new path c.clone_itself.new.walk.lineage c.clone_itself.new.walk.contexts c.clone_itself.new.walk.names can count
+    gives-itself_cloned registers src number s roles es x others old t0 begun u0 parents ws0 c.args.walk.now.lineage c.args.walk.now.contexts c.args.walk.now.names so source id u1 v ws1 (reverse c.clone_itself.new.walk.opened.items) new path c.clone_itself.new.walk.lineage c.clone_itself.new.walk.contexts c.clone_itself.new.walk.names can count
     (ap (λ ws. reverse ws.items) c.clone_itself.ensures.wrappers)
     (λ it. follows-next registers src number s roles x others old t0 begun u0 ws0 es parents source can.placed.id path standing it.path_is)
     (c.clone_itself.ensures.lineage ∙ c.in_ok-enter.ensures.entered) (c.clone_itself.ensures.contexts ∙ c.in_ok-telling.ensures.contexts) c.clone_itself.ensures.names

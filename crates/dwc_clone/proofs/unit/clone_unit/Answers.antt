@@ -55,8 +55,8 @@ loop-next-init g c =
       noted = subst (λ (l : Listing Fault Entry). AreNotedSoFar (filter_map begins (picked kept l.items)) (noted_beside c.args.translated.now (filter_map begins all)) c.args.translated.now) (sym c.in_ok-entries.ensures.start) (noted-begin (filter_map begins all) c.args.translated.now);
       fault = ap (λ (l : Listing Fault Entry). l.fault) c.in_ok-entries.ensures.start;
       cloned = λ number s roles source frames can emitted walked numbers.
-          subst (λ (l : Listing Fault Entry). AreAmong registers src number s roles all (picked kept l.items) 0 c.args.strings.now c.args.strings.now begun u walk.parents.items (reverse walk.open.items) walk.lineage walk.contexts walk.names) (sym c.in_ok-entries.ensures.start)
-          (among-start registers src number s roles all c.args.strings.now begun u count walk.parents.items (reverse walk.open.items) walk.lineage walk.contexts walk.names c.requires.begun is w.parents no_wrappers w.lineage w.contexts (w.names src s c.args.strings.now) can
+          subst (λ (l : Listing Fault Entry). AreAmong registers src number s roles all (picked kept l.items) 0 c.args.strings.now c.args.strings.now begun u walk.parents.items (reverse walk.opened.items) walk.lineage walk.contexts walk.names) (sym c.in_ok-entries.ensures.start)
+          (among-start registers src number s roles all c.args.strings.now begun u count walk.parents.items (reverse walk.opened.items) walk.lineage walk.contexts walk.names c.requires.begun is w.parents no_wrappers w.lineage w.contexts (w.names src s c.args.strings.now) can
           (subst (λ v. AreRoles registers src s roles (length v.places) (placed_in src.unit.now.header.offset all)) (sym is) numbers));
     }
 
@@ -106,14 +106,14 @@ returns-in_err-clone_entry-clause-cloned g c number s source frames none can emi
     let one = ap (λ (l : Listing Fault Entry). picked (drop next kept) l.items) front ∙ ap (λ x. picked (drop next kept) (x ∷ new.items)) (sym c.current-entry.ensures) in
     let here = one ∙ picked-here kept next 0 e new.items c.loop-next-test.true (c.if-entry-from.true ∙ c.from.ensures) in
     let among : (number : ℕ) (s : UnitSource) (roles : ℕ → Role → Option ℕ) → IsSource src number s → HasFrames src.module src.transform.now → AreClonable all → AreEmitted src s number all → AreWalked s.entries (placed_in src.unit.now.header.offset all) → AreRoles registers src s roles first (placed_in src.unit.now.header.offset all)
-    → AreAmong registers src number s roles all (e ∷ others) next c.args.strings.now c.loop-next.strings c.args.begun c.loop-next.unit walk.parents.items (reverse walk.open.items) walk.lineage walk.contexts walk.names =
+    → AreAmong registers src number s roles all (e ∷ others) next c.args.strings.now c.loop-next.strings c.args.begun c.loop-next.unit walk.parents.items (reverse walk.opened.items) walk.lineage walk.contexts walk.names =
     λ number s roles source frames can emitted walked numbers.
-    subst (λ es. AreAmong registers src number s roles all es next c.args.strings.now c.loop-next.strings c.args.begun c.loop-next.unit walk.parents.items (reverse walk.open.items) walk.lineage walk.contexts walk.names) here (c.loop-next.invariant.cloned number s roles source frames can emitted walked numbers) in
+    subst (λ es. AreAmong registers src number s roles all es next c.args.strings.now c.loop-next.strings c.args.begun c.loop-next.unit walk.parents.items (reverse walk.opened.items) walk.lineage walk.contexts walk.names) here (c.loop-next.invariant.cloned number s roles source frames can emitted walked numbers) in
     let roles = roles_from registers src s first all in
     let a = among number s roles source frames can emitted walked (unit-roles registers src s number first all emitted.each) in
     let told = c.in_err-clone_entry.ensures.cloned number s roles a.es others c.args.strings.now c.args.begun source frames (subst (AreEmitted src s number) (sym a.whole) emitted) (subst (λ es. AreWalked s.entries (placed_in src.unit.now.header.offset es)) (sym a.whole) walked) a.place a.so in
     let q = err_from_is_err_and c.from_residual-in_err-clone_entry.result c.from_residual-in_err-clone_entry.ensures.1 in
-    rw (q.1, q.2) (among-refused registers src number s roles all e others next c.args.strings.now c.loop-next.strings c.args.begun c.loop-next.unit walk.parents.items (reverse walk.open.items) walk.lineage walk.contexts walk.names (refusal_told c.in_err-clone_entry.field-0.0) a told)
+    rw (q.1, q.2) (among-refused registers src number s roles all e others next c.args.strings.now c.loop-next.strings c.args.begun c.loop-next.unit walk.parents.items (reverse walk.opened.items) walk.lineage walk.contexts walk.names (refusal_told c.in_err-clone_entry.field-0.0) a told)
 
 pub loop-next-preserved-then-entry-from : goal.loop-next-preserved-then-entry-from
 loop-next-preserved-then-entry-from g c =
@@ -133,12 +133,12 @@ loop-next-preserved-then-entry-from g c =
     let one = ap (λ (l : Listing Fault Entry). picked (drop next kept) l.items) front ∙ ap (λ x. picked (drop next kept) (x ∷ new.items)) (sym c.current-entry.ensures) in
     let here = one ∙ picked-here kept next 0 e new.items c.loop-next-test.true (c.if-entry-from.true ∙ c.from.ensures) in
     let among : (number : ℕ) (s : UnitSource) (roles : ℕ → Role → Option ℕ) → IsSource src number s → HasFrames src.module src.transform.now → AreClonable all → AreEmitted src s number all → AreWalked s.entries (placed_in src.unit.now.header.offset all) → AreRoles registers src s roles first (placed_in src.unit.now.header.offset all)
-    → AreAmong registers src number s roles all (e ∷ others) next c.args.strings.now c.loop-next.strings c.args.begun c.loop-next.unit walk.parents.items (reverse walk.open.items) walk.lineage walk.contexts walk.names =
+    → AreAmong registers src number s roles all (e ∷ others) next c.args.strings.now c.loop-next.strings c.args.begun c.loop-next.unit walk.parents.items (reverse walk.opened.items) walk.lineage walk.contexts walk.names =
     λ number s roles source frames can emitted walked numbers.
-    subst (λ es. AreAmong registers src number s roles all es next c.args.strings.now c.loop-next.strings c.args.begun c.loop-next.unit walk.parents.items (reverse walk.open.items) walk.lineage walk.contexts walk.names) here (c.loop-next.invariant.cloned number s roles source frames can emitted walked numbers) in
+    subst (λ es. AreAmong registers src number s roles all es next c.args.strings.now c.loop-next.strings c.args.begun c.loop-next.unit walk.parents.items (reverse walk.opened.items) walk.lineage walk.contexts walk.names) here (c.loop-next.invariant.cloned number s roles source frames can emitted walked numbers) in
     let then_walk = c.clone_entry.new.walk in
     let v = c.clone_entry.new.unit in
-    let kept_numbers : (k : ℕ) → next + 1 ≤ k → k < length kept → (0 < k → IsReserved k v) × IsOther k (reverse then_walk.open.items) =
+    let kept_numbers : (k : ℕ) → next + 1 ≤ k → k < length kept → (0 < k → IsReserved k v) × IsOther k (reverse then_walk.opened.items) =
     λ k low high.
     let before = c.loop-next.invariant.reserved k (omega (arith, low)) high in
     let both = c.in_ok-clone_entry.ensures.others k (before.0 (omega (arith, low))) before.1 (λ same. absurd (omega (arith, low, same))) in
@@ -156,7 +156,7 @@ loop-next-preserved-then-entry-from g c =
       fault = sym (ap (λ (l : Listing Fault Entry). l.fault) front) ∙ c.loop-next.invariant.fault;
       cloned = λ number s roles source frames can emitted walked numbers.
           let a = among number s roles source frames can emitted walked numbers in
-          among-more registers src number s roles all e others next c.args.strings.now c.loop-next.strings c.clone_entry.new.strings c.args.begun c.loop-next.unit v walk.parents.items then_walk.parents.items (reverse walk.open.items) (reverse then_walk.open.items) walk.lineage walk.contexts walk.names then_walk.lineage then_walk.contexts then_walk.names a
+          among-more registers src number s roles all e others next c.args.strings.now c.loop-next.strings c.clone_entry.new.strings c.args.begun c.loop-next.unit v walk.parents.items then_walk.parents.items (reverse walk.opened.items) (reverse then_walk.opened.items) walk.lineage walk.contexts walk.names then_walk.lineage then_walk.contexts then_walk.names a
           (c.in_ok-clone_entry.ensures.cloned number s roles a.es others c.args.strings.now c.args.begun source frames (subst (AreEmitted src s number) (sym a.whole) emitted) (subst (λ es. AreWalked s.entries (placed_in src.unit.now.header.offset es)) (sym a.whole) walked) a.place a.so);
     }
 
@@ -187,7 +187,7 @@ loop-next-preserved g c =
       noted = subst (λ es. AreNotedSoFar (filter_map begins es) (noted_beside c.args.translated.now (filter_map begins all)) c.loop-next.translated) past c.loop-next.invariant.noted;
       fault = sym (ap (λ (l : Listing Fault Entry). l.fault) front) ∙ c.loop-next.invariant.fault;
       cloned = λ number s roles source frames can emitted walked numbers.
-          subst (λ es. AreAmong registers src number s roles all es next c.args.strings.now c.loop-next.strings c.args.begun c.loop-next.unit walk.parents.items (reverse walk.open.items) walk.lineage walk.contexts walk.names) past (c.loop-next.invariant.cloned number s roles source frames can emitted walked numbers);
+          subst (λ es. AreAmong registers src number s roles all es next c.args.strings.now c.loop-next.strings c.args.begun c.loop-next.unit walk.parents.items (reverse walk.opened.items) walk.lineage walk.contexts walk.names) past (c.loop-next.invariant.cloned number s roles source frames can emitted walked numbers);
     }
 
 pub returns-in_err-of_memory-2-clause-cloned : goal.returns-in_err-of_memory-2-clause-cloned
@@ -209,7 +209,7 @@ returns-clause-cloned g c number s source frames none can emitted walked =
     let roles = roles_from registers src s first all in
     let a = c.loop-next.invariant.cloned number s roles source frames can emitted walked (unit-roles registers src s number first all emitted.each) in
     let closed = succeeded c.close_wrappers.result c.in_ok-of_memory-2.field-0 c.in_ok-of_memory-2.ensures c.close_wrappers.ensures.unit in
-    among-end registers src number s source roles all _ c.loop-next.next (length c.loop-next.unit.places) c.args.strings.now c.loop-next.strings c.args.begun c.loop-next.unit c.close_wrappers.new.unit walk.parents.items (reverse walk.open.items) walk.lineage walk.contexts walk.names a
+    among-end registers src number s source roles all _ c.loop-next.next (length c.loop-next.unit.places) c.args.strings.now c.loop-next.strings c.args.begun c.loop-next.unit c.close_wrappers.new.unit walk.parents.items (reverse walk.opened.items) walk.lineage walk.contexts walk.names a
     (elim c.loop-next-test.branch [
       | then-loop-next-test+in_ok-advance+else-branch w ↦
           ap (λ (l : Listing Fault Entry). picked (drop c.loop-next.next kept) l.items) (gone-not c.loop-next.entries.left w.advance.new.self.left w.advance.new.self.current w.in_ok-advance.field-0 w.in_ok-advance.ensures.next w.if-branch.false)

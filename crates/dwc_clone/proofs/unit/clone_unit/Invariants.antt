@@ -28,8 +28,8 @@ invariant-loop-next g l =
     record {
       parents : AreKnown l.walk.parents.items l.unit;
       first : l.next ≡ 0 → l.walk.parents.items ≡ [];
-      reserved : (k : ℕ) → l.next ≤ k → k < length l.kept → (0 < k → IsReserved k l.unit) × IsOther k (reverse l.walk.open.items);
-      wrappers : CanCloseAll (length l.unit.places) l.unit (reverse l.walk.open.items);
+      reserved : (k : ℕ) → l.next ≤ k → k < length l.kept → (0 < k → IsReserved k l.unit) × IsOther k (reverse l.walk.opened.items);
+      wrappers : CanCloseAll (length l.unit.places) l.unit (reverse l.walk.opened.items);
       plain : AreNames l.walk.names;
       texts : KnowsTexts l.source.unit.now.sections l.strings l.known;
       read : All IsReadEntry l.entries.left.items;
@@ -40,7 +40,7 @@ invariant-loop-next g l =
           → AreEmitted l.source s number (picked l.kept (entries_of l.source.unit.now.sections l.source.unit.now.header).items)
           → AreWalked s.entries (placed_in l.source.unit.now.header.offset (picked l.kept (entries_of l.source.unit.now.sections l.source.unit.now.header).items))
           → AreRoles registers l.source s roles (length (reserved_more (length l.kept - 1) l.fn.begun).places) (placed_in l.source.unit.now.header.offset (picked l.kept (entries_of l.source.unit.now.sections l.source.unit.now.header).items))
-          → AreAmong registers l.source number s roles (picked l.kept (entries_of l.source.unit.now.sections l.source.unit.now.header).items) (picked (drop l.next l.kept) l.entries.left.items) l.next l.fn.strings l.strings l.fn.begun l.unit l.walk.parents.items (reverse l.walk.open.items) l.walk.lineage l.walk.contexts l.walk.names;
+          → AreAmong registers l.source number s roles (picked l.kept (entries_of l.source.unit.now.sections l.source.unit.now.header).items) (picked (drop l.next l.kept) l.entries.left.items) l.next l.fn.strings l.strings l.fn.begun l.unit l.walk.parents.items (reverse l.walk.opened.items) l.walk.lineage l.walk.contexts l.walk.names;
     }
 
 abbrev pub decreases-loop-next : goal.decreases-loop-next

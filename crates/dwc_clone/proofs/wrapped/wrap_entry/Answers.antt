@@ -34,5 +34,5 @@ returns-clause-wrapped g c number s source frames emitted knows tops wrapped =
     let resolve = src.module.names.resolve_memory.now in
     let has : (wrapper : List ℕ) → IsNumbered c.read_wrapper_name.new.strings wrapper c.in_ok-name.name → HasWrapperTexts new resolve wrapper c.in_ok-texts.texts = λ wrapper at. subst (λ r. IfOk r (HasWrapperTexts new resolve wrapper)) c.in_ok-texts.ensures (c.wrapper_texts.ensures.texts wrapper at) in
     let named = c.in_ok-name.ensures.named number s source frames emitted knows tops wrapped in
-    gives-wrapped registers src s p c.args.strings.now c.read_wrapper_name.new.strings new c.in_ok-name.name c.in_ok-texts.texts c.args.walk.now.parents.items c.add_wrapper.new.parents.items c.args.id c.args.walk.now.open.items c.add_wrapper.new.wrappers.items
+    gives-wrapped registers src s p c.args.strings.now c.read_wrapper_name.new.strings new c.in_ok-name.name c.in_ok-texts.texts c.args.walk.now.parents.items c.add_wrapper.new.parents.items c.args.id c.args.walk.now.opened.items c.add_wrapper.new.wrappers.items
     c.args.unit.now c.add_wrapper.new.unit c.add_wrapper.result named c.wrapper_texts.ensures.grows has c.add_wrapper.ensures.memory c.add_wrapper.ensures.added

@@ -9,7 +9,7 @@ use Rattle.dwc_clone.proofs.wrapper.close_wrappers.Goals as goal
 pub loop-wrapper-preserved : goal.loop-wrapper-preserved
 loop-wrapper-preserved c =
     let w = c.in-Some.wrapper in
-    let all = c.loop-wrapper.open.items in
+    let all = c.loop-wrapper.opened.items in
     let others = reverse (take (length all - 1) all) in
     let are = last-first all w (sym (ap (λ xs. slice_get xs (length xs - 1)) c.deref.ensures.value) ∙ sym c.last.ensures.value ∙ sym c.copied.ensures ∙ c.in-Some.is) in
     let deep = le-ltb w.depth c.args.depth c.if-wrapper-depth.false in
@@ -25,29 +25,29 @@ loop-wrapper-preserved c =
 pub returns-then-wrapper-depth-clause-added : goal.returns-then-wrapper-depth-clause-added
 returns-then-wrapper-depth-clause-added c k added =
     let w = c.in-Some.wrapper in
-    let all = c.loop-wrapper.open.items in
+    let all = c.loop-wrapper.opened.items in
     let are = last-first all w (sym (ap (λ xs. slice_get xs (length xs - 1)) c.deref.ensures.value) ∙ sym c.last.ensures.value ∙ sym c.copied.ensures ∙ c.in-Some.is) in
     let done = sym (closed-here c.args.depth w (reverse (take (length all - 1) all)) (reverse all) c.loop-wrapper.unit are (lt-ltb w.depth c.args.depth c.if-wrapper-depth.true)) ∙ c.loop-wrapper.invariant.left in
-    subst (IsAdded k) (sym done) (closed-kept c.args.depth k (reverse c.args.open.now.items) c.args.unit.now added)
+    subst (IsAdded k) (sym done) (closed-kept c.args.depth k (reverse c.args.opened.now.items) c.args.unit.now added)
 
 pub returns-then-wrapper-depth-clause-reserved : goal.returns-then-wrapper-depth-clause-reserved
 returns-then-wrapper-depth-clause-reserved c k reserved other =
     let w = c.in-Some.wrapper in
-    let all = c.loop-wrapper.open.items in
+    let all = c.loop-wrapper.opened.items in
     let are = last-first all w (sym (ap (λ xs. slice_get xs (length xs - 1)) c.deref.ensures.value) ∙ sym c.last.ensures.value ∙ sym c.copied.ensures ∙ c.in-Some.is) in
     let done = sym (closed-here c.args.depth w (reverse (take (length all - 1) all)) (reverse all) c.loop-wrapper.unit are (lt-ltb w.depth c.args.depth c.if-wrapper-depth.true)) ∙ c.loop-wrapper.invariant.left in
-    subst (IsReserved k) (sym done) (closed-reserved c.args.depth (length c.args.unit.now.places) k (reverse c.args.open.now.items) c.args.unit.now c.requires other reserved)
+    subst (IsReserved k) (sym done) (closed-reserved c.args.depth (length c.args.unit.now.places) k (reverse c.args.opened.now.items) c.args.unit.now c.requires other reserved)
 
 pub returns-in_default-clause-added : goal.returns-in_default-clause-added
 returns-in_default-clause-added c k added =
-    let all = c.loop-wrapper.open.items in
+    let all = c.loop-wrapper.opened.items in
     let none = none-last all (sym (ap (λ xs. slice_get xs (length xs - 1)) c.deref.ensures.value) ∙ sym c.last.ensures.value ∙ sym c.copied.ensures ∙ c.in_default.is) in
     let done = sym (closed-none c.args.depth (reverse all) c.loop-wrapper.unit none) ∙ c.loop-wrapper.invariant.left in
-    subst (IsAdded k) (sym done) (closed-kept c.args.depth k (reverse c.args.open.now.items) c.args.unit.now added)
+    subst (IsAdded k) (sym done) (closed-kept c.args.depth k (reverse c.args.opened.now.items) c.args.unit.now added)
 
 pub returns-in_default-clause-reserved : goal.returns-in_default-clause-reserved
 returns-in_default-clause-reserved c k reserved other =
-    let all = c.loop-wrapper.open.items in
+    let all = c.loop-wrapper.opened.items in
     let none = none-last all (sym (ap (λ xs. slice_get xs (length xs - 1)) c.deref.ensures.value) ∙ sym c.last.ensures.value ∙ sym c.copied.ensures ∙ c.in_default.is) in
     let done = sym (closed-none c.args.depth (reverse all) c.loop-wrapper.unit none) ∙ c.loop-wrapper.invariant.left in
-    subst (IsReserved k) (sym done) (closed-reserved c.args.depth (length c.args.unit.now.places) k (reverse c.args.open.now.items) c.args.unit.now c.requires other reserved)
+    subst (IsReserved k) (sym done) (closed-reserved c.args.depth (length c.args.unit.now.places) k (reverse c.args.opened.now.items) c.args.unit.now c.requires other reserved)
