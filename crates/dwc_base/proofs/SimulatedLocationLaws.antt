@@ -1,6 +1,6 @@
 -- The entries of labels in the unit for functions without debugging information say where these lie.
 use Rattle.std.proofs.Common.{◌≡◌, ℕ, List, [], ◌∷◌, Some, None, Ok, ap}
-use Rattle.dwc_base.specs.Trees.{Location, locations}
+use Rattle.dwc_base.specs.Trees.{Location, TreeValue, locations}
 use Rattle.dwc_base.specs.Drafts.{Goal}
 use Rattle.dwc_base.specs.DraftForests.{settled_entry}
 use Rattle.dwc_base.specs.Functions.{Function}
@@ -25,7 +25,7 @@ unfolding label_located
 local-located unit m d label place ls kept e = record { located = ls; lies = ap (λ r. Some (locations (located_or_none r))) e; says = label-says (surroundings_of m d.function) ((d.function.start, d.function.end) ∷ []) label ls kept e }
 
 -- And so does the context.
-pub context-located : (own : ℕ) (m : Module) (d : DefinedFunction) (ls : List Location) → KeepsSource m d.function → label_located m d.function context_label ≡ Ok ls
-    → IsLocated (record { module_of = m; function = d.function; label = context_label }) (settled_entry (λ (goal : Goal). None) (context_entry own m d))
+pub context-located : (pointer : TreeValue) (m : Module) (d : DefinedFunction) (ls : List Location) → KeepsSource m d.function → label_located m d.function context_label ≡ Ok ls
+    → IsLocated (record { module_of = m; function = d.function; label = context_label }) (settled_entry (λ (goal : Goal). None) (context_entry pointer m d))
 unfolding label_located
-context-located own m d ls kept e = record { located = ls; lies = ap (λ r. Some (locations (located_or_none r))) e; says = label-says (surroundings_of m d.function) ((d.function.start, d.function.end) ∷ []) context_label ls kept e }
+context-located pointer m d ls kept e = record { located = ls; lies = ap (λ r. Some (locations (located_or_none r))) e; says = label-says (surroundings_of m d.function) ((d.function.start, d.function.end) ∷ []) context_label ls kept e }

@@ -5,6 +5,7 @@ use Rattle.std.proofs.lemmas.List.{length-append, length-map}
 use Rattle.std.proofs.lemmas.List.Sums.{sum_by-cons}
 use Rattle.dwc_base.specs.Carried.{Unit, Module, carried_unit}
 use Rattle.dwc_base.specs.Drafts.{Draft}
+use Rattle.dwc_base.specs.Trees.{TreeValue}
 use Rattle.dwc_base.specs.DraftForests.{ModuleDrafts, units_drafted, settled_unit, place_of_goal, trees_from}
 use Rattle.dwc_base.specs.KeptModules.{kept_in, carried_in}
 use Rattle.dwc_base.specs.CarriedDrafts.{source_of, unit_drafts, carried_drafts}
@@ -62,24 +63,25 @@ chosen-shallow true c f o y first others is = some_same Shallow c y is first
 chosen-shallow false c f None y first others is = absurd (none_is y is)
 chosen-shallow false c f (Some place) y first others is = some_same Shallow (f place) y is (others place)
 
-labels-shallow : (unit own : ℕ) (m : Module) (d : DefinedFunction) (labels : List ℕ) → Each (λ label. (y : Draft) → label_entry unit own m d label ≡ Some y → Shallow y) labels
-labels-shallow unit own m d [] = tt
-labels-shallow unit own m d (label ∷ labels) =
-    (λ y is. chosen-shallow (label == context_label) (context_entry own m d) (local_entry unit m d label) (type_place m d label) y (omega arith, omega arith) (λ place. (omega arith, omega arith)) is, labels-shallow unit own m d labels)
+labels-shallow : (unit : ℕ) (pointer : TreeValue) (m : Module) (d : DefinedFunction) (labels : List ℕ) → Each (λ label. (y : Draft) → label_entry unit pointer m d label ≡ Some y → Shallow y) labels
+labels-shallow unit pointer m d [] = tt
+labels-shallow unit pointer m d (label ∷ labels) =
+    (λ y is. chosen-shallow (label == context_label) (context_entry pointer m d) (local_entry unit m d label) (type_place m d label) y (omega arith, omega arith) (λ place. (omega arith, omega arith)) is, labels-shallow unit pointer m d labels)
 
-functions-shallow : (unit own : ℕ) (m : Module) (ds : List DefinedFunction) → Each Shallow (flat_map (function_entries unit own m) ds)
-functions-shallow unit own m [] = tt
-functions-shallow unit own m (d ∷ ds) =
-    each_both Shallow (function_entries unit own m d) (flat_map (function_entries unit own m) ds)
-    ((omega arith, omega arith), each_filter_map (label_entry unit own m d) Shallow (m.told.labels d.function.number) (labels-shallow unit own m d (m.told.labels d.function.number)))
-    (functions-shallow unit own m ds)
+functions-shallow : (unit : ℕ) (pointer : TreeValue) (m : Module) (ds : List DefinedFunction) → Each Shallow (flat_map (function_entries unit pointer m) ds)
+functions-shallow unit pointer m [] = tt
+functions-shallow unit pointer m (d ∷ ds) =
+    each_both Shallow (function_entries unit pointer m d) (flat_map (function_entries unit pointer m) ds)
+    ((omega arith, omega arith), each_filter_map (label_entry unit pointer m d) Shallow (m.told.labels d.function.number) (labels-shallow unit pointer m d (m.told.labels d.function.number)))
+    (functions-shallow unit pointer m ds)
 
-modules-shallow : (translated : ℕ → Bool) (unit own : ℕ) (ms : List Module) → Each Shallow (modules_entries translated unit own ms)
-modules-shallow translated unit own [] = tt
-modules-shallow translated unit own (m ∷ ms) =
-    each_both Shallow (flat_map (function_entries unit own m) (listed_functions translated m)) (modules_entries translated unit (own + unit_count m) ms) (functions-shallow unit own m (listed_functions translated m)) (modules-shallow translated unit (own + unit_count m) ms)
+modules-shallow : (translated : ℕ → Bool) (unit : ℕ) (pointers : List TreeValue) (ms : List Module) → Each Shallow (modules_entries translated unit pointers ms)
+modules-shallow translated unit pointers [] = tt
+modules-shallow translated unit [] (m ∷ ms) = tt
+modules-shallow translated unit (pointer ∷ pointers) (m ∷ ms) =
+    each_both Shallow (flat_map (function_entries unit pointer m) (listed_functions translated m)) (modules_entries translated unit pointers ms) (functions-shallow unit pointer m (listed_functions translated m)) (modules-shallow translated unit pointers ms)
 
 -- The unit is in file order.
-pub simulated-in_order : (translated : ℕ → Bool) (path : List ℕ) (ms : List Module) → IsInFileOrder (simulated_unit translated path ms)
+pub simulated-in_order : (translated : ℕ → Bool) (path : List ℕ) (unit : ℕ) (pointers : List TreeValue) (ms : List Module) → IsInFileOrder (simulated_unit translated path unit pointers ms)
 unfolding simulated_unit
-simulated-in_order translated path ms = goes-on 1 (modules_entries translated (sum_by unit_count ms) 0 ms) (omega arith) (modules-shallow translated (sum_by unit_count ms) 0 ms)
+simulated-in_order translated path unit pointers ms = goes-on 1 (modules_entries translated unit pointers ms) (omega arith) (modules-shallow translated unit pointers ms)

@@ -5,16 +5,22 @@ use Rattle.std.specs.List.{flat_map}
 use Rattle.dwc_base.specs.Functions.{Function, recorded_sources}
 use Rattle.dwc_base.specs.Widest.{widest_header, widest_image}
 use Rattle.dwc_base.specs.Drafts.{Draft}
+use Rattle.dwc_base.specs.Trees.{TreeValue}
 use Rattle.dwc_base.specs.Carried.{Module, WantedUnit, listed_unit}
 use Rattle.dwc_base.specs.Refusals.{Refusal, bad_path}
 use Rattle.dwc_base.specs.UnitPaths.{unit_path, path_name, refused_path}
 use Rattle.dwc_base.specs.ListedFunctions.{listed_functions}
-use Rattle.dwc_base.specs.SimulatedUnit.{simulated_unit, simulated_refusals}
+use Rattle.dwc_base.specs.SimulatedUnit.{context_pointers, simulated_refusals, simulated_unit, unit_count}
 
--- The entries of the last unit, where there is a module, the next generated name having a number.
+-- The entries of the unit of modules, where there is one, by its number and the types of pointers to their contexts, the next generated name
+-- having a number.
+abbrev pub listed_drafts : (ℕ → Bool) → ℕ → ℕ → List TreeValue → List Module → Option (List Draft)
+listed_drafts translated next_id unit pointers [] = None
+listed_drafts translated next_id unit pointers (m ∷ ms) = Some (simulated_unit translated (unit_path next_id m) unit pointers (m ∷ ms))
+
+-- Those of the last unit of an output, which stands behind the units of all its modules.
 abbrev pub last_drafts : (ℕ → Bool) → ℕ → List Module → Option (List Draft)
-last_drafts translated next_id [] = None
-last_drafts translated next_id (m ∷ ms) = Some (simulated_unit translated (unit_path next_id m) (m ∷ ms))
+last_drafts translated next_id ms = listed_drafts translated next_id (sum_by unit_count ms) (context_pointers 0 ms) ms
 
 -- the listed functions of modules, in order, each with the offset in its file that the contents of the code section begin at
 abbrev pub listed_in_files : (ℕ → Bool) → List Module → List (ℕ × Function)

@@ -1,6 +1,6 @@
 -- The unit of an output for the functions without debugging information of all modules, whose numbers are none of those that are translated:
 -- its entries, and what is refused of them. (This project's own tree; DWARF 4 and 5, sections 3.1.1, 3.3, 4.1 and 5.1.)
-use Rattle.std.specs.Prelude.{ℕ, ◌+◌, ◌==◌, pos, List, [], ◌∷◌, ◌++◌, length, map, sum_by, Bool, ◌||◌, if◌then◌else◌, Option, Some, None, option_map, option_and_then, is_some, Result, codes}
+use Rattle.std.specs.Prelude.{ℕ, ◌+◌, ◌==◌, pos, List, [], ◌∷◌, ◌++◌, length, map, Bool, ◌||◌, if◌then◌else◌, Option, Some, None, option_map, option_and_then, is_some, Result, codes}
 use Rattle.std.specs.List.{filter, filter_map, flat_map}
 use Rattle.std.specs.Option.{unwrap_or}
 use Rattle.std.specs.Fmt.{decimal}
@@ -9,7 +9,7 @@ use Rattle.dwc_base.specs.declared.constants.TheConstants.{DW_AT_byte_size, DW_A
 use Rattle.dwc_base.specs.Reading.{coded}
 use Rattle.dwc_base.specs.Functions.{Function, recorded_sources}
 use Rattle.dwc_base.specs.Carried.{Module}
-use Rattle.dwc_base.specs.Trees.{Interval, Location, address, constant, text, line_table, ranges, locations, entry}
+use Rattle.dwc_base.specs.Trees.{Interval, Location, TreeValue, address, constant, text, line_table, ranges, locations, entry}
 use Rattle.dwc_base.specs.Drafts.{done, Draft}
 use Rattle.dwc_base.specs.MadeEntries.{named, data1, udata, made}
 use Rattle.dwc_base.specs.OwnUnits.{place_of_context_pointer}
@@ -103,13 +103,13 @@ local_entry unit m d n place =
     ∷ named DW_AT_type (entry unit place)
     ∷ named DW_AT_location (locations (located_or_none (label_located m d.function n))) ∷ [])
 
--- the context, the type of a pointer to which is in the own unit of a number
-abbrev pub context_entry : ℕ → Module → DefinedFunction → Draft
-context_entry own m d = context_variable 2 (done (entry own (place_of_context_pointer m.told.memory))) (located_or_none (label_located m d.function context_label))
+-- the context, with the type of a pointer to it
+abbrev pub context_entry : TreeValue → Module → DefinedFunction → Draft
+context_entry pointer m d = context_variable 2 (done pointer) (located_or_none (label_located m d.function context_label))
 
 -- the entry of a label of a function: the context's, or that of a local of one of the four types; others have none
-abbrev pub label_entry : ℕ → ℕ → Module → DefinedFunction → ℕ → Option Draft
-label_entry unit own m d label = if label == context_label then Some (context_entry own m d) else option_map (local_entry unit m d label) (type_place m d label)
+abbrev pub label_entry : ℕ → TreeValue → Module → DefinedFunction → ℕ → Option Draft
+label_entry unit pointer m d label = if label == context_label then Some (context_entry pointer m d) else option_map (local_entry unit m d label) (type_place m d label)
 
 -- ---- functions
 
@@ -132,8 +132,8 @@ function_entry m d =
     ∷ named DW_AT_decl_line (udata (m.file.code_offset + first_source d.function)) ∷ [])
 
 -- with its parameters and variables, by rising labels
-abbrev pub function_entries : ℕ → ℕ → Module → DefinedFunction → List Draft
-function_entries unit own m d = function_entry m d ∷ filter_map (label_entry unit own m d) (m.told.labels d.function.number)
+abbrev pub function_entries : ℕ → TreeValue → Module → DefinedFunction → List Draft
+function_entries unit pointer m d = function_entry m d ∷ filter_map (label_entry unit pointer m d) (m.told.labels d.function.number)
 
 -- ---- the unit
 
@@ -141,14 +141,20 @@ function_entries unit own m d = function_entry m d ∷ filter_map (label_entry u
 abbrev pub unit_count : Module → ℕ
 unit_count m = length (wanted_units_of m)
 
--- the entries of the listed functions of modules, in the unit of a number; the first module's own unit has a number
-abbrev pub modules_entries : (ℕ → Bool) → ℕ → ℕ → List Module → List Draft
-modules_entries translated unit own [] = []
-modules_entries translated unit own (m ∷ ms) = flat_map (function_entries unit own m) (listed_functions translated m) ++ modules_entries translated unit (own + unit_count m) ms
+-- the types of pointers to the contexts of modules, in the modules' own units, of which the first has a number
+abbrev pub context_pointers : ℕ → List Module → List TreeValue
+context_pointers own [] = []
+context_pointers own (m ∷ ms) = entry own (place_of_context_pointer m.told.memory) ∷ context_pointers (own + unit_count m) ms
 
--- The unit of a path, which stands behind those of all modules: the root, the types, and the listed functions in order.
-unfoldable pub simulated_unit : (ℕ → Bool) → List ℕ → List Module → List Draft
-simulated_unit translated path ms = simulated_root path (flat_map (whole_intervals translated) ms) ∷ base_types ++ modules_entries translated (sum_by unit_count ms) 0 ms
+-- the entries of the listed functions of modules, in the unit of a number, with a type of a pointer to a context for each module
+abbrev pub modules_entries : (ℕ → Bool) → ℕ → List TreeValue → List Module → List Draft
+modules_entries translated unit pointers [] = []
+modules_entries translated unit [] (m ∷ ms) = []
+modules_entries translated unit (pointer ∷ pointers) (m ∷ ms) = flat_map (function_entries unit pointer m) (listed_functions translated m) ++ modules_entries translated unit pointers ms
+
+-- The unit of a path, of a number, with these types: the root, the types of numbers, and the listed functions in order.
+unfoldable pub simulated_unit : (ℕ → Bool) → List ℕ → ℕ → List TreeValue → List Module → List Draft
+simulated_unit translated path unit pointers ms = simulated_root path (flat_map (whole_intervals translated) ms) ∷ base_types ++ modules_entries translated unit pointers ms
 
 -- ---- refusals
 

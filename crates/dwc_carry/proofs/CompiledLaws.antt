@@ -63,7 +63,7 @@ frames-numbered code_offset first count ms same =
 abbrev pub all_functions : List Module → List (List Function)
 all_functions ms = map (λ m. m.functions) ms
 
-functions-length : (number : ℕ) (ts : List ModuleTranslation) (fss : List (List Compiled)) → length fss ≡ length ts → length (functions_from number ts fss) ≡ length ts
+pub functions-length : (number : ℕ) (ts : List ModuleTranslation) (fss : List (List Compiled)) → length fss ≡ length ts → length (functions_from number ts fss) ≡ length ts
 functions-length number [] fss same = refl
 functions-length number (t ∷ ts) [] same = absurd (omega (arith, same))
 functions-length number (t ∷ ts) (fs ∷ fss) same = ap suc (functions-length (number + length fs) ts fss (omega (arith, same)))

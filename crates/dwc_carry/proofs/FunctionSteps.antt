@@ -1,7 +1,6 @@
 -- A module, function by function.
 use Rattle.std.proofs.Common.{◌≡◌, ℕ, ◌+◌, add-one, arith, ◌<◌, ◌≤◌, refl, sym, ap, subst, ◌∙◌, List, [], ◌∷◌, ◌++◌, drop, get_or, length, map, cond, Bool, true, false, Option, Some, None, Result, Ok, Err, All}
 use Rattle.std.specs.Prelude.{◌&&◌, not, is_some, option_map, slice_get, IfSome}
-use Rattle.std.specs.FinMap as finite
 use Rattle.std.specs.List.{flat_map}
 use Rattle.std.specs.Option.{unwrap_or}
 use Rattle.std.proofs.lemmas.List.{drop_all, drop_more, length-map}
@@ -19,6 +18,7 @@ use Rattle.dwc_base.specs.Refusals.{Refusal, first_of}
 use Rattle.dwc_base.specs.SimulatedUnit.{first_source, function_entries, function_index, function_name, variable_refusals}
 use Rattle.dwc_base.specs.ToldFiles.{ToldFile}
 use Rattle.dwc_base.specs.TranslationNames.{told_file}
+use Rattle.dwc_base.specs.Trees.{TreeValue}
 use Rattle.dwc_clif.specs.Registers.{Registers}
 use Rattle.dwc_addr.specs.declared.address_map.AddressMap.{AddressMap}
 use Rattle.dwc_addr.specs.declared.function_map.FunctionMap.{FunctionMap}
@@ -37,6 +37,7 @@ use Rattle.dwc_carry.specs.declared.simulated_functions.ListedModule.{ListedModu
 use Rattle.dwc_carry.specs.declared.simulated_variables.ListedFunction.{ListedFunction}
 use Rattle.dwc_carry.specs.ListedModules.{GivesFunction, IsListedModule, LeftFunctions, listed_from}
 use Rattle.dwc_carry.specs.ListedVariables.{GivesVariables, IsListedFunction, label_refusals}
+use Rattle.dwc_carry.specs.OwnUnits.{reference_meant}
 use Rattle.dwc_carry.specs.Refusals.{ReadsOr, RefusesReading, in_reading}
 use Rattle.dwc_carry.specs.SimulatedAdditions.{subprogram_addition}
 use Rattle.dwc_carry.specs.SimulatedDrafts.{HasFunctions, HasVariables, IsSimulated}
@@ -88,20 +89,20 @@ module _ (fs : List FunctionMap) (kept : List Function) (place : ℕ) (are : map
 -- ---- one function
 
 -- A function is begun.
-pub function-begun : (n own : ℕ) (m : Module) (d : DefinedFunction) (before : List Draft) (t : ModuleTranslation) (f : FunctionMap) (place number index line : ℕ) (old new : List (List ℕ)) (u v : GivenUnit) (bytes : List ℕ) (name : StringId) (entry : ℕ)
+pub function-begun : (n : ℕ) (pointer : TreeValue) (m : Module) (d : DefinedFunction) (before : List Draft) (t : ModuleTranslation) (f : FunctionMap) (place number index line : ℕ) (old new : List (List ℕ)) (u v : GivenUnit) (bytes : List ℕ) (name : StringId) (entry : ℕ)
     → m.file ≡ told_file t → d ≡ record { place = place; function = function_view f } → d.function.number ≡ number → IsSimulated n old before u
     → index ≡ t.imported_funcs + place → line ≡ t.code_section_offset + first_source (function_view f) → bytes ≡ function_name m index → Grows old new → IsNumbered new bytes name
     → v ≡ with_entry (subprogram_addition name number f.len line) u → entry ≡ length u.additions
-    → HasVariables n own m d new before (m.told.labels d.function.number) entry v
-function-begun n own m d before t f place number index line old new u v bytes name entry file drawn numbered so at lined named grows known is there =
+    → HasVariables n pointer m d new before (m.told.labels d.function.number) entry v
+function-begun n pointer m d before t f place number index line old new u v bytes name entry file drawn numbered so at lined named grows known is there =
     let placed : index ≡ function_index m d = at ∙ ap (λ (o : ToldFile). o.imported + place) (sym file) ∙ ap (λ (x : DefinedFunction). m.file.imported + x.place) (sym drawn) in
     let line_is : line ≡ m.file.code_offset + first_source d.function =
     lined
     ∙ ap (λ (o : ToldFile). o.code_offset + first_source (function_view f)) (sym file)
     ∙ ap (λ (x : DefinedFunction). m.file.code_offset + first_source x.function) (sym drawn) in
     let text : bytes ≡ function_name m (function_index m d) = named ∙ ap (function_name m) placed in
-    subst (λ at. HasVariables n own m d new before (m.told.labels d.function.number) at v) (sym there)
-    (variables-begun n own m d before old new u v name number f.len line grows so (subst (λ text. IsNumbered new text name) text known) (sym numbered) (ap (λ (x : DefinedFunction). x.function.length) (sym drawn)) line_is is)
+    subst (λ at. HasVariables n pointer m d new before (m.told.labels d.function.number) at v) (sym there)
+    (variables-begun n pointer m d before old new u v name number f.len line grows so (subst (λ text. IsNumbered new text name) text known) (sym numbered) (ap (λ (x : DefinedFunction). x.function.length) (sym drawn)) line_is is)
 
 -- The number of a function with a symbol is among those that are told of.
 pub numbered-at : (first count : ℕ) (fs : List Function) (place number : ℕ) (x : Function) → AreNumberedFrom first count fs → slice_get fs place ≡ Some x → x.symbol ≡ Some number → (x.number ≡ number) × (first ≤ number) × (number < first + count)
@@ -114,10 +115,10 @@ numbered-at first count fs place number x all found symbol =
 pub never-none : {A : Type 0} (x : A) → ◌≡◌ {A = Option A} None (Some x) → ⊥
 never-none x is = absurd (cc)
 
-module _ (registers : Registers) (m : Module) (own : ℕ) (l : ListedModule) (lm : IsListedModule registers m own l) (place : ℕ) (x : Function) where
+module _ (registers : Registers) (m : Module) (l : ListedModule) (lm : IsListedModule registers m l) (place : ℕ) (x : Function) where
   -- What is given of a listed function of a listed module tells that function.
   pub function-listed : (f : ListedFunction) → l.translation.now.imported_funcs + place ≡ f.index → f.locals.now ≡ types_at m (record { place = place; function = x }) → frame_view (Some f.frame) ≡ Some (frame_told (told_by registers l.compiled.now) x) → f.scope ≡ (x.start, x.end)
-      → IsListedFunction registers m (record { place = place; function = x }) own l f
+      → IsListedFunction registers m (record { place = place; function = x }) l f
   function-listed f index locals frame scope = record {
     file = lm.file;
     index = ap (λ (file : ToldFile). file.imported + place) lm.file ∙ index;
@@ -128,7 +129,6 @@ module _ (registers : Registers) (m : Module) (own : ℕ) (l : ListedModule) (lm
       register = ap (λ (t : ToldModule). t.register) (sym lm.told) i;
     };
     scope = scope;
-    context = lm.context;
     place = ap (λ (t : ToldModule). t.place) (sym lm.told);
   }
 
@@ -141,8 +141,8 @@ module _ (registers : Registers) (m : Module) (own : ℕ) (l : ListedModule) (lm
 
   -- All its labels are added, or the first refusal is answered.
   pub function-added : (n : ℕ) (before : List Draft) (keys : List ℕ) (entry : ℕ) (texts : List (List ℕ)) (u : GivenUnit) (result : Result (Unit {0}) DebugError) → m.told.labels x.number ≡ keys
-      → GivesVariables n own m (record { place = place; function = x }) before entry (first_of (flat_map (label_refusals m (record { place = place; function = x })) keys)) texts u result
-      → ReadsOr (λ done. IsSimulated n texts (before ++ function_entries n own m (record { place = place; function = x })) u) (first_of (variable_refusals m (record { place = place; function = x }))) result
+      → GivesVariables n (reference_meant l.vmctx_ptr) m (record { place = place; function = x }) before entry (first_of (flat_map (label_refusals m (record { place = place; function = x })) keys)) texts u result
+      → ReadsOr (λ done. IsSimulated n texts (before ++ function_entries n (reference_meant l.vmctx_ptr) m (record { place = place; function = x })) u) (first_of (variable_refusals m (record { place = place; function = x }))) result
   function-added n before keys entry texts u result are gives = go result gives
     where
       d : DefinedFunction
@@ -151,8 +151,8 @@ module _ (registers : Registers) (m : Module) (own : ℕ) (l : ListedModule) (lm
       all : variable_refusals m d ≡ flat_map (label_refusals m d) keys
       all = refusals-by-label m d ∙ ap (flat_map (label_refusals m d)) are
 
-      go : (r : Result (Unit {0}) DebugError) → GivesVariables n own m d before entry (first_of (flat_map (label_refusals m d) keys)) texts u r → ReadsOr (λ done. IsSimulated n texts (before ++ function_entries n own m d) u) (first_of (variable_refusals m d)) r
-      go (Ok done) given = (ap (λ (rs : List Refusal). option_map in_reading (first_of rs)) all ∙ given.0, variables-done n own m d before texts entry u given.1)
+      go : (r : Result (Unit {0}) DebugError) → GivesVariables n (reference_meant l.vmctx_ptr) m d before entry (first_of (flat_map (label_refusals m d) keys)) texts u r → ReadsOr (λ done. IsSimulated n texts (before ++ function_entries n (reference_meant l.vmctx_ptr) m d) u) (first_of (variable_refusals m d)) r
+      go (Ok done) given = (ap (λ (rs : List Refusal). option_map in_reading (first_of rs)) all ∙ given.0, variables-done n (reference_meant l.vmctx_ptr) m d before texts entry u given.1)
       go (Err e) given = subst (λ (rs : List Refusal). RefusesReading (first_of rs) e) (sym all) given
 
 -- A function whose number is among the translated ones is none of the listed ones, and the others with a symbol are listed.
@@ -168,45 +168,45 @@ listed-step translated m i f inside there =
     ap (λ fs. listed_among translated (defined_from i fs)) (drop_more m.functions i f inside ∙ ap (λ g. g ∷ drop (i + 1) m.functions) there)
     ∙ ap (λ n. cond (is_listed translated f) (record { place = i; function = f } ∷ listed_among translated (defined_from n (drop (i + 1) m.functions))) (listed_among translated (defined_from n (drop (i + 1) m.functions)))) (sym (add-one i))
 
-module _ (translated : ℕ → Bool) (n own : ℕ) (m : Module) (behind whole : List Draft) (place : ℕ) (x : Function) (total : Option Refusal) (found : slice_get m.functions place ≡ Some x) where
+module _ (translated : ℕ → Bool) (n : ℕ) (pointer : TreeValue) (m : Module) (behind whole : List Draft) (place : ℕ) (x : Function) (total : Option Refusal) (found : slice_get m.functions place ≡ Some x) where
   step : (b : Bool) → is_listed translated x ≡ b → listed_from translated m place ≡ cond b (record { place = place; function = x } ∷ listed_from translated m (place + 1)) (listed_from translated m (place + 1))
   step b is =
       listed-step translated m place x (slice_get_within m.functions place x found) (get_or_from_slice_get m.functions place x x found)
       ∙ ap (λ (b : Bool). cond {A = List DefinedFunction} b (record { place = place; function = x } ∷ listed_from translated m (place + 1)) (listed_from translated m (place + 1))) is
 
   -- A function that is not listed is passed by.
-  pub left-unlisted : (texts : List (List ℕ)) (u : GivenUnit) → is_listed translated x ≡ false → LeftFunctions n own m behind whole (listed_from translated m place) total texts u → LeftFunctions n own m behind whole (listed_from translated m (place + 1)) total texts u
-  left-unlisted texts u is left = subst (λ ds. LeftFunctions n own m behind whole ds total texts u) (step false is) left
+  pub left-unlisted : (texts : List (List ℕ)) (u : GivenUnit) → is_listed translated x ≡ false → LeftFunctions n pointer m behind whole (listed_from translated m place) total texts u → LeftFunctions n pointer m behind whole (listed_from translated m (place + 1)) total texts u
+  left-unlisted texts u is left = subst (λ ds. LeftFunctions n pointer m behind whole ds total texts u) (step false is) left
 
-  pub left-unnamed : (texts : List (List ℕ)) (u : GivenUnit) → x.symbol ≡ None → LeftFunctions n own m behind whole (listed_from translated m place) total texts u → LeftFunctions n own m behind whole (listed_from translated m (place + 1)) total texts u
+  pub left-unnamed : (texts : List (List ℕ)) (u : GivenUnit) → x.symbol ≡ None → LeftFunctions n pointer m behind whole (listed_from translated m place) total texts u → LeftFunctions n pointer m behind whole (listed_from translated m (place + 1)) total texts u
   left-unnamed texts u none left = left-unlisted texts u (ap (λ (o : Option ℕ). is_some o && not (translated x.number)) none) left
 
   -- One that is listed is the first of those that are left.
-  pub left-listed : (texts : List (List ℕ)) (u : GivenUnit) → is_listed translated x ≡ true → LeftFunctions n own m behind whole (listed_from translated m place) total texts u
-      → LeftFunctions n own m behind whole (record { place = place; function = x } ∷ listed_from translated m (place + 1)) total texts u
-  left-listed texts u is left = subst (λ ds. LeftFunctions n own m behind whole ds total texts u) (step true is) left
+  pub left-listed : (texts : List (List ℕ)) (u : GivenUnit) → is_listed translated x ≡ true → LeftFunctions n pointer m behind whole (listed_from translated m place) total texts u
+      → LeftFunctions n pointer m behind whole (record { place = place; function = x } ∷ listed_from translated m (place + 1)) total texts u
+  left-listed texts u is left = subst (λ ds. LeftFunctions n pointer m behind whole ds total texts u) (step true is) left
 
 -- It is added, or its first refusal is answered, which is that of all.
-pub function-gives : (n own : ℕ) (m : Module) (behind whole : List Draft) (d : DefinedFunction) (rest : List DefinedFunction) (total : Option Refusal) (old new : List (List ℕ)) (u v : GivenUnit) (left : LeftFunctions n own m behind whole (d ∷ rest) total old u) (result : Result (Unit {0}) DebugError)
-    → ReadsOr (λ done. IsSimulated n new (left.made.ds ++ function_entries n own m d) v) (first_of (variable_refusals m d)) result → GivesFunction n own m behind whole rest total new v result
-function-gives n own m behind whole d rest total old new u v left (Ok done) gives = record {
-  made = functions-more n own m behind whole old new d rest u v left.made gives.1;
+pub function-gives : (n : ℕ) (pointer : TreeValue) (m : Module) (behind whole : List Draft) (d : DefinedFunction) (rest : List DefinedFunction) (total : Option Refusal) (old new : List (List ℕ)) (u v : GivenUnit) (left : LeftFunctions n pointer m behind whole (d ∷ rest) total old u) (result : Result (Unit {0}) DebugError)
+    → ReadsOr (λ done. IsSimulated n new (left.made.ds ++ function_entries n pointer m d) v) (first_of (variable_refusals m d)) result → GivesFunction n pointer m behind whole rest total new v result
+function-gives n pointer m behind whole d rest total old new u v left (Ok done) gives = record {
+  made = functions-more n pointer m behind whole old new d rest u v left.made gives.1;
   first = ap (λ (rs : List Refusal). first_of (rs ++ flat_map (variable_refusals m) rest)) (sym (no-first (variable_refusals m d) (unmapped in_reading (first_of (variable_refusals m d)) gives.0))) ∙ left.first;
 }
-function-gives n own m behind whole d rest total old new u v left (Err e) gives =
+function-gives n pointer m behind whole d rest total old new u v left (Err e) gives =
     reading-more (first_of (variable_refusals m d)) total e (λ r is. sym left.first ∙ first-behind (variable_refusals m d) (flat_map (variable_refusals m) rest) r is) gives
 
-module _ (translated : ℕ → Bool) (n own : ℕ) (m : Module) (behind whole : List Draft) (texts : List (List ℕ)) (u : GivenUnit) where
+module _ (translated : ℕ → Bool) (n : ℕ) (pointer : TreeValue) (m : Module) (behind whole : List Draft) (texts : List (List ℕ)) (u : GivenUnit) where
   -- Before the first function all listed ones are left.
-  pub functions-left : HasFunctions n own m texts behind whole (listed_functions translated m) u → LeftFunctions n own m behind whole (listed_from translated m 0) (first_of (flat_map (variable_refusals m) (listed_functions translated m))) texts u
+  pub functions-left : HasFunctions n pointer m texts behind whole (listed_functions translated m) u → LeftFunctions n pointer m behind whole (listed_from translated m 0) (first_of (flat_map (variable_refusals m) (listed_functions translated m))) texts u
   unfolding listed_functions
   functions-left has = record { made = has; first = refl }
 
   -- Behind the last one none is left.
-  pub functions-past : (place : ℕ) (total : Option Refusal) → length m.functions ≤ place → LeftFunctions n own m behind whole (listed_from translated m place) total texts u → (option_map in_reading total ≡ None) × HasFunctions n own m texts behind whole [] u
+  pub functions-past : (place : ℕ) (total : Option Refusal) → length m.functions ≤ place → LeftFunctions n pointer m behind whole (listed_from translated m place) total texts u → (option_map in_reading total ≡ None) × HasFunctions n pointer m texts behind whole [] u
   functions-past place total past left =
       let gone : listed_from translated m place ≡ [] = ap (λ fs. listed_among translated (defined_from place fs)) (drop_all place m.functions past) in
-      let none : LeftFunctions n own m behind whole [] total texts u = subst (λ ds. LeftFunctions n own m behind whole ds total texts u) gone left in
+      let none : LeftFunctions n pointer m behind whole [] total texts u = subst (λ ds. LeftFunctions n pointer m behind whole ds total texts u) gone left in
       (ap (option_map in_reading) (sym none.first), none.made)
 
 -- A place behind the functions that are given is behind those of the module.

@@ -17,13 +17,14 @@ use Rattle.dwc_base.specs.Functions.{Function}
 use Rattle.dwc_base.specs.LastUnit.{last_refusals, path_refusals}
 use Rattle.dwc_base.specs.ListedFunctions.{is_begun, listed_functions}
 use Rattle.dwc_base.specs.LocationsCarried.{UnitHasLocations}
+use Rattle.dwc_base.specs.OwnUnits.{place_of_context_pointer}
 use Rattle.dwc_base.specs.Parts.{context_label}
 use Rattle.dwc_base.specs.RangeAttributes.{native_of_intervals}
 use Rattle.dwc_base.specs.Refusals.{Refusal, first_of}
 use Rattle.dwc_base.specs.ScopesCarried.{AreNumbered, TranslationsKeepScopes}
 use Rattle.dwc_base.specs.SimulatedLocations.{LabelUse, uses_in_function, label_uses, IsLocated, LocatesLabels}
-use Rattle.dwc_base.specs.SimulatedUnit.{context_entry, function_entries, has_entry, label_entry, label_located, local_entry, modules_entries, simulated_refusals, simulated_unit, type_place, unit_count, variable_refusals}
-use Rattle.dwc_base.specs.Trees.{Location, TreeEntry, Tree}
+use Rattle.dwc_base.specs.SimulatedUnit.{context_entry, context_pointers, function_entries, has_entry, label_entry, label_located, local_entry, modules_entries, simulated_refusals, simulated_unit, type_place, unit_count, variable_refusals}
+use Rattle.dwc_base.specs.Trees.{Location, TreeEntry, TreeValue, Tree, entry}
 use Rattle.dwc_base.specs.declared.records.Address.TheVariants.{Constant}
 use Rattle.dwc_base.proofs.LocationForest.{both-none}
 use Rattle.dwc_base.proofs.SimulatedLocationLaws.{KeepsSource, local-located, context-located}
@@ -56,7 +57,7 @@ keeps-source : (m : Module) (f : Function) → AreNumbered m.functions → Trans
 unfolding native_of_intervals
 keeps-source m f numbered keep = keep numbered (record { begin = Constant f.start; end = Constant f.end } ∷ [])
 
-module _ (m : Module) (numbered : AreNumbered m.functions) (keep : TranslationsKeepScopes m.functions) (unit own : ℕ) where
+module _ (m : Module) (numbered : AreNumbered m.functions) (keep : TranslationsKeepScopes m.functions) (unit : ℕ) (pointer : TreeValue) where
   module _ (d : DefinedFunction) where
     -- the use of a label
     abbrev use_of_label : ℕ → LabelUse
@@ -68,14 +69,14 @@ module _ (m : Module) (numbered : AreNumbered m.functions) (keep : TranslationsK
     module _ (kept : KeepsSource m d.function) where
       label-located : (label : ℕ) (labels : List ℕ) (b : Bool) (o : Option ℕ) → (label == context_label) ≡ b
           → flat_map refused_label (if b || is_some o then label ∷ filter (has_entry m d) labels else filter (has_entry m d) labels) ≡ []
-          → (flat_map refused_label (filter (has_entry m d) labels) ≡ [] → AllZip IsLocated (map use_of_label (filter (has_entry m d) labels)) (below (filter_map (label_entry unit own m d) labels)))
+          → (flat_map refused_label (filter (has_entry m d) labels) ≡ [] → AllZip IsLocated (map use_of_label (filter (has_entry m d) labels)) (below (filter_map (label_entry unit pointer m d) labels)))
           → AllZip IsLocated (map use_of_label (if b || is_some o then label ∷ filter (has_entry m d) labels else filter (has_entry m d) labels))
-          (below (cons_option (if b then Some (context_entry own m d) else option_map (local_entry unit m d label) o) (filter_map (label_entry unit own m d) labels)))
+          (below (cons_option (if b then Some (context_entry pointer m d) else option_map (local_entry unit m d label) o) (filter_map (label_entry unit pointer m d) labels)))
       label-located label labels true o is h behind =
           let two = both-none (refused_label label) (flat_map refused_label (filter (has_entry m d) labels)) h in
           let same : label ≡ context_label = eqb-true label context_label is in
           let found = located-where (of_build m.told.place) (label_located m d.function label) two.0 in (
-            subst (λ n. IsLocated (use_of_label n) (settled_there (context_entry own m d))) (sym same) (context-located own m d found.0 kept (ap (label_located m d.function) (sym same) ∙ found.1)),
+            subst (λ n. IsLocated (use_of_label n) (settled_there (context_entry pointer m d))) (sym same) (context-located pointer m d found.0 kept (ap (label_located m d.function) (sym same) ∙ found.1)),
             behind two.1,
           )
       label-located label labels false (Some place) is h behind =
@@ -86,16 +87,16 @@ module _ (m : Module) (numbered : AreNumbered m.functions) (keep : TranslationsK
           )
       label-located label labels false None is h behind = behind h
 
-      labels-located : (labels : List ℕ) → flat_map refused_label (filter (has_entry m d) labels) ≡ [] → AllZip IsLocated (map use_of_label (filter (has_entry m d) labels)) (below (filter_map (label_entry unit own m d) labels))
+      labels-located : (labels : List ℕ) → flat_map refused_label (filter (has_entry m d) labels) ≡ [] → AllZip IsLocated (map use_of_label (filter (has_entry m d) labels)) (below (filter_map (label_entry unit pointer m d) labels))
       labels-located [] h = tt
       labels-located (label ∷ labels) h = label-located label labels (label == context_label) (type_place m d label) refl h (λ k. labels-located labels k)
 
-  functions-located : (ds : List DefinedFunction) → flat_map (variable_refusals m) ds ≡ [] → AllZip IsLocated (flat_map (uses_in_function m) ds) (below (flat_map (function_entries unit own m) ds))
+  functions-located : (ds : List DefinedFunction) → flat_map (variable_refusals m) ds ≡ [] → AllZip IsLocated (flat_map (uses_in_function m) ds) (below (flat_map (function_entries unit pointer m) ds))
   functions-located [] h = tt
   functions-located (d ∷ ds) h =
       let two = both-none (variable_refusals m d) (flat_map (variable_refusals m) ds) h in
-      subst (AllZip IsLocated (uses_in_function m d ++ flat_map (uses_in_function m) ds)) (sym (below-both (function_entries unit own m d) (flat_map (function_entries unit own m) ds)))
-      (zip-both IsLocated (uses_in_function m d) (below (function_entries unit own m d)) (flat_map (uses_in_function m) ds) (below (flat_map (function_entries unit own m) ds))
+      subst (AllZip IsLocated (uses_in_function m d ++ flat_map (uses_in_function m) ds)) (sym (below-both (function_entries unit pointer m d) (flat_map (function_entries unit pointer m) ds)))
+      (zip-both IsLocated (uses_in_function m d) (below (function_entries unit pointer m d)) (flat_map (uses_in_function m) ds) (below (flat_map (function_entries unit pointer m) ds))
       (labels-located d (keeps-source m d.function numbered keep) (m.told.labels d.function.number) two.0)
       (functions-located ds two.1))
 
@@ -104,19 +105,20 @@ abbrev HasNumbers : Module → Type 0
 HasNumbers m = AreNumbered m.functions
 
 modules-located : (translated : ℕ → Bool) (unit own : ℕ) (ms : List Module) → All HasNumbers ms → ((fs : List Function) → TranslationsKeepScopes fs) → flat_map (λ m. flat_map (variable_refusals m) (listed_functions translated m)) ms ≡ []
-    → AllZip IsLocated (label_uses translated ms) (below (modules_entries translated unit own ms))
+    → AllZip IsLocated (label_uses translated ms) (below (modules_entries translated unit (context_pointers own ms) ms))
 modules-located translated unit own [] numbered keep h = tt
 modules-located translated unit own (m ∷ ms) numbered keep h =
     let ds = listed_functions translated m in
-    let rest = modules_entries translated unit (own + unit_count m) ms in
+    let pointer : TreeValue = entry own (place_of_context_pointer m.told.memory) in
+    let rest = modules_entries translated unit (context_pointers (own + unit_count m) ms) ms in
     let two = both-none (flat_map (variable_refusals m) ds) (flat_map (λ n. flat_map (variable_refusals n) (listed_functions translated n)) ms) h in
-    subst (AllZip IsLocated (flat_map (uses_in_function m) ds ++ label_uses translated ms)) (sym (below-both (flat_map (function_entries unit own m) ds) rest))
-    (zip-both IsLocated (flat_map (uses_in_function m) ds) (below (flat_map (function_entries unit own m) ds)) (label_uses translated ms) (below rest)
-    (functions-located m (All-head HasNumbers m ms numbered) (keep m.functions) unit own ds two.0)
+    subst (AllZip IsLocated (flat_map (uses_in_function m) ds ++ label_uses translated ms)) (sym (below-both (flat_map (function_entries unit pointer m) ds) rest))
+    (zip-both IsLocated (flat_map (uses_in_function m) ds) (below (flat_map (function_entries unit pointer m) ds)) (label_uses translated ms) (below rest)
+    (functions-located m (All-head HasNumbers m ms numbered) (keep m.functions) unit pointer ds two.0)
     (modules-located translated unit (own + unit_count m) ms (All-tail HasNumbers m ms numbered) keep two.1))
 
 unit-located : (translated : ℕ → Bool) (path : List ℕ) (ms : List Module) → All HasNumbers ms → ((fs : List Function) → TranslationsKeepScopes fs) → simulated_refusals translated ms ≡ []
-    → LocatesLabels translated ms (settled_unit (λ goal. None) (simulated_unit translated path ms))
+    → LocatesLabels translated ms (settled_unit (λ goal. None) (simulated_unit translated path (sum_by unit_count ms) (context_pointers 0 ms) ms))
 unfolding simulated_unit simulated_refusals
 unit-located translated path ms numbered keep h = modules-located translated (sum_by unit_count ms) 0 ms numbered keep h
 

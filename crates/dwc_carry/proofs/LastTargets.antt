@@ -16,7 +16,7 @@ use Rattle.dwc_base.specs.ListedFunctions.{is_begun, listed_functions}
 use Rattle.dwc_base.specs.MadeEntries.{made, named}
 use Rattle.dwc_base.specs.OwnUnits.{own_unit, place_of_context_pointer}
 use Rattle.dwc_base.specs.Parts.{context_label}
-use Rattle.dwc_base.specs.SimulatedUnit.{base_types, context_entry, function_entries, function_entry, label_entry, local_entry, local_name, local_tag, label_located, modules_entries, place_of_type, simulated_root, simulated_unit, type_place, unit_count, whole_intervals}
+use Rattle.dwc_base.specs.SimulatedUnit.{base_types, context_entry, context_pointers, function_entries, function_entry, label_entry, local_entry, local_name, local_tag, label_located, modules_entries, place_of_type, simulated_root, simulated_unit, type_place, unit_count, whole_intervals}
 use Rattle.dwc_base.specs.ToldFiles.{type_of_local}
 use Rattle.dwc_base.specs.TreeLaws.{size_of_unit, goes_somewhere, values_of, HasAllTargets}
 use Rattle.dwc_base.specs.Trees.{Interval, Location, TreeValue, address, constant, flag, block, expression, line_table, ranges, nothing, Tree, entry, locations, text}
@@ -81,14 +81,13 @@ unit_goes ts t = list_all (goes_somewhere ts) (values_of t)
 abbrev Goes : List Tree → Draft → Type 0
 Goes ts d = list_all (goes_somewhere ts) (map (λ a. a.1) (settled_entry (λ (goal : Goal). None) d).attributes) ≡ true
 
+-- whether a reference goes somewhere
+abbrev GoesThere : List Tree → TreeValue → Type 0
+GoesThere ts v = goes_somewhere ts v ≡ true
+
 -- whether an entry is there
 abbrev IsThere : List Tree → ℕ → ℕ → Type 0
 IsThere ts number place = nat_lt place (size_of_unit ts number) ≡ true
-
--- the pointers to the contexts of modules are there
-abbrev ContextsThere : List Tree → ℕ → List Module → Type 0
-ContextsThere ts own [] = Unit {0}
-ContextsThere ts own (m ∷ ms) = IsThere ts own (place_of_context_pointer m.told.memory) × ContextsThere ts (own + unit_count m) ms
 
 all-go : (ts : List Tree) (ds : List Draft) → Each (Goes ts) ds → unit_goes ts (settled_unit (λ goal. None) ds) ≡ true
 all-go ts [] h = refl
@@ -105,9 +104,9 @@ module _ (ts : List Tree) where
   function-goes m d = refl
 
   -- an entry below a function, with a name, a type and a list of locations
-  variable-goes : (tag : ℕ) (name : List ℕ) (located : List Location) (number place : ℕ) → IsThere ts number place
-      → Goes ts (made 2 tag (named DW_AT_name (text name) ∷ (DW_AT_type, done (entry number place)) ∷ named DW_AT_location (locations located) ∷ []))
-  variable-goes tag name located number place there = ap (λ b. b && true) there
+  variable-goes : (tag : ℕ) (name : List ℕ) (located : List Location) (type : TreeValue) → goes_somewhere ts type ≡ true
+      → Goes ts (made 2 tag (named DW_AT_name (text name) ∷ (DW_AT_type, done type) ∷ named DW_AT_location (locations located) ∷ []))
+  variable-goes tag name located type there = ap (λ b. b && true) there
 
   some-go : {A : Type 0} (f : A → Option Draft) → ((x : A) → IfSome (f x) (Goes ts)) → (xs : List A) → Each (Goes ts) (filter_map f xs)
   some-go f goes [] = tt
@@ -133,37 +132,38 @@ module _ (ts : List Tree) where
     local-there None = tt
     local-there (Some t) = type-there t
 
-    module _ (own : ℕ) (m : Module) (context : IsThere ts own (place_of_context_pointer m.told.memory)) (d : DefinedFunction) where
+    module _ (pointer : TreeValue) (m : Module) (context : goes_somewhere ts pointer ≡ true) (d : DefinedFunction) where
       local-goes : (n : ℕ) (o : Option ℕ) → IfSome o (IsThere ts unit) → IfSome (option_map (local_entry unit m d n) o) (Goes ts)
       local-goes n None there = tt
-      local-goes n (Some place) there = variable-goes (local_tag m d n) (local_name m d n) (located_or_none (label_located m d.function n)) unit place there
+      local-goes n (Some place) there = variable-goes (local_tag m d n) (local_name m d n) (located_or_none (label_located m d.function n)) (entry unit place) there
 
-      context-goes : Goes ts (context_entry own m d)
-      context-goes = variable-goes DW_TAG_variable (codes "__vmctx") (located_or_none (label_located m d.function context_label)) own (place_of_context_pointer m.told.memory) context
+      context-goes : Goes ts (context_entry pointer m d)
+      context-goes = variable-goes DW_TAG_variable (codes "__vmctx") (located_or_none (label_located m d.function context_label)) pointer context
 
-      label-goes : (label : ℕ) → IfSome (label_entry unit own m d label) (Goes ts)
+      label-goes : (label : ℕ) → IfSome (label_entry unit pointer m d label) (Goes ts)
       label-goes label = go (label == context_label)
         where
-          go : (b : Bool) → IfSome (cond {A = Option Draft} b (Some (context_entry own m d)) (option_map (local_entry unit m d label) (type_place m d label))) (Goes ts)
+          go : (b : Bool) → IfSome (cond {A = Option Draft} b (Some (context_entry pointer m d)) (option_map (local_entry unit m d label) (type_place m d label))) (Goes ts)
           go true = context-goes
           go false = local-goes label (type_place m d label) (local-there (type_of_local (types_at m d) label))
 
-      function-all-go : Each (Goes ts) (function_entries unit own m d)
-      function-all-go = (function-goes m d, some-go (label_entry unit own m d) label-goes (m.told.labels d.function.number))
+      function-all-go : Each (Goes ts) (function_entries unit pointer m d)
+      function-all-go = (function-goes m d, some-go (label_entry unit pointer m d) label-goes (m.told.labels d.function.number))
 
-    modules-go : (translated : ℕ → Bool) (own : ℕ) (ms : List Module) → ContextsThere ts own ms → Each (Goes ts) (modules_entries translated unit own ms)
-    modules-go translated own [] contexts = tt
-    modules-go translated own (m ∷ ms) contexts =
-        each_both (Goes ts) (flat_map (function_entries unit own m) (listed_functions translated m)) (modules_entries translated unit (own + unit_count m) ms)
-        (lists-go (function_entries unit own m) (function-all-go own m contexts.0) (listed_functions translated m))
-        (modules-go translated (own + unit_count m) ms contexts.1)
+    modules-go : (translated : ℕ → Bool) (pointers : List TreeValue) (ms : List Module) → Each (GoesThere ts) pointers → Each (Goes ts) (modules_entries translated unit pointers ms)
+    modules-go translated pointers [] contexts = tt
+    modules-go translated [] (m ∷ ms) contexts = tt
+    modules-go translated (pointer ∷ pointers) (m ∷ ms) contexts =
+        each_both (Goes ts) (flat_map (function_entries unit pointer m) (listed_functions translated m)) (modules_entries translated unit pointers ms)
+        (lists-go (function_entries unit pointer m) (function-all-go pointer m contexts.0) (listed_functions translated m))
+        (modules-go translated pointers ms contexts.1)
 
   -- The last unit goes somewhere, where the types and the pointers to contexts are there.
-  simulated-goes : (translated : ℕ → Bool) (path : List ℕ) (ms : List Module) → ((place : ℕ) → place < 5 → IsThere ts (sum_by unit_count ms) place) → ContextsThere ts 0 ms → unit_goes ts (settled_unit (λ goal. None) (simulated_unit translated path ms)) ≡ true
+  simulated-goes : (translated : ℕ → Bool) (path : List ℕ) (unit : ℕ) (pointers : List TreeValue) (ms : List Module) → ((place : ℕ) → place < 5 → IsThere ts unit place) → Each (GoesThere ts) pointers → unit_goes ts (settled_unit (λ goal. None) (simulated_unit translated path unit pointers ms)) ≡ true
   unfolding simulated_unit
-  simulated-goes translated path ms types contexts =
-      all-go ts (simulated_root path (flat_map (whole_intervals translated) ms) ∷ base_types ++ modules_entries translated (sum_by unit_count ms) 0 ms)
-      (root-goes path (flat_map (whole_intervals translated) ms), each_both (Goes ts) base_types (modules_entries translated (sum_by unit_count ms) 0 ms) types-go (modules-go (sum_by unit_count ms) types translated 0 ms contexts))
+  simulated-goes translated path unit pointers ms types contexts =
+      all-go ts (simulated_root path (flat_map (whole_intervals translated) ms) ∷ base_types ++ modules_entries translated unit pointers ms)
+      (root-goes path (flat_map (whole_intervals translated) ms), each_both (Goes ts) base_types (modules_entries translated unit pointers ms) types-go (modules-go unit types translated pointers ms contexts))
 
 -- ---- what it refers to
 
@@ -184,7 +184,7 @@ module _ (big_endian : Bool) where
   abbrev trees_of : ℕ → List Module → List Tree
   trees_of number ms = trees_from number (map (λ m. module_drafts big_endian m) ms)
 
-  contexts-there : (before behind : List Tree) (own : ℕ) (ms : List Module) → own ≡ length before → ContextsThere (before ++ (trees_of own ms ++ behind)) own ms
+  contexts-there : (before behind : List Tree) (own : ℕ) (ms : List Module) → own ≡ length before → Each (GoesThere (before ++ (trees_of own ms ++ behind))) (context_pointers own ms)
   contexts-there before behind own [] is = tt
   contexts-there before behind own (m ∷ ms) is =
       let drafts = module_drafts big_endian m in
@@ -199,15 +199,15 @@ module _ (big_endian : Bool) where
       let size : size_of_unit (before ++ ((here ++ rest) ++ behind)) own ≡ length (own_unit m.told.names.set_memory m.told.memory) =
       ap (size_of_unit (before ++ ((here ++ rest) ++ behind))) is ∙ size-behind before tree ((others ++ rest) ++ behind) ∙ length-map (own_unit m.told.names.set_memory m.told.memory) (settled_entry (place_of_goal own drafts)) in (
         lt-ltb place (size_of_unit (before ++ ((here ++ rest) ++ behind)) own) (subst (λ n. place < n) (sym size) (own-there m.told.names.set_memory m.told.memory)),
-        subst (λ ts. ContextsThere ts (own + unit_count m) ms) joined
-            (subst (λ n. ContextsThere ((before ++ here) ++ (trees_of n ms ++ behind)) (own + unit_count m) ms) (ap (λ k. own + k) (sym (units-counted big_endian m)))
+        subst (λ ts. Each (GoesThere ts) (context_pointers (own + unit_count m) ms)) joined
+            (subst (λ n. Each (GoesThere ((before ++ here) ++ (trees_of n ms ++ behind))) (context_pointers (own + unit_count m) ms)) (ap (λ k. own + k) (sym (units-counted big_endian m)))
             (contexts-there (before ++ here) behind (own + unit_count m) ms next)),
       )
 
 -- the types are in the last unit
-types-within : (translated : ℕ → Bool) (path : List ℕ) (ms : List Module) (place : ℕ) → place < 5 → place < length (simulated_unit translated path ms)
+types-within : (translated : ℕ → Bool) (path : List ℕ) (unit : ℕ) (pointers : List TreeValue) (ms : List Module) (place : ℕ) → place < 5 → place < length (simulated_unit translated path unit pointers ms)
 unfolding simulated_unit
-types-within translated path ms place less = omega (arith, less)
+types-within translated path unit pointers ms place less = omega (arith, less)
 
 -- Every reference of the trees that are made of an input goes to an entry of these trees.
 pub all-targets : (c : Compilation) → HasAllTargets (trees_made c)
@@ -221,14 +221,17 @@ all-targets c = go (is_begun c.modules) c.modules (made-targets c)
     go translated (m ∷ ms) h =
         let ts : List Tree = trees_of (is_big c.order) 0 (m ∷ ms) in
         let path : List ℕ = unit_path c.next_id m in
-        let last : Tree = settled_unit (λ goal. None) (simulated_unit translated path (m ∷ ms)) in
+        let unit : ℕ = sum_by unit_count (m ∷ ms) in
+        let pointers : List TreeValue = context_pointers 0 (m ∷ ms) in
+        let drafts : List Draft = simulated_unit translated path unit pointers (m ∷ ms) in
+        let last : Tree = settled_unit (λ goal. None) drafts in
         let all : List Tree = ts ++ last ∷ [] in
         let before : list_all (unit_goes ts) ts ≡ true = subst (λ us. list_all (unit_goes us) us ≡ true) (append-nil ts) h in
-        let number : sum_by unit_count (m ∷ ms) ≡ length ts = sym (last-number (is_big c.order) 0 (m ∷ ms)) in
-        let size : size_of_unit all (sum_by unit_count (m ∷ ms)) ≡ length (simulated_unit translated path (m ∷ ms)) =
-        ap (size_of_unit all) number ∙ size-behind ts last [] ∙ length-map (simulated_unit translated path (m ∷ ms)) (settled_entry (λ (goal : Goal). None)) in
+        let number : unit ≡ length ts = sym (last-number (is_big c.order) 0 (m ∷ ms)) in
+        let size : size_of_unit all unit ≡ length drafts =
+        ap (size_of_unit all) number ∙ size-behind ts last [] ∙ length-map drafts (settled_entry (λ (goal : Goal). None)) in
         all-append (unit_goes all) ts (last ∷ [])
         (all-so (unit_goes ts) (unit_goes all) (λ t goes. all-so (goes_somewhere ts) (goes_somewhere all) (goes-more ts (last ∷ [])) (values_of t) goes) ts before)
         (both-of (unit_goes all last) true
-        (simulated-goes all translated path (m ∷ ms) (λ place less. lt-ltb place (size_of_unit all (sum_by unit_count (m ∷ ms))) (subst (λ n. place < n) (sym size) (types-within translated path (m ∷ ms) place less))) (contexts-there (is_big c.order) [] (last ∷ []) 0 (m ∷ ms) refl))
+        (simulated-goes all translated path unit pointers (m ∷ ms) (λ place less. lt-ltb place (size_of_unit all unit) (subst (λ n. place < n) (sym size) (types-within translated path unit pointers (m ∷ ms) place less))) (contexts-there (is_big c.order) [] (last ∷ []) 0 (m ∷ ms) refl))
         refl)

@@ -12,13 +12,15 @@ use Rattle.dwc_base.specs.Functions.{Function, Recorded, recorded_sources}
 use Rattle.dwc_base.specs.LastUnit.{last_refusals, listed_in_files, path_refusals, widest_listed}
 use Rattle.dwc_base.specs.Refusals.{Refusal, bad_path, first_of}
 use Rattle.dwc_base.specs.SimulatedLines as Lines
-use Rattle.dwc_base.specs.SimulatedUnit.{base_types, simulated_refusals, simulated_root, simulated_unit, unit_count}
+use Rattle.dwc_base.specs.SimulatedUnit.{base_types, simulated_refusals, simulated_root, simulated_unit}
+use Rattle.dwc_base.specs.Trees.{TreeValue}
 use Rattle.dwc_base.specs.UnitPaths.{is_file_name, next_id_behind, path_name, unit_path}
 use Rattle.dwc_base.specs.Widest.{widest_header, widest_image}
 use Rattle.dwc_clif.specs.Registers.{Registers}
 use Rattle.dwc_addr.specs.Compilations.{CompilationValue, IsCounted}
 use Rattle.dwc_image.specs.SimulatedSequences.{CanList, line_of_recorded, lines_of_recorded, simulated_program, simulated_sequence}
 use Rattle.dwc_image.proofs.SimulatedLaws.{program-simulated}
+use Rattle.dwc_write.specs.declared.attributes.DebugInfoRef.{DebugInfoRef}
 use Rattle.dwc_write.specs.declared.lists.RangeList.{RangeList}
 use Rattle.dwc_write.specs.GivenLines.{GivenLines}
 use Rattle.dwc_write.specs.GivenUnits.{Addition, GivenUnit}
@@ -33,10 +35,11 @@ use Rattle.dwc_carry.specs.declared.error.DebugError.{DebugError}
 use Rattle.dwc_carry.specs.declared.simulated_entries.TypeTexts.{TypeTexts}
 use Rattle.dwc_carry.specs.declared.simulated_root.RootTexts.{RootTexts}
 use Rattle.dwc_carry.specs.Inputs.{counted_behind, modules_from, modules_of, names_of, told_from}
-use Rattle.dwc_carry.specs.LastUnits.{AddsLast, IsLast, IsPathOf, IsTyped}
+use Rattle.dwc_carry.specs.LastUnits.{AddsLast, IsLast, IsPathOf, IsTyped, referred}
 use Rattle.dwc_carry.specs.ListedFiles.{CanWrite, intervals_of}
 use Rattle.dwc_carry.specs.MadeEntries.{with_additions}
-use Rattle.dwc_carry.specs.MadeUnits.{HasListedLines, IsMadeOf, LeadsTo}
+use Rattle.dwc_carry.specs.MadeUnits.{HasListedLines, IsMadeOf}
+use Rattle.dwc_carry.specs.OwnUnits.{reference_meant}
 use Rattle.dwc_carry.specs.Refusals.{RefusesReading, in_reading}
 use Rattle.dwc_carry.specs.SimulatedAdditions.{root_given, root_names, root_texts_of, simulated_root_addition, type_additions, type_names, type_texts_of}
 use Rattle.dwc_carry.specs.SimulatedDrafts.{BeginsWith, HasModules, IsSimulated}
@@ -106,15 +109,16 @@ listed-lines name size fs u fit is = record {
 -- ---- the whole unit
 
 -- Behind the root and the types all modules are left.
-pub modules-left : (translated : ℕ → Bool) (size : ℕ) (path : List ℕ) (ms : List Module) (fs : List (ℕ × Function)) (texts : List (List ℕ)) (u : GivenUnit) → fs ≡ listed_in_files translated ms → IsTyped size path fs texts u → HasModules translated (sum_by unit_count ms) 0 texts (simulated_unit translated path ms) ms u
-modules-left translated size path ms fs texts u is typed =
-    modules-begun translated texts path ms u
-    (subst (λ whole. IsSimulated (sum_by unit_count ms) texts (simulated_root path whole ∷ base_types) u) (ap intervals_of is ∙ all-intervals translated ms) (typed.simulated (sum_by unit_count ms)))
+pub modules-left : (translated : ℕ → Bool) (size : ℕ) (path : List ℕ) (number : ℕ) (pointers : List TreeValue) (ms : List Module) (fs : List (ℕ × Function)) (texts : List (List ℕ)) (u : GivenUnit) → fs ≡ listed_in_files translated ms → IsTyped size path fs texts u
+    → HasModules translated number pointers texts (simulated_unit translated path number pointers ms) ms u
+modules-left translated size path number pointers ms fs texts u is typed =
+    modules-begun translated number pointers texts path ms u
+    (subst (λ whole. IsSimulated number texts (simulated_root path whole ∷ base_types) u) (ap intervals_of is ∙ all-intervals translated ms) (typed.simulated number))
 
 -- The unit is what it is to be, once their entries are added.
-pub last-made : (translated : ℕ → Bool) (size : ℕ) (path : List ℕ) (ms : List Module) (fs : List (ℕ × Function)) (before middle after : List (List ℕ)) (u v : GivenUnit) → fs ≡ listed_in_files translated ms → All CanWrite fs → Grows before middle → Grows middle after
-    → IsTyped size path fs middle u → ((size : ℕ) (lines : GivenLines) (root : Addition) → BeginsWith size lines root u → BeginsWith size lines root v) → IsSimulated (sum_by unit_count ms) after (simulated_unit translated path ms) v → IsLast translated size path ms before after v
-last-made translated size path ms fs before middle after u v is fit first second typed begins says =
+pub last-made : (translated : ℕ → Bool) (size : ℕ) (path : List ℕ) (ms : List Module) (refs : List DebugInfoRef) (fs : List (ℕ × Function)) (before middle after : List (List ℕ)) (u v : GivenUnit) → fs ≡ listed_in_files translated ms → All CanWrite fs → Grows before middle → Grows middle after
+    → IsTyped size path fs middle u → ((size : ℕ) (lines : GivenLines) (root : Addition) → BeginsWith size lines root u → BeginsWith size lines root v) → ((number : ℕ) → IsSimulated number after (simulated_unit translated path number (map reference_meant refs) ms) v) → IsLast translated size path ms refs before after v
+last-made translated size path ms refs fs before middle after u v is fit first second typed begins says =
     let program : GivenLines = simulated_program size (path_name path) fs in
     let begun = begins size program (simulated_root_addition typed.names typed.list) typed.begins in
     record {
@@ -160,16 +164,14 @@ module _ (translated : ℕ → Bool) (next_id : ℕ) (m : Module) (ms : List Mod
   refused-of : is_file_name (path_name path) ≡ false → first_of (last_refusals translated next_id (m ∷ ms)) ≡ Some bad_path
   refused-of unnamed = ap (λ rs. first_of (rs ++ simulated_refusals translated (m ∷ ms))) (path-refusals next_id m ms false (named-so false unnamed))
 
-  added-of : (size : ℕ) (old new : List GivenUnit) (before after : List (List ℕ)) (u : GivenUnit) → length old ≡ sum_by unit_count (m ∷ ms) → new ≡ old ++ u ∷ [] → IsLast translated size path (m ∷ ms) before after u
-      → AddsLast translated size next_id (m ∷ ms) old new before after
-  added-of size old new before after u counted added last = record {
+  added-of : (size : ℕ) (refs : List DebugInfoRef) (old new : List GivenUnit) (before after : List (List ℕ)) (u : GivenUnit) → new ≡ old ++ u ∷ [] → IsLast translated size path (m ∷ ms) refs before after u → AddsLast translated size next_id (m ∷ ms) refs old new before after
+  added-of size refs old new before after u added last = record {
     made = u ∷ [];
     added = added;
     grows = last.grows;
-    each = λ at leads contexts. (
-      subst (λ p. IsMadeOf at size after (length old) (listed_unit (path_name p) translated (m ∷ ms)) (settled_unit (λ goal. None) (simulated_unit translated p (m ∷ ms))) u) of
-          (subst (λ n. IsMadeOf at size after n (listed_unit (path_name path) translated (m ∷ ms)) (settled_unit (λ goal. None) (simulated_unit translated path (m ∷ ms))) u) (sym counted)
-          (whole-made translated at size after (listed_unit (path_name path) translated (m ∷ ms)) path (m ∷ ms) u last.lines last.simulated (subst (λ n. LeadsTo at n (u ∷ [])) counted leads) contexts last.writable)),
+    each = λ at leads. (
+      subst (λ p. IsMadeOf at size after (length old) (listed_unit (path_name p) translated (m ∷ ms)) (settled_unit (λ goal. None) (simulated_unit translated p (length old) (referred at refs) (m ∷ ms))) u) of
+          (whole-made translated at size after (listed_unit (path_name path) translated (m ∷ ms)) path (length old) (map reference_meant refs) (m ∷ ms) u last.lines (last.simulated (length old)) leads last.writable),
       tt,
     );
   }
@@ -200,12 +202,13 @@ module _ (translated : ℕ → Bool) (registers : Registers) (c : CompilationVal
   unit-refused e named met = subst (λ (rs : List Refusal). RefusesReading (first_of rs) e) (sym (same-refusals named)) met
 
   -- The unit is added.
-  pub last-added : (size : ℕ) (old new : List GivenUnit) (before after : List (List ℕ)) (u : GivenUnit) → is_file_name (path_name path) ≡ true → length old ≡ sum_by unit_count modules → new ≡ old ++ u ∷ []
-      → (option_map in_reading (first_of (simulated_refusals translated modules)) ≡ None) × IsLast translated size path modules before after u → (option_map in_reading (first_of (last_refusals translated c.next_id modules)) ≡ None) × AddsLast translated size c.next_id modules old new before after
-  last-added size old new before after u named numbered added (none, last) = (
+  pub last-added : (size : ℕ) (refs : List DebugInfoRef) (old new : List GivenUnit) (before after : List (List ℕ)) (u : GivenUnit) → is_file_name (path_name path) ≡ true → new ≡ old ++ u ∷ []
+      → (option_map in_reading (first_of (simulated_refusals translated modules)) ≡ None) × IsLast translated size path modules refs before after u
+      → (option_map in_reading (first_of (last_refusals translated c.next_id modules)) ≡ None) × AddsLast translated size c.next_id modules refs old new before after
+  last-added size refs old new before after u named added (none, last) = (
     ap (λ (rs : List Refusal). option_map in_reading (first_of rs)) (same-refusals named) ∙ none,
-    subst (λ xs. AddsLast translated size c.next_id xs old new before after) (sym first.is)
-        (added-of translated c.next_id first.m first.ms path of-first size old new before after u (subst (λ xs. length old ≡ sum_by unit_count xs) first.is numbered) added (subst (λ xs. IsLast translated size path xs before after u) first.is last)),
+    subst (λ xs. AddsLast translated size c.next_id xs refs old new before after) (sym first.is)
+        (added-of translated c.next_id first.m first.ms path of-first size refs old new before after u added (subst (λ xs. IsLast translated size path xs refs before after u) first.is last)),
   )
 
 -- ---- without modules
@@ -217,15 +220,15 @@ modules-none registers c none = go c.translations none
     go [] none = refl
     go (t ∷ ts) none = absurd (omega (arith, none))
 
-nothing-added : (translated : ℕ → Bool) (size next_id : ℕ) (old : List GivenUnit) (before : List (List ℕ)) → (option_map in_reading (first_of (last_refusals translated next_id [])) ≡ None) × AddsLast translated size next_id [] old old before before
+nothing-added : (translated : ℕ → Bool) (size next_id : ℕ) (refs : List DebugInfoRef) (old : List GivenUnit) (before : List (List ℕ)) → (option_map in_reading (first_of (last_refusals translated next_id [])) ≡ None) × AddsLast translated size next_id [] refs old old before before
 unfolding simulated_refusals
-nothing-added translated size next_id old before = (refl, record { made = []; added = sym (append-nil old); grows = grows-same before; each = λ at leads contexts. tt })
+nothing-added translated size next_id refs old before = (refl, record { made = []; added = sym (append-nil old); grows = grows-same before; each = λ at leads. tt })
 
 -- Nothing is added.
-pub none-added : (translated : ℕ → Bool) (registers : Registers) (c : CompilationValue) (size : ℕ) (old : List GivenUnit) (before : List (List ℕ)) → length c.translations ≡ 0
-    → (option_map in_reading (first_of (last_refusals translated c.next_id (modules_of registers c))) ≡ None) × AddsLast translated size c.next_id (modules_of registers c) old old before before
-none-added translated registers c size old before none =
-    subst (λ xs. (option_map in_reading (first_of (last_refusals translated c.next_id xs)) ≡ None) × AddsLast translated size c.next_id xs old old before before) (sym (modules-none registers c none)) (nothing-added translated size c.next_id old before)
+pub none-added : (translated : ℕ → Bool) (registers : Registers) (c : CompilationValue) (size : ℕ) (refs : List DebugInfoRef) (old : List GivenUnit) (before : List (List ℕ)) → length c.translations ≡ 0
+    → (option_map in_reading (first_of (last_refusals translated c.next_id (modules_of registers c))) ≡ None) × AddsLast translated size c.next_id (modules_of registers c) refs old old before before
+none-added translated registers c size refs old before none =
+    subst (λ xs. (option_map in_reading (first_of (last_refusals translated c.next_id xs)) ≡ None) × AddsLast translated size c.next_id xs refs old old before before) (sym (modules-none registers c none)) (nothing-added translated size c.next_id refs old before)
 
 -- The counter stays as it is.
 pub none-counted : (registers : Registers) (c : CompilationValue) → length c.translations ≡ 0 → c ≡ counted_behind registers c

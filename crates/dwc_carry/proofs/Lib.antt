@@ -10,7 +10,7 @@ pub mod SimulatedLaws
 pub mod SimulatedRoots
 pub mod SimulatedSteps
 pub mod SimulatedTexts
-pub mod SimulatedStays
+pub mod SimulatedMoves
 pub mod SimulatedMade
 pub mod VariableLaws
 pub mod VariableSteps

@@ -1,5 +1,5 @@
 -- The loops over functions that are listed, step by step.
-use Rattle.std.proofs.Common.{◌≡◌, ℕ, zero, suc, ◌+◌, ◌<◌, ◌≤◌, ◌-◌, pos, ◌+ℤ◌, arith, refl, ap, ap₂, sym, subst, ◌∙◌, List, [], ◌∷◌, ◌++◌, map, drop, get_or, length, Bool, true, false, Some, None, All}
+use Rattle.std.proofs.Common.{◌≡◌, ℕ, zero, suc, ◌+◌, ◌<◌, ◌≤◌, pos, ◌+ℤ◌, arith, refl, ap, ap₂, sym, subst, ◌∙◌, List, [], ◌∷◌, ◌++◌, map, drop, get_or, length, Bool, true, false, Some, None, All}
 use Rattle.std.specs.Prelude.{◌==◌, if◌then◌else◌, FitsSigned}
 use Rattle.std.specs.Borrow.{Bor}
 use Rattle.std.specs.Int.{w32}

@@ -11,7 +11,6 @@ use Rattle.dwc_base.specs.DefinedFunctions.{DefinedFunction}
 use Rattle.dwc_base.specs.DraftForests.{settled_entry}
 use Rattle.dwc_base.specs.Drafts.{Draft}
 use Rattle.dwc_base.specs.Functions.{Function}
-use Rattle.dwc_base.specs.OwnUnits.{place_of_context_pointer}
 use Rattle.dwc_base.specs.Parts.{context_label}
 use Rattle.dwc_base.specs.SimulatedUnit.{base_type, base_types, context_entry, first_source, function_entry, function_index, function_name, label_located, local_entry, local_name, local_tag, surroundings_of}
 use Rattle.dwc_write.specs.declared.attributes.DebugInfoRef.{DebugInfoRef}
@@ -33,6 +32,7 @@ use Rattle.dwc_clone.proofs.EntryPaths.{last-before, last-new}
 use Rattle.dwc_clone.proofs.EntryValues.{grows-not}
 use Rattle.dwc_carry.specs.declared.simulated_entries.TypeTexts.{TypeTexts}
 use Rattle.dwc_carry.specs.MadeEntries.{with_additions}
+use Rattle.dwc_carry.specs.OwnUnits.{reference_meant}
 use Rattle.dwc_carry.specs.SimulatedAdditions.{context_addition, local_addition, subprogram_addition, type_addition, type_additions, type_names, type_texts_of}
 use Rattle.dwc_carry.specs.SimulatedDrafts.{HasFunction, IsSimulated, SaysDraft}
 use Rattle.dwc_carry.proofs.MadeAdditions.{entry-dense}
@@ -134,10 +134,10 @@ module _ (number : ℕ) (texts : List (List ℕ)) where
     names = one-in (local_name m d n) name known;
   }
 
-  -- the context, whose type is in the unit of a number
-  pub says-context : (own : ℕ) (m : Module) (d : DefinedFunction) (parent : ℕ) (name : StringId) (list : LocationList) → IsNumbered texts (codes "__vmctx") name → label_located m d.function context_label ≡ Ok (map location_of list.locations.items)
-      → SaysDraft number texts (context_entry own m d) (context_addition parent name (Entry (record { index = own }) (record { index = place_of_context_pointer m.told.memory })) list)
-  says-context own m d parent name list known located = record {
+  -- the context, whose type is referred to
+  pub says-context : (m : Module) (d : DefinedFunction) (parent : ℕ) (name : StringId) (type : DebugInfoRef) (list : LocationList) → IsNumbered texts (codes "__vmctx") name → label_located m d.function context_label ≡ Ok (map location_of list.locations.items)
+      → SaysDraft number texts (context_entry (reference_meant type) m d) (context_addition parent name type list)
+  says-context m d parent name (Entry unit id) list known located = record {
     origin = refl;
     means = rw (known.is, located) refl;
     names = one-in (codes "__vmctx") name known;
@@ -192,13 +192,12 @@ module _ (number : ℕ) (old new : List (List ℕ)) (grows : Grows old new) (ds 
       subst (λ w. HasFunction number new (ds ++ local_entry number m d n place ∷ []) parent w) (sym is)
       (variable-simulated number old new grows ds u so.simulated (local_entry number m d n place) (local_addition parent (local_tag m d n) name place list) (says-local number new m d n place parent name list known located) parent so.last refl refl)
 
-  -- The context of the last function, whose type is in the unit of a number.
-  pub context-simulated : (u v : GivenUnit) (own parent : ℕ) → HasFunction number old ds parent u → HasContext (label_located m d.function context_label) parent (Entry (record { index = own }) (record { index = place_of_context_pointer m.told.memory })) new u v
-      → HasFunction number new (ds ++ context_entry own m d ∷ []) parent v
-  context-simulated u v own parent so has =
-      let type : DebugInfoRef = Entry (record { index = own }) (record { index = place_of_context_pointer m.told.memory }) in
+  -- The context of the last function, whose type is referred to.
+  pub context-simulated : (u v : GivenUnit) (parent : ℕ) (type : DebugInfoRef) → HasFunction number old ds parent u → HasContext (label_located m d.function context_label) parent type new u v
+      → HasFunction number new (ds ++ context_entry (reference_meant type) m d ∷ []) parent v
+  context-simulated u v parent type so has =
       let order = so.simulated.drafted.order in
       let within = so.last.within in
       let added = variable-added u parent has.name type has.list so.simulated.dense (omega (arith, within, order.counted)) in
-      subst (λ w. HasFunction number new (ds ++ context_entry own m d ∷ []) parent w) (sym (has.is ∙ added))
-      (variable-simulated number old new grows ds u so.simulated (context_entry own m d) (context_addition parent has.name type has.list) (says-context number new own m d parent has.name has.list has.named has.located) parent so.last refl refl)
+      subst (λ w. HasFunction number new (ds ++ context_entry (reference_meant type) m d ∷ []) parent w) (sym (has.is ∙ added))
+      (variable-simulated number old new grows ds u so.simulated (context_entry (reference_meant type) m d) (context_addition parent has.name type has.list) (says-context number new m d parent has.name type has.list has.named has.located) parent so.last refl refl)

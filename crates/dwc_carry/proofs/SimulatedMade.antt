@@ -1,26 +1,26 @@
 -- The unit for functions without debugging information, once all its entries are added, is made as it is wanted.
 use Rattle.std.proofs.Common.{◌≡◌, ℕ, suc, ◌+◌, ◌<◌, arith, refl, ap, sym, subst, ◌∙◌, List, [], ◌∷◌, ◌++◌, map, length, Bool, Option, Some, None}
-use Rattle.std.specs.Prelude.{is_some, sum_by}
+use Rattle.std.specs.Prelude.{is_some}
 use Rattle.std.specs.List.{flat_map}
 use Rattle.std.proofs.lemmas.List.{length-map}
 use Rattle.dwc_base.specs.Carried.{Module, WantedUnit}
 use Rattle.dwc_base.specs.DraftForests.{settled_unit}
 use Rattle.dwc_base.specs.Drafts.{Draft}
-use Rattle.dwc_base.specs.SimulatedUnit.{base_types, modules_entries, simulated_root, simulated_unit, unit_count, whole_intervals}
-use Rattle.dwc_base.proofs.ForestLaws.{Each}
+use Rattle.dwc_base.specs.SimulatedUnit.{base_types, modules_entries, simulated_root, simulated_unit, whole_intervals}
+use Rattle.dwc_base.specs.Trees.{TreeValue}
 use Rattle.dwc_write.specs.declared.lists.RangeList.{RangeList}
 use Rattle.dwc_write.specs.AddedInOrder.{with_entry}
 use Rattle.dwc_write.specs.GivenLines.{GivenLines}
 use Rattle.dwc_write.specs.GivenUnits.{Addition, GivenUnit, IsWritable, names_lines, in_file_order, ordered}
-use Rattle.dwc_write.specs.Renumbered.{renumbered_entry}
+use Rattle.dwc_write.specs.Renumbered.{renumbered, renumbered_entry}
 use Rattle.dwc_write.proofs.AddedInOrderUnits.{numbered-place}
 use Rattle.dwc_clone.specs.ClonedUnits.{draft_depths}
 use Rattle.dwc_carry.specs.declared.simulated_root.RootTexts.{RootTexts}
 use Rattle.dwc_carry.specs.MadeEntries.{IsDense, with_additions}
 use Rattle.dwc_carry.specs.MadeUnits.{HasWantedLines, IsMadeOf, LeadsTo}
 use Rattle.dwc_carry.specs.SimulatedAdditions.{root_given, simulated_root_addition}
-use Rattle.dwc_carry.specs.SimulatedDrafts.{BeginsWith, ContextsStay, IsSimulated, StaysAt}
-use Rattle.dwc_carry.proofs.SimulatedStays.{all-stay, unit-stays}
+use Rattle.dwc_carry.specs.SimulatedDrafts.{BeginsWith, IsSimulated}
+use Rattle.dwc_carry.proofs.SimulatedMoves.{unit-moves}
 
 -- ---- what it begins with
 
@@ -49,15 +49,15 @@ writable size lines t list u ended sized begins = record {
   named = ap (λ es. names_lines (in_file_order es)) begins.is ∙ sym (ap (λ (l : GivenLines). is_some l.address_size) begins.lines_are ∙ ap is_some sized);
 }
 
--- A unit that is made of drafts, all of which stay where they are, says them.
-pub simulated-made : (at : ℕ → ℕ → Option (ℕ × ℕ)) (size : ℕ) (table : List (List ℕ)) (number : ℕ) (w : WantedUnit) (ds : List Draft) (u : GivenUnit) → HasWantedLines w u → IsSimulated number table ds u → Each (StaysAt at) ds → IsWritable size (ordered u)
-    → IsMadeOf at size table number w (settled_unit (λ goal. None) ds) u
-simulated-made at size table number w ds u lines so stay can = record {
+-- A unit that is made of drafts says others, where they are these with numbers put to places.
+pub simulated-made : (at : ℕ → ℕ → Option (ℕ × ℕ)) (size : ℕ) (table : List (List ℕ)) (number : ℕ) (w : WantedUnit) (ds es : List Draft) (u : GivenUnit) → HasWantedLines w u → IsSimulated number table ds u
+    → map (renumbered_entry at) (settled_unit (λ goal. None) ds) ≡ settled_unit (λ goal. None) es → IsWritable size (ordered u) → IsMadeOf at size table number w (settled_unit (λ goal. None) es) u
+simulated-made at size table number w ds es u lines so moved can = record {
   has_lines = lines;
   depths = draft_depths ds;
   order = so.drafted.order;
   leads = so.drafted.leads;
-  says = ap (map (renumbered_entry at)) so.drafted.says ∙ all-stay at ds stay;
+  says = ap (map (renumbered_entry at)) so.drafted.says ∙ moved;
   texts = so.drafted.names;
   writable = can;
 }
@@ -68,15 +68,14 @@ place-there at number place u leads dense within =
     let counted : number + 0 ≡ number = omega arith in
     subst (λ k. at k place ≡ Some (k, place)) counted (leads 0 u refl place place (numbered-place u place dense within))
 
--- The unit of a path, behind those of all modules, is made as it is wanted.
-pub whole-made : (translated : ℕ → Bool) (at : ℕ → ℕ → Option (ℕ × ℕ)) (size : ℕ) (table : List (List ℕ)) (w : WantedUnit) (path : List ℕ) (ms : List Module) (u : GivenUnit) → HasWantedLines w u → IsSimulated (sum_by unit_count ms) table (simulated_unit translated path ms) u
-    → LeadsTo at (sum_by unit_count ms) (u ∷ []) → ContextsStay at 0 ms → IsWritable size (ordered u) → IsMadeOf at size table (sum_by unit_count ms) w (settled_unit (λ goal. None) (simulated_unit translated path ms)) u
+-- The unit of a path is made as it is wanted.
+pub whole-made : (translated : ℕ → Bool) (at : ℕ → ℕ → Option (ℕ × ℕ)) (size : ℕ) (table : List (List ℕ)) (w : WantedUnit) (path : List ℕ) (number : ℕ) (pointers : List TreeValue) (ms : List Module) (u : GivenUnit) → HasWantedLines w u
+    → IsSimulated number table (simulated_unit translated path number pointers ms) u → LeadsTo at number (u ∷ []) → IsWritable size (ordered u) → IsMadeOf at size table number w (settled_unit (λ goal. None) (simulated_unit translated path number (map (renumbered at) pointers) ms)) u
 unfolding simulated_unit
-whole-made translated at size table w path ms u lines so leads contexts can =
+whole-made translated at size table w path number pointers ms u lines so leads can =
     let order = so.drafted.order in
-    let number = sum_by unit_count ms in
-    let behind = modules_entries translated number 0 ms in
+    let behind = modules_entries translated number pointers ms in
     let root = simulated_root path (flat_map (whole_intervals translated) ms) in
     let counted : length (draft_depths (root ∷ (base_types ++ behind))) ≡ suc (suc (suc (suc (suc (length behind))))) = length-map (root ∷ (base_types ++ behind)) (λ (d : Draft). d.depth) in
     let types : (place : ℕ) → place < 5 → at number place ≡ Some (number, place) = λ place below. place-there at number place u leads so.dense (omega (arith, below, counted, order.counted)) in
-    simulated-made at size table number w (simulated_unit translated path ms) u lines so (unit-stays at translated path ms types contexts) can
+    simulated-made at size table number w (simulated_unit translated path number pointers ms) (simulated_unit translated path number (map (renumbered at) pointers) ms) u lines so (unit-moves at translated path number pointers ms types) can

@@ -1,18 +1,17 @@
 -- The loop over modules that adds the entries of their listed functions.
-use Rattle.std.proofs.Common.{◌≡◌, ℕ, zero, suc, ◌+◌, ◌<◌, ◌≤◌, List, [], ◌∷◌, ◌++◌, drop, length, get_or, refl, ap, sym, ◌∙◌, subst, arith, Bool, None, Ok, Err}
+use Rattle.std.proofs.Common.{◌≡◌, ℕ, ◌+◌, ◌<◌, ◌≤◌, List, [], ◌∷◌, ◌++◌, drop, length, map, get_or, refl, ap, sym, ◌∙◌, subst, Bool, None, Ok, Err}
 use Rattle.std.specs.Prelude.{option_map}
 use Rattle.std.specs.List.{flat_map}
-use Rattle.std.proofs.lemmas.List.{drop_all, drop_more, length-map}
+use Rattle.std.proofs.lemmas.List.{drop_all, drop_more}
 use Rattle.dwc_base.specs.declared.wasm.ModuleTranslation.{ModuleTranslation}
 use Rattle.dwc_base.specs.Carried.{Module}
 use Rattle.dwc_base.specs.Drafts.{Draft}
 use Rattle.dwc_base.specs.Functions.{Function}
 use Rattle.dwc_base.specs.ListedFunctions.{listed_functions}
-use Rattle.dwc_base.specs.OwnUnits.{place_of_context_pointer}
 use Rattle.dwc_base.specs.Refusals.{Refusal, first_of}
-use Rattle.dwc_base.specs.SimulatedUnit.{modules_entries, simulated_refusals, unit_count, variable_refusals}
+use Rattle.dwc_base.specs.SimulatedUnit.{modules_entries, simulated_refusals, variable_refusals}
+use Rattle.dwc_base.specs.Trees.{TreeValue}
 use Rattle.dwc_clif.specs.Registers.{Registers}
-use Rattle.dwc_addr.specs.Compilations.{CompilationValue, IsCounted}
 use Rattle.dwc_write.specs.declared.attributes.DebugInfoRef.{DebugInfoRef}
 use Rattle.dwc_write.specs.GivenLines.{GivenLines}
 use Rattle.dwc_write.specs.GivenUnits.{Addition, GivenUnit}
@@ -21,48 +20,20 @@ use Rattle.dwc_clone.specs.MadeValues.{Grows}
 use Rattle.dwc_carry.specs.declared.error.DebugError.{DebugError}
 use Rattle.dwc_clone.specs.declared.compiled_module.CompiledModule.{CompiledModule}
 use Rattle.dwc_carry.specs.CarriedModules.{transformed_module}
-use Rattle.dwc_carry.specs.Inputs.{functions_from, modules_of, names_of}
-use Rattle.dwc_carry.specs.LastUnits.{ReferToContexts}
 use Rattle.dwc_carry.specs.ListedParts.{AddsModule, ArePartsOf}
 use Rattle.dwc_carry.specs.MadeEntries.{IsDense}
-use Rattle.dwc_carry.specs.OwnUnits.{entry_of}
+use Rattle.dwc_carry.specs.OwnUnits.{reference_meant}
 use Rattle.dwc_carry.specs.Refusals.{RefusesReading, in_reading}
 use Rattle.dwc_carry.specs.SimulatedDrafts.{BeginsWith, HasFunctions, HasModules, IsSimulated}
-use Rattle.dwc_carry.proofs.CompiledLaws.{functions-are, transforms-inside}
 use Rattle.dwc_carry.proofs.MadeLaws.{grows-same, grows-twice}
 use Rattle.dwc_carry.proofs.RefusalLaws.{first-behind, no-first, reading-more, unmapped}
 use Rattle.dwc_carry.proofs.SimulatedSteps.{functions-begun, functions-done, modules-done}
 
--- ---- modules by their places
-
--- a place at which something is left lies inside
-pub inside-left : {A : Type 0} (xs : List A) (i : ℕ) (y : A) (ys : List A) → drop i xs ≡ y ∷ ys → i < length xs
-inside-left [] zero y ys is = absurd (cc)
-inside-left [] (suc i) y ys is = absurd (cc)
-inside-left (x ∷ xs) zero y ys is = omega arith
-inside-left (x ∷ xs) (suc i) y ys is = omega (arith, inside-left xs i y ys is)
-
--- there is a reference for each module
-pub refers-length : (own : ℕ) (ms : List Module) (rs : List DebugInfoRef) → ReferToContexts own ms rs → length rs ≡ length ms
-refers-length own [] [] h = refl
-refers-length own [] (r ∷ rs) h = absurd h
-refers-length own (m ∷ ms) [] h = absurd h
-refers-length own (m ∷ ms) (r ∷ rs) h = omega (arith, refers-length (own + unit_count m) ms rs h.1)
-
--- there is one for each translation
-pub refers-inside : (registers : Registers) (c : CompilationValue) (rs : List DebugInfoRef) (i : ℕ) → IsCounted c.translations c.functions c.memory_offsets → i < length c.translations → ReferToContexts 0 (modules_of registers c) rs → i < length rs
-refers-inside registers c rs i counted less refers =
-    let all = functions-are registers (names_of c) c.translations c.functions c.memory_offsets counted in
-    let inside = transforms-inside c (functions_from 0 c.translations c.functions) i counted less refl in
-    omega (arith, inside, ap length all, length-map (modules_of registers c) (λ (m : Module). m.functions), refers-length 0 (modules_of registers c) rs refers)
-
 -- ---- the loop
 
--- The entries of the modules from a place on are left; those before are accepted, and references go to the contexts of those that are left.
+-- The entries of the modules from a place on are left, with the references from there on; those before are accepted.
 pub record ModulesLeft (translated : ℕ → Bool) (number : ℕ) (whole : List Draft) (ms : List Module) (refs : List DebugInfoRef) (texts : List (List ℕ)) (u : GivenUnit) (i : ℕ) : Type 0 where
-  pub own : ℕ
-  pub has : HasModules translated number own texts whole (drop i ms) u
-  pub refers : ReferToContexts own (drop i ms) (drop i refs)
+  pub has : HasModules translated number (map reference_meant (drop i refs)) texts whole (drop i ms) u
   pub accepted : simulated_refusals translated (drop i ms) ≡ simulated_refusals translated ms
 
 -- What the loop keeps.
@@ -71,36 +42,36 @@ pub record ModulesAdded (translated : ℕ → Bool) (ms : List Module) (refs : L
   pub dense : IsDense u
   pub some : 0 < length u.additions
   pub begins : (size : ℕ) (lines : GivenLines) (root : Addition) → BeginsWith size lines root first → BeginsWith size lines root u
-  pub entries : (number : ℕ) (whole : List Draft) → HasModules translated number 0 before whole ms first → ModulesLeft translated number whole ms refs texts u i
+  pub entries : (number : ℕ) (whole : List Draft) → HasModules translated number (map reference_meant refs) before whole ms first → ModulesLeft translated number whole ms refs texts u i
 
 module _ (translated : ℕ → Bool) (ms : List Module) (refs : List DebugInfoRef) (before : List (List ℕ)) (first : GivenUnit) where
-  pub added-begin : ReferToContexts 0 ms refs → IsDense first → 0 < length first.additions → ModulesAdded translated ms refs before first before first 0
-  added-begin refers dense some = record {
+  pub added-begin : IsDense first → 0 < length first.additions → ModulesAdded translated ms refs before first before first 0
+  added-begin dense some = record {
     grows = grows-same before;
     dense = dense;
     some = some;
     begins = λ size lines root h. h;
-    entries = λ number whole h. record { own = 0; has = h; refers = refers; accepted = refl };
+    entries = λ number whole h. record { has = h; accepted = refl };
   }
 
   module _ (registers : Registers) (texts : List (List ℕ)) (u : GivenUnit) (i : ℕ) (h : ModulesAdded translated ms refs before first texts u i) (t : ModuleTranslation) (fs : List Function) (compiled : CompiledModule) (r : DebugInfoRef) (m : Module)
       (made : m ≡ transformed_module t fs (told_by registers compiled)) (frames : HasFrames compiled fs) (left : drop i ms ≡ m ∷ drop (i + 1) ms)
       (inside : i < length refs) (at : r ≡ get_or refs i r) where
-    -- the reference of the next module
-    refers-next : (own : ℕ) → ReferToContexts own (drop i ms) (drop i refs) → (r ≡ entry_of own (place_of_context_pointer m.told.memory)) × ReferToContexts (own + unit_count m) (drop (i + 1) ms) (drop (i + 1) refs)
-    refers-next own refers =
-        let split : drop i refs ≡ get_or refs i r ∷ drop (i + 1) refs = drop_more refs i r inside in
-        let both : ReferToContexts own (m ∷ drop (i + 1) ms) (get_or refs i r ∷ drop (i + 1) refs) = subst (λ rs. ReferToContexts own (m ∷ drop (i + 1) ms) rs) split (subst (λ ns. ReferToContexts own ns (drop i refs)) left refers) in
-        (at ∙ both.0, both.1)
+    -- the types of pointers to the contexts of those behind it
+    abbrev others : List TreeValue
+    others = map reference_meant (drop (i + 1) refs)
+
+    -- with that of the next module
+    refers-next : map reference_meant (drop i refs) ≡ reference_meant r ∷ others
+    refers-next = ap (map reference_meant) (drop_more refs i r inside ∙ ap (λ x. x ∷ drop (i + 1) refs) (sym at))
 
     -- what is given tells it
-    listed-next : (own : ℕ) → ReferToContexts own (drop i ms) (drop i refs) → ArePartsOf registers m own t fs compiled r
-    listed-next own refers = record {
+    listed-next : ArePartsOf registers m t fs compiled
+    listed-next = record {
       file = ap (λ (n : Module). n.file) made;
       functions = ap (λ (n : Module). n.functions) made;
       told = ap (λ (n : Module). n.told) made;
       frames = subst (HasFrames compiled) (sym (ap (λ (n : Module). n.functions) made)) frames;
-      context_is = (refers-next own refers).0;
     }
 
     -- what is refused of it, and behind it
@@ -110,17 +81,17 @@ module _ (translated : ℕ → Bool) (ms : List Module) (refs : List DebugInfoRe
 
     module _ (number : ℕ) (whole : List Draft) (k : ModulesLeft translated number whole ms refs texts u i) where
       abbrev behind : List Draft
-      behind = modules_entries translated number (k.own + unit_count m) (drop (i + 1) ms)
+      behind = modules_entries translated number others (drop (i + 1) ms)
 
       -- its functions are left
-      next-begun : HasFunctions number k.own m texts behind whole (listed_functions translated m) u
-      next-begun = functions-begun translated number k.own m (drop (i + 1) ms) whole texts u (subst (λ ns. HasModules translated number k.own texts whole ns u) left k.has)
+      next-begun : HasFunctions number (reference_meant r) m texts behind whole (listed_functions translated m) u
+      next-begun =
+          functions-begun translated number (reference_meant r) others m (drop (i + 1) ms) whole texts u
+          (subst (λ ps. HasModules translated number ps texts whole (m ∷ drop (i + 1) ms) u) refers-next (subst (λ ns. HasModules translated number (map reference_meant (drop i refs)) texts whole ns u) left k.has))
 
-      next-done : (after : List (List ℕ)) (v : GivenUnit) → (option_map in_reading (first_of (flat_map (variable_refusals m) (listed_functions translated m))) ≡ None) × HasFunctions number k.own m after behind whole [] v → ModulesLeft translated number whole ms refs after v (i + 1)
+      next-done : (after : List (List ℕ)) (v : GivenUnit) → (option_map in_reading (first_of (flat_map (variable_refusals m) (listed_functions translated m))) ≡ None) × HasFunctions number (reference_meant r) m after behind whole [] v → ModulesLeft translated number whole ms refs after v (i + 1)
       next-done after v (none, has) = record {
-        own = k.own + unit_count m;
-        has = functions-done translated number k.own m (drop (i + 1) ms) whole after v has;
-        refers = (refers-next k.own k.refers).1;
+        has = functions-done translated number (reference_meant r) others m (drop (i + 1) ms) whole after v has;
         accepted = sym (ap (λ rs. rs ++ simulated_refusals translated (drop (i + 1) ms)) (no-first (flat_map (variable_refusals m) (listed_functions translated m)) (unmapped in_reading (first_of (flat_map (variable_refusals m) (listed_functions translated m))) none))) ∙ sym refused-next ∙ k.accepted;
       }
 
@@ -141,24 +112,24 @@ module _ (translated : ℕ → Bool) (ms : List Module) (refs : List DebugInfoRe
       begins = λ size lines root is. begins size lines root (h.begins size lines root is);
       entries = λ number whole is.
           let k = h.entries number whole is in
-          next-done number whole k after v (gives m number k.own (behind number whole k) whole (listed-next k.own k.refers) (next-begun number whole k));
+          next-done number whole k after v (gives m number (behind number whole k) whole listed-next (next-begun number whole k));
     }
 
     -- A module that is refused.
     pub added-refused : (number : ℕ) (whole : List Draft) (after : List (List ℕ)) (v : GivenUnit) (e : DebugError)
         → AddsModule registers translated t fs compiled r texts after u v (Err e)
-        → HasModules translated number 0 before whole ms first → RefusesReading (first_of (simulated_refusals translated ms)) e
+        → HasModules translated number (map reference_meant refs) before whole ms first → RefusesReading (first_of (simulated_refusals translated ms)) e
     added-refused number whole after v e gives is =
         let k = h.entries number whole is in
-        next-refused number whole k e (gives m number k.own (behind number whole k) whole (listed-next k.own k.refers) (next-begun number whole k))
+        next-refused number whole k e (gives m number (behind number whole k) whole listed-next (next-begun number whole k))
 
   -- Behind the last one.
-  pub added-done : (texts : List (List ℕ)) (u : GivenUnit) (i : ℕ) → length ms ≤ i → ModulesAdded translated ms refs before first texts u i → (number : ℕ) (whole : List Draft) → HasModules translated number 0 before whole ms first
+  pub added-done : (texts : List (List ℕ)) (u : GivenUnit) (i : ℕ) → length ms ≤ i → ModulesAdded translated ms refs before first texts u i → (number : ℕ) (whole : List Draft) → HasModules translated number (map reference_meant refs) before whole ms first
       → (option_map in_reading (first_of (simulated_refusals translated ms)) ≡ None) × IsSimulated number texts whole u
   unfolding simulated_refusals
   added-done texts u i past h = λ number whole is.
       let k = h.entries number whole is in
       let none = drop_all i ms past in (
         ap (λ (rs : List Refusal). option_map in_reading (first_of rs)) (sym k.accepted ∙ ap (simulated_refusals translated) none),
-        modules-done translated number k.own texts whole u (subst (λ ns. HasModules translated number k.own texts whole ns u) none k.has),
+        modules-done translated number (map reference_meant (drop i refs)) texts whole u (subst (λ ns. HasModules translated number (map reference_meant (drop i refs)) texts whole ns u) none k.has),
       )

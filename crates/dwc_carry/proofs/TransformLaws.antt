@@ -1,10 +1,10 @@
 -- The transforms of the modules of a compilation, and what is made of the modules with them.
-use Rattle.std.proofs.Common.{◌≡◌, ℕ, zero, suc, ◌+◌, add-one, ◌<◌, ◌≤◌, List, [], ◌∷◌, ◌++◌, map, take, drop, length, get_or, slice_get, refl, ap, sym, ◌∙◌, subst, arith, Bool, Option, Some, None, Err, All, Ok}
+use Rattle.std.proofs.Common.{◌≡◌, ℕ, zero, suc, ◌+◌, add-one, ◌<◌, ◌≤◌, List, [], ◌∷◌, ◌++◌, map, take, drop, length, get_or, slice_get, refl, ap, ap₂, sym, ◌∙◌, subst, arith, Bool, Option, Some, None, Err, All, Ok}
 use Rattle.std.specs.Prelude.{false, is_some, option_map, option_to_list, sum_by, true}
 use Rattle.std.specs.BTreeSet.{BTreeSet}
 use Rattle.std.specs.Option.{option_or, unwrap_or}
 use Rattle.std.specs.List.{flat_map}
-use Rattle.std.proofs.lemmas.List.{append-nil, append_assoc, drop_more, drop_all}
+use Rattle.std.proofs.lemmas.List.{append-nil, append_assoc, drop_more, drop_all, length-map}
 use Rattle.std.proofs.lemmas.List.Elements.{All-nil, All-cons}
 use Rattle.std.proofs.lemmas.Option.{slice_get-get_or}
 use Rattle.dwc_base.specs.declared.records.Endian.{Endian}
@@ -14,11 +14,13 @@ use Rattle.dwc_base.specs.Functions.{Function, functions_of}
 use Rattle.dwc_base.specs.Carried.{Module, Compilation, units}
 use Rattle.dwc_base.specs.Forests.{module_units, wanted_units, first_refusal, function_refusals, is_big, module_drafts, module_refusals, trees_made}
 use Rattle.dwc_base.specs.DraftForests.{settled_unit, trees_from}
-use Rattle.dwc_base.specs.LastUnit.{last_drafts, last_refusals, last_wanted}
+use Rattle.dwc_base.specs.LastUnit.{last_drafts, last_refusals, last_wanted, listed_drafts}
 use Rattle.dwc_base.specs.ListedFunctions.{is_begun}
-use Rattle.dwc_base.specs.SimulatedUnit.{unit_count}
+use Rattle.dwc_base.specs.SimulatedUnit.{context_pointers, unit_count}
 use Rattle.dwc_base.specs.Refusals.{Refusal, first_of}
-use Rattle.dwc_base.specs.Trees.{Tree}
+use Rattle.dwc_base.specs.Drafts.{Draft}
+use Rattle.dwc_base.specs.TreeReading.{entry_or_nothing}
+use Rattle.dwc_base.specs.Trees.{Tree, TreeValue}
 use Rattle.dwc_base.specs.TreeLaws.{HasAllTargets}
 use Rattle.dwc_base.proofs.SimulatedUnitLaws.{last-number}
 use Rattle.dwc_clif.specs.AddressMaps.{address_map_view}
@@ -28,6 +30,7 @@ use Rattle.dwc_addr.specs.declared.error.AddrError.TheVariants as addr
 use Rattle.dwc_addr.specs.Numbers.{Compiled, function_count, first_number}
 use Rattle.dwc_addr.specs.Compilations.{CompilationValue, functions_at, code_offset_at, IsCounted}
 use Rattle.dwc_addr.specs.Transforms.{first_bad_map, Transforms}
+use Rattle.dwc_write.specs.declared.attributes.DebugInfoRef.{DebugInfoRef}
 use Rattle.dwc_write.specs.GivenUnits.{GivenUnit}
 use Rattle.dwc_clone.specs.BegunNumbers.{is_noted}
 use Rattle.dwc_carry.specs.declared.error.DebugError.{DebugError}
@@ -35,14 +38,16 @@ use Rattle.dwc_image.specs.CarriedLines.{AreKept}
 use Rattle.dwc_carry.specs.Refusals as refusals
 use Rattle.dwc_carry.specs.Refusals.{InputRefusal, IsCause, Told, bad_address_map, in_reading, memory, of_maps, told, Refuses, RefusesReading}
 use Rattle.dwc_carry.specs.MadeUnits.{LeadsTo, AreMadeOf}
-use Rattle.dwc_write.specs.Renumbered.{place_at}
+use Rattle.dwc_write.specs.Renumbered.{place_at, renumbered}
 use Rattle.dwc_carry.proofs.MadeLaws.{leads-behind, leads-front, leads-there, made-both, made-grown, made-length}
 use Rattle.dwc_carry.specs.declared.carry_modules.CarriedModules.{CarriedModules}
 use Rattle.dwc_carry.specs.CarriedModules.{AddsModules}
-use Rattle.dwc_carry.specs.LastUnits.{AddsLast, AreTranslated}
+use Rattle.dwc_carry.specs.OwnUnits.{reference_meant}
+use Rattle.dwc_carry.specs.SimulatedDrafts.{ContextsStay}
+use Rattle.dwc_carry.specs.LastUnits.{AddsLast, AreTranslated, ReferToContexts, referred}
 use Rattle.dwc_carry.specs.Inputs.{names_of, functions_from, modules_of, input_of, bad_map_from, bad_map, maps_refusal, refused_before_path}
 use Rattle.dwc_carry.specs.Transformed.{have_long, lengths_checked, IsTransformed}
-use Rattle.dwc_carry.proofs.CompiledLaws.{all_functions, functions-are}
+use Rattle.dwc_carry.proofs.CompiledLaws.{all_functions, counted-length, functions-are, functions-length}
 use Rattle.dwc_carry.proofs.LastTargets.{all-targets}
 use Rattle.dwc_carry.proofs.RefusalLaws.{first-behind, no-first, reading-more, refuses-more, unmapped}
 use Rattle.dwc_carry.proofs.LengthLaws.{all-short, some-long, checked-long, checked-short}
@@ -175,6 +180,21 @@ late-memory o e = go (told e)
     go (refusals.limit what) h none = absurd h.1
     go memory h none = refl
 
+-- There is a reference for each module.
+refers-length : (own : ℕ) (ms : List Module) (refs : List DebugInfoRef) → ReferToContexts own ms refs → length refs ≡ length ms
+refers-length own [] [] h = refl
+refers-length own [] (r ∷ refs) h = absurd h
+refers-length own (m ∷ ms) [] h = absurd h
+refers-length own (m ∷ ms) (r ∷ refs) h = ap suc (refers-length (own + unit_count m) ms refs h.1)
+
+-- References to contexts that stay where they are say the types of pointers to these.
+contexts-referred : (at : ℕ → ℕ → Option (ℕ × ℕ)) (own : ℕ) (ms : List Module) (refs : List DebugInfoRef) → ReferToContexts own ms refs → ContextsStay at own ms → referred at refs ≡ context_pointers own ms
+contexts-referred at own [] [] h stay = refl
+contexts-referred at own [] (r ∷ refs) h stay = absurd h
+contexts-referred at own (m ∷ ms) [] h stay = absurd h
+contexts-referred at own (m ∷ ms) (r ∷ refs) h stay =
+    ap₂ (λ (v : TreeValue) (vs : List TreeValue). v ∷ vs) (ap (λ (x : DebugInfoRef). renumbered at (reference_meant x)) h.0 ∙ ap entry_or_nothing stay.0) (contexts-referred at (own + unit_count m) ms refs h.1 stay.1)
+
 -- the noted numbers are those of the functions that are begun
 same-numbers : (ms : List Module) (translated : BTreeSet ℕ) → AreTranslated ms translated → is_noted translated ≡ is_begun ms
 same-numbers ms translated noted = λ i n. noted n i
@@ -201,6 +221,14 @@ module _ (registers : Registers) (c : CompilationValue) (counted : IsCounted c.t
 
   abbrev input_refusal : Option InputRefusal
   input_refusal = option_or (maps_refusal c) reading_refusal
+
+  -- There is a reference for each translation.
+  pub refers-each : (refs : List DebugInfoRef) → ReferToContexts 0 modules refs → length refs ≡ length c.translations
+  refers-each refs refers =
+      refers-length 0 modules refs refers
+      ∙ sym (length-map modules (λ (m : Module). m.functions))
+      ∙ ap length (functions-are registers (names_of c) c.translations c.functions c.memory_offsets counted)
+      ∙ functions-length 0 c.translations c.functions (counted-length c.translations c.functions c.memory_offsets counted)
 
   each-refused : (ms : List Module) → flat_map function_refusals (all_functions ms) ≡ flat_map (λ (m : Module). function_refusals m.functions) ms
   each-refused [] = refl
@@ -291,29 +319,31 @@ module _ (registers : Registers) (c : CompilationValue) (counted : IsCounted c.t
     trees_of_modules = trees_from 0 (map (module_drafts (is_big order)) modules)
 
     -- So many units are made for the modules as the last one's number says.
-    pub units-numbered : length vs ≡ sum_by unit_count modules
+    units-numbered : length vs ≡ sum_by unit_count modules
     units-numbered =
         let leads : LeadsTo (place_at vs) 0 k.made = subst (λ us. LeadsTo (place_at vs) 0 us) k.added (leads-there vs) in
         ap length k.added ∙ sym (made-length (place_at vs) size between 0 (module_units input) trees_of_modules k.made (k.each (place_at vs) leads)) ∙ last-number (is_big order) 0 modules
 
     -- The input is accepted, and the units that are added are those of it.
     pub input-transformed : (texts : List (List ℕ)) (us : List GivenUnit) → maps_refusal c ≡ None → have_long functions ≡ false → refusals_in modules ≡ None
-        → (option_map in_reading (first_of (last_refusals (is_noted carried.translated) c.next_id modules)) ≡ None) × AddsLast (is_noted carried.translated) size c.next_id modules vs us between texts
+        → (option_map in_reading (first_of (last_refusals (is_noted carried.translated) c.next_id modules)) ≡ None) × AddsLast (is_noted carried.translated) size c.next_id modules carried.vmctx_ptrs.items vs us between texts
         → (input_refusal ≡ None) × IsTransformed size (input_of order size registers None c) texts us
     input-transformed texts us good short none given =
         let same = same-numbers modules carried.translated k.translated in
         let last = subst (λ (begun : ℕ → Bool). option_map in_reading (first_of (last_refusals begun c.next_id modules)) ≡ None) same given.0 in
-        let l = subst (λ (begun : ℕ → Bool). AddsLast begun size c.next_id modules vs us between texts) same given.1 in
+        let l = subst (λ (begun : ℕ → Bool). AddsLast begun size c.next_id modules carried.vmctx_ptrs.items vs us between texts) same given.1 in
         let accepted : input_refusal ≡ None = sym (behind-lengths good short) ∙ ap (option_map in_reading) (behind-modules none) ∙ last in
         let all : us ≡ k.made ++ l.made = l.added ∙ ap (λ ws. ws ++ l.made) k.added in
         let counted : length vs ≡ 0 + length k.made = omega (arith, ap length k.added) in
         let leads : LeadsTo (place_at us) 0 (k.made ++ l.made) = subst (λ ws. LeadsTo (place_at us) 0 ws) all (leads-there us) in
         let front : LeadsTo (place_at us) 0 k.made = leads-front (place_at us) 0 k.made l.made leads in
         let behind : LeadsTo (place_at us) (length vs) l.made = leads-behind (place_at us) 0 (length vs) k.made l.made counted leads in
-        let ends : List Tree = map (settled_unit (λ goal. None)) (option_to_list (last_drafts (is_begun modules) c.next_id modules)) in
+        let ends : Option (List Draft) → List Tree = λ drafts. map (settled_unit (λ goal. None)) (option_to_list drafts) in
+        let drafts : listed_drafts (is_begun modules) c.next_id (length vs) (referred (place_at us) carried.vmctx_ptrs.items) modules ≡ last_drafts (is_begun modules) c.next_id modules =
+        ap₂ (λ (n : ℕ) (pointers : List TreeValue). listed_drafts (is_begun modules) c.next_id n pointers modules) units-numbered (contexts-referred (place_at us) 0 modules carried.vmctx_ptrs.items k.refers (k.contexts (place_at us) front)) in
         let one = made-grown (place_at us) size between texts 0 (module_units input) trees_of_modules k.made l.grows (k.each (place_at us) front) in
-        let two = l.each (place_at us) behind (k.contexts (place_at us) front) in
-        let both = made-both (place_at us) size texts 0 (length vs) (module_units input) (last_wanted (is_begun modules) c.next_id modules) trees_of_modules ends k.made l.made counted one two in
+        let two = subst (λ ds. AreMadeOf (place_at us) size texts (length vs) (last_wanted (is_begun modules) c.next_id modules) (ends ds) l.made) drafts (l.each (place_at us) behind) in
+        let both = made-both (place_at us) size texts 0 (length vs) (module_units input) (last_wanted (is_begun modules) c.next_id modules) trees_of_modules (ends (last_drafts (is_begun modules) c.next_id modules)) k.made l.made counted one two in
         let made : AreMadeOf (place_at us) size texts 0 (wanted_units input) (trees_made input) us =
         subst (AreMadeOf (place_at us) size texts 0 (wanted_units input) (trees_made input)) (sym all)
         (subst (λ ts. AreMadeOf (place_at us) size texts 0 (wanted_units input) ts (k.made ++ l.made)) (sym (trees-of-all input)) both) in (

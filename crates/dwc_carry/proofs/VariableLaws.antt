@@ -99,7 +99,7 @@ module _ (m : Module) (d : DefinedFunction) (label : ℕ) where
 
 -- ---- where labels lie
 
-module _ (registers : Registers) (m : Module) (d : DefinedFunction) (own : ℕ) (l : ListedModule) (f : ListedFunction) (listed : IsListedFunction registers m d own l f) where
+module _ (registers : Registers) (m : Module) (d : DefinedFunction) (l : ListedModule) (f : ListedFunction) (listed : IsListedFunction registers m d l f) where
   -- the locations of a label are those over the scope that is given
   pub listed-located : (label : ℕ) → label_over (surroundings l.transform.now (Some f.frame) registers) (f.scope ∷ []) label ≡ label_located m d.function label
   listed-located label =

@@ -1,5 +1,5 @@
 -- The unit for functions without debugging information, added behind those of all modules.
-use Rattle.std.specs.Prelude.{◌≡◌, ℕ, ◌+◌, ◌%◌, ◌^◌, ◌<◌, Bool, if◌then◌else◌, List, [], ◌∷◌, ◌++◌, map, length, sum_by, Option, None, option_to_list, Result}
+use Rattle.std.specs.Prelude.{◌≡◌, ℕ, ◌+◌, ◌%◌, ◌^◌, ◌<◌, Bool, if◌then◌else◌, List, [], ◌∷◌, ◌++◌, map, length, Option, None, option_to_list, Result}
 use Rattle.std.specs.BTreeSet.{BTreeSet}
 use Rattle.dwc_base.specs.Carried.{Module}
 use Rattle.dwc_base.specs.Functions.{Function}
@@ -9,7 +9,8 @@ use Rattle.dwc_base.specs.DraftForests.{settled_unit}
 use Rattle.dwc_base.specs.ListedFunctions.{is_begun}
 use Rattle.dwc_base.specs.Drafts.{Draft}
 use Rattle.dwc_base.specs.SimulatedUnit.{base_types, simulated_refusals, simulated_root, simulated_unit, unit_count}
-use Rattle.dwc_base.specs.LastUnit.{last_drafts, last_refusals, last_wanted, listed_in_files}
+use Rattle.dwc_base.specs.LastUnit.{last_refusals, last_wanted, listed_drafts, listed_in_files}
+use Rattle.dwc_base.specs.Trees.{TreeValue}
 use Rattle.dwc_base.specs.UnitPaths.{path_name, unit_path}
 use Rattle.dwc_addr.specs.Compilations.{CompilationValue}
 use Rattle.dwc_clif.specs.Registers.{Registers}
@@ -17,6 +18,7 @@ use Rattle.dwc_image.specs.SimulatedSequences.{simulated_program}
 use Rattle.dwc_write.specs.declared.lists.RangeList.{RangeList}
 use Rattle.dwc_write.specs.declared.attributes.DebugInfoRef.{DebugInfoRef}
 use Rattle.dwc_write.specs.GivenUnits.{GivenUnit, IsWritable, ordered}
+use Rattle.dwc_write.specs.Renumbered.{renumbered}
 use Rattle.dwc_write.specs.TextTables.{IsText}
 use Rattle.dwc_clone.specs.BegunNumbers.{is_noted}
 use Rattle.dwc_clone.specs.MadeValues.{Grows}
@@ -26,10 +28,10 @@ use Rattle.dwc_carry.specs.Inputs.{modules_of}
 use Rattle.dwc_carry.specs.ListedFiles.{intervals_of}
 use Rattle.dwc_carry.specs.MadeEntries.{IsDense}
 use Rattle.dwc_carry.specs.MadeUnits.{LeadsTo, AreMadeOf, HasListedLines}
-use Rattle.dwc_carry.specs.OwnUnits.{entry_of}
+use Rattle.dwc_carry.specs.OwnUnits.{entry_of, reference_meant}
 use Rattle.dwc_carry.specs.Refusals.{ReadsOr}
 use Rattle.dwc_carry.specs.SimulatedAdditions.{simulated_root_addition}
-use Rattle.dwc_carry.specs.SimulatedDrafts.{BeginsWith, ContextsStay, IsSimulated}
+use Rattle.dwc_carry.specs.SimulatedDrafts.{BeginsWith, IsSimulated}
 
 -- ---- what the units of modules tell
 
@@ -59,17 +61,17 @@ pub record IsTyped (size : ℕ) (path : List ℕ) (fs : List (ℕ × Function)) 
 abbrev pub GivesEntries : (ℕ → Bool) → ℕ → List Draft → List Module → List (List ℕ) → GivenUnit → Result (Unit {0}) DebugError → Type 0
 GivesEntries translated number whole ms after new result = ReadsOr (λ done. IsSimulated number after whole new) (first_of (simulated_refusals translated ms)) result
 
--- A unit of a path says the entries of modules, behind whose units it is to stand, and has their lines, by the numbers that are translated;
--- the table of texts has grown.
-pub record IsLast (translated : ℕ → Bool) (size : ℕ) (path : List ℕ) (ms : List Module) (before after : List (List ℕ)) (u : GivenUnit) : Type 0 where
+-- A unit of a path says the entries of modules, whatever its number, with references to the types of pointers to their contexts, and has
+-- their lines, by the numbers that are translated; the table of texts has grown.
+pub record IsLast (translated : ℕ → Bool) (size : ℕ) (path : List ℕ) (ms : List Module) (refs : List DebugInfoRef) (before after : List (List ℕ)) (u : GivenUnit) : Type 0 where
   pub grows : Grows before after
   pub lines : HasListedLines (path_name path) (listed_in_files translated ms) u
-  pub simulated : IsSimulated (sum_by unit_count ms) after (simulated_unit translated path ms) u
+  pub simulated : (number : ℕ) → IsSimulated number after (simulated_unit translated path number (map reference_meant refs) ms) u
   pub writable : IsWritable size (ordered u)
 
 -- It is made, or the first refusal of their variables is answered.
-abbrev pub GivesUnit : (ℕ → Bool) → ℕ → List ℕ → List Module → List (List ℕ) → List (List ℕ) → Result GivenUnit DebugError → Type 0
-GivesUnit translated size path ms before after result = ReadsOr (IsLast translated size path ms before after) (first_of (simulated_refusals translated ms)) result
+abbrev pub GivesUnit : (ℕ → Bool) → ℕ → List ℕ → List Module → List DebugInfoRef → List (List ℕ) → List (List ℕ) → Result GivenUnit DebugError → Type 0
+GivesUnit translated size path ms refs before after result = ReadsOr (IsLast translated size path ms refs before after) (first_of (simulated_refusals translated ms)) result
 
 -- A path is that of the unit of the modules of a compilation, for any target, and has no zero byte.
 abbrev pub IsPathOf : CompilationValue → List ℕ → Type 0
@@ -81,14 +83,19 @@ counted_name is_generated c = record c { next_id = if is_generated then (c.next_
 
 -- ---- the unit
 
--- The unit is added, where there is a module, that is to say its tree and has its lines; the table of texts has grown.
-pub record AddsLast (translated : ℕ → Bool) (size next_id : ℕ) (ms : List Module) (old new : List GivenUnit) (before after : List (List ℕ)) : Type 0 where
+-- what references say, where the numbers of all units' entries are put to places
+abbrev pub referred : (ℕ → ℕ → Option (ℕ × ℕ)) → List DebugInfoRef → List TreeValue
+referred at refs = map (renumbered at) (map reference_meant refs)
+
+-- The unit is added, where there is a module, that is to say its tree, with references to the types of pointers to contexts, and has its
+-- lines; the table of texts has grown.
+pub record AddsLast (translated : ℕ → Bool) (size next_id : ℕ) (ms : List Module) (refs : List DebugInfoRef) (old new : List GivenUnit) (before after : List (List ℕ)) : Type 0 where
   pub made : List GivenUnit
   pub added : new ≡ old ++ made
   pub grows : Grows before after
-  pub each : (at : ℕ → ℕ → Option (ℕ × ℕ)) → LeadsTo at (length old) made → ContextsStay at 0 ms
-      → AreMadeOf at size after (length old) (last_wanted translated next_id ms) (map (settled_unit (λ goal. None)) (option_to_list (last_drafts translated next_id ms))) made
+  pub each : (at : ℕ → ℕ → Option (ℕ × ℕ)) → LeadsTo at (length old) made
+      → AreMadeOf at size after (length old) (last_wanted translated next_id ms) (map (settled_unit (λ goal. None)) (option_to_list (listed_drafts translated next_id (length old) (referred at refs) ms))) made
 
 -- It is added, or the first refusal is answered.
-abbrev pub GivesLast : (ℕ → Bool) → ℕ → ℕ → List Module → List GivenUnit → List GivenUnit → List (List ℕ) → List (List ℕ) → Result (Unit {0}) DebugError → Type 0
-GivesLast translated size next_id ms old new before after result = ReadsOr (λ done. AddsLast translated size next_id ms old new before after) (first_of (last_refusals translated next_id ms)) result
+abbrev pub GivesLast : (ℕ → Bool) → ℕ → ℕ → List Module → List DebugInfoRef → List GivenUnit → List GivenUnit → List (List ℕ) → List (List ℕ) → Result (Unit {0}) DebugError → Type 0
+GivesLast translated size next_id ms refs old new before after result = ReadsOr (λ done. AddsLast translated size next_id ms refs old new before after) (first_of (last_refusals translated next_id ms)) result

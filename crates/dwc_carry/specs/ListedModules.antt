@@ -5,30 +5,28 @@ use Rattle.dwc_base.specs.Carried.{Module}
 use Rattle.dwc_base.specs.DefinedFunctions.{DefinedFunction}
 use Rattle.dwc_base.specs.Drafts.{Draft}
 use Rattle.dwc_base.specs.ListedFunctions.{defined_from, listed_among, listed_functions}
-use Rattle.dwc_base.specs.OwnUnits.{place_of_context_pointer}
 use Rattle.dwc_base.specs.Refusals.{Refusal, first_of}
 use Rattle.dwc_base.specs.SimulatedUnit.{variable_refusals}
 use Rattle.dwc_base.specs.TranslationNames.{told_file}
+use Rattle.dwc_base.specs.Trees.{TreeValue}
 use Rattle.dwc_clif.specs.Registers.{Registers}
 use Rattle.dwc_write.specs.GivenUnits.{GivenUnit}
 use Rattle.dwc_clone.specs.CompiledModules.{told_by, HasFrames}
 use Rattle.dwc_carry.specs.declared.error.DebugError.{DebugError}
 use Rattle.dwc_carry.specs.declared.simulated_functions.ListedModule.{ListedModule}
-use Rattle.dwc_carry.specs.OwnUnits.{entry_of}
 use Rattle.dwc_carry.specs.Refusals.{ReadsOr, RefusesReading}
 use Rattle.dwc_carry.specs.SimulatedDrafts.{HasFunctions}
 
--- What is given of a module tells that module, whose own unit has a number.
-pub record IsListedModule (registers : Registers) (m : Module) (own : ℕ) (l : ListedModule) : Type 0 where
+-- What is given of a module tells that module.
+pub record IsListedModule (registers : Registers) (m : Module) (l : ListedModule) : Type 0 where
   pub file : m.file ≡ told_file l.translation.now
   pub functions : m.functions ≡ l.transform.now
   pub told : m.told ≡ told_by registers l.compiled.now
   pub frames : HasFrames l.compiled.now m.functions
-  pub context : l.vmctx_ptr ≡ entry_of own (place_of_context_pointer m.told.memory)
 
 -- The entries of its listed functions are added, or the first refusal of their variables is answered.
-abbrev pub GivesFunctions : (ℕ → Bool) → ℕ → ℕ → Module → List Draft → List Draft → List (List ℕ) → GivenUnit → Result (Unit {0}) DebugError → Type 0
-GivesFunctions translated number own m behind whole after new result = ReadsOr (λ done. HasFunctions number own m after behind whole [] new) (first_of (flat_map (variable_refusals m) (listed_functions translated m))) result
+abbrev pub GivesFunctions : (ℕ → Bool) → ℕ → TreeValue → Module → List Draft → List Draft → List (List ℕ) → GivenUnit → Result (Unit {0}) DebugError → Type 0
+GivesFunctions translated number pointer m behind whole after new result = ReadsOr (λ done. HasFunctions number pointer m after behind whole [] new) (first_of (flat_map (variable_refusals m) (listed_functions translated m))) result
 
 -- ---- one function after another
 
@@ -38,11 +36,11 @@ listed_from translated m place = listed_among translated (defined_from place (dr
 
 -- The entries of some listed functions are added, of whose variables none is refused, and others are left: with these, what is refused
 -- first is that of all.
-pub record LeftFunctions (number own : ℕ) (m : Module) (behind whole : List Draft) (left : List DefinedFunction) (total : Option Refusal) (texts : List (List ℕ)) (u : GivenUnit) : Type 0 where
-  pub made : HasFunctions number own m texts behind whole left u
+pub record LeftFunctions (number : ℕ) (pointer : TreeValue) (m : Module) (behind whole : List Draft) (left : List DefinedFunction) (total : Option Refusal) (texts : List (List ℕ)) (u : GivenUnit) : Type 0 where
+  pub made : HasFunctions number pointer m texts behind whole left u
   pub first : first_of (flat_map (variable_refusals m) left) ≡ total
 
 -- A call adds the entries of a function, so that others are left, or answers what is refused first.
-abbrev pub GivesFunction : ℕ → ℕ → Module → List Draft → List Draft → List DefinedFunction → Option Refusal → List (List ℕ) → GivenUnit → Result (Unit {0}) DebugError → Type 0
-GivesFunction number own m behind whole left total after new (Ok done) = LeftFunctions number own m behind whole left total after new
-GivesFunction number own m behind whole left total after new (Err e) = RefusesReading total e
+abbrev pub GivesFunction : ℕ → TreeValue → Module → List Draft → List Draft → List DefinedFunction → Option Refusal → List (List ℕ) → GivenUnit → Result (Unit {0}) DebugError → Type 0
+GivesFunction number pointer m behind whole left total after new (Ok done) = LeftFunctions number pointer m behind whole left total after new
+GivesFunction number pointer m behind whole left total after new (Err e) = RefusesReading total e

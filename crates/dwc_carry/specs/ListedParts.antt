@@ -5,7 +5,6 @@ use Rattle.dwc_base.specs.Carried.{Module}
 use Rattle.dwc_base.specs.Drafts.{Draft}
 use Rattle.dwc_base.specs.Functions.{Function}
 use Rattle.dwc_base.specs.ListedFunctions.{listed_functions}
-use Rattle.dwc_base.specs.OwnUnits.{place_of_context_pointer}
 use Rattle.dwc_base.specs.TranslationNames.{told_file}
 use Rattle.dwc_clif.specs.Registers.{Registers}
 use Rattle.dwc_write.specs.declared.attributes.DebugInfoRef.{DebugInfoRef}
@@ -14,18 +13,17 @@ use Rattle.dwc_clone.specs.declared.compiled_module.CompiledModule.{CompiledModu
 use Rattle.dwc_clone.specs.CompiledModules.{HasFrames, told_by}
 use Rattle.dwc_carry.specs.declared.error.DebugError.{DebugError}
 use Rattle.dwc_carry.specs.ListedModules.{GivesFunctions}
-use Rattle.dwc_carry.specs.OwnUnits.{entry_of}
+use Rattle.dwc_carry.specs.OwnUnits.{reference_meant}
 use Rattle.dwc_carry.specs.SimulatedDrafts.{HasFunctions}
 
--- The parts of a module tell it, whose own unit has a number.
-pub record ArePartsOf (registers : Registers) (m : Module) (own : ℕ) (t : ModuleTranslation) (fs : List Function) (compiled : CompiledModule) (context : DebugInfoRef) : Type 0 where
+-- The parts of a module tell it.
+pub record ArePartsOf (registers : Registers) (m : Module) (t : ModuleTranslation) (fs : List Function) (compiled : CompiledModule) : Type 0 where
   pub file : m.file ≡ told_file t
   pub functions : m.functions ≡ fs
   pub told : m.told ≡ told_by registers compiled
   pub frames : HasFrames compiled m.functions
-  pub context_is : context ≡ entry_of own (place_of_context_pointer m.told.memory)
 
 -- The entries of the listed functions of each such module are added, or the first refusal of their variables is answered.
 abbrev pub AddsModule : Registers → (ℕ → Bool) → ModuleTranslation → List Function → CompiledModule → DebugInfoRef → List (List ℕ) → List (List ℕ) → GivenUnit → GivenUnit → Result (Unit {0}) DebugError → Type 0
 AddsModule registers translated t fs compiled context before after old new result =
-    (m : Module) (number own : ℕ) (behind whole : List Draft) → ArePartsOf registers m own t fs compiled context → HasFunctions number own m before behind whole (listed_functions translated m) old → GivesFunctions translated number own m behind whole after new result
+    (m : Module) (number : ℕ) (behind whole : List Draft) → ArePartsOf registers m t fs compiled → HasFunctions number (reference_meant context) m before behind whole (listed_functions translated m) old → GivesFunctions translated number (reference_meant context) m behind whole after new result

@@ -9,12 +9,11 @@ use Rattle.dwc_base.specs.ContextVariable.{location_refusals}
 use Rattle.dwc_base.specs.DefinedFunctions.{DefinedFunction, types_at}
 use Rattle.dwc_base.specs.Drafts.{Draft}
 use Rattle.dwc_base.specs.EntryRules.{of_build}
-use Rattle.dwc_base.specs.OwnUnits.{place_of_context_pointer}
 use Rattle.dwc_base.specs.Refusals.{Refusal, first_of}
 use Rattle.dwc_base.specs.SimulatedUnit.{function_index, has_entry, label_located, surroundings_of}
 use Rattle.dwc_base.specs.ToldFiles.{is_parameter}
 use Rattle.dwc_base.specs.TranslationNames.{told_file}
-use Rattle.dwc_base.specs.Trees.{Location}
+use Rattle.dwc_base.specs.Trees.{Location, TreeValue}
 use Rattle.dwc_base.specs.WasmFunctions.{LocalTypes}
 use Rattle.dwc_clif.specs.Registers.{Registers}
 use Rattle.dwc_expr.specs.declared.error.ExprError.{ExprError}
@@ -30,20 +29,18 @@ use Rattle.dwc_carry.specs.declared.error.DebugError.TheVariants.{Read, BadLabel
 use Rattle.dwc_carry.specs.declared.simulated_variables.ListedFunction.{ListedFunction}
 use Rattle.dwc_carry.specs.declared.simulated_functions.ListedModule.{ListedModule}
 use Rattle.dwc_carry.specs.MadeEntries.{IsDense}
-use Rattle.dwc_carry.specs.OwnUnits.{entry_of}
 use Rattle.dwc_carry.specs.Refusals.{ReadsOr, RefusesReading}
 use Rattle.dwc_carry.specs.SimulatedDrafts.{BeginsWith, HasVariables}
 
 -- ---- what is given
 
--- What is given of a listed function tells that function, of a module whose own unit has a number.
-pub record IsListedFunction (registers : Registers) (m : Module) (d : DefinedFunction) (own : ℕ) (l : ListedModule) (f : ListedFunction) : Type 0 where
+-- What is given of a listed function of a module tells that function.
+pub record IsListedFunction (registers : Registers) (m : Module) (d : DefinedFunction) (l : ListedModule) (f : ListedFunction) : Type 0 where
   pub file : m.file ≡ told_file l.translation.now
   pub index : function_index m d ≡ f.index
   pub locals : f.locals.now ≡ types_at m d
   pub surrounded : surroundings l.transform.now (Some f.frame) registers ≡ surroundings_of m d.function
   pub scope : f.scope ≡ (d.function.start, d.function.end)
-  pub context : l.vmctx_ptr ≡ entry_of own (place_of_context_pointer m.told.memory)
   pub place : l.compiled.now.place ≡ m.told.place
 
 -- ---- refusals
@@ -90,15 +87,15 @@ pub record Extends (old new : GivenUnit) : Type 0 where
   pub begins : (size : ℕ) (lines : GivenLines) (root : Addition) → BeginsWith size lines root old → BeginsWith size lines root new
 
 -- The entries of some labels are added, of which none is refused, and others are left: with these, what is refused first is that of all.
-pub record LeftVariables (number own : ℕ) (m : Module) (d : DefinedFunction) (before : List Draft) (left : List ℕ) (place : ℕ) (total : Option Refusal) (texts : List (List ℕ)) (u : GivenUnit) : Type 0 where
-  pub made : HasVariables number own m d texts before left place u
+pub record LeftVariables (number : ℕ) (pointer : TreeValue) (m : Module) (d : DefinedFunction) (before : List Draft) (left : List ℕ) (place : ℕ) (total : Option Refusal) (texts : List (List ℕ)) (u : GivenUnit) : Type 0 where
+  pub made : HasVariables number pointer m d texts before left place u
   pub first : first_of (flat_map (label_refusals m d) left) ≡ total
 
 -- A call adds the entry of a label, so that others are left, or answers what is refused first.
-abbrev pub GivesVariable : ℕ → ℕ → Module → DefinedFunction → List Draft → List ℕ → ℕ → Option Refusal → List (List ℕ) → GivenUnit → Result (Unit {0}) DebugError → Type 0
-GivesVariable number own m d before left place total after new (Ok done) = LeftVariables number own m d before left place total after new
-GivesVariable number own m d before left place total after new (Err e) = RefusesReading total e
+abbrev pub GivesVariable : ℕ → TreeValue → Module → DefinedFunction → List Draft → List ℕ → ℕ → Option Refusal → List (List ℕ) → GivenUnit → Result (Unit {0}) DebugError → Type 0
+GivesVariable number pointer m d before left place total after new (Ok done) = LeftVariables number pointer m d before left place total after new
+GivesVariable number pointer m d before left place total after new (Err e) = RefusesReading total e
 
 -- A call adds the entries of all labels, or answers what is refused first.
-abbrev pub GivesVariables : ℕ → ℕ → Module → DefinedFunction → List Draft → ℕ → Option Refusal → List (List ℕ) → GivenUnit → Result (Unit {0}) DebugError → Type 0
-GivesVariables number own m d before place total after new result = ReadsOr (λ done. HasVariables number own m d after before [] place new) total result
+abbrev pub GivesVariables : ℕ → TreeValue → Module → DefinedFunction → List Draft → ℕ → Option Refusal → List (List ℕ) → GivenUnit → Result (Unit {0}) DebugError → Type 0
+GivesVariables number pointer m d before place total after new result = ReadsOr (λ done. HasVariables number pointer m d after before [] place new) total result

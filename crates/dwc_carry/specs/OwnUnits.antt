@@ -8,7 +8,7 @@ use Rattle.dwc_base.specs.OwnUnits.{place_of_context_pointer, place_of_wasm_poin
 use Rattle.dwc_base.specs.DraftForests.{place_of_goal, settled_unit}
 use Rattle.dwc_base.specs.Forests.{own_refusals}
 use Rattle.dwc_base.specs.Refusals.{first_of}
-use Rattle.dwc_base.specs.Trees.{Tree}
+use Rattle.dwc_base.specs.Trees.{Tree, TreeValue, entry}
 use Rattle.dwc_expr.specs.Frames.{memory_view}
 use Rattle.dwc_addr.specs.Compilations.{CompilationValue}
 use Rattle.dwc_write.specs.declared.attributes.DebugInfoRef.{DebugInfoRef}
@@ -32,6 +32,10 @@ own_tree number set_memory m = settled_unit (place_of_goal number (record { own 
 -- an entry of a unit, by the numbers of both
 abbrev pub entry_of : ℕ → ℕ → DebugInfoRef
 entry_of number place = Entry (record { index = number }) (record { index = place })
+
+-- what such a reference says, while entries are told by their numbers
+abbrev pub reference_meant : DebugInfoRef → TreeValue
+reference_meant (Entry unit id) = entry unit.index id.index
 
 -- References go to the two types of a module's own unit, of a number, that others refer to.
 pub record ReferToOwn (number : ℕ) (m : Memory) (context address : DebugInfoRef) : Type 0 where

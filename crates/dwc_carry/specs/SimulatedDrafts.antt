@@ -7,10 +7,10 @@ use Rattle.dwc_base.specs.Drafts.{Draft}
 use Rattle.dwc_base.specs.DraftForests.{settled_entry}
 use Rattle.dwc_base.specs.OwnUnits.{place_of_context_pointer}
 use Rattle.dwc_base.specs.SimulatedUnit.{function_entries, label_entry, modules_entries, unit_count}
+use Rattle.dwc_base.specs.Trees.{TreeValue}
 use Rattle.dwc_write.specs.AddedInOrder.{entry_meant}
 use Rattle.dwc_write.specs.GivenLines.{GivenLines}
 use Rattle.dwc_write.specs.GivenUnits.{Addition, GivenUnit}
-use Rattle.dwc_write.specs.Renumbered.{renumbered_entry}
 use Rattle.dwc_write.specs.UsedTexts.{texts_of_attributes}
 use Rattle.dwc_clone.specs.BuiltUnits.{IsDrafted}
 use Rattle.dwc_clone.specs.ClonedEntries.{IsLastOf}
@@ -35,24 +35,24 @@ pub record HasFunction (number : ℕ) (texts : List (List ℕ)) (ds : List Draft
   pub last : IsLastOf (draft_depths ds) 1 place
 
 -- The last function of a unit has the entries of some of its labels, and those of others are left: with these, all is what stood before the
--- function, and its entries. The module's own unit has a number.
-pub record HasVariables (number own : ℕ) (m : Module) (d : DefinedFunction) (texts : List (List ℕ)) (before : List Draft) (left : List ℕ) (place : ℕ) (u : GivenUnit) : Type 0 where
+-- function, and its entries. The type of a pointer to the context is given.
+pub record HasVariables (number : ℕ) (pointer : TreeValue) (m : Module) (d : DefinedFunction) (texts : List (List ℕ)) (before : List Draft) (left : List ℕ) (place : ℕ) (u : GivenUnit) : Type 0 where
   pub ds : List Draft
   pub made : HasFunction number texts ds place u
-  pub whole : ds ++ filter_map (label_entry number own m d) left ≡ before ++ function_entries number own m d
+  pub whole : ds ++ filter_map (label_entry number pointer m d) left ≡ before ++ function_entries number pointer m d
 
 -- A unit has the entries of some of the listed functions of a module, and those of others are left: with these, and what stands behind
 -- them, all is what it is to be.
-pub record HasFunctions (number own : ℕ) (m : Module) (texts : List (List ℕ)) (behind whole : List Draft) (left : List DefinedFunction) (u : GivenUnit) : Type 0 where
+pub record HasFunctions (number : ℕ) (pointer : TreeValue) (m : Module) (texts : List (List ℕ)) (behind whole : List Draft) (left : List DefinedFunction) (u : GivenUnit) : Type 0 where
   pub ds : List Draft
   pub made : IsSimulated number texts ds u
-  pub all : ds ++ (flat_map (function_entries number own m) left ++ behind) ≡ whole
+  pub all : ds ++ (flat_map (function_entries number pointer m) left ++ behind) ≡ whole
 
--- The same of modules, whose own units are numbered from one on, by the numbers that are translated.
-pub record HasModules (translated : ℕ → Bool) (number own : ℕ) (texts : List (List ℕ)) (whole : List Draft) (left : List Module) (u : GivenUnit) : Type 0 where
+-- The same of modules, with the types of pointers to their contexts, by the numbers that are translated.
+pub record HasModules (translated : ℕ → Bool) (number : ℕ) (pointers : List TreeValue) (texts : List (List ℕ)) (whole : List Draft) (left : List Module) (u : GivenUnit) : Type 0 where
   pub ds : List Draft
   pub made : IsSimulated number texts ds u
-  pub all : ds ++ modules_entries translated number own left ≡ whole
+  pub all : ds ++ modules_entries translated number pointers left ≡ whole
 
 -- ---- what does not change while entries are added
 
@@ -64,10 +64,6 @@ pub record BeginsWith (size : ℕ) (lines : GivenLines) (root : Addition) (u : G
   pub is : u.additions ≡ root ∷ others
 
 -- ---- references
-
--- An entry says places that numbers of entries are put to.
-abbrev pub StaysAt : (ℕ → ℕ → Option (ℕ × ℕ)) → Draft → Type 0
-StaysAt at d = renumbered_entry at (settled_entry (λ goal. None) d) ≡ settled_entry (λ goal. None) d
 
 -- The pointers to the contexts of modules stay in the modules' own units, of which the first has a number.
 abbrev pub ContextsStay : (ℕ → ℕ → Option (ℕ × ℕ)) → ℕ → List Module → Type 0

@@ -9,6 +9,7 @@ ghost use Rattle.dwc_base.specs.ListedFunctions.{listed_functions};
 ghost use Rattle.dwc_base.specs.Refusals.{Refusal, first_of};
 ghost use Rattle.dwc_base.specs.SimulatedUnit.{first_source, function_entries, variable_refusals};
 ghost use Rattle.dwc_base.specs.TranslationNames.{HasSortedNames, told_file};
+ghost use Rattle.dwc_base.specs.Trees.{TreeValue};
 ghost use Rattle.dwc_addr.specs.Transforms.{function_view};
 ghost use Rattle.dwc_image.specs.CarriedLines.{AreKept};
 ghost use Rattle.dwc_write.specs.GivenLines.{GivenLines};
@@ -20,6 +21,7 @@ ghost use Rattle.dwc_carry.specs.ListedFiles.{HasFirstLine};
 ghost use Rattle.dwc_carry.specs.ListedModules.{GivesFunction, GivesFunctions, IsListedModule, LeftFunctions, listed_from};
 ghost use Rattle.dwc_carry.specs.ListedVariables.{Extends};
 ghost use Rattle.dwc_carry.specs.MadeEntries.{IsDense};
+ghost use Rattle.dwc_carry.specs.OwnUnits.{reference_meant};
 ghost use Rattle.dwc_carry.specs.Refusals.{ReadsOr};
 ghost use Rattle.dwc_carry.specs.SimulatedDrafts.{BeginsWith, HasFunctions, HasVariables, IsSimulated};
 
@@ -77,7 +79,7 @@ fn begin_function(
     ensures index { IfOk result (λ r. r.0 ≡ translation.now.imported_funcs + place) }
     ensures entry { IfOk result (λ r. (r.1).index < length unit.new.additions) }
     ensures memory { IsOkUnless result OutOfMemory }
-    ensures begun { (n own : ℕ) (m : Module) (d : DefinedFunction) (before : List Draft) → m.file ≡ told_file translation.now → d ≡ record { place = place; function = function_view function.now } → d.function.number ≡ number → IsSimulated n strings.old before unit.old → IfOk result (λ r. HasVariables n own m d strings.new before (m.told.labels d.function.number) (r.1).index unit.new) }
+    ensures begun { (n : ℕ) (pointer : TreeValue) (m : Module) (d : DefinedFunction) (before : List Draft) → m.file ≡ told_file translation.now → d ≡ record { place = place; function = function_view function.now } → d.function.number ≡ number → IsSimulated n strings.old before unit.old → IfOk result (λ r. HasVariables n pointer m d strings.new before (m.told.labels d.function.number) (r.1).index unit.new) }
 {
     let index = u64::from(translation.imported_funcs) + place as u64;
     let line = translation.code_section_offset + first_source(function);
@@ -106,7 +108,7 @@ fn add_function(
     requires some { 0 < length unit.old.additions }
     ensures grows { Grows strings.old strings.new }
     ensures extends { OnOk result (Extends unit.old unit.new) }
-    ensures functions { (m : Module) (n own : ℕ) (f : Function) (before : List Draft) → IsListedModule (dwarf_registers isa.now) m own «module».now → slice_get m.functions place ≡ Some f → f.symbol ≡ Some number → IsSimulated n strings.old before unit.old → ReadsOr (λ done. IsSimulated n strings.new (before ++ function_entries n own m (record { place = place; function = f })) unit.new) (first_of (variable_refusals m (record { place = place; function = f }))) result }
+    ensures functions { (m : Module) (n : ℕ) (f : Function) (before : List Draft) → IsListedModule (dwarf_registers isa.now) m «module».now → slice_get m.functions place ≡ Some f → f.symbol ≡ Some number → IsSimulated n strings.old before unit.old → ReadsOr (λ done. IsSimulated n strings.new (before ++ function_entries n (reference_meant «module».now.vmctx_ptr) m (record { place = place; function = f })) unit.new) (first_of (variable_refusals m (record { place = place; function = f }))) result }
 {
     let function = &module.transform.map()[place];
     let (index, entry) = begin_function(
@@ -153,7 +155,7 @@ fn add_if_listed(
     requires some { 0 < length unit.old.additions }
     ensures grows { Grows strings.old strings.new }
     ensures extends { OnOk result (Extends unit.old unit.new) }
-    ensures functions { (m : Module) (number own : ℕ) (behind whole : List Draft) (total : Option Refusal) → IsListedModule (dwarf_registers isa.now) m own «module».now → LeftFunctions number own m behind whole (listed_from (is_noted translated.now) m place) total strings.old unit.old → GivesFunction number own m behind whole (listed_from (is_noted translated.now) m (place + 1)) total strings.new unit.new result }
+    ensures functions { (m : Module) (number : ℕ) (behind whole : List Draft) (total : Option Refusal) → IsListedModule (dwarf_registers isa.now) m «module».now → LeftFunctions number (reference_meant «module».now.vmctx_ptr) m behind whole (listed_from (is_noted translated.now) m place) total strings.old unit.old → GivesFunction number (reference_meant «module».now.vmctx_ptr) m behind whole (listed_from (is_noted translated.now) m (place + 1)) total strings.new unit.new result }
 {
     let function = &module.transform.map()[place];
     match function.symbol {
@@ -191,7 +193,7 @@ pub(crate) fn add_functions(
     ensures dense { OnOk result (IsDense unit.new) }
     ensures some { OnOk result (0 < length unit.new.additions) }
     ensures begins { (size : ℕ) (lines : GivenLines) (root : Addition) → BeginsWith size lines root unit.old → OnOk result (BeginsWith size lines root unit.new) }
-    ensures functions { (m : Module) (number own : ℕ) (behind whole : List Draft) → IsListedModule (dwarf_registers isa.now) m own «module».now → HasFunctions number own m strings.old behind whole (listed_functions (is_noted translated.now) m) unit.old → GivesFunctions (is_noted translated.now) number own m behind whole strings.new unit.new result }
+    ensures functions { (m : Module) (number : ℕ) (behind whole : List Draft) → IsListedModule (dwarf_registers isa.now) m «module».now → HasFunctions number (reference_meant «module».now.vmctx_ptr) m strings.old behind whole (listed_functions (is_noted translated.now) m) unit.old → GivesFunctions (is_noted translated.now) number (reference_meant «module».now.vmctx_ptr) m behind whole strings.new unit.new result }
 {
     for place in 0..module.transform.map().len() {
         add_if_listed(alloc, isa, module, place, translated, unit, strings)?;

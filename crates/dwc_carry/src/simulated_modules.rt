@@ -1,5 +1,5 @@
 //! The entries of the listed functions of all modules, in the unit for functions without debugging information.
-ghost use Rattle.std.specs.Prelude.{◌≡◌, ◌<◌, ◌^◌, ℕ, List, None, length, All, OnOk};
+ghost use Rattle.std.specs.Prelude.{◌≡◌, ◌<◌, ◌^◌, ℕ, List, None, length, map, All, OnOk};
 ghost use Rattle.dwc_base.specs.Addends.{HaveAddends};
 ghost use Rattle.dwc_base.specs.Drafts.{Draft};
 ghost use Rattle.dwc_base.specs.TranslationNames.{HasSortedNames};
@@ -9,10 +9,11 @@ ghost use Rattle.dwc_write.specs.GivenUnits.{Addition};
 ghost use Rattle.dwc_clone.specs.BegunNumbers.{is_noted};
 ghost use Rattle.dwc_clone.specs.MadeValues.{Grows};
 ghost use Rattle.dwc_carry.specs.Inputs.{bad_map, functions_from, modules_of};
-ghost use Rattle.dwc_carry.specs.LastUnits.{GivesEntries, ReferToContexts};
+ghost use Rattle.dwc_carry.specs.LastUnits.{GivesEntries};
 ghost use Rattle.dwc_carry.specs.ListedFiles.{HasFirstLine, HasLowEnd};
 ghost use Rattle.dwc_carry.specs.ListedParts.{AddsModule};
 ghost use Rattle.dwc_carry.specs.MadeEntries.{IsDense};
+ghost use Rattle.dwc_carry.specs.OwnUnits.{reference_meant};
 ghost use Rattle.dwc_carry.specs.SimulatedDrafts.{BeginsWith, HasModules};
 
 use crate::DebugError;
@@ -61,7 +62,7 @@ fn add_module(
 }
 
 /// Adds the listed functions of all modules to a unit that has its root and the types of numbers, with their parameters and variables.
-/// `vmctx_ptrs` are the types of pointers to the contexts of the modules.
+/// `vmctx_ptrs` are the types of pointers to the contexts of the modules, one for each.
 ///
 /// # Errors
 /// What is refused first of their variables: `BadLabelRange` and `UnmappedRegister`. `OutOfMemory` for want of memory.
@@ -80,12 +81,12 @@ pub(crate) fn add_modules(
     requires low { All (All HasLowEnd) compilation.now.functions }
     requires functions { All AreKept transforms.now }
     requires addends { All HaveAddends transforms.now }
-    requires contexts { ReferToContexts 0 (modules_of (dwarf_registers isa.now) compilation.now) vmctx_ptrs.now }
+    requires contexts { length vmctx_ptrs.now ≡ length compilation.now.translations }
     requires dense { IsDense unit.old }
     requires some { 0 < length unit.old.additions }
     ensures grows { Grows strings.old strings.new }
     ensures begins { (size : ℕ) (lines : GivenLines) (root : Addition) → BeginsWith size lines root unit.old → OnOk result (BeginsWith size lines root unit.new) }
-    ensures entries { (number : ℕ) (whole : List Draft) → HasModules (is_noted translated.now) number 0 strings.old whole (modules_of (dwarf_registers isa.now) compilation.now) unit.old → GivesEntries (is_noted translated.now) number whole (modules_of (dwarf_registers isa.now) compilation.now) strings.new unit.new result }
+    ensures entries { (number : ℕ) (whole : List Draft) → HasModules (is_noted translated.now) number (map reference_meant vmctx_ptrs.now) strings.old whole (modules_of (dwarf_registers isa.now) compilation.now) unit.old → GivesEntries (is_noted translated.now) number whole (modules_of (dwarf_registers isa.now) compilation.now) strings.new unit.new result }
 {
     let translations = compilation.translations();
     for i in 0..translations.len() {

@@ -1,8 +1,7 @@
 //! The unit for functions without debugging information, behind those of all modules.
-ghost use Rattle.std.specs.Prelude.{◌≡◌, ◌<◌, ◌⊎◌, map, None, true, length, sum_by, All, IfErr, IfOk, IsOkUnless, OnErr, OnOk};
+ghost use Rattle.std.specs.Prelude.{◌≡◌, ◌<◌, ◌⊎◌, map, None, true, length, All, IfErr, IfOk, IsOkUnless, OnErr, OnOk};
 ghost use Rattle.dwc_base.specs.Addends.{HaveAddends};
 ghost use Rattle.dwc_base.specs.Carried.{Module};
-ghost use Rattle.dwc_base.specs.SimulatedUnit.{unit_count};
 ghost use Rattle.dwc_base.specs.TranslationNames.{told_file};
 ghost use Rattle.dwc_base.specs.UnitPaths.{is_file_name, path_name};
 ghost use Rattle.dwc_clif.specs.Registers.{Registers};
@@ -13,7 +12,7 @@ ghost use Rattle.dwc_write.specs.declared.error.WriteError.TheVariants.{OutOfMem
 ghost use Rattle.dwc_clone.specs.BegunNumbers.{is_noted};
 ghost use Rattle.dwc_clone.specs.MadeValues.{Grows};
 ghost use Rattle.dwc_carry.specs.Inputs.{bad_map, counted_behind, functions_from, modules_of};
-ghost use Rattle.dwc_carry.specs.LastUnits.{GivesLast, GivesUnit, IsPathOf, IsTyped, ReferToContexts, counted_name};
+ghost use Rattle.dwc_carry.specs.LastUnits.{GivesLast, GivesUnit, IsPathOf, IsTyped, counted_name};
 ghost use Rattle.dwc_carry.specs.ListedFiles.{CanWrite};
 ghost use Rattle.dwc_carry.specs.Refusals.{memory, told};
 ghost use Rattle.dwc_carry.specs.UnitPathParts.{IsUnitPath};
@@ -77,11 +76,11 @@ fn simulated_unit(
     requires maps { bad_map compilation.now ≡ None }
     requires functions { All AreKept transforms.now }
     requires addends { All HaveAddends transforms.now }
-    requires contexts { ReferToContexts 0 (modules_of (dwarf_registers isa.now) compilation.now) vmctx_ptrs.now }
+    requires contexts { length vmctx_ptrs.now ≡ length compilation.now.translations }
     requires path { IsText path.now }
     requires name { is_file_name (path_name path.now) ≡ true }
     ensures grows { Grows strings.old strings.new }
-    ensures unit { GivesUnit (is_noted translated.now) encoding.address_size path.now (modules_of (dwarf_registers isa.now) compilation.now) strings.old strings.new result }
+    ensures unit { GivesUnit (is_noted translated.now) encoding.address_size path.now (modules_of (dwarf_registers isa.now) compilation.now) vmctx_ptrs.now strings.old strings.new result }
 {
     let functions = listed_functions(alloc, compilation, transforms, translated)?;
     let mut unit = typed_unit(alloc, encoding, path, &functions, strings)?;
@@ -132,11 +131,12 @@ fn taken_path(alloc: Global, compilation: &mut Compilation<'_>) -> Result<Vec<u8
     Ok(path.path)
 }
 
-/// Adds the unit for functions without debugging information behind the units of all modules of a compilation: of version 4, with a
-/// path, a line table whose lines are offsets in the wasm files, the types of numbers, and an entry for each function with a symbol whose
-/// number is not among `translated`, with its parameters and variables. The path is that of the first module; without modules nothing is
-/// added. `addr_tr` are the transforms of the modules, `vmctx_ptr_die_refs` the types of pointers to their contexts, in order; `translated`
-/// are the numbers of functions that have entries already, as those that kept subprograms of carried units begin in.
+/// Adds the unit for functions without debugging information of all modules of a compilation, behind the units that are there: of version
+/// 4, with a path, a line table whose lines are offsets in the wasm files, the types of numbers, and an entry for each function with a symbol
+/// whose number is not among `translated`, with its parameters and variables. The path is that of the first module; without modules nothing
+/// is added. `addr_tr` are the transforms of the modules, and `vmctx_ptr_die_refs` the types of pointers to their contexts: any references,
+/// one for each module, in order. `translated` are the numbers of functions that have entries already, as those that kept subprograms of
+/// carried units begin in.
 ///
 /// # Errors
 /// `Path` exactly where the name that the path ends with is empty, `.` or `..`. Where it is not: `BadLabelRange` and `UnmappedRegister`
@@ -159,9 +159,8 @@ pub fn generate_simulated_dwarf(
     requires maps { bad_map compilation.old ≡ None }
     requires functions { All AreKept addr_tr.now }
     requires addends { All HaveAddends addr_tr.now }
-    requires contexts { ReferToContexts 0 (modules_of (dwarf_registers isa.now) compilation.old) vmctx_ptr_die_refs.now }
-    requires numbered { length out_units.old.units.items ≡ sum_by unit_count (modules_of (dwarf_registers isa.now) compilation.old) }
-    ensures added { GivesLast (is_noted translated.now) out_encoding.address_size compilation.old.next_id (modules_of (dwarf_registers isa.now) compilation.old) out_units.old.units.items out_units.new.units.items out_strings.old out_strings.new result }
+    requires contexts { length vmctx_ptr_die_refs.now ≡ length compilation.old.translations }
+    ensures added { GivesLast (is_noted translated.now) out_encoding.address_size compilation.old.next_id (modules_of (dwarf_registers isa.now) compilation.old) vmctx_ptr_die_refs.now out_units.old.units.items out_units.new.units.items out_strings.old out_strings.new result }
     ensures units { OnErr result (out_units.new.units.items ≡ out_units.old.units.items) }
     ensures texts { Grows out_strings.old out_strings.new }
     ensures counter { OnOk result (compilation.new ≡ counted_behind (dwarf_registers isa.now) compilation.old) }

@@ -20,6 +20,7 @@ ghost use Rattle.dwc_write.specs.GivenUnits.{FitsValue};
 ghost use Rattle.dwc_clone.specs.MadeValues.{Grows};
 ghost use Rattle.dwc_carry.specs.ListedVariables.{AddsContextOr, Extends, GivesVariable, GivesVariables, IsListedFunction, LeftVariables, LocatesOr, label_refusals, local_tag_of, of_label};
 ghost use Rattle.dwc_carry.specs.MadeEntries.{IsDense};
+ghost use Rattle.dwc_carry.specs.OwnUnits.{reference_meant};
 ghost use Rattle.dwc_carry.specs.SimulatedDrafts.{HasVariables};
 
 use crate::DebugError;
@@ -171,7 +172,7 @@ fn add_typed(
     requires parent { function.now.entry.index < length unit.old.additions }
     ensures grows { Grows strings.old strings.new }
     ensures extends { OnOk result (Extends unit.old unit.new) }
-    ensures variable { (number own : ℕ) (m : Module) (d : DefinedFunction) (before : List Draft) (left : List ℕ) (total : Option Refusal) → IsListedFunction (dwarf_registers isa.now) m d own «module».now function.now → («label».0 == context_label) ≡ false → Simulated.type_place m d «label».0 ≡ Some type_place → LeftVariables number own m d before («label».0 ∷ left) function.now.entry.index total strings.old unit.old → GivesVariable number own m d before left function.now.entry.index total strings.new unit.new result }
+    ensures variable { (number : ℕ) (m : Module) (d : DefinedFunction) (before : List Draft) (left : List ℕ) (total : Option Refusal) → IsListedFunction (dwarf_registers isa.now) m d «module».now function.now → («label».0 == context_label) ≡ false → Simulated.type_place m d «label».0 ≡ Some type_place → LeftVariables number (reference_meant «module».now.vmctx_ptr) m d before («label».0 ∷ left) function.now.entry.index total strings.old unit.old → GivesVariable number (reference_meant «module».now.vmctx_ptr) m d before left function.now.entry.index total strings.new unit.new result }
 {
     let locations = located(alloc, isa, module, function, label)?;
     let name = local_name(alloc, module.translation, function.index, label.0)?;
@@ -197,7 +198,7 @@ fn add_variable(
     requires parent { function.now.entry.index < length unit.old.additions }
     ensures grows { Grows strings.old strings.new }
     ensures extends { OnOk result (Extends unit.old unit.new) }
-    ensures variable { (number own : ℕ) (m : Module) (d : DefinedFunction) (before : List Draft) (left : List ℕ) (total : Option Refusal) → IsListedFunction (dwarf_registers isa.now) m d own «module».now function.now → LeftVariables number own m d before («label».0 ∷ left) function.now.entry.index total strings.old unit.old → GivesVariable number own m d before left function.now.entry.index total strings.new unit.new result }
+    ensures variable { (number : ℕ) (m : Module) (d : DefinedFunction) (before : List Draft) (left : List ℕ) (total : Option Refusal) → IsListedFunction (dwarf_registers isa.now) m d «module».now function.now → LeftVariables number (reference_meant «module».now.vmctx_ptr) m d before («label».0 ∷ left) function.now.entry.index total strings.old unit.old → GivesVariable number (reference_meant «module».now.vmctx_ptr) m d before left function.now.entry.index total strings.new unit.new result }
 {
     if label.0 == get_vmctx_value_label().0 {
         return add_context(alloc, isa, module, function, unit, strings);
@@ -226,7 +227,7 @@ pub(crate) fn add_variables(
     requires parent { function.now.entry.index < length unit.old.additions }
     ensures grows { Grows strings.old strings.new }
     ensures extends { OnOk result (Extends unit.old unit.new) }
-    ensures variables { (number own : ℕ) (m : Module) (d : DefinedFunction) (before : List Draft) → IsListedFunction (dwarf_registers isa.now) m d own «module».now function.now → HasVariables number own m d strings.old before (finite.keys function.now.frame.value_ranges.now) function.now.entry.index unit.old → GivesVariables number own m d before function.now.entry.index (first_of (flat_map (label_refusals m d) (finite.keys function.now.frame.value_ranges.now))) strings.new unit.new result }
+    ensures variables { (number : ℕ) (m : Module) (d : DefinedFunction) (before : List Draft) → IsListedFunction (dwarf_registers isa.now) m d «module».now function.now → HasVariables number (reference_meant «module».now.vmctx_ptr) m d strings.old before (finite.keys function.now.frame.value_ranges.now) function.now.entry.index unit.old → GivesVariables number (reference_meant «module».now.vmctx_ptr) m d before function.now.entry.index (first_of (flat_map (label_refusals m d) (finite.keys function.now.frame.value_ranges.now))) strings.new unit.new result }
 {
     for label in function.frame.value_ranges.labels() {
         add_variable(alloc, isa, module, function, label, unit, strings)?;

@@ -1,4 +1,4 @@
-use Rattle.std.proofs.Common.{◌+◌, ◌<◌, ◌≤◌, drop, length, get_or, arith, ap, refl, sym, ◌∙◌, subst, All}
+use Rattle.std.proofs.Common.{◌<◌, ◌≤◌, length, get_or, arith, ap, refl, sym, ◌∙◌, subst, All}
 use Rattle.std.proofs.lemmas.List.{get_or_default}
 use Rattle.std.proofs.lemmas.List.Elements.{All-get_or}
 use Rattle.std.proofs.lemmas.Result.{err_from_is_err_and}
@@ -12,13 +12,13 @@ use Rattle.dwc_carry.specs.Inputs.{modules_of, names_of, told_from}
 use Rattle.dwc_carry.proofs.CompiledLaws.{module-next, modules-length, transforms-inside}
 use Rattle.dwc_carry.proofs.ListedLaws.{few-functions, first-lines}
 use Rattle.dwc_carry.proofs.MadeLaws.{grows-twice}
-use Rattle.dwc_carry.proofs.SimulatedModuleLaws.{added-begin, added-done, added-more, added-refused, inside-left, refers-inside, refers-length}
+use Rattle.dwc_carry.proofs.SimulatedModuleLaws.{added-begin, added-done, added-more, added-refused}
 use Rattle.dwc_carry.proofs.simulated_modules.add_modules.Goals as goal
 
 pub loop-i-init : goal.loop-i-init
 loop-i-init g c =
     let ms = modules_of ((goal.TargetIsa-dyn g c.args.isa.now).dwarf_registers c.args.isa.now.1) c.args.compilation.now in
-    added-begin (is_noted c.args.translated.now) ms c.args.vmctx_ptrs.now c.args.strings.now c.args.unit.now c.requires.contexts c.requires.dense c.requires.some
+    added-begin (is_noted c.args.translated.now) ms c.args.vmctx_ptrs.now c.args.strings.now c.args.unit.now c.requires.dense c.requires.some
 
 pub bounds-transforms-i : goal.bounds-transforms-i
 bounds-transforms-i g c =
@@ -28,10 +28,8 @@ bounds-transforms-i g c =
 
 pub bounds-vmctx_ptrs-i : goal.bounds-vmctx_ptrs-i
 bounds-vmctx_ptrs-i g c =
-    let compilation = c.args.compilation.now in
-    let less : c.loop-i.i < length compilation.translations = rw c.translations-translations.ensures.translations at c.loop-i-test.true in
-    let registers = (goal.TargetIsa-dyn g c.args.isa.now).dwarf_registers c.args.isa.now.1 in
-    refers-inside registers compilation c.args.vmctx_ptrs.now c.loop-i.i c.translations-translations.ensures.counted less c.requires.contexts
+    let less : c.loop-i.i < length c.args.compilation.now.translations = rw c.translations-translations.ensures.translations at c.loop-i-test.true in
+    omega (arith, less, c.requires.contexts)
 
 pub add_module-requires-clause-functions : goal.add_module-requires-clause-functions
 add_module-requires-clause-functions g c =
@@ -81,9 +79,8 @@ loop-i-preserved g c =
     (c.index-translations-i.is ∙ ap (λ ts. get_or ts c.loop-i.i t) c.translations-translations.ensures.translations) c.index-transforms-i.is (c.compiled_module-compiled.ensures.told registers) c.compiled_module-compiled.ensures.frames in
     let ms = modules_of registers compilation in
     let refs = c.args.vmctx_ptrs.now in
-    let rest = drop (c.loop-i.i + 1) ms in
     let m = transformed_module t fs (told_by registers compiled) in
-    let inside : c.loop-i.i < length refs = omega (arith, inside-left ms c.loop-i.i m rest next.left, refers-length 0 ms refs c.requires.contexts) in
+    let inside : c.loop-i.i < length refs = omega (arith, less, c.requires.contexts) in
     added-more (is_noted c.args.translated.now) ms refs c.args.strings.now c.args.unit.now registers c.loop-i.strings c.loop-i.unit c.loop-i.i c.loop-i.invariant t fs compiled _ m refl next.frames next.left inside (get_or_default refs c.loop-i.i _ _ inside)
     c.add_module.new.strings c.add_module.new.unit c.in_ok-add_module.ensures.grows c.in_ok-add_module.ensures.dense c.in_ok-add_module.ensures.some c.in_ok-add_module.ensures.begins c.in_ok-add_module.ensures.functions
 
@@ -102,9 +99,8 @@ returns-in_err-add_module-clause-entries g c = λ number whole has.
     (c.index-translations-i.is ∙ ap (λ ts. get_or ts c.loop-i.i t) c.translations-translations.ensures.translations) c.index-transforms-i.is (c.compiled_module-compiled.ensures.told registers) c.compiled_module-compiled.ensures.frames in
     let ms = modules_of registers compilation in
     let refs = c.args.vmctx_ptrs.now in
-    let rest = drop (c.loop-i.i + 1) ms in
     let m = transformed_module t fs (told_by registers compiled) in
-    let inside : c.loop-i.i < length refs = omega (arith, inside-left ms c.loop-i.i m rest next.left, refers-length 0 ms refs c.requires.contexts) in
+    let inside : c.loop-i.i < length refs = omega (arith, less, c.requires.contexts) in
     let p = err_from_is_err_and c.from_residual.result c.from_residual.ensures.1 in
     rw (p.1, p.2)
     (added-refused (is_noted c.args.translated.now) ms refs c.args.strings.now c.args.unit.now registers c.loop-i.strings c.loop-i.unit c.loop-i.i c.loop-i.invariant t fs compiled _ m refl next.frames next.left inside (get_or_default refs c.loop-i.i _ _ inside)

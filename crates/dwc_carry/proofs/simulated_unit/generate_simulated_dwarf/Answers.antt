@@ -6,9 +6,10 @@ use Rattle.std.specs.Prelude.{List, ℕ, ◌<◌}
 use Rattle.dwc_base.specs.Refusals.{first_of}
 use Rattle.dwc_base.specs.SimulatedUnit.{simulated_refusals}
 use Rattle.dwc_base.specs.UnitPaths.{is_file_name, path_name}
+use Rattle.dwc_addr.specs.Compilations.{CompilationValue}
 use Rattle.dwc_write.specs.TextTables.{IsText}
 use Rattle.dwc_clone.specs.BegunNumbers.{is_noted}
-use Rattle.dwc_carry.specs.Inputs.{modules_of}
+use Rattle.dwc_carry.specs.Inputs.{bad_map, functions_from, modules_of}
 use Rattle.dwc_carry.specs.LastUnits.{GivesUnit}
 use Rattle.dwc_carry.specs.Refusals.{RefusesReading}
 use Rattle.dwc_carry.proofs.LastUnitLaws.{last-added, none-added, not-none, path-refused, path-text, same-modules, unit-refused}
@@ -18,7 +19,7 @@ pub returns-then-is_empty-clause-added : goal.returns-then-is_empty-clause-added
 returns-then-is_empty-clause-added g c =
     let registers = (goal.TargetIsa-dyn g c.args.isa.now).dwarf_registers c.args.isa.now.1 in
     let none = sym (ap length c.translations.ensures.translations) ∙ eqb-true (length c.translations.result.now) 0 (sym c.is_empty.ensures ∙ c.if-is_empty.true) in
-    none-added (is_noted c.args.translated.now) registers c.args.compilation.now c.args.out_encoding.address_size c.args.out_units.now.units.items c.args.out_strings.now none
+    none-added (is_noted c.args.translated.now) registers c.args.compilation.now c.args.out_encoding.address_size c.args.vmctx_ptr_die_refs.now c.args.out_units.now.units.items c.args.out_strings.now none
 
 pub returns-then-not-is_file_name-clause-added : goal.returns-then-not-is_file_name-clause-added
 returns-then-not-is_file_name-clause-added g c =
@@ -28,6 +29,21 @@ returns-then-not-is_file_name-clause-added g c =
     let path : List ℕ = c.in_ok-path.path.items in
     let tested = c.is_file_name.ensures ∙ ap is_file_name (c.path_name.ensures ∙ ap path_name c.deref.ensures.value) in
     path-refused (is_noted c.args.translated.now) registers compilation path c.in_ok-path.ensures.path c.translations.ensures.counted some (sym tested ∙ c.if-not-is_file_name.true)
+
+pub simulated_unit-requires-clause-transforms : goal.simulated_unit-requires-clause-transforms
+simulated_unit-requires-clause-transforms g c =
+    let registers = (goal.TargetIsa-dyn g c.args.isa.now).dwarf_registers c.args.isa.now.1 in
+    c.requires.transforms ∙ ap (λ (x : CompilationValue). functions_from 0 x.translations x.functions) (sym (c.in_ok-path.ensures.counter registers))
+
+pub simulated_unit-requires-clause-maps : goal.simulated_unit-requires-clause-maps
+simulated_unit-requires-clause-maps g c =
+    let registers = (goal.TargetIsa-dyn g c.args.isa.now).dwarf_registers c.args.isa.now.1 in
+    ap bad_map (c.in_ok-path.ensures.counter registers) ∙ c.requires.maps
+
+pub simulated_unit-requires-clause-contexts : goal.simulated_unit-requires-clause-contexts
+simulated_unit-requires-clause-contexts g c =
+    let registers = (goal.TargetIsa-dyn g c.args.isa.now).dwarf_registers c.args.isa.now.1 in
+    c.requires.contexts ∙ ap (λ (x : CompilationValue). length x.translations) (sym (c.in_ok-path.ensures.counter registers))
 
 pub simulated_unit-requires-clause-path : goal.simulated_unit-requires-clause-path
 simulated_unit-requires-clause-path g c =
@@ -62,6 +78,7 @@ returns-clause-added g c =
     let before = c.args.out_strings.now in
     let after = c.simulated_unit.new.strings in
     let u = c.in_ok-unit.unit in
-    let given : GivesUnit (is_noted c.args.translated.now) size c.deref-2.result.now (modules_of registers compilation) before after (Ok u) = subst (λ (ms : List Module). GivesUnit (is_noted c.args.translated.now) size c.deref-2.result.now ms before after (Ok u)) same c.in_ok-unit.ensures.unit in
-    let last : GivesUnit (is_noted c.args.translated.now) size path (modules_of registers compilation) before after (Ok u) = subst (λ (p : List ℕ). GivesUnit (is_noted c.args.translated.now) size p (modules_of registers compilation) before after (Ok u)) c.deref-2.ensures.value given in
-    last-added (is_noted c.args.translated.now) registers compilation path c.in_ok-path.ensures.path c.translations.ensures.counted some size c.args.out_units.now.units.items c.add.new.self.units.items before after u (sym tested ∙ c.if-not-is_file_name.false) c.requires.numbered c.in_ok-add.ensures.ok last
+    let refs = c.args.vmctx_ptr_die_refs.now in
+    let given : GivesUnit (is_noted c.args.translated.now) size c.deref-2.result.now (modules_of registers compilation) refs before after (Ok u) = subst (λ (ms : List Module). GivesUnit (is_noted c.args.translated.now) size c.deref-2.result.now ms refs before after (Ok u)) same c.in_ok-unit.ensures.unit in
+    let last : GivesUnit (is_noted c.args.translated.now) size path (modules_of registers compilation) refs before after (Ok u) = subst (λ (p : List ℕ). GivesUnit (is_noted c.args.translated.now) size p (modules_of registers compilation) refs before after (Ok u)) c.deref-2.ensures.value given in
+    last-added (is_noted c.args.translated.now) registers compilation path c.in_ok-path.ensures.path c.translations.ensures.counted some size refs c.args.out_units.now.units.items c.add.new.self.units.items before after u (sym tested ∙ c.if-not-is_file_name.false) c.in_ok-add.ensures.ok last

@@ -1,12 +1,12 @@
-use Rattle.std.proofs.Common.{ap, map, sym, subst, ◌∙◌, All}
-use Rattle.std.specs.Prelude.{sum_by}
+use Rattle.std.proofs.Common.{ℕ, ap, map, sym, subst, ◌∙◌, All}
 use Rattle.std.proofs.lemmas.Result.{err_from_is_err_and}
-use Rattle.dwc_base.specs.SimulatedUnit.{simulated_unit, unit_count}
+use Rattle.dwc_base.specs.SimulatedUnit.{simulated_unit}
 use Rattle.dwc_image.specs.SimulatedSequences.{listed_view}
 use Rattle.dwc_clone.specs.BegunNumbers.{is_noted}
 use Rattle.dwc_carry.specs.Inputs.{modules_of}
 use Rattle.dwc_carry.specs.LastUnits.{IsTyped}
 use Rattle.dwc_carry.specs.ListedFiles.{CanWrite, left_in}
+use Rattle.dwc_carry.specs.OwnUnits.{reference_meant}
 use Rattle.dwc_carry.proofs.LastUnitLaws.{last-made, modules-left}
 use Rattle.dwc_carry.proofs.ListedLaws.{all-left}
 use Rattle.dwc_carry.proofs.MadeLaws.{grows-same, grows-twice}
@@ -27,6 +27,7 @@ returns-in_err-add_modules-clause-unit g c =
     let translated = is_noted c.args.translated.now in
     let registers = (goal.TargetIsa-dyn g c.args.isa.now).dwarf_registers c.args.isa.now.1 in
     let ms = modules_of registers compilation in
+    let pointers = map reference_meant c.args.vmctx_ptrs.now in
     let size = c.args.encoding.address_size in
     let path = c.args.path.now in
     let middle = c.typed_unit.new.strings in
@@ -35,7 +36,7 @@ returns-in_err-add_modules-clause-unit g c =
     let listed = c.in_ok-functions.ensures.listed ∙ ap (left_in translated compilation.translations) c.requires.transforms ∙ all-left registers compilation translated c.in_ok-functions.ensures.counted in
     let typed = subst (λ xs. IsTyped size path (map listed_view xs) middle u) c.deref.ensures.value c.in_ok-unit.ensures.typed in
     let p = err_from_is_err_and c.from_residual-in_err-add_modules.result c.from_residual-in_err-add_modules.ensures.1 in
-    rw (p.1, p.2) (c.in_err-add_modules.ensures.entries (sum_by unit_count ms) (simulated_unit translated path ms) (modules-left translated size path ms fs middle u listed typed))
+    rw (p.1, p.2) (c.in_err-add_modules.ensures.entries 0 (simulated_unit translated path 0 pointers ms) (modules-left translated size path 0 pointers ms fs middle u listed typed))
 
 pub returns-clause-unit : goal.returns-clause-unit
 returns-clause-unit g c =
@@ -43,6 +44,7 @@ returns-clause-unit g c =
     let translated = is_noted c.args.translated.now in
     let registers = (goal.TargetIsa-dyn g c.args.isa.now).dwarf_registers c.args.isa.now.1 in
     let ms = modules_of registers compilation in
+    let pointers = map reference_meant c.args.vmctx_ptrs.now in
     let size = c.args.encoding.address_size in
     let path = c.args.path.now in
     let middle = c.typed_unit.new.strings in
@@ -50,9 +52,9 @@ returns-clause-unit g c =
     let fs = map listed_view c.in_ok-functions.functions.items in
     let listed = c.in_ok-functions.ensures.listed ∙ ap (left_in translated compilation.translations) c.requires.transforms ∙ all-left registers compilation translated c.in_ok-functions.ensures.counted in
     let typed = subst (λ xs. IsTyped size path (map listed_view xs) middle u) c.deref.ensures.value c.in_ok-unit.ensures.typed in
-    let entries = c.in_ok-add_modules.ensures.entries (sum_by unit_count ms) (simulated_unit translated path ms) (modules-left translated size path ms fs middle u listed typed) in (
-      entries.0,
-      last-made translated size path ms fs c.args.strings.now middle c.add_modules.new.strings u c.add_modules.new.unit listed c.in_ok-functions.ensures.fit c.typed_unit.ensures.grows c.add_modules.ensures.grows typed c.in_ok-add_modules.ensures.begins entries.1,
+    let entries = λ (number : ℕ). c.in_ok-add_modules.ensures.entries number (simulated_unit translated path number pointers ms) (modules-left translated size path number pointers ms fs middle u listed typed) in (
+      (entries 0).0,
+      last-made translated size path ms c.args.vmctx_ptrs.now fs c.args.strings.now middle c.add_modules.new.strings u c.add_modules.new.unit listed c.in_ok-functions.ensures.fit c.typed_unit.ensures.grows c.add_modules.ensures.grows typed c.in_ok-add_modules.ensures.begins (λ number. (entries number).1),
     )
 
 pub returns-in_err-add_modules-clause-grows : goal.returns-in_err-add_modules-clause-grows

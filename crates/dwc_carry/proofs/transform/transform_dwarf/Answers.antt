@@ -3,7 +3,7 @@ use Rattle.std.proofs.lemmas.Result.{err_from_is_err_and}
 use Rattle.dwc_image.specs.CarriedLines.{AreKept}
 use Rattle.dwc_base.specs.Addends.{HaveAddends}
 use Rattle.dwc_carry.proofs.LengthLaws.{all-addends}
-use Rattle.dwc_carry.proofs.TransformLaws.{all-kept, early-lengths, early-maps, early-modules, input-transformed, input-refused, last-refused, late-memory, maps-good, maps-refused, lengths-refused, lengths-short, never-early, units-numbered}
+use Rattle.dwc_carry.proofs.TransformLaws.{all-kept, early-lengths, early-maps, early-modules, input-transformed, input-refused, last-refused, late-memory, maps-good, maps-refused, lengths-refused, lengths-short, never-early, refers-each}
 use Rattle.dwc_carry.proofs.transform.transform_dwarf.Goals as goal
 
 pub carry_modules-requires-clause-transforms : goal.carry_modules-requires-clause-transforms
@@ -40,12 +40,8 @@ generate_simulated_dwarf-requires-clause-addends g c =
     subst (All HaveAddends) (sym (c.deref-3.ensures.value ∙ c.in_ok-transforms.ensures.transforms.1)) (all-addends _ (all-kept c.args.compilation.now c.in_ok-transforms.ensures.transforms.0) short)
 
 pub generate_simulated_dwarf-requires-clause-contexts : goal.generate_simulated_dwarf-requires-clause-contexts
-generate_simulated_dwarf-requires-clause-contexts g c = rw c.deref-4.ensures.value (rw c.new.ensures at c.in_ok-carried.ensures).1.refers
-
-pub generate_simulated_dwarf-requires-clause-numbered : goal.generate_simulated_dwarf-requires-clause-numbered
-generate_simulated_dwarf-requires-clause-numbered g c =
-    units-numbered _ c.args.compilation.now c.in_ok-transforms.ensures.counted _ _ _ c.carry_modules.new.dwarf.strings c.carry_modules.new.dwarf.units.units.items c.in_ok-carried.carried
-    (rw (c.new.ensures, c.output_form-form.ensures.address_size, c.output_form-form.ensures.order) at c.in_ok-carried.ensures).1
+generate_simulated_dwarf-requires-clause-contexts g c =
+    rw c.deref-4.ensures.value (refers-each _ c.args.compilation.now c.in_ok-transforms.ensures.counted c.in_ok-carried.carried.vmctx_ptrs.items (rw c.new.ensures at c.in_ok-carried.ensures).1.refers)
 
 pub returns-in_err-generate_simulated_dwarf-clause-units : goal.returns-in_err-generate_simulated_dwarf-clause-units
 returns-in_err-generate_simulated_dwarf-clause-units g c =
@@ -63,7 +59,7 @@ returns-clause-units g c =
     let short = lengths-short c.args.compilation.now (rw (c.deref.ensures.value, c.in_ok-transforms.ensures.transforms.1) at c.in_ok-check_lengths.ensures) in
     let modules = rw (c.new.ensures, c.output_form-form.ensures.address_size, c.output_form-form.ensures.order) at c.in_ok-carried.ensures in
     input-transformed _ c.args.compilation.now c.in_ok-transforms.ensures.counted _ _ _ c.carry_modules.new.dwarf.strings c.carry_modules.new.dwarf.units.units.items c.in_ok-carried.carried modules.1
-    c.generate_simulated_dwarf.new.out_strings c.generate_simulated_dwarf.new.out_units.units.items c.in_ok-transforms.ensures.transforms.0 short modules.0 (rw c.output_form-form.ensures.address_size at c.in_ok-generate_simulated_dwarf.ensures.added)
+    c.generate_simulated_dwarf.new.out_strings c.generate_simulated_dwarf.new.out_units.units.items c.in_ok-transforms.ensures.transforms.0 short modules.0 (rw (c.output_form-form.ensures.address_size, c.deref-4.ensures.value) at c.in_ok-generate_simulated_dwarf.ensures.added)
 
 pub returns-in_err-check_lengths-clause-units : goal.returns-in_err-check_lengths-clause-units
 returns-in_err-check_lengths-clause-units g c =
