@@ -2,7 +2,7 @@
 use Rattle.std.proofs.Common.{◌≡◌, ℕ, ◌<◌, ◌≤◌, pos, List, [], ◌∷◌, ◌++◌, Some, None, Ok, true, false, refl, arith, lit≤}
 use Rattle.std.specs.Prelude.{codes, All, Bool, nat_le, if◌then◌else◌, Option}
 use Rattle.std.specs.Option.{option_or, is_some}
-use Rattle.std.proofs.Common.{zero, suc, ap, sym, ◌∙◌, lit<}
+use Rattle.std.proofs.Common.{zero, suc, ap, sym, ◌∙◌, lit<, inl, inr}
 use Rattle.std.proofs.Math.Dec.{leb-zero}
 use Rattle.std.proofs.lemmas.Bool.{false≢true, true≢false}
 use Rattle.dwc_base.proofs.DraftsOnLiterals.{drafts_on_literals}
@@ -18,7 +18,8 @@ use Rattle.dwc_base.specs.Sections.{Fault, unsupported}
 use Rattle.dwc_base.specs.Units.{UnitHeader}
 use Rattle.dwc_base.specs.Values.{Value, address, constant, flag, info_reference, line_reference, location_reference, text_reference, unit_reference}
 use Rattle.dwc_base.specs.LineRows.{Segment, row_in_force}
-use Rattle.dwc_base.specs.Images.{row_for_byte, IsImage}
+use Rattle.dwc_base.specs.Functions.{recorded_sources}
+use Rattle.dwc_base.specs.Images.{row_for_byte, StemsFrom, IsImage}
 use Rattle.dwc_base.specs.Outputs.{OutputSection, function, output_sections}
 use Rattle.dwc_base.specs.Carried.{Unit, units, Module, Compilation}
 use Rattle.dwc_base.specs.ToldFiles.{bare_file}
@@ -147,8 +148,14 @@ within-small zero d h = lit≤ tt
 within-small (suc zero) d h = lit≤ tt
 within-small (suc (suc k)) d h = absurd (omega arith)
 
+-- its first row is that of the first source, and its second stands at the second
+stems-small : All (StemsFrom (at_line 0 1 ∷ at_line 3 2 ∷ at_line 8 3 ∷ []) 2 (recorded_sources function_small)) image_small.rows
+stems-small zero d h = inr (refl, refl)
+stems-small (suc zero) d h = inl (1, record { native = 15; wasm = 10 }, lit< tt, refl, (refl, refl))
+stems-small (suc (suc k)) d h = absurd (omega arith)
+
 pub image-small : IsImage (record { start = Constant 2; rows = at_line 0 1 ∷ at_line 3 2 ∷ at_line 8 3 ∷ []; end = Some 11 }) 2 function_small image_small
-image-small = record { starts = refl; ends = refl; within = within-small; agrees = agrees-small }
+image-small = record { starts = refl; ends = refl; within = within-small; stems = stems-small; agrees = agrees-small }
 
 pub images-small : AreImages (record { module_of = module_small; unit = unit_small }) (image_small ∷ [])
 images-small = record { input = segments_small; input_read = input-read; each = ((function_small, refl, image-small), tt) }

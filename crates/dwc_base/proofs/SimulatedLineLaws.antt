@@ -105,5 +105,6 @@ simulated_segment-is name code_offset f rise within = record {
   starts = refl;
   ends = refl;
   within = All-cons (Within f.length) (record { offset = 0; source = simulated_contents name 0 false }) (rows_of_recorded name code_offset (recorded_sources f)) (omega arith) (recorded-within name code_offset f.length (recorded_sources f) within);
+  rows = refl;
   agrees = λ byte h. rows-agree name code_offset (recorded_sources f) byte rise;
 }

@@ -1,6 +1,6 @@
 -- An output for the small module where its function is listed: its bytes say the wanted trees, and the wanted lines; and wrong ones are
 -- refused.
-use Rattle.std.proofs.Common.{◌≡◌, ℕ, pos, List, [], ◌∷◌, ◌++◌, map, Some, None, Ok, Result, true, false, refl, ap, arith, lit<}
+use Rattle.std.proofs.Common.{◌≡◌, ℕ, pos, List, [], ◌∷◌, ◌++◌, length, map, Some, None, Ok, Result, true, false, refl, ap, arith, lit<}
 use Rattle.std.specs.Prelude.{Option, codes}
 use Rattle.std.specs.Option.{unwrap_or}
 use Rattle.dwc_base.specs.declared.records.Endian.TheVariants.{Little}
@@ -183,3 +183,10 @@ not-without_prologue h = let same : 0 ≡ 1 = ap prologues_of (h.agrees 5 (lit< 
 
 not-from_0 : IsWanted (record segment_listed { rows = record { offset = 0; source = simulated_contents (codes "g.wasm") 25 true } ∷ [] }) → ⊥
 not-from_0 h = let same : 25 ≡ 0 = ap line_of (h.agrees 4 (lit< tt)) in omega (arith, same)
+
+-- it has a row more, wherever this stands and whatever it says
+abbrev with_row : ℕ → ℕ → Segment
+with_row offset line = record segment_listed { rows = record { offset = offset; source = simulated_contents (codes "g.wasm") line false } ∷ segment_listed.rows }
+
+not-with_row : (offset line : ℕ) → IsWanted (with_row offset line) → ⊥
+not-with_row offset line h = let same : 4 ≡ 3 = ap length h.rows in omega (arith, same)

@@ -1,12 +1,14 @@
 -- The images of worked line tables, each proved to be the image of its segment at every byte, and wrong ones refused.
-use Rattle.std.proofs.Common.{◌≡◌, ℕ, zero, suc, ◌<◌, ◌≤◌, pos, List, [], ◌∷◌, Some, None, Ok, true, refl, ap, arith, lit<, inl, inr}
-use Rattle.std.specs.Prelude.{All, Option, nat_le, nat_lt, ◌⊎◌}
-use Rattle.std.specs.List.{filter, list_all, AllZip}
-use Rattle.std.proofs.lemmas.Bool.{cases_lt, leb-true, ltb-true, and_parts}
+use Rattle.std.proofs.Common.{◌≡◌, ℕ, zero, suc, ◌<◌, ◌≤◌, pos, List, [], ◌∷◌, Some, None, Ok, true, refl, ap, sym, arith, false, ◌∙◌, lit<, inl, inr}
+use Rattle.std.specs.Prelude.{All, Bool, Option, length, nat_le, nat_lt, slice_index_or, ◌==◌, ◌&&◌, ◌||◌, ◌⊎◌}
+use Rattle.std.specs.List.{filter, list_all, list_any, AllZip}
+use Rattle.std.proofs.lemmas.Bool.{cases_lt, eq-eqb, leb-true, ltb-true, and_parts, false≢true}
 use Rattle.std.proofs.lemmas.List.Elements.{All-nil, All-cons}
+use Rattle.std.proofs.lemmas.List.Folds.{list_any-from_Any}
 use Rattle.dwc_base.specs.declared.records.Address.TheVariants.{Constant, Symbol}
 use Rattle.dwc_base.specs.LineRows.{Segment, Row, RowContents, row_in_force}
-use Rattle.dwc_base.specs.Images.{row_for_byte, IsImage, IsImageOf, function_of_segment, start_of_segment, is_carried_segment}
+use Rattle.dwc_base.specs.Functions.{Function, Recorded, recorded_sources}
+use Rattle.dwc_base.specs.Images.{row_for_byte, row_of_source, row_of_first, StemsFrom, IsImage, IsImageOf, function_of_segment, start_of_segment, is_carried_segment}
 use Rattle.dwc_base.specs.Carried.{CarriedUnit, segments_of_unit}
 use Rattle.dwc_base.specs.ToldFiles.{bare_file}
 use Rattle.dwc_base.specs.LinesCarried.{AreImages}
@@ -58,13 +60,54 @@ said rows = table_below (row_in_force rows) 30
 abbrev pub wanted : ℕ → List Row → List (Option RowContents)
 wanted start rows = table_below (row_for_byte rows start function_small) 30
 
--- rows that say what is wanted are an image
-pub image-by_table : (start : ℕ) (rows : List Row) (end : Option ℕ) (written : List Row) → said written ≡ wanted start rows → list_all (λ r. nat_le r.offset 30) written ≡ true → IsImage (segment start rows end) start function_small (image written)
-image-by_table start rows end written same within = record { starts = refl; ends = refl; within = within_30 written within; agrees = agree-below (row_in_force written) (row_for_byte rows start function_small) 30 same }
+-- each of some rows stems from the sources of the small module's function
+abbrev pub EachStems : ℕ → List Row → List Row → Type 0
+EachStems start rows [] = Unit {0}
+EachStems start rows (r ∷ rs) = StemsFrom rows start (recorded_sources function_small) r × EachStems start rows rs
+
+stems_each : (start : ℕ) (rows written : List Row) → EachStems start rows written → All (StemsFrom rows start (recorded_sources function_small)) written
+stems_each start rows [] each = All-nil (StemsFrom rows start (recorded_sources function_small))
+stems_each start rows (r ∷ rs) each = All-cons (StemsFrom rows start (recorded_sources function_small)) r rs each.0 (stems_each start rows rs each.1)
+
+-- its second source, and a row of that
+abbrev second_source : Recorded
+second_source = record { native = 15; wasm = 10 }
+
+stems_second : (start : ℕ) (rows : List Row) (r : Row) → r.offset ≡ 15 → row_of_source rows start second_source ≡ Some r.source → StemsFrom rows start (recorded_sources function_small) r
+stems_second start rows r there is = inl (1, second_source, lit< tt, refl, (there, is))
+
+-- rows that say what is wanted, and stem from the sources, are an image
+pub image-by_table : (start : ℕ) (rows : List Row) (end : Option ℕ) (written : List Row) → said written ≡ wanted start rows → list_all (λ r. nat_le r.offset 30) written ≡ true → EachStems start rows written → IsImage (segment start rows end) start function_small (image written)
+image-by_table start rows end written same within each = record { starts = refl; ends = refl; within = within_30 written within; stems = stems_each start rows written each; agrees = agree-below (row_in_force written) (row_for_byte rows start function_small) 30 same }
 
 -- rows that say another line at a byte are none
 pub not_image-at : (byte : ℕ) (start : ℕ) (rows : List Row) (end : Option ℕ) (written : List Row) → nat_lt byte 30 ≡ true → (line_in (row_in_force written byte) ≡ line_in (row_for_byte rows start function_small byte) → ⊥) → IsImage (segment start rows end) start function_small (image written) → ⊥
 not_image-at byte start rows end written inside differ h = differ (ap line_in (h.agrees byte (ltb-true byte 30 inside)))
+
+-- whether a row stands at an offset and has the line of an input row
+abbrev stands_for : Row → ℕ → Option RowContents → Bool
+stands_for r offset o = (r.offset == offset) && (line_in o == line_in (Some r.source))
+
+-- whether it has a line that it may have where it stands
+abbrev may_stand : ℕ → List Row → Function → Row → Bool
+may_stand start rows f r = list_any (λ e. stands_for r e.native (row_of_source rows start e)) (recorded_sources f) || stands_for r 0 (row_of_first rows start (recorded_sources f))
+
+stands-for : (r : Row) (offset : ℕ) (o : Option RowContents) → r.offset ≡ offset → o ≡ Some r.source → stands_for r offset o ≡ true
+stands-for r offset o there is = rw (eq-eqb r.offset offset there, eq-eqb (line_in o) (line_in (Some r.source)) (ap line_in is)) refl
+
+stems-may_stand : (start : ℕ) (rows : List Row) (f : Function) (r : Row) → StemsFrom rows start (recorded_sources f) r → may_stand start rows f r ≡ true
+stems-may_stand start rows f r (inl (k, e, within, is, (there, says))) =
+    let some = list_any-from_Any (λ x. stands_for r x.native (row_of_source rows start x)) (recorded_sources f) (k, e, within, is, stands-for r e.native (row_of_source rows start e) there says) in
+    rw some refl
+stems-may_stand start rows f r (inr (there, says)) = rw (stands-for r 0 (row_of_first rows start (recorded_sources f)) there says) (or_true (list_any (λ e. stands_for r e.native (row_of_source rows start e)) (recorded_sources f)))
+  where
+    or_true : (b : Bool) → (b || true) ≡ true
+    or_true true = refl
+    or_true false = refl
+
+-- rows of which one may not stand where it does are no image
+not_image-row : (k start : ℕ) (f : Function) (q written : Segment) → nat_lt k (length written.rows) ≡ true → may_stand start q.rows f (slice_index_or written.rows k (at_line 0 0)) ≡ false → IsImage q start f written → ⊥
+not_image-row k start f q written inside not h = false≢true (sym not ∙ stems-may_stand start q.rows f (slice_index_or written.rows k (at_line 0 0)) (h.stems k (at_line 0 0) (ltb-true k (length written.rows) inside)))
 
 -- ---- several rows at one offset: the image has the last of them at byte 0, and from the second source on the third line
 
@@ -72,7 +115,7 @@ abbrev pub rows_same_offset : List Row
 rows_same_offset = at_line 0 1 ∷ at_line 3 2 ∷ at_line 3 5 ∷ at_line 8 3 ∷ []
 
 same_offset : IsImage (segment 2 rows_same_offset (Some 11)) 2 function_small (image (at_line 0 5 ∷ at_line 15 3 ∷ []))
-same_offset = image-by_table 2 rows_same_offset (Some 11) (at_line 0 5 ∷ at_line 15 3 ∷ []) refl refl
+same_offset = image-by_table 2 rows_same_offset (Some 11) (at_line 0 5 ∷ at_line 15 3 ∷ []) refl refl (inr (refl, refl), (stems_second 2 rows_same_offset (at_line 15 3) refl refl, tt))
 
 -- the first of them taken in place of the last
 first_of_equals : IsImage (segment 2 rows_same_offset (Some 11)) 2 function_small (image (at_line 0 2 ∷ at_line 15 3 ∷ [])) → ⊥
@@ -104,10 +147,33 @@ at_number h = let same : Constant 0 ≡ Symbol 0 (pos 0) = h.starts in cc
 row_past_end : IsImage (segment 2 rows_same_offset (Some 11)) 2 function_small (image (at_line 0 5 ∷ at_line 15 3 ∷ at_line 31 7 ∷ [])) → ⊥
 row_past_end h = let past : 31 ≤ 30 = h.within 2 (at_line 0 0) (lit< tt) in omega (arith, past)
 
+-- ---- a row more, which is in force at no byte or says what is in force there already
+
+-- one in front of the right one at the same offset, one that stands where the function ends, and the second source's row where the function begins
+in_front : IsImage (segment 2 rows_same_offset (Some 11)) 2 function_small (image (at_line 0 5 ∷ at_line 15 7 ∷ at_line 15 3 ∷ [])) → ⊥
+in_front = not_image-row 1 2 function_small (segment 2 rows_same_offset (Some 11)) (image (at_line 0 5 ∷ at_line 15 7 ∷ at_line 15 3 ∷ [])) refl refl
+
+at_its_end : IsImage (segment 2 rows_same_offset (Some 11)) 2 function_small (image (at_line 0 5 ∷ at_line 15 3 ∷ at_line 30 3 ∷ [])) → ⊥
+at_its_end = not_image-row 2 2 function_small (segment 2 rows_same_offset (Some 11)) (image (at_line 0 5 ∷ at_line 15 3 ∷ at_line 30 3 ∷ [])) refl refl
+
+second_at_begin : IsImage (segment 2 rows_same_offset (Some 11)) 2 function_small (image (at_line 0 3 ∷ at_line 0 5 ∷ at_line 15 3 ∷ [])) → ⊥
+second_at_begin = not_image-row 0 2 function_small (segment 2 rows_same_offset (Some 11)) (image (at_line 0 3 ∷ at_line 0 5 ∷ at_line 15 3 ∷ [])) refl refl
+
+-- one that stands at no source, with the line that is in force there
+at_no_source : IsImage (segment 2 rows_same_offset (Some 11)) 2 function_small (image (at_line 0 5 ∷ at_line 10 5 ∷ at_line 15 3 ∷ [])) → ⊥
+at_no_source = not_image-row 1 2 function_small (segment 2 rows_same_offset (Some 11)) (image (at_line 0 5 ∷ at_line 10 5 ∷ at_line 15 3 ∷ [])) refl refl
+
+-- a function without bytes, of which no byte says what its image has
+abbrev no_bytes : Function
+no_bytes = record function_small { length = 0; entries = (0, Some 5) ∷ [] }
+
+without_bytes : IsImage (segment 2 rows_same_offset (Some 11)) 2 no_bytes (record { start = Symbol 0 (pos 0); rows = at_line 0 7 ∷ []; end = Some 0 }) → ⊥
+without_bytes = not_image-row 0 2 no_bytes (segment 2 rows_same_offset (Some 11)) (record { start = Symbol 0 (pos 0); rows = at_line 0 7 ∷ []; end = Some 0 }) refl refl
+
 -- ---- a source below the segment's start has no row: the next one's holds from byte 0 on
 
 below_start : IsImage (segment 6 (at_line 0 9 ∷ []) (Some 7)) 6 function_small (image (at_line 0 9 ∷ []))
-below_start = image-by_table 6 (at_line 0 9 ∷ []) (Some 7) (at_line 0 9 ∷ []) refl refl
+below_start = image-by_table 6 (at_line 0 9 ∷ []) (Some 7) (at_line 0 9 ∷ []) refl refl (inr (refl, refl), tt)
 
 -- ---- whole units: which segments are carried, and their images one to one and in order
 
@@ -134,7 +200,7 @@ abbrev pub image_of_small : Segment
 image_of_small = image (at_line 0 2 ∷ at_line 15 3 ∷ [])
 
 image_of_small-is : IsImage (segment 2 (at_line 0 1 ∷ at_line 3 2 ∷ at_line 8 3 ∷ []) (Some 11)) 2 function_small image_of_small
-image_of_small-is = image-by_table 2 (at_line 0 1 ∷ at_line 3 2 ∷ at_line 8 3 ∷ []) (Some 11) (at_line 0 2 ∷ at_line 15 3 ∷ []) refl refl
+image_of_small-is = image-by_table 2 (at_line 0 1 ∷ at_line 3 2 ∷ at_line 8 3 ∷ []) (Some 11) (at_line 0 2 ∷ at_line 15 3 ∷ []) refl refl (inr (refl, refl), (stems_second 2 (at_line 0 1 ∷ at_line 3 2 ∷ at_line 8 3 ∷ []) (at_line 15 3) refl refl, tt))
 
 read-beside_unlinked : segments_of_unit (with_lines line_beside_unlinked).module_of.sections unit_small ≡ Ok segments_beside_unlinked
 unfolding lines_on_literals
@@ -170,10 +236,10 @@ unfolding lines_on_literals
 read-cut = refl
 
 first-cut : IsImage (segment 2 (at_line 0 1 ∷ []) None) 2 function_small (image (at_line 0 1 ∷ []))
-first-cut = image-by_table 2 (at_line 0 1 ∷ []) None (at_line 0 1 ∷ []) refl refl
+first-cut = image-by_table 2 (at_line 0 1 ∷ []) None (at_line 0 1 ∷ []) refl refl (inr (refl, refl), tt)
 
 second-cut : IsImage (segment 7 (at_line 0 4 ∷ []) (Some 3)) 7 function_small (image (at_line 0 4 ∷ []))
-second-cut = image-by_table 7 (at_line 0 4 ∷ []) (Some 3) (at_line 0 4 ∷ []) refl refl
+second-cut = image-by_table 7 (at_line 0 4 ∷ []) (Some 3) (at_line 0 4 ∷ []) refl refl (inr (refl, refl), tt)
 
 images-cut : AreImages (with_lines line_cut) (image (at_line 0 1 ∷ []) ∷ image (at_line 0 4 ∷ []) ∷ [])
 images-cut = record { input = segments_cut; input_read = read-cut; each = ((function_small, refl, first-cut), ((function_small, refl, second-cut), tt)) }

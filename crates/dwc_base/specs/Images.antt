@@ -1,5 +1,5 @@
 -- What a segment of an input line table becomes for a function: its image. (This project's own rule.)
-use Rattle.std.specs.Prelude.{◌≡◌, ℕ, ◌-◌, ◌<◌, ◌≤◌, pos, List, [], ◌∷◌, Bool, false, nat_le, if◌then◌else◌, Option, Some, None, is_some, All}
+use Rattle.std.specs.Prelude.{◌≡◌, ℕ, ◌-◌, ◌<◌, ◌≤◌, pos, List, [], ◌∷◌, Bool, false, nat_le, if◌then◌else◌, Option, Some, None, is_some, ◌⊎◌, All, Any}
 use Rattle.std.specs.Option.{option_or}
 use Rattle.std.specs.List.{list_any}
 use Rattle.dwc_base.specs.declared.records.Address.{Address}
@@ -26,12 +26,18 @@ row_of_first rows start (e ∷ es) = option_or (row_of_source rows start e) (row
 abbrev pub row_for_byte : List Row → ℕ → Function → ℕ → Option RowContents
 row_for_byte rows start f byte = option_or (row_of_last rows start (recorded_sources f) byte) (row_of_first rows start (recorded_sources f))
 
--- The image of a segment that begins at a wasm offset: it covers the whole function, and at each byte of it the row in
--- force is the input row for that byte.
+-- Where a row of an image is from: it is that of a recorded source and stands at it, or that of the first source that has one and stands where
+-- the function begins.
+abbrev pub StemsFrom : List Row → ℕ → List Recorded → Row → Type 0
+StemsFrom rows start es r = Any (λ e. (r.offset ≡ e.native) × (row_of_source rows start e ≡ Some r.source)) es ⊎ ((r.offset ≡ 0) × (row_of_first rows start es ≡ Some r.source))
+
+-- The image of a segment that begins at a wasm offset: it covers the whole function, each of its rows is one of the input at its place, and at
+-- each byte of the function the row in force is the input row for that byte.
 pub record IsImage (q : Segment) (start : ℕ) (f : Function) (image : Segment) : Type 0 where
   pub starts : image.start ≡ Symbol f.number (pos 0)
   pub ends : image.end ≡ Some f.length
   pub within : All (λ r. r.offset ≤ f.length) image.rows
+  pub stems : All (StemsFrom q.rows start (recorded_sources f)) image.rows
   pub agrees : (byte : ℕ) → byte < f.length → row_in_force image.rows byte ≡ row_for_byte q.rows start f byte
 
 -- the function that a segment's start is in; an address of the input is a number

@@ -34,20 +34,7 @@ contents_behind name code_offset es = simulated_contents name (line_behind code_
 abbrev pub simulated_row : List ℕ → ℕ → Function → ℕ → RowContents
 simulated_row name code_offset f byte = contents_behind name code_offset (filter (λ e. nat_le e.native byte) (recorded_sources f))
 
--- A segment covers a function whole, and at each byte of it the simulated row is in force.
-pub record IsSimulated (name : List ℕ) (code_offset : ℕ) (f : Function) (segment : Segment) : Type 0 where
-  pub starts : segment.start ≡ Symbol f.number (pos 0)
-  pub ends : segment.end ≡ Some f.length
-  pub within : All (λ r. r.offset ≤ f.length) segment.rows
-  pub agrees : (byte : ℕ) → byte < f.length → row_in_force segment.rows byte ≡ Some (simulated_row name code_offset f byte)
-
--- A unit of an output has, in order, one such segment for each of some functions, each with the offset of its own file's code.
-pub record CarriesListed (output : Sections) (name : List ℕ) (fs : List (ℕ × Function)) (v : Unit) : Type 0 where
-  pub segments : List Segment
-  pub segments_read : segments_of_unit output v ≡ Ok segments
-  pub each : AllZip (λ f segment. IsSimulated name f.0 f.1 segment) fs segments
-
--- ---- the segment that is written
+-- ---- its rows, and the whole segment
 
 -- the row of a recorded source
 abbrev pub row_of_recorded : List ℕ → ℕ → Bool → Recorded → Row
@@ -61,6 +48,22 @@ rows_of_recorded name code_offset (e ∷ es) = row_of_recorded name code_offset 
 -- The rows of some recorded sources: one at 0, and one for each of them.
 abbrev pub simulated_rows : List ℕ → ℕ → List Recorded → List Row
 simulated_rows name code_offset es = record { offset = 0; source = simulated_contents name 0 false } ∷ rows_of_recorded name code_offset es
+
+-- A segment covers a function whole, has these rows and no others, and at each byte of the function the simulated row is in force.
+pub record IsSimulated (name : List ℕ) (code_offset : ℕ) (f : Function) (segment : Segment) : Type 0 where
+  pub starts : segment.start ≡ Symbol f.number (pos 0)
+  pub ends : segment.end ≡ Some f.length
+  pub within : All (λ r. r.offset ≤ f.length) segment.rows
+  pub rows : segment.rows ≡ simulated_rows name code_offset (recorded_sources f)
+  pub agrees : (byte : ℕ) → byte < f.length → row_in_force segment.rows byte ≡ Some (simulated_row name code_offset f byte)
+
+-- A unit of an output has, in order, one such segment for each of some functions, each with the offset of its own file's code.
+pub record CarriesListed (output : Sections) (name : List ℕ) (fs : List (ℕ × Function)) (v : Unit) : Type 0 where
+  pub segments : List Segment
+  pub segments_read : segments_of_unit output v ≡ Ok segments
+  pub each : AllZip (λ f segment. IsSimulated name f.0 f.1 segment) fs segments
+
+-- ---- the segment that is written
 
 -- The segment of a function with these rows.
 abbrev pub simulated_segment : List ℕ → ℕ → Function → Segment

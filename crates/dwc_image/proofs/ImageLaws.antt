@@ -1,13 +1,14 @@
 -- The rows of an image make an image: at each byte of the function the row in force is the input row for that byte.
-use Rattle.std.proofs.Common.{◌≡◌, ℕ, ◌-◌, ◌<◌, ◌≤◌, refl, ap, ◌∙◌, sym, arith, List, [], ◌∷◌, map, length, Option, Some, None}
+use Rattle.std.proofs.Common.{◌≡◌, ℕ, suc, ◌-◌, ◌<◌, ◌≤◌, refl, ap, ◌∙◌, sym, arith, inl, inr, List, [], ◌∷◌, map, length, Option, Some, None}
 use Rattle.std.specs.List.{filter_map, list_any, cons_option, filter, AllZip}
 use Rattle.std.specs.Option.{option_or}
-use Rattle.std.specs.Prelude.{nat_le, nat_lt, ◌==◌, if◌then◌else◌, option_map, option_and_then, Bool, true, false, is_some, All, pos, ◌||◌}
+use Rattle.std.specs.Prelude.{nat_le, nat_lt, ◌==◌, if◌then◌else◌, option_map, option_and_then, Bool, true, false, is_some, All, Any, pos, ◌||◌}
 use Rattle.std.proofs.lemmas.Bool.{eq-eqb, ne_eqb, eqb-true, lt-leb, le-leb, leb-false, lt-ltb}
+use Rattle.std.proofs.lemmas.List.Elements.{All-cons, All-nil, All-weaker}
 use Rattle.dwc_base.specs.declared.records.Address.{Address}
 use Rattle.dwc_base.specs.declared.records.Address.TheVariants.{Constant, Symbol}
 use Rattle.dwc_base.specs.Functions.{Function, Recorded, recorded_sources}
-use Rattle.dwc_base.specs.Images.{row_of_source, row_of_last, row_of_first, IsImage, IsImageOf, function_of_segment, start_of_segment, is_carried_segment}
+use Rattle.dwc_base.specs.Images.{row_of_source, row_of_last, row_of_first, StemsFrom, IsImage, IsImageOf, function_of_segment, start_of_segment, is_carried_segment}
 use Rattle.dwc_base.specs.LineRows.{Row, RowContents, Segment, row_in_force}
 use Rattle.dwc_addr.proofs.OwnerLaws.{function_at-among}
 use Rattle.dwc_image.specs.ImageRows.{last_at, RisesFrom, found_at, moved_to, with_found, image_from, image_of, image_with_rows, image_if, IsOrdered}
@@ -140,12 +141,59 @@ module _ (rows : List Row) (start : ℕ) where
       go None more = more
       go (Some r) more = lt-ltb _ _ (omega arith)
 
+-- what some thing behind the first has, some thing has
+Any-more : {X : Type 0} (P : X → Type 0) (x : X) (xs : List X) → Any P xs → Any P (x ∷ xs)
+Any-more P x xs (k, y, within, is, holds) = (suc k, y, omega (arith, within), is, holds)
+
+Any-here : {X : Type 0} (P : X → Type 0) (x : X) (xs : List X) → P x → Any P (x ∷ xs)
+Any-here P x xs holds = (0, x, omega arith, refl, holds)
+
+module _ (rows : List Row) (start : ℕ) where
+  -- a row stands at a source and is that of it
+  abbrev IsAt : Row → Recorded → Type 0
+  IsAt r e = (r.offset ≡ e.native) × (row_of_source rows start e ≡ Some r.source)
+
+  abbrev StandsAt : List Recorded → Row → Type 0
+  StandsAt es r = Any (IsAt r) es
+
+  stands-more : (e : Recorded) (es : List Recorded) (rs : List Row) → All (StandsAt es) rs → All (StandsAt (e ∷ es)) rs
+  stands-more e es rs all = All-weaker (StandsAt es) (StandsAt (e ∷ es)) (λ r. Any-more (IsAt r) e es) rs all
+
+  -- the rows behind one that was found stand at their sources
+  stands-behind : (es : List Recorded) (b : ℕ) → All (StandsAt es) (image_from rows start (Some b) es)
+  stands-behind [] b = All-nil (StandsAt [])
+  stands-behind (e ∷ es) b = go (found_row rows start e) (row_of_source-found rows start e) (λ c. stands-more e es (image_from rows start (Some c) es) (stands-behind es c))
+    where
+      go : (o : Option Row) → row_of_source rows start e ≡ option_map (λ r. r.source) o → ((c : ℕ) → All (StandsAt (e ∷ es)) (image_from rows start (Some c) es)) → All (StandsAt (e ∷ es)) (with_row (λ c. image_from rows start c es) (Some b) e.native o)
+      go None is more = more b
+      go (Some r) is more = inner (b == r.offset)
+        where
+          inner : (t : Bool) → All (StandsAt (e ∷ es)) (if t then image_from rows start (Some b) es else moved_to e.native r ∷ image_from rows start (Some r.offset) es)
+          inner true = more b
+          inner false = All-cons (StandsAt (e ∷ es)) (moved_to e.native r) (image_from rows start (Some r.offset) es) (Any-here (IsAt (moved_to e.native r)) e es (refl, is)) (more r.offset)
+
+  -- each row stems from the recorded sources
+  pub image_from-stems : (es : List Recorded) → All (StemsFrom rows start es) (image_from rows start None es)
+  image_from-stems [] = All-nil (StemsFrom rows start [])
+  image_from-stems (e ∷ es) = go (found_row rows start e) (row_of_source-found rows start e) (image_from-stems es)
+    where
+      go : (o : Option Row) → row_of_source rows start e ≡ option_map (λ r. r.source) o → All (StemsFrom rows start es) (image_from rows start None es) → All (StemsFrom rows start (e ∷ es)) (with_row (λ c. image_from rows start c es) None e.native o)
+      go None is more = All-weaker (StemsFrom rows start es) (StemsFrom rows start (e ∷ es)) stems-more (image_from rows start None es) more
+        where
+          stems-more : (r : Row) → StemsFrom rows start es r → StemsFrom rows start (e ∷ es) r
+          stems-more r (inl stands) = inl (Any-more (IsAt r) e es stands)
+          stems-more r (inr (there, first)) = inr (there, rw is first)
+      go (Some r) is more =
+          let behind = All-weaker (StandsAt (e ∷ es)) (StemsFrom rows start (e ∷ es)) (λ x stands. inl stands) (image_from rows start (Some r.offset) es) (stands-more e es (image_from rows start (Some r.offset) es) (stands-behind es r.offset)) in
+          All-cons (StemsFrom rows start (e ∷ es)) (moved_to 0 r) (image_from rows start (Some r.offset) es) (inr (refl, rw is refl)) behind
+
 -- The image that the rows make is an image, where the recorded sources rise and lie in the function.
 pub image_of-IsImage : (q : Segment) (start : ℕ) (f : Function) → RisesFrom (λ e. e.native) 0 (recorded_sources f) → All (λ e. e.native ≤ f.length) (recorded_sources f) → IsImage q start f (image_of q start f)
 image_of-IsImage q start f rises within = record {
   starts = refl;
   ends = refl;
   within = rows_from-within (λ r. r.offset) moved_to (λ k r. refl) q.rows start (recorded_sources f) None f.length within;
+  stems = image_from-stems q.rows start (recorded_sources f);
   agrees = λ byte less. image_from-agrees q.rows start (recorded_sources f) 0 byte rises;
 }
 
