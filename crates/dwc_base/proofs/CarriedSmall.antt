@@ -2,7 +2,7 @@
 use Rattle.std.proofs.Common.{◌≡◌, ℕ, ◌<◌, ◌≤◌, pos, List, [], ◌∷◌, ◌++◌, Some, None, Ok, true, false, refl, arith, lit≤}
 use Rattle.std.specs.Prelude.{codes, All, Bool, nat_le, if◌then◌else◌, Option}
 use Rattle.std.specs.Option.{option_or, is_some}
-use Rattle.std.proofs.Common.{zero, suc, ap, sym, ◌∙◌, lit<, inl, inr}
+use Rattle.std.proofs.Common.{zero, suc, get_or, ap, sym, ◌∙◌, lit<, inl, inr}
 use Rattle.std.proofs.Math.Dec.{leb-zero}
 use Rattle.std.proofs.lemmas.Bool.{false≢true, true≢false}
 use Rattle.dwc_base.proofs.DraftsOnLiterals.{drafts_on_literals}
@@ -10,18 +10,18 @@ use Rattle.dwc_base.proofs.Readings.{three_sections, sections_small, header_smal
 use Rattle.dwc_base.proofs.Numbers.{at_place}
 use Rattle.dwc_base.proofs.OwnTrees.{own_abbreviations, own_content, own_info, own_texts, empty_list, to_section, own_relocations}
 use Rattle.dwc_base.proofs.SmallModule.{file_small_told, told_small}
-use Rattle.dwc_base.proofs.LineTables.{line_in, function_small, segments_small, at_line, line_of_a_c}
+use Rattle.dwc_base.proofs.LineTables.{line_in, the_table, function_small, segments_small, at_line, line_of_a_c}
 use Rattle.dwc_base.specs.declared.records.Endian.TheVariants.{Little}
 use Rattle.dwc_base.specs.declared.records.Address.TheVariants.{Constant, Symbol}
 use Rattle.dwc_base.specs.declared.faults.Kind.TheVariants.{Format64}
 use Rattle.dwc_base.specs.Sections.{Fault, unsupported}
 use Rattle.dwc_base.specs.Units.{UnitHeader}
 use Rattle.dwc_base.specs.Values.{Value, address, constant, flag, info_reference, line_reference, location_reference, text_reference, unit_reference}
-use Rattle.dwc_base.specs.LineRows.{Segment, row_in_force}
+use Rattle.dwc_base.specs.LineRows.{LineTable, Segment, row_in_force}
 use Rattle.dwc_base.specs.Functions.{recorded_sources}
 use Rattle.dwc_base.specs.Images.{row_for_byte, StemsFrom, IsImage}
 use Rattle.dwc_base.specs.Outputs.{OutputSection, function, output_sections}
-use Rattle.dwc_base.specs.Carried.{Unit, units, Module, Compilation}
+use Rattle.dwc_base.specs.Carried.{Unit, units, table_of_unit, segments_of_unit, Module, Compilation}
 use Rattle.dwc_base.specs.ToldFiles.{bare_file}
 use Rattle.dwc_base.specs.Forests.{carried_units, module_units}
 use Rattle.std.specs.List.{AllZip}
@@ -118,15 +118,15 @@ abbrev pub image_small : Segment
 image_small = record { start = Symbol 0 (pos 0); rows = at_line 0 2 ∷ at_line 15 3 ∷ []; end = Some 30 }
 
 -- the module's own unit has no lines
-pub no_lines-read : Rattle.dwc_base.specs.Carried.table_of_unit (output_sections Little output_small) own_unit_out ≡ Ok None
+pub no_lines-read : table_of_unit (output_sections Little output_small) own_unit_out ≡ Ok None
 unfolding drafts_on_literals
 no_lines-read = refl
 
-pub images-read : Rattle.dwc_base.specs.Carried.segments_of_unit (output_sections Little output_small) unit_out ≡ Ok (image_small ∷ [])
+pub images-read : segments_of_unit (output_sections Little output_small) unit_out ≡ Ok (image_small ∷ [])
 unfolding drafts_on_literals
 images-read = refl
 
-pub input-read : Rattle.dwc_base.specs.Carried.segments_of_unit sections_small unit_small ≡ Ok segments_small
+pub input-read : segments_of_unit sections_small unit_small ≡ Ok segments_small
 unfolding drafts_on_literals
 input-read = refl
 
@@ -160,6 +160,21 @@ image-small = record { starts = refl; ends = refl; within = within-small; stems 
 pub images-small : AreImages (record { module_of = module_small; unit = unit_small }) (image_small ∷ [])
 images-small = record { input = segments_small; input_read = input-read; each = ((function_small, refl, image-small), tt) }
 
+-- the unit's table, as it is read
+abbrev pub table_small : LineTable
+table_small = the_table (table_of_unit sections_small unit_small)
+
+pub table-read : table_of_unit sections_small unit_small ≡ Ok (Some table_small)
+unfolding drafts_on_literals
+table-read = refl
+
+-- a unit of an output, by its number, and its table
+abbrev pub unit_of : ℕ → List OutputSection → Unit
+unit_of place s = get_or (units (output_sections Little s)).items place (record { header = header_small; entries = [] })
+
+abbrev pub table_of : ℕ → List OutputSection → LineTable
+table_of place s = the_table (table_of_unit (output_sections Little s) (unit_of place s))
+
 -- the small module's units are read up to their section's end
 pub whole-small : All (λ m. (units m.sections).fault ≡ None) compilation_small.modules
 unfolding drafts_on_literals
@@ -169,7 +184,20 @@ whole-small (suc k) d h = absurd (omega arith)
 -- the units of the output have the lines of those of the small module
 pub lines-small : AllZip (HasLines (output_sections Little output_small)) (module_units compilation_small) (own_unit_out ∷ unit_out ∷ [])
 unfolding drafts_on_literals
-lines-small = (no_lines-read, (record { images = image_small ∷ []; images_read = images-read; carried = images-small }, tt))
+lines-small = (
+  no_lines-read,
+  (
+    record {
+      input = Some table_small;
+      input_read = table-read;
+      made = Some (table_of 1 output_small);
+      made_read = refl;
+      kept = record { version = refl; directories = refl; files = refl };
+      carried = images-small;
+    },
+    tt,
+  ),
+)
 
 -- with another line at byte 15 it is no image
 not_image-small : IsImage

@@ -4,6 +4,7 @@ pub mod SmallModule
 pub mod Readings
 pub mod LineTables
 pub mod CarriedSmall
+pub mod KeptFileCases
 pub mod Cases
 pub mod Variants
 pub mod Walks

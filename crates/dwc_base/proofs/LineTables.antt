@@ -1,13 +1,16 @@
 -- The small module's line table, and the images of it and of four changes of it.
-use Rattle.std.proofs.Common.{◌≡◌, ℕ, List, [], ◌∷◌, map, Some, None, Option, Ok, Err, Result, true, false, refl}
+use Rattle.std.proofs.Common.{◌≡◌, ℕ, pos, List, [], ◌∷◌, map, Some, None, Option, Ok, Err, Result, true, false, refl}
 use Rattle.std.specs.List.{filter}
 use Rattle.dwc_base.proofs.OnLiterals.{lines_on_literals}
 use Rattle.dwc_base.proofs.SmallModule.{abbreviations_small, info_small}
 use Rattle.dwc_base.proofs.Readings.{three_sections, sections_small}
 use Rattle.dwc_base.specs.declared.records.Address.TheVariants.{Constant}
+use Rattle.dwc_base.specs.declared.records.Endian.TheVariants.{Little}
 use Rattle.dwc_base.specs.declared.faults.What.TheVariants.{LineTable as LineTableRead}
 use Rattle.dwc_base.specs.declared.section_name.SectionName.TheVariants.{Line}
 use Rattle.dwc_base.specs.Sections.{Fault, unreadable}
+use Rattle.dwc_base.specs.LineHeaders.{LineFile}
+use Rattle.dwc_base.specs.Spelling.{unread_at}
 use Rattle.dwc_base.specs.LineRows.{LineTable, line_table, Segment, Row, RowContents, SourceFile, segments}
 use Rattle.dwc_base.specs.Functions.{AddressMap, Function, function_of, map_fault}
 use Rattle.dwc_base.specs.Images.{row_for_byte, start_of_segment, is_carried_segment}
@@ -27,6 +30,19 @@ at_line offset n = record { offset = offset; source = line_of_a_c n }
 abbrev pub segments_read : Result LineTable Fault → List Segment
 segments_read (Err fault) = []
 segments_read (Ok t) = segments t
+
+-- a table of a version, with directories and files alone
+abbrev pub table_of_files : ℕ → List (List ℕ) → List LineFile → LineTable
+table_of_files version directories files = record {
+  header = record { version = version; address_size = 8; minimum_instruction_length = 1; default_is_stmt = true; line_base = pos 0; line_range = 1; opcode_base = 1; standard_opcode_lengths = []; directories = directories; files = files; program = unread_at Little 0 [] };
+  files = files;
+  steps = [];
+}
+
+-- the table of a unit; one without anything where there is none
+abbrev pub the_table : Result (Option LineTable) Fault → LineTable
+the_table (Ok (Some t)) = t
+the_table _ = table_of_files 0 [] []
 
 abbrev pub segments_small : List Segment
 segments_small = record { start = Constant 2; rows = at_line 0 1 ∷ at_line 3 2 ∷ at_line 8 3 ∷ []; end = Some 11 } ∷ []

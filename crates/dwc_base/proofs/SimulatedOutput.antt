@@ -9,12 +9,13 @@ use Rattle.dwc_base.specs.Fields.{fields_at, fields_of_entry, fields_of_instruct
 use Rattle.dwc_base.specs.Outputs.{OutputRelocation, OutputSection, function, output_sections}
 use Rattle.dwc_base.specs.Sections.{Fault}
 use Rattle.dwc_base.specs.LineRows.{RowContents, Segment}
-use Rattle.dwc_base.specs.Carried.{Unit, units, segments_of_unit}
+use Rattle.dwc_base.specs.Carried.{units, segments_of_unit}
 use Rattle.dwc_base.specs.Runs.{interval_of}
 use Rattle.dwc_base.specs.Trees.{Tree}
 use Rattle.dwc_base.specs.TreeReading.{CarriesTrees, ranges_read}
 use Rattle.dwc_base.specs.TreeLaws.{HasTextsOnce, texts_ended}
 use Rattle.dwc_base.specs.SimulatedLines.{simulated_contents, simulated_segment, IsSimulated, CarriesListed}
+use Rattle.dwc_base.proofs.CarriedSmall.{unit_of, table_of}
 use Rattle.dwc_base.proofs.LineTables.{function_small}
 use Rattle.dwc_base.proofs.OwnTrees.{own_tree, own_abbreviations, own_info, own_texts, to_section, own_relocations}
 use Rattle.dwc_base.proofs.SimulatedInputs.{trees_of, simulated_on_literals, named_small, told_with, simulated_front, simulated_function}
@@ -144,8 +145,9 @@ unfolding simulated_on_literals
 segments-listed = refl
 
 -- so the last unit has the lines that are wanted of it
-lines-listed : (v : Unit) → segments_of_unit (output_sections Little output_listed) v ≡ Ok (segment_listed ∷ []) → CarriesListed (output_sections Little output_listed) (codes "g.wasm") ((20, function_small) ∷ []) v
-lines-listed v read = record { segments = segment_listed ∷ []; segments_read = read; each = (simulated_segment-is (codes "g.wasm") 20 function_small refl refl, tt) }
+pub lines-listed : CarriesListed (output_sections Little output_listed) (codes "g.wasm") ((20, function_small) ∷ []) (unit_of 1 output_listed)
+unfolding simulated_on_literals
+lines-listed = record { made = table_of 1 output_listed; made_read = refl; version = refl; directories = refl; files = refl; each = (simulated_segment-is (codes "g.wasm") 20 function_small refl refl, tt) }
 
 -- ---- wrong lines
 

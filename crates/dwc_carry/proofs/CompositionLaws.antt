@@ -1,15 +1,19 @@
 -- What is written of the units that are made for an input carries the lines of the input, and says its trees.
 use Rattle.std.proofs.Common.{◌≡◌, ℕ, suc, ◌+◌, ◌<◌, ◌≤◌, List, [], ◌∷◌, ◌++◌, map, length, refl, ap, sym, ◌∙◌, subst, arith, Bool, Option, Some, None, Ok, Err, All}
-use Rattle.std.specs.List.{AllZip, flat_map}
+use Rattle.std.specs.List.{AllZip, filter, flat_map}
 use Rattle.std.specs.Prelude.{option_to_list, sum_by}
 use Rattle.std.proofs.lemmas.List.Elements.{All-nil, All-cons}
 use Rattle.std.proofs.lemmas.List.Sums.{sum_by-cons, sum_by-append}
 use Rattle.dwc_base.specs.declared.section_name.SectionName.TheVariants.{Line}
 use Rattle.dwc_base.specs.Sections.{Sections}
 use Rattle.dwc_base.specs.Outputs.{OutputSection, output_sections}
-use Rattle.dwc_base.specs.Carried.{Unit, units, CarriedUnit, WantedUnit, own_unit, carried_unit, listed_unit, Module, Compilation}
+use Rattle.dwc_base.specs.Reading.{◌>>=◌}
+use Rattle.dwc_base.specs.LineRows.{LineTable, segments}
+use Rattle.dwc_base.specs.Images.{is_carried_segment, IsImageOf}
+use Rattle.dwc_base.specs.SimulatedLines.{IsSimulated}
+use Rattle.dwc_base.specs.Carried.{Unit, units, table_of_unit, segments_of, segments_of_unit, CarriedUnit, WantedUnit, own_unit, carried_unit, listed_unit, Module, Compilation}
 use Rattle.dwc_base.specs.LastUnit.{last_drafts, last_wanted, listed_in_files, widest_last, widest_listed}
-use Rattle.dwc_base.specs.LinesCarried.{HasLines, LinesCarried}
+use Rattle.dwc_base.specs.LinesCarried.{CarriesUnit, HasLines, LinesCarried}
 use Rattle.dwc_base.specs.ListedFunctions.{is_begun}
 use Rattle.dwc_base.specs.Widest.{widest_lines_of}
 use Rattle.dwc_base.specs.DraftForests as Drafts
@@ -19,25 +23,58 @@ use Rattle.dwc_base.specs.Trees.{Tree}
 use Rattle.dwc_write.specs.GivenLines.{GivenLines}
 use Rattle.dwc_write.specs.GivenTrees.{given_trees}
 use Rattle.dwc_write.specs.GivenUnits.{GivenUnit, IsWritable, AreWritable, ordered}
-use Rattle.dwc_write.specs.ReadBack.{IsReadUnit, ReadsBack, given_segments}
+use Rattle.dwc_write.specs.ReadBack.{ReadsTable, ReadsLines, IsReadUnit, ReadsBack, given_segments}
 use Rattle.dwc_write.specs.UsedTexts.{HaveTexts}
 use Rattle.dwc_write.specs.WidestGiven.{widest_table_for, widest_unit, widest_given}
 use Rattle.dwc_write.proofs.AddedInOrderTrees.{trees-renumbered}
 use Rattle.dwc_write.specs.Renumbered.{place_at}
 use Rattle.dwc_write.proofs.AddedInOrderValues.{texts-in-order}
-use Rattle.dwc_carry.specs.MadeUnits.{HasWantedLines, AreMadeOf}
+use Rattle.dwc_carry.specs.MadeUnits.{HasNamesOf, HasWantedLines, AreMadeOf}
 use Rattle.dwc_carry.proofs.MadeLaws.{all-both, all-flat, made-in-order, texts_of_entry}
 
 module _ (at : ℕ → ℕ → Option (ℕ × ℕ)) (size : ℕ) (texts : List (List ℕ)) where
+  -- a line table that is read back carries the table that it was made of
+  carries-lines : (s : Sections) (c : CarriedUnit) (g : GivenLines) (v : Unit) (t : Option LineTable) → table_of_unit c.module_of.sections c.unit ≡ Ok t → HasNamesOf t g
+      → AllZip (IsImageOf c.module_of.functions) (filter (is_carried_segment c.module_of.functions) (segments_of t)) (given_segments g) → ReadsLines s v g g.address_size → CarriesUnit s c v
+  unfolding segments_of_unit
+  carries-lines s c g v None is_read names images read = record {
+    input = None;
+    input_read = is_read;
+    made = None;
+    made_read = subst (ReadsLines s v g) (ap (λ (x : GivenLines). x.address_size) names) read;
+    kept = tt;
+    carried = record { input = []; input_read = ap (λ x. x >>= λ t. Ok (segments_of t)) is_read; each = tt };
+  }
+  carries-lines s c g v (Some t) is_read names images read =
+      let fs = c.module_of.functions in
+      let back : ReadsTable s v g = subst (ReadsLines s v g) names.sized read in
+      record {
+        input = Some t;
+        input_read = is_read;
+        made = Some back.table;
+        made_read = back.table_read;
+        kept = record { version = back.version; directories = back.directories ∙ names.directories; files = back.files ∙ names.files };
+        carried = record {
+          input = segments t;
+          input_read = ap (λ x. x >>= λ t. Ok (segments_of t)) is_read;
+          each = subst (AllZip (IsImageOf fs) (filter (is_carried_segment fs) (segments t))) (sym back.sequences) images;
+        };
+      }
+
   -- a unit that is read back carries what it was made of
   carries-unit : (s : Sections) (w : WantedUnit) (u : GivenUnit) (v : Unit) → HasWantedLines w u → IsReadUnit s (ordered u) v → HasLines s w v
-  carries-unit s own_unit u v lines read = read.no_table (ap (λ (g : GivenLines). g.address_size) lines)
-  carries-unit s (carried_unit c) u v lines read = record {
-    images = given_segments u.lines;
-    images_read = read.lines;
-    carried = record { input = lines.input; input_read = lines.input_read; each = lines.images };
-  }
-  carries-unit s (listed_unit name translated ms) u v lines read = record { segments = given_segments u.lines; segments_read = read.lines; each = lines.segments }
+  carries-unit s own_unit u v lines read = subst (ReadsLines s v u.lines) (ap (λ (g : GivenLines). g.address_size) lines) read.lines
+  carries-unit s (carried_unit c) u v lines read = carries-lines s c u.lines v lines.table lines.table_read lines.names lines.images read.lines
+  carries-unit s (listed_unit name translated ms) u v lines read =
+      let back : ReadsTable s v u.lines = subst (ReadsLines s v u.lines) lines.names.sized read.lines in
+      record {
+        made = back.table;
+        made_read = back.table_read;
+        version = back.version;
+        directories = back.directories ∙ lines.names.directories;
+        files = back.files ∙ lines.names.files;
+        each = subst (AllZip (λ f segment. IsSimulated name f.0 f.1 segment) (listed_in_files translated ms)) (sym back.sequences) lines.segments;
+      }
 
   carries-units : (s : Sections) (number : ℕ) (cs : List WantedUnit) (ts : List Tree) (us : List GivenUnit) (vs : List Unit) → AreMadeOf at size texts number cs ts us → AllZip (IsReadUnit s) (map ordered us) vs → AllZip (HasLines s) cs vs
   carries-units s number [] [] [] [] made read = tt

@@ -38,7 +38,7 @@ use Rattle.dwc_carry.specs.Inputs.{counted_behind, modules_from, modules_of, nam
 use Rattle.dwc_carry.specs.LastUnits.{AddsLast, IsLast, IsPathOf, IsTyped, referred}
 use Rattle.dwc_carry.specs.ListedFiles.{CanWrite, intervals_of}
 use Rattle.dwc_carry.specs.MadeEntries.{with_additions}
-use Rattle.dwc_carry.specs.MadeUnits.{HasListedLines, IsMadeOf}
+use Rattle.dwc_carry.specs.MadeUnits.{HasNames, HasListedLines, IsMadeOf}
 use Rattle.dwc_carry.specs.OwnUnits.{reference_meant}
 use Rattle.dwc_carry.specs.Refusals.{RefusesReading, in_reading}
 use Rattle.dwc_carry.specs.SimulatedAdditions.{root_given, root_names, root_texts_of, simulated_root_addition, type_additions, type_names, type_texts_of}
@@ -102,6 +102,7 @@ program-widest name size fs =
 
 listed-lines : (name : List ℕ) (size : ℕ) (fs : List (ℕ × Function)) (u : GivenUnit) → All CanWrite fs → u.lines ≡ simulated_program size name fs → HasListedLines name fs u
 listed-lines name size fs u fit is = record {
+  names = subst (HasNames [] (record { directory = 0; name = name } ∷ [])) (sym is) (record { size = size; sized = refl; directories = refl; files = refl });
   segments = subst (λ (g : GivenLines). AllZip (λ f segment. Lines.IsSimulated name f.0 f.1 segment) fs (given_segments g)) (sym is) (program-simulated name size fs (All-weaker CanWrite (λ f. CanList f.0 f.1) (λ f can. can.lists) fs fit));
   widest = subst (λ (g : GivenLines). widest_table_for g.address_size g ≤ widest_listed name fs) (sym is) (program-widest name size fs);
 }

@@ -11,7 +11,7 @@ use Rattle.dwc_base.specs.Entries.{Entry, entries, attribute}
 use Rattle.dwc_base.specs.Indexed.{text_base}
 use Rattle.dwc_base.specs.LineRows.{LineTable, line_table}
 use Rattle.dwc_base.specs.Images.{is_carried_segment, IsImageOf}
-use Rattle.dwc_base.specs.Carried.{Unit, Module, root, line_offset, table_of_root, table_of_unit, segments_of, segments_of_unit}
+use Rattle.dwc_base.specs.Carried.{Unit, Module, root, line_offset, table_of_root, table_of_unit, segments_of}
 use Rattle.dwc_base.specs.Refusals.{Refusal, table_offset, lines_refusal, unit_refusal, first_of}
 use Rattle.dwc_base.specs.Widest.{widest_table}
 use Rattle.dwc_base.specs.Drafts.{Goal, Draft}
@@ -45,6 +45,7 @@ use Rattle.dwc_write.specs.WidestGiven.{widest_table_for}
 use Rattle.dwc_carry.specs.declared.error.DebugError.{DebugError}
 use Rattle.dwc_carry.specs.Refusals.{in_reading, of_cloning, RefusesReading}
 use Rattle.dwc_carry.specs.UnitPrograms.{CarriesNamed}
+use Rattle.dwc_carry.specs.MadeUnits.{HasNamesOf}
 use Rattle.dwc_carry.specs.OwnUnits.{ReferToOwn}
 use Rattle.dwc_carry.specs.CarriedUnits.{IsUnitOf, CarriesUnit, refusals_of}
 use Rattle.dwc_carry.proofs.RefusalLaws.{unmapped, reading-more, first-behind}
@@ -110,6 +111,7 @@ begun-refused c fs told m first number places kept r of e met =
 record KnownTable (c : Module) (u : Unit) (lines : GivenLines) : Type 0 where
   t : Option LineTable
   is_read : table_of_unit c.sections u ≡ Ok t
+  names : HasNamesOf t lines
   images : AllZip (IsImageOf c.functions) (filter (is_carried_segment c.functions) (segments_of t)) (given_segments lines)
   widest : widest_table_for lines.address_size lines ≤ widest_table c.functions (Ok t)
   ended : lines.begun ≡ None
@@ -155,6 +157,7 @@ module _ (registers : Registers) (k : CloneSource) (compile : Bool) (table : Opt
           record {
             t = None;
             is_read = read;
+            names = carries.1;
             images = subst (λ g. AllZip (IsImageOf c.functions) [] (given_segments g)) (sym carries.1) tt;
             widest = subst (λ (g : GivenLines). widest_table_for g.address_size g ≤ 0) (sym carries.1) (omega arith);
             ended = ap (λ (g : GivenLines). g.begun) carries.1;
@@ -169,6 +172,7 @@ module _ (registers : Registers) (k : CloneSource) (compile : Bool) (table : Opt
           record {
             t = Some t;
             is_read = read;
+            names = record { size = size; sized = carries.carries.address_size; directories = carries.carries.directories; files = carries.carries.files };
             images = carries.carries.images;
             widest = carries.carries.widest;
             ended = carries.carries.ended;
@@ -263,11 +267,11 @@ module _ (registers : Registers) (k : CloneSource) (compile : Bool) (table : Opt
         ∙ sym (ap (λ (g : GivenLines). is_some g.address_size) cloned.lines)
 
     pub made-of : CarriesUnit size k.big_endian c first k.places.now new number u made
-    unfolding segments_of_unit
     made-of = record {
       has_lines = record {
-        input = segments_of known.t;
-        input_read = ap (λ x. x >>= λ t. Ok (segments_of t)) known.is_read;
+        table = known.t;
+        table_read = known.is_read;
+        names = subst (HasNamesOf known.t) (sym cloned.lines) known.names;
         images = subst (λ g. AllZip (IsImageOf c.functions) (filter (is_carried_segment c.functions) (segments_of known.t)) (given_segments g)) (sym cloned.lines) known.images;
         widest = subst (λ (g : GivenLines). widest_table_for g.address_size g ≤ widest_table c.functions (table_of_unit c.sections u)) (sym cloned.lines) (subst (λ t. widest_table_for begun.lines.address_size begun.lines ≤ widest_table c.functions t) (sym known.is_read) known.widest);
       };

@@ -1,9 +1,10 @@
 -- The units of the output: the one that a module has of its own, and those that carry units of the input.
 use Rattle.std.specs.Prelude.{◌≡◌, ℕ, suc, ◌+◌, ◌<◌, ◌≤◌, List, [], ◌∷◌, map, length, slice_get, Option, Some, None, Ok, All}
 use Rattle.std.specs.List.{filter, AllZip}
-use Rattle.dwc_base.specs.LineRows.{Segment}
+use Rattle.dwc_base.specs.LineHeaders.{LineFile}
+use Rattle.dwc_base.specs.LineRows.{LineTable}
 use Rattle.dwc_base.specs.Images.{is_carried_segment, IsImageOf}
-use Rattle.dwc_base.specs.Carried.{CarriedUnit, WantedUnit, own_unit, carried_unit, listed_unit, segments_of_unit}
+use Rattle.dwc_base.specs.Carried.{CarriedUnit, WantedUnit, own_unit, carried_unit, listed_unit, table_of_unit, segments_of}
 use Rattle.dwc_base.specs.Functions.{Function}
 use Rattle.dwc_base.specs.SimulatedLines.{IsSimulated}
 use Rattle.dwc_base.specs.LastUnit.{listed_in_files, widest_listed}
@@ -11,23 +12,38 @@ use Rattle.dwc_base.specs.Widest.{widest_lines_of}
 use Rattle.dwc_base.specs.Trees.{Tree}
 use Rattle.dwc_write.specs.AddedInOrder.{IsInOrder, tree_meant}
 use Rattle.dwc_write.specs.Renumbered.{renumbered_entry, LeadsToEntries}
-use Rattle.dwc_write.specs.GivenLines.{no_lines}
+use Rattle.dwc_write.specs.GivenLines.{GivenLines, no_lines}
 use Rattle.dwc_write.specs.GivenUnits.{GivenUnit, IsWritable, ordered, place_of}
 use Rattle.dwc_write.specs.ReadBack.{given_segments}
 use Rattle.dwc_write.specs.UsedTexts.{texts_of_attributes}
 use Rattle.dwc_write.specs.WidestGiven.{widest_table_for}
 
--- The line program of a unit to be written has the lines of a carried unit: its segments are, one to one and in order, images of the
--- carried segments of that unit, and it is no longer, at its widest, than what is allowed for it.
+-- A line program, of an address size, has some directories and files.
+pub record HasNames (names : List (List ℕ)) (fs : List LineFile) (g : GivenLines) : Type 0 where
+  pub size : ℕ
+  pub sized : g.address_size ≡ Some size
+  pub directories : g.directories ≡ names
+  pub files : g.files ≡ fs
+
+-- It has those of a table, in order; without a table there is none.
+abbrev pub HasNamesOf : Option LineTable → GivenLines → Type 0
+HasNamesOf None g = g ≡ no_lines None
+HasNamesOf (Some t) g = HasNames t.header.directories t.files g
+
+-- The line program of a unit to be written has the lines of a carried unit: it has the directories and files of that unit's table, its
+-- segments are, one to one and in order, images of the carried segments of that unit, and it is no longer, at its widest, than what is
+-- allowed for it.
 pub record HasLinesOf (c : CarriedUnit) (u : GivenUnit) : Type 0 where
-  pub input : List Segment
-  pub input_read : segments_of_unit c.module_of.sections c.unit ≡ Ok input
-  pub images : AllZip (IsImageOf c.module_of.functions) (filter (is_carried_segment c.module_of.functions) input) (given_segments u.lines)
+  pub table : Option LineTable
+  pub table_read : table_of_unit c.module_of.sections c.unit ≡ Ok table
+  pub names : HasNamesOf table u.lines
+  pub images : AllZip (IsImageOf c.module_of.functions) (filter (is_carried_segment c.module_of.functions) (segments_of table)) (given_segments u.lines)
   pub widest : widest_table_for u.lines.address_size u.lines ≤ widest_lines_of c
 
 -- The line program of a unit to be written has, in order, a segment for each of some functions, each with the offset of its own file's code,
--- over one file of a name, and is no longer, at its widest, than what is allowed for them.
+-- over one file of a name, in the compilation directory, and is no longer, at its widest, than what is allowed for them.
 pub record HasListedLines (name : List ℕ) (fs : List (ℕ × Function)) (u : GivenUnit) : Type 0 where
+  pub names : HasNames [] (record { directory = 0; name = name } ∷ []) u.lines
   pub segments : AllZip (λ f segment. IsSimulated name f.0 f.1 segment) fs (given_segments u.lines)
   pub widest : widest_table_for u.lines.address_size u.lines ≤ widest_listed name fs
 

@@ -11,21 +11,17 @@ use Rattle.dwc_base.specs.Fields.{fields_at, fields_of_entry, fields_of_instruct
 use Rattle.dwc_base.specs.Carried.{Compilation, units}
 use Rattle.dwc_base.specs.Forests.{first_refusal, trees_made, wanted_units}
 use Rattle.dwc_base.specs.LinesCarried.{HasLines, LinesCarried}
-use Rattle.dwc_base.specs.LineRows.{Segment}
 use Rattle.dwc_base.specs.OutputForm.{HaveTargetForm, HasDistinctNames}
 use Rattle.dwc_base.specs.OutputCarried.{OutputCarried}
 use Rattle.dwc_base.specs.Runs.{interval_of}
-use Rattle.dwc_base.specs.SimulatedLines.{simulated_segment}
 use Rattle.dwc_base.specs.TreeLaws.{have_short_expressions}
 use Rattle.dwc_base.specs.TreeReading.{ranges_read}
 use Rattle.dwc_base.specs.Trees.{Tree}
 use Rattle.dwc_base.proofs.FieldCases.{each-behind}
-use Rattle.dwc_base.proofs.LineTables.{function_small}
 use Rattle.dwc_base.proofs.OutputSmall.{HasForm}
 use Rattle.dwc_base.proofs.OwnTrees.{own_tree}
 use Rattle.dwc_base.proofs.SimulatedInputs.{simulated_front, simulated_function}
-use Rattle.dwc_base.proofs.SimulatedLineLaws.{simulated_segment-is}
-use Rattle.dwc_base.proofs.SimulatedOutput.{output_listed}
+use Rattle.dwc_base.proofs.SimulatedOutput.{output_listed, lines-listed}
 use Rattle.dwc_cli.specs.Inputs.{Loaded, compilation_of}
 use Rattle.dwc_cli.specs.Printed.{printed}
 use Rattle.dwc_cli.specs.RunStatus.{Carries}
@@ -64,16 +60,13 @@ unfolding whole_on_literals
 all-read zero d h = refl
 all-read (suc k) d h = absurd (omega arith)
 
-abbrev pub segment_bare : Segment
-segment_bare = simulated_segment (codes "g.wasm") 20 function_small
-
 lines-bare : LinesCarried compilation_bare output_bare
 unfolding whole_on_literals
 lines-bare = record {
   whole = all-read;
   output = (units (output_sections Little output_bare)).items;
   output_read = refl;
-  each = (refl, (record { segments = segment_bare ∷ []; segments_read = refl; each = (simulated_segment-is (codes "g.wasm") 20 function_small refl refl, tt) }, tt));
+  each = (refl, (lines-listed, tt));
 }
 
 -- ---- its form

@@ -14,6 +14,7 @@ use Rattle.dwc_base.specs.OutputForm.{HaveTargetForm}
 use Rattle.dwc_base.specs.OutputCarried.{OutputCarried}
 use Rattle.dwc_base.specs.TreeLaws.{have_short_expressions}
 use Rattle.dwc_base.specs.TreeReading.{ranges_read}
+use Rattle.dwc_base.proofs.CarriedSmall.{table_of}
 use Rattle.dwc_base.proofs.FramesApart.{frames-apart}
 use Rattle.dwc_base.proofs.LineTables.{function_small}
 use Rattle.dwc_base.proofs.OnFrames.{frames_on_literals}
@@ -26,7 +27,7 @@ use Rattle.dwc_cli.proofs.WholeRun.{whole_on_literals, read_in}
 use Rattle.dwc_cli.proofs.OutputParts.{names-from}
 use Rattle.dwc_cli.proofs.BrokenInputs.{file_bare}
 use Rattle.dwc_cli.proofs.Answers.{of_one}
-use Rattle.dwc_cli.proofs.BareRun.{output_bare, trees_bare, segment_bare, form-bare, related-bare}
+use Rattle.dwc_cli.proofs.BareRun.{output_bare, trees_bare, form-bare, related-bare}
 use Rattle.dwc_cli.proofs.RefusedFrames.{map_framed, usual, zero_symbol, grows, frame_grows, compilation_with, told-grows, refusal-grows}
 
 -- ---- the input
@@ -78,7 +79,13 @@ lines-framed = record {
   whole = all-read;
   output = (units (output_sections Little output_framed)).items;
   output_read = refl;
-  each = (refl, (record { segments = segment_bare ∷ []; segments_read = refl; each = (simulated_segment-is (codes "g.wasm") 20 function_small refl refl, tt) }, tt));
+  each = (
+    refl,
+    (
+      record { made = table_of 1 output_framed; made_read = refl; version = refl; directories = refl; files = refl; each = (simulated_segment-is (codes "g.wasm") 20 function_small refl refl, tt) },
+      tt,
+    ),
+  );
 }
 
 form-framed : HaveTargetForm 8 (units (output_sections Little output_framed)).items

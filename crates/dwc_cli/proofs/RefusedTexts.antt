@@ -5,15 +5,16 @@ use Rattle.std.specs.List.{list_all, filter, AllZip}
 use Rattle.std.proofs.lemmas.Bool.{true≢false}
 use Rattle.dwc_base.specs.declared.records.Endian.TheVariants.{Little}
 use Rattle.dwc_base.specs.declared.faults.Kind.TheVariants.{Format64}
-use Rattle.dwc_base.specs.Sections.{unsupported}
-use Rattle.dwc_base.specs.LineRows.{Segment}
+use Rattle.dwc_base.specs.Reading.{◌>>=◌}
+use Rattle.dwc_base.specs.Sections.{Sections, unsupported}
+use Rattle.dwc_base.specs.LineRows.{LineTable, Segment}
 use Rattle.dwc_base.specs.Images.{IsImageOf, is_carried_segment}
 use Rattle.dwc_base.specs.Outputs.{OutputSection, output_sections}
-use Rattle.dwc_base.specs.Carried.{Module, units, segments_of_unit}
+use Rattle.dwc_base.specs.Carried.{Module, Unit, units, table_of_unit, segments_of, segments_of_unit}
 use Rattle.dwc_base.specs.Forests.{wanted_units, first_refusal}
 use Rattle.dwc_base.specs.LinesCarried.{CarriesUnit, HasLines, LinesCarried}
 use Rattle.dwc_base.proofs.LineTables.{at_line, segments_small}
-use Rattle.dwc_base.proofs.CarriedSmall.{module_small, unit_small, unit_out}
+use Rattle.dwc_base.proofs.CarriedSmall.{module_small, unit_small, unit_out, table_of}
 use Rattle.dwc_base.proofs.WorkedImages.{Zipped, segment, image, image_in, not_image-at}
 use Rattle.dwc_cli.specs.Inputs.{Loaded, loaded, compilation_of}
 use Rattle.dwc_cli.specs.Printed.{printed, is_plain, line_feed}
@@ -97,15 +98,20 @@ zipped_small : (input images : List Segment) → AllZip (IsImageOf module_read.f
 unfolding whole_on_literals
 zipped_small input images h = h
 
+-- the segments of a unit are those of its table
+segments-read : (s : Sections) (u : Unit) (t : Option LineTable) → table_of_unit s u ≡ Ok t → segments_of_unit s u ≡ Ok (segments_of t)
+unfolding segments_of_unit
+segments-read s u t is = ap (λ x. x >>= λ t. Ok (segments_of t)) is
+
 -- line 4 at byte 15 is no input row there
 wrong_line_carried : LinesCarried (compilation_of read_small) output_wrong → ⊥
 wrong_line_carried h =
     let u = carries_unit h in
-    let written : segments_of_unit (output_sections Little output_wrong) unit_out ≡ Ok u.images = u.images_read in
-    let images : u.images ≡ image (at_line 0 2 ∷ at_line 15 4 ∷ []) ∷ [] = cc (written, wrong-segments) in
+    let written : segments_of_unit (output_sections Little output_wrong) unit_out ≡ Ok (segments_of u.made) = segments-read (output_sections Little output_wrong) unit_out u.made u.made_read in
+    let images : segments_of u.made ≡ image (at_line 0 2 ∷ at_line 15 4 ∷ []) ∷ [] = cc (written, wrong-segments) in
     let read : segments_of_unit module_read.sections unit_small ≡ Ok u.carried.input = u.carried.input_read in
     let input : u.carried.input ≡ segments_small = cc (read, small_segments) in
-    let each = zipped_small u.carried.input u.images u.carried.each in
+    let each = zipped_small u.carried.input (segments_of u.made) u.carried.each in
     let zipped : Zipped segments_small (image (at_line 0 2 ∷ at_line 15 4 ∷ []) ∷ []) = subst (λ q. Zipped q (image (at_line 0 2 ∷ at_line 15 4 ∷ []) ∷ [])) input (subst (λ q. Zipped u.carried.input q) images each) in
     let is_image = image_in (segment 2 (at_line 0 1 ∷ at_line 3 2 ∷ at_line 8 3 ∷ []) (Some 11)) (image (at_line 0 2 ∷ at_line 15 4 ∷ [])) refl zipped.0 in
     not_image-at 15 2 (at_line 0 1 ∷ at_line 3 2 ∷ at_line 8 3 ∷ []) (Some 11) (at_line 0 2 ∷ at_line 15 4 ∷ []) refl (λ e. omega (arith, e)) is_image
@@ -133,7 +139,13 @@ hidden = record {
   whole = all-read;
   output = (units (output_sections Little output_hidden)).items;
   output_read = refl;
-  each = (refl, (carries_small (output_sections Little output_hidden) refl, (record { segments = []; segments_read = refl; each = tt }, tt)));
+  each = (
+    refl,
+    (
+      carries_small (output_sections Little output_hidden) (table_of 1 output_hidden) refl (record { version = refl; directories = refl; files = refl }) refl,
+      (record { made = table_of 2 output_hidden; made_read = refl; version = refl; directories = refl; files = refl; each = tt }, tt),
+    ),
+  );
 }
 
 carried-hidden : LinesCarried (compilation_of read_small) output_hidden

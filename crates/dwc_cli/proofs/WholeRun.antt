@@ -12,20 +12,21 @@ use Rattle.dwc_base.proofs.SmallModule.{file_small, file_small_told}
 use Rattle.dwc_base.proofs.Readings.{sections_small}
 use Rattle.dwc_base.proofs.LineTables.{function_small, segments_small}
 use Rattle.dwc_base.proofs.CarriedSmall as Base
-use Rattle.dwc_base.proofs.CarriedSmall.{module_small, unit_small, unit_out, compilation_small, image_small, image-small}
+use Rattle.dwc_base.proofs.CarriedSmall.{module_small, unit_small, unit_out, compilation_small, image_small, image-small, table_small, table_of}
 use Rattle.dwc_base.proofs.FieldCases.{each-behind}
 use Rattle.dwc_base.proofs.SimulatedInputs.{named_small}
 use Rattle.dwc_base.specs.declared.records.Endian.TheVariants.{Little}
 use Rattle.dwc_base.specs.declared.section_name.SectionName.{SectionName}
 use Rattle.dwc_base.specs.declared.section_name.SectionName.TheVariants.{Abbrev, Addr, Info, Line, LineStr, Loc, Loclists, Ranges, Rnglists, Str, StrOffsets, CuIndex, Frame}
 use Rattle.dwc_base.specs.Sections.{Sections}
+use Rattle.dwc_base.specs.LineRows.{LineTable, segments}
 use Rattle.dwc_base.specs.CallFrames.{FrameDescription}
 use Rattle.dwc_base.specs.Compiled.{LabelRange, LinkageNames, Memory, no_memory, ToldModule, frames_from}
 use Rattle.dwc_base.specs.Functions.{AddressMap, Function}
-use Rattle.dwc_base.specs.Carried.{Unit, Compilation, units, segments_of_unit}
+use Rattle.dwc_base.specs.Carried.{Unit, Compilation, units, table_of_unit}
 use Rattle.dwc_base.specs.Fields.{fields_at, fields_of_entry, fields_of_instructions, fields_of_line_table, fields_of_named, fields_of_section, relocations_of_fields, IsRelocated, AreRelocated}
 use Rattle.dwc_base.specs.Forests.{carried_units, first_refusal, trees_made}
-use Rattle.dwc_base.specs.LinesCarried.{CarriesUnit, LinesCarried}
+use Rattle.dwc_base.specs.LinesCarried.{AreImages, KeepsFiles, CarriesUnit, LinesCarried}
 use Rattle.dwc_base.specs.OutputForm.{HaveTargetForm}
 use Rattle.dwc_base.specs.Outputs.{OutputRelocation, output_sections}
 use Rattle.dwc_base.specs.Refusals.{Refusal, missing_file}
@@ -233,9 +234,16 @@ unfolding whole_on_literals
 all-read zero d h = refl
 all-read (suc k) d h = absurd (omega arith)
 
--- the images of the small unit's segments
-pub carries_small : (output : Sections) → segments_of_unit output unit_out ≡ Ok (image_small ∷ []) → CarriesUnit output (record { module_of = named_small module_small; unit = unit_small }) unit_out
-carries_small output read = record { images = image_small ∷ []; images_read = read; carried = record { input = segments_small; input_read = Base.input-read; each = ((function_small, refl, image-small), tt) } }
+-- a table that has the files of the small unit's, and the images of its segments
+pub carries_small : (output : Sections) (made : LineTable) → table_of_unit output unit_out ≡ Ok (Some made) → KeepsFiles table_small made → segments made ≡ image_small ∷ [] → CarriesUnit output (record { module_of = named_small module_small; unit = unit_small }) unit_out
+carries_small output made read kept same = record {
+  input = Some table_small;
+  input_read = Base.table-read;
+  made = Some made;
+  made_read = read;
+  kept = kept;
+  carried = subst (AreImages (record { module_of = named_small module_small; unit = unit_small })) (sym same) (record { input = segments_small; input_read = Base.input-read; each = ((function_small, refl, image-small), tt) });
+}
 
 lines_whole : LinesCarried compilation_whole output_whole
 unfolding whole_on_literals
@@ -243,7 +251,13 @@ lines_whole = record {
   whole = all-read;
   output = (units (output_sections Little output_whole)).items;
   output_read = refl;
-  each = (refl, (carries_small (output_sections Little output_whole) refl, (record { segments = []; segments_read = refl; each = tt }, tt)));
+  each = (
+    refl,
+    (
+      carries_small (output_sections Little output_whole) (table_of 1 output_whole) refl (record { version = refl; directories = refl; files = refl }) refl,
+      (record { made = table_of 2 output_whole; made_read = refl; version = refl; directories = refl; files = refl; each = tt }, tt),
+    ),
+  );
 }
 
 pub lines_carried-small : LinesCarried (compilation_of read_small) output_whole

@@ -2,7 +2,7 @@
 use Rattle.std.proofs.Common.{◌≡◌, ℕ, zero, suc, ◌+◌, ◌^◌, ◌<◌, ◌≤◌, ◌⊎◌, inl, inr, refl, sym, ap, subst, ◌∙◌, arith, List, [], ◌∷◌, ◌++◌, append-nil, length, length-append, map, get_or, lit<, lit≤, Option, Some, None, Ok, Bool, true, false, cond, ltb, Vec, Global}
 use Rattle.std.proofs.Math.Facts.{sfits_to_z}
 use Rattle.std.proofs.lemmas.Int.{ints}
-use Rattle.dwc_base.specs.Reading.{is_64_bit, ◌>>=◌}
+use Rattle.dwc_base.specs.Reading.{is_64_bit}
 use Rattle.std.specs.Prelude.{ℤ, pos, ◌-ℤ◌, int_lt, int_le, FitsSigned, ◌==◌, ◌&&◌, if◌then◌else◌, is_some, option_map, option_and_then, slice_get, nat_lt}
 use Rattle.std.specs.List.{All, AllZip, flat_map, find}
 use Rattle.std.specs.Int.{w64, cast_signed}
@@ -14,11 +14,11 @@ use Rattle.dwc_base.specs.declared.section_name.SectionName.TheVariants.{Abbrev,
 use Rattle.dwc_base.specs.declared.constants.TheConstants.{DW_AT_stmt_list, DW_FORM_data1, DW_FORM_data2, DW_FORM_data4, DW_FORM_data8, DW_FORM_sdata}
 use Rattle.dwc_base.specs.Abbreviations.{Declaration, declaration_of}
 use Rattle.dwc_base.specs.declared.records.LineRow.{LineRow}
-use Rattle.dwc_base.specs.LineRows.{LineTable, source_file, in_directory, named_row}
+use Rattle.dwc_base.specs.LineRows.{source_file, in_directory, named_row}
 use Rattle.dwc_base.specs.Sections.{Sections}
 use Rattle.dwc_base.specs.Values.{Value}
 use Rattle.dwc_base.specs.Entries.{Entry, attribute}
-use Rattle.dwc_base.specs.Carried.{Unit, units, root, line_offset, table_of_root, table_of_unit, segments_of, segments_of_unit}
+use Rattle.dwc_base.specs.Carried.{Unit, units, root, line_offset, table_of_root, table_of_unit}
 use Rattle.dwc_base.specs.Outputs.{OutputRelocation, OutputSection, output_sections}
 use Rattle.dwc_base.specs.NumberBytes.{number_bytes}
 use Rattle.dwc_write.specs.Spelled.{at_places}
@@ -38,7 +38,7 @@ use Rattle.dwc_write.specs.GivenUnits.{GivenEntry, OrderedUnit, Places, no_place
 use Rattle.dwc_write.specs.Layouts.{AllPlaces, AreShort, offset_of_text, offsets_by_number, offset_in_section, places_in, unit_length, behind_unit, written_unit, written_lines, written_units, written_tables}
 use Rattle.dwc_write.specs.UsedTexts.{strings_bytes}
 use Rattle.dwc_write.specs.SpelledOutput.{section_unless_empty, abbrev_bytes, all_info_bytes, all_lines_bytes, all_lists_bytes, all_lists_relocations, units_placed, all_places, spelled_sections}
-use Rattle.dwc_write.specs.ReadBack.{given_file, given_row, given_segments, given_segment, Contents, read_contents, given_contents, given_value, given_values, IsReadUnit, ReadsBack}
+use Rattle.dwc_write.specs.ReadBack.{given_file, given_row, given_segment, Contents, read_contents, given_contents, given_value, given_values, ReadsLines, IsReadUnit, ReadsBack}
 use Rattle.dwc_write.specs.Writers.{IsSound, most_bytes}
 use Rattle.dwc_write.proofs.ReadNumbers.{number_bytes-length}
 use Rattle.dwc_write.proofs.ReadTexts.{offset-bound}
@@ -49,7 +49,8 @@ use Rattle.dwc_write.specs.Lists.{ListEntry, AreWithin, behind_attributes, behin
 use Rattle.dwc_write.proofs.ListPlaces.{both-length, entries-behind, listed-length, places_behind, within-attributes, within-entries}
 use Rattle.dwc_write.proofs.SectionsHold.{Holds, sections-hold}
 use Rattle.dwc_write.proofs.ReadValues.{All-back}
-use Rattle.dwc_write.proofs.ReadSections.{IsReadAt, units-read, lines-read, segments-read}
+use Rattle.dwc_write.proofs.ReadLines.{line-table-segments}
+use Rattle.dwc_write.proofs.ReadSections.{IsReadAt, units-read, lines-read, unit-table-read}
 use Rattle.dwc_write.proofs.LineLaws.{field-address}
 use Rattle.dwc_write.proofs.EntriesLaws.{code-there, next-first}
 use Rattle.dwc_write.proofs.PlacedEntries.{placed-length, offset-within, places-short, info-length}
@@ -482,35 +483,33 @@ module _ (s : Sections) (size : ℕ) where
       let table : table_of_root s v (Some e) ≡ Ok None = rw (table_of_root, none) refl in
       rw (table_of_unit, is_root, table) refl
 
-  segments-without : (v : Unit) (e : Entry) → root v ≡ Some e → line_offset (attribute DW_AT_stmt_list e) ≡ None → segments_of_unit s v ≡ Ok []
-  unfolding segments_of_unit
-  segments-without v e is_root none = ap (λ t. t >>= λ (table : Option LineTable). Ok (segments_of table)) (table-without v e is_root none)
-
-  -- a unit has the segments of a line program, and no table where that is none
-  abbrev HasLines : Unit → GivenLines → Option ℕ → Type 0
-  HasLines v g n = (segments_of_unit s v ≡ Ok (given_segments g)) × (n ≡ None → table_of_unit s v ≡ Ok None)
-
   -- the lines of a unit, from its root's entry
   root-lines : (v : Unit) (e : Entry) (l : ℕ) (g : GivenLines) (rest : List WrittenTable) (n : Option ℕ) → v.header.address_size ≡ size → root v ≡ Some e → line_offset (attribute DW_AT_stmt_list e) ≡ named_offset l (is_some n) → FitsLines g → IsOfSize size n → FitsSequences n g.sequences g.begun
       → All (IsReadAt s size) (placed_tables s.order size l (lines_for n g ++ rest))
-      → HasLines v g n
-  root-lines v e l g rest None sized is_root names fits same sequences read =
-      (segments-without v e is_root names ∙ ap (λ qs. Ok (map (given_segment g) qs)) (sym sequences.0), λ none. table-without v e is_root names)
+      → ReadsLines s v g n
+  root-lines v e l g rest None sized is_root names fits same sequences read = table-without v e is_root names
   root-lines v e l g rest (Some n) sized is_root names fits same sequences read =
       let t : WrittenTable = record { directories = g.directories; files = g.files; sequences = g.sequences } in
       let p : PlacedTable = record { offset = l; table = t } in
       let here : IsReadAt s size p = All-head (IsReadAt s size) p _ read in
       let P : ℕ → Type 0 = λ m. All (FitsGivenSequence m) g.sequences in
       let fit = All-weaker (FitsGivenSequence size) (FitsSequence size) (λ q h. h.sequence) g.sequences (subst P same sequences.0) in
-      (segments-read s size v e p sized is_root names here fit ∙ ap Ok (segments-same s.order size g p refl g.sequences), λ none. absurd (cc))
+      record {
+        table = read_table s.order size p;
+        table_read = unit-table-read s size v e p sized is_root names here;
+        version = refl;
+        directories = refl;
+        files = refl;
+        sequences = line-table-segments s.order size l g.directories g.files g.sequences fit ∙ segments-same s.order size g p refl g.sequences;
+      }
 
   unit-lines : (place a : ℕ) (r : ListPlaces) (p : Places) (u : OrderedUnit) (rest : List WrittenTable) → u.address_size ≡ size → FitsOrdered u → FitsLines u.lines → IsWritable size u
       → All (IsReadAt s size) (placed_tables s.order size p.line (written_lines u.lines ++ rest))
-      → HasLines (read_unit s.order size place (written_unit size r p a u)) u.lines u.lines.address_size
+      → ReadsLines s (read_unit s.order size place (written_unit size r p a u)) u.lines u.lines.address_size
   unit-lines place a r p u rest same fits lines writable read = at-root u.entries fits.tree fits.entries writable.named
     where
       at-root : (es : List GivenEntry) → IsTree es → All (FitsEntry u.address_size) es → names_lines es ≡ is_some u.lines.address_size
-          → HasLines (record { header = (read_unit s.order size place (written_unit size r p a u)).header; entries = read_entries s.order size (place + header_length) (written_entries (behind_attributes size) p r (shapes_in u) es) }) u.lines u.lines.address_size
+          → ReadsLines s (record { header = (read_unit s.order size place (written_unit size r p a u)).header; entries = read_entries s.order size (place + header_length) (written_entries (behind_attributes size) p r (shapes_in u) es) }) u.lines u.lines.address_size
       at-root [] tree all named = absurd tree
       at-root (e ∷ es) tree all named =
           let names = ap (λ xs. line_offset (found_in xs)) (attributes-read (behind_attributes size) p r e.attributes) ∙ lines-named u.address_size (behind_attributes size) p r e.attributes (All-head (FitsEntry u.address_size) e es all).attributes ∙ ap (named_offset p.line) named in
@@ -528,16 +527,14 @@ module _ (s : Sections) (size : ℕ) where
       let unit = written_unit size r p a u in
       let split = at_places-append (one_table_bytes s.order size) (λ p t. record { offset = p; table = t } ∷ []) (written_lines u.lines) (written_tables us) l in
       let P : List PlacedTable → Type 0 = λ ps. All (IsReadAt s size) ps in
-      let others = All-back (IsReadAt s size) (placed_tables s.order size l (written_lines u.lines)) _ (subst P split read) in
-      let has = unit-lines place a r p u (written_tables us) here.size (All-head FitsOrdered u us fits) (All-head (λ (v : OrderedUnit). FitsLines v.lines) u us lines) here read in (
+      let others = All-back (IsReadAt s size) (placed_tables s.order size l (written_lines u.lines)) _ (subst P split read) in (
         record {
           places = p;
           lists = r;
           version = refl;
           address_size = sym here.size;
           entries = places-contents s.order size (shaped unit.entries) (place + header_length) ∙ contents-given (behind_attributes size) p r (shapes_in u) u.entries ∙ ap (λ n. given_contents (behind_attributes n) p r u.entries) (sym here.size);
-          lines = has.0;
-          no_table = has.1;
+          lines = unit-lines place a r p u (written_tables us) here.size (All-head FitsOrdered u us fits) (All-head (λ (v : OrderedUnit). FitsLines v.lines) u us lines) here read;
         },
         units-each (place + length (placed_unit_bytes s.order size unit)) (a + length (table_bytes unit.table)) (l + length (lines_bytes s.order size (written_lines u.lines))) (behind_unit s.order size r u) units us (All-tail (IsWritable size) u us writable) (All-tail FitsOrdered u us fits) (All-tail (λ (v : OrderedUnit). FitsLines v.lines) u us lines) others,
       )

@@ -1,5 +1,5 @@
 -- Sections that are spelled are read again. `units-read`: every unit. `lines-read`: every line table at its offset.
--- `segments-read`: the segments of a unit whose root names one. The fields of each part rise (`entries-rise`, `info-rise`,
+-- `unit-table-read`: the table of a unit whose root names one. The fields of each part rise (`entries-rise`, `info-rise`,
 -- `program-rise`, `lines-rise`), so the sections' own relocations hold.
 use Rattle.std.proofs.Common.{◌≡◌, ℕ, ◌+◌, ◌^◌, ◌<◌, ◌≤◌, refl, sym, ap, ◌∙◌, arith, List, [], ◌∷◌, ◌++◌, ◌⊎◌, inl, inr, append_assoc, append-nil, length, length-append, replicate, map, drop, Some, None, Ok}
 use Rattle.std.specs.List.{All, flat_map}
@@ -16,13 +16,13 @@ use Rattle.dwc_base.specs.Entries.{Entry, attribute}
 use Rattle.dwc_base.specs.LineHeaders.{Instruction, set_address}
 use Rattle.dwc_base.specs.LineRows.{line_table}
 use Rattle.dwc_base.specs.Indexed.{text_base}
-use Rattle.dwc_base.specs.Carried.{Unit as ReadUnit, units, units_of_headers, root, line_offset, table_of_root, table_of_unit, segments_of_unit}
+use Rattle.dwc_base.specs.Carried.{Unit as ReadUnit, units, units_of_headers, root, line_offset, table_of_root, table_of_unit}
 use Rattle.dwc_base.specs.Spelling.{unread_at}
 use Rattle.dwc_base.specs.NumberBytes.{number_bytes, uleb_bytes}
 use Rattle.dwc_write.specs.SpelledTables.{table_bytes}
 use Rattle.dwc_write.specs.SpelledAddresses.{AddressField, address_bytes, stored, IsHeld, relocations_of, RiseWithin}
 use Rattle.dwc_write.specs.SpelledUnits.{Written, as_addr, written_bytes, value_fields, WrittenAttribute, attribute_bytes, WrittenEntry, Shaped, shaped, entry_bytes, entry_fields, entries_bytes, entries_fields, header_length, read_header, unit_body}
-use Rattle.dwc_write.specs.SpelledLines.{instruction_bytes, instruction_fields, line_fields_bytes, program_bytes, program_fields, program_place, FitsSequence, read_segment, line_body, sequences_instructions}
+use Rattle.dwc_write.specs.SpelledLines.{instruction_bytes, instruction_fields, line_fields_bytes, program_bytes, program_fields, program_place, line_body, sequences_instructions}
 use Rattle.dwc_write.specs.SpelledSections.{PlacedTable, WrittenUnit, tables_bytes, placed_unit_bytes, info_bytes, unit_fields, info_fields, read_unit, read_units, FitsUnit, AreTablesFrom, WrittenTable, one_table_bytes, lines_bytes, one_table_fields, lines_fields, placed_tables, read_table, FitsTable}
 use Rattle.dwc_base.proofs.Takes.{Leaves-at, unit_header_at-leaves}
 use Rattle.dwc_base.proofs.UnitWalk.{unit_headers_from-end, unit_headers_from-item}
@@ -31,7 +31,7 @@ use Rattle.dwc_write.proofs.ReadTables.{table-read}
 use Rattle.dwc_write.proofs.ReadValues.{All-front, All-back}
 use Rattle.dwc_write.proofs.ReadEntries.{header-read, unit-entries}
 use Rattle.dwc_write.proofs.ReadAddresses.{rising-held, rise-below, rise-above, rise-places}
-use Rattle.dwc_write.proofs.ReadLines.{line-table-read, line-table-segments}
+use Rattle.dwc_write.proofs.ReadLines.{line-table-read}
 use Rattle.dwc_base.specs.declared.constants.TheConstants.{DW_AT_stmt_list}
 
 -- ---- fields of addresses rise
@@ -190,16 +190,14 @@ lines-read s size ts some short fits bytes_are relocations_are =
     let held : All (IsHeld (s.relocations Line)) (lines_fields s.order size 0 ts) = rw (relocations_are) held_by in
     tables-at s size 0 ts [] short fits held (bytes_are ∙ sym (append-nil (lines_bytes s.order size ts)))
 
--- ---- the lines of a unit
+-- ---- the table of a unit
 
--- A unit whose root names a line table that was spelled has its sequences as segments.
-pub segments-read : (s : Sections) (size : ℕ) (u : ReadUnit) (e : Entry) (p : PlacedTable) → u.header.address_size ≡ size → root u ≡ Some e → line_offset (attribute DW_AT_stmt_list e) ≡ Some p.offset
-    → IsReadAt s size p → All (FitsSequence size) p.table.sequences
-    → segments_of_unit s u ≡ Ok (map (read_segment (read_table s.order size p)) p.table.sequences)
-unfolding segments_of_unit table_of_unit
-segments-read s size u e p sized is_root names read fits =
-    let same = line-table-segments s.order size p.offset p.table.directories p.table.files p.table.sequences fits in
+-- A unit whose root names a line table that was spelled has that table.
+pub unit-table-read : (s : Sections) (size : ℕ) (u : ReadUnit) (e : Entry) (p : PlacedTable) → u.header.address_size ≡ size → root u ≡ Some e → line_offset (attribute DW_AT_stmt_list e) ≡ Some p.offset
+    → IsReadAt s size p → table_of_unit s u ≡ Ok (Some (read_table s.order size p))
+unfolding table_of_unit
+unit-table-read s size u e p sized is_root names read =
     let base = text_base s u.header in
     let here : line_table s u.header.address_size base p.offset ≡ Ok (read_table s.order size p) = ap (λ n. line_table s n base p.offset) sized ∙ read base in
     let table : table_of_root s u (Some e) ≡ Ok (Some (read_table s.order size p)) = rw (table_of_root, names, here) refl in
-    rw (segments_of_unit, table_of_unit, is_root, table, same) refl
+    rw (table_of_unit, is_root, table) refl

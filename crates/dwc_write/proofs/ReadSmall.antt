@@ -1,14 +1,16 @@
 -- An example: the output of the small module is, byte for byte, what its two units and its line table spell, so it is read as they say.
 -- On literals give `All` by `All-from_recursion P xs (.., (.., tt))`.
-use Rattle.std.proofs.Common.{◌≡◌, ℕ, ◌^◌, ◌<◌, ◌≤◌, refl, lit<, lit≤, List, [], ◌∷◌, None, Ok, Bool, true, false, pos, get_or, inr}
+use Rattle.std.proofs.Common.{◌≡◌, ℕ, ◌^◌, ◌<◌, ◌≤◌, refl, lit<, lit≤, List, [], ◌∷◌, Some, None, Ok, Bool, true, false, pos, get_or, inr}
 use Rattle.std.specs.Prelude.{map, codes}
 use Rattle.dwc_base.specs.Entries.{Entry}
 use Rattle.dwc_base.specs.Values.{line_reference}
-use Rattle.dwc_base.specs.Carried.{segments_of_unit, units}
+use Rattle.dwc_base.specs.LineRows.{segments}
+use Rattle.dwc_base.specs.Carried.{table_of_unit, units}
 use Rattle.dwc_write.specs.SpelledLines.{read_segment, FitsName, FitsFile, FitsRow, FitsSequence}
 use Rattle.dwc_write.specs.SpelledSections.{PlacedTable, read_unit, WrittenUnit, tables_bytes, info_bytes, info_fields, read_units, WrittenTable, lines_bytes, lines_fields, FitsUnit, FitsTable, placed_tables, read_table}
 use Rattle.std.proofs.lemmas.List.Elements.{All-head, All-cons, All-nil, All-from_recursion}
-use Rattle.dwc_write.proofs.ReadSections.{IsReadAt, segments-read, units-read, lines-read}
+use Rattle.dwc_write.proofs.ReadLines.{line-table-segments}
+use Rattle.dwc_write.proofs.ReadSections.{IsReadAt, unit-table-read, units-read, lines-read}
 use Rattle.std.specs.List.{All, AllByRecursion}
 use Rattle.dwc_base.specs.declared.records.Endian.TheVariants.{Little}
 use Rattle.dwc_base.specs.declared.records.Address.TheVariants.{Symbol}
@@ -252,8 +254,11 @@ placed_written = record { offset = 0; table = lines_written }
 abbrev root_read : Entry
 root_read = record { offset = 88; depth = 0; tag = 0x11; attributes = (0x10, line_reference 0) ∷ [] }
 
--- and so are the segments of its second unit: one, with two rows
-pub small-segments : segments_of_unit (output_sections Little output_small) (read_unit Little 8 77 unit_written) ≡ Ok (map (read_segment (read_table Little 8 placed_written)) lines_written.sequences)
-small-segments =
-    segments-read (output_sections Little output_small) 8 (read_unit Little 8 77 unit_written) root_read placed_written refl refl refl
-    (All-head (IsReadAt (output_sections Little output_small) 8) placed_written [] small-lines) sequences-fit
+-- and so is the table of its second unit, with one segment of two rows
+pub small-table : table_of_unit (output_sections Little output_small) (read_unit Little 8 77 unit_written) ≡ Ok (Some (read_table Little 8 placed_written))
+small-table =
+    unit-table-read (output_sections Little output_small) 8 (read_unit Little 8 77 unit_written) root_read placed_written refl refl refl
+    (All-head (IsReadAt (output_sections Little output_small) 8) placed_written [] small-lines)
+
+pub small-segments : segments (read_table Little 8 placed_written) ≡ map (read_segment (read_table Little 8 placed_written)) lines_written.sequences
+small-segments = line-table-segments Little 8 0 lines_written.directories lines_written.files lines_written.sequences sequences-fit

@@ -3,11 +3,11 @@ use Rattle.std.specs.Prelude.{◌≡◌, ℕ, zero, suc, List, [], ◌∷◌, ma
 use Rattle.std.specs.List.{AllZip}
 use Rattle.dwc_base.specs.declared.records.Endian.{Endian}
 use Rattle.dwc_base.specs.declared.records.LineRow.{LineRow}
-use Rattle.dwc_base.specs.LineRows.{SourceFile, in_directory, Row, Segment}
+use Rattle.dwc_base.specs.LineRows.{LineTable, SourceFile, in_directory, Row, Segment, segments}
 use Rattle.dwc_base.specs.Sections.{Sections}
 use Rattle.dwc_base.specs.Values.{Value}
 use Rattle.dwc_base.specs.Entries.{Entry}
-use Rattle.dwc_base.specs.Carried.{Unit, units, table_of_unit, segments_of_unit}
+use Rattle.dwc_base.specs.Carried.{Unit, units, table_of_unit}
 use Rattle.dwc_base.specs.Outputs.{OutputSection, output_sections}
 use Rattle.dwc_write.specs.declared.attributes.Attribute.{Attribute}
 use Rattle.dwc_write.specs.SpelledUnits.{written_value}
@@ -59,16 +59,28 @@ given_contents next places lists (e ∷ es) = record { depth = e.depth; tag = e.
 
 -- ---- units
 
--- A unit that is read is the one that was given, in version 4: its entries, and the sequences of its line program, without which it
--- names no line table.
+-- A unit names a line table, of version 4, with the directories, the files and the sequences of a line program.
+pub record ReadsTable (s : Sections) (v : Unit) (g : GivenLines) : Type 0 where
+  pub table : LineTable
+  pub table_read : table_of_unit s v ≡ Ok (Some table)
+  pub version : table.header.version ≡ 4
+  pub directories : table.header.directories ≡ g.directories
+  pub files : table.files ≡ g.files
+  pub sequences : segments table ≡ given_segments g
+
+-- the same by the address size of the program; where that is none, the unit names no line table
+abbrev pub ReadsLines : Sections → Unit → GivenLines → Option ℕ → Type 0
+ReadsLines s v g None = table_of_unit s v ≡ Ok None
+ReadsLines s v g (Some size) = ReadsTable s v g
+
+-- A unit that is read is the one that was given, in version 4: its entries, and its line program.
 pub record IsReadUnit (s : Sections) (u : OrderedUnit) (v : Unit) : Type 0 where
   pub places : Places
   pub lists : ListPlaces
   pub version : v.header.version ≡ 4
   pub address_size : v.header.address_size ≡ u.address_size
   pub entries : map read_contents v.entries ≡ given_contents (behind_attributes u.address_size) places lists u.entries
-  pub lines : segments_of_unit s v ≡ Ok (given_segments u.lines)
-  pub no_table : u.lines.address_size ≡ None → table_of_unit s v ≡ Ok None
+  pub lines : ReadsLines s v u.lines u.lines.address_size
 
 -- Some sections hold, one to one and in order, the given units, and no others.
 pub record ReadsBack (order : Endian) (us : List OrderedUnit) (s : List OutputSection) : Type 0 where
