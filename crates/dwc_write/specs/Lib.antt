@@ -29,5 +29,6 @@ pub mod ReadBack
 pub mod SmallGiven
 pub mod WidestGiven
 pub mod GivenTrees
+pub mod LentUnits
 pub mod AddedInOrder
 pub mod Renumbered

@@ -216,6 +216,9 @@ pub struct UnitTable {
 }
 
 impl UnitTable {
+    ghost use Rattle.std.specs.Borrow.{sem};
+    ghost use Rattle.dwc_write.specs.LentUnits.{lends_unit};
+
     /// An empty table.
     pub fn new(alloc: Global) -> UnitTable
         ensures { result.units.items ≡ [] }
@@ -252,9 +255,11 @@ impl UnitTable {
         &self.units[id.index]
     }
 
-    /// A unit of the table, to be changed.
+    /// A unit of the table, to be changed; the others stay.
     pub fn get_mut(&mut self, id: UnitId) -> &mut Unit
         requires { id.index < length self.old.units.items }
+        ensures* writes_back { sem 𝓛 (lends_unit self.entry id.index result) }
+        ensures value { result.now ≡ slice_index_or self.old.units.items id.index result.now }
     {
         &mut self.units[id.index]
     }
