@@ -34,6 +34,7 @@ use Rattle.dwc_write.specs.declared.frames.FrameTable.{FrameTable}
 use Rattle.dwc_write.specs.ReadBack.{ReadsBack}
 use Rattle.dwc_write.specs.UsedTexts.{HaveTexts}
 use Rattle.dwc_write.specs.WidestGiven.{widest_said, IsWideRefusal}
+use Rattle.dwc_write.specs.SpelledOutput.{AreSpelled}
 use Rattle.dwc_write.specs.Writers.{IsSound, IsPast}
 use Rattle.dwc_carry.specs.declared.error.DebugError.{DebugError}
 use Rattle.dwc_carry.specs.Refusals.{in_reading, Told, refused, limit, memory, told, IsCause, Refuses, of_writing}
@@ -127,9 +128,9 @@ module _ (order : Endian) (size : ℕ) (registers : Registers) (entry : Option C
           → frames.told_refusal {A = Vec DwarfSection Global} (Ok s) ≡ frames.first_refusal (frames.refused_frames table)
           → (frames.first_refusal (frames.refused_frames table) ≡ None → ◌≡◌ {A = Result (Vec DwarfSection Global) WriteError} (Ok s) (Err (write.TooLarge Expression)) ↔ (have_short_expressions (given_trees texts (map ordered us)) ≡ false))
           → HasDistinctNames (map section_view s.items) → All (IsRelocated (output_sections order (map section_view s.items))) (others_in (map section_view s.items))
-          → FramesCarried order (size_of (map ordered us)) (frames.common_given table) (frames.descriptions_given table) (map section_view s.items) → All (IsSound order) (map section_view s.items) → are_of_output (map section_view s.items) ≡ true
+          → FramesCarried order (size_of (map ordered us)) (frames.common_given table) (frames.descriptions_given table) (map section_view s.items) → All (IsSound order) (map section_view s.items) → AreSpelled order (map section_view s.items) → are_of_output (map section_view s.items) ≡ true
           → ((fs : List Function) → TranslationsKeepScopes fs) → MapsNumber → Emits order size registers entry c (Ok s)
-      emits-sections s back says once form good long names relocated framed_so sound known keep number_maps =
+      emits-sections s back says once form good long names relocated framed_so sound spelled known keep number_maps =
           let sizes = made-sizes (place_at us) size texts 0 (wanted_units input) (trees_made input) us t.made in
           let none = emits-accepted (sym good) in (
             none,
@@ -151,6 +152,7 @@ module _ (order : Endian) (size : ℕ) (registers : Registers) (entry : Option C
                 frames = framed_so ∙ table-section (frame_descriptions input) order (size_of (map ordered us)) entry table framed ∙ section-sized order size entry (frame_descriptions input) us sizes described-there;
               };
               sound = sound;
+              spelled = spelled;
               short = ap have_short_expressions (sym same-trees) ∙ short-written (have_short_expressions (given_trees texts (map ordered us))) s (long (sym good));
             },
           )

@@ -13,15 +13,17 @@ use Rattle.dwc_base.specs.OutputCarried.{OutputCarried, widest}
 use Rattle.dwc_base.specs.TreeLaws.{have_short_expressions}
 use Rattle.dwc_clif.specs.Registers.{Registers}
 use Rattle.dwc_addr.specs.Compilations.{CompilationValue}
+use Rattle.dwc_write.specs.SpelledOutput.{AreSpelled}
 use Rattle.dwc_write.specs.Writers.{IsSound}
 use Rattle.dwc_carry.specs.declared.error.DebugError.{DebugError}
 use Rattle.dwc_carry.specs.Refusals.{GivesWithin}
 use Rattle.dwc_carry.specs.Inputs.{input_of, refusal_of}
 
--- Sections carry an input, and are sound; no expression of a location list is too long.
+-- Sections carry an input, and are sound and spelled; no expression of a location list is too long.
 pub record IsEmitted (c : Compilation) (sections : List OutputSection) : Type 0 where
   pub output : OutputCarried c sections
   pub sound : All (IsSound c.order) sections
+  pub spelled : AreSpelled c.order sections
   pub short : have_short_expressions (trees_made c) ≡ true
 
 -- The output of an input passes a limit: an expression of a location list is longer than it can be; or where none is, a section could be.

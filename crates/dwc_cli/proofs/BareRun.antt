@@ -23,8 +23,7 @@ use Rattle.dwc_base.proofs.OwnTrees.{own_tree}
 use Rattle.dwc_base.proofs.SimulatedInputs.{simulated_front, simulated_function}
 use Rattle.dwc_base.proofs.SimulatedOutput.{output_listed, lines-listed}
 use Rattle.dwc_cli.specs.Inputs.{Loaded, compilation_of}
-use Rattle.dwc_cli.specs.Printed.{printed}
-use Rattle.dwc_cli.specs.RunStatus.{Carries}
+use Rattle.dwc_cli.specs.RunStatus.{CarryInput}
 use Rattle.dwc_cli.proofs.OutputParts.{all-from, names-from, no_section}
 use Rattle.dwc_cli.proofs.WholeRun.{whole_on_literals, told_bare, told-bare, one_told, runtime_names, path_small, address_map_small}
 use Rattle.dwc_cli.proofs.BrokenInputs.{file_bare, with_small_map}
@@ -137,18 +136,16 @@ carried_bare = record {
   frames = refl;
 }
 
--- it is an answer with status 0
-carries-bare : Carries (with_small_map file_bare) (Some []) (Some (printed output_bare))
+-- it carries its input
+carries-bare : CarryInput (with_small_map file_bare) output_bare
 unfolding whole_on_literals
 carries-bare = record {
   read = read_bare;
   is_read = refl;
   accepted = ap first_refusal bare-told ∙ none-refused;
-  sections = output_bare;
   plain = refl;
   carried = subst (λ c. OutputCarried c output_bare) (sym bare-told) carried_bare;
   short = ap (λ c. have_short_expressions (trees_made c)) bare-told ∙ all-short;
-  written = refl;
 }
 
 -- and an output without units carries nothing, since the own unit is missing

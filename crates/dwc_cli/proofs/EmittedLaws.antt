@@ -1,5 +1,5 @@
 -- What is emitted for a map and modules, as it was read.
-use Rattle.std.proofs.Common.{◌≡◌, ℕ, suc, ◌+◌, ◌<◌, ◌^◌, List, [], ◌∷◌, map, length, refl, sym, ap, ◌∙◌, subst, arith, inl, inr, Bool, true, false, Option, Some, None, Ok, Err, Vec, All}
+use Rattle.std.proofs.Common.{◌≡◌, ℕ, suc, ◌+◌, ◌<◌, ◌^◌, List, [], ◌∷◌, map, length, refl, sym, ap, ◌∙◌, subst, arith, inl, inr, Bool, true, false, Option, Some, None, Ok, Err, Vec}
 use Rattle.std.specs.Prelude.{◌==◌, ◌&&◌, nat_lt, option_map, if◌then◌else◌, sum_by}
 use Rattle.std.specs.Option.{option_or}
 use Rattle.std.specs.FinMap as finite
@@ -25,7 +25,6 @@ use Rattle.dwc_base.specs.Refusals.{Refusal}
 use Rattle.dwc_base.specs.Forests.{first_refusal, trees_made}
 use Rattle.dwc_base.specs.TreeLaws.{have_short_expressions}
 use Rattle.dwc_base.specs.OutputCarried.{OutputCarried}
-use Rattle.dwc_write.specs.Writers.{IsSound}
 use Rattle.dwc_base.proofs.Translated.{translation_sections-is}
 use Rattle.dwc_clif.specs.AddressMaps.{address_map_view}
 use Rattle.dwc_clif.specs.CallFrames.{cie_view, description_of_metadata}
@@ -51,7 +50,7 @@ use Rattle.dwc_carry.specs.Refusals.{Told, told, bad_address_map, in_reading}
 use Rattle.dwc_base.specs.declared.faults.Limit.TheVariants.{Section, Addend, Range, Jump, Expression, Vmctx}
 use Rattle.dwc_carry.specs.Emits as emits
 use Rattle.dwc_cli.specs.Inputs.{Loaded, compilation_of, bad_map, shared_in, ranges_of, told_of, modules_of, bad_function, bad_module}
-use Rattle.dwc_cli.specs.RunStatus.{PassesLimit}
+use Rattle.dwc_cli.specs.RunStatus.{AreWhole, PassesLimit}
 use Rattle.dwc_cli.specs.Failures.{compiling_status, input_status, told_status, carrying_status}
 use Rattle.dwc_cli.specs.Answers.{first_status, hindrance, IsEmitted, IsCause, IsReadAs}
 use Rattle.dwc_cli.specs.Compiled.{bad_view, IsCompiled}
@@ -234,7 +233,7 @@ module _ (c : CompilationValue) (order : Endian) (size : ℕ) (registers : Regis
     unhindered = hindrance-is none ∙ ap (option_map input_status) h.0;
     carried = subst (λ input. OutputCarried input (map section_view s.items)) (sym input-is) h.1.output;
     short = ap (λ input. have_short_expressions (trees_made input)) input-is ∙ h.1.short;
-    sound = subst (λ input. All (IsSound input.order) (map section_view s.items)) (sym input-is) h.1.sound;
+    whole = subst (λ input. AreWhole input.order (map section_view s.items)) (sym input-is) (record { sound = h.1.sound; spelled = h.1.spelled });
   }
 
   pub refused-emitting : shared_symbol (map symbol_view (all_symbols c.functions)) ≡ None → (e : DebugError) → emits.Emits order size registers entry c (Err e) → IsCause read (carrying_status e)

@@ -21,7 +21,7 @@ use Rattle.dwc_base.proofs.OnFrames.{frames_on_literals}
 use Rattle.dwc_base.proofs.SimulatedLineLaws.{simulated_segment-is}
 use Rattle.dwc_cli.specs.Inputs.{Input, Loaded, loaded, compilation_of}
 use Rattle.dwc_cli.specs.Printed.{printed, is_plain}
-use Rattle.dwc_cli.specs.RunStatus.{Carries}
+use Rattle.dwc_cli.specs.RunStatus.{Carries, CarryInput}
 use Rattle.dwc_cli.proofs.PrintedLaws.{printed_injective}
 use Rattle.dwc_cli.proofs.WholeRun.{whole_on_literals, read_in}
 use Rattle.dwc_cli.proofs.OutputParts.{names-from}
@@ -119,18 +119,16 @@ all-short : have_short_expressions (trees_made compilation_framed) ≡ true
 unfolding whole_on_literals
 all-short = refl
 
--- it is an answer with status 0
-carries-framed : Carries input_framed (Some []) (Some (printed output_framed))
+-- it carries its input
+carries-framed : CarryInput input_framed output_framed
 unfolding whole_on_literals
 carries-framed = record {
   read = read_framed;
   is_read = refl;
   accepted = refusal-grows;
-  sections = output_framed;
   plain = refl;
   carried = subst (λ c. OutputCarried c output_framed) (sym told-grows) carried-framed;
   short = ap (λ c. have_short_expressions (trees_made c)) told-grows ∙ all-short;
-  written = refl;
 }
 
 -- ---- other texts
@@ -140,10 +138,10 @@ carried_by : (known : List OutputSection) → list_all is_plain known ≡ true �
 carried_by known plain h =
     let text : ◌≡◌ {A = Option (List ℕ)} (Some (printed known)) (Some (printed h.sections)) = h.written in
     let texts : printed known ≡ printed h.sections = cc in
-    let same : h.sections ≡ known = sym (printed_injective known h.sections plain h.plain texts) in
-    let found : loaded input_framed ≡ Some h.read = h.is_read in
-    let reads : h.read ≡ read_framed = cc (found, framed-read) in
-    let carried : OutputCarried (compilation_of read_framed) known = subst (OutputCarried (compilation_of read_framed)) same (subst (λ r. OutputCarried (compilation_of r) h.sections) reads h.carried) in
+    let same : h.sections ≡ known = sym (printed_injective known h.sections plain h.carry.plain texts) in
+    let found : loaded input_framed ≡ Some h.carry.read = h.carry.is_read in
+    let reads : h.carry.read ≡ read_framed = cc (found, framed-read) in
+    let carried : OutputCarried (compilation_of read_framed) known = subst (OutputCarried (compilation_of read_framed)) same (subst (λ r. OutputCarried (compilation_of r) h.sections) reads h.carry.carried) in
     subst (λ c. OutputCarried c known) told-grows carried
 
 -- one without the frames is no answer 0

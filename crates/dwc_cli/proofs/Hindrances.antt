@@ -194,9 +194,10 @@ pub carries-emitted : (read : Loaded) (sections : List OutputSection) → IsEmit
 carries-emitted read sections h = record {
   accepted = (unhindered (shared_in read) (bad_map read) (first_refusal (compilation_of read)) h.unhindered).accepted;
   sections = sections;
-  plain = plain-sound (compilation_of read).order sections h.sound;
+  plain = plain-sound (compilation_of read).order sections h.whole.sound;
   carried = h.carried;
   short = h.short;
+  whole = h.whole;
   text_is = refl;
 }
 

@@ -18,12 +18,12 @@ use Rattle.dwc_base.proofs.CarriedSmall.{module_small, unit_small, unit_out, tab
 use Rattle.dwc_base.proofs.WorkedImages.{Zipped, segment, image, image_in, not_image-at}
 use Rattle.dwc_cli.specs.Inputs.{Loaded, loaded, compilation_of}
 use Rattle.dwc_cli.specs.Printed.{printed, is_plain, line_feed}
-use Rattle.dwc_cli.specs.RunStatus.{Carries, Succeeds, FrontCarries, PrefixWritten}
+use Rattle.dwc_cli.specs.RunStatus.{Carries, Succeeds, PrefixWritten}
 use Rattle.dwc_base.proofs.SmallModule.{file_small}
 use Rattle.dwc_cli.proofs.Examples.{map_bytes_small}
 use Rattle.dwc_cli.proofs.PrintedLaws.{printed_injective}
 use Rattle.dwc_cli.proofs.OnLiterals.{printed_on_literals}
-use Rattle.dwc_cli.proofs.WholeRun.{whole_on_literals, input_small, read_in, read_small, compilation_whole, compilation-small, accepted-small, short-small, all-read, carries_small, output_carried-small}
+use Rattle.dwc_cli.proofs.WholeRun.{whole_on_literals, input_small, read_in, read_small, compilation_whole, compilation-small, all-read, carries_small}
 use Rattle.dwc_cli.proofs.WholeOutput.{output_with, output_whole}
 use Rattle.dwc_cli.proofs.BrokenInputs.{file_64, file_no_directory, with_small_map}
 use Rattle.dwc_cli.proofs.Answers.{three_files, right_words, names}
@@ -36,10 +36,10 @@ sections_of : (known : List OutputSection) → list_all is_plain known ≡ true 
 sections_of known plain h =
     let text : ◌≡◌ {A = Option (List ℕ)} (Some (printed known)) (Some (printed h.sections)) = h.written in
     let texts : printed known ≡ printed h.sections = cc in
-    let same : h.sections ≡ known = sym (printed_injective known h.sections plain h.plain texts) in
-    let found : loaded input_small ≡ Some h.read = h.is_read in
-    let reads : h.read ≡ read_small = cc (found, small-read) in
-    subst (λ s. LinesCarried (compilation_of read_small) s) same (subst (λ r. LinesCarried (compilation_of r) h.sections) reads h.carried.lines)
+    let same : h.sections ≡ known = sym (printed_injective known h.sections plain h.carry.plain texts) in
+    let found : loaded input_small ≡ Some h.carry.read = h.carry.is_read in
+    let reads : h.carry.read ≡ read_small = cc (found, small-read) in
+    subst (λ s. LinesCarried (compilation_of read_small) s) same (subst (λ r. LinesCarried (compilation_of r) h.sections) reads h.carry.carried.lines)
 
 -- so a text of other sections is no answer 0
 refused-text : (known : List OutputSection) → list_all is_plain known ≡ true → (LinesCarried (compilation_of read_small) known → ⊥) → Succeeds (Some (three_files map_bytes_small file_small [])) right_words (Some []) (Some (printed known)) → ⊥
@@ -195,10 +195,10 @@ no_front h =
     let texts : take carries.count (printed carries.sections) ≡ 120 ∷ [] = cc in
     front_of_text carries.sections carries.count texts
 
--- the first ten bytes of the wanted text are one
-front-small : FrontCarries input_small (Some []) (Some (codes "section .d"))
+-- the first ten bytes of the wanted text
+front-small : take 10 (printed output_whole) ≡ codes "section .d"
 unfolding whole_on_literals printed_on_literals
-front-small = record { read = read_small; is_read = refl; accepted = accepted-small; sections = output_whole; plain = refl; carried = output_carried-small; short = short-small; count = 10; written = refl }
+front-small = refl
 
 -- ---- inputs of which something is refused: no text, nor a front of one
 
@@ -218,10 +218,10 @@ unfolding whole_on_literals
 read-64 = refl
 
 format_64-text : (before now : Option (List ℕ)) → Succeeds (Some (three_files map_bytes_small file_64 [])) right_words before now → ⊥
-format_64-text before now h = let carries = h _ (names map_bytes_small file_64 []) in refused-64 (accepted-of file_64 carries.read read-64 carries.is_read carries.accepted)
+format_64-text before now h = let carries = h _ (names map_bytes_small file_64 []) in refused-64 (accepted-of file_64 carries.carry.read read-64 carries.carry.is_read carries.carry.accepted)
 
 format_64-front : (before now : Option (List ℕ)) → PrefixWritten (Some (three_files map_bytes_small file_64 [])) right_words before now → ⊥
-format_64-front before now h = let carries = h _ (names map_bytes_small file_64 []) in refused-64 (accepted-of file_64 carries.read read-64 carries.is_read carries.accepted)
+format_64-front before now h = let carries = h _ (names map_bytes_small file_64 []) in refused-64 (accepted-of file_64 carries.carry.read read-64 carries.carry.is_read carries.carry.accepted)
 
 -- a file of a directory that is not there
 refused-no_directory : first_refusal (compilation_of (read_of file_no_directory)) ≡ None → ⊥
@@ -233,4 +233,4 @@ unfolding whole_on_literals
 read-no_directory = refl
 
 no_directory-text : (before now : Option (List ℕ)) → Succeeds (Some (three_files map_bytes_small file_no_directory [])) right_words before now → ⊥
-no_directory-text before now h = let carries = h _ (names map_bytes_small file_no_directory []) in refused-no_directory (accepted-of file_no_directory carries.read read-no_directory carries.is_read carries.accepted)
+no_directory-text before now h = let carries = h _ (names map_bytes_small file_no_directory []) in refused-no_directory (accepted-of file_no_directory carries.carry.read read-no_directory carries.carry.is_read carries.carry.accepted)

@@ -5,7 +5,7 @@ use Rattle.dwc_base.specs.Sections.{unreadable, unsupported}
 use Rattle.dwc_base.specs.Refusals.{Refusal, of_place, missing_file, long_function, long_range, bad_label, lacks_memory, unmapped_register, long_jump, far_memory, bad_path, of_frame}
 use Rattle.dwc_base.specs.FrameRefusals.{bad_code_offset, bad_data_offset}
 use Rattle.dwc_cli.specs.Inputs.{Paths, paths_of, all_paths, Input, Loaded}
-use Rattle.dwc_cli.specs.RunStatus.{Files, Appended, IsOneOf, Succeeds, PrefixWritten, MissingCause, refusal_status, refusal_statuses, LoadedCauses, InputCauses, RunsWell, Rose}
+use Rattle.dwc_cli.specs.RunStatus.{Files, Appended, CarryInput, IsOneOf, Succeeds, PrefixWritten, MissingCause, refusal_status, refusal_statuses, LoadedCauses, InputCauses, RunsWell, Rose}
 use Rattle.dwc_cli.specs.Edge.{IsLongFile, AppendsFront}
 use Rattle.dwc_cli.specs.Answers.{IsInput, CarriesText, TextCauses, GivesText, IsReadingStatus, reading_statuses}
 use Rattle.dwc_cli.proofs.Statuses.{is_one_of, IsOneOf-from, IsOneOf-more, IsOneOf-other, IsOneOf-apart}
@@ -57,18 +57,18 @@ InputCauses-text files words p read status is_p is_input causes not_four = λ in
 pub MissingCause-read : (files : Option Files) (words : List (List ℕ)) (p : Paths) (read : Input) (status : ℕ) → paths_of words ≡ Some p → IsInput files p read → MissingCause files words status
 MissingCause-read files words p read status is_p is_input = λ missing. absurd (lacks_none files words p read is_p is_input missing)
 
+-- the sections of a text carry its input
+abbrev carry-input : {input : Input} {text : List ℕ} (c : CarriesText input text) → CarryInput input c.carries.sections
+carry-input c = record { read = c.read; is_read = c.is_read; accepted = c.carries.accepted; plain = c.carries.plain; carried = c.carries.carried; short = c.carries.short }
+
 -- a text that was written is that of the input that the words name
 pub Succeeds-read : (files : Option Files) (words : List (List ℕ)) (p : Paths) (read : Input) (text : List ℕ) (before now : Option (List ℕ)) → paths_of words ≡ Some p → IsInput files p read → CarriesText read text → Appended before now text → Succeeds files words before now
 Succeeds-read files words p read text before now is_p is_input carries written = λ input names.
     let c = subst (λ i. CarriesText i text) (same_input files words p read input is_p is_input names) carries in
     record {
-      read = c.read;
-      is_read = c.is_read;
-      accepted = c.carries.accepted;
       sections = c.carries.sections;
-      plain = c.carries.plain;
-      carried = c.carries.carried;
-      short = c.carries.short;
+      carry = carry-input c;
+      whole = c.carries.whole;
       written = subst (Appended before now) c.carries.text_is written;
     }
 
@@ -77,13 +77,9 @@ pub PrefixWritten-read : (files : Option Files) (words : List (List ℕ)) (p : P
 PrefixWritten-read files words p read text before now is_p is_input carries front = λ input names.
     let c = subst (λ i. CarriesText i text) (same_input files words p read input is_p is_input names) carries in
     record {
-      read = c.read;
-      is_read = c.is_read;
-      accepted = c.carries.accepted;
       sections = c.carries.sections;
-      plain = c.carries.plain;
-      carried = c.carries.carried;
-      short = c.carries.short;
+      carry = carry-input c;
+      whole = c.carries.whole;
       count = front.0;
       written = subst (λ t. Appended before now (take front.0 t)) c.carries.text_is front.1;
     }

@@ -37,8 +37,7 @@ use Rattle.dwc_base.proofs.OutputSmall.{HasForm, scopes-small, locations-small, 
 use Rattle.dwc_map.specs.MapFile.{MapFunction}
 use Rattle.dwc_cli.specs.Inputs.{Input, Loaded, loaded, compilation_of, ranges_of, told_of}
 use Rattle.dwc_map.proofs.OnLiterals.{map_on_literals}
-use Rattle.dwc_cli.specs.Printed.{printed}
-use Rattle.dwc_cli.specs.RunStatus.{Carries}
+use Rattle.dwc_cli.specs.RunStatus.{CarryInput}
 use Rattle.dwc_cli.proofs.Examples.{map_bytes_small, map_small}
 use Rattle.dwc_cli.proofs.OutputParts.{all-from, names-from, no_section}
 use Rattle.dwc_cli.proofs.WholeOutput.{output_whole, trees_whole}
@@ -334,7 +333,7 @@ carried_whole = record {
 pub output_carried-small : OutputCarried (compilation_of read_small) output_whole
 output_carried-small = subst (λ c. OutputCarried c output_whole) (sym compilation-small) carried_whole
 
--- the text of the wanted output is an answer with status 0
-pub carries-small : Carries input_small (Some []) (Some (printed output_whole))
+-- the wanted output carries the small input
+pub carries-small : CarryInput input_small output_whole
 unfolding whole_on_literals
-carries-small = record { read = read_small; is_read = refl; accepted = accepted-small; sections = output_whole; plain = refl; carried = output_carried-small; short = short-small; written = refl }
+carries-small = record { read = read_small; is_read = refl; accepted = accepted-small; plain = refl; carried = output_carried-small; short = short-small }

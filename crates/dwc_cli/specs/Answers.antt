@@ -1,5 +1,5 @@
 -- What the parts of a run say of its input and its status.
-use Rattle.std.specs.Prelude.{◌≡◌, ◌⊎◌, ℕ, List, [], ◌∷◌, map, true, Option, Some, None, option_map, Result, Ok, Err, All, Any, Vec}
+use Rattle.std.specs.Prelude.{◌≡◌, ◌⊎◌, ℕ, List, [], ◌∷◌, map, true, Option, Some, None, option_map, Result, Ok, Err, Any, Vec}
 use Rattle.std.specs.Global.{Global}
 use Rattle.std.specs.List.{list_all, AllZip}
 use Rattle.dwc_base.specs.declared.output.DwarfSection.{DwarfSection}
@@ -11,7 +11,6 @@ use Rattle.dwc_base.specs.OutputCarried.{OutputCarried}
 use Rattle.dwc_base.specs.TreeLaws.{have_short_expressions}
 use Rattle.dwc_base.specs.Wasm.{WasmModule}
 use Rattle.dwc_base.specs.Translations.{IsWholeTranslation}
-use Rattle.dwc_write.specs.Writers.{IsSound}
 use Rattle.dwc_cli.specs.declared.failure.Failure.{Failure}
 use Rattle.dwc_map.specs.declared.map_file.MapFile.{MapFile}
 use Rattle.dwc_cli.specs.declared.input_files.InputFiles.{InputFiles}
@@ -19,7 +18,7 @@ use Rattle.dwc_map.specs.MapFile.{map_in_bytes}
 use Rattle.dwc_map.specs.MapViews.{map_file_view}
 use Rattle.dwc_cli.specs.Inputs.{Paths, all_paths, Input, all_files, wasm_modules, Loaded, loaded, compilation_of, shared_in, BadMap, bad_map}
 use Rattle.dwc_cli.specs.Printed.{printed, is_plain, is_line}
-use Rattle.dwc_cli.specs.RunStatus.{Files, Rose, Appended, IsOneOf, WasmCause, MapCause, refusal_status, PassesLimit, LoadedCauses, IsValid}
+use Rattle.dwc_cli.specs.RunStatus.{AreWhole, Files, Rose, Appended, IsOneOf, WasmCause, MapCause, refusal_status, PassesLimit, LoadedCauses, IsValid}
 use Rattle.dwc_cli.specs.Edge.{IsReadFile}
 use Rattle.dwc_cli.specs.Failures.{failure_status, usage_message, fault_message, length_message, write_message, failure_message, line_of}
 
@@ -67,12 +66,12 @@ first_status None None None = None
 abbrev pub hindrance : Loaded → Option ℕ
 hindrance read = first_status (shared_in read) (bad_map read) (first_refusal (compilation_of read))
 
--- sound sections that carry an input, which nothing hinders, and of which no expression of a location list is too long
+-- whole sections that carry an input, which nothing hinders, and of which no expression of a location list is too long
 pub record IsEmitted (read : Loaded) (sections : List OutputSection) : Type 0 where
   pub unhindered : hindrance read ≡ None
   pub carried : OutputCarried (compilation_of read) sections
   pub short : have_short_expressions (trees_made (compilation_of read)) ≡ true
-  pub sound : All (IsSound (compilation_of read).order) sections
+  pub whole : AreWhole (compilation_of read).order sections
 
 -- why no sections are emitted, by the status: for want of memory, by a hindrance, or for a limit that is passed
 abbrev pub IsCause : Loaded → ℕ → Type 0
@@ -90,6 +89,7 @@ pub record CarriesRead (read : Loaded) (text : List ℕ) : Type 0 where
   pub plain : list_all is_plain sections ≡ true
   pub carried : OutputCarried (compilation_of read) sections
   pub short : have_short_expressions (trees_made (compilation_of read)) ≡ true
+  pub whole : AreWhole (compilation_of read).order sections
   pub text_is : text ≡ printed sections
 
 -- the text of an input

@@ -4,6 +4,7 @@ use Rattle.std.specs.Ordering.{nat_cmp}
 use Rattle.std.specs.Cmp.Lexicographic.{slice_cmp}
 use Rattle.std.specs.FinMap as map
 use Rattle.std.specs.List.{list_all, AllZip}
+use Rattle.dwc_base.specs.declared.records.Endian.{Endian}
 use Rattle.dwc_base.specs.declared.section_name.SectionName.{SectionName}
 use Rattle.dwc_base.specs.Sections.{unreadable, unsupported}
 use Rattle.dwc_base.specs.Wasm.{WasmModule}
@@ -14,6 +15,8 @@ use Rattle.dwc_base.specs.Carried.{Compilation}
 use Rattle.dwc_base.specs.Forests.{first_refusal, trees_made}
 use Rattle.dwc_base.specs.OutputCarried.{OutputCarried, widest}
 use Rattle.dwc_base.specs.TreeLaws.{have_short_expressions}
+use Rattle.dwc_write.specs.SpelledOutput.{AreSpelled}
+use Rattle.dwc_write.specs.Writers.{IsSound}
 use Rattle.dwc_map.specs.MapFile.{map_of_bytes}
 use Rattle.dwc_cli.specs.Inputs.{Paths, paths_of, all_paths, Input, all_files, wasm_modules, defined_counts, Loaded, loaded, compilation_of, shared_in, bad_map}
 use Rattle.dwc_cli.specs.Printed.{printed, is_plain}
@@ -38,16 +41,27 @@ pub record Names (files : Option Files) (words : List (List ℕ)) (input : Input
 abbrev pub Appended : Option (List ℕ) → Option (List ℕ) → List ℕ → Type 0
 Appended before now text = IfSome before (λ w. now ≡ Some (w ++ text))
 
--- 0: Nothing that is read is refused, the printed sections carry the input that the words name and are such as an output has, and no
--- expression of a location list is too long.
-pub record Carries (input : Input) (before now : Option (List ℕ)) : Type 0 where
+-- Nothing that is read of an input is refused, sections carry it, of which one text alone is printed, and no expression of a location list
+-- is too long.
+pub record CarryInput (input : Input) (sections : List OutputSection) : Type 0 where
   pub read : Loaded
   pub is_read : loaded input ≡ Some read
   pub accepted : first_refusal (compilation_of read) ≡ None
-  pub sections : List OutputSection
   pub plain : list_all is_plain sections ≡ true
   pub carried : OutputCarried (compilation_of read) sections
   pub short : have_short_expressions (trees_made (compilation_of read)) ≡ true
+
+-- Sections are whole as a linker takes them: each has at most 2^31 - 1 bytes, in which the addends of its relocations stand; and they have no
+-- byte but those that the spelling of some units needs.
+pub record AreWhole (order : Endian) (sections : List OutputSection) : Type 0 where
+  pub sound : All (IsSound order) sections
+  pub spelled : AreSpelled order sections
+
+-- 0: The printed sections carry the input that the words name, and are whole.
+pub record Carries (input : Input) (before now : Option (List ℕ)) : Type 0 where
+  pub sections : List OutputSection
+  pub carry : CarryInput input sections
+  pub whole : AreWhole (compilation_of carry.read).order sections
   pub written : Appended before now (printed sections)
 
 -- a run that answers 0, of whatever input the words name
@@ -104,13 +118,9 @@ pub record MapCause (input : Input) (status : ℕ) : Type 0 where
 
 -- 8: The same, where what was taken is a front of the printed text.
 pub record FrontCarries (input : Input) (before now : Option (List ℕ)) : Type 0 where
-  pub read : Loaded
-  pub is_read : loaded input ≡ Some read
-  pub accepted : first_refusal (compilation_of read) ≡ None
   pub sections : List OutputSection
-  pub plain : list_all is_plain sections ≡ true
-  pub carried : OutputCarried (compilation_of read) sections
-  pub short : have_short_expressions (trees_made (compilation_of read)) ≡ true
+  pub carry : CarryInput input sections
+  pub whole : AreWhole (compilation_of carry.read).order sections
   pub count : ℕ
   pub written : Appended before now (take count (printed sections))
 

@@ -88,7 +88,7 @@ frames-carried own size c ds xs others =
     let frames = frame_section_if own size c ds in
     filter-append is_frames xs frames ∙ ap (λ ys. ys ++ filter is_frames frames) (none-frames xs others) ∙ only-frames own size c ds
 
-others-with : (own : Endian) (size : ℕ) (c : Option CommonEntry) (ds : List (ℕ × FrameDescription)) (xs : List OutputSection) → All IsOther xs → others_in (xs ++ frame_section_if own size c ds) ≡ xs
+pub others-with : (own : Endian) (size : ℕ) (c : Option CommonEntry) (ds : List (ℕ × FrameDescription)) (xs : List OutputSection) → All IsOther xs → others_in (xs ++ frame_section_if own size c ds) ≡ xs
 others-with own size c ds xs others =
     let frames = frame_section_if own size c ds in
     let other : OutputSection → Bool = λ s. not (is_frames s) in

@@ -9,12 +9,13 @@ use Rattle.dwc_write.specs.declared.error.WriteError.{WriteError}
 use Rattle.dwc_write.specs.SpelledTables.{table_bytes}
 use Rattle.dwc_write.specs.SpelledSections.{WrittenUnit, placed_unit_bytes, tables_bytes, info_bytes, lines_bytes}
 use Rattle.dwc_write.specs.SpelledRelocations.{unit_relocations, info_relocations, lines_relocations}
-use Rattle.dwc_write.specs.GivenUnits.{GivenEntry, OrderedUnit, Places, size_of, first_uses, shapes_of, numbered, written_entries, lists_of_entries, lists_of_units}
+use Rattle.dwc_write.specs.GivenUnits.{AreWritable, GivenEntry, OrderedUnit, Places, size_of, first_uses, shapes_of, numbered, written_entries, lists_of_entries, lists_of_units}
 use Rattle.dwc_write.specs.declared.attributes.AttributeValue.{AttributeValue}
 use Rattle.dwc_write.specs.declared.list_places.ListPlaces.{ListPlaces}
 use Rattle.dwc_write.specs.Lists.{ListEntry, behind_attributes, list_bytes, list_relocations, locations_in, no_lists, ranges_in}
 use Rattle.dwc_write.specs.UsedTexts.{strings_bytes, text_places}
 use Rattle.dwc_write.specs.Layouts.{AllPlaces, offsets_by_number, places_of_units, places_in, written_lines, written_unit, written_units, written_tables}
+use Rattle.dwc_base.specs.FramesCarried.{others_in}
 use Rattle.dwc_base.specs.TreeLaws.{have_short_expressions}
 use Rattle.dwc_write.specs.GivenTrees.{given_trees}
 use Rattle.dwc_write.specs.Writers.{IsRefusalFor, IsSizeRefusal, Writing, Refuses, appended, most_bytes}
@@ -68,6 +69,14 @@ all_places order texts us = record { units = places_of_units order (size_of us) 
 
 abbrev pub spelled_sections : Endian → List (List ℕ) → List OrderedUnit → List OutputSection
 spelled_sections order texts us = sections_placed order (all_places order texts us) (strings_bytes texts us) us
+
+-- Sections are, but for the call frames, those of some units that can be written, over a table of texts, in the writer's own spelling: no byte stands in
+-- them that no reading comes to, no list and no line table has more than what is read of it.
+pub record AreSpelled (order : Endian) (sections : List OutputSection) : Type 0 where
+  pub texts : List (List ℕ)
+  pub given : List OrderedUnit
+  pub writable : AreWritable given
+  pub is : others_in sections ≡ spelled_sections order texts given
 
 -- the bytes of a section
 abbrev pub section_bytes : Endian → List (List ℕ) → List OrderedUnit → SectionName → List ℕ

@@ -20,7 +20,7 @@ ghost use Rattle.dwc_write.specs.Lists.{AreWithin};
 ghost use Rattle.dwc_write.specs.declared.layout.UnitLayout.{UnitLayout};
 ghost use Rattle.dwc_write.specs.LayoutViews.{IsLaidOut, places_view, whole_view};
 ghost use Rattle.dwc_write.specs.Layouts.{AreShort, offset_of_text, offsets_by_number, places_in, places_of_units, units_length};
-ghost use Rattle.dwc_write.specs.SpelledOutput.{IsRefusal, IsRefusalAmong, WritesLists, WritesOne, all_units, section_unless_empty, sections_of, spelled_sections};
+ghost use Rattle.dwc_write.specs.SpelledOutput.{AreSpelled, IsRefusal, IsRefusalAmong, WritesLists, WritesOne, all_units, section_unless_empty, sections_of, spelled_sections};
 ghost use Rattle.dwc_write.specs.SpelledRelocations.{DoRelocationsRise};
 ghost use Rattle.dwc_write.specs.ReadBack.{ReadsBack};
 ghost use Rattle.dwc_write.specs.SectionViews.{sections_view};
@@ -70,6 +70,7 @@ pub fn write_sections(
     requires sound { is_sound_if (common_given frames) ≡ true }
     requires unit { 0 < length (descriptions_given frames) → 0 < length dwarf.units.units.items }
     ensures sections { IfOk result (λ s. map section_view s.items ≡ spelled_sections order dwarf.strings (map ordered dwarf.units.units.items) ++ given_frames order frames dwarf.units.units.items) }
+    ensures spelled { IfOk result (λ s. AreSpelled order (map section_view s.items)) }
     ensures sound { IfOk result (λ s. All (IsSound order) (map section_view s.items)) }
     ensures rise { IfOk result (λ s. All DoRelocationsRise (map section_view s.items)) }
     ensures read { IfOk result (λ s. ReadsBack order (map ordered dwarf.units.units.items) (map section_view s.items)) }

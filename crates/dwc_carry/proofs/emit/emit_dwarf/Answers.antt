@@ -36,7 +36,7 @@ returns-clause-sections g c =
     emits-sections _ _ _ _ c.args.compilation.now c.in_ok-dwarf.dwarf.strings c.in_ok-dwarf.dwarf.units.units.items c.in_ok-dwarf.ensures.units.0 c.in_ok-dwarf.ensures.units.1 c.in_ok-frames.frames framed c.in_ok-write_sections.field-0
     (rw c.endianness.ensures at c.in_ok-write_sections.ensures.read) (rw c.endianness.ensures at c.in_ok-write_sections.ensures.trees) (rw c.endianness.ensures at c.in_ok-write_sections.ensures.texts_once)
     (rw c.endianness.ensures at c.in_ok-write_sections.ensures.form) c.in_ok-write_sections.ensures.refused c.in_ok-write_sections.ensures.expressions
-    c.in_ok-write_sections.ensures.names (rw c.endianness.ensures at c.in_ok-write_sections.ensures.relocated) (rw c.endianness.ensures at c.in_ok-write_sections.ensures.frames) (rw c.endianness.ensures at c.in_ok-write_sections.ensures.sound)
+    c.in_ok-write_sections.ensures.names (rw c.endianness.ensures at c.in_ok-write_sections.ensures.relocated) (rw c.endianness.ensures at c.in_ok-write_sections.ensures.frames) (rw c.endianness.ensures at c.in_ok-write_sections.ensures.sound) (rw c.endianness.ensures at c.in_ok-write_sections.ensures.spelled)
     (ap are_of_output c.in_ok-write_sections.ensures.sections ∙ written-of_output c.endianness.result c.in_ok-dwarf.dwarf.strings c.in_ok-dwarf.dwarf.units.units.items c.in_ok-frames.frames)
     c.translations_keep_scopes.ensures.keep c.translations_keep_scopes.ensures.made
 

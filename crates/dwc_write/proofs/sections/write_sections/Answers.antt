@@ -11,7 +11,7 @@ use Rattle.dwc_write.specs.GivenTrees.{given_trees}
 use Rattle.dwc_write.specs.GivenUnits.{ordered, size_of}
 use Rattle.dwc_write.specs.SpelledRelocations.{DoRelocationsRise}
 use Rattle.dwc_write.specs.Writers.{IsSound}
-use Rattle.dwc_write.proofs.FramesBehind.{back-same, distinct-with, form-same, frames-carried, read-same, relocated-with, texts-same, trees-same}
+use Rattle.dwc_write.proofs.FramesBehind.{back-same, distinct-with, form-same, frames-carried, others-with, read-same, relocated-with, texts-same, trees-same}
 use Rattle.dwc_write.proofs.OutputForms.{IsOther, all-others}
 use Rattle.dwc_write.proofs.sections.write_sections.Goals as goal
 
@@ -19,6 +19,19 @@ pub returns-clause-sound : goal.returns-clause-sound
 returns-clause-sound c =
     let xs = map section_view c.in_ok-sections.sections.items in
     subst (All (IsSound c.args.order)) (sym c.in_ok-push_optional.ensures.section) (All-append (IsSound c.args.order) xs (optional_section c.in_ok-section.section) c.in_ok-sections.ensures.sound c.in_ok-section.ensures.sound)
+
+pub returns-clause-spelled : goal.returns-clause-spelled
+returns-clause-spelled c =
+    let us = map ordered c.args.dwarf.units.units.items in
+    let table = c.args.dwarf.strings in
+    let xs = map section_view c.in_ok-sections.sections.items in
+    let all = map section_view c.push_optional.new.list.items in
+    let size = c.address_size_of-size.result in
+    let common = common_given c.args.frames in
+    let ds = descriptions_given c.args.frames in
+    let whole : all ≡ xs ++ frame_section_if c.args.order size common ds = c.in_ok-push_optional.ensures.section ∙ ap (λ fs. xs ++ fs) c.in_ok-section.ensures.sections in
+    let others : All IsOther xs = subst (All IsOther) (sym c.in_ok-sections.ensures.sections) (all-others c.args.order table us) in
+    record { texts = table; given = us; writable = c.requires.units; is = ap others_in whole ∙ others-with c.args.order size common ds xs others ∙ c.in_ok-sections.ensures.sections }
 
 pub returns-clause-rise : goal.returns-clause-rise
 returns-clause-rise c =
