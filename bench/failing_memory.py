@@ -1,14 +1,14 @@
 #!/usr/bin/env python3
-"""Runs the program with each allocation failing in turn, and checks how it ends.
+"""Runs the proved program with each allocation failing in turn, and checks how it ends.
 
-    failing_memory.py [MAP MODULE ...] [--realistic] [--minutes M] [--program PROGRAM] [--keep PROGRAM]
+    failing_memory.py [MAP MODULE ...] [--realistic] [--minutes M] [--program PROGRAM]
 
-It runs on the small example unless a map and modules are given, or with --realistic on the realistic module of the cases. A run in which an allocation fails must end
-with status 9, with nothing on standard output and one line on standard error, or with status 0 and the text of a run in which none fails. Where all of them take
-longer than M minutes (10 unless it is given), it ends then; the numbers come in an order of which each front lies evenly among all.
+It runs on the small example unless a map and modules are given, or with --realistic on the realistic module of the cases. PROGRAM is
+crates/dwarfcarry/out/dwarfcarry unless it is given. A run in which an allocation fails must end with status 9, with nothing on standard output and one line on
+standard error, or with status 0 and the text of a run in which none fails; where memory lacks already for the words of the command, there is no line. Where all of
+them take longer than M minutes (10 unless it is given), it ends then; the numbers come in an order of which each front lies evenly among all.
 
-`rt try --fail-alloc N` builds anew for each N, which takes minutes. So it is called once, with a number that no run comes to; the program that it builds is taken from
-its folder, and in copies of it other numbers stand in the place of that one. With --keep the built program stays as a file, and --program takes it from there.
+A small library in C stands in front of the allocator of the C library and counts its calls, so the program runs as it was built. It asks for a C compiler, `cc`.
 """
 
 import argparse
@@ -17,86 +17,80 @@ import subprocess
 import sys
 import tempfile
 import time
+from concurrent.futures import ThreadPoolExecutor
 from math import gcd
 
 import realistic_cases
+from run import DEFAULT
 
 CRATE = os.path.join(os.path.dirname(os.path.abspath(__file__)), "..", "crates", "dwarfcarry")
 SMALL = [os.path.join(CRATE, "data", name) for name in ("g.json", "g.wasm")]
-BUILT_WITH = 1_234_567_891
 LINE = b"dwarfcarry: out of memory\n"
+NO_MEMORY = 9
+AT_ONCE = os.cpu_count() or 1
 
+# The allocation of the number FAIL_AT fails, and how many there were is written to the file FAIL_COUNT.
+ALLOCATOR = r"""
+#define _GNU_SOURCE
+#include <dlfcn.h>
+#include <stdio.h>
+#include <stdlib.h>
 
-# ---- the program
+static unsigned long made, failing;
+static void *(*real_malloc)(size_t);
+static void *(*real_realloc)(void *, size_t);
 
+static int fails(void) {
+    if (!real_malloc) {
+        const char *at = getenv("FAIL_AT");
+        failing = at ? strtoul(at, 0, 10) : 0;
+        real_realloc = dlsym(RTLD_NEXT, "realloc");
+        real_malloc = dlsym(RTLD_NEXT, "malloc");
+    }
+    return ++made == failing;
+}
 
-def linked(folder, path):
-    """Whether the program that stands somewhere in a folder has got another name: it is removed when it has ended."""
-    for place, _, names in os.walk(folder):
-        if "program" in names:
-            try:
-                os.link(os.path.join(place, "program"), path)
-                return True
-            except FileNotFoundError:
-                pass
-    return False
+void *malloc(size_t size) { return fails() ? 0 : real_malloc(size); }
+void *realloc(void *block, size_t size) { return fails() ? 0 : real_realloc(block, size); }
 
-
-def build(path):
-    """The program, built by `rt try` so that an allocation fails that is never made."""
-    with tempfile.TemporaryDirectory(dir=os.path.dirname(path)) as folder:
-        words = ["rt", "try", "--fail-alloc", str(BUILT_WITH), "--", "data/g.json", "data/g.wasm"]
-        with subprocess.Popen(words, cwd=CRATE, env={**os.environ, "TMPDIR": folder}, stdout=subprocess.DEVNULL, stderr=subprocess.PIPE) as tried:
-            is_linked = False
-            while tried.poll() is None:
-                is_linked = is_linked or linked(folder, path)
-                time.sleep(0.01)
-            said = tried.stderr.read().decode()
-    if tried.returncode or not is_linked:
-        sys.exit(f"no program: {said}")
+__attribute__((destructor)) static void told(void) {
+    const char *path = getenv("FAIL_COUNT");
+    unsigned long count = made;
+    FILE *file = path ? fopen(path, "w") : 0;
+    if (file) {
+        fprintf(file, "%lu", count);
+        fclose(file);
+    }
+}
+"""
 
 
 class Program:
-    """The program, of which a copy fails at an allocation."""
+    """The program over an allocator that can fail."""
 
     def __init__(self, path, folder):
-        self.path, self.contents = os.path.join(folder, "failing"), read(path)
-        self.number = BUILT_WITH.to_bytes(4, "little")
-        if self.contents.count(self.number) != 2:
-            sys.exit("not built so that an allocation or a reallocation can fail")
+        self.path, self.library, self.count_path = path, os.path.join(folder, "allocator.so"), os.path.join(folder, "count")
+        source = os.path.join(folder, "allocator.c")
+        with open(source, "w", encoding="ascii") as file:
+            file.write(ALLOCATOR)
+        subprocess.run(["cc", "-O1", "-shared", "-fPIC", "-o", self.library, source], check=True)
 
-    def run(self, number, paths):
-        """The status of a run in which the allocation of a number fails, and what it printed on both streams."""
-        with open(self.path, "wb") as file:
-            file.write(self.contents.replace(self.number, number.to_bytes(4, "little")))
-        os.chmod(self.path, 0o700)
-        ended = subprocess.run([self.path, *paths], capture_output=True, env={})
+    def run(self, paths, **words):
+        """The status of a run with some words for the allocator, and what it printed on both streams."""
+        ended = subprocess.run([self.path, *paths], capture_output=True, check=False, env={"LD_PRELOAD": self.library, **words})
         return ended.returncode, ended.stdout, ended.stderr
 
+    def whole(self, paths):
+        """The text of a run in which nothing fails, and how many allocations it makes."""
+        status, text, line = self.run(paths, FAIL_COUNT=self.count_path)
+        if status != 0:
+            sys.exit(f"status {status} where nothing fails: {line.decode()}")
+        with open(self.count_path, encoding="ascii") as file:
+            return text, int(file.read())
 
-def read(path):
-    with open(path, "rb") as file:
-        return file.read()
-
-
-# ---- runs
-
-
-def is_good(ended, text):
-    """Whether a run ended as it must, by the text of a run in which nothing fails."""
-    return ended in ((9, b"", LINE), (0, text, b""))
-
-
-def first_untouched(program, paths):
-    """The least number of an allocation that is not made, if each that is made and fails ends the run."""
-    above = 1
-    while program.run(above, paths)[0] != 0:
-        above *= 2
-    low = above // 2
-    while above - low > 1:
-        middle = (low + above) // 2
-        low, above = (low, middle) if program.run(middle, paths)[0] == 0 else (middle, above)
-    return above
+    def failing(self, paths, number):
+        """How a run ends in which the allocation of a number fails."""
+        return self.run(paths, FAIL_AT=str(number))
 
 
 def spread(count):
@@ -105,49 +99,32 @@ def spread(count):
     return [k * stride % count + 1 for k in range(count)]
 
 
-def sweep(program, paths, seconds):
-    """Runs with each allocation failing, or with as many as there is time for, and says how they ended."""
-    begin = time.perf_counter()
-    status, text, line = program.run(BUILT_WITH, paths)
-    if status != 0:
-        sys.exit(f"status {status} where nothing fails: {line.decode()}")
-    count, ends = first_untouched(program, paths) - 1, {}
-    for number in [count + 1, count + 2, 2 * count, *spread(count)]:
-        ends[number] = program.run(number, paths)
-        if time.perf_counter() - begin > seconds:
-            break
-    told(count, ends, time.perf_counter() - begin)
-    bad = {number: ended for number, ended in sorted(ends.items()) if not is_good(ended, text)}
+def ends_of(program, paths, count, seconds):
+    """How runs end, by the number of the allocation that fails, as many as there is time for."""
+    until, ends = time.monotonic() + seconds, {}
+    numbers = [*spread(count), count + 1, count + 2, 2 * count]
+    with ThreadPoolExecutor(AT_ONCE) as pool:
+        for front in range(0, len(numbers), 16 * AT_ONCE):
+            some = numbers[front : front + 16 * AT_ONCE]
+            ends.update(zip(some, pool.map(lambda number: program.failing(paths, number), some)))
+            if time.monotonic() > until:
+                break
+    return ends
+
+
+def told(count, ends, text):
+    """Says how the runs ended, and answers whether all did as they must."""
+    wordless = [number for number, ended in ends.items() if ended == (NO_MEMORY, b"", b"")]
+    first_line = min((number for number, ended in ends.items() if ended == (NO_MEMORY, b"", LINE)), default=count + 1)
+    good = ((NO_MEMORY, b"", LINE), (0, text, b""))
+    bad = {number: ended for number, ended in sorted(ends.items()) if ended not in good and not (number in wordless and number < first_line)}
+    made = [number for number in ends if number <= count]
+    print(f"{count} allocations; {len(made)} of them failed, each in a run of its own, and {len(ends) - len(made)} runs in which none did")
+    print(f"status 9 with its line: {sum(ended == good[0] for ended in ends.values())} runs; without a line, for the words of the command: {len(wordless)}")
+    print(f"failed, and the run went on: {sorted(number for number in made if ends[number][0] == 0)}")
     for number, (status, printed, line) in bad.items():
         print(f"not as wanted: number {number}: status {status}, {len(printed)} bytes printed, and the line {line[:200]}")
     return not bad
-
-
-def told(count, ends, seconds):
-    """Says how many runs there were, and how they ended."""
-    made = [number for number in ends if number <= count]
-    print(f"{count} allocations; {len(made)} of them failed, each in a run of its own, and {len(ends) - len(made)} runs in which none did; {seconds:.0f} s")
-    for wanted in sorted({status for status, _, _ in ends.values()}):
-        numbers = [number for number, (status, _, _) in ends.items() if status == wanted]
-        print(f"status {wanted}: {len(numbers)} runs, of numbers {min(numbers)} to {max(numbers)}")
-    print(f"failed, and the run went on: {sorted(number for number in made if ends[number][0] == 0)}")
-
-
-def main():
-    parser = argparse.ArgumentParser(description=__doc__.splitlines()[0])
-    parser.add_argument("paths", nargs="*")
-    parser.add_argument("--realistic", action="store_true")
-    parser.add_argument("--minutes", type=float, default=10)
-    parser.add_argument("--program")
-    parser.add_argument("--keep")
-    words = parser.parse_args()
-    with tempfile.TemporaryDirectory() as folder:
-        path = words.program or words.keep or os.path.join(folder, "built")
-        if not words.program:
-            build(os.path.abspath(path))
-        paths = words.paths or (made(folder) if words.realistic else SMALL)
-        good = sweep(Program(path, folder), paths, 60 * words.minutes)
-    sys.exit(0 if good else 1)
 
 
 def made(folder):
@@ -158,6 +135,21 @@ def made(folder):
         with open(path, "wb") as file:
             file.write(contents)
     return paths
+
+
+def main():
+    parser = argparse.ArgumentParser(description=__doc__.splitlines()[0])
+    parser.add_argument("paths", nargs="*")
+    parser.add_argument("--realistic", action="store_true")
+    parser.add_argument("--minutes", type=float, default=10)
+    parser.add_argument("--program", default=DEFAULT)
+    words = parser.parse_args()
+    with tempfile.TemporaryDirectory() as folder:
+        program = Program(os.path.abspath(words.program), folder)
+        paths = words.paths or (made(folder) if words.realistic else SMALL)
+        text, count = program.whole(paths)
+        good = told(count, ends_of(program, paths, count, 60 * words.minutes), text)
+    sys.exit(0 if good else 1)
 
 
 if __name__ == "__main__":
