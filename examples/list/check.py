@@ -2,7 +2,8 @@
 """Runs the commands that README.md shows behind `$`, and compares what they print: check.py [DWARFCARRY].
 
 DWARFCARRY is the built program, which takes the place of the command with `rt try`. Where `rt` or `gdb` is wanted and not
-installed, the check says so and ends there, with status 0.
+installed, or gdb cannot write the registers of this processor and so calls no function, the check says so and ends there, with
+status 0.
 """
 
 import difflib
@@ -15,6 +16,8 @@ FOLDER = Path(__file__).resolve().parent
 TOOLS = ("rt", "gdb")
 PROMPT = "$ "
 FENCE = "```"
+# What gdb 13 says where the processor has larger registers than it knows.
+NO_REGISTERS = "Couldn't write extended state status"
 
 
 def shown_commands(text: str) -> list[tuple[str, list[str]]]:
@@ -39,8 +42,7 @@ def run(command: str) -> subprocess.CompletedProcess:
     return subprocess.run(command, shell=True, cwd=FOLDER, capture_output=True, text=True, errors="replace")
 
 
-def check(command: str, wanted: list[str]) -> bool:
-    ended = run(command)
+def check(command: str, ended: subprocess.CompletedProcess, wanted: list[str]) -> bool:
     printed = ended.stdout.splitlines()
     if printed == wanted:
         print("as shown:", command)
@@ -60,7 +62,11 @@ def main() -> int:
         if tool:
             print(f"{tool} is not installed, so nothing is checked from here on: {command}")
             return 0
-        if not check(command, wanted):
+        ended = run(command)
+        if NO_REGISTERS in ended.stderr:
+            print(f"gdb cannot write the registers of this processor, so nothing is checked from here on: {command}")
+            return 0
+        if not check(command, ended, wanted):
             return 1
     return 0
 
