@@ -363,3 +363,38 @@ some-behind xs k s behind less is up = go (cases_lt 0 behind)
     go : (0 < behind) ⊎ (behind ≤ 0) → 0 < behind
     go (inl some) = some
     go (inr none) = absurd (omega (arith, up.above k no_source (omega (arith, none)) less, is))
+
+-- ---- how many lie below one that is known, and up to it
+
+module _ {X : Type 0} (n : X → ℕ) where
+  -- none in front of the first place
+  pub none-below : (xs : List X) (place a : ℕ) → IsNonDecreasingBy n xs → place < length xs → ((d : X) → n (get_or xs place d) ≡ a) → place ≤ 0 → IsCountBelow n xs a place
+  none-below xs place a order inside begins first = record {
+    inside = omega arith;
+    below = λ i d less. absurd (omega arith);
+    above = λ i d past less. omega (arith, order place i d past less, begins d);
+  }
+
+  -- those in front of a place, if the last of them lies below
+  pub front-below : (xs : List X) (place a : ℕ) (e : X) → IsNonDecreasingBy n xs → place < length xs → ((d : X) → n (get_or xs place d) ≡ a) → 0 < place → n (get_or xs (place - 1) e) < a → IsCountBelow n xs a place
+  front-below xs place a e order inside begins some last = record {
+    inside = omega arith;
+    below = λ i d less. omega (arith, order i (place - 1) d (omega arith) (omega arith), ap n (get_or_default xs (place - 1) d e (omega arith)));
+    above = λ i d past less. omega (arith, order place i d past less, begins d);
+  }
+
+  -- all up to the last place
+  pub all-up-to : (xs : List X) (place a : ℕ) → IsNonDecreasingBy n xs → place < length xs → ((d : X) → n (get_or xs place d) ≡ a) → length xs ≤ place + 1 → IsCountUpTo n xs a (place + 1)
+  all-up-to xs place a order inside begins last = record {
+    inside = omega arith;
+    below = λ i d less. omega (arith, order i place d (omega arith) inside, begins d);
+    above = λ i d past less. absurd (omega arith);
+  }
+
+  -- those up to a place, if the next one lies above
+  pub front-up-to : (xs : List X) (place a : ℕ) (e : X) → IsNonDecreasingBy n xs → place < length xs → ((d : X) → n (get_or xs place d) ≡ a) → place + 1 < length xs → a < n (get_or xs (place + 1) e) → IsCountUpTo n xs a (place + 1)
+  front-up-to xs place a e order inside begins more next = record {
+    inside = omega arith;
+    below = λ i d less. omega (arith, order i place d (omega arith) inside, begins d);
+    above = λ i d past less. omega (arith, order (place + 1) i d past less, ap n (get_or_default xs (place + 1) d e more));
+  }

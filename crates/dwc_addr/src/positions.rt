@@ -79,16 +79,43 @@ fn count_up_to(sources: &[AddressMap], addr: WasmAddress) -> usize
     sources.partition_point(|source| source.wasm <= addr)
 }
 
-// How many sources begin below a native offset.
-fn begun_below(sources: &[AddressMap], native: GeneratedAddress) -> usize
+// How many sources begin below a native offset, by the place of one that begins there: seldom does another.
+fn begun_below(sources: &[AddressMap], place: usize, native: GeneratedAddress) -> usize
+    requires order { IsNonDecreasingBy (λ e. e.generated) sources.now }
+    requires place { place < length sources.now }
+    requires begins { (d : AddressMap) → (slice_index_or sources.now place d).generated ≡ native }
+    ensures { IsCountBelow (λ e. e.generated) sources.now native result }
+{
+    if place > 0 && sources[place - 1].generated >= native {
+        return below_by_halves(sources, native);
+    }
+    place
+}
+
+// The same by halves.
+fn below_by_halves(sources: &[AddressMap], native: GeneratedAddress) -> usize
     requires { IsNonDecreasingBy (λ e. e.generated) sources.now }
     ensures { IsCountBelow (λ e. e.generated) sources.now native result }
 {
     sources.partition_point(|source| source.generated < native)
 }
 
-// How many do not begin above one.
-fn begun_up_to(sources: &[AddressMap], native: GeneratedAddress) -> usize
+// How many do not begin above it, by such a place.
+fn begun_up_to(sources: &[AddressMap], place: usize, native: GeneratedAddress) -> usize
+    requires order { IsNonDecreasingBy (λ e. e.generated) sources.now }
+    requires place { place < length sources.now }
+    requires begins { (d : AddressMap) → (slice_index_or sources.now place d).generated ≡ native }
+    ensures { IsCountUpTo (λ e. e.generated) sources.now native result }
+{
+    let behind = place + 1;
+    if behind < sources.len() && sources[behind].generated <= native {
+        return up_to_by_halves(sources, native);
+    }
+    behind
+}
+
+// The same by halves.
+fn up_to_by_halves(sources: &[AddressMap], native: GeneratedAddress) -> usize
     requires { IsNonDecreasingBy (λ e. e.generated) sources.now }
     ensures { IsCountUpTo (λ e. e.generated) sources.now native result }
 {
@@ -119,7 +146,7 @@ pub(crate) fn start_in(function: &FunctionMap, run: &Run, addr: WasmAddress) -> 
     if count == 0 {
         return start_at(sources, 0, addr).unwrap_or(run.start);
     }
-    let behind = begun_up_to(sources, sources[count - 1].generated);
+    let behind = begun_up_to(sources, count - 1, sources[count - 1].generated);
     match start_at(sources, behind, addr) {
         Some(start) => start,
         None => native_end(function, run.first + behind - 1),
@@ -139,8 +166,8 @@ pub(crate) fn end_in(function: &FunctionMap, run: &Run, addr: WasmAddress) -> Ge
         return start_or(sources, 0, run.end);
     }
     let native = sources[count - 1].generated;
-    let first = begun_below(sources, native);
-    let behind = begun_up_to(sources, native);
+    let first = begun_below(sources, count - 1, native);
+    let behind = begun_up_to(sources, count - 1, native);
     if sources[first].wasm == addr {
         return native_end(function, run.first + behind - 1);
     }

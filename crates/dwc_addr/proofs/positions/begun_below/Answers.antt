@@ -1,10 +1,13 @@
-use Rattle.std.proofs.Common.{rules, arith}
-use Rattle.std.specs.Prelude.{nat_lt}
-use Rattle.std.proofs.lemmas.Bool.{ltb-true, ltb-false}
-use Rattle.std.proofs.lemmas.List.Sorted.{IsPartitionPoint-from_clause, IsPartitionedBy-ltb}
+use Rattle.std.proofs.Common.{arith}
+use Rattle.dwc_addr.specs.RunViews.{no_source}
+use Rattle.dwc_addr.proofs.NativeLaws.{none-below, front-below}
+use Rattle.dwc_addr.proofs.positions.begun_below.Goals.{else-place-gt0-via-then-place-gt0+else-sources-place, else-place-gt0-via-else-place-gt0}
 use Rattle.dwc_addr.proofs.positions.begun_below.Goals as goal
 
 pub returns : goal.returns
 returns c =
-    let at = IsPartitionPoint-from_clause (λ e. nat_lt e.generated c.args.native) _ _ c.partition_point.ensures.partitioned (IsPartitionedBy-ltb (λ e. e.generated) c.args.sources.now c.args.native c.requires) (λ a r q k. search rules) in
-    record { inside = c.partition_point.ensures.bound; below = λ i d less. ltb-true _ _ (at.0 i d (omega arith) less); above = λ i d past less. ltb-false _ _ (at.1 i d past less) }
+    let n = c.requires in
+    elim c.else-place-gt0.branch [
+      | else-place-gt0-via-then-place-gt0+else-sources-place w ↦ front-below (λ e. e.generated) c.args.sources.now c.args.place c.args.native no_source n.order n.place n.begins (omega (arith, w.if-place-gt0.true)) (omega (arith, w.if-sources-place.false))
+      | else-place-gt0-via-else-place-gt0 w ↦ none-below (λ e. e.generated) c.args.sources.now c.args.place c.args.native n.order n.place n.begins (omega (arith, w.if-place-gt0.false))
+    ]

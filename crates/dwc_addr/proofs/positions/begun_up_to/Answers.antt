@@ -1,10 +1,13 @@
-use Rattle.std.proofs.Common.{rules, arith}
-use Rattle.std.specs.Prelude.{nat_le}
-use Rattle.std.proofs.lemmas.Bool.{leb-true, leb-false}
-use Rattle.std.proofs.lemmas.List.Sorted.{IsPartitionPoint-from_clause, IsPartitionedBy-leb}
+use Rattle.std.proofs.Common.{arith}
+use Rattle.dwc_addr.specs.RunViews.{no_source}
+use Rattle.dwc_addr.proofs.NativeLaws.{all-up-to, front-up-to}
+use Rattle.dwc_addr.proofs.positions.begun_up_to.Goals.{else-behind-sources-via-then-behind-sources+else-sources-behind, else-behind-sources-via-else-behind-sources}
 use Rattle.dwc_addr.proofs.positions.begun_up_to.Goals as goal
 
 pub returns : goal.returns
 returns c =
-    let at = IsPartitionPoint-from_clause (λ e. nat_le e.generated c.args.native) _ _ c.partition_point.ensures.partitioned (IsPartitionedBy-leb (λ e. e.generated) c.args.sources.now c.args.native c.requires) (λ a r q k. search rules) in
-    record { inside = c.partition_point.ensures.bound; below = λ i d less. leb-true _ _ (at.0 i d (omega arith) less); above = λ i d past less. leb-false _ _ (at.1 i d past less) }
+    let n = c.requires in
+    elim c.else-behind-sources.branch [
+      | else-behind-sources-via-then-behind-sources+else-sources-behind w ↦ front-up-to (λ e. e.generated) c.args.sources.now c.args.place c.args.native no_source n.order n.place n.begins (omega (arith, w.if-behind-sources.true)) (omega (arith, w.if-sources-behind.false))
+      | else-behind-sources-via-else-behind-sources w ↦ all-up-to (λ e. e.generated) c.args.sources.now c.args.place c.args.native n.order n.place n.begins (omega (arith, w.if-behind-sources.false))
+    ]
