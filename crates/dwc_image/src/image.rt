@@ -2,7 +2,7 @@
 //! row, at the source's code. The sources are a few runs along which they do not fall, so in each run the sources that find
 //! another row are themselves found by halves: the work is that of the runs and the rows written, not of all sources. Each
 //! row goes into the line program as it is found; the first begins the sequence.
-ghost use Rattle.std.specs.Prelude.{◌≡◌, ℕ, List, Option, Some, ◌++◌, ◌+◌, ◌<◌, ◌≤◌, false, length, map, drop, nat_lt, None, OnOk, IfOk, IsOkUnless, IsSome};
+ghost use Rattle.std.specs.Prelude.{◌≡◌, ℕ, List, Option, Some, ◌++◌, ◌+◌, ◌<◌, ◌≤◌, false, length, map, drop, nat_lt, slice_index_or, None, OnOk, IfOk, IsOkUnless, IsSome};
 ghost use Rattle.std.specs.List.Sorted.{IsNonDecreasingBy};
 ghost use Rattle.dwc_base.specs.declared.records.LineRow.{LineRow};
 ghost use Rattle.dwc_addr.specs.Runs.{recorded_view, run_starts};
@@ -15,12 +15,41 @@ use dwc_base::{Address, LineRow};
 use dwc_write::{LineProgram, WriteError};
 use std::ops::Range;
 
-// How many rows do not begin above an offset.
-fn count_at(rows: &[LineRow], offset: u64) -> usize
-    requires { IsNonDecreasingBy (λ r. r.offset) rows.now }
+// How many items next to a place are searched before those behind them: most searches end there.
+const NEAR: usize = 8;
+
+// The end of the items next to a place.
+fn near_end(from: usize, end: usize) -> usize
+    requires { from ≤ end }
+    ensures low { from ≤ result }
+    ensures high { result ≤ end }
+{
+    if end - from > NEAR { from + NEAR } else { end }
+}
+
+// The first row between two places that begins above an offset; `end` where none does.
+fn first_above(rows: &[LineRow], from: usize, end: usize, offset: u64) -> usize
+    requires low { from ≤ end }
+    requires high { end ≤ length rows.now }
+    requires order { IsNonDecreasingBy (λ r. r.offset) rows.now }
+    ensures { IsFirstBehind (λ r. r.offset) rows.now from end (offset + 1) result }
+{
+    from + rows[from..end].partition_point(|row| row.offset <= offset)
+}
+
+// How many rows do not begin above an offset, by a row that does not.
+fn count_at(rows: &[LineRow], known: usize, offset: u64) -> usize
+    requires order { IsNonDecreasingBy (λ r. r.offset) rows.now }
+    requires known { known < length rows.now }
+    requires below { (d : LineRow) → (slice_index_or rows.now known d).offset ≤ offset }
     ensures { IsCut rows.now offset result }
 {
-    rows.partition_point(|row| row.offset <= offset)
+    let near = near_end(known, rows.len());
+    let found = first_above(rows, known, near, offset);
+    if found < near {
+        return found;
+    }
+    first_above(rows, near, rows.len(), offset)
 }
 
 // Whether a source lies in front of a row of a segment that begins at `start`.
@@ -32,6 +61,27 @@ fn lies_before(source: &AddressMap, start: u64, offset: u64) -> bool
 
 // The first source from `from` on, and before `end`, that does not lie in front of a row; `end` where all do.
 fn first_behind(sources: &[AddressMap], from: usize, end: usize, start: u64, offset: u64) -> usize
+    requires low { from ≤ end }
+    requires high { end ≤ length sources.now }
+    requires rises { RisesBetween (λ s. s.wasm) sources.now from end }
+    ensures { IsFirstBehind (λ s. s.wasm) sources.now from end (start + offset) result }
+{
+    let near = near_end(from, end);
+    let found = behind_by_halves(sources, from, near, start, offset);
+    if found < near {
+        return found;
+    }
+    behind_by_halves(sources, near, end, start, offset)
+}
+
+// The same by halves.
+fn behind_by_halves(
+    sources: &[AddressMap],
+    from: usize,
+    end: usize,
+    start: u64,
+    offset: u64,
+) -> usize
     requires low { from ≤ end }
     requires high { end ≤ length sources.now }
     requires rises { RisesBetween (λ s. s.wasm) sources.now from end }
@@ -100,22 +150,22 @@ fn add_run(
 {
     let mut found = found;
     let mut at = run.start;
-    // Sources in front of the row at this offset find no row, or the one found last.
-    let mut offset = rows[0].offset;
+    // Sources in front of this row find no row, or the one found last.
+    let mut next = 0;
     while at < run.end {
-        at = first_behind(sources, at, run.end, start, offset);
+        at = first_behind(sources, at, run.end, start, rows[next].offset);
         if at == run.end {
             return Ok(found);
         }
         let source = sources[at];
-        let count = count_at(rows, source.wasm - start);
+        let count = count_at(rows, next, source.wasm - start);
         let row = rows[count - 1];
         add_row(program, function, row, source.generated as u64, found)?;
         found = Some(row.offset);
         if count == rows.len() {
             return Ok(found);
         }
-        offset = rows[count].offset;
+        next = count;
         at += 1;
     }
     Ok(found)

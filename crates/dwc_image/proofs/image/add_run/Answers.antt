@@ -7,7 +7,7 @@ use Rattle.dwc_image.proofs.RunLaws.{RunSoFar-begins, RunSoFar-next, run-rest, s
 use Rattle.dwc_image.proofs.image.add_run.Goals as goal
 
 pub loop-at-init : goal.loop-at-init
-loop-at-init c = (RunSoFar-begins c.args.rows.now c.args.start c.args.sources.now c.args.run.start c.args.run.end _ c.args.found _ c.requires.order c.requires.some c.requires.low refl, record { begun = c.requires.begun; same = refl }, refl)
+loop-at-init c = (RunSoFar-begins c.args.rows.now c.args.start c.args.sources.now c.args.run.start c.args.run.end _ c.args.found _ c.requires.order c.requires.some c.requires.low refl, record { begun = c.requires.begun; same = refl }, refl, c.requires.some)
 
 pub returns-then-at-run-clause-rows : goal.returns-then-at-run-clause-rows
 returns-then-at-run-clause-rows c =
@@ -27,7 +27,7 @@ add_row-requires-clause-next c =
     let count = c.count_at-count.result in
     let files = length c.args.program.now.files in
     let less : at < c.args.run.end = omega (arith, c.first_behind-at.ensures.high) in
-    let found = is-found rows start sources c.args.run.start c.args.run.end c.loop-at.at c.loop-at.offset at count c.loop-at.found no_source no_row c.loop-at.invariant.0 c.first_behind-at.ensures less c.requires.high c.requires.some c.count_at-count.ensures in
+    let found = is-found rows start sources c.args.run.start c.args.run.end c.loop-at.at (get_or c.args.rows.now c.loop-at.next no_row).offset at count c.loop-at.found no_source no_row c.loop-at.invariant.0 c.first_behind-at.ensures less c.requires.high c.requires.some c.count_at-count.ensures in
     let whole = ap (λ rs. begun_rows c.loop-at.program.begun ++ rs) (sym found.step) ∙ c.loop-at.invariant.2 in
     rw (ap (λ g. g.files) c.loop-at.invariant.1.same)
     (found-fits files (begun_rows c.loop-at.program.begun) (λ b. image_rows rows start b (map recorded_view (drop (at + 1) sources))) c.loop-at.found (get_or sources at no_source).generated (get_or rows (count - 1) no_row)
@@ -43,7 +43,7 @@ returns-then-count-rows-clause-rows c =
     let run = c.loop-at.invariant.0 in
     let low : c.args.run.start ≤ at = omega (arith, run.low, c.first_behind-at.ensures.low) in
     let less : at < c.args.run.end = omega (arith, c.first_behind-at.ensures.high) in
-    let found = is-found rows start sources c.args.run.start c.args.run.end c.loop-at.at c.loop-at.offset at count c.loop-at.found no_source no_row run c.first_behind-at.ensures less c.requires.high c.requires.some c.count_at-count.ensures in
+    let found = is-found rows start sources c.args.run.start c.args.run.end c.loop-at.at (get_or c.args.rows.now c.loop-at.next no_row).offset at count c.loop-at.found no_source no_row run c.first_behind-at.ensures less c.requires.high c.requires.some c.count_at-count.ensures in
     let rest = run-rest rows start sources c.args.run.start c.args.run.end at count no_source no_row c.requires.order c.requires.rises c.requires.high low less found.le c.count_at-count.ensures found.some c.if-count-rows.true in
     ap (λ rs. begun_rows c.add_row.new.program.begun ++ rs) (sym rest)
     ∙ c.in_ok-add_row.ensures.rows (λ b. image_rows rows start b (map recorded_view (drop (at + 1) sources)))
@@ -61,10 +61,11 @@ loop-at-preserved c =
     let low : c.args.run.start ≤ at = omega (arith, run.low, c.first_behind-at.ensures.low) in
     let less : at < c.args.run.end = omega (arith, c.first_behind-at.ensures.high) in
     let more : count < length rows = omega (arith, c.count_at-count.ensures.bound) in
-    let found = is-found rows start sources c.args.run.start c.args.run.end c.loop-at.at c.loop-at.offset at count c.loop-at.found no_source no_row run c.first_behind-at.ensures less c.requires.high c.requires.some c.count_at-count.ensures in (
+    let found = is-found rows start sources c.args.run.start c.args.run.end c.loop-at.at (get_or c.args.rows.now c.loop-at.next no_row).offset at count c.loop-at.found no_source no_row run c.first_behind-at.ensures less c.requires.high c.requires.some c.count_at-count.ensures in (
       RunSoFar-next rows start sources c.args.run.start c.args.run.end at count no_source no_row no_row c.requires.order c.requires.rises c.requires.high low less found.le c.count_at-count.ensures found.some more,
       grows-on c.args.function c.loop-at.found _ c.args.program.now c.loop-at.program c.add_row.new.program c.loop-at.invariant.1 c.in_ok-add_row.ensures.begun,
       c.in_ok-add_row.ensures.rows (λ b. image_rows rows start b (map recorded_view (drop (at + 1) sources)))
           ∙ ap (λ rs. begun_rows c.loop-at.program.begun ++ rs) (sym found.step)
           ∙ c.loop-at.invariant.2,
+      more,
     )

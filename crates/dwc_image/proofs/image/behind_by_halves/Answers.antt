@@ -2,7 +2,7 @@ use Rattle.std.proofs.Common.{◌+◌, rules}
 use Rattle.std.specs.Prelude.{nat_lt}
 use Rattle.std.proofs.lemmas.List.Sorted.{IsPartitionPoint-from_clause}
 use Rattle.dwc_image.proofs.RunLaws.{part-split, first-behind}
-use Rattle.dwc_image.proofs.image.first_behind.Goals as goal
+use Rattle.dwc_image.proofs.image.behind_by_halves.Goals as goal
 
 pub returns : goal.returns
 returns c =
