@@ -47,7 +47,7 @@ place-most s (t ∷ ts) = go (same_shape t s) (place-most s ts)
     go true h = omega arith
     go false h = omega (arith, h)
 
-place-more : (s : EntryShape) (known more : List EntryShape) → place_in s known < length known → place_in s (known ++ more) ≡ place_in s known
+pub place-more : (s : EntryShape) (known more : List EntryShape) → place_in s known < length known → place_in s (known ++ more) ≡ place_in s known
 place-more s [] more within = absurd (omega arith)
 place-more s (t ∷ ts) more within = go (same_shape t s) within (place-more s ts more)
   where
@@ -55,7 +55,7 @@ place-more s (t ∷ ts) more within = go (same_shape t s) within (place-more s t
     go true h same = refl
     go false h same = ap suc (same (omega (arith, h)))
 
-place-new : (s : EntryShape) (known : List EntryShape) → length known ≤ place_in s known → place_in s (known ++ s ∷ []) ≡ length known
+pub place-new : (s : EntryShape) (known : List EntryShape) → length known ≤ place_in s known → place_in s (known ++ s ∷ []) ≡ length known
 place-new s [] past = rw (same_shape-self s) refl
 place-new s (t ∷ ts) past = go (same_shape t s) past (place-new s ts)
   where

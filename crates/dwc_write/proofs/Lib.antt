@@ -39,6 +39,7 @@ pub mod RelatedListsGiven
 pub mod SequenceLaws
 pub mod ShapeLaws
 pub mod ShapeSets
+pub mod ShapePlaces
 pub mod FileOrderLaws
 pub mod OrderedLaws
 pub mod ReadRelocations
@@ -51,6 +52,7 @@ pub mod SectionsHold
 pub mod ReadBackLaws
 pub mod ListsStand
 pub mod ShortLaws
+pub mod NotedLaws
 pub mod ReadTrees
 pub mod OutputForms
 pub mod FramesBehind

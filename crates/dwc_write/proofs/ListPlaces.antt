@@ -30,10 +30,6 @@ pub within-entries : (size : ℕ) (places : ListPlaces) (es : List GivenEntry) �
 within-entries size places [] short = short
 within-entries size places (e ∷ es) short = within-attributes size places e.attributes (within-entries size (behind_attributes size places e.attributes) es short)
 
--- behind an attribute more
-pub behind-more : (size : ℕ) (xs : List Attribute) (i : ℕ) (d : Attribute) (places after all : ListPlaces) → i < length xs → behind_attributes size places (drop i xs) ≡ all → after ≡ behind_value size places (get_or xs i d).value → behind_attributes size after (drop (suc i) xs) ≡ all
-behind-more size xs i d places after all within invariant onwards = ap (λ p. behind_attributes size p (drop (suc i) xs)) onwards ∙ ap (behind_attributes size places) (sym (drop-more xs i d within)) ∙ invariant
-
 -- the place behind an entry more
 pub listed-more : {A : Type 0} (f : A → ListEntry) (size : ℕ) (xs : List A) (i : ℕ) (d : A) → i < length xs → list_length size (ended (map f (drop i xs))) ≡ listed_length size (f (get_or xs i d)) + list_length size (ended (map f (drop (suc i) xs)))
 listed-more f size xs i d within = ap (λ ys. list_length size (ended (map f ys))) (drop-more xs i d within) ∙ sum_by-cons (listed_length size) (f (get_or xs i d)) (ended (map f (drop (suc i) xs)))

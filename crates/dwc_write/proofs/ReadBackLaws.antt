@@ -3,7 +3,7 @@ use Rattle.std.proofs.Common.{◌≡◌, ℕ, zero, suc, ◌+◌, ◌^◌, ◌<�
 use Rattle.std.proofs.Math.Facts.{sfits_to_z}
 use Rattle.std.proofs.lemmas.Int.{ints}
 use Rattle.dwc_base.specs.Reading.{is_64_bit}
-use Rattle.std.specs.Prelude.{ℤ, pos, ◌-ℤ◌, int_lt, int_le, FitsSigned, ◌==◌, ◌&&◌, if◌then◌else◌, is_some, option_map, option_and_then, slice_get, nat_lt}
+use Rattle.std.specs.Prelude.{ℤ, pos, ◌-ℤ◌, int_lt, int_le, FitsSigned, ◌==◌, if◌then◌else◌, is_some, option_map, option_and_then, slice_get, nat_lt}
 use Rattle.std.specs.List.{All, AllZip, flat_map, find}
 use Rattle.std.specs.Int.{w64, cast_signed}
 use Rattle.std.proofs.lemmas.Bool.{eqb-true}
@@ -34,12 +34,13 @@ use Rattle.dwc_write.specs.declared.attributes.AttributeValue.TheVariants.{Addre
 use Rattle.dwc_write.specs.declared.attributes.DebugInfoRef.TheVariants.{Entry as entry_of}
 use Rattle.dwc_write.specs.declared.abbreviations.AttributeForm.{AttributeForm}
 use Rattle.dwc_write.specs.GivenLines.{GivenLines, FitsLines, FitsSequences, FitsGivenSequence}
-use Rattle.dwc_write.specs.GivenUnits.{GivenEntry, OrderedUnit, Places, no_places, IsOfSize, written_of, FitsValue, FitsAttribute, AreBelow, IsTree, FitsEntry, FitsOrdered, is_lines, names_lines_in, names_lines, IsWritable, size_of, AreWritable, EntryShape, form_of, forms_of, shape_of, shapes_of, same_forms, same_flag, same_shape, place_in, with_use, first_uses, code_in, spec_of_form, numbered, shapes_in, written_attribute, written_attributes, written_entries, behind_entries, lists_of_entries, lists_of_units}
+use Rattle.dwc_write.specs.GivenUnits.{GivenEntry, OrderedUnit, Places, no_places, IsOfSize, written_of, FitsValue, FitsAttribute, AreBelow, IsTree, FitsEntry, FitsOrdered, is_lines, names_lines_in, names_lines, IsWritable, size_of, AreWritable, EntryShape, form_of, forms_of, shape_of, shapes_of, same_shape, place_in, with_use, first_uses, code_in, spec_of_form, numbered, shapes_in, written_attribute, written_attributes, written_entries, behind_entries, lists_of_entries, lists_of_units}
 use Rattle.dwc_write.specs.Layouts.{AllPlaces, AreShort, offset_of_text, offsets_by_number, offset_in_section, places_in, unit_length, behind_unit, written_unit, written_lines, written_units, written_tables}
 use Rattle.dwc_write.specs.UsedTexts.{strings_bytes}
 use Rattle.dwc_write.specs.SpelledOutput.{section_unless_empty, abbrev_bytes, all_info_bytes, all_lines_bytes, all_lists_bytes, all_lists_relocations, units_placed, all_places, spelled_sections}
 use Rattle.dwc_write.specs.ReadBack.{given_file, given_row, given_segment, Contents, read_contents, given_contents, given_value, given_values, ReadsLines, IsReadUnit, ReadsBack}
 use Rattle.dwc_write.specs.Writers.{IsSound, most_bytes}
+use Rattle.dwc_write.proofs.ShapeLaws.{same_shape-equal}
 use Rattle.dwc_write.proofs.ReadNumbers.{number_bytes-length}
 use Rattle.dwc_write.proofs.ReadTexts.{offset-bound}
 use Rattle.dwc_write.proofs.ReadTables.{numbered-found}
@@ -120,41 +121,6 @@ values-fit size p lists (x ∷ xs) near short fits =
     (value-fits size p lists x near (within-attributes size lists (x ∷ xs) short) (All-head (FitsAttribute size) x xs fits)) (values-fit size p (behind_value size lists x.value) xs near short (All-tail (FitsAttribute size) x xs fits))
 
 -- ---- codes
-
-same_forms-equal : (xs ys : List AttributeForm) → same_forms xs ys ≡ true → xs ≡ ys
-same_forms-equal [] [] h = refl
-same_forms-equal [] (y ∷ ys) h = absurd (cc)
-same_forms-equal (x ∷ xs) [] h = absurd (cc)
-same_forms-equal (x ∷ xs) (y ∷ ys) h = go (x.name == y.name) refl (x.form == y.form) refl (same_forms xs ys) refl h (same_forms-equal xs ys)
-  where
-    go : (a : Bool) → (x.name == y.name) ≡ a → (b : Bool) → (x.form == y.form) ≡ b → (c : Bool) → same_forms xs ys ≡ c → (a && (b && c)) ≡ true → (same_forms xs ys ≡ true → xs ≡ ys) → x ∷ xs ≡ y ∷ ys
-    go true n true f true s h others =
-        let name : x.name ≡ y.name = eqb-true _ _ n in
-        let form : x.form ≡ y.form = eqb-true _ _ f in
-        let both : x ≡ y = rw (name, form) refl in
-        rw (both) (ap (λ zs. y ∷ zs) (others s))
-    go true n true f false s h others = absurd (cc)
-    go true n false f c s h others = absurd (cc)
-    go false n b f c s h others = absurd (cc)
-
-same_flag-equal : (a b : Bool) → same_flag a b ≡ true → a ≡ b
-same_flag-equal true true h = refl
-same_flag-equal true false h = absurd (cc)
-same_flag-equal false true h = absurd (cc)
-same_flag-equal false false h = refl
-
-same_shape-equal : (s t : EntryShape) → same_shape s t ≡ true → s ≡ t
-same_shape-equal s t h = go (s.tag == t.tag) refl (same_flag s.has_children t.has_children) refl (same_forms s.attributes t.attributes) refl h
-  where
-    go : (a : Bool) → (s.tag == t.tag) ≡ a → (b : Bool) → same_flag s.has_children t.has_children ≡ b → (c : Bool) → same_forms s.attributes t.attributes ≡ c → (a && (b && c)) ≡ true → s ≡ t
-    go true n true f true m h =
-        let tag : s.tag ≡ t.tag = eqb-true _ _ n in
-        let flag : s.has_children ≡ t.has_children = same_flag-equal s.has_children t.has_children f in
-        let forms : s.attributes ≡ t.attributes = same_forms-equal s.attributes t.attributes m in
-        rw (tag, flag, forms) refl
-    go true n true f false m h = absurd (cc)
-    go true n false f c m h = absurd (cc)
-    go false n b f c m h = absurd (cc)
 
 -- at a shape's place stands the shape
 place-found : (s d : EntryShape) (known : List EntryShape) → place_in s known < length known → get_or known (place_in s known) d ≡ s

@@ -206,6 +206,11 @@ module _ (texts : List (List ℕ)) where
       let is : result ≡ Err e = p.1 ∙ ap Err p.2 in
       rw (is) refused
 
+-- numbers one by one
+pub one-by-one : (ns : List ℕ) → flat_map (λ n. n ∷ []) ns ≡ ns
+one-by-one [] = refl
+one-by-one (n ∷ ns) = ap (λ ks. n ∷ ks) (one-by-one ns)
+
 pub option-cases : (P : Option ℕ → Type 0) → P None → ((x : ℕ) → P (Some x)) → (y : Option ℕ) → P y
 option-cases P none some None = none
 option-cases P none some (Some x) = some x

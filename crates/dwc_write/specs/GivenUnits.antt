@@ -1,5 +1,5 @@
 -- Units as they are given to a writer, and what its calls ask and do.
-use Rattle.std.specs.Prelude.{◌≡◌, ℕ, zero, suc, ◌^◌, ◌<◌, ◌≤◌, ◌==◌, ◌⊎◌, pos, List, [], ◌∷◌, ◌++◌, map, length, slice_set, Bool, true, false, nat_lt, not, ◌&&◌, ◌||◌, if◌then◌else◌, Option, Some, None, is_some}
+use Rattle.std.specs.Prelude.{◌≡◌, ℕ, zero, suc, ◌^◌, ◌<◌, ◌≤◌, ◌==◌, ◌⊎◌, pos, List, [], ◌∷◌, ◌++◌, map, length, get_or, slice_set, Bool, true, false, nat_lt, not, ◌&&◌, ◌||◌, if◌then◌else◌, Option, Some, None, is_some}
 use Rattle.std.specs.List.{All, flat_map}
 use Rattle.std.specs.Int.{w64, cast_signed}
 use Rattle.dwc_base.specs.declared.constants.TheConstants.{DW_TAG_compile_unit, DW_AT_stmt_list, DW_FORM_data1, DW_FORM_data2, DW_FORM_data4, DW_FORM_data8, DW_FORM_sdata, DW_FORM_udata, DW_FORM_implicit_const}
@@ -337,6 +337,10 @@ place_in s (t ∷ ts) = if same_shape t s then 0 else suc (place_in s ts)
 -- a shape behind others, where it is new
 abbrev pub with_use : EntryShape → List EntryShape → List EntryShape
 with_use s known = if nat_lt (place_in s known) (length known) then known else known ++ s ∷ []
+
+-- Each of some shapes stands first at its place.
+abbrev pub AreOwn : List EntryShape → Type 0
+AreOwn known = (i : ℕ) (d : EntryShape) → i < length known → place_in (get_or known i d) known ≡ i
 
 -- shapes in the order of their first uses
 abbrev pub first_uses : List EntryShape → List EntryShape → List EntryShape

@@ -1,13 +1,20 @@
 -- Units that are laid out, as a writer keeps them.
 use Rattle.std.specs.Prelude.{◌≡◌, ℕ, ◌+◌, ◌<◌, ◌≤◌, List, length, map, get_or, Option, Some, None, IsSomeAnd, Result, Ok, Err}
-use Rattle.std.specs.List.{All}
+use Rattle.std.specs.List.{All, flat_map, list_all}
 use Rattle.dwc_base.specs.declared.section_name.SectionName.TheVariants.{Info}
 use Rattle.dwc_write.specs.declared.error.WriteError.{WriteError}
 use Rattle.dwc_write.specs.declared.error.WriteError.TheVariants.{TooLarge}
 use Rattle.dwc_write.specs.declared.layout.UnitLayout.{UnitLayout}
 use Rattle.dwc_write.specs.declared.entries.Spelling.{Spelling}
 use Rattle.dwc_write.specs.Writers.{IsPast, IsSizeRefusal, most_bytes, section_of}
-use Rattle.dwc_write.specs.GivenUnits.{GivenUnit, Places, in_file_order, ordered, shapes_in}
+use Rattle.dwc_write.specs.declared.file_order.FilePlace.{FilePlace}
+use Rattle.dwc_write.specs.declared.lists.ListKind.{ListKind}
+use Rattle.dwc_write.specs.declared.lists.ListKind.TheVariants.{Locations, Ranges}
+use Rattle.dwc_write.specs.declared.notes.Notes.{Notes}
+use Rattle.dwc_write.specs.Noted.{listed_among}
+use Rattle.dwc_write.specs.ShortLists.{are_short_values}
+use Rattle.dwc_write.specs.UsedTexts.{texts_of_entries}
+use Rattle.dwc_write.specs.GivenUnits.{Addition, GivenEntry, GivenUnit, Places, in_file_order, ordered, shapes_in}
 use Rattle.dwc_write.specs.FileOrders.{looked_up}
 use Rattle.dwc_write.specs.Layouts.{UnitPlaces, AllPlaces, codes_of, places_in}
 use Rattle.dwc_write.specs.ShapeViews.{shape_view}
@@ -24,12 +31,29 @@ whole_view layouts texts = record { units = map places_view layouts; texts = tex
 abbrev pub spelling_places : Spelling → Places
 spelling_places s = places_in (whole_view s.units.now s.texts.now) s.offsets.now s.line_offset
 
--- A unit is laid out: its entries in file order, with the codes of their shapes.
+-- Places are those of the entries that have lists of a kind.
+pub record AreListed (kind : ListKind) (added : List Addition) (fs : List FilePlace) (es : List GivenEntry) : Type 0 where
+  pub are : map (looked_up added) fs ≡ listed_among kind es
+  pub known : All (λ f. f.index < length added) fs
+
+-- What is noted is that of some entries in file order.
+pub record IsNoting (added : List Addition) (notes : Notes) (es : List GivenEntry) : Type 0 where
+  pub ranged : AreListed Ranges added notes.ranged.items es
+  pub located : AreListed Locations added notes.located.items es
+  pub texts : notes.texts.items ≡ texts_of_entries es
+  pub short : notes.short ≡ list_all (λ e. are_short_values e.attributes) es
+
+-- A unit is laid out: its entries in file order, with the codes of their shapes and what is noted of them.
 pub record IsLaidOut (u : GivenUnit) (l : UnitLayout) : Type 0 where
   pub order : map (looked_up u.additions) l.order.items ≡ in_file_order u.additions
   pub known : All (λ f. f.index < length u.additions) l.order.items
   pub codes : l.codes.items ≡ codes_of (in_file_order u.additions)
   pub shapes : map shape_view l.shapes.keys ≡ shapes_in (ordered u)
+  pub notes : IsNoting u.additions l.notes (in_file_order u.additions)
+
+-- the texts that are noted of units
+abbrev pub texts_noted : List UnitLayout → List ℕ
+texts_noted ls = flat_map (λ l. l.notes.texts.items) ls
 
 -- A place is passed on by so many bytes, or is refused as it would be past the most that `.debug_info` holds.
 abbrev pub Advances : Result ℕ WriteError → ℕ → ℕ → Type 0

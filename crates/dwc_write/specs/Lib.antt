@@ -19,6 +19,7 @@ pub mod Layouts
 pub mod UnitViews
 pub mod AttributePlaces
 pub mod FileOrders
+pub mod Noted
 pub mod SpelledRelocations
 pub mod ShapeViews
 pub mod LayoutViews

@@ -1,8 +1,8 @@
 //! Abbreviation tables: what the entries of a unit have, and their codes. (DWARF 4, section 7.5.3.)
-ghost use Rattle.std.specs.Prelude.{◌≡◌, ◌++◌, OnOk, IfOk, map};
+ghost use Rattle.std.specs.Prelude.{◌≡◌, ◌++◌, ◌==◌, ◌&&◌, OnOk, IfOk, map};
 ghost use Rattle.std.specs.List.{All, flat_map};
 ghost use Rattle.dwc_write.specs.SpelledTables.{table_bytes};
-ghost use Rattle.dwc_write.specs.GivenUnits.{IsPlainShape, code_in, form_bytes, forms_of, numbered, shape_bytes, with_use};
+ghost use Rattle.dwc_write.specs.GivenUnits.{AreOwn, IsPlainShape, code_in, form_bytes, form_of as form_of_attribute, forms_of, numbered, same_forms, same_shape, shape_bytes, with_use};
 ghost use Rattle.dwc_write.specs.ShapeViews.{shape_view};
 
 use crate::append::put_uleb;
@@ -25,8 +25,63 @@ pub struct Shape {
     pub(crate) attributes: Vec<AttributeForm>,
 }
 
-// The code of an entry by its shape, which is kept where it is new.
-pub fn code_of(shapes: &mut IndexSet<Shape>, shape: &Shape) -> Result<u64, AllocError>
+// The code of an entry by its shape, which is kept where it is new. One place is looked at first, since entries of a tag often have one
+// shape; a buffer holds the shape where it does not stand there.
+pub fn code_of_entry(
+    shapes: &mut IndexSet<Shape>,
+    buffer: &mut Shape,
+    guess: u64,
+    tag: u16,
+    has_children: bool,
+    attributes: &[Attribute],
+) -> Result<u64, AllocError>
+    requires { AreOwn (map shape_view shapes.old.keys) }
+    ensures shapes { OnOk result (map shape_view shapes.new.keys ≡ with_use (record { tag = tag; has_children = has_children; attributes = forms_of attributes.now }) (map shape_view shapes.old.keys)) }
+    ensures code { IfOk result (λ code. code ≡ code_in (map shape_view shapes.old.keys) (record { tag = tag; has_children = has_children; attributes = forms_of attributes.now })) }
+{
+    if guess < shapes.len() as u64 {
+        let known = &shapes.as_slice()[guess as usize];
+        if is_shape_of(known, tag, has_children, attributes) {
+            return Ok(guess + 1);
+        }
+    }
+    set_shape(buffer, tag, has_children, attributes)?;
+    code_of(shapes, buffer)
+}
+
+// Whether a shape is that of an entry.
+fn is_shape_of(shape: &Shape, tag: u16, has_children: bool, attributes: &[Attribute]) -> bool
+    ensures { result ≡ same_shape (shape_view shape.now) (record { tag = tag; has_children = has_children; attributes = forms_of attributes.now }) }
+{
+    shape.tag == tag
+        && shape.has_children == has_children
+        && are_forms_of(&shape.attributes, attributes)
+}
+
+// Whether names and forms are those of attributes.
+fn are_forms_of(forms: &[AttributeForm], attributes: &[Attribute]) -> bool
+    ensures { result ≡ same_forms forms.now (forms_of attributes.now) }
+{
+    if forms.len() != attributes.len() {
+        return false;
+    }
+    for i in 0..forms.len() {
+        if !is_form_of(forms[i], &attributes[i]) {
+            return false;
+        }
+    }
+    true
+}
+
+// Whether a name and a form are those of an attribute.
+fn is_form_of(form: AttributeForm, attribute: &Attribute) -> bool
+    ensures { result ≡ ((form.name == attribute.now.name) && (form.form == (form_of_attribute attribute.now).form)) }
+{
+    form.name == attribute.name && form.form == form_of(&attribute.value)
+}
+
+// The code of a shape, which is kept where it is new.
+fn code_of(shapes: &mut IndexSet<Shape>, shape: &Shape) -> Result<u64, AllocError>
     ensures shapes { OnOk result (map shape_view shapes.new.keys ≡ with_use (shape_view shape.now) (map shape_view shapes.old.keys)) }
     ensures code { IfOk result (λ code. code ≡ code_in (map shape_view shapes.old.keys) (shape_view shape.now)) }
 {
@@ -50,7 +105,7 @@ fn copied(shape: &Shape) -> Result<Shape, AllocError>
 }
 
 // Makes a shape that of an entry, within the room that it has.
-pub fn set_shape(
+fn set_shape(
     shape: &mut Shape,
     tag: u16,
     has_children: bool,

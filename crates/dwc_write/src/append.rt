@@ -1,5 +1,6 @@
 //! The bytes of numbers and texts, behind what a buffer holds.
 ghost use Rattle.std.specs.Prelude.{◌≡◌, ◌++◌, ◌∷◌, [], ◌<◌, ◌^◌, OnOk, OnErr, pos, negsuc, length, ◌+◌, ◌≤◌};
+ghost use Rattle.dwc_base.specs.declared.records.Endian.TheVariants.{Big, Little};
 ghost use Rattle.dwc_base.specs.NumberBytes.{number_bytes, uleb_bytes, sleb_bytes};
 ghost use Rattle.dwc_write.specs.Spelled.{text_bytes};
 ghost use Rattle.dwc_write.specs.Writers.{IsSize, replaced};
@@ -105,17 +106,44 @@ pub fn put_text(out: &mut Vec<u8>, text: &[u8]) -> Result<(), AllocError>
 }
 
 // A number of so many bytes, the low ones of the value.
-#[tactic(auto, using(crate::proofs::SizedBytes::sized_bytes_are))]
 pub fn put_sized(out: &mut Vec<u8>, order: Endian, size: u8, value: u64) -> Result<(), AllocError>
     requires { IsSize size }
     ensures ok { OnOk result (out.new.items ≡ out.old.items ++ number_bytes order size value) }
     ensures err { OnErr result (out.new.items ≡ out.old.items) }
 {
+    match order {
+        Endian::Little => put_low_first(out, size, value),
+        Endian::Big => put_high_first(out, size, value),
+    }
+}
+
+// The same with the lowest byte first.
+#[tactic(auto, using(crate::proofs::SizedBytes::sized_bytes_are, crate::proofs::ReadBytes::number_bytes_are))]
+fn put_low_first(out: &mut Vec<u8>, size: u8, value: u64) -> Result<(), AllocError>
+    requires { IsSize size }
+    ensures ok { OnOk result (out.new.items ≡ out.old.items ++ number_bytes Little size value) }
+    ensures err { OnErr result (out.new.items ≡ out.old.items) }
+{
     match size {
         1 => out.extend_from_slice(&[(value % 256) as u8]),
-        2 => out.extend_from_slice(&bytes_2(order, (value % 0x1_0000) as u16)),
-        4 => out.extend_from_slice(&bytes_4(order, (value % 0x1_0000_0000) as u32)),
-        _ => out.extend_from_slice(&bytes_8(order, value)),
+        2 => out.extend_from_slice(&((value % 0x1_0000) as u16).to_le_bytes()),
+        4 => out.extend_from_slice(&((value % 0x1_0000_0000) as u32).to_le_bytes()),
+        _ => out.extend_from_slice(&value.to_le_bytes()),
+    }
+}
+
+// The same with the highest byte first.
+#[tactic(auto, using(crate::proofs::SizedBytes::sized_bytes_are, crate::proofs::ReadBytes::number_bytes_are))]
+fn put_high_first(out: &mut Vec<u8>, size: u8, value: u64) -> Result<(), AllocError>
+    requires { IsSize size }
+    ensures ok { OnOk result (out.new.items ≡ out.old.items ++ number_bytes Big size value) }
+    ensures err { OnErr result (out.new.items ≡ out.old.items) }
+{
+    match size {
+        1 => out.extend_from_slice(&[(value % 256) as u8]),
+        2 => out.extend_from_slice(&((value % 0x1_0000) as u16).to_be_bytes()),
+        4 => out.extend_from_slice(&((value % 0x1_0000_0000) as u32).to_be_bytes()),
+        _ => out.extend_from_slice(&value.to_be_bytes()),
     }
 }
 

@@ -121,6 +121,17 @@ impl Attributes {
         self.list.as_slice()
     }
 
+    // Makes room for so many attributes, where there is none yet.
+    pub(crate) fn make_room(&mut self, count: usize) -> Result<(), AllocError>
+        ensures { self.new ≡ self.old }
+    {
+        if self.list.is_empty() {
+            let alloc = *self.list.allocator();
+            self.list = Vec::with_capacity(alloc, count)?;
+        }
+        Ok(())
+    }
+
     // Puts a value in the place of the first of its name, or behind the others.
     pub(crate) fn set(&mut self, name: u16, value: AttributeValue) -> Result<(), AllocError>
         ensures ok { OnOk result (self.new ≡ set_attribute name value self.old) }

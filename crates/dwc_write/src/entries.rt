@@ -1,7 +1,7 @@
 //! Units with their entries, as they are written. (DWARF 4, section 7.5.)
 ghost use Rattle.std.specs.Prelude.{◌≡◌, ◌++◌, ◌∷◌, [], ◌+◌, ◌<◌, ◌≤◌, ◌⊎◌, OnOk, map, length, get_or, replicate};
 ghost use Rattle.std.specs.List.{All, flat_map};
-ghost use Rattle.dwc_base.specs.NumberBytes.{number_bytes, uleb_bytes};
+ghost use Rattle.dwc_base.specs.NumberBytes.{number_bytes, sleb_bytes, uleb_bytes};
 ghost use Rattle.dwc_write.specs.Spelled.{block_bytes};
 ghost use Rattle.dwc_write.specs.SpelledUnits.{attribute_bytes, entry_bytes, shaped, written_bytes};
 ghost use Rattle.dwc_write.specs.SpelledRelocations.{entries_relocations, value_relocations, values_relocations};
@@ -17,11 +17,11 @@ ghost use Rattle.dwc_base.specs.declared.section_name.SectionName.TheVariants.{A
 ghost use Rattle.dwc_write.specs.Writers.{Writes, most_bytes, offset_relocation};
 
 use crate::abbreviations::put_table;
-use crate::append::{bytes_2, bytes_4, put_sized, put_sleb, put_uleb};
+use crate::append::{bytes_2, put_sleb, put_uleb};
 use crate::attributes::Attribute;
 use crate::file_order::{FilePlace, depth_of_first};
 use crate::layout::UnitLayout;
-use crate::list_places::{ListPlaces, behind_attributes, behind_value};
+use crate::list_places::{ListPlaces, behind_value};
 use crate::units::Entry;
 use crate::{
     AttributeValue, DebugInfoRef, StringId, UnitEntryId, UnitId, WriteError, WriterRelocate,
@@ -30,7 +30,6 @@ use dwc_base::constants::{
     DW_FORM_data1, DW_FORM_data2, DW_FORM_data4, DW_FORM_data8, DW_FORM_sdata,
 };
 use dwc_base::{Endian, SectionName};
-use std::alloc::AllocError;
 
 // How the values of a unit are written: the order of bytes, the size of an address, and where what they name stands: the unit's
 // line table, its lists with their ends, its entries by their numbers, the entries of all units, and texts by their numbers.
@@ -165,18 +164,20 @@ fn write_entries(
         let entry = &entries[order[i].index];
         let attributes = entry.attributes.as_slice();
         let ends = depth.saturating_sub(depth_of_first(&order[i + 1..]));
-        write_entry(info, scratch, spelling, lists, codes[i], attributes, ends)?;
-        lists = behind_attributes(lists, spelling.size, attributes);
+        write_entry(
+            info, scratch, spelling, &mut lists, codes[i], attributes, ends,
+        )?;
     }
     Ok(())
 }
 
-// An entry: its code, its values, and an end for each list of siblings that ends behind it.
+// An entry: its code, its values, and an end for each list of siblings that ends behind it. The first of its lists stand at some
+// places, and the next ones behind them.
 pub fn write_entry(
     info: &mut WriterRelocate,
     scratch: &mut Vec<u8>,
     spelling: &Spelling<'_>,
-    lists: ListPlaces,
+    lists: &mut ListPlaces,
     code: u64,
     attributes: &[Attribute],
     ends: usize,
@@ -185,16 +186,31 @@ pub fn write_entry(
     requires size { (spelling.now.size ≡ 4) ⊎ (spelling.now.size ≡ 8) }
     requires short { AreShort (spelling_places spelling.now) }
     requires fits { All (FitsAttribute spelling.now.size) attributes.now }
-    requires lists { AreWithin (behind_all spelling.now.size lists attributes.now) }
-    ensures { Writes info.old info.new result
-        (uleb_bytes code ++ (flat_map (attribute_bytes info.old.order spelling.now.size) (written_attributes (behind_all spelling.now.size) (spelling_places spelling.now) lists attributes.now) ++ replicate ends 0))
-        (values_relocations info.old.order spelling.now.size (length info.old.body + length (uleb_bytes code)) (written_attributes (behind_all spelling.now.size) (spelling_places spelling.now) lists attributes.now)) }
+    requires lists { AreWithin (behind_all spelling.now.size lists.old attributes.now) }
+    ensures bytes { Writes info.old info.new result
+        (uleb_bytes code ++ (flat_map (attribute_bytes info.old.order spelling.now.size) (written_attributes (behind_all spelling.now.size) (spelling_places spelling.now) lists.old attributes.now) ++ replicate ends 0))
+        (values_relocations info.old.order spelling.now.size (length info.old.body + length (uleb_bytes code)) (written_attributes (behind_all spelling.now.size) (spelling_places spelling.now) lists.old attributes.now)) }
+    ensures lists { OnOk result (lists.new ≡ behind_all spelling.now.size lists.old attributes.now) }
 {
-    scratch.clear();
-    put_uleb(scratch, code)?;
-    info.put_bytes(scratch)?;
+    write_uleb(info, scratch, code)?;
     write_values(info, scratch, spelling, lists, attributes)?;
     write_ends(info, ends)
+}
+
+// An unsigned LEB128 number.
+fn write_uleb(
+    info: &mut WriterRelocate,
+    scratch: &mut Vec<u8>,
+    value: u64,
+) -> Result<(), WriteError>
+    ensures { Writes info.old info.new result (uleb_bytes value) [] }
+{
+    if value < 128 {
+        return info.put_byte(value as u8);
+    }
+    scratch.clear();
+    put_uleb(scratch, value)?;
+    info.put_bytes(scratch)
 }
 
 // The ends of lists of siblings.
@@ -202,33 +218,33 @@ fn write_ends(info: &mut WriterRelocate, count: usize) -> Result<(), WriteError>
     ensures { Writes info.old info.new result (replicate count 0) [] }
 {
     for _ in 0..count {
-        info.put_bytes(&[0])?;
+        info.put_byte(0)?;
     }
     Ok(())
 }
 
-// The values of attributes, one behind another. The first lists stand at some places.
+// The values of attributes, one behind another. The first of their lists stand at some places, and the next ones behind them.
 fn write_values(
     info: &mut WriterRelocate,
     scratch: &mut Vec<u8>,
     spelling: &Spelling<'_>,
-    lists: ListPlaces,
+    lists: &mut ListPlaces,
     attributes: &[Attribute],
 ) -> Result<(), WriteError>
     requires order { spelling.now.order ≡ info.old.order }
     requires size { (spelling.now.size ≡ 4) ⊎ (spelling.now.size ≡ 8) }
     requires short { AreShort (spelling_places spelling.now) }
     requires fits { All (FitsAttribute spelling.now.size) attributes.now }
-    requires lists { AreWithin (behind_all spelling.now.size lists attributes.now) }
-    ensures { Writes info.old info.new result
-        (flat_map (attribute_bytes info.old.order spelling.now.size) (written_attributes (behind_all spelling.now.size) (spelling_places spelling.now) lists attributes.now))
-        (values_relocations info.old.order spelling.now.size (length info.old.body) (written_attributes (behind_all spelling.now.size) (spelling_places spelling.now) lists attributes.now)) }
+    requires lists { AreWithin (behind_all spelling.now.size lists.old attributes.now) }
+    ensures bytes { Writes info.old info.new result
+        (flat_map (attribute_bytes info.old.order spelling.now.size) (written_attributes (behind_all spelling.now.size) (spelling_places spelling.now) lists.old attributes.now))
+        (values_relocations info.old.order spelling.now.size (length info.old.body) (written_attributes (behind_all spelling.now.size) (spelling_places spelling.now) lists.old attributes.now)) }
+    ensures lists { OnOk result (lists.new ≡ behind_all spelling.now.size lists.old attributes.now) }
 {
-    let mut places = lists;
     for i in 0..attributes.len() {
         let value = &attributes[i].value;
-        write_value(info, scratch, spelling, places, value)?;
-        places = behind_value(places, spelling.size, value);
+        write_value(info, scratch, spelling, *lists, value)?;
+        *lists = behind_value(*lists, spelling.size, value);
     }
     Ok(())
 }
@@ -250,12 +266,8 @@ fn write_value(
 {
     match value {
         AttributeValue::Address(address) => info.put_address(*address, spelling.size),
-        AttributeValue::Constant { form, bits } => {
-            scratch.clear();
-            put_constant(scratch, spelling.order, *form, *bits)?;
-            info.put_bytes(scratch)
-        }
-        AttributeValue::Flag(flag) => info.put_bytes(&[u8::from(*flag)]),
+        AttributeValue::Constant { form, bits } => write_constant(info, scratch, *form, *bits),
+        AttributeValue::Flag(flag) => info.put_byte(u8::from(*flag)),
         AttributeValue::Block(bytes) => write_block(info, scratch, bytes),
         AttributeValue::Exprloc(expression) => write_block(info, scratch, expression.as_slice()),
         AttributeValue::StringRef(id) => {
@@ -264,9 +276,7 @@ fn write_value(
         AttributeValue::LineProgramRef => info.put_offset(spelling.line_offset, SectionName::Line),
         AttributeValue::RangeListRef(_) => info.put_offset(lists.ranges, SectionName::Ranges),
         AttributeValue::LocationListRef(_) => info.put_offset(lists.locations, SectionName::Loc),
-        AttributeValue::UnitRef(id) => {
-            info.put_bytes(&bytes_4(spelling.order, spelling.offset_of(*id) as u32))
-        }
+        AttributeValue::UnitRef(id) => info.put_number(4, spelling.offset_of(*id) as u64),
         AttributeValue::DebugInfoRef(DebugInfoRef::Entry(unit, id)) => {
             info.put_offset(spelling.section_offset_of(*unit, *id), SectionName::Info)
         }
@@ -281,22 +291,38 @@ fn write_block(
 ) -> Result<(), WriteError>
     ensures { Writes info.old info.new result (block_bytes bytes.now) [] }
 {
-    scratch.clear();
-    put_uleb(scratch, bytes.len() as u64)?;
-    info.put_bytes(scratch)?;
+    write_uleb(info, scratch, bytes.len() as u64)?;
     info.put_bytes(bytes)
 }
 
 // A constant in its form.
-fn put_constant(out: &mut Vec<u8>, order: Endian, form: u16, bits: u64) -> Result<(), AllocError>
-    ensures { OnOk result (out.new.items ≡ out.old.items ++ written_bytes order 8 (constant_of form bits)) }
+fn write_constant(
+    info: &mut WriterRelocate,
+    scratch: &mut Vec<u8>,
+    form: u16,
+    bits: u64,
+) -> Result<(), WriteError>
+    ensures { Writes info.old info.new result (written_bytes info.old.order 8 (constant_of form bits)) [] }
 {
     match form {
-        DW_FORM_data1 => put_sized(out, order, 1, bits),
-        DW_FORM_data2 => put_sized(out, order, 2, bits),
-        DW_FORM_data4 => put_sized(out, order, 4, bits),
-        DW_FORM_data8 => put_sized(out, order, 8, bits),
-        DW_FORM_sdata => put_sleb(out, bits.cast_signed()),
-        _ => put_uleb(out, bits),
+        DW_FORM_data1 => info.put_number(1, bits),
+        DW_FORM_data2 => info.put_number(2, bits),
+        DW_FORM_data4 => info.put_number(4, bits),
+        DW_FORM_data8 => info.put_number(8, bits),
+        DW_FORM_sdata => write_sleb(info, scratch, bits.cast_signed()),
+        _ => write_uleb(info, scratch, bits),
     }
+}
+
+// A signed LEB128 number.
+fn write_sleb(
+    info: &mut WriterRelocate,
+    scratch: &mut Vec<u8>,
+    value: i64,
+) -> Result<(), WriteError>
+    ensures { Writes info.old info.new result (sleb_bytes value) [] }
+{
+    scratch.clear();
+    put_sleb(scratch, value)?;
+    info.put_bytes(scratch)
 }

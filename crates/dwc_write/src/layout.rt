@@ -5,7 +5,7 @@ ghost use Rattle.std.specs.List.{All, AllZip, flat_map};
 ghost use Rattle.dwc_base.specs.declared.records.Endian.{Endian};
 ghost use Rattle.dwc_write.specs.FileOrders.{looked_up};
 ghost use Rattle.dwc_write.specs.GivenUnits.{Addition, AreWritable, FitsOrdered, first_uses, no_places, ordered, shapes_of, size_of, written_attributes, written_entries};
-ghost use Rattle.dwc_write.specs.LayoutViews.{Advances, AdvancesOrMemory, IsLaidOut, IsTooLong, offset_known, places_view};
+ghost use Rattle.dwc_write.specs.LayoutViews.{Advances, AdvancesOrMemory, IsLaidOut, IsNoting, IsTooLong, offset_known, places_view};
 ghost use Rattle.dwc_write.specs.Layouts.{codes_of, offset_among, offsets_by_number, places_of_units, unit_length, units_length};
 ghost use Rattle.dwc_write.specs.Lists.{no_lists, nowhere};
 ghost use Rattle.dwc_write.specs.ShapeViews.{shape_view};
@@ -17,9 +17,10 @@ ghost use Rattle.dwc_write.specs.UnitViews.{addition_view};
 ghost use Rattle.dwc_write.specs.WidestGiven.{IsWideRefusal};
 ghost use Rattle.dwc_write.specs.Writers.{most_bytes};
 
-use crate::abbreviations::{Shape, code_of, set_shape};
+use crate::abbreviations::{Shape, code_of_entry};
 use crate::attributes::Attribute;
 use crate::file_order::{FilePlace, depth_of_first, file_order};
+use crate::notes::{Notes, note_entry};
 use crate::sizes::{uleb_length, value_size};
 use crate::units::Entry;
 use crate::writer::MOST_BYTES;
@@ -41,6 +42,8 @@ pub struct UnitLayout {
     pub order: Vec<FilePlace>,
     pub codes: Vec<u64>,
     pub shapes: IndexSet<Shape>,
+    // what is noted of its entries
+    pub notes: Notes,
     // the offsets in it of its entries by their numbers, 0 for a number that is only reserved
     pub offsets: Vec<usize>,
 }
@@ -51,6 +54,7 @@ struct Coded {
     shapes: IndexSet<Shape>,
     codes: Vec<u64>,
     offsets: Vec<usize>,
+    notes: Notes,
 }
 
 /// Units one behind another, before they are written. `TooLarge` is answered only where `.debug_info` would have more than 2^31 - 1
@@ -86,16 +90,23 @@ fn lay_out_unit(alloc: Global, unit: &Unit, start: usize) -> Result<UnitLayout, 
         shapes: IndexSet::new(alloc),
         codes: Vec::with_capacity(alloc, order.len())?,
         offsets: Vec::with_capacity(alloc, order.len())?,
+        notes: Notes::new(alloc),
     };
     let length = place_entries(alloc, unit.address_size, &unit.entries, &order, &mut coded)?;
     let by_place = offsets_by_place(alloc, &order, &coded.offsets, unit.entries.len())?;
-    let Coded { shapes, codes, .. } = coded;
+    let Coded {
+        shapes,
+        codes,
+        notes,
+        ..
+    } = coded;
     Ok(UnitLayout {
         start,
         length,
         order,
         codes,
         shapes,
+        notes,
         offsets: offsets_by_number(alloc, &unit.places, &by_place)?,
     })
 }
@@ -113,9 +124,11 @@ fn place_entries(
     requires shapes { map shape_view coded.old.shapes.keys ≡ [] }
     requires codes { coded.old.codes.items ≡ [] }
     requires offsets { coded.old.offsets.items ≡ [] }
+    requires notes { IsNoting (map addition_view entries.now) coded.old.notes [] }
     ensures shapes { OnOk result (map shape_view coded.new.shapes.keys ≡ first_uses [] (shapes_of (map (looked_up (map addition_view entries.now)) order.now))) }
     ensures codes { OnOk result (coded.new.codes.items ≡ codes_of (map (looked_up (map addition_view entries.now)) order.now)) }
     ensures offsets { OnOk result ((o : Endian) → coded.new.offsets.items ≡ at_places (entry_bytes o size) (λ place x. place ∷ []) header_length (shaped (written_entries nowhere no_places no_lists (first_uses [] (shapes_of (map (looked_up (map addition_view entries.now)) order.now))) (map (looked_up (map addition_view entries.now)) order.now)))) }
+    ensures notes { OnOk result (IsNoting (map addition_view entries.now) coded.new.notes (map (looked_up (map addition_view entries.now)) order.now)) }
     ensures end { (o : Endian) → AdvancesOrMemory result header_length (length (flat_map (entry_bytes o size) (shaped (written_entries nowhere no_places no_lists (first_uses [] (shapes_of (map (looked_up (map addition_view entries.now)) order.now))) (map (looked_up (map addition_view entries.now)) order.now))))) }
 {
     let mut shape = Shape {
@@ -123,16 +136,27 @@ fn place_entries(
         has_children: false,
         attributes: Vec::new(alloc),
     };
+    // the places of the shapes that were last found, by the low bits of their tags
+    let mut guesses = [0; 64];
     let mut place = HEADER_LENGTH;
     for i in 0..order.len() {
         let depth = order[i].depth;
         let entry = &entries[order[i].index];
         let attributes = entry.attributes.as_slice();
         let next = depth_of_first(&order[i + 1..]);
-        set_shape(&mut shape, entry.tag, depth < next, attributes)?;
-        let code = code_of(&mut coded.shapes, &shape)?;
+        let guess = guesses[usize::from(entry.tag % 64)];
+        let code = code_of_entry(
+            &mut coded.shapes,
+            &mut shape,
+            guess,
+            entry.tag,
+            depth < next,
+            attributes,
+        )?;
+        guesses[usize::from(entry.tag % 64)] = code - 1;
         coded.codes.push(code)?;
         coded.offsets.push(place)?;
+        note_entry(&mut coded.notes, order[i], attributes)?;
         place = behind_entry(place, size, code, attributes, depth.saturating_sub(next))?;
     }
     Ok(place)

@@ -17,6 +17,7 @@ mod lines;
 mod list_places;
 mod lists;
 mod names;
+mod notes;
 mod rows;
 mod sections;
 mod short_lists;

@@ -1,11 +1,10 @@
 //! Where lists stand, found before their values are written: each kind in a section of its own, one list behind another. (DWARF 4,
 //! sections 2.17.3 and 2.6.2.)
 ghost use Rattle.std.specs.Prelude.{◌≡◌, ◌≤◌, ◌+◌, map};
-ghost use Rattle.dwc_write.specs.Lists.{AreWithin, behind_attributes as behind_all, behind_value as behind_one, ended, list_length};
+ghost use Rattle.dwc_write.specs.Lists.{AreWithin, behind_value as behind_one, ended, list_length};
 ghost use Rattle.dwc_write.specs.Writers.{most_bytes};
 
 use crate::AttributeValue;
-use crate::attributes::Attribute;
 use crate::lists::{Listed, held_length};
 
 /// Where the next range list and the next location list stand, each in its section.
@@ -13,18 +12,6 @@ use crate::lists::{Listed, held_length};
 pub struct ListPlaces {
     pub ranges: usize,
     pub locations: usize,
-}
-
-/// Where the next lists stand behind those of attributes, of which the first ones stand at some places.
-pub fn behind_attributes(places: ListPlaces, size: u8, attributes: &[Attribute]) -> ListPlaces
-    requires { AreWithin (behind_all size places attributes.now) }
-    ensures { result ≡ behind_all size places attributes.now }
-{
-    let mut next = places;
-    for i in 0..attributes.len() {
-        next = behind_value(next, size, &attributes[i].value);
-    }
-    next
 }
 
 /// Where the next lists stand behind that of a value, if it has one.

@@ -9,11 +9,10 @@ ghost use Rattle.dwc_write.specs.Lists.{FitsListed, ended, held_bytes, held_leng
 ghost use Rattle.dwc_write.specs.RangeLists.{address_behind as address_behind_by};
 ghost use Rattle.dwc_write.specs.Writers.{FitsField, Writes};
 
-use crate::append::bytes_2;
 use crate::attributes::{Attribute, Expression};
 use crate::file_order::FilePlace;
 use crate::units::Entry;
-use crate::{AttributeValue, WriteError, Writer, WriterRelocate};
+use crate::{AttributeValue, WriteError, WriterRelocate};
 use dwc_base::Address;
 
 /// A range list: intervals of addresses in order, each by where it begins and how many bytes it has.
@@ -273,8 +272,7 @@ fn write_expression(lists: &mut WriterRelocate, bytes: &[u8]) -> Result<(), Writ
     requires { length bytes.now < 2 ^ 16 }
     ensures { Writes lists.old lists.new result (held_bytes lists.old.order (Some bytes.now)) [] }
 {
-    let length = bytes_2(lists.endian(), bytes.len() as u16);
-    lists.put_bytes(&length)?;
+    lists.put_number(2, bytes.len() as u64)?;
     lists.put_bytes(bytes)
 }
 

@@ -35,10 +35,11 @@ pub fn put_rows(out: &mut Vec<u8>, rows: &[LineRow], end_offset: u64) -> Result<
     requires rise { RowsRise 0 rows.now end_offset }
     ensures { OnOk result (out.new.items ≡ out.old.items ++ program_bytes Little 8 (rows_instructions first_row rows.now end_offset)) }
 {
-    let mut before = FIRST_ROW;
+    let first = FIRST_ROW;
+    let mut before = &first;
     for i in 0..rows.len() {
-        let row = rows[i];
-        put_row(out, &before, &row)?;
+        let row = &rows[i];
+        put_row(out, before, row)?;
         before = row;
     }
     put_advance(out, before.offset, end_offset)?;

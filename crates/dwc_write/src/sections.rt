@@ -33,7 +33,7 @@ use crate::frames::{check_table, write_table};
 use crate::layout::{UnitLayout, lay_out};
 use crate::list_places::ListPlaces;
 use crate::lists::{ListKind, write_lists};
-use crate::short_lists::have_short_lists;
+use crate::short_lists::are_short_lists;
 use crate::tables::write_lines;
 use crate::text_layout::{lay_out_texts, write_texts};
 use crate::{Dwarf, FrameTable, Unit, WriteError, WriterRelocate};
@@ -135,13 +135,14 @@ fn write_unit_sections(
 {
     let units = dwarf.units.units.as_slice();
     let texts = dwarf.strings.as_slice();
-    if !have_short_lists(units) {
+    let laid = lay_out(alloc, units);
+    if !are_short_lists(units, &laid) {
         return Err(WriteError::TooLarge {
             what: Limit::Expression,
         });
     }
-    let layouts = lay_out(alloc, units)?;
-    let text_layout = lay_out_texts(alloc, units, &layouts, texts)?;
+    let layouts = laid?;
+    let text_layout = lay_out_texts(alloc, &layouts, texts)?;
     let sections = write_units(alloc, order, units, &layouts, &text_layout.offsets)?;
     let strings = write_texts(alloc, order, texts, &text_layout)?;
     gather(alloc, sections, strings)
@@ -258,9 +259,10 @@ fn write_unit_lists(
 {
     let size = unit.address_size;
     let entries = unit.entries.as_slice();
-    let order = layout.order.as_slice();
-    write_lists(ranges, ListKind::Ranges, size, entries, order)?;
-    write_lists(locations, ListKind::Locations, size, entries, order)
+    let ranged = layout.notes.ranged.as_slice();
+    let located = layout.notes.located.as_slice();
+    write_lists(ranges, ListKind::Ranges, size, entries, ranged)?;
+    write_lists(locations, ListKind::Locations, size, entries, located)
 }
 
 // Where lists stand behind what is there.

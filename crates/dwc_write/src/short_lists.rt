@@ -1,20 +1,41 @@
 //! Whether the expressions of location lists are short enough for lengths of two bytes, found before a byte is written. (DWARF 4,
 //! section 2.6.2.)
-ghost use Rattle.std.specs.Prelude.{◌≡◌};
-ghost use Rattle.std.specs.List.{list_all};
+ghost use Rattle.std.specs.Prelude.{◌≡◌, IfOk};
+ghost use Rattle.std.specs.List.{AllZip, list_all};
 ghost use Rattle.dwc_write.specs.GivenUnits.{ordered};
+ghost use Rattle.dwc_write.specs.LayoutViews.{IsLaidOut};
 ghost use Rattle.dwc_write.specs.ShortLists.{are_short_values, is_short_location, is_short_unit, is_short_value};
 
-use crate::AttributeValue;
 use crate::attributes::{Attribute, Expression};
+use crate::layout::UnitLayout;
 use crate::units::{Entry, Unit};
+use crate::{AttributeValue, WriteError};
 use dwc_base::Address;
 
-/// Whether all expressions of the location lists of units are.
-pub fn have_short_lists(units: &[Unit]) -> bool
+/// Whether all expressions of the location lists of units are, as it is noted where they could be laid out.
+#[tactic(auto, using(crate::proofs::NotedLaws::short_noted))]
+pub fn are_short_lists(units: &[Unit], laid: &Result<Vec<UnitLayout>, WriteError>) -> bool
+    requires { IfOk laid.now (λ ls. AllZip IsLaidOut units.now ls.items) }
+    ensures { result ≡ list_all (λ u. is_short_unit (ordered u)) units.now }
+{
+    match laid {
+        Ok(layouts) => have_short_notes(layouts),
+        Err(_) => have_short_lists(units),
+    }
+}
+
+// Whether those of units are.
+fn have_short_lists(units: &[Unit]) -> bool
     ensures { result ≡ list_all (λ u. is_short_unit (ordered u)) units.now }
 {
     units.iter().all(|unit| has_short_entries(unit))
+}
+
+// Whether those of units are, as it is noted.
+fn have_short_notes(layouts: &[UnitLayout]) -> bool
+    ensures { result ≡ list_all (λ l. l.notes.short) layouts.now }
+{
+    layouts.iter().all(|layout| layout.notes.short)
 }
 
 // Whether those of a unit are.
@@ -34,7 +55,7 @@ fn are_short_entries(entries: &[Entry]) -> bool
 }
 
 // Whether those of attributes are.
-fn has_short_values(attributes: &[Attribute]) -> bool
+pub fn has_short_values(attributes: &[Attribute]) -> bool
     ensures { result ≡ are_short_values attributes.now }
 {
     attributes

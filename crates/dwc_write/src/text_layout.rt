@@ -1,23 +1,17 @@
 //! Where texts stand in `.debug_str`, found before a byte is written: each text that entries name stands once, in the order of first
 //! use. (DWARF 4, section 7.5.4.)
 ghost use Rattle.std.specs.Prelude.{◌≡◌, ◌++◌, ◌∷◌, [], ◌<◌, ◌≤◌, OnOk, IfOk, IfErr, IsOkUnless, length, map};
-ghost use Rattle.std.specs.List.{All, AllZip};
+ghost use Rattle.std.specs.List.{All};
 ghost use Rattle.dwc_base.specs.declared.section_name.SectionName.TheVariants.{Str};
 ghost use Rattle.dwc_write.specs.declared.error.WriteError.TheVariants.{OutOfMemory};
-ghost use Rattle.dwc_write.specs.FileOrders.{looked_up};
-ghost use Rattle.dwc_write.specs.GivenUnits.{ordered};
-ghost use Rattle.dwc_write.specs.LayoutViews.{IsLaidOut};
+ghost use Rattle.dwc_write.specs.LayoutViews.{texts_noted};
 ghost use Rattle.dwc_write.specs.TextViews.{IsTextLayout, IsTextRefusal, UsesTexts, BehindText};
-ghost use Rattle.dwc_write.specs.UnitViews.{addition_view};
-ghost use Rattle.dwc_write.specs.UsedTexts.{HaveTexts, text_of_value, strings_bytes, texts_bytes, texts_of_attributes, texts_of_entries, texts_used};
+ghost use Rattle.dwc_write.specs.UsedTexts.{texts_bytes, with_numbers};
 ghost use Rattle.dwc_write.specs.Writers.{Writes, most_bytes};
 
-use crate::attributes::Attribute;
-use crate::file_order::FilePlace;
 use crate::layout::UnitLayout;
-use crate::units::Entry;
 use crate::writer::MOST_BYTES;
-use crate::{AttributeValue, Unit, WriteError, WriterRelocate};
+use crate::{WriteError, WriterRelocate};
 use dwc_base::{Endian, Limit, SectionName};
 use std::alloc::Global;
 
@@ -32,95 +26,39 @@ pub struct TextLayout {
     pub length: usize,
 }
 
-/// The texts of a table that units name, before they are written; the units are laid out. `TooLarge` is answered only where
+/// The texts of a table that units name, as it is noted of them, before they are written. `TooLarge` is answered only where
 /// `.debug_str` would have more than 2^31 - 1 bytes, and `OutOfMemory` for want of memory.
 pub fn lay_out_texts(
     alloc: Global,
-    units: &[Unit],
     layouts: &[UnitLayout],
     texts: &[Vec<u8>],
 ) -> Result<TextLayout, WriteError>
-    requires laid { AllZip IsLaidOut units.now layouts.now }
-    requires known { HaveTexts (map (λ v. v.items) texts.now) (map ordered units.now) }
-    ensures used { IfOk result (λ l. l.used.items ≡ texts_used (map ordered units.now)) }
+    requires { All (λ n. n < length texts.now) (texts_noted layouts.now) }
+    ensures used { IfOk result (λ l. l.used.items ≡ with_numbers [] (texts_noted layouts.now)) }
     ensures laid { IfOk result (λ l. IsTextLayout (map (λ v. v.items) texts.now) l) }
-    ensures large { IfErr result (λ e. IsTextRefusal e (length (strings_bytes (map (λ v. v.items) texts.now) (map ordered units.now)))) }
+    ensures large { IfErr result (λ e. IsTextRefusal e (length (texts_bytes (map (λ v. v.items) texts.now) (with_numbers [] (texts_noted layouts.now))))) }
 {
     let mut layout = TextLayout {
         offsets: vec![in alloc; None; texts.len()]?,
         used: Vec::new(alloc),
         length: 0,
     };
-    for i in 0..units.len() {
-        use_unit(&mut layout, texts, &units[i], &layouts[i])?;
+    for i in 0..layouts.len() {
+        use_texts(&mut layout, texts, &layouts[i].notes.texts)?;
     }
     Ok(layout)
 }
 
-// The texts that a unit names.
-fn use_unit(
-    layout: &mut TextLayout,
-    texts: &[Vec<u8>],
-    unit: &Unit,
-    laid: &UnitLayout,
-) -> Result<(), WriteError>
+// Texts by their numbers, in this order.
+fn use_texts(layout: &mut TextLayout, texts: &[Vec<u8>], named: &[usize]) -> Result<(), WriteError>
     requires texts { IsTextLayout (map (λ v. v.items) texts.now) layout.old }
-    requires unit { IsLaidOut unit.now laid.now }
-    requires known { All (λ n. n < length texts.now) (texts_of_entries (ordered unit.now).entries) }
-    ensures { UsesTexts (map (λ v. v.items) texts.now) layout.old layout.new result (texts_of_entries (ordered unit.now).entries) }
+    requires known { All (λ n. n < length texts.now) named.now }
+    ensures { UsesTexts (map (λ v. v.items) texts.now) layout.old layout.new result named.now }
 {
-    use_entries(layout, texts, &unit.entries, &laid.order)
-}
-
-// The texts that entries name, in file order.
-fn use_entries(
-    layout: &mut TextLayout,
-    texts: &[Vec<u8>],
-    entries: &[Entry],
-    order: &[FilePlace],
-) -> Result<(), WriteError>
-    requires texts { IsTextLayout (map (λ v. v.items) texts.now) layout.old }
-    requires places { All (λ f. f.index < length entries.now) order.now }
-    requires known { All (λ n. n < length texts.now) (texts_of_entries (map (looked_up (map addition_view entries.now)) order.now)) }
-    ensures { UsesTexts (map (λ v. v.items) texts.now) layout.old layout.new result (texts_of_entries (map (looked_up (map addition_view entries.now)) order.now)) }
-{
-    for i in 0..order.len() {
-        let entry = &entries[order[i].index];
-        use_attributes(layout, texts, entry.attributes.as_slice())?;
+    for i in 0..named.len() {
+        use_text(layout, texts, named[i])?;
     }
     Ok(())
-}
-
-// The texts that attributes name.
-fn use_attributes(
-    layout: &mut TextLayout,
-    texts: &[Vec<u8>],
-    attributes: &[Attribute],
-) -> Result<(), WriteError>
-    requires texts { IsTextLayout (map (λ v. v.items) texts.now) layout.old }
-    requires known { All (λ n. n < length texts.now) (texts_of_attributes attributes.now) }
-    ensures { UsesTexts (map (λ v. v.items) texts.now) layout.old layout.new result (texts_of_attributes attributes.now) }
-{
-    for i in 0..attributes.len() {
-        use_value(layout, texts, &attributes[i].value)?;
-    }
-    Ok(())
-}
-
-// The text that a value names, if it names one.
-fn use_value(
-    layout: &mut TextLayout,
-    texts: &[Vec<u8>],
-    value: &AttributeValue,
-) -> Result<(), WriteError>
-    requires texts { IsTextLayout (map (λ v. v.items) texts.now) layout.old }
-    requires known { All (λ n. n < length texts.now) (text_of_value value.now) }
-    ensures { UsesTexts (map (λ v. v.items) texts.now) layout.old layout.new result (text_of_value value.now) }
-{
-    match value {
-        AttributeValue::StringRef(id) => use_text(layout, texts, id.index),
-        _ => Ok(()),
-    }
 }
 
 // A text by its number: where it is new, it stands behind the others.

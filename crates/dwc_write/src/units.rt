@@ -81,6 +81,28 @@ impl Unit {
         UnitEntryId { index: 0 }
     }
 
+    /// Makes room for so many entries more, so that they can be added without copies of the others. Nothing else changes.
+    pub fn make_room(&mut self, count: usize) -> Result<(), WriteError>
+        ensures same { self.new ≡ self.old }
+        ensures memory { IsOkUnless result OutOfMemory }
+    {
+        self.places.reserve(count)?;
+        self.entries.reserve(count)?;
+        Ok(())
+    }
+
+    /// Makes room for so many attributes of an entry that has none yet. Nothing else changes.
+    pub fn make_room_in(&mut self, id: UnitEntryId, count: usize) -> Result<(), WriteError>
+        requires known { IsAdded id.index self.old }
+        ensures same { self.new ≡ self.old }
+        ensures memory { IsOkUnless result OutOfMemory }
+    {
+        let place = known_place(&self.places, id);
+        let entry = &mut self.entries[place];
+        entry.attributes.make_room(count)?;
+        Ok(())
+    }
+
     /// Adds an entry without attributes below a parent, which was added before. In the file it stands behind the entries that
     /// were added below that parent before it.
     pub fn add(&mut self, parent: UnitEntryId, tag: u16) -> Result<UnitEntryId, WriteError>

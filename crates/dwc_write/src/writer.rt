@@ -162,6 +162,25 @@ impl WriterRelocate {
         self.write(bytes)
     }
 
+    // Appends a byte.
+    pub(crate) fn put_byte(&mut self, byte: u8) -> Result<(), WriteError>
+        ensures { Writes self.old self.new result (byte ∷ []) [] }
+    {
+        check_room(self.body.len(), 1, self.name)?;
+        self.body.push(byte)?;
+        Ok(())
+    }
+
+    // Appends a number of so many bytes, the low ones of the value.
+    pub(crate) fn put_number(&mut self, size: u8, value: u64) -> Result<(), WriteError>
+        requires { IsSize size }
+        ensures { Writes self.old self.new result (number_bytes self.old.order size value) [] }
+    {
+        check_room(self.body.len(), usize::from(size), self.name)?;
+        put_sized(&mut self.body, self.order, size, value)?;
+        Ok(())
+    }
+
     // Appends an address.
     pub(crate) fn put_address(&mut self, address: Address, size: u8) -> Result<(), WriteError>
         requires size { (size ≡ 4) ⊎ (size ≡ 8) }

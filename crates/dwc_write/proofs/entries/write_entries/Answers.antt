@@ -45,13 +45,13 @@ loop-i-preserved c =
     let next : c.depth_of_first.result ≡ first_depth behind = rw (take_rest, add-one) at (c.depth_of_first.ensures (map addition_view c.args.entries.now)) in
     let code : get_or c.args.codes.now c.loop-i.i 0 ≡ code_in uses (shape_of (f place) behind) = code-at f c.args.order.now c.args.codes.now c.loop-i.i first_place c.loop-i-test.true c.requires.codes in
     let P : GivenEntry → Type 0 = λ e. c.write_entry.new.info ≡ appended (spell (entry_with (behind_attributes c.args.spelling.now.size) p c.loop-i.lists (get_or c.args.codes.now c.loop-i.i 0) e behind)) (at (length c.loop-i.info.body) (entry_with (behind_attributes c.args.spelling.now.size) p c.loop-i.lists (get_or c.args.codes.now c.loop-i.i 0) e behind)) c.loop-i.info in
-    let Q : GivenEntry → Type 0 = λ e. c.behind_attributes-lists.result ≡ behind_attributes c.args.spelling.now.size c.loop-i.lists e.attributes in
-    let onwards = subst Q (sym seen) (rw (c.as_slice-attributes.ensures) at c.behind_attributes-lists.ensures) in
+    let Q : GivenEntry → Type 0 = λ e. c.write_entry.new.lists ≡ behind_attributes c.args.spelling.now.size c.loop-i.lists e.attributes in
+    let onwards = subst Q (sym seen) (rw (c.as_slice-attributes.ensures) at c.in_ok-write_entry.ensures.lists) in
     rw add-one
     (record {
       entries = loop-entries f c.args.info.now.order c.args.spelling.now.size (behind_attributes c.args.spelling.now.size) p c.loop-i.lists _ c.args.order.now c.loop-i.i first_place uses c.loop-i.info c.write_entry.new.info _ (get_or c.args.codes.now c.loop-i.i 0) c.loop-i-test.true onwards
           c.loop-i.invariant.entries code
-          (subst P (sym seen) (rw (← order) (rw (c.as_slice-attributes.ensures, c.saturating_sub-ends.ensures, next) at c.in_ok-write_entry.ensures)));
+          (subst P (sym seen) (rw (← order) (rw (c.as_slice-attributes.ensures, c.saturating_sub-ends.ensures, next) at c.in_ok-write_entry.ensures.bytes)));
       lists = rw (onwards) (ap (behind_entries c.args.spelling.now.size c.loop-i.lists) (sym (seen-more f c.args.order.now c.loop-i.i first_place c.loop-i-test.true)) ∙ c.loop-i.invariant.lists);
     })
 
@@ -72,7 +72,7 @@ returns-in_err-write_entry c =
     let P : GivenEntry → Type 0 = λ e. Refuses c.in_err-write_entry.field-0.0 c.loop-i.info (length (spell (entry_with (behind_attributes c.args.spelling.now.size) p c.loop-i.lists (get_or c.args.codes.now c.loop-i.i 0) e behind))) in
     loop-entries-refused f c.args.info.now.order c.args.spelling.now.size (behind_attributes c.args.spelling.now.size) p c.loop-i.lists c.args.order.now c.loop-i.i first_place uses _ c.loop-i.info c.args.info.now _ (get_or c.args.codes.now c.loop-i.i 0) _ _ _ c.loop-i-test.true
     c.loop-i.invariant.entries code met
-    (subst P (sym seen) (rw (← order) (rw (c.as_slice-attributes.ensures, c.saturating_sub-ends.ensures, next) at c.in_err-write_entry.ensures)))
+    (subst P (sym seen) (rw (← order) (rw (c.as_slice-attributes.ensures, c.saturating_sub-ends.ensures, next) at c.in_err-write_entry.ensures.bytes)))
 
 pub bounds-codes-i : goal.bounds-codes-i
 bounds-codes-i c =
@@ -84,16 +84,6 @@ lists-left size places total e es short is = within-entries size (behind_attribu
 
 pub write_entry-requires-clause-lists : goal.write_entry-requires-clause-lists
 write_entry-requires-clause-lists c =
-    let f = looked_up (map addition_view c.args.entries.now) in
-    let place = get_or c.args.order.now c.loop-i.i first_place in
-    let behind = map f (drop (suc c.loop-i.i) c.args.order.now) in
-    let seen = entry-seen c.args.entries.now c.args.order.now c.loop-i.i c.index-entries-order.result c.loop-i-test.true c.requires.known c.index-entries-order.is in
-    let P : GivenEntry → Type 0 = λ e. AreWithin (behind_attributes c.args.spelling.now.size c.loop-i.lists e.attributes) in
-    rw (c.as_slice-attributes.ensures)
-    (subst P seen (lists-left c.args.spelling.now.size c.loop-i.lists _ (f place) behind c.requires.lists (ap (behind_entries c.args.spelling.now.size c.loop-i.lists) (sym (seen-more f c.args.order.now c.loop-i.i first_place c.loop-i-test.true)) ∙ c.loop-i.invariant.lists)))
-
-pub behind_attributes-lists-requires : goal.behind_attributes-lists-requires
-behind_attributes-lists-requires c =
     let f = looked_up (map addition_view c.args.entries.now) in
     let place = get_or c.args.order.now c.loop-i.i first_place in
     let behind = map f (drop (suc c.loop-i.i) c.args.order.now) in

@@ -2,7 +2,7 @@ use Rattle.std.proofs.Common.{◌+◌, ◌≤◌, [], ◌∷◌, map, drop, leng
 use Rattle.std.specs.List.{flat_map}
 use Rattle.dwc_base.specs.declared.records.Endian.{Endian}
 use Rattle.dwc_write.specs.FileOrders.{looked_up}
-use Rattle.dwc_write.specs.GivenUnits.{first_uses, no_places, shapes_of, written_entries}
+use Rattle.dwc_write.specs.GivenUnits.{AreOwn, first_uses, no_places, shapes_of, written_entries}
 use Rattle.dwc_write.specs.Layouts.{codes_of}
 use Rattle.dwc_write.specs.Lists.{no_lists, nowhere}
 use Rattle.dwc_write.specs.ShapeViews.{shape_view}
@@ -11,6 +11,7 @@ use Rattle.dwc_write.specs.SpelledUnits.{entry_bytes, header_length, shaped}
 use Rattle.dwc_write.specs.UnitViews.{addition_view}
 use Rattle.dwc_write.specs.Writers.{most_bytes}
 use Rattle.dwc_write.proofs.EntriesLaws.{IsStep}
+use Rattle.dwc_write.proofs.NotedLaws.{IsNotingOn}
 use Rattle.dwc_write.proofs.layout.place_entries.Given as goal
 
 -- what is found of the first entries, with what is to be found of those that are left, is the whole
@@ -22,4 +23,6 @@ invariant-loop-i l =
     record {
       short : l.place ≤ most_bytes;
       step : (o : Endian) → IsStep o l.size (map shape_view l.coded.shapes.keys) uses l.coded.codes.items l.coded.offsets.items l.place (codes_of es) (at_places (entry_bytes o l.size) (λ place x. place ∷ []) header_length all) (header_length + length (flat_map (entry_bytes o l.size) all)) (map (looked_up (map addition_view l.entries)) (drop l.i l.order));
+      own : AreOwn (map shape_view l.coded.shapes.keys);
+      notes : IsNotingOn (map addition_view l.entries) l.coded.notes es (map (looked_up (map addition_view l.entries)) (drop l.i l.order));
     }

@@ -1,7 +1,8 @@
-use Rattle.std.proofs.Common.{◌≡◌, ◌<◌, ℕ, refl, ap, sym, subst, ◌∙◌, List, [], length, map}
-use Rattle.std.specs.List.{All}
+use Rattle.std.proofs.Common.{◌≡◌, ◌<◌, Global, Vec, ℕ, refl, ap, sym, subst, ◌∙◌, List, [], length, map}
+use Rattle.std.specs.List.{All, AllZip}
 use Rattle.std.proofs.lemmas.List.Elements.{All-map}
-use Rattle.std.proofs.lemmas.Result.{IfErr-weaker, err_from_is_err_and}
+use Rattle.std.proofs.lemmas.Result.{IfErr-at_err, IfErr-weaker, IfOk-at_ok, err_from_is_err_and}
+use Rattle.std.proofs.lemmas.List.{length-map}
 use Rattle.dwc_base.specs.Fields.{AreRelocated}
 use Rattle.dwc_base.specs.OutputForm.{HasDistinctNames}
 use Rattle.dwc_base.specs.Outputs.{OutputSection, output_sections, section_view}
@@ -12,14 +13,18 @@ use Rattle.dwc_write.specs.GivenTrees.{given_trees}
 use Rattle.dwc_write.specs.ReadBack.{ReadsBack}
 use Rattle.dwc_write.specs.SpelledOutput.{WrittenSections, sections_of}
 use Rattle.dwc_write.specs.SpelledRelocations.{DoRelocationsRise}
-use Rattle.dwc_write.specs.GivenUnits.{OrderedUnit, ordered}
+use Rattle.dwc_write.specs.GivenUnits.{OrderedUnit, ordered, size_of}
 use Rattle.dwc_base.specs.declared.section_name.SectionName.TheVariants.{Str}
 use Rattle.dwc_write.specs.Writers.{IsSound, Writing, most_bytes}
-use Rattle.dwc_write.specs.LayoutViews.{whole_view}
+use Rattle.dwc_write.specs.declared.error.WriteError.{WriteError}
+use Rattle.dwc_write.specs.declared.layout.UnitLayout.{UnitLayout}
+use Rattle.dwc_base.specs.declared.records.Endian.{Endian}
+use Rattle.dwc_write.specs.Layouts.{places_of_units}
+use Rattle.dwc_write.specs.LayoutViews.{IsLaidOut, places_view, whole_view}
 use Rattle.dwc_write.specs.SpelledOutput.{IsRefusal, all_places, all_units, section_bytes}
 use Rattle.dwc_write.specs.TextTables.{AreTexts}
 use Rattle.dwc_write.specs.TextViews.{IsTextLayout}
-use Rattle.dwc_write.specs.UsedTexts.{texts_bytes, texts_used}
+use Rattle.dwc_write.specs.UsedTexts.{texts_bytes, texts_named, texts_used, with_numbers}
 use Rattle.dwc_write.specs.WidestGiven.{IsWideRefusal}
 use Rattle.dwc_write.proofs.ReadTexts.{all-placed, laid-short, text-places-are}
 use Rattle.dwc_write.proofs.SaidTexts.{texts-widely}
@@ -31,28 +36,29 @@ use Rattle.dwc_write.proofs.OutputForms.{distinct-names}
 use Rattle.dwc_write.proofs.ReadBackLaws.{reads-back}
 use Rattle.dwc_write.proofs.ReadTrees.{carries-trees, target-form}
 use Rattle.dwc_write.proofs.RelatedLaws.{are-relocated}
+use Rattle.dwc_write.proofs.NotedLaws.{named-noted}
 use Rattle.dwc_write.proofs.ShortLaws.{short-trees, tested}
 use Rattle.dwc_write.proofs.sections.write_unit_sections.Goals as goal
 
-pub returns-then-not-have_short_lists-clause-expressions : goal.returns-then-not-have_short_lists-clause-expressions
-returns-then-not-have_short_lists-clause-expressions c =
+pub returns-then-not-are_short_lists-clause-expressions : goal.returns-then-not-are_short_lists-clause-expressions
+returns-then-not-are_short_lists-clause-expressions c =
     let us = map ordered c.args.dwarf.units.units.items in
     let table = c.args.dwarf.strings in
-    let none = sym (tested table c.as_slice-units.result.now c.args.dwarf.units.units.items c.have_short_lists.result c.as_slice-units.ensures.value c.have_short_lists.ensures) ∙ c.if-not-have_short_lists.true in
+    let none = sym (tested table c.as_slice-units.result.now c.args.dwarf.units.units.items c.are_short_lists.result c.as_slice-units.ensures.value c.are_short_lists.ensures) ∙ c.if-not-are_short_lists.true in
     (λ is. none, λ long. refl)
 
-pub returns-then-not-have_short_lists-clause-large : goal.returns-then-not-have_short_lists-clause-large
-returns-then-not-have_short_lists-clause-large c =
+pub returns-then-not-are_short_lists-clause-large : goal.returns-then-not-are_short_lists-clause-large
+returns-then-not-are_short_lists-clause-large c =
     let us = map ordered c.args.dwarf.units.units.items in
     let table = c.args.dwarf.strings in
-    let none = sym (tested table c.as_slice-units.result.now c.args.dwarf.units.units.items c.have_short_lists.result c.as_slice-units.ensures.value c.have_short_lists.ensures) ∙ c.if-not-have_short_lists.true in
+    let none = sym (tested table c.as_slice-units.result.now c.args.dwarf.units.units.items c.are_short_lists.result c.as_slice-units.ensures.value c.are_short_lists.ensures) ∙ c.if-not-are_short_lists.true in
     (refl, none)
 
-pub returns-then-not-have_short_lists-clause-widest : goal.returns-then-not-have_short_lists-clause-widest
-returns-then-not-have_short_lists-clause-widest c =
+pub returns-then-not-are_short_lists-clause-widest : goal.returns-then-not-are_short_lists-clause-widest
+returns-then-not-are_short_lists-clause-widest c =
     let us = map ordered c.args.dwarf.units.units.items in
     let table = c.args.dwarf.strings in
-    let none = sym (tested table c.as_slice-units.result.now c.args.dwarf.units.units.items c.have_short_lists.result c.as_slice-units.ensures.value c.have_short_lists.ensures) ∙ c.if-not-have_short_lists.true in
+    let none = sym (tested table c.as_slice-units.result.now c.args.dwarf.units.units.items c.are_short_lists.result c.as_slice-units.ensures.value c.are_short_lists.ensures) ∙ c.if-not-are_short_lists.true in
     (refl, none)
 
 pub returns-in_err-layouts-clause-large : goal.returns-in_err-layouts-clause-large
@@ -60,13 +66,15 @@ returns-in_err-layouts-clause-large c =
     let us = map ordered c.args.dwarf.units.units.items in
     let table = c.args.dwarf.strings in
     let p = err_from_is_err_and c.from_residual.result c.from_residual.ensures.1 in
-    err-exit (λ e. IsRefusal c.args.order table us e) _ _ p ((rw (c.as_slice-units.ensures.value) at c.in_err-layouts.ensures.large) c.args.order table)
+    let Q : WriteError → Type 0 = λ e. (order : Endian) (texts : List (List ℕ)) → IsRefusal order texts (map ordered c.as_slice-units.result.now) e in
+    let refused = IfErr-at_err Q c.in_err-layouts.was c.lay_out-laid.ensures.large in
+    err-exit (λ e. IsRefusal c.args.order table us e) _ _ p ((rw (c.as_slice-units.ensures.value) at refused) c.args.order table)
 
 pub returns-in_err-layouts-clause-expressions : goal.returns-in_err-layouts-clause-expressions
 returns-in_err-layouts-clause-expressions c =
     let us = map ordered c.args.dwarf.units.units.items in
     let table = c.args.dwarf.strings in
-    let all = sym (tested table c.as_slice-units.result.now c.args.dwarf.units.units.items c.have_short_lists.result c.as_slice-units.ensures.value c.have_short_lists.ensures) ∙ c.if-not-have_short_lists.false in
+    let all = sym (tested table c.as_slice-units.result.now c.args.dwarf.units.units.items c.are_short_lists.result c.as_slice-units.ensures.value c.are_short_lists.ensures) ∙ c.if-not-are_short_lists.false in
     none-for-expressions (have_short_expressions (given_trees table us)) (λ name. most_bytes < length (section_bytes c.args.order table us name)) _ all (returns-in_err-layouts-clause-large c)
 
 pub returns-in_err-layouts-clause-widest : goal.returns-in_err-layouts-clause-widest
@@ -74,30 +82,43 @@ returns-in_err-layouts-clause-widest c =
     let us = map ordered c.args.dwarf.units.units.items in
     let table = c.args.dwarf.strings in
     let p = err_from_is_err_and c.from_residual.result c.from_residual.ensures.1 in
-    err-exit (λ e. IsWideRefusal table us e) _ _ p ((rw (c.as_slice-units.ensures.value) at c.in_err-layouts.ensures.widest) table)
+    let Q : WriteError → Type 0 = λ e. (texts : List (List ℕ)) → IsWideRefusal texts (map ordered c.as_slice-units.result.now) e in
+    let refused = IfErr-at_err Q c.in_err-layouts.was c.lay_out-laid.ensures.widest in
+    err-exit (λ e. IsWideRefusal table us e) _ _ p ((rw (c.as_slice-units.ensures.value) at refused) table)
 
 pub returns-in_err-text_layout-clause-large : goal.returns-in_err-text_layout-clause-large
 returns-in_err-text_layout-clause-large c =
     let us = map ordered c.args.dwarf.units.units.items in
     let table = c.args.dwarf.strings in
     let p = err_from_is_err_and c.from_residual-in_err-text_layout.result c.from_residual-in_err-text_layout.ensures.1 in
-    let large = past-among (λ m. length (section_bytes c.args.order table us m)) Str _ _ (λ large. large) (rw (c.as_slice-units.ensures.value, c.as_slice-texts.ensures) at c.in_err-text_layout.ensures.large) in
+    let units = IfOk-at_ok (λ (ls : Vec UnitLayout Global). AllZip IsLaidOut c.as_slice-units.result.now ls.items) c.in_ok-layouts.was c.lay_out-laid.ensures.units in
+    let named = named-noted _ _ (rw (c.as_slice-units.ensures.value) at units) in
+    let large = past-among (λ m. length (section_bytes c.args.order table us m)) Str _ _ (λ large. large) (rw (c.deref.ensures.value, c.as_slice-texts.ensures, named) at c.in_err-text_layout.ensures.large) in
     err-exit (λ e. IsRefusal c.args.order table us e) _ _ p (size-refusal _ (λ m. most_bytes < length (section_bytes c.args.order table us m)) _ large)
 
 pub returns-in_err-text_layout-clause-expressions : goal.returns-in_err-text_layout-clause-expressions
 returns-in_err-text_layout-clause-expressions c =
     let us = map ordered c.args.dwarf.units.units.items in
     let table = c.args.dwarf.strings in
-    let all = sym (tested table c.as_slice-units.result.now c.args.dwarf.units.units.items c.have_short_lists.result c.as_slice-units.ensures.value c.have_short_lists.ensures) ∙ c.if-not-have_short_lists.false in
+    let all = sym (tested table c.as_slice-units.result.now c.args.dwarf.units.units.items c.are_short_lists.result c.as_slice-units.ensures.value c.are_short_lists.ensures) ∙ c.if-not-are_short_lists.false in
     none-for-expressions (have_short_expressions (given_trees table us)) (λ name. most_bytes < length (section_bytes c.args.order table us name)) _ all (returns-in_err-text_layout-clause-large c)
 
 pub returns-in_err-text_layout-clause-widest : goal.returns-in_err-text_layout-clause-widest
 returns-in_err-text_layout-clause-widest c =
     let us = map ordered c.args.dwarf.units.units.items in
     let table = c.args.dwarf.strings in
+    let units = IfOk-at_ok (λ (ls : Vec UnitLayout Global). AllZip IsLaidOut c.as_slice-units.result.now ls.items) c.in_ok-layouts.was c.lay_out-laid.ensures.units in
+    let named = named-noted _ _ (rw (c.as_slice-units.ensures.value) at units) in
     let texts : AreTexts table = subst AreTexts c.drop-in_err-text_layout.view_is c.drop-in_err-text_layout.invariant in
     let p = err_from_is_err_and c.from_residual-in_err-text_layout.result c.from_residual-in_err-text_layout.ensures.1 in
-    err-exit (λ e. IsWideRefusal table us e) _ _ p (texts-widely table us _ texts c.requires.texts (rw (c.as_slice-units.ensures.value, c.as_slice-texts.ensures) at c.in_err-text_layout.ensures.large))
+    err-exit (λ e. IsWideRefusal table us e) _ _ p (texts-widely table us _ texts c.requires.texts (rw (c.deref.ensures.value, c.as_slice-texts.ensures, named) at c.in_err-text_layout.ensures.large))
+
+pub lay_out_texts-requires : goal.lay_out_texts-requires
+lay_out_texts-requires c =
+    let units = IfOk-at_ok (λ (ls : Vec UnitLayout Global). AllZip IsLaidOut c.as_slice-units.result.now ls.items) c.in_ok-layouts.was c.lay_out-laid.ensures.units in
+    let named = named-noted _ _ (rw (c.as_slice-units.ensures.value) at units) in
+    let many = sym (length-map c.as_slice-texts.result.now (λ v. v.items)) ∙ ap length c.as_slice-texts.ensures in
+    rw (c.deref.ensures.value, named) (subst (λ k. All (λ n. n < k) (texts_named (map ordered c.args.dwarf.units.units.items))) (sym many) c.requires.texts)
 
 pub write_units-requires-clause-texts : goal.write_units-requires-clause-texts
 write_units-requires-clause-texts c =
@@ -109,8 +130,10 @@ returns-in_err-sections-clause-large c =
     let table = c.args.dwarf.strings in
     let l = c.in_ok-text_layout.text_layout in
     let laid : IsTextLayout table l = rw (c.as_slice-texts.ensures) at c.in_ok-text_layout.ensures.laid in
-    let used : l.used.items ≡ texts_used us = rw (c.as_slice-units.ensures.value) at c.in_ok-text_layout.ensures.used in
-    let placed = rw (c.as_slice-units.ensures.value) at (c.in_ok-layouts.ensures.places c.args.order) in
+    let units = IfOk-at_ok (λ (ls : Vec UnitLayout Global). AllZip IsLaidOut c.as_slice-units.result.now ls.items) c.in_ok-layouts.was c.lay_out-laid.ensures.units in
+    let used : l.used.items ≡ texts_used us = (rw (c.deref.ensures.value) at c.in_ok-text_layout.ensures.used) ∙ ap (with_numbers []) (named-noted _ _ (rw (c.as_slice-units.ensures.value) at units)) in
+    let P : Vec UnitLayout Global → Type 0 = λ ls. (order : Endian) → map places_view ls.items ≡ places_of_units order (size_of (map ordered c.as_slice-units.result.now)) 0 (map ordered c.as_slice-units.result.now) in
+    let placed = rw (c.as_slice-units.ensures.value) at (IfOk-at_ok P c.in_ok-layouts.was c.lay_out-laid.ensures.places c.args.order) in
     let are : whole_view c.deref-2.result.now c.deref-3.result.now ≡ all_places c.args.order table us = rw (c.deref-2.ensures.value, c.deref-3.ensures.value) (all-placed _ _ _ _ placed (text-places-are table us l laid used)) in
     let p = err_from_is_err_and c.from_residual-in_err-sections.result c.from_residual-in_err-sections.ensures.1 in
     err-exit (λ e. IsRefusal c.args.order table us e) _ _ p (refusal-of-all c.args.order (whole_view c.deref-2.result.now c.deref-3.result.now) table us _ are (rw (c.as_slice-units.ensures.value) at c.in_err-sections.ensures.large))
@@ -119,7 +142,7 @@ pub returns-in_err-sections-clause-expressions : goal.returns-in_err-sections-cl
 returns-in_err-sections-clause-expressions c =
     let us = map ordered c.args.dwarf.units.units.items in
     let table = c.args.dwarf.strings in
-    let all = sym (tested table c.as_slice-units.result.now c.args.dwarf.units.units.items c.have_short_lists.result c.as_slice-units.ensures.value c.have_short_lists.ensures) ∙ c.if-not-have_short_lists.false in
+    let all = sym (tested table c.as_slice-units.result.now c.args.dwarf.units.units.items c.are_short_lists.result c.as_slice-units.ensures.value c.are_short_lists.ensures) ∙ c.if-not-are_short_lists.false in
     none-for-expressions (have_short_expressions (given_trees table us)) (λ name. most_bytes < length (section_bytes c.args.order table us name)) _ all (returns-in_err-sections-clause-large c)
 
 pub returns-in_err-sections-clause-widest : goal.returns-in_err-sections-clause-widest
@@ -133,14 +156,14 @@ pub write_units-requires-clause-expressions : goal.write_units-requires-clause-e
 write_units-requires-clause-expressions c =
     let us = map ordered c.args.dwarf.units.units.items in
     let table = c.args.dwarf.strings in
-    let all = sym (tested table c.as_slice-units.result.now c.args.dwarf.units.units.items c.have_short_lists.result c.as_slice-units.ensures.value c.have_short_lists.ensures) ∙ c.if-not-have_short_lists.false in
+    let all = sym (tested table c.as_slice-units.result.now c.args.dwarf.units.units.items c.are_short_lists.result c.as_slice-units.ensures.value c.are_short_lists.ensures) ∙ c.if-not-are_short_lists.false in
     rw (c.as_slice-units.ensures.value) (short-trees table us all)
 
 pub returns-in_err-strings-clause-expressions : goal.returns-in_err-strings-clause-expressions
 returns-in_err-strings-clause-expressions c =
     let us = map ordered c.args.dwarf.units.units.items in
     let table = c.args.dwarf.strings in
-    let all = sym (tested table c.as_slice-units.result.now c.args.dwarf.units.units.items c.have_short_lists.result c.as_slice-units.ensures.value c.have_short_lists.ensures) ∙ c.if-not-have_short_lists.false in
+    let all = sym (tested table c.as_slice-units.result.now c.args.dwarf.units.units.items c.are_short_lists.result c.as_slice-units.ensures.value c.are_short_lists.ensures) ∙ c.if-not-are_short_lists.false in
     let p = err_from_is_err_and c.from_residual-in_err-strings.result c.from_residual-in_err-strings.ensures.1 in
     none-for-expressions (have_short_expressions (given_trees table us)) (λ name. most_bytes < length (section_bytes c.args.order table us name)) _ all (err-exit (λ e. IsRefusal c.args.order table us e) _ _ p (memory-refusal _ (λ name. most_bytes < length (section_bytes c.args.order table us name)) _ c.in_err-strings.ensures.memory))
 
@@ -148,7 +171,7 @@ pub returns-clause-expressions : goal.returns-clause-expressions
 returns-clause-expressions c =
     let us = map ordered c.args.dwarf.units.units.items in
     let table = c.args.dwarf.strings in
-    let all = sym (tested table c.as_slice-units.result.now c.args.dwarf.units.units.items c.have_short_lists.result c.as_slice-units.ensures.value c.have_short_lists.ensures) ∙ c.if-not-have_short_lists.false in
+    let all = sym (tested table c.as_slice-units.result.now c.args.dwarf.units.units.items c.are_short_lists.result c.as_slice-units.ensures.value c.are_short_lists.ensures) ∙ c.if-not-are_short_lists.false in
     none-for-expressions (have_short_expressions (given_trees table us)) (λ name. most_bytes < length (section_bytes c.args.order table us name)) _ all (IfErr-weaker c.gather.result (λ e. e ≡ OutOfMemory) (λ e. IsRefusal c.args.order table us e) (memory-refusal _ (λ name. most_bytes < length (section_bytes c.args.order table us name))) c.gather.ensures.memory)
 
 pub returns-clause-sections : goal.returns-clause-sections
@@ -157,8 +180,10 @@ returns-clause-sections c =
     let table = c.args.dwarf.strings in
     let l = c.in_ok-text_layout.text_layout in
     let laid : IsTextLayout table l = rw (c.as_slice-texts.ensures) at c.in_ok-text_layout.ensures.laid in
-    let used : l.used.items ≡ texts_used us = rw (c.as_slice-units.ensures.value) at c.in_ok-text_layout.ensures.used in
-    let placed = rw (c.as_slice-units.ensures.value) at (c.in_ok-layouts.ensures.places c.args.order) in
+    let units = IfOk-at_ok (λ (ls : Vec UnitLayout Global). AllZip IsLaidOut c.as_slice-units.result.now ls.items) c.in_ok-layouts.was c.lay_out-laid.ensures.units in
+    let used : l.used.items ≡ texts_used us = (rw (c.deref.ensures.value) at c.in_ok-text_layout.ensures.used) ∙ ap (with_numbers []) (named-noted _ _ (rw (c.as_slice-units.ensures.value) at units)) in
+    let P : Vec UnitLayout Global → Type 0 = λ ls. (order : Endian) → map places_view ls.items ≡ places_of_units order (size_of (map ordered c.as_slice-units.result.now)) 0 (map ordered c.as_slice-units.result.now) in
+    let placed = rw (c.as_slice-units.ensures.value) at (IfOk-at_ok P c.in_ok-layouts.was c.lay_out-laid.ensures.places c.args.order) in
     let are : whole_view c.deref-2.result.now c.deref-3.result.now ≡ all_places c.args.order table us = rw (c.deref-2.ensures.value, c.deref-3.ensures.value) (all-placed _ _ _ _ placed (text-places-are table us l laid used)) in
     let all = rw (c.as_slice-units.ensures.value) at c.in_ok-sections.ensures.ok in
     let body : texts_bytes table l.used.items ≡ texts_bytes table (texts_used us) = ap (texts_bytes table) used in
@@ -196,7 +221,7 @@ returns-clause-trees c =
     let table = c.args.dwarf.strings in
     let fits = rw (c.as_slice-units.ensures.value) at c.in_ok-sections.ensures.fits in
     let lines = rw (c.as_slice-units.ensures.value) at c.in_ok-sections.ensures.lines in
-    let all = sym (tested table c.as_slice-units.result.now c.args.dwarf.units.units.items c.have_short_lists.result c.as_slice-units.ensures.value c.have_short_lists.ensures) ∙ c.if-not-have_short_lists.false in
+    let all = sym (tested table c.as_slice-units.result.now c.args.dwarf.units.units.items c.are_short_lists.result c.as_slice-units.ensures.value c.are_short_lists.ensures) ∙ c.if-not-are_short_lists.false in
     let short = short-trees table us all in
     let Q : List OutputSection → Type 0 = λ ss. All (IsSound c.args.order) ss in
     let texts : AreTexts table = subst AreTexts c.drop-2.view_is c.drop-2.invariant in
@@ -233,7 +258,7 @@ returns-clause-relocated c =
     let table = c.args.dwarf.strings in
     let fits = rw (c.as_slice-units.ensures.value) at c.in_ok-sections.ensures.fits in
     let lines = rw (c.as_slice-units.ensures.value) at c.in_ok-sections.ensures.lines in
-    let all = sym (tested table c.as_slice-units.result.now c.args.dwarf.units.units.items c.have_short_lists.result c.as_slice-units.ensures.value c.have_short_lists.ensures) ∙ c.if-not-have_short_lists.false in
+    let all = sym (tested table c.as_slice-units.result.now c.args.dwarf.units.units.items c.are_short_lists.result c.as_slice-units.ensures.value c.are_short_lists.ensures) ∙ c.if-not-are_short_lists.false in
     let short = short-trees table us all in
     let Q : List OutputSection → Type 0 = λ ss. All (IsSound c.args.order) ss in
     if-ok-both c.gather.result _ _ _ (λ s is sound. subst (AreRelocated c.args.order) (sym is) (are-relocated c.args.order table us c.requires.units short fits lines (subst Q is sound))) (returns-clause-sections c) (returns-clause-sound c)
