@@ -1,8 +1,8 @@
 -- Steps of the walk that cuts ranges by pieces.
-use Rattle.std.proofs.Common.{◌≡◌, ℕ, suc, ◌<◌, ◌≤◌, ◌+◌, List, [], ◌++◌, length, get_or, drop, map, true, ap, sym, subst, ◌∙◌, arith, inl, inr, eqb-true, Some, None, append_assoc, append-nil}
+use Rattle.std.proofs.Common.{◌≡◌, ℕ, suc, ◌<◌, ◌≤◌, ◌+◌, List, [], ◌++◌, length, get_or, drop, map, true, ap, sym, subst, ◌∙◌, arith, inl, inr, eqb-true, Some, None}
 use Rattle.std.specs.Prelude.{Option, All, AllPairs, option_to_list}
 use Rattle.std.specs.List.{filter_map}
-use Rattle.std.proofs.lemmas.List.{get_or-map, length-map, at_drop_more, get_or_default}
+use Rattle.std.proofs.lemmas.List.{get_or-map, length-map, at_drop_more, drop_all, get_or_default}
 use Rattle.dwc_base.specs.Compiled.{LabelRange}
 use Rattle.dwc_base.specs.Placed.{NativeRange, is_number}
 use Rattle.dwc_base.specs.LabelRanges.{IsBefore}
@@ -12,7 +12,7 @@ use Rattle.dwc_clif.specs.ValueLabels.{range_view}
 use Rattle.dwc_expr.specs.FlatRanges.{IsFlat}
 use Rattle.dwc_expr.specs.PlacedParts.{PlacedPart, cut_by, cuts_of, cuts_from, EndBy}
 use Rattle.dwc_expr.proofs.PieceLaws.{end-more}
-use Rattle.dwc_expr.proofs.CutLaws.{cuts-own, cuts-passed, cuts-done, cuts-step}
+use Rattle.dwc_expr.proofs.CutLaws.{cuts-done, cuts-step}
 
 -- what stands past the end of a list
 abbrev pub no_piece : ValueLocRange
@@ -34,65 +34,37 @@ pub seen-at : {A B : Type 0} (f : A → B) (xs : List A) (n : ℕ) (x : A) (y : 
 seen-at f xs n x y inside is e = record { inside = inside-seen f xs n inside; is = get_or-map f xs n x y inside ∙ ap f (sym is) ∙ sym e }
 
 module _ (pieces : List ValueLocRange) (n : ℕ) (inside : n < length pieces) where
-  -- the part in one more piece is put
-  pub cut-go :
-      (f : LabelRange → Option PlacedPart) (before new all : List PlacedPart) → new ≡ before ++ option_to_list (f (range_view (get_or pieces n no_piece))) → before ++ filter_map f (drop n (map range_view pieces)) ≡ all
-      → new ++ filter_map f (drop (n + 1) (map range_view pieces)) ≡ all
-  cut-go f before new all put so_far =
-      ap (λ xs. xs ++ filter_map f (drop (n + 1) (map range_view pieces))) put
-      ∙ append_assoc before (option_to_list (f (range_view (get_or pieces n no_piece)))) (filter_map f (drop (n + 1) (map range_view pieces)))
-      ∙ ap (λ xs. before ++ xs) (sym step)
-      ∙ so_far
-    where
-      step : filter_map f (drop n (map range_view pieces)) ≡ option_to_list (f (range_view (get_or pieces n no_piece))) ++ filter_map f (drop (n + 1) (map range_view pieces))
-      step = cuts-step f (map range_view pieces) n (range_view no_piece) (inside-seen range_view pieces n inside) ∙ ap (λ p. option_to_list (f p) ++ filter_map f (drop (n + 1) (map range_view pieces))) (piece-seen pieces n no_piece inside)
+  -- the part in one more piece
+  pub piece-step : (f : LabelRange → Option PlacedPart) → filter_map f (drop n (map range_view pieces)) ≡ option_to_list (f (range_view (get_or pieces n no_piece))) ++ filter_map f (drop (n + 1) (map range_view pieces))
+  piece-step f = cuts-step f (map range_view pieces) n (range_view no_piece) (inside-seen range_view pieces n inside) ∙ ap (λ p. option_to_list (f p) ++ filter_map f (drop (n + 1) (map range_view pieces))) (piece-seen pieces n no_piece inside)
 
   pub passed-go : (byte end : ℕ) → end ≤ byte → (get_or pieces n no_piece).end ≤ end → EndBy byte n (map range_view pieces) → EndBy byte (n + 1) (map range_view pieces)
   passed-go byte end le to h =
       let seen : (get_or (map range_view pieces) n (range_view no_piece)).end ≤ byte = subst (λ (p : LabelRange). p.end ≤ byte) (sym (piece-seen pieces n no_piece inside)) (omega (arith, le, to)) in
       end-more (map range_view pieces) byte n (range_view no_piece) (inside-seen range_view pieces n inside) seen h
 
-  -- the piece ends behind the range: all are put
-  pub cut-done :
-      (own : Option ℕ) (index first : ℕ) (r : NativeRange) (before new old : List PlacedPart) → IsFlat (map range_view pieces) → is_number own r.function ≡ true → r.end < (get_or pieces n no_piece).end
-      → new ≡ before ++ option_to_list (cut_by index r (range_view (get_or pieces n no_piece)))
-      → before ++ filter_map (cut_by index r) (drop n (map range_view pieces)) ≡ old ++ filter_map (cut_by index r) (drop first (map range_view pieces))
-      → new ≡ old ++ cuts_of own (drop first (map range_view pieces)) index r
-  cut-done own index first r before new old flat is behind put so_far =
-      sym (append-nil new)
-      ∙ ap (λ xs. new ++ xs) (sym done)
-      ∙ cut-go (cut_by index r) before new (old ++ filter_map (cut_by index r) (drop first (map range_view pieces))) put so_far
-      ∙ ap (λ xs. old ++ xs) (sym (cuts-own own (drop first (map range_view pieces)) index r is))
+  -- behind a piece that ends behind the range there is none
+  pub pieces-done : (index : ℕ) (r : NativeRange) → IsFlat (map range_view pieces) → r.end < (get_or pieces n no_piece).end → filter_map (cut_by index r) (drop (n + 1) (map range_view pieces)) ≡ []
+  pieces-done index r flat behind = cuts-done (map range_view pieces) flat index n r (range_view no_piece) (inside-seen range_view pieces n inside) seen
     where
       seen : r.end ≤ (get_or (map range_view pieces) n (range_view no_piece)).end
       seen = subst (λ (p : LabelRange). r.end ≤ p.end) (sym (piece-seen pieces n no_piece inside)) (omega (arith, behind))
 
-      done : filter_map (cut_by index r) (drop (n + 1) (map range_view pieces)) ≡ []
-      done = cuts-done (map range_view pieces) flat index n r (range_view no_piece) (inside-seen range_view pieces n inside) seen
+-- no part is in pieces behind all
+pub pieces-past : (f : LabelRange → Option PlacedPart) (pieces : List ValueLocRange) (n : ℕ) → length pieces ≤ n → filter_map f (drop n (map range_view pieces)) ≡ []
+pieces-past f pieces n past = ap (filter_map f) (drop_all n (map range_view pieces) (omega (arith, past, length-map pieces range_view)))
 
 -- ---- one range more
 
--- the cuts of one more range are put
-pub range-go :
-    (own : Option ℕ) (ps : List LabelRange) (rs : List NativeRange) (i next : ℕ) (r : NativeRange) (before new all : List PlacedPart) → IsAt rs i r
-    → (is_number own r.function ≡ true → EndBy r.start next ps)
-    → new ≡ before ++ cuts_of own (drop next ps) i r
-    → before ++ cuts_from own ps i (drop i rs) ≡ all
-    → new ++ cuts_from own ps (i + 1) (drop (i + 1) rs) ≡ all
-range-go own ps rs i next r before new all at passed put so_far =
-    ap (λ xs. xs ++ cuts_from own ps (i + 1) (drop (i + 1) rs)) (put ∙ ap (λ xs. before ++ xs) (cuts-passed own ps i next r passed))
-    ∙ append_assoc before (cuts_of own ps i r) (cuts_from own ps (i + 1) (drop (i + 1) rs))
-    ∙ ap (λ xs. before ++ xs) (sym step)
-    ∙ so_far
+-- the parts of one more range
+pub range-step : (own : Option ℕ) (ps : List LabelRange) (rs : List NativeRange) (i : ℕ) (r : NativeRange) → IsAt rs i r → cuts_from own ps i (drop i rs) ≡ cuts_of own ps i r ++ cuts_from own ps (i + 1) (drop (i + 1) rs)
+range-step own ps rs i r at =
+    at_drop_more (cuts_from own ps i) rs i r at.inside
+    ∙ ap (λ s. cuts_of own ps i s ++ cuts_from own ps (suc i) (drop (i + 1) rs)) at.is
+    ∙ ap (λ k. cuts_of own ps i r ++ cuts_from own ps k (drop (i + 1) rs)) next_number
   where
     next_number : suc i ≡ i + 1
     next_number = omega arith
-
-    step : cuts_from own ps i (drop i rs) ≡ cuts_of own ps i r ++ cuts_from own ps (i + 1) (drop (i + 1) rs)
-    step =
-        at_drop_more (cuts_from own ps i) rs i r at.inside
-        ∙ ap (λ s. cuts_of own ps i s ++ cuts_from own ps (suc i) (drop (i + 1) rs)) at.is
-        ∙ ap (λ k. cuts_of own ps i r ++ cuts_from own ps k (drop (i + 1) rs)) next_number
 
 -- The pieces that are passed end in front of each of one's own ranges from a place on.
 abbrev pub AllPassed : Option ℕ → List LabelRange → List NativeRange → ℕ → ℕ → Type 0

@@ -107,6 +107,10 @@ put-apart r old some apart end f le = behind end r old some le (go (ends old)) f
         subst (IsNoneBefore r) (sym e.is)
         (none-before end r e.last e.front le (sym (goes_on-end e.front e.last r) ∙ ap (λ rs. goes_on_last rs r) (sym e.is) ∙ apart) (subst (IsFlatTo end) e.is f))
 
+-- flat ranges with one more that does not go on where the last one ends
+pub flat-more : (end : ℕ) (r : LabelRange) (rs : List LabelRange) → IsFlatTo end rs → end ≤ r.start → r.start < r.end → goes_on_last rs r ≡ false → IsFlatTo r.end (rs ++ r ∷ [])
+flat-more end r rs f le some apart = subst (λ n. IsFlatTo n (rs ++ r ∷ [])) (omega (arith, le, some)) (put-apart r rs some apart end f le).flat
+
 -- two ranges that touch at one place answer as one
 module _ (l r : LabelRange) (first : l.start < l.end) (second : r.start < r.end) (touch : l.end ≡ r.start) (place : l.place ≡ r.place) where
   joined-same : (byte : ℕ) → last_place (record l { end = r.end } ∷ []) byte ≡ option_or (last_place (r ∷ []) byte) (last_place (l ∷ []) byte)

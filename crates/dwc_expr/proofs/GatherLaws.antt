@@ -10,27 +10,22 @@ use Rattle.std.proofs.lemmas.List.{get_or-map, length-map}
 use Rattle.std.proofs.lemmas.List.Folds.{list_any-append}
 use Rattle.dwc_base.specs.Values.{is_one_of}
 use Rattle.dwc_base.specs.Compiled.{LabelRange}
-use Rattle.dwc_base.specs.Placed.{Frame, NativeRange, last_place, placed, all_placed, is_number}
+use Rattle.dwc_base.specs.Placed.{Frame, NativeRange, placed, all_placed}
 use Rattle.dwc_base.specs.LabelRanges.{AreLabelRanges, AreMaximal, AtEachByte, label_ranges, all_bytes_placed, bytes_of}
 use Rattle.dwc_base.specs.BuiltExpressions.{has_bad_range}
-use Rattle.dwc_base.proofs.InLists.{IsIn, in-any, in-map, map-in}
+use Rattle.dwc_base.proofs.InLists.{IsIn, in-any}
 use Rattle.dwc_base.proofs.LabelRangeMaximal.{label-ranges-maximal}
-use Rattle.dwc_clif.specs.declared.value_label.ValueLocRange.{ValueLocRange}
-use Rattle.dwc_clif.specs.ValueLabels.{range_view, place_view}
+use Rattle.dwc_clif.specs.ValueLabels.{place_view}
 use Rattle.dwc_expr.specs.declared.cached_range.CachedValueLabelRange.{CachedValueLabelRange}
-use Rattle.dwc_expr.specs.declared.code_range.CodeRange.{CodeRange}
-use Rattle.dwc_expr.specs.declared.cuts.Cut.{Cut}
-use Rattle.dwc_expr.specs.CodeRanges.{code_range_view}
-use Rattle.dwc_expr.specs.FlatRanges.{IsFlat}
 use Rattle.dwc_expr.specs.Frames.{ToldFrame, frame_of}
 use Rattle.dwc_expr.specs.LabelRanges.{Gathered, gathered_frame, with_label, bounds_of, location_in, SaysPlaces, HasPlaces, GivesRanges}
-use Rattle.dwc_expr.specs.NarrowedRanges.{IsMadeOf, IsMadeIn}
-use Rattle.dwc_expr.specs.OwnPlaces.{own_function, own_ranges, place_in, are_filled}
-use Rattle.dwc_expr.specs.PlacedParts.{cut_view, cuts_from}
+use Rattle.dwc_expr.specs.NarrowedRanges.{IsMadeBy, IsMadeIn, Tells}
+use Rattle.dwc_expr.specs.OwnPlaces.{own_ranges, are_filled}
+use Rattle.dwc_expr.specs.PlacedParts.{PlacedPart, cuts_from}
 use Rattle.dwc_expr.proofs.PairLaws.{all-in, in-all, all-true, all-unmapped, true-all, true-bytes}
 use Rattle.dwc_expr.proofs.StayLaws.{stay-placed}
 use Rattle.dwc_expr.proofs.CutLaws.{IsPart, cuts-in, range-among}
-use Rattle.dwc_expr.proofs.NarrowLaws.{Tells, IsFine, range-fine, part-placed, narrowed-ranges, covers-more}
+use Rattle.dwc_expr.proofs.NarrowLaws.{IsFine, range-fine, part-placed, narrowed-ranges, covers-more}
 
 -- ---- what the calls that narrow ask
 
@@ -38,16 +33,6 @@ use Rattle.dwc_expr.proofs.NarrowLaws.{Tells, IsFine, range-fine, part-placed, n
 pub bad-range : (f : Option ToldFrame) (label : ℕ) (rs : List LabelRange) → rs ≡ own_ranges f label → has_bad_range (option_map frame_of f) label ≡ list_any (λ r. nat_lt r.end r.start) rs
 bad-range None label rs e = ap (list_any (λ r. nat_lt r.end r.start)) (sym e)
 bad-range (Some f) label rs e = ap (list_any (λ r. nat_lt r.end r.start)) (sym e)
-
--- a cut is a part of the range at its number
-pub cut-part : (own : Option ℕ) (ps : List LabelRange) (ranges : List CachedValueLabelRange) (cuts : List Cut) → map cut_view cuts ≡ cuts_from own ps 0 (map bounds_of ranges) → (c : Cut) → IsIn c cuts → IsPart own ps 0 (map bounds_of ranges) (cut_view c)
-cut-part own ps ranges cuts is c i = cuts-in own ps 0 (map bounds_of ranges) (cut_view c) (subst (IsIn (cut_view c)) is (map-in cut_view cuts c i))
-
-cut-number : (own : Option ℕ) (ps : List LabelRange) (ranges : List CachedValueLabelRange) (c : Cut) → (f : IsPart own ps 0 (map bounds_of ranges) (cut_view c)) → (c.index ≡ f.offset) × (c.index < length ranges)
-cut-number own ps ranges c f = (omega (arith, f.number), omega (arith, f.number, f.inside, length-map ranges bounds_of))
-
-pub cuts-known : (own : Option ℕ) (ps : List LabelRange) (ranges : List CachedValueLabelRange) (cuts : List Cut) → map cut_view cuts ≡ cuts_from own ps 0 (map bounds_of ranges) → All (λ c. c.index < length ranges) cuts
-cuts-known own ps ranges cuts is = in-all (λ c. c.index < length ranges) cuts (λ c i. (cut-number own ps ranges c (cut-part own ps ranges cuts is c i)).1)
 
 -- ranges that give what is gathered are in order and have bytes
 pub gives-maximal : (g : Gathered) (ranges : List CachedValueLabelRange) (covers : Bool) → GivesRanges g ranges covers → AreMaximal (gathered_frame g) g.labels g.scope (map bounds_of ranges)
@@ -90,36 +75,22 @@ all-placed-none : (frame : Option Frame) (scope : List NativeRange) → all_byte
 all-placed-none frame scope = true-all (λ r. list_all (all_placed frame [] r.function) (bytes_of r)) scope (λ r i. true-bytes (all_placed frame [] r.function) r (λ b from to. refl))
 
 pub begins-given :
-    (frame : Option ToldFrame) (has : Bool) (scope : List NativeRange) (ranges : List CachedValueLabelRange) (joined : List CodeRange)
-    → map code_range_view joined ≡ label_ranges None [] scope → map bounds_of ranges ≡ map code_range_view joined
-    → All (λ r. r.label_location.entries ≡ []) ranges → All (λ r. r.end < 2 ^ 32) joined
+    (frame : Option ToldFrame) (has : Bool) (scope : List NativeRange) (ranges : List CachedValueLabelRange) → map bounds_of ranges ≡ label_ranges None [] scope → All (λ r. r.label_location.entries ≡ []) ranges → All (λ r. r.end < 2 ^ 32) ranges
     → GivesRanges (record { frame = frame; has_scope = has; scope = scope; labels = [] }) ranges has
-begins-given frame has scope ranges joined are same none low = record {
-  bounds = same ∙ are;
+begins-given frame has scope ranges are none low = record {
+  bounds = are;
   places = in-all (SaysPlaces (option_map frame_of frame) []) ranges (λ r i label. ap (λ es. option_map place_view (lookup (is_at (nat_cmp label)) es)) (all-in (λ r. r.label_location.entries ≡ []) ranges none r i));
-  low = all-unmapped bounds_of (λ r. r.end < 2 ^ 32) ranges (subst (All (λ r. r.end < 2 ^ 32)) (sym same) (in-all (λ r. r.end < 2 ^ 32) (map code_range_view joined) below));
+  low = low;
   cover = and-true has ∙ ap (λ b. has && b) (sym (all-placed-none (option_map frame_of frame) scope));
 }
-  where
-    below : (r : NativeRange) → IsIn r (map code_range_view joined) → r.end < 2 ^ 32
-    below r i = let found = in-map code_range_view joined r i in subst (λ (s : NativeRange). s.end < 2 ^ 32) (sym found.2) (all-in (λ r. r.end < 2 ^ 32) joined low found.0 found.1)
 
 -- ---- with one more label
 
--- what is told by flat pieces
-told-tells :
-    (f : Option ToldFrame) (label : ℕ) (own : Option ℕ) (ps : List LabelRange) → own ≡ own_function f → IsFlat ps → ((byte : ℕ) → last_place ps byte ≡ last_place (own_ranges f label) byte) → Tells (option_map frame_of f) label own ps
-told-tells f label own ps mine flat same = record { flat = flat; same = λ function byte. at f same function byte ∙ ap (λ o. place_in o ps function byte) (sym mine) }
-  where
-    at : (f : Option ToldFrame) → ((byte : ℕ) → last_place ps byte ≡ last_place (own_ranges f label) byte) → (function byte : ℕ) → placed (option_map frame_of f) function byte label ≡ place_in (own_function f) ps function byte
-    at None same function byte = refl
-    at (Some f) same function byte = ap (λ o. if is_number f.symbol function then o else None) (sym (same byte))
-
-zip-bounds : (label : ℕ) (ranges : List CachedValueLabelRange) (cuts : List Cut) (made : List CachedValueLabelRange) → AllZip (IsMadeIn label ranges) cuts made → map bounds_of made ≡ map (λ x. x.bytes) (map cut_view cuts)
+zip-bounds : (label : ℕ) (ranges : List CachedValueLabelRange) (parts : List PlacedPart) (made : List CachedValueLabelRange) → AllZip (IsMadeIn label ranges) parts made → map bounds_of made ≡ map (λ x. x.bytes) parts
 zip-bounds label ranges [] [] h = refl
 zip-bounds label ranges [] (r ∷ made) h = absurd h
-zip-bounds label ranges (c ∷ cuts) [] h = absurd h
-zip-bounds label ranges (c ∷ cuts) (r ∷ made) h = ap (λ b. b ∷ map bounds_of made) (h.0 r).bounds ∙ ap (λ bs. code_range_view c.range ∷ bs) (zip-bounds label ranges cuts made h.1)
+zip-bounds label ranges (x ∷ parts) [] h = absurd h
+zip-bounds label ranges (x ∷ parts) (r ∷ made) h = ap (λ b. b ∷ map bounds_of made) (h.0 r).bounds ∙ ap (λ bs. x.bytes ∷ bs) (zip-bounds label ranges parts made h.1)
 
 zip-in : {A B : Type 0} (R : A → B → Type 0) (xs : List A) (ys : List B) → AllZip R xs ys → (y : B) → IsIn y ys → (x : A) × IsIn x xs × R x y
 zip-in R [] [] h y i = absurd i
@@ -134,25 +105,24 @@ and-inside false b c = refl
 
 -- a range that is made of a cut, with the range that was cut
 record IsMade (own : Option ℕ) (ps : List LabelRange) (label : ℕ) (ranges : List CachedValueLabelRange) (r : CachedValueLabelRange) : Type 0 where
-  cut : Cut
-  part : IsPart own ps 0 (map bounds_of ranges) (cut_view cut)
+  cut : PlacedPart
+  part : IsPart own ps 0 (map bounds_of ranges) cut
   known : cut.index < length ranges
-  made : IsMadeOf label (get_or ranges cut.index r) cut r
+  made : IsMadeBy label (get_or ranges cut.index r) cut r
   seen : bounds_of (get_or ranges cut.index r) ≡ part.range
 
-is-made :
-    (own : Option ℕ) (ps : List LabelRange) (label : ℕ) (ranges : List CachedValueLabelRange) (cuts : List Cut) (made : List CachedValueLabelRange) → map cut_view cuts ≡ cuts_from own ps 0 (map bounds_of ranges) → AllZip (IsMadeIn label ranges) cuts made
-    → (r : CachedValueLabelRange) → IsIn r made → IsMade own ps label ranges r
-is-made own ps label ranges cuts made is zip r i =
-    let found = zip-in (IsMadeIn label ranges) cuts made zip r i in
-    let f : IsPart own ps 0 (map bounds_of ranges) (cut_view found.0) = cut-part own ps ranges cuts is found.0 found.1 in
-    let number = cut-number own ps ranges found.0 f in
+is-made : (own : Option ℕ) (ps : List LabelRange) (label : ℕ) (ranges made : List CachedValueLabelRange) → AllZip (IsMadeIn label ranges) (cuts_from own ps 0 (map bounds_of ranges)) made → (r : CachedValueLabelRange) → IsIn r made → IsMade own ps label ranges r
+is-made own ps label ranges made zip r i =
+    let found = zip-in (IsMadeIn label ranges) (cuts_from own ps 0 (map bounds_of ranges)) made zip r i in
+    let f : IsPart own ps 0 (map bounds_of ranges) found.0 = cuts-in own ps 0 (map bounds_of ranges) found.0 found.1 in
+    let number : found.0.index ≡ f.offset = omega (arith, f.number) in
+    let known : found.0.index < length ranges = omega (arith, f.number, f.inside, length-map ranges bounds_of) in
     record {
       cut = found.0;
       part = f;
-      known = number.1;
+      known = known;
       made = found.2 r;
-      seen = sym (get_or-map bounds_of ranges found.0.index r (bounds_of r) number.1) ∙ ap (λ k. get_or (map bounds_of ranges) k (bounds_of r)) number.0 ∙ f.is (bounds_of r);
+      seen = sym (get_or-map bounds_of ranges found.0.index r (bounds_of r) known) ∙ ap (λ k. get_or (map bounds_of ranges) k (bounds_of r)) number ∙ f.is (bounds_of r);
     }
 
 module _ (g : Gathered) (label : ℕ) (own : Option ℕ) (ps : List LabelRange) (ranges : List CachedValueLabelRange) (covers : Bool) (t : Tells (gathered_frame g) label own ps) (old : GivesRanges g ranges covers) where
@@ -171,20 +141,20 @@ module _ (g : Gathered) (label : ℕ) (own : Option ℕ) (ps : List LabelRange) 
       before = get_or ranges m.cut.index r
 
       fine : IsFine frame g.labels g.scope m.part.range
-      fine = range-fine frame g.labels g.scope (map bounds_of ranges) (gives-maximal g ranges covers old) m.part.range (range-among own ps 0 (map bounds_of ranges) (cut_view m.cut) m.part)
+      fine = range-fine frame g.labels g.scope (map bounds_of ranges) (gives-maximal g ranges covers old) m.part.range (range-among own ps 0 (map bounds_of ranges) m.cut m.part)
 
       -- the place at the begin of the new range, by the function and the begin of the cut
-      new-place : (l : ℕ) → placed frame r.func_index r.start l ≡ placed frame m.part.range.function m.cut.range.start l
-      new-place l = ap (λ (b : NativeRange). placed frame b.function b.start l) m.made.bounds ∙ ap (λ n. placed frame n m.cut.range.start l) m.part.cut.function
+      new-place : (l : ℕ) → placed frame r.func_index r.start l ≡ placed frame m.part.range.function m.cut.bytes.start l
+      new-place l = ap (λ (b : NativeRange). placed frame b.function b.start l) m.made.bounds ∙ ap (λ n. placed frame n m.cut.bytes.start l) m.part.cut.function
 
       old-place : (l : ℕ) → placed frame (get_or ranges m.cut.index r).func_index (get_or ranges m.cut.index r).start l ≡ placed frame m.part.range.function m.part.range.start l
       old-place l = ap (λ (b : NativeRange). placed frame b.function b.start l) m.seen
 
-      stays : is_one_of g.labels other ≡ true → placed frame m.part.range.function m.part.range.start other ≡ placed frame m.part.range.function m.cut.range.start other
-      stays is = stay-placed frame m.part.range.function g.labels m.part.range.start m.cut.range.start other (fine.steady m.cut.range.start m.part.cut.from_range (omega (arith, m.part.cut.some, m.part.cut.to_range))) is
+      stays : is_one_of g.labels other ≡ true → placed frame m.part.range.function m.part.range.start other ≡ placed frame m.part.range.function m.cut.bytes.start other
+      stays is = stay-placed frame m.part.range.function g.labels m.part.range.start m.cut.bytes.start other (fine.steady m.cut.bytes.start m.part.cut.from_range (omega (arith, m.part.cut.some, m.part.cut.to_range))) is
 
-      here : placed frame m.part.range.function m.cut.range.start label ≡ Some (place_view m.cut.loc)
-      here = part-placed frame g.labels label g.scope own ps t m.part.range m.part.piece (cut_view m.cut) m.part.mine m.part.among m.part.cut m.cut.range.start (omega arith) m.part.cut.some ∙ ap Some (sym m.part.cut.place)
+      here : placed frame m.part.range.function m.cut.bytes.start label ≡ Some m.cut.place
+      here = part-placed frame g.labels label g.scope own ps t m.part.range m.part.piece m.cut m.part.mine m.part.among m.part.cut m.cut.bytes.start (omega arith) m.part.cut.some ∙ ap Some (sym m.part.cut.place)
 
       told : (b : Bool) → is_one_of g.labels other ≡ b → location_in (get_or ranges m.cut.index r) other ≡ (if b then placed frame (get_or ranges m.cut.index r).func_index (get_or ranges m.cut.index r).start other else None)
       told b e = old.places m.cut.index r m.known other ∙ ap (λ z. if z then placed frame (get_or ranges m.cut.index r).func_index (get_or ranges m.cut.index r).start other else None) e
@@ -192,9 +162,9 @@ module _ (g : Gathered) (label : ℕ) (own : Option ℕ) (ps : List LabelRange) 
       say : (a b : Bool) → label == other ≡ a → is_one_of g.labels other ≡ b → location_in r other ≡ (if b || (a || false) then placed frame r.func_index r.start other else None)
       say true b mine e =
           m.made.places other
-          ∙ ap (λ z. if z then Some (place_view m.cut.loc) else location_in (get_or ranges m.cut.index r) other) mine
+          ∙ ap (λ z. if z then Some m.cut.place else location_in (get_or ranges m.cut.index r) other) mine
           ∙ sym here
-          ∙ ap (placed frame m.part.range.function m.cut.range.start) (eqb-true label other mine)
+          ∙ ap (placed frame m.part.range.function m.cut.bytes.start) (eqb-true label other mine)
           ∙ sym (new-place other)
           ∙ either b
         where
@@ -203,46 +173,33 @@ module _ (g : Gathered) (label : ℕ) (own : Option ℕ) (ps : List LabelRange) 
           either false = refl
       say false true mine e =
           m.made.places other
-          ∙ ap (λ z. if z then Some (place_view m.cut.loc) else location_in (get_or ranges m.cut.index r) other) mine
+          ∙ ap (λ z. if z then Some m.cut.place else location_in (get_or ranges m.cut.index r) other) mine
           ∙ told true e
           ∙ old-place other
           ∙ stays e
           ∙ sym (new-place other)
       say false false mine e =
           m.made.places other
-          ∙ ap (λ z. if z then Some (place_view m.cut.loc) else location_in (get_or ranges m.cut.index r) other) mine
+          ∙ ap (λ z. if z then Some m.cut.place else location_in (get_or ranges m.cut.index r) other) mine
           ∙ told false e
 
   made-low : (r : CachedValueLabelRange) → IsMade own ps label ranges r → r.end < 2 ^ 32
   made-low r m =
-      let new : r.end ≡ m.cut.range.end = ap (λ (b : NativeRange). b.end) m.made.bounds in
+      let new : r.end ≡ m.cut.bytes.end = ap (λ (b : NativeRange). b.end) m.made.bounds in
       let was : (get_or ranges m.cut.index r).end ≡ m.part.range.end = ap (λ (b : NativeRange). b.end) m.seen in
       let low : (get_or ranges m.cut.index r).end < 2 ^ 32 = old.low m.cut.index r m.known in
       omega (arith, new, was, low, m.part.cut.to_range)
 
-  pub narrowed-given :
-      (cuts : List Cut) (made : List CachedValueLabelRange) (covers' : Bool) → map cut_view cuts ≡ cuts_from own ps 0 (map bounds_of ranges) → AllZip (IsMadeIn label ranges) cuts made
-      → covers' ≡ (covers && are_filled own ps (map bounds_of ranges)) → GivesRanges (with_label label g) made covers'
-  narrowed-given cuts made covers' is zip all =
+  pub narrowed-given : (made : List CachedValueLabelRange) (covers' : Bool) → AllZip (IsMadeIn label ranges) (cuts_from own ps 0 (map bounds_of ranges)) made → covers' ≡ (covers && are_filled own ps (map bounds_of ranges)) → GivesRanges (with_label label g) made covers'
+  narrowed-given made covers' zip all =
       let m = gives-maximal g ranges covers old in
       record {
-        bounds = zip-bounds label ranges cuts made zip ∙ ap (map (λ x. x.bytes)) is ∙ narrowed-ranges frame g.labels label g.scope own ps t (map bounds_of ranges) m;
-        places = in-all (SaysPlaces frame (g.labels ++ label ∷ [])) made (λ r i. made-says r (is-made own ps label ranges cuts made is zip r i));
-        low = in-all (λ r. r.end < 2 ^ 32) made (λ r i. made-low r (is-made own ps label ranges cuts made is zip r i));
+        bounds = zip-bounds label ranges (cuts_from own ps 0 (map bounds_of ranges)) made zip ∙ narrowed-ranges frame g.labels label g.scope own ps t (map bounds_of ranges) m;
+        places = in-all (SaysPlaces frame (g.labels ++ label ∷ [])) made (λ r i. made-says r (is-made own ps label ranges made zip r i));
+        low = in-all (λ r. r.end < 2 ^ 32) made (λ r i. made-low r (is-made own ps label ranges made zip r i));
         cover =
             all
             ∙ ap (λ b. b && are_filled own ps (map bounds_of ranges)) old.cover
             ∙ and-inside g.has_scope (all_bytes_placed frame g.labels g.scope) (are_filled own ps (map bounds_of ranges))
             ∙ ap (λ b. g.has_scope && b) (sym (covers-more frame g.labels label g.scope own ps t (map bounds_of ranges) m));
       }
-
--- What is gathered is given with one more label by the parts of the ranges that were.
-pub narrows-given :
-    (f : Option ToldFrame) (label : ℕ) (told pieces : List ValueLocRange) (own : Option ℕ) (ranges : List CachedValueLabelRange) (covers : Bool) (cuts : List Cut) (made : List CachedValueLabelRange) (covers' : Bool)
-    → own ≡ own_function f → map range_view told ≡ own_ranges f label → IsFlat (map range_view pieces) → ((byte : ℕ) → last_place (map range_view pieces) byte ≡ last_place (map range_view told) byte)
-    → map cut_view cuts ≡ cuts_from own (map range_view pieces) 0 (map bounds_of ranges) → AllZip (IsMadeIn label ranges) cuts made
-    → covers' ≡ (covers && are_filled own (map range_view pieces) (map bounds_of ranges))
-    → (g : Gathered) → g.frame ≡ f → GivesRanges g ranges covers → GivesRanges (with_label label g) made covers'
-narrows-given f label told pieces own ranges covers cuts made covers' mine tells flat same is zip all g e old =
-    let t : Tells (option_map frame_of f) label own (map range_view pieces) = told-tells f label own (map range_view pieces) mine flat (λ byte. same byte ∙ ap (λ ps. last_place ps byte) tells) in
-    narrowed-given g label own (map range_view pieces) ranges covers (subst (λ h. Tells (option_map frame_of h) label own (map range_view pieces)) (sym e) t) old cuts made covers' is zip all

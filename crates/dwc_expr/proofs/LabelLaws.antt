@@ -1,12 +1,15 @@
 -- A walk over parts that gathers the labels that they need.
-use Rattle.std.proofs.Common.{◌≡◌, ℕ, ◌+◌, ◌<◌, Bool, true, false, if◌then◌else◌, List, [], ◌∷◌, ◌++◌, length, map, drop, get_or, find, filter_map, option_to_list, ap, sym, subst, ◌∙◌, append-nil}
+use Rattle.std.proofs.Common.{◌≡◌, ℕ, ◌+◌, ◌<◌, Bool, true, false, if◌then◌else◌, List, [], ◌∷◌, ◌++◌, length, map, drop, get_or, find, filter_map, option_to_list, Option, Some, None, ap, sym, subst, ◌∙◌, append-nil}
 use Rattle.std.specs.List.{cons_option}
-use Rattle.std.proofs.lemmas.List.{at_drop_more}
+use Rattle.std.proofs.lemmas.List.{at_drop_more, drop_more}
 use Rattle.std.proofs.lemmas.List.Elements.{filter_map-append}
 use Rattle.dwc_base.specs.Parts.{dereference, context_label}
-use Rattle.dwc_base.specs.Placed.{label_needed}
+use Rattle.dwc_base.specs.BuiltExpressions.{bad_label_range, has_bad_range, label_refusal}
+use Rattle.dwc_base.specs.Placed.{Frame, label_needed}
+use Rattle.dwc_base.specs.Refusals.{first_of}
+use Rattle.dwc_clif.specs.declared.value_label.ValueLabel.{ValueLabel}
 use Rattle.dwc_expr.specs.declared.part.CompiledExpressionPart.{CompiledExpressionPart}
-use Rattle.dwc_expr.specs.NeededLabels.{HaveSameFirsts}
+use Rattle.dwc_expr.specs.NeededLabels.{HaveSameFirsts, numbers}
 use Rattle.dwc_expr.specs.PartViews.{part_view}
 use Rattle.dwc_expr.proofs.FirstLaws.{firsts-behind, firsts-more}
 
@@ -31,3 +34,11 @@ module _ (parts : List CompiledExpressionPart) (b : Bool) (ls final : List ℕ) 
 
   pub labels-without : b ≡ false → final ≡ ls → HaveSameFirsts final (filter_map label_needed (map part_view parts ++ (if b then dereference ∷ [] else [])))
   labels-without is same test = rw is (ap (find test) same ∙ before test ∙ ap (λ ps. find test (filter_map label_needed ps)) (sym (append-nil (map part_view parts))))
+
+-- a label more that is not refused
+pub refusals-more : (frame : Option Frame) (labels : List ValueLabel) (i : ℕ) (d : ValueLabel) → i < length labels → has_bad_range frame (get_or labels i d).0 ≡ false
+    → first_of (filter_map (label_refusal frame) (numbers (drop i labels))) ≡ first_of (filter_map (label_refusal frame) (numbers (drop (i + 1) labels)))
+refusals-more frame labels i d inside fine =
+    let label = (get_or labels i d).0 in
+    ap (λ ls. first_of (filter_map (label_refusal frame) (numbers ls))) (drop_more labels i d inside)
+    ∙ ap {A = Bool} (λ b. first_of (cons_option (if b then Some (bad_label_range label) else None) (filter_map (label_refusal frame) (numbers (drop (i + 1) labels))))) fine

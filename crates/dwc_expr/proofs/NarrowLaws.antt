@@ -10,18 +10,13 @@ use Rattle.dwc_base.proofs.InLists.{IsIn, any-in, in-any, in-map}
 use Rattle.dwc_base.proofs.LabelRangeCoverage.{holds, hold, held}
 use Rattle.dwc_base.proofs.LabelRangeMaximal.{Differs}
 use Rattle.dwc_base.proofs.LabelRangeUnique.{maximal-ranges-are}
-use Rattle.dwc_expr.specs.FlatRanges.{IsFlat}
+use Rattle.dwc_expr.specs.NarrowedRanges.{Tells}
 use Rattle.dwc_expr.specs.OwnPlaces.{place_in, is_filled, are_filled}
 use Rattle.dwc_expr.specs.PlacedParts.{PlacedPart, cuts_from}
 use Rattle.dwc_expr.proofs.PairLaws.{pairs-from, pairs-to, pairs-map, all-in, in-all, all-true, true-all, bytes-true, true-bytes, same-answers}
 use Rattle.dwc_expr.proofs.StayLaws.{place-same, stay-along, placed-more, stay-more}
 use Rattle.dwc_expr.proofs.PieceLaws.{piece-place, HasPiece, placed-piece}
 use Rattle.dwc_expr.proofs.CutLaws.{IsCutBy, IsPart, cuts-in, range-among, cuts-have, cuts-pairs}
-
--- Pieces, of which none overlaps another, tell the places of a label.
-pub record Tells (frame : Option Frame) (label : ℕ) (own : Option ℕ) (ps : List LabelRange) : Type 0 where
-  pub flat : IsFlat ps
-  pub same : (function byte : ℕ) → placed frame function byte label ≡ place_in own ps function byte
 
 -- the place at a byte of a piece
 pub piece-placed :

@@ -1,10 +1,11 @@
 -- Native ranges that are joined are the label ranges of their scope without labels.
-use Rattle.std.proofs.Common.{◌≡◌, ℕ, suc, ◌<◌, ◌≤◌, ◌⊎◌, max, List, [], ◌∷◌, ◌++◌, map, Bool, true, false, None, Ordering, Less, Equal, Greater, is_lt, nat_cmp, get_or, refl, sym, ap, subst, ◌∙◌, arith, inl, inr, true≢false}
+use Rattle.std.proofs.Common.{◌≡◌, ℕ, suc, ◌+◌, ◌-◌, ◌<◌, ◌≤◌, ◌⊎◌, max, List, [], ◌∷◌, ◌++◌, map, take, Bool, true, false, None, Ordering, Less, Equal, Greater, is_lt, nat_cmp, get_or, refl, sym, ap, subst, ◌∙◌, arith, inl, inr, true≢false}
 use Rattle.std.specs.Prelude.{◌==◌, ◌&&◌, ◌||◌, nat_le, All, AllPairs}
 use Rattle.std.specs.Option.{unwrap_or}
 use Rattle.std.specs.Ordering.{ordering_then, MatchOrdering}
 use Rattle.std.proofs.lemmas.Cmp.{ranked}
 use Rattle.std.proofs.lemmas.Bool.{cases_lt, and_parts, and_cases, or_left, or_right, eqb-true, eq-eqb, leb-true, leb-false}
+use Rattle.std.proofs.lemmas.List.{take_more}
 use Rattle.std.proofs.lemmas.List.Elements.{All-nil, All-cons, All-head, All-tail, All-weaker, All-push, All-map}
 use Rattle.std.proofs.lemmas.List.Kept.{AllPairs-cons}
 use Rattle.std.proofs.lemmas.List.Folds.{list_any-append}
@@ -13,6 +14,7 @@ use Rattle.dwc_base.specs.LabelRanges.{label_ranges, IsBefore, AtEachByte, AreMa
 use Rattle.dwc_base.proofs.LabelRangeCoverage.{holds, hold}
 use Rattle.dwc_base.proofs.LabelRangeUnique.{maximal-ranges-are}
 use Rattle.dwc_expr.specs.JoinedScopes.{IsInOrder, begins_in, begins_in_last, IsApart, AreApart, AreJoined, IsAdded, Adds}
+use Rattle.dwc_expr.proofs.CutWalkLaws.{IsAt, some-here}
 use Rattle.dwc_expr.proofs.ListEnds.{all-front, all-last, pairs-front, pairs-last, pairs-push, Ends, ends, last_of-end}
 use Rattle.dwc_expr.proofs.PlaceLaws.{between-inside, between-below, between-behind}
 
@@ -198,6 +200,37 @@ joining-more r done left out new j adds = record {
     added : IsAdded r out new
     added = adds (All-head (λ s. s.start < s.end) r left j.nonempty) j.joined.apart (All-head (λ s. All (λ x. IsInOrder x s) out) r left j.next)
 
+-- ---- ranges that need no joining
+
+-- one more range that is apart from the last
+pub apart-more : (front : List NativeRange) (l r : NativeRange) → AreApart (front ++ l ∷ []) → r.start < r.end → IsApart l r → AreApart ((front ++ l ∷ []) ++ r ∷ [])
+apart-more front l r a some apart = record {
+  nonempty = All-push (λ s. s.start < s.end) (front ++ l ∷ []) r a.nonempty some;
+  apart = pairs-push IsApart (front ++ l ∷ []) r a.apart (All-push (λ s. IsApart s r) front l before-last apart);
+}
+  where
+    first : l.start < l.end
+    first = all-last (λ s. s.start < s.end) front l a.nonempty
+
+    in-order : IsApart l r → IsInOrder l r
+    in-order (inl below) = inl below
+    in-order (inr far) = inr (far.0, omega (arith, far.1, first))
+
+    before-last : All (λ s. IsApart s r) front
+    before-last = All-weaker (λ s. IsApart s l) (λ s. IsApart s r) (λ s b. apart-in-order s l r b (in-order apart)) front (pairs-last IsApart front l a.apart)
+
+-- the first of some, and one more that is apart from the one in front of it
+pub apart-first : (rs : List NativeRange) → All (λ r. r.start < r.end) rs → AreApart (take 1 rs)
+apart-first [] some = record { nonempty = All-nil (λ r. r.start < r.end); apart = λ i j d below inside. absurd (omega (arith, inside)) }
+apart-first (r ∷ rs) some = record { nonempty = All-cons (λ r. r.start < r.end) r [] (All-head (λ r. r.start < r.end) r rs some) (All-nil (λ r. r.start < r.end)); apart = λ i j d below inside. absurd (omega (arith, below, inside)) }
+
+pub apart-next : (rs : List NativeRange) (i : ℕ) (l r : NativeRange) → 1 ≤ i → IsAt rs (i - 1) l → IsAt rs i r → All (λ r. r.start < r.end) rs → IsApart l r → AreApart (take i rs) → AreApart (take (i + 1) rs)
+apart-next rs i l r above at next some apart before =
+    let here : i - 1 + 1 ≡ i = omega (arith, above) in
+    let split : take i rs ≡ take (i - 1) rs ++ l ∷ [] = ap (λ n. take n rs) (sym here) ∙ take_more rs (i - 1) l at.inside ∙ ap (λ x. take (i - 1) rs ++ x ∷ []) at.is in
+    let more : take (i + 1) rs ≡ (take (i - 1) rs ++ l ∷ []) ++ r ∷ [] = take_more rs i r next.inside ∙ ap (λ x. take i rs ++ x ∷ []) next.is ∙ ap (λ xs. xs ++ r ∷ []) split in
+    subst AreApart (sym more) (apart-more (take (i - 1) rs) l r (subst AreApart split before) (some-here rs i r next some) apart)
+
 -- ---- joined ranges are maximal
 
 -- each byte of a range of some is among their bytes
@@ -232,3 +265,6 @@ joined-maximal scope rs j = record {
 -- Joined ranges are the label ranges of their scope without labels.
 pub joined-are : (scope rs : List NativeRange) → AreJoined scope rs → rs ≡ label_ranges None [] scope
 joined-are scope rs j = maximal-ranges-are None [] scope rs (joined-maximal scope rs j)
+
+pub apart-are : (rs : List NativeRange) → AreApart rs → rs ≡ label_ranges None [] rs
+apart-are rs apart = joined-are rs rs (record { apart = apart; same = λ function byte. refl; low = λ n low. low })

@@ -29,12 +29,8 @@ IsSetOf labels set = (label : ℕ) → contains nat_cmp set label ≡ is_one_of 
 abbrev pub with_labels : List ℕ → Gathered → Gathered
 with_labels labels g = record g { labels = g.labels ++ labels }
 
--- Labels are processed, and none of them is refused; or the first refusal is told.
-abbrev pub ProcessesAll : List ℕ → Gathered → Gathered → Result (Unit {0}) ExprError → Type 0
-ProcessesAll labels old new (Ok done) = (first_of (filter_map (label_refusal (gathered_frame old)) labels) ≡ None) × (new ≡ with_labels labels old)
-ProcessesAll labels old new (Err e) = TellsFirst (filter_map (label_refusal (gathered_frame old)) labels) e
-
--- So they are, and the ranges on which they all have places are answered.
+-- Labels are processed, none of them is refused, and the ranges on which they all have places are answered; or the first refusal is
+-- told.
 abbrev pub GivesLabelRanges : Gathered → List ℕ → Result BuiltValueLabelRanges ExprError → Type 0
 GivesLabelRanges g labels (Ok built) = (first_of (filter_map (label_refusal (gathered_frame g)) labels) ≡ None) × GivesRanges (with_labels labels g) built.ranges.items built.covers_entire_scope
 GivesLabelRanges g labels (Err e) = TellsFirst (filter_map (label_refusal (gathered_frame g)) labels) e

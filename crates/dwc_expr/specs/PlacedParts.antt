@@ -3,18 +3,12 @@ use Rattle.std.specs.Prelude.{ℕ, suc, ◌≤◌, min, max, nat_lt, List, [], �
 use Rattle.std.specs.List.{filter_map}
 use Rattle.dwc_base.specs.Compiled.{Place, LabelRange}
 use Rattle.dwc_base.specs.Placed.{is_number, NativeRange}
-use Rattle.dwc_clif.specs.ValueLabels.{place_view}
-use Rattle.dwc_expr.specs.declared.cuts.Cut.{Cut}
-use Rattle.dwc_expr.specs.CodeRanges.{code_range_view}
 
 -- a part of a range: the range's number among others, the part's bytes, and the place of a label there
 pub record PlacedPart : Type 0 where
   pub index : ℕ
   pub bytes : NativeRange
   pub place : Place
-
-abbrev pub cut_view : Cut → PlacedPart
-cut_view c = record { index = c.index; bytes = code_range_view c.range; place = place_view c.loc }
 
 -- the bytes that a range with a number has in a piece, if there are any
 abbrev pub cut_by : ℕ → NativeRange → LabelRange → Option PlacedPart

@@ -6,11 +6,12 @@ ghost use Rattle.dwc_base.specs.Placed.{built_parts, scope_ranges};
 ghost use Rattle.dwc_expr.specs.Builds.{surroundings, Builds};
 ghost use Rattle.dwc_expr.specs.LabelRanges.{has_interval};
 ghost use Rattle.dwc_expr.specs.PartViews.{part_view};
-ghost use Rattle.dwc_expr.specs.PartsToBuild.{all_parts};
+ghost use Rattle.dwc_expr.specs.NeededLabels.{numbers, HaveSameFirsts};
+ghost use Rattle.dwc_expr.specs.PartsToBuild.{all_parts, labels_needed};
 ghost use Rattle.dwc_expr.specs.WholeParts.{JumpsLand};
 
 use crate::copies::copied;
-use crate::labels::{needed_labels, ranges_of_labels};
+use crate::labels::{lone_label, needed_labels, ranges_of_labels};
 use crate::on_ranges::expressions_on;
 use crate::parts_to_build::{PartsToBuild, reads_memory};
 use crate::places::{check_places, lacks_memory};
@@ -18,7 +19,7 @@ use crate::setting::memory_of;
 use crate::{CompiledExpression, CompiledExpressionPart, ExprError, FunctionFrameInfo};
 use dwc_addr::AddressTransform;
 use dwc_base::Address;
-use dwc_clif::TargetIsa;
+use dwc_clif::{TargetIsa, ValueLabel};
 use dwc_write::Expression;
 use std::alloc::Global;
 
@@ -97,11 +98,32 @@ fn build_parts(
     requires lands { JumpsLand (map part_view parts.now.parts.now) }
     ensures { (x : CompiledParts) → built_parts x ≡ all_parts parts.now → Builds (built_on_ranges (surroundings addr_tr.now (option_map (λ f. f.now) frame_info.entry) (dwarf_registers isa.now)) (scope_ranges addr_tr.now scope.now) x) result }
 {
+    if let Some(label) = lone_label(parts) {
+        return build_on_labels(alloc, parts, &[label], scope, addr_tr, frame_info, isa);
+    }
     let labels = needed_labels(alloc, parts)?;
-    let built = ranges_of_labels(alloc, &labels, scope, addr_tr, frame_info, isa)?;
+    build_on_labels(alloc, parts, &labels, scope, addr_tr, frame_info, isa)
+}
+
+// What parts that need some labels become over a scope that has an interval.
+fn build_on_labels(
+    alloc: Global,
+    parts: &PartsToBuild<'_>,
+    labels: &[ValueLabel],
+    scope: &[(u64, u64)],
+    addr_tr: &AddressTransform,
+    frame_info: Option<&FunctionFrameInfo<'_>>,
+    isa: &dyn TargetIsa,
+) -> Result<BuiltCompiledExpression, ExprError>
+    requires labels { HaveSameFirsts (numbers labels.now) (labels_needed parts.now) }
+    requires scope { has_interval scope.now ≡ true }
+    requires lands { JumpsLand (map part_view parts.now.parts.now) }
+    ensures { (x : CompiledParts) → built_parts x ≡ all_parts parts.now → Builds (built_on_ranges (surroundings addr_tr.now (option_map (λ f. f.now) frame_info.entry) (dwarf_registers isa.now)) (scope_ranges addr_tr.now scope.now) x) result }
+{
+    let built = ranges_of_labels(alloc, labels, scope, addr_tr, frame_info)?;
     let memory = memory_of(frame_info);
     let lacks_memory = lacks_memory(memory, reads_memory(parts));
-    check_places(&built.ranges, &labels, lacks_memory, isa)?;
+    check_places(&built.ranges, labels, lacks_memory, isa)?;
     let expressions = expressions_on(alloc, parts, &built.ranges, memory, isa)?;
     Ok(BuiltCompiledExpression {
         expressions,

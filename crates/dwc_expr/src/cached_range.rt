@@ -34,6 +34,20 @@ impl CachedValueLabelRange {
     }
 }
 
+// Ranges without their places.
+pub(crate) fn bounds_of_each(
+    alloc: Global,
+    ranges: &[CachedValueLabelRange],
+) -> Result<Vec<CodeRange>, AllocError>
+    ensures { IfOk result (λ out. map code_range_view out.items ≡ map bounds_of ranges.now) }
+{
+    let mut out = Vec::with_capacity(alloc, ranges.len())?;
+    for i in 0..ranges.len() {
+        out.push(ranges[i].bounds())?;
+    }
+    Ok(out)
+}
+
 // Ranges as they are before any label has a place.
 pub(crate) fn without_places(
     alloc: Global,

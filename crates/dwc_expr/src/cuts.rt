@@ -1,67 +1,62 @@
 //! The parts of ranges of native code on which one more label has a place.
-ghost use Rattle.std.specs.Prelude.{◌≡◌, ◌≤◌, ◌++◌, ℕ, AllPairs, IfOk, OnOk, drop, length, map, option_to_list, true};
+ghost use Rattle.std.specs.Prelude.{◌≡◌, ◌≤◌, ℕ, AllPairs, IfOk, OnOk, drop, length, map, option_to_list, true};
+ghost use Rattle.std.specs.List.{AllZip};
 ghost use Rattle.dwc_base.specs.LabelRanges.{IsBefore};
 ghost use Rattle.dwc_base.specs.Placed.{is_number};
-ghost use Rattle.dwc_clif.specs.ValueLabels.{range_view};
+ghost use Rattle.dwc_clif.specs.ValueLabels.{place_view, range_view};
 ghost use Rattle.dwc_expr.specs.CodeRanges.{code_range_view};
-ghost use Rattle.dwc_expr.specs.PlacedParts.{cut_by, cut_view, cuts_from, cuts_of, EndBy};
 ghost use Rattle.dwc_expr.specs.FlatRanges.{IsFlat};
 ghost use Rattle.dwc_expr.specs.LabelRanges.{bounds_of};
+ghost use Rattle.dwc_expr.specs.NarrowedRanges.{AddsMade, IsMadeIn, IsMadeOf};
+ghost use Rattle.dwc_expr.specs.PlacedParts.{cut_by, cuts_from, cuts_of, EndBy};
 
 use crate::cached_range::CachedValueLabelRange;
 use crate::code_range::CodeRange;
-use dwc_clif::{LabelValueLoc, ValueLocRange};
+use dwc_clif::{ValueLabel, ValueLocRange};
 use std::alloc::{AllocError, Global};
 
-// A part of a range on which a label has a place.
-#[derive(Clone, Copy)]
-pub(crate) struct Cut {
-    // The number of the range among those that are cut.
-    pub(crate) index: usize,
-    pub(crate) range: CodeRange,
-    pub(crate) loc: LabelValueLoc,
-}
-
-// The parts of ranges that lie in pieces, in order: of the ranges of one's own function, if it has a number.
-pub(crate) fn cuts(
+// The parts of ranges that lie in pieces, in order, with the place of a label by its piece: of the ranges of one's own function, if it
+// has a number.
+pub(crate) fn cut_ranges(
     alloc: Global,
     own: Option<usize>,
+    label: ValueLabel,
     pieces: &[ValueLocRange],
     ranges: &[CachedValueLabelRange],
-) -> Result<Vec<Cut>, AllocError>
+) -> Result<Vec<CachedValueLabelRange>, AllocError>
     requires flat { IsFlat (map range_view pieces.now) }
     requires ordered { AllPairs IsBefore (map bounds_of ranges.now) }
-    ensures { IfOk result (λ cuts. map cut_view cuts.items ≡ cuts_from own (map range_view pieces.now) 0 (map bounds_of ranges.now)) }
+    ensures { IfOk result (λ made. AllZip (IsMadeIn label.0 ranges.now) (cuts_from own (map range_view pieces.now) 0 (map bounds_of ranges.now)) made.items) }
 {
-    let mut cuts = Vec::new(alloc);
+    let mut made = Vec::new(alloc);
     let mut next = 0;
     for i in 0..ranges.len() {
-        next = cut_range(&mut cuts, own, i, ranges[i].bounds(), pieces, next)?;
+        next = cut_range(&mut made, own, label, &ranges[i], pieces, next)?;
     }
-    Ok(cuts)
+    Ok(made)
 }
 
 // Cuts a range by pieces from one on, and answers the first piece that can have a byte behind the range.
 fn cut_range(
-    cuts: &mut Vec<Cut>,
+    made: &mut Vec<CachedValueLabelRange>,
     own: Option<usize>,
-    index: usize,
-    range: CodeRange,
+    label: ValueLabel,
+    range: &CachedValueLabelRange,
     pieces: &[ValueLocRange],
     first: usize,
 ) -> Result<usize, AllocError>
     requires flat { IsFlat (map range_view pieces.now) }
     requires inside { first ≤ length pieces.now }
-    ensures cut { IfOk result (λ next. map cut_view cuts.new.items ≡ map cut_view cuts.old.items ++ cuts_of own (drop first (map range_view pieces.now)) index (code_range_view range)) }
+    ensures cut { IfOk result (λ next. (index : ℕ) → AddsMade label.0 range.now (cuts_of own (drop first (map range_view pieces.now)) index (bounds_of range.now)) made.old.items made.new.items) }
     ensures inside { IfOk result (λ next. next ≤ length pieces.now) }
-    ensures passed { IfOk result (λ next. (byte : ℕ) → (is_number own range.function ≡ true → range.end ≤ byte) → EndBy byte first (map range_view pieces.now) → EndBy byte next (map range_view pieces.now)) }
+    ensures passed { IfOk result (λ next. (byte : ℕ) → (is_number own range.now.func_index ≡ true → range.now.end ≤ byte) → EndBy byte first (map range_view pieces.now) → EndBy byte next (map range_view pieces.now)) }
 {
-    if !is_own(own, range.function) {
+    if !is_own(own, range.func_index) {
         return Ok(first);
     }
     for place in first..pieces.len() {
         let piece = &pieces[place];
-        push_cut(cuts, index, range, piece)?;
+        push_cut(made, label, range, piece)?;
         if piece.end as usize > range.end {
             return Ok(place);
         }
@@ -69,29 +64,45 @@ fn cut_range(
     Ok(pieces.len())
 }
 
-// Puts the bytes that a range has in a piece behind other cuts, if there are any.
+// Puts the bytes that a range has in a piece behind other parts, if there are any, with the place of a label by the piece.
 fn push_cut(
-    cuts: &mut Vec<Cut>,
-    index: usize,
-    range: CodeRange,
+    made: &mut Vec<CachedValueLabelRange>,
+    label: ValueLabel,
+    range: &CachedValueLabelRange,
     piece: &ValueLocRange,
 ) -> Result<(), AllocError>
-    ensures { OnOk result (map cut_view cuts.new.items ≡ map cut_view cuts.old.items ++ option_to_list (cut_by index (code_range_view range) (range_view piece.now))) }
+    ensures { OnOk result ((index : ℕ) → AddsMade label.0 range.now (option_to_list (cut_by index (bounds_of range.now) (range_view piece.now))) made.old.items made.new.items) }
 {
     let start = range.start.max(piece.start as usize);
     let end = range.end.min(piece.end as usize);
     if start < end {
-        cuts.push(Cut {
-            index,
-            range: CodeRange {
-                function: range.function,
-                start,
-                end,
-            },
-            loc: piece.loc,
-        })?;
+        let part = CodeRange {
+            function: range.func_index,
+            start,
+            end,
+        };
+        made.push(cut_from(label, range, part, piece)?)?;
     }
     Ok(())
+}
+
+// A part of a range as a range, with the place of a label.
+fn cut_from(
+    label: ValueLabel,
+    range: &CachedValueLabelRange,
+    part: CodeRange,
+    piece: &ValueLocRange,
+) -> Result<CachedValueLabelRange, AllocError>
+    ensures { IfOk result (λ made. IsMadeOf label.0 range.now (code_range_view part) (place_view piece.now.loc) made) }
+{
+    let mut label_location = range.label_location.clone()?;
+    label_location.insert(label.0, piece.loc)?;
+    Ok(CachedValueLabelRange {
+        func_index: part.function,
+        start: part.start,
+        end: part.end,
+        label_location,
+    })
 }
 
 // Whether a function is one's own.

@@ -1,5 +1,5 @@
 //! Ranges in which a value lies, made disjoint and put in order.
-ghost use Rattle.std.specs.Prelude.{◌≡◌, ◌≤◌, ◌-◌, ◌^◌, ◌++◌, ℕ, [], length, map, IfOk, OnOk, MatchOption};
+ghost use Rattle.std.specs.Prelude.{◌≡◌, ◌≤◌, ◌-◌, ◌^◌, ◌++◌, ℕ, [], length, map, IfOk, OnOk, MatchOption, true};
 ghost use Rattle.dwc_base.specs.Placed.{last_place};
 ghost use Rattle.dwc_clif.specs.ValueLabels.{range_view};
 ghost use Rattle.dwc_expr.specs.FlatRanges.{IsFlat, Flattens, goes_on as range_goes_on, goes_on_last as range_goes_on_last, Puts, part_between as part_of, PutsBetween, IsRest};
@@ -23,6 +23,21 @@ pub(crate) fn flattened(
     let below = flattened(alloc, earlier)?;
     let above = flattened(alloc, later)?;
     overlaid(alloc, &below, &above)
+}
+
+/// Whether each range is some bytes behind those in front, and none goes on where the one in front ends, at its place: they are flat as
+/// they are.
+pub(crate) fn are_flat(ranges: &[ValueLocRange]) -> bool
+    ensures { result ≡ true → IsFlat (map range_view ranges.now) }
+{
+    let mut end = 0;
+    for (i, range) in ranges.iter().enumerate() {
+        if range.start < end || range.end <= range.start || goes_on_last(&ranges[..i], range) {
+            return false;
+        }
+        end = range.end;
+    }
+    true
 }
 
 // The same in one pass; None where a range begins below an end of one in front.

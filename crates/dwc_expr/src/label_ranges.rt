@@ -5,11 +5,11 @@ ghost use Rattle.dwc_expr.specs.declared.error.ExprError.TheVariants.{OutOfMemor
 ghost use Rattle.dwc_expr.specs.Frames.{told_frame};
 ghost use Rattle.dwc_expr.specs.LabelRanges.{bounds_of, gathered_frame, gathered_of, has_interval, GivesRanges, HasPlaces, Processes};
 
-use crate::cached_range::{CachedValueLabelRange, without_places};
+use crate::cached_range::{CachedValueLabelRange, bounds_of_each};
 use crate::code_range::CodeRange;
 use crate::narrowed::narrowed;
 use crate::native::native_ranges;
-use crate::scope::joined_scope;
+use crate::scope::joined_without_places;
 use crate::{ExprError, FunctionFrameInfo};
 use dwc_addr::AddressTransform;
 use dwc_clif::{TargetIsa, ValueLabel};
@@ -69,9 +69,9 @@ impl<'a> ValueLabelRangesBuilder<'a> {
         ensures scope { IfOk result (λ b. b ≡ gathered_of addr_tr.now (option_map (λ f. told_frame f.now) frame_info.entry) scope.now) }
         ensures memory { IfErr result (λ e. e ≡ OutOfMemory) }
     {
-        let code = native_ranges(alloc, scope, addr_tr)?;
-        let joined = joined_scope(alloc, &code)?;
-        let ranges = without_places(alloc, &joined)?;
+        let native = native_ranges(alloc, scope, addr_tr)?;
+        let code = bounds_of_each(alloc, &native)?;
+        let ranges = joined_without_places(alloc, native)?;
         let has_scope = has_interval(scope);
         Ok(ValueLabelRangesBuilder {
             frame_info,
@@ -112,7 +112,7 @@ impl<'a> ValueLabelRangesBuilder<'a> {
 }
 
 // Whether a scope has an interval.
-fn has_interval(scope: &[(u64, u64)]) -> bool
+pub(crate) fn has_interval(scope: &[(u64, u64)]) -> bool
     ensures { result ≡ has_interval scope.now }
 {
     match scope {

@@ -1,23 +1,39 @@
 //! The labels that parts need, and the ranges on which they have places.
-ghost use Rattle.std.specs.Prelude.{◌≡◌, ◌++◌, ◌∷◌, [], map, option_map, All, IfOk, OnOk};
+ghost use Rattle.std.specs.Prelude.{◌≡◌, ◌++◌, ◌∷◌, [], map, option_map, All, IfErr, IfOk, IfSome, OnOk, Option};
 ghost use Rattle.std.specs.List.{filter_map};
 ghost use Rattle.std.specs.Option.{option_to_list};
 ghost use Rattle.dwc_base.specs.Placed.{label_needed as label_of};
-ghost use Rattle.dwc_expr.specs.Frames.{told_frame};
+ghost use Rattle.dwc_expr.specs.declared.error.ExprError.TheVariants.{OutOfMemory};
+ghost use Rattle.dwc_expr.specs.Frames.{told_frame, ToldFrame};
 ghost use Rattle.dwc_expr.specs.LabelRanges.{gathered_of, HasPlaces};
-ghost use Rattle.dwc_expr.specs.NeededLabels.{numbers, GivesLabelRanges, HaveSameFirsts, IsSetOf, ProcessesAll};
+ghost use Rattle.dwc_expr.specs.NarrowedRanges.{Gives};
+ghost use Rattle.dwc_expr.specs.NeededLabels.{numbers, GivesLabelRanges, HaveSameFirsts, IsSetOf};
 ghost use Rattle.dwc_expr.specs.PartViews.{part_view};
-ghost use Rattle.dwc_expr.specs.PartsToBuild.{all_parts};
+ghost use Rattle.dwc_expr.specs.PartsToBuild.{all_parts, labels_needed};
 
+use crate::label_ranges::has_interval;
+use crate::narrowed::narrowed;
+use crate::native::native_ranges;
 use crate::parts_to_build::PartsToBuild;
-use crate::{
-    BuiltValueLabelRanges, CompiledExpressionPart, ExprError, FunctionFrameInfo,
-    ValueLabelRangesBuilder,
-};
+use crate::scope::joined_without_places;
+use crate::{BuiltValueLabelRanges, CompiledExpressionPart, ExprError, FunctionFrameInfo};
 use dwc_addr::AddressTransform;
-use dwc_clif::{TargetIsa, ValueLabel, get_vmctx_value_label};
+use dwc_clif::{ValueLabel, get_vmctx_value_label};
 use std::alloc::{AllocError, Global};
 use std::collections::BTreeSet;
+
+// The label that parts need, where they are one local alone. None where it is not so.
+pub(crate) fn lone_label(parts: &PartsToBuild<'_>) -> Option<ValueLabel>
+    ensures { IfSome result (λ label. labels_needed parts.now ≡ label.0 ∷ []) }
+{
+    if parts.then_dereference {
+        return None;
+    }
+    match parts.parts {
+        [CompiledExpressionPart::Local { label, .. }] => Some(*label),
+        _ => None,
+    }
+}
 
 // The labels that parts need, each once, in the order in which they are first needed.
 pub(crate) fn needed_labels(
@@ -103,25 +119,30 @@ pub(crate) fn ranges_of_labels(
     scope: &[(u64, u64)],
     addr_tr: &AddressTransform,
     frame_info: Option<&FunctionFrameInfo<'_>>,
-    isa: &dyn TargetIsa,
 ) -> Result<BuiltValueLabelRanges, ExprError>
     ensures given { GivesLabelRanges (gathered_of addr_tr.now (option_map (λ f. told_frame f.now) frame_info.entry) scope.now) (numbers labels.now) result }
     ensures placed { IfOk result (λ built. All (HasPlaces (numbers labels.now)) built.ranges.items) }
 {
-    let mut builder = ValueLabelRangesBuilder::new(alloc, scope, addr_tr, frame_info, isa)?;
-    process_labels(&mut builder, labels)?;
-    Ok(builder.into_ranges())
+    let mut built = ranges_of_scope(alloc, scope, addr_tr)?;
+    for label in labels {
+        built = narrowed(alloc, frame_info, *label, &built)?;
+    }
+    Ok(built)
 }
 
-// Processes labels in order, up to one that is refused.
-fn process_labels(
-    builder: &mut ValueLabelRangesBuilder<'_>,
-    labels: &[ValueLabel],
-) -> Result<(), ExprError>
-    ensures { ProcessesAll (numbers labels.now) builder.old builder.new result }
+// The native code of a scope, before any label has a place.
+fn ranges_of_scope(
+    alloc: Global,
+    scope: &[(u64, u64)],
+    addr_tr: &AddressTransform,
+) -> Result<BuiltValueLabelRanges, ExprError>
+    ensures given { IfOk result (λ built. (frame : Option ToldFrame) → Gives (gathered_of addr_tr.now frame scope.now) built) }
+    ensures memory { IfErr result (λ e. e ≡ OutOfMemory) }
 {
-    for label in labels {
-        builder.process_label(*label)?;
-    }
-    Ok(())
+    let native = native_ranges(alloc, scope, addr_tr)?;
+    let ranges = joined_without_places(alloc, native)?;
+    Ok(BuiltValueLabelRanges {
+        ranges,
+        covers_entire_scope: has_interval(scope),
+    })
 }

@@ -1,15 +1,56 @@
 //! The native code of a scope, joined where it overlaps or touches.
-ghost use Rattle.std.specs.Prelude.{◌≡◌, ◌<◌, ◌^◌, [], None, All, AllPairs, map, IfOk, OnOk};
+ghost use Rattle.std.specs.Prelude.{◌≡◌, ◌<◌, ◌^◌, [], None, All, AllPairs, map, IfOk, OnOk, true};
 ghost use Rattle.dwc_base.specs.LabelRanges.{label_ranges};
 ghost use Rattle.dwc_expr.specs.CodeRanges.{code_range_view};
-ghost use Rattle.dwc_expr.specs.JoinedScopes.{IsInOrder, AreJoined, Adds, begins_in as range_begins_in, begins_in_last as range_begins_in_last};
+ghost use Rattle.dwc_expr.specs.LabelRanges.{bounds_of};
+ghost use Rattle.dwc_expr.specs.JoinedScopes.{IsInOrder, IsApart, AreApart, AreJoined, Adds, begins_in as range_begins_in, begins_in_last as range_begins_in_last};
 
+use crate::cached_range::{CachedValueLabelRange, bounds_of_each, without_places};
 use crate::code_range::CodeRange;
 use std::alloc::{AllocError, Global};
 
-/// The native ranges of a scope in order of functions and native code, joined where they overlap or touch. Sorting takes one pass
-/// where they are in order already.
-pub(crate) fn joined_scope(alloc: Global, scope: &[CodeRange]) -> Result<Vec<CodeRange>, AllocError>
+/// The native ranges of a scope in order of functions and native code, joined where they overlap or touch, before any label has a
+/// place. Ranges that are so already are neither sorted nor joined.
+pub(crate) fn joined_without_places(
+    alloc: Global,
+    scope: Vec<CachedValueLabelRange>,
+) -> Result<Vec<CachedValueLabelRange>, AllocError>
+    requires nonempty { All (λ r. r.start < r.end) scope.items }
+    requires places { All (λ r. r.label_location.entries ≡ []) scope.items }
+    ensures joined { IfOk result (λ ranges. map bounds_of ranges.items ≡ label_ranges None [] (map bounds_of scope.items)) }
+    ensures places { IfOk result (λ ranges. All (λ r. r.label_location.entries ≡ []) ranges.items) }
+    ensures low { All (λ r. r.end < 2 ^ 32) scope.items → IfOk result (λ ranges. All (λ r. r.end < 2 ^ 32) ranges.items) }
+{
+    if are_apart(&scope) {
+        return Ok(scope);
+    }
+    let code = bounds_of_each(alloc, &scope)?;
+    let joined = joined_scope(alloc, &code)?;
+    without_places(alloc, &joined)
+}
+
+// Whether each range begins behind the end of the one in front of it, or is of a later function.
+fn are_apart(ranges: &[CachedValueLabelRange]) -> bool
+    requires { All (λ r. r.start < r.end) ranges.now }
+    ensures { result ≡ true → AreApart (map bounds_of ranges.now) }
+{
+    for i in 1..ranges.len() {
+        if !is_apart(ranges[i - 1].bounds(), ranges[i].bounds()) {
+            return false;
+        }
+    }
+    true
+}
+
+// Whether a range begins behind the end of another, or is of a later function.
+fn is_apart(range: CodeRange, next: CodeRange) -> bool
+    ensures { result ≡ true → IsApart (code_range_view range) (code_range_view next) }
+{
+    range.function < next.function || (range.function == next.function && range.end < next.start)
+}
+
+// The native ranges of a scope in order of functions and native code, joined where they overlap or touch.
+fn joined_scope(alloc: Global, scope: &[CodeRange]) -> Result<Vec<CodeRange>, AllocError>
     requires { All (λ r. r.start < r.end) scope.now }
     ensures joined { IfOk result (λ ranges. map code_range_view ranges.items ≡ label_ranges None [] (map code_range_view scope.now)) }
     ensures low { All (λ r. r.end < 2 ^ 32) scope.now → IfOk result (λ ranges. All (λ r. r.end < 2 ^ 32) ranges.items) }
