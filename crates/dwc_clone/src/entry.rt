@@ -108,6 +108,27 @@ pub(crate) fn add_entry(
     Ok(placed)
 }
 
+// The same, with room for so many attributes.
+fn add_entry_with_room(
+    unit: &mut Unit,
+    parents: &mut Vec<UnitEntryId>,
+    depth: usize,
+    id: UnitEntryId,
+    tag: u16,
+    room: usize,
+) -> Result<PlacedEntry, WriteError>
+    requires known { AreKnown parents.old.items unit.old }
+    requires reserved { CanAdd id parents.old.items unit.old }
+    ensures known { OnOk result (AreKnown parents.new.items unit.new) }
+    ensures added { IfOk result (λ placed. IsAdded placed.id.index unit.new) }
+    ensures parents { IfOk result (λ placed. parents.new.items ≡ take depth parents.old.items ++ placed.id ∷ []) }
+    ensures unit { IfOk result (λ placed. AddsBelow (last_parent depth parents.old.items) id tag unit.old unit.new placed) }
+{
+    let placed = add_entry(unit, parents, depth, id, tag)?;
+    unit.make_room_in(placed.id, room)?;
+    Ok(placed)
+}
+
 // On a target with the highest byte first a base type says that it has the byte order of wasm. (DWARF 4, section 5.1.)
 fn set_endianity(
     unit: &mut Unit,
@@ -290,7 +311,15 @@ fn clone_itself(
     ensures itself { (number : ℕ) (s : UnitSource) (goals : Goal → Option (ℕ × ℕ)) (bare base : GivenUnit) (placed : PlacedEntry) (e : Addition) → IsSource source.now number s → HasFrames source.now.module source.now.transform.now → ArePlaced source.now.places.now goals → AreInForce (list_source source.now.unit.now.sections source.now.unit.now.header) source.now.transform.now s.entries (placed_entry source.now (entry_view entry.now)) walk.old.lineage → telling ≡ telling_of s.texts s.entries (placed_entry source.now (entry_view entry.now)) → is_wrapped (placed_entry source.now (entry_view entry.now)) ≡ false → AddsBelow (last_parent (entry_view entry.now).depth walk.old.parents.items) id (entry_view entry.now).tag unit.old bare placed → IsLast strings.old placed.id base e bare → GivesItself goals (dwarf_registers isa.now) source.now number s (placed_entry source.now (entry_view entry.now)) strings.old strings.new walk.old.parents.items walk.new.parents.items placed base e unit.new result }
 {
     let depth = depth_of(entry);
-    let placed = of_memory(add_entry(unit, &mut walk.parents, depth, id, entry.tag))?;
+    let room = entry.attrs().len();
+    let placed = of_memory(add_entry_with_room(
+        unit,
+        &mut walk.parents,
+        depth,
+        id,
+        entry.tag,
+        room,
+    ))?;
     let id = placed.id;
     of_memory(set_code(alloc, source, entry, function, unit, id))?;
     let frame = frame_in_force(source, &walk.lineage);

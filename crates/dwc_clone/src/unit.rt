@@ -26,10 +26,14 @@ use dwc_write::{StringTable, Unit, UnitEntryId, WriteError};
 use std::alloc::Global;
 use std::collections::BTreeSet;
 
+// Room is made for a quarter more entries than are kept: wrappers and the variables of contexts are seldom more.
+const ROOM_PART: usize = 4;
+
 // Reserves the numbers of so many kept entries, of which the first is the root.
 fn reserve_kept(unit: &mut Unit, count: usize) -> Result<(), WriteError>
     ensures { OnOk result (unit.new ≡ reserved_more (count - 1) unit.old) }
 {
+    unit.make_room(count.saturating_add(count / ROOM_PART))?;
     for _ in 1..count {
         unit.reserve()?;
     }

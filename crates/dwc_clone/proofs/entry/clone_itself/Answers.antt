@@ -30,10 +30,10 @@ returns-in_err-set_attributes-clause-itself g c number s goals bare base placed 
     let real = c.in_ok-placed.placed in
     let parents = c.args.walk.now.parents.items in
     let u0 = c.args.unit.now in
-    let u1 = c.add_entry.new.unit in
+    let u1 = c.add_entry_with_room.new.unit in
     let u2 = c.set_code.new.unit in
     let real_adds = subst (λ d. AddsBelow (last_parent d parents) c.args.id x.tag u0 u1 real) c.depth_of-depth.ensures
-    (subst (λ r. IfOk r (λ i. AddsBelow (last_parent c.depth_of-depth.result parents) c.args.id x.tag u0 u1 i)) c.in_ok-placed.ensures c.add_entry.ensures.unit) in
+    (subst (λ r. IfOk r (λ i. AddsBelow (last_parent c.depth_of-depth.result parents) c.args.id x.tag u0 u1 i)) c.in_ok-placed.ensures c.add_entry_with_room.ensures.unit) in
     let same = adds-same (last_parent x.depth parents) c.args.id x.tag u0 bare u1 placed real adds real_adds in
     let last1 = subst (λ (i : PlacedEntry). IsLast t0 i.id base e u1) (sym same.1) (subst (λ v. IsLast t0 placed.id base e v) (sym same.0) last) in
     let bounds = succeeded c.set_code.result c.in_ok-of_memory.field-0 c.in_ok-of_memory.ensures (c.set_code.ensures.given number t0 base e last1) in
@@ -46,7 +46,7 @@ returns-in_err-set_attributes-clause-itself g c number s goals bare base placed 
 
 pub returns-clause-parents : goal.returns-clause-parents
 returns-clause-parents g c =
-    let u1 = c.add_entry.new.unit in
+    let u1 = c.add_entry_with_room.new.unit in
     let u2 = c.set_code.new.unit in
     let u3 = c.set_attributes.new.unit in
     let u4 = c.set_endianity.new.unit in
@@ -55,8 +55,8 @@ returns-clause-parents g c =
     let k23 : (but : ℕ) → KeepsNumbers but u2 u3 = λ but. keeps-places but u2 u3 c.in_ok-set_attributes.ensures.places in
     let k34 : (but : ℕ) → KeepsNumbers but u3 u4 = λ but. keeps-places but u3 u4 (succeeded c.set_endianity.result c.in_ok-of_memory-2.field-0 c.in_ok-of_memory-2.ensures c.set_endianity.ensures.places) in
     let k14 : (but : ℕ) → KeepsNumbers but u1 u4 = λ but. keeps-on but u1 u3 u4 (keeps-on but u1 u2 u3 (k12 but) (k23 but)) (k34 but) in
-    let known = succeeded c.add_entry.result c.in_ok-placed.placed c.in_ok-placed.ensures c.add_entry.ensures.known in
-    on-ok c.add_context.result (λ k45. known-kept 0 u1 u5 c.add_entry.new.parents.items (keeps-on 0 u1 u4 u5 (k14 0) k45) known) (c.add_context.ensures.numbers 0)
+    let known = succeeded c.add_entry_with_room.result c.in_ok-placed.placed c.in_ok-placed.ensures c.add_entry_with_room.ensures.known in
+    on-ok c.add_context.result (λ k45. known-kept 0 u1 u5 c.add_entry_with_room.new.parents.items (keeps-on 0 u1 u4 u5 (k14 0) k45) known) (c.add_context.ensures.numbers 0)
 
 pub returns-clause-numbers : goal.returns-clause-numbers
 returns-clause-numbers g c =
@@ -64,10 +64,10 @@ returns-clause-numbers g c =
     let real = c.in_ok-placed.placed in
     let parents = c.args.walk.now.parents.items in
     let u0 = c.args.unit.now in
-    let u1 = c.add_entry.new.unit in
+    let u1 = c.add_entry_with_room.new.unit in
     let u2 = c.set_code.new.unit in
     let real_adds = subst (λ d. AddsBelow (last_parent d parents) c.args.id x.tag u0 u1 real) c.depth_of-depth.ensures
-    (subst (λ r. IfOk r (λ i. AddsBelow (last_parent c.depth_of-depth.result parents) c.args.id x.tag u0 u1 i)) c.in_ok-placed.ensures c.add_entry.ensures.unit) in
+    (subst (λ r. IfOk r (λ i. AddsBelow (last_parent c.depth_of-depth.result parents) c.args.id x.tag u0 u1 i)) c.in_ok-placed.ensures c.add_entry_with_room.ensures.unit) in
     let u3 = c.set_attributes.new.unit in
     let u4 = c.set_endianity.new.unit in
     let u5 = c.add_context.new.unit in
@@ -88,10 +88,10 @@ returns-clause-itself g c number s goals bare base placed e source frames at for
     let real = c.in_ok-placed.placed in
     let parents = c.args.walk.now.parents.items in
     let u0 = c.args.unit.now in
-    let u1 = c.add_entry.new.unit in
+    let u1 = c.add_entry_with_room.new.unit in
     let u2 = c.set_code.new.unit in
     let real_adds = subst (λ d. AddsBelow (last_parent d parents) c.args.id x.tag u0 u1 real) c.depth_of-depth.ensures
-    (subst (λ r. IfOk r (λ i. AddsBelow (last_parent c.depth_of-depth.result parents) c.args.id x.tag u0 u1 i)) c.in_ok-placed.ensures c.add_entry.ensures.unit) in
+    (subst (λ r. IfOk r (λ i. AddsBelow (last_parent c.depth_of-depth.result parents) c.args.id x.tag u0 u1 i)) c.in_ok-placed.ensures c.add_entry_with_room.ensures.unit) in
     let same = adds-same (last_parent x.depth parents) c.args.id x.tag u0 bare u1 placed real adds real_adds in
     let last1 = subst (λ (i : PlacedEntry). IsLast t0 i.id base e u1) (sym same.1) (subst (λ v. IsLast t0 placed.id base e v) (sym same.0) last) in
     let bounds = succeeded c.set_code.result c.in_ok-of_memory.field-0 c.in_ok-of_memory.ensures (c.set_code.ensures.given number t0 base e last1) in
@@ -110,10 +110,10 @@ returns-clause-itself g c number s goals bare base placed e source frames at for
     let last3 = given-last number t0 t1 (bounds_said ++ values_said) real.id base e u1 u3 last1 both in
     let order = succeeded c.set_endianity.result c.in_ok-of_memory-2.field-0 c.in_ok-of_memory-2.ensures (c.set_endianity.ensures.given number t1 goals base both.given p last3 refl) in
     let whole = given-on number t0 t1 t1 (bounds_said ++ values_said) order_said base e u3 u4 both order in
-    let items = subst (λ d. c.add_entry.new.parents.items ≡ take d parents ++ real.id ∷ []) c.depth_of-depth.ensures
-    (subst (λ r. IfOk r (λ i. c.add_entry.new.parents.items ≡ take c.depth_of-depth.result parents ++ i.id ∷ [])) c.in_ok-placed.ensures c.add_entry.ensures.parents) in
-    gives-itself registers src s p plain goals number t0 t1 c.add_context.new.strings parents c.add_entry.new.parents.items placed base e u4 u5
+    let items = subst (λ d. c.add_entry_with_room.new.parents.items ≡ take d parents ++ real.id ∷ []) c.depth_of-depth.ensures
+    (subst (λ r. IfOk r (λ i. c.add_entry_with_room.new.parents.items ≡ take c.depth_of-depth.result parents ++ i.id ∷ [])) c.in_ok-placed.ensures c.add_entry_with_room.ensures.parents) in
+    gives-itself registers src s p plain goals number t0 t1 c.add_context.new.strings parents c.add_entry_with_room.new.parents.items placed base e u4 u5
     (subst (λ t. IsGiven number t0 t1 (bounds_said ++ values_wanted goals (tell_of t s.entries p) registers src s p [] x.attributes ++ order_said) base e u4) told whole)
-    c.add_context.ensures.grows set.accepted (subst (λ (i : PlacedEntry). c.add_entry.new.parents.items ≡ take x.depth parents ++ i.id ∷ []) same.1 items)
+    c.add_context.ensures.grows set.accepted (subst (λ (i : PlacedEntry). c.add_entry_with_room.new.parents.items ≡ take x.depth parents ++ i.id ∷ []) same.1 items)
     c.add_context.result
     (subst (λ (i : PlacedEntry). AddsVariable src.module.place (context_over (source_with registers src s) p) i.id.index src.vmctx_ptr c.add_context.new.strings u4 u5 c.add_context.result) same.1 (c.add_context.ensures.variable s in_force))
