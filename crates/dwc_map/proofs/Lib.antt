@@ -9,5 +9,8 @@ pub mod TokenLists
 pub mod TokenMembers
 pub mod TokenKinds
 pub mod TokenNumbers
-pub mod TokenEntries
+pub mod TokenShapes
+pub mod TokenLabels
+pub mod TokenFrames
+pub mod TokenFunctions
 pub mod RecordCases

@@ -1,5 +1,5 @@
 -- The objects of a map by one member and by the other fields.
-use Rattle.std.proofs.Common.{◌≡◌, ℕ, List, [], false, Option, Some, bytes_eq, codes, option_and_then, refl, sym, ap, ◌∙◌, true≢false}
+use Rattle.std.proofs.Common.{◌≡◌, ℕ, List, [], false, Some, bytes_eq, codes, option_and_then, refl, sym, ap, ◌∙◌, true≢false}
 use Rattle.std.specs.Prelude.{◌≢◌}
 use Rattle.std.proofs.lemmas.Slice.Eq.{bytes_eq-Decides}
 use Rattle.std.specs.Str.{IsUtf8}
@@ -8,21 +8,13 @@ use Rattle.json.specs.Lex.{tokens}
 use Rattle.serde_json.specs.Data.{Members, object}
 use Rattle.serde_json.specs.Read.{of_json}
 use Rattle.dwc_map.specs.ByTokens.{AreSameBut, Tells}
-use Rattle.dwc_map.specs.MapFile.{MapFile, MapFunction, MapModule, entries_of, function_in, functions_of, map_function_of, map_in, map_in_bytes, map_module_of, map_with, module_in, modules_of}
+use Rattle.dwc_map.specs.MapFile.{MapFile, MapFunction, MapModule, functions_of, map_in, map_in_bytes, map_module_of, map_with, module_in, modules_of}
 use Rattle.dwc_map.specs.MapValues.{◌>>=◌, required}
 use Rattle.dwc_map.proofs.MapKinds.{map_in_bytes_read}
 use Rattle.dwc_map.proofs.TokenLists.{converted_some}
 
 apart : (xs ys : List ℕ) → bytes_eq xs ys ≡ false → xs ≢ ys
 apart xs ys differ same = true≢false (sym ((bytes_eq-Decides xs ys).1 same) ∙ differ)
-
-pub function-same : (es : List (ℕ × Option ℕ)) (ms ns : Members) → AreSameBut (codes "map") ms ns → function_in es ms ≡ function_in es ns
-function-same es ms ns same =
-    rw (same (codes "symbol") (apart (codes "symbol") (codes "map") refl), same (codes "start") (apart (codes "start") (codes "map") refl), same (codes "end") (apart (codes "end") (codes "map") refl), same (codes "body_offset") (apart (codes "body_offset") (codes "map") refl), same (codes "body_len") (apart (codes "body_len") (codes "map") refl), same (codes "labels") (apart (codes "labels") (codes "map") refl), same (codes "frame") (apart (codes "frame") (codes "map") refl))
-
-pub function-by : (es : List (ℕ × Option ℕ)) (ms ns : Members) → AreSameBut (codes "map") ms ns → required (codes "map") entries_of ms ≡ Some es → map_function_of (object ms) ≡ function_in es ns
-unfolding map_function_of
-function-by es ms ns same is = ap (λ o. o >>= λ entries. function_in entries ms) is ∙ function-same es ms ns same
 
 module-same : (fs : List MapFunction) (ms ns : Members) → AreSameBut (codes "functions") ms ns → module_in fs ms ≡ module_in fs ns
 module-same fs ms ns same = rw (same (codes "memory") (apart (codes "memory") (codes "functions") refl), same (codes "path") (apart (codes "path") (codes "functions") refl))

@@ -1,6 +1,7 @@
 -- A list of values of a kind, as its items are read one after another.
-use Rattle.std.proofs.Common.{◌≡◌, ℕ, ◌-◌, ◌<◌, ◌≤◌, List, [], ◌∷◌, ◌++◌, map, length, Result, Ok, Err, Option, Some, None, option_map, option_and_then, refl, sym, ap, ap₂, ◌∙◌, arith}
-use Rattle.std.specs.Prelude.{IfOk}
+use Rattle.std.proofs.Common.{◌≡◌, ℕ, ◌-◌, ◌<◌, ◌≤◌, List, [], ◌∷◌, ◌++◌, map, length, Result, Ok, Err, Option, Some, None, option_map, option_and_then, refl, sym, ap, ap₂, ◌∙◌, subst, arith}
+use Rattle.std.proofs.lemmas.List.{append-nil}
+use Rattle.std.specs.Prelude.{IfOk, OnOk}
 use Rattle.json.specs.Token.{Token, begin_array}
 use Rattle.json.specs.Json as json
 use Rattle.json.specs.Json.{Parse, parse_map, after_end_array, items, value}
@@ -14,6 +15,10 @@ use Rattle.dwc_map.specs.MapValues.{◌>>=◌, all_items, list_of}
 pub if-ok : {A E : Type 0} (P Q : A → Type 0) (r : Result A E) → ((x : A) → P x → Q x) → IfOk r P → IfOk r Q
 if-ok P Q (Ok x) more h = more x h
 if-ok P Q (Err e) more h = tt
+
+pub on-ok : {A E : Type 0} (P : Type 0) (r : Result A E) → P → OnOk r P
+on-ok P (Ok x) h = h
+on-ok P (Err e) h = tt
 
 pub map-push : {A B : Type 0} (f : A → B) (xs : List A) (x : A) → map f (xs ++ x ∷ []) ≡ map f xs ++ f x ∷ []
 map-push f [] x = refl
@@ -95,9 +100,12 @@ module _ {A : Type 0} (kind : Data → Option A) where
           read = a.read ∙ ap (parse_map (λ ys. xs ++ ys)) turn ∙ one-more xs x (left (a.most - 1) next);
         }
 
-    append-nil : (xs : List A) → xs ++ [] ≡ xs
-    append-nil [] = refl
-    append-nil (x ∷ xs) = ap (λ ys. x ∷ ys) (append-nil xs)
+    -- the same of what is pushed to other items, behind the test for the end
+    pub items-pushed : {X : Type 0} (view : X → A) (start now tested next : List Token) (xs ys : List X) (x : X) → (after_end_array now ≡ None) × (tested ≡ now) → Tells depth kind tested (view x) next → length next < length tested → ys ≡ xs ++ x ∷ [] → ItemsAlong start now (map view xs)
+        → ItemsAlong start next (map view ys)
+    items-pushed view start now tested next xs ys x going told less is a =
+        subst (ItemsAlong start next) (sym (ap (map view) is ∙ map-push view xs x))
+        (items-next start now next (map view xs) (view x) going.0 (subst (λ ts. Tells depth kind ts (view x) next) going.1 told) (subst (λ ts. length next < length ts) going.1 less) a)
 
     pub items-over : (start now rest : List Token) (xs : List A) → after_end_array now ≡ Some rest → ItemsAlong start now xs → left (length start) start ≡ Some (xs, rest)
     items-over start now rest xs over a =

@@ -14,12 +14,27 @@ use Rattle.dwc_map.specs.ByTokens.{AreSameBut, Puts, Tells, TellsMembers}
 use Rattle.dwc_map.specs.MapValues.{◌>>=◌, required}
 use Rattle.dwc_map.proofs.TokenLists.{converted_some}
 
-abbrev after : Members → Option (json.Members × List Token) → Option (Members × List Token)
+abbrev pub after : Members → Option (json.Members × List Token) → Option (Members × List Token)
 after found o = converted (λ ms. of_members ms found) o
 
-with-member : (k : List ℕ) (j : json.Json) (d : Data) (found : Members) → of_json j ≡ Some d → (o : Option (json.Members × List Token)) → after found (parse_map (json.member k j) o) ≡ after (put k d found) o
+pub with-member : (k : List ℕ) (j : json.Json) (d : Data) (found : Members) → of_json j ≡ Some d → (o : Option (json.Members × List Token)) → after found (parse_map (json.member k j) o) ≡ after (put k d found) o
 with-member k j d found is None = refl
 with-member k j d found is (Some p) = rw is
+
+-- what is put at a name in both of two objects leaves them alike at another
+pub put-alike : (other k : List ℕ) (d : Data) (ms ns : Members) → get_member other ms ≡ get_member other ns → get_member other (put k d ms) ≡ get_member other (put k d ns)
+put-alike other k d ms ns same = go (bytes_eq other k) refl
+  where
+    go : (b : Bool) → bytes_eq other k ≡ b → get_member other (put k d ms) ≡ get_member other (put k d ns)
+    go true is =
+        let e : other ≡ k = (bytes_eq-Decides other k).0 is in
+        ap (λ q. get_member q (put k d ms)) e ∙ get_member-put k d ms ∙ sym (get_member-put k d ns) ∙ ap (λ q. get_member q (put k d ns)) (sym e)
+    go false is =
+        let differ : other ≢ k = λ e. absurd (cc-true (sym is ∙ (bytes_eq-Decides other k).1 e)) in
+        get_member-put_other other k d ms differ ∙ same ∙ sym (get_member-put_other other k d ns differ)
+      where
+        cc-true : ◌≡◌ {A = Bool} false true → ⊥
+        cc-true h = absurd (cc)
 
 module _ {A : Type 0} (name : List ℕ) (kind : Data → Option A) (depth : ℕ) where
   -- Members were read, and the object has them and those to come.
@@ -59,18 +74,7 @@ module _ {A : Type 0} (name : List ℕ) (kind : Data → Option A) (depth : ℕ)
   kept (Some x) before after e h = ap (λ o. o >>= kind) e ∙ h
 
   put-same : (k : List ℕ) (d : Data) (ms ns : Members) → AreSameBut name ms ns → AreSameBut name (put k d ms) (put k d ns)
-  put-same k d ms ns same other apart = go (bytes_eq other k) refl
-    where
-      go : (b : Bool) → bytes_eq other k ≡ b → get_member other (put k d ms) ≡ get_member other (put k d ns)
-      go true is =
-          let e : other ≡ k = (bytes_eq-Decides other k).0 is in
-          ap (λ q. get_member q (put k d ms)) e ∙ get_member-put k d ms ∙ sym (get_member-put k d ns) ∙ ap (λ q. get_member q (put k d ns)) (sym e)
-      go false is =
-          let differ : other ≢ k = λ e. absurd (cc-true (sym is ∙ (bytes_eq-Decides other k).1 e)) in
-          get_member-put_other other k d ms differ ∙ same other apart ∙ sym (get_member-put_other other k d ns differ)
-        where
-          cc-true : ◌≡◌ {A = Bool} false true → ⊥
-          cc-true h = absurd (cc)
+  put-same k d ms ns same other apart = put-alike other k d ms ns (same other apart)
 
   -- The next one is another.
   pub members-field : (start now behind next : List Token) (k : List ℕ) (fields more : Members) (told : Option A) → read_key now ≡ Some (Some k, behind) → k ≢ name → Puts depth k behind fields more next → length next < length now → MembersAlong start now fields told → MembersAlong start next more told

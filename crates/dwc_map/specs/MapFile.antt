@@ -117,6 +117,20 @@ function_in entries ms = do
     frame = frame;
   })
 
+-- a function with some entries, labels and a frame, by the other fields of an object
+abbrev pub function_by : List (ℕ × Option ℕ) → LabelledRanges → Option FrameDescription → Members → Option MapFunction
+function_by entries labels frame ms = do
+  symbol ← required (codes "symbol") (nullable u32_of) ms
+  start ← required (codes "start") source_of ms
+  end ← required (codes "end") source_of ms
+  body_offset ← with_default (codes "body_offset") 0 u32_of ms
+  body_len ← required (codes "body_len") u32_of ms
+  Some (record {
+    address_map = record { symbol = symbol; start = start; end = end; body_offset = body_offset; body_len = body_len; entries = entries };
+    labels = labels;
+    frame = frame;
+  })
+
 -- a function with its address map, its labels and its frame
 unfoldable pub map_function_of : Data → Option MapFunction
 map_function_of d = do

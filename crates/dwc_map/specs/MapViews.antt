@@ -10,7 +10,7 @@ use Rattle.dwc_base.specs.Compiled.{LabelRange, LinkageNames}
 use Rattle.dwc_clif.specs.declared.metadata.CompiledFunctionMetadata.{CompiledFunctionMetadata}
 use Rattle.dwc_clif.specs.declared.value_label.ValueLabel.{ValueLabel}
 use Rattle.dwc_clif.specs.declared.value_label.ValueLocRange.{ValueLocRange}
-use Rattle.dwc_clif.specs.ValueLabels.{range_view}
+use Rattle.dwc_clif.specs.ValueLabels.{LabelledRanges, range_view}
 use Rattle.dwc_clif.specs.AddressMaps.{address_map_view}
 use Rattle.dwc_clif.specs.CallFrames.{cie_view, description_of_metadata}
 use Rattle.dwc_clif.specs.Registers.{registers_of}
@@ -68,23 +68,27 @@ linkage_names n = record { set_memory = string_bytes n.set; resolve_memory = str
 abbrev pub label_view : ValueLabel × Vec ValueLocRange Global → ℕ × List LabelRange
 label_view l = ((l.0).0, map range_view (l.1).items)
 
+-- a function with some entries, labels and a frame, from its other fields
+abbrev pub function_told : List (ℕ × Option ℕ) → LabelledRanges → Option FrameDescription → FunctionFields → value.MapFunction
+function_told entries labels frame f = record {
+  address_map = record {
+    symbol = option_map (λ s. s.0) f.symbol;
+    start = f.start.offset;
+    end = f.end.offset;
+    body_offset = f.body_offset;
+    body_len = f.body_len;
+    entries = entries;
+  };
+  labels = labels;
+  frame = frame;
+}
+
 -- a function with some entries from its other fields, whose labels and frame are still values; none where these are no labels or no frame
 abbrev pub function_with : List (ℕ × Option ℕ) → FunctionFields → Option value.MapFunction
 function_with entries f =
     value_or finite.empty value.labels_of (option_map (λ v. view v.now) f.labels)
     >>= λ labels. value_or None (nullable frames.frame_of) (option_map (λ v. view v.now) f.frame)
-    >>= λ frame. Some (record {
-      address_map = record {
-        symbol = option_map (λ s. s.0) f.symbol;
-        start = f.start.offset;
-        end = f.end.offset;
-        body_offset = f.body_offset;
-        body_len = f.body_len;
-        entries = entries;
-      };
-      labels = labels;
-      frame = frame;
-    })
+    >>= λ frame. Some (function_told entries labels frame f)
 
 -- a function that has a symbol or none
 abbrev pub function_view : Option SymbolId × CompiledFunctionMetadata → value.MapFunction

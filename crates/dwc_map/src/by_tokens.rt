@@ -1,80 +1,31 @@
-//! A map file by the tokens of its text: no value is made of the entries of its functions, which are most of it. A map is read so where its
-//! numbers are whole, those of fields that nobody knows too; any other, and what is no map, is left to the plain way.
-ghost use Rattle.std.specs.Prelude.{◌≡◌, ◌<◌, ◌-◌, ◌^◌, ℕ, List, ◌∷◌, map, codes, length, Some, IfOk, OnOk};
-ghost use Rattle.json.specs.Token.{begin_array, begin_object, end_array, number};
+//! A map file by the tokens of its text: no value is made of the entries, the labels and the frames of its functions, which are most of it. A
+//! map is read so where its numbers are whole, those of fields that nobody knows too, and where each frame has its two fields in their usual
+//! order; any other, and what is no map, is left to the plain way.
+ghost use Rattle.std.specs.Prelude.{◌≡◌, ◌<◌, ◌-◌, ◌^◌, ℕ, map, codes, length, option_map, Some, IfOk, OnOk};
 ghost use Rattle.serde_json.specs.View.{members_view};
 ghost use Rattle.dwc_clif.specs.AddressMaps.{entry_view};
-ghost use Rattle.dwc_map.specs.ByTokens.{IsNumber, IsSource, Puts, Tells, TellsItems, TellsMembers};
+ghost use Rattle.dwc_clif.specs.CallFrames.{description_view};
+ghost use Rattle.dwc_map.specs.ByTokens.{IsNumber, IsSource, Puts, Tells, TellsFunction, TellsItems, TellsMembers};
 ghost use Rattle.dwc_map.specs.MapFile.{entries_of, functions_of, map_function_of, map_in, map_in_bytes, map_module_of, modules_of};
 ghost use Rattle.dwc_map.specs.MapValues.{pair_of, source_of, u32_of};
 ghost use Rattle.dwc_map.specs.MapViews.{function_view, map_file_view, module_view, told_sources, mapped_sources, HaveOneSource, ModulesHaveOneSource};
 
-use crate::function::function_from;
+use crate::frames_by_tokens::read_frame;
+use crate::function::function_with;
+use crate::labels_by_tokens::read_labels;
 use crate::map_file::{MapFile, MapModule, map_from};
 use crate::module::module_from;
 use crate::stop::Stop;
-use crate::tokens::{put_value, read_value, whole_of};
+use crate::token_parts::{begin_list, begin_object, end_list, number_in, read_number};
+use crate::tokens::{put_value, read_value};
 use dwc_base::{FilePos, SymbolId};
-use dwc_clif::{CompiledFunctionMetadata, InstructionAddressMap};
+use dwc_clif::{CfaUnwindInfo, CompiledFunctionMetadata, InstructionAddressMap, ValueLabelsRanges};
 use json::{Reader, Scratch, Token};
 use serde_json::{Map, Value};
 use std::alloc::Global;
 
 // How deep the lists and objects of a map may nest.
 const DEPTH: usize = 127;
-
-// Takes the bracket that opens a list.
-fn begin_list(reader: &mut Reader<'_>) -> Result<(), Stop>
-    ensures { OnOk result (reader.old ≡ begin_array ∷ reader.new) }
-{
-    match reader.next() {
-        Some(Token::BeginArray) => Ok(()),
-        _ => Err(Stop::Unusual),
-    }
-}
-
-// Takes the bracket that closes a list.
-fn end_list(reader: &mut Reader<'_>) -> Result<(), Stop>
-    ensures { OnOk result (reader.old ≡ end_array ∷ reader.new) }
-{
-    match reader.next() {
-        Some(Token::EndArray) => Ok(()),
-        _ => Err(Stop::Unusual),
-    }
-}
-
-// Takes the brace that opens an object.
-fn begin_object(reader: &mut Reader<'_>) -> Result<(), Stop>
-    ensures { OnOk result (reader.old ≡ begin_object ∷ reader.new) }
-{
-    match reader.next() {
-        Some(Token::BeginObject) => Ok(()),
-        _ => Err(Stop::Unusual),
-    }
-}
-
-// The whole number below 2^32 that a text writes.
-fn number_in(text: &str) -> Result<u32, Stop>
-    ensures { IfOk result (λ n. IsNumber text.now n) }
-{
-    let Some(number) = whole_of(text) else {
-        return Err(Stop::Unusual);
-    };
-    match u32::try_from(number) {
-        Ok(number) => Ok(number),
-        Err(_) => Err(Stop::Unusual),
-    }
-}
-
-// Takes a whole number below 2^32.
-fn read_number(reader: &mut Reader<'_>) -> Result<u32, Stop>
-    ensures { IfOk result (λ n. (s : List ℕ) × (reader.old ≡ number s ∷ reader.new) × IsNumber s n) }
-{
-    match reader.next() {
-        Some(Token::Number(text)) => number_in(text),
-        _ => Err(Stop::Unusual),
-    }
-}
 
 // Takes the offset of a source, or null for no source.
 fn read_source(reader: &mut Reader<'_>) -> Result<FilePos, Stop>
@@ -161,27 +112,44 @@ fn read_field(
     put_value(alloc, fields, name, field)
 }
 
-// The entries of a function and its other fields, behind the brace that opens it.
+// What is read of a function: its entries, labels and frame, and its other fields.
+#[derive(Drop)]
+struct FunctionParts {
+    fields: Map<String, Value>,
+    entries: Vec<InstructionAddressMap>,
+    labels: ValueLabelsRanges,
+    frame: Option<CfaUnwindInfo>,
+}
+
+// The parts of a function, behind the brace that opens it.
 fn function_members(
     alloc: Global,
     reader: &mut Reader<'_>,
     depth: usize,
-) -> Result<(Map<String, Value>, Vec<InstructionAddressMap>), Stop>
-    requires { 1 < depth }
-    ensures told { IfOk result (λ r. TellsMembers depth (codes "map") entries_of reader.old (members_view r.0.entries) (map entry_view r.1.items) reader.new) }
+) -> Result<FunctionParts, Stop>
+    requires { 3 < depth }
+    ensures told { IfOk result (λ p. TellsFunction depth reader.old (members_view p.fields.entries) (map entry_view p.entries.items) p.labels (option_map description_view p.frame) reader.new) }
     ensures shorter { OnOk result (length reader.new < length reader.old) }
 {
     let mut fields = Map::new(alloc);
     let mut entries = None;
+    let mut labels = ValueLabelsRanges::new(alloc);
+    let mut frame = None;
     'members: while let Some(name) = reader.next_key()? {
-        if name == "map" {
-            entries = Some(read_entries(alloc, reader, depth)?);
-        } else {
-            read_field(alloc, reader, depth, name, &mut fields)?;
+        match name {
+            "map" => entries = Some(read_entries(alloc, reader, depth)?),
+            "labels" => labels = read_labels(alloc, reader, depth)?,
+            "frame" => frame = read_frame(alloc, reader, depth)?,
+            _ => read_field(alloc, reader, depth, name, &mut fields)?,
         }
     }
     match entries {
-        Some(entries) => Ok((fields, entries)),
+        Some(entries) => Ok(FunctionParts {
+            fields,
+            entries,
+            labels,
+            frame,
+        }),
         None => Err(Stop::Unusual),
     }
 }
@@ -191,14 +159,19 @@ fn read_function(
     reader: &mut Reader<'_>,
     depth: usize,
 ) -> Result<(Option<SymbolId>, CompiledFunctionMetadata), Stop>
-    requires { 2 < depth }
+    requires { 4 < depth }
     ensures told { IfOk result (λ f. Tells depth map_function_of reader.old (function_view f) reader.new) }
     ensures sources { IfOk result (λ f. told_sources f ≡ mapped_sources f) }
     ensures shorter { OnOk result (length reader.new < length reader.old) }
 {
     begin_object(reader)?;
-    let (fields, entries) = function_members(alloc, reader, depth - 1)?;
-    match function_from(alloc, &fields, entries)? {
+    let FunctionParts {
+        fields,
+        entries,
+        labels,
+        frame,
+    } = function_members(alloc, reader, depth - 1)?;
+    match function_with(&fields, entries, labels, frame) {
         Some(function) => Ok(function),
         None => Err(Stop::Unusual),
     }
@@ -209,7 +182,7 @@ fn read_functions(
     reader: &mut Reader<'_>,
     depth: usize,
 ) -> Result<Vec<(Option<SymbolId>, CompiledFunctionMetadata)>, Stop>
-    requires { 3 < depth }
+    requires { 5 < depth }
     ensures told { IfOk result (λ fs. Tells depth functions_of reader.old (map function_view fs.items) reader.new) }
     ensures sources { IfOk result (λ fs. HaveOneSource fs.items) }
     ensures shorter { OnOk result (length reader.new < length reader.old) }
@@ -224,7 +197,7 @@ fn functions_inside(
     reader: &mut Reader<'_>,
     depth: usize,
 ) -> Result<Vec<(Option<SymbolId>, CompiledFunctionMetadata)>, Stop>
-    requires { 2 < depth }
+    requires { 4 < depth }
     ensures told { IfOk result (λ fs. TellsItems depth map_function_of reader.old (map function_view fs.items) reader.new) }
     ensures sources { IfOk result (λ fs. HaveOneSource fs.items) }
     ensures shorter { OnOk result (length reader.new < length reader.old) }
@@ -249,7 +222,7 @@ fn module_members(
     ),
     Stop,
 >
-    requires { 3 < depth }
+    requires { 5 < depth }
     ensures told { IfOk result (λ r. TellsMembers depth (codes "functions") functions_of reader.old (members_view r.0.entries) (map function_view r.1.items) reader.new) }
     ensures sources { IfOk result (λ r. HaveOneSource r.1.items) }
     ensures shorter { OnOk result (length reader.new < length reader.old) }
@@ -270,7 +243,7 @@ fn module_members(
 }
 
 fn read_module(alloc: Global, reader: &mut Reader<'_>, depth: usize) -> Result<MapModule, Stop>
-    requires { 4 < depth }
+    requires { 6 < depth }
     ensures told { IfOk result (λ m. Tells depth map_module_of reader.old (module_view m) reader.new) }
     ensures sources { IfOk result (λ m. HaveOneSource m.functions.items) }
     ensures shorter { OnOk result (length reader.new < length reader.old) }
@@ -288,7 +261,7 @@ fn read_modules(
     reader: &mut Reader<'_>,
     depth: usize,
 ) -> Result<Vec<MapModule>, Stop>
-    requires { 5 < depth }
+    requires { 7 < depth }
     ensures told { IfOk result (λ ms. Tells depth modules_of reader.old (map module_view ms.items) reader.new) }
     ensures sources { IfOk result (λ ms. ModulesHaveOneSource ms.items) }
     ensures shorter { OnOk result (length reader.new < length reader.old) }
@@ -303,7 +276,7 @@ fn modules_inside(
     reader: &mut Reader<'_>,
     depth: usize,
 ) -> Result<Vec<MapModule>, Stop>
-    requires { 4 < depth }
+    requires { 6 < depth }
     ensures told { IfOk result (λ ms. TellsItems depth map_module_of reader.old (map module_view ms.items) reader.new) }
     ensures sources { IfOk result (λ ms. ModulesHaveOneSource ms.items) }
     ensures shorter { OnOk result (length reader.new < length reader.old) }
@@ -322,7 +295,7 @@ fn map_members(
     reader: &mut Reader<'_>,
     depth: usize,
 ) -> Result<(Map<String, Value>, Vec<MapModule>), Stop>
-    requires { 5 < depth }
+    requires { 7 < depth }
     ensures told { IfOk result (λ r. TellsMembers depth (codes "modules") modules_of reader.old (members_view r.0.entries) (map module_view r.1.items) reader.new) }
     ensures sources { IfOk result (λ r. ModulesHaveOneSource r.1.items) }
     ensures shorter { OnOk result (length reader.new < length reader.old) }
@@ -343,7 +316,7 @@ fn map_members(
 }
 
 fn read_map(alloc: Global, reader: &mut Reader<'_>, depth: usize) -> Result<MapFile, Stop>
-    requires { 6 < depth }
+    requires { 8 < depth }
     ensures told { IfOk result (λ m. Tells depth map_in reader.old (map_file_view m) reader.new) }
     ensures sources { IfOk result (λ m. ModulesHaveOneSource m.modules.items) }
 {

@@ -84,8 +84,8 @@ fn can_be_written(cie: &Cie) -> bool
 
 // ---- Lists of instructions
 
-// The instruction of a name, with its operands.
-fn named_instruction(name: &str, operands: &[Value]) -> Option<FrameOp>
+/// The instruction of a name, with its operands.
+pub(crate) fn named_instruction(name: &str, operands: &[Value]) -> Option<FrameOp>
     ensures { option_map instruction_view result ≡ option_and_then (λ kind. kind (items_view operands.now)) (named_in instruction_kinds name.now) }
 {
     match name {

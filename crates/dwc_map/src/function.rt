@@ -1,16 +1,22 @@
 //! The functions of a map file: each with its symbol, address map, labels and frame.
 ghost use Rattle.std.specs.Prelude.{ℕ, List, Option, ◌≡◌, map, option_map, option_and_then, IfOk, IfSome};
 ghost use Rattle.serde_json.specs.View.{view, items_view, members_view};
+ghost use Rattle.dwc_base.specs.CallFrames.{FrameDescription};
 ghost use Rattle.dwc_clif.specs.AddressMaps.{entry_view};
-ghost use Rattle.dwc_map.specs.MapFile.{function_in, map_function_of};
+ghost use Rattle.dwc_clif.specs.CallFrames.{description_view};
+ghost use Rattle.dwc_clif.specs.ValueLabels.{LabelledRanges};
+ghost use Rattle.dwc_map.specs.MapFile.{function_by, function_in, map_function_of};
 ghost use Rattle.dwc_map.specs.MapValues.{u32_of, source_of, pair_of, all_items};
-ghost use Rattle.dwc_map.specs.MapViews.{function_with, function_view, told_sources, mapped_sources, HaveOneSource};
+ghost use Rattle.dwc_map.specs.MapViews.{function_told, function_with, function_view, told_sources, mapped_sources, HaveOneSource};
 
 use crate::frames::read_frame;
 use crate::json_fields::{items, member, members, pair, source, symbol, whole_number};
 use crate::labels::read_labels;
 use dwc_base::{FilePos, SymbolId};
-use dwc_clif::{CompiledFunctionMetadata, FunctionAddressMap, InstructionAddressMap};
+use dwc_clif::{
+    CfaUnwindInfo, CompiledFunctionMetadata, FunctionAddressMap, InstructionAddressMap,
+    ValueLabelsRanges,
+};
 use serde_json::{Map, Value};
 use std::alloc::{AllocError, Global};
 
@@ -27,7 +33,8 @@ struct FunctionFields<'v> {
 }
 
 fn function_fields(fields: &Map<String, Value>) -> Option<FunctionFields<'_>>
-    ensures { (entries : List (ℕ × Option ℕ)) → function_in entries (members_view fields.now.entries) ≡ option_and_then (function_with entries) result }
+    ensures whole { (entries : List (ℕ × Option ℕ)) → function_in entries (members_view fields.now.entries) ≡ option_and_then (function_with entries) result }
+    ensures others { (entries : List (ℕ × Option ℕ)) → (labels : LabelledRanges) → (frame : Option FrameDescription) → function_by entries labels frame (members_view fields.now.entries) ≡ option_map (function_told entries labels frame) result }
 {
     let symbol = symbol(member(fields, "symbol")?)?;
     let start = source(member(fields, "start")?)?;
@@ -48,24 +55,16 @@ fn function_fields(fields: &Map<String, Value>) -> Option<FunctionFields<'_>>
     })
 }
 
-/// A function with these entries, by the other fields of its object; None where one is missing or of the wrong kind.
-pub(crate) fn function_from(
-    alloc: Global,
-    fields: &Map<String, Value>,
+// A function by its fields.
+fn function_of(
+    fields: &FunctionFields<'_>,
     instructions: Vec<InstructionAddressMap>,
-) -> Result<Option<(Option<SymbolId>, CompiledFunctionMetadata)>, AllocError>
-    ensures value { IfOk result (λ o. option_map function_view o ≡ function_in (map entry_view instructions.items) (members_view fields.now.entries)) }
-    ensures sources { IfOk result (λ o. IfSome o (λ f. told_sources f ≡ mapped_sources f)) }
+    value_labels_ranges: ValueLabelsRanges,
+    cfa_unwind_info: Option<CfaUnwindInfo>,
+) -> (Option<SymbolId>, CompiledFunctionMetadata)
+    ensures value { function_view result ≡ function_told (map entry_view instructions.items) value_labels_ranges (option_map description_view cfa_unwind_info) fields.now }
+    ensures sources { told_sources result ≡ mapped_sources result }
 {
-    let Some(fields) = function_fields(fields) else {
-        return Ok(None);
-    };
-    let Some(value_labels_ranges) = read_labels(alloc, fields.labels)? else {
-        return Ok(None);
-    };
-    let Some(cfa_unwind_info) = read_frame(alloc, fields.frame)? else {
-        return Ok(None);
-    };
     let address_map = FunctionAddressMap {
         instructions,
         start_srcloc: fields.start,
@@ -81,7 +80,42 @@ pub(crate) fn function_from(
         start_srcloc: fields.start,
         end_srcloc: fields.end,
     };
-    Ok(Some((fields.symbol, metadata)))
+    (fields.symbol, metadata)
+}
+
+/// A function with these entries, labels and frame, by the other fields of its object; None where one is missing or of the wrong kind.
+pub(crate) fn function_with(
+    fields: &Map<String, Value>,
+    instructions: Vec<InstructionAddressMap>,
+    labels: ValueLabelsRanges,
+    frame: Option<CfaUnwindInfo>,
+) -> Option<(Option<SymbolId>, CompiledFunctionMetadata)>
+    ensures value { option_map function_view result ≡ function_by (map entry_view instructions.items) labels (option_map description_view frame) (members_view fields.now.entries) }
+    ensures sources { IfSome result (λ f. told_sources f ≡ mapped_sources f) }
+{
+    let fields = function_fields(fields)?;
+    Some(function_of(&fields, instructions, labels, frame))
+}
+
+// A function with these entries, by the other fields of its object; None where one is missing or of the wrong kind.
+fn function_from(
+    alloc: Global,
+    fields: &Map<String, Value>,
+    instructions: Vec<InstructionAddressMap>,
+) -> Result<Option<(Option<SymbolId>, CompiledFunctionMetadata)>, AllocError>
+    ensures value { IfOk result (λ o. option_map function_view o ≡ function_in (map entry_view instructions.items) (members_view fields.now.entries)) }
+    ensures sources { IfOk result (λ o. IfSome o (λ f. told_sources f ≡ mapped_sources f)) }
+{
+    let Some(fields) = function_fields(fields) else {
+        return Ok(None);
+    };
+    let Some(labels) = read_labels(alloc, fields.labels)? else {
+        return Ok(None);
+    };
+    let Some(frame) = read_frame(alloc, fields.frame)? else {
+        return Ok(None);
+    };
+    Ok(Some(function_of(&fields, instructions, labels, frame)))
 }
 
 // A pair of a code offset and the source of the code from there on.

@@ -1,5 +1,6 @@
 //! JSON values by the tokens of a text.
-ghost use Rattle.std.specs.Prelude.{◌≡◌, ◌<◌, ◌==◌, true, false, length, slice_index, Some, IfOk, IfSome, IsTrue, OnOk};
+ghost use Rattle.std.specs.Prelude.{◌≡◌, ◌<◌, ◌^◌, ◌==◌, true, false, length, slice_index, Some, IfOk, IfSome, IsTrue, OnOk};
+ghost use Rattle.std.specs.Str.Parse.{digits_value, IsNumeral};
 ghost use Rattle.json.specs.Json.{value, items, members};
 ghost use Rattle.serde_json.specs.Data.{no_members, put, unsigned};
 ghost use Rattle.serde_json.specs.Find.{of_integer};
@@ -34,15 +35,43 @@ fn below_zero_of(numeral: &Numeral<'_>) -> Option<i64>
     if number < 0 { Some(number) } else { None }
 }
 
+// The number of some digits, of which there are 19 at most; none where another byte stands among them.
+fn digits_number(digits: &[u8]) -> Option<u64>
+    ensures { IfSome result (λ n. IsNumeral 10 digits.now × (n ≡ digits_value 10 digits.now) × (n < 2 ^ 64)) }
+{
+    if digits.is_empty() || digits.len() > 19 {
+        return None;
+    }
+    let mut number = 0;
+    for byte in digits {
+        if *byte < b'0' || *byte > b'9' {
+            return None;
+        }
+        number = number * 10 + (u64::from(*byte) - 48);
+    }
+    Some(number)
+}
+
+// The whole number that any numeral writes in digits, if it has 64 bits.
+#[cold]
+fn whole_of_numeral(bytes: &[u8]) -> Option<u64>
+    ensures { IfSome result (λ n. number_of bytes.now ≡ Some (unsigned n)) }
+{
+    if has_minus(bytes) {
+        return None;
+    }
+    unsigned_of(&Numeral::scan(bytes))
+}
+
 /// The whole number that a text writes in digits, if it has 64 bits.
 pub(crate) fn whole_of(text: &str) -> Option<u64>
     ensures { IfSome result (λ n. number_of text.now ≡ Some (unsigned n)) }
 {
     let bytes = text.as_bytes();
-    if has_minus(bytes) {
-        return None;
+    match digits_number(bytes) {
+        Some(number) => Some(number),
+        None => whole_of_numeral(bytes),
     }
-    unsigned_of(&Numeral::scan(bytes))
 }
 
 // The whole number below 0 that a text writes in digits behind a sign, if it has 64 bits.
@@ -56,8 +85,8 @@ fn negative_of(text: &str) -> Option<i64>
     below_zero_of(&Numeral::scan(&bytes[1..]))
 }
 
-// The whole number that a text writes, if it has 64 bits.
-fn number_of(text: &str) -> Option<Number>
+/// The whole number that a text writes, if it has 64 bits.
+pub(crate) fn number_of(text: &str) -> Option<Number>
     ensures { IfSome result (λ n. number_of text.now ≡ Some (number_view n)) }
 {
     match whole_of(text) {

@@ -1,40 +1,65 @@
-use Rattle.std.proofs.Common.{◌≡◌, codes, map, Some, None, option_map, sym, ap, ◌∙◌, subst, arith, rules}
-use Rattle.std.specs.Prelude.{◌≢◌}
+use Rattle.std.proofs.Common.{◌≡◌, ◌<◌, codes, map, length, Some, None, option_map, sym, subst, arith}
+use Rattle.std.specs.FinMap as finite
 use Rattle.json.specs.Json.{read_key}
 use Rattle.serde_json.specs.View.{members_view}
-use Rattle.dwc_map.proofs.TokenMembers.{MembersAlong, members-field, members-over, members-start, members-told}
 use Rattle.dwc_clif.specs.AddressMaps.{entry_view}
-use Rattle.dwc_map.specs.MapFile.{entries_of}
+use Rattle.dwc_clif.specs.CallFrames.{description_view}
+use Rattle.dwc_map.proofs.TokenFunctions.{FunctionAlong, function-entries, function-field, function-frame, function-labels, function-over, function-start}
 use Rattle.dwc_map.proofs.by_tokens.function_members.Goals as goal
 
 pub members-init : goal.members-init
 members-init c =
-    subst (λ es. MembersAlong (codes "map") entries_of c.args.depth c.args.reader.now c.args.reader.now (members_view es) None) (sym c.new-fields.ensures.empty) (members-start (codes "map") entries_of c.args.depth c.args.reader.now)
+    let d = c.args.depth in
+    let start = c.args.reader.now in
+    subst (λ ls. FunctionAlong d start start (members_view c.new-fields.result.entries) None ls None) (sym c.new-labels.ensures)
+    (subst (λ es. FunctionAlong d start start (members_view es) None finite.empty None) (sym c.new-fields.ensures.empty) (function-start d start))
 
-pub members-preserved-then-eq : goal.members-preserved-then-eq
-members-preserved-then-eq c =
+pub members-preserved-then-str_eq : goal.members-preserved-then-str_eq
+members-preserved-then-str_eq c =
     let l = c.members in
-    let name = c.in-Some.name in
     let behind = c.next_key.new.self in
-    let key : read_key l.reader ≡ Some (Some name.now, behind) = grind arith in
-    let same : name.now ≡ codes "map" = search rules in
-    let named : read_key l.reader ≡ Some (Some (codes "map"), behind) = key ∙ ap (λ s. Some (Some s, behind)) same in
-    members-told (codes "map") entries_of c.args.depth c.args.reader.now l.reader behind c.read_entries.new.reader (members_view l.fields.entries) (option_map (λ xs. map entry_view xs.items) l.entries) (map entry_view (c.in_ok-read_entries.field-0).items) named c.in_ok-read_entries.ensures.told (grind arith) l.invariant
+    let r = c.read_entries.new.reader in
+    let done = c.in_ok-read_entries-in-map in
+    let key : read_key l.reader ≡ Some (Some (codes "map"), behind) = grind arith in
+    let less : length r < length l.reader = grind arith in
+    function-entries c.args.depth c.args.reader.now l.reader behind r (members_view l.fields.entries) (option_map (λ xs. map entry_view xs.items) l.entries) l.labels (option_map description_view l.frame) less l.invariant (map entry_view done.field-0.items) key done.ensures.told
+
+pub members-preserved-then-str_eq-2 : goal.members-preserved-then-str_eq-2
+members-preserved-then-str_eq-2 c =
+    let l = c.members in
+    let behind = c.next_key.new.self in
+    let r = c.read_labels.new.reader in
+    let done = c.in_ok-labels-in-labels in
+    let key : read_key l.reader ≡ Some (Some (codes "labels"), behind) = grind arith in
+    let less : length r < length l.reader = grind arith in
+    function-labels c.args.depth c.args.reader.now l.reader behind r (members_view l.fields.entries) (option_map (λ xs. map entry_view xs.items) l.entries) l.labels (option_map description_view l.frame) less l.invariant done.labels key done.ensures.told
+
+pub members-preserved-then-str_eq-3 : goal.members-preserved-then-str_eq-3
+members-preserved-then-str_eq-3 c =
+    let l = c.members in
+    let behind = c.next_key.new.self in
+    let r = c.read_frame.new.reader in
+    let done = c.in_ok-frame-in-frame in
+    let key : read_key l.reader ≡ Some (Some (codes "frame"), behind) = grind arith in
+    let less : length r < length l.reader = grind arith in
+    function-frame c.args.depth c.args.reader.now l.reader behind r (members_view l.fields.entries) (option_map (λ xs. map entry_view xs.items) l.entries) l.labels (option_map description_view l.frame) less l.invariant (option_map description_view done.frame) key done.ensures.told
 
 pub members-preserved : goal.members-preserved
 members-preserved c =
     let l = c.members in
-    let name = c.in-Some.name in
+    let name = c.in-Some.name.now in
     let behind = c.next_key.new.self in
-    let key : read_key l.reader ≡ Some (Some name.now, behind) = grind arith in
-    let other : name.now ≢ codes "map" = search rules in
-    members-field (codes "map") entries_of c.args.depth c.args.reader.now l.reader behind c.read_field.new.reader name.now (members_view l.fields.entries) (members_view c.read_field.new.fields.entries) (option_map (λ xs. map entry_view xs.items) l.entries) key other c.in_ok-read_field.ensures.puts (grind arith) l.invariant
+    let r = c.read_field.new.reader in
+    let key : read_key l.reader ≡ Some (Some name, behind) = grind arith in
+    let less : length r < length l.reader = grind arith in
+    let no = c.in_default-name in
+    function-field c.args.depth c.args.reader.now l.reader behind r (members_view l.fields.entries) (option_map (λ xs. map entry_view xs.items) l.entries) l.labels (option_map description_view l.frame) less l.invariant name (members_view c.read_field.new.fields.entries) key no.not-map no.not-labels no.not-frame c.in_ok-read_field-in_default-name.ensures.puts
 
 pub returns-in-Some-entries-clause-told : goal.returns-in-Some-entries-clause-told
 returns-in-Some-entries-clause-told c =
     let l = c.members in
     let r = c.next_key.new.self in
     let over : read_key l.reader ≡ Some (None, r) = grind arith in
-    let x = map entry_view (c.in-Some-entries.entries).items in
-    members-over (codes "map") entries_of c.args.depth c.args.reader.now l.reader r (members_view l.fields.entries) x over
-    (subst (λ o. MembersAlong (codes "map") entries_of c.args.depth c.args.reader.now l.reader (members_view l.fields.entries) (option_map (λ xs. map entry_view xs.items) o)) c.in-Some-entries.is l.invariant)
+    let frame = option_map description_view l.frame in
+    function-over c.args.depth c.args.reader.now l.reader r (members_view l.fields.entries) (map entry_view (c.in-Some-entries.entries).items) l.labels frame over
+    (subst (λ o. FunctionAlong c.args.depth c.args.reader.now l.reader (members_view l.fields.entries) (option_map (λ xs. map entry_view xs.items) o) l.labels frame) c.in-Some-entries.is l.invariant)

@@ -1,7 +1,6 @@
-use Rattle.std.proofs.Common.{◌≡◌, Some, None, map, length, ◌<◌, sym, ap, ◌∙◌, subst, arith}
+use Rattle.std.proofs.Common.{◌≡◌, Some, None, map, sym, subst, arith}
 use Rattle.json.specs.Json.{after_end_array}
-use Rattle.dwc_map.specs.ByTokens.{Tells}
-use Rattle.dwc_map.proofs.TokenLists.{ItemsAlong, both-more, items-next, items-over, map-push}
+use Rattle.dwc_map.proofs.TokenLists.{both-more, items-over, items-pushed}
 use Rattle.dwc_map.specs.MapFile.{map_function_of}
 use Rattle.dwc_map.specs.MapViews.{function_view, told_sources, mapped_sources, HaveOneSource}
 use Rattle.dwc_map.proofs.by_tokens.functions_inside.Goals as goal
@@ -10,13 +9,8 @@ pub items-preserved : goal.items-preserved
 items-preserved c =
     let l = c.items in
     let going : (after_end_array l.reader ≡ None) × (c.take_end_array.new.self ≡ l.reader) = grind arith in
-    let r = c.read_function.new.reader in
-    let less : length r < length l.reader = rw (← going.1) c.in_ok-function.ensures.shorter in
-    let told : Tells c.args.depth map_function_of l.reader (function_view c.in_ok-function.function) r = rw (← going.1) c.in_ok-function.ensures.told in
     record {
-      along =
-          subst (ItemsAlong map_function_of c.args.depth c.args.reader.now r) (sym (ap (map function_view) c.in_ok-push.ensures.items ∙ map-push function_view l.functions.items c.in_ok-function.function))
-          (items-next map_function_of c.args.depth c.args.reader.now l.reader r (map function_view l.functions.items) (function_view c.in_ok-function.function) going.0 told less l.invariant.along);
+      along = items-pushed map_function_of c.args.depth function_view c.args.reader.now l.reader c.take_end_array.new.self c.read_function.new.reader l.functions.items _ c.in_ok-function.function going c.in_ok-function.ensures.told c.in_ok-function.ensures.shorter c.in_ok-push.ensures.items l.invariant.along;
       sources = subst HaveOneSource (sym c.in_ok-push.ensures.items) (both-more told_sources mapped_sources l.functions.items c.in_ok-function.function l.invariant.sources c.in_ok-function.ensures.sources);
     }
 

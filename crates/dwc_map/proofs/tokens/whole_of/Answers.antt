@@ -1,13 +1,9 @@
-use Rattle.std.proofs.Common.{◌≡◌, ◌∙◌, sym, ap, false, get_or}
-use Rattle.std.specs.Prelude.{◌==◌}
-use Rattle.serde_json.specs.Data.{unsigned}
-use Rattle.serde_json.specs.Read.{number_of, number_from}
-use Rattle.dwc_map.proofs.TokenNumbers.{told-by, unsigned-text}
+use Rattle.std.proofs.Common.{◌∙◌, sym, ap}
+use Rattle.serde_json.specs.Read.{number_of}
+use Rattle.dwc_map.proofs.TokenNumbers.{digits-number}
 use Rattle.dwc_map.proofs.tokens.whole_of.Goals as goal
 
-pub returns : goal.returns
-returns c =
+pub returns-in-Some : goal.returns-in-Some
+returns-in-Some c =
     let s = c.as_bytes-bytes.result.now in
-    let plain : (get_or s 0 0 == 45) ≡ false = sym c.if-has_minus.ensures.value in
-    told-by c.unsigned_of.result (λ n. unsigned n) (number_from false c.scan.result) (number_of c.args.text.now)
-    (sym (ap number_of c.as_bytes-bytes.ensures.value) ∙ unsigned-text s plain ∙ ap (number_from false) (sym c.scan.ensures.parts)) c.unsigned_of.ensures
+    sym (ap number_of c.as_bytes-bytes.ensures.value) ∙ digits-number s c.in-Some.number c.in-Some.ensures
