@@ -1,5 +1,6 @@
 //! The text that a run prints.
 ghost use Rattle.std.specs.Prelude.{map, IfOk, IfErr, IfSome};
+ghost use Rattle.std.specs.List.{flat_map};
 ghost use Rattle.dwc_map.specs.MapFile.{IsMap};
 ghost use Rattle.dwc_map.specs.MapViews.{map_file_view};
 ghost use Rattle.dwc_cli.specs.Inputs.{Input};
@@ -9,15 +10,15 @@ ghost use Rattle.dwc_cli.specs.Answers.{status_of, IsInputOf, TranslatesFiles, C
 use crate::emitting::emitted;
 use crate::failure::Failure;
 use crate::input_files::InputFiles;
-use crate::printing::printed;
+use crate::printing::printed_pieces;
 use dwc_base::{ModuleTranslation, split_wasm};
 use dwc_map::map_for;
 use std::alloc::Global;
 
-// The printed text of an input: of the sections of DWARF of its modules, rewritten for the code that its map tells of.
-pub(crate) fn text_of(alloc: Global, files: InputFiles) -> Result<Vec<u8>, Failure<'static>>
+// The printed text of an input in pieces: of the sections of DWARF of its modules, rewritten for the code that its map tells of.
+pub(crate) fn text_of(alloc: Global, files: InputFiles) -> Result<Vec<Vec<u8>>, Failure<'static>>
     requires kinds { IfSome files.map_file (λ f. IsMap (map_file_view f)) }
-    ensures carried { (input : Input) → IsInputOf files input → IfOk result (λ text. CarriesText input text.items) }
+    ensures carried { (input : Input) → IsInputOf files input → IfOk result (λ pieces. CarriesText input (flat_map (λ piece. piece.items) pieces.items)) }
     ensures causes { (input : Input) → IsInputOf files input → TextCauses input (status_of result) }
     ensures status { IfErr result (λ failure. IsTextStatus (failure_status failure)) }
     ensures complete { (input : Input) → IsInputOf files input → GivesText input (status_of result) }
@@ -28,7 +29,7 @@ pub(crate) fn text_of(alloc: Global, files: InputFiles) -> Result<Vec<u8>, Failu
         return Err(Failure::MalformedMap);
     };
     let sections = emitted(alloc, map_file, translations)?;
-    Ok(printed(alloc, &sections)?)
+    Ok(printed_pieces(alloc, &sections)?)
 }
 
 // The translations of some modules in order.

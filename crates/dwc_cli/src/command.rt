@@ -7,7 +7,7 @@ ghost use Rattle.dwc_cli.specs.Answers.{Tells, Complains};
 use crate::answer::text_of;
 use crate::failure::{Failure, complain};
 use crate::reading::read_input;
-use crate::sink::{Sink, write_all};
+use crate::sink::{Sink, write_pieces};
 use crate::source::{Failed, Source};
 use crate::status::Status;
 use crate::words::read_words;
@@ -59,7 +59,7 @@ pub fn run<S: Source, K: Sink, E: Sink>(
         Ok(text) => text,
         Err(failure) => return refuse(err, &failure),
     };
-    match write_all(out, &text) {
+    match write_pieces(out, &text) {
         Ok(()) => Status::Done.code(),
         Err(Failed) => refuse(err, &Failure::WriteFault),
     }

@@ -15,7 +15,7 @@ const PIECE: usize = 4096;
 // The text of a section without its body and relocations, and that of a relocation, are seldom longer.
 const SECTION_LINE: usize = 64;
 
-const RELOCATION_LINE: usize = 64;
+const RELOCATION_LINE: usize = 48;
 
 fn push_number<I: Integer>(text: &mut Vec<u8>, number: I) -> Result<(), AllocError>
     ensures { OnOk result (text.new.items ≡ text.old.items ++ I.text number) }
@@ -81,8 +81,9 @@ fn push_relocations(text: &mut Vec<u8>, relocs: &[DwarfSectionReloc]) -> Result<
     Ok(())
 }
 
-fn push_section(text: &mut Vec<u8>, section: &DwarfSection) -> Result<(), AllocError>
-    ensures { OnOk result (text.new.items ≡ text.old.items ++ printed_section (section_view section.now)) }
+// The line of a section and its body.
+fn push_body(text: &mut Vec<u8>, section: &DwarfSection) -> Result<(), AllocError>
+    ensures { OnOk result (text.new.items ++ flat_map printed_relocation (map relocation_view section.now.relocs.items) ≡ text.old.items ++ printed_section (section_view section.now)) }
 {
     text.extend_from_slice(b"section ")?;
     text.extend_from_slice(section.name.as_bytes())?;
@@ -91,19 +92,50 @@ fn push_section(text: &mut Vec<u8>, section: &DwarfSection) -> Result<(), AllocE
     text.push(b'\n')?;
     push_hex(text, &section.body)?;
     text.push(b'\n')?;
-    push_relocations(text, &section.relocs)
+    Ok(())
 }
 
-// A size that the printed text seldom passes, so that the buffer is made once.
-fn likely_size(sections: &[DwarfSection]) -> usize {
-    let mut size: usize = 0;
+// The text of a section without its relocations, in a buffer that is made once.
+fn body_text(alloc: Global, section: &DwarfSection) -> Result<Vec<u8>, AllocError>
+    ensures { IfOk result (λ text. text.items ++ flat_map printed_relocation (map relocation_view section.now.relocs.items) ≡ printed_section (section_view section.now)) }
+{
+    let size = section.body.len().saturating_mul(2);
+    let mut text = Vec::with_capacity(alloc, size.saturating_add(SECTION_LINE))?;
+    push_body(&mut text, section)?;
+    Ok(text)
+}
+
+// The text of relocations, in a buffer that is seldom made anew.
+fn relocations_text(alloc: Global, relocs: &[DwarfSectionReloc]) -> Result<Vec<u8>, AllocError>
+    ensures { IfOk result (λ text. text.items ≡ flat_map printed_relocation (map relocation_view relocs.now)) }
+{
+    let size = relocs.len().saturating_mul(RELOCATION_LINE);
+    let mut text = Vec::with_capacity(alloc, size)?;
+    push_relocations(&mut text, relocs)?;
+    Ok(text)
+}
+
+/// The printed text of some sections, in pieces: as [`printed`], but no piece is longer than the text of a section, so that memory that was
+/// let go is found for it.
+///
+/// # Errors
+///
+/// `AllocError` for want of memory alone.
+#[tactic(auto, unfolding(crate::specs::Printed::printed))]
+pub(crate) fn printed_pieces(
+    alloc: Global,
+    sections: &[DwarfSection],
+) -> Result<Vec<Vec<u8>>, AllocError>
+    ensures { IfOk result (λ pieces. flat_map (λ piece. piece.items) pieces.items ≡ printed (map section_view sections.now)) }
+{
+    let mut pieces = Vec::new(alloc);
     for section in sections {
-        size = size
-            .saturating_add(SECTION_LINE)
-            .saturating_add(section.body.len().saturating_mul(2))
-            .saturating_add(section.relocs.len().saturating_mul(RELOCATION_LINE));
+        let body = body_text(alloc, section)?;
+        pieces.push(body)?;
+        let relocations = relocations_text(alloc, &section.relocs)?;
+        pieces.push(relocations)?;
     }
-    size
+    Ok(pieces)
 }
 
 /// The printed text of some sections, one behind another: a line `section NAME LENGTH`, the body in lower-case hexadecimal
@@ -127,9 +159,10 @@ pub fn printed(alloc: Global, sections: &[DwarfSection]) -> Result<Vec<u8>, Allo
 fn joined_text(alloc: Global, sections: &[DwarfSection]) -> Result<Vec<u8>, AllocError>
     ensures { IfOk result (λ text. text.items ≡ printed (map section_view sections.now)) }
 {
-    let mut text = Vec::with_capacity(alloc, likely_size(sections))?;
+    let mut text = Vec::new(alloc);
     for section in sections {
-        push_section(&mut text, section)?;
+        push_body(&mut text, section)?;
+        push_relocations(&mut text, &section.relocs)?;
     }
     Ok(text)
 }

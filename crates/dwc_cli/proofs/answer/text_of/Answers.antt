@@ -1,5 +1,6 @@
 use Rattle.std.proofs.Common.{map, Ok, refl, sym, ap, ◌∙◌, subst}
 use Rattle.std.specs.Prelude.{option_map}
+use Rattle.std.specs.List.{flat_map}
 use Rattle.std.proofs.lemmas.Result.{err_from_is_err_and}
 use Rattle.dwc_base.specs.Outputs.{section_view}
 use Rattle.dwc_map.specs.MapViews.{map_file_view}
@@ -96,22 +97,22 @@ returns-in_err-sections-clause-complete c = λ input is.
 
 -- ---- the text
 
-pub returns-in_err-printed-clause-causes : goal.returns-in_err-printed-clause-causes
-returns-in_err-printed-clause-causes c = λ input is.
-    let p = err_from_is_err_and c.from_residual-in_err-printed.result c.from_residual-in_err-printed.ensures.1 in
+pub returns-in_err-printed_pieces-clause-causes : goal.returns-in_err-printed_pieces-clause-causes
+returns-in_err-printed_pieces-clause-causes c = λ input is.
+    let p = err_from_is_err_and c.from_residual-in_err-printed_pieces.result c.from_residual-in_err-printed_pieces.ensures.1 in
     rw (p.1, p.2) (Refuses-memory input).causes
 
-pub returns-in_err-printed-clause-status : goal.returns-in_err-printed-clause-status
-returns-in_err-printed-clause-status c =
-    let p = err_from_is_err_and c.from_residual-in_err-printed.result c.from_residual-in_err-printed.ensures.1 in
+pub returns-in_err-printed_pieces-clause-status : goal.returns-in_err-printed_pieces-clause-status
+returns-in_err-printed_pieces-clause-status c =
+    let p = err_from_is_err_and c.from_residual-in_err-printed_pieces.result c.from_residual-in_err-printed_pieces.ensures.1 in
     rw (p.1, p.2) (IsOneOf-from text_statuses 9 refl)
 
-pub returns-in_err-printed-clause-complete : goal.returns-in_err-printed-clause-complete
-returns-in_err-printed-clause-complete c = λ input is.
-    let p = err_from_is_err_and c.from_residual-in_err-printed.result c.from_residual-in_err-printed.ensures.1 in
+pub returns-in_err-printed_pieces-clause-complete : goal.returns-in_err-printed_pieces-clause-complete
+returns-in_err-printed_pieces-clause-complete c = λ input is.
+    let p = err_from_is_err_and c.from_residual-in_err-printed_pieces.result c.from_residual-in_err-printed_pieces.ensures.1 in
     rw (p.1, p.2) (Refuses-memory input).complete
 
-text_given : (c : goal.After-drop-modules-2) (input : Input) → IsInputOf c.args.files input → Gives input c.in_ok-printed.field-0.items
+text_given : (c : goal.After-drop-modules-2) (input : Input) → IsInputOf c.args.files input → Gives input (flat_map (λ piece. piece.items) c.in_ok-printed_pieces.field-0.items)
 text_given c input is =
     let ts = c.in_ok-translations.translations.items in
     let held = subst (λ ms. TranslatesFiles (map (λ m. m.items) ms) (Ok c.in_ok-translations.translations)) c.deref.ensures.value c.in_ok-translations.ensures in
@@ -119,7 +120,7 @@ text_given c input is =
     let seen = ap (option_map map_file_view) (sym c.in-Some.is) ∙ map-of_bytes _ c.args.files.map_file c.map_for.result c.map_for.ensures.value input.map_bytes is.map_is in
     let was = was_read ts c.in-Some.map_file input found (rw (c.deref-2.ensures.value) at seen) in
     let sections = map section_view c.in_ok-sections.sections.items in
-    rw (c.in_ok-printed.ensures.text, c.deref-3.ensures.value) (Gives-emitted input was.read sections was.is_read (c.in_ok-sections.ensures was.read was.read_as))
+    rw (c.in_ok-printed_pieces.ensures, c.deref-3.ensures.value) (Gives-emitted input was.read sections was.is_read (c.in_ok-sections.ensures was.read was.read_as))
 
 pub returns-clause-carried : goal.returns-clause-carried
 returns-clause-carried c = λ input is. (text_given c input is).carried

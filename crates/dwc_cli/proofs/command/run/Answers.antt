@@ -1,4 +1,5 @@
 use Rattle.std.proofs.Common.{[], ◌∷◌, map, string_bytes, refl, sym, subst, arith}
+use Rattle.std.specs.List.{flat_map}
 use Rattle.dwc_cli.specs.Edge.{paths_view}
 use Rattle.dwc_cli.specs.RunStatus.{InputCauses, run_statuses, IsStatus, IsOneOf}
 use Rattle.dwc_cli.specs.Failures.{failure_status, failure_message, usage_message, write_message}
@@ -60,22 +61,22 @@ returns-in-Err-text_of-clause-complete g c = λ well.
     let said = complete_read files words (paths_view c.in-Some.paths) read.0 _ _ _ _ (failure_status c.in-Err-text_of.failure) (sym c.in-Some.ensures) read.2 (c.in-Err-text_of.ensures.complete read.0 read.1) well in
     subst (IsOneOf (0 ∷ 9 ∷ [])) (sym c.refuse-in-Err-text_of.ensures.status) said
 
-pub returns-in-Ok-write_all-clause-carried : goal.returns-in-Ok-write_all-clause-carried
-returns-in-Ok-write_all-clause-carried g c = λ _.
+pub returns-in-Ok-write_pieces-clause-carried : goal.returns-in-Ok-write_pieces-clause-carried
+returns-in-Ok-write_pieces-clause-carried g c = λ _.
     let files = g.S.Source.files c.args.source.now in
     let words = map string_bytes c.args.words.now in
     let read = c.in-Ok.ensures.input in
-    Succeeds-read files words (paths_view c.in-Some.paths) read.0 c.in-Ok-text_of.text.items _ _ (sym c.in-Some.ensures) read.2 (c.in-Ok-text_of.ensures.carried read.0 read.1) (rw c.deref.ensures.value at c.in-Ok-write_all.ensures.whole)
+    Succeeds-read files words (paths_view c.in-Some.paths) read.0 (flat_map (λ piece. piece.items) c.in-Ok-text_of.text.items) _ _ (sym c.in-Some.ensures) read.2 (c.in-Ok-text_of.ensures.carried read.0 read.1) (rw c.deref.ensures.value at c.in-Ok-write_pieces.ensures.whole)
 
-pub returns-in-Ok-write_all-clause-missing : goal.returns-in-Ok-write_all-clause-missing
-returns-in-Ok-write_all-clause-missing g c =
+pub returns-in-Ok-write_pieces-clause-missing : goal.returns-in-Ok-write_pieces-clause-missing
+returns-in-Ok-write_pieces-clause-missing g c =
     let files = g.S.Source.files c.args.source.now in
     let words = map string_bytes c.args.words.now in
     let read = c.in-Ok.ensures.input in
     MissingCause-read files words (paths_view c.in-Some.paths) read.0 _ (sym c.in-Some.ensures) read.2
 
-pub returns-in-Ok-write_all-clause-input : goal.returns-in-Ok-write_all-clause-input
-returns-in-Ok-write_all-clause-input g c =
+pub returns-in-Ok-write_pieces-clause-input : goal.returns-in-Ok-write_pieces-clause-input
+returns-in-Ok-write_pieces-clause-input g c =
     let files = g.S.Source.files c.args.source.now in
     let words = map string_bytes c.args.words.now in
     let read = c.in-Ok.ensures.input in
@@ -95,18 +96,18 @@ returns-clause-input g c =
     let words = map string_bytes c.args.words.now in
     let read = c.in-Ok.ensures.input in
     let said = InputCauses-text files words (paths_view c.in-Some.paths) read.0 8 (sym c.in-Some.ensures) read.2 (TextCauses-write read.0 (c.in-Ok-text_of.ensures.causes read.0 read.1)) (λ e. omega (arith, e)) in
-    subst (InputCauses files words) (sym c.refuse-in-Err-write_all.ensures.status) said
+    subst (InputCauses files words) (sym c.refuse-in-Err-write_pieces.ensures.status) said
 
 pub returns-clause-front : goal.returns-clause-front
 returns-clause-front g c = λ _.
     let files = g.S.Source.files c.args.source.now in
     let words = map string_bytes c.args.words.now in
     let read = c.in-Ok.ensures.input in
-    PrefixWritten-read files words (paths_view c.in-Some.paths) read.0 c.in-Ok-text_of.text.items _ _ (sym c.in-Some.ensures) read.2 (c.in-Ok-text_of.ensures.carried read.0 read.1) (rw c.deref.ensures.value at c.in-Err-write_all.ensures.front)
+    PrefixWritten-read files words (paths_view c.in-Some.paths) read.0 (flat_map (λ piece. piece.items) c.in-Ok-text_of.text.items) _ _ (sym c.in-Some.ensures) read.2 (c.in-Ok-text_of.ensures.carried read.0 read.1) (rw c.deref.ensures.value at c.in-Err-write_pieces.ensures.front)
 
 pub returns-clause-status : goal.returns-clause-status
 returns-clause-status g c =
-    subst IsStatus (sym c.refuse-in-Err-write_all.ensures.status) (IsOneOf-from run_statuses 8 refl)
+    subst IsStatus (sym c.refuse-in-Err-write_pieces.ensures.status) (IsOneOf-from run_statuses 8 refl)
 
 pub returns-in-Err-clause-said : goal.returns-in-Err-clause-said
 returns-in-Err-clause-said g c = λ _.
@@ -125,4 +126,4 @@ returns-in-Err-text_of-clause-said g c = λ _.
 pub returns-clause-said : goal.returns-clause-said
 returns-clause-said g c = λ _.
     let words = map string_bytes c.args.words.now in
-    (write_message, subst (λ s. IsMessage words s write_message) (sym c.refuse-in-Err-write_all.ensures.status) (IsMessage-write words), c.refuse-in-Err-write_all.ensures.said)
+    (write_message, subst (λ s. IsMessage words s write_message) (sym c.refuse-in-Err-write_pieces.ensures.status) (IsMessage-write words), c.refuse-in-Err-write_pieces.ensures.said)
