@@ -1,6 +1,7 @@
 -- What contracts see of the values of attributes.
-use Rattle.std.specs.Prelude.{ℕ, ◌==◌, List, Option, option_map}
+use Rattle.std.specs.Prelude.{◌≡◌, ℕ, ◌==◌, List, Option, Some, None, Ok, option_map}
 use Rattle.std.specs.List.{find}
+use Rattle.dwc_base.specs.Reading.{Unread, Read}
 use Rattle.dwc_base.specs.Values as value
 use Rattle.dwc_read.specs.declared.value.AttributeValue.{AttributeValue}
 use Rattle.dwc_read.specs.declared.value.AttributeValue.TheVariants.{Addr, AddrIndex, Constant, Flag, Block, Exprloc, Text, TextRef, LineRef, RangeRef, RangeIndex, LocRef, LocIndex, UnitRef, InfoRef, Dropped}
@@ -30,3 +31,9 @@ attribute_view a = (a.0, value_view a.1)
 -- the first value of a name
 abbrev pub first_value : ℕ → List (ℕ × value.Value) → Option value.Value
 first_value name attributes = option_map (λ a. a.1) (find (λ a. a.0 == name) attributes)
+
+-- A reader of some values only gives what reading gives, its value seen by `view`, and goes on behind it; or it gives nothing, and
+-- stays where it is.
+abbrev pub GivesOrStays : {A B : Type 0} → (A → B) → Read B → Unread → Unread → Option A → Type 0
+GivesOrStays view read old new None = new ≡ old
+GivesOrStays view read old new (Some x) = read ≡ Ok (view x, new)

@@ -8,6 +8,7 @@ ghost use Rattle.dwc_read.specs.Tables.{spec_view};
 ghost use Rattle.dwc_read.specs.ValuesSeen.{value_view, attribute_view, first_value};
 
 use crate::abbreviation::AttributeSpec;
+use crate::common::common_value;
 use crate::form::form_named;
 use crate::formed::formed_value;
 use crate::{AttributeValue, Unit};
@@ -83,7 +84,27 @@ pub fn value<'d>(
     encoded_value(unit.info_relocations(), encoding, spec, cursor)
 }
 
+// The same in the loop over attributes. Common forms are read in place and the others by a call with a cursor of its own, so that
+// the loop keeps its cursor in registers.
+#[inline(always)]
+fn next_value<'d>(
+    unit: &Unit<'d>,
+    spec: AttributeSpec,
+    cursor: &mut Cursor<'d>,
+) -> Result<AttributeValue<'d>, Flaw>
+    ensures { Gives value_view (value_at unit.now.sections unit.now.header (spec_view spec) cursor.old) cursor.new result }
+{
+    if let Some(value) = common_value(unit, spec, cursor) {
+        return Ok(value);
+    }
+    let mut ahead = cursor.fork();
+    let value = value(unit, spec, &mut ahead)?;
+    *cursor = ahead;
+    Ok(value)
+}
+
 // The values of a declaration's attributes, one after another.
+#[inline(always)]
 pub fn attributes<'d>(
     unit: &Unit<'d>,
     specs: &[AttributeSpec],
@@ -93,10 +114,12 @@ pub fn attributes<'d>(
     ensures { GivesOrMemory (λ _. map attribute_view found.new.items) (attributes_at unit.now.sections unit.now.header (map spec_view specs.now) cursor.old) cursor.new result }
 {
     found.clear();
+    let mut ahead = cursor.fork();
     for spec in specs {
-        let value = value(unit, *spec, cursor)?;
+        let value = next_value(unit, *spec, &mut ahead)?;
         found.push((spec.name, value))?;
     }
+    *cursor = ahead;
     Ok(())
 }
 

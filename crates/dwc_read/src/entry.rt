@@ -55,6 +55,7 @@ impl<'d> Entry<'d> {
 
     // Reads the entry at the front in place of this one, and answers whether children follow; None at the end of a list of
     // siblings.
+    #[inline(always)]
     #[tactic(auto, unfolding(dwc_base::specs::Entries::entry_at, dwc_base::specs::Entries::declared_entry_at))]
     pub fn read(
         &mut self,
@@ -73,11 +74,11 @@ impl<'d> Entry<'d> {
         let Some(declaration) = table.declaration(code) else {
             return Err(NotRead::Flawed(Flaw::Malformed));
         };
-        let specs = declaration.attributes.as_slice();
-        attributes(unit, specs, cursor, &mut self.attributes)?;
         self.offset = offset;
         self.depth = i64::from(depth);
         self.tag = declaration.tag;
+        let specs = declaration.attributes.as_slice();
+        attributes(unit, specs, cursor, &mut self.attributes)?;
         Ok(Some(declaration.has_children))
     }
 }

@@ -5,6 +5,7 @@
 mod abbreviation;
 mod attribute;
 mod bases;
+mod common;
 mod entries;
 mod entry;
 mod fault;

@@ -52,6 +52,7 @@ fn is_expression_name(name: u16) -> bool
 }
 
 // What a section offset means.
+#[inline(always)]
 pub fn section_offset<'d>(name: u16, offset: u64) -> AttributeValue<'d>
     ensures { value_view result ≡ meant_offset name offset }
 {
