@@ -40,6 +40,9 @@ use crate::{Dwarf, FrameTable, Unit, WriteError, WriterRelocate};
 use dwc_base::{DwarfSection, Endian, Limit, SectionName};
 use std::alloc::Global;
 
+// How many bytes of `.debug_info` there seldom are for one with a relocation.
+const RELOCATED: usize = 8;
+
 // The sections as they are written.
 #[derive(Drop)]
 pub(crate) struct Sections {
@@ -169,9 +172,10 @@ fn write_units(
     ensures lines { OnOk result (All (λ u. FitsLines u.lines) (map ordered units.now)) }
 {
     let room = length_of(layouts);
+    let relocations = room / RELOCATED;
     let mut sections = Sections {
         abbrev: WriterRelocate::new(alloc, order, SectionName::Abbrev)?,
-        info: WriterRelocate::with_room(alloc, order, SectionName::Info, room)?,
+        info: WriterRelocate::with_room(alloc, order, SectionName::Info, room, relocations)?,
         line: WriterRelocate::new(alloc, order, SectionName::Line)?,
         ranges: WriterRelocate::new(alloc, order, SectionName::Ranges)?,
         locations: WriterRelocate::new(alloc, order, SectionName::Loc)?,

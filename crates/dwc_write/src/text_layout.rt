@@ -101,7 +101,7 @@ pub fn write_texts(
     ensures ok { IfOk result (λ w. w ≡ record { order = order; name = Str; body = texts_bytes (map (λ v. v.items) texts.now) layout.now.used.items; relocations = [] }) }
     ensures memory { IsOkUnless result OutOfMemory }
 {
-    let mut section = WriterRelocate::with_room(alloc, order, SectionName::Str, layout.length)?;
+    let mut section = WriterRelocate::with_room(alloc, order, SectionName::Str, layout.length, 0)?;
     put_texts(&mut section, texts, &layout.used)?;
     Ok(section)
 }

@@ -128,12 +128,13 @@ impl WriterRelocate {
         })
     }
 
-    // An empty section with room for so many bytes.
+    // An empty section with room for so many bytes and relocations.
     pub(crate) fn with_room(
         alloc: Global,
         order: Endian,
         name: SectionName,
         room: usize,
+        relocations: usize,
     ) -> Result<WriterRelocate, WriteError>
         ensures ok { IfOk result (λ w. w ≡ record { order = order; name = name; body = []; relocations = [] }) }
         ensures memory { IsOkUnless result OutOfMemory }
@@ -142,7 +143,7 @@ impl WriterRelocate {
             order,
             name,
             body: Vec::with_capacity(alloc, room)?,
-            relocs: Vec::new(alloc),
+            relocs: Vec::with_capacity(alloc, relocations)?,
         })
     }
 
