@@ -21,6 +21,7 @@ pub mod FrameWidths
 pub mod SizedBytes
 pub mod Whole
 pub mod LineLaws
+pub mod ToldLaws
 pub mod NameLaws
 pub mod RowLaws
 pub mod UnitLaws

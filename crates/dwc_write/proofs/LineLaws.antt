@@ -20,12 +20,12 @@ last-offset-push : (low : ℕ) (rows : List LineRow) (r : LineRow) → last_offs
 last-offset-push low [] r = refl
 last-offset-push low (q ∷ rows) r = last-offset-push q.offset rows r
 
-rise-push : (low : ℕ) (rows : List LineRow) (r : LineRow) → RowsRise low rows (last_offset low rows) → last_offset low rows ≤ r.offset → RowsRise low (rows ++ r ∷ []) r.offset
+pub rise-push : (low : ℕ) (rows : List LineRow) (r : LineRow) → RowsRise low rows (last_offset low rows) → last_offset low rows ≤ r.offset → RowsRise low (rows ++ r ∷ []) r.offset
 rise-push low [] r rise behind = (behind, omega arith)
 rise-push low (q ∷ rows) r rise behind = (rise.0, rise-push q.offset rows r rise.1 behind)
 
 -- an end behind the last row
-rise-end : (low : ℕ) (rows : List LineRow) (last : ℕ) → RowsRise low rows (last_offset low rows) → last_offset low rows ≤ last → RowsRise low rows last
+pub rise-end : (low : ℕ) (rows : List LineRow) (last : ℕ) → RowsRise low rows (last_offset low rows) → last_offset low rows ≤ last → RowsRise low rows last
 rise-end low [] last rise behind = behind
 rise-end low (q ∷ rows) last rise behind = (rise.0, rise-end q.offset rows last rise.1 behind)
 
@@ -56,6 +56,11 @@ with_end-fits g offset fits can = record { directories = fits.directories; files
 -- the same of the fields that a program keeps: the start of the sequence that is begun, and its rows
 abbrev pub begun_from : Option Address → List LineRow → Option BegunSequence
 begun_from start rows = option_map (λ a. record { start_address = a; rows = rows }) start
+
+-- what is at or behind the sequence that is begun, is so behind its rows
+pub behind-rows : (start : Option Address) (rows : List LineRow) (offset : ℕ) → IsAtOrBehind offset (begun_from start rows) → last_offset 0 rows ≤ offset
+behind-rows None rows offset behind = absurd behind
+behind-rows (Some a) rows offset behind = behind
 
 row-behind-from : (start : Option Address) (rows : List LineRow) (r : LineRow) → row_behind r (begun_from start rows) ≡ begun_from start (rows ++ r ∷ [])
 row-behind-from None rows r = refl

@@ -174,7 +174,7 @@ module _ (order : Endian) where
 -- they fit, and define no file
 pub record Fit (size : ℕ) (xs : List Instruction) : Type 0 where
   pub all : All (FitsInstruction size) xs
-  plain : filter_map file_defined xs ≡ []
+  pub plain : filter_map file_defined xs ≡ []
 
 when-fit : {size : ℕ} (b : Bool) (i : Instruction) {xs : List Instruction} → FitsInstruction size i → file_defined i ≡ None → Fit size xs → Fit size (when b i ++ xs)
 when-fit {size} b i {xs} h quiet others = go b
@@ -186,7 +186,7 @@ when-fit {size} b i {xs} h quiet others = go b
 one-fits : {size : ℕ} (i : Instruction) → FitsInstruction size i → file_defined i ≡ None → Fit size (i ∷ [])
 one-fits {size} i h quiet = record { all = All-cons (FitsInstruction size) i [] h (All-nil (FitsInstruction size)); plain = rw (quiet) refl }
 
-both-fit : {size : ℕ} {xs ys : List Instruction} → Fit size xs → Fit size ys → Fit size (xs ++ ys)
+pub both-fit : {size : ℕ} {xs ys : List Instruction} → Fit size xs → Fit size ys → Fit size (xs ++ ys)
 both-fit {size} {xs} {ys} first second = record {
   all = All-append (FitsInstruction size) xs ys first.all second.all;
   plain = let h = first.plain in let k = second.plain in filter_map-append file_defined xs ys ∙ rw (h, k) refl;
@@ -199,7 +199,7 @@ line-step n m small less =
     let below : int_le (pos (2 ^ 63)) (pos m -ℤ pos n) ≡ false = grind (arith, ints) in
     rw (above, below) refl
 
-row-fits : (size : ℕ) (before r : LineRow) → before.line < 2 ^ 32 → FitsRow r → Fit size (row_instructions before r)
+pub row-fits : (size : ℕ) (before r : LineRow) → before.line < 2 ^ 32 → FitsRow r → Fit size (row_instructions before r)
 row-fits size before r line fits =
     when-fit (not (r.discriminator == 0)) (set_discriminator r.discriminator) fits.discriminator refl
     (when-fit r.basic_block set_basic_block tt refl
@@ -213,7 +213,7 @@ row-fits size before r line fits =
     (when-fit (not (before.offset == r.offset)) (advance_pc (r.offset - before.offset)) (omega (arith, fits.offset)) refl
     (one-fits copy tt refl))))))))))
 
-rows-fit : (size : ℕ) (rows : List LineRow) (before : LineRow) (last : ℕ) → before.line < 2 ^ 32 → All FitsRow rows → last < 2 ^ 32 → Fit size (rows_instructions before rows last)
+pub rows-fit : (size : ℕ) (rows : List LineRow) (before : LineRow) (last : ℕ) → before.line < 2 ^ 32 → All FitsRow rows → last < 2 ^ 32 → Fit size (rows_instructions before rows last)
 rows-fit size [] before last line fits low = when-fit (not (before.offset == last)) (advance_pc (last - before.offset)) (omega (arith, low)) refl (one-fits end_sequence tt refl)
 rows-fit size (r ∷ rows) before last line fits low =
     let here = All-head FitsRow r rows fits in

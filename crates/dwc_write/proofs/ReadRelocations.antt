@@ -185,7 +185,7 @@ when-none : (order : Endian) (size : ℕ) (b : Bool) (i : Instruction) (is : Lis
 when-none order size true i is quiet others p = rw (quiet p) (others (p + length (instruction_bytes order size i)))
 when-none order size false i is quiet others p = others p
 
-row-none : (order : Endian) (size : ℕ) (before r : LineRow) (p : ℕ) → program_fields order size p (row_instructions before r) ≡ []
+pub row-none : (order : Endian) (size : ℕ) (before r : LineRow) (p : ℕ) → program_fields order size p (row_instructions before r) ≡ []
 row-none order size before r =
     when-none order size (not (r.discriminator == 0)) (set_discriminator r.discriminator) _ (λ p. refl)
     (when-none order size r.basic_block set_basic_block _ (λ p. refl)

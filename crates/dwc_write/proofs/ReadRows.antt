@@ -105,7 +105,7 @@ module _ (h : LineHeader) (length_1 : h.minimum_instruction_length ≡ 1) (stmt 
 
   -- ---- sequences
 
-  rows-show : (rows : List LineRow) (before : LineRow) (last : ℕ) (is : List Instruction) → RowsRise before.offset rows last
+  pub rows-show : (rows : List LineRow) (before : LineRow) (last : ℕ) (is : List Instruction) → RowsRise before.offset rows last
       → effects h (registers_behind before) (rows_instructions before rows last ++ is) ≡ (map (λ r. appends (registers_at r)) rows ++ ends last ∷ []) ++ effects h (at_sequence_start h) is
   rows-show [] before last is rise =
       rw (append_assoc (when (not (before.offset == last)) (advance_pc (last - before.offset))) (end_sequence ∷ []) is)

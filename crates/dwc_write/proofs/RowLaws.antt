@@ -1,6 +1,5 @@
 -- What code goes by that appends the instructions of rows.
-use Rattle.std.proofs.Common.{◌≡◌, ℕ, ◌+◌, ◌<◌, ◌≤◌, sym, ap, ◌∙◌, arith, List, [], ◌∷◌, ◌++◌, append_assoc, length, drop}
-use Rattle.std.proofs.lemmas.List.{drop_all}
+use Rattle.std.proofs.Common.{◌≡◌, ℕ, ◌+◌, ◌<◌, sym, ap, ◌∙◌, arith, List, [], ◌∷◌, ◌++◌, append_assoc, length}
 use Rattle.dwc_base.specs.declared.records.Endian.{Endian}
 use Rattle.dwc_base.specs.declared.records.LineRow.{LineRow}
 use Rattle.dwc_base.specs.NumberBytes.{uleb_bytes}
@@ -17,9 +16,7 @@ extended-appended before now after opcode operands n first second long small =
     rw (one, second, first) (append_assoc before (0 ∷ n ∷ opcode ∷ []) operands)
 
 -- the end of a sequence, behind its last row
-pub end-appended : (order : Endian) (size : ℕ) (before : LineRow) (rows : List LineRow) (i last : ℕ) (out advanced ended whole : List ℕ) → length rows ≤ i → out ++ program_bytes order size (rows_instructions before (drop i rows) last) ≡ whole
-    → advanced ≡ out ++ bytes_when (not (before.offset == last)) (2 ∷ uleb_bytes (last - before.offset)) → ended ≡ advanced ++ 0 ∷ 1 ∷ 1 ∷ [] → ended ≡ whole
-end-appended order size before rows i last out advanced ended whole past invariant first second =
-    let none = drop_all i rows past in
-    let is : out ++ program_bytes order size (rows_instructions before [] last) ≡ whole = rw (none) at invariant in
-    rw (second, first) (append_assoc out _ (0 ∷ 1 ∷ 1 ∷ []) ∙ ap (λ bs. out ++ bs) (sym (rows-bytes-end order size before last)) ∙ is)
+pub end-appended : (order : Endian) (size : ℕ) (before : LineRow) (last : ℕ) (out advanced ended : List ℕ) → advanced ≡ out ++ bytes_when (not (before.offset == last)) (2 ∷ uleb_bytes (last - before.offset)) → ended ≡ advanced ++ 0 ∷ 1 ∷ 1 ∷ []
+    → ended ≡ out ++ program_bytes order size (rows_instructions before [] last)
+end-appended order size before last out advanced ended first second =
+    rw (second, first) (append_assoc out _ (0 ∷ 1 ∷ 1 ∷ []) ∙ ap (λ bs. out ++ bs) (sym (rows-bytes-end order size before last)))

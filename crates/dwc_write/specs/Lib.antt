@@ -7,6 +7,7 @@ pub mod SpelledSections
 pub mod Writers
 pub mod Frames
 pub mod GivenLines
+pub mod ToldRows
 pub mod RangeLists
 pub mod Lists
 pub mod LineViews

@@ -3,4 +3,4 @@ use Rattle.dwc_write.specs.declared.lines.Sequence.{Sequence}
 use Rattle.dwc_write.specs.SpelledLines.{WrittenSequence}
 
 abbrev pub sequence_view : Sequence → WrittenSequence
-sequence_view q = record { start_address = q.start_address; rows = q.rows.items; end_offset = q.end_offset }
+sequence_view q = record { start_address = q.start_address; rows = q.rows.rows; end_offset = q.rows.end_offset }

@@ -22,6 +22,7 @@ mod rows;
 mod sections;
 mod short_lists;
 mod sizes;
+mod spelled_rows;
 mod strings;
 mod tables;
 mod text_layout;

@@ -7,17 +7,16 @@ ghost use Rattle.dwc_write.specs.GivenLines.{no_lines, with_directory, with_file
 
 use crate::WriteError;
 use crate::names::{Files, Names};
+use crate::spelled_rows::{EndedRows, SpelledRows};
 use dwc_base::{Address, Encoding, LineRow};
 use std::alloc::Global;
 use std::marker::Model;
-use std::mem;
 
 /// A sequence that is ended.
 #[derive(Drop)]
 pub(crate) struct Sequence {
     pub(crate) start_address: Address,
-    pub(crate) rows: Vec<LineRow>,
-    pub(crate) end_offset: u64,
+    pub(crate) rows: EndedRows,
 }
 
 /// The line program of a unit: directories and files by their numbers, and sequences of rows.
@@ -28,7 +27,7 @@ pub struct LineProgram {
     pub(crate) files: Files,
     pub(crate) sequences: Vec<Sequence>,
     start_address: Option<Address>,
-    rows: Vec<LineRow>,
+    rows: SpelledRows,
 }
 
 impl Model for LineProgram {
@@ -43,7 +42,7 @@ impl Model for LineProgram {
       directories = p.directories;
       files = p.files;
       sequences = map sequence_view p.sequences.items;
-      begun = option_map (λ a. record { start_address = a; rows = p.rows.items }) p.start_address;
+      begun = option_map (λ a. record { start_address = a; rows = p.rows }) p.start_address;
     } };
 
     ghost invariant = { λ p. FitsLines (record {
@@ -51,7 +50,7 @@ impl Model for LineProgram {
       directories = p.directories;
       files = p.files;
       sequences = map sequence_view p.sequences.items;
-      begun = option_map (λ a. record { start_address = a; rows = p.rows.items }) p.start_address;
+      begun = option_map (λ a. record { start_address = a; rows = p.rows }) p.start_address;
     }) };
 }
 
@@ -66,7 +65,7 @@ impl LineProgram {
             files: Files::new(alloc),
             sequences: Vec::new(alloc),
             start_address: None,
-            rows: Vec::new(alloc),
+            rows: SpelledRows::new(alloc),
         }
     }
 
@@ -80,7 +79,7 @@ impl LineProgram {
             files: Files::new(alloc),
             sequences: Vec::new(alloc),
             start_address: None,
-            rows: Vec::new(alloc),
+            rows: SpelledRows::new(alloc),
         })
     }
 
@@ -128,7 +127,8 @@ impl LineProgram {
         ensures err { OnErr result (self.new ≡ self.old) }
         ensures memory { IsOkUnless result OutOfMemory }
     {
-        self.rows.push(with_numbers(row))?;
+        know_numbers(row.file, row.column, row.isa, row.discriminator);
+        self.rows.push(row)?;
         Ok(())
     }
 
@@ -142,38 +142,21 @@ impl LineProgram {
         let Some(start_address) = self.start_address else {
             unreachable!();
         };
-        self.sequences.reserve(1)?;
-        let empty = Vec::new(*self.rows.allocator());
-        let rows = mem::replace(&mut self.rows, empty);
+        let rows = self.rows.ended(offset)?;
         let sequence = Sequence {
             start_address,
             rows,
-            end_offset: offset,
         };
-        self.sequences.push(sequence).unwrap();
+        self.sequences.push(sequence)?;
         self.start_address = None;
         Ok(())
     }
 }
 
-// The same row; its numbers have 64 bits.
-fn with_numbers(row: LineRow) -> LineRow
-    ensures same { result ≡ row }
-    ensures file { row.file < 2 ^ 64 }
-    ensures column { row.column < 2 ^ 64 }
-    ensures isa { row.isa < 2 ^ 64 }
-    ensures discriminator { row.discriminator < 2 ^ 64 }
-{
-    LineRow {
-        offset: row.offset,
-        file: row.file,
-        line: row.line,
-        column: row.column,
-        is_stmt: row.is_stmt,
-        basic_block: row.basic_block,
-        prologue_end: row.prologue_end,
-        epilogue_begin: row.epilogue_begin,
-        isa: row.isa,
-        discriminator: row.discriminator,
-    }
-}
+// How large the numbers of a row are.
+fn know_numbers(file: u64, column: u64, isa: u64, discriminator: u64)
+    ensures file { file < 2 ^ 64 }
+    ensures column { column < 2 ^ 64 }
+    ensures isa { isa < 2 ^ 64 }
+    ensures discriminator { discriminator < 2 ^ 64 }
+{}

@@ -1,9 +1,8 @@
 //! The instructions of line programs, behind what a buffer holds. (DWARF 4, section 6.2.5.)
 ghost use Rattle.std.specs.Prelude.{◌≡◌, ◌++◌, ◌∷◌, [], ◌==◌, ◌+◌, ◌-◌, ◌-ℤ◌, ◌<◌, ◌≤◌, ◌^◌, OnOk, not, pos, length};
-ghost use Rattle.std.specs.List.{All};
 ghost use Rattle.dwc_base.specs.declared.records.Endian.TheVariants.{Little};
 ghost use Rattle.dwc_base.specs.NumberBytes.{uleb_bytes, sleb_bytes};
-ghost use Rattle.dwc_write.specs.SpelledLines.{FitsRow, RowsRise, bytes_when, differs as differ, extended_bytes, first_row, program_bytes, row_instructions, rows_instructions};
+ghost use Rattle.dwc_write.specs.SpelledLines.{bytes_when, differs as differ, extended_bytes, program_bytes, row_instructions, rows_instructions};
 
 use crate::append::{put_sleb, put_uleb};
 use crate::sizes::uleb_length;
@@ -16,7 +15,7 @@ use dwc_base::constants::{
 use std::alloc::AllocError;
 
 // The registers before the first row of a sequence.
-const FIRST_ROW: LineRow = LineRow {
+pub const FIRST_ROW: LineRow = LineRow {
     offset: 0,
     file: 1,
     line: 1,
@@ -29,26 +28,18 @@ const FIRST_ROW: LineRow = LineRow {
     discriminator: 0,
 };
 
-// The rows of a sequence, and its end.
-pub fn put_rows(out: &mut Vec<u8>, rows: &[LineRow], end_offset: u64) -> Result<(), AllocError>
-    requires fits { All FitsRow rows.now }
-    requires rise { RowsRise 0 rows.now end_offset }
-    ensures { OnOk result (out.new.items ≡ out.old.items ++ program_bytes Little 8 (rows_instructions first_row rows.now end_offset)) }
+// The end of a sequence, behind its last row.
+pub fn put_end(out: &mut Vec<u8>, last: &LineRow, end_offset: u64) -> Result<(), AllocError>
+    requires { last.now.offset ≤ end_offset }
+    ensures { OnOk result (out.new.items ≡ out.old.items ++ program_bytes Little 8 (rows_instructions last.now [] end_offset)) }
 {
-    let first = FIRST_ROW;
-    let mut before = &first;
-    for i in 0..rows.len() {
-        let row = &rows[i];
-        put_row(out, before, row)?;
-        before = row;
-    }
-    put_advance(out, before.offset, end_offset)?;
+    put_advance(out, last.offset, end_offset)?;
     out.extend_from_slice(&[0, 1, DW_LNE_end_sequence])?;
     Ok(())
 }
 
 // A row behind another: what differs from the registers, and the row itself.
-fn put_row(out: &mut Vec<u8>, before: &LineRow, row: &LineRow) -> Result<(), AllocError>
+pub fn put_row(out: &mut Vec<u8>, before: &LineRow, row: &LineRow) -> Result<(), AllocError>
     requires before { before.now.line < 2 ^ 32 }
     requires line { row.now.line < 2 ^ 32 }
     requires offset { before.now.offset ≤ row.now.offset }

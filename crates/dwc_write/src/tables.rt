@@ -16,7 +16,6 @@ ghost use Rattle.dwc_write.specs.Writers.{FitsField, Writes, address_relocations
 use crate::append::{bytes_2, put_text, put_uleb};
 use crate::lines::Sequence;
 use crate::names::{Files, Names};
-use crate::rows::put_rows;
 use crate::{LineProgram, WriteError, WriterRelocate};
 use dwc_base::constants::DW_LNE_set_address;
 use dwc_base::{Address, Endian};
@@ -43,7 +42,7 @@ pub fn write_lines(
     put_fields(scratch, &lines.directories, &lines.files)?;
     let place = line.place();
     write_header(line, order, scratch)?;
-    write_sequences(line, scratch, size, &lines.sequences)?;
+    write_sequences(line, size, &lines.sequences)?;
     line.finish_length(place);
     Ok(())
 }
@@ -61,7 +60,6 @@ fn write_header(line: &mut WriterRelocate, order: Endian, fields: &[u8]) -> Resu
 // Sequences, one behind another.
 fn write_sequences(
     line: &mut WriterRelocate,
-    scratch: &mut Vec<u8>,
     size: u8,
     sequences: &[Sequence],
 ) -> Result<(), WriteError>
@@ -70,7 +68,7 @@ fn write_sequences(
     ensures { Writes line.old line.new result (flat_map (sequence_bytes line.old.order size) (map sequence_view sequences.now)) (sequences_relocations line.old.order size (length line.old.body) (map sequence_view sequences.now)) }
 {
     for i in 0..sequences.len() {
-        write_sequence(line, scratch, size, &sequences[i])?;
+        write_sequence(line, size, &sequences[i])?;
     }
     Ok(())
 }
@@ -78,7 +76,6 @@ fn write_sequences(
 // A sequence: its start, its rows and its end.
 fn write_sequence(
     line: &mut WriterRelocate,
-    scratch: &mut Vec<u8>,
     size: u8,
     sequence: &Sequence,
 ) -> Result<(), WriteError>
@@ -86,10 +83,8 @@ fn write_sequence(
     requires fits { FitsGivenSequence size (sequence_view sequence.now) }
     ensures { Writes line.old line.new result (sequence_bytes line.old.order size (sequence_view sequence.now)) (sequence_relocations line.old.order size (length line.old.body) (sequence_view sequence.now)) }
 {
-    scratch.clear();
-    put_rows(scratch, &sequence.rows, sequence.end_offset)?;
     write_start(line, size, sequence.start_address)?;
-    line.put_bytes(scratch)
+    line.put_bytes(sequence.rows.code())
 }
 
 // The instruction that sets the address of a sequence.
