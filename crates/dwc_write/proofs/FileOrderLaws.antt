@@ -3,11 +3,9 @@ use Rattle.std.proofs.Common.{◌≡◌, ℕ, zero, suc, ◌+◌, ◌<◌, ◌�
 use Rattle.std.specs.Prelude.{◌-◌, ◌≢◌, if◌then◌else◌}
 use Rattle.std.specs.List.{All}
 use Rattle.std.proofs.lemmas.Bool.{eq-eqb, eqb-true, eqb-false}
-use Rattle.std.proofs.lemmas.List.{get_or-set_same, get_or-set_other, get_or-replicate, length-set, length-map, map-append}
+use Rattle.std.proofs.lemmas.List.{get_or-set_same, get_or-set_other, get_or-replicate, length-set, map-append}
 use Rattle.std.proofs.lemmas.List.Elements.{All-head, All-tail, All-cons, All-nil, All-append}
 use Rattle.dwc_write.specs.declared.file_order.FilePlace.{FilePlace}
-use Rattle.dwc_write.specs.declared.units.Entry.{Entry}
-use Rattle.dwc_write.specs.UnitViews.{addition_view}
 use Rattle.dwc_write.specs.GivenUnits.{Addition, GivenEntry, entry_at, below, AreBehindParents, IsRooted}
 use Rattle.dwc_write.specs.FileOrders.{no_addition, looked_up, linked_place, linked, IsLink, AreLinked}
 
@@ -202,38 +200,30 @@ link-pending added parent place index depth fs link low some all = All-append (I
     go false e (inl none) = absurd (eqb-false index 0 e none)
     go false e (inr more) = let near = more.0 in All-cons (IsPending added) (record { index = index; depth = depth }) [] (record { some = omega (arith, near, some); within = more.1; deep = omega (arith, near, low) }) (All-nil (IsPending added))
 
--- ---- the same of the entries that a unit keeps
+-- ---- the links from a place on
 
 pub any-default : {A : Type 0} (xs : List A) (i : ℕ) (d e : A) → i < length xs → get_or xs i d ≡ get_or xs i e
 any-default [] i d e within = absurd (omega arith)
 any-default (x ∷ xs) zero d e within = refl
 any-default (x ∷ xs) (suc i) d e within = any-default xs i d e (omega arith)
 
-pub viewed : (es : List Entry) (i : ℕ) (d : Entry) → i < length es → get_or (map addition_view es) i no_addition ≡ addition_view (get_or es i d)
-viewed [] i d within = absurd (omega arith)
-viewed (e ∷ es) zero d within = refl
-viewed (e ∷ es) (suc i) d within = viewed es i d (omega arith)
-
-pub parent-low : (es : List Entry) (place : ℕ) (d : Entry) (firsts nexts : List ℕ) → IsRooted (map addition_view es) → 1 < place → place ≤ length es → LinkedFrom (map addition_view es) place firsts nexts → (get_or es (place - 1) d).parent < length firsts
-parent-low es place d firsts nexts rooted more within h =
-    let seen = ap (λ (a : Addition). a.parent) (viewed es (place - 1) d (omega (arith, more, within))) in
+pub parent-low : (added : List Addition) (place parent : ℕ) (firsts nexts : List ℕ) → IsRooted added → 1 < place → parent ≡ (get_or added (place - 1) no_addition).parent → place ≤ length added → LinkedFrom added place firsts nexts → parent < length firsts
+parent-low added place parent firsts nexts rooted more is within h =
     let same = h.first_length in
-    omega (arith, more, within, seen, same, length-map es addition_view, parent-before (map addition_view es) (place - 1) rooted (omega (arith, more)) (omega (arith, more, within, length-map es addition_view)))
+    omega (arith, more, within, is, same, parent-before added (place - 1) rooted (omega (arith, more)) (omega (arith, more, within)))
 
-pub entry-linked-more : (es : List Entry) (place : ℕ) (d : Entry) (firsts nexts : List ℕ) (value : ℕ) → IsRooted (map addition_view es) → 1 < place → place ≤ length es → LinkedFrom (map addition_view es) place firsts nexts → value ≡ get_or firsts (get_or es (place - 1) d).parent value
-    → LinkedFrom (map addition_view es) (place - 1) (set firsts (get_or es (place - 1) d).parent (place - 1)) (set nexts (place - 1) value)
-entry-linked-more es place d firsts nexts value rooted more within h read =
+pub entry-linked-more : (added : List Addition) (place parent : ℕ) (firsts nexts : List ℕ) (value : ℕ) → IsRooted added → 1 < place → parent ≡ (get_or added (place - 1) no_addition).parent → place ≤ length added → LinkedFrom added place firsts nexts → value ≡ get_or firsts parent value
+    → LinkedFrom added (place - 1) (set firsts parent (place - 1)) (set nexts (place - 1) value)
+entry-linked-more added place parent firsts nexts value rooted more is within h read =
     let j = place - 1 in
-    let added = map addition_view es in
     let above : place ≡ suc j = omega (arith, more) in
-    let seen = ap (λ (a : Addition). a.parent) (viewed es j d (omega (arith, more, within))) in
-    let low = parent-low es place d firsts nexts rooted more within h in
-    let is : get_or firsts (get_or added j no_addition).parent 0 ≡ value = ap (λ p. get_or firsts p 0) seen ∙ any-default firsts (get_or es j d).parent 0 value low ∙ sym read in
+    let low = parent-low added place parent firsts nexts rooted more is within h in
+    let found : get_or firsts (get_or added j no_addition).parent 0 ≡ value = ap (λ p. get_or firsts p 0) (sym is) ∙ any-default firsts parent 0 value low ∙ sym read in
     let P : ℕ → ℕ → Type 0 = λ p v. LinkedFrom added j (set firsts p j) (set nexts j v) in
-    subst (P (get_or es j d).parent) is (subst (λ p. P p (get_or firsts (get_or added j no_addition).parent 0)) seen
-    (linked-more added j firsts nexts rooted (omega (arith, more)) (omega (arith, more, within, length-map es addition_view)) (subst (λ n. LinkedFrom added n firsts nexts) above h)))
+    subst (P parent) found (subst (λ p. P p (get_or firsts (get_or added j no_addition).parent 0)) (sym is)
+    (linked-more added j firsts nexts rooted (omega (arith, more)) (omega (arith, more, within)) (subst (λ n. LinkedFrom added n firsts nexts) above h)))
 
-pub rooted-some : (es : List Entry) → IsRooted (map addition_view es) → 0 < length es
+pub rooted-some : (added : List Addition) → IsRooted added → 0 < length added
 rooted-some [] rooted = absurd rooted
 rooted-some (e ∷ es) rooted = omega arith
 
@@ -283,9 +273,3 @@ walk-step added firsts nexts whole f old rest mid now order done next child link
 
 abbrev pub first_place : FilePlace
 first_place = record { index = 0; depth = 0 }
-
-pub entry-seen : (es : List Entry) (order : List FilePlace) (i : ℕ) (e : Entry) → i < length order → All (λ f. f.index < length es) order → e ≡ get_or es (get_or order i first_place).index e
-    → looked_up (map addition_view es) (get_or order i first_place) ≡ entry_at (get_or order i first_place).depth (get_or order i first_place).index (addition_view e)
-entry-seen es order i e within known is =
-    let f = get_or order i first_place in
-    ap (entry_at f.depth f.index) (viewed es f.index e (known i first_place within) ∙ ap addition_view (sym is))

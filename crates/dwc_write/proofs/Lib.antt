@@ -26,6 +26,7 @@ pub mod NameLaws
 pub mod RowLaws
 pub mod UnitLaws
 pub mod AttributeLaws
+pub mod AdditionLaws
 pub mod RefusalLaws
 pub mod WritesLaws
 pub mod ListLaws

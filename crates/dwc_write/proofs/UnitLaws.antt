@@ -1,14 +1,12 @@
 -- What a unit owes when an entry is added to it, or an attribute is set.
-use Rattle.std.proofs.Common.{◌≡◌, ℕ, zero, suc, ◌+◌, ◌^◌, ◌<◌, ◌≤◌, refl, sym, ap, subst, ◌∙◌, arith, List, [], ◌∷◌, ◌++◌, length, length-append, get_or, map, Option, Some, None, Bool, true, false, is_some, eqb}
+use Rattle.std.proofs.Common.{◌≡◌, ℕ, zero, suc, ◌+◌, ◌^◌, ◌<◌, ◌≤◌, refl, sym, ap, subst, ◌∙◌, arith, List, [], ◌∷◌, ◌++◌, length, length-append, get_or, Option, Some, None, Bool, true, false, is_some, eqb}
 use Rattle.std.specs.Prelude.{slice_set, if◌then◌else◌}
 use Rattle.std.specs.List.{All}
-use Rattle.std.proofs.lemmas.List.{length-map, map-append}
 use Rattle.std.proofs.lemmas.List.Elements.{All-append, All-cons, All-nil, All-head, All-tail, All-weaker}
 use Rattle.dwc_write.specs.declared.attributes.Attribute.{Attribute}
 use Rattle.dwc_write.specs.declared.attributes.AttributeValue.{AttributeValue}
 use Rattle.dwc_write.specs.declared.attributes.AttributeValue.TheVariants.{Address, Constant, Flag, Block, Exprloc, StringRef, LineProgramRef, RangeListRef, LocationListRef, UnitRef, DebugInfoRef}
-use Rattle.dwc_write.specs.declared.units.Entry.{Entry}
-use Rattle.dwc_write.specs.UnitViews.{addition_view}
+use Rattle.dwc_write.specs.FileOrders.{no_addition}
 use Rattle.dwc_write.specs.GivenUnits.{Addition, GivenUnit, FitsAttribute, FitsValue, FitsOperand, FitsAddition, FitsGivenUnit, IsPlaceBelow, set_attribute, set_in_addition, set_in, with_additions, with_value, with_child, with_next, with_known, place_of, tag_at, tag_of, AreBehindParents, IsRooted}
 
 -- ---- attributes
@@ -23,22 +21,10 @@ set-fits size name value (a ∷ xs) new fits = go (eqb a.name name) (set-fits si
 
 -- ---- entries that are looked up and changed
 
-pub tag-of : (place : ℕ) (es : List Entry) (d : Entry) → place < length es → tag_at place (map addition_view es) ≡ (get_or es place d).tag
-tag-of place [] d within = absurd (omega arith)
-tag-of zero (e ∷ es) d within = refl
-tag-of (suc place) (e ∷ es) d within = tag-of place es d (omega arith)
-
--- the entry at a place has changed
-pub set-viewed : (place name : ℕ) (value : AttributeValue) (es : List Entry) (d now : Entry) → place < length es → addition_view now ≡ set_in_addition name value (addition_view (get_or es place d)) → map addition_view (slice_set es place now) ≡ set_in place name value (map addition_view es)
-set-viewed place name value [] d now within changed = absurd (omega arith)
-set-viewed zero name value (e ∷ es) d now within changed = ap (λ x. x ∷ map addition_view es) changed
-set-viewed (suc place) name value (e ∷ es) d now within changed = ap (λ xs. addition_view e ∷ xs) (set-viewed place name value es d now (omega arith) changed)
-
--- and has not
-pub same-viewed : (place : ℕ) (es : List Entry) (d now : Entry) → place < length es → addition_view now ≡ addition_view (get_or es place d) → map addition_view (slice_set es place now) ≡ map addition_view es
-same-viewed place [] d now within same = absurd (omega arith)
-same-viewed zero (e ∷ es) d now within same = ap (λ x. x ∷ map addition_view es) same
-same-viewed (suc place) (e ∷ es) d now within same = ap (λ xs. addition_view e ∷ xs) (same-viewed place es d now (omega arith) same)
+pub tag-of : (place : ℕ) (es : List Addition) → tag_at place es ≡ (get_or es place no_addition).tag
+tag-of place [] = refl
+tag-of zero (e ∷ es) = refl
+tag-of (suc place) (e ∷ es) = tag-of place es
 
 pub length-set_in : (place name : ℕ) (value : AttributeValue) (es : List Addition) → length (set_in place name value es) ≡ length es
 length-set_in place name value [] = refl
@@ -195,22 +181,6 @@ added-known u id parent place tag n places additions fits is none small long few
       kept = subst FitsGivenUnit (sym same) (child-kept u e (slice_set u.places id (Some (length u.additions))) fits (place-below (length u.additions) parent place u.places fits.known is) small refl (omega (arith, long, few)) (set-known (length u.additions) id u.places fits.known));
       is = same ∙ sym (child-known u id parent place tag is none);
     }
-
--- ---- the same of the entries that a unit keeps
-
--- an entry that was looked up, with a value set
-pub changed-view : (es : List Entry) (place name : ℕ) (value : AttributeValue) (d e : Entry) → d ≡ get_or es place d → place < length (map addition_view es) → e.parent ≡ d.parent → e.tag ≡ d.tag → e.attributes ≡ set_attribute name value d.attributes
-    → map addition_view (slice_set es place e) ≡ set_in place name value (map addition_view es)
-changed-view es place name value d e is within parent tagged set =
-    set-viewed place name value es d e (omega (arith, within, length-map es addition_view)) (rw (parent, tagged, set) (ap (λ x. set_in_addition name value (addition_view x)) is))
-
-pub unchanged-view : (es : List Entry) (place : ℕ) (d e : Entry) → d ≡ get_or es place d → place < length (map addition_view es) → e.parent ≡ d.parent → e.tag ≡ d.tag → e.attributes ≡ d.attributes → map addition_view (slice_set es place e) ≡ map addition_view es
-unchanged-view es place d e is within parent tagged same =
-    same-viewed place es d e (omega (arith, within, length-map es addition_view)) (rw (parent, tagged, same) (ap addition_view is))
-
--- an entry that is pushed
-pub pushed-view : (es now : List Entry) (e : Entry) (parent tag : ℕ) → now ≡ es ++ e ∷ [] → e.parent ≡ parent → e.tag ≡ tag → e.attributes ≡ [] → map addition_view now ≡ map addition_view es ++ record { parent = parent; tag = tag; attributes = [] } ∷ []
-pushed-view es now e parent tag pushed below tagged none = rw (pushed, map-append, below, tagged, none) refl
 
 -- what writing asks of a value that fits
 pub operand-fits : (size : ℕ) (a : Attribute) → FitsAttribute size a → FitsOperand size a.value

@@ -81,10 +81,10 @@ pub(crate) struct Attribute {
     pub(crate) value: AttributeValue,
 }
 
-// How many attributes an entry has before their names are indexed. Most entries have fewer.
-const MANY: usize = 16;
+// How many attributes an entry has before they stand in a list of their own and their names are indexed. Most entries have fewer.
+pub(crate) const MANY: usize = 16;
 
-// The attributes of an entry in their order. Where they are many, `places` has the first place of each name.
+// The attributes of an entry in a list of their own, in their order. Where they are many, `places` has the first place of each name.
 #[derive(Drop)]
 pub(crate) struct Attributes {
     list: Vec<Attribute>,
@@ -121,15 +121,11 @@ impl Attributes {
         self.list.as_slice()
     }
 
-    // Makes room for so many attributes, where there is none yet.
-    pub(crate) fn make_room(&mut self, count: usize) -> Result<(), AllocError>
-        ensures { self.new ≡ self.old }
+    // The attributes of a list.
+    pub(crate) fn from_list(list: Vec<Attribute>) -> Attributes
+        ensures { result ≡ list.items }
     {
-        if self.list.is_empty() {
-            let alloc = *self.list.allocator();
-            self.list = Vec::with_capacity(alloc, count)?;
-        }
-        Ok(())
+        Attributes { list, places: None }
     }
 
     // Puts a value in the place of the first of its name, or behind the others.
@@ -205,7 +201,7 @@ fn places_of(alloc: Global, attributes: &[Attribute]) -> Result<BTreeMap<u16, us
 }
 
 // The place of the first attribute of a name, by a scan.
-fn place_in(attributes: &[Attribute], name: u16) -> Option<usize>
+pub(crate) fn place_in(attributes: &[Attribute], name: u16) -> Option<usize>
     ensures { result ≡ place_from 0 attributes.now name }
 {
     attributes.iter().position(|a| a.name == name)

@@ -9,7 +9,6 @@ ghost use Rattle.dwc_write.specs.GivenUnits.{FitsAttribute, FitsEntry as FitsGiv
 ghost use Rattle.dwc_write.specs.FileOrders.{looked_up};
 ghost use Rattle.dwc_write.specs.LayoutViews.{places_view, spelling_places};
 ghost use Rattle.dwc_write.specs.Layouts.{AreShort, codes_of, offset_in_section, offset_of_text};
-ghost use Rattle.dwc_write.specs.UnitViews.{addition_view};
 ghost use Rattle.dwc_write.specs.ShapeViews.{shape_view};
 ghost use Rattle.dwc_write.specs.SpelledOutput.{WritesUnit};
 ghost use Rattle.dwc_write.specs.Lists.{AreWithin, behind_attributes as behind_all};
@@ -17,12 +16,12 @@ ghost use Rattle.dwc_base.specs.declared.section_name.SectionName.TheVariants.{A
 ghost use Rattle.dwc_write.specs.Writers.{Writes, most_bytes, offset_relocation};
 
 use crate::abbreviations::put_table;
+use crate::additions::Additions;
 use crate::append::{bytes_2, put_sleb, put_uleb};
 use crate::attributes::Attribute;
 use crate::file_order::{FilePlace, depth_of_first};
 use crate::layout::UnitLayout;
 use crate::list_places::{ListPlaces, behind_value};
-use crate::units::Entry;
 use crate::{
     AttributeValue, DebugInfoRef, StringId, UnitEntryId, UnitId, WriteError, WriterRelocate,
 };
@@ -91,18 +90,18 @@ pub fn write_unit(
     info: &mut WriterRelocate,
     scratch: &mut Vec<u8>,
     spelling: &Spelling<'_>,
-    entries: &[Entry],
+    additions: &Additions,
     layout: &UnitLayout,
 ) -> Result<(), WriteError>
     requires order { spelling.now.order ≡ info.old.order }
     requires size { (spelling.now.size ≡ 4) ⊎ (spelling.now.size ≡ 8) }
     requires short { AreShort (spelling_places spelling.now) }
-    requires fits { All (FitsGivenEntry spelling.now.size) (map (looked_up (map addition_view entries.now)) layout.now.order.items) }
-    requires lists { AreWithin (behind_entries spelling.now.size spelling.now.lists (map (looked_up (map addition_view entries.now)) layout.now.order.items)) }
-    requires known { All (λ f. f.index < length entries.now) layout.now.order.items }
-    requires codes { layout.now.codes.items ≡ codes_of (map (looked_up (map addition_view entries.now)) layout.now.order.items) }
-    requires shapes { map shape_view layout.now.shapes.keys ≡ first_uses [] (shapes_of (map (looked_up (map addition_view entries.now)) layout.now.order.items)) }
-    ensures { WritesUnit tables.old tables.new info.old info.new result spelling.now.size spelling.now.lists (spelling_places spelling.now) (map (looked_up (map addition_view entries.now)) layout.now.order.items) }
+    requires fits { All (FitsGivenEntry spelling.now.size) (map (looked_up additions.now) layout.now.order.items) }
+    requires lists { AreWithin (behind_entries spelling.now.size spelling.now.lists (map (looked_up additions.now) layout.now.order.items)) }
+    requires known { All (λ f. f.index < length additions.now) layout.now.order.items }
+    requires codes { layout.now.codes.items ≡ codes_of (map (looked_up additions.now) layout.now.order.items) }
+    requires shapes { map shape_view layout.now.shapes.keys ≡ first_uses [] (shapes_of (map (looked_up additions.now) layout.now.order.items)) }
+    ensures { WritesUnit tables.old tables.new info.old info.new result spelling.now.size spelling.now.lists (spelling_places spelling.now) (map (looked_up additions.now) layout.now.order.items) }
 {
     let place = info.place();
     write_header(info, spelling, tables.place())?;
@@ -110,7 +109,7 @@ pub fn write_unit(
         info,
         scratch,
         spelling,
-        entries,
+        additions,
         &layout.order,
         &layout.codes,
     )?;
@@ -143,26 +142,25 @@ fn write_entries(
     info: &mut WriterRelocate,
     scratch: &mut Vec<u8>,
     spelling: &Spelling<'_>,
-    entries: &[Entry],
+    additions: &Additions,
     order: &[FilePlace],
     codes: &[u64],
 ) -> Result<(), WriteError>
     requires order { spelling.now.order ≡ info.old.order }
     requires size { (spelling.now.size ≡ 4) ⊎ (spelling.now.size ≡ 8) }
     requires short { AreShort (spelling_places spelling.now) }
-    requires fits { All (FitsGivenEntry spelling.now.size) (map (looked_up (map addition_view entries.now)) order.now) }
-    requires lists { AreWithin (behind_entries spelling.now.size spelling.now.lists (map (looked_up (map addition_view entries.now)) order.now)) }
-    requires known { All (λ f. f.index < length entries.now) order.now }
-    requires codes { codes.now ≡ codes_of (map (looked_up (map addition_view entries.now)) order.now) }
+    requires fits { All (FitsGivenEntry spelling.now.size) (map (looked_up additions.now) order.now) }
+    requires lists { AreWithin (behind_entries spelling.now.size spelling.now.lists (map (looked_up additions.now) order.now)) }
+    requires known { All (λ f. f.index < length additions.now) order.now }
+    requires codes { codes.now ≡ codes_of (map (looked_up additions.now) order.now) }
     ensures { Writes info.old info.new result
-        (flat_map (entry_bytes info.old.order spelling.now.size) (shaped (written_entries (behind_all spelling.now.size) (spelling_places spelling.now) spelling.now.lists (first_uses [] (shapes_of (map (looked_up (map addition_view entries.now)) order.now))) (map (looked_up (map addition_view entries.now)) order.now))))
-        (entries_relocations info.old.order spelling.now.size (length info.old.body) (shaped (written_entries (behind_all spelling.now.size) (spelling_places spelling.now) spelling.now.lists (first_uses [] (shapes_of (map (looked_up (map addition_view entries.now)) order.now))) (map (looked_up (map addition_view entries.now)) order.now)))) }
+        (flat_map (entry_bytes info.old.order spelling.now.size) (shaped (written_entries (behind_all spelling.now.size) (spelling_places spelling.now) spelling.now.lists (first_uses [] (shapes_of (map (looked_up additions.now) order.now))) (map (looked_up additions.now) order.now))))
+        (entries_relocations info.old.order spelling.now.size (length info.old.body) (shaped (written_entries (behind_all spelling.now.size) (spelling_places spelling.now) spelling.now.lists (first_uses [] (shapes_of (map (looked_up additions.now) order.now))) (map (looked_up additions.now) order.now)))) }
 {
     let mut lists = spelling.lists;
     for i in 0..order.len() {
         let depth = order[i].depth;
-        let entry = &entries[order[i].index];
-        let attributes = entry.attributes.as_slice();
+        let attributes = additions.attributes(order[i].index);
         let ends = depth.saturating_sub(depth_of_first(&order[i + 1..]));
         write_entry(
             info, scratch, spelling, &mut lists, codes[i], attributes, ends,

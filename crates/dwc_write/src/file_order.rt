@@ -3,9 +3,8 @@ ghost use Rattle.std.specs.Prelude.{◌≡◌, ◌++◌, ◌∷◌, [], List, �
 ghost use Rattle.std.specs.List.{All};
 ghost use Rattle.dwc_write.specs.GivenUnits.{Addition, IsRooted, first_depth, in_file_order};
 ghost use Rattle.dwc_write.specs.FileOrders.{AreLinked, looked_up, linked_place};
-ghost use Rattle.dwc_write.specs.UnitViews.{addition_view};
 
-use crate::units::Entry;
+use crate::additions::Additions;
 use std::alloc::{AllocError, Global};
 
 // An entry in file order: its place in the order of addition, and its depth below the root.
@@ -23,13 +22,13 @@ pub struct Links {
 }
 
 // The entries in file order.
-pub fn file_order(alloc: Global, entries: &[Entry]) -> Result<Vec<FilePlace>, AllocError>
-    requires { IsRooted (map addition_view entries.now) }
-    ensures order { IfOk result (λ order. map (looked_up (map addition_view entries.now)) order.items ≡ in_file_order (map addition_view entries.now)) }
-    ensures known { IfOk result (λ order. All (λ f. f.index < length entries.now) order.items) }
+pub fn file_order(alloc: Global, additions: &Additions) -> Result<Vec<FilePlace>, AllocError>
+    requires { IsRooted additions.now }
+    ensures order { IfOk result (λ order. map (looked_up additions.now) order.items ≡ in_file_order additions.now) }
+    ensures known { IfOk result (λ order. All (λ f. f.index < length additions.now) order.items) }
 {
-    let links = links_of(alloc, entries)?;
-    let mut order = Vec::with_capacity(alloc, entries.len())?;
+    let links = links_of(alloc, additions)?;
+    let mut order = Vec::with_capacity(alloc, additions.len())?;
     let mut pending = Vec::new(alloc);
     order.push(FilePlace { index: 0, depth: 0 })?;
     push_link(&mut pending, links.first_children[0], 1)?;
@@ -56,16 +55,16 @@ fn push_link(pending: &mut Vec<FilePlace>, index: usize, depth: usize) -> Result
 }
 
 // The links of entries. Children are met from the last to the first, so that each is put in front of those behind it.
-fn links_of(alloc: Global, entries: &[Entry]) -> Result<Links, AllocError>
-    requires { IsRooted (map addition_view entries.now) }
-    ensures { IfOk result (λ links. AreLinked (map addition_view entries.now) links.first_children.items links.next_siblings.items) }
+fn links_of(alloc: Global, additions: &Additions) -> Result<Links, AllocError>
+    requires { IsRooted additions.now }
+    ensures { IfOk result (λ links. AreLinked additions.now links.first_children.items links.next_siblings.items) }
 {
-    let mut first_children = vec![in alloc; 0; entries.len()]?;
-    let mut next_siblings = vec![in alloc; 0; entries.len()]?;
-    let mut place = entries.len();
+    let mut first_children = vec![in alloc; 0; additions.len()]?;
+    let mut next_siblings = vec![in alloc; 0; additions.len()]?;
+    let mut place = additions.len();
     while place > 1 {
         place -= 1;
-        let parent = entries[place].parent;
+        let parent = additions.parent(place);
         next_siblings[place] = first_children[parent];
         first_children[parent] = place;
     }

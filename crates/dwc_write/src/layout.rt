@@ -13,16 +13,15 @@ ghost use Rattle.dwc_base.specs.NumberBytes.{uleb_bytes};
 ghost use Rattle.dwc_write.specs.Spelled.{at_places};
 ghost use Rattle.dwc_write.specs.SpelledOutput.{IsRefusal};
 ghost use Rattle.dwc_write.specs.SpelledUnits.{attribute_bytes, entry_bytes, header_length, shaped};
-ghost use Rattle.dwc_write.specs.UnitViews.{addition_view};
 ghost use Rattle.dwc_write.specs.WidestGiven.{IsWideRefusal};
 ghost use Rattle.dwc_write.specs.Writers.{most_bytes};
 
 use crate::abbreviations::{Shape, code_of_entry};
+use crate::additions::Additions;
 use crate::attributes::Attribute;
 use crate::file_order::{FilePlace, depth_of_first, file_order};
 use crate::notes::{Notes, note_entry};
 use crate::sizes::{uleb_length, value_size};
-use crate::units::Entry;
 use crate::writer::MOST_BYTES;
 use crate::{Unit, WriteError};
 use dwc_base::{Limit, SectionName};
@@ -85,15 +84,21 @@ fn lay_out_unit(alloc: Global, unit: &Unit, start: usize) -> Result<UnitLayout, 
     ensures large { IfErr result (λ e. (order : Endian) → IsTooLong e (unit_length order unit.now.address_size (ordered unit.now))) }
     ensures fits { FitsOrdered (ordered unit.now) }
 {
-    let order = file_order(alloc, &unit.entries)?;
+    let order = file_order(alloc, &unit.additions)?;
     let mut coded = Coded {
         shapes: IndexSet::new(alloc),
         codes: Vec::with_capacity(alloc, order.len())?,
         offsets: Vec::with_capacity(alloc, order.len())?,
         notes: Notes::new(alloc),
     };
-    let length = place_entries(alloc, unit.address_size, &unit.entries, &order, &mut coded)?;
-    let by_place = offsets_by_place(alloc, &order, &coded.offsets, unit.entries.len())?;
+    let length = place_entries(
+        alloc,
+        unit.address_size,
+        &unit.additions,
+        &order,
+        &mut coded,
+    )?;
+    let by_place = offsets_by_place(alloc, &order, &coded.offsets, unit.additions.len())?;
     let Coded {
         shapes,
         codes,
@@ -115,21 +120,21 @@ fn lay_out_unit(alloc: Global, unit: &Unit, start: usize) -> Result<UnitLayout, 
 fn place_entries(
     alloc: Global,
     size: u8,
-    entries: &[Entry],
+    additions: &Additions,
     order: &[FilePlace],
     coded: &mut Coded,
 ) -> Result<usize, WriteError>
     requires size { (size ≡ 4) ⊎ (size ≡ 8) }
-    requires known { All (λ f. f.index < length entries.now) order.now }
+    requires known { All (λ f. f.index < length additions.now) order.now }
     requires shapes { map shape_view coded.old.shapes.keys ≡ [] }
     requires codes { coded.old.codes.items ≡ [] }
     requires offsets { coded.old.offsets.items ≡ [] }
-    requires notes { IsNoting (map addition_view entries.now) coded.old.notes [] }
-    ensures shapes { OnOk result (map shape_view coded.new.shapes.keys ≡ first_uses [] (shapes_of (map (looked_up (map addition_view entries.now)) order.now))) }
-    ensures codes { OnOk result (coded.new.codes.items ≡ codes_of (map (looked_up (map addition_view entries.now)) order.now)) }
-    ensures offsets { OnOk result ((o : Endian) → coded.new.offsets.items ≡ at_places (entry_bytes o size) (λ place x. place ∷ []) header_length (shaped (written_entries nowhere no_places no_lists (first_uses [] (shapes_of (map (looked_up (map addition_view entries.now)) order.now))) (map (looked_up (map addition_view entries.now)) order.now)))) }
-    ensures notes { OnOk result (IsNoting (map addition_view entries.now) coded.new.notes (map (looked_up (map addition_view entries.now)) order.now)) }
-    ensures end { (o : Endian) → AdvancesOrMemory result header_length (length (flat_map (entry_bytes o size) (shaped (written_entries nowhere no_places no_lists (first_uses [] (shapes_of (map (looked_up (map addition_view entries.now)) order.now))) (map (looked_up (map addition_view entries.now)) order.now))))) }
+    requires notes { IsNoting additions.now coded.old.notes [] }
+    ensures shapes { OnOk result (map shape_view coded.new.shapes.keys ≡ first_uses [] (shapes_of (map (looked_up additions.now) order.now))) }
+    ensures codes { OnOk result (coded.new.codes.items ≡ codes_of (map (looked_up additions.now) order.now)) }
+    ensures offsets { OnOk result ((o : Endian) → coded.new.offsets.items ≡ at_places (entry_bytes o size) (λ place x. place ∷ []) header_length (shaped (written_entries nowhere no_places no_lists (first_uses [] (shapes_of (map (looked_up additions.now) order.now))) (map (looked_up additions.now) order.now)))) }
+    ensures notes { OnOk result (IsNoting additions.now coded.new.notes (map (looked_up additions.now) order.now)) }
+    ensures end { (o : Endian) → AdvancesOrMemory result header_length (length (flat_map (entry_bytes o size) (shaped (written_entries nowhere no_places no_lists (first_uses [] (shapes_of (map (looked_up additions.now) order.now))) (map (looked_up additions.now) order.now))))) }
 {
     let mut shape = Shape {
         tag: 0,
@@ -141,19 +146,19 @@ fn place_entries(
     let mut place = HEADER_LENGTH;
     for i in 0..order.len() {
         let depth = order[i].depth;
-        let entry = &entries[order[i].index];
-        let attributes = entry.attributes.as_slice();
+        let tag = additions.tag(order[i].index);
+        let attributes = additions.attributes(order[i].index);
         let next = depth_of_first(&order[i + 1..]);
-        let guess = guesses[usize::from(entry.tag % 64)];
+        let guess = guesses[usize::from(tag % 64)];
         let code = code_of_entry(
             &mut coded.shapes,
             &mut shape,
             guess,
-            entry.tag,
+            tag,
             depth < next,
             attributes,
         )?;
-        guesses[usize::from(entry.tag % 64)] = code - 1;
+        guesses[usize::from(tag % 64)] = code - 1;
         coded.codes.push(code)?;
         coded.offsets.push(place)?;
         note_entry(&mut coded.notes, order[i], attributes)?;

@@ -3,6 +3,7 @@
 #![tactic(auto)]
 
 mod abbreviations;
+mod additions;
 mod append;
 mod attributes;
 mod entries;

@@ -4,14 +4,13 @@ ghost use Rattle.std.specs.Int.{w64};
 ghost use Rattle.std.specs.List.{All};
 ghost use Rattle.dwc_write.specs.FileOrders.{looked_up};
 ghost use Rattle.dwc_write.specs.GivenUnits.{lists_of_entries};
-ghost use Rattle.dwc_write.specs.UnitViews.{addition_view};
 ghost use Rattle.dwc_write.specs.Lists.{FitsListed, ended, held_bytes, held_length as length_held, list_bytes, list_relocations, listed_bytes, listed_relocations, lists_by, lists_of_attributes, ranges_in, locations_in};
 ghost use Rattle.dwc_write.specs.RangeLists.{address_behind as address_behind_by};
 ghost use Rattle.dwc_write.specs.Writers.{FitsField, Writes};
 
+use crate::additions::Additions;
 use crate::attributes::{Attribute, Expression};
 use crate::file_order::FilePlace;
-use crate::units::Entry;
 use crate::{AttributeValue, WriteError, WriterRelocate};
 use dwc_base::Address;
 
@@ -127,17 +126,16 @@ pub fn write_lists(
     lists: &mut WriterRelocate,
     kind: ListKind,
     size: u8,
-    entries: &[Entry],
+    additions: &Additions,
     order: &[FilePlace],
 ) -> Result<(), WriteError>
     requires size { (size ≡ 4) ⊎ (size ≡ 8) }
-    requires fits { All (FitsListed size) (lists_of_entries (lists_by kind) (map (looked_up (map addition_view entries.now)) order.now)) }
-    requires known { All (λ f. f.index < length entries.now) order.now }
-    ensures { Writes lists.old lists.new result (list_bytes lists.old.order size (lists_of_entries (lists_by kind) (map (looked_up (map addition_view entries.now)) order.now))) (list_relocations lists.old.order size (length lists.old.body) (lists_of_entries (lists_by kind) (map (looked_up (map addition_view entries.now)) order.now))) }
+    requires fits { All (FitsListed size) (lists_of_entries (lists_by kind) (map (looked_up additions.now) order.now)) }
+    requires known { All (λ f. f.index < length additions.now) order.now }
+    ensures { Writes lists.old lists.new result (list_bytes lists.old.order size (lists_of_entries (lists_by kind) (map (looked_up additions.now) order.now))) (list_relocations lists.old.order size (length lists.old.body) (lists_of_entries (lists_by kind) (map (looked_up additions.now) order.now))) }
 {
     for i in 0..order.len() {
-        let entry = &entries[order[i].index];
-        write_lists_of(lists, kind, size, entry.attributes.as_slice())?;
+        write_lists_of(lists, kind, size, additions.attributes(order[i].index))?;
     }
     Ok(())
 }

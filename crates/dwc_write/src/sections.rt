@@ -245,7 +245,7 @@ fn write_one(
         &mut sections.info,
         scratch,
         &spelling,
-        &unit.entries,
+        &unit.additions,
         layout,
     )
 }
@@ -262,11 +262,11 @@ fn write_unit_lists(
     ensures { WritesLists ranges.old ranges.new locations.old locations.new result (ordered unit.now) }
 {
     let size = unit.address_size;
-    let entries = unit.entries.as_slice();
+    let additions = &unit.additions;
     let ranged = layout.notes.ranged.as_slice();
     let located = layout.notes.located.as_slice();
-    write_lists(ranges, ListKind::Ranges, size, entries, ranged)?;
-    write_lists(locations, ListKind::Locations, size, entries, located)
+    write_lists(ranges, ListKind::Ranges, size, additions, ranged)?;
+    write_lists(locations, ListKind::Locations, size, additions, located)
 }
 
 // Where lists stand behind what is there.

@@ -6,9 +6,10 @@ ghost use Rattle.dwc_write.specs.GivenUnits.{ordered};
 ghost use Rattle.dwc_write.specs.LayoutViews.{IsLaidOut};
 ghost use Rattle.dwc_write.specs.ShortLists.{are_short_values, is_short_location, is_short_unit, is_short_value};
 
+use crate::additions::Additions;
 use crate::attributes::{Attribute, Expression};
 use crate::layout::UnitLayout;
-use crate::units::{Entry, Unit};
+use crate::units::Unit;
 use crate::{AttributeValue, WriteError};
 use dwc_base::Address;
 
@@ -42,16 +43,19 @@ fn have_short_notes(layouts: &[UnitLayout]) -> bool
 fn has_short_entries(unit: &Unit) -> bool
     ensures { result ≡ is_short_unit (ordered unit.now) }
 {
-    are_short_entries(&unit.entries)
+    are_short_entries(&unit.additions)
 }
 
 // Whether those of entries are.
-fn are_short_entries(entries: &[Entry]) -> bool
-    ensures { result ≡ list_all (λ e. are_short_values e.attributes) entries.now }
+fn are_short_entries(additions: &Additions) -> bool
+    ensures { result ≡ list_all (λ e. are_short_values e.attributes) additions.now }
 {
-    entries
-        .iter()
-        .all(|entry| has_short_values(entry.attributes.as_slice()))
+    for place in 0..additions.len() {
+        if !has_short_values(additions.attributes(place)) {
+            return false;
+        }
+    }
+    true
 }
 
 // Whether those of attributes are.

@@ -4,7 +4,7 @@ ghost use Rattle.dwc_write.specs.GivenUnits.{IsOfSize, new_unit, place_of};
 ghost use Rattle.dwc_write.specs.declared.error.WriteError.TheVariants.{OutOfMemory};
 ghost use Rattle.dwc_write.specs.Writers.{OkUnlessMemory};
 
-use crate::attributes::Attributes;
+use crate::additions::Additions;
 use crate::{AttributeValue, LineProgram, StringTable, WriteError};
 use dwc_base::Encoding;
 use dwc_base::constants::DW_TAG_compile_unit;
@@ -20,14 +20,6 @@ pub struct UnitEntryId {
     pub index: usize,
 }
 
-/// An entry as it was added: the place of its parent in the order of addition (its own for the root), its tag and attributes.
-#[derive(Drop)]
-pub(crate) struct Entry {
-    pub(crate) parent: usize,
-    pub(crate) tag: u16,
-    pub(crate) attributes: Attributes,
-}
-
 /// A unit: its line program, which other units may share, its entries in the order in which they were added, and for each
 /// number that was given to an entry the entry's place there, none where the number is only reserved.
 #[derive(Drop)]
@@ -35,19 +27,17 @@ pub struct Unit {
     pub(crate) address_size: u8,
     pub(crate) lines: Rc<LineProgram>,
     pub(crate) places: Vec<Option<usize>>,
-    pub(crate) entries: Vec<Entry>,
+    pub(crate) additions: Additions,
 }
 
 impl Model for Unit {
-    ghost use Rattle.std.specs.Prelude.{map};
     ghost use Rattle.dwc_write.specs.GivenUnits.{GivenUnit, FitsGivenUnit};
-    ghost use Rattle.dwc_write.specs.UnitViews.{addition_view};
 
     ghost Value = { GivenUnit };
 
-    ghost view = { λ u. record { address_size = u.address_size; lines = u.lines.value; places = u.places.items; additions = map addition_view u.entries.items } };
+    ghost view = { λ u. record { address_size = u.address_size; lines = u.lines.value; places = u.places.items; additions = u.additions } };
 
-    ghost invariant = { λ u. FitsGivenUnit (record { address_size = u.address_size; lines = u.lines.value; places = u.places.items; additions = map addition_view u.entries.items }) };
+    ghost invariant = { λ u. FitsGivenUnit (record { address_size = u.address_size; lines = u.lines.value; places = u.places.items; additions = u.additions }) };
 }
 
 impl Unit {
@@ -87,7 +77,7 @@ impl Unit {
         ensures memory { IsOkUnless result OutOfMemory }
     {
         self.places.reserve(count)?;
-        self.entries.reserve(count)?;
+        self.additions.make_room(count)?;
         Ok(())
     }
 
@@ -98,8 +88,7 @@ impl Unit {
         ensures memory { IsOkUnless result OutOfMemory }
     {
         let place = known_place(&self.places, id);
-        let entry = &mut self.entries[place];
-        entry.attributes.make_room(count)?;
+        self.additions.make_room_in(place, count)?;
         Ok(())
     }
 
@@ -112,15 +101,11 @@ impl Unit {
         ensures err { OnErr result (self.new ≡ self.old) }
         ensures memory { IsOkUnless result OutOfMemory }
     {
-        let entry = Entry {
-            parent: known_place(&self.places, parent),
-            tag,
-            attributes: Attributes::new(*self.entries.allocator()),
-        };
+        let parent_place = known_place(&self.places, parent);
         let index = self.places.len();
-        let place = self.entries.len();
+        let place = self.additions.len();
         self.places.reserve(1)?;
-        self.entries.push(entry)?;
+        self.additions.push(parent_place, tag)?;
         self.places.push(Some(place)).unwrap();
         Ok(UnitEntryId { index })
     }
@@ -150,13 +135,9 @@ impl Unit {
         ensures err { OnErr result (self.new ≡ self.old) }
         ensures memory { IsOkUnless result OutOfMemory }
     {
-        let entry = Entry {
-            parent: known_place(&self.places, parent),
-            tag,
-            attributes: Attributes::new(*self.entries.allocator()),
-        };
-        let place = self.entries.len();
-        self.entries.push(entry)?;
+        let parent_place = known_place(&self.places, parent);
+        let place = self.additions.len();
+        self.additions.push(parent_place, tag)?;
         self.places[id.index] = Some(place);
         Ok(())
     }
@@ -175,8 +156,7 @@ impl Unit {
         ensures memory { IsOkUnless result OutOfMemory }
     {
         let place = known_place(&self.places, id);
-        let entry = &mut self.entries[place];
-        entry.attributes.set(name, value)?;
+        self.additions.set(place, name, value)?;
         Ok(())
     }
 
@@ -185,7 +165,7 @@ impl Unit {
         requires { IsAdded id.index self.now }
         ensures { result ≡ tag_of id.index self.now }
     {
-        self.entries[known_place(&self.places, id)].tag
+        self.additions.tag(known_place(&self.places, id))
     }
 }
 
@@ -195,20 +175,15 @@ fn with_root(alloc: Global, address_size: u8, lines: Rc<LineProgram>) -> Result<
     requires lines { IsOfSize address_size lines.value.address_size }
     ensures { OkUnlessMemory result (λ u. u ≡ new_unit address_size lines.value) }
 {
-    let root = Entry {
-        parent: 0,
-        tag: DW_TAG_compile_unit,
-        attributes: Attributes::new(alloc),
-    };
-    let mut entries = Vec::new(alloc);
-    entries.push(root)?;
+    let mut additions = Additions::new(alloc);
+    additions.push(0, DW_TAG_compile_unit)?;
     let mut places = Vec::new(alloc);
     places.push(Some(0))?;
     Ok(Unit {
         address_size,
         lines,
         places,
-        entries,
+        additions,
     })
 }
 

@@ -6,19 +6,18 @@ use Rattle.dwc_write.specs.SpelledRelocations.{entry_relocations}
 use Rattle.dwc_write.specs.GivenUnits.{GivenEntry, behind_entries, FitsEntry, code_in, first_depth, first_uses, shape_of, shapes_of, written_entries}
 use Rattle.dwc_write.specs.FileOrders.{looked_up}
 use Rattle.dwc_write.specs.LayoutViews.{spelling_places}
-use Rattle.dwc_write.specs.UnitViews.{addition_view}
 use Rattle.dwc_write.specs.declared.list_places.ListPlaces.{ListPlaces}
 use Rattle.dwc_write.specs.Writers.{Refuses, appended}
 use Rattle.dwc_write.proofs.WritesLaws.{all-seen, whole-order}
 use Rattle.dwc_write.proofs.EntriesLaws.{code-at, codes-long, entry_with, loop-entries, loop-entries-refused, seen-more}
 use Rattle.dwc_write.proofs.ListPlaces.{within-entries}
 use Rattle.dwc_write.specs.Lists.{AreWithin, behind_attributes}
-use Rattle.dwc_write.proofs.FileOrderLaws.{entry-seen, first_place}
+use Rattle.dwc_write.proofs.FileOrderLaws.{first_place}
 use Rattle.dwc_write.proofs.entries.write_entries.Goals as goal
 
 pub write_entry-requires-clause-order : goal.write_entry-requires-clause-order
 write_entry-requires-clause-order c =
-    let f = looked_up (map addition_view c.args.entries.now) in
+    let f = looked_up c.args.additions.now in
     let uses = first_uses [] (shapes_of (map f c.args.order.now)) in
     let spell = entry_bytes c.args.info.now.order c.args.spelling.now.size in
     let at = entry_relocations c.args.info.now.order c.args.spelling.now.size in
@@ -26,14 +25,13 @@ write_entry-requires-clause-order c =
 
 pub write_entry-requires-clause-fits : goal.write_entry-requires-clause-fits
 write_entry-requires-clause-fits c =
-    let f = looked_up (map addition_view c.args.entries.now) in
-    let seen = entry-seen c.args.entries.now c.args.order.now c.loop-i.i c.index-entries-order.result c.loop-i-test.true c.requires.known c.index-entries-order.is in
-    let here = subst (FitsEntry c.args.spelling.now.size) seen (all-seen (FitsEntry c.args.spelling.now.size) f c.args.order.now c.loop-i.i first_place c.loop-i-test.true c.requires.fits) in
-    rw (c.as_slice-attributes.ensures) here.attributes
+    let f = looked_up c.args.additions.now in
+    let here = all-seen (FitsEntry c.args.spelling.now.size) f c.args.order.now c.loop-i.i first_place c.loop-i-test.true c.requires.fits in
+    rw (c.attributes-attributes.ensures) here.attributes
 
 pub loop-i-preserved : goal.loop-i-preserved
 loop-i-preserved c =
-    let f = looked_up (map addition_view c.args.entries.now) in
+    let f = looked_up c.args.additions.now in
     let place = get_or c.args.order.now c.loop-i.i first_place in
     let behind = map f (drop (suc c.loop-i.i) c.args.order.now) in
     let p = spelling_places c.args.spelling.now in
@@ -41,24 +39,23 @@ loop-i-preserved c =
     let spell = entry_bytes c.args.info.now.order c.args.spelling.now.size in
     let at = entry_relocations c.args.info.now.order c.args.spelling.now.size in
     let order = whole-order spell at (shaped (written_entries (behind_attributes c.args.spelling.now.size) p c.loop-i.lists uses (map f (drop c.loop-i.i c.args.order.now)))) _ c.loop-i.info c.args.info.now c.loop-i.invariant.entries in
-    let seen = entry-seen c.args.entries.now c.args.order.now c.loop-i.i c.index-entries-order.result c.loop-i-test.true c.requires.known c.index-entries-order.is in
-    let next : c.depth_of_first.result ≡ first_depth behind = rw (take_rest, add-one) at (c.depth_of_first.ensures (map addition_view c.args.entries.now)) in
+    let next : c.depth_of_first.result ≡ first_depth behind = rw (take_rest, add-one) at (c.depth_of_first.ensures c.args.additions.now) in
     let code : get_or c.args.codes.now c.loop-i.i 0 ≡ code_in uses (shape_of (f place) behind) = code-at f c.args.order.now c.args.codes.now c.loop-i.i first_place c.loop-i-test.true c.requires.codes in
     let P : GivenEntry → Type 0 = λ e. c.write_entry.new.info ≡ appended (spell (entry_with (behind_attributes c.args.spelling.now.size) p c.loop-i.lists (get_or c.args.codes.now c.loop-i.i 0) e behind)) (at (length c.loop-i.info.body) (entry_with (behind_attributes c.args.spelling.now.size) p c.loop-i.lists (get_or c.args.codes.now c.loop-i.i 0) e behind)) c.loop-i.info in
     let Q : GivenEntry → Type 0 = λ e. c.write_entry.new.lists ≡ behind_attributes c.args.spelling.now.size c.loop-i.lists e.attributes in
-    let onwards = subst Q (sym seen) (rw (c.as_slice-attributes.ensures) at c.in_ok-write_entry.ensures.lists) in
+    let onwards : Q (f place) = rw (c.attributes-attributes.ensures) at c.in_ok-write_entry.ensures.lists in
     rw add-one
     (record {
       entries = loop-entries f c.args.info.now.order c.args.spelling.now.size (behind_attributes c.args.spelling.now.size) p c.loop-i.lists _ c.args.order.now c.loop-i.i first_place uses c.loop-i.info c.write_entry.new.info _ (get_or c.args.codes.now c.loop-i.i 0) c.loop-i-test.true onwards
           c.loop-i.invariant.entries code
-          (subst P (sym seen) (rw (← order) (rw (c.as_slice-attributes.ensures, c.saturating_sub-ends.ensures, next) at c.in_ok-write_entry.ensures.bytes)));
+          (rw (← order) (rw (c.attributes-attributes.ensures, c.saturating_sub-ends.ensures, next) at c.in_ok-write_entry.ensures.bytes));
       lists = rw (onwards) (ap (behind_entries c.args.spelling.now.size c.loop-i.lists) (sym (seen-more f c.args.order.now c.loop-i.i first_place c.loop-i-test.true)) ∙ c.loop-i.invariant.lists);
     })
 
 pub returns-in_err-write_entry : goal.returns-in_err-write_entry
 returns-in_err-write_entry c =
     let met = err_from_is_err_and c.from_residual.result c.from_residual.ensures.1 in
-    let f = looked_up (map addition_view c.args.entries.now) in
+    let f = looked_up c.args.additions.now in
     let place = get_or c.args.order.now c.loop-i.i first_place in
     let behind = map f (drop (suc c.loop-i.i) c.args.order.now) in
     let p = spelling_places c.args.spelling.now in
@@ -66,28 +63,25 @@ returns-in_err-write_entry c =
     let spell = entry_bytes c.args.info.now.order c.args.spelling.now.size in
     let at = entry_relocations c.args.info.now.order c.args.spelling.now.size in
     let order = whole-order spell at (shaped (written_entries (behind_attributes c.args.spelling.now.size) p c.loop-i.lists uses (map f (drop c.loop-i.i c.args.order.now)))) _ c.loop-i.info c.args.info.now c.loop-i.invariant.entries in
-    let seen = entry-seen c.args.entries.now c.args.order.now c.loop-i.i c.index-entries-order.result c.loop-i-test.true c.requires.known c.index-entries-order.is in
-    let next : c.depth_of_first.result ≡ first_depth behind = rw (take_rest, add-one) at (c.depth_of_first.ensures (map addition_view c.args.entries.now)) in
+    let next : c.depth_of_first.result ≡ first_depth behind = rw (take_rest, add-one) at (c.depth_of_first.ensures c.args.additions.now) in
     let code : get_or c.args.codes.now c.loop-i.i 0 ≡ code_in uses (shape_of (f place) behind) = code-at f c.args.order.now c.args.codes.now c.loop-i.i first_place c.loop-i-test.true c.requires.codes in
     let P : GivenEntry → Type 0 = λ e. Refuses c.in_err-write_entry.field-0.0 c.loop-i.info (length (spell (entry_with (behind_attributes c.args.spelling.now.size) p c.loop-i.lists (get_or c.args.codes.now c.loop-i.i 0) e behind))) in
     loop-entries-refused f c.args.info.now.order c.args.spelling.now.size (behind_attributes c.args.spelling.now.size) p c.loop-i.lists c.args.order.now c.loop-i.i first_place uses _ c.loop-i.info c.args.info.now _ (get_or c.args.codes.now c.loop-i.i 0) _ _ _ c.loop-i-test.true
     c.loop-i.invariant.entries code met
-    (subst P (sym seen) (rw (← order) (rw (c.as_slice-attributes.ensures, c.saturating_sub-ends.ensures, next) at c.in_err-write_entry.ensures.bytes)))
+    (rw (← order) (rw (c.attributes-attributes.ensures, c.saturating_sub-ends.ensures, next) at c.in_err-write_entry.ensures.bytes))
 
 pub bounds-codes-i : goal.bounds-codes-i
 bounds-codes-i c =
-    let es = map (looked_up (map addition_view c.args.entries.now)) c.args.order.now in
-    omega (arith, c.loop-i-test.true, ap length c.requires.codes, codes-long (first_uses [] (shapes_of es)) es, length-map c.args.order.now (looked_up (map addition_view c.args.entries.now)))
+    let es = map (looked_up c.args.additions.now) c.args.order.now in
+    omega (arith, c.loop-i-test.true, ap length c.requires.codes, codes-long (first_uses [] (shapes_of es)) es, length-map c.args.order.now (looked_up c.args.additions.now))
 
 lists-left : (size : ℕ) (places total : ListPlaces) (e : GivenEntry) (es : List GivenEntry) → AreWithin total → behind_entries size places (e ∷ es) ≡ total → AreWithin (behind_attributes size places e.attributes)
 lists-left size places total e es short is = within-entries size (behind_attributes size places e.attributes) es (subst AreWithin (sym is) short)
 
 pub write_entry-requires-clause-lists : goal.write_entry-requires-clause-lists
 write_entry-requires-clause-lists c =
-    let f = looked_up (map addition_view c.args.entries.now) in
+    let f = looked_up c.args.additions.now in
     let place = get_or c.args.order.now c.loop-i.i first_place in
     let behind = map f (drop (suc c.loop-i.i) c.args.order.now) in
-    let seen = entry-seen c.args.entries.now c.args.order.now c.loop-i.i c.index-entries-order.result c.loop-i-test.true c.requires.known c.index-entries-order.is in
-    let P : GivenEntry → Type 0 = λ e. AreWithin (behind_attributes c.args.spelling.now.size c.loop-i.lists e.attributes) in
-    rw (c.as_slice-attributes.ensures)
-    (subst P seen (lists-left c.args.spelling.now.size c.loop-i.lists _ (f place) behind c.requires.lists (ap (behind_entries c.args.spelling.now.size c.loop-i.lists) (sym (seen-more f c.args.order.now c.loop-i.i first_place c.loop-i-test.true)) ∙ c.loop-i.invariant.lists)))
+    rw (c.attributes-attributes.ensures)
+    (lists-left c.args.spelling.now.size c.loop-i.lists _ (f place) behind c.requires.lists (ap (behind_entries c.args.spelling.now.size c.loop-i.lists) (sym (seen-more f c.args.order.now c.loop-i.i first_place c.loop-i-test.true)) ∙ c.loop-i.invariant.lists))

@@ -1,5 +1,4 @@
-use Rattle.std.proofs.Common.{◌≤◌, ◌<◌, length, map}
-use Rattle.dwc_write.specs.UnitViews.{addition_view}
+use Rattle.std.proofs.Common.{◌≤◌, ◌<◌, length}
 use Rattle.dwc_write.proofs.FileOrderLaws.{LinkedFrom}
 use Rattle.dwc_write.proofs.file_order.links_of.Given as goal
 
@@ -7,8 +6,8 @@ use Rattle.dwc_write.proofs.file_order.links_of.Given as goal
 abbrev pub invariant-loop-place : goal.invariant-loop-place
 invariant-loop-place l = record {
   some : 0 < l.place;
-  within : l.place ≤ length l.entries;
-  linked : LinkedFrom (map addition_view l.entries) l.place l.first_children.items l.next_siblings.items;
+  within : l.place ≤ length l.additions;
+  linked : LinkedFrom l.additions l.place l.first_children.items l.next_siblings.items;
 }
 
 abbrev pub decreases-loop-place : goal.decreases-loop-place

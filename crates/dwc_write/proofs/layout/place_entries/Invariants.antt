@@ -8,7 +8,6 @@ use Rattle.dwc_write.specs.Lists.{no_lists, nowhere}
 use Rattle.dwc_write.specs.ShapeViews.{shape_view}
 use Rattle.dwc_write.specs.Spelled.{at_places}
 use Rattle.dwc_write.specs.SpelledUnits.{entry_bytes, header_length, shaped}
-use Rattle.dwc_write.specs.UnitViews.{addition_view}
 use Rattle.dwc_write.specs.Writers.{most_bytes}
 use Rattle.dwc_write.proofs.EntriesLaws.{IsStep}
 use Rattle.dwc_write.proofs.NotedLaws.{IsNotingOn}
@@ -17,12 +16,12 @@ use Rattle.dwc_write.proofs.layout.place_entries.Given as goal
 -- what is found of the first entries, with what is to be found of those that are left, is the whole
 abbrev pub invariant-loop-i : goal.invariant-loop-i
 invariant-loop-i l =
-    let es = map (looked_up (map addition_view l.entries)) l.order in
+    let es = map (looked_up l.additions) l.order in
     let uses = first_uses [] (shapes_of es) in
     let all = shaped (written_entries nowhere no_places no_lists uses es) in
     record {
       short : l.place ≤ most_bytes;
-      step : (o : Endian) → IsStep o l.size (map shape_view l.coded.shapes.keys) uses l.coded.codes.items l.coded.offsets.items l.place (codes_of es) (at_places (entry_bytes o l.size) (λ place x. place ∷ []) header_length all) (header_length + length (flat_map (entry_bytes o l.size) all)) (map (looked_up (map addition_view l.entries)) (drop l.i l.order));
+      step : (o : Endian) → IsStep o l.size (map shape_view l.coded.shapes.keys) uses l.coded.codes.items l.coded.offsets.items l.place (codes_of es) (at_places (entry_bytes o l.size) (λ place x. place ∷ []) header_length all) (header_length + length (flat_map (entry_bytes o l.size) all)) (map (looked_up l.additions) (drop l.i l.order));
       own : AreOwn (map shape_view l.coded.shapes.keys);
-      notes : IsNotingOn (map addition_view l.entries) l.coded.notes es (map (looked_up (map addition_view l.entries)) (drop l.i l.order));
+      notes : IsNotingOn l.additions l.coded.notes es (map (looked_up l.additions) (drop l.i l.order));
     }

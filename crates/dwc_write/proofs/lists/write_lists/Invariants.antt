@@ -2,12 +2,11 @@ use Rattle.std.proofs.Common.{◌≡◌, drop, map}
 use Rattle.dwc_write.specs.FileOrders.{looked_up}
 use Rattle.dwc_write.specs.GivenUnits.{lists_of_entries}
 use Rattle.dwc_write.specs.Lists.{lists_by}
-use Rattle.dwc_write.specs.UnitViews.{addition_view}
 use Rattle.dwc_write.proofs.ListLaws.{lists_whole}
 use Rattle.dwc_write.proofs.lists.write_lists.Given as goal
 
 -- what is there, with the lists of the entries that are left, is the whole
 abbrev pub invariant-loop-i : goal.invariant-loop-i
 invariant-loop-i l =
-    let es = map (looked_up (map addition_view l.entries)) l.order in
+    let es = map (looked_up l.additions) l.order in
     lists_whole l.initial.lists.order l.size (lists_of_entries (lists_by l.kind) (drop l.i es)) l.lists ≡ lists_whole l.initial.lists.order l.size (lists_of_entries (lists_by l.kind) es) l.initial.lists

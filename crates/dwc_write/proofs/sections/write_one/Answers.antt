@@ -11,7 +11,6 @@ use Rattle.dwc_write.specs.Lists.{AreWithin, locations_in, ranges_in}
 use Rattle.dwc_write.specs.SpelledRelocations.{lines_relocations}
 use Rattle.dwc_write.specs.SpelledSections.{lines_bytes}
 use Rattle.dwc_write.specs.Writers.{appended}
-use Rattle.dwc_write.specs.UnitViews.{addition_view}
 use Rattle.dwc_write.specs.SectionViews.{sections_view}
 use Rattle.dwc_write.specs.SpelledOutput.{WritesOne, with_lists}
 use Rattle.dwc_write.proofs.OrderedLaws.{ordered-fits}
@@ -47,7 +46,7 @@ write_unit-requires-clause-fits c =
     let laid : IsLaidOut c.args.unit.now l = subst L (sym c.index-layouts-place.is) (c.requires.laid l) in
     let O : GivenUnit → Type 0 = λ u. map (looked_up u.additions) l.order.items ≡ in_file_order u.additions in
     let order = subst O (sym c.unit.view_is) laid.order in
-    rw (c.deref-3.ensures.value) (subst (All (FitsEntry size)) (sym order) (ordered-fits _ c.unit.invariant).entries)
+    (subst (All (FitsEntry size)) (sym order) (ordered-fits _ c.unit.invariant).entries)
 
 pub write_unit-requires-clause-short : goal.write_unit-requires-clause-short
 write_unit-requires-clause-short c =
@@ -67,8 +66,7 @@ write_unit-requires-clause-lists c =
     let R : GivenUnit → Type 0 = λ u. c.write_unit_lists.new.ranges ≡ with_lists ranges_in (ordered u) c.args.sections.now.ranges in
     let K : GivenUnit → Type 0 = λ u. c.write_unit_lists.new.locations ≡ with_lists locations_in (ordered u) c.args.sections.now.locations in
     let P : List GivenEntry → Type 0 = λ es. AreWithin (behind_entries size c.places_behind-lists.result es) in
-    let unit : GivenUnit = record { address_size = size; lines = c.unit.inside.lines.value; places = c.unit.inside.places.items; additions = map addition_view c.unit.inside.entries.items } in
-    rw (c.deref-3.ensures.value)
+    let unit : GivenUnit = record { address_size = size; lines = c.unit.inside.lines.value; places = c.unit.inside.places.items; additions = c.unit.inside.additions } in
     (subst P (sym order)
     (lists-inside c.args.sections.now.ranges c.write_unit_lists.new.ranges c.args.sections.now.locations c.write_unit_lists.new.locations (ordered unit) c.places_behind-lists.result c.places_behind.result c.places_behind-lists.ensures.places c.places_behind.ensures.places
     (subst R (sym c.unit.view_is) c.in_ok-write_unit_lists.ensures.0) (subst K (sym c.unit.view_is) c.in_ok-write_unit_lists.ensures.1) c.places_behind.ensures.short))
@@ -93,7 +91,7 @@ returns-clause-bytes c =
     let K : GivenUnit → Type 0 = λ u. c.write_unit_lists.new.locations ≡ with_lists locations_in (ordered u) c.args.sections.now.locations in
     let W : GivenUnit → Type 0 = λ u. WritesOne (whole_view c.args.layouts.now c.args.texts.now) (sections_view c.args.sections.now) (sections_view (record { «abbrev» = c.write_unit.new.tables; info = c.write_unit.new.info; line = c.write_lines.new.line; ranges = c.write_unit_lists.new.ranges; locations = c.write_unit_lists.new.locations })) c.write_unit.result (ordered u) in
     let G : GivenLines → Type 0 = λ g. c.write_lines.new.line ≡ appended (lines_bytes c.args.sections.now.line.order c.unit.inside.address_size (written_lines g)) (lines_relocations c.args.sections.now.line.order c.unit.inside.address_size (length c.args.sections.now.line.body) (written_lines g)) c.args.sections.now.line in
-    let written = rw (c.deref-3.ensures.value, c.deref-2.ensures.value, order, offsets, c.place-line_offset.ensures.place, c.places_behind-lists.ensures.places) at c.write_unit.ensures in
+    let written = rw (c.deref-2.ensures.value, order, offsets, c.place-line_offset.ensures.place, c.places_behind-lists.ensures.places) at c.write_unit.ensures in
     subst W c.unit.view_is
     (one-written c.write_unit.result (whole_view c.args.layouts.now c.args.texts.now) (sections_view c.args.sections.now) _ _ c.write_unit.new.tables c.write_unit.new.info c.write_lines.new.line c.write_unit_lists.new.ranges c.write_unit_lists.new.locations (subst G c.deref.ensures c.in_ok-write_lines.ensures.bytes)
     (subst R (sym c.unit.view_is) c.in_ok-write_unit_lists.ensures.0) (subst K (sym c.unit.view_is) c.in_ok-write_unit_lists.ensures.1) written refl)

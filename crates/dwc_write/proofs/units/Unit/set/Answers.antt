@@ -1,41 +1,29 @@
-use Rattle.std.proofs.Common.{refl, sym, ap, ◌∙◌, arith, map}
-use Rattle.std.proofs.lemmas.List.{length-map}
+use Rattle.std.proofs.Common.{refl, sym, ap, ◌∙◌, arith}
 use Rattle.std.proofs.lemmas.Result.{err_from_is_err_and}
 use Rattle.dwc_write.specs.GivenUnits.{GivenUnit, with_additions, with_value}
-use Rattle.dwc_write.specs.UnitViews.{addition_view}
-use Rattle.dwc_write.proofs.UnitLaws.{changed-view, unchanged-view, place-below, set-kept, value-placed}
+use Rattle.dwc_write.proofs.UnitLaws.{place-below, set-kept, value-placed}
 use Rattle.dwc_write.proofs.units.Unit.set.Goals as goal
 
-pub index_mut-entry-requires : goal.index_mut-entry-requires
-index_mut-entry-requires c =
-    let es = c.self.inside.entries in
+pub set-requires : goal.set-requires
+set-requires c =
     let place = rw (c.deref.ensures.value) at c.known_place-place.ensures in
-    omega (arith, place-below _ c.args.id.index c.known_place-place.result c.self.inside.places.items c.self.invariant.known place, length-map es.items addition_view, es.ok.0, es.ok.1)
+    place-below _ c.args.id.index c.known_place-place.result c.self.inside.places.items c.self.invariant.known place
 
 pub invariant_of-self : goal.invariant_of-self
-invariant_of-self c =
-    let place = rw (c.deref.ensures.value) at c.known_place-place.ensures in
-    let within = place-below _ c.args.id.index c.known_place-place.result c.self.inside.places.items c.self.invariant.known place in
-    rw (unchanged-view c.self.inside.entries.items c.known_place-place.result c.index_mut-entry.result.now (record { parent = c.index_mut-entry.result.now.parent; tag = c.index_mut-entry.result.now.tag; attributes = c.set.new.self }) c.index_mut-entry.ensures.value within refl refl c.in_err-set.ensures.err) c.self.invariant
+invariant_of-self c = rw (c.in_err-set.ensures.err) c.self.invariant
 
 pub returns-in_err-set-clause-err : goal.returns-in_err-set-clause-err
 returns-in_err-set-clause-err c =
     let p = err_from_is_err_and c.from_residual.result c.from_residual.ensures.1 in
-    let place = rw (c.deref.ensures.value) at c.known_place-place.ensures in
-    let within = place-below _ c.args.id.index c.known_place-place.result c.self.inside.places.items c.self.invariant.known place in
-    rw (p.1, ← c.self.view_is, unchanged-view c.self.inside.entries.items c.known_place-place.result c.index_mut-entry.result.now (record { parent = c.index_mut-entry.result.now.parent; tag = c.index_mut-entry.result.now.tag; attributes = c.set.new.self }) c.index_mut-entry.ensures.value within refl refl c.in_err-set.ensures.err) refl
+    rw (p.1, ← c.self.view_is, c.in_err-set.ensures.err) refl
 
 pub invariant_of-self-2 : goal.invariant_of-self-2
 invariant_of-self-2 c =
-    let place = rw (c.deref.ensures.value) at c.known_place-place.ensures in
-    let within = place-below _ c.args.id.index c.known_place-place.result c.self.inside.places.items c.self.invariant.known place in
-    rw (changed-view c.self.inside.entries.items c.known_place-place.result c.args.name c.args.value c.index_mut-entry.result.now (record { parent = c.index_mut-entry.result.now.parent; tag = c.index_mut-entry.result.now.tag; attributes = c.set.new.self }) c.index_mut-entry.ensures.value within refl refl c.in_ok-set.ensures.ok)
-    (set-kept _ c.known_place-place.result c.args.name c.args.value c.self.invariant (omega (arith, c.ranges.name)) (rw (← c.self.view_is) at c.requires.fits))
+    rw (c.in_ok-set.ensures.ok) (set-kept _ c.known_place-place.result c.args.name c.args.value c.self.invariant (omega (arith, c.ranges.name)) (rw (← c.self.view_is) at c.requires.fits))
 
 pub returns-clause-ok : goal.returns-clause-ok
 returns-clause-ok c =
     let place = rw (c.deref.ensures.value) at c.known_place-place.ensures in
-    let within = place-below _ c.args.id.index c.known_place-place.result c.self.inside.places.items c.self.invariant.known place in
-    let given : GivenUnit = record { address_size = c.self.inside.address_size; lines = c.self.inside.lines.value; places = c.self.inside.places.items; additions = map addition_view c.self.inside.entries.items } in
-    ap (λ es. with_additions es given) (changed-view c.self.inside.entries.items c.known_place-place.result c.args.name c.args.value c.index_mut-entry.result.now (record { parent = c.index_mut-entry.result.now.parent; tag = c.index_mut-entry.result.now.tag; attributes = c.set.new.self }) c.index_mut-entry.ensures.value within refl refl c.in_ok-set.ensures.ok)
+    let given : GivenUnit = record { address_size = c.self.inside.address_size; lines = c.self.inside.lines.value; places = c.self.inside.places.items; additions = c.self.inside.additions } in
+    ap (λ es. with_additions es given) c.in_ok-set.ensures.ok
     ∙ sym (value-placed given c.args.id.index c.known_place-place.result c.args.name c.args.value place) ∙ ap (with_value c.args.id.index c.args.name c.args.value) c.self.view_is

@@ -1,0 +1,11 @@
+use Rattle.std.proofs.Common.{◌+◌, ◌∙◌, ap}
+use Rattle.dwc_write.specs.declared.additions.Entry.{Entry}
+use Rattle.dwc_write.specs.UnitViews.{addition_in}
+use Rattle.dwc_write.proofs.AdditionLaws.{added-view}
+use Rattle.dwc_write.proofs.additions.add.Goals as goal
+
+pub returns-clause-ok : goal.returns-clause-ok
+returns-clause-ok c =
+    let e = c.args.entry.now in
+    let grown : Entry = record { parent = e.parent; tag = e.tag; count = e.count + 1; begin = e.begin; own = e.own } in
+    ap (λ xs. addition_in xs grown) c.in_ok-push.ensures.items ∙ added-view e c.args.shared.now.items c.args.name c.args.value c.requires.none c.requires.open.last c.requires.new

@@ -1,0 +1,313 @@
+//! Entries in the order in which they were added, with the attributes of all in one list.
+ghost use Rattle.std.specs.Prelude.{◌≡◌, ◌^◌, ◌<◌, ◌≤◌, ◌+◌, ◌∷◌, ◌++◌, [], List, None, true, is_some, Bool, OnOk, OnErr, IfOk, length, get_or};
+ghost use Rattle.dwc_write.specs.declared.attributes.Attribute as declared;
+ghost use Rattle.dwc_write.specs.GivenUnits.{set_in, set_in_addition};
+ghost use Rattle.dwc_write.specs.FileOrders.{no_addition};
+ghost use Rattle.dwc_write.specs.AttributePlaces.{place_from};
+ghost use Rattle.dwc_write.specs.UnitViews.{AreApart, IsChanged, IsOpen, addition_in, part_of};
+
+use crate::AttributeValue;
+use crate::attributes::{Attribute, Attributes, MANY, place_in};
+use std::alloc::{AllocError, Global};
+use std::marker::Model;
+use std::mem;
+
+// An entry: the place of its parent (its own for the root), its tag, and its attributes, which are so many of the list of all from
+// a place on, or a list of their own.
+#[derive(Drop)]
+pub(crate) struct Entry {
+    parent: usize,
+    tag: u16,
+    count: u16,
+    begin: usize,
+    own: Option<Box<Attributes>>,
+}
+
+// Entries, and the attributes of those that have no list of their own.
+#[derive(Drop)]
+pub(crate) struct Additions {
+    entries: Vec<Entry>,
+    shared: Vec<Attribute>,
+}
+
+impl Model for Additions {
+    ghost use Rattle.std.specs.Prelude.{List, map};
+    ghost use Rattle.dwc_write.specs.GivenUnits.{Addition};
+    ghost use Rattle.dwc_write.specs.UnitViews.{AreApart, addition_in};
+
+    ghost Value = { List Addition };
+
+    ghost view = { λ a. map (addition_in a.shared.items) a.entries.items };
+
+    ghost invariant = { λ a. AreApart 0 a.shared.items a.entries.items };
+}
+
+impl Additions {
+    // No entries.
+    pub(crate) fn new(alloc: Global) -> Additions
+        ensures { result ≡ [] }
+    {
+        Additions {
+            entries: Vec::new(alloc),
+            shared: Vec::new(alloc),
+        }
+    }
+
+    // How many there are.
+    pub(crate) fn len(&self) -> usize
+        ensures { result ≡ length self.now }
+    {
+        self.entries.len()
+    }
+
+    // The place of an entry's parent.
+    pub(crate) fn parent(&self, place: usize) -> usize
+        requires { place < length self.now }
+        ensures { result ≡ (get_or self.now place no_addition).parent }
+    {
+        self.entries[place].parent
+    }
+
+    // An entry's tag.
+    pub(crate) fn tag(&self, place: usize) -> u16
+        requires { place < length self.now }
+        ensures { result ≡ (get_or self.now place no_addition).tag }
+    {
+        self.entries[place].tag
+    }
+
+    // An entry's attributes in their order.
+    pub(crate) fn attributes(&self, place: usize) -> &[Attribute]
+        requires { place < length self.now }
+        ensures { result.now ≡ (get_or self.now place no_addition).attributes }
+    {
+        attributes_of(&self.entries[place], &self.shared)
+    }
+
+    // Makes room for so many entries more.
+    pub(crate) fn make_room(&mut self, count: usize) -> Result<(), AllocError>
+        ensures { self.new ≡ self.old }
+    {
+        self.entries.reserve(count)
+    }
+
+    // Makes room for so many attributes of an entry, where it is the last one.
+    pub(crate) fn make_room_in(&mut self, place: usize, count: usize) -> Result<(), AllocError>
+        requires { place < length self.old }
+        ensures { self.new ≡ self.old }
+    {
+        if self.is_last(place) {
+            self.shared.reserve(count)?;
+        }
+        Ok(())
+    }
+
+    // Whether an entry is the last one.
+    fn is_last(&self, place: usize) -> bool
+        requires { place < length self.now }
+        ensures { result ≡ true → length self.now ≡ place + 1 }
+    {
+        self.entries.len() - place == 1
+    }
+
+    // Adds an entry without attributes behind the others.
+    pub(crate) fn push(&mut self, parent: usize, tag: u16) -> Result<(), AllocError>
+        ensures ok { OnOk result (self.new ≡ self.old ++ record { parent = parent; tag = tag; attributes = [] } ∷ []) }
+        ensures few { OnOk result (length self.old + 1 < 2 ^ 63) }
+        ensures err { OnErr result (self.new ≡ self.old) }
+    {
+        let entry = Entry {
+            parent,
+            tag,
+            count: 0,
+            begin: self.shared.len(),
+            own: None,
+        };
+        self.entries.push(entry)?;
+        Ok(())
+    }
+
+    // Gives an entry a value under a name: in the place of the value of that name, else behind the others.
+    pub(crate) fn set(
+        &mut self,
+        place: usize,
+        name: u16,
+        value: AttributeValue,
+    ) -> Result<(), AllocError>
+        requires { place < length self.old }
+        ensures ok { OnOk result (self.new ≡ set_in place name value self.old) }
+        ensures err { OnErr result (self.new ≡ self.old) }
+    {
+        let is_last = self.is_last(place);
+        set_value(
+            &mut self.entries[place],
+            &mut self.shared,
+            is_last,
+            name,
+            value,
+        )
+    }
+}
+
+// The attributes of an entry.
+fn attributes_of<'a>(entry: &'a Entry, shared: &'a [Attribute]) -> &'a [Attribute]
+    requires { entry.now.begin + entry.now.count ≤ length shared.now }
+    ensures { result.now ≡ (addition_in shared.now entry.now).attributes }
+{
+    match &entry.own {
+        Some(own) => own.as_slice(),
+        None => part_of_shared(shared, entry.begin, usize::from(entry.count)),
+    }
+}
+
+// So many attributes from a place on.
+fn part_of_shared(shared: &[Attribute], begin: usize, count: usize) -> &[Attribute]
+    requires { begin + count ≤ length shared.now }
+    ensures { result.now ≡ part_of begin count shared.now }
+{
+    shared.split_at(begin).1.split_at(count).0
+}
+
+// Gives an entry a value. Where it is the last one, its part of the list of all can grow.
+fn set_value(
+    entry: &mut Entry,
+    shared: &mut Vec<Attribute>,
+    is_last: bool,
+    name: u16,
+    value: AttributeValue,
+) -> Result<(), AllocError>
+    requires { entry.old.begin + entry.old.count ≤ length shared.old.items }
+    ensures kept { IsChanged is_last entry.old shared.old.items entry.new shared.new.items }
+    ensures ok { OnOk result (addition_in shared.new.items entry.new ≡ set_in_addition name value (addition_in shared.old.items entry.old)) }
+    ensures err { OnErr result (addition_in shared.new.items entry.new ≡ addition_in shared.old.items entry.old) }
+{
+    match &entry.own {
+        Some(_) => set_own(entry, name, value),
+        None => set_shared(entry, shared, is_last, name, value),
+    }
+}
+
+// Gives an entry with a list of its own a value.
+fn set_own(entry: &mut Entry, name: u16, value: AttributeValue) -> Result<(), AllocError>
+    requires { is_some entry.old.own ≡ true }
+    ensures kept { (entry.new.begin ≡ entry.old.begin) × (entry.new.count ≡ entry.old.count) }
+    ensures ok { OnOk result ((xs : List declared.Attribute) → addition_in xs entry.new ≡ set_in_addition name value (addition_in xs entry.old)) }
+    ensures err { OnErr result ((xs : List declared.Attribute) → addition_in xs entry.new ≡ addition_in xs entry.old) }
+{
+    match &mut entry.own {
+        Some(own) => own.set(name, value),
+        None => unreachable!(),
+    }
+}
+
+// Gives an entry without a list of its own a value.
+fn set_shared(
+    entry: &mut Entry,
+    shared: &mut Vec<Attribute>,
+    is_last: bool,
+    name: u16,
+    value: AttributeValue,
+) -> Result<(), AllocError>
+    requires none { entry.old.own ≡ None }
+    requires within { entry.old.begin + entry.old.count ≤ length shared.old.items }
+    ensures kept { IsChanged is_last entry.old shared.old.items entry.new shared.new.items }
+    ensures ok { OnOk result (addition_in shared.new.items entry.new ≡ set_in_addition name value (addition_in shared.old.items entry.old)) }
+    ensures err { OnErr result (addition_in shared.new.items entry.new ≡ addition_in shared.old.items entry.old) }
+{
+    match place_in_part(entry, shared, name) {
+        Some(place) => {
+            shared[entry.begin + place] = Attribute { name, value };
+            Ok(())
+        }
+        None if is_last && is_open(entry, shared) => add(entry, shared, name, value),
+        None => {
+            make_own(entry, shared)?;
+            set_own(entry, name, value)
+        }
+    }
+}
+
+// The place in an entry's part of the first attribute of a name.
+fn place_in_part(entry: &Entry, shared: &[Attribute], name: u16) -> Option<usize>
+    requires { entry.now.begin + entry.now.count ≤ length shared.now }
+    ensures { result ≡ place_from 0 (part_of entry.now.begin entry.now.count shared.now) name }
+{
+    let part = part_of_shared(shared, entry.begin, usize::from(entry.count));
+    place_in(part, name)
+}
+
+// Whether an attribute can be added to the part of an entry: nothing stands behind it, and it is short enough to be searched.
+fn is_open(entry: &Entry, shared: &[Attribute]) -> bool
+    requires { entry.now.begin + entry.now.count ≤ length shared.now }
+    ensures { result ≡ true → IsOpen entry.now shared.now }
+{
+    usize::from(entry.count) < MANY && entry.begin + usize::from(entry.count) == shared.len()
+}
+
+// Adds a value of a new name behind the last part.
+fn add(
+    entry: &mut Entry,
+    shared: &mut Vec<Attribute>,
+    name: u16,
+    value: AttributeValue,
+) -> Result<(), AllocError>
+    requires none { entry.old.own ≡ None }
+    requires open { IsOpen entry.old shared.old.items }
+    requires new { place_from 0 (part_of entry.old.begin entry.old.count shared.old.items) name ≡ None }
+    ensures kept { IsChanged true entry.old shared.old.items entry.new shared.new.items }
+    ensures ok { OnOk result (addition_in shared.new.items entry.new ≡ set_in_addition name value (addition_in shared.old.items entry.old)) }
+    ensures err { OnErr result (addition_in shared.new.items entry.new ≡ addition_in shared.old.items entry.old) }
+{
+    shared.push(Attribute { name, value })?;
+    entry.count += 1;
+    Ok(())
+}
+
+// Moves the attributes of an entry into a list of its own.
+fn make_own(entry: &mut Entry, shared: &mut Vec<Attribute>) -> Result<(), AllocError>
+    requires none { entry.old.own ≡ None }
+    requires within { entry.old.begin + entry.old.count ≤ length shared.old.items }
+    ensures kept { (last : Bool) → IsChanged last entry.old shared.old.items entry.new shared.new.items }
+    ensures same { addition_in shared.new.items entry.new ≡ addition_in shared.old.items entry.old }
+    ensures own { OnOk result (is_some entry.new.own ≡ true) }
+{
+    let alloc = *shared.allocator();
+    let count = usize::from(entry.count);
+    let mut own = Box::new(alloc, Attributes::new(alloc))?;
+    let mut list = places_for(alloc, count)?;
+    let end = entry.begin + count;
+    move_all(&mut shared[entry.begin..end], &mut list);
+    *own = Attributes::from_list(list);
+    entry.own = Some(own);
+    Ok(())
+}
+
+// An attribute that stands where there is none.
+fn no_attribute() -> Attribute {
+    Attribute {
+        name: 0,
+        value: AttributeValue::Flag(false),
+    }
+}
+
+// Places for so many attributes.
+fn places_for(alloc: Global, count: usize) -> Result<Vec<Attribute>, AllocError>
+    ensures { IfOk result (λ list. length list.items ≡ count) }
+{
+    let mut list = Vec::new(alloc);
+    for _ in 0..count {
+        list.push(no_attribute())?;
+    }
+    Ok(list)
+}
+
+// Moves attributes to as many other places.
+fn move_all(from: &mut [Attribute], to: &mut [Attribute])
+    requires { length from.old ≡ length to.old }
+    ensures moved { to.new ≡ from.old }
+    ensures many { length from.new ≡ length from.old }
+{
+    for i in 0..to.len() {
+        to[i] = mem::replace(&mut from[i], no_attribute());
+    }
+}
