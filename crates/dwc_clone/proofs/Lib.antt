@@ -57,3 +57,7 @@ pub mod ItselfLaws
 pub mod ClonedSteps
 pub mod WrapperRoles
 pub mod UnitSteps
+pub mod RingLaws
+pub mod RingTextLaws
+pub mod TypeRingLaws
+pub mod RingWalkLaws

@@ -1,6 +1,6 @@
 -- Names of wrappers that are noted.
 use Rattle.std.proofs.Common.{◌≡◌, ℕ, ◌++◌, sym, ap, subst, ◌∙◌, List, Bool, true, false, Option, Some, None, Result, Ok, Err}
-use Rattle.std.specs.Prelude.{◌==◌, ◌≢◌, IfErr, IfOk, IfSome, codes, if◌then◌else◌}
+use Rattle.std.specs.Prelude.{◌==◌, ◌≢◌, IfErr, IfOk, IfSome, OnOk, codes, if◌then◌else◌}
 use Rattle.std.specs.Ordering.{nat_cmp}
 use Rattle.std.specs.BTreeMap.{BTreeMap, get}
 use Rattle.dwc_base.specs.declared.constants.TheConstants.{DW_TAG_pointer_type}
@@ -17,7 +17,7 @@ use Rattle.dwc_clone.specs.declared.type_entry.TypeEntry.{TypeEntry}
 use Rattle.dwc_clone.specs.declared.type_name.NotedName.{NotedName}
 use Rattle.dwc_clone.specs.declared.type_name.TypeNames.{TypeNames}
 use Rattle.dwc_clone.specs.Errors.{refusal_told}
-use Rattle.dwc_clone.specs.KnownNames.{AreWrapperNames, GivesNumber, IsWrapperName, KnowsNames, NamesWrapper, NamesWrappers}
+use Rattle.dwc_clone.specs.KnownNames.{AreOwnNames, AreWrapperNames, GivesNumber, IsOwnName, IsWrapperName, KnowsNames, KnowsTypes, NamesWrapper, NamesWrappers}
 use Rattle.dwc_clone.specs.KnownTexts.{IsNumbered}
 use Rattle.dwc_clone.specs.MadeValues.{Grows}
 use Rattle.dwc_clone.specs.Sources.{IsSource}
@@ -63,15 +63,58 @@ wrappers-grown c s old new pointer noted grows are = record { each = λ offset. 
     go offset None named = tt
     go offset (Some n) named = λ e emitted same at apart. name-grown s old new e n.name grows (named e emitted same at apart)
 
+own-grown : (c : CloneSource) (s : UnitSource) (old new : List (List ℕ)) (noted : BTreeMap ℕ StringId) → Grows old new → AreOwnNames c s old noted → AreOwnNames c s new noted
+own-grown c s old new noted grows are = record { each = λ offset. go offset (get nat_cmp noted offset) (are.each offset) }
+  where
+    go : (offset : ℕ) (o : Option StringId) → IfSome o (λ id. IsOwnName c s old offset id) → IfSome o (λ id. IsOwnName c s new offset id)
+    go offset None named = tt
+    go offset (Some id) named = λ e emitted at. name-grown s old new e id grows (named e emitted at)
+
 -- Names that are known stay so.
 pub names-grown : (c : CloneSource) (s : UnitSource) (old new : List (List ℕ)) (names : TypeNames) → Grows old new → KnowsNames c s old names → KnowsNames c s new names
 names-grown c s old new names grows knows = record {
   types = knows.types;
   pointers = wrappers-grown c s old new true names.pointers grows knows.pointers;
   references = wrappers-grown c s old new false names.references grows knows.references;
+  rings = own-grown c s old new names.rings grows knows.rings;
 }
 
+-- So they do where those of rings are known anew.
+pub rings-known : {A E : Type 0} (r : Result A E) (c : CloneSource) (s : UnitSource) (texts : List (List ℕ)) (old new : TypeNames) → new.types ≡ old.types → new.pointers ≡ old.pointers → new.references ≡ old.references → KnowsNames c s texts old → OnOk r (AreOwnNames c s texts new.rings)
+    → OnOk r (KnowsNames c s texts new)
+rings-known (Ok done) c s texts old new types pointers references knows rings = record {
+  types = subst (KnowsTypes c s) (sym types) knows.types;
+  pointers = subst (AreWrapperNames c s texts true) (sym pointers) knows.pointers;
+  references = subst (AreWrapperNames c s texts false) (sym references) knows.references;
+  rings = rings;
+}
+rings-known (Err e) c s texts old new types pointers references knows rings = tt
+
+pub pointers-known : {A E : Type 0} (r : Result A E) (c : CloneSource) (s : UnitSource) (texts : List (List ℕ)) (old new : TypeNames) → new.types ≡ old.types → new.references ≡ old.references → new.rings ≡ old.rings → KnowsNames c s texts old → OnOk r (AreWrapperNames c s texts true new.pointers)
+    → OnOk r (KnowsNames c s texts new)
+pointers-known (Ok done) c s texts old new types references rings knows pointers = record {
+  types = subst (KnowsTypes c s) (sym types) knows.types;
+  pointers = pointers;
+  references = subst (AreWrapperNames c s texts false) (sym references) knows.references;
+  rings = subst (AreOwnNames c s texts) (sym rings) knows.rings;
+}
+pointers-known (Err e) c s texts old new types references rings knows pointers = tt
+
+pub references-known : {A E : Type 0} (r : Result A E) (c : CloneSource) (s : UnitSource) (texts : List (List ℕ)) (old new : TypeNames) → new.types ≡ old.types → new.pointers ≡ old.pointers → new.rings ≡ old.rings → KnowsNames c s texts old → OnOk r (AreWrapperNames c s texts false new.references)
+    → OnOk r (KnowsNames c s texts new)
+references-known (Ok done) c s texts old new types pointers rings knows references = record {
+  types = subst (KnowsTypes c s) (sym types) knows.types;
+  pointers = subst (AreWrapperNames c s texts true) (sym pointers) knows.pointers;
+  references = references;
+  rings = subst (AreOwnNames c s texts) (sym rings) knows.rings;
+}
+references-known (Err e) c s texts old new types pointers rings knows references = tt
+
 -- ---- offsets
+
+-- What holds of an offset that is there.
+pub if-some : (P : ℕ → Type 0) (o : Option ℕ) (x : ℕ) → o ≡ Some x → IfSome o P → P x
+if-some P o x at is = subst (λ q. IfSome q P) at is
 
 -- What holds of an offset, if there is one.
 pub if-more : (P Q : ℕ → Type 0) (o : Option ℕ) → ((x : ℕ) → P x → Q x) → IfSome o P → IfSome o Q

@@ -151,7 +151,7 @@ no-type c number s e source emitted is = go (type_of s.entries e) refl
 
 -- ---- entries that are alike
 
-value-alike : (name : ℕ) (a b : Entry) → IsAlike a b → attribute name a ≡ attribute name b
+pub value-alike : (name : ℕ) (a b : Entry) → IsAlike a b → attribute name a ≡ attribute name b
 value-alike name a b like = ap (λ as'. option_map (λ x. x.1) (find (λ x. x.0 == name) as')) like.attributes
 
 -- They have the same type and the same name.

@@ -1,8 +1,8 @@
 -- The types that were read of a unit and the names of wrappers that were made, and what is known by them.
-use Rattle.std.specs.Prelude.{◌≡◌, ℕ, ◌==◌, ◌≤◌, ◌≢◌, ◌⊎◌, Bool, true, false, List, slice_get, Option, Some, None, IfSome, Result, Ok, Err}
+use Rattle.std.specs.Prelude.{◌≡◌, ℕ, ◌==◌, ◌≤◌, ◌≢◌, ◌⊎◌, Bool, true, false, List, [], ◌∷◌, ◌++◌, slice_get, Option, Some, None, IfSome, Result, Ok, Err}
 use Rattle.std.specs.Ordering.{nat_cmp}
 use Rattle.std.specs.BTreeMap.{BTreeMap, get}
-use Rattle.dwc_base.specs.declared.constants.TheConstants.{DW_AT_type, DW_TAG_pointer_type}
+use Rattle.dwc_base.specs.declared.constants.TheConstants.{DW_AT_type, DW_TAG_const_type, DW_TAG_pointer_type}
 use Rattle.dwc_base.specs.Entries.{attribute}
 use Rattle.dwc_base.specs.Kept.{Placed}
 use Rattle.dwc_base.specs.Clones.{UnitSource}
@@ -21,6 +21,7 @@ use Rattle.dwc_clone.specs.DerivedTypes.{is_at, met_in}
 use Rattle.dwc_clone.specs.KnownTexts.{IsNumbered}
 use Rattle.dwc_clone.specs.Sources.{IsEmitted, IsSource}
 use Rattle.dwc_clone.specs.TypeChains.{GivesRead, offset_in_unit}
+use Rattle.dwc_clone.specs.TypeRings.{spelt_of}
 use Rattle.dwc_clone.specs.TypeSteps.{GivesStep}
 
 -- The type at an offset has no name, and is derived from another.
@@ -66,11 +67,29 @@ NamesWrapper c s texts pointer offset own id = (e : Placed) → IsEmitted c s e 
 pub record AreWrapperNames (c : CloneSource) (s : UnitSource) (texts : List (List ℕ)) (pointer : Bool) (noted : BTreeMap ℕ NotedName) : Type 0 where
   pub each : (offset : ℕ) → IfSome (get nat_cmp noted offset) (λ n. NamesWrappers c s texts pointer offset n.but n.name)
 
--- So are those that are noted, of pointers and of references, in a table of texts; and the types are known.
+-- A number is that of the name of the wrapper of the entry at an offset.
+abbrev pub IsOwnName : CloneSource → UnitSource → List (List ℕ) → ℕ → StringId → Type 0
+IsOwnName c s texts offset id = (e : Placed) → IsEmitted c s e → e.entry.offset ≡ offset → IsWrapperName s texts e id
+
+-- So is each number of a map, by the offsets of the entries.
+pub record AreOwnNames (c : CloneSource) (s : UnitSource) (texts : List (List ℕ)) (noted : BTreeMap ℕ StringId) : Type 0 where
+  pub each : (offset : ℕ) → IfSome (get nat_cmp noted offset) (λ id. IsOwnName c s texts offset id)
+
+-- A number is that of the name of the wrapper of each type of a ring from which on the tags of the ring are the same.
+abbrev pub NamesRing : CloneSource → UnitSource → List (List ℕ) → List DerivedType → StringId → Type 0
+NamesRing c s texts ring id = (front left : List DerivedType) (t : DerivedType) → ring ≡ front ++ t ∷ left → (t.tag == DW_TAG_const_type) ≡ false → spelt_of (t ∷ (left ++ front)) ≡ spelt_of ring → IsOwnName c s texts t.offset id
+
+-- A number is that of the name of the wrapper of each entry in the output that is a pointer, or is none, and has a type of a ring from which on
+-- the tags of the ring are the same, but for the one that is in front of it in the ring.
+abbrev pub NamesRingFrom : CloneSource → UnitSource → List (List ℕ) → Bool → List DerivedType → StringId → Type 0
+NamesRingFrom c s texts pointer ring id = (front left : List DerivedType) (b t : DerivedType) → ring ≡ (front ++ b ∷ []) ++ t ∷ left → spelt_of (t ∷ (left ++ (front ++ b ∷ []))) ≡ spelt_of ring → NamesWrappers c s texts pointer t.offset b.offset id
+
+-- So are those that are noted, of pointers and of references, and of entries in rings, in a table of texts; and the types are known.
 pub record KnowsNames (c : CloneSource) (s : UnitSource) (texts : List (List ℕ)) (names : TypeNames) : Type 0 where
   pub types : KnowsTypes c s names.types
   pub pointers : AreWrapperNames c s texts true names.pointers
   pub references : AreWrapperNames c s texts false names.references
+  pub rings : AreOwnNames c s texts names.rings
 
 -- None is the one at an offset.
 abbrev pub IsAway : List DerivedType → ℕ → Type 0

@@ -20,6 +20,7 @@ pub mod ContextPlaces
 pub mod TypeChains
 pub mod TypeSteps
 pub mod DerivedTypes
+pub mod TypeRings
 pub mod KnownNames
 pub mod Tellings
 pub mod ParameterContexts

@@ -277,6 +277,9 @@ fn add_context(
     }
 }
 
+// Room is made for so many attributes at most: most entries have fewer, and an entry may have many that go.
+const MOST_ROOM: usize = 16;
+
 // Adds what a kept entry becomes that is not wrapped: an entry under a number that was reserved, and the variable of the context. What
 // is in force at the entry is on top of the lineage.
 fn clone_itself(
@@ -311,7 +314,7 @@ fn clone_itself(
     ensures itself { (number : ℕ) (s : UnitSource) (goals : Goal → Option (ℕ × ℕ)) (bare base : GivenUnit) (placed : PlacedEntry) (e : Addition) → IsSource source.now number s → HasFrames source.now.module source.now.transform.now → ArePlaced source.now.places.now goals → AreInForce (list_source source.now.unit.now.sections source.now.unit.now.header) source.now.transform.now s.entries (placed_entry source.now (entry_view entry.now)) walk.old.lineage → telling ≡ telling_of s.texts s.entries (placed_entry source.now (entry_view entry.now)) → is_wrapped (placed_entry source.now (entry_view entry.now)) ≡ false → AddsBelow (last_parent (entry_view entry.now).depth walk.old.parents.items) id (entry_view entry.now).tag unit.old bare placed → IsLast strings.old placed.id base e bare → GivesItself goals (dwarf_registers isa.now) source.now number s (placed_entry source.now (entry_view entry.now)) strings.old strings.new walk.old.parents.items walk.new.parents.items placed base e unit.new result }
 {
     let depth = depth_of(entry);
-    let room = entry.attrs().len();
+    let room = entry.attrs().len().min(MOST_ROOM);
     let placed = of_memory(add_entry_with_room(
         unit,
         &mut walk.parents,

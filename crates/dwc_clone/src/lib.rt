@@ -33,6 +33,7 @@ mod source;
 mod text;
 mod type_entry;
 mod type_name;
+mod type_ring;
 mod unit;
 mod value;
 mod walk;

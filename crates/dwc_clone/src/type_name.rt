@@ -15,11 +15,11 @@ ghost use Rattle.dwc_write.specs.TextTables.{IsText};
 ghost use Rattle.dwc_clone.specs.declared.source.CloneSource.{CloneSource};
 ghost use Rattle.dwc_clone.specs.ClonedEntries.{placed_entry};
 ghost use Rattle.dwc_clone.specs.DerivedTypes.{AddsUnmet, at_walk, end_of, is_at};
-ghost use Rattle.dwc_clone.specs.KnownNames.{AreWrapperNames, EndsSo, GivesNumber, IfAway, IfEnds, IsAway, IsFresh, IsRead, KnowsNames, KnowsTypes, NamesWrapper, NamesWrappers};
+ghost use Rattle.dwc_clone.specs.KnownNames.{AreOwnNames, AreWrapperNames, EndsSo, GivesNumber, IfAway, IfEnds, IsAway, IsFresh, IsOwnName, IsRead, IsWrapperName, KnowsNames, KnowsTypes, NamesWrapper, NamesWrappers};
 ghost use Rattle.dwc_clone.specs.KnownTexts.{IsNumbered};
 ghost use Rattle.dwc_clone.specs.MadeValues.{Grows};
 ghost use Rattle.dwc_clone.specs.Sources.{IsEmitted, IsSource};
-ghost use Rattle.dwc_clone.specs.TypeChains.{GivesRead, behind, behind_name, in_front, named_chain, type_found, type_view};
+ghost use Rattle.dwc_clone.specs.TypeChains.{GivesRead, behind, behind_name, in_front, named_chain};
 ghost use Rattle.dwc_clone.specs.TypeSteps.{AreNames, GivesAlike, HaveTexts, IsOfType, ReadsStep, step_name};
 ghost use Rattle.dwc_clone.specs.declared.error.CloneError.TheVariants.{OutOfMemory};
 ghost use Rattle.dwc_clone.specs.declared.type_name.DerivedType.{DerivedType};
@@ -27,6 +27,9 @@ ghost use Rattle.dwc_clone.specs.declared.type_name.DerivedType.{DerivedType};
 use crate::entry::of_memory;
 use crate::text::text_of;
 use crate::type_entry::{TypeEntry, type_of};
+use crate::type_ring::{
+    goes_to, last_offset, least_turn, note_ring, note_ring_from, ring_at, spelt_tags,
+};
 use crate::wrapper::{add_text, wrapper_name};
 use crate::{CloneError, CloneSource};
 use dwc_base::constants::{
@@ -42,25 +45,29 @@ use std::collections::BTreeMap;
 const UNKNOWN: &[u8] = b"??";
 
 /// The names of the wrappers of pointers and of references, by the offsets of the types that these go to, so that a name is made and added
-/// once for all that go to a type; and the types that were read for them, so that each is read once, however many chains go through it.
+/// once for all that go to a type; and those of pointers and references that stand in a ring of types, which no other entry of that type has.
+/// In a ring a name is noted at once for all places where it is the same text, so that N types in a ring make as many names as there are
+/// texts, and not N. The types that were read for names are kept too, so that each is read once, however many chains go through it.
 #[derive(Drop)]
 pub(crate) struct TypeNames {
     pointers: BTreeMap<u64, NotedName>,
     references: BTreeMap<u64, NotedName>,
+    // those of entries that stand in a ring, by their own offsets
+    rings: BTreeMap<u64, StringId>,
     types: KnownTypes,
 }
 
-// The number in the table of texts of the name of the wrappers of all that go to a type but the one at an offset.
+/// The number in the table of texts of the name of the wrappers of all that go to a type but the one at an offset.
 #[derive(Clone, Copy)]
-struct NotedName {
-    name: StringId,
-    but: u64,
+pub(crate) struct NotedName {
+    pub(crate) name: StringId,
+    pub(crate) but: u64,
 }
 
-// The types that were read: those that are derived from others, and the names of those that end a chain.
+/// The types that were read: those that are derived from others, and the names of those that end a chain.
 #[derive(Drop)]
-struct KnownTypes {
-    derived: Vec<DerivedType>,
+pub(crate) struct KnownTypes {
+    pub(crate) derived: Vec<DerivedType>,
     // the place among them of each, by its offset
     places: BTreeMap<u64, usize>,
     // the names of the others, by their offsets
@@ -69,14 +76,14 @@ struct KnownTypes {
     walks: u64,
 }
 
-// A type without a name that is derived from another: its tag, that type, and where this may stand; and the number of the chain that it was
-// met on last, from 1 on.
+/// A type without a name that is derived from another: its tag, that type, and where this may stand; and the number of the chain that it was
+/// met on last, from 1 on.
 #[derive(Clone, Copy)]
-struct DerivedType {
-    offset: u64,
-    tag: u16,
-    next: Option<TypeEntry>,
-    near: usize,
+pub(crate) struct DerivedType {
+    pub(crate) offset: u64,
+    pub(crate) tag: u16,
+    pub(crate) next: Option<TypeEntry>,
+    pub(crate) near: usize,
     walk: u64,
 }
 
@@ -97,6 +104,7 @@ impl TypeNames {
         TypeNames {
             pointers: BTreeMap::new(alloc),
             references: BTreeMap::new(alloc),
+            rings: BTreeMap::new(alloc),
             types: no_types(alloc),
         }
     }
@@ -210,8 +218,8 @@ fn is_at(types: &[DerivedType], place: usize, offset: u64) -> bool
     }
 }
 
-// The place of the derived type at an offset, if it was read; `near` is where it may stand.
-fn place_of(types: &KnownTypes, offset: u64, near: usize) -> Option<usize>
+/// The place of the derived type at an offset, if it was read; `near` is where it may stand.
+pub(crate) fn place_of(types: &KnownTypes, offset: u64, near: usize) -> Option<usize>
     ensures at { IfSome result (λ place. is_at types.now.derived.items place offset ≡ true) }
     ensures none { (i : ℕ) → get nat_cmp types.now.places offset ≡ Some i → is_at types.now.derived.items i offset ≡ true → is_some result ≡ true }
 {
@@ -528,15 +536,12 @@ fn note(
     names: &mut TypeNames,
     tag: u16,
     offset: u64,
-    but: Option<u64>,
+    but: u64,
     name: StringId,
 ) -> Result<(), AllocError>
     ensures types { names.new.types ≡ names.old.types }
-    ensures names { (source : CloneSource) (s : UnitSource) (texts : List (List ℕ)) → IfSome but (λ but. NamesWrappers source s texts (tag == DW_TAG_pointer_type) offset but name) → KnowsNames source s texts names.old → OnOk result (KnowsNames source s texts names.new) }
+    ensures names { (source : CloneSource) (s : UnitSource) (texts : List (List ℕ)) → NamesWrappers source s texts (tag == DW_TAG_pointer_type) offset but name → KnowsNames source s texts names.old → OnOk result (KnowsNames source s texts names.new) }
 {
-    let Some(but) = but else {
-        return Ok(());
-    };
     if tag == DW_TAG_pointer_type {
         names.pointers.insert(offset, NotedName { name, but })?;
     } else {
@@ -561,14 +566,120 @@ fn noted_in(names: &BTreeMap<u64, NotedName>, own: u64, offset: u64) -> Option<S
     }
 }
 
+// The number that is noted of the entry at an offset, which stands in a ring.
+fn noted_in_ring(names: &BTreeMap<u64, StringId>, own: u64) -> Option<StringId>
+    ensures { (source : CloneSource) (s : UnitSource) (texts : List (List ℕ)) → AreOwnNames source s texts names.now → IfSome result (IsOwnName source s texts own) }
+{
+    match names.get(&own) {
+        Some(name) => Some(*name),
+        None => None,
+    }
+}
+
 // The number of the name of the wrapper of the entry at an offset, a pointer or a reference by its tag, that is noted of the type at another.
-fn noted(names: &TypeNames, tag: u16, own: u64, offset: u64) -> Option<StringId>
+fn noted_of_type(names: &TypeNames, tag: u16, own: u64, offset: u64) -> Option<StringId>
     ensures { (source : CloneSource) (s : UnitSource) (texts : List (List ℕ)) → KnowsNames source s texts names.now → IfSome result (NamesWrapper source s texts (tag == DW_TAG_pointer_type) offset own) }
 {
     if tag == DW_TAG_pointer_type {
         return noted_in(&names.pointers, own, offset);
     }
     noted_in(&names.references, own, offset)
+}
+
+// The same, or what is noted of the entry itself.
+fn noted(names: &TypeNames, tag: u16, own: u64, offset: u64) -> Option<StringId>
+    ensures { (source : CloneSource) (s : UnitSource) (texts : List (List ℕ)) → KnowsNames source s texts names.now → IfSome result (NamesWrapper source s texts (tag == DW_TAG_pointer_type) offset own) }
+{
+    match noted_of_type(names, tag, own, offset) {
+        Some(name) => Some(name),
+        None => noted_in_ring(&names.rings, own),
+    }
+}
+
+// Notes the number of the name of the wrapper of the entry at an offset, by its tag, for all types of its ring that have the same name.
+fn note_own_ring(
+    alloc: Global,
+    tag: u16,
+    own: u64,
+    name: StringId,
+    names: &mut TypeNames,
+) -> Result<(), AllocError>
+    ensures types { names.new.types ≡ names.old.types }
+    ensures names { (source : CloneSource) (number : ℕ) (s : UnitSource) (texts : List (List ℕ)) (e : Placed) → IsSource source number s → IsEmitted source s e → e.entry.offset ≡ own → e.entry.tag ≡ tag → IsWrapperName s texts e name → KnowsNames source s texts names.old → OnOk result (KnowsNames source s texts names.new) }
+{
+    if tag == DW_TAG_const_type {
+        return Ok(());
+    }
+    let ring = ring_at(alloc, &names.types, own)?;
+    let tags = spelt_tags(alloc, &ring)?;
+    let turn = least_turn(&tags);
+    note_ring(&mut names.rings, &ring, turn, name)
+}
+
+// Notes the number of the name of the wrapper of the entry at an offset, by its tag, which goes to the type at another from outside of its ring,
+// for all that go into that ring and have the same name.
+fn note_first_ring(
+    alloc: Global,
+    tag: u16,
+    own: u64,
+    offset: u64,
+    name: StringId,
+    names: &mut TypeNames,
+) -> Result<(), AllocError>
+    ensures types { names.new.types ≡ names.old.types }
+    ensures names { (source : CloneSource) (s : UnitSource) (texts : List (List ℕ)) (e : Placed) (first : TypeEntry) → IsOfType source s e first → first.offset ≡ offset → e.entry.offset ≡ own → e.entry.tag ≡ tag → IsWrapperName s texts e name → KnowsNames source s texts names.old → OnOk result (KnowsNames source s texts names.new) }
+{
+    let ring = ring_at(alloc, &names.types, offset)?;
+    if last_offset(&ring, own) == own {
+        return Ok(());
+    }
+    let tags = spelt_tags(alloc, &ring)?;
+    let turn = least_turn(&tags);
+    if tag == DW_TAG_pointer_type {
+        return note_ring_from(&mut names.pointers, &ring, turn, name);
+    }
+    note_ring_from(&mut names.references, &ring, turn, name)
+}
+
+// Notes the number of the name of the wrapper of the entry at an offset, by its tag, for all that go to the type at another, but for one; and
+// where that is the last of a ring, for all that go into the ring and have the same name.
+fn note_for_type(
+    alloc: Global,
+    tag: u16,
+    own: u64,
+    offset: u64,
+    but: u64,
+    name: StringId,
+    names: &mut TypeNames,
+) -> Result<(), AllocError>
+    ensures types { names.new.types ≡ names.old.types }
+    ensures names { (source : CloneSource) (s : UnitSource) (texts : List (List ℕ)) (e : Placed) (first : TypeEntry) → IsOfType source s e first → first.offset ≡ offset → e.entry.offset ≡ own → e.entry.tag ≡ tag → IsWrapperName s texts e name → NamesWrappers source s texts (tag == DW_TAG_pointer_type) offset but name → KnowsNames source s texts names.old → OnOk result (KnowsNames source s texts names.new) }
+{
+    note(names, tag, offset, but, name)?;
+    if goes_to(&names.types, but, offset) {
+        return note_first_ring(alloc, tag, own, offset, name, names);
+    }
+    Ok(())
+}
+
+// Notes the number of the name of the wrapper of the entry at an offset, by its tag, for all that go to the type at another, but for one; or
+// for all of its ring that have it, where the name is that of the entry alone.
+fn note_made(
+    alloc: Global,
+    tag: u16,
+    own: u64,
+    offset: u64,
+    but: Option<u64>,
+    name: StringId,
+    names: &mut TypeNames,
+) -> Result<(), AllocError>
+    ensures types { names.new.types ≡ names.old.types }
+    ensures names { (source : CloneSource) (s : UnitSource) (texts : List (List ℕ)) (e : Placed) (first : TypeEntry) → IsOfType source s e first → first.offset ≡ offset → e.entry.offset ≡ own → e.entry.tag ≡ tag → IsWrapperName s texts e name → IfSome but (λ but. NamesWrappers source s texts (tag == DW_TAG_pointer_type) offset but name) → KnowsNames source s texts names.old → OnOk result (KnowsNames source s texts names.new) }
+{
+    match but {
+        Some(but) => note_for_type(alloc, tag, own, offset, but, name, names),
+        None => note_own_ring(alloc, tag, own, name, names),
+    }
 }
 
 // Makes and adds the name of the wrapper of an entry, by the first type of its chain, and notes its number.
@@ -583,12 +694,20 @@ fn make_name(
     requires texts { AreNames names.old }
     ensures texts { AreNames names.new }
     ensures grows { Grows strings.old strings.new }
-    ensures names { (number : ℕ) (s : UnitSource) → IsSource source.now number s → type_found source.now (entry_view entry.now) ≡ Some (type_view first) → KnowsNames source.now s strings.old names.old → OnOk result (KnowsNames source.now s strings.new names.new) }
+    ensures names { (s : UnitSource) → IsOfType source.now s (placed_entry source.now (entry_view entry.now)) first → KnowsNames source.now s strings.old names.old → OnOk result (KnowsNames source.now s strings.new names.new) }
     ensures name { (s : UnitSource) → IsOfType source.now s (placed_entry source.now (entry_view entry.now)) first → KnowsNames source.now s strings.old names.old → GivesNumber s strings.new (placed_entry source.now (entry_view entry.now)) result }
 {
     let made = read_name(alloc, source, entry.offset, first, &mut names.types)?;
     let name = add_name(alloc, entry.tag, &made.name, strings)?;
-    note(names, entry.tag, first.offset, made.but, name)?;
+    note_made(
+        alloc,
+        entry.tag,
+        entry.offset,
+        first.offset,
+        made.but,
+        name,
+        names,
+    )?;
     Ok(name)
 }
 

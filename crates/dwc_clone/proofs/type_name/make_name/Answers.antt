@@ -5,6 +5,7 @@ use Rattle.dwc_base.specs.Wrappers.{wrapper_name}
 use Rattle.dwc_read.specs.EntriesSeen.{entry_view}
 use Rattle.dwc_clone.specs.declared.type_name.ChainName.{ChainName}
 use Rattle.dwc_clone.specs.ClonedEntries.{placed_entry}
+use Rattle.dwc_clone.specs.KnownNames.{IsWrapperName}
 use Rattle.dwc_clone.specs.KnownTexts.{IsNumbered}
 use Rattle.dwc_clone.proofs.NotedNameLaws.{names-grown, names-wrappers, unnumbered}
 use Rattle.dwc_clone.proofs.TypeStepLaws.{refused-alike}
@@ -23,16 +24,19 @@ returns-in_err-name-clause-name c s of known =
     rw (q.1, q.2) (unnumbered s p c.in_err-name.field-0.0 c.in_err-name.ensures.memory)
 
 pub returns-clause-names : goal.returns-clause-names
-returns-clause-names c number s source type_is known =
+returns-clause-names c s of known =
     let src = c.args.source.now in
     let old = c.args.strings.now in
     let new = c.add_name.new.strings in
     let tag = c.args.entry.now.tag in
+    let p = placed_entry src (entry_view c.args.entry.now) in
     let made = c.in_ok-made.made in
     let id = c.in_ok-name.name in
     let numbered = subst (λ name. IsNumbered new (wrapper_name tag name) id) c.deref.ensures.value c.in_ok-name.ensures.number in
-    let named = names-wrappers src number s (entry_view c.args.entry.now) c.args.first source type_is made.but made.name.items new tag id (λ f of. c.in_ok-made.ensures.others s f of known.types) numbered in
-    c.in_ok-note.ensures.names src s new named (names-grown src s old new _ c.add_name.ensures.grows (record { types = c.in_ok-made.ensures.types s known.types; pointers = known.pointers; references = known.references }))
+    let own : IsWrapperName s new p id = record { name = made.name.items; read = c.in_ok-made.ensures.name s p of refl known.types; number = numbered } in
+    let named = names-wrappers src of.number s (entry_view c.args.entry.now) c.args.first of.source of.type_is made.but made.name.items new tag id (λ f same. c.in_ok-made.ensures.others s f same known.types) numbered in
+    let grown = names-grown src s old new _ c.add_name.ensures.grows (record { types = c.in_ok-made.ensures.types s known.types; pointers = known.pointers; references = known.references; rings = known.rings }) in
+    c.in_ok-note_made.ensures.names src s new p c.args.first of refl refl refl own named grown
 
 pub returns-clause-name : goal.returns-clause-name
 returns-clause-name c s of known =
