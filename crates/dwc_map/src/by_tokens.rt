@@ -94,6 +94,7 @@ fn entries_inside(
         let entry = read_entry(reader, depth)?;
         entries.push(entry)?;
     }
+    entries.shrink_to_fit();
     Ok(entries)
 }
 

@@ -35,11 +35,14 @@ fn below_zero_of(numeral: &Numeral<'_>) -> Option<i64>
     if number < 0 { Some(number) } else { None }
 }
 
+// How many digits a number of 64 bits has whatever they are.
+const MOST_DIGITS: usize = 19;
+
 // The number of some digits, of which there are 19 at most; none where another byte stands among them.
 fn digits_number(digits: &[u8]) -> Option<u64>
     ensures { IfSome result (λ n. IsNumeral 10 digits.now × (n ≡ digits_value 10 digits.now) × (n < 2 ^ 64)) }
 {
-    if digits.is_empty() || digits.len() > 19 {
+    if digits.is_empty() || digits.len() > MOST_DIGITS {
         return None;
     }
     let mut number = 0;

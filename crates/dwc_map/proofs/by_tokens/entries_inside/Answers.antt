@@ -16,4 +16,4 @@ returns-clause-told c =
     let l = c.items in
     let r = c.take_end_array.new.self in
     let over : after_end_array l.reader ≡ Some r = grind arith in
-    items-over (pair_of u32_of source_of) c.args.depth c.args.reader.now l.reader r (map entry_view l.entries.items) over l.invariant
+    rw (c.shrink_to_fit.ensures.items) (items-over (pair_of u32_of source_of) c.args.depth c.args.reader.now l.reader r (map entry_view l.entries.items) over l.invariant)
