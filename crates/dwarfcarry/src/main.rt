@@ -3,8 +3,12 @@
 #![tactic(auto)]
 
 use dwc_cli::{HostSink, HostSource, Status, run};
+use std::alloc::Global;
 use std::process::ExitCode;
 use std::{env, io};
+
+// The size in bytes of the block that is let go first: less than 32 MiB, from where on the C library learns nothing of one.
+const KEPT: usize = 31 << 20;
 
 // The status where the words cannot be got.
 const NO_WORDS: u8 = 1;
@@ -18,11 +22,18 @@ fn main(rt: HostRuntime) -> ExitCode {
         Err(_) => return ExitCode::from(NO_WORDS),
     };
     let alloc = rt.alloc();
+    keep_memory(alloc);
     let (stdout, stderr) = (rt.stdout(), rt.stderr());
     let mut out = HostSink::new(io::writer(&stdout));
     let mut err = HostSink::new(io::writer(&stderr));
     let mut source = HostSource::new(rt);
     ExitCode::from(run(alloc, &words, &mut source, &mut out, &mut err))
+}
+
+// Makes the C library hand out again what is let go later: it gives each block of more than 128 KiB back to the system until a larger one
+// was let go, and new pages take time. A block that nothing touches takes no page.
+fn keep_memory(alloc: Global) {
+    drop(Vec::<u8>::with_capacity(alloc, KEPT));
 }
 
 // The words behind the program's name.
