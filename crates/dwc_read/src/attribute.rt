@@ -114,12 +114,10 @@ pub fn attributes<'d>(
     ensures { GivesOrMemory (λ _. map attribute_view found.new.items) (attributes_at unit.now.sections unit.now.header (map spec_view specs.now) cursor.old) cursor.new result }
 {
     found.clear();
-    let mut ahead = cursor.fork();
     for spec in specs {
-        let value = next_value(unit, *spec, &mut ahead)?;
+        let value = next_value(unit, *spec, cursor)?;
         found.push((spec.name, value))?;
     }
-    *cursor = ahead;
     Ok(())
 }
 

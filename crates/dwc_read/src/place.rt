@@ -12,35 +12,44 @@ pub struct Place<'d> {
     pub cursor: Cursor<'d>,
 }
 
-// Entries go on at a depth above the root's; at the root's they have ended.
-fn place_at<'d>(depth: u32, cursor: Cursor<'d>) -> Option<Place<'d>>
-    ensures { option_map place_view result ≡ entry_place depth cursor.entry }
+// Entries go on at a depth above the root's; at the root's they have ended. What stands there is changed in place, since a cursor
+// that is moved costs more than its fields.
+fn go_to<'d>(place: &mut Option<Place<'d>>, depth: u32, cursor: Cursor<'d>)
+    ensures { option_map place_view place.new ≡ entry_place depth cursor.entry }
 {
     if depth == 0 {
-        return None;
+        *place = None;
+        return;
     }
-    Some(Place { depth, cursor })
+    match place {
+        Some(here) => {
+            here.depth = depth;
+            here.cursor = cursor;
+        }
+        None => *place = Some(Place { depth, cursor }),
+    }
 }
 
-// The place behind an entry.
-pub fn place_behind_entry<'d>(
+// Goes to the place behind an entry.
+pub fn pass_entry<'d>(
+    place: &mut Option<Place<'d>>,
     depth: u32,
     has_children: bool,
     cursor: Cursor<'d>,
-) -> Option<Place<'d>>
+)
     requires { depth + 1 + length cursor.left < 2 ^ 32 }
-    ensures { option_map place_view result ≡ entry_place (if has_children then suc depth else depth) cursor.entry }
+    ensures { option_map place_view place.new ≡ entry_place (if has_children then suc depth else depth) cursor.entry }
 {
     if has_children {
-        place_at(depth + 1, cursor)
+        go_to(place, depth + 1, cursor);
     } else {
-        place_at(depth, cursor)
+        go_to(place, depth, cursor);
     }
 }
 
-// The place behind the end of a list of siblings.
-pub fn place_behind_siblings<'d>(depth: u32, cursor: Cursor<'d>) -> Option<Place<'d>>
-    ensures { option_map place_view result ≡ entry_place (pred depth) cursor.entry }
+// Goes to the place behind the end of a list of siblings.
+pub fn pass_siblings<'d>(place: &mut Option<Place<'d>>, depth: u32, cursor: Cursor<'d>)
+    ensures { option_map place_view place.new ≡ entry_place (pred depth) cursor.entry }
 {
-    place_at(depth.saturating_sub(1), cursor)
+    go_to(place, depth.saturating_sub(1), cursor);
 }

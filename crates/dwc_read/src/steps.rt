@@ -5,7 +5,7 @@ ghost use Rattle.dwc_read.specs.Places.{place_view, IsShallow, Steps, GoesOn};
 ghost use Rattle.dwc_read.specs.EntriesSeen.{entry_view};
 
 use crate::fault::refusal;
-use crate::place::{Place, place_behind_entry, place_behind_siblings};
+use crate::place::{Place, pass_entry, pass_siblings};
 use crate::table::Table;
 use crate::{Entry, ReadFault, Unit};
 use dwc_base::{SectionName, What};
@@ -40,11 +40,11 @@ fn take_step<'d>(
     let mut ahead = here.cursor.fork();
     match entry.read(unit, table, depth, &mut ahead) {
         Ok(Some(has_children)) => {
-            *place = place_behind_entry(depth, has_children, ahead);
+            pass_entry(place, depth, has_children, ahead);
             Ok(Step::Found)
         }
         Ok(None) => {
-            *place = place_behind_siblings(depth, ahead);
+            pass_siblings(place, depth, ahead);
             Ok(Step::Siblings)
         }
         Err(e) => Err(refusal(e, What::Entry, SectionName::Info, offset)),

@@ -19,7 +19,7 @@ returns-in_err-value c =
     let unit = c.args.unit.now in
     let specs = c.args.specs.now in
     let front = seen_as {A = List (ℕ × Value)} (λ ys. map attribute_view c.loop-spec.found.items ++ ys) in
-    let flaw = attributes_at-flaw unit.sections unit.header specs c.loop-spec.spec-index none c.loop-spec.ahead c.loop-spec.ahead _ (omega arith) c.in_err-value.ensures in
+    let flaw = attributes_at-flaw unit.sections unit.header specs c.loop-spec.spec-index none c.loop-spec.cursor c.loop-spec.cursor _ (omega arith) c.in_err-value.ensures in
     rw (p.1, p.2) (sym c.loop-spec.invariant ∙ ap front flaw)
 
 pub loop-spec-preserved : goal.loop-spec-preserved
@@ -30,7 +30,7 @@ loop-spec-preserved c =
     let found = c.loop-spec.found.items in
     let x : ℕ × Value = ((get_or specs i none).name, value_view c.in_ok-value.value) in
     let rest = attributes_at unit.sections unit.header (specs_from (i + 1) specs) c.next_value.new.cursor in
-    let more = attributes_at-more unit.sections unit.header specs i none c.loop-spec.ahead c.next_value.new.cursor (value_view c.in_ok-value.value) (omega arith) c.in_ok-value.ensures in
+    let more = attributes_at-more unit.sections unit.header specs i none c.loop-spec.cursor c.next_value.new.cursor (value_view c.in_ok-value.value) (omega arith) c.in_ok-value.ensures in
     rw (c.in_ok-push.ensures.items, map_push)
     (sym (seen-in_front (map attribute_view found) x rest) ∙ ap (seen_as (λ ys. map attribute_view found ++ ys)) (sym more) ∙ c.loop-spec.invariant)
 
@@ -38,5 +38,5 @@ pub returns : goal.returns
 returns c =
     let unit = c.args.unit.now in
     let front = map attribute_view c.loop-spec.found.items in
-    let end = attributes_at-end unit.sections unit.header c.args.specs.now c.loop-spec.spec-index c.loop-spec.ahead c.loop-spec-test.false in
-    sym c.loop-spec.invariant ∙ ap (seen_as (λ ys. front ++ ys)) end ∙ ap (λ ys. Ok (ys, c.loop-spec.ahead)) (append-nil front)
+    let end = attributes_at-end unit.sections unit.header c.args.specs.now c.loop-spec.spec-index c.loop-spec.cursor c.loop-spec-test.false in
+    sym c.loop-spec.invariant ∙ ap (seen_as (λ ys. front ++ ys)) end ∙ ap (λ ys. Ok (ys, c.loop-spec.cursor)) (append-nil front)

@@ -8,5 +8,5 @@ use Rattle.dwc_read.proofs.attribute.attributes.Given as goal
 -- what was read so far, and what is still unread, is all
 abbrev pub invariant-loop-spec : goal.invariant-loop-spec
 invariant-loop-spec l =
-    seen_as (λ ys. map attribute_view l.found.items ++ ys) (attributes_at l.unit.sections l.unit.header (map spec_view (drop l.spec-index l.specs)) l.ahead)
+    seen_as (λ ys. map attribute_view l.found.items ++ ys) (attributes_at l.unit.sections l.unit.header (map spec_view (drop l.spec-index l.specs)) l.cursor)
     ≡ attributes_at l.unit.sections l.unit.header (map spec_view l.specs) l.fn.cursor

@@ -22,8 +22,8 @@ returns-then-left-eq0-clause-step c =
     let at : option_map place_view c.args.place.now ≡ Some here = ap (option_map place_view) c.in-Some.is in
     (ap list at ∙ entries_from-end unit.sections unit.header c.args.table.now here (sym c.left.ensures ∙ c.if-left-eq0.true), sym at)
 
-pub place_behind_entry-requires : goal.place_behind_entry-requires
-place_behind_entry-requires c =
+pub pass_entry-requires : goal.pass_entry-requires
+pass_entry-requires c =
     let unit = c.args.unit.now in
     let here = c.in-Some.here in
     let u = here.cursor in
@@ -44,7 +44,7 @@ returns-in-Ok-Some-clause-shallow c =
     let read : entry_at unit.sections unit.header c.args.table.now here.depth u ≡ Ok (Some e, v) = rw (c.in-Ok-Some.field-0-is, c.fork-ahead.ensures) at c.in-Ok-Some.ensures in
     let fewer = entry_at-shrinks unit.sections unit.header c.args.table.now here.depth u v (Some e) read in
     let fits : here.depth + length u.left < 2 ^ 32 = rw c.in-Some.is at c.requires in
-    rw c.place_behind_entry.ensures (IsShallow-behind c.in-Ok-Some.has_children here.depth v (omega arith))
+    rw c.pass_entry.ensures (IsShallow-behind c.in-Ok-Some.has_children here.depth v (omega arith))
 
 pub returns-in-Ok-Some-clause-step : goal.returns-in-Ok-Some-clause-step
 returns-in-Ok-Some-clause-step c =
@@ -56,7 +56,7 @@ returns-in-Ok-Some-clause-step c =
     let at : option_map place_view c.args.place.now ≡ Some here = ap (option_map place_view) c.in-Some.is in
     let read : entry_at unit.sections unit.header c.args.table.now here.depth here.unread ≡ Ok (Some e, v) = rw (c.in-Ok-Some.field-0-is, c.fork-ahead.ensures) at c.in-Ok-Some.ensures in
     let some : 0 < length here.unread.left = omega arith in
-    rw c.place_behind_entry.ensures (ap list at ∙ entries_from-entry unit.sections unit.header c.args.table.now here v e some read)
+    rw c.pass_entry.ensures (ap list at ∙ entries_from-entry unit.sections unit.header c.args.table.now here v e some read)
 
 pub returns-in-Ok-None-clause-shallow : goal.returns-in-Ok-None-clause-shallow
 returns-in-Ok-None-clause-shallow c =
@@ -67,7 +67,7 @@ returns-in-Ok-None-clause-shallow c =
     let read : entry_at unit.sections unit.header c.args.table.now here.depth u ≡ Ok (None, v) = rw (c.in-Ok-None.field-0-is, c.fork-ahead.ensures) at c.in-Ok-None.ensures in
     let fewer = entry_at-shrinks unit.sections unit.header c.args.table.now here.depth u v None read in
     let fits : here.depth + length u.left < 2 ^ 32 = rw c.in-Some.is at c.requires in
-    rw c.place_behind_siblings.ensures (IsShallow-siblings here.depth v (omega arith))
+    rw c.pass_siblings.ensures (IsShallow-siblings here.depth v (omega arith))
 
 pub returns-in-Ok-None-clause-step : goal.returns-in-Ok-None-clause-step
 returns-in-Ok-None-clause-step c =
@@ -80,7 +80,7 @@ returns-in-Ok-None-clause-step c =
     let some : 0 < length here.unread.left = omega arith in
     let fewer = entry_at-shrinks unit.sections unit.header c.args.table.now here.depth here.unread v None read in
     let less : entry_places_left (entry_place (pred here.depth) v) < length here.unread.left = omega (arith, entry_places_left-place (pred here.depth) v) in
-    rw c.place_behind_siblings.ensures (ap list at ∙ entries_from-siblings unit.sections unit.header c.args.table.now here v some read, rw at less)
+    rw c.pass_siblings.ensures (ap list at ∙ entries_from-siblings unit.sections unit.header c.args.table.now here v some read, rw at less)
 
 pub returns-in-Err-clause-step : goal.returns-in-Err-clause-step
 returns-in-Err-clause-step c =
