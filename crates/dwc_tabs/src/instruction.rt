@@ -90,7 +90,10 @@ fn standard_instruction<'d>(
         DW_LNS_set_isa => Ok(Instruction::SetIsa(cursor.uleb()?)),
         _ => {
             let lengths = parameters.standard_opcode_lengths;
-            pass_operands(lengths[opcode as usize - 1], cursor)
+            let mut ahead = cursor.fork();
+            let passed = pass_operands(lengths[opcode as usize - 1], &mut ahead)?;
+            *cursor = ahead;
+            Ok(passed)
         }
     }
 }
@@ -106,6 +109,7 @@ fn pass_operands<'d>(count: u8, cursor: &mut Cursor<'d>) -> Result<Instruction<'
 }
 
 // An extended instruction behind its 0: a length, and in it an opcode and operands. The rest of the length is passed.
+#[inline(always)]
 #[tactic(auto, unfolding(dwc_base::specs::LineHeaders::extended_instruction_at))]
 fn extended_instruction<'d>(
     parameters: &Parameters<'d>,
@@ -120,7 +124,9 @@ fn extended_instruction<'d>(
     extended_operands(parameters, relocations, opcode, &mut inside)
 }
 
-// The operands of an extended opcode; those of one without a meaning are left.
+// The operands of an extended opcode; those of one without a meaning are left. Calls have a cursor of their own, so that a loop keeps
+// its cursor in registers.
+#[inline(always)]
 #[tactic(auto, unfolding(dwc_base::specs::LineHeaders::extended_at))]
 fn extended_operands<'d>(
     parameters: &Parameters<'d>,
@@ -133,12 +139,17 @@ fn extended_operands<'d>(
     match opcode {
         DW_LNE_end_sequence => Ok(Instruction::EndSequence),
         DW_LNE_set_address => {
-            let address = address(relocations, parameters.address_size, cursor)?;
+            let mut ahead = cursor.fork();
+            let address = address(relocations, parameters.address_size, &mut ahead)?;
+            *cursor = ahead;
             Ok(Instruction::SetAddress(address))
         }
         DW_LNE_define_file if parameters.version < 5 => {
-            let name = cursor.text()?;
-            Ok(Instruction::DefineFile(file_of_name(name, cursor)?))
+            let mut ahead = cursor.fork();
+            let name = ahead.text()?;
+            let file = file_of_name(name, &mut ahead)?;
+            *cursor = ahead;
+            Ok(Instruction::DefineFile(file))
         }
         DW_LNE_set_discriminator => Ok(Instruction::SetDiscriminator(cursor.uleb()?)),
         _ => Ok(Instruction::Unknown),

@@ -94,7 +94,15 @@ pub returns-in_ok-uleb-in-12 : goal.returns-in_ok-uleb-in-12
 unfolding standard_at operand_at
 returns-in_ok-uleb-in-12 c = rw (c.in-12.is, c.in_ok-uleb-in-12.ensures) refl
 
-pub returns-in_default : goal.returns-in_default
-returns-in_default c =
+pub returns-in_err-passed-in_default : goal.returns-in_err-passed-in_default
+returns-in_err-passed-in_default c =
+    let p = err_from_is_err_and c.from_residual-in_err-passed-in_default.result c.from_residual-in_err-passed-in_default.ensures.1 in
     let high : 12 < c.args.opcode = omega arith in
-    rw (standard-unknown (program_header c.args.parameters.now) c.args.opcode c.args.cursor.now (coded-none c.args.opcode high)) c.pass_operands.ensures
+    let passed = rw c.fork-ahead.ensures at c.in_err-passed-in_default.ensures in
+    rw (p.1, p.2, standard-unknown (program_header c.args.parameters.now) c.args.opcode c.args.cursor.now (coded-none c.args.opcode high)) passed
+
+pub returns-in_ok-passed-in_default : goal.returns-in_ok-passed-in_default
+returns-in_ok-passed-in_default c =
+    let high : 12 < c.args.opcode = omega arith in
+    let passed = rw c.fork-ahead.ensures at c.in_ok-passed-in_default.ensures in
+    rw (standard-unknown (program_header c.args.parameters.now) c.args.opcode c.args.cursor.now (coded-none c.args.opcode high)) passed
