@@ -63,9 +63,10 @@ pub fn execute(
     let offset = registers.offset;
     match instruction {
         Instruction::Special(opcode) => {
+            // one division gives both advances where they stand side by side
             let count = operation_advance(parameters, opcode);
-            registers.offset = advanced(offset, parameters, u64::from(count));
             registers.line = moved(registers.line, line_advance(parameters, opcode));
+            registers.offset = advanced(offset, parameters, u64::from(count));
             return append(registers);
         }
         Instruction::Copy => return append(registers),
