@@ -55,6 +55,11 @@ module _ (s : Sections) (h : UnitHeader) (e : RangeEntriesView) (base : Address)
   unfolding ranges_given
   ranges-told behind fault r refuses told = laws.told-fault e.left behind (given_from (list_source s h) (list_fault RangeList e.place) e.left base) fault r refuses told (laws.given-fault (list_source s h) (list_fault RangeList e.place) base e.left)
 
+-- what is refused is refused again
+pub refuses-again : {F A : Type 0} (old new : Listing F A) (fault : Option F) → RefusesWith old new fault → RefusesWith new new fault
+refuses-again old new None refuses = refuses
+refuses-again old new (Some fault) refuses = (refuses.1, refuses.1)
+
 -- ---- the begin of a list
 
 module _ (s : Sections) (h : UnitHeader) where

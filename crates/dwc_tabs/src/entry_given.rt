@@ -29,6 +29,7 @@ fn address_at(unit: &Unit<'_>, start: ListStart, index: u64) -> Result<Address, 
 }
 
 // The interval that an entry gives at a base, if it gives one.
+#[inline(always)]
 #[tactic(auto, unfolding(dwc_base::specs::Lists::interval_given))]
 fn interval_given(
     unit: &Unit<'_>,
@@ -65,6 +66,7 @@ fn interval_given(
 }
 
 // The base behind an entry: the one that it selects, else the one before.
+#[inline(always)]
 #[tactic(auto, unfolding(dwc_base::specs::Lists::base_behind))]
 fn base_behind(
     unit: &Unit<'_>,
@@ -88,6 +90,7 @@ fn base_behind(
 }
 
 // What an entry gives at a base: its interval, if it gives one, and the base behind it.
+#[inline(always)]
 #[tactic(auto, unfolding(crate::specs::RangeEnds::given_at))]
 pub(crate) fn given_at(
     unit: &Unit<'_>,

@@ -24,6 +24,7 @@ pub struct ListedLocation<'d> {
 }
 
 // What an entry gives, with its expression; None where either is missing.
+#[inline(always)]
 pub(crate) fn located<'d>(
     interval: Option<(Address, Address)>,
     holds: Option<PlacedExpression<'d>>,

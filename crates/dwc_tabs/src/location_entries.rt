@@ -104,6 +104,7 @@ impl<'d> LocationEntries<'d> {
     }
 
     // The same entries once more.
+    #[inline(always)]
     pub(crate) fn again(&self) -> LocationEntries<'d>
         ensures { result ≡ self.now }
     {
@@ -113,6 +114,7 @@ impl<'d> LocationEntries<'d> {
     }
 
     // The next entry; None at the end of the list. At the end, and after a fault, each later call answers the same.
+    #[inline(always)]
     pub(crate) fn next_raw(&mut self) -> Result<Option<LocationEntry<'d>>, ReadFault>
         ensures next { GivesNextRead location_view self.old.left self.new.left result }
         ensures place { self.new.place ≡ self.old.place }

@@ -81,6 +81,7 @@ fn location_kind(code: u8) -> Option<LocationKind>
 }
 
 // What an entry says that stands in range lists too.
+#[inline(always)]
 fn listed(entry: Option<RangeEntry>) -> Option<LocationRange>
     ensures { option_map range_view result ≡ option_map entry_view entry }
 {
@@ -128,6 +129,7 @@ fn kind_and_range(
 }
 
 // What an entry says of addresses; None at the end of the list.
+#[inline(always)]
 #[tactic(auto, unfolding(crate::specs::OpenLists::list_entry_at))]
 fn location_range(
     in_pairs: bool,
@@ -142,10 +144,14 @@ fn location_range(
         let entry = pair(relocations, size, cursor)?;
         return Ok(listed(entry));
     }
-    Ok(kind_and_range(relocations, size, cursor)?)
+    let mut ahead = cursor.fork();
+    let says = kind_and_range(&relocations.again(), size, &mut ahead)?;
+    *cursor = ahead;
+    Ok(says)
 }
 
 // How many bytes an expression has, which two bytes say up to version 4.
+#[inline(always)]
 #[tactic(auto, unfolding(dwc_base::specs::Values::sized_number_at))]
 fn expression_length(in_pairs: bool, cursor: &mut Cursor<'_>) -> Result<u64, Flaw>
     ensures { Gives (λ n. n) (sized_number_at (length_size (section_of in_pairs)) cursor.old) cursor.new result }
@@ -158,6 +164,7 @@ fn expression_length(in_pairs: bool, cursor: &mut Cursor<'_>) -> Result<u64, Fla
 }
 
 // An expression behind its length.
+#[inline(always)]
 #[tactic(auto, unfolding(dwc_base::specs::RawLists::placed_expression_at))]
 fn placed_expression<'d>(
     in_pairs: bool,
@@ -176,6 +183,7 @@ fn placed_expression<'d>(
 }
 
 // Whether an entry selects a base.
+#[inline(always)]
 fn selects_base(says: LocationRange) -> bool
     ensures { result ≡ is_selection (range_view says) }
 {
@@ -196,6 +204,7 @@ fn selects_base(says: LocationRange) -> bool
 }
 
 // An entry behind what it says of addresses.
+#[inline(always)]
 #[tactic(auto, unfolding(dwc_base::specs::RawLists::location_behind))]
 fn location_behind<'d>(
     in_pairs: bool,
@@ -215,6 +224,7 @@ fn location_behind<'d>(
 }
 
 // An entry of a list, which is of pairs up to version 4; None at its end.
+#[inline(always)]
 #[tactic(auto, unfolding(crate::specs::LocationLists::location_entry_at))]
 pub(crate) fn location_entry<'d>(
     in_pairs: bool,

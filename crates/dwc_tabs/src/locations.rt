@@ -89,6 +89,7 @@ impl<'u, 'd> Locations<'u, 'd> {
 }
 
 // What an entry gives at a base: its interval, if it gives one, and the base behind it. A default location gives none.
+#[inline(always)]
 #[tactic(auto, unfolding(crate::specs::RangeEnds::given_at, dwc_base::specs::Lists::interval_given, dwc_base::specs::Lists::base_behind))]
 fn range_given(
     unit: &Unit<'_>,
@@ -104,7 +105,8 @@ fn range_given(
     }
 }
 
-// What the next entry gives, if there is one.
+// What the next entry gives, if there is one. The entries are put back where that is refused.
+#[inline(always)]
 fn next_given<'d>(
     unit: &Unit<'_>,
     entries: &mut LocationEntries<'d>,
@@ -113,14 +115,18 @@ fn next_given<'d>(
     ensures { GivesNextOf (option_map listed_view) (locations_given unit.now.sections unit.now.header entries.old base.old) (locations_given unit.now.sections unit.now.header entries.new base.new) result }
 {
     let start = entries.start();
-    let mut ahead = entries.again();
-    match ahead.next_raw() {
-        Ok(Some(entry)) => {
-            let (interval, behind) = range_given(unit, start, *base, entry.says)?;
-            *entries = ahead;
-            *base = behind;
-            Ok(Some(located(interval, entry.holds)))
-        }
+    let before = entries.again();
+    match entries.next_raw() {
+        Ok(Some(entry)) => match range_given(unit, start, *base, entry.says) {
+            Ok(given) => {
+                *base = given.1;
+                Ok(Some(located(given.0, entry.holds)))
+            }
+            Err(refusal) => {
+                *entries = before;
+                Err(refusal)
+            }
+        },
         Ok(None) => Ok(None),
         Err(fault) => Err(told(fault)),
     }

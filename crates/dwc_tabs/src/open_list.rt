@@ -41,6 +41,7 @@ impl<'d> OpenList<'d> {
     }
 
     // The same list once more.
+    #[inline(always)]
     pub fn again(&self) -> OpenList<'d>
         ensures { result ≡ self.now }
     {

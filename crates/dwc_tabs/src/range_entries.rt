@@ -129,6 +129,7 @@ impl<'d> RangeEntries<'d> {
     }
 
     // The same entries once more.
+    #[inline(always)]
     pub(crate) fn again(&self) -> RangeEntries<'d>
         ensures { result ≡ self.now }
     {
@@ -141,6 +142,7 @@ impl<'d> RangeEntries<'d> {
     ///
     /// Answers `Read` with the list's section and first byte where no entry stands there: where its kind is none, or its operands
     /// pass the end of the section or do not fit 64 bits. At the end, and after one of these, each later call answers the same.
+    #[inline(always)]
     pub fn next_raw(&mut self) -> Result<Option<RangeEntry>, ReadFault>
         ensures next { GivesNextRead entry_view self.old.left self.new.left result }
         ensures place { self.new.place ≡ self.old.place }

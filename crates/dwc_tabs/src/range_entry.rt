@@ -2,6 +2,7 @@
 ghost use Rattle.std.specs.Prelude.{◌≡◌, ◌-◌, ◌*◌, ◌^◌, IsTrue, option_map};
 ghost use Rattle.dwc_base.specs.Cursors.{Gives};
 ghost use Rattle.dwc_base.specs.FieldSizes.{is_field_size};
+ghost use Rattle.dwc_base.specs.Sections.{address_at};
 ghost use Rattle.dwc_base.specs.RawLists.{is_number as is_the_number, entry_of_pair, pair_at as raw_pair_at, entry_of_kind_at, kind_and_entry_at, range_kinds};
 ghost use Rattle.dwc_tabs.specs.OpenLists.{kind_view, list_entry_at};
 ghost use Rattle.dwc_tabs.specs.RangeLists.{entry_view};
@@ -70,7 +71,34 @@ fn entry_of_addresses(size: u8, begin: Address, end: Address) -> Option<RangeEnt
     Some(RangeEntry::Pair(begin, end))
 }
 
+// The bytes of an address of WebAssembly.
+const ADDRESS_SIZE: u8 = 4;
+
+// An address at the front. One of 4 bytes is read in place and another by a call with a cursor of its own, so that a loop over entries
+// keeps its cursor in registers.
+#[inline(always)]
+#[tactic(auto, unfolding(dwc_base::specs::Sections::address_at))]
+fn next_address(
+    relocations: &Relocations<'_>,
+    size: u8,
+    cursor: &mut Cursor<'_>,
+) -> Result<Address, Flaw>
+    requires { IsTrue (is_field_size size) }
+    ensures { Gives (λ x. x) (address_at relocations.now size cursor.old) cursor.new result }
+{
+    if size == ADDRESS_SIZE {
+        let place = cursor.place();
+        let spelled = cursor.u32()?;
+        return Ok(relocations.value(place, size, u64::from(spelled)));
+    }
+    let mut ahead = cursor.fork();
+    let address = address(&relocations.again(), size, &mut ahead)?;
+    *cursor = ahead;
+    Ok(address)
+}
+
 // An entry of a list up to version 4; None at its end.
+#[inline(always)]
 #[tactic(auto, unfolding(dwc_base::specs::RawLists::pair_at))]
 pub(crate) fn pair(
     relocations: &Relocations<'_>,
@@ -80,8 +108,8 @@ pub(crate) fn pair(
     requires { IsTrue (is_field_size size) }
     ensures { Gives (option_map entry_view) (raw_pair_at relocations.now size cursor.old) cursor.new result }
 {
-    let begin = address(relocations, size, cursor)?;
-    let end = address(relocations, size, cursor)?;
+    let begin = next_address(relocations, size, cursor)?;
+    let end = next_address(relocations, size, cursor)?;
     Ok(entry_of_addresses(size, begin, end))
 }
 
@@ -145,6 +173,7 @@ fn kind_and_entry(
 }
 
 /// An entry of a list, which is of pairs up to version 4; None at its end.
+#[inline(always)]
 #[tactic(auto, unfolding(crate::specs::OpenLists::list_entry_at))]
 pub fn range_entry(
     in_pairs: bool,
@@ -158,5 +187,8 @@ pub fn range_entry(
     if in_pairs {
         return Ok(pair(relocations, size, cursor)?);
     }
-    Ok(kind_and_entry(relocations, size, cursor)?)
+    let mut ahead = cursor.fork();
+    let entry = kind_and_entry(&relocations.again(), size, &mut ahead)?;
+    *cursor = ahead;
+    Ok(entry)
 }

@@ -66,7 +66,8 @@ impl<'u, 'd> Ranges<'u, 'd> {
     }
 }
 
-// What the next entry gives, if there is one.
+// What the next entry gives, if there is one. The entries are put back where that is refused.
+#[inline(always)]
 fn next_given(
     unit: &Unit<'_>,
     entries: &mut RangeEntries<'_>,
@@ -75,14 +76,18 @@ fn next_given(
     ensures { GivesNextOf (option_map interval_view) (ranges_given unit.now.sections unit.now.header entries.old base.old) (ranges_given unit.now.sections unit.now.header entries.new base.new) result }
 {
     let start = entries.start();
-    let mut ahead = entries.again();
-    match ahead.next_raw() {
-        Ok(Some(entry)) => {
-            let (given, behind) = given_at(unit, start, *base, entry)?;
-            *entries = ahead;
-            *base = behind;
-            Ok(Some(given))
-        }
+    let before = entries.again();
+    match entries.next_raw() {
+        Ok(Some(entry)) => match given_at(unit, start, *base, entry) {
+            Ok(given) => {
+                *base = given.1;
+                Ok(Some(given.0))
+            }
+            Err(refusal) => {
+                *entries = before;
+                Err(refusal)
+            }
+        },
         Ok(None) => Ok(None),
         Err(fault) => Err(told(fault)),
     }

@@ -1,43 +1,41 @@
 use Rattle.std.proofs.Common.{Some, Ok, option_map, ap, sym, ◌∙◌, subst}
-use Rattle.std.proofs.lemmas.Result.{err_from_is_err_and}
 use Rattle.dwc_base.specs.Lists.{list_source}
-use Rattle.dwc_read.specs.Faults.{fault_seen}
 use Rattle.dwc_tabs.specs.OpenLists.{told_at_start}
-use Rattle.dwc_tabs.specs.RangeLists.{entry_view, GivesNextRead, RefusesWith}
-use Rattle.dwc_tabs.specs.RangeEnds.{given_at, interval_view, refusal_view}
-use Rattle.dwc_tabs.proofs.RangeEndLaws.{ranges-more, ranges-refused, ranges-end, ranges-told}
+use Rattle.dwc_tabs.specs.RangeLists.{GivesNextRead, entry_view}
+use Rattle.dwc_tabs.specs.RangeEnds.{given_at, ranges_given, interval_view, refusal_view}
+use Rattle.dwc_tabs.proofs.RangeEndLaws.{ranges-more, ranges-refused, ranges-end, ranges-told, refuses-again}
 use Rattle.dwc_tabs.proofs.ranges.next_given.Goals as goal
 
-pub returns-in_err-given-in-Ok-Some : goal.returns-in_err-given-in-Ok-Some
-returns-in_err-given-in-Ok-Some c =
+pub returns-in-Ok : goal.returns-in-Ok
+returns-in-Ok c =
     let u = c.args.unit.now in
     let x = entry_view c.in-Ok-Some.entry in
-    let p = err_from_is_err_and c.from_residual.result c.from_residual.ensures.1 in
-    let first = subst (λ o. GivesNextRead entry_view c.again-ahead.result.left c.next_raw.new.self.left (Ok o)) (c.in-Ok-Some.field-0-is ∙ ap Some (sym c.in-Ok-Some.entry-is)) c.in-Ok-Some.ensures.next in
-    let left = ap (λ v. v.left) (sym c.again-ahead.ensures) ∙ first in
-    let gives = ap (λ t. given_at (list_source u.sections u.header) (told_at_start t) c.args.base.now x) (sym c.start-start.ensures) ∙ c.in_err-given-in-Ok-Some.ensures in
-    let r = ranges-refused u.sections u.header c.args.entries.now c.args.base.now c.next_raw.new.self.left x (refusal_view c.in_err-given-in-Ok-Some.field-0.0) left gives in
-    rw (p.1, p.2) (r, r)
+    let left = subst (λ o. GivesNextRead entry_view c.args.entries.now.left c.next_raw.new.self.left (Ok o)) (c.in-Ok-Some.field-0-is ∙ ap Some (sym c.in-Ok-Some.entry-is)) c.in-Ok-Some.ensures.next in
+    let gives = ap (λ t. given_at (list_source u.sections u.header) (told_at_start t) c.args.base.now x) (sym c.start-start.ensures) ∙ c.in-Ok.ensures in
+    ranges-more u.sections u.header c.args.entries.now c.args.base.now c.next_raw.new.self x (option_map interval_view c.in-Ok.given.0) c.in-Ok.given.1 c.in-Ok-Some.ensures.place left gives
 
-pub returns-in_ok-given-in-Ok-Some : goal.returns-in_ok-given-in-Ok-Some
-returns-in_ok-given-in-Ok-Some c =
+pub returns-in-Err-given_at : goal.returns-in-Err-given_at
+returns-in-Err-given_at c =
     let u = c.args.unit.now in
     let x = entry_view c.in-Ok-Some.entry in
-    let first = subst (λ o. GivesNextRead entry_view c.again-ahead.result.left c.next_raw.new.self.left (Ok o)) (c.in-Ok-Some.field-0-is ∙ ap Some (sym c.in-Ok-Some.entry-is)) c.in-Ok-Some.ensures.next in
-    let left = ap (λ v. v.left) (sym c.again-ahead.ensures) ∙ first in
-    let place = c.in-Ok-Some.ensures.place ∙ ap (λ v. v.place) c.again-ahead.ensures in
-    let gives = ap (λ t. given_at (list_source u.sections u.header) (told_at_start t) c.args.base.now x) (sym c.start-start.ensures) ∙ c.in_ok-given-in-Ok-Some.ensures in
-    ranges-more u.sections u.header c.args.entries.now c.args.base.now c.next_raw.new.self x (option_map interval_view c.in_ok-given-in-Ok-Some.given) c.in_ok-given-in-Ok-Some.behind place left gives
+    let left = subst (λ o. GivesNextRead entry_view c.args.entries.now.left c.next_raw.new.self.left (Ok o)) (c.in-Ok-Some.field-0-is ∙ ap Some (sym c.in-Ok-Some.entry-is)) c.in-Ok-Some.ensures.next in
+    let gives = ap (λ t. given_at (list_source u.sections u.header) (told_at_start t) c.args.base.now x) (sym c.start-start.ensures) ∙ c.in-Err-given_at.ensures in
+    let r = ranges-refused u.sections u.header c.args.entries.now c.args.base.now c.next_raw.new.self.left x (refusal_view c.in-Err-given_at.refusal) left gives in
+    (r, ap (λ v. ranges_given u.sections u.header v c.args.base.now) c.again-before.ensures ∙ r)
 
 pub returns-in-Ok-None : goal.returns-in-Ok-None
 returns-in-Ok-None c =
     let u = c.args.unit.now in
-    let first = subst (λ o. GivesNextRead entry_view c.again-ahead.result.left c.next_raw.new.self.left (Ok o)) c.in-Ok-None.field-0-is c.in-Ok-None.ensures.next in
-    let r = ranges-end u.sections u.header c.args.entries.now c.args.base.now (ap (λ v. v.left) (sym c.again-ahead.ensures) ∙ first.0) in
-    (r, r)
+    let none = subst (λ o. GivesNextRead entry_view c.args.entries.now.left c.next_raw.new.self.left (Ok o)) c.in-Ok-None.field-0-is c.in-Ok-None.ensures.next in (
+      ranges-end u.sections u.header c.args.entries.now c.args.base.now none.0,
+      ranges-end u.sections u.header c.next_raw.new.self c.args.base.now none.1,
+    )
 
 pub returns-in-Err : goal.returns-in-Err
 returns-in-Err c =
     let u = c.args.unit.now in
-    let r = ranges-told u.sections u.header c.args.entries.now c.args.base.now c.next_raw.new.self.left c.in-Err.fault (refusal_view c.told.result) (subst (λ v. RefusesWith v.left c.next_raw.new.self.left (fault_seen c.in-Err.fault)) c.again-ahead.ensures c.in-Err.ensures.next) c.told.ensures in
-    (r, r)
+    let refuses = c.in-Err.ensures.next in
+    let again = refuses-again c.args.entries.now.left c.next_raw.new.self.left _ refuses in (
+      ranges-told u.sections u.header c.args.entries.now c.args.base.now c.next_raw.new.self.left c.in-Err.fault (refusal_view c.told.result) refuses c.told.ensures,
+      ranges-told u.sections u.header c.next_raw.new.self c.args.base.now c.next_raw.new.self.left c.in-Err.fault (refusal_view c.told.result) again c.told.ensures,
+    )
