@@ -237,3 +237,30 @@ module _ {X : Type 0} (n : X → ℕ) where
         let here = part_at xs from end i d (omega arith) in
         rw (← here) (ltb-false _ limit (h.1 i d (omega arith) (omega (arith, part_length xs from end inside))));
   }
+
+-- the first place behind a limit, by a search step by step
+module _ {X : Type 0} (n : X → ℕ) (xs : List X) (from limit : ℕ) where
+  -- what stands from a place on and in front of another is below a limit
+  pub record AreBelow (at : ℕ) : Type 0 where
+    pub below : (k : ℕ) (d : X) → from ≤ k → k < at → n (get_or xs k d) < limit
+
+  pub below-begins : AreBelow from
+  below-begins = record { below = λ k d a b. absurd (omega arith) }
+
+  pub below-more : (at : ℕ) (e : X) → AreBelow at → at < length xs → n (get_or xs at e) < limit → AreBelow (at + 1)
+  below-more at e so_far inside less = record { below = λ k d a b. go k d a b (cases_lt k at) }
+    where
+      go : (k : ℕ) (d : X) → from ≤ k → k < at + 1 → (k < at) ⊎ (at ≤ k) → n (get_or xs k d) < limit
+      go k d a b (inl before) = so_far.below k d a before
+      go k d a b (inr last) = let same : k ≡ at = omega arith in rw same (omega (arith, less, ap n (get_or_default xs at d e inside)))
+
+  pub below-found : (end at : ℕ) (e : X) → AreBelow at → from ≤ at → at < end → end ≤ length xs → limit ≤ n (get_or xs at e) → IsFirstBehind n xs from end limit at
+  below-found end at e so_far low inside high behind = record {
+    low = low;
+    high = omega arith;
+    before = so_far.below;
+    at = λ d less. omega (arith, behind, ap n (get_or_default xs at d e (omega arith)));
+  }
+
+  pub below-ends : (end : ℕ) → AreBelow end → from ≤ end → IsFirstBehind n xs from end limit end
+  below-ends end so_far low = record { low = low; high = omega arith; before = so_far.below; at = λ d less. absurd (omega arith) }

@@ -27,8 +27,22 @@ fn near_end(from: usize, end: usize) -> usize
     if end - from > NEAR { from + NEAR } else { end }
 }
 
-// The first row between two places that begins above an offset; `end` where none does.
-fn first_above(rows: &[LineRow], from: usize, end: usize, offset: u64) -> usize
+// The first row between two places that begins above an offset; `end` where none does. Row by row.
+fn above_by_steps(rows: &[LineRow], from: usize, end: usize, offset: u64) -> usize
+    requires low { from ≤ end }
+    requires high { end ≤ length rows.now }
+    ensures { IsFirstBehind (λ r. r.offset) rows.now from end (offset + 1) result }
+{
+    for at in from..end {
+        if rows[at].offset > offset {
+            return at;
+        }
+    }
+    end
+}
+
+// The same by halves.
+fn above_by_halves(rows: &[LineRow], from: usize, end: usize, offset: u64) -> usize
     requires low { from ≤ end }
     requires high { end ≤ length rows.now }
     requires order { IsNonDecreasingBy (λ r. r.offset) rows.now }
@@ -44,12 +58,12 @@ fn count_at(rows: &[LineRow], known: usize, offset: u64) -> usize
     requires below { (d : LineRow) → (slice_index_or rows.now known d).offset ≤ offset }
     ensures { IsCut rows.now offset result }
 {
-    let near = near_end(known, rows.len());
-    let found = first_above(rows, known, near, offset);
+    let near = near_end(known + 1, rows.len());
+    let found = above_by_steps(rows, known + 1, near, offset);
     if found < near {
         return found;
     }
-    first_above(rows, near, rows.len(), offset)
+    above_by_halves(rows, near, rows.len(), offset)
 }
 
 // Whether a source lies in front of a row of a segment that begins at `start`.
@@ -67,11 +81,31 @@ fn first_behind(sources: &[AddressMap], from: usize, end: usize, start: u64, off
     ensures { IsFirstBehind (λ s. s.wasm) sources.now from end (start + offset) result }
 {
     let near = near_end(from, end);
-    let found = behind_by_halves(sources, from, near, start, offset);
+    let found = behind_by_steps(sources, from, near, start, offset);
     if found < near {
         return found;
     }
     behind_by_halves(sources, near, end, start, offset)
+}
+
+// The same source by source.
+fn behind_by_steps(
+    sources: &[AddressMap],
+    from: usize,
+    end: usize,
+    start: u64,
+    offset: u64,
+) -> usize
+    requires low { from ≤ end }
+    requires high { end ≤ length sources.now }
+    ensures { IsFirstBehind (λ s. s.wasm) sources.now from end (start + offset) result }
+{
+    for at in from..end {
+        if !lies_before(&sources[at], start, offset) {
+            return at;
+        }
+    }
+    end
 }
 
 // The same by halves.

@@ -3,7 +3,7 @@ use Rattle.std.specs.Prelude.{nat_lt}
 use Rattle.std.proofs.lemmas.List.Sorted.{IsPartitionPoint-from_clause}
 use Rattle.dwc_image.specs.RunRows.{RisesBetween}
 use Rattle.dwc_image.proofs.RunLaws.{part-split, first-behind}
-use Rattle.dwc_image.proofs.image.first_above.Goals as goal
+use Rattle.dwc_image.proofs.image.above_by_halves.Goals as goal
 
 pub returns : goal.returns
 returns c =

@@ -1,0 +1,7 @@
+use Rattle.std.proofs.Common.{◌+◌}
+use Rattle.dwc_image.proofs.RunLaws.{AreBelow}
+use Rattle.dwc_image.proofs.image.behind_by_steps.Given as goal
+
+-- those so far are below the limit
+abbrev pub invariant-loop-at : goal.invariant-loop-at
+invariant-loop-at l = AreBelow (λ s. s.wasm) l.sources l.from (l.start + l.offset) l.at
