@@ -1,6 +1,7 @@
 pub mod KeptLaws
 pub mod MarkLaws
 pub mod NumberLaws
+pub mod BlockLaws
 pub mod NumberedGoals
 pub mod PartWalks
 pub mod KeptNumbers

@@ -1,10 +1,8 @@
 -- Numbers of entries by their offsets, and the lists of parts.
 use Rattle.std.proofs.Common.{◌≡◌, ℕ, zero, suc, ◌+◌, ◌<◌, ◌≤◌, ◌⊎◌, ◌≢◌, List, [], ◌∷◌, length, get_or, drop, refl, ap, sym, ◌∙◌, inl, inr, arith, Bool, true, false, cond, Some, None}
-use Rattle.std.specs.Prelude.{◌==◌, not, nat_lt}
+use Rattle.std.specs.Prelude.{◌==◌, not}
 use Rattle.std.specs.List.{position_from}
-use Rattle.std.specs.List.Sorted.{IsNonDecreasingBy, IsPartitionPoint}
-use Rattle.std.proofs.lemmas.Bool.{eqb-true, eqb-false, eq-eqb, ne_eqb, ltb-true, ltb-false, and_parts, not-true, cases_order}
-use Rattle.std.proofs.lemmas.List.{get_or_default}
+use Rattle.std.proofs.lemmas.Bool.{eqb-true, eqb-false, eq-eqb, ne_eqb, and_parts, not-true, cases_order}
 use Rattle.dwc_kept.specs.declared.graph_entry.GraphEntry.{GraphEntry}
 use Rattle.dwc_kept.specs.GraphEntries.{no_entry, entry, targets_start, is_part_number, IsLink, AreRising, AreLinked, number_at, parts_below}
 
@@ -24,7 +22,7 @@ module _ {A : Type 0} (t : A → Bool) where
   from-some i j zero d (x ∷ xs) e less is before = ap (λ b. cond b (Some i) (position_from t (i + 1) xs)) is ∙ ap Some (omega (arith, e))
   from-some i j (suc k) d (x ∷ xs) e less is before = ap (λ b. cond b (Some i) (position_from t (i + 1) xs)) (before 0 (omega arith)) ∙ from-some (i + 1) j k d xs (omega (arith, e)) (omega (arith, less)) is (λ m a. before (suc m) (omega (arith, a)))
 
-  from-none : (i : ℕ) (d : A) (xs : List A) → ((m : ℕ) → m < length xs → t (get_or xs m d) ≡ false) → position_from t i xs ≡ None
+  pub from-none : (i : ℕ) (d : A) (xs : List A) → ((m : ℕ) → m < length xs → t (get_or xs m d) ≡ false) → position_from t i xs ≡ None
   from-none i d [] none = refl
   from-none i d (x ∷ xs) none = ap (λ b. cond b (Some i) (position_from t (i + 1) xs)) (none 0 (omega arith)) ∙ from-none (i + 1) d xs (λ m a. none (suc m) (omega (arith, a)))
 
@@ -43,24 +41,6 @@ module _ (es : List GraphEntry) (rising : AreRising es) where
 
   pub number-some : (offset i : ℕ) → i < length es → (entry es i).offset ≡ offset → number_at es offset ≡ Some i
   number-some offset i less is = from-some (λ e. e.offset == offset) 0 i i no_entry es (omega arith) less (eq-eqb _ offset is) (λ m a. ne_eqb (entry es m).offset offset (λ e. absurd (omega (arith, e, is, rising m i a less))))
-
-  pub offsets-order : IsNonDecreasingBy (λ e. e.offset) es
-  offsets-order i j d le less = go (cases_order i j)
-    where
-      go : (i ≡ j) ⊎ ((i < j) ⊎ (j < i)) → (get_or es i d).offset ≤ (get_or es j d).offset
-      go (inl e) = omega (arith, ap (λ k. (get_or es k d).offset) e)
-      go (inr (inl below)) = omega (arith, rising i j below less, ap (λ e. e.offset) (get_or_default es i d no_entry (omega (arith, le, less))), ap (λ e. e.offset) (get_or_default es j d no_entry less))
-      go (inr (inr above)) = absurd (omega (arith, above, le))
-
-  pub number-none : (offset i : ℕ) → IsPartitionPoint (λ y. nat_lt y.offset offset ≡ true) (λ y. nat_lt y.offset offset ≡ false) es i → (i < length es → (entry es i).offset ≢ offset) → number_at es offset ≡ None
-  number-none offset i at differs = from-none (λ e. e.offset == offset) 0 no_entry es (λ m a. ne_eqb (entry es m).offset offset (λ e. absurd (go m a e (cases_order m i))))
-    where
-      go : (m : ℕ) → m < length es → (entry es m).offset ≡ offset → (m ≡ i) ⊎ ((m < i) ⊎ (i < m)) → ⊥
-      go m a e (inl same) = differs (omega (arith, a, same)) (ap (λ k. (entry es k).offset) (sym same) ∙ e)
-      go m a e (inr (inl below)) = absurd (omega (arith, e, ltb-true _ offset (at.0 m no_entry (omega arith) below)))
-      go m a e (inr (inr above)) =
-          let here : offset ≤ (entry es i).offset = ltb-false _ offset (at.1 i no_entry (omega arith) (omega (arith, a, above))) in
-          absurd (omega (arith, e, here, rising i m above a))
 
 -- ---- parts
 

@@ -1,5 +1,5 @@
 -- How a graph keeps its entries.
-use Rattle.std.specs.Prelude.{◌≡◌, ◌⊎◌, ℕ, zero, suc, ◌<◌, ◌≤◌, ◌^◌, ◌==◌, List, [], ◌∷◌, ◌++◌, length, get_or, drop, set, Bool, false, true, not, ◌&&◌, if◌then◌else◌, Option, Some, None, filter_map}
+use Rattle.std.specs.Prelude.{◌≡◌, ◌⊎◌, ℕ, zero, suc, ◌*◌, ◌<◌, ◌≤◌, ◌^◌, ◌==◌, List, [], ◌∷◌, ◌++◌, length, get_or, drop, set, Bool, false, true, not, ◌&&◌, if◌then◌else◌, Option, Some, None, filter_map}
 use Rattle.std.specs.List.{slice_range, position_from}
 use Rattle.dwc_kept.specs.declared.graph_entry.GraphEntry.{GraphEntry}
 use Rattle.dwc_kept.specs.EntryGraphs.{Node, is_marked}
@@ -44,6 +44,23 @@ pub record IsLink (es : List GraphEntry) (p bound link : ℕ) : Type 0 where
 -- entries stand in file order
 abbrev pub AreRising : List GraphEntry → Type 0
 AreRising es = (i j : ℕ) → i < j → j < length es → (entry es i).offset < (entry es j).offset
+
+-- the number of the first entry that stands at an offset or behind it
+pub record IsFirstFrom (es : List GraphEntry) (offset number : ℕ) : Type 0 where
+  pub high : number ≤ length es
+  pub below : (k : ℕ) → k < number → (entry es k).offset < offset
+  pub above : (k : ℕ) → number ≤ k → k < length es → offset ≤ (entry es k).offset
+
+-- The first entries of blocks of 32 bytes; a block behind the last one has none.
+pub record AreFirsts (es : List GraphEntry) (firsts : List ℕ) : Type 0 where
+  pub first : (b : ℕ) → IsFirstFrom es (b * 32) (get_or firsts b (length es))
+
+-- each block that had none, up to one, now has a number
+pub record HasFirsts (block number : ℕ) (before after : List ℕ) : Type 0 where
+  pub longer : length before ≤ length after
+  pub same : (b d : ℕ) → b < length before → get_or after b d ≡ get_or before b d
+  pub filled : (b d : ℕ) → length before ≤ b → b < length after → (b ≤ block) × (get_or after b d ≡ number)
+  pub enough : block < length after
 
 -- Entries stand behind their parents, and their parts are linked.
 pub record AreLinked (es : List GraphEntry) : Type 0 where

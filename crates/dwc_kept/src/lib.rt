@@ -3,6 +3,7 @@
 #![tactic(auto)]
 
 mod begun;
+mod blocks;
 mod graph;
 mod graph_entry;
 mod kept;

@@ -1,8 +1,9 @@
 //! Marks numbers of entries, and keeps those that are marked in a list of work to do.
 ghost use Rattle.std.specs.Prelude.{◌≡◌, ◌<◌, ◌≤◌, ◌^◌, length, drop, suc, replicate, false, [], OnOk, IfOk, filter_map};
 ghost use Rattle.dwc_kept.specs.EntryGraphs.{AreLeastMarks};
-ghost use Rattle.dwc_kept.specs.GraphEntries.{mark as mark_one, mark_all, number_at, parts_below, kept_numbers, numbers_from, targets_of, targets_start, AreRising, AreLinked, HaveTargets, AreEntries, nodes_seen};
+ghost use Rattle.dwc_kept.specs.GraphEntries.{mark as mark_one, mark_all, number_at, parts_below, kept_numbers, numbers_from, targets_of, targets_start, AreRising, AreFirsts, AreLinked, HaveTargets, AreEntries, nodes_seen};
 
+use crate::blocks::{firsts_of_blocks, number_of};
 use crate::graph_entry::GraphEntry;
 use std::alloc::{AllocError, Global};
 
@@ -19,32 +20,21 @@ fn mark(marks: &mut [bool], queue: &mut Vec<u32>, number: u32) -> Result<(), All
     Ok(())
 }
 
-// The number of the entry at an offset.
-fn number_of(entries: &[GraphEntry], offset: u32) -> Option<u32>
-    requires { AreRising entries.now }
-    ensures { result ≡ number_at entries.now offset }
-{
-    let place = entries.partition_point(|entry| entry.offset < offset);
-    if place < entries.len() && entries[place].offset == offset {
-        Some(place as u32)
-    } else {
-        None
-    }
-}
-
 // Marks the entries at some offsets.
 fn mark_targets(
     entries: &[GraphEntry],
+    firsts: &[u32],
     targets: &[u32],
     marks: &mut [bool],
     queue: &mut Vec<u32>,
 ) -> Result<(), AllocError>
     requires rising { AreRising entries.now }
+    requires firsts { AreFirsts entries.now firsts.now }
     requires counted { length marks.old ≡ length entries.now }
     ensures { OnOk result (record { marks = marks.new; queue = queue.new.items } ≡ mark_all (filter_map (number_at entries.now) targets.now) (record { marks = marks.old; queue = queue.old.items })) }
 {
     for target in targets {
-        if let Some(number) = number_of(entries, *target) {
+        if let Some(number) = number_of(entries, firsts, *target) {
             mark(marks, queue, number)?;
         }
     }
@@ -96,19 +86,21 @@ fn targets_at<'t>(entries: &[GraphEntry], targets: &'t [u32], number: usize) -> 
 // Marks what an entry keeps.
 fn mark_kept(
     entries: &[GraphEntry],
+    firsts: &[u32],
     targets: &[u32],
     number: u32,
     marks: &mut [bool],
     queue: &mut Vec<u32>,
 ) -> Result<(), AllocError>
     requires entries { AreEntries entries.now (length targets.now) }
+    requires firsts { AreFirsts entries.now firsts.now }
     requires counted { length marks.old ≡ length entries.now }
     requires inside { number < length entries.now }
     ensures { OnOk result (record { marks = marks.new; queue = queue.new.items } ≡ mark_all (kept_numbers entries.now targets.now number) (record { marks = marks.old; queue = queue.old.items })) }
 {
     mark(marks, queue, entries[number as usize].parent)?;
     let named = targets_at(entries, targets, number as usize);
-    mark_targets(entries, named, marks, queue)?;
+    mark_targets(entries, firsts, named, marks, queue)?;
     mark_parts(entries, number, marks, queue)?;
     Ok(())
 }
@@ -134,12 +126,14 @@ fn mark_required(
 // Marks the least set of entries that holds the required ones and what its entries keep.
 fn mark_least(
     entries: &[GraphEntry],
+    firsts: &[u32],
     targets: &[u32],
     required: &[bool],
     marks: &mut [bool],
     queue: &mut Vec<u32>,
 ) -> Result<(), AllocError>
     requires entries { AreEntries entries.now (length targets.now) }
+    requires firsts { AreFirsts entries.now firsts.now }
     requires each { length required.now ≡ length entries.now }
     requires unmarked { marks.old ≡ replicate (length entries.now) false }
     requires empty { queue.old.items ≡ [] }
@@ -149,7 +143,7 @@ fn mark_least(
     let mut done = 0;
     while done < queue.len() {
         let number = queue[done];
-        mark_kept(entries, targets, number, marks, queue)?;
+        mark_kept(entries, firsts, targets, number, marks, queue)?;
         done += 1;
     }
     Ok(())
@@ -170,8 +164,9 @@ pub(crate) fn least_marks(
     requires each { length required.now ≡ length entries.now }
     ensures { IfOk result (λ marks. AreLeastMarks (nodes_seen 0 entries.now targets.now) required.now marks.items) }
 {
+    let firsts = firsts_of_blocks(alloc, entries)?;
     let mut marks = vec![in alloc; false; entries.len()]?;
     let mut queue = Vec::new(alloc);
-    mark_least(entries, targets, required, &mut marks, &mut queue)?;
+    mark_least(entries, &firsts, targets, required, &mut marks, &mut queue)?;
     Ok(marks)
 }
