@@ -244,9 +244,6 @@ module _ {X : Type 0} (n : X → ℕ) (xs : List X) (from limit : ℕ) where
   pub record AreBelow (at : ℕ) : Type 0 where
     pub below : (k : ℕ) (d : X) → from ≤ k → k < at → n (get_or xs k d) < limit
 
-  pub below-begins : AreBelow from
-  below-begins = record { below = λ k d a b. absurd (omega arith) }
-
   pub below-more : (at : ℕ) (e : X) → AreBelow at → at < length xs → n (get_or xs at e) < limit → AreBelow (at + 1)
   below-more at e so_far inside less = record { below = λ k d a b. go k d a b (cases_lt k at) }
     where

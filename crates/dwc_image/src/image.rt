@@ -1,7 +1,7 @@
 //! The rows of an image: for each recorded source of a function that finds another row of a segment than the one before, that
-//! row, at the source's code. The sources are a few runs along which they do not fall, so in each run the sources that find
-//! another row are themselves found by halves: the work is that of the runs and the rows written, not of all sources. Each
-//! row goes into the line program as it is found; the first begins the sequence.
+//! row, at the source's code. The sources are a few runs along which they do not fall, so in each run the next source that finds
+//! another row is itself looked for, among the next few and then by halves: the work is that of the runs and the rows written,
+//! not of all sources. Each row goes into the line program as it is found; the first begins the sequence.
 ghost use Rattle.std.specs.Prelude.{◌≡◌, ℕ, List, Option, Some, ◌++◌, ◌+◌, ◌<◌, ◌≤◌, false, length, map, drop, nat_lt, slice_index_or, None, OnOk, IfOk, IsOkUnless, IsSome};
 ghost use Rattle.std.specs.List.Sorted.{IsNonDecreasingBy};
 ghost use Rattle.dwc_base.specs.declared.records.LineRow.{LineRow};
@@ -15,7 +15,7 @@ use dwc_base::{Address, LineRow};
 use dwc_write::{LineProgram, WriteError};
 use std::ops::Range;
 
-// How many items next to a place are searched before those behind them: most searches end there.
+// How many items next to a place are looked at one by one before those behind them are searched: most searches end there.
 const NEAR: usize = 8;
 
 // The end of the items next to a place.
@@ -53,6 +53,20 @@ fn above_by_halves(rows: &[LineRow], from: usize, end: usize, offset: u64) -> us
 
 // How many rows do not begin above an offset, by a row that does not.
 fn count_at(rows: &[LineRow], known: usize, offset: u64) -> usize
+    requires order { IsNonDecreasingBy (λ r. r.offset) rows.now }
+    requires known { known < length rows.now }
+    requires below { (d : LineRow) → (slice_index_or rows.now known d).offset ≤ offset }
+    ensures { IsCut rows.now offset result }
+{
+    let next = known + 1;
+    if next < rows.len() && rows[next].offset > offset {
+        return next;
+    }
+    count_behind(rows, known, offset)
+}
+
+// The same by a search.
+fn count_behind(rows: &[LineRow], known: usize, offset: u64) -> usize
     requires order { IsNonDecreasingBy (λ r. r.offset) rows.now }
     requires known { known < length rows.now }
     requires below { (d : LineRow) → (slice_index_or rows.now known d).offset ≤ offset }
