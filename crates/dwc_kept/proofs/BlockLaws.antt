@@ -15,9 +15,6 @@ pub record HasFirstsSoFar (block number : ℕ) (before after : List ℕ) : Type 
   pub filled : (b d : ℕ) → length before ≤ b → b < length after → (b ≤ block) × (get_or after b d ≡ number)
 
 module _ (block number : ℕ) (before : List ℕ) where
-  pub firsts-begin : HasFirstsSoFar block number before before
-  firsts-begin = record { longer = omega arith; same = λ b d less. refl; filled = λ b d le less. absurd (omega arith) }
-
   last-of : (xs : List ℕ) (x d : ℕ) → get_or (xs ++ x ∷ []) (length xs) d ≡ x
   last-of [] x d = refl
   last-of (y ∷ xs) x d = last-of xs x d
@@ -52,9 +49,6 @@ module _ (es : List GraphEntry) where
   pub record FirstsSoFar (i : ℕ) (firsts : List ℕ) : Type 0 where
     pub first : (b d : ℕ) → b < length firsts → IsFirstFrom es (b * 32) (get_or firsts b d)
     pub behind : (b k : ℕ) → length firsts ≤ b → k < i → (entry es k).offset < b * 32
-
-  pub so_far-begins : FirstsSoFar 0 []
-  so_far-begins = record { first = λ b d less. absurd (omega arith); behind = λ b k le less. absurd (omega arith) }
 
   pub so_far-more : AreRising es → (i block : ℕ) (before after : List ℕ) → i < length es → block * 32 ≤ (entry es i).offset → (entry es i).offset < (block + 1) * 32 → FirstsSoFar i before → HasFirsts block i before after → FirstsSoFar (i + 1) after
   so_far-more rising i block before after inside low high h has = record { first = λ b d less. first b d less (cases_lt b (length before)); behind = λ b k le less. behind b k le (cases_order k i) less }
@@ -106,9 +100,6 @@ stands-between es firsts offset block k h low high inside is = (from (cases_lt k
 -- no entry from one number on and in front of another stands at an offset
 pub record IsNoneFrom (es : List GraphEntry) (offset first at : ℕ) : Type 0 where
   pub none : (k : ℕ) → first ≤ k → k < at → (entry es k).offset ≢ offset
-
-pub none-begins : (es : List GraphEntry) (offset first : ℕ) → IsNoneFrom es offset first first
-none-begins es offset first = record { none = λ k low high is. absurd (omega arith) }
 
 pub none-more : (es : List GraphEntry) (offset first at : ℕ) → IsNoneFrom es offset first at → (entry es at).offset ≢ offset → IsNoneFrom es offset first (at + 1)
 none-more es offset first at h differs = record { none = λ k low high is. go k low high is (cases_lt k at) }

@@ -1,6 +1,6 @@
 use Rattle.std.proofs.Common.{arith, ◌/◌}
 use Rattle.dwc_kept.specs.GraphEntries.{entry}
-use Rattle.dwc_kept.proofs.BlockLaws.{so_far-begins, so_far-more, so_far-ends}
+use Rattle.dwc_kept.proofs.BlockLaws.{so_far-more, so_far-ends}
 use Rattle.dwc_kept.proofs.blocks.firsts_of_blocks.Goals as goal
 
 pub loop-i-preserved : goal.loop-i-preserved

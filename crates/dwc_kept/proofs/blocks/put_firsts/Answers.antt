@@ -1,5 +1,5 @@
 use Rattle.std.proofs.Common.{arith, subst, sym}
-use Rattle.dwc_kept.proofs.BlockLaws.{HasFirstsSoFar, firsts-begin, firsts-more, firsts-end}
+use Rattle.dwc_kept.proofs.BlockLaws.{HasFirstsSoFar, firsts-more, firsts-end}
 use Rattle.dwc_kept.proofs.blocks.put_firsts.Goals as goal
 
 pub loop-firsts-preserved : goal.loop-firsts-preserved
