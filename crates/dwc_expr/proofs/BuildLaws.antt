@@ -44,14 +44,14 @@ module _ (functions : List Function) (frame : Option Frame) (registers : Registe
   abbrev needed : List ℕ
   needed = filter_map label_needed (built_parts x)
 
-  refused : (r : BuildRefusal) → first_of (build_refusals s scope x) ≡ Some r → built_on_ranges s scope x ≡ Err r
+  pub refused : (r : BuildRefusal) → first_of (build_refusals s scope x) ≡ Some r → built_on_ranges s scope x ≡ Err r
   refused r is = rw (is, built_on_ranges) refl
 
-  nothing-refused : first_of (build_refusals s scope x) ≡ None → built_on_ranges s scope x ≡ Ok (record { expressions = map (built_on s x) (label_ranges frame needed scope); covers_entire_scope = all_bytes_placed frame needed scope })
+  pub nothing-refused : first_of (build_refusals s scope x) ≡ None → built_on_ranges s scope x ≡ Ok (record { expressions = map (built_on s x) (label_ranges frame needed scope); covers_entire_scope = all_bytes_placed frame needed scope })
   nothing-refused is = rw (is, built_on_ranges) refl
 
   -- the three kinds of refusals in their order
-  in-order : first_of (build_refusals s scope x)
+  pub in-order : first_of (build_refusals s scope x)
       ≡ option_or (first_of (filter_map (label_refusal frame) needed)) (option_or (first_of (flat_map (λ r. place_refusals x (setting_at s r)) (label_ranges frame needed scope))) (first_of (flat_map (λ r. jump_refusals x (setting_at s r)) (label_ranges frame needed scope))))
   in-order =
       let places = flat_map (λ r. place_refusals x (setting_at s r)) (label_ranges frame needed scope) in

@@ -71,7 +71,7 @@ and-true true = refl
 and-true false = refl
 
 -- no label: each byte has all places
-all-placed-none : (frame : Option Frame) (scope : List NativeRange) → all_bytes_placed frame [] scope ≡ true
+pub all-placed-none : (frame : Option Frame) (scope : List NativeRange) → all_bytes_placed frame [] scope ≡ true
 all-placed-none frame scope = true-all (λ r. list_all (all_placed frame [] r.function) (bytes_of r)) scope (λ r i. true-bytes (all_placed frame [] r.function) r (λ b from to. refl))
 
 pub begins-given :

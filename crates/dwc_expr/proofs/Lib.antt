@@ -1,3 +1,4 @@
+pub mod AloneLaws
 pub mod BuildLaws
 pub mod CodeLaws
 mod CompileLaws

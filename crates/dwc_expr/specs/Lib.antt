@@ -1,4 +1,5 @@
 pub mod Actions
+pub mod Alone
 pub mod Builds
 pub mod CodeRanges
 pub mod Compiles

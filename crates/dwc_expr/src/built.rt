@@ -1,8 +1,9 @@
 //! Builds expressions over scopes.
-ghost use Rattle.std.specs.Prelude.{◌≡◌, true, map, option_map};
+ghost use Rattle.std.specs.Prelude.{◌≡◌, ◌∷◌, [], true, map, option_map};
 ghost use Rattle.dwc_base.specs.BuiltExpressions.{built_over, built_on_ranges};
 ghost use Rattle.dwc_base.specs.Parts.{CompiledParts, single_code as code_alone};
 ghost use Rattle.dwc_base.specs.Placed.{built_parts, scope_ranges};
+ghost use Rattle.dwc_expr.specs.Alone.{lone_part};
 ghost use Rattle.dwc_expr.specs.Builds.{surroundings, Builds};
 ghost use Rattle.dwc_expr.specs.LabelRanges.{has_interval};
 ghost use Rattle.dwc_expr.specs.PartViews.{part_view};
@@ -10,8 +11,9 @@ ghost use Rattle.dwc_expr.specs.NeededLabels.{numbers, HaveSameFirsts};
 ghost use Rattle.dwc_expr.specs.PartsToBuild.{all_parts, labels_needed};
 ghost use Rattle.dwc_expr.specs.WholeParts.{JumpsLand};
 
+use crate::alone::{LoneLocal, build_alone, one_range};
 use crate::copies::copied;
-use crate::labels::{lone_label, needed_labels, ranges_of_labels};
+use crate::labels::{lone_local, needed_labels, ranges_of_labels};
 use crate::on_ranges::expressions_on;
 use crate::parts_to_build::{PartsToBuild, reads_memory};
 use crate::places::{check_places, lacks_memory};
@@ -98,11 +100,41 @@ fn build_parts(
     requires lands { JumpsLand (map part_view parts.now.parts.now) }
     ensures { (x : CompiledParts) → built_parts x ≡ all_parts parts.now → Builds (built_on_ranges (surroundings addr_tr.now (option_map (λ f. f.now) frame_info.entry) (dwarf_registers isa.now)) (scope_ranges addr_tr.now scope.now) x) result }
 {
-    if let Some(label) = lone_label(parts) {
-        return build_on_labels(alloc, parts, &[label], scope, addr_tr, frame_info, isa);
+    if let Some(local) = lone_local(parts) {
+        return build_local(alloc, parts, local, scope, addr_tr, frame_info, isa);
     }
     let labels = needed_labels(alloc, parts)?;
     build_on_labels(alloc, parts, &labels, scope, addr_tr, frame_info, isa)
+}
+
+// What parts that are one local alone become over a scope that has an interval. Most scopes have one range of native code.
+fn build_local(
+    alloc: Global,
+    parts: &PartsToBuild<'_>,
+    local: LoneLocal,
+    scope: &[(u64, u64)],
+    addr_tr: &AddressTransform,
+    frame_info: Option<&FunctionFrameInfo<'_>>,
+    isa: &dyn TargetIsa,
+) -> Result<BuiltCompiledExpression, ExprError>
+    requires part { all_parts parts.now ≡ lone_part local ∷ [] }
+    requires label { labels_needed parts.now ≡ local.label.0 ∷ [] }
+    requires scope { has_interval scope.now ≡ true }
+    requires lands { JumpsLand (map part_view parts.now.parts.now) }
+    ensures { (x : CompiledParts) → built_parts x ≡ all_parts parts.now → Builds (built_on_ranges (surroundings addr_tr.now (option_map (λ f. f.now) frame_info.entry) (dwarf_registers isa.now)) (scope_ranges addr_tr.now scope.now) x) result }
+{
+    match one_range(scope, addr_tr) {
+        Some(range) => build_alone(alloc, local, range, frame_info, isa),
+        None => build_on_labels(
+            alloc,
+            parts,
+            &[local.label],
+            scope,
+            addr_tr,
+            frame_info,
+            isa,
+        ),
+    }
 }
 
 // What parts that need some labels become over a scope that has an interval.

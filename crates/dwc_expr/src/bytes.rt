@@ -228,7 +228,7 @@ pub(crate) fn put_dereference_if(
 }
 
 // The value of a label by its place, or, trailing, the place.
-fn put_local(
+pub(crate) fn put_local(
     out: &mut Vec<u8>,
     place: LabelValueLoc,
     trailing: bool,

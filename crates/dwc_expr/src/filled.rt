@@ -41,7 +41,7 @@ pub(crate) fn are_filled(
 }
 
 // The piece with the last byte of a range, of those from one on, where each byte of the range is in a piece.
-fn last_in(range: CodeRange, pieces: &[ValueLocRange], first: usize) -> Option<usize>
+pub(crate) fn last_in(range: CodeRange, pieces: &[ValueLocRange], first: usize) -> Option<usize>
     requires flat { IsFlat (map range_view pieces.now) }
     requires some { range.start < range.end }
     requires inside { first ≤ length pieces.now }

@@ -9,8 +9,10 @@ ghost use Rattle.dwc_expr.specs.LabelRanges.{gathered_of, HasPlaces};
 ghost use Rattle.dwc_expr.specs.NarrowedRanges.{Gives};
 ghost use Rattle.dwc_expr.specs.NeededLabels.{numbers, GivesLabelRanges, HaveSameFirsts, IsSetOf};
 ghost use Rattle.dwc_expr.specs.PartViews.{part_view};
+ghost use Rattle.dwc_expr.specs.Alone.{lone_part};
 ghost use Rattle.dwc_expr.specs.PartsToBuild.{all_parts, labels_needed};
 
+use crate::alone::LoneLocal;
 use crate::label_ranges::has_interval;
 use crate::narrowed::narrowed;
 use crate::native::native_ranges;
@@ -22,15 +24,19 @@ use dwc_clif::{ValueLabel, get_vmctx_value_label};
 use std::alloc::{AllocError, Global};
 use std::collections::BTreeSet;
 
-// The label that parts need, where they are one local alone. None where it is not so.
-pub(crate) fn lone_label(parts: &PartsToBuild<'_>) -> Option<ValueLabel>
-    ensures { IfSome result (λ label. labels_needed parts.now ≡ label.0 ∷ []) }
+// The local that parts are alone; None where they are not.
+pub(crate) fn lone_local(parts: &PartsToBuild<'_>) -> Option<LoneLocal>
+    ensures part { IfSome result (λ local. all_parts parts.now ≡ lone_part local ∷ []) }
+    ensures label { IfSome result (λ local. labels_needed parts.now ≡ local.label.0 ∷ []) }
 {
     if parts.then_dereference {
         return None;
     }
     match parts.parts {
-        [CompiledExpressionPart::Local { label, .. }] => Some(*label),
+        [CompiledExpressionPart::Local { label, trailing }] => Some(LoneLocal {
+            label: *label,
+            trailing: *trailing,
+        }),
         _ => None,
     }
 }

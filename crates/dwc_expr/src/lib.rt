@@ -3,6 +3,7 @@
 #![tactic(auto)]
 
 mod action;
+mod alone;
 mod built;
 mod bytes;
 mod cached_range;

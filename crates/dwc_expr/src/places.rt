@@ -50,7 +50,7 @@ fn check_places_on(
     Ok(())
 }
 
-fn check_place(place: LabelValueLoc, isa: &dyn TargetIsa) -> Result<(), ExprError>
+pub(crate) fn check_place(place: LabelValueLoc, isa: &dyn TargetIsa) -> Result<(), ExprError>
     ensures { Checks (option_to_list (register_refusal_at (λ r. finite.get (dwarf_registers isa.now) r) (Some (place_view place)))) result }
 {
     if let LabelValueLoc::Reg(register) = place
