@@ -1,5 +1,5 @@
 -- What a local alone becomes on the parts of one range.
-use Rattle.std.proofs.Common.{◌≡◌, ℕ, ◌<◌, ◌≤◌, List, [], ◌∷◌, ◌++◌, map, Bool, true, false, ◌&&◌, if◌then◌else◌, Option, Some, None, option_map, option_to_list, filter_map, flat_map, Result, Ok, Err, Bor, All, append-nil, append_assoc, refl, ap, sym, subst, ◌∙◌, inl, inr, arith}
+use Rattle.std.proofs.Common.{◌≡◌, ℕ, ◌<◌, List, [], ◌∷◌, ◌++◌, map, Bool, true, false, ◌&&◌, if◌then◌else◌, Option, Some, None, option_map, option_to_list, filter_map, flat_map, Result, Ok, Err, Bor, All, append-nil, append_assoc, refl, ap, sym, subst, ◌∙◌, inl, inr, arith}
 use Rattle.std.specs.Prelude.{is_some, nat_lt}
 use Rattle.std.specs.FinMap as finite
 use Rattle.std.specs.List.{cons_option, list_all, list_any}
@@ -12,7 +12,7 @@ use Rattle.dwc_base.specs.BuiltExpressions.{BuildRefusal, Surroundings, BuiltExp
 use Rattle.dwc_base.specs.Compiled.{LabelRange, Memory, Place, in_register, at_frame_offset, no_memory, defined, imported}
 use Rattle.dwc_base.specs.Functions.{Function}
 use Rattle.dwc_base.specs.LabelRanges.{AreMaximal, bytes_of, label_ranges, all_bytes_placed}
-use Rattle.dwc_base.specs.Parts.{Part, CompiledParts, local}
+use Rattle.dwc_base.specs.Parts.{CompiledParts, local}
 use Rattle.dwc_base.specs.Placed.{Frame, NativeRange, built_parts, is_dereference, label_needed, placed, last_place, is_number}
 use Rattle.dwc_base.specs.Refusals.{first_of}
 use Rattle.dwc_base.specs.Runs.{interval_of}
@@ -21,7 +21,6 @@ use Rattle.dwc_base.proofs.InLists.{IsIn}
 use Rattle.dwc_base.proofs.LabelRangeMaximal.{label-ranges-maximal}
 use Rattle.dwc_clif.specs.Registers.{Registers}
 use Rattle.dwc_write.specs.declared.attributes.Expression.{Expression}
-use Rattle.dwc_expr.specs.declared.built.BuiltCompiledExpression.{BuiltCompiledExpression}
 use Rattle.dwc_expr.specs.declared.error.ExprError.{ExprError}
 use Rattle.dwc_expr.specs.declared.frame.FunctionFrameInfo.{FunctionFrameInfo}
 use Rattle.dwc_expr.specs.Alone.{LeadsAlone, lone_location, lone_refusals}

@@ -31,6 +31,7 @@ pub mod RangeLaws
 pub mod RefusalLaws
 pub mod ScopeLaws
 pub mod SettingLaws
+pub mod ShortLaws
 pub mod StayLaws
 mod StepLaws
 mod WholeLaws

@@ -8,6 +8,7 @@ ghost use Rattle.dwc_expr.specs.WholeParts.{JumpsLand};
 use crate::emit::parts_of_steps;
 use crate::landings::landings;
 use crate::part::any_is_jump;
+use crate::short::short_local;
 use crate::step::Step;
 use crate::steps::read_steps;
 use crate::{CompiledExpression, ExprError};
@@ -80,6 +81,23 @@ fn compile_steps(
     }))
 }
 
+// What an expression of any form compiles to, on a frame base that has no jumps.
+fn compile_operations(
+    alloc: Global,
+    bytes: &[u8],
+    encoding: Encoding,
+    frame_base: Option<&CompiledExpression>,
+) -> Result<Option<CompiledExpression>, ExprError>
+    requires free { holds_jump (option_map (λ x. x.now) frame_base) ≡ false }
+    ensures parts { Compiles (compiled (option_map (λ x. x.now) frame_base.entry) bytes.now) result }
+    ensures lands { IfOk result (λ x. IfSome x (λ c. JumpsLand c.parts)) }
+{
+    match read_steps(alloc, bytes, encoding, frame_base.is_some())? {
+        Some(steps) => compile_steps(alloc, frame_base, &steps, bytes.len()),
+        None => Ok(None),
+    }
+}
+
 /// What an expression of the input compiles to, on the frame base in force if there is one: its parts. None where it is not
 /// supported: where it has an operation that is not known, or that tells of the machine that the input was compiled for, a location
 /// in WebAssembly that is no local, a jump out of the expression or into an operation, or an offset from a frame base that is not
@@ -102,8 +120,8 @@ pub fn compile_expression(
     if holds_jump(frame_base) {
         return Ok(None);
     }
-    match read_steps(alloc, bytes, encoding, frame_base.is_some())? {
-        Some(steps) => compile_steps(alloc, frame_base, &steps, bytes.len()),
-        None => Ok(None),
+    match short_local(bytes) {
+        Some(label) => Ok(Some(CompiledExpression::alone(alloc, label)?)),
+        None => compile_operations(alloc, bytes, encoding, frame_base),
     }
 }

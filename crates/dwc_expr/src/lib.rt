@@ -32,6 +32,7 @@ mod places;
 mod rule;
 mod scope;
 mod setting;
+mod short;
 mod step;
 mod steps;
 mod told;

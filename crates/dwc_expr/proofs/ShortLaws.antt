@@ -1,0 +1,56 @@
+-- What the shortest expression of a local compiles to.
+use Rattle.std.proofs.Common.{◌≡◌, ℕ, ◌<◌, List, [], ◌∷◌, true, false, ◌&&◌, if◌then◌else◌, Option, Some, None, is_some, Ok, refl, ap, ◌∙◌, ◌%◌, arith}
+use Rattle.std.specs.List.{list_all}
+use Rattle.std.proofs.lemmas.Bool.{lt-ltb}
+use Rattle.dwc_base.specs.declared.constants.TheConstants.{DW_OP_WASM_location, DW_OP_stack_value}
+use Rattle.dwc_base.specs.declared.records.Endian.TheVariants.{Little}
+use Rattle.dwc_base.specs.Listing.{with_first, no_items}
+use Rattle.dwc_base.specs.Operations.{Operation, bytes_read, index_at, operand_at, operands_at, operation_at, operations, wasm_location_at}
+use Rattle.dwc_base.specs.Parts.{CompiledParts, compiled, compiled_behind, compiled_listing, context_label, holds_jump, is_supported, label_alone}
+use Rattle.dwc_base.specs.Reading.{Unread, ◌>>=◌, seen_as, bytes_at, number_at, uleb_at, uleb_value, uleb_with}
+use Rattle.dwc_base.specs.Values.{sized_number_at}
+use Rattle.dwc_base.proofs.LebLaws.{uleb_at-fits}
+use Rattle.dwc_tabs.proofs.OperationLaws.{operations-more, operations-end}
+
+module _ (index : ℕ) (small : index < 128) where
+  abbrev bytes : List ℕ
+  bytes = DW_OP_WASM_location ∷ 0 ∷ index ∷ DW_OP_stack_value ∷ []
+
+  abbrev load : Operation
+  load = record { place = 0; opcode = DW_OP_WASM_location; bytes = DW_OP_WASM_location ∷ 0 ∷ index ∷ []; first = 0; second = index }
+
+  abbrev end : Operation
+  end = record { place = 3; opcode = DW_OP_stack_value; bytes = DW_OP_stack_value ∷ []; first = 0; second = 0 }
+
+  abbrev from : ℕ → List ℕ → Unread
+  from place left = record { order = Little; place = place; left = left }
+
+  index-read : uleb_at (from 2 (index ∷ DW_OP_stack_value ∷ [])) ≡ Ok (index, from 3 (DW_OP_stack_value ∷ []))
+  index-read = uleb_at-fits (from 2 (index ∷ DW_OP_stack_value ∷ [])) index 1 (ap (λ b. if b then Some (index, 1) else uleb_with (index % 128) (uleb_value (DW_OP_stack_value ∷ []))) (lt-ltb index 128 small)) (omega (arith, small))
+
+  location-read : wasm_location_at (from 1 (0 ∷ index ∷ DW_OP_stack_value ∷ [])) ≡ Ok ((0, index), from 3 (DW_OP_stack_value ∷ []))
+  unfolding wasm_location_at index_at operand_at number_at bytes_at sized_number_at
+  location-read = ap (seen_as (λ n. (0, n))) index-read
+
+  load-read : operation_at (from 0 bytes) ≡ Ok (load, from 3 (DW_OP_stack_value ∷ []))
+  unfolding operation_at operands_at number_at bytes_at
+  load-read = ap (λ r. r >>= λ operands. Ok (record { place = 0; opcode = DW_OP_WASM_location; bytes = bytes_read (from 0 bytes) operands.1; first = operands.0.0; second = operands.0.1 }, operands.1)) location-read
+
+  end-read : operation_at (from 3 (DW_OP_stack_value ∷ [])) ≡ Ok (end, from 4 [])
+  unfolding operation_at operands_at number_at bytes_at
+  end-read = refl
+
+  all-read : operations bytes ≡ with_first load (with_first end no_items)
+  all-read =
+      operations-more (from 0 bytes) (from 3 (DW_OP_stack_value ∷ [])) load load-read
+      ∙ ap (with_first load) (operations-more (from 3 (DW_OP_stack_value ∷ [])) (from 4 []) end end-read ∙ ap (with_first end) (operations-end (from 4 []) refl))
+
+  supported : (base : Option CompiledParts) → list_all (is_supported (is_some base) 4) (load ∷ end ∷ []) ≡ true
+  supported base = ap (λ b. b && true) (lt-ltb index context_label (omega (arith, small)))
+
+  pub short-compiled : (base : Option CompiledParts) → holds_jump base ≡ false → compiled base bytes ≡ Ok (Some (label_alone index))
+  unfolding compiled
+  short-compiled base free =
+      ap (λ b. if b then Ok None else compiled_listing base bytes (operations bytes)) free
+      ∙ ap (compiled_listing base bytes) all-read
+      ∙ ap (λ b. if b then compiled_behind base bytes (load ∷ end ∷ []) None else Ok None) (supported base)
