@@ -83,12 +83,12 @@ pub(crate) fn build_alone(
     ensures { (functions : List Function) (x : CompiledParts) → built_parts x ≡ lone_part local ∷ [] → Builds (built_on_ranges (surroundings functions (option_map (λ f. f.now) frame_info.entry) (dwarf_registers isa.now)) (code_range_view range ∷ []) x) result }
 {
     let told = told_ranges(frame_info, local.label);
-    if has_reversed(told) {
-        return Err(ExprError::BadLabelRange { label: local.label });
-    }
     let own = own_function(frame_info);
     if are_flat(told) {
         return build_by(alloc, local, own, told, range, isa);
+    }
+    if has_reversed(told) {
+        return Err(ExprError::BadLabelRange { label: local.label });
     }
     let pieces = flattened(alloc, told)?;
     build_by(alloc, local, own, &pieces, range, isa)

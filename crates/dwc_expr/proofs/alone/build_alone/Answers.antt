@@ -1,11 +1,13 @@
 use Rattle.std.proofs.Common.{◌∙◌, Bor, List, ap, map, option_map, refl, subst, sym}
+use Rattle.std.specs.Prelude.{nat_lt}
+use Rattle.std.specs.List.{list_any}
 use Rattle.dwc_base.specs.Placed.{last_place}
 use Rattle.dwc_clif.specs.ValueLabels.{range_view}
 use Rattle.dwc_clif.specs.declared.value_label.ValueLocRange.{ValueLocRange}
 use Rattle.dwc_expr.specs.declared.frame.FunctionFrameInfo.{FunctionFrameInfo}
 use Rattle.dwc_expr.specs.FlatRanges.{IsFlat}
 use Rattle.dwc_expr.specs.Frames.{frame_view}
-use Rattle.dwc_expr.proofs.AloneLaws.{good-own, tells-own}
+use Rattle.dwc_expr.proofs.AloneLaws.{good-own, none-reversed, tells-own}
 use Rattle.dwc_expr.proofs.alone.build_alone.Goals as goal
 
 pub returns-then-are_flat : goal.returns-then-are_flat
@@ -15,7 +17,7 @@ returns-then-are_flat g c = λ functions x is.
     let told = map range_view c.told_ranges-told.result.now in
     c.build_by.ensures functions (frame_view (option_map (λ (y : Bor FunctionFrameInfo). y.now) f)) x
     (tells-own f label c.own_function-own.result told told c.own_function-own.ensures c.told_ranges-told.ensures (c.are_flat.ensures c.if-are_flat.true) (λ byte. refl))
-    (good-own f label told c.has_reversed.result c.told_ranges-told.ensures c.has_reversed.ensures c.if-has_reversed.false) is
+    (good-own f label told (list_any (λ r. nat_lt r.end r.start) told) c.told_ranges-told.ensures refl (none-reversed told (c.are_flat.ensures c.if-are_flat.true).nonempty)) is
 
 pub returns : goal.returns
 returns g c = λ functions x is.
