@@ -1,7 +1,6 @@
 -- The texts of a module that were read already, by the places where they stand.
-use Rattle.std.specs.Prelude.{◌≡◌, ℕ, ◌<◌, List, length, Option, None, IfSome, Result, Ok, Err}
-use Rattle.std.specs.Ordering.{nat_cmp}
-use Rattle.std.specs.BTreeMap.{get}
+use Rattle.std.specs.Prelude.{◌≡◌, ℕ, nat_eq, ◌<◌, List, length, Option, None, IfSome, Result, Ok, Err}
+use Rattle.std.specs.HashMap.{get}
 use Rattle.dwc_base.specs.declared.faults.Flaw.{Flaw}
 use Rattle.dwc_base.specs.declared.section_name.SectionName.{SectionName}
 use Rattle.dwc_base.specs.declared.section_name.SectionName.TheVariants.{LineStr, Str}
@@ -16,8 +15,8 @@ use Rattle.dwc_clone.specs.declared.known_texts.KnownTexts.{KnownTexts}
 
 -- what is noted of the text at an offset of a section: its number in the table, if it is there
 abbrev pub noted_in : KnownTexts → SectionName → ℕ → Option (Option StringId)
-noted_in known Str offset = get nat_cmp known.strings offset
-noted_in known LineStr offset = get nat_cmp known.line_strings offset
+noted_in known Str offset = get nat_eq known.strings offset
+noted_in known LineStr offset = get nat_eq known.line_strings offset
 noted_in known _ offset = None
 
 abbrev pub noted : KnownTexts → TextPlace → Option (Option StringId)

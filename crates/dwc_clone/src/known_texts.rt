@@ -8,14 +8,14 @@ use dwc_base::SectionName;
 use dwc_read::TextPlace;
 use dwc_write::StringId;
 use std::alloc::{AllocError, Global};
-use std::collections::BTreeMap;
+use std::collections::HashMap;
 
 /// The texts of a module that were read already, by the offset where each stands in `.debug_str` or `.debug_line_str`, with its number in
 /// the table of texts, if it was added there. So a text is read once, however many entries name it.
 #[derive(Drop)]
 pub struct KnownTexts {
-    strings: BTreeMap<u64, Option<StringId>>,
-    line_strings: BTreeMap<u64, Option<StringId>>,
+    strings: HashMap<u64, Option<StringId>>,
+    line_strings: HashMap<u64, Option<StringId>>,
 }
 
 impl KnownTexts {
@@ -24,8 +24,8 @@ impl KnownTexts {
         ensures { (s : Sections) (texts : List (List ℕ)) → KnowsTexts s texts result }
     {
         KnownTexts {
-            strings: BTreeMap::new(alloc),
-            line_strings: BTreeMap::new(alloc),
+            strings: HashMap::new(alloc),
+            line_strings: HashMap::new(alloc),
         }
     }
 
