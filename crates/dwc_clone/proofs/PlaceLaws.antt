@@ -1,11 +1,11 @@
 -- Where entries stand in the output, as a search by halves finds them.
-use Rattle.std.proofs.Common.{subst, ◌≡◌, ℕ, zero, suc, ◌<◌, ◌≤◌, refl, sym, ap, ◌∙◌, arith, List, [], ◌∷◌, ◌++◌, length, get_or, Bool, true, false, Some, None}
+use Rattle.std.proofs.Common.{subst, ◌≡◌, ℕ, zero, suc, ◌<◌, ◌≤◌, ◌-◌, refl, sym, ap, ◌∙◌, arith, List, [], ◌∷◌, ◌++◌, length, get_or, Bool, true, false, Some, None}
 use Rattle.std.specs.Prelude.{◌≢◌, ◌==◌, nat_lt, slice_get, option_and_then}
 use Rattle.std.specs.List.Sorted.{IsNonDecreasingBy, IsPartitionPoint}
-use Rattle.std.proofs.lemmas.Bool.{ne_eqb, ltb-true, ltb-false, eqb-false}
+use Rattle.std.proofs.lemmas.Bool.{ne_eqb, ltb-true, ltb-false, lt-ltb, le-ltb, eqb-false}
 use Rattle.std.proofs.lemmas.List.{get_or-map, length-append, length-map, map-append, get_or_append_left}
 use Rattle.dwc_clone.specs.declared.places.EmittedEntry.{EmittedEntry}
-use Rattle.dwc_clone.specs.OutputPlaces.{numbered, offsets_of, place_at, place_of}
+use Rattle.dwc_clone.specs.OutputPlaces.{AreBefore, numbered, offsets_of, place_at, place_of}
 
 -- whether an entry stands before an offset
 abbrev pub is_before : ℕ → EmittedEntry → Bool
@@ -43,6 +43,17 @@ offsets-rise es rises i j d le less =
     let here = get_or-map (λ (e : EmittedEntry). e.offset) es i d d.offset (omega arith) in
     let there = get_or-map (λ (e : EmittedEntry). e.offset) es j d d.offset less in
     omega (arith, here, there, rises i j d.offset le inside)
+
+-- Behind entries that are before an offset, one that is not is the first that is at it, or none is.
+pub place-behind : (offset : ℕ) (es : List EmittedEntry) (count : ℕ) → ((i j : ℕ) (d : EmittedEntry) → i ≤ j → j < length es → (get_or es i d).offset ≤ (get_or es j d).offset) → AreBefore offset es count
+    → ((d : EmittedEntry) → count < length es → offset ≤ (get_or es count d).offset) → option_and_then (place_at offset) (slice_get es count) ≡ place_of es offset
+place-behind offset es count rises before behind = place-found offset es count before.0 rises (low, high)
+  where
+    low : (k : ℕ) (d : EmittedEntry) → 0 ≤ k → k < count → is_before offset (get_or es k d) ≡ true
+    low k d from less = lt-ltb (get_or es k d).offset offset (omega (arith, rises k (count - 1) d (omega arith) (omega (arith, before.0)), before.1 (count - 1) d (omega arith)))
+
+    high : (k : ℕ) (d : EmittedEntry) → count ≤ k → k < length es → is_before offset (get_or es k d) ≡ false
+    high k d from less = le-ltb (get_or es k d).offset offset (omega (arith, behind d (omega arith), rises count k d from less))
 
 -- ---- entries that are added
 
