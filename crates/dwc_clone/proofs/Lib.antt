@@ -1,5 +1,6 @@
 pub mod ErrorLaws
 pub mod PlaceLaws
+pub mod CodeNameLaws
 pub mod TextLaws
 pub mod ReferenceLaws
 pub mod BegunNumberLaws

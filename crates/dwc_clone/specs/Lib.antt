@@ -1,5 +1,6 @@
 pub mod Errors
 pub mod InputExtents
+pub mod CodeNames
 pub mod Lineages
 pub mod NativeExtents
 pub mod AttributesSeen

@@ -11,6 +11,7 @@ ghost use Rattle.dwc_tabs.specs.RangeEnds.{interval_view};
 ghost use Rattle.dwc_write.specs.Writers.{FitsField};
 ghost use Rattle.dwc_clone.specs.NativeExtents.{FitsExtent, IsExtent, said_by};
 
+use crate::code_names::speaks_of_code;
 use crate::input_extent::{InputExtent, input_extent};
 use crate::ranges::{add_native, native_ranges};
 use dwc_addr::{AddressTransform, translations_are_said};
@@ -107,6 +108,9 @@ pub(crate) fn native_extent(
     ensures says { IfOk result (λ x. said_by (entry_view entry.now).tag x ≡ said_extent transform.now (entry_view entry.now).tag (extent (list_source unit.now.sections unit.now.header) (entry_view entry.now))) }
     ensures fits { IfOk result FitsExtent }
 {
+    if !speaks_of_code(entry) {
+        return Ok(NativeExtent::Nowhere);
+    }
     match input_extent(unit, entry) {
         InputExtent::Listed(list) => listed_extent(alloc, unit, transform, entry.offset, list),
         InputExtent::Bounded(interval) => interval_extent(alloc, transform, interval),

@@ -5,6 +5,7 @@ mod attribute;
 mod begun_numbers;
 mod bounds;
 mod code;
+mod code_names;
 mod compiled_module;
 mod context;
 mod entry;

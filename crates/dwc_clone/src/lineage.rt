@@ -1,14 +1,15 @@
 //! What is in force at an entry: the scope, the frame and the frame base of the nearest of it and its ancestors that gives one. (DWARF 4
 //! and 5, sections 2.6 and 3.3.5.)
-ghost use Rattle.std.specs.Prelude.{◌≡◌, ◌==◌, pos, IfErr, IfSome, IsSome, OnOk, option_map};
+ghost use Rattle.std.specs.Prelude.{◌≡◌, ◌==◌, pos, true, IfErr, IfSome, IsSome, OnOk, option_map};
 ghost use Rattle.dwc_base.specs.Lists.{list_source};
 ghost use Rattle.dwc_base.specs.RangeAttributes.{begun_function};
 ghost use Rattle.dwc_base.specs.Scopes.{left_for, top_of};
 ghost use Rattle.dwc_addr.specs.Transforms.{function_view};
 ghost use Rattle.dwc_read.specs.EntriesSeen.{entry_view};
 ghost use Rattle.dwc_clone.specs.declared.error.CloneError.TheVariants.{OutOfMemory};
-ghost use Rattle.dwc_clone.specs.Lineages.{given_on, no_stacks, stacks_left, stacks_with, with_entry};
+ghost use Rattle.dwc_clone.specs.Lineages.{Stacks, given_on, no_stacks, stacks_left, stacks_with, with_entry};
 
+use crate::code_names::speaks_of_code;
 use crate::given::{base_given, scope_given};
 use crate::{CloneError, CloneSource, InheritedAttr};
 use dwc_addr::FunctionMap;
@@ -48,6 +49,21 @@ fn is_root(entry: &Entry<'_>) -> bool
     ensures { result ≡ ((entry_view entry.now).depth == 0) }
 {
     entry.depth == 0
+}
+
+// Whether an entry gives nothing, as it begins in no function and says nothing of its code.
+fn gives_nothing(
+    source: &CloneSource<'_, '_>,
+    entry: &Entry<'_>,
+    function: Option<&FunctionMap>,
+) -> bool
+    requires begun { option_map (λ f. function_view f.now) function ≡ begun_function (list_source source.now.unit.now.sections source.now.unit.now.header) source.now.transform.now (entry_view entry.now) }
+    ensures { result ≡ true → (old : Stacks) → with_entry (list_source source.now.unit.now.sections source.now.unit.now.header) source.now.transform.now (entry_view entry.now) old ≡ stacks_left (entry_view entry.now).depth old }
+{
+    match function {
+        Some(_) => false,
+        None => !speaks_of_code(entry),
+    }
 }
 
 // Drops from the top of a stack what was given at the depth of an entry or deeper.
@@ -126,6 +142,9 @@ impl Lineage {
     {
         self.leave(entry);
         if is_root(entry) {
+            return Ok(());
+        }
+        if gives_nothing(source, entry, function) {
             return Ok(());
         }
         let scope = scope_given(alloc, source, entry, function)?;
