@@ -8,6 +8,7 @@ ghost use Rattle.dwc_write.specs.UnitViews.{AreApart, IsChanged, IsOpen, additio
 
 use crate::AttributeValue;
 use crate::attributes::{Attribute, Attributes, MANY, place_in};
+use crate::room::reserve_part;
 use std::alloc::{AllocError, Global};
 use std::marker::Model;
 use std::mem;
@@ -97,7 +98,7 @@ impl Additions {
         ensures { self.new ≡ self.old }
     {
         if self.is_last(place) {
-            self.shared.reserve(count)?;
+            reserve_part(&mut self.shared, count);
         }
         Ok(())
     }

@@ -19,6 +19,7 @@ mod list_places;
 mod lists;
 mod names;
 mod notes;
+mod room;
 mod rows;
 mod sections;
 mod short_lists;

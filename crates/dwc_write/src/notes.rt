@@ -8,6 +8,7 @@ ghost use Rattle.dwc_write.specs.UsedTexts.{text_of_value, texts_of_attributes};
 use crate::AttributeValue;
 use crate::attributes::Attribute;
 use crate::file_order::FilePlace;
+use crate::room::{Counts, NO_COUNTS, count_values};
 use crate::short_lists::has_short_values;
 use std::alloc::{AllocError, Global};
 
@@ -21,6 +22,8 @@ pub struct Notes {
     pub texts: Vec<usize>,
     // whether the expressions of their location lists are short
     pub short: bool,
+    // how much room is taken in sections
+    pub counts: Counts,
 }
 
 impl Notes {
@@ -36,6 +39,7 @@ impl Notes {
             located: Vec::new(alloc),
             texts: Vec::new(alloc),
             short: true,
+            counts: NO_COUNTS,
         }
     }
 }
@@ -52,6 +56,7 @@ pub fn note_entry(
     ensures texts { OnOk result (notes.new.texts.items ≡ notes.old.texts.items ++ texts_of_attributes attributes.now) }
     ensures short { OnOk result (notes.new.short ≡ (notes.old.short && are_short_values attributes.now)) }
 {
+    count_values(&mut notes.counts, attributes);
     note_texts(&mut notes.texts, attributes)?;
     if !are_free_of_ranges(attributes) {
         notes.ranged.push(entry)?;

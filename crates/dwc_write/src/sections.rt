@@ -40,9 +40,6 @@ use crate::{Dwarf, FrameTable, Unit, WriteError, WriterRelocate};
 use dwc_base::{DwarfSection, Endian, Limit, SectionName};
 use std::alloc::Global;
 
-// How many bytes of `.debug_info` there seldom are for one with a relocation.
-const RELOCATED: usize = 8;
-
 // The sections as they are written.
 #[derive(Drop)]
 pub(crate) struct Sections {
@@ -171,11 +168,9 @@ fn write_units(
     ensures fits { OnOk result (All FitsOrdered (map ordered units.now)) }
     ensures lines { OnOk result (All (λ u. FitsLines u.lines) (map ordered units.now)) }
 {
-    let room = length_of(layouts);
-    let relocations = room / RELOCATED;
     let mut sections = Sections {
         abbrev: WriterRelocate::new(alloc, order, SectionName::Abbrev)?,
-        info: WriterRelocate::with_room(alloc, order, SectionName::Info, room, relocations)?,
+        info: WriterRelocate::new(alloc, order, SectionName::Info)?,
         line: WriterRelocate::new(alloc, order, SectionName::Line)?,
         ranges: WriterRelocate::new(alloc, order, SectionName::Ranges)?,
         locations: WriterRelocate::new(alloc, order, SectionName::Loc)?,
@@ -193,14 +188,6 @@ fn write_units(
         )?;
     }
     Ok(sections)
-}
-
-// How many bytes units take.
-fn length_of(layouts: &[UnitLayout]) -> usize {
-    match layouts {
-        [] => 0,
-        [.., last] => last.start.saturating_add(last.length),
-    }
 }
 
 // A unit with its line table, at a place among others.
@@ -252,6 +239,24 @@ fn write_one(
 
 // The lists of a unit, each kind in its section.
 fn write_unit_lists(
+    ranges: &mut WriterRelocate,
+    locations: &mut WriterRelocate,
+    unit: &Unit,
+    layout: &UnitLayout,
+) -> Result<(), WriteError>
+    requires laid { IsLaidOut unit.now layout.now }
+    requires short { HaveShortLists (ordered unit.now).entries }
+    ensures { WritesLists ranges.old ranges.new locations.old locations.new result (ordered unit.now) }
+{
+    let size = unit.address_size;
+    let counts = layout.notes.counts;
+    ranges.make_room(counts.range_bytes(size), counts.range_relocations());
+    locations.make_room(counts.location_bytes(size), counts.location_relocations());
+    put_unit_lists(ranges, locations, unit, layout)
+}
+
+// The same, where there is room.
+fn put_unit_lists(
     ranges: &mut WriterRelocate,
     locations: &mut WriterRelocate,
     unit: &Unit,

@@ -21,6 +21,9 @@ use dwc_base::constants::DW_LNE_set_address;
 use dwc_base::{Address, Endian};
 use std::alloc::AllocError;
 
+// The most bytes of the instruction that sets the address of a sequence.
+const WIDEST_START: usize = 11;
+
 // The line table of a program, where there is one.
 pub fn write_lines(
     line: &mut WriterRelocate,
@@ -67,10 +70,34 @@ fn write_sequences(
     requires fits { All (FitsGivenSequence size) (map sequence_view sequences.now) }
     ensures { Writes line.old line.new result (flat_map (sequence_bytes line.old.order size) (map sequence_view sequences.now)) (sequences_relocations line.old.order size (length line.old.body) (map sequence_view sequences.now)) }
 {
+    line.make_room(length_of(sequences), sequences.len());
+    put_sequences(line, size, sequences)
+}
+
+// The same, where there is room.
+fn put_sequences(
+    line: &mut WriterRelocate,
+    size: u8,
+    sequences: &[Sequence],
+) -> Result<(), WriteError>
+    requires size { (size ≡ 4) ⊎ (size ≡ 8) }
+    requires fits { All (FitsGivenSequence size) (map sequence_view sequences.now) }
+    ensures { Writes line.old line.new result (flat_map (sequence_bytes line.old.order size) (map sequence_view sequences.now)) (sequences_relocations line.old.order size (length line.old.body) (map sequence_view sequences.now)) }
+{
     for i in 0..sequences.len() {
         write_sequence(line, size, &sequences[i])?;
     }
     Ok(())
+}
+
+// About how many bytes sequences take.
+fn length_of(sequences: &[Sequence]) -> usize {
+    let mut length: usize = 0;
+    for sequence in sequences {
+        let rows = sequence.rows.code().len();
+        length = length.saturating_add(rows).saturating_add(WIDEST_START);
+    }
+    length
 }
 
 // A sequence: its start, its rows and its end.

@@ -13,6 +13,7 @@ ghost use Rattle.dwc_base.specs.declared.faults.Limit.TheVariants.{Section};
 
 use crate::WriteError;
 use crate::append::{bytes_4, put_sized, replace, replace_sized};
+use crate::room::reserve_part;
 use dwc_base::{
     Address, DwarfSection, DwarfSectionReloc, DwarfSectionRelocTarget, Endian, Limit, SectionName,
 };
@@ -126,6 +127,14 @@ impl WriterRelocate {
             body: Vec::new(alloc),
             relocs: Vec::new(alloc),
         })
+    }
+
+    // Makes room for so many bytes and relocations more, if there is memory for them.
+    pub(crate) fn make_room(&mut self, bytes: usize, relocations: usize)
+        ensures { self.new ≡ self.old }
+    {
+        reserve_part(&mut self.body, bytes);
+        reserve_part(&mut self.relocs, relocations);
     }
 
     // An empty section with room for so many bytes and relocations.

@@ -4,7 +4,7 @@ use Rattle.dwc_write.specs.SpelledRelocations.{sequence_bytes, sequence_relocati
 use Rattle.dwc_write.specs.GivenLines.{FitsGivenSequence}
 use Rattle.dwc_write.specs.LineViews.{sequence_view}
 use Rattle.dwc_write.proofs.WritesLaws.{all-seen, loop-more, loop-refused, loop-done}
-use Rattle.dwc_write.proofs.tables.write_sequences.Goals as goal
+use Rattle.dwc_write.proofs.tables.put_sequences.Goals as goal
 
 pub write_sequence-requires-clause-fits : goal.write_sequence-requires-clause-fits
 write_sequence-requires-clause-fits c = rw (c.index-sequences-i.is) (all-seen (FitsGivenSequence c.args.size) sequence_view c.args.sequences.now c.loop-i.i c.index-sequences-i.result c.loop-i-test.true c.requires.fits)

@@ -2,7 +2,7 @@ use Rattle.std.proofs.Common.{◌≡◌, drop, map}
 use Rattle.dwc_write.specs.SpelledRelocations.{sequence_bytes, sequence_relocations}
 use Rattle.dwc_write.specs.LineViews.{sequence_view}
 use Rattle.dwc_write.proofs.WritesLaws.{whole}
-use Rattle.dwc_write.proofs.tables.write_sequences.Given as goal
+use Rattle.dwc_write.proofs.tables.put_sequences.Given as goal
 
 -- what is there, with the sequences that are left, is the whole
 abbrev pub invariant-loop-i : goal.invariant-loop-i

@@ -1,0 +1,109 @@
+//! The room that sections take, counted while entries are laid out, so that it is made once for a unit. No contract hangs on it.
+ghost use Rattle.std.specs.Prelude.{◌≡◌};
+
+use crate::AttributeValue;
+use crate::attributes::{Attribute, Expression};
+use crate::lists::held_length;
+use dwc_base::Address;
+
+// A list that has no room grows by this part of itself at least.
+const GROWTH_PART: usize = 8;
+
+// Makes room for so many items more, if there is memory for them. Little is left over, and many such calls move the list seldom.
+pub fn reserve_part<T>(list: &mut Vec<T>, count: usize)
+    ensures { list.new.items ≡ list.old.items }
+{
+    if list.capacity().saturating_sub(list.len()) < count {
+        let _kept_without = list.reserve_exact(count.saturating_add(list.len() / GROWTH_PART));
+    }
+}
+
+// What is counted of the entries of a unit.
+#[derive(Clone, Copy)]
+pub struct Counts {
+    // values with a relocation
+    pub relocated: usize,
+    // range lists and their intervals, together
+    pub ranges: usize,
+    // location lists, their intervals, and the bytes of their expressions with their lengths
+    pub lists: usize,
+    pub locations: usize,
+    pub held: usize,
+}
+
+// Nothing is counted.
+pub const NO_COUNTS: Counts = Counts {
+    relocated: 0,
+    ranges: 0,
+    lists: 0,
+    locations: 0,
+    held: 0,
+};
+
+// Counts the values of an entry.
+pub fn count_values(counts: &mut Counts, attributes: &[Attribute]) {
+    for attribute in attributes {
+        count_value(counts, &attribute.value);
+    }
+}
+
+// Counts a value.
+fn count_value(counts: &mut Counts, value: &AttributeValue) {
+    match value {
+        AttributeValue::Constant { .. }
+        | AttributeValue::Flag(_)
+        | AttributeValue::Block(_)
+        | AttributeValue::Exprloc(_)
+        | AttributeValue::UnitRef(_) => {}
+        AttributeValue::RangeListRef(list) => {
+            add_to(&mut counts.relocated, 1);
+            add_to(&mut counts.ranges, 1);
+            add_to(&mut counts.ranges, list.as_slice().len());
+        }
+        AttributeValue::LocationListRef(list) => {
+            add_to(&mut counts.relocated, 1);
+            count_locations(counts, list.as_slice());
+        }
+        _ => add_to(&mut counts.relocated, 1),
+    }
+}
+
+// Counts a location list.
+fn count_locations(counts: &mut Counts, locations: &[(Address, u64, Expression)]) {
+    add_to(&mut counts.lists, 1);
+    add_to(&mut counts.locations, locations.len());
+    for location in locations {
+        let held = held_length(Some(location.2.as_slice()));
+        add_to(&mut counts.held, held);
+    }
+}
+
+// Counts so many more.
+fn add_to(count: &mut usize, more: usize) {
+    *count = count.saturating_add(more);
+}
+
+impl Counts {
+    // The bytes of range lists, whose addresses have so many bytes.
+    pub fn range_bytes(&self, size: u8) -> usize {
+        self.ranges.saturating_mul(2 * usize::from(size))
+    }
+
+    // Their relocations, and two for each end of a list.
+    pub fn range_relocations(&self) -> usize {
+        self.ranges.saturating_mul(2)
+    }
+
+    // The bytes of location lists.
+    pub fn location_bytes(&self, size: u8) -> usize {
+        let pairs = self.lists.saturating_add(self.locations);
+        pairs
+            .saturating_mul(2 * usize::from(size))
+            .saturating_add(self.held)
+    }
+
+    // Their relocations.
+    pub fn location_relocations(&self) -> usize {
+        self.locations.saturating_mul(2)
+    }
+}
