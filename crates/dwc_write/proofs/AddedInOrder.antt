@@ -30,19 +30,19 @@ deeper-whole depth (x ∷ xs) = go (nat_lt (suc depth) x.depth) refl (deeper-who
 
 -- ---- a place of a list
 
-drop-head : {A : Type 0} (xs : List A) (i : ℕ) (d x : A) (ys : List A) → drop i xs ≡ x ∷ ys → get_or xs i d ≡ x
+pub drop-head : {A : Type 0} (xs : List A) (i : ℕ) (d x : A) (ys : List A) → drop i xs ≡ x ∷ ys → get_or xs i d ≡ x
 drop-head [] zero d x ys is = absurd (omega (arith, ap length is))
 drop-head [] (suc i) d x ys is = absurd (omega (arith, ap length is))
 drop-head (z ∷ xs) zero d x ys is = ap (λ zs. get_or zs 0 d) is
 drop-head (z ∷ xs) (suc i) d x ys is = drop-head xs i d x ys is
 
-drop-behind : {A : Type 0} (xs : List A) (i : ℕ) (x : A) (ys : List A) → drop i xs ≡ x ∷ ys → drop (suc i) xs ≡ ys
+pub drop-behind : {A : Type 0} (xs : List A) (i : ℕ) (x : A) (ys : List A) → drop i xs ≡ x ∷ ys → drop (suc i) xs ≡ ys
 drop-behind [] zero x ys is = absurd (omega (arith, ap length is))
 drop-behind [] (suc i) x ys is = absurd (omega (arith, ap length is))
 drop-behind (z ∷ xs) zero x ys is = ap (λ zs. drop 1 zs) is
 drop-behind (z ∷ xs) (suc i) x ys is = drop-behind xs i x ys is
 
-drop-within : {A : Type 0} (xs : List A) (i : ℕ) (x : A) (ys : List A) → drop i xs ≡ x ∷ ys → i < length xs
+pub drop-within : {A : Type 0} (xs : List A) (i : ℕ) (x : A) (ys : List A) → drop i xs ≡ x ∷ ys → i < length xs
 drop-within [] zero x ys is = absurd (omega (arith, ap length is))
 drop-within [] (suc i) x ys is = absurd (omega (arith, ap length is))
 drop-within (z ∷ xs) zero x ys is = omega arith

@@ -24,6 +24,9 @@ pub(crate) struct Entry {
     own: Option<Box<Attributes>>,
 }
 
+// How many attributes entries mostly have, or somewhat less.
+const USUAL_ATTRIBUTES: usize = 3;
+
 // Entries, and the attributes of those that have no list of their own.
 #[derive(Drop)]
 pub(crate) struct Additions {
@@ -85,10 +88,11 @@ impl Additions {
         attributes_of(&self.entries[place], &self.shared)
     }
 
-    // Makes room for so many entries more.
+    // Makes room for so many entries more, with as many attributes as they mostly have.
     pub(crate) fn make_room(&mut self, count: usize) -> Result<(), AllocError>
         ensures { self.new ≡ self.old }
     {
+        reserve_part(&mut self.shared, count.saturating_mul(USUAL_ATTRIBUTES));
         self.entries.reserve(count)
     }
 

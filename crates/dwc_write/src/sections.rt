@@ -36,7 +36,7 @@ use crate::lists::{ListKind, write_lists};
 use crate::short_lists::are_short_lists;
 use crate::tables::write_lines;
 use crate::text_layout::{lay_out_texts, write_texts};
-use crate::{Dwarf, FrameTable, Unit, WriteError, WriterRelocate};
+use crate::{Dwarf, FrameTable, Unit, UnitTable, WriteError, WriterRelocate};
 use dwc_base::{DwarfSection, Endian, Limit, SectionName};
 use std::alloc::Global;
 
@@ -133,8 +133,13 @@ fn write_unit_sections(
     ensures large { IfErr result (λ e. IsRefusal order dwarf.strings (map ordered dwarf.units.units.items) e) }
     ensures widest { IfErr result (λ e. IsWideRefusal dwarf.strings (map ordered dwarf.units.units.items) e) }
 {
-    let units = dwarf.units.units.as_slice();
-    let texts = dwarf.strings.as_slice();
+    let Dwarf {
+        units: UnitTable { units: all },
+        strings,
+    } = dwarf;
+    let units = all.as_slice();
+    strings.know_texts();
+    let texts = strings.as_slice();
     let laid = lay_out(alloc, units);
     if !are_short_lists(units, &laid) {
         return Err(WriteError::TooLarge {
@@ -143,7 +148,7 @@ fn write_unit_sections(
     }
     let layouts = laid?;
     let text_layout = lay_out_texts(alloc, &layouts, texts)?;
-    let sections = write_units(alloc, order, units, &layouts, &text_layout.offsets)?;
+    let sections = write_units(alloc, order, all, &layouts, &text_layout.offsets)?;
     let strings = write_texts(alloc, order, texts, &text_layout)?;
     gather(alloc, sections, strings)
 }
@@ -152,21 +157,21 @@ fn write_unit_sections(
 fn write_units(
     alloc: Global,
     order: Endian,
-    units: &[Unit],
+    units: Vec<Unit>,
     layouts: &[UnitLayout],
     texts: &[Option<usize>],
 ) -> Result<Sections, WriteError>
-    requires writable { AreWritable (map ordered units.now) }
-    requires laid { AllZip IsLaidOut units.now layouts.now }
-    requires placed { map places_view layouts.now ≡ places_of_units order (size_of (map ordered units.now)) 0 (map ordered units.now) }
-    requires short { units_length order (map ordered units.now) ≤ most_bytes }
+    requires writable { AreWritable (map ordered units.items) }
+    requires laid { AllZip IsLaidOut units.items layouts.now }
+    requires placed { map places_view layouts.now ≡ places_of_units order (size_of (map ordered units.items)) 0 (map ordered units.items) }
+    requires short { units_length order (map ordered units.items) ≤ most_bytes }
     requires texts { (id : ℕ) → offset_of_text texts.now id ≤ most_bytes }
-    requires expressions { AreShortUnits (map ordered units.now) }
-    ensures ok { IfOk result (λ s. sections_view s ≡ all_units order (whole_view layouts.now texts.now) (map ordered units.now)) }
-    ensures large { IfErr result (λ e. IsRefusalAmong order (whole_view layouts.now texts.now) (map ordered units.now) e) }
-    ensures widest { IfErr result (λ e. (table : List (List ℕ)) → IsWideRefusal table (map ordered units.now) e) }
-    ensures fits { OnOk result (All FitsOrdered (map ordered units.now)) }
-    ensures lines { OnOk result (All (λ u. FitsLines u.lines) (map ordered units.now)) }
+    requires expressions { AreShortUnits (map ordered units.items) }
+    ensures ok { IfOk result (λ s. sections_view s ≡ all_units order (whole_view layouts.now texts.now) (map ordered units.items)) }
+    ensures large { IfErr result (λ e. IsRefusalAmong order (whole_view layouts.now texts.now) (map ordered units.items) e) }
+    ensures widest { IfErr result (λ e. (table : List (List ℕ)) → IsWideRefusal table (map ordered units.items) e) }
+    ensures fits { OnOk result (All FitsOrdered (map ordered units.items)) }
+    ensures lines { OnOk result (All (λ u. FitsLines u.lines) (map ordered units.items)) }
 {
     let mut sections = Sections {
         abbrev: WriterRelocate::new(alloc, order, SectionName::Abbrev)?,
@@ -176,16 +181,18 @@ fn write_units(
         locations: WriterRelocate::new(alloc, order, SectionName::Loc)?,
     };
     let mut scratch = Vec::new(alloc);
-    for i in 0..units.len() {
+    let mut place = 0;
+    for unit in units {
         write_one(
             order,
             &mut sections,
             &mut scratch,
-            &units[i],
+            &unit,
             layouts,
             texts,
-            i,
+            place,
         )?;
+        place += 1;
     }
     Ok(sections)
 }

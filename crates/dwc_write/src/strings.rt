@@ -3,7 +3,7 @@ ghost use Rattle.std.specs.Prelude.{◌≡◌, [], ◌<◌, OnOk, OnErr, IfOk, I
 ghost use Rattle.std.specs.List.{All, position_or_len};
 ghost use Rattle.std.specs.Str.{bytes_eq};
 ghost use Rattle.dwc_base.specs.TreeLaws.{with_new_text};
-ghost use Rattle.dwc_write.specs.TextTables.{IsText};
+ghost use Rattle.dwc_write.specs.TextTables.{AreTexts, IsText};
 ghost use Rattle.dwc_write.specs.declared.error.WriteError.TheVariants.{OutOfMemory};
 
 use crate::WriteError;
@@ -59,6 +59,13 @@ impl StringTable {
         let alloc = *self.texts.allocator();
         self.texts.insert(copied(alloc, text)?)?;
         Ok(StringId { index })
+    }
+
+    // What is known of them.
+    pub(crate) fn know_texts(&self)
+        ensures { AreTexts self.now }
+    {
+        let _known = self.texts.len();
     }
 
     // The texts in their order.

@@ -109,7 +109,7 @@ returns-in_err-text_layout-clause-widest c =
     let table = c.args.dwarf.strings in
     let units = IfOk-at_ok (λ (ls : Vec UnitLayout Global). AllZip IsLaidOut c.as_slice-units.result.now ls.items) c.in_ok-layouts.was c.lay_out-laid.ensures.units in
     let named = named-noted _ _ (rw (c.as_slice-units.ensures.value) at units) in
-    let texts : AreTexts table = subst AreTexts c.drop-in_err-text_layout.view_is c.drop-in_err-text_layout.invariant in
+    let texts : AreTexts table = c.know_texts.ensures in
     let p = err_from_is_err_and c.from_residual-in_err-text_layout.result c.from_residual-in_err-text_layout.ensures.1 in
     err-exit (λ e. IsWideRefusal table us e) _ _ p (texts-widely table us _ texts c.requires.texts (rw (c.deref.ensures.value, c.as_slice-texts.ensures, named) at c.in_err-text_layout.ensures.large))
 
@@ -136,7 +136,7 @@ returns-in_err-sections-clause-large c =
     let placed = rw (c.as_slice-units.ensures.value) at (IfOk-at_ok P c.in_ok-layouts.was c.lay_out-laid.ensures.places c.args.order) in
     let are : whole_view c.deref-2.result.now c.deref-3.result.now ≡ all_places c.args.order table us = rw (c.deref-2.ensures.value, c.deref-3.ensures.value) (all-placed _ _ _ _ placed (text-places-are table us l laid used)) in
     let p = err_from_is_err_and c.from_residual-in_err-sections.result c.from_residual-in_err-sections.ensures.1 in
-    err-exit (λ e. IsRefusal c.args.order table us e) _ _ p (refusal-of-all c.args.order (whole_view c.deref-2.result.now c.deref-3.result.now) table us _ are (rw (c.as_slice-units.ensures.value) at c.in_err-sections.ensures.large))
+    err-exit (λ e. IsRefusal c.args.order table us e) _ _ p (refusal-of-all c.args.order (whole_view c.deref-2.result.now c.deref-3.result.now) table us _ are c.in_err-sections.ensures.large)
 
 pub returns-in_err-sections-clause-expressions : goal.returns-in_err-sections-clause-expressions
 returns-in_err-sections-clause-expressions c =
@@ -150,14 +150,14 @@ returns-in_err-sections-clause-widest c =
     let us = map ordered c.args.dwarf.units.units.items in
     let table = c.args.dwarf.strings in
     let p = err_from_is_err_and c.from_residual-in_err-sections.result c.from_residual-in_err-sections.ensures.1 in
-    err-exit (λ e. IsWideRefusal table us e) _ _ p ((rw (c.as_slice-units.ensures.value) at c.in_err-sections.ensures.widest) table)
+    err-exit (λ e. IsWideRefusal table us e) _ _ p (c.in_err-sections.ensures.widest table)
 
 pub write_units-requires-clause-expressions : goal.write_units-requires-clause-expressions
 write_units-requires-clause-expressions c =
     let us = map ordered c.args.dwarf.units.units.items in
     let table = c.args.dwarf.strings in
     let all = sym (tested table c.as_slice-units.result.now c.args.dwarf.units.units.items c.are_short_lists.result c.as_slice-units.ensures.value c.are_short_lists.ensures) ∙ c.if-not-are_short_lists.false in
-    rw (c.as_slice-units.ensures.value) (short-trees table us all)
+    short-trees table us all
 
 pub returns-in_err-strings-clause-expressions : goal.returns-in_err-strings-clause-expressions
 returns-in_err-strings-clause-expressions c =
@@ -185,7 +185,7 @@ returns-clause-sections c =
     let P : Vec UnitLayout Global → Type 0 = λ ls. (order : Endian) → map places_view ls.items ≡ places_of_units order (size_of (map ordered c.as_slice-units.result.now)) 0 (map ordered c.as_slice-units.result.now) in
     let placed = rw (c.as_slice-units.ensures.value) at (IfOk-at_ok P c.in_ok-layouts.was c.lay_out-laid.ensures.places c.args.order) in
     let are : whole_view c.deref-2.result.now c.deref-3.result.now ≡ all_places c.args.order table us = rw (c.deref-2.ensures.value, c.deref-3.ensures.value) (all-placed _ _ _ _ placed (text-places-are table us l laid used)) in
-    let all = rw (c.as_slice-units.ensures.value) at c.in_ok-sections.ensures.ok in
+    let all = c.in_ok-sections.ensures.ok in
     let body : texts_bytes table l.used.items ≡ texts_bytes table (texts_used us) = ap (texts_bytes table) used in
     let strings = (rw (c.as_slice-texts.ensures) at c.in_ok-strings.ensures.ok) ∙ ap (λ (bytes : List ℕ). record { order = c.args.order; name = Str; body = bytes; relocations = [] }) body in
     if-ok-weaker c.gather.result _ _
@@ -195,7 +195,7 @@ pub returns-clause-sound : goal.returns-clause-sound
 returns-clause-sound c =
     let us = map ordered c.args.dwarf.units.units.items in
     let table = c.args.dwarf.strings in
-    let all = (rw (c.as_slice-units.ensures.value) at c.in_ok-sections.ensures.ok) ∙ all-appended c.args.order _ us c.requires.units in
+    let all = c.in_ok-sections.ensures.ok ∙ all-appended c.args.order _ us c.requires.units in
     c.gather.ensures.sound c.args.order (ap (λ (w : WrittenSections). w.abbrev_section.order) all) (ap (λ (w : WrittenSections). w.info_section.order) all) (ap (λ (w : WrittenSections). w.line_section.order) all) (ap (λ (w : WrittenSections). w.ranges_section.order) all) (ap (λ (w : WrittenSections). w.locations_section.order) all) (ap (λ (w : Writing). w.order) c.in_ok-strings.ensures.ok)
 
 pub returns-clause-rise : goal.returns-clause-rise
@@ -209,8 +209,8 @@ pub returns-clause-read : goal.returns-clause-read
 returns-clause-read c =
     let us = map ordered c.args.dwarf.units.units.items in
     let table = c.args.dwarf.strings in
-    let fits = rw (c.as_slice-units.ensures.value) at c.in_ok-sections.ensures.fits in
-    let lines = rw (c.as_slice-units.ensures.value) at c.in_ok-sections.ensures.lines in
+    let fits = c.in_ok-sections.ensures.fits in
+    let lines = c.in_ok-sections.ensures.lines in
     let Q : List OutputSection → Type 0 = λ ss. All (IsSound c.args.order) ss in
     let P : List OutputSection → Type 0 = λ ss. ReadsBack c.args.order us ss in
     if-ok-both c.gather.result _ _ _ (λ s is sound. subst P (sym is) (reads-back c.args.order table us c.requires.units fits lines (subst Q is sound))) (returns-clause-sections c) (returns-clause-sound c)
@@ -219,12 +219,12 @@ pub returns-clause-trees : goal.returns-clause-trees
 returns-clause-trees c =
     let us = map ordered c.args.dwarf.units.units.items in
     let table = c.args.dwarf.strings in
-    let fits = rw (c.as_slice-units.ensures.value) at c.in_ok-sections.ensures.fits in
-    let lines = rw (c.as_slice-units.ensures.value) at c.in_ok-sections.ensures.lines in
+    let fits = c.in_ok-sections.ensures.fits in
+    let lines = c.in_ok-sections.ensures.lines in
     let all = sym (tested table c.as_slice-units.result.now c.args.dwarf.units.units.items c.are_short_lists.result c.as_slice-units.ensures.value c.are_short_lists.ensures) ∙ c.if-not-are_short_lists.false in
     let short = short-trees table us all in
     let Q : List OutputSection → Type 0 = λ ss. All (IsSound c.args.order) ss in
-    let texts : AreTexts table = subst AreTexts c.drop-2.view_is c.drop-2.invariant in
+    let texts : AreTexts table = c.know_texts.ensures in
     let P : List OutputSection → Type 0 = λ ss. CarriesTrees c.args.order (given_trees table us) ss in
     if-ok-both c.gather.result _ _ _ (λ s is sound. subst P (sym is) (carries-trees c.args.order table us c.requires.units c.requires.texts short texts.plain fits lines (subst Q is sound))) (returns-clause-sections c) (returns-clause-sound c)
 
@@ -232,10 +232,10 @@ pub returns-clause-texts_once : goal.returns-clause-texts_once
 returns-clause-texts_once c =
     let us = map ordered c.args.dwarf.units.units.items in
     let table = c.args.dwarf.strings in
-    let fits = rw (c.as_slice-units.ensures.value) at c.in_ok-sections.ensures.fits in
-    let lines = rw (c.as_slice-units.ensures.value) at c.in_ok-sections.ensures.lines in
+    let fits = c.in_ok-sections.ensures.fits in
+    let lines = c.in_ok-sections.ensures.lines in
     let Q : List OutputSection → Type 0 = λ ss. All (IsSound c.args.order) ss in
-    let texts : AreTexts table = subst AreTexts c.drop-2.view_is c.drop-2.invariant in
+    let texts : AreTexts table = c.know_texts.ensures in
     let P : List OutputSection → Type 0 = λ ss. HasTextsOnce (output_sections c.args.order ss) in
     if-ok-both c.gather.result _ _ _ (λ s is sound. subst P (sym is) (texts-once c.args.order table us c.requires.units c.requires.texts texts fits lines (subst Q is sound))) (returns-clause-sections c) (returns-clause-sound c)
 
@@ -256,8 +256,8 @@ pub returns-clause-relocated : goal.returns-clause-relocated
 returns-clause-relocated c =
     let us = map ordered c.args.dwarf.units.units.items in
     let table = c.args.dwarf.strings in
-    let fits = rw (c.as_slice-units.ensures.value) at c.in_ok-sections.ensures.fits in
-    let lines = rw (c.as_slice-units.ensures.value) at c.in_ok-sections.ensures.lines in
+    let fits = c.in_ok-sections.ensures.fits in
+    let lines = c.in_ok-sections.ensures.lines in
     let all = sym (tested table c.as_slice-units.result.now c.args.dwarf.units.units.items c.are_short_lists.result c.as_slice-units.ensures.value c.are_short_lists.ensures) ∙ c.if-not-are_short_lists.false in
     let short = short-trees table us all in
     let Q : List OutputSection → Type 0 = λ ss. All (IsSound c.args.order) ss in

@@ -1,4 +1,4 @@
-use Rattle.std.proofs.Common.{◌≡◌, map, take, drop}
+use Rattle.std.proofs.Common.{◌≡◌, ◌+◌, drop, length, map, take}
 use Rattle.std.specs.List.{All}
 use Rattle.dwc_write.specs.GivenLines.{FitsLines}
 use Rattle.dwc_write.specs.GivenUnits.{OrderedUnit, FitsOrdered, ordered}
@@ -7,16 +7,18 @@ use Rattle.dwc_write.specs.SpelledOutput.{all_units, with_units}
 use Rattle.dwc_write.specs.SectionViews.{sections_view}
 use Rattle.dwc_write.proofs.sections.write_units.Given as goal
 
--- what is there, with the units that are left, is the whole; those that are written fit
-abbrev pub invariant-loop-i : goal.invariant-loop-i
-invariant-loop-i l =
+-- the units that are left are those from a place on; what is there, with them, is the whole; those that are written fit
+abbrev pub invariant-loop-unit : goal.invariant-loop-unit
+invariant-loop-unit l =
     let ps = whole_view l.layouts l.texts in
-    let us = map ordered l.units in
+    let us = map ordered l.fn.units.items in
     record {
-      units : with_units ps (drop l.i us) (sections_view l.sections) ≡ all_units l.order ps us;
-      done : sections_view l.sections ≡ all_units l.order ps (take l.i us);
+      left : l.unit-iterator.rest.items ≡ drop l.place l.fn.units.items;
+      many : l.unit-iterator.rest.len + l.place ≡ length l.fn.units.items;
+      units : with_units ps (drop l.place us) (sections_view l.sections) ≡ all_units l.order ps us;
+      done : sections_view l.sections ≡ all_units l.order ps (take l.place us);
       info : l.sections.info.order ≡ l.order;
       line : l.sections.line.order ≡ l.order;
-      fits : All FitsOrdered (take l.i us);
-      lines : All (λ (u : OrderedUnit). FitsLines u.lines) (take l.i us);
+      fits : All FitsOrdered (take l.place us);
+      lines : All (λ (u : OrderedUnit). FitsLines u.lines) (take l.place us);
     }
