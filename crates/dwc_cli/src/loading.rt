@@ -66,6 +66,7 @@ pub(crate) fn load<S: Source>(
     for _ in 0..MOST + 1 {
         let count = source.read(&mut buffer)?;
         if count == 0 {
+            bytes.shrink_to_fit();
             return Ok(bytes);
         }
         if bytes.len() + count > MOST {
