@@ -582,18 +582,40 @@ def variables_module(count):
     return values_module(lambda start: (bytes([3]) + ON_FRAME_BASE) * count, BODY, entries, CODE, [[0, CODE // 2, IN_REGISTER, 1]])
 
 
+def location_pairs(start, count):
+    """A location list of half as many entries, each over two bytes of four from an address on."""
+    return b"".join(u32(start + 4 * i) + u32(start + 4 * i + 2) + bytes.fromhex("0400 ED00009F") for i in range(count // 2)) + bytes(8)
+
+
 def long_locations_module(count):
     size, entries = 2 * count + 2, [[3 * i, 2 * i] for i in range(count)]
     ranges = [[0, 3 * count, IN_REGISTER, 1]]
     wasm, functions = values_module(lambda start: bytes([4]) + u32(0), size, entries, 3 * count, ranges)
     [start] = places([body_of(size)])
-    pairs = b"".join(u32(start + 4 * i) + u32(start + 4 * i + 2) + bytes.fromhex("0400 ED00009F") for i in range(count // 2))
-    return wasm + custom(".debug_loc", pairs + bytes(8)), functions
+    return wasm + custom(".debug_loc", location_pairs(start, count)), functions
 
 
 def placed_module(count):
     ranges = [[2 * i, 2 * i + 2, IN_REGISTER, 1 + i % 2] for i in range(count)]
     return values_module(lambda start: bytes([3]) + ON_FRAME_BASE, BODY, [[0, 0]], 2 * count, ranges)
+
+
+def placed_locations_module(count):
+    """As long_locations, and the local moves with each second instruction."""
+    size, entries = 2 * count + 2, [[3 * i, 2 * i] for i in range(count)]
+    ranges = [[6 * i, 6 * i + 6, IN_REGISTER, 1 + i % 2] for i in range(count // 2)]
+    wasm, functions = values_module(lambda start: bytes([4]) + u32(0), size, entries, 3 * count, ranges)
+    [start] = places([body_of(size)])
+    return wasm + custom(".debug_loc", location_pairs(start, count)), functions
+
+
+def run_locations_module(count):
+    """As long_locations, and the sources fall from instruction to instruction, so that each is a run of its own."""
+    size, entries = 2 * count + 2, [[3 * i, 2 * (count - 1 - i)] for i in range(count)]
+    ranges = [[0, 3 * count, IN_REGISTER, 1]]
+    wasm, functions = values_module(lambda start: bytes([4]) + u32(0), size, entries, 3 * count, ranges)
+    [start] = places([body_of(size)])
+    return wasm + custom(".debug_loc", location_pairs(start, count)), functions
 
 
 def expressions_module(count):
@@ -632,6 +654,8 @@ KINDS = {
     "variables": lambda n: [variables_module(n)],
     "long_locations": lambda n: [long_locations_module(n)],
     "placed": lambda n: [placed_module(n)],
+    "placed_locations": lambda n: [placed_locations_module(n)],
+    "run_locations": lambda n: [run_locations_module(n)],
     "expressions": lambda n: [expressions_module(n)],
 }
 
@@ -664,6 +688,8 @@ SIZES = {
     "variables": [50000, 100000],
     "long_locations": [50000, 100000],
     "placed": [100000, 200000],
+    "placed_locations": [20000, 40000],
+    "run_locations": [10000, 20000],
     "expressions": [25000, 50000],
 }
 
