@@ -1,2 +1,4 @@
 pub mod RegisterLaws
 pub mod LabelLaws
+pub mod ListEnds
+pub mod FlatLaws

@@ -1,6 +1,7 @@
 pub mod AddressMaps
 pub mod CallFrames
 pub mod EmptyRecords
+pub mod FlatRanges
 pub mod Registers
 pub mod Targets
 pub mod ValueLabels

@@ -1,8 +1,7 @@
 -- Where the values of a compiled function lie, as values.
-use Rattle.std.specs.Prelude.{ℕ, List, map, Vec}
+use Rattle.std.specs.Prelude.{ℕ, List}
 use Rattle.std.specs.Coded.{Coded, codes, coded_list, coded_ℕ}
 use Rattle.std.specs.Ordering.{nat_cmp}
-use Rattle.std.specs.Global.{Global}
 use Rattle.std.specs.FinMap as finite
 use Rattle.dwc_base.specs.Compiled.{Place, in_register, at_frame_offset, LabelRange}
 use Rattle.dwc_clif.specs.declared.value_label.LabelValueLoc.{LabelValueLoc}
@@ -25,13 +24,12 @@ LabelledRanges = finite.FinMap nat_cmp (List LabelRange)
 range_code : Coded LabelRange
 range_code = hlevel codes
 
-pub labelled_code : Coded LabelledRanges
-labelled_code = finite.code coded_ℕ (coded_list range_code)
+pub ranges_code : Coded (List LabelRange)
+ranges_code = coded_list range_code
 
--- a label with its ranges
-abbrev pub labelled : ℕ × Vec ValueLocRange Global → ℕ × List LabelRange
-labelled e = (e.0, map range_view (e.1).items)
+pub labelled_code : Coded LabelledRanges
+labelled_code = finite.code coded_ℕ ranges_code
 
 -- the ranges of each label, by a list with one entry for each
-abbrev pub labelled_by : List (ℕ × Vec ValueLocRange Global) → LabelledRanges
-labelled_by entries = finite.from_entries (map labelled entries)
+abbrev pub labelled_by : List (ℕ × List LabelRange) → LabelledRanges
+labelled_by entries = finite.from_entries entries

@@ -4,7 +4,7 @@ ghost use Rattle.std.specs.Iterator.{YieldsFirst, item_count};
 ghost use Rattle.std.specs.FinMap as finite;
 ghost use Rattle.dwc_clif.specs.ValueLabels.{range_view};
 
-use crate::{ValueLabel, ValueLocRange};
+use crate::{ToldRanges, ValueLabel, ValueLocRange};
 use std::alloc::{AllocError, Global};
 use std::collections::BTreeMap;
 use std::collections::btree_map::Keys;
@@ -14,7 +14,7 @@ use std::marker::Model;
 /// parts overlap, the last one counts.
 #[derive(Drop)]
 pub struct ValueLabelsRanges {
-    by_label: BTreeMap<u32, Vec<ValueLocRange>>,
+    by_label: BTreeMap<u32, ToldRanges>,
 }
 
 impl Model for ValueLabelsRanges {
@@ -49,7 +49,7 @@ impl ValueLabelsRanges {
         ensures ok { OnOk result (self.new ≡ finite.insert self.old label.0 (map range_view ranges.items)) }
         ensures err { OnErr result (self.new ≡ self.old) }
     {
-        self.by_label.insert(label.0, ranges)?;
+        self.by_label.insert(label.0, ToldRanges::new(ranges))?;
         Ok(())
     }
 
@@ -58,9 +58,16 @@ impl ValueLabelsRanges {
         ensures { option_map (λ x. map range_view x.now) result ≡ finite.get self.now label.0 }
     {
         match self.by_label.get(&label.0) {
-            Some(ranges) => Some(ranges),
+            Some(told) => Some(told.as_slice()),
             None => None,
         }
+    }
+
+    /// The same, with whether they are flat.
+    pub fn told(&self, label: ValueLabel) -> Option<&ToldRanges>
+        ensures { option_map (λ x. x.now) result ≡ finite.get self.now label.0 }
+    {
+        self.by_label.get(&label.0)
     }
 
     /// The labels, in rising order.
@@ -76,7 +83,7 @@ impl ValueLabelsRanges {
 /// The labels of a function's values that are still to come, in rising order. They take no memory.
 #[derive(Drop)]
 pub struct Labels<'a> {
-    keys: Keys<'a, u32, Vec<ValueLocRange>>,
+    keys: Keys<'a, u32, ToldRanges>,
 }
 
 impl<'a> Model for Labels<'a> {

@@ -27,8 +27,8 @@ use Rattle.dwc_expr.specs.declared.error.ExprError.{ExprError}
 use Rattle.dwc_expr.specs.declared.frame.FunctionFrameInfo.{FunctionFrameInfo}
 use Rattle.dwc_expr.specs.Alone.{LeadsAlone, lone_location, lone_refusals}
 use Rattle.dwc_expr.specs.Builds.{Builds, location_view}
-use Rattle.dwc_expr.specs.FlatRanges.{IsFlat}
-use Rattle.dwc_expr.specs.Frames.{told_frame, frame_view}
+use Rattle.dwc_clif.specs.FlatRanges.{IsFlat}
+use Rattle.dwc_expr.specs.Frames.{ToldFrame, told_frame, frame_of, frame_view}
 use Rattle.dwc_expr.specs.NarrowedRanges.{Tells}
 use Rattle.dwc_expr.specs.OwnPlaces.{own_function, own_ranges, place_in, are_filled, is_filled}
 use Rattle.dwc_expr.specs.PlacedParts.{PlacedPart, cut_by, cuts_of, cuts_from}
@@ -121,6 +121,12 @@ module _ (trailing : Bool) (registers : Registers) (here rest left all : List Pl
   pub alone-told : (e : ExprError) → TellsFirst (flat_map (lone_refusals registers) here) e → TellsFirst (flat_map (lone_refusals registers) all) e
   alone-told e tells = told-here (flat_map (lone_refusals registers) here) (flat_map (lone_refusals registers) rest) (flat_map (lone_refusals registers) all) split e tells
 
+pub alone-begin : (trailing : Bool) (registers : Registers) (left all : List PlacedPart) (old : List (Address × ℕ × Expression)) → left ≡ all → LeadsAlone trailing registers left all old old
+alone-begin trailing registers left all old same = record {
+  expressions = ap (λ ps. map location_view old ++ map (lone_location trailing registers) ps) same;
+  refusals = ap (λ ps. first_of (flat_map (lone_refusals registers) ps)) same;
+}
+
 pub alone-end : (trailing : Bool) (registers : Registers) (left all : List PlacedPart) (old now : List (Address × ℕ × Expression)) → left ≡ [] → LeadsAlone trailing registers left all old now
     → (first_of (flat_map (lone_refusals registers) all) ≡ None) × (map location_view now ≡ map location_view old ++ map (lone_location trailing registers) all)
 alone-end trailing registers left all old now none leads = (
@@ -130,22 +136,27 @@ alone-end trailing registers left all old now none leads = (
 
 -- ---- what a frame tells of a label
 
+pub tells-told :
+    (f : Option ToldFrame) (label : ℕ) (own : Option ℕ) (told ps : List LabelRange) → own ≡ own_function f → told ≡ own_ranges f label → IsFlat ps → ((byte : ℕ) → last_place ps byte ≡ last_place told byte)
+    → Tells (option_map frame_of f) label own ps
+tells-told f label own told ps number ranges flat same = record { flat = flat; same = λ function byte. go f function byte ∙ sym (at function byte) }
+  where
+    at : (function byte : ℕ) → place_in own ps function byte ≡ place_in (own_function f) (own_ranges f label) function byte
+    at function byte =
+        ap (λ (o : Option Place). if is_number own function then o else None) (same byte)
+        ∙ ap (λ rs. place_in own rs function byte) ranges
+        ∙ ap (λ n. place_in n (own_ranges f label) function byte) number
+
+    go : (g : Option ToldFrame) (function byte : ℕ) → placed (option_map frame_of g) function byte label ≡ place_in (own_function g) (own_ranges g label) function byte
+    go None function byte = refl
+    go (Some g) function byte = refl
+
 pub tells-own :
     (f : Option (Bor FunctionFrameInfo)) (label : ℕ) (own : Option ℕ) (told ps : List LabelRange) → own ≡ own_function (option_map (λ (x : Bor FunctionFrameInfo). told_frame x.now) f)
     → told ≡ own_ranges (option_map (λ (x : Bor FunctionFrameInfo). told_frame x.now) f) label → IsFlat ps → ((byte : ℕ) → last_place ps byte ≡ last_place told byte)
     → Tells (frame_view (option_map (λ (x : Bor FunctionFrameInfo). x.now) f)) label own ps
-tells-own f label own told ps number ranges flat same = record { flat = flat; same = λ function byte. go f function byte ∙ sym (at function byte) }
-  where
-    at : (function byte : ℕ) → place_in own ps function byte ≡ place_in (own_function (option_map (λ (x : Bor FunctionFrameInfo). told_frame x.now) f)) (own_ranges (option_map (λ (x : Bor FunctionFrameInfo). told_frame x.now) f) label) function byte
-    at function byte =
-        ap (λ (o : Option Place). if is_number own function then o else None) (same byte)
-        ∙ ap (λ rs. place_in own rs function byte) ranges
-        ∙ ap (λ n. place_in n (own_ranges (option_map (λ (x : Bor FunctionFrameInfo). told_frame x.now) f) label) function byte) number
-
-    go : (g : Option (Bor FunctionFrameInfo)) (function byte : ℕ) → placed (frame_view (option_map (λ (x : Bor FunctionFrameInfo). x.now) g)) function byte label
-        ≡ place_in (own_function (option_map (λ (x : Bor FunctionFrameInfo). told_frame x.now) g)) (own_ranges (option_map (λ (x : Bor FunctionFrameInfo). told_frame x.now) g) label) function byte
-    go None function byte = refl
-    go (Some g) function byte = refl
+tells-own f label own told ps number ranges flat same =
+    subst (λ frame. Tells frame label own ps) (frames-same f) (tells-told (option_map (λ (x : Bor FunctionFrameInfo). told_frame x.now) f) label own told ps number ranges flat same)
 
 -- no range of a label begins above its end, by those that are told
 pub good-own :

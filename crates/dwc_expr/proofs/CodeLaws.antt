@@ -14,7 +14,7 @@ use Rattle.dwc_base.proofs.LabelRangeCoverage.{holds}
 use Rattle.dwc_expr.specs.declared.code_range.CodeRange.{CodeRange}
 use Rattle.dwc_expr.specs.CodeRanges.{code_range_view}
 use Rattle.dwc_expr.specs.JoinedScopes.{IsInOrder, begins_in_last, HaveBytesOf, AreJoined, Adds}
-use Rattle.dwc_expr.proofs.ListEnds.{Ends, ends, all-of-map}
+use Rattle.dwc_clif.proofs.ListEnds.{Ends, ends, all-of-map}
 use Rattle.dwc_expr.proofs.ScopeLaws.{not-less, pairs-map, add-apart, add-joined, joined-are}
 
 -- ---- order

@@ -10,7 +10,7 @@ use Rattle.dwc_base.specs.Compiled.{LabelRange}
 use Rattle.dwc_base.specs.Placed.{NativeRange, is_number, is_byte_of}
 use Rattle.dwc_base.proofs.InLists.{IsIn, at-in, in-append, in-filter_map, filter_map-in, map-in, in-any}
 use Rattle.dwc_base.proofs.LabelRangeCoverage.{holds, hold, Held, held}
-use Rattle.dwc_expr.specs.FlatRanges.{IsFlat}
+use Rattle.dwc_clif.specs.FlatRanges.{IsFlat}
 use Rattle.dwc_expr.specs.PlacedParts.{PlacedPart, cut_by, cuts_of, cuts_from, EndBy}
 use Rattle.dwc_expr.proofs.PairLaws.{Pairs, pairs-append, pairs-filter_map, filter-none, all-in}
 use Rattle.dwc_expr.proofs.PieceLaws.{behind-end}
@@ -85,17 +85,17 @@ part-in own ps index r x i = go (is_number own r.function) refl i
     go false e j = absurd j
 
 -- pieces that end in front of a range may be left out
+pub parts-passed : (ps : List LabelRange) (index count : ℕ) (r : NativeRange) → EndBy r.start count ps → filter_map (cut_by index r) (drop count ps) ≡ filter_map (cut_by index r) ps
+parts-passed ps index count r passed =
+    ap (λ xs. xs ++ filter_map (cut_by index r) (drop count ps)) (sym (filter-none (cut_by index r) (take count ps) (λ p i. cut-before index r p (all-in (λ q. q.end ≤ r.start) (take count ps) passed p i))))
+    ∙ sym (filter_map-append (cut_by index r) (take count ps) (drop count ps))
+    ∙ ap (filter_map (cut_by index r)) (take-append-drop count ps)
+
 pub cuts-passed : (own : Option ℕ) (ps : List LabelRange) (index count : ℕ) (r : NativeRange) → (is_number own r.function ≡ true → EndBy r.start count ps) → cuts_of own (drop count ps) index r ≡ cuts_of own ps index r
 cuts-passed own ps index count r passed = go (is_number own r.function) passed
   where
-    f : LabelRange → Option PlacedPart
-    f = cut_by index r
-
     go : (b : Bool) → (b ≡ true → EndBy r.start count ps) → (if b then filter_map (cut_by index r) (drop count ps) else []) ≡ (if b then filter_map (cut_by index r) ps else [])
-    go true before =
-        ap (λ xs. xs ++ filter_map (cut_by index r) (drop count ps)) (sym (filter-none (cut_by index r) (take count ps) (λ p i. cut-before index r p (all-in (λ q. q.end ≤ r.start) (take count ps) (before refl) p i))))
-        ∙ sym (filter_map-append (cut_by index r) (take count ps) (drop count ps))
-        ∙ ap (filter_map (cut_by index r)) (take-append-drop count ps)
+    go true before = parts-passed ps index count r (before refl)
     go false before = refl
 
 -- behind a piece that ends behind the range no piece has a part of it

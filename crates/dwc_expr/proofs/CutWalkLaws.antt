@@ -9,8 +9,8 @@ use Rattle.dwc_base.specs.LabelRanges.{IsBefore}
 use Rattle.dwc_clif.specs.declared.value_label.ValueLocRange.{ValueLocRange}
 use Rattle.dwc_clif.specs.declared.value_label.LabelValueLoc.TheVariants.{Reg}
 use Rattle.dwc_clif.specs.ValueLabels.{range_view}
-use Rattle.dwc_expr.specs.FlatRanges.{IsFlat}
-use Rattle.dwc_expr.specs.PlacedParts.{PlacedPart, cut_by, cuts_of, cuts_from, EndBy}
+use Rattle.dwc_clif.specs.FlatRanges.{IsFlat}
+use Rattle.dwc_expr.specs.PlacedParts.{PlacedPart, cut_by, cuts_of, cuts_from, AllPassed, EndBy}
 use Rattle.dwc_expr.proofs.PieceLaws.{end-more}
 use Rattle.dwc_expr.proofs.CutLaws.{cuts-done, cuts-step}
 
@@ -66,10 +66,6 @@ range-step own ps rs i r at =
     next_number : suc i ≡ i + 1
     next_number = omega arith
 
--- The pieces that are passed end in front of each of one's own ranges from a place on.
-abbrev pub AllPassed : Option ℕ → List LabelRange → List NativeRange → ℕ → ℕ → Type 0
-AllPassed own ps rs i next = (j : ℕ) (d : NativeRange) → i ≤ j → j < length rs → is_number own (get_or rs j d).function ≡ true → EndBy (get_or rs j d).start next ps
-
 -- in front of the range at a place
 pub passed-here : (own : Option ℕ) (ps : List LabelRange) (rs : List NativeRange) (i next : ℕ) (r : NativeRange) → IsAt rs i r → AllPassed own ps rs i next → is_number own r.function ≡ true → EndBy r.start next ps
 passed-here own ps rs i next r at passed mine = subst (λ (s : NativeRange). EndBy s.start next ps) at.is (passed i r (omega arith) at.inside (subst (λ (s : NativeRange). is_number own s.function ≡ true) (sym at.is) mine))
@@ -83,13 +79,14 @@ one-number : (own : Option ℕ) (m n : ℕ) → is_number own m ≡ true → is_
 one-number None m n a b = absurd (cc)
 one-number (Some own) m n a b = sym (eqb-true own m a) ∙ eqb-true own n b
 
+-- of one's own ranges an earlier one ends by the begin of a later one
+pub own-before : (own : Option ℕ) (r s : NativeRange) → is_number own r.function ≡ true → is_number own s.function ≡ true → IsBefore r s → r.end ≤ s.start
+own-before own r s mine is (inl less) = let same = one-number own r.function s.function mine is in absurd (omega (arith, less, same))
+own-before own r s mine is (inr apart) = apart.1
+
 pub all-passed-go :
     (own : Option ℕ) (ps : List LabelRange) (rs : List NativeRange) (i next behind : ℕ) (r : NativeRange) → AllPairs IsBefore rs → IsAt rs i r
     → ((byte : ℕ) → (is_number own r.function ≡ true → r.end ≤ byte) → EndBy byte next ps → EndBy byte behind ps)
     → AllPassed own ps rs i next → AllPassed own ps rs (i + 1) behind
 all-passed-go own ps rs i next behind r ordered at on passed j d from within is =
-    on (get_or rs j d).start (λ mine. before mine (subst (λ s. IsBefore s (get_or rs j d)) (get_or_default rs i d r at.inside ∙ at.is) (ordered i j d (omega (arith, from)) within))) (passed j d (omega (arith, from)) within is)
-  where
-    before : is_number own r.function ≡ true → IsBefore r (get_or rs j d) → r.end ≤ (get_or rs j d).start
-    before mine (inl less) = let same = one-number own r.function (get_or rs j d).function mine is in absurd (omega (arith, less, same))
-    before mine (inr s) = s.1
+    on (get_or rs j d).start (λ mine. own-before own r (get_or rs j d) mine is (subst (λ s. IsBefore s (get_or rs j d)) (get_or_default rs i d r at.inside ∙ at.is) (ordered i j d (omega (arith, from)) within))) (passed j d (omega (arith, from)) within is)

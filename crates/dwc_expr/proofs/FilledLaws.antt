@@ -10,7 +10,7 @@ use Rattle.dwc_base.specs.LabelRanges.{bytes_of}
 use Rattle.dwc_base.proofs.InLists.{IsIn, at-in}
 use Rattle.dwc_clif.specs.declared.value_label.ValueLocRange.{ValueLocRange}
 use Rattle.dwc_clif.specs.ValueLabels.{range_view}
-use Rattle.dwc_expr.specs.FlatRanges.{IsFlat}
+use Rattle.dwc_clif.specs.FlatRanges.{IsFlat}
 use Rattle.dwc_expr.specs.OwnPlaces.{is_filled, are_filled}
 use Rattle.dwc_expr.specs.PlacedParts.{EndBy}
 use Rattle.dwc_expr.proofs.PairLaws.{bytes-true, true-bytes}

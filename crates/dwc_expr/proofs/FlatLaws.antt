@@ -1,23 +1,19 @@
 -- Flat ranges, and one more behind them.
-use Rattle.std.proofs.Common.{◌≡◌, ℕ, suc, ◌<◌, ◌≤◌, ◌⊎◌, max, List, [], ◌∷◌, ◌++◌, true, false, Option, Some, None, refl, sym, ap, subst, ◌∙◌, arith, inl, inr, true≢false}
+use Rattle.std.proofs.Common.{◌≡◌, ℕ, suc, ◌<◌, ◌≤◌, ◌⊎◌, max, List, [], ◌∷◌, ◌++◌, true, false, Option, Some, None, refl, sym, ap, ◌∙◌, arith, inl, inr, true≢false}
 use Rattle.std.specs.Prelude.{◌==◌, All}
-use Rattle.std.specs.Option.{option_or, unwrap_or}
-use Rattle.std.proofs.lemmas.Bool.{cases_lt, and_parts, and_cases, eqb-true, eq-eqb}
+use Rattle.std.specs.Option.{option_or}
+use Rattle.std.proofs.lemmas.Bool.{cases_lt, and_parts, eqb-true}
 use Rattle.std.proofs.lemmas.Bool.Decides.{Decides-int_eq}
-use Rattle.std.proofs.lemmas.List.Elements.{All-nil, All-head, All-tail, All-weaker, All-push}
+use Rattle.std.proofs.lemmas.List.Elements.{All-head, All-tail, All-weaker, All-push}
 use Rattle.dwc_base.specs.Compiled.{Place, in_register, at_frame_offset, LabelRange}
 use Rattle.dwc_base.specs.Placed.{same_place, last_place}
-use Rattle.dwc_expr.specs.FlatRanges.{IsFlat, goes_on, goes_on_last, IsFlatTo, IsPut, Puts}
-use Rattle.dwc_expr.proofs.ListEnds.{all-front, all-last, pairs-front, pairs-last, pairs-push, Ends, ends, last_of-end}
+use Rattle.dwc_clif.specs.FlatRanges.{IsFlat, goes_on_last, IsFlatTo}
+use Rattle.dwc_clif.proofs.FlatLaws.{flat-behind, goes_on-end}
+use Rattle.dwc_expr.specs.FlatRanges.{Puts}
+use Rattle.dwc_clif.proofs.ListEnds.{all-front, all-last, pairs-front, pairs-last, pairs-push}
 use Rattle.dwc_expr.proofs.PlaceLaws.{alone-inside, alone-below, alone-behind, alone-empty, or-assoc, answers-append}
 
 -- ---- flat ranges
-
-pub flat-none : IsFlat []
-flat-none = record { nonempty = All-nil (λ r. r.start < r.end); ordered = λ i j d below inside. absurd (omega (arith, inside)); maximal = λ i j d below inside. absurd (omega (arith, inside)) }
-
-pub flat-none-to : (end : ℕ) → IsFlatTo end []
-flat-none-to end = record { flat = flat-none; ends = All-nil (λ r. r.end ≤ end) }
 
 -- those that end at or below a byte end at or below a later one
 pub flat-further : (end later : ℕ) (rs : List LabelRange) → end ≤ later → IsFlatTo end rs → IsFlatTo later rs
@@ -48,33 +44,6 @@ place-same (in_register r) (at_frame_offset o) h = absurd (true≢false (sym h))
 place-same (at_frame_offset o) (in_register r) h = absurd (true≢false (sym h))
 place-same (at_frame_offset o) (at_frame_offset p) h = ap at_frame_offset ((Decides-int_eq o p).0 h)
 
-pub goes_on-end : (front : List LabelRange) (l r : LabelRange) → goes_on_last (front ++ l ∷ []) r ≡ goes_on l r
-goes_on-end [] l r = refl
-goes_on-end (x ∷ front) l r = ap (λ o. goes_on (unwrap_or o x) r) (last_of-end front l)
-
--- a range does not go on where one of some ends
-abbrev pub IsNoneBefore : LabelRange → List LabelRange → Type 0
-IsNoneBefore r rs = All (λ x. (x.end ≡ r.start) → same_place (Some x.place) (Some r.place) ≡ false) rs
-
-none-before : (end : ℕ) (r l : LabelRange) (front : List LabelRange) → end ≤ r.start → goes_on l r ≡ false → IsFlatTo end (front ++ l ∷ []) → IsNoneBefore r (front ++ l ∷ [])
-none-before end r l front le apart f =
-    All-push (λ x. (x.end ≡ r.start) → same_place (Some x.place) (Some r.place) ≡ false) front l
-    (λ k d inside touch. absurd (omega (arith, touch, ordered k d inside, some, last, le)))
-    (λ touch. go touch (and_cases (l.end == r.start) (same_place (Some l.place) (Some r.place)) apart))
-  where
-    ordered : All (λ x. x.end ≤ l.start) front
-    ordered = pairs-last (λ x y. x.end ≤ y.start) front l f.flat.ordered
-
-    some : l.start < l.end
-    some = all-last (λ x. x.start < x.end) front l f.flat.nonempty
-
-    last : l.end ≤ end
-    last = all-last (λ x. x.end ≤ end) front l f.ends
-
-    go : l.end ≡ r.start → ((l.end == r.start) ≡ false) ⊎ (same_place (Some l.place) (Some r.place) ≡ false) → same_place (Some l.place) (Some r.place) ≡ false
-    go touch (inl not) = absurd (true≢false (sym (eq-eqb l.end r.start touch) ∙ not))
-    go touch (inr differ) = differ
-
 -- ---- one range more
 
 -- an empty one
@@ -84,32 +53,9 @@ put-empty r old empty end f le = record {
   same = λ byte. sym (answers-append old (r ∷ []) byte ∙ ap (λ o. option_or o (last_place old byte)) (alone-empty r byte empty));
 }
 
-behind : (end : ℕ) (r : LabelRange) (old : List LabelRange) → r.start < r.end → end ≤ r.start → IsNoneBefore r old → IsFlatTo end old → IsPut end r old (old ++ r ∷ [])
-behind end r old some le apart f = record {
-  flat = record {
-    flat = record {
-      nonempty = All-push (λ x. x.start < x.end) old r f.flat.nonempty some;
-      ordered = pairs-push (λ x y. x.end ≤ y.start) old r f.flat.ordered (λ k d inside. omega (arith, f.ends k d inside, le));
-      maximal = pairs-push (λ x y. (x.end ≡ y.start) → same_place (Some x.place) (Some y.place) ≡ false) old r f.flat.maximal apart;
-    };
-    ends = All-push (λ x. x.end ≤ max end r.end) old r (All-weaker (λ x. x.end ≤ end) (λ x. x.end ≤ max end r.end) (λ x to. omega (arith, to)) old f.ends) (omega arith);
-  };
-  same = λ byte. refl;
-}
-
 -- one that does not go on where the last one ends
 pub put-apart : (r : LabelRange) (old : List LabelRange) → r.start < r.end → goes_on_last old r ≡ false → Puts r old (old ++ r ∷ [])
-put-apart r old some apart end f le = behind end r old some le (go (ends old)) f
-  where
-    go : (old ≡ []) ⊎ Ends old → IsNoneBefore r old
-    go (inl none) = subst (IsNoneBefore r) (sym none) (All-nil (λ x. (x.end ≡ r.start) → same_place (Some x.place) (Some r.place) ≡ false))
-    go (inr e) =
-        subst (IsNoneBefore r) (sym e.is)
-        (none-before end r e.last e.front le (sym (goes_on-end e.front e.last r) ∙ ap (λ rs. goes_on_last rs r) (sym e.is) ∙ apart) (subst (IsFlatTo end) e.is f))
-
--- flat ranges with one more that does not go on where the last one ends
-pub flat-more : (end : ℕ) (r : LabelRange) (rs : List LabelRange) → IsFlatTo end rs → end ≤ r.start → r.start < r.end → goes_on_last rs r ≡ false → IsFlatTo r.end (rs ++ r ∷ [])
-flat-more end r rs f le some apart = subst (λ n. IsFlatTo n (rs ++ r ∷ [])) (omega (arith, le, some)) (put-apart r rs some apart end f le).flat
+put-apart r old some apart end f le = record { flat = flat-behind end r old some le apart f; same = λ byte. refl }
 
 -- two ranges that touch at one place answer as one
 module _ (l r : LabelRange) (first : l.start < l.end) (second : r.start < r.end) (touch : l.end ≡ r.start) (place : l.place ≡ r.place) where

@@ -7,7 +7,7 @@ use Rattle.std.proofs.lemmas.List.Elements.{All-contains}
 use Rattle.dwc_base.specs.Compiled.{Place, in_register, at_frame_offset, LabelRange}
 use Rattle.dwc_base.specs.Placed.{is_between, last_place, same_place}
 use Rattle.dwc_base.proofs.InLists.{IsIn, in-contains}
-use Rattle.dwc_expr.specs.FlatRanges.{IsFlat}
+use Rattle.dwc_clif.specs.FlatRanges.{IsFlat}
 use Rattle.dwc_expr.proofs.PlaceLaws.{alone-inside, alone-below, alone-behind, first-answers, others-answer, none-below}
 use Rattle.dwc_expr.proofs.FlatLaws.{First, first-of}
 

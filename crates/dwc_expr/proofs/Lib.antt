@@ -17,13 +17,13 @@ pub mod JumpLaws
 mod KnownLaws
 pub mod LabelLaws
 mod LandingLaws
-pub mod ListEnds
 pub mod LocLaws
 pub mod MadeLaws
 pub mod NarrowLaws
 pub mod OverlayLaws
 pub mod PairLaws
 mod PartWalk
+pub mod PassedLaws
 pub mod PieceLaws
 pub mod PlaceLaws
 pub mod PlaceRefusals

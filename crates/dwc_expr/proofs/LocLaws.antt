@@ -1,16 +1,12 @@
 -- Ranges as they are held, with one more behind them.
 use Rattle.std.proofs.Common.{◌≡◌, ℕ, ◌-◌, ◌<◌, ◌⊎◌, List, [], ◌∷◌, ◌++◌, length, get_or, set, map, true, false, sym, ap, subst, ◌∙◌, arith, inl, inr, true≢false}
 use Rattle.std.proofs.lemmas.List.{get_or_at, set_at, length_push, map_push}
-use Rattle.dwc_clif.specs.declared.value_label.LabelValueLoc.TheVariants.{Reg}
 use Rattle.dwc_clif.specs.declared.value_label.ValueLocRange.{ValueLocRange}
 use Rattle.dwc_clif.specs.ValueLabels.{range_view}
-use Rattle.dwc_expr.specs.FlatRanges.{goes_on_last, Puts}
-use Rattle.dwc_expr.proofs.ListEnds.{Ends, ends}
+use Rattle.dwc_clif.specs.FlatRanges.{goes_on_last}
+use Rattle.dwc_expr.specs.FlatRanges.{Puts}
+use Rattle.dwc_clif.proofs.ListEnds.{Ends, ends}
 use Rattle.dwc_expr.proofs.FlatLaws.{put-apart, put-joined}
-
--- what stands past the end of a list of ranges
-abbrev pub no_range : ValueLocRange
-no_range = record { loc = Reg (record { 0 = 0 }); start = 0; end = 0 }
 
 -- the last range of some is lengthened
 pub put-longer :

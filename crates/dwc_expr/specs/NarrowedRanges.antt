@@ -9,7 +9,7 @@ use Rattle.dwc_expr.specs.declared.error.ExprError.{ExprError}
 use Rattle.dwc_expr.specs.declared.error.ExprError.TheVariants.{Read, TooLarge, BadLabelRange, InvalidAttributeValue, UnmappedRegister, OutOfMemory}
 use Rattle.dwc_expr.specs.declared.label_ranges.BuiltValueLabelRanges.{BuiltValueLabelRanges}
 use Rattle.dwc_expr.specs.Frames.{ToldFrame, frame_of}
-use Rattle.dwc_expr.specs.FlatRanges.{IsFlat}
+use Rattle.dwc_clif.specs.FlatRanges.{IsFlat}
 use Rattle.dwc_expr.specs.LabelRanges.{Gathered, gathered_frame, with_label, bounds_of, location_in, GivesRanges}
 use Rattle.dwc_expr.specs.OwnPlaces.{place_in}
 use Rattle.dwc_expr.specs.PlacedParts.{PlacedPart}

@@ -1,5 +1,5 @@
 -- The parts of ranges of native code on which one more label has a place.
-use Rattle.std.specs.Prelude.{ℕ, suc, ◌≤◌, min, max, nat_lt, List, [], ◌∷◌, ◌++◌, take, if◌then◌else◌, Option, Some, None, All}
+use Rattle.std.specs.Prelude.{◌≡◌, ℕ, suc, ◌≤◌, ◌<◌, min, max, nat_lt, List, [], ◌∷◌, ◌++◌, take, length, slice_index_or, true, if◌then◌else◌, Option, Some, None, All}
 use Rattle.std.specs.List.{filter_map}
 use Rattle.dwc_base.specs.Compiled.{Place, LabelRange}
 use Rattle.dwc_base.specs.Placed.{is_number, NativeRange}
@@ -29,3 +29,7 @@ cuts_from own pieces index (r ∷ rs) = cuts_of own pieces index r ++ cuts_from 
 -- the first so many pieces end at a byte or in front of it
 abbrev pub EndBy : ℕ → ℕ → List LabelRange → Type 0
 EndBy byte count pieces = All (λ p. p.end ≤ byte) (take count pieces)
+
+-- The pieces that are passed end in front of each of one's own ranges from a place on.
+abbrev pub AllPassed : Option ℕ → List LabelRange → List NativeRange → ℕ → ℕ → Type 0
+AllPassed own ps rs i next = (j : ℕ) (d : NativeRange) → i ≤ j → j < length rs → is_number own (slice_index_or rs j d).function ≡ true → EndBy (slice_index_or rs j d).start next ps

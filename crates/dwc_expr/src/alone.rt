@@ -11,18 +11,19 @@ ghost use Rattle.dwc_clif.specs.ValueLabels.{place_view, range_view};
 ghost use Rattle.dwc_expr.specs.Alone.{PutsAlone, framed, lone_part, part_at, parts_in};
 ghost use Rattle.dwc_expr.specs.Builds.{Builds, surroundings};
 ghost use Rattle.dwc_expr.specs.CodeRanges.{code_range_view};
-ghost use Rattle.dwc_expr.specs.FlatRanges.{IsFlat};
+ghost use Rattle.dwc_clif.specs.FlatRanges.{IsFlat};
 ghost use Rattle.dwc_expr.specs.NarrowedRanges.{Tells};
-ghost use Rattle.dwc_expr.specs.PlacedParts.{cut_by};
+ghost use Rattle.dwc_expr.specs.PlacedParts.{cut_by, EndBy};
 ghost use Rattle.dwc_expr.specs.RangeSettings.{with_registers};
 
 use crate::bytes::put_local;
 use crate::code_range::CodeRange;
 use crate::cuts::is_own;
 use crate::filled::last_in;
-use crate::flat::{are_flat, flattened};
+use crate::flat::flattened;
+use crate::passed::first_behind;
 use crate::places::check_place;
-use crate::told::{has_reversed, own_function, told_ranges};
+use crate::told::{flat_ranges, has_reversed, own_function, told_ranges};
 use crate::{BuiltCompiledExpression, ExprError, FunctionFrameInfo};
 use dwc_addr::AddressTransform;
 use dwc_base::Address;
@@ -82,11 +83,11 @@ pub(crate) fn build_alone(
     requires low { range.end < 2 ^ 32 }
     ensures { (functions : List Function) (x : CompiledParts) → built_parts x ≡ lone_part local ∷ [] → Builds (built_on_ranges (surroundings functions (option_map (λ f. f.now) frame_info.entry) (dwarf_registers isa.now)) (code_range_view range ∷ []) x) result }
 {
-    let told = told_ranges(frame_info, local.label);
     let own = own_function(frame_info);
-    if are_flat(told) {
-        return build_by(alloc, local, own, told, range, isa);
+    if let Some(pieces) = flat_ranges(frame_info, local.label) {
+        return build_by(alloc, local, own, pieces, range, isa);
     }
+    let told = told_ranges(frame_info, local.label);
     if has_reversed(told) {
         return Err(ExprError::BadLabelRange { label: local.label });
     }
@@ -114,39 +115,47 @@ fn build_by(
             covers_entire_scope: false,
         });
     }
-    let mut expressions = Vec::with_capacity(alloc, count_in(pieces, range))?;
-    put_expressions(alloc, &mut expressions, local, pieces, range, isa)?;
+    let first = first_behind(pieces, range.start);
+    let mut expressions = Vec::with_capacity(alloc, count_in(pieces, first, range))?;
+    put_expressions(alloc, &mut expressions, local, pieces, first, range, isa)?;
     Ok(BuiltCompiledExpression {
         expressions,
-        covers_entire_scope: last_in(range, pieces, 0).is_some(),
+        covers_entire_scope: last_in(range, pieces, first).is_some(),
     })
 }
 
-// In how many pieces a range has bytes.
-fn count_in(pieces: &[ValueLocRange], range: CodeRange) -> usize {
+// In how many flat pieces, of those from one on, a range has bytes.
+fn count_in(pieces: &[ValueLocRange], first: usize, range: CodeRange) -> usize {
     let mut count = 0;
-    for piece in pieces {
+    for place in first..pieces.len() {
+        let piece = &pieces[place];
         if part_in(range, piece).is_some() {
             count += 1;
+        }
+        if piece.end as usize > range.end {
+            return count;
         }
     }
     count
 }
 
-// Puts the expressions of a local on the bytes that a range has in flat pieces behind others.
+// Puts the expressions of a local on the bytes that a range has in flat pieces behind others. The pieces in front of the first end in
+// front of the range.
 fn put_expressions(
     alloc: Global,
     expressions: &mut Vec<(Address, u64, Expression)>,
     local: LoneLocal,
     pieces: &[ValueLocRange],
+    first: usize,
     range: CodeRange,
     isa: &dyn TargetIsa,
 ) -> Result<(), ExprError>
     requires flat { IsFlat (map range_view pieces.now) }
+    requires passed { EndBy range.start first (map range_view pieces.now) }
     requires low { range.end < 2 ^ 32 }
     ensures { PutsAlone local.trailing (dwarf_registers isa.now) (parts_in range pieces.now) expressions.old.items expressions.new.items result }
 {
-    for place in 0..pieces.len() {
+    for place in first..pieces.len() {
         let piece = &pieces[place];
         put_in(alloc, expressions, local, range, piece, isa)?;
         if piece.end as usize > range.end {

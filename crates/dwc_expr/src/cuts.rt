@@ -5,10 +5,10 @@ ghost use Rattle.dwc_base.specs.LabelRanges.{IsBefore};
 ghost use Rattle.dwc_base.specs.Placed.{is_number};
 ghost use Rattle.dwc_clif.specs.ValueLabels.{place_view, range_view};
 ghost use Rattle.dwc_expr.specs.CodeRanges.{code_range_view};
-ghost use Rattle.dwc_expr.specs.FlatRanges.{IsFlat};
+ghost use Rattle.dwc_clif.specs.FlatRanges.{IsFlat};
 ghost use Rattle.dwc_expr.specs.LabelRanges.{bounds_of};
 ghost use Rattle.dwc_expr.specs.NarrowedRanges.{AddsMade, IsMadeIn, IsMadeOf};
-ghost use Rattle.dwc_expr.specs.PlacedParts.{cut_by, cuts_from, cuts_of, EndBy};
+ghost use Rattle.dwc_expr.specs.PlacedParts.{cut_by, cuts_from, cuts_of, AllPassed, EndBy};
 
 use crate::cached_range::CachedValueLabelRange;
 use crate::code_range::CodeRange;
@@ -16,20 +16,23 @@ use dwc_clif::{ValueLabel, ValueLocRange};
 use std::alloc::{AllocError, Global};
 
 // The parts of ranges that lie in pieces, in order, with the place of a label by its piece: of the ranges of one's own function, if it
-// has a number.
+// has a number. The pieces in front of the first end in front of these.
 pub(crate) fn cut_ranges(
     alloc: Global,
     own: Option<usize>,
     label: ValueLabel,
     pieces: &[ValueLocRange],
     ranges: &[CachedValueLabelRange],
+    first: usize,
 ) -> Result<Vec<CachedValueLabelRange>, AllocError>
     requires flat { IsFlat (map range_view pieces.now) }
     requires ordered { AllPairs IsBefore (map bounds_of ranges.now) }
+    requires inside { first ≤ length pieces.now }
+    requires passed { AllPassed own (map range_view pieces.now) (map bounds_of ranges.now) 0 first }
     ensures { IfOk result (λ made. AllZip (IsMadeIn label.0 ranges.now) (cuts_from own (map range_view pieces.now) 0 (map bounds_of ranges.now)) made.items) }
 {
     let mut made = Vec::new(alloc);
-    let mut next = 0;
+    let mut next = first;
     for i in 0..ranges.len() {
         next = cut_range(&mut made, own, label, &ranges[i], pieces, next)?;
     }

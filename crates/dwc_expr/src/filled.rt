@@ -5,8 +5,8 @@ ghost use Rattle.dwc_base.specs.LabelRanges.{IsBefore, bytes_of};
 ghost use Rattle.dwc_base.specs.Placed.{last_place};
 ghost use Rattle.dwc_clif.specs.ValueLabels.{range_view};
 ghost use Rattle.dwc_expr.specs.CodeRanges.{code_range_view};
-ghost use Rattle.dwc_expr.specs.PlacedParts.{EndBy};
-ghost use Rattle.dwc_expr.specs.FlatRanges.{IsFlat};
+ghost use Rattle.dwc_expr.specs.PlacedParts.{AllPassed, EndBy};
+ghost use Rattle.dwc_clif.specs.FlatRanges.{IsFlat};
 ghost use Rattle.dwc_expr.specs.LabelRanges.{bounds_of};
 ghost use Rattle.dwc_expr.specs.OwnPlaces.{are_filled};
 
@@ -15,18 +15,22 @@ use crate::code_range::CodeRange;
 use crate::cuts::is_own;
 use dwc_clif::ValueLocRange;
 
-// Whether each byte of ranges has a place by the pieces of one's own function, if it has a number.
+// Whether each byte of ranges has a place by the pieces of one's own function, if it has a number. The pieces in front of the first end
+// in front of the ranges of that function.
 pub(crate) fn are_filled(
     own: Option<usize>,
     pieces: &[ValueLocRange],
     ranges: &[CachedValueLabelRange],
+    first: usize,
 ) -> bool
     requires flat { IsFlat (map range_view pieces.now) }
     requires ordered { AllPairs IsBefore (map bounds_of ranges.now) }
     requires nonempty { All (λ r. r.start < r.end) (map bounds_of ranges.now) }
+    requires inside { first ≤ length pieces.now }
+    requires passed { AllPassed own (map range_view pieces.now) (map bounds_of ranges.now) 0 first }
     ensures { result ≡ are_filled own (map range_view pieces.now) (map bounds_of ranges.now) }
 {
-    let mut next = 0;
+    let mut next = first;
     for i in 0..ranges.len() {
         let range = ranges[i].bounds();
         if !is_own(own, range.function) {

@@ -1,10 +1,11 @@
 //! Ranges in which a value lies, made disjoint and put in order.
-ghost use Rattle.std.specs.Prelude.{◌≡◌, ◌≤◌, ◌-◌, ◌^◌, ◌++◌, ℕ, [], length, map, IfOk, OnOk, MatchOption, true};
+ghost use Rattle.std.specs.Prelude.{◌≡◌, ◌≤◌, ◌-◌, ◌^◌, ◌++◌, ℕ, [], length, map, IfOk, OnOk, MatchOption};
 ghost use Rattle.dwc_base.specs.Placed.{last_place};
+ghost use Rattle.dwc_clif.specs.FlatRanges.{IsFlat};
 ghost use Rattle.dwc_clif.specs.ValueLabels.{range_view};
-ghost use Rattle.dwc_expr.specs.FlatRanges.{IsFlat, Flattens, goes_on as range_goes_on, goes_on_last as range_goes_on_last, Puts, part_between as part_of, PutsBetween, IsRest};
+ghost use Rattle.dwc_expr.specs.FlatRanges.{Flattens, Puts, part_between as part_of, PutsBetween, IsRest};
 
-use dwc_clif::ValueLocRange;
+use dwc_clif::{ValueLocRange, goes_on_last};
 use std::alloc::{AllocError, Global};
 
 /// Ranges as disjoint ones in order, none of them empty, that are as long as they can be. Where some overlap, the place of the last
@@ -23,21 +24,6 @@ pub(crate) fn flattened(
     let below = flattened(alloc, earlier)?;
     let above = flattened(alloc, later)?;
     overlaid(alloc, &below, &above)
-}
-
-/// Whether each range is some bytes behind those in front, and none goes on where the one in front ends, at its place: they are flat as
-/// they are.
-pub(crate) fn are_flat(ranges: &[ValueLocRange]) -> bool
-    ensures { result ≡ true → IsFlat (map range_view ranges.now) }
-{
-    let mut end = 0;
-    for (i, range) in ranges.iter().enumerate() {
-        if range.start < end || range.end <= range.start || goes_on_last(&ranges[..i], range) {
-            return false;
-        }
-        end = range.end;
-    }
-    true
 }
 
 // The same in one pass; None where a range begins below an end of one in front.
@@ -135,21 +121,4 @@ fn put(out: &mut Vec<ValueLocRange>, range: ValueLocRange) -> Result<(), AllocEr
     }
     out.push(range)?;
     Ok(())
-}
-
-// Whether a range goes on where the last of some ends, at its place.
-fn goes_on_last(ranges: &[ValueLocRange], next: &ValueLocRange) -> bool
-    ensures { result ≡ range_goes_on_last (map range_view ranges.now) (range_view next.now) }
-{
-    match ranges.split_last() {
-        Some((last, _)) => goes_on(last, next),
-        None => false,
-    }
-}
-
-// Whether a range goes on where another ends, at its place.
-fn goes_on(range: &ValueLocRange, next: &ValueLocRange) -> bool
-    ensures { result ≡ range_goes_on (range_view range.now) (range_view next.now) }
-{
-    range.end == next.start && range.loc == next.loc
 }

@@ -28,6 +28,7 @@ mod on_ranges;
 mod pads;
 mod part;
 mod parts_to_build;
+mod passed;
 mod places;
 mod rule;
 mod scope;

@@ -2,15 +2,16 @@
 ghost use Rattle.std.specs.Prelude.{◌<◌, All, AllPairs, IfOk, map, option_map};
 ghost use Rattle.dwc_base.specs.LabelRanges.{IsBefore};
 ghost use Rattle.dwc_clif.specs.ValueLabels.{range_view};
-ghost use Rattle.dwc_expr.specs.FlatRanges.{IsFlat};
+ghost use Rattle.dwc_clif.specs.FlatRanges.{IsFlat};
 ghost use Rattle.dwc_expr.specs.Frames.{told_frame};
 ghost use Rattle.dwc_expr.specs.LabelRanges.{bounds_of};
 ghost use Rattle.dwc_expr.specs.NarrowedRanges.{Narrows, NarrowsBy};
 
 use crate::cuts::cut_ranges;
 use crate::filled::are_filled;
-use crate::flat::{are_flat, flattened};
-use crate::told::{has_reversed, own_function, told_ranges};
+use crate::flat::flattened;
+use crate::passed::first_needed;
+use crate::told::{flat_ranges, has_reversed, own_function, told_ranges};
 use crate::{BuiltValueLabelRanges, ExprError, FunctionFrameInfo};
 use dwc_clif::{ValueLabel, ValueLocRange};
 use std::alloc::{AllocError, Global};
@@ -26,13 +27,13 @@ pub(crate) fn narrowed(
     requires nonempty { All (λ r. r.start < r.end) (map bounds_of built.now.ranges.items) }
     ensures { Narrows (option_map (λ f. told_frame f.now) frame.entry) label.0 built.now result }
 {
+    let own = own_function(frame);
+    if let Some(pieces) = flat_ranges(frame, label) {
+        return Ok(narrowed_by(alloc, own, label, pieces, built)?);
+    }
     let told = told_ranges(frame, label);
     if has_reversed(told) {
         return Err(ExprError::BadLabelRange { label });
-    }
-    let own = own_function(frame);
-    if are_flat(told) {
-        return Ok(narrowed_by(alloc, own, label, told, built)?);
     }
     let pieces = flattened(alloc, told)?;
     Ok(narrowed_by(alloc, own, label, &pieces, built)?)
@@ -51,8 +52,10 @@ fn narrowed_by(
     requires nonempty { All (λ r. r.start < r.end) (map bounds_of built.now.ranges.items) }
     ensures { IfOk result (NarrowsBy own label.0 (map range_view pieces.now) built.now) }
 {
-    let ranges = cut_ranges(alloc, own, label, pieces, &built.ranges)?;
-    let covers_entire_scope = built.covers_entire_scope && are_filled(own, pieces, &built.ranges);
+    let old = built.ranges.as_slice();
+    let first = first_needed(own, pieces, old);
+    let ranges = cut_ranges(alloc, own, label, pieces, old, first)?;
+    let covers_entire_scope = built.covers_entire_scope && are_filled(own, pieces, old, first);
     Ok(BuiltValueLabelRanges {
         ranges,
         covers_entire_scope,

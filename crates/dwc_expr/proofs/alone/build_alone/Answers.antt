@@ -5,19 +5,19 @@ use Rattle.dwc_base.specs.Placed.{last_place}
 use Rattle.dwc_clif.specs.ValueLabels.{range_view}
 use Rattle.dwc_clif.specs.declared.value_label.ValueLocRange.{ValueLocRange}
 use Rattle.dwc_expr.specs.declared.frame.FunctionFrameInfo.{FunctionFrameInfo}
-use Rattle.dwc_expr.specs.FlatRanges.{IsFlat}
+use Rattle.dwc_clif.specs.FlatRanges.{IsFlat}
 use Rattle.dwc_expr.specs.Frames.{frame_view}
 use Rattle.dwc_expr.proofs.AloneLaws.{good-own, none-reversed, tells-own}
 use Rattle.dwc_expr.proofs.alone.build_alone.Goals as goal
 
-pub returns-then-are_flat : goal.returns-then-are_flat
-returns-then-are_flat g c = λ functions x is.
+pub returns-in-Some : goal.returns-in-Some
+returns-in-Some g c = λ functions x is.
     let f = c.args.frame_info in
     let label = c.args.local.label.0 in
-    let told = map range_view c.told_ranges-told.result.now in
+    let pieces = map range_view c.in-Some.pieces.now in
     c.build_by.ensures functions (frame_view (option_map (λ (y : Bor FunctionFrameInfo). y.now) f)) x
-    (tells-own f label c.own_function-own.result told told c.own_function-own.ensures c.told_ranges-told.ensures (c.are_flat.ensures c.if-are_flat.true) (λ byte. refl))
-    (good-own f label told (list_any (λ r. nat_lt r.end r.start) told) c.told_ranges-told.ensures refl (none-reversed told (c.are_flat.ensures c.if-are_flat.true).nonempty)) is
+    (tells-own f label c.own_function-own.result pieces pieces c.own_function-own.ensures c.in-Some.ensures.same c.in-Some.ensures.flat (λ byte. refl))
+    (good-own f label pieces (list_any (λ r. nat_lt r.end r.start) pieces) c.in-Some.ensures.same refl (none-reversed pieces c.in-Some.ensures.flat.nonempty)) is
 
 pub returns : goal.returns
 returns g c = λ functions x is.

@@ -1,5 +1,5 @@
 use Rattle.std.proofs.Common.{◌≤◌}
 use Rattle.dwc_expr.proofs.alone.count_in.Given as goal
 
-abbrev pub invariant-loop-piece : goal.invariant-loop-piece
-invariant-loop-piece l = l.count ≤ l.piece-index
+abbrev pub invariant-loop-place : goal.invariant-loop-place
+invariant-loop-place l = l.count ≤ l.place

@@ -6,9 +6,17 @@ use Rattle.dwc_clif.specs.ValueLabels.{range_view}
 use Rattle.dwc_expr.specs.Alone.{parts_in}
 use Rattle.dwc_expr.specs.CodeRanges.{code_range_view}
 use Rattle.dwc_expr.specs.PlacedParts.{cut_by}
-use Rattle.dwc_expr.proofs.AloneLaws.{alone-end, alone-more, alone-told}
+use Rattle.dwc_expr.proofs.AloneLaws.{alone-begin, alone-end, alone-more, alone-told}
+use Rattle.dwc_expr.proofs.CutLaws.{parts-passed}
 use Rattle.dwc_expr.proofs.CutWalkLaws.{no_piece, piece-step, pieces-done, pieces-past}
 use Rattle.dwc_expr.proofs.alone.put_expressions.Goals as goal
+
+pub loop-place-init : goal.loop-place-init
+loop-place-init g c =
+    let registers : Registers = (goal.TargetIsa-dyn g c.args.isa.now).dwarf_registers c.args.isa.now.1 in
+    let r : NativeRange = code_range_view c.args.range in
+    let ps = c.args.pieces.now in
+    alone-begin c.args.local.trailing registers (filter_map (cut_by 0 r) (drop c.args.first (map range_view ps))) (parts_in c.args.range ps) c.args.expressions.now.items (parts-passed (map range_view ps) 0 c.args.first r c.requires.passed)
 
 pub loop-place-preserved : goal.loop-place-preserved
 loop-place-preserved g c =

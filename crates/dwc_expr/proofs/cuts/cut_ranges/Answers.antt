@@ -17,8 +17,8 @@ loop-i-init c =
     let all = cuts_from c.args.own (map range_view c.args.pieces.now) 0 (map bounds_of c.args.ranges.now) in
     record {
       cut = subst (λ (now : List CachedValueLabelRange). Leads (IsMadeIn c.args.label.0 c.args.ranges.now) all all now []) (sym c.new-made.ensures.items) (λ new a. a);
-      inside = omega arith;
-      passed = λ j d from within is k e below. absurd (omega (arith, below));
+      inside = c.requires.inside;
+      passed = c.requires.passed;
     }
 
 pub loop-i-preserved : goal.loop-i-preserved

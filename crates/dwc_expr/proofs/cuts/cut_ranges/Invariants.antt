@@ -2,8 +2,7 @@ use Rattle.std.proofs.Common.{◌≤◌, [], length, map, drop}
 use Rattle.dwc_clif.specs.ValueLabels.{range_view}
 use Rattle.dwc_expr.specs.LabelRanges.{bounds_of}
 use Rattle.dwc_expr.specs.NarrowedRanges.{IsMadeIn}
-use Rattle.dwc_expr.specs.PlacedParts.{cuts_from}
-use Rattle.dwc_expr.proofs.CutWalkLaws.{AllPassed}
+use Rattle.dwc_expr.specs.PlacedParts.{cuts_from, AllPassed}
 use Rattle.dwc_expr.proofs.MadeLaws.{Leads}
 use Rattle.dwc_expr.proofs.cuts.cut_ranges.Given as goal
 

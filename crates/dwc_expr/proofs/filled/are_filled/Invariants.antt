@@ -2,7 +2,7 @@ use Rattle.std.proofs.Common.{◌≡◌, ◌≤◌, length, map, drop}
 use Rattle.dwc_clif.specs.ValueLabels.{range_view}
 use Rattle.dwc_expr.specs.LabelRanges.{bounds_of}
 use Rattle.dwc_expr.specs.OwnPlaces.{are_filled}
-use Rattle.dwc_expr.proofs.CutWalkLaws.{AllPassed}
+use Rattle.dwc_expr.specs.PlacedParts.{AllPassed}
 use Rattle.dwc_expr.proofs.filled.are_filled.Given as goal
 
 -- the ranges that are left answer what all answer

@@ -1,7 +1,7 @@
 use Rattle.std.proofs.Common.{◌++◌, [], ◌∷◌, map, take, get_or, subst, sym, arith}
 use Rattle.std.proofs.lemmas.List.{map_more}
 use Rattle.dwc_clif.specs.ValueLabels.{range_view}
-use Rattle.dwc_expr.proofs.LocLaws.{no_range}
+use Rattle.dwc_clif.proofs.FlatLaws.{no_range}
 use Rattle.dwc_expr.proofs.OverlayLaws.{IsCollected, collected-more}
 use Rattle.dwc_expr.proofs.flat.collected.Goals as goal
 

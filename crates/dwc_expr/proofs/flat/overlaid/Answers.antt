@@ -1,8 +1,8 @@
 use Rattle.std.proofs.Common.{◌+◌, ◌≤◌, map, drop, get_or, refl, subst, ap, arith}
 use Rattle.std.proofs.lemmas.List.Elements.{All-head}
 use Rattle.dwc_clif.specs.ValueLabels.{range_view}
-use Rattle.dwc_expr.proofs.ListEnds.{map-next, map-past}
-use Rattle.dwc_expr.proofs.LocLaws.{no_range}
+use Rattle.dwc_clif.proofs.ListEnds.{map-next, map-past}
+use Rattle.dwc_clif.proofs.FlatLaws.{no_range}
 use Rattle.dwc_expr.proofs.OverlayLaws.{IsOverlaid, overlaid-more, overlaid-all}
 use Rattle.dwc_expr.proofs.flat.overlaid.Goals as goal
 

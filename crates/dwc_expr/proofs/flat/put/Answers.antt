@@ -1,6 +1,6 @@
 use Rattle.std.proofs.Common.{map, sym, ap, ◌∙◌}
 use Rattle.dwc_clif.specs.ValueLabels.{range_view}
-use Rattle.dwc_expr.specs.FlatRanges.{goes_on_last}
+use Rattle.dwc_clif.specs.FlatRanges.{goes_on_last}
 use Rattle.dwc_expr.proofs.FlatLaws.{put-empty}
 use Rattle.dwc_expr.proofs.LocLaws.{put-longer, put-pushed}
 use Rattle.dwc_expr.proofs.flat.put.Goals as goal

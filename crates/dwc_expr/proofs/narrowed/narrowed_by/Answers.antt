@@ -18,13 +18,13 @@ returns c = λ g tells old.
     let ranges = c.args.built.now.ranges.items in
     let made = c.in_ok-ranges.ranges.items in
     let zip : AllZip (IsMadeIn c.args.label.0 ranges) (cuts_from own pieces 0 (map bounds_of ranges)) made =
-    subst (λ (rs : List CachedValueLabelRange). AllZip (IsMadeIn c.args.label.0 rs) (cuts_from own pieces 0 (map bounds_of rs)) made) c.deref.ensures.value c.in_ok-ranges.ensures in
+    subst (λ (rs : List CachedValueLabelRange). AllZip (IsMadeIn c.args.label.0 rs) (cuts_from own pieces 0 (map bounds_of rs)) made) c.as_slice-old.ensures.value c.in_ok-ranges.ensures in
     let all : c.if-built.covers_entire_scope ≡ (c.args.built.now.covers_entire_scope && are_filled own pieces (map bounds_of ranges)) =
     elim c.if-built.branch [
       | then-built w ↦
           w.covers_entire_scope-is
           ∙ w.are_filled-covers_entire_scope.ensures
-          ∙ ap (λ rs. are_filled own pieces (map bounds_of rs)) w.deref-then-built.ensures.value
+          ∙ ap (λ rs. are_filled own pieces (map bounds_of rs)) c.as_slice-old.ensures.value
           ∙ ap (λ b. b && are_filled own pieces (map bounds_of ranges)) (sym w.if-built.true)
       | else-built w ↦ w.covers_entire_scope-is ∙ w.if-built.false ∙ ap (λ b. b && are_filled own pieces (map bounds_of ranges)) (sym w.if-built.false)
     ] in

@@ -2,7 +2,7 @@ use Rattle.std.proofs.Common.{[], ◌+◌, ◌<◌, map, take, drop, get_or, sub
 use Rattle.std.proofs.lemmas.List.{map_more}
 use Rattle.std.proofs.lemmas.List.Elements.{All-map}
 use Rattle.dwc_expr.specs.CodeRanges.{code_range_view}
-use Rattle.dwc_expr.proofs.ListEnds.{map-next}
+use Rattle.dwc_clif.proofs.ListEnds.{map-next}
 use Rattle.dwc_expr.proofs.CodeLaws.{no_code}
 use Rattle.dwc_expr.proofs.ScopeLaws.{IsJoining, joining-none, joining-more}
 use Rattle.dwc_expr.proofs.scope.joined.Goals as goal

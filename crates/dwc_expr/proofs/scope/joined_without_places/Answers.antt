@@ -7,7 +7,7 @@ use Rattle.dwc_expr.specs.declared.code_range.CodeRange.{CodeRange}
 use Rattle.dwc_expr.specs.CodeRanges.{code_range_view}
 use Rattle.dwc_expr.specs.JoinedScopes.{AreApart}
 use Rattle.dwc_expr.specs.LabelRanges.{bounds_of}
-use Rattle.dwc_expr.proofs.ListEnds.{all-seen}
+use Rattle.dwc_clif.proofs.ListEnds.{all-seen}
 use Rattle.dwc_expr.proofs.ScopeLaws.{apart-are}
 use Rattle.dwc_expr.proofs.scope.joined_without_places.Goals as goal
 

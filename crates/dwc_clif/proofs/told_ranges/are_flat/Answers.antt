@@ -1,10 +1,10 @@
 use Rattle.std.proofs.Common.{◌∙◌, get_or, map, subst, sym, take}
 use Rattle.std.proofs.lemmas.List.{map_more}
 use Rattle.dwc_clif.specs.ValueLabels.{range_view}
-use Rattle.dwc_expr.specs.FlatRanges.{IsFlatTo}
-use Rattle.dwc_expr.proofs.FlatLaws.{flat-more}
-use Rattle.dwc_expr.proofs.LocLaws.{no_range}
-use Rattle.dwc_expr.proofs.flat.are_flat.Goals as goal
+use Rattle.dwc_clif.specs.FlatRanges.{IsFlatTo}
+use Rattle.dwc_clif.proofs.FlatLaws.{flat-more}
+use Rattle.dwc_clif.proofs.FlatLaws.{no_range}
+use Rattle.dwc_clif.proofs.told_ranges.are_flat.Goals as goal
 
 pub loop-i-preserved : goal.loop-i-preserved
 loop-i-preserved c =

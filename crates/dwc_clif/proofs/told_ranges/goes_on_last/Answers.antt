@@ -1,9 +1,9 @@
 use Rattle.std.proofs.Common.{map, sym, ap, ◌∙◌}
 use Rattle.std.proofs.lemmas.List.{map_push}
 use Rattle.dwc_clif.specs.ValueLabels.{range_view}
-use Rattle.dwc_expr.specs.FlatRanges.{goes_on_last}
-use Rattle.dwc_expr.proofs.FlatLaws.{goes_on-end}
-use Rattle.dwc_expr.proofs.flat.goes_on_last.Goals as goal
+use Rattle.dwc_clif.specs.FlatRanges.{goes_on_last}
+use Rattle.dwc_clif.proofs.FlatLaws.{goes_on-end}
+use Rattle.dwc_clif.proofs.told_ranges.goes_on_last.Goals as goal
 
 pub returns-in-Some : goal.returns-in-Some
 returns-in-Some c =

@@ -1,7 +1,7 @@
 use Rattle.std.proofs.Common.{map, take}
 use Rattle.dwc_clif.specs.ValueLabels.{range_view}
-use Rattle.dwc_expr.specs.FlatRanges.{IsFlatTo}
-use Rattle.dwc_expr.proofs.flat.are_flat.Given as goal
+use Rattle.dwc_clif.specs.FlatRanges.{IsFlatTo}
+use Rattle.dwc_clif.proofs.told_ranges.are_flat.Given as goal
 
 -- the ranges so far are flat, and end at or below a byte
 abbrev pub invariant-loop-i : goal.invariant-loop-i
