@@ -1,5 +1,5 @@
 -- The sections that are written of some units.
-use Rattle.std.specs.Prelude.{◌≡◌, ◌<◌, ◌⊎◌, ℕ, List, [], ◌∷◌, ◌++◌, length, false, Result, Ok, Err}
+use Rattle.std.specs.Prelude.{◌≡◌, ◌<◌, ◌⊎◌, ℕ, List, [], ◌∷◌, ◌++◌, length, false, None, Result, Ok, Err}
 use Rattle.dwc_base.specs.declared.records.Endian.{Endian}
 use Rattle.dwc_base.specs.declared.section_name.SectionName.{SectionName}
 use Rattle.dwc_base.specs.declared.section_name.SectionName.TheVariants.{Abbrev, Info, Line, Loc, Ranges, Str}
@@ -9,6 +9,7 @@ use Rattle.dwc_write.specs.declared.error.WriteError.{WriteError}
 use Rattle.dwc_write.specs.SpelledTables.{table_bytes}
 use Rattle.dwc_write.specs.SpelledSections.{WrittenUnit, placed_unit_bytes, tables_bytes, info_bytes, lines_bytes}
 use Rattle.dwc_write.specs.SpelledRelocations.{unit_relocations, info_relocations, lines_relocations}
+use Rattle.dwc_write.specs.GivenLines.{no_lines}
 use Rattle.dwc_write.specs.GivenUnits.{AreWritable, GivenEntry, OrderedUnit, Places, size_of, first_uses, shapes_of, numbered, written_entries, lists_of_entries, lists_of_units}
 use Rattle.dwc_write.specs.declared.attributes.AttributeValue.{AttributeValue}
 use Rattle.dwc_write.specs.declared.list_places.ListPlaces.{ListPlaces}
@@ -122,6 +123,10 @@ lists_bytes lists u w = list_bytes w.order u.address_size (lists_of_entries list
 
 abbrev pub with_lists : (AttributeValue → List ListEntry) → OrderedUnit → Writing → Writing
 with_lists lists u w = appended (lists_bytes lists u w) (list_relocations w.order u.address_size (length w.body) (lists_of_entries lists u.entries)) w
+
+-- a unit that has some entries, and nothing else
+abbrev pub entries_alone : ℕ → List GivenEntry → OrderedUnit
+entries_alone size es = record { address_size = size; lines = no_lines None; places = []; entries = es }
 
 -- A unit's lists are written into both their sections, or one of these refuses them.
 abbrev pub WritesLists : Writing → Writing → Writing → Writing → Result (Unit {0}) WriteError → OrderedUnit → Type 0

@@ -15,12 +15,12 @@ ghost use Rattle.dwc_write.specs.declared.error.WriteError.TheVariants.{OutOfMem
 ghost use Rattle.dwc_write.specs.Frames.{IsFrameRefusal, common_given, descriptions_given, first_refusal, given_frames, optional_section, refused_frames, told_refusal, widest_given_frames};
 ghost use Rattle.dwc_write.specs.GivenLines.{FitsLines};
 ghost use Rattle.dwc_write.specs.GivenTrees.{given_trees};
-ghost use Rattle.dwc_write.specs.GivenUnits.{AreShortUnits, AreWritable, FitsOrdered, HaveShortLists, ordered, size_of};
+ghost use Rattle.dwc_write.specs.GivenUnits.{AreShortUnits, AreWritable, FitsEntry, FitsOrdered, HaveShortLists, in_file_order, ordered, size_of};
 ghost use Rattle.dwc_write.specs.Lists.{AreWithin};
 ghost use Rattle.dwc_write.specs.declared.layout.UnitLayout.{UnitLayout};
-ghost use Rattle.dwc_write.specs.LayoutViews.{IsLaidOut, places_view, whole_view};
+ghost use Rattle.dwc_write.specs.LayoutViews.{IsLaidOut, IsNoting, places_view, whole_view};
 ghost use Rattle.dwc_write.specs.Layouts.{AreShort, offset_of_text, offsets_by_number, places_in, places_of_units, units_length};
-ghost use Rattle.dwc_write.specs.SpelledOutput.{AreSpelled, IsRefusal, IsRefusalAmong, WritesLists, WritesOne, all_units, section_unless_empty, sections_of, spelled_sections};
+ghost use Rattle.dwc_write.specs.SpelledOutput.{AreSpelled, IsRefusal, IsRefusalAmong, WritesLists, WritesOne, all_units, entries_alone, section_unless_empty, sections_of, spelled_sections};
 ghost use Rattle.dwc_write.specs.SpelledRelocations.{DoRelocationsRise};
 ghost use Rattle.dwc_write.specs.ReadBack.{ReadsBack};
 ghost use Rattle.dwc_write.specs.SectionViews.{sections_view};
@@ -28,11 +28,13 @@ ghost use Rattle.dwc_write.specs.UsedTexts.{HaveTexts};
 ghost use Rattle.dwc_write.specs.WidestGiven.{IsWideRefusal};
 ghost use Rattle.dwc_write.specs.Writers.{IsSound, most_bytes};
 
+use crate::additions::Additions;
 use crate::entries::{Spelling, write_unit};
 use crate::frames::{check_table, write_table};
 use crate::layout::{UnitLayout, lay_out};
 use crate::list_places::ListPlaces;
 use crate::lists::{ListKind, write_lists};
+use crate::notes::Notes;
 use crate::short_lists::are_short_lists;
 use crate::tables::write_lines;
 use crate::text_layout::{lay_out_texts, write_texts};
@@ -187,7 +189,7 @@ fn write_units(
             order,
             &mut sections,
             &mut scratch,
-            &unit,
+            unit,
             layouts,
             texts,
             place,
@@ -197,12 +199,12 @@ fn write_units(
     Ok(sections)
 }
 
-// A unit with its line table, at a place among others.
+// A unit with its line table, at a place among others. What is not read again is let go before there is room for more.
 fn write_one(
     order: Endian,
     sections: &mut Sections,
     scratch: &mut Vec<u8>,
-    unit: &Unit,
+    unit: Unit,
     layouts: &[UnitLayout],
     texts: &[Option<usize>],
     place: usize,
@@ -210,20 +212,33 @@ fn write_one(
     requires info { order ≡ sections.old.info.order }
     requires line { order ≡ sections.old.line.order }
     requires place { place < length layouts.now }
-    requires laid { (d : UnitLayout) → IsLaidOut unit.now (get_or layouts.now place d) }
-    requires offsets { (d : UnitLayout) → (get_or layouts.now place d).offsets.items ≡ offsets_by_number order unit.now.address_size (ordered unit.now) }
-    requires short { (line : ℕ) → line ≤ most_bytes → AreShort (places_in (whole_view layouts.now texts.now) (offsets_by_number order unit.now.address_size (ordered unit.now)) line) }
-    requires expressions { HaveShortLists (ordered unit.now).entries }
-    ensures bytes { WritesOne (whole_view layouts.now texts.now) (sections_view sections.old) (sections_view sections.new) result (ordered unit.now) }
-    ensures fits { FitsOrdered (ordered unit.now) }
-    ensures lines { FitsLines unit.now.lines }
+    requires laid { (d : UnitLayout) → IsLaidOut unit (get_or layouts.now place d) }
+    requires offsets { (d : UnitLayout) → (get_or layouts.now place d).offsets.items ≡ offsets_by_number order unit.address_size (ordered unit) }
+    requires short { (line : ℕ) → line ≤ most_bytes → AreShort (places_in (whole_view layouts.now texts.now) (offsets_by_number order unit.address_size (ordered unit)) line) }
+    requires expressions { HaveShortLists (ordered unit).entries }
+    ensures bytes { WritesOne (whole_view layouts.now texts.now) (sections_view sections.old) (sections_view sections.new) result (ordered unit) }
+    ensures fits { FitsOrdered (ordered unit) }
+    ensures lines { FitsLines unit.lines }
 {
-    let size = unit.address_size;
+    let Unit {
+        address_size: size,
+        lines,
+        places,
+        additions,
+    } = unit;
+    drop(places);
     let line_offset = sections.line.place();
-    write_lines(&mut sections.line, scratch, order, size, &unit.lines)?;
+    write_lines(&mut sections.line, scratch, order, size, &lines)?;
+    drop(lines);
     let layout = &layouts[place];
     let lists = places_behind(&sections.ranges, &sections.locations);
-    write_unit_lists(&mut sections.ranges, &mut sections.locations, unit, layout)?;
+    write_unit_lists(
+        &mut sections.ranges,
+        &mut sections.locations,
+        size,
+        &additions,
+        &layout.notes,
+    )?;
     let spelling = Spelling {
         order,
         size,
@@ -239,44 +254,47 @@ fn write_one(
         &mut sections.info,
         scratch,
         &spelling,
-        &unit.additions,
+        &additions,
         layout,
     )
 }
 
-// The lists of a unit, each kind in its section.
+// The lists of a unit's entries, each kind in its section.
 fn write_unit_lists(
     ranges: &mut WriterRelocate,
     locations: &mut WriterRelocate,
-    unit: &Unit,
-    layout: &UnitLayout,
+    size: u8,
+    additions: &Additions,
+    notes: &Notes,
 ) -> Result<(), WriteError>
-    requires laid { IsLaidOut unit.now layout.now }
-    requires short { HaveShortLists (ordered unit.now).entries }
-    ensures { WritesLists ranges.old ranges.new locations.old locations.new result (ordered unit.now) }
+    requires size { (size ≡ 4) ⊎ (size ≡ 8) }
+    requires fits { All (FitsEntry size) (in_file_order additions.now) }
+    requires noted { IsNoting additions.now notes.now (in_file_order additions.now) }
+    requires short { HaveShortLists (in_file_order additions.now) }
+    ensures { WritesLists ranges.old ranges.new locations.old locations.new result (entries_alone size (in_file_order additions.now)) }
 {
-    let size = unit.address_size;
-    let counts = layout.notes.counts;
+    let counts = notes.counts;
     ranges.make_room(counts.range_bytes(size), counts.range_relocations());
     locations.make_room(counts.location_bytes(size), counts.location_relocations());
-    put_unit_lists(ranges, locations, unit, layout)
+    put_unit_lists(ranges, locations, size, additions, notes)
 }
 
 // The same, where there is room.
 fn put_unit_lists(
     ranges: &mut WriterRelocate,
     locations: &mut WriterRelocate,
-    unit: &Unit,
-    layout: &UnitLayout,
+    size: u8,
+    additions: &Additions,
+    notes: &Notes,
 ) -> Result<(), WriteError>
-    requires laid { IsLaidOut unit.now layout.now }
-    requires short { HaveShortLists (ordered unit.now).entries }
-    ensures { WritesLists ranges.old ranges.new locations.old locations.new result (ordered unit.now) }
+    requires size { (size ≡ 4) ⊎ (size ≡ 8) }
+    requires fits { All (FitsEntry size) (in_file_order additions.now) }
+    requires noted { IsNoting additions.now notes.now (in_file_order additions.now) }
+    requires short { HaveShortLists (in_file_order additions.now) }
+    ensures { WritesLists ranges.old ranges.new locations.old locations.new result (entries_alone size (in_file_order additions.now)) }
 {
-    let size = unit.address_size;
-    let additions = &unit.additions;
-    let ranged = layout.notes.ranged.as_slice();
-    let located = layout.notes.located.as_slice();
+    let ranged = notes.ranged.as_slice();
+    let located = notes.located.as_slice();
     write_lists(ranges, ListKind::Ranges, size, additions, ranged)?;
     write_lists(locations, ListKind::Locations, size, additions, located)
 }

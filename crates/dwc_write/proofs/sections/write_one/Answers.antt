@@ -3,16 +3,16 @@ use Rattle.std.specs.List.{All}
 use Rattle.std.proofs.lemmas.Result.{err_from_is_err_and}
 use Rattle.dwc_write.specs.declared.layout.UnitLayout.{UnitLayout}
 use Rattle.dwc_write.specs.FileOrders.{looked_up}
-use Rattle.dwc_write.specs.GivenUnits.{GivenEntry, GivenUnit, FitsEntry, FitsOrdered, behind_entries, in_file_order, ordered}
-use Rattle.dwc_write.specs.LayoutViews.{IsLaidOut, whole_view}
+use Rattle.dwc_write.specs.GivenUnits.{GivenEntry, GivenUnit, FitsEntry, FitsOrdered, HaveShortLists, behind_entries, in_file_order, ordered}
+use Rattle.dwc_write.specs.LayoutViews.{IsLaidOut, IsNoting, whole_view}
 use Rattle.dwc_write.specs.Layouts.{offsets_by_number, written_lines}
 use Rattle.dwc_write.specs.GivenLines.{GivenLines}
-use Rattle.dwc_write.specs.Lists.{AreWithin, locations_in, ranges_in}
+use Rattle.dwc_write.specs.Lists.{AreWithin}
 use Rattle.dwc_write.specs.SpelledRelocations.{lines_relocations}
 use Rattle.dwc_write.specs.SpelledSections.{lines_bytes}
 use Rattle.dwc_write.specs.Writers.{appended}
 use Rattle.dwc_write.specs.SectionViews.{sections_view}
-use Rattle.dwc_write.specs.SpelledOutput.{WritesOne, with_lists}
+use Rattle.dwc_write.specs.SpelledOutput.{WritesOne}
 use Rattle.dwc_write.proofs.OrderedLaws.{ordered-fits}
 use Rattle.dwc_write.proofs.OutputLaws.{lists-inside, one-refused-lists, one-written}
 use Rattle.dwc_write.proofs.sections.write_one.Goals as goal
@@ -32,18 +32,31 @@ returns-clause-fits c =
     let P : GivenUnit → Type 0 = λ u. FitsOrdered (ordered u) in
     subst P c.unit.view_is (ordered-fits _ c.unit.invariant)
 
-pub write_unit_lists-requires-clause-laid : goal.write_unit_lists-requires-clause-laid
-write_unit_lists-requires-clause-laid c =
+pub write_unit_lists-requires-clause-size : goal.write_unit_lists-requires-clause-size
+write_unit_lists-requires-clause-size c = c.unit.invariant.size
+
+pub write_unit_lists-requires-clause-fits : goal.write_unit_lists-requires-clause-fits
+write_unit_lists-requires-clause-fits c = (ordered-fits _ c.unit.invariant).entries
+
+pub write_unit_lists-requires-clause-noted : goal.write_unit_lists-requires-clause-noted
+write_unit_lists-requires-clause-noted c =
     let l = c.index-layouts-place.result in
-    let L : UnitLayout → Type 0 = λ x. IsLaidOut c.args.unit.now x in
-    subst L (sym c.index-layouts-place.is) (c.requires.laid l)
+    let L : UnitLayout → Type 0 = λ x. IsLaidOut c.args.unit x in
+    let laid : IsLaidOut c.args.unit l = subst L (sym c.index-layouts-place.is) (c.requires.laid l) in
+    let N : GivenUnit → Type 0 = λ u. IsNoting u.additions l.notes (in_file_order u.additions) in
+    subst N (sym c.unit.view_is) laid.notes
+
+pub write_unit_lists-requires-clause-short : goal.write_unit_lists-requires-clause-short
+write_unit_lists-requires-clause-short c =
+    let S : GivenUnit → Type 0 = λ u. HaveShortLists (ordered u).entries in
+    subst S (sym c.unit.view_is) c.requires.expressions
 
 pub write_unit-requires-clause-fits : goal.write_unit-requires-clause-fits
 write_unit-requires-clause-fits c =
     let l = c.index-layouts-place.result in
     let size = c.unit.inside.address_size in
-    let L : UnitLayout → Type 0 = λ x. IsLaidOut c.args.unit.now x in
-    let laid : IsLaidOut c.args.unit.now l = subst L (sym c.index-layouts-place.is) (c.requires.laid l) in
+    let L : UnitLayout → Type 0 = λ x. IsLaidOut c.args.unit x in
+    let laid : IsLaidOut c.args.unit l = subst L (sym c.index-layouts-place.is) (c.requires.laid l) in
     let O : GivenUnit → Type 0 = λ u. map (looked_up u.additions) l.order.items ≡ in_file_order u.additions in
     let order = subst O (sym c.unit.view_is) laid.order in
     (subst (All (FitsEntry size)) (sym order) (ordered-fits _ c.unit.invariant).entries)
@@ -51,7 +64,7 @@ write_unit-requires-clause-fits c =
 pub write_unit-requires-clause-short : goal.write_unit-requires-clause-short
 write_unit-requires-clause-short c =
     let l = c.index-layouts-place.result in
-    let U : UnitLayout → Type 0 = λ x. x.offsets.items ≡ offsets_by_number c.args.order c.args.unit.now.address_size (ordered c.args.unit.now) in
+    let U : UnitLayout → Type 0 = λ x. x.offsets.items ≡ offsets_by_number c.args.order c.args.unit.address_size (ordered c.args.unit) in
     let offsets : U l = subst U (sym c.index-layouts-place.is) (c.requires.offsets l) in
     rw (c.deref-2.ensures.value, offsets) (c.requires.short c.place-line_offset.result c.place-line_offset.ensures.short)
 
@@ -59,39 +72,36 @@ pub write_unit-requires-clause-lists : goal.write_unit-requires-clause-lists
 write_unit-requires-clause-lists c =
     let l = c.index-layouts-place.result in
     let size = c.unit.inside.address_size in
-    let L : UnitLayout → Type 0 = λ x. IsLaidOut c.args.unit.now x in
-    let laid : IsLaidOut c.args.unit.now l = subst L (sym c.index-layouts-place.is) (c.requires.laid l) in
+    let L : UnitLayout → Type 0 = λ x. IsLaidOut c.args.unit x in
+    let laid : IsLaidOut c.args.unit l = subst L (sym c.index-layouts-place.is) (c.requires.laid l) in
     let O : GivenUnit → Type 0 = λ u. map (looked_up u.additions) l.order.items ≡ in_file_order u.additions in
     let order = subst O (sym c.unit.view_is) laid.order in
-    let R : GivenUnit → Type 0 = λ u. c.write_unit_lists.new.ranges ≡ with_lists ranges_in (ordered u) c.args.sections.now.ranges in
-    let K : GivenUnit → Type 0 = λ u. c.write_unit_lists.new.locations ≡ with_lists locations_in (ordered u) c.args.sections.now.locations in
     let P : List GivenEntry → Type 0 = λ es. AreWithin (behind_entries size c.places_behind-lists.result es) in
     let unit : GivenUnit = record { address_size = size; lines = c.unit.inside.lines.value; places = c.unit.inside.places.items; additions = c.unit.inside.additions } in
     (subst P (sym order)
     (lists-inside c.args.sections.now.ranges c.write_unit_lists.new.ranges c.args.sections.now.locations c.write_unit_lists.new.locations (ordered unit) c.places_behind-lists.result c.places_behind.result c.places_behind-lists.ensures.places c.places_behind.ensures.places
-    (subst R (sym c.unit.view_is) c.in_ok-write_unit_lists.ensures.0) (subst K (sym c.unit.view_is) c.in_ok-write_unit_lists.ensures.1) c.places_behind.ensures.short))
+    c.in_ok-write_unit_lists.ensures.0 c.in_ok-write_unit_lists.ensures.1 c.places_behind.ensures.short))
 
 pub returns-in_err-write_unit_lists-clause-bytes : goal.returns-in_err-write_unit_lists-clause-bytes
 returns-in_err-write_unit_lists-clause-bytes c =
     let p = err_from_is_err_and c.from_residual-in_err-write_unit_lists.result c.from_residual-in_err-write_unit_lists.ensures.1 in
-    one-refused-lists _ _ (whole_view c.args.layouts.now c.args.texts.now) (sections_view c.args.sections.now) _ (ordered c.args.unit.now) p c.in_err-write_unit_lists.ensures
+    let W : GivenUnit → Type 0 = λ u. WritesOne (whole_view c.args.layouts.now c.args.texts.now) (sections_view c.args.sections.now) (sections_view (record { «abbrev» = c.args.sections.now.«abbrev»; info = c.args.sections.now.info; line = c.write_lines.new.line; ranges = c.write_unit_lists.new.ranges; locations = c.write_unit_lists.new.locations })) c.from_residual-in_err-write_unit_lists.result (ordered u) in
+    subst W c.unit.view_is (one-refused-lists _ _ (whole_view c.args.layouts.now c.args.texts.now) (sections_view c.args.sections.now) _ _ p c.in_err-write_unit_lists.ensures)
 
 pub returns-clause-bytes : goal.returns-clause-bytes
 returns-clause-bytes c =
     let l = c.index-layouts-place.result in
-    let L : UnitLayout → Type 0 = λ x. IsLaidOut c.args.unit.now x in
-    let laid : IsLaidOut c.args.unit.now l = subst L (sym c.index-layouts-place.is) (c.requires.laid l) in
-    let U : UnitLayout → Type 0 = λ x. x.offsets.items ≡ offsets_by_number c.args.order c.args.unit.now.address_size (ordered c.args.unit.now) in
+    let L : UnitLayout → Type 0 = λ x. IsLaidOut c.args.unit x in
+    let laid : IsLaidOut c.args.unit l = subst L (sym c.index-layouts-place.is) (c.requires.laid l) in
+    let U : UnitLayout → Type 0 = λ x. x.offsets.items ≡ offsets_by_number c.args.order c.args.unit.address_size (ordered c.args.unit) in
     let offsets_are : U l = subst U (sym c.index-layouts-place.is) (c.requires.offsets l) in
     let O : GivenUnit → Type 0 = λ u. map (looked_up u.additions) l.order.items ≡ in_file_order u.additions in
     let order = subst O (sym c.unit.view_is) laid.order in
     let F : GivenUnit → Type 0 = λ u. l.offsets.items ≡ offsets_by_number c.args.sections.now.info.order u.address_size (ordered u) in
-    let offsets = subst F (sym c.unit.view_is) (offsets_are ∙ ap (λ o. offsets_by_number o c.args.unit.now.address_size (ordered c.args.unit.now)) c.requires.info) in
-    let R : GivenUnit → Type 0 = λ u. c.write_unit_lists.new.ranges ≡ with_lists ranges_in (ordered u) c.args.sections.now.ranges in
-    let K : GivenUnit → Type 0 = λ u. c.write_unit_lists.new.locations ≡ with_lists locations_in (ordered u) c.args.sections.now.locations in
+    let offsets = subst F (sym c.unit.view_is) (offsets_are ∙ ap (λ o. offsets_by_number o c.args.unit.address_size (ordered c.args.unit)) c.requires.info) in
     let W : GivenUnit → Type 0 = λ u. WritesOne (whole_view c.args.layouts.now c.args.texts.now) (sections_view c.args.sections.now) (sections_view (record { «abbrev» = c.write_unit.new.tables; info = c.write_unit.new.info; line = c.write_lines.new.line; ranges = c.write_unit_lists.new.ranges; locations = c.write_unit_lists.new.locations })) c.write_unit.result (ordered u) in
     let G : GivenLines → Type 0 = λ g. c.write_lines.new.line ≡ appended (lines_bytes c.args.sections.now.line.order c.unit.inside.address_size (written_lines g)) (lines_relocations c.args.sections.now.line.order c.unit.inside.address_size (length c.args.sections.now.line.body) (written_lines g)) c.args.sections.now.line in
     let written = rw (c.deref-2.ensures.value, order, offsets, c.place-line_offset.ensures.place, c.places_behind-lists.ensures.places) at c.write_unit.ensures in
     subst W c.unit.view_is
     (one-written c.write_unit.result (whole_view c.args.layouts.now c.args.texts.now) (sections_view c.args.sections.now) _ _ c.write_unit.new.tables c.write_unit.new.info c.write_lines.new.line c.write_unit_lists.new.ranges c.write_unit_lists.new.locations (subst G c.deref.ensures c.in_ok-write_lines.ensures.bytes)
-    (subst R (sym c.unit.view_is) c.in_ok-write_unit_lists.ensures.0) (subst K (sym c.unit.view_is) c.in_ok-write_unit_lists.ensures.1) written refl)
+    c.in_ok-write_unit_lists.ensures.0 c.in_ok-write_unit_lists.ensures.1 written refl)
