@@ -62,7 +62,7 @@ fn entries_fault(
 
 // Whether a source, if there is one, lies from start to end.
 fn is_source_within(start: u32, end: u32, source: FilePos) -> bool
-    ensures { result ≡ is_source_within start end source.offset }
+    ensures { result ≡ is_source_within start end source }
 {
     match source.file_offset() {
         Some(source) => start <= source && source <= end,
@@ -73,8 +73,8 @@ fn is_source_within(start: u32, end: u32, source: FilePos) -> bool
 /// The wasm offset of a source: its file offset less the low 32 bits of the code section's, modulo 2^32, so that a file
 /// offset that has passed 2^32 is the right one again.
 pub fn get_wasm_code_offset(loc: FilePos, code_section_offset: u64) -> WasmAddress
-    requires { IsSome loc.offset }
-    ensures { result ≡ wasm_code_offset (unwrap_or loc.offset 0) code_section_offset }
+    requires { IsSome loc }
+    ensures { result ≡ wasm_code_offset (unwrap_or loc 0) code_section_offset }
 {
     let source = loc.file_offset().unwrap();
     let section = (code_section_offset % (1 << 32)) as u32;

@@ -213,7 +213,7 @@ fn function_map(
 
 // The wasm offset of a place in the file; 0 for no place, and in front of the code section.
 fn start_offset(place: FilePos, code_section_offset: u64) -> WasmAddress
-    ensures value { result ≡ unwrap_or place.offset 0 - code_section_offset }
+    ensures value { result ≡ unwrap_or place 0 - code_section_offset }
     ensures low { result < 2 ^ 32 }
 {
     let offset = place.file_offset().unwrap_or(0);

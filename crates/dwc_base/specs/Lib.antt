@@ -22,6 +22,7 @@ pub mod LineHeaders
 pub mod LineRows
 pub mod LineFiles
 pub mod Functions
+pub mod Places
 pub mod SharedSymbols
 pub mod Images
 pub mod Kept

@@ -1,6 +1,8 @@
 //! The records that pass between the crates.
 ghost use Rattle.std.specs.Prelude.{◌≡◌, ◌<◌, ◌^◌, ◌-◌, Some, None};
 
+use std::marker::Model;
+
 /// The order of the bytes of a number.
 #[derive(Clone, Copy, Debug, PartialEq, Eq)]
 pub enum Endian {
@@ -99,36 +101,57 @@ pub struct Tunables {
     pub internal_traps: bool,
 }
 
-/// A place in a wasm file, or no place.
+/// A place in a wasm file, or no place. A contract sees its offset, if it has one.
 #[derive(Clone, Copy, Debug, PartialEq, Eq)]
 pub struct FilePos {
-    offset: Option<u32>,
+    // The offset, or `NO_PLACE`.
+    offset: u32,
+}
+
+// The offset that stands for no place.
+const NO_PLACE: u32 = u32::MAX;
+
+impl Model for FilePos {
+    ghost use Rattle.std.specs.Prelude.{◌-◌, ◌^◌, ℕ, Option};
+    ghost use Rattle.std.specs.Option.{unwrap_or};
+    ghost use Rattle.std.proofs.Common.{ap};
+    ghost use Rattle.dwc_base.specs.Places.{place_of, number-of-place};
+
+    ghost Value = { Option ℕ };
+
+    ghost view = { λ p. place_of p.offset };
+
+    ghost inverse = { λ place. record { offset = unwrap_or place (2 ^ 32 - 1) } };
+
+    ghost inverse_ok = { λ p _. ap (λ n. record { offset = n }) (number-of-place p.offset) };
 }
 
 impl FilePos {
     /// The place at an offset of the file; the offset 2^32 - 1 stands for no place, and none is made of it.
     pub fn new(offset: u32) -> FilePos
         requires { offset < 2 ^ 32 - 1 }
-        ensures { result.offset ≡ Some offset }
+        ensures { result ≡ Some offset }
     {
-        FilePos {
-            offset: Some(offset),
-        }
+        FilePos { offset }
     }
 
     /// The offset in the file; None for no place.
     pub fn file_offset(self) -> Option<u32>
-        ensures { result ≡ self.offset }
+        ensures { result ≡ self }
     {
-        self.offset
+        if self.offset == NO_PLACE {
+            None
+        } else {
+            Some(self.offset)
+        }
     }
 }
 
 impl Default for FilePos {
-    ghost is_default = { λ p. p.offset ≡ None };
+    ghost is_default = { λ p. p ≡ None };
 
     /// No place.
     fn default() -> FilePos {
-        FilePos { offset: None }
+        FilePos { offset: NO_PLACE }
     }
 }

@@ -39,4 +39,4 @@ HasFirstLine code_offset f = code_offset + first_source f < 2 ^ 32
 
 -- a compiled function ends in its file at an offset of 32 bits, if it has an end
 abbrev pub HasLowEnd : Compiled → Type 0
-HasLowEnd f = IfSome f.1.address_map.end_srcloc.offset (λ end. end < 2 ^ 32)
+HasLowEnd f = IfSome f.1.address_map.end_srcloc (λ end. end < 2 ^ 32)

@@ -46,7 +46,7 @@ fn add_listed<'a>(
 
 // That a function ends in its file at an offset of 32 bits.
 fn end_is_low(metadata: &CompiledFunctionMetadata)
-    ensures { IfSome metadata.now.address_map.end_srcloc.offset (λ end. end < 2 ^ 32) }
+    ensures { IfSome metadata.now.address_map.end_srcloc (λ end. end < 2 ^ 32) }
 {
     let _ = metadata.address_map.end_srcloc.file_offset();
 }

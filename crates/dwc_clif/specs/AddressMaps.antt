@@ -7,14 +7,14 @@ use Rattle.dwc_clif.specs.declared.metadata.CompiledFunctionMetadata.{CompiledFu
 
 -- an entry: its native offset, and the file offset of its source
 abbrev pub entry_view : InstructionAddressMap → ℕ × Option ℕ
-entry_view e = (e.code_offset, e.srcloc.offset)
+entry_view e = (e.code_offset, e.srcloc)
 
 -- the address map of a function that has a symbol or none
 abbrev pub address_map_view : Option SymbolId × CompiledFunctionMetadata → AddressMap
 address_map_view f = record {
   symbol = option_map (λ s. s.0) f.0;
-  start = (f.1).address_map.start_srcloc.offset;
-  end = (f.1).address_map.end_srcloc.offset;
+  start = (f.1).address_map.start_srcloc;
+  end = (f.1).address_map.end_srcloc;
   body_offset = (f.1).address_map.body_offset;
   body_len = (f.1).address_map.body_len;
   entries = map entry_view (f.1).address_map.instructions.items;

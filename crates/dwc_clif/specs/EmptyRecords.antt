@@ -7,8 +7,8 @@ use Rattle.dwc_clif.specs.declared.metadata.CompiledFunctionMetadata.{CompiledFu
 -- a map without entries and places, of a body of no bytes at 0
 pub record IsEmptyMap (m : FunctionAddressMap) : Type 0 where
   pub entries : m.instructions.items ≡ []
-  pub start : m.start_srcloc.offset ≡ None
-  pub end : m.end_srcloc.offset ≡ None
+  pub start : m.start_srcloc ≡ None
+  pub end : m.end_srcloc ≡ None
   pub body_offset : m.body_offset ≡ 0
   pub body_len : m.body_len ≡ 0
 
@@ -18,5 +18,5 @@ pub record IsEmptyMetadata (m : CompiledFunctionMetadata) : Type 0 where
   pub labels : m.value_labels_ranges ≡ finite.empty
   pub unwind_info : m.unwind_info ≡ None
   pub cfa_unwind_info : m.cfa_unwind_info ≡ None
-  pub start : m.start_srcloc.offset ≡ None
-  pub end : m.end_srcloc.offset ≡ None
+  pub start : m.start_srcloc ≡ None
+  pub end : m.end_srcloc ≡ None

@@ -103,10 +103,10 @@ module_view m = record { functions = map function_view m.functions.items; memory
 
 -- the sources of a function's begin and end, as its record tells them beside its address map, and as the address map does
 abbrev pub told_sources : Option SymbolId × CompiledFunctionMetadata → Option ℕ × Option ℕ
-told_sources f = ((f.1).start_srcloc.offset, (f.1).end_srcloc.offset)
+told_sources f = ((f.1).start_srcloc, (f.1).end_srcloc)
 
 abbrev pub mapped_sources : Option SymbolId × CompiledFunctionMetadata → Option ℕ × Option ℕ
-mapped_sources f = ((f.1).address_map.start_srcloc.offset, (f.1).address_map.end_srcloc.offset)
+mapped_sources f = ((f.1).address_map.start_srcloc, (f.1).address_map.end_srcloc)
 
 -- the records of some functions tell the sources that their address maps do
 abbrev pub HaveOneSource : List (Option SymbolId × CompiledFunctionMetadata) → Type 0

@@ -29,7 +29,7 @@ const DEPTH: usize = 127;
 
 // Takes the offset of a source, or null for no source.
 fn read_source(reader: &mut Reader<'_>) -> Result<FilePos, Stop>
-    ensures { IfOk result (λ p. IsSource reader.old p.offset reader.new) }
+    ensures { IfOk result (λ p. IsSource reader.old p reader.new) }
 {
     match reader.next() {
         Some(Token::Null) => Ok(FilePos::default()),
@@ -40,7 +40,7 @@ fn read_source(reader: &mut Reader<'_>) -> Result<FilePos, Stop>
 
 // The offset of a source, below 2^32 - 1, that a text writes.
 fn source_in(text: &str) -> Result<FilePos, Stop>
-    ensures { IfOk result (λ p. (n : ℕ) × (p.offset ≡ Some n) × IsNumber text.now n × (n < 2 ^ 32 - 1)) }
+    ensures { IfOk result (λ p. (n : ℕ) × (p ≡ Some n) × IsNumber text.now n × (n < 2 ^ 32 - 1)) }
 {
     let offset = number_in(text)?;
     if offset == u32::MAX {

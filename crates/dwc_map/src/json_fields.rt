@@ -70,7 +70,7 @@ pub(crate) fn symbol(value: &Value) -> Option<Option<SymbolId>>
 
 /// The offset of a source in the wasm file, below 2^32 - 1; null for no source.
 pub(crate) fn source(value: &Value) -> Option<FilePos>
-    ensures { option_map (λ p. p.offset) result ≡ source_of (view value.now) }
+    ensures { result ≡ source_of (view value.now) }
 {
     if value.is_null() {
         return Some(FilePos::default());

@@ -10,6 +10,6 @@ returns-clause-told c =
     let mid = c.read_number.new.reader in
     let last = c.read_source.new.reader in
     let offset = c.in_ok-code_offset.code_offset in
-    let source = c.in_ok-srcloc.srcloc.offset in
+    let source = c.in_ok-srcloc.srcloc in
     pair-told u32_of source_of c.args.depth c.args.reader.now start mid last c.end_list.new.reader offset source c.requires c.in_ok-begin_list.ensures
     (number-told d start mid offset c.in_ok-code_offset.ensures) (source-told d mid last source c.in_ok-srcloc.ensures) c.in_ok-end_list.ensures
