@@ -73,8 +73,8 @@ abbrev pub function_told : List (ℕ × Option ℕ) → LabelledRanges → Optio
 function_told entries labels frame f = record {
   address_map = record {
     symbol = option_map (λ s. s.0) f.symbol;
-    start = f.start.offset;
-    end = f.end.offset;
+    start = f.start;
+    end = f.end;
     body_offset = f.body_offset;
     body_len = f.body_len;
     entries = entries;
