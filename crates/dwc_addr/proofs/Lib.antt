@@ -1,5 +1,6 @@
 pub mod AddendLaws
 pub mod AscendLaws
+pub mod BoundLaws
 pub mod ByteLaws
 pub mod CompilationLaws
 pub mod EntryLaws

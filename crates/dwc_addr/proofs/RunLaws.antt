@@ -113,7 +113,7 @@ module _ (m : FunctionMap) where
   begin-low zero le = omega arith
   begin-low (suc k) le = omega (arith, (ends-inside k (omega (arith, le))).1)
 
-  abbrev run_of : ℕ × ℕ × ℕ → ℕ × ℕ × ℕ → base.Run
+  abbrev pub run_of : ℕ × ℕ × ℕ → ℕ × ℕ × ℕ → base.Run
   run_of b e = record { wasm_start = b.1; wasm_end = e.1; start = b.2; end = e.2; positions = joined_positions (take (e.0 - b.0) (drop b.0 (positions_of m))) }
 
   run-is : (k : ℕ) → k ≤ length m.later_runs.items → run_at (function_view m) (positions_of m) m.later_runs.items k ≡ run_of (begin_of m k) (end_of m k)

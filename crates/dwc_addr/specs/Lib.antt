@@ -4,6 +4,7 @@ pub mod Gaps
 pub mod Numbers
 pub mod PositionPlaces
 pub mod Rising
+pub mod RunBounds
 pub mod RunViews
 pub mod Runs
 pub mod Starts

@@ -7,6 +7,7 @@ use Rattle.dwc_addr.specs.declared.address_map.AddressMap.{AddressMap}
 use Rattle.dwc_addr.specs.declared.function_map.FunctionMap.{FunctionMap}
 use Rattle.dwc_addr.specs.declared.run.Run.{Run}
 use Rattle.dwc_addr.specs.Gaps.{merged}
+pub use Rattle.dwc_addr.specs.RunBounds.{no_source}
 use Rattle.dwc_addr.specs.Runs.{recorded_view}
 
 -- the positions of a function's sources, one for each
@@ -20,10 +21,6 @@ positions_in m r = take (r.behind - r.first) (drop r.first (positions_of m))
 -- a run, with its positions
 abbrev pub run_view : FunctionMap → Run → base.Run
 run_view m r = record { wasm_start = r.wasm_start; wasm_end = r.wasm_end; start = r.start; end = r.end; positions = joined_positions (positions_in m r) }
-
--- what stands past the end of a list
-abbrev pub no_source : AddressMap
-no_source = record { generated = 0; wasm = 0 }
 
 -- the source at a place
 abbrev pub source_at : FunctionMap → ℕ → AddressMap

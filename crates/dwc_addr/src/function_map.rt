@@ -1,10 +1,12 @@
 //! A defined function as an address transform keeps it.
-ghost use Rattle.std.specs.Prelude.{◌≡◌, ◌<◌, ◌^◌, map, All};
+ghost use Rattle.std.specs.Prelude.{◌≡◌, ◌<◌, ◌^◌, length, map, All};
 ghost use Rattle.std.specs.List.Sorted.{IsNonDecreasingBy};
 ghost use Rattle.dwc_addr.specs.Gaps.{merged};
 ghost use Rattle.dwc_addr.specs.Runs.{recorded_view, run_starts};
+ghost use Rattle.dwc_addr.specs.RunBounds.{wasm_begin, wasm_end as wasm_end_of, AreRunBounds, AreBlockBounds};
 
 use crate::address_map::{AddressMap, GeneratedAddress, WasmAddress};
+use crate::bounds::Bounds;
 
 /// An entry of an address map that has no source.
 #[derive(Clone, Copy, Debug, PartialEq, Eq)]
@@ -35,6 +37,10 @@ pub struct FunctionMap {
     /// The places of the entries whose source lies below that of the entry before. Between two of them the sources do not
     /// fall.
     pub later_runs: Vec<usize>,
+    /// Where its runs begin and end in the wasm file, where it has several.
+    pub run_bounds: Vec<Bounds>,
+    /// The least begin and the greatest end of the runs of each block of them, without the last block if it is not full.
+    pub block_bounds: Vec<Bounds>,
     ghost begins: { offset ≡ 0 },
     ghost short: { len < 2 ^ 32 },
     ghost starts_low: { wasm_start < 2 ^ 32 },
@@ -43,5 +49,7 @@ pub struct FunctionMap {
     ghost apart: { IsNonDecreasingBy (λ g. g.before) gaps.items },
     ghost low: { All (λ e. e.generated < 2 ^ 32) addresses.items },
     ghost gaps_low: { All (λ g. g.generated < 2 ^ 32) gaps.items },
+    ghost bounded: { AreRunBounds (wasm_begin wasm_start addresses.items later_runs.items) (wasm_end_of wasm_end addresses.items later_runs.items) (length later_runs.items) run_bounds.items },
+    ghost blocks_bounded: { AreBlockBounds run_bounds.items block_bounds.items },
     ghost split: { later_runs.items ≡ run_starts 0 0 (map recorded_view addresses.items) },
 }

@@ -3,6 +3,7 @@
 #![tactic(auto)]
 
 mod address_map;
+mod bounds;
 mod by_start;
 mod compilation;
 mod compilation_error;
@@ -22,6 +23,7 @@ mod transform;
 mod translate;
 
 pub use address_map::{AddressMap, GeneratedAddress, WasmAddress};
+pub use bounds::Bounds;
 pub use compilation::Compilation;
 pub use compilation_error::CompilationError;
 pub use error::AddrError;

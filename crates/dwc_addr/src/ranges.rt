@@ -1,5 +1,5 @@
 //! The native ranges of intervals of wasm offsets.
-ghost use Rattle.std.specs.Prelude.{◌≡◌, ◌<◌, ◌^◌, length, option_map, Some, None, IfSome};
+ghost use Rattle.std.specs.Prelude.{◌≡◌, ◌<◌, ◌^◌, ◌+◌, ◌≤◌, length, option_map, Some, None, IfSome};
 ghost use Rattle.std.specs.Iterator.{YieldsFirst};
 ghost use Rattle.dwc_base.specs.Runs.{native_ranges, native_in_function};
 ghost use Rattle.dwc_addr.specs.RunViews.{run_view, IsRunOf};
@@ -8,6 +8,7 @@ ghost use Rattle.dwc_addr.specs.Translations.{range_in as range_of, ranges_from,
 
 use crate::AddressTransform;
 use crate::address_map::{GeneratedAddress, WasmAddress};
+use crate::bounds::{BLOCK, is_apart};
 use crate::function_map::FunctionMap;
 use crate::positions::{end_in, start_in};
 use crate::run::Run;
@@ -157,13 +158,34 @@ fn range_behind(
     ensures order { IfSome result (λ found. found.1.0 < found.1.1) }
     ensures low { IfSome result (λ found. found.1.1 < 2 ^ 32) }
 {
-    for place in number..run_count(function) {
-        let run = run_at(function, place);
-        if let Some(range) = range_in(function, &run, start, end) {
-            return Some((place + 1, range));
+    let mut place = number;
+    while place < run_count(function) {
+        let passed = runs_apart(function, place, start, end);
+        if passed == 0 {
+            let run = run_at(function, place);
+            if let Some(range) = range_in(function, &run, start, end) {
+                return Some((place + 1, range));
+            }
+            place += 1;
+        } else {
+            place += passed;
         }
     }
     None
+}
+
+// So many runs from one on, by their bounds, an interval does not meet: those of a block that begins there, that one alone, or none.
+fn runs_apart(function: &FunctionMap, place: usize, start: WasmAddress, end: WasmAddress) -> usize
+    ensures few { result ≤ 64 }
+    ensures ranges { ranges_from function.now start end (place + result) ≡ ranges_from function.now start end place }
+{
+    if place % BLOCK == 0 && is_apart(&function.block_bounds, place / BLOCK, start, end) {
+        return BLOCK;
+    }
+    if is_apart(&function.run_bounds, place, start, end) {
+        return 1;
+    }
+    0
 }
 
 // The native range of an interval in a run, if it has one: where the run has code of the interval, and a byte of it.

@@ -13,6 +13,7 @@ ghost use Rattle.dwc_addr.specs.Starts.{IsStartTable, IsOwnerPlace};
 
 use crate::Compilation;
 use crate::address_map::{AddressMap, WasmAddress};
+use crate::bounds::{block_bounds, run_bounds};
 use crate::by_start::{owner_place, start_table};
 use crate::error::AddrError;
 use crate::function_map::{FunctionMap, Gap};
@@ -199,15 +200,21 @@ fn function_map(
     let addresses = sources(alloc, code_section_offset, &map.instructions)?;
     let gaps = gaps(alloc, &map.instructions)?;
     let later_runs = later_runs(alloc, &addresses)?;
+    let wasm_start = start_offset(map.start_srcloc, code_section_offset);
+    let wasm_end = start_offset(map.end_srcloc, code_section_offset);
+    let run_bounds = run_bounds(alloc, wasm_start, wasm_end, &addresses, &later_runs)?;
+    let block_bounds = block_bounds(alloc, &run_bounds)?;
     Ok(FunctionMap {
         symbol: symbol.map(|_| number),
         offset: 0,
         len: map.body_len as usize,
-        wasm_start: start_offset(map.start_srcloc, code_section_offset),
-        wasm_end: start_offset(map.end_srcloc, code_section_offset),
+        wasm_start,
+        wasm_end,
         addresses,
         gaps,
         later_runs,
+        run_bounds,
+        block_bounds,
     })
 }
 
@@ -227,6 +234,7 @@ fn sources(
     entries: &[InstructionAddressMap],
 ) -> Result<Vec<AddressMap>, AllocError>
     ensures low { IfOk result (λ found. All (λ e. e.generated < 2 ^ 32) found.items) }
+    ensures wasm_low { IfOk result (λ found. All (λ e. e.wasm < 2 ^ 32) found.items) }
     ensures found { IfOk result (λ found. map recorded_view found.items ≡ filter_map recorded_entry (map (wasm_entry code_section_offset) (map entry_view entries.now))) }
 {
     let mut found = Vec::with_capacity(alloc, entries.len())?;
@@ -260,7 +268,8 @@ fn gaps(alloc: Global, entries: &[InstructionAddressMap]) -> Result<Vec<Gap>, Al
 
 // The places of the sources that lie below the one before.
 fn later_runs(alloc: Global, sources: &[AddressMap]) -> Result<Vec<usize>, AllocError>
-    ensures { IfOk result (λ places. places.items ≡ run_starts 0 0 (map recorded_view sources.now)) }
+    ensures inside { IfOk result (λ places. All (λ p. (0 < p) × (p < length sources.now)) places.items) }
+    ensures places { IfOk result (λ places. places.items ≡ run_starts 0 0 (map recorded_view sources.now)) }
 {
     let mut places = Vec::new(alloc);
     let mut before = 0;

@@ -18,8 +18,20 @@ invariant_of-result-clause-rises c =
 pub invariant_of-result-clause-apart : goal.invariant_of-result-clause-apart
 invariant_of-result-clause-apart c = rw c.in_ok-gaps.ensures.gaps (RisesFrom-non_decreasing (λ g. g.before) 0 _ (gaps-rise 0 (map entry_view c.deref-2.result.now)))
 
+pub invariant_of-result-clause-low : goal.invariant_of-result-clause-low
+invariant_of-result-clause-low c = c.in_ok-addresses.ensures.low
+
+pub invariant_of-result-clause-gaps_low : goal.invariant_of-result-clause-gaps_low
+invariant_of-result-clause-gaps_low c = c.in_ok-gaps.ensures.low
+
+pub invariant_of-result-clause-bounded : goal.invariant_of-result-clause-bounded
+invariant_of-result-clause-bounded c = rw (c.deref-4.ensures.value, c.deref-5.ensures.value) at c.in_ok-run_bounds.ensures
+
+pub invariant_of-result-clause-blocks_bounded : goal.invariant_of-result-clause-blocks_bounded
+invariant_of-result-clause-blocks_bounded c = rw c.deref-6.ensures.value at c.in_ok-block_bounds.ensures
+
 pub invariant_of-result-clause-split : goal.invariant_of-result-clause-split
-invariant_of-result-clause-split c = c.in_ok-later_runs.ensures ∙ ap (λ es. run_starts 0 0 (map recorded_view es)) c.deref-3.ensures.value
+invariant_of-result-clause-split c = c.in_ok-later_runs.ensures.places ∙ ap (λ es. run_starts 0 0 (map recorded_view es)) c.deref-3.ensures.value
 
 pub returns : goal.returns
 returns c =

@@ -11,3 +11,4 @@ invariant-loop-entry l =
     (map recorded_view l.found.items ++ filter_map recorded_entry (map (wasm_entry l.code_section_offset) (map entry_view (drop l.entry-index l.entries)))
     ≡ filter_map recorded_entry (map (wasm_entry l.code_section_offset) (map entry_view l.entries)))
     × All (λ e. e.generated < 2 ^ 32) l.found.items
+    × All (λ e. e.wasm < 2 ^ 32) l.found.items
