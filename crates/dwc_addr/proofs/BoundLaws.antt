@@ -1,5 +1,5 @@
 -- Runs that an interval does not meet, by their bounds, have none of its ranges.
-use Rattle.std.proofs.Common.{◌≡◌, ℕ, zero, suc, ◌+◌, ◌*◌, ◌<◌, ◌≤◌, refl, sym, ap, ◌∙◌, arith, List, [], ◌∷◌, ◌++◌, length, get_or, inl, inr, None}
+use Rattle.std.proofs.Common.{◌≡◌, ℕ, zero, suc, ◌+◌, ◌*◌, ◌/◌, ◌<◌, ◌≤◌, refl, sym, ap, ◌∙◌, arith, List, [], ◌∷◌, ◌++◌, length, get_or, inl, inr, None}
 use Rattle.std.specs.Prelude.{nat_lt, Bool, true, false, ◌&&◌, ◌⊎◌}
 use Rattle.std.specs.List.{filter_map, cons_option}
 use Rattle.std.proofs.lemmas.Bool.{lt-ltb, le-ltb, lt-leb, cases_lt}
@@ -88,7 +88,7 @@ module _ (m : FunctionMap) (start end : ℕ) where
   run-apart : (k : ℕ) → k < length m.run_bounds.items → IsApart (get_or m.run_bounds.items k no_bounds) start end → IsPassedRun k
   run-apart k less apart le = rw (← begin-seen k, ← end-seen k) (enclosed _ start end _ _ (m.bounded k less le) apart)
 
-  -- A run is passed over by its bounds, and so is each of a block.
+  -- A run is passed over by its bounds, and so is each of a block, and of a block of blocks.
   pub run-passed : (k : ℕ) → k < length m.run_bounds.items → IsApart (get_or m.run_bounds.items k no_bounds) start end → ranges_from m start end (k + 1) ≡ ranges_from m start end k
   run-passed k less apart = let next : k + 1 ≡ suc k = omega arith in ap (ranges_from m start end) next ∙ one-passed k (run-apart k less apart)
 
@@ -96,3 +96,9 @@ module _ (m : FunctionMap) (start end : ℕ) where
   block-passed b k at less apart = many-passed 64 k (λ j from to.
       let h = m.blocks_bounded b j less (omega (arith, from, at)) (omega (arith, to, at)) in
       run-apart j h.0 (enclosed _ start end _ _ h.1 apart))
+
+  pub outer-passed : (o k : ℕ) → k ≡ 4096 * o → o < length m.outer_bounds.items → IsApart (get_or m.outer_bounds.items o no_bounds) start end → ranges_from m start end (k + 4096) ≡ ranges_from m start end k
+  outer-passed o k at less apart = many-passed 4096 k (λ j from to.
+      let outer = m.outer_bounded o (j / 64) less (omega (arith, from, at)) (omega (arith, to, at)) in
+      let block = m.blocks_bounded (j / 64) j outer.0 (omega arith) (omega arith) in
+      run-apart j block.0 (enclosed _ start end _ _ (omega (arith, outer.1.0, block.1.0), omega (arith, outer.1.1, block.1.1)) apart))

@@ -12,8 +12,10 @@ pub struct Bounds {
     pub end: u32,
 }
 
-// How many runs a block has.
+// How many runs a block has, and how many a block of blocks.
 pub(crate) const BLOCK: usize = 64;
+
+pub(crate) const OUTER: usize = BLOCK * BLOCK;
 
 // Whether there are bounds at a place and an interval does not meet them.
 pub(crate) fn is_apart(
@@ -63,7 +65,7 @@ pub(crate) fn run_bounds(
     Ok(bounds)
 }
 
-// The bounds of the full blocks of some runs, by those of the runs.
+// The bounds of the full blocks of some runs, by those of the runs, or of blocks of blocks, by those of the blocks.
 pub(crate) fn block_bounds(alloc: Global, bounds: &[Bounds]) -> Result<Vec<Bounds>, AllocError>
     ensures { IfOk result (λ blocks. AreBlockBounds bounds.now blocks.items) }
 {

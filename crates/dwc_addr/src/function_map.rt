@@ -41,6 +41,8 @@ pub struct FunctionMap {
     pub run_bounds: Vec<Bounds>,
     /// The least begin and the greatest end of the runs of each block of them, without the last block if it is not full.
     pub block_bounds: Vec<Bounds>,
+    /// The bounds of the full blocks of these.
+    pub outer_bounds: Vec<Bounds>,
     ghost begins: { offset ≡ 0 },
     ghost short: { len < 2 ^ 32 },
     ghost starts_low: { wasm_start < 2 ^ 32 },
@@ -51,5 +53,6 @@ pub struct FunctionMap {
     ghost gaps_low: { All (λ g. g.generated < 2 ^ 32) gaps.items },
     ghost bounded: { AreRunBounds (wasm_begin wasm_start addresses.items later_runs.items) (wasm_end_of wasm_end addresses.items later_runs.items) (length later_runs.items) run_bounds.items },
     ghost blocks_bounded: { AreBlockBounds run_bounds.items block_bounds.items },
+    ghost outer_bounded: { AreBlockBounds block_bounds.items outer_bounds.items },
     ghost split: { later_runs.items ≡ run_starts 0 0 (map recorded_view addresses.items) },
 }

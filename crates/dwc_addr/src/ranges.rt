@@ -8,7 +8,7 @@ ghost use Rattle.dwc_addr.specs.Translations.{range_in as range_of, ranges_from,
 
 use crate::AddressTransform;
 use crate::address_map::{GeneratedAddress, WasmAddress};
-use crate::bounds::{BLOCK, is_apart};
+use crate::bounds::{BLOCK, OUTER, is_apart};
 use crate::function_map::FunctionMap;
 use crate::positions::{end_in, start_in};
 use crate::run::Run;
@@ -174,11 +174,15 @@ fn range_behind(
     None
 }
 
-// So many runs from one on, by their bounds, an interval does not meet: those of a block that begins there, that one alone, or none.
+// So many runs from one on, by their bounds, an interval does not meet: those of a block of blocks or of a block that begins there, that one
+// alone, or none.
 fn runs_apart(function: &FunctionMap, place: usize, start: WasmAddress, end: WasmAddress) -> usize
-    ensures few { result ≤ 64 }
+    ensures few { result ≤ 4096 }
     ensures ranges { ranges_from function.now start end (place + result) ≡ ranges_from function.now start end place }
 {
+    if place % OUTER == 0 && is_apart(&function.outer_bounds, place / OUTER, start, end) {
+        return OUTER;
+    }
     if place % BLOCK == 0 && is_apart(&function.block_bounds, place / BLOCK, start, end) {
         return BLOCK;
     }

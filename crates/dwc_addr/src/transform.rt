@@ -203,7 +203,8 @@ fn function_map(
     let wasm_start = start_offset(map.start_srcloc, code_section_offset);
     let wasm_end = start_offset(map.end_srcloc, code_section_offset);
     let run_bounds = run_bounds(alloc, wasm_start, wasm_end, &addresses, &later_runs)?;
-    let block_bounds = block_bounds(alloc, &run_bounds)?;
+    let blocks = block_bounds(alloc, &run_bounds)?;
+    let outer_bounds = block_bounds(alloc, &blocks)?;
     Ok(FunctionMap {
         symbol: symbol.map(|_| number),
         offset: 0,
@@ -214,7 +215,8 @@ fn function_map(
         gaps,
         later_runs,
         run_bounds,
-        block_bounds,
+        block_bounds: blocks,
+        outer_bounds,
     })
 }
 

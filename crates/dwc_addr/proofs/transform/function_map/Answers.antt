@@ -28,7 +28,10 @@ pub invariant_of-result-clause-bounded : goal.invariant_of-result-clause-bounded
 invariant_of-result-clause-bounded c = rw (c.deref-4.ensures.value, c.deref-5.ensures.value) at c.in_ok-run_bounds.ensures
 
 pub invariant_of-result-clause-blocks_bounded : goal.invariant_of-result-clause-blocks_bounded
-invariant_of-result-clause-blocks_bounded c = rw c.deref-6.ensures.value at c.in_ok-block_bounds.ensures
+invariant_of-result-clause-blocks_bounded c = rw c.deref-6.ensures.value at c.in_ok-blocks.ensures
+
+pub invariant_of-result-clause-outer_bounded : goal.invariant_of-result-clause-outer_bounded
+invariant_of-result-clause-outer_bounded c = rw c.deref-7.ensures.value at c.in_ok-outer_bounds.ensures
 
 pub invariant_of-result-clause-split : goal.invariant_of-result-clause-split
 invariant_of-result-clause-split c = c.in_ok-later_runs.ensures.places ∙ ap (λ es. run_starts 0 0 (map recorded_view es)) c.deref-3.ensures.value
