@@ -29,6 +29,7 @@ pub mod SpelledOutput
 pub mod SectionViews
 pub mod ReadBack
 pub mod SmallGiven
+pub mod SmallPlaces
 pub mod WidestGiven
 pub mod GivenTrees
 pub mod LentUnits

@@ -22,6 +22,7 @@ use crate::attributes::Attribute;
 use crate::file_order::{FilePlace, depth_of_first, file_order};
 use crate::notes::{Notes, note_entry};
 use crate::sizes::{uleb_length, value_size};
+use crate::small_places::SmallPlace;
 use crate::writer::MOST_BYTES;
 use crate::{Unit, WriteError};
 use dwc_base::{Limit, SectionName};
@@ -233,14 +234,14 @@ fn offsets_by_place(
 // The offsets of entries by their numbers, whose places in the order of addition are given.
 fn offsets_by_number(
     alloc: Global,
-    places: &[Option<usize>],
+    places: &[SmallPlace],
     by_place: &[usize],
 ) -> Result<Vec<usize>, AllocError>
     ensures { IfOk result (λ offsets. offsets.items ≡ map (offset_known by_place.now) places.now) }
 {
     let mut offsets = Vec::with_capacity(alloc, places.len())?;
     for place in places {
-        offsets.push(known_offset(by_place, *place))?;
+        offsets.push(known_offset(by_place, place.get()))?;
     }
     Ok(offsets)
 }

@@ -24,6 +24,7 @@ mod rows;
 mod sections;
 mod short_lists;
 mod sizes;
+mod small_places;
 mod spelled_rows;
 mod strings;
 mod tables;

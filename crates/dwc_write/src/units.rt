@@ -5,6 +5,7 @@ ghost use Rattle.dwc_write.specs.declared.error.WriteError.TheVariants.{OutOfMem
 ghost use Rattle.dwc_write.specs.Writers.{OkUnlessMemory};
 
 use crate::additions::Additions;
+use crate::small_places::SmallPlace;
 use crate::{AttributeValue, LineProgram, StringTable, WriteError};
 use dwc_base::Encoding;
 use dwc_base::constants::DW_TAG_compile_unit;
@@ -26,7 +27,7 @@ pub struct UnitEntryId {
 pub struct Unit {
     pub(crate) address_size: u8,
     pub(crate) lines: Rc<LineProgram>,
-    pub(crate) places: Vec<Option<usize>>,
+    pub(crate) places: Vec<SmallPlace>,
     pub(crate) additions: Additions,
 }
 
@@ -104,9 +105,10 @@ impl Unit {
         let parent_place = known_place(&self.places, parent);
         let index = self.places.len();
         let place = self.additions.len();
+        let known = SmallPlace::new(place)?;
         self.places.reserve(1)?;
         self.additions.push(parent_place, tag)?;
-        self.places.push(Some(place)).unwrap();
+        self.places.push(known).unwrap();
         Ok(UnitEntryId { index })
     }
 
@@ -118,7 +120,7 @@ impl Unit {
         ensures memory { IsOkUnless result OutOfMemory }
     {
         let index = self.places.len();
-        self.places.push(None)?;
+        self.places.push(SmallPlace::none())?;
         Ok(UnitEntryId { index })
     }
 
@@ -137,8 +139,9 @@ impl Unit {
     {
         let parent_place = known_place(&self.places, parent);
         let place = self.additions.len();
+        let known = SmallPlace::new(place)?;
         self.additions.push(parent_place, tag)?;
-        self.places[id.index] = Some(place);
+        self.places[id.index] = known;
         Ok(())
     }
 
@@ -178,7 +181,7 @@ fn with_root(alloc: Global, address_size: u8, lines: Rc<LineProgram>) -> Result<
     let mut additions = Additions::new(alloc);
     additions.push(0, DW_TAG_compile_unit)?;
     let mut places = Vec::new(alloc);
-    places.push(Some(0))?;
+    places.push(SmallPlace::new(0)?)?;
     Ok(Unit {
         address_size,
         lines,
@@ -189,11 +192,11 @@ fn with_root(alloc: Global, address_size: u8, lines: Rc<LineProgram>) -> Result<
 
 // The place of an entry that was added.
 #[tactic(auto, using(crate::proofs::UnitLaws::place_here, crate::proofs::UnitLaws::place_get))]
-fn known_place(places: &[Option<usize>], id: UnitEntryId) -> usize
+fn known_place(places: &[SmallPlace], id: UnitEntryId) -> usize
     requires { is_some (place_of id.index places.now) ≡ true }
     ensures { place_of id.index places.now ≡ Some result }
 {
-    match places[id.index] {
+    match places[id.index].get() {
         Some(place) => place,
         None => unreachable!(),
     }
