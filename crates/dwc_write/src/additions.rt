@@ -1,49 +1,51 @@
 //! Entries in the order in which they were added, with the attributes of all in one list.
-ghost use Rattle.std.specs.Prelude.{◌≡◌, ◌^◌, ◌<◌, ◌≤◌, ◌+◌, ◌∷◌, ◌++◌, [], List, None, true, is_some, Bool, OnOk, OnErr, IfOk, length, get_or};
+ghost use Rattle.std.specs.Prelude.{◌≡◌, ◌^◌, ◌<◌, ◌≤◌, ◌+◌, ◌∷◌, ◌++◌, [], List, Some, None, true, Bool, OnOk, OnErr, IfOk, length, get_or};
 ghost use Rattle.dwc_write.specs.declared.attributes.Attribute as declared;
-ghost use Rattle.dwc_write.specs.GivenUnits.{set_in, set_in_addition};
+ghost use Rattle.dwc_write.specs.GivenUnits.{set_attribute, set_in, set_in_addition};
 ghost use Rattle.dwc_write.specs.FileOrders.{no_addition};
 ghost use Rattle.dwc_write.specs.AttributePlaces.{place_from};
-ghost use Rattle.dwc_write.specs.UnitViews.{AreApart, IsChanged, IsOpen, addition_in, part_of};
+ghost use Rattle.dwc_write.specs.UnitViews.{AreOthersKept, IsChanged, IsOpen, IsOwnWithin, IsPartChanged, addition_in, part_of};
 
 use crate::AttributeValue;
 use crate::attributes::{Attribute, Attributes, MANY, place_in};
 use crate::room::reserve_part;
+use crate::small_places::SmallPlace;
 use std::alloc::{AllocError, Global};
 use std::marker::Model;
 use std::mem;
 
 // An entry: the place of its parent (its own for the root), its tag, and its attributes, which are so many of the list of all from
-// a place on, or a list of their own.
+// a place on, or a list of their own at a place among these.
 #[derive(Drop)]
 pub(crate) struct Entry {
-    parent: usize,
+    parent: u32,
+    begin: u32,
+    own: SmallPlace,
     tag: u16,
     count: u16,
-    begin: usize,
-    own: Option<Box<Attributes>>,
 }
 
 // How many attributes entries mostly have, or somewhat less.
 const USUAL_ATTRIBUTES: usize = 3;
 
-// Entries, and the attributes of those that have no list of their own.
+// Entries, the attributes of those that have no list of their own, and the lists of the others.
 #[derive(Drop)]
 pub(crate) struct Additions {
     entries: Vec<Entry>,
     shared: Vec<Attribute>,
+    own: Vec<Attributes>,
 }
 
 impl Model for Additions {
-    ghost use Rattle.std.specs.Prelude.{List, map};
+    ghost use Rattle.std.specs.Prelude.{List, length, map};
     ghost use Rattle.dwc_write.specs.GivenUnits.{Addition};
-    ghost use Rattle.dwc_write.specs.UnitViews.{AreApart, addition_in};
+    ghost use Rattle.dwc_write.specs.UnitViews.{AreHeld, addition_in};
 
     ghost Value = { List Addition };
 
-    ghost view = { λ a. map (addition_in a.shared.items) a.entries.items };
+    ghost view = { λ a. map (addition_in a.shared.items a.own.items) a.entries.items };
 
-    ghost invariant = { λ a. AreApart 0 a.shared.items a.entries.items };
+    ghost invariant = { λ a. AreHeld a.shared.items (length a.own.items) a.entries.items };
 }
 
 impl Additions {
@@ -54,6 +56,7 @@ impl Additions {
         Additions {
             entries: Vec::new(alloc),
             shared: Vec::new(alloc),
+            own: Vec::new(alloc),
         }
     }
 
@@ -69,7 +72,7 @@ impl Additions {
         requires { place < length self.now }
         ensures { result ≡ (get_or self.now place no_addition).parent }
     {
-        self.entries[place].parent
+        self.entries[place].parent as usize
     }
 
     // An entry's tag.
@@ -85,7 +88,7 @@ impl Additions {
         requires { place < length self.now }
         ensures { result.now ≡ (get_or self.now place no_addition).attributes }
     {
-        attributes_of(&self.entries[place], &self.shared)
+        attributes_of(&self.entries[place], &self.shared, &self.own)
     }
 
     // Makes room for so many entries more, with as many attributes as they mostly have.
@@ -115,18 +118,25 @@ impl Additions {
         self.entries.len() - place == 1
     }
 
-    // Adds an entry without attributes behind the others.
+    // Adds an entry without attributes behind the others. There is no memory for so many entries or attributes that their places do
+    // not fit.
     pub(crate) fn push(&mut self, parent: usize, tag: u16) -> Result<(), AllocError>
         ensures ok { OnOk result (self.new ≡ self.old ++ record { parent = parent; tag = tag; attributes = [] } ∷ []) }
         ensures few { OnOk result (length self.old + 1 < 2 ^ 63) }
         ensures err { OnErr result (self.new ≡ self.old) }
     {
+        let Ok(parent) = u32::try_from(parent) else {
+            return Err(AllocError);
+        };
+        let Ok(begin) = u32::try_from(self.shared.len()) else {
+            return Err(AllocError);
+        };
         let entry = Entry {
             parent,
+            begin,
+            own: SmallPlace::none(),
             tag,
             count: 0,
-            begin: self.shared.len(),
-            own: None,
         };
         self.entries.push(entry)?;
         Ok(())
@@ -147,6 +157,7 @@ impl Additions {
         set_value(
             &mut self.entries[place],
             &mut self.shared,
+            &mut self.own,
             is_last,
             name,
             value,
@@ -155,13 +166,18 @@ impl Additions {
 }
 
 // The attributes of an entry.
-fn attributes_of<'a>(entry: &'a Entry, shared: &'a [Attribute]) -> &'a [Attribute]
-    requires { entry.now.begin + entry.now.count ≤ length shared.now }
-    ensures { result.now ≡ (addition_in shared.now entry.now).attributes }
+fn attributes_of<'a>(
+    entry: &'a Entry,
+    shared: &'a [Attribute],
+    own: &'a [Attributes],
+) -> &'a [Attribute]
+    requires within { entry.now.begin + entry.now.count ≤ length shared.now }
+    requires own { IsOwnWithin (length own.now) entry.now }
+    ensures { result.now ≡ (addition_in shared.now own.now entry.now).attributes }
 {
-    match &entry.own {
-        Some(own) => own.as_slice(),
-        None => part_of_shared(shared, entry.begin, usize::from(entry.count)),
+    match entry.own.get() {
+        Some(place) => own[place].as_slice(),
+        None => part_of_shared(shared, entry.begin as usize, usize::from(entry.count)),
     }
 }
 
@@ -177,57 +193,62 @@ fn part_of_shared(shared: &[Attribute], begin: usize, count: usize) -> &[Attribu
 fn set_value(
     entry: &mut Entry,
     shared: &mut Vec<Attribute>,
+    own: &mut Vec<Attributes>,
     is_last: bool,
     name: u16,
     value: AttributeValue,
 ) -> Result<(), AllocError>
-    requires { entry.old.begin + entry.old.count ≤ length shared.old.items }
-    ensures kept { IsChanged is_last entry.old shared.old.items entry.new shared.new.items }
-    ensures ok { OnOk result (addition_in shared.new.items entry.new ≡ set_in_addition name value (addition_in shared.old.items entry.old)) }
-    ensures err { OnErr result (addition_in shared.new.items entry.new ≡ addition_in shared.old.items entry.old) }
+    requires within { entry.old.begin + entry.old.count ≤ length shared.old.items }
+    requires own { IsOwnWithin (length own.old.items) entry.old }
+    ensures kept { IsChanged is_last entry.old shared.old.items own.old.items entry.new shared.new.items own.new.items }
+    ensures ok { OnOk result (addition_in shared.new.items own.new.items entry.new ≡ set_in_addition name value (addition_in shared.old.items own.old.items entry.old)) }
+    ensures err { OnErr result (addition_in shared.new.items own.new.items entry.new ≡ addition_in shared.old.items own.old.items entry.old) }
 {
-    match &entry.own {
-        Some(_) => set_own(entry, name, value),
-        None => set_shared(entry, shared, is_last, name, value),
+    match entry.own.get() {
+        Some(place) => set_own(own, place, name, value),
+        None => set_shared(entry, shared, own, is_last, name, value),
     }
 }
 
-// Gives an entry with a list of its own a value.
-fn set_own(entry: &mut Entry, name: u16, value: AttributeValue) -> Result<(), AllocError>
-    requires { is_some entry.old.own ≡ true }
-    ensures kept { (entry.new.begin ≡ entry.old.begin) × (entry.new.count ≡ entry.old.count) }
-    ensures ok { OnOk result ((xs : List declared.Attribute) → addition_in xs entry.new ≡ set_in_addition name value (addition_in xs entry.old)) }
-    ensures err { OnErr result ((xs : List declared.Attribute) → addition_in xs entry.new ≡ addition_in xs entry.old) }
+// Sets a value in a list of an entry's own.
+fn set_own(
+    own: &mut Vec<Attributes>,
+    place: usize,
+    name: u16,
+    value: AttributeValue,
+) -> Result<(), AllocError>
+    requires { place < length own.old.items }
+    ensures kept { AreOthersKept place own.old.items own.new.items }
+    ensures ok { OnOk result (get_or own.new.items place [] ≡ set_attribute name value (get_or own.old.items place [])) }
+    ensures err { OnErr result (get_or own.new.items place [] ≡ get_or own.old.items place []) }
 {
-    match &mut entry.own {
-        Some(own) => own.set(name, value),
-        None => unreachable!(),
-    }
+    own[place].set(name, value)
 }
 
 // Gives an entry without a list of its own a value.
 fn set_shared(
     entry: &mut Entry,
     shared: &mut Vec<Attribute>,
+    own: &mut Vec<Attributes>,
     is_last: bool,
     name: u16,
     value: AttributeValue,
 ) -> Result<(), AllocError>
     requires none { entry.old.own ≡ None }
     requires within { entry.old.begin + entry.old.count ≤ length shared.old.items }
-    ensures kept { IsChanged is_last entry.old shared.old.items entry.new shared.new.items }
-    ensures ok { OnOk result (addition_in shared.new.items entry.new ≡ set_in_addition name value (addition_in shared.old.items entry.old)) }
-    ensures err { OnErr result (addition_in shared.new.items entry.new ≡ addition_in shared.old.items entry.old) }
+    ensures kept { IsChanged is_last entry.old shared.old.items own.old.items entry.new shared.new.items own.new.items }
+    ensures ok { OnOk result (addition_in shared.new.items own.new.items entry.new ≡ set_in_addition name value (addition_in shared.old.items own.old.items entry.old)) }
+    ensures err { OnErr result (addition_in shared.new.items own.new.items entry.new ≡ addition_in shared.old.items own.old.items entry.old) }
 {
     match place_in_part(entry, shared, name) {
         Some(place) => {
-            shared[entry.begin + place] = Attribute { name, value };
+            shared[entry.begin as usize + place] = Attribute { name, value };
             Ok(())
         }
         None if is_last && is_open(entry, shared) => add(entry, shared, name, value),
         None => {
-            make_own(entry, shared)?;
-            set_own(entry, name, value)
+            let own_place = make_own(entry, shared, own)?;
+            set_own(own, own_place, name, value)
         }
     }
 }
@@ -237,7 +258,7 @@ fn place_in_part(entry: &Entry, shared: &[Attribute], name: u16) -> Option<usize
     requires { entry.now.begin + entry.now.count ≤ length shared.now }
     ensures { result ≡ place_from 0 (part_of entry.now.begin entry.now.count shared.now) name }
 {
-    let part = part_of_shared(shared, entry.begin, usize::from(entry.count));
+    let part = part_of_shared(shared, entry.begin as usize, usize::from(entry.count));
     place_in(part, name)
 }
 
@@ -246,7 +267,8 @@ fn is_open(entry: &Entry, shared: &[Attribute]) -> bool
     requires { entry.now.begin + entry.now.count ≤ length shared.now }
     ensures { result ≡ true → IsOpen entry.now shared.now }
 {
-    usize::from(entry.count) < MANY && entry.begin + usize::from(entry.count) == shared.len()
+    let count = usize::from(entry.count);
+    count < MANY && entry.begin as usize + count == shared.len()
 }
 
 // Adds a value of a new name behind the last part.
@@ -259,32 +281,50 @@ fn add(
     requires none { entry.old.own ≡ None }
     requires open { IsOpen entry.old shared.old.items }
     requires new { place_from 0 (part_of entry.old.begin entry.old.count shared.old.items) name ≡ None }
-    ensures kept { IsChanged true entry.old shared.old.items entry.new shared.new.items }
-    ensures ok { OnOk result (addition_in shared.new.items entry.new ≡ set_in_addition name value (addition_in shared.old.items entry.old)) }
-    ensures err { OnErr result (addition_in shared.new.items entry.new ≡ addition_in shared.old.items entry.old) }
+    ensures kept { (own : List (List declared.Attribute)) → IsChanged true entry.old shared.old.items own entry.new shared.new.items own }
+    ensures ok { OnOk result ((own : List (List declared.Attribute)) → addition_in shared.new.items own entry.new ≡ set_in_addition name value (addition_in shared.old.items own entry.old)) }
+    ensures err { OnErr result ((own : List (List declared.Attribute)) → addition_in shared.new.items own entry.new ≡ addition_in shared.old.items own entry.old) }
 {
     shared.push(Attribute { name, value })?;
     entry.count += 1;
     Ok(())
 }
 
-// Moves the attributes of an entry into a list of its own.
-fn make_own(entry: &mut Entry, shared: &mut Vec<Attribute>) -> Result<(), AllocError>
+// Moves the attributes of an entry into a list of its own, and answers its place.
+fn make_own(
+    entry: &mut Entry,
+    shared: &mut Vec<Attribute>,
+    own: &mut Vec<Attributes>,
+) -> Result<usize, AllocError>
     requires none { entry.old.own ≡ None }
     requires within { entry.old.begin + entry.old.count ≤ length shared.old.items }
-    ensures kept { (last : Bool) → IsChanged last entry.old shared.old.items entry.new shared.new.items }
-    ensures same { addition_in shared.new.items entry.new ≡ addition_in shared.old.items entry.old }
-    ensures own { OnOk result (is_some entry.new.own ≡ true) }
+    ensures kept { (last : Bool) → IsChanged last entry.old shared.old.items own.old.items entry.new shared.new.items own.new.items }
+    ensures same { addition_in shared.new.items own.new.items entry.new ≡ addition_in shared.old.items own.old.items entry.old }
+    ensures own { IfOk result (λ place. (entry.new.own ≡ Some place) × (place < length own.new.items)) }
+{
+    let place = own.len();
+    let kept = SmallPlace::new(place)?;
+    own.reserve(1)?;
+    let list = take_part(entry, shared)?;
+    own.push(list).unwrap();
+    entry.own = kept;
+    Ok(place)
+}
+
+// Moves the attributes of an entry's part into a list.
+fn take_part(entry: &Entry, shared: &mut Vec<Attribute>) -> Result<Attributes, AllocError>
+    requires { entry.now.begin + entry.now.count ≤ length shared.old.items }
+    ensures kept { IsPartChanged entry.now shared.old.items shared.new.items }
+    ensures moved { IfOk result (λ list. list ≡ part_of entry.now.begin entry.now.count shared.old.items) }
+    ensures err { OnErr result (shared.new.items ≡ shared.old.items) }
 {
     let alloc = *shared.allocator();
     let count = usize::from(entry.count);
-    let mut own = Box::new(alloc, Attributes::new(alloc))?;
     let mut list = places_for(alloc, count)?;
-    let end = entry.begin + count;
-    move_all(&mut shared[entry.begin..end], &mut list);
-    *own = Attributes::from_list(list);
-    entry.own = Some(own);
-    Ok(())
+    let begin = entry.begin as usize;
+    let end = begin + count;
+    move_all(&mut shared[begin..end], &mut list);
+    Ok(Attributes::from_list(list))
 }
 
 // An attribute that stands where there is none.

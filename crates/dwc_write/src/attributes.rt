@@ -104,16 +104,6 @@ impl Model for Attributes {
 }
 
 impl Attributes {
-    // No attributes.
-    pub(crate) fn new(alloc: Global) -> Attributes
-        ensures { result ≡ [] }
-    {
-        Attributes {
-            list: Vec::new(alloc),
-            places: None,
-        }
-    }
-
     // The attributes in their order.
     pub(crate) fn as_slice(&self) -> &[Attribute]
         ensures { result.now ≡ self.now }

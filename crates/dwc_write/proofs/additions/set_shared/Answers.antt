@@ -17,16 +17,16 @@ index_mut-requires c =
 pub returns-in-Some-clause-kept : goal.returns-in-Some-clause-kept
 returns-in-Some-clause-kept c =
     let found = rw (c.deref.ensures.value) at (sym c.in-Some.ensures) in
-    replaced c.args.is_last c.args.entry.now c.args.shared.now.items c.in-Some.place c.args.name c.args.value c.requires.none c.requires.within found
+    replaced c.args.is_last c.args.entry.now c.args.shared.now.items c.args.own.now.items c.in-Some.place c.args.name c.args.value c.requires.within found
 
 pub returns-in-Some-clause-ok : goal.returns-in-Some-clause-ok
 returns-in-Some-clause-ok c =
     let found = rw (c.deref.ensures.value) at (sym c.in-Some.ensures) in
-    replaced-view c.args.entry.now c.args.shared.now.items c.in-Some.place c.args.name c.args.value c.requires.none c.requires.within found
+    replaced-view c.args.entry.now c.args.shared.now.items c.args.own.now.items c.in-Some.place c.args.name c.args.value c.requires.none c.requires.within found
 
-pub returns-in_err-make_own-in-None-2-clause-kept : goal.returns-in_err-make_own-in-None-2-clause-kept
-returns-in_err-make_own-in-None-2-clause-kept c = c.make_own.ensures.kept c.args.is_last
+pub returns-in_err-own_place-in-None-2-clause-kept : goal.returns-in_err-own_place-in-None-2-clause-kept
+returns-in_err-own_place-in-None-2-clause-kept c = c.make_own.ensures.kept c.args.is_last
 
-pub returns-in_ok-make_own-in-None-2-clause-kept : goal.returns-in_ok-make_own-in-None-2-clause-kept
-returns-in_ok-make_own-in-None-2-clause-kept c =
-    changed-on c.args.is_last c.args.entry.now c.make_own.new.entry c.args.shared.now.items c.make_own.new.shared.items c.set_own.new.entry (c.make_own.ensures.kept c.args.is_last) c.set_own.ensures.kept
+pub returns-in_ok-own_place-in-None-2-clause-kept : goal.returns-in_ok-own_place-in-None-2-clause-kept
+returns-in_ok-own_place-in-None-2-clause-kept c =
+    changed-on c.args.is_last c.args.entry.now c.make_own.new.entry c.args.shared.now.items c.make_own.new.shared.items c.args.own.now.items c.make_own.new.own.items c.set_own.new.own.items c.in_ok-own_place-in-None-2.own_place (c.make_own.ensures.kept c.args.is_last) c.in_ok-own_place-in-None-2.ensures.own.0 c.set_own.ensures.kept
