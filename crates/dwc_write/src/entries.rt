@@ -39,7 +39,7 @@ pub struct Spelling<'a> {
     pub line_offset: usize,
     pub lists: ListPlaces,
     pub lists_end: ListPlaces,
-    pub offsets: &'a [usize],
+    pub offsets: &'a [u32],
     pub units: &'a [UnitLayout],
     pub texts: &'a [Option<usize>],
 }
@@ -75,11 +75,11 @@ impl Spelling<'_> {
 }
 
 // The offset of an entry by its number, 0 where there is none.
-fn offset_at(offsets: &[usize], id: UnitEntryId) -> usize
+fn offset_at(offsets: &[u32], id: UnitEntryId) -> usize
     ensures { result ≡ get_or offsets.now id.index 0 }
 {
     match offsets.get(id.index) {
-        Some(offset) => *offset,
+        Some(offset) => *offset as usize,
         None => 0,
     }
 }
@@ -168,7 +168,7 @@ fn write_entries(
     spelling: &Spelling<'_>,
     additions: &Additions,
     order: &[FilePlace],
-    codes: &[u64],
+    codes: &[u32],
 ) -> Result<(), WriteError>
     requires order { spelling.now.order ≡ info.old.order }
     requires size { (spelling.now.size ≡ 4) ⊎ (spelling.now.size ≡ 8) }
@@ -186,8 +186,9 @@ fn write_entries(
         let depth = order[i].depth;
         let attributes = additions.attributes(order[i].index);
         let ends = depth.saturating_sub(depth_of_first(&order[i + 1..]));
+        let code = u64::from(codes[i]);
         write_entry(
-            info, scratch, spelling, &mut lists, codes[i], attributes, ends,
+            info, scratch, spelling, &mut lists, code, attributes, ends,
         )?;
     }
     Ok(())

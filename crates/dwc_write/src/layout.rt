@@ -14,7 +14,7 @@ ghost use Rattle.dwc_write.specs.Spelled.{at_places};
 ghost use Rattle.dwc_write.specs.SpelledOutput.{IsRefusal};
 ghost use Rattle.dwc_write.specs.SpelledUnits.{attribute_bytes, entry_bytes, header_length, shaped};
 ghost use Rattle.dwc_write.specs.WidestGiven.{IsWideRefusal};
-ghost use Rattle.dwc_write.specs.Writers.{most_bytes};
+ghost use Rattle.dwc_write.specs.Writers.{most_bytes, OkUnlessMemory};
 
 use crate::abbreviations::{Shape, code_of_entry};
 use crate::additions::Additions;
@@ -40,20 +40,20 @@ pub struct UnitLayout {
     pub length: usize,
     // its entries in file order, the codes of their shapes, and the shapes
     pub order: Vec<FilePlace>,
-    pub codes: Vec<u64>,
+    pub codes: Vec<u32>,
     pub shapes: IndexSet<Shape>,
     // what is noted of its entries
     pub notes: Notes,
     // the offsets in it of its entries by their numbers, 0 for a number that is only reserved
-    pub offsets: Vec<usize>,
+    pub offsets: Vec<u32>,
 }
 
 // The entries of a unit in file order, with what is found of them.
 #[derive(Drop)]
 struct Coded {
     shapes: IndexSet<Shape>,
-    codes: Vec<u64>,
-    offsets: Vec<usize>,
+    codes: Vec<u32>,
+    offsets: Vec<u32>,
     notes: Notes,
 }
 
@@ -160,8 +160,8 @@ fn place_entries(
             attributes,
         )?;
         guesses[usize::from(tag % 64)] = code - 1;
-        coded.codes.push(code)?;
-        coded.offsets.push(place)?;
+        coded.codes.push(in_four_bytes(code)?)?;
+        coded.offsets.push(in_four_bytes(place as u64)?)?;
         note_entry(&mut coded.notes, order[i], attributes)?;
         place = behind_entry(place, size, code, attributes, depth.saturating_sub(next))?;
     }
@@ -198,6 +198,16 @@ fn behind_values(place: usize, size: u8, attributes: &[Attribute]) -> Result<usi
     Ok(behind)
 }
 
+// A number in four bytes. No unit with a greater one has room in memory.
+fn in_four_bytes(number: u64) -> Result<u32, WriteError>
+    ensures { OkUnlessMemory result (λ n. n ≡ number) }
+{
+    match u32::try_from(number) {
+        Ok(narrow) => Ok(narrow),
+        Err(_) => Err(WriteError::OutOfMemory),
+    }
+}
+
 // A place that is so many bytes behind another, in `.debug_info`.
 fn advanced(place: usize, more: usize) -> Result<usize, WriteError>
     requires { place ≤ most_bytes }
@@ -215,9 +225,9 @@ fn advanced(place: usize, more: usize) -> Result<usize, WriteError>
 fn offsets_by_place(
     alloc: Global,
     order: &[FilePlace],
-    offsets: &[usize],
+    offsets: &[u32],
     count: usize,
-) -> Result<Vec<usize>, AllocError>
+) -> Result<Vec<u32>, AllocError>
     requires known { All (λ f. f.index < count) order.now }
     requires each { length offsets.now ≡ length order.now }
     ensures { IfOk result (λ found. (added : List Addition) → (place : ℕ) → get_or found.items place 0 ≡ offset_among place (map (looked_up added) order.now) offsets.now) }
@@ -235,8 +245,8 @@ fn offsets_by_place(
 fn offsets_by_number(
     alloc: Global,
     places: &[SmallPlace],
-    by_place: &[usize],
-) -> Result<Vec<usize>, AllocError>
+    by_place: &[u32],
+) -> Result<Vec<u32>, AllocError>
     ensures { IfOk result (λ offsets. offsets.items ≡ map (offset_known by_place.now) places.now) }
 {
     let mut offsets = Vec::with_capacity(alloc, places.len())?;
@@ -247,7 +257,7 @@ fn offsets_by_number(
 }
 
 // The offset of an entry by its place in the order of addition, where it has one.
-fn known_offset(by_place: &[usize], place: Option<usize>) -> usize
+fn known_offset(by_place: &[u32], place: Option<usize>) -> u32
     ensures { result ≡ offset_known by_place.now place }
 {
     match place {

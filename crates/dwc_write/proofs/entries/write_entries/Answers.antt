@@ -48,7 +48,7 @@ loop-i-preserved c =
     (record {
       entries = loop-entries f c.args.info.now.order c.args.spelling.now.size (behind_attributes c.args.spelling.now.size) p c.loop-i.lists _ c.args.order.now c.loop-i.i first_place uses c.loop-i.info c.write_entry.new.info _ (get_or c.args.codes.now c.loop-i.i 0) c.loop-i-test.true onwards
           c.loop-i.invariant.entries code
-          (rw (← order) (rw (c.attributes-attributes.ensures, c.saturating_sub-ends.ensures, next) at c.in_ok-write_entry.ensures.bytes));
+          (rw (← order) (rw (c.from-code.ensures, c.attributes-attributes.ensures, c.saturating_sub-ends.ensures, next) at c.in_ok-write_entry.ensures.bytes));
       lists = rw (onwards) (ap (behind_entries c.args.spelling.now.size c.loop-i.lists) (sym (seen-more f c.args.order.now c.loop-i.i first_place c.loop-i-test.true)) ∙ c.loop-i.invariant.lists);
     })
 
@@ -68,7 +68,7 @@ returns-in_err-write_entry c =
     let P : GivenEntry → Type 0 = λ e. Refuses c.in_err-write_entry.field-0.0 c.loop-i.info (length (spell (entry_with (behind_attributes c.args.spelling.now.size) p c.loop-i.lists (get_or c.args.codes.now c.loop-i.i 0) e behind))) in
     loop-entries-refused f c.args.info.now.order c.args.spelling.now.size (behind_attributes c.args.spelling.now.size) p c.loop-i.lists c.args.order.now c.loop-i.i first_place uses _ c.loop-i.info c.args.info.now _ (get_or c.args.codes.now c.loop-i.i 0) _ _ _ c.loop-i-test.true
     c.loop-i.invariant.entries code met
-    (rw (← order) (rw (c.attributes-attributes.ensures, c.saturating_sub-ends.ensures, next) at c.in_err-write_entry.ensures.bytes))
+    (rw (← order) (rw (c.from-code.ensures, c.attributes-attributes.ensures, c.saturating_sub-ends.ensures, next) at c.in_err-write_entry.ensures.bytes))
 
 pub bounds-codes-i : goal.bounds-codes-i
 bounds-codes-i c =

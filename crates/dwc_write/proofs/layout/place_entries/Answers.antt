@@ -32,7 +32,7 @@ loop-i-preserved c =
     (record {
       short = (c.in_ok-place.ensures Little).1;
       step = λ o.
-          rw (c.in_ok-push.ensures.items, c.in_ok-push-2.ensures.items)
+          rw (c.in_ok-push.ensures.items, c.in_ok-push-2.ensures.items, c.in_ok-in_four_bytes.ensures, c.in_ok-in_four_bytes-2.ensures)
           (step-more o c.args.size _ _ _ _ _ _ _ _ _ _ _ (f place) behind (rw (seen-more f c.args.order.now c.loop-i.i first_place c.loop-i-test.true) at (c.loop-i.invariant.step o))
           grown (rw (c.tag-tag.ensures, c.attributes-attributes.ensures, next) at c.in_ok-code.ensures.code)
           (rw (c.attributes-attributes.ensures, c.saturating_sub.ensures, next) at ((c.in_ok-place.ensures o).0)));
