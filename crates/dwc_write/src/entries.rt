@@ -183,8 +183,8 @@ fn write_entries(
 {
     let mut lists = spelling.lists;
     for i in 0..order.len() {
-        let depth = order[i].depth;
-        let attributes = additions.attributes(order[i].index);
+        let depth = order[i].depth as usize;
+        let attributes = additions.attributes(order[i].index as usize);
         let ends = depth.saturating_sub(depth_of_first(&order[i + 1..]));
         let code = u64::from(codes[i]);
         write_entry(

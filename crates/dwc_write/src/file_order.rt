@@ -10,8 +10,8 @@ use std::alloc::{AllocError, Global};
 // An entry in file order: its place in the order of addition, and its depth below the root.
 #[derive(Clone, Copy, Debug)]
 pub struct FilePlace {
-    pub index: usize,
-    pub depth: usize,
+    pub index: u32,
+    pub depth: u32,
 }
 
 // For each entry, in the order of addition, its first child and its next sibling; 0, the root's place, where there is none.
@@ -34,23 +34,28 @@ pub fn file_order(alloc: Global, additions: &Additions) -> Result<Vec<FilePlace>
     push_link(&mut pending, links.first_children[0], 1)?;
     while let Some(place) = pending.pop() {
         order.push(place)?;
-        push_link(&mut pending, links.next_siblings[place.index], place.depth)?;
-        push_link(
-            &mut pending,
-            links.first_children[place.index],
-            place.depth + 1,
-        )?;
+        let index = place.index as usize;
+        let depth = place.depth as usize;
+        push_link(&mut pending, links.next_siblings[index], depth)?;
+        push_link(&mut pending, links.first_children[index], depth + 1)?;
     }
     Ok(order)
 }
 
-// An entry at a depth behind others, where there is one.
+// An entry at a depth behind others, where there is one. There is no memory for so many entries that their places do not fit.
 fn push_link(pending: &mut Vec<FilePlace>, index: usize, depth: usize) -> Result<(), AllocError>
     ensures { OnOk result (pending.new.items ≡ pending.old.items ++ linked_place index depth) }
 {
-    if index != 0 {
-        pending.push(FilePlace { index, depth })?;
+    if index == 0 {
+        return Ok(());
     }
+    let Ok(index) = u32::try_from(index) else {
+        return Err(AllocError);
+    };
+    let Ok(depth) = u32::try_from(depth) else {
+        return Err(AllocError);
+    };
+    pending.push(FilePlace { index, depth })?;
     Ok(())
 }
 
@@ -80,6 +85,6 @@ pub fn depth_of_first(order: &[FilePlace]) -> usize
 {
     match order {
         [] => 0,
-        [first, ..] => first.depth,
+        [first, ..] => first.depth as usize,
     }
 }

@@ -146,9 +146,10 @@ fn place_entries(
     let mut guesses = [0; 64];
     let mut place = HEADER_LENGTH;
     for i in 0..order.len() {
-        let depth = order[i].depth;
-        let tag = additions.tag(order[i].index);
-        let attributes = additions.attributes(order[i].index);
+        let depth = order[i].depth as usize;
+        let index = order[i].index as usize;
+        let tag = additions.tag(index);
+        let attributes = additions.attributes(index);
         let next = depth_of_first(&order[i + 1..]);
         let guess = guesses[usize::from(tag % 64)];
         let code = code_of_entry(
@@ -236,7 +237,7 @@ fn offsets_by_place(
     let mut k = order.len();
     while k > 0 {
         k -= 1;
-        found[order[k].index] = offsets[k];
+        found[order[k].index as usize] = offsets[k];
     }
     Ok(found)
 }
