@@ -35,6 +35,10 @@ with_file f g = record { address_size = g.address_size; directories = g.director
 abbrev pub with_begun : Option BegunSequence → GivenLines → GivenLines
 with_begun q g = record { address_size = g.address_size; directories = g.directories; files = g.files; sequences = g.sequences; begun = q }
 
+-- a row at another offset
+abbrev pub row_at : ℕ → LineRow → LineRow
+row_at offset r = record { offset = offset; file = r.file; line = r.line; column = r.column; is_stmt = r.is_stmt; basic_block = r.basic_block; prologue_end = r.prologue_end; epilogue_begin = r.epilogue_begin; isa = r.isa; discriminator = r.discriminator }
+
 abbrev pub row_behind : LineRow → Option BegunSequence → Option BegunSequence
 row_behind r None = None
 row_behind r (Some q) = Some (record { start_address = q.start_address; rows = q.rows ++ r ∷ [] })

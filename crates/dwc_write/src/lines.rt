@@ -3,7 +3,7 @@ ghost use Rattle.std.specs.Prelude.{◌≡◌, ◌+◌, ◌≤◌, ◌<◌, ◌^
 ghost use Rattle.dwc_write.specs.SpelledLines.{FitsName};
 ghost use Rattle.dwc_write.specs.declared.error.WriteError.TheVariants.{OutOfMemory};
 ghost use Rattle.dwc_write.specs.Writers.{OkUnlessMemory};
-ghost use Rattle.dwc_write.specs.GivenLines.{no_lines, with_directory, with_file, with_begun, with_row, with_end, CanBegin, CanAppend, CanEnd};
+ghost use Rattle.dwc_write.specs.GivenLines.{no_lines, with_directory, with_file, with_begun, with_row, with_end, row_at, CanBegin, CanAppend, CanEnd};
 
 use crate::WriteError;
 use crate::names::{Files, Names};
@@ -127,8 +127,18 @@ impl LineProgram {
         ensures err { OnErr result (self.new ≡ self.old) }
         ensures memory { IsOkUnless result OutOfMemory }
     {
+        self.generate_row_at(&row, row.offset)
+    }
+
+    /// Appends a row, at another offset than its own, to the sequence that is begun.
+    pub fn generate_row_at(&mut self, row: &LineRow, offset: u64) -> Result<(), WriteError>
+        requires { CanAppend self.old (row_at offset row.now) }
+        ensures ok { OnOk result (self.new ≡ with_row (row_at offset row.now) self.old) }
+        ensures err { OnErr result (self.new ≡ self.old) }
+        ensures memory { IsOkUnless result OutOfMemory }
+    {
         know_numbers(row.file, row.column, row.isa, row.discriminator);
-        self.rows.push(row)?;
+        self.rows.push(row, offset)?;
         Ok(())
     }
 

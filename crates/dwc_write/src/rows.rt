@@ -3,6 +3,7 @@ ghost use Rattle.std.specs.Prelude.{◌≡◌, ◌++◌, ◌∷◌, [], ◌==◌
 ghost use Rattle.dwc_base.specs.declared.records.Endian.TheVariants.{Little};
 ghost use Rattle.dwc_base.specs.NumberBytes.{uleb_bytes, sleb_bytes};
 ghost use Rattle.dwc_write.specs.SpelledLines.{bytes_when, differs as differ, extended_bytes, program_bytes, row_instructions, rows_instructions};
+ghost use Rattle.dwc_write.specs.GivenLines.{row_at};
 
 use crate::append::{put_sleb, put_uleb};
 use crate::sizes::uleb_length;
@@ -38,12 +39,17 @@ pub fn put_end(out: &mut Vec<u8>, last: &LineRow, end_offset: u64) -> Result<(),
     Ok(())
 }
 
-// A row behind another: what differs from the registers, and the row itself.
-pub fn put_row(out: &mut Vec<u8>, before: &LineRow, row: &LineRow) -> Result<(), AllocError>
+// A row at an offset behind another: what differs from the registers, and the row itself.
+pub fn put_row(
+    out: &mut Vec<u8>,
+    before: &LineRow,
+    row: &LineRow,
+    offset: u64,
+) -> Result<(), AllocError>
     requires before { before.now.line < 2 ^ 32 }
     requires line { row.now.line < 2 ^ 32 }
-    requires offset { before.now.offset ≤ row.now.offset }
-    ensures { OnOk result (out.new.items ≡ out.old.items ++ program_bytes Little 8 (row_instructions before.now row.now)) }
+    requires offset { before.now.offset ≤ offset }
+    ensures { OnOk result (out.new.items ≡ out.old.items ++ program_bytes Little 8 (row_instructions before.now (row_at offset row.now))) }
 {
     put_discriminator(out, row.discriminator)?;
     put_flag(out, DW_LNS_set_basic_block, row.basic_block)?;
@@ -58,7 +64,7 @@ pub fn put_row(out: &mut Vec<u8>, before: &LineRow, row: &LineRow) -> Result<(),
     put_number(out, DW_LNS_set_column, before.column, row.column)?;
     put_number(out, DW_LNS_set_isa, before.isa, row.isa)?;
     put_line(out, before.line, row.line)?;
-    put_advance(out, before.offset, row.offset)?;
+    put_advance(out, before.offset, offset)?;
     out.push(DW_LNS_copy)?;
     Ok(())
 }
@@ -79,7 +85,7 @@ fn put_number(out: &mut Vec<u8>, opcode: u8, before: u64, value: u64) -> Result<
 {
     if before != value {
         out.push(opcode)?;
-        put_uleb(out, value)?;
+        put_digits(out, value)?;
     }
     Ok(())
 }
@@ -91,8 +97,20 @@ fn put_advance(out: &mut Vec<u8>, before: u64, offset: u64) -> Result<(), AllocE
 {
     if before != offset {
         out.push(DW_LNS_advance_pc)?;
-        put_uleb(out, offset - before)?;
+        put_digits(out, offset - before)?;
     }
+    Ok(())
+}
+
+// A number, which mostly has one digit.
+#[inline(always)]
+fn put_digits(out: &mut Vec<u8>, number: u64) -> Result<(), AllocError>
+    ensures { OnOk result (out.new.items ≡ out.old.items ++ uleb_bytes number) }
+{
+    if number >= 128 {
+        return put_uleb(out, number);
+    }
+    out.push(number as u8)?;
     Ok(())
 }
 

@@ -1,7 +1,7 @@
 //! The rows of a sequence, kept as the bytes of their instructions. (DWARF 4, section 6.2.5.)
 ghost use Rattle.std.specs.Prelude.{◌≡◌, ◌++◌, ◌∷◌, [], ◌≤◌, ◌<◌, ◌^◌, OnOk, OnErr, IfOk};
 ghost use Rattle.dwc_base.specs.declared.records.Endian.TheVariants.{Little};
-ghost use Rattle.dwc_write.specs.GivenLines.{last_offset};
+ghost use Rattle.dwc_write.specs.GivenLines.{last_offset, row_at};
 ghost use Rattle.dwc_write.specs.SpelledLines.{FitsRow, first_row, program_bytes, rows_instructions};
 
 use crate::rows::{FIRST_ROW, put_end, put_row};
@@ -55,17 +55,17 @@ impl SpelledRows {
         self.last = FIRST_ROW;
     }
 
-    // Appends a row.
-    pub(crate) fn push(&mut self, row: LineRow) -> Result<(), AllocError>
-        requires fits { FitsRow row }
-        requires behind { last_offset 0 self.old ≤ row.offset }
-        ensures ok { OnOk result (self.new ≡ self.old ++ row ∷ []) }
+    // Appends a row at an offset.
+    pub(crate) fn push(&mut self, row: &LineRow, offset: u64) -> Result<(), AllocError>
+        requires fits { FitsRow (row_at offset row.now) }
+        requires behind { last_offset 0 self.old ≤ offset }
+        ensures ok { OnOk result (self.new ≡ self.old ++ row_at offset row.now ∷ []) }
         ensures err { OnErr result (self.new ≡ self.old) }
     {
         self.buffer.clear();
-        put_row(&mut self.buffer, &self.last, &row)?;
+        put_row(&mut self.buffer, &self.last, row, offset)?;
         self.code.extend_from_slice(&self.buffer)?;
-        self.last = row;
+        self.last = LineRow { offset, ..*row };
         Ok(())
     }
 
