@@ -138,27 +138,20 @@ fn behind_by_halves(
     from + sources[from..end].partition_point(|source| lies_before(source, start, offset))
 }
 
-// The same row at another offset.
-fn moved(row: LineRow, offset: u64) -> LineRow
-    ensures { result ≡ move_row offset row }
-{
-    LineRow { offset, ..row }
-}
-
 // Adds a row that the source at an offset of a function's code found, unless it is the one found last, whose offset is
 // `found`. The first row begins the sequence, and stands at its start.
 fn add_row(
     program: &mut LineProgram,
     function: usize,
-    row: LineRow,
+    row: &LineRow,
     native: u64,
     found: Option<u64>,
 ) -> Result<(), WriteError>
     requires sized { IsSome program.old.address_size }
     requires begun { IsBegun function found program.old.begun }
-    requires next { is_repeated found row.offset ≡ false → FitsNext (length program.old.files) (begun_rows program.old.begun) (move_row (placed_at found native) row) }
-    ensures rows { OnOk result ((rest : Option ℕ → List LineRow) → begun_rows program.new.begun ++ rest (Some row.offset) ≡ begun_rows program.old.begun ++ with_found (λ r. r.offset) move_row rest found native (Some row)) }
-    ensures begun { OnOk result (HasGrown function (Some row.offset) program.old program.new) }
+    requires next { is_repeated found row.now.offset ≡ false → FitsNext (length program.old.files) (begun_rows program.old.begun) (move_row (placed_at found native) row.now) }
+    ensures rows { OnOk result ((rest : Option ℕ → List LineRow) → begun_rows program.new.begun ++ rest (Some row.now.offset) ≡ begun_rows program.old.begun ++ with_found (λ r. r.offset) move_row rest found native (Some row.now)) }
+    ensures begun { OnOk result (HasGrown function (Some row.now.offset) program.old program.new) }
     ensures memory { IsOkUnless result WriteError.OutOfMemory }
 {
     match found {
@@ -167,10 +160,10 @@ fn add_row(
                 symbol: function,
                 addend: 0,
             })?;
-            program.generate_row(moved(row, 0))
+            program.generate_row_at(row, 0)
         }
         Some(offset) if offset == row.offset => Ok(()),
-        Some(_) => program.generate_row(moved(row, native)),
+        Some(_) => program.generate_row_at(row, native),
     }
 }
 
@@ -207,7 +200,7 @@ fn add_run(
         }
         let source = sources[at];
         let count = count_at(rows, next, source.wasm - start);
-        let row = rows[count - 1];
+        let row = &rows[count - 1];
         add_row(program, function, row, source.generated as u64, found)?;
         found = Some(row.offset);
         if count == rows.len() {
