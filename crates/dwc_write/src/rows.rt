@@ -2,8 +2,8 @@
 ghost use Rattle.std.specs.Prelude.{◌≡◌, ◌++◌, ◌∷◌, [], ◌==◌, ◌+◌, ◌-◌, ◌-ℤ◌, ◌<◌, ◌≤◌, ◌^◌, OnOk, not, pos, length};
 ghost use Rattle.dwc_base.specs.declared.records.Endian.TheVariants.{Little};
 ghost use Rattle.dwc_base.specs.NumberBytes.{uleb_bytes, sleb_bytes};
-ghost use Rattle.dwc_write.specs.SpelledLines.{bytes_when, differs as differ, extended_bytes, program_bytes, row_instructions, rows_instructions};
 ghost use Rattle.dwc_write.specs.GivenLines.{row_at};
+ghost use Rattle.dwc_write.specs.SpelledLines.{bytes_when, differs as differ, extended_bytes, program_bytes, row_instructions, rows_instructions};
 
 use crate::append::{put_sleb, put_uleb};
 use crate::sizes::uleb_length;
@@ -80,6 +80,7 @@ fn put_flag(out: &mut Vec<u8>, opcode: u8, wanted: bool) -> Result<(), AllocErro
 }
 
 // An opcode and a number, where the register has another.
+#[inline(always)]
 fn put_number(out: &mut Vec<u8>, opcode: u8, before: u64, value: u64) -> Result<(), AllocError>
     ensures { OnOk result (out.new.items ≡ out.old.items ++ bytes_when (not (before == value)) (opcode ∷ uleb_bytes value)) }
 {
@@ -91,6 +92,7 @@ fn put_number(out: &mut Vec<u8>, opcode: u8, before: u64, value: u64) -> Result<
 }
 
 // The step to an offset, where it is another.
+#[inline(always)]
 fn put_advance(out: &mut Vec<u8>, before: u64, offset: u64) -> Result<(), AllocError>
     requires { before ≤ offset }
     ensures { OnOk result (out.new.items ≡ out.old.items ++ bytes_when (not (before == offset)) (2 ∷ uleb_bytes (offset - before))) }
