@@ -1,5 +1,5 @@
 -- The program's own map file, seen as the value of a map.
-use Rattle.std.specs.Prelude.{◌≡◌, ℕ, List, map, String, string_bytes, Option, Some, None, option_map, Vec}
+use Rattle.std.specs.Prelude.{◌≡◌, ℕ, ◌<◌, ◌-◌, ◌^◌, IfSome, List, map, String, string_bytes, Option, Some, None, option_map, Vec}
 use Rattle.std.specs.Global.{Global}
 use Rattle.std.specs.FinMap as finite
 use Rattle.serde_json.specs.Data.{Items}
@@ -67,6 +67,10 @@ linkage_names n = record { set_memory = string_bytes n.set; resolve_memory = str
 -- a label with its ranges
 abbrev pub label_view : ValueLabel × Vec ValueLocRange Global → ℕ × List LabelRange
 label_view l = ((l.0).0, map range_view (l.1).items)
+
+-- the offset of a place of a file, if it is told, stands for a place
+abbrev pub IsPlace : Option ℕ → Type 0
+IsPlace offset = IfSome offset (λ n. n < 2 ^ 32 - 1)
 
 -- a function with some entries, labels and a frame, from its other fields
 abbrev pub function_told : List (ℕ × Option ℕ) → LabelledRanges → Option FrameDescription → FunctionFields → value.MapFunction

@@ -7,12 +7,14 @@ ghost use Rattle.dwc_clif.specs.CallFrames.{description_view};
 ghost use Rattle.dwc_clif.specs.ValueLabels.{LabelledRanges};
 ghost use Rattle.dwc_map.specs.MapFile.{function_by, function_in, map_function_of};
 ghost use Rattle.dwc_map.specs.MapValues.{u32_of, source_of, pair_of, all_items};
-ghost use Rattle.dwc_map.specs.MapViews.{function_told, function_with, function_view, told_sources, mapped_sources, HaveOneSource};
+ghost use Rattle.dwc_map.specs.MapViews.{function_told, function_with, function_view, told_sources, mapped_sources, HaveOneSource, IsPlace};
 
 use crate::frames::read_frame;
-use crate::json_fields::{items, member, members, pair, source, symbol, whole_number};
+use crate::json_fields::{
+    items, member, members, pair, place_at, source, source_offset, symbol, whole_number,
+};
 use crate::labels::read_labels;
-use dwc_base::{FilePos, SymbolId};
+use dwc_base::SymbolId;
 use dwc_clif::{
     CfaUnwindInfo, CompiledFunctionMetadata, FunctionAddressMap, InstructionAddressMap,
     ValueLabelsRanges,
@@ -24,8 +26,8 @@ use std::alloc::{AllocError, Global};
 #[derive(Clone, Copy)]
 struct FunctionFields<'v> {
     symbol: Option<SymbolId>,
-    start: FilePos,
-    end: FilePos,
+    start: Option<u32>,
+    end: Option<u32>,
     body_offset: u32,
     body_len: u32,
     labels: Option<&'v Value>,
@@ -35,10 +37,11 @@ struct FunctionFields<'v> {
 fn function_fields(fields: &Map<String, Value>) -> Option<FunctionFields<'_>>
     ensures whole { (entries : List (ℕ × Option ℕ)) → function_in entries (members_view fields.now.entries) ≡ option_and_then (function_with entries) result }
     ensures others { (entries : List (ℕ × Option ℕ)) → (labels : LabelledRanges) → (frame : Option FrameDescription) → function_by entries labels frame (members_view fields.now.entries) ≡ option_map (function_told entries labels frame) result }
+    ensures places { IfSome result (λ f. IsPlace f.start × IsPlace f.end) }
 {
     let symbol = symbol(member(fields, "symbol")?)?;
-    let start = source(member(fields, "start")?)?;
-    let end = source(member(fields, "end")?)?;
+    let start = source_offset(member(fields, "start")?)?;
+    let end = source_offset(member(fields, "end")?)?;
     let body_offset = match member(fields, "body_offset") {
         Some(field) => whole_number(field)?,
         None => 0,
@@ -62,13 +65,17 @@ fn function_of(
     value_labels_ranges: ValueLabelsRanges,
     cfa_unwind_info: Option<CfaUnwindInfo>,
 ) -> (Option<SymbolId>, CompiledFunctionMetadata)
+    requires start { IsPlace fields.now.start }
+    requires end { IsPlace fields.now.end }
     ensures value { function_view result ≡ function_told (map entry_view instructions.items) value_labels_ranges (option_map description_view cfa_unwind_info) fields.now }
     ensures sources { told_sources result ≡ mapped_sources result }
 {
+    let start = place_at(fields.start);
+    let end = place_at(fields.end);
     let address_map = FunctionAddressMap {
         instructions,
-        start_srcloc: fields.start,
-        end_srcloc: fields.end,
+        start_srcloc: start,
+        end_srcloc: end,
         body_offset: fields.body_offset as usize,
         body_len: fields.body_len,
     };
@@ -77,8 +84,8 @@ fn function_of(
         value_labels_ranges,
         unwind_info: None,
         cfa_unwind_info,
-        start_srcloc: fields.start,
-        end_srcloc: fields.end,
+        start_srcloc: start,
+        end_srcloc: end,
     };
     (fields.symbol, metadata)
 }

@@ -1,9 +1,10 @@
 //! The kinds of the map file's values. Each function answers None for a value of another kind.
-ghost use Rattle.std.specs.Prelude.{◌≡◌, ◌==◌, option_map, Some};
+ghost use Rattle.std.specs.Prelude.{◌≡◌, ◌==◌, option_map, Some, IfSome};
 ghost use Rattle.std.specs.List.{list_any};
 ghost use Rattle.serde_json.specs.View.{view, items_view, members_view};
 ghost use Rattle.serde_json.specs.Find.{get_member, as_array};
 ghost use Rattle.dwc_map.specs.MapFile.{pointer_bytes_of, architecture_of};
+ghost use Rattle.dwc_map.specs.MapViews.{IsPlace};
 ghost use Rattle.dwc_map.specs.MapValues.{u32_of, u16_of, u8_of, i8_of, i32_of, i64_of, source_of, nullable, text_of, members_of, pair_of, four_of};
 
 use dwc_base::{FilePos, SymbolId};
@@ -69,17 +70,37 @@ pub(crate) fn symbol(value: &Value) -> Option<Option<SymbolId>>
 }
 
 /// The offset of a source in the wasm file, below 2^32 - 1; null for no source.
-pub(crate) fn source(value: &Value) -> Option<FilePos>
-    ensures { result ≡ source_of (view value.now) }
+pub(crate) fn source_offset(value: &Value) -> Option<Option<u32>>
+    ensures value { result ≡ source_of (view value.now) }
+    ensures low { IfSome result (λ offset. IsPlace offset) }
 {
     if value.is_null() {
-        return Some(FilePos::default());
+        return Some(None);
     }
     let offset = whole_number(value)?;
     if offset == u32::MAX {
         return None;
     }
-    Some(FilePos::new(offset))
+    Some(Some(offset))
+}
+
+/// The place at an offset of the wasm file, or none.
+pub(crate) fn place_at(offset: Option<u32>) -> FilePos
+    requires { IsPlace offset }
+    ensures { result ≡ offset }
+{
+    match offset {
+        Some(offset) => FilePos::new(offset),
+        None => FilePos::default(),
+    }
+}
+
+/// The place of a source in the wasm file; null for no source.
+pub(crate) fn source(value: &Value) -> Option<FilePos>
+    ensures { result ≡ source_of (view value.now) }
+{
+    let offset = source_offset(value)?;
+    Some(place_at(offset))
 }
 
 fn has_zero(bytes: &[u8]) -> bool

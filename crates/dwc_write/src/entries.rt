@@ -187,9 +187,7 @@ fn write_entries(
         let attributes = additions.attributes(order[i].index as usize);
         let ends = depth.saturating_sub(depth_of_first(&order[i + 1..]));
         let code = u64::from(codes[i]);
-        write_entry(
-            info, scratch, spelling, &mut lists, code, attributes, ends,
-        )?;
+        write_entry(info, scratch, spelling, &mut lists, code, attributes, ends)?;
     }
     Ok(())
 }

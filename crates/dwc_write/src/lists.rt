@@ -135,7 +135,12 @@ pub fn write_lists(
     ensures { Writes lists.old lists.new result (list_bytes lists.old.order size (lists_of_entries (lists_by kind) (map (looked_up additions.now) order.now))) (list_relocations lists.old.order size (length lists.old.body) (lists_of_entries (lists_by kind) (map (looked_up additions.now) order.now))) }
 {
     for i in 0..order.len() {
-        write_lists_of(lists, kind, size, additions.attributes(order[i].index as usize))?;
+        write_lists_of(
+            lists,
+            kind,
+            size,
+            additions.attributes(order[i].index as usize),
+        )?;
     }
     Ok(())
 }
