@@ -6,7 +6,7 @@ ghost use Rattle.dwc_write.specs.GivenUnits.{AreOwn, IsPlainShape, code_in, form
 ghost use Rattle.dwc_write.specs.ShapeViews.{shape_view};
 
 use crate::append::put_uleb;
-use crate::attributes::{Attribute, form_of};
+use crate::attributes::{KeptAttribute, form_of};
 use indexmap::IndexSet;
 use std::alloc::AllocError;
 
@@ -33,7 +33,7 @@ pub fn code_of_entry(
     guess: u64,
     tag: u16,
     has_children: bool,
-    attributes: &[Attribute],
+    attributes: &[KeptAttribute],
 ) -> Result<u64, AllocError>
     requires { AreOwn (map shape_view shapes.old.keys) }
     ensures shapes { OnOk result (map shape_view shapes.new.keys ≡ with_use (record { tag = tag; has_children = has_children; attributes = forms_of attributes.now }) (map shape_view shapes.old.keys)) }
@@ -50,7 +50,7 @@ pub fn code_of_entry(
 }
 
 // Whether a shape is that of an entry.
-fn is_shape_of(shape: &Shape, tag: u16, has_children: bool, attributes: &[Attribute]) -> bool
+fn is_shape_of(shape: &Shape, tag: u16, has_children: bool, attributes: &[KeptAttribute]) -> bool
     ensures { result ≡ same_shape (shape_view shape.now) (record { tag = tag; has_children = has_children; attributes = forms_of attributes.now }) }
 {
     shape.tag == tag
@@ -59,7 +59,7 @@ fn is_shape_of(shape: &Shape, tag: u16, has_children: bool, attributes: &[Attrib
 }
 
 // Whether names and forms are those of attributes.
-fn are_forms_of(forms: &[AttributeForm], attributes: &[Attribute]) -> bool
+fn are_forms_of(forms: &[AttributeForm], attributes: &[KeptAttribute]) -> bool
     ensures { result ≡ same_forms forms.now (forms_of attributes.now) }
 {
     if forms.len() != attributes.len() {
@@ -74,10 +74,10 @@ fn are_forms_of(forms: &[AttributeForm], attributes: &[Attribute]) -> bool
 }
 
 // Whether a name and a form are those of an attribute.
-fn is_form_of(form: AttributeForm, attribute: &Attribute) -> bool
+fn is_form_of(form: AttributeForm, attribute: &KeptAttribute) -> bool
     ensures { result ≡ ((form.name == attribute.now.name) && (form.form == (form_of_attribute attribute.now).form)) }
 {
-    form.name == attribute.name && form.form == form_of(&attribute.value)
+    form.name == attribute.name() && form.form == form_of(attribute)
 }
 
 // The code of a shape, which is kept where it is new.
@@ -109,7 +109,7 @@ fn set_shape(
     shape: &mut Shape,
     tag: u16,
     has_children: bool,
-    attributes: &[Attribute],
+    attributes: &[KeptAttribute],
 ) -> Result<(), AllocError>
     ensures { OnOk result (shape_view shape.new ≡ record { tag = tag; has_children = has_children; attributes = forms_of attributes.now }) }
 {
@@ -120,14 +120,17 @@ fn set_shape(
 }
 
 // The names and forms of attributes, behind others.
-fn push_forms(forms: &mut Vec<AttributeForm>, attributes: &[Attribute]) -> Result<(), AllocError>
+fn push_forms(
+    forms: &mut Vec<AttributeForm>,
+    attributes: &[KeptAttribute],
+) -> Result<(), AllocError>
     ensures { OnOk result (forms.new.items ≡ forms.old.items ++ forms_of attributes.now) }
 {
     forms.reserve(attributes.len())?;
     for attribute in attributes {
         forms.push(AttributeForm {
-            name: attribute.name,
-            form: form_of(&attribute.value),
+            name: attribute.name(),
+            form: form_of(attribute),
         })?;
     }
     Ok(())

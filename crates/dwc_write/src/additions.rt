@@ -7,7 +7,7 @@ ghost use Rattle.dwc_write.specs.AttributePlaces.{place_from};
 ghost use Rattle.dwc_write.specs.UnitViews.{AreOthersKept, IsChanged, IsOpen, IsOwnWithin, IsPartChanged, addition_in, part_of};
 
 use crate::AttributeValue;
-use crate::attributes::{Attribute, Attributes, MANY, place_in};
+use crate::attributes::{Attributes, KeptAttribute, MANY, place_in};
 use crate::room::reserve_part;
 use crate::small_places::SmallPlace;
 use std::alloc::{AllocError, Global};
@@ -32,7 +32,7 @@ const USUAL_ATTRIBUTES: usize = 3;
 #[derive(Drop)]
 pub(crate) struct Additions {
     entries: Vec<Entry>,
-    shared: Vec<Attribute>,
+    shared: Vec<KeptAttribute>,
     own: Vec<Attributes>,
 }
 
@@ -84,7 +84,7 @@ impl Additions {
     }
 
     // An entry's attributes in their order.
-    pub(crate) fn attributes(&self, place: usize) -> &[Attribute]
+    pub(crate) fn attributes(&self, place: usize) -> &[KeptAttribute]
         requires { place < length self.now }
         ensures { result.now ≡ (get_or self.now place no_addition).attributes }
     {
@@ -168,9 +168,9 @@ impl Additions {
 // The attributes of an entry.
 fn attributes_of<'a>(
     entry: &'a Entry,
-    shared: &'a [Attribute],
+    shared: &'a [KeptAttribute],
     own: &'a [Attributes],
-) -> &'a [Attribute]
+) -> &'a [KeptAttribute]
     requires within { entry.now.begin + entry.now.count ≤ length shared.now }
     requires own { IsOwnWithin (length own.now) entry.now }
     ensures { result.now ≡ (addition_in shared.now own.now entry.now).attributes }
@@ -182,7 +182,7 @@ fn attributes_of<'a>(
 }
 
 // So many attributes from a place on.
-fn part_of_shared(shared: &[Attribute], begin: usize, count: usize) -> &[Attribute]
+fn part_of_shared(shared: &[KeptAttribute], begin: usize, count: usize) -> &[KeptAttribute]
     requires { begin + count ≤ length shared.now }
     ensures { result.now ≡ part_of begin count shared.now }
 {
@@ -192,7 +192,7 @@ fn part_of_shared(shared: &[Attribute], begin: usize, count: usize) -> &[Attribu
 // Gives an entry a value. Where it is the last one, its part of the list of all can grow.
 fn set_value(
     entry: &mut Entry,
-    shared: &mut Vec<Attribute>,
+    shared: &mut Vec<KeptAttribute>,
     own: &mut Vec<Attributes>,
     is_last: bool,
     name: u16,
@@ -228,7 +228,7 @@ fn set_own(
 // Gives an entry without a list of its own a value.
 fn set_shared(
     entry: &mut Entry,
-    shared: &mut Vec<Attribute>,
+    shared: &mut Vec<KeptAttribute>,
     own: &mut Vec<Attributes>,
     is_last: bool,
     name: u16,
@@ -242,7 +242,8 @@ fn set_shared(
 {
     match place_in_part(entry, shared, name) {
         Some(place) => {
-            shared[entry.begin as usize + place] = Attribute { name, value };
+            let attribute = KeptAttribute::new(*shared.allocator(), name, value)?;
+            shared[entry.begin as usize + place] = attribute;
             Ok(())
         }
         None if is_last && is_open(entry, shared) => add(entry, shared, name, value),
@@ -254,7 +255,7 @@ fn set_shared(
 }
 
 // The place in an entry's part of the first attribute of a name.
-fn place_in_part(entry: &Entry, shared: &[Attribute], name: u16) -> Option<usize>
+fn place_in_part(entry: &Entry, shared: &[KeptAttribute], name: u16) -> Option<usize>
     requires { entry.now.begin + entry.now.count ≤ length shared.now }
     ensures { result ≡ place_from 0 (part_of entry.now.begin entry.now.count shared.now) name }
 {
@@ -263,7 +264,7 @@ fn place_in_part(entry: &Entry, shared: &[Attribute], name: u16) -> Option<usize
 }
 
 // Whether an attribute can be added to the part of an entry: nothing stands behind it, and it is short enough to be searched.
-fn is_open(entry: &Entry, shared: &[Attribute]) -> bool
+fn is_open(entry: &Entry, shared: &[KeptAttribute]) -> bool
     requires { entry.now.begin + entry.now.count ≤ length shared.now }
     ensures { result ≡ true → IsOpen entry.now shared.now }
 {
@@ -274,7 +275,7 @@ fn is_open(entry: &Entry, shared: &[Attribute]) -> bool
 // Adds a value of a new name behind the last part.
 fn add(
     entry: &mut Entry,
-    shared: &mut Vec<Attribute>,
+    shared: &mut Vec<KeptAttribute>,
     name: u16,
     value: AttributeValue,
 ) -> Result<(), AllocError>
@@ -285,7 +286,8 @@ fn add(
     ensures ok { OnOk result ((own : List (List declared.Attribute)) → addition_in shared.new.items own entry.new ≡ set_in_addition name value (addition_in shared.old.items own entry.old)) }
     ensures err { OnErr result ((own : List (List declared.Attribute)) → addition_in shared.new.items own entry.new ≡ addition_in shared.old.items own entry.old) }
 {
-    shared.push(Attribute { name, value })?;
+    let attribute = KeptAttribute::new(*shared.allocator(), name, value)?;
+    shared.push(attribute)?;
     entry.count += 1;
     Ok(())
 }
@@ -293,7 +295,7 @@ fn add(
 // Moves the attributes of an entry into a list of its own, and answers its place.
 fn make_own(
     entry: &mut Entry,
-    shared: &mut Vec<Attribute>,
+    shared: &mut Vec<KeptAttribute>,
     own: &mut Vec<Attributes>,
 ) -> Result<usize, AllocError>
     requires none { entry.old.own ≡ None }
@@ -312,7 +314,7 @@ fn make_own(
 }
 
 // Moves the attributes of an entry's part into a list.
-fn take_part(entry: &Entry, shared: &mut Vec<Attribute>) -> Result<Attributes, AllocError>
+fn take_part(entry: &Entry, shared: &mut Vec<KeptAttribute>) -> Result<Attributes, AllocError>
     requires { entry.now.begin + entry.now.count ≤ length shared.old.items }
     ensures kept { IsPartChanged entry.now shared.old.items shared.new.items }
     ensures moved { IfOk result (λ list. list ≡ part_of entry.now.begin entry.now.count shared.old.items) }
@@ -327,32 +329,24 @@ fn take_part(entry: &Entry, shared: &mut Vec<Attribute>) -> Result<Attributes, A
     Ok(Attributes::from_list(list))
 }
 
-// An attribute that stands where there is none.
-fn no_attribute() -> Attribute {
-    Attribute {
-        name: 0,
-        value: AttributeValue::Flag(false),
-    }
-}
-
 // Places for so many attributes.
-fn places_for(alloc: Global, count: usize) -> Result<Vec<Attribute>, AllocError>
+fn places_for(alloc: Global, count: usize) -> Result<Vec<KeptAttribute>, AllocError>
     ensures { IfOk result (λ list. length list.items ≡ count) }
 {
     let mut list = Vec::new(alloc);
     for _ in 0..count {
-        list.push(no_attribute())?;
+        list.push(KeptAttribute::none())?;
     }
     Ok(list)
 }
 
 // Moves attributes to as many other places.
-fn move_all(from: &mut [Attribute], to: &mut [Attribute])
+fn move_all(from: &mut [KeptAttribute], to: &mut [KeptAttribute])
     requires { length from.old ≡ length to.old }
     ensures moved { to.new ≡ from.old }
     ensures many { length from.new ≡ length from.old }
 {
     for i in 0..to.len() {
-        to[i] = mem::replace(&mut from[i], no_attribute());
+        to[i] = mem::replace(&mut from[i], KeptAttribute::none());
     }
 }

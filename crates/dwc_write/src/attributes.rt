@@ -6,6 +6,8 @@ ghost use Rattle.dwc_write.specs.SpelledUnits.{form_number};
 ghost use Rattle.dwc_write.specs.GivenUnits.{constant_of, no_places, set_attribute, written_of};
 ghost use Rattle.dwc_write.specs.Lists.{no_lists};
 ghost use Rattle.dwc_write.specs.AttributePlaces.{place_from};
+ghost use Rattle.dwc_write.specs.KeptAttributes.{given, value_of_held};
+ghost use Rattle.dwc_write.specs.declared.attributes.AttributeValue.TheVariants.{Address as ValueAddress, DebugInfoRef as ValueReference};
 
 use crate::{LocationList, RangeList, StringId, UnitEntryId, UnitId};
 use dwc_base::Address;
@@ -74,11 +76,232 @@ pub enum DebugInfoRef {
     Entry(UnitId, UnitEntryId),
 }
 
-// An attribute: its name and its value.
+// An attribute as it is given: its name and its value. Contracts see a kept one so.
 #[derive(Drop)]
 pub(crate) struct Attribute {
     pub(crate) name: u16,
     pub(crate) value: AttributeValue,
+}
+
+// An attribute as it is kept, in 16 bytes: what is longer stands in a box. Its name stands beside the tag in each.
+#[derive(Drop)]
+pub(crate) enum Kept {
+    Constant {
+        name: u16,
+        form: u16,
+        bits: u64,
+    },
+    Flag {
+        name: u16,
+        flag: bool,
+    },
+    Text {
+        name: u16,
+        id: StringId,
+    },
+    Lines {
+        name: u16,
+    },
+    Entry {
+        name: u16,
+        id: UnitEntryId,
+    },
+    Symbol {
+        name: u16,
+        symbol: u32,
+        addend: i64,
+    },
+    UnitEntry {
+        name: u16,
+        unit: u32,
+        id: UnitEntryId,
+    },
+    Expression {
+        name: u16,
+        expression: Box<Expression>,
+    },
+    Ranges {
+        name: u16,
+        list: Box<RangeList>,
+    },
+    Locations {
+        name: u16,
+        list: Box<LocationList>,
+    },
+    Block {
+        name: u16,
+        bytes: Box<Vec<u8>>,
+    },
+    Address {
+        name: u16,
+        address: Box<Address>,
+    },
+    Reference {
+        name: u16,
+        reference: Box<DebugInfoRef>,
+    },
+}
+
+// A kept attribute.
+#[derive(Drop)]
+pub(crate) struct KeptAttribute {
+    kept: Kept,
+}
+
+impl Model for KeptAttribute {
+    ghost use Rattle.dwc_write.specs.declared.attributes.Attribute as declared;
+    ghost use Rattle.dwc_write.specs.KeptAttributes.{given};
+
+    ghost Value = { declared.Attribute };
+
+    ghost view = { λ a. given a.kept };
+}
+
+// The value of a kept attribute, borrowed from it.
+#[derive(Clone, Copy)]
+pub(crate) enum Held<'a> {
+    Address(Address),
+    Constant { form: u16, bits: u64 },
+    Flag(bool),
+    Block(&'a Vec<u8>),
+    Exprloc(&'a Expression),
+    StringRef(StringId),
+    LineProgramRef,
+    RangeListRef(&'a RangeList),
+    LocationListRef(&'a LocationList),
+    UnitRef(UnitEntryId),
+    DebugInfoRef(DebugInfoRef),
+}
+
+impl KeptAttribute {
+    // Keeps an attribute.
+    pub(crate) fn new(
+        alloc: Global,
+        name: u16,
+        value: AttributeValue,
+    ) -> Result<KeptAttribute, AllocError>
+        ensures { IfOk result (λ a. a ≡ record { name = name; value = value }) }
+    {
+        let kept = match value {
+            AttributeValue::Address(address) => keep_address(alloc, name, address)?,
+            AttributeValue::Constant { form, bits } => Kept::Constant { name, form, bits },
+            AttributeValue::Flag(flag) => Kept::Flag { name, flag },
+            AttributeValue::Block(bytes) => Kept::Block {
+                name,
+                bytes: Box::new(alloc, bytes)?,
+            },
+            AttributeValue::Exprloc(expression) => Kept::Expression {
+                name,
+                expression: Box::new(alloc, expression)?,
+            },
+            AttributeValue::StringRef(id) => Kept::Text { name, id },
+            AttributeValue::LineProgramRef => Kept::Lines { name },
+            AttributeValue::RangeListRef(list) => Kept::Ranges {
+                name,
+                list: Box::new(alloc, list)?,
+            },
+            AttributeValue::LocationListRef(list) => Kept::Locations {
+                name,
+                list: Box::new(alloc, list)?,
+            },
+            AttributeValue::UnitRef(id) => Kept::Entry { name, id },
+            AttributeValue::DebugInfoRef(reference) => keep_reference(alloc, name, reference)?,
+        };
+        Ok(KeptAttribute { kept })
+    }
+
+    // An attribute that stands where there is none.
+    pub(crate) fn none() -> KeptAttribute {
+        KeptAttribute {
+            kept: Kept::Lines { name: 0 },
+        }
+    }
+
+    // Its name.
+    pub(crate) fn name(&self) -> u16
+        ensures { result ≡ self.now.name }
+    {
+        match &self.kept {
+            Kept::Constant { name, .. } => *name,
+            Kept::Flag { name, .. } => *name,
+            Kept::Text { name, .. } => *name,
+            Kept::Lines { name } => *name,
+            Kept::Entry { name, .. } => *name,
+            Kept::Symbol { name, .. } => *name,
+            Kept::UnitEntry { name, .. } => *name,
+            Kept::Expression { name, .. } => *name,
+            Kept::Ranges { name, .. } => *name,
+            Kept::Locations { name, .. } => *name,
+            Kept::Block { name, .. } => *name,
+            Kept::Address { name, .. } => *name,
+            Kept::Reference { name, .. } => *name,
+        }
+    }
+
+    // Its value.
+    pub(crate) fn value(&self) -> Held<'_>
+        ensures { self.now.value ≡ value_of_held result }
+    {
+        match &self.kept {
+            Kept::Constant { form, bits, .. } => Held::Constant {
+                form: *form,
+                bits: *bits,
+            },
+            Kept::Flag { flag, .. } => Held::Flag(*flag),
+            Kept::Text { id, .. } => Held::StringRef(*id),
+            Kept::Lines { .. } => Held::LineProgramRef,
+            Kept::Entry { id, .. } => Held::UnitRef(*id),
+            Kept::Symbol { symbol, addend, .. } => Held::Address(Address::Symbol {
+                symbol: *symbol as usize,
+                addend: *addend,
+            }),
+            Kept::UnitEntry { unit, id, .. } => {
+                let unit = UnitId {
+                    index: *unit as usize,
+                };
+                Held::DebugInfoRef(DebugInfoRef::Entry(unit, *id))
+            }
+            Kept::Expression { expression, .. } => Held::Exprloc(expression),
+            Kept::Ranges { list, .. } => Held::RangeListRef(list),
+            Kept::Locations { list, .. } => Held::LocationListRef(list),
+            Kept::Block { bytes, .. } => Held::Block(bytes),
+            Kept::Address { address, .. } => Held::Address(**address),
+            Kept::Reference { reference, .. } => Held::DebugInfoRef(**reference),
+        }
+    }
+}
+
+// An address, in a box where its symbol is no number of four bytes.
+fn keep_address(alloc: Global, name: u16, address: Address) -> Result<Kept, AllocError>
+    ensures { IfOk result (λ k. given k ≡ record { name = name; value = ValueAddress address }) }
+{
+    if let Address::Symbol { symbol, addend } = address {
+        if let Ok(symbol) = u32::try_from(symbol) {
+            return Ok(Kept::Symbol {
+                name,
+                symbol,
+                addend,
+            });
+        }
+    }
+    Ok(Kept::Address {
+        name,
+        address: Box::new(alloc, address)?,
+    })
+}
+
+// A reference, in a box where its unit is no number of four bytes.
+fn keep_reference(alloc: Global, name: u16, reference: DebugInfoRef) -> Result<Kept, AllocError>
+    ensures { IfOk result (λ k. given k ≡ record { name = name; value = ValueReference reference }) }
+{
+    let DebugInfoRef::Entry(unit, id) = reference;
+    if let Ok(unit) = u32::try_from(unit.index) {
+        return Ok(Kept::UnitEntry { name, unit, id });
+    }
+    Ok(Kept::Reference {
+        name,
+        reference: Box::new(alloc, reference)?,
+    })
 }
 
 // How many attributes an entry has before they stand in a list of their own and their names are indexed. Most entries have fewer.
@@ -87,7 +310,7 @@ pub(crate) const MANY: usize = 16;
 // The attributes of an entry in a list of their own, in their order. Where they are many, `places` has the first place of each name.
 #[derive(Drop)]
 pub(crate) struct Attributes {
-    list: Vec<Attribute>,
+    list: Vec<KeptAttribute>,
     places: Option<BTreeMap<u16, usize>>,
 }
 
@@ -105,14 +328,14 @@ impl Model for Attributes {
 
 impl Attributes {
     // The attributes in their order.
-    pub(crate) fn as_slice(&self) -> &[Attribute]
+    pub(crate) fn as_slice(&self) -> &[KeptAttribute]
         ensures { result.now ≡ self.now }
     {
         self.list.as_slice()
     }
 
     // The attributes of a list.
-    pub(crate) fn from_list(list: Vec<Attribute>) -> Attributes
+    pub(crate) fn from_list(list: Vec<KeptAttribute>) -> Attributes
         ensures { result ≡ list.items }
     {
         Attributes { list, places: None }
@@ -124,7 +347,7 @@ impl Attributes {
         ensures err { OnErr result (self.new ≡ self.old) }
     {
         self.index_many()?;
-        let attribute = Attribute { name, value };
+        let attribute = KeptAttribute::new(*self.list.allocator(), name, value)?;
         match self.place_of(name) {
             Some(place) => self.replace(place, attribute),
             None => self.push(attribute)?,
@@ -154,7 +377,7 @@ impl Attributes {
     }
 
     // Puts an attribute in the place of the first of its name.
-    fn replace(&mut self, place: usize, attribute: Attribute)
+    fn replace(&mut self, place: usize, attribute: KeptAttribute)
         requires { place_from 0 self.old attribute.name ≡ Some place }
         ensures { self.new ≡ slice_set self.old place attribute }
     {
@@ -162,7 +385,7 @@ impl Attributes {
     }
 
     // Adds an attribute behind the others, whose names are others.
-    fn push(&mut self, attribute: Attribute) -> Result<(), AllocError>
+    fn push(&mut self, attribute: KeptAttribute) -> Result<(), AllocError>
         requires { place_from 0 self.old attribute.name ≡ None }
         ensures ok { OnOk result (self.new ≡ self.old ++ attribute ∷ []) }
         ensures err { OnErr result (self.new ≡ self.old) }
@@ -170,7 +393,7 @@ impl Attributes {
         let place = self.list.len();
         self.list.reserve(1)?;
         if let Some(places) = &mut self.places {
-            places.insert(attribute.name, place)?;
+            places.insert(attribute.name(), place)?;
         }
         self.list.push(attribute).unwrap();
         Ok(())
@@ -178,41 +401,44 @@ impl Attributes {
 }
 
 // The first place of each name.
-fn places_of(alloc: Global, attributes: &[Attribute]) -> Result<BTreeMap<u16, usize>, AllocError>
+fn places_of(
+    alloc: Global,
+    attributes: &[KeptAttribute],
+) -> Result<BTreeMap<u16, usize>, AllocError>
     ensures { IfOk result (λ m. (name : ℕ) → get nat_cmp m name ≡ place_from 0 attributes.now name) }
 {
     let mut places = BTreeMap::new(alloc);
     let mut k = attributes.len();
     while k > 0 {
         k -= 1;
-        places.insert(attributes[k].name, k)?;
+        places.insert(attributes[k].name(), k)?;
     }
     Ok(places)
 }
 
 // The place of the first attribute of a name, by a scan.
-pub(crate) fn place_in(attributes: &[Attribute], name: u16) -> Option<usize>
+pub(crate) fn place_in(attributes: &[KeptAttribute], name: u16) -> Option<usize>
     ensures { result ≡ place_from 0 attributes.now name }
 {
-    attributes.iter().position(|a| a.name == name)
+    attributes.iter().position(|a| a.name() == name)
 }
 
-// The form of a value.
-pub(crate) fn form_of(value: &AttributeValue) -> u16
-    ensures { result ≡ form_number (written_of no_places no_lists value.now) }
+// The form of an attribute's value.
+pub(crate) fn form_of(attribute: &KeptAttribute) -> u16
+    ensures { result ≡ form_number (written_of no_places no_lists attribute.now.value) }
 {
-    match value {
-        AttributeValue::Address(_) => DW_FORM_addr,
-        AttributeValue::Constant { form, bits } => constant_form(*form, *bits),
-        AttributeValue::Flag(_) => DW_FORM_flag,
-        AttributeValue::Block(_) => DW_FORM_block,
-        AttributeValue::Exprloc(_) => DW_FORM_exprloc,
-        AttributeValue::StringRef(_) => DW_FORM_strp,
-        AttributeValue::LineProgramRef => DW_FORM_sec_offset,
-        AttributeValue::RangeListRef(_) => DW_FORM_sec_offset,
-        AttributeValue::LocationListRef(_) => DW_FORM_sec_offset,
-        AttributeValue::UnitRef(_) => DW_FORM_ref4,
-        AttributeValue::DebugInfoRef(_) => DW_FORM_ref_addr,
+    match attribute.value() {
+        Held::Address(_) => DW_FORM_addr,
+        Held::Constant { form, bits } => constant_form(form, bits),
+        Held::Flag(_) => DW_FORM_flag,
+        Held::Block(_) => DW_FORM_block,
+        Held::Exprloc(_) => DW_FORM_exprloc,
+        Held::StringRef(_) => DW_FORM_strp,
+        Held::LineProgramRef => DW_FORM_sec_offset,
+        Held::RangeListRef(_) => DW_FORM_sec_offset,
+        Held::LocationListRef(_) => DW_FORM_sec_offset,
+        Held::UnitRef(_) => DW_FORM_ref4,
+        Held::DebugInfoRef(_) => DW_FORM_ref_addr,
     }
 }
 

@@ -18,13 +18,11 @@ ghost use Rattle.dwc_write.specs.Writers.{Writes, most_bytes, offset_relocation}
 use crate::abbreviations::put_table;
 use crate::additions::Additions;
 use crate::append::{bytes_2, put_sleb, put_uleb};
-use crate::attributes::Attribute;
+use crate::attributes::{Held, KeptAttribute};
 use crate::file_order::{FilePlace, depth_of_first};
 use crate::layout::UnitLayout;
 use crate::list_places::{ListPlaces, behind_value};
-use crate::{
-    AttributeValue, DebugInfoRef, StringId, UnitEntryId, UnitId, WriteError, WriterRelocate,
-};
+use crate::{DebugInfoRef, StringId, UnitEntryId, UnitId, WriteError, WriterRelocate};
 use dwc_base::constants::{
     DW_FORM_data1, DW_FORM_data2, DW_FORM_data4, DW_FORM_data8, DW_FORM_sdata,
 };
@@ -200,7 +198,7 @@ pub fn write_entry(
     spelling: &Spelling<'_>,
     lists: &mut ListPlaces,
     code: u64,
-    attributes: &[Attribute],
+    attributes: &[KeptAttribute],
     ends: usize,
 ) -> Result<(), WriteError>
     requires order { spelling.now.order ≡ info.old.order }
@@ -250,7 +248,7 @@ fn write_values(
     scratch: &mut Vec<u8>,
     spelling: &Spelling<'_>,
     lists: &mut ListPlaces,
-    attributes: &[Attribute],
+    attributes: &[KeptAttribute],
 ) -> Result<(), WriteError>
     requires order { spelling.now.order ≡ info.old.order }
     requires size { (spelling.now.size ≡ 4) ⊎ (spelling.now.size ≡ 8) }
@@ -263,9 +261,9 @@ fn write_values(
     ensures lists { OnOk result (lists.new ≡ behind_all spelling.now.size lists.old attributes.now) }
 {
     for i in 0..attributes.len() {
-        let value = &attributes[i].value;
-        write_value(info, scratch, spelling, *lists, value)?;
-        *lists = behind_value(*lists, spelling.size, value);
+        let attribute = &attributes[i];
+        write_value(info, scratch, spelling, *lists, attribute)?;
+        *lists = behind_value(*lists, spelling.size, attribute);
     }
     Ok(())
 }
@@ -276,30 +274,28 @@ fn write_value(
     scratch: &mut Vec<u8>,
     spelling: &Spelling<'_>,
     lists: ListPlaces,
-    value: &AttributeValue,
+    attribute: &KeptAttribute,
 ) -> Result<(), WriteError>
     requires order { spelling.now.order ≡ info.old.order }
     requires size { (spelling.now.size ≡ 4) ⊎ (spelling.now.size ≡ 8) }
     requires short { AreShort (spelling_places spelling.now) }
-    requires fits { FitsOperand spelling.now.size value.now }
+    requires fits { FitsOperand spelling.now.size attribute.now.value }
     requires lists { AreWithin lists }
-    ensures { Writes info.old info.new result (written_bytes info.old.order spelling.now.size (written_of (spelling_places spelling.now) lists value.now)) (value_relocations spelling.now.size (length info.old.body) (written_of (spelling_places spelling.now) lists value.now)) }
+    ensures { Writes info.old info.new result (written_bytes info.old.order spelling.now.size (written_of (spelling_places spelling.now) lists attribute.now.value)) (value_relocations spelling.now.size (length info.old.body) (written_of (spelling_places spelling.now) lists attribute.now.value)) }
 {
-    match value {
-        AttributeValue::Address(address) => info.put_address(*address, spelling.size),
-        AttributeValue::Constant { form, bits } => write_constant(info, scratch, *form, *bits),
-        AttributeValue::Flag(flag) => info.put_byte(u8::from(*flag)),
-        AttributeValue::Block(bytes) => write_block(info, scratch, bytes),
-        AttributeValue::Exprloc(expression) => write_block(info, scratch, expression.as_slice()),
-        AttributeValue::StringRef(id) => {
-            info.put_offset(spelling.text_offset_of(*id), SectionName::Str)
-        }
-        AttributeValue::LineProgramRef => info.put_offset(spelling.line_offset, SectionName::Line),
-        AttributeValue::RangeListRef(_) => info.put_offset(lists.ranges, SectionName::Ranges),
-        AttributeValue::LocationListRef(_) => info.put_offset(lists.locations, SectionName::Loc),
-        AttributeValue::UnitRef(id) => info.put_number(4, spelling.offset_of(*id) as u64),
-        AttributeValue::DebugInfoRef(DebugInfoRef::Entry(unit, id)) => {
-            info.put_offset(spelling.section_offset_of(*unit, *id), SectionName::Info)
+    match attribute.value() {
+        Held::Address(address) => info.put_address(address, spelling.size),
+        Held::Constant { form, bits } => write_constant(info, scratch, form, bits),
+        Held::Flag(flag) => info.put_byte(u8::from(flag)),
+        Held::Block(bytes) => write_block(info, scratch, bytes),
+        Held::Exprloc(expression) => write_block(info, scratch, expression.as_slice()),
+        Held::StringRef(id) => { info.put_offset(spelling.text_offset_of(id), SectionName::Str) }
+        Held::LineProgramRef => info.put_offset(spelling.line_offset, SectionName::Line),
+        Held::RangeListRef(_) => info.put_offset(lists.ranges, SectionName::Ranges),
+        Held::LocationListRef(_) => info.put_offset(lists.locations, SectionName::Loc),
+        Held::UnitRef(id) => info.put_number(4, spelling.offset_of(id) as u64),
+        Held::DebugInfoRef(DebugInfoRef::Entry(unit, id)) => {
+            info.put_offset(spelling.section_offset_of(unit, id), SectionName::Info)
         }
     }
 }

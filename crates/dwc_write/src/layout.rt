@@ -18,7 +18,7 @@ ghost use Rattle.dwc_write.specs.Writers.{most_bytes, OkUnlessMemory};
 
 use crate::abbreviations::{Shape, code_of_entry};
 use crate::additions::Additions;
-use crate::attributes::Attribute;
+use crate::attributes::KeptAttribute;
 use crate::file_order::{FilePlace, depth_of_first, file_order};
 use crate::notes::{Notes, note_entry};
 use crate::sizes::{uleb_length, value_size};
@@ -174,7 +174,7 @@ fn behind_entry(
     place: usize,
     size: u8,
     code: u64,
-    attributes: &[Attribute],
+    attributes: &[KeptAttribute],
     ends: usize,
 ) -> Result<usize, WriteError>
     requires place { place ≤ most_bytes }
@@ -187,14 +187,14 @@ fn behind_entry(
 }
 
 // The place behind values.
-fn behind_values(place: usize, size: u8, attributes: &[Attribute]) -> Result<usize, WriteError>
+fn behind_values(place: usize, size: u8, attributes: &[KeptAttribute]) -> Result<usize, WriteError>
     requires place { place ≤ most_bytes }
     requires size { (size ≡ 4) ⊎ (size ≡ 8) }
     ensures { (order : Endian) → Advances result place (length (flat_map (attribute_bytes order size) (written_attributes nowhere no_places no_lists attributes.now))) }
 {
     let mut behind = place;
     for i in 0..attributes.len() {
-        behind = advanced(behind, value_size(&attributes[i].value, size))?;
+        behind = advanced(behind, value_size(&attributes[i], size))?;
     }
     Ok(behind)
 }

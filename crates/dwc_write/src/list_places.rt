@@ -4,7 +4,7 @@ ghost use Rattle.std.specs.Prelude.{◌≡◌, ◌≤◌, ◌+◌, map};
 ghost use Rattle.dwc_write.specs.Lists.{AreWithin, behind_value as behind_one, ended, list_length};
 ghost use Rattle.dwc_write.specs.Writers.{most_bytes};
 
-use crate::AttributeValue;
+use crate::attributes::{Held, KeptAttribute};
 use crate::lists::{Listed, held_length};
 
 /// Where the next range list and the next location list stand, each in its section.
@@ -15,16 +15,16 @@ pub struct ListPlaces {
 }
 
 /// Where the next lists stand behind that of a value, if it has one.
-pub fn behind_value(places: ListPlaces, size: u8, value: &AttributeValue) -> ListPlaces
-    requires { AreWithin (behind_one size places value.now) }
-    ensures { result ≡ behind_one size places value.now }
+pub fn behind_value(places: ListPlaces, size: u8, attribute: &KeptAttribute) -> ListPlaces
+    requires { AreWithin (behind_one size places attribute.now.value) }
+    ensures { result ≡ behind_one size places attribute.now.value }
 {
-    match value {
-        AttributeValue::RangeListRef(list) => ListPlaces {
+    match attribute.value() {
+        Held::RangeListRef(list) => ListPlaces {
             ranges: behind_list(places.ranges, size, list.as_slice()),
             locations: places.locations,
         },
-        AttributeValue::LocationListRef(list) => ListPlaces {
+        Held::LocationListRef(list) => ListPlaces {
             ranges: places.ranges,
             locations: behind_list(places.locations, size, list.as_slice()),
         },

@@ -9,9 +9,9 @@ ghost use Rattle.dwc_write.specs.RangeLists.{address_behind as address_behind_by
 ghost use Rattle.dwc_write.specs.Writers.{FitsField, Writes};
 
 use crate::additions::Additions;
-use crate::attributes::{Attribute, Expression};
+use crate::attributes::{Expression, Held, KeptAttribute};
 use crate::file_order::FilePlace;
-use crate::{AttributeValue, WriteError, WriterRelocate};
+use crate::{WriteError, WriterRelocate};
 use dwc_base::Address;
 
 /// A range list: intervals of addresses in order, each by where it begins and how many bytes it has.
@@ -150,14 +150,14 @@ fn write_lists_of(
     lists: &mut WriterRelocate,
     kind: ListKind,
     size: u8,
-    attributes: &[Attribute],
+    attributes: &[KeptAttribute],
 ) -> Result<(), WriteError>
     requires size { (size ≡ 4) ⊎ (size ≡ 8) }
     requires fits { All (FitsListed size) (lists_of_attributes (lists_by kind) attributes.now) }
     ensures { Writes lists.old lists.new result (list_bytes lists.old.order size (lists_of_attributes (lists_by kind) attributes.now)) (list_relocations lists.old.order size (length lists.old.body) (lists_of_attributes (lists_by kind) attributes.now)) }
 {
     for i in 0..attributes.len() {
-        write_list_of(lists, kind, size, &attributes[i].value)?;
+        write_list_of(lists, kind, size, &attributes[i])?;
     }
     Ok(())
 }
@@ -167,15 +167,15 @@ fn write_list_of(
     lists: &mut WriterRelocate,
     kind: ListKind,
     size: u8,
-    value: &AttributeValue,
+    attribute: &KeptAttribute,
 ) -> Result<(), WriteError>
     requires size { (size ≡ 4) ⊎ (size ≡ 8) }
-    requires fits { All (FitsListed size) (lists_by kind value.now) }
-    ensures { Writes lists.old lists.new result (list_bytes lists.old.order size (lists_by kind value.now)) (list_relocations lists.old.order size (length lists.old.body) (lists_by kind value.now)) }
+    requires fits { All (FitsListed size) (lists_by kind attribute.now.value) }
+    ensures { Writes lists.old lists.new result (list_bytes lists.old.order size (lists_by kind attribute.now.value)) (list_relocations lists.old.order size (length lists.old.body) (lists_by kind attribute.now.value)) }
 {
     match kind {
-        ListKind::Ranges => write_ranges_of(lists, size, value),
-        ListKind::Locations => write_locations_of(lists, size, value),
+        ListKind::Ranges => write_ranges_of(lists, size, attribute),
+        ListKind::Locations => write_locations_of(lists, size, attribute),
     }
 }
 
@@ -183,14 +183,14 @@ fn write_list_of(
 fn write_ranges_of(
     lists: &mut WriterRelocate,
     size: u8,
-    value: &AttributeValue,
+    attribute: &KeptAttribute,
 ) -> Result<(), WriteError>
     requires size { (size ≡ 4) ⊎ (size ≡ 8) }
-    requires fits { All (FitsListed size) (ranges_in value.now) }
-    ensures { Writes lists.old lists.new result (list_bytes lists.old.order size (ranges_in value.now)) (list_relocations lists.old.order size (length lists.old.body) (ranges_in value.now)) }
+    requires fits { All (FitsListed size) (ranges_in attribute.now.value) }
+    ensures { Writes lists.old lists.new result (list_bytes lists.old.order size (ranges_in attribute.now.value)) (list_relocations lists.old.order size (length lists.old.body) (ranges_in attribute.now.value)) }
 {
-    match value {
-        AttributeValue::RangeListRef(list) => write_list(lists, size, list.as_slice()),
+    match attribute.value() {
+        Held::RangeListRef(list) => write_list(lists, size, list.as_slice()),
         _ => Ok(()),
     }
 }
@@ -199,14 +199,14 @@ fn write_ranges_of(
 fn write_locations_of(
     lists: &mut WriterRelocate,
     size: u8,
-    value: &AttributeValue,
+    attribute: &KeptAttribute,
 ) -> Result<(), WriteError>
     requires size { (size ≡ 4) ⊎ (size ≡ 8) }
-    requires fits { All (FitsListed size) (locations_in value.now) }
-    ensures { Writes lists.old lists.new result (list_bytes lists.old.order size (locations_in value.now)) (list_relocations lists.old.order size (length lists.old.body) (locations_in value.now)) }
+    requires fits { All (FitsListed size) (locations_in attribute.now.value) }
+    ensures { Writes lists.old lists.new result (list_bytes lists.old.order size (locations_in attribute.now.value)) (list_relocations lists.old.order size (length lists.old.body) (locations_in attribute.now.value)) }
 {
-    match value {
-        AttributeValue::LocationListRef(list) => write_list(lists, size, list.as_slice()),
+    match attribute.value() {
+        Held::LocationListRef(list) => write_list(lists, size, list.as_slice()),
         _ => Ok(()),
     }
 }

@@ -5,8 +5,7 @@ ghost use Rattle.dwc_write.specs.ShortLists.{are_short_values};
 ghost use Rattle.dwc_write.specs.declared.lists.ListKind.TheVariants.{Locations, Ranges};
 ghost use Rattle.dwc_write.specs.UsedTexts.{text_of_value, texts_of_attributes};
 
-use crate::AttributeValue;
-use crate::attributes::Attribute;
+use crate::attributes::{Held, KeptAttribute};
 use crate::file_order::FilePlace;
 use crate::room::{Counts, NO_COUNTS, count_values};
 use crate::short_lists::has_short_values;
@@ -49,7 +48,7 @@ impl Notes {
 pub fn note_entry(
     notes: &mut Notes,
     entry: FilePlace,
-    attributes: &[Attribute],
+    attributes: &[KeptAttribute],
 ) -> Result<(), AllocError>
     ensures ranged { OnOk result (notes.new.ranged.items ≡ notes.old.ranged.items ++ if_listed Ranges attributes.now entry) }
     ensures located { OnOk result (notes.new.located.items ≡ notes.old.located.items ++ if_listed Locations attributes.now entry) }
@@ -69,60 +68,60 @@ pub fn note_entry(
 }
 
 // The texts that attributes name.
-fn note_texts(texts: &mut Vec<usize>, attributes: &[Attribute]) -> Result<(), AllocError>
+fn note_texts(texts: &mut Vec<usize>, attributes: &[KeptAttribute]) -> Result<(), AllocError>
     ensures { OnOk result (texts.new.items ≡ texts.old.items ++ texts_of_attributes attributes.now) }
 {
     for attribute in attributes {
-        note_text(texts, &attribute.value)?;
+        note_text(texts, attribute)?;
     }
     Ok(())
 }
 
 // The text that a value names, if it names one.
-fn note_text(texts: &mut Vec<usize>, value: &AttributeValue) -> Result<(), AllocError>
-    ensures { OnOk result (texts.new.items ≡ texts.old.items ++ text_of_value value.now) }
+fn note_text(texts: &mut Vec<usize>, attribute: &KeptAttribute) -> Result<(), AllocError>
+    ensures { OnOk result (texts.new.items ≡ texts.old.items ++ text_of_value attribute.now.value) }
 {
-    match value {
-        AttributeValue::StringRef(id) => texts.push(id.index)?,
+    match attribute.value() {
+        Held::StringRef(id) => texts.push(id.index)?,
         _ => {}
     }
     Ok(())
 }
 
 // Whether no attribute is a range list.
-fn are_free_of_ranges(attributes: &[Attribute]) -> bool
+fn are_free_of_ranges(attributes: &[KeptAttribute]) -> bool
     ensures { result ≡ are_free Ranges attributes.now }
 {
     attributes
         .iter()
-        .all(|attribute| is_free_of_ranges(&attribute.value))
+        .all(|attribute| is_free_of_ranges(attribute))
 }
 
 // Whether a value is none.
-fn is_free_of_ranges(value: &AttributeValue) -> bool
-    ensures { result ≡ is_free Ranges value.now }
+fn is_free_of_ranges(attribute: &KeptAttribute) -> bool
+    ensures { result ≡ is_free Ranges attribute.now.value }
 {
-    match value {
-        AttributeValue::RangeListRef(_) => false,
+    match attribute.value() {
+        Held::RangeListRef(_) => false,
         _ => true,
     }
 }
 
 // Whether no attribute is a location list.
-fn are_free_of_locations(attributes: &[Attribute]) -> bool
+fn are_free_of_locations(attributes: &[KeptAttribute]) -> bool
     ensures { result ≡ are_free Locations attributes.now }
 {
     attributes
         .iter()
-        .all(|attribute| is_free_of_locations(&attribute.value))
+        .all(|attribute| is_free_of_locations(attribute))
 }
 
 // Whether a value is none.
-fn is_free_of_locations(value: &AttributeValue) -> bool
-    ensures { result ≡ is_free Locations value.now }
+fn is_free_of_locations(attribute: &KeptAttribute) -> bool
+    ensures { result ≡ is_free Locations attribute.now.value }
 {
-    match value {
-        AttributeValue::LocationListRef(_) => false,
+    match attribute.value() {
+        Held::LocationListRef(_) => false,
         _ => true,
     }
 }

@@ -1,8 +1,7 @@
 //! The room that sections take, counted while entries are laid out, so that it is made once for a unit. No contract hangs on it.
 ghost use Rattle.std.specs.Prelude.{◌≡◌};
 
-use crate::AttributeValue;
-use crate::attributes::{Attribute, Expression};
+use crate::attributes::{Expression, Held, KeptAttribute};
 use crate::lists::held_length;
 use dwc_base::Address;
 
@@ -41,26 +40,26 @@ pub const NO_COUNTS: Counts = Counts {
 };
 
 // Counts the values of an entry.
-pub fn count_values(counts: &mut Counts, attributes: &[Attribute]) {
+pub fn count_values(counts: &mut Counts, attributes: &[KeptAttribute]) {
     for attribute in attributes {
-        count_value(counts, &attribute.value);
+        count_value(counts, attribute);
     }
 }
 
 // Counts a value.
-fn count_value(counts: &mut Counts, value: &AttributeValue) {
-    match value {
-        AttributeValue::Constant { .. }
-        | AttributeValue::Flag(_)
-        | AttributeValue::Block(_)
-        | AttributeValue::Exprloc(_)
-        | AttributeValue::UnitRef(_) => {}
-        AttributeValue::RangeListRef(list) => {
+fn count_value(counts: &mut Counts, attribute: &KeptAttribute) {
+    match attribute.value() {
+        Held::Constant { .. }
+        | Held::Flag(_)
+        | Held::Block(_)
+        | Held::Exprloc(_)
+        | Held::UnitRef(_) => {}
+        Held::RangeListRef(list) => {
             add_to(&mut counts.relocated, 1);
             add_to(&mut counts.ranges, 1);
             add_to(&mut counts.ranges, list.as_slice().len());
         }
-        AttributeValue::LocationListRef(list) => {
+        Held::LocationListRef(list) => {
             add_to(&mut counts.relocated, 1);
             count_locations(counts, list.as_slice());
         }

@@ -6,11 +6,11 @@ ghost use Rattle.dwc_write.specs.GivenUnits.{ordered};
 ghost use Rattle.dwc_write.specs.LayoutViews.{IsLaidOut};
 ghost use Rattle.dwc_write.specs.ShortLists.{are_short_values, is_short_location, is_short_unit, is_short_value};
 
+use crate::WriteError;
 use crate::additions::Additions;
-use crate::attributes::{Attribute, Expression};
+use crate::attributes::{Expression, Held, KeptAttribute};
 use crate::layout::UnitLayout;
 use crate::units::Unit;
-use crate::{AttributeValue, WriteError};
 use dwc_base::Address;
 
 /// Whether all expressions of the location lists of units are, as it is noted where they could be laid out.
@@ -59,20 +59,18 @@ fn are_short_entries(additions: &Additions) -> bool
 }
 
 // Whether those of attributes are.
-pub fn has_short_values(attributes: &[Attribute]) -> bool
+pub fn has_short_values(attributes: &[KeptAttribute]) -> bool
     ensures { result ≡ are_short_values attributes.now }
 {
-    attributes
-        .iter()
-        .all(|attribute| is_short_list(&attribute.value))
+    attributes.iter().all(|attribute| is_short_list(attribute))
 }
 
 // Whether those of a value are.
-fn is_short_list(value: &AttributeValue) -> bool
-    ensures { result ≡ is_short_value value.now }
+fn is_short_list(attribute: &KeptAttribute) -> bool
+    ensures { result ≡ is_short_value attribute.now.value }
 {
-    match value {
-        AttributeValue::LocationListRef(list) => are_short(list.as_slice()),
+    match attribute.value() {
+        Held::LocationListRef(list) => are_short(list.as_slice()),
         _ => true,
     }
 }

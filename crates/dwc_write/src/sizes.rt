@@ -7,7 +7,7 @@ ghost use Rattle.dwc_base.specs.NumberBytes.{sleb_bytes, uleb_bytes};
 ghost use Rattle.dwc_write.specs.Spelled.{block_bytes};
 ghost use Rattle.dwc_write.specs.SpelledUnits.{written_bytes};
 
-use crate::AttributeValue;
+use crate::attributes::{Held, KeptAttribute};
 use dwc_base::constants::{
     DW_FORM_data1, DW_FORM_data2, DW_FORM_data4, DW_FORM_data8, DW_FORM_sdata,
 };
@@ -58,22 +58,22 @@ fn sleb_length_from_0(value: u64) -> u8
 }
 
 // How many bytes a value has, in a unit of a size of addresses.
-pub fn value_size(value: &AttributeValue, size: u8) -> usize
+pub fn value_size(attribute: &KeptAttribute, size: u8) -> usize
     requires { (size ≡ 4) ⊎ (size ≡ 8) }
-    ensures { (order : Endian) → result ≡ length (written_bytes order size (written_of no_places no_lists value.now)) }
+    ensures { (order : Endian) → result ≡ length (written_bytes order size (written_of no_places no_lists attribute.now.value)) }
 {
-    match value {
-        AttributeValue::Address(_) => usize::from(size),
-        AttributeValue::Constant { form, bits } => usize::from(constant_size(*form, *bits)),
-        AttributeValue::Flag(_) => 1,
-        AttributeValue::Block(bytes) => block_size(bytes),
-        AttributeValue::Exprloc(expression) => block_size(expression.as_slice()),
-        AttributeValue::StringRef(_) => 4,
-        AttributeValue::LineProgramRef => 4,
-        AttributeValue::RangeListRef(_) => 4,
-        AttributeValue::LocationListRef(_) => 4,
-        AttributeValue::UnitRef(_) => 4,
-        AttributeValue::DebugInfoRef(_) => 4,
+    match attribute.value() {
+        Held::Address(_) => usize::from(size),
+        Held::Constant { form, bits } => usize::from(constant_size(form, bits)),
+        Held::Flag(_) => 1,
+        Held::Block(bytes) => block_size(bytes),
+        Held::Exprloc(expression) => block_size(expression.as_slice()),
+        Held::StringRef(_) => 4,
+        Held::LineProgramRef => 4,
+        Held::RangeListRef(_) => 4,
+        Held::LocationListRef(_) => 4,
+        Held::UnitRef(_) => 4,
+        Held::DebugInfoRef(_) => 4,
     }
 }
 

@@ -14,15 +14,15 @@ index_mut-requires c =
     let found = rw (c.deref.ensures.value) at (sym c.in-Some.ensures) in
     omega (arith, found-low c.args.entry.now shared.items c.in-Some.place c.args.name c.requires.within found, c.requires.within, shared.ok.0, shared.ok.1)
 
-pub returns-in-Some-clause-kept : goal.returns-in-Some-clause-kept
-returns-in-Some-clause-kept c =
+pub returns-in_ok-attribute-in-Some-clause-kept : goal.returns-in_ok-attribute-in-Some-clause-kept
+returns-in_ok-attribute-in-Some-clause-kept c =
     let found = rw (c.deref.ensures.value) at (sym c.in-Some.ensures) in
-    replaced c.args.is_last c.args.entry.now c.args.shared.now.items c.args.own.now.items c.in-Some.place c.args.name c.args.value c.requires.within found
+    rw (c.in_ok-attribute-in-Some.ensures) (replaced c.args.is_last c.args.entry.now c.args.shared.now.items c.args.own.now.items c.in-Some.place c.args.name c.args.value c.requires.within found)
 
-pub returns-in-Some-clause-ok : goal.returns-in-Some-clause-ok
-returns-in-Some-clause-ok c =
+pub returns-in_ok-attribute-in-Some-clause-ok : goal.returns-in_ok-attribute-in-Some-clause-ok
+returns-in_ok-attribute-in-Some-clause-ok c =
     let found = rw (c.deref.ensures.value) at (sym c.in-Some.ensures) in
-    replaced-view c.args.entry.now c.args.shared.now.items c.args.own.now.items c.in-Some.place c.args.name c.args.value c.requires.none c.requires.within found
+    rw (c.in_ok-attribute-in-Some.ensures) (replaced-view c.args.entry.now c.args.shared.now.items c.args.own.now.items c.in-Some.place c.args.name c.args.value c.requires.none c.requires.within found)
 
 pub returns-in_err-own_place-in-None-2-clause-kept : goal.returns-in_err-own_place-in-None-2-clause-kept
 returns-in_err-own_place-in-None-2-clause-kept c = c.make_own.ensures.kept c.args.is_last

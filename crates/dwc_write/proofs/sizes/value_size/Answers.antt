@@ -4,5 +4,5 @@ use Rattle.dwc_write.proofs.sizes.value_size.Goals as goal
 
 pub returns-in-Constant : goal.returns-in-Constant
 returns-in-Constant c = λ order.
-    rw (c.in-Constant.is)
+    rw (c.value.ensures, c.in-Constant.is)
     (c.from-in-Constant.ensures ∙ c.constant_size.ensures order ∙ constant-length order 8 c.in-Constant.form c.in-Constant.bits ∙ sym (constant-length order c.args.size c.in-Constant.form c.in-Constant.bits))
