@@ -1,4 +1,5 @@
-use Rattle.std.proofs.Common.{arith, sym}
+use Rattle.std.proofs.Common.{◌+◌, ◌∙◌, ap, arith, set, sym}
+use Rattle.dwc_write.specs.UnitViews.{addition_in}
 use Rattle.dwc_write.proofs.AdditionLaws.{changed-on, found-low, replaced, replaced-view}
 use Rattle.dwc_write.proofs.additions.set_shared.Goals as goal
 
@@ -22,7 +23,9 @@ returns-in_ok-attribute-in-Some-clause-kept c =
 pub returns-in_ok-attribute-in-Some-clause-ok : goal.returns-in_ok-attribute-in-Some-clause-ok
 returns-in_ok-attribute-in-Some-clause-ok c =
     let found = rw (c.deref.ensures.value) at (sym c.in-Some.ensures) in
-    rw (c.in_ok-attribute-in-Some.ensures) (replaced-view c.args.entry.now c.args.shared.now.items c.args.own.now.items c.in-Some.place c.args.name c.args.value c.requires.none c.requires.within found)
+    let e = c.args.entry.now in
+    ap (λ a. addition_in (set c.args.shared.now.items (e.begin + c.in-Some.place) a) c.args.own.now.items e) c.in_ok-attribute-in-Some.ensures
+    ∙ replaced-view c.args.entry.now c.args.shared.now.items c.args.own.now.items c.in-Some.place c.args.name c.args.value c.requires.none c.requires.within found
 
 pub returns-in_err-own_place-in-None-2-clause-kept : goal.returns-in_err-own_place-in-None-2-clause-kept
 returns-in_err-own_place-in-None-2-clause-kept c = c.make_own.ensures.kept c.args.is_last
