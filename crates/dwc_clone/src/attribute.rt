@@ -49,6 +49,7 @@ fn line_table(source: &CloneSource<'_, '_>, entry: &Entry<'_>) -> Option<Attribu
 /// `Read` with the entry's offset where a text, or an address by an index, cannot be read, at a list, or at an expression; `LongRange`
 /// where a start plus a length is no address; `BadLabelRange`, `InvalidAttributeValue`, `UnmappedRegister` and `LongJump` for an
 /// expression that is built over its scope. `OutOfMemory` for want of memory.
+#[inline(always)]
 pub(crate) fn output_attribute(
     alloc: Global,
     isa: &dyn TargetIsa,

@@ -198,6 +198,7 @@ fn check_said(
 /// # Errors
 /// `Read` at the entry for a text, or an address by an index, that cannot be read, at a range list, and at an expression; `LongRange` for
 /// a start plus a length that is no address.
+#[inline(never)]
 pub(crate) fn check_bound(
     alloc: Global,
     source: &CloneSource<'_, '_>,

@@ -79,6 +79,7 @@ pub(crate) struct PlacedEntry {
 
 /// Adds the next entry in file order, of a depth and under a number that was reserved: below the last entry of the depth above it; without
 /// one it is the root. `parents` are the last entry and those that it stands below, by their depths.
+#[inline(always)]
 pub(crate) fn add_entry(
     unit: &mut Unit,
     parents: &mut Vec<UnitEntryId>,
@@ -239,6 +240,7 @@ pub(crate) fn frame_in_force<'c>(
 }
 
 // Adds the variable of the context below a subprogram with a scope in force.
+#[inline(always)]
 fn add_context(
     alloc: Global,
     isa: &dyn TargetIsa,

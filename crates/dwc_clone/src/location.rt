@@ -96,6 +96,7 @@ fn output_located(located: Located) -> AttributeValue
 /// # Errors
 /// `Read` with the offset of the expression exactly where an operation cannot be read. Those of building it over the scope in force:
 /// `BadLabelRange`, `InvalidAttributeValue`, `UnmappedRegister` and `LongJump`. `OutOfMemory` for want of memory.
+#[inline(never)]
 pub(crate) fn output_expression(
     alloc: Global,
     isa: &dyn TargetIsa,
@@ -140,6 +141,7 @@ pub(crate) fn output_expression(
 /// The first that is refused of the list: `Read` at the list, or at the entry where the list cannot be found; `LongRange` for a start
 /// plus a length that is no address. Else the first that is refused of its expressions: `Read` with the offset of the expression, and
 /// those of building it. `OutOfMemory` for want of memory.
+#[inline(never)]
 pub(crate) fn output_locations(
     alloc: Global,
     isa: &dyn TargetIsa,

@@ -48,10 +48,8 @@ pub(crate) fn text_place_of<'d>(
     }
 }
 
-/// Reads the text that a value of the entry at an offset names, unless it is known by its place.
-///
-/// Answers `Read` with that offset where the text cannot be read.
-pub(crate) fn check_text<'d>(
+// Reads the text that a value of the entry at an offset names, unless it is known by its place.
+fn check_named<'d>(
     unit: &Unit<'d>,
     offset: u64,
     value: AttributeValue<'d>,
@@ -67,4 +65,25 @@ pub(crate) fn check_text<'d>(
     text_of(unit, offset, value)?;
     known.note(place, None)?;
     Ok(())
+}
+
+/// Reads the text that a value of the entry at an offset names, unless it is known by its place. Most values are no texts.
+///
+/// Answers `Read` with that offset where the text cannot be read.
+#[tactic(auto, unfolding(dwc_base::specs::Texts::text_named))]
+pub(crate) fn check_text<'d>(
+    unit: &Unit<'d>,
+    offset: u64,
+    value: AttributeValue<'d>,
+    known: &mut KnownTexts,
+) -> Result<(), ReadFault>
+    ensures text { (texts : List (List ℕ)) → KnowsTexts unit.now.sections texts known.old → IsReadOrFault (reported Text Info offset (text_named (texts_of_unit unit.now.sections unit.now.header) (value_view value.entry))) result }
+    ensures known { (texts : List (List ℕ)) → KnowsTexts unit.now.sections texts known.old → KnowsTexts unit.now.sections texts known.new }
+{
+    match value {
+        AttributeValue::Text(_) | AttributeValue::TextRef { .. } => {
+            check_named(unit, offset, value, known)
+        }
+        _ => Ok(()),
+    }
 }

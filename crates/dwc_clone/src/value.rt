@@ -71,6 +71,7 @@ fn constant(files: UnitFiles, name: u16, form: u16, bits: u64) -> Option<Attribu
 }
 
 // What a text of the entry at an offset becomes. One that was added already is found by its place, and not read again.
+#[inline(never)]
 fn text(
     source: &CloneSource<'_, '_>,
     offset: u64,
@@ -119,6 +120,7 @@ fn info_reference(source: &CloneSource<'_, '_>, value: InputValue<'_>) -> Option
 }
 
 // A block with its bytes.
+#[inline(never)]
 fn block(alloc: Global, bytes: &[u8]) -> Result<AttributeValue, CloneError>
     ensures made { (places : List EmittedEntry) (number name : ℕ) (texts : List (List ℕ)) → is_expression_name name ≡ false → IfOk result (λ v. Says places number name texts (Some (done (Trees.block bytes.now))) (Some v)) }
     ensures fits { (size name : ℕ) → is_expression_name name ≡ false → IfOk result (FitsValue size name) }
@@ -128,6 +130,7 @@ fn block(alloc: Global, bytes: &[u8]) -> Result<AttributeValue, CloneError>
 }
 
 // What an address of the entry at an offset becomes.
+#[inline(never)]
 fn address(
     source: &CloneSource<'_, '_>,
     offset: u64,
@@ -148,6 +151,7 @@ fn address(
 }
 
 // What a range list of the entry at an offset becomes: the list of what its intervals are translated to, which may have none.
+#[inline(never)]
 fn range_list(
     alloc: Global,
     source: &CloneSource<'_, '_>,
@@ -173,6 +177,7 @@ fn range_list(
 /// `Read` with the entry's offset where a text, or an address by an index, cannot be read, at a list, or at an expression; `LongRange`
 /// where a start plus a length in a list is no address; `BadLabelRange`, `InvalidAttributeValue`, `UnmappedRegister` and `LongJump` for
 /// an expression that is built over its scope. `OutOfMemory` for want of memory.
+#[inline(always)]
 pub(crate) fn output_value(
     alloc: Global,
     isa: &dyn TargetIsa,

@@ -238,6 +238,7 @@ pub(crate) fn open_wrapper(
 }
 
 // Adds the types behind a wrapper.
+#[inline(never)]
 fn add_types(unit: &mut Unit, opened: &OpenWrapper) -> Result<(), WriteError>
     requires { CanClose unit.old opened.now }
     ensures { OnOk result (unit.new ≡ types_added opened.now unit.old) }
@@ -252,6 +253,7 @@ fn add_types(unit: &mut Unit, opened: &OpenWrapper) -> Result<(), WriteError>
 }
 
 /// Closes the wrappers in front of an entry of a depth that does not lie in them, the innermost first.
+#[inline(always)]
 pub(crate) fn close_wrappers(
     unit: &mut Unit,
     opened: &mut Vec<OpenWrapper>,

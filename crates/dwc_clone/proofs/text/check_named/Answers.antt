@@ -4,7 +4,7 @@ use Rattle.dwc_base.specs.Cursors.{slice_bytes}
 use Rattle.dwc_read.specs.Faults.{fault_seen}
 use Rattle.dwc_read.specs.ValuesSeen.{value_view}
 use Rattle.dwc_clone.proofs.KnownLaws.{known-read, read-placed, unplaced-told}
-use Rattle.dwc_clone.proofs.text.check_text.Goals as goal
+use Rattle.dwc_clone.proofs.text.check_named.Goals as goal
 
 pub returns-in_err-place-clause-text : goal.returns-in_err-place-clause-text
 returns-in_err-place-clause-text c = λ texts knows.
