@@ -71,7 +71,6 @@ fn constant(files: UnitFiles, name: u16, form: u16, bits: u64) -> Option<Attribu
 }
 
 // What a text of the entry at an offset becomes. One that was added already is found by its place, and not read again.
-#[inline(never)]
 fn text(
     source: &CloneSource<'_, '_>,
     offset: u64,
@@ -120,7 +119,6 @@ fn info_reference(source: &CloneSource<'_, '_>, value: InputValue<'_>) -> Option
 }
 
 // A block with its bytes.
-#[inline(never)]
 fn block(alloc: Global, bytes: &[u8]) -> Result<AttributeValue, CloneError>
     ensures made { (places : List EmittedEntry) (number name : ℕ) (texts : List (List ℕ)) → is_expression_name name ≡ false → IfOk result (λ v. Says places number name texts (Some (done (Trees.block bytes.now))) (Some v)) }
     ensures fits { (size name : ℕ) → is_expression_name name ≡ false → IfOk result (FitsValue size name) }
@@ -130,7 +128,6 @@ fn block(alloc: Global, bytes: &[u8]) -> Result<AttributeValue, CloneError>
 }
 
 // What an address of the entry at an offset becomes.
-#[inline(never)]
 fn address(
     source: &CloneSource<'_, '_>,
     offset: u64,
@@ -151,7 +148,6 @@ fn address(
 }
 
 // What a range list of the entry at an offset becomes: the list of what its intervals are translated to, which may have none.
-#[inline(never)]
 fn range_list(
     alloc: Global,
     source: &CloneSource<'_, '_>,
@@ -170,15 +166,9 @@ fn range_list(
     }
 }
 
-/// What a value of an entry becomes, under a name that does not decide alone; None where it goes. Texts are added to
-/// `strings`, and noted in `known`, by which they are found when they are named again.
-///
-/// # Errors
-/// `Read` with the entry's offset where a text, or an address by an index, cannot be read, at a list, or at an expression; `LongRange`
-/// where a start plus a length in a list is no address; `BadLabelRange`, `InvalidAttributeValue`, `UnmappedRegister` and `LongJump` for
-/// an expression that is built over its scope. `OutOfMemory` for want of memory.
-#[inline(always)]
-pub(crate) fn output_value(
+// What any value of an entry becomes.
+#[inline(never)]
+fn any_value(
     alloc: Global,
     isa: &dyn TargetIsa,
     source: &CloneSource<'_, '_>,
@@ -217,6 +207,48 @@ pub(crate) fn output_value(
         }
         InputValue::LocRef(_) | InputValue::LocIndex(_) => {
             output_locations(alloc, isa, source, in_force, entry, value)
+        }
+    }
+}
+
+/// What a value of an entry becomes, under a name that does not decide alone; None where it goes. Texts are added to
+/// `strings`, and noted in `known`, by which they are found when they are named again.
+///
+/// # Errors
+/// `Read` with the entry's offset where a text, or an address by an index, cannot be read, at a list, or at an expression; `LongRange`
+/// where a start plus a length in a list is no address; `BadLabelRange`, `InvalidAttributeValue`, `UnmappedRegister` and `LongJump` for
+/// an expression that is built over its scope. `OutOfMemory` for want of memory.
+#[inline(always)]
+pub(crate) fn output_value(
+    alloc: Global,
+    isa: &dyn TargetIsa,
+    source: &CloneSource<'_, '_>,
+    in_force: &InForce<'_>,
+    entry: &Entry<'_>,
+    number: usize,
+    name: u16,
+    value: InputValue<'_>,
+    strings: &mut StringTable,
+    known: &mut KnownTexts,
+) -> Result<Option<AttributeValue>, CloneError>
+    requires functions { HaveAddends source.now.transform.now }
+    requires read { IsReadValue name (value_view value) }
+    requires known { KnowsTexts source.now.unit.now.sections strings.old known.old }
+    ensures made { (unit : ℕ) (s : UnitSource) (e : Placed) (before : List (ℕ × Value)) → IsSource source.now unit s → e.unit ≡ source.now.unit.now.header.offset → e.entry ≡ entry_view entry.now → length before ≡ number → IsInForce (dwarf_registers isa.now) source.now s e in_force.now → GivesMade (SaysMore source.now.places.now unit name strings.old strings.new) (value_becomes (clone_rules (dwarf_registers isa.now) source.now s) s e before name (value_view value.entry)) result }
+    ensures fits { IfOk result (λ v. (size : ℕ) → IfSome v (FitsValue size name)) }
+    ensures known { KnowsTexts source.now.unit.now.sections strings.new known.new }
+    ensures grows { Grows strings.old strings.new }
+{
+    match value {
+        InputValue::Constant { form, bits } => Ok(constant(source.files, name, form, bits)),
+        InputValue::Flag(flag) => Ok(Some(AttributeValue::Flag(flag))),
+        InputValue::UnitRef(_) => Ok(unit_reference(source, value)),
+        // The common ones above stay in registers, as the result of the call has a place of its own.
+        _ => {
+            let made = any_value(
+                alloc, isa, source, in_force, entry, number, name, value, strings, known,
+            )?;
+            Ok(made)
         }
     }
 }
