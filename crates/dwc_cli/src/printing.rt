@@ -3,7 +3,8 @@ ghost use Rattle.std.specs.Prelude.{◌≡◌, ◌++◌, map, IfOk, OnOk};
 ghost use Rattle.std.specs.List.{flat_map};
 ghost use Rattle.hex.specs.Hex.{encode_lower};
 ghost use Rattle.dwc_base.specs.Outputs.{target_view, relocation_view, section_view};
-ghost use Rattle.dwc_cli.specs.Printed.{printed, printed_section, printed_relocation, printed_target, IsTextOfOne};
+ghost use Rattle.std.specs.Fmt.{decimal};
+ghost use Rattle.dwc_cli.specs.Printed.{printed, space, printed_section, printed_relocation, printed_target, IsTextOfOne};
 
 use dwc_base::{DwarfSection, DwarfSectionReloc, DwarfSectionRelocTarget};
 use itoa::Integer;
@@ -40,14 +41,26 @@ fn push_target(text: &mut Vec<u8>, target: DwarfSectionRelocTarget) -> Result<()
     }
 }
 
+// A size between spaces. It has one digit.
+fn push_size(text: &mut Vec<u8>, size: u8) -> Result<(), AllocError>
+    ensures { OnOk result (text.new.items ≡ text.old.items ++ (space ++ (decimal size ++ space))) }
+{
+    if size < 10 {
+        text.extend_from_slice(&[b' ', b'0' + size, b' '])?;
+        return Ok(());
+    }
+    text.push(b' ')?;
+    push_number(text, size)?;
+    text.push(b' ')?;
+    Ok(())
+}
+
 fn push_relocation(text: &mut Vec<u8>, reloc: &DwarfSectionReloc) -> Result<(), AllocError>
     ensures { OnOk result (text.new.items ≡ text.old.items ++ printed_relocation (relocation_view reloc.now)) }
 {
     text.extend_from_slice(b"reloc ")?;
     push_number(text, reloc.offset)?;
-    text.push(b' ')?;
-    push_number(text, reloc.size)?;
-    text.push(b' ')?;
+    push_size(text, reloc.size)?;
     push_target(text, reloc.target)?;
     text.push(b' ')?;
     push_number(text, reloc.addend)?;
