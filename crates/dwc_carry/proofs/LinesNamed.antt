@@ -30,7 +30,7 @@ use Rattle.dwc_base.specs.RawLists.{ListSource}
 use Rattle.dwc_base.specs.RangeAttributes.{begun_function, Extent, intervals, position, nowhere, extent, native_of_intervals, bounds as bounds_of, length_of, said_intervals, said_extent, range_attributes}
 use Rattle.dwc_base.specs.EntryRules.{code_rules, rules_of_source, wrappers_of}
 use Rattle.dwc_base.proofs.ForestLaws.{Each, each_chosen}
-use Rattle.dwc_write.specs.declared.attributes.Attribute.{Attribute}
+use Rattle.dwc_clone.specs.GivenAttributes.{Attribute}
 use Rattle.dwc_write.specs.declared.attributes.AttributeValue.{AttributeValue}
 use Rattle.dwc_write.specs.declared.attributes.AttributeValue.TheVariants.{Address, Constant, Flag, Block, Exprloc, StringRef, LineProgramRef, RangeListRef, LocationListRef, UnitRef, DebugInfoRef}
 use Rattle.dwc_write.specs.declared.attributes.DebugInfoRef.TheVariants as references

@@ -6,6 +6,7 @@ use Rattle.dwc_write.specs.GivenUnits.{Addition, GivenUnit, FitsValue, IsAdded, 
 use Rattle.dwc_write.specs.AddedInOrder.{with_entry}
 use Rattle.dwc_write.proofs.AddedInOrderUnits.{entry-known, entry-set, places-more}
 use Rattle.dwc_write.proofs.UnitLaws.{child-next}
+use Rattle.dwc_clone.specs.GivenAttributes.{Attribute}
 use Rattle.dwc_clone.proofs.EntryValues.{value-places}
 use Rattle.dwc_carry.specs.declared.made_entries.MadeEntry.{MadeEntry}
 use Rattle.dwc_carry.specs.declared.made_entries.MadeValue.{MadeValue}
@@ -28,7 +29,7 @@ value-known id name v u known = subst (λ ps. Rattle.std.specs.Prelude.is_some (
 -- ---- entries
 
 -- the attributes of the last entry
-pub last-given : (u : GivenUnit) (id parent tag : ℕ) (before : List Rattle.dwc_write.specs.declared.attributes.Attribute.Attribute) (as' : List (ℕ × MadeValue)) → id ≡ length u.places
+pub last-given : (u : GivenUnit) (id parent tag : ℕ) (before : List Attribute) (as' : List (ℕ × MadeValue)) → id ≡ length u.places
     → with_attributes id as' (with_entry (record { parent = parent; tag = tag; attributes = before }) u) ≡ with_entry (record { parent = parent; tag = tag; attributes = fold (λ so_far a. set_attribute a.0 (given_value a.1) so_far) before as' }) u
 last-given u id parent tag before [] is = refl
 last-given u id parent tag before (a ∷ as') is =

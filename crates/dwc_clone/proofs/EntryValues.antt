@@ -17,7 +17,7 @@ use Rattle.dwc_base.specs.DraftForests.{settled, settled_value}
 use Rattle.dwc_clif.specs.Registers.{Registers}
 use Rattle.dwc_read.specs.declared.value.AttributeValue.{AttributeValue as InputValue}
 use Rattle.dwc_read.specs.ValuesSeen.{attribute_view}
-use Rattle.dwc_write.specs.declared.attributes.Attribute.{Attribute}
+use Rattle.dwc_clone.specs.GivenAttributes.{Attribute}
 use Rattle.dwc_write.specs.declared.attributes.AttributeValue.{AttributeValue}
 use Rattle.dwc_write.specs.declared.attributes.AttributeValue.TheVariants.{Constant}
 use Rattle.dwc_write.specs.declared.units.UnitEntryId.{UnitEntryId}

@@ -27,5 +27,6 @@ pub mod Tellings
 pub mod ParameterContexts
 pub mod WrappedEntries
 pub mod MadeAttributes
+pub mod GivenAttributes
 pub mod PlainEntries
 pub mod BuiltUnits
