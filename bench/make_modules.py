@@ -600,10 +600,10 @@ def placed_module(count):
     return values_module(lambda start: bytes([3]) + ON_FRAME_BASE, BODY, [[0, 0]], 2 * count, ranges)
 
 
-def placed_locations_module(count):
-    """As long_locations, and the local moves with each second instruction."""
+def placed_locations_module(count, step=1):
+    """As long_locations, and the local moves with each second instruction; its ranges are told from the first to the last, or by another step."""
     size, entries = 2 * count + 2, [[3 * i, 2 * i] for i in range(count)]
-    ranges = [[6 * i, 6 * i + 6, IN_REGISTER, 1 + i % 2] for i in range(count // 2)]
+    ranges = [[6 * i, 6 * i + 6, IN_REGISTER, 1 + i % 2] for i in range(count // 2)][::step]
     wasm, functions = values_module(lambda start: bytes([4]) + u32(0), size, entries, 3 * count, ranges)
     [start] = places([body_of(size)])
     return wasm + custom(".debug_loc", location_pairs(start, count)), functions
@@ -655,6 +655,7 @@ KINDS = {
     "long_locations": lambda n: [long_locations_module(n)],
     "placed": lambda n: [placed_module(n)],
     "placed_locations": lambda n: [placed_locations_module(n)],
+    "unordered_locations": lambda n: [placed_locations_module(n, -1)],
     "run_locations": lambda n: [run_locations_module(n)],
     "expressions": lambda n: [expressions_module(n)],
 }
@@ -689,6 +690,7 @@ SIZES = {
     "long_locations": [50000, 100000],
     "placed": [100000, 200000],
     "placed_locations": [20000, 40000],
+    "unordered_locations": [20000, 40000],
     "run_locations": [10000, 20000],
     "expressions": [25000, 50000],
 }

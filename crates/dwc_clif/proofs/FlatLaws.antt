@@ -1,9 +1,10 @@
 -- Flat ranges, and one more behind them.
 use Rattle.std.proofs.Common.{◌≡◌, ℕ, ◌<◌, ◌≤◌, ◌⊎◌, max, List, [], ◌∷◌, ◌++◌, false, Some, refl, sym, ap, subst, ◌∙◌, arith, inl, inr, true≢false}
-use Rattle.std.specs.Prelude.{◌==◌, All}
+use Rattle.std.specs.Prelude.{◌==◌, ◌||◌, nat_lt, All}
+use Rattle.std.specs.List.{list_any}
 use Rattle.std.specs.Option.{unwrap_or}
-use Rattle.std.proofs.lemmas.Bool.{and_cases, eq-eqb}
-use Rattle.std.proofs.lemmas.List.Elements.{All-nil, All-weaker, All-push}
+use Rattle.std.proofs.lemmas.Bool.{and_cases, eq-eqb, le-ltb}
+use Rattle.std.proofs.lemmas.List.Elements.{All-nil, All-head, All-tail, All-weaker, All-push}
 use Rattle.dwc_base.specs.Compiled.{LabelRange}
 use Rattle.dwc_base.specs.Placed.{same_place}
 use Rattle.dwc_clif.specs.declared.value_label.LabelValueLoc.TheVariants.{Reg}
@@ -72,3 +73,10 @@ flat-behind end r old some le apart f = behind end r old some le (go (ends old))
 -- flat ranges with one more that does not go on where the last one ends
 pub flat-more : (end : ℕ) (r : LabelRange) (rs : List LabelRange) → IsFlatTo end rs → end ≤ r.start → r.start < r.end → goes_on_last rs r ≡ false → IsFlatTo r.end (rs ++ r ∷ [])
 flat-more end r rs f le some apart = subst (λ n. IsFlatTo n (rs ++ r ∷ [])) (omega (arith, le, some)) (flat-behind end r rs some le apart f)
+
+-- none of some ranges with a byte begins above its end
+pub none-reversed : (rs : List LabelRange) → All (λ r. r.start < r.end) rs → list_any (λ r. nat_lt r.end r.start) rs ≡ false
+none-reversed [] h = refl
+none-reversed (r ∷ rs) h =
+    ap (λ b. b || list_any (λ (s : LabelRange). nat_lt s.end s.start) rs) (le-ltb r.end r.start (omega (arith, All-head (λ (s : LabelRange). s.start < s.end) r rs h)))
+    ∙ none-reversed rs (All-tail (λ (s : LabelRange). s.start < s.end) r rs h)

@@ -4,6 +4,7 @@
 mod address_map;
 mod architecture;
 mod cie;
+mod flat;
 mod frame_op;
 mod isa;
 mod metadata;
@@ -22,7 +23,7 @@ pub use isa::TargetIsa;
 pub use metadata::CompiledFunctionMetadata;
 pub use reg::Reg;
 pub use table_isa::TableIsa;
-pub use told_ranges::{ToldRanges, goes_on_last};
+pub use told_ranges::ToldRanges;
 pub use unwind_info::{ArmCodes, CfaUnwindInfo, UnwindInfo};
 pub use value_label::{LabelValueLoc, ValueLabel, ValueLocRange, get_vmctx_value_label};
 pub use value_labels_ranges::{Labels, ValueLabelsRanges};

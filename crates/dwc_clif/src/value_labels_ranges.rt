@@ -49,7 +49,8 @@ impl ValueLabelsRanges {
         ensures ok { OnOk result (self.new ≡ finite.insert self.old label.0 (map range_view ranges.items)) }
         ensures err { OnErr result (self.new ≡ self.old) }
     {
-        self.by_label.insert(label.0, ToldRanges::new(ranges))?;
+        let told = ToldRanges::new(ranges)?;
+        self.by_label.insert(label.0, told)?;
         Ok(())
     }
 
@@ -63,7 +64,7 @@ impl ValueLabelsRanges {
         }
     }
 
-    /// The same, with whether they are flat.
+    /// The same, with what they are when they are flat.
     pub fn told(&self, label: ValueLabel) -> Option<&ToldRanges>
         ensures { option_map (λ x. x.now) result ≡ finite.get self.now label.0 }
     {

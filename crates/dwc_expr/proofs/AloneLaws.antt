@@ -1,11 +1,9 @@
 -- What a local alone becomes on the parts of one range.
 use Rattle.std.proofs.Common.{◌≡◌, ℕ, ◌<◌, List, [], ◌∷◌, ◌++◌, map, Bool, true, false, ◌&&◌, if◌then◌else◌, Option, Some, None, option_map, option_to_list, filter_map, flat_map, Result, Ok, Err, Bor, All, append-nil, append_assoc, refl, ap, sym, subst, ◌∙◌, inl, inr, arith}
-use Rattle.std.specs.Prelude.{◌||◌, is_some, nat_lt}
+use Rattle.std.specs.Prelude.{is_some, nat_lt}
 use Rattle.std.specs.FinMap as finite
 use Rattle.std.specs.List.{cons_option, list_all, list_any}
 use Rattle.std.specs.Option.{option_or}
-use Rattle.std.proofs.lemmas.Bool.{le-ltb}
-use Rattle.std.proofs.lemmas.List.Elements.{All-head, All-tail}
 use Rattle.std.proofs.lemmas.Grind.{flat_map-append}
 use Rattle.std.proofs.lemmas.List.{map-append}
 use Rattle.dwc_base.specs.declared.records.Address.{Address}
@@ -164,13 +162,6 @@ pub good-own :
     → has_bad_range (frame_view (option_map (λ (x : Bor FunctionFrameInfo). x.now) f)) label ≡ false
 good-own f label told reversed ranges any none =
     ap (λ fr. has_bad_range fr label) (sym (frames-same f)) ∙ bad-range (option_map (λ (x : Bor FunctionFrameInfo). told_frame x.now) f) label told ranges ∙ sym any ∙ none
-
--- nor is one of flat ranges such
-pub none-reversed : (rs : List LabelRange) → All (λ r. r.start < r.end) rs → list_any (λ r. nat_lt r.end r.start) rs ≡ false
-none-reversed [] h = refl
-none-reversed (r ∷ rs) h =
-    ap (λ b. b || list_any (λ (s : LabelRange). nat_lt s.end s.start) rs) (le-ltb r.end r.start (omega (arith, All-head (λ (s : LabelRange). s.start < s.end) r rs h)))
-    ∙ none-reversed rs (All-tail (λ (s : LabelRange). s.start < s.end) r rs h)
 
 -- ---- the outcome on one range
 

@@ -9,7 +9,6 @@ mod EmitLaws
 pub mod ExpressionLaws
 pub mod FilledLaws
 pub mod FirstLaws
-pub mod FlatLaws
 pub mod FlatPlaces
 pub mod GatherLaws
 mod JoinedLaws
@@ -17,15 +16,12 @@ pub mod JumpLaws
 mod KnownLaws
 pub mod LabelLaws
 mod LandingLaws
-pub mod LocLaws
 pub mod MadeLaws
 pub mod NarrowLaws
-pub mod OverlayLaws
 pub mod PairLaws
 mod PartWalk
 pub mod PassedLaws
 pub mod PieceLaws
-pub mod PlaceLaws
 pub mod PlaceRefusals
 pub mod RangeLaws
 pub mod RefusalLaws

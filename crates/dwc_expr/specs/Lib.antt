@@ -5,7 +5,6 @@ pub mod CodeRanges
 pub mod Compiles
 pub mod Copies
 pub mod Errors
-pub mod FlatRanges
 pub mod Frames
 pub mod JoinedParts
 pub mod JoinedScopes

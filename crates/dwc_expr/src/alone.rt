@@ -20,10 +20,9 @@ use crate::bytes::put_local;
 use crate::code_range::CodeRange;
 use crate::cuts::is_own;
 use crate::filled::last_in;
-use crate::flat::flattened;
 use crate::passed::first_behind;
 use crate::places::check_place;
-use crate::told::{flat_ranges, has_reversed, own_function, told_ranges};
+use crate::told::{flat_ranges, own_function};
 use crate::{BuiltCompiledExpression, ExprError, FunctionFrameInfo};
 use dwc_addr::AddressTransform;
 use dwc_base::Address;
@@ -84,15 +83,8 @@ pub(crate) fn build_alone(
     ensures { (functions : List Function) (x : CompiledParts) → built_parts x ≡ lone_part local ∷ [] → Builds (built_on_ranges (surroundings functions (option_map (λ f. f.now) frame_info.entry) (dwarf_registers isa.now)) (code_range_view range ∷ []) x) result }
 {
     let own = own_function(frame_info);
-    if let Some(pieces) = flat_ranges(frame_info, local.label) {
-        return build_by(alloc, local, own, pieces, range, isa);
-    }
-    let told = told_ranges(frame_info, local.label);
-    if has_reversed(told) {
-        return Err(ExprError::BadLabelRange { label: local.label });
-    }
-    let pieces = flattened(alloc, told)?;
-    build_by(alloc, local, own, &pieces, range, isa)
+    let pieces = flat_ranges(frame_info, local.label)?;
+    build_by(alloc, local, own, pieces, range, isa)
 }
 
 // The same by flat pieces, which tell the places of the label in one's own function.

@@ -15,7 +15,6 @@ mod emit;
 mod error;
 mod expression;
 mod filled;
-mod flat;
 mod frame;
 mod joined_parts;
 mod jumps;

@@ -9,9 +9,8 @@ ghost use Rattle.dwc_expr.specs.NarrowedRanges.{Narrows, NarrowsBy};
 
 use crate::cuts::cut_ranges;
 use crate::filled::are_filled;
-use crate::flat::flattened;
 use crate::passed::first_needed;
-use crate::told::{flat_ranges, has_reversed, own_function, told_ranges};
+use crate::told::{flat_ranges, own_function};
 use crate::{BuiltValueLabelRanges, ExprError, FunctionFrameInfo};
 use dwc_clif::{ValueLabel, ValueLocRange};
 use std::alloc::{AllocError, Global};
@@ -28,15 +27,8 @@ pub(crate) fn narrowed(
     ensures { Narrows (option_map (λ f. told_frame f.now) frame.entry) label.0 built.now result }
 {
     let own = own_function(frame);
-    if let Some(pieces) = flat_ranges(frame, label) {
-        return Ok(narrowed_by(alloc, own, label, pieces, built)?);
-    }
-    let told = told_ranges(frame, label);
-    if has_reversed(told) {
-        return Err(ExprError::BadLabelRange { label });
-    }
-    let pieces = flattened(alloc, told)?;
-    Ok(narrowed_by(alloc, own, label, &pieces, built)?)
+    let pieces = flat_ranges(frame, label)?;
+    Ok(narrowed_by(alloc, own, label, pieces, built)?)
 }
 
 // The same by flat pieces, which tell the places of the label in one's own function.

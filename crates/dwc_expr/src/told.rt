@@ -1,12 +1,14 @@
 //! What a frame tells of where a label lies.
-ghost use Rattle.std.specs.Prelude.{◌≡◌, IfSome, map, nat_lt, option_map};
+ghost use Rattle.std.specs.Prelude.{◌≡◌, [], false, IfErr, IfOk, map, nat_lt, option_map, true};
 ghost use Rattle.std.specs.List.{list_any};
-ghost use Rattle.dwc_clif.specs.FlatRanges.{IsFlat};
+ghost use Rattle.std.specs.Option.{unwrap_or};
+ghost use Rattle.dwc_clif.specs.FlatRanges.{Flattens};
 ghost use Rattle.dwc_clif.specs.ValueLabels.{range_view};
+ghost use Rattle.dwc_expr.specs.declared.error.ExprError.TheVariants.{BadLabelRange};
 ghost use Rattle.dwc_expr.specs.Frames.{told_frame};
 ghost use Rattle.dwc_expr.specs.OwnPlaces.{own_function, own_ranges};
 
-use crate::FunctionFrameInfo;
+use crate::{ExprError, FunctionFrameInfo};
 use dwc_clif::{ToldRanges, ValueLabel, ValueLocRange};
 
 // The number of the function in whose code values have places, if it has a symbol.
@@ -19,59 +21,34 @@ pub(crate) fn own_function(frame: Option<&FunctionFrameInfo<'_>>) -> Option<usiz
     }
 }
 
-// The ranges in which a label has places, in the order in which they were given.
-pub(crate) fn told_ranges<'a>(
-    frame: Option<&'a FunctionFrameInfo<'a>>,
-    label: ValueLabel,
-) -> &'a [ValueLocRange]
-    ensures { map range_view result.now ≡ own_ranges (option_map (λ f. told_frame f.now) frame.entry) label.0 }
-{
-    match frame {
-        Some(frame) => match frame.value_ranges.get(label) {
-            Some(ranges) => ranges,
-            None => &[],
-        },
-        None => &[],
-    }
-}
-
-// The same, where they are flat as they were given.
+// The places of a label as flat ranges; refused where a range that was given begins above its end.
 pub(crate) fn flat_ranges<'a>(
     frame: Option<&'a FunctionFrameInfo<'a>>,
     label: ValueLabel,
-) -> Option<&'a [ValueLocRange]>
-    ensures same { IfSome result (λ ranges. map range_view ranges.now ≡ own_ranges (option_map (λ f. told_frame f.now) frame.entry) label.0) }
-    ensures flat { IfSome result (λ ranges. IsFlat (map range_view ranges.now)) }
+) -> Result<&'a [ValueLocRange], ExprError>
+    ensures flat { IfOk result (λ flat. Flattens (own_ranges (option_map (λ f. told_frame f.now) frame.entry) label.0) (map range_view flat.now)) }
+    ensures good { IfOk result (λ flat. list_any (λ r. nat_lt r.end r.start) (own_ranges (option_map (λ f. told_frame f.now) frame.entry) label.0) ≡ false) }
+    ensures reversed { IfErr result (λ e. list_any (λ r. nat_lt r.end r.start) (own_ranges (option_map (λ f. told_frame f.now) frame.entry) label.0) ≡ true) }
+    ensures refused { IfErr result (λ e. e ≡ BadLabelRange label) }
+{
+    let Some(told) = told_ranges(frame, label) else {
+        return Ok(&[]);
+    };
+    match told.flat() {
+        Some(flat) => Ok(flat),
+        None => Err(ExprError::BadLabelRange { label }),
+    }
+}
+
+// The ranges in which a label has places, if it is told of.
+fn told_ranges<'a>(
+    frame: Option<&'a FunctionFrameInfo<'a>>,
+    label: ValueLabel,
+) -> Option<&'a ToldRanges>
+    ensures { unwrap_or (option_map (λ t. t.now) result) [] ≡ own_ranges (option_map (λ f. told_frame f.now) frame.entry) label.0 }
 {
     match frame {
-        Some(frame) => match frame.value_ranges.told(label) {
-            Some(told) => if_flat(told),
-            None => Some(&[]),
-        },
-        None => Some(&[]),
+        Some(frame) => frame.value_ranges.told(label),
+        None => None,
     }
-}
-
-// Ranges, if they are flat.
-fn if_flat(told: &ToldRanges) -> Option<&[ValueLocRange]>
-    ensures same { IfSome result (λ ranges. map range_view ranges.now ≡ told.now) }
-    ensures flat { IfSome result (λ ranges. IsFlat (map range_view ranges.now)) }
-{
-    if told.are_flat() {
-        Some(told.as_slice())
-    } else {
-        None
-    }
-}
-
-// Whether a range begins above its end.
-pub(crate) fn has_reversed(ranges: &[ValueLocRange]) -> bool
-    ensures { result ≡ list_any (λ r. nat_lt r.end r.start) (map range_view ranges.now) }
-{
-    for range in ranges {
-        if range.end < range.start {
-            return true;
-        }
-    }
-    false
 }

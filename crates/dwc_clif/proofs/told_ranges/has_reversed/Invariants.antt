@@ -1,7 +1,7 @@
 use Rattle.std.proofs.Common.{◌≡◌, map, drop, nat_lt}
 use Rattle.std.specs.List.{list_any}
 use Rattle.dwc_clif.specs.ValueLabels.{range_view}
-use Rattle.dwc_expr.proofs.told.has_reversed.Given as goal
+use Rattle.dwc_clif.proofs.told_ranges.has_reversed.Given as goal
 
 -- the ranges that are left answer what all answer
 abbrev pub invariant-loop-range : goal.invariant-loop-range

@@ -1,7 +1,7 @@
 use Rattle.std.proofs.Common.{map, drop}
 use Rattle.dwc_clif.specs.ValueLabels.{range_view}
-use Rattle.dwc_expr.proofs.OverlayLaws.{IsPutting}
-use Rattle.dwc_expr.proofs.flat.put_between.Given as goal
+use Rattle.dwc_clif.proofs.OverlayLaws.{IsPutting}
+use Rattle.dwc_clif.proofs.flat.put_between.Given as goal
 
 -- up to a byte all is put, and the ranges from there on are to come
 abbrev pub invariant-loop-i : goal.invariant-loop-i

@@ -1,9 +1,9 @@
 use Rattle.std.proofs.Common.{map, sym, ap, ◌∙◌}
 use Rattle.dwc_clif.specs.ValueLabels.{range_view}
 use Rattle.dwc_clif.specs.FlatRanges.{goes_on_last}
-use Rattle.dwc_expr.proofs.FlatLaws.{put-empty}
-use Rattle.dwc_expr.proofs.LocLaws.{put-longer, put-pushed}
-use Rattle.dwc_expr.proofs.flat.put.Goals as goal
+use Rattle.dwc_clif.proofs.PutLaws.{put-empty}
+use Rattle.dwc_clif.proofs.LocLaws.{put-longer, put-pushed}
+use Rattle.dwc_clif.proofs.flat.put.Goals as goal
 
 pub returns-then-range : goal.returns-then-range
 returns-then-range c = put-empty (range_view c.args.range) (map range_view c.args.out.now.items) c.if-range.true

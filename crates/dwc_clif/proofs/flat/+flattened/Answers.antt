@@ -3,9 +3,9 @@ use Rattle.std.proofs.lemmas.List.{map-append, take-append-drop}
 use Rattle.std.proofs.lemmas.Result.{IfOk-weaker}
 use Rattle.dwc_base.specs.Placed.{last_place}
 use Rattle.dwc_clif.specs.ValueLabels.{range_view}
-use Rattle.dwc_expr.specs.FlatRanges.{Flattens}
-use Rattle.dwc_expr.proofs.OverlayLaws.{halves-flat}
-use Rattle.dwc_expr.proofs.flat.+flattened.Goals as goal
+use Rattle.dwc_clif.specs.FlatRanges.{Flattens}
+use Rattle.dwc_clif.proofs.OverlayLaws.{halves-flat}
+use Rattle.dwc_clif.proofs.flat.+flattened.Goals as goal
 
 pub returns-clause-same : goal.returns-clause-same
 returns-clause-same t c =

@@ -1,7 +1,7 @@
 use Rattle.std.proofs.Common.{◌<◌, map, take}
 use Rattle.dwc_clif.specs.ValueLabels.{range_view}
-use Rattle.dwc_expr.proofs.OverlayLaws.{IsCollected}
-use Rattle.dwc_expr.proofs.flat.collected.Given as goal
+use Rattle.dwc_clif.proofs.OverlayLaws.{IsCollected}
+use Rattle.dwc_clif.proofs.flat.collected.Given as goal
 
 -- what is collected of the ranges so far; there is an end only behind one of them
 abbrev pub invariant-loop-range : goal.invariant-loop-range

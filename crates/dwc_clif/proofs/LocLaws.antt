@@ -3,10 +3,9 @@ use Rattle.std.proofs.Common.{◌≡◌, ℕ, ◌-◌, ◌<◌, ◌⊎◌, List,
 use Rattle.std.proofs.lemmas.List.{get_or_at, set_at, length_push, map_push}
 use Rattle.dwc_clif.specs.declared.value_label.ValueLocRange.{ValueLocRange}
 use Rattle.dwc_clif.specs.ValueLabels.{range_view}
-use Rattle.dwc_clif.specs.FlatRanges.{goes_on_last}
-use Rattle.dwc_expr.specs.FlatRanges.{Puts}
+use Rattle.dwc_clif.specs.FlatRanges.{goes_on_last, Puts}
 use Rattle.dwc_clif.proofs.ListEnds.{Ends, ends}
-use Rattle.dwc_expr.proofs.FlatLaws.{put-apart, put-joined}
+use Rattle.dwc_clif.proofs.PutLaws.{put-apart, put-joined}
 
 -- the last range of some is lengthened
 pub put-longer :

@@ -1,12 +1,12 @@
 use Rattle.std.proofs.Common.{◌+◌, length, map, drop, get_or, subst, sym, ap, ◌∙◌, arith}
 use Rattle.std.proofs.lemmas.List.{take_rest}
 use Rattle.dwc_clif.specs.ValueLabels.{range_view}
-use Rattle.dwc_expr.specs.FlatRanges.{Puts, IsRest}
+use Rattle.dwc_clif.specs.FlatRanges.{Puts, IsRest}
 use Rattle.dwc_clif.proofs.ListEnds.{map-next, map-past}
-use Rattle.dwc_expr.proofs.FlatLaws.{first-of}
+use Rattle.dwc_clif.proofs.PutLaws.{first-of}
 use Rattle.dwc_clif.proofs.FlatLaws.{no_range}
-use Rattle.dwc_expr.proofs.OverlayLaws.{IsPutting, putting-all, putting-behind, putting-more, putting-over}
-use Rattle.dwc_expr.proofs.flat.put_between.Goals as goal
+use Rattle.dwc_clif.proofs.OverlayLaws.{IsPutting, putting-all, putting-behind, putting-more, putting-over}
+use Rattle.dwc_clif.proofs.flat.put_between.Goals as goal
 
 pub returns-then-start-to-clause-put : goal.returns-then-start-to-clause-put
 returns-then-start-to-clause-put c =

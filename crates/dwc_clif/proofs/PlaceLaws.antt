@@ -6,7 +6,7 @@ use Rattle.std.proofs.lemmas.Bool.{cases_lt, and_from, and_left, and_right, le-l
 use Rattle.std.proofs.lemmas.List.Elements.{All-head, All-tail, All-weaker}
 use Rattle.dwc_base.specs.Compiled.{Place, LabelRange}
 use Rattle.dwc_base.specs.Placed.{is_between, last_place}
-use Rattle.dwc_expr.specs.FlatRanges.{part_between}
+use Rattle.dwc_clif.specs.FlatRanges.{part_between}
 
 -- ---- bytes of a range
 

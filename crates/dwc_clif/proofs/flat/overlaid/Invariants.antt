@@ -1,7 +1,7 @@
 use Rattle.std.proofs.Common.{◌<◌, ◌^◌, map, drop}
 use Rattle.dwc_clif.specs.ValueLabels.{range_view}
-use Rattle.dwc_expr.proofs.OverlayLaws.{IsOverlaid}
-use Rattle.dwc_expr.proofs.flat.overlaid.Given as goal
+use Rattle.dwc_clif.proofs.OverlayLaws.{IsOverlaid}
+use Rattle.dwc_clif.proofs.flat.overlaid.Given as goal
 
 -- up to a byte all is laid over, and the rest of both is to come
 abbrev pub invariant-loop-range : goal.invariant-loop-range

@@ -2,8 +2,8 @@ use Rattle.std.proofs.Common.{◌++◌, [], ◌∷◌, map, take, get_or, subst,
 use Rattle.std.proofs.lemmas.List.{map_more}
 use Rattle.dwc_clif.specs.ValueLabels.{range_view}
 use Rattle.dwc_clif.proofs.FlatLaws.{no_range}
-use Rattle.dwc_expr.proofs.OverlayLaws.{IsCollected, collected-more}
-use Rattle.dwc_expr.proofs.flat.collected.Goals as goal
+use Rattle.dwc_clif.proofs.OverlayLaws.{IsCollected, collected-more}
+use Rattle.dwc_clif.proofs.flat.collected.Goals as goal
 
 pub loop-range-preserved : goal.loop-range-preserved
 loop-range-preserved c =

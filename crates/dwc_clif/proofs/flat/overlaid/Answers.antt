@@ -3,8 +3,8 @@ use Rattle.std.proofs.lemmas.List.Elements.{All-head}
 use Rattle.dwc_clif.specs.ValueLabels.{range_view}
 use Rattle.dwc_clif.proofs.ListEnds.{map-next, map-past}
 use Rattle.dwc_clif.proofs.FlatLaws.{no_range}
-use Rattle.dwc_expr.proofs.OverlayLaws.{IsOverlaid, overlaid-more, overlaid-all}
-use Rattle.dwc_expr.proofs.flat.overlaid.Goals as goal
+use Rattle.dwc_clif.proofs.OverlayLaws.{IsOverlaid, overlaid-more, overlaid-all}
+use Rattle.dwc_clif.proofs.flat.overlaid.Goals as goal
 
 pub put_between-requires-clause-ends : goal.put_between-requires-clause-ends
 put_between-requires-clause-ends c =

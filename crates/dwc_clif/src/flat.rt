@@ -1,11 +1,11 @@
 //! Ranges in which a value lies, made disjoint and put in order.
 ghost use Rattle.std.specs.Prelude.{◌≡◌, ◌≤◌, ◌-◌, ◌^◌, ◌++◌, ℕ, [], length, map, IfOk, OnOk, MatchOption};
 ghost use Rattle.dwc_base.specs.Placed.{last_place};
-ghost use Rattle.dwc_clif.specs.FlatRanges.{IsFlat};
+ghost use Rattle.dwc_clif.specs.FlatRanges.{IsFlat, Flattens, Puts, part_between as part_of, PutsBetween, IsRest};
 ghost use Rattle.dwc_clif.specs.ValueLabels.{range_view};
-ghost use Rattle.dwc_expr.specs.FlatRanges.{Flattens, Puts, part_between as part_of, PutsBetween, IsRest};
 
-use dwc_clif::{ValueLocRange, goes_on_last};
+use crate::ValueLocRange;
+use crate::told_ranges::goes_on_last;
 use std::alloc::{AllocError, Global};
 
 /// Ranges as disjoint ones in order, none of them empty, that are as long as they can be. Where some overlap, the place of the last
