@@ -15,7 +15,7 @@ use Rattle.dwc_addr.specs.Gaps.{merged}
 use Rattle.dwc_addr.specs.Rising.{RisesFrom}
 use Rattle.dwc_addr.specs.Runs.{recorded_view}
 use Rattle.dwc_addr.specs.RunViews.{positions_of, positions_in, no_source, IsRunOf}
-use Rattle.dwc_addr.specs.PositionPlaces.{IsCountBelow, IsCountUpTo, start_at, start_or}
+use Rattle.dwc_addr.specs.PositionPlaces.{AreBelow, IsCountBelow, IsCountUpTo, start_at, start_or}
 use Rattle.dwc_base.specs.Wasm.{last_of}
 use Rattle.dwc_base.specs.Runs.{joined_positions}
 use Rattle.dwc_addr.proofs.JoinedLaws.{EndInFront, Parts, start_among, end_among, start-there, start-behind, start-first, start-none as start-none_below, end-there, end-behind, end-last, end-first}
@@ -367,6 +367,26 @@ some-behind xs k s behind less is up = go (cases_lt 0 behind)
 -- ---- how many lie below one that is known, and up to it
 
 module _ {X : Type 0} (n : X → ℕ) where
+  -- so many, if the last of them lies below and the next one does not
+  pub tested-below : (xs : List X) (count a : ℕ) → IsNonDecreasingBy n xs → AreBelow n xs a count → ((d : X) → count < length xs → a ≤ n (get_or xs count d)) → IsCountBelow n xs a count
+  tested-below xs count a order last next = record {
+    inside = last.0;
+    below = λ i d less. omega (arith, order i (count - 1) d (omega arith) (omega (arith, last.0)), last.1 (count - 1) d (omega arith));
+    above = λ i d past less. omega (arith, order count i d past less, next d (omega arith));
+  }
+
+  -- those below the next number are those up to one
+  pub below_up_to : (xs : List X) (count a : ℕ) → IsCountBelow n xs (a + 1) count → IsCountUpTo n xs a count
+  below_up_to xs count a h = record {
+    inside = h.inside;
+    below = λ i d less. omega (arith, h.below i d less);
+    above = λ i d past less. omega (arith, h.above i d past less);
+  }
+
+  -- they part a list, as a search by halves does
+  pub below-parts : (xs : List X) (count a : ℕ) → IsCountBelow n xs a count → IsPartitionPoint (λ x. nat_lt (n x) a ≡ true) (λ x. nat_lt (n x) a ≡ false) xs count
+  below-parts xs count a h = ((λ k d from less. lt-ltb _ a (h.below k d less)), (λ k d past less. le-ltb _ a (h.above k d past less)))
+
   -- none in front of the first place
   pub none-below : (xs : List X) (place a : ℕ) → IsNonDecreasingBy n xs → place < length xs → ((d : X) → n (get_or xs place d) ≡ a) → place ≤ 0 → IsCountBelow n xs a place
   none-below xs place a order inside begins first = record {

@@ -1,5 +1,5 @@
 -- What searches by halves find among the sources of a run.
-use Rattle.std.specs.Prelude.{ℕ, ◌<◌, ◌≤◌, ◌==◌, ◌&&◌, nat_lt, List, length, slice_index_or, if◌then◌else◌, Option, Some, None}
+use Rattle.std.specs.Prelude.{◌≡◌, ℕ, ◌+◌, ◌<◌, ◌≤◌, ◌==◌, ◌&&◌, nat_lt, List, length, slice_index_or, if◌then◌else◌, Option, Some, None}
 use Rattle.dwc_addr.specs.declared.address_map.AddressMap.{AddressMap}
 use Rattle.dwc_addr.specs.RunViews.{no_source}
 
@@ -14,6 +14,10 @@ pub record IsCountUpTo {X : Type 0} (n : X → ℕ) (xs : List X) (a count : ℕ
   pub inside : count ≤ length xs
   pub below : (i : ℕ) (d : X) → i < count → n (slice_index_or xs i d) ≤ a
   pub above : (i : ℕ) (d : X) → count ≤ i → i < length xs → a < n (slice_index_or xs i d)
+
+-- There are so many, and the last of them has a number below one. Where the numbers do not fall, all of them have.
+abbrev pub AreBelow : {X : Type 0} → (X → ℕ) → List X → ℕ → ℕ → Type 0
+AreBelow {X} n xs a count = (count ≤ length xs) × ((k : ℕ) (d : X) → k + 1 ≡ count → n (slice_index_or xs k d) < a)
 
 -- where the source at a place begins, if there is one with a wasm offset
 abbrev pub start_at : List AddressMap → ℕ → ℕ → Option ℕ

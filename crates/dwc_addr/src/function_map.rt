@@ -1,5 +1,5 @@
 //! A defined function as an address transform keeps it.
-ghost use Rattle.std.specs.Prelude.{◌≡◌, ◌<◌, ◌^◌, length, map, All};
+ghost use Rattle.std.specs.Prelude.{◌≡◌, ◌<◌, ◌≤◌, ◌^◌, length, map, All};
 ghost use Rattle.std.specs.List.Sorted.{IsNonDecreasingBy};
 ghost use Rattle.dwc_addr.specs.Gaps.{merged};
 ghost use Rattle.dwc_addr.specs.Runs.{recorded_view, run_starts};
@@ -43,6 +43,13 @@ pub struct FunctionMap {
     pub block_bounds: Vec<Bounds>,
     /// The bounds of the full blocks of these.
     pub outer_bounds: Vec<Bounds>,
+    // A block of its wasm offsets has 2 ^ `block_bits` of them.
+    pub(crate) block_bits: u32,
+    // About how many sources lie below each block, where it has one run and more than a few sources.
+    pub(crate) source_hints: Vec<u32>,
+    // About how many gaps stand in front of each block of sources, where it has more than a few.
+    pub(crate) gap_hints: Vec<u32>,
+    ghost few_bits: { block_bits ≤ 32 },
     ghost begins: { offset ≡ 0 },
     ghost short: { len < 2 ^ 32 },
     ghost starts_low: { wasm_start < 2 ^ 32 },

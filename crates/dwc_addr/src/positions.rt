@@ -8,16 +8,18 @@ ghost use Rattle.dwc_addr.specs.PositionPlaces.{IsCountBelow, IsCountUpTo, start
 
 use crate::address_map::{AddressMap, GeneratedAddress, WasmAddress};
 use crate::function_map::{FunctionMap, Gap};
+use crate::hints::{gap_hint, source_hint};
+use crate::near::{gaps_before, sources_below};
 use crate::run::Run;
 
 // Where the first entry begins that has no source and in front of which so many with one stand.
-fn gap_behind(gaps: &[Gap], before: usize) -> Option<GeneratedAddress>
+fn gap_behind(gaps: &[Gap], hint: usize, before: usize) -> Option<GeneratedAddress>
     requires apart { IsNonDecreasingBy (λ g. g.before) gaps.now }
     requires low { All (λ g. g.generated < 2 ^ 32) gaps.now }
     ensures found { result ≡ option_map (λ g. g.generated) (find (λ g. g.before == before) gaps.now) }
     ensures low { IfSome result (λ native. native < 2 ^ 32) }
 {
-    let first = gaps.partition_point(|gap| gap.before < before);
+    let first = gaps_before(gaps, hint, before);
     let gap = gaps.get(first)?;
     if gap.before != before {
         return None;
@@ -31,7 +33,7 @@ fn native_end(function: &FunctionMap, place: usize) -> GeneratedAddress
     ensures end { (d : Position) → result ≡ (slice_index_or (positions_of function.now) place d).end }
     ensures low { result < 2 ^ 32 }
 {
-    match gap_behind(&function.gaps, place + 1) {
+    match gap_behind(&function.gaps, gap_hint(function, place + 1), place + 1) {
         Some(native) => native,
         None => start_or(&function.addresses, place + 1, function.len),
     }
@@ -63,19 +65,15 @@ fn start_at(sources: &[AddressMap], place: usize, addr: WasmAddress) -> Option<G
     Some(source.generated)
 }
 
-// How many sources lie below a wasm offset.
-fn count_below(sources: &[AddressMap], addr: WasmAddress) -> usize
-    requires { IsNonDecreasingBy (λ e. e.wasm) sources.now }
-    ensures { IsCountBelow (λ e. e.wasm) sources.now addr result }
-{
-    sources.partition_point(|source| source.wasm < addr)
-}
-
-// How many do not lie above one.
-fn count_up_to(sources: &[AddressMap], addr: WasmAddress) -> usize
+// How many sources do not lie above a wasm offset.
+#[tactic(auto, using(crate::proofs::NativeLaws::below_up_to))]
+fn sources_up_to(sources: &[AddressMap], hint: usize, addr: WasmAddress) -> usize
     requires { IsNonDecreasingBy (λ e. e.wasm) sources.now }
     ensures { IsCountUpTo (λ e. e.wasm) sources.now addr result }
 {
+    if addr < u64::MAX {
+        return sources_below(sources, hint, addr + 1);
+    }
     sources.partition_point(|source| source.wasm <= addr)
 }
 
@@ -142,7 +140,7 @@ pub(crate) fn start_in(function: &FunctionMap, run: &Run, addr: WasmAddress) -> 
     ensures low { result < 2 ^ 32 }
 {
     let sources = sources_of(function, run);
-    let count = count_below(sources, addr);
+    let count = sources_below(sources, source_hint(function, addr), addr);
     if count == 0 {
         return start_at(sources, 0, addr).unwrap_or(run.start);
     }
@@ -161,7 +159,7 @@ pub(crate) fn end_in(function: &FunctionMap, run: &Run, addr: WasmAddress) -> Ge
     ensures low { result < 2 ^ 32 }
 {
     let sources = sources_of(function, run);
-    let count = count_up_to(sources, addr);
+    let count = sources_up_to(sources, source_hint(function, addr), addr);
     if count == 0 {
         return start_or(sources, 0, run.end);
     }

@@ -17,6 +17,7 @@ use crate::bounds::{block_bounds, run_bounds};
 use crate::by_start::{owner_place, start_table};
 use crate::error::AddrError;
 use crate::function_map::{FunctionMap, Gap};
+use crate::hints::{gap_hints, source_hints};
 use crate::maps::map_fault;
 use dwc_base::{DefinedFuncIndex, FilePos, StaticModuleIndex, SymbolId};
 use dwc_clif::{CompiledFunctionMetadata, InstructionAddressMap};
@@ -205,6 +206,14 @@ fn function_map(
     let run_bounds = run_bounds(alloc, wasm_start, wasm_end, &addresses, &later_runs)?;
     let blocks = block_bounds(alloc, &run_bounds)?;
     let outer_bounds = block_bounds(alloc, &blocks)?;
+    let (block_bits, source_hints) = source_hints(
+        alloc,
+        wasm_start,
+        wasm_end,
+        &addresses,
+        &later_runs,
+    )?;
+    let gap_hints = gap_hints(alloc, addresses.len(), &gaps)?;
     Ok(FunctionMap {
         symbol: symbol.map(|_| number),
         offset: 0,
@@ -217,6 +226,9 @@ fn function_map(
         run_bounds,
         block_bounds: blocks,
         outer_bounds,
+        block_bits,
+        source_hints,
+        gap_hints,
     })
 }
 

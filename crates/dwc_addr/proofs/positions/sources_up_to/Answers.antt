@@ -2,7 +2,7 @@ use Rattle.std.proofs.Common.{rules, arith}
 use Rattle.std.specs.Prelude.{nat_le}
 use Rattle.std.proofs.lemmas.Bool.{leb-true, leb-false}
 use Rattle.std.proofs.lemmas.List.Sorted.{IsPartitionPoint-from_clause, IsPartitionedBy-leb}
-use Rattle.dwc_addr.proofs.positions.count_up_to.Goals as goal
+use Rattle.dwc_addr.proofs.positions.sources_up_to.Goals as goal
 
 pub returns : goal.returns
 returns c =

@@ -2,7 +2,12 @@ use Rattle.std.proofs.Common.{rules, arith}
 use Rattle.std.specs.Prelude.{nat_lt}
 use Rattle.std.proofs.lemmas.Bool.{ltb-true, ltb-false}
 use Rattle.std.proofs.lemmas.List.Sorted.{IsPartitionPoint-from_clause, IsPartitionedBy-ltb}
-use Rattle.dwc_addr.proofs.positions.count_below.Goals as goal
+use Rattle.dwc_addr.proofs.NativeLaws.{tested-below}
+use Rattle.dwc_addr.proofs.near.sources_below.Goals as goal
+
+pub returns-then-not-is_source_below : goal.returns-then-not-is_source_below
+returns-then-not-is_source_below c =
+    tested-below (λ e. e.wasm) c.args.sources.now c.sources_near-count.result c.args.addr c.requires (c.are_sources_below.ensures c.if-are_sources_below.true) (c.is_source_below.ensures.above c.if-not-is_source_below.true)
 
 pub returns : goal.returns
 returns c =
