@@ -211,6 +211,7 @@ fn set_value(
 }
 
 // Sets a value in a list of an entry's own.
+#[inline(never)]
 fn set_own(
     own: &mut Vec<Attributes>,
     place: usize,
@@ -242,7 +243,7 @@ fn set_shared(
 {
     match place_in_part(entry, shared, name) {
         Some(place) => {
-            let attribute = KeptAttribute::new(*shared.allocator(), name, value)?;
+            let attribute = KeptAttribute::keep(*shared.allocator(), name, value)?;
             shared[entry.begin as usize + place] = attribute;
             Ok(())
         }
@@ -286,13 +287,14 @@ fn add(
     ensures ok { OnOk result ((own : List (List declared.Attribute)) → addition_in shared.new.items own entry.new ≡ set_in_addition name value (addition_in shared.old.items own entry.old)) }
     ensures err { OnErr result ((own : List (List declared.Attribute)) → addition_in shared.new.items own entry.new ≡ addition_in shared.old.items own entry.old) }
 {
-    let attribute = KeptAttribute::new(*shared.allocator(), name, value)?;
+    let attribute = KeptAttribute::keep(*shared.allocator(), name, value)?;
     shared.push(attribute)?;
     entry.count += 1;
     Ok(())
 }
 
 // Moves the attributes of an entry into a list of its own, and answers its place.
+#[inline(never)]
 fn make_own(
     entry: &mut Entry,
     shared: &mut Vec<KeptAttribute>,

@@ -174,8 +174,9 @@ pub(crate) enum Held<'a> {
 }
 
 impl KeptAttribute {
-    // Keeps an attribute.
-    pub(crate) fn new(
+    // Keeps an attribute. Most values are of one of four kinds.
+    #[inline(always)]
+    pub(crate) fn keep(
         alloc: Global,
         name: u16,
         value: AttributeValue,
@@ -183,29 +184,11 @@ impl KeptAttribute {
         ensures { IfOk result (λ a. a ≡ record { name = name; value = value }) }
     {
         let kept = match value {
-            AttributeValue::Address(address) => keep_address(alloc, name, address)?,
             AttributeValue::Constant { form, bits } => Kept::Constant { name, form, bits },
             AttributeValue::Flag(flag) => Kept::Flag { name, flag },
-            AttributeValue::Block(bytes) => Kept::Block {
-                name,
-                bytes: Box::new(alloc, bytes)?,
-            },
-            AttributeValue::Exprloc(expression) => Kept::Expression {
-                name,
-                expression: Box::new(alloc, expression)?,
-            },
             AttributeValue::StringRef(id) => Kept::Text { name, id },
-            AttributeValue::LineProgramRef => Kept::Lines { name },
-            AttributeValue::RangeListRef(list) => Kept::Ranges {
-                name,
-                list: Box::new(alloc, list)?,
-            },
-            AttributeValue::LocationListRef(list) => Kept::Locations {
-                name,
-                list: Box::new(alloc, list)?,
-            },
             AttributeValue::UnitRef(id) => Kept::Entry { name, id },
-            AttributeValue::DebugInfoRef(reference) => keep_reference(alloc, name, reference)?,
+            other => keep_any(alloc, name, other)?,
         };
         Ok(KeptAttribute { kept })
     }
@@ -268,6 +251,37 @@ impl KeptAttribute {
             Kept::Address { address, .. } => Held::Address(**address),
             Kept::Reference { reference, .. } => Held::DebugInfoRef(**reference),
         }
+    }
+}
+
+// A value of any kind.
+fn keep_any(alloc: Global, name: u16, value: AttributeValue) -> Result<Kept, AllocError>
+    ensures { IfOk result (λ k. given k ≡ record { name = name; value = value }) }
+{
+    match value {
+        AttributeValue::Address(address) => keep_address(alloc, name, address),
+        AttributeValue::Constant { form, bits } => Ok(Kept::Constant { name, form, bits }),
+        AttributeValue::Flag(flag) => Ok(Kept::Flag { name, flag }),
+        AttributeValue::Block(bytes) => Ok(Kept::Block {
+            name,
+            bytes: Box::new(alloc, bytes)?,
+        }),
+        AttributeValue::Exprloc(expression) => Ok(Kept::Expression {
+            name,
+            expression: Box::new(alloc, expression)?,
+        }),
+        AttributeValue::StringRef(id) => Ok(Kept::Text { name, id }),
+        AttributeValue::LineProgramRef => Ok(Kept::Lines { name }),
+        AttributeValue::RangeListRef(list) => Ok(Kept::Ranges {
+            name,
+            list: Box::new(alloc, list)?,
+        }),
+        AttributeValue::LocationListRef(list) => Ok(Kept::Locations {
+            name,
+            list: Box::new(alloc, list)?,
+        }),
+        AttributeValue::UnitRef(id) => Ok(Kept::Entry { name, id }),
+        AttributeValue::DebugInfoRef(reference) => keep_reference(alloc, name, reference),
     }
 }
 
@@ -347,7 +361,7 @@ impl Attributes {
         ensures err { OnErr result (self.new ≡ self.old) }
     {
         self.index_many()?;
-        let attribute = KeptAttribute::new(*self.list.allocator(), name, value)?;
+        let attribute = KeptAttribute::keep(*self.list.allocator(), name, value)?;
         match self.place_of(name) {
             Some(place) => self.replace(place, attribute),
             None => self.push(attribute)?,
