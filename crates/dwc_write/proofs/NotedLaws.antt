@@ -1,10 +1,10 @@
 -- What is noted of entries: each is noted behind those before it (`noting-more`), the lists of all entries are those of the ones that are
 -- noted (`noted-lists`), expressions are short as noted (`short_noted`), and the texts are those that units name (`named-noted`).
-use Rattle.std.proofs.Common.{◌≡◌, ◌∙◌, ◌<◌, refl, sym, ap, subst, List, [], ◌∷◌, ◌++◌, append_assoc, append-nil, length, map, Bool, true, false}
+use Rattle.std.proofs.Common.{◌≡◌, ◌∙◌, ◌<◌, refl, sym, ap, subst, List, [], ◌∷◌, ◌++◌, append_assoc, append-nil, ℕ, ◌+◌, drop, get_or, length, map, Bool, true, false}
 use Rattle.std.specs.Prelude.{if◌then◌else◌, ◌&&◌}
 use Rattle.std.specs.List.{All, AllZip, list_all}
 use Rattle.std.proofs.lemmas.Bool.{and_parts}
-use Rattle.std.proofs.lemmas.List.{map-append}
+use Rattle.std.proofs.lemmas.List.{drop_more, map-append}
 use Rattle.std.proofs.lemmas.List.Elements.{All-append, All-cons, All-nil}
 use Rattle.dwc_write.specs.declared.attributes.Attribute.{Attribute}
 use Rattle.dwc_write.specs.declared.attributes.AttributeValue.{AttributeValue}
@@ -20,7 +20,7 @@ use Rattle.dwc_write.specs.LayoutViews.{AreListed, IsLaidOut, IsNoting, texts_no
 use Rattle.dwc_write.specs.Lists.{lists_by, lists_of_attributes}
 use Rattle.dwc_write.specs.Noted.{are_free, if_listed, is_free, listed_among}
 use Rattle.dwc_write.specs.ShortLists.{are_short_values, is_short_unit, is_short_value}
-use Rattle.dwc_write.specs.UsedTexts.{texts_named, texts_of_attributes, texts_of_entries}
+use Rattle.dwc_write.specs.UsedTexts.{text_of_value, texts_named, texts_of_attributes, texts_of_entries}
 
 and_assoc : (x y z : Bool) → ((x && y) && z) ≡ (x && (y && z))
 and_assoc true y z = refl
@@ -51,6 +51,27 @@ free_short [] free = refl
 free_short (x ∷ xs) free =
     let parts = and_parts (is_free Locations x.value) (are_free Locations xs) free in
     rw (free-value x.value parts.0) (free_short xs parts.1)
+
+-- ---- values one by one
+
+-- a value more, whose text is noted
+pub named-more : (xs : List Attribute) (i : ℕ) (d : Attribute) (before now all : List ℕ) → i < length xs → now ≡ before ++ text_of_value (get_or xs i d).value → before ++ texts_of_attributes (drop i xs) ≡ all → now ++ texts_of_attributes (drop (i + 1) xs) ≡ all
+named-more xs i d before now all inside grown on =
+    rw (grown, append_assoc) (rw (drop_more xs i d inside) at on)
+
+-- a value more, of which it is noted whether it is a list
+pub free-more : (kind : ListKind) (xs : List Attribute) (i : ℕ) (d : Attribute) (before now all : Bool) → i < length xs → now ≡ (is_free kind (get_or xs i d).value && before) → (are_free kind (drop i xs) && before) ≡ all → (are_free kind (drop (i + 1) xs) && now) ≡ all
+free-more kind xs i d before now all inside grown on =
+    rw (grown) (turned (is_free kind (get_or xs i d).value) (are_free kind (drop (i + 1) xs)) before ∙ (rw (drop_more xs i d inside) at on))
+  where
+    turned : (p r b : Bool) → (r && (p && b)) ≡ ((p && r) && b)
+    turned true r b = refl
+    turned false true b = refl
+    turned false false b = refl
+
+-- nothing is noted yet
+pub free-all : (kind : ListKind) (xs : List Attribute) → (are_free kind xs && true) ≡ are_free kind xs
+free-all kind xs = and_true (are_free kind xs)
 
 no-list : (kind : ListKind) (v : AttributeValue) → is_free kind v ≡ true → lists_by kind v ≡ []
 no-list Ranges (RangeListRef list) free = absurd (cc)

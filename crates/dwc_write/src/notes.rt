@@ -1,5 +1,5 @@
 //! What later passes over a unit look for, noted while its entries are laid out, so that they need not go over all attributes again.
-ghost use Rattle.std.specs.Prelude.{◌≡◌, ◌++◌, [], true, OnOk, ◌&&◌};
+ghost use Rattle.std.specs.Prelude.{◌≡◌, ◌++◌, [], true, IfOk, OnOk, ◌&&◌};
 ghost use Rattle.dwc_write.specs.Noted.{are_free, if_listed, is_free};
 ghost use Rattle.dwc_write.specs.ShortLists.{are_short_values};
 ghost use Rattle.dwc_write.specs.declared.lists.ListKind.TheVariants.{Locations, Ranges};
@@ -7,7 +7,7 @@ ghost use Rattle.dwc_write.specs.UsedTexts.{text_of_value, texts_of_attributes};
 
 use crate::attributes::{Held, KeptAttribute};
 use crate::file_order::FilePlace;
-use crate::room::{Counts, NO_COUNTS, count_values};
+use crate::room::{Counts, NO_COUNTS, count_locations, count_ranges, count_relocated};
 use crate::short_lists::has_short_values;
 use std::alloc::{AllocError, Global};
 
@@ -55,73 +55,73 @@ pub fn note_entry(
     ensures texts { OnOk result (notes.new.texts.items ≡ notes.old.texts.items ++ texts_of_attributes attributes.now) }
     ensures short { OnOk result (notes.new.short ≡ (notes.old.short && are_short_values attributes.now)) }
 {
-    count_values(&mut notes.counts, attributes);
-    note_texts(&mut notes.texts, attributes)?;
-    if !are_free_of_ranges(attributes) {
+    let free = note_values(&mut notes.counts, &mut notes.texts, attributes)?;
+    if !free.of_ranges {
         notes.ranged.push(entry)?;
     }
-    if !are_free_of_locations(attributes) {
+    if !free.of_locations {
         notes.located.push(entry)?;
         notes.short = notes.short && has_short_values(attributes);
     }
     Ok(())
 }
 
-// The texts that attributes name.
-fn note_texts(texts: &mut Vec<usize>, attributes: &[KeptAttribute]) -> Result<(), AllocError>
-    ensures { OnOk result (texts.new.items ≡ texts.old.items ++ texts_of_attributes attributes.now) }
-{
-    for attribute in attributes {
-        note_text(texts, attribute)?;
-    }
-    Ok(())
+// Whether there is no range list, and no location list.
+#[derive(Clone, Copy)]
+struct Free {
+    of_ranges: bool,
+    of_locations: bool,
 }
 
-// The text that a value names, if it names one.
-fn note_text(texts: &mut Vec<usize>, attribute: &KeptAttribute) -> Result<(), AllocError>
-    ensures { OnOk result (texts.new.items ≡ texts.old.items ++ text_of_value attribute.now.value) }
+// Counts values, and notes the texts that they name. Answers which lists are none of them.
+fn note_values(
+    counts: &mut Counts,
+    texts: &mut Vec<usize>,
+    attributes: &[KeptAttribute],
+) -> Result<Free, AllocError>
+    ensures texts { OnOk result (texts.new.items ≡ texts.old.items ++ texts_of_attributes attributes.now) }
+    ensures ranges { IfOk result (λ free. free.of_ranges ≡ are_free Ranges attributes.now) }
+    ensures locations { IfOk result (λ free. free.of_locations ≡ are_free Locations attributes.now) }
+{
+    let mut free = Free {
+        of_ranges: true,
+        of_locations: true,
+    };
+    for i in 0..attributes.len() {
+        note_value(counts, texts, &mut free, &attributes[i])?;
+    }
+    Ok(free)
+}
+
+// The same of a value.
+#[inline(always)]
+fn note_value(
+    counts: &mut Counts,
+    texts: &mut Vec<usize>,
+    free: &mut Free,
+    attribute: &KeptAttribute,
+) -> Result<(), AllocError>
+    ensures texts { OnOk result (texts.new.items ≡ texts.old.items ++ text_of_value attribute.now.value) }
+    ensures ranges { OnOk result (free.new.of_ranges ≡ (is_free Ranges attribute.now.value && free.old.of_ranges)) }
+    ensures locations { OnOk result (free.new.of_locations ≡ (is_free Locations attribute.now.value && free.old.of_locations)) }
 {
     match attribute.value() {
-        Held::StringRef(id) => texts.push(id.index)?,
+        Held::Address(_) => count_relocated(counts),
+        Held::StringRef(id) => {
+            count_relocated(counts);
+            texts.push(id.index)?;
+        }
+        Held::LineProgramRef => count_relocated(counts),
+        Held::RangeListRef(list) => {
+            count_ranges(counts, list.as_slice());
+            free.of_ranges = false;
+        }
+        Held::LocationListRef(list) => {
+            count_locations(counts, list.as_slice());
+            free.of_locations = false;
+        }
+        Held::DebugInfoRef(_) => count_relocated(counts),
         _ => {}
     }
     Ok(())
-}
-
-// Whether no attribute is a range list.
-fn are_free_of_ranges(attributes: &[KeptAttribute]) -> bool
-    ensures { result ≡ are_free Ranges attributes.now }
-{
-    attributes
-        .iter()
-        .all(|attribute| is_free_of_ranges(attribute))
-}
-
-// Whether a value is none.
-fn is_free_of_ranges(attribute: &KeptAttribute) -> bool
-    ensures { result ≡ is_free Ranges attribute.now.value }
-{
-    match attribute.value() {
-        Held::RangeListRef(_) => false,
-        _ => true,
-    }
-}
-
-// Whether no attribute is a location list.
-fn are_free_of_locations(attributes: &[KeptAttribute]) -> bool
-    ensures { result ≡ are_free Locations attributes.now }
-{
-    attributes
-        .iter()
-        .all(|attribute| is_free_of_locations(attribute))
-}
-
-// Whether a value is none.
-fn is_free_of_locations(attribute: &KeptAttribute) -> bool
-    ensures { result ≡ is_free Locations attribute.now.value }
-{
-    match attribute.value() {
-        Held::LocationListRef(_) => false,
-        _ => true,
-    }
 }

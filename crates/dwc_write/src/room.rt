@@ -1,7 +1,7 @@
 //! The room that sections take, counted while entries are laid out, so that it is made once for a unit. No contract hangs on it.
 ghost use Rattle.std.specs.Prelude.{◌≡◌};
 
-use crate::attributes::{Expression, Held, KeptAttribute};
+use crate::attributes::Expression;
 use crate::lists::held_length;
 use dwc_base::Address;
 
@@ -39,36 +39,21 @@ pub const NO_COUNTS: Counts = Counts {
     held: 0,
 };
 
-// Counts the values of an entry.
-pub fn count_values(counts: &mut Counts, attributes: &[KeptAttribute]) {
-    for attribute in attributes {
-        count_value(counts, attribute);
-    }
+// Counts a value with a relocation.
+pub fn count_relocated(counts: &mut Counts) {
+    add_to(&mut counts.relocated, 1);
 }
 
-// Counts a value.
-fn count_value(counts: &mut Counts, attribute: &KeptAttribute) {
-    match attribute.value() {
-        Held::Constant { .. }
-        | Held::Flag(_)
-        | Held::Block(_)
-        | Held::Exprloc(_)
-        | Held::UnitRef(_) => {}
-        Held::RangeListRef(list) => {
-            add_to(&mut counts.relocated, 1);
-            add_to(&mut counts.ranges, 1);
-            add_to(&mut counts.ranges, list.as_slice().len());
-        }
-        Held::LocationListRef(list) => {
-            add_to(&mut counts.relocated, 1);
-            count_locations(counts, list.as_slice());
-        }
-        _ => add_to(&mut counts.relocated, 1),
-    }
+// Counts a range list.
+pub fn count_ranges(counts: &mut Counts, ranges: &[(Address, u64)]) {
+    count_relocated(counts);
+    add_to(&mut counts.ranges, 1);
+    add_to(&mut counts.ranges, ranges.len());
 }
 
 // Counts a location list.
-fn count_locations(counts: &mut Counts, locations: &[(Address, u64, Expression)]) {
+pub fn count_locations(counts: &mut Counts, locations: &[(Address, u64, Expression)]) {
+    count_relocated(counts);
     add_to(&mut counts.lists, 1);
     add_to(&mut counts.locations, locations.len());
     for location in locations {
