@@ -32,6 +32,9 @@ use std::alloc::{AllocError, Global};
 // The bytes of a unit's header.
 const HEADER_LENGTH: usize = 11;
 
+// How many guesses of shapes are kept: for 64 tags, with children or without, and 8 numbers of attributes.
+const GUESSES: usize = 1024;
+
 // A unit as it will stand.
 #[derive(Drop)]
 pub struct UnitLayout {
@@ -142,8 +145,8 @@ fn place_entries(
         has_children: false,
         attributes: Vec::new(alloc),
     };
-    // the places of the shapes that were last found, by the low bits of their tags
-    let mut guesses = [0; 64];
+    // the places of the shapes that were last found for entries alike
+    let mut guesses = [0; GUESSES];
     let mut place = HEADER_LENGTH;
     for i in 0..order.len() {
         let depth = order[i].depth as usize;
@@ -151,22 +154,32 @@ fn place_entries(
         let tag = additions.tag(index);
         let attributes = additions.attributes(index);
         let next = depth_of_first(&order[i + 1..]);
-        let guess = guesses[usize::from(tag % 64)];
+        let alike = guess_place(tag, depth < next, attributes.len());
         let code = code_of_entry(
             &mut coded.shapes,
             &mut shape,
-            guess,
+            guesses[alike],
             tag,
             depth < next,
             attributes,
         )?;
-        guesses[usize::from(tag % 64)] = code - 1;
+        guesses[alike] = code - 1;
         coded.codes.push(in_four_bytes(code)?)?;
         coded.offsets.push(in_four_bytes(place as u64)?)?;
         note_entry(&mut coded.notes, order[i], attributes)?;
         place = behind_entry(place, size, code, attributes, depth.saturating_sub(next))?;
     }
     Ok(place)
+}
+
+// The place of the guess for an entry: alike are those of a tag with as many attributes, and with children or without.
+fn guess_place(tag: u16, has_children: bool, count: usize) -> usize
+    ensures { result < 1024 }
+{
+    let kind = usize::from(tag)
+        .wrapping_mul(2)
+        .wrapping_add(usize::from(has_children));
+    kind.wrapping_mul(8).wrapping_add(count) % GUESSES
 }
 
 // The place behind an entry: its code, its values, and an end for each list of siblings that ends behind it.
