@@ -216,7 +216,8 @@ pub fn write_entry(
     write_ends(info, ends)
 }
 
-// An unsigned LEB128 number.
+// An unsigned LEB128 number, which mostly has one byte.
+#[inline(always)]
 fn write_uleb(
     info: &mut WriterRelocate,
     scratch: &mut Vec<u8>,
@@ -227,6 +228,18 @@ fn write_uleb(
     if value < 128 {
         return info.put_byte(value as u8);
     }
+    write_long_uleb(info, scratch, value)
+}
+
+// The same of any length.
+#[inline(never)]
+fn write_long_uleb(
+    info: &mut WriterRelocate,
+    scratch: &mut Vec<u8>,
+    value: u64,
+) -> Result<(), WriteError>
+    ensures { Writes info.old info.new result (uleb_bytes value) [] }
+{
     scratch.clear();
     put_uleb(scratch, value)?;
     info.put_bytes(scratch)

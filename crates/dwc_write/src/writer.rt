@@ -173,6 +173,7 @@ impl WriterRelocate {
     }
 
     // Appends a byte.
+    #[inline(always)]
     pub(crate) fn put_byte(&mut self, byte: u8) -> Result<(), WriteError>
         ensures { Writes self.old self.new result (byte ∷ []) [] }
     {
