@@ -1,5 +1,5 @@
 -- Entries whose attributes stand in one list: what a change of one of them leaves.
-use Rattle.std.proofs.Common.{◌≡◌, ℕ, zero, suc, ◌+◌, ◌-◌, ◌<◌, ◌≤◌, ◌⊎◌, inl, inr, refl, sym, ap, subst, ◌∙◌, arith, List, [], ◌∷◌, ◌++◌, length, take, drop, get_or, set, map, Option, Some, None, Bool, true}
+use Rattle.std.proofs.Common.{◌≡◌, ℕ, zero, suc, ◌+◌, ◌<◌, ◌≤◌, ◌⊎◌, inl, inr, refl, sym, ap, subst, ◌∙◌, arith, List, [], ◌∷◌, ◌++◌, length, take, drop, get_or, set, map, Option, Some, None, Bool, true}
 use Rattle.std.proofs.lemmas.List.{take_all, take_more, take_more_set, drop_more, drop-set-lt, drop-append-le, drop-set-add, get_or-drop, get_or-map, get_or_append_left, get_or_default, get_or-set_other, get_or-set_same, get_or-take, length-append, length-drop, length-map, length-set, length-take-le, same_lists, set-get_or}
 use Rattle.std.proofs.Math.Seq.{get_or-append_seam, take-append-add, take-set-lt}
 use Rattle.dwc_write.specs.declared.additions.Entry.{Entry}
