@@ -81,6 +81,7 @@ fn is_form_of(form: AttributeForm, attribute: &KeptAttribute) -> bool
 }
 
 // The code of a shape, which is kept where it is new.
+#[inline(never)]
 fn code_of(shapes: &mut IndexSet<Shape>, shape: &Shape) -> Result<u64, AllocError>
     ensures shapes { OnOk result (map shape_view shapes.new.keys ≡ with_use (shape_view shape.now) (map shape_view shapes.old.keys)) }
     ensures code { IfOk result (λ code. code ≡ code_in (map shape_view shapes.old.keys) (shape_view shape.now)) }
@@ -105,6 +106,7 @@ fn copied(shape: &Shape) -> Result<Shape, AllocError>
 }
 
 // Makes a shape that of an entry, within the room that it has.
+#[inline(never)]
 fn set_shape(
     shape: &mut Shape,
     tag: u16,

@@ -160,6 +160,7 @@ fn write_header(
 }
 
 // Entries in file order, one behind another, with the codes of their shapes.
+#[inline(never)]
 fn write_entries(
     info: &mut WriterRelocate,
     scratch: &mut Vec<u8>,

@@ -121,6 +121,7 @@ fn lay_out_unit(alloc: Global, unit: &Unit, start: usize) -> Result<UnitLayout, 
 }
 
 // Entries one behind another: their codes and their offsets in the unit. Answers how long the unit is.
+#[inline(never)]
 fn place_entries(
     alloc: Global,
     size: u8,
