@@ -1,5 +1,5 @@
 -- What a local alone becomes on the parts of one range.
-use Rattle.std.proofs.Common.{◌≡◌, ℕ, ◌<◌, List, [], ◌∷◌, ◌++◌, map, Bool, true, false, ◌&&◌, if◌then◌else◌, Option, Some, None, option_map, option_to_list, filter_map, flat_map, Result, Ok, Err, Bor, All, append-nil, append_assoc, refl, ap, sym, subst, ◌∙◌, inl, inr, arith}
+use Rattle.std.proofs.Common.{◌≡◌, ℕ, suc, ◌<◌, List, [], ◌∷◌, ◌++◌, map, Bool, true, false, ◌&&◌, if◌then◌else◌, Option, Some, None, option_map, option_to_list, filter_map, flat_map, Result, Ok, Err, Bor, All, append-nil, append_assoc, refl, ap, sym, subst, ◌∙◌, inl, inr, arith}
 use Rattle.std.specs.Prelude.{is_some, nat_lt}
 use Rattle.std.specs.FinMap as finite
 use Rattle.std.specs.List.{cons_option, list_all, list_any}
@@ -23,10 +23,11 @@ use Rattle.dwc_clif.specs.Registers.{Registers}
 use Rattle.dwc_write.specs.declared.attributes.Expression.{Expression}
 use Rattle.dwc_expr.specs.declared.error.ExprError.{ExprError}
 use Rattle.dwc_expr.specs.declared.frame.FunctionFrameInfo.{FunctionFrameInfo}
-use Rattle.dwc_expr.specs.Alone.{LeadsAlone, lone_location, lone_refusals}
+use Rattle.dwc_expr.specs.Alone.{LeadsAlone, PutsAlone, lone_location, lone_refusals}
 use Rattle.dwc_expr.specs.Builds.{Builds, location_view}
 use Rattle.dwc_clif.specs.FlatRanges.{IsFlat}
 use Rattle.dwc_expr.specs.Frames.{ToldFrame, told_frame, frame_of, frame_view}
+use Rattle.dwc_expr.specs.Located.{PutsBuilt, put_behind}
 use Rattle.dwc_expr.specs.NarrowedRanges.{Tells}
 use Rattle.dwc_expr.specs.OwnPlaces.{own_function, own_ranges, place_in, are_filled, is_filled}
 use Rattle.dwc_expr.specs.PlacedParts.{PlacedPart, cut_by, cuts_of, cuts_from}
@@ -280,3 +281,47 @@ module _ (functions : List Function) (frame : Option Frame) (registers : Registe
           → covers ≡ list_all (λ byte. is_some (last_place ps byte)) (bytes_of r) → outcome ≡ Ok (record { expressions = expressions; covers_entire_scope = covers })
       own-built expressions covers none built covered =
           alone-built expressions covers (ap (λ qs. first_of (flat_map (lone_refusals registers) qs)) own-parts ∙ none) (built ∙ sym (ap (map (lone_location trailing registers)) own-parts)) (covered ∙ sym (own-filled own ps r mine) ∙ and-true (is_filled own ps r))
+
+      -- what is put behind others
+      pub own-put : (old new : List (Address × ℕ × Expression)) (result : Result (Unit {0}) ExprError) → PutsAlone trailing registers (filter_map (cut_by 0 r) ps) old new result → PutsBuilt outcome old new result
+      own-put old new (Ok done) put =
+          ap (put_behind (map location_view old)) (own-built (map (lone_location trailing registers) (filter_map (cut_by 0 r) ps)) (list_all (λ byte. is_some (last_place ps byte)) (bytes_of r)) put.0 refl refl)
+          ∙ ap {B = Result (List Location) BuildRefusal} (λ ls. Ok ls) (sym put.1)
+      own-put old new (Err e) tells = own-refused e tells
+
+-- ---- a label that has no range
+
+no-cuts : (own : Option ℕ) (index : ℕ) (rs : List NativeRange) → cuts_from own [] index rs ≡ []
+no-cuts own index [] = refl
+no-cuts own index (r ∷ rs) = ap (λ ps. cuts_of own [] index r ++ ps) (no-cuts own (suc index) rs) ∙ go (is_number own r.function)
+  where
+    go : (b : Bool) → (if b then filter_map (cut_by index r) [] else []) ++ [] ≡ []
+    go true = refl
+    go false = refl
+
+module _ (functions : List Function) (frame : Option Frame) (registers : Registers) (label : ℕ) (trailing : Bool) (rs : List NativeRange) (x : CompiledParts) (is : built_parts x ≡ local label trailing ∷ [])
+    (own : Option ℕ) (t : Tells frame label own []) (good : has_bad_range frame label ≡ false) where
+  abbrev around : Surroundings
+  around = record { functions = functions; frame = frame; register = λ n. finite.get registers n }
+
+  abbrev their : List NativeRange
+  their = label_ranges frame (filter_map label_needed (built_parts x)) rs
+
+  none-left : their ≡ []
+  none-left =
+      ap (λ parts. label_ranges frame (filter_map label_needed parts) rs) is
+      ∙ sym (narrowed-ranges frame [] label rs own [] t (label_ranges frame [] rs) (label-ranges-maximal frame [] rs))
+      ∙ ap (map (λ p. p.bytes)) (no-cuts own 0 (label_ranges frame [] rs))
+
+  none-first : first_of (build_refusals around rs x) ≡ None
+  none-first =
+      in-order functions frame registers rs [] x
+      ∙ ap (λ qs. option_or (first_of (filter_map (label_refusal frame) (filter_map label_needed (built_parts x)))) (option_or (first_of (flat_map (λ r. place_refusals x (setting_at around r)) qs)) (first_of (flat_map (λ r. jump_refusals x (setting_at around r)) qs)))) none-left
+      ∙ or-nothing (first_of (filter_map (label_refusal frame) (filter_map label_needed (built_parts x))))
+      ∙ ap (λ parts. first_of (filter_map (label_refusal frame) (filter_map label_needed parts))) is
+      ∙ ap (λ b. first_of (cons_option (if b then Some (bad_label_range label) else None) [])) good
+
+  pub nowhere-built : built_on_ranges around rs x ≡ Ok (record { expressions = []; covers_entire_scope = all_bytes_placed frame (filter_map label_needed (built_parts x)) rs })
+  nowhere-built =
+      nothing-refused functions frame registers rs [] x none-first
+      ∙ ap {B = Result BuiltExpressions BuildRefusal} (λ qs. Ok (record { expressions = map (built_on around x) qs; covers_entire_scope = all_bytes_placed frame (filter_map label_needed (built_parts x)) rs })) none-left

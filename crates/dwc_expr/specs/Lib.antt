@@ -11,6 +11,7 @@ pub mod JoinedScopes
 pub mod Jumps
 pub mod LabelRanges
 pub mod Landings
+pub mod Located
 pub mod NarrowedRanges
 pub mod NeededLabels
 pub mod OwnPlaces

@@ -117,7 +117,7 @@ fn build_by(
 }
 
 // In how many flat pieces, of those from one on, a range has bytes.
-fn count_in(pieces: &[ValueLocRange], first: usize, range: CodeRange) -> usize {
+pub(crate) fn count_in(pieces: &[ValueLocRange], first: usize, range: CodeRange) -> usize {
     let mut count = 0;
     for place in first..pieces.len() {
         let piece = &pieces[place];
@@ -133,7 +133,7 @@ fn count_in(pieces: &[ValueLocRange], first: usize, range: CodeRange) -> usize {
 
 // Puts the expressions of a local on the bytes that a range has in flat pieces behind others. The pieces in front of the first end in
 // front of the range.
-fn put_expressions(
+pub(crate) fn put_expressions(
     alloc: Global,
     expressions: &mut Vec<(Address, u64, Expression)>,
     local: LoneLocal,

@@ -18,7 +18,7 @@ use dwc_clif::ValueLabel;
 use std::alloc::Global;
 
 // Whether some part of a frame base is a jump.
-fn holds_jump(frame_base: Option<&CompiledExpression>) -> bool
+pub(crate) fn holds_jump(frame_base: Option<&CompiledExpression>) -> bool
     ensures { result ≡ holds_jump (option_map (λ x. x.now) frame_base.entry) }
 {
     match frame_base {

@@ -33,7 +33,7 @@ pub(crate) fn copied(
 }
 
 // Pushes a copy for each native range of an interval.
-fn push_copies(
+pub(crate) fn push_copies(
     alloc: Global,
     expressions: &mut Vec<(Address, u64, Expression)>,
     addr_tr: &AddressTransform,
