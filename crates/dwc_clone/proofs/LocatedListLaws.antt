@@ -1,7 +1,9 @@
 -- What attributes become whose values are location lists.
-use Rattle.std.proofs.Common.{◌≡◌, ℕ, ◌+◌, ◌<◌, ◌≤◌, List, [], ◌∷◌, ◌++◌, length, drop, get_or, map, append-nil, append_assoc, Bool, true, false, Some, None, Ok, Err, refl, sym, ap, ◌∙◌}
-use Rattle.std.specs.Prelude.{Option, Result, option_map, unwrap_or}
+use Rattle.std.proofs.Common.{◌≡◌, ℕ, ◌+◌, ◌<◌, ◌≤◌, List, [], ◌∷◌, ◌++◌, length, drop, get_or, map, append-nil, append_assoc, Bool, true, false, Some, None, Ok, Err, refl, sym, ap, subst, ◌∙◌}
+use Rattle.std.specs.Prelude.{◌||◌, Option, Result, option_map, unwrap_or}
 use Rattle.std.proofs.lemmas.List.{at_drop_more, drop_all, drop_more}
+use Rattle.dwc_base.specs.declared.records.Address.{Address}
+use Rattle.dwc_base.specs.declared.section_name.SectionName.{SectionName}
 use Rattle.dwc_base.specs.declared.section_name.SectionName.TheVariants.{Info}
 use Rattle.dwc_base.specs.declared.faults.What.TheVariants.{LocationList}
 use Rattle.dwc_base.specs.declared.faults.Flaw.{Flaw}
@@ -17,15 +19,24 @@ use Rattle.dwc_base.specs.RawLists.{ListSource, ListPlace, list_named}
 use Rattle.dwc_base.specs.Lists.{ListRefusal, of_place, list_source, list_of_value, locations_at, locations_of_value}
 use Rattle.dwc_base.specs.Drafts.{DraftValue}
 use Rattle.dwc_base.specs.LocationRules.{ExpressionSource, in_force_at, listed_by, lists_of, locations_become}
-use Rattle.dwc_base.specs.Parts.{CompiledParts}
+use Rattle.dwc_base.specs.BuiltExpressions.{BuildRefusal, BuiltExpressions, built_over}
+use Rattle.dwc_base.specs.Parts.{CompiledParts, compiled}
 use Rattle.dwc_base.specs.Wrappers.{is_wrapped}
-use Rattle.dwc_base.specs.LocationAttributes.{InForce, ListedExpression, LocationRefusal, built_for, built_for_each, compiled_at, drafted, read_locations, value_of_locations, with_locations}
+use Rattle.dwc_base.specs.LocationAttributes.{InForce, ListedExpression, LocationRefusal, built_at, built_for, built_for_each, compiled_at, drafted, read_locations, value_of_locations, with_locations}
 use Rattle.dwc_read.specs.Faults.{fault_at}
 use Rattle.dwc_tabs.specs.LocationLists.{location_list_named}
 use Rattle.dwc_tabs.specs.RangeLists.{Tells}
+use Rattle.dwc_write.specs.declared.attributes.Expression.{Expression}
+use Rattle.dwc_expr.specs.declared.error.ExprError.{ExprError}
+use Rattle.dwc_expr.specs.declared.error.ExprError.TheVariants.{Read, TooLarge, BadLabelRange, InvalidAttributeValue, UnmappedRegister, OutOfMemory}
+use Rattle.dwc_expr.specs.Builds.{IsTold, location_view}
+use Rattle.dwc_expr.specs.Compiles.{TellsPlace}
+use Rattle.dwc_expr.specs.Errors.{refusal_told}
+use Rattle.dwc_expr.specs.Located.{Puts, PutsBuilt}
 use Rattle.dwc_clone.specs.declared.listed.ListedExpression as declared
-use Rattle.dwc_clone.specs.LocatedLists.{ListedRefusal, of_list, of_expression, listed_in, listed_view, located_by, read_by, read_only}
-use Rattle.dwc_clone.specs.LocatedValues.{RefusesTold}
+use Rattle.dwc_clone.specs.LocatedLists.{ListedRefusal, PutsInterval, of_list, of_expression, listed_in, listed_view, located_by, read_by, read_only, some_where}
+use Rattle.dwc_clone.specs.LocatedValues.{RefusesTold, error_at, expression_at, told}
+use Rattle.dwc_clone.proofs.LocatedLaws.{built-told, compiled-is, compiled-told}
 use Rattle.dwc_clone.proofs.NativeRangeLaws.{moved-to-entry}
 
 -- ---- where a list is
@@ -97,6 +108,92 @@ module _ (e : InForce) where
     -- At the end it is the whole.
     pub built-whole : length xs ≤ i → all ≡ Ok so_far
     built-whole past = sym whole ∙ ap (λ ys. behind so_far (built_for_each e (map listed_view ys))) (drop_all i xs past) ∙ end so_far
+
+-- ---- what is put for an interval behind other locations
+
+module _ (e : InForce) (xs : List declared.ListedExpression) (i : ℕ) (supported : Bool) (old : List (Address × ℕ × Expression)) (all : Result (Option (List Location)) LocationRefusal)
+    (whole : behind (some_where supported (map location_view old)) (built_for_each e (map listed_view (drop i xs))) ≡ all) where
+  -- An interval more is put, supported or not.
+  pub put-more : (empty : supported ≡ false → old ≡ []) (d : declared.ListedExpression) (put : Bool) (new : List (Address × ℕ × Expression)) → i < length xs → PutsInterval (built_for e (listed_view (get_or xs i d))) old new (Ok put)
+      → behind (some_where (supported || put) (map location_view new)) (built_for_each e (map listed_view (drop (i + 1) xs))) ≡ all
+  put-more empty d false new inside puts = built-more e xs i (some_where supported (map location_view old)) all whole d None (some_where (supported || false) (map location_view new)) inside puts.0 (go supported)
+    where
+      go : (b : Bool) → some_where (b || false) (map location_view new) ≡ with_locations (some_where b (map location_view old)) None
+      go true = ap {B = Option (List Location)} (λ ls. Some ls) (ap (map location_view) puts.1 ∙ sym (append-nil (map location_view old)))
+      go false = refl
+  put-more empty d true new inside puts = built-more e xs i (some_where supported (map location_view old)) all whole d (Some puts.0) (some_where (supported || true) (map location_view new)) inside puts.1 (go supported empty)
+    where
+      go : (b : Bool) → (b ≡ false → old ≡ []) → some_where (b || true) (map location_view new) ≡ with_locations (some_where b (map location_view old)) (Some puts.0)
+      go true nothing = ap {B = Option (List Location)} (λ ls. Some ls) puts.2
+      go false nothing = ap {B = Option (List Location)} (λ ls. Some ls) (puts.2 ∙ ap (λ es. map location_view es ++ puts.0) (nothing refl))
+
+-- Where none is supported nothing is put.
+pub put-none : (supported put : Bool) (expected : Result (Option (List Location)) LocationRefusal) (old new : List (Address × ℕ × Expression)) → (supported ≡ false → old ≡ []) → PutsInterval expected old new (Ok put) → (supported || put) ≡ false → new ≡ []
+put-none true put expected old new empty puts none = absurd (cc)
+put-none false true expected old new empty puts none = absurd (cc)
+put-none false false expected old new empty puts none = puts.1 ∙ empty refl
+
+-- what is built for an interval, by what its expression compiles to
+module _ (e : InForce) (x : ListedExpression) where
+  abbrev scope : List (ℕ × ℕ)
+  scope = (x.start, x.end) ∷ []
+
+  abbrev by_parts : Option CompiledParts → Result (Option (List Location)) LocationRefusal
+  by_parts parts = elim parts [ None ↦ Ok None | Some p ↦ (built_at e.surroundings scope p >>= λ built. Ok (Some built.expressions)) ]
+
+  for-parts : (parts : Option CompiledParts) → compiled_at e.base x.given ≡ Ok parts → built_for e x ≡ by_parts parts
+  unfolding built_for
+  for-parts parts is = ap (λ r. r >>= by_parts) is
+
+  for-refused : (o : Option LocationRefusal) → RefusesTold (compiled_at e.base x.given) o → RefusesTold (built_for e x) o
+  unfolding built_for
+  for-refused None refused = tt
+  for-refused (Some refusal) refused = ap (λ r. r >>= by_parts) refused
+
+  build-refused : (p : CompiledParts) → compiled_at e.base x.given ≡ Ok (Some p) → (o : Option LocationRefusal) → RefusesTold (built_at e.surroundings scope p) o → RefusesTold (built_for e x) o
+  build-refused p is None refused = tt
+  build-refused p is (Some refusal) refused = for-parts (Some p) is ∙ ap {B = Result (Option (List Location)) LocationRefusal} (λ r. r >>= λ built. Ok (Some built.expressions)) refused
+
+  module _ (old new : List (Address × ℕ × Expression)) where
+    built-put : (p : CompiledParts) → compiled_at e.base x.given ≡ Ok (Some p) → PutsBuilt (built_over e.surroundings scope p) old new (Ok tt) → PutsInterval (built_for e x) old new (Ok true)
+    unfolding built_at
+    built-put p is puts = go (built_over e.surroundings scope p) refl puts
+      where
+        go : (r : Result BuiltExpressions BuildRefusal) → built_over e.surroundings scope p ≡ r → PutsBuilt r old new (Ok tt) → PutsInterval (built_for e x) old new (Ok true)
+        go (Ok built) same put = (built.expressions, for-parts (Some p) is ∙ rw (same, built_at) refl, sym (cc))
+        go (Err refusal) same put = absurd (cc)
+
+    pub interval-put : (supported : Bool) → Puts e.surroundings scope old new (compiled e.base x.given.bytes) (Ok supported) → PutsInterval (built_for e x) old new (Ok supported)
+    interval-put supported puts = go (compiled e.base x.given.bytes) supported refl puts
+      where
+        go : (r : Result (Option CompiledParts) ℕ) (b : Bool) → compiled e.base x.given.bytes ≡ r → Puts e.surroundings scope old new r (Ok b) → PutsInterval (built_for e x) old new (Ok b)
+        go (Ok None) true is put = absurd (cc)
+        go (Ok None) false is put = (for-parts None (compiled-is e.base x.given None is), put.1)
+        go (Ok (Some p)) true is put = built-put p (compiled-is e.base x.given (Some p) is) put.1
+        go (Ok (Some p)) false is put = absurd (cc)
+        go (Err place) b is put = absurd put
+
+    -- one of build_with_locals is told as it is
+    kept-told : (expected : Result BuiltExpressions BuildRefusal) (place : SectionName × ℕ) (z : ExprError) → IsTold expected z (refusal_told z) → told (error_at place z) ≡ told z
+    kept-told expected place (Read what section offset) tells = absurd (cc)
+    kept-told expected place TooLarge tells = refl
+    kept-told expected place (BadLabelRange label) tells = refl
+    kept-told expected place InvalidAttributeValue tells = refl
+    kept-told expected place (UnmappedRegister register) tells = refl
+    kept-told expected place OutOfMemory tells = refl
+
+    pub interval-refused : (bytes : List ℕ) (place : SectionName × ℕ) → x.given ≡ expression_at bytes place → (z : ExprError) → Puts e.surroundings scope old new (compiled e.base bytes) (Err z) → RefusesTold (built_for e x) (told (error_at place z))
+    interval-refused bytes place given z puts = go (compiled e.base bytes) refl puts
+      where
+        at : (o : Option LocationRefusal) → RefusesTold (compiled_at e.base (expression_at bytes place)) o → RefusesTold (compiled_at e.base x.given) o
+        at o refused = subst (λ g. RefusesTold (compiled_at e.base g) o) (sym given) refused
+
+        go : (r : Result (Option CompiledParts) ℕ) → compiled e.base bytes ≡ r → Puts e.surroundings scope old new r (Err z) → RefusesTold (built_for e x) (told (error_at place z))
+        go (Err offset) is put = for-refused (told (error_at place z)) (at (told (error_at place z)) (compiled-told e.base bytes place z (subst (λ r. TellsPlace r z) (sym is) put)))
+        go (Ok None) is put = subst (λ y. RefusesTold (built_for e x) (told (error_at place y))) (sym put) tt
+        go (Ok (Some p)) is put =
+            subst (λ o. RefusesTold (built_for e x) o) (sym (kept-told (built_over e.surroundings scope p) place z put))
+            (build-refused p (ap (compiled_at e.base) given ∙ compiled-is e.base (expression_at bytes place) (Some p) is) (told z) (built-told e.surroundings scope p (Err z) put))
 
 -- ---- what a location list becomes, each refusal told as one
 

@@ -1,10 +1,11 @@
 -- What attributes become whose values are location lists, as calls answer it.
-use Rattle.std.specs.Prelude.{ℕ, List, Option, Some, option_map, Result, Ok}
+use Rattle.std.specs.Prelude.{◌≡◌, ℕ, List, ◌++◌, map, Bool, true, false, if◌then◌else◌, Option, Some, None, option_map, Result, Ok, Err}
 use Rattle.std.specs.List.{filter_map}
+use Rattle.dwc_base.specs.declared.records.Address.{Address}
 use Rattle.dwc_base.specs.Reading.{◌>>=◌}
 use Rattle.dwc_base.specs.Listing.{Listing}
 use Rattle.dwc_base.specs.Values.{Value}
-use Rattle.dwc_base.specs.Trees.{TreeValue}
+use Rattle.dwc_base.specs.Trees.{Location, TreeValue}
 use Rattle.dwc_base.specs.RawLists.{ListSource}
 use Rattle.dwc_base.specs.Lists.{ListRefusal, ListedLocation, locations_of_value}
 use Rattle.dwc_base.specs.RangeRules.{all_items, told_as}
@@ -13,10 +14,13 @@ use Rattle.dwc_base.specs.LocationAttributes.{LocationRefusal, InForce, compiled
 use Rattle.dwc_base.specs.LocationRules.{listed}
 use Rattle.dwc_base.specs.Parts.{CompiledParts}
 use Rattle.dwc_tabs.specs.RangeEnds.{refusal_view}
+use Rattle.dwc_write.specs.declared.attributes.Expression.{Expression}
+use Rattle.dwc_expr.specs.declared.error.ExprError.{ExprError}
+use Rattle.dwc_expr.specs.Builds.{location_view}
 use Rattle.dwc_clone.specs.declared.listed.ListedExpression.{ListedExpression}
 use Rattle.dwc_clone.specs.declared.located_error.LocatedError.{LocatedError}
 use Rattle.dwc_clone.specs.declared.located_error.LocatedError.TheVariants as error
-use Rattle.dwc_clone.specs.LocatedValues.{expression_at, told}
+use Rattle.dwc_clone.specs.LocatedValues.{RefusesTold, expression_at, told}
 
 -- an interval of a list with its expression, as the definitions have it
 abbrev pub listed_view : ListedExpression → definitions.ListedExpression
@@ -51,3 +55,13 @@ interval_read base x = read_only (compiled_at base x.given)
 -- The same list where nothing becomes of it: it is read whole, and then its expressions are.
 abbrev pub read_by : ListSource → InForce → ℕ → Value → Result (Unit {0}) ListedRefusal
 read_by s e offset v = told_as of_list (listed_in (locations_of_value s offset v)) >>= λ xs. told_as of_expression (read_locations e xs)
+
+-- the locations of some intervals, where an expression of one is supported
+abbrev pub some_where : Bool → List Location → Option (List Location)
+some_where supported ls = if supported then Some ls else None
+
+-- What is built for an interval is put behind other locations; or its refusal is told.
+abbrev pub PutsInterval : Result (Option (List Location)) LocationRefusal → List (Address × ℕ × Expression) → List (Address × ℕ × Expression) → Result Bool ExprError → Type 0
+PutsInterval expected old new (Ok true) = (ls : List Location) × (expected ≡ Ok (Some ls)) × (map location_view new ≡ map location_view old ++ ls)
+PutsInterval expected old new (Ok false) = (expected ≡ Ok None) × (new ≡ old)
+PutsInterval expected old new (Err e) = RefusesTold expected (told e)

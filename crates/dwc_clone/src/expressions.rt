@@ -13,7 +13,7 @@ use dwc_expr::{BuiltCompiledExpression, CompiledExpression, ExprError, compile_e
 use std::alloc::Global;
 
 // The error of an expression that stands at a place: an operation that cannot be read is told there.
-fn at_place(error: ExprError, place: (SectionName, u64)) -> ExprError
+pub(crate) fn at_place(error: ExprError, place: (SectionName, u64)) -> ExprError
     ensures { result ≡ error_at place error }
 {
     match error {

@@ -1,16 +1,16 @@
 //! What attributes become whose values are location lists. (DWARF 4 and 5, section 2.6.2.)
-ghost use Rattle.std.specs.Prelude.{◌≡◌, ◌++◌, IfOk, IsTrue, List, map, option_map};
+ghost use Rattle.std.specs.Prelude.{◌≡◌, ◌||◌, IsTrue, List, map, option_map};
 ghost use Rattle.dwc_base.specs.Functions.{Function};
-ghost use Rattle.dwc_base.specs.LocationAttributes.{built_for, built_for_each, read_locations, with_locations};
+ghost use Rattle.dwc_base.specs.LocationAttributes.{built_for, built_for_each, read_locations};
 ghost use Rattle.dwc_base.specs.Lists.{list_source};
 ghost use Rattle.dwc_base.specs.RawLists.{is_location_list};
 ghost use Rattle.dwc_read.specs.ValuesSeen.{value_view};
 ghost use Rattle.dwc_clone.specs.InForceSeen.{in_force_view};
 ghost use Rattle.dwc_clif.specs.Registers.{Registers};
-ghost use Rattle.dwc_clone.specs.LocatedLists.{interval_read, list_told, listed_view, located_by, read_by};
+ghost use Rattle.dwc_clone.specs.LocatedLists.{PutsInterval, interval_read, list_told, listed_view, located_by, read_by, some_where};
 ghost use Rattle.dwc_clone.specs.LocatedValues.{GivesTold, located_view, locations_view, told};
 
-use crate::expressions::{build_over, compile_at};
+use crate::expressions::{at_place, compile_at};
 use crate::in_force::InForce;
 use crate::listed::{ListedExpression, listed_expressions};
 use crate::located::Located;
@@ -18,65 +18,54 @@ use crate::located_error::LocatedError;
 use dwc_addr::AddressTransform;
 use dwc_base::{Address, Encoding};
 use dwc_clif::TargetIsa;
-use dwc_expr::ExprError;
+use dwc_expr::{ExprError, put_locations};
 use dwc_read::{AttributeValue, Unit};
 use dwc_write::Expression;
-use std::alloc::{AllocError, Global};
+use std::alloc::Global;
 
-// What is built for an interval; None where its expression is not supported.
-#[tactic(auto, unfolding(dwc_base::specs::LocationAttributes::built_for))]
-fn built_interval(
+// Puts what is built for an interval behind others, and answers whether its expression is supported.
+fn put_interval(
     alloc: Global,
+    locations: &mut Vec<(Address, u64, Expression)>,
     transform: &AddressTransform,
     isa: &dyn TargetIsa,
     in_force: &InForce<'_>,
     encoding: Encoding,
     interval: &ListedExpression<'_>,
-) -> Result<Option<Vec<(Address, u64, Expression)>>, ExprError>
-    ensures { GivesTold (option_map locations_view) told (built_for (in_force_view transform.now (dwarf_registers isa.now) in_force.now) (listed_view interval.now)) result }
+) -> Result<bool, ExprError>
+    ensures { PutsInterval (built_for (in_force_view transform.now (dwarf_registers isa.now) in_force.now) (listed_view interval.now)) locations.old.items locations.new.items result }
 {
-    let parts = compile_at(
+    match put_locations(
         alloc,
-        in_force.base,
-        encoding,
+        locations,
         interval.bytes,
-        interval.place,
-    )?;
-    match parts {
-        Some(parts) => {
-            let scope = [(interval.start, interval.end)];
-            let built = build_over(alloc, transform, isa, in_force, &scope, &parts)?;
-            Ok(Some(built.expressions))
-        }
-        None => Ok(None),
+        encoding,
+        in_force.base,
+        (interval.start, interval.end),
+        transform,
+        in_force.frame,
+        isa,
+    ) {
+        Ok(supported) => Ok(supported),
+        Err(error) => Err(at_place(error, interval.place)),
     }
 }
 
-// Expressions behind others, where there are some.
-fn with_expressions(
-    so_far: Option<Vec<(Address, u64, Expression)>>,
-    others: Option<Vec<(Address, u64, Expression)>>,
-) -> Result<Option<Vec<(Address, u64, Expression)>>, AllocError>
-    ensures { IfOk result (λ all. option_map locations_view all ≡ with_locations (option_map locations_view so_far) (option_map locations_view others)) }
+// Whether one of two holds.
+fn either(one: bool, other: bool) -> bool
+    ensures { result ≡ (one || other) }
 {
-    match so_far {
-        Some(expressions) => match others {
-            Some(others) => Ok(Some(joined(expressions, others)?)),
-            None => Ok(Some(expressions)),
-        },
-        None => Ok(others),
-    }
+    one || other
 }
 
-// Expressions behind others.
-fn joined(
-    mut expressions: Vec<(Address, u64, Expression)>,
-    mut others: Vec<(Address, u64, Expression)>,
-) -> Result<Vec<(Address, u64, Expression)>, AllocError>
-    ensures { IfOk result (λ all. all.items ≡ expressions.items ++ others.items) }
+// Locations, where some expression is supported.
+fn if_supported(
+    supported: bool,
+    locations: Vec<(Address, u64, Expression)>,
+) -> Option<Vec<(Address, u64, Expression)>>
+    ensures { option_map locations_view result ≡ some_where supported (locations_view locations) }
 {
-    expressions.append(&mut others)?;
-    Ok(expressions)
+    if supported { Some(locations) } else { None }
 }
 
 // What is built for each of some intervals in order; None where no expression is supported.
@@ -90,12 +79,21 @@ fn built_intervals(
 ) -> Result<Option<Vec<(Address, u64, Expression)>>, ExprError>
     ensures { GivesTold (option_map locations_view) told (built_for_each (in_force_view transform.now (dwarf_registers isa.now) in_force.now) (map listed_view intervals.now)) result }
 {
-    let mut expressions = None;
+    let mut locations = Vec::new(alloc);
+    let mut supported = false;
     for interval in intervals {
-        let built = built_interval(alloc, transform, isa, in_force, encoding, interval)?;
-        expressions = with_expressions(expressions, built)?;
+        let put = put_interval(
+            alloc,
+            &mut locations,
+            transform,
+            isa,
+            in_force,
+            encoding,
+            interval,
+        )?;
+        supported = either(supported, put);
     }
-    Ok(expressions)
+    Ok(if_supported(supported, locations))
 }
 
 /// What an attribute of the entry at an offset becomes whose value names a location list; None where no expression of the list is
