@@ -2,8 +2,6 @@
 //! to look: what is found near one is tested, and where the test fails, found by halves.
 ghost use Rattle.std.specs.Prelude.{◌≡◌, ◌<◌, ◌≤◌, ◌+◌, true, false, length, slice_index_or};
 ghost use Rattle.std.specs.List.Sorted.{IsNonDecreasingBy};
-ghost use Rattle.dwc_addr.specs.declared.address_map.AddressMap as addresses;
-ghost use Rattle.dwc_addr.specs.declared.function_map.Gap as gap_of_map;
 ghost use Rattle.dwc_addr.specs.PositionPlaces.{AreBelow, IsCountBelow};
 
 use crate::address_map::{AddressMap, WasmAddress};
@@ -42,7 +40,7 @@ fn sources_near(sources: &[AddressMap], hint: usize, addr: WasmAddress) -> usize
 // Whether there is a source at a place, and it lies below a wasm offset.
 fn is_source_below(sources: &[AddressMap], place: usize, addr: WasmAddress) -> bool
     ensures below { result ≡ true → AreBelow (λ e. e.wasm) sources.now addr (place + 1) }
-    ensures above { result ≡ false → (d : addresses.AddressMap) → place < length sources.now → addr ≤ (slice_index_or sources.now place d).wasm }
+    ensures above { result ≡ false → (d : AddressMap) → place < length sources.now → addr ≤ (slice_index_or sources.now place d).wasm }
 {
     place < sources.len() && sources[place].wasm < addr
 }
@@ -87,7 +85,7 @@ fn gaps_near(gaps: &[Gap], hint: usize, before: usize) -> usize {
 // Whether there is a gap at a place, and it has fewer sources in front of it than so many.
 fn is_gap_before(gaps: &[Gap], place: usize, before: usize) -> bool
     ensures below { result ≡ true → AreBelow (λ g. g.before) gaps.now before (place + 1) }
-    ensures above { result ≡ false → (d : gap_of_map.Gap) → place < length gaps.now → before ≤ (slice_index_or gaps.now place d).before }
+    ensures above { result ≡ false → (d : Gap) → place < length gaps.now → before ≤ (slice_index_or gaps.now place d).before }
 {
     place < gaps.len() && gaps[place].before < before
 }
