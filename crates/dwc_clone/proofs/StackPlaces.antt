@@ -60,6 +60,16 @@ module _ {X : Type 0} (depth : ℤ) (gs : List (Given X)) (k : ℕ) (d : Given X
   pub counts-all : int_le depth (get_or gs k d).0 ≡ false → Counts depth gs (suc k) → take (suc k) gs ≡ left_for depth gs
   counts-all below c = sym (left-stays depth gs k d (omega (arith, c.within)) below) ∙ c.same
 
+-- A stack whose top is below a depth is left whole for it, and so is an empty one.
+pub left-whole : {X : Type 0} (depth : ℤ) (gs : List (Given X)) (g : Given X) → last_of gs ≡ Some g → int_le depth g.0 ≡ false → left_for depth gs ≡ gs
+left-whole depth [] g is below = refl
+left-whole depth (h ∷ []) g is below = let same : h ≡ g = cc in rw same (rw below refl)
+left-whole depth (h ∷ k ∷ ks) g is below = ap (left_under depth h) (left-whole depth (k ∷ ks) g is below)
+
+pub left-none : {X : Type 0} (depth : ℤ) (gs : List (Given X)) → last_of gs ≡ None → left_for depth gs ≡ gs
+left-none depth [] none = refl
+left-none depth (g ∷ gs) none = absurd (cc)
+
 -- whether the top is of a depth
 pub top_at-is : {X : Type 0} (depth : ℤ) (gs : List (Given X)) (g : Given X) → last_of gs ≡ Some g → (int_le depth g.0 && int_le g.0 depth) ≡ is_some (top_at depth gs)
 top_at-is depth gs g is = rw is (go (int_le depth g.0 && int_le g.0 depth))

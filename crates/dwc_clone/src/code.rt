@@ -9,6 +9,7 @@ ghost use Rattle.dwc_write.specs.GivenUnits.{Addition, GivenUnit, IsAdded};
 ghost use Rattle.dwc_write.specs.RangeLists.{FitsRange, interval_of};
 ghost use Rattle.dwc_write.specs.Writers.{FitsField};
 ghost use Rattle.dwc_clone.specs.ClonedEntries.{IsGiven, IsLast};
+ghost use Rattle.dwc_clone.specs.CodeNames.{have_code_name};
 ghost use Rattle.dwc_clone.specs.NativeExtents.{FitsExtent, said_by};
 ghost use Rattle.std.specs.Prelude.{option_map, IfSome, IsSome, map};
 
@@ -85,16 +86,18 @@ fn set_extent(
 }
 
 /// Gives an entry of the output what says where its code is: a subprogram that begins in a function has that function whole, and another
-/// entry what its extent is in the native code.
+/// entry what its extent is in the native code. `speaks` tells whether the entry says something of its code.
 pub(crate) fn set_code(
     alloc: Global,
     source: &CloneSource<'_, '_>,
     entry: &Entry<'_>,
     function: Option<&FunctionMap>,
+    speaks: bool,
     unit: &mut Unit,
     id: UnitEntryId,
 ) -> Result<(), WriteError>
     requires functions { HaveAddends source.now.transform.now }
+    requires speaks { speaks ≡ have_code_name (entry_view entry.now).attributes }
     requires known { IsAdded id.index unit.old }
     requires symbol { IfSome function (λ f. IsSome f.now.symbol) }
     requires begun { option_map (λ f. function_view f.now) function ≡ begun_function (list_source source.now.unit.now.sections source.now.unit.now.header) source.now.transform.now (entry_view entry.now) }
@@ -102,7 +105,7 @@ pub(crate) fn set_code(
     ensures given { (number : ℕ) (texts : List (List ℕ)) (base : GivenUnit) (e : Addition) → IsLast texts id base e unit.old → OnOk result (IsGiven number texts texts (range_attributes (list_source source.now.unit.now.sections source.now.unit.now.header) source.now.transform.now (entry_view entry.now)) base e unit.new) }
 {
     let Some(function) = function else {
-        let extent = native_extent(alloc, source.unit, source.transform, entry)?;
+        let extent = native_extent(alloc, source.unit, source.transform, entry, speaks)?;
         return set_extent(unit, id, entry.tag, extent);
     };
     let begin = Address::Symbol {

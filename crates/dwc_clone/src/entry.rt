@@ -21,6 +21,7 @@ ghost use Rattle.dwc_write.specs.TextTables.{IsText};
 ghost use Rattle.dwc_base.specs.LocationRules.{frame_at};
 ghost use Rattle.dwc_clif.specs.Registers.{Registers};
 ghost use Rattle.dwc_expr.specs.Frames.{frame_view};
+ghost use Rattle.dwc_clone.specs.CodeNames.{have_code_name};
 ghost use Rattle.dwc_clone.specs.CompiledModules.{HasFrames};
 ghost use Rattle.dwc_clone.specs.ClonedUnits.{IsInForce, placed_in, source_with};
 ghost use Rattle.dwc_clone.specs.BegunNumbers.{NotesFunctions};
@@ -41,6 +42,7 @@ use crate::attribute::output_attribute;
 use crate::begun_numbers::note_function;
 use crate::bounds::{nothing_seen, seen_behind};
 use crate::code::set_code;
+use crate::code_names::speaks_of_code;
 use crate::in_force::InForce;
 use crate::lineage::Lineage;
 use crate::location::of_expression;
@@ -289,6 +291,7 @@ fn clone_itself(
     isa: &dyn TargetIsa,
     source: &CloneSource<'_, '_>,
     function: Option<&FunctionMap>,
+    speaks: bool,
     begins: bool,
     telling: Telling,
     entry: &Entry<'_>,
@@ -299,6 +302,7 @@ fn clone_itself(
     known: &mut KnownTexts,
 ) -> Result<(), CloneError>
     requires functions { HaveAddends source.now.transform.now }
+    requires speaks { speaks ≡ have_code_name (entry_view entry.now).attributes }
     requires symbol { IfSome function (λ f. IsSome f.now.symbol) }
     requires begun { option_map (λ f. function_view f.now) function ≡ begun_function (list_source source.now.unit.now.sections source.now.unit.now.header) source.now.transform.now (entry_view entry.now) }
     requires begins { begins ≡ begins_by_low_pc (list_source source.now.unit.now.sections source.now.unit.now.header) source.now.transform.now (entry_view entry.now) }
@@ -326,7 +330,7 @@ fn clone_itself(
         room,
     ))?;
     let id = placed.id;
-    of_memory(set_code(alloc, source, entry, function, unit, id))?;
+    of_memory(set_code(alloc, source, entry, function, speaks, unit, id))?;
     let frame = frame_in_force(source, &walk.lineage);
     let in_force = in_force_by(&walk.lineage, frame.as_ref());
     set_attributes(
@@ -373,13 +377,15 @@ pub(crate) fn clone_entry(
     let function = function_begun(source.unit, entry, source.transform);
     note_function(translated, function)?;
     let begins = function.is_some() && has_begin(source, entry);
-    walk.lineage.enter(alloc, source, entry, function)?;
+    let speaks = speaks_of_code(entry);
+    walk.lineage.enter(alloc, source, entry, function, speaks)?;
     if is_wrapped(entry) {
         return wrap_entry(
             alloc, isa, source, begins, entry, id, walk, unit, strings, known,
         );
     }
     clone_itself(
-        alloc, isa, source, function, begins, telling, entry, id, walk, unit, strings, known,
+        alloc, isa, source, function, speaks, begins, telling, entry, id, walk, unit, strings,
+        known,
     )
 }

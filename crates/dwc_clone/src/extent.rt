@@ -9,9 +9,9 @@ ghost use Rattle.dwc_read.specs.EntriesSeen.{entry_view};
 ghost use Rattle.dwc_read.specs.ValuesSeen.{value_view};
 ghost use Rattle.dwc_tabs.specs.RangeEnds.{interval_view};
 ghost use Rattle.dwc_write.specs.Writers.{FitsField};
+ghost use Rattle.dwc_clone.specs.CodeNames.{have_code_name};
 ghost use Rattle.dwc_clone.specs.NativeExtents.{FitsExtent, IsExtent, said_by};
 
-use crate::code_names::speaks_of_code;
 use crate::input_extent::{InputExtent, input_extent};
 use crate::ranges::{add_native, native_ranges};
 use dwc_addr::{AddressTransform, translations_are_said};
@@ -97,18 +97,21 @@ fn position_of(transform: &AddressTransform, tag: u16, address: Address) -> Nati
 }
 
 /// What an entry has of the native code: the intervals of its range list; without one, the interval from its `low_pc` to its `high_pc`; and
-/// with a `low_pc` alone a position, which is 0 for a compile unit. What cannot be read counts as not there.
+/// with a `low_pc` alone a position, which is 0 for a compile unit. What cannot be read counts as not there. `speaks` tells whether the entry
+/// says something of its code.
 pub(crate) fn native_extent(
     alloc: Global,
     unit: &Unit<'_>,
     transform: &AddressTransform,
     entry: &Entry<'_>,
+    speaks: bool,
 ) -> Result<NativeExtent, AllocError>
     requires functions { HaveAddends transform.now }
+    requires speaks { speaks ≡ have_code_name (entry_view entry.now).attributes }
     ensures says { IfOk result (λ x. said_by (entry_view entry.now).tag x ≡ said_extent transform.now (entry_view entry.now).tag (extent (list_source unit.now.sections unit.now.header) (entry_view entry.now))) }
     ensures fits { IfOk result FitsExtent }
 {
-    if !speaks_of_code(entry) {
+    if !speaks {
         return Ok(NativeExtent::Nowhere);
     }
     match input_extent(unit, entry) {

@@ -1,5 +1,5 @@
 //! A stack of what entries give to the entries below them. (DWARF 4 and 5, section 2.3.)
-ghost use Rattle.std.specs.Prelude.{◌≡◌, ◌≤◌, ◌<◌, ◌==◌, ◌<ℤ◌, All, [], ◌∷◌, ◌++◌, ◌&&◌, int_le, take, length, is_some, IsSome, OnOk, OnErr, option_copied};
+ghost use Rattle.std.specs.Prelude.{◌≡◌, ◌≤◌, ◌<◌, ◌==◌, ◌<ℤ◌, All, false, [], ◌∷◌, ◌++◌, ◌&&◌, int_le, take, length, is_some, IsSome, OnOk, OnErr, option_copied};
 ghost use Rattle.std.specs.Option.{option_copied_mut};
 ghost use Rattle.std.specs.Borrow.{sem};
 ghost use Rattle.dwc_base.specs.Scopes.{DepthsRise, left_for, top_at, top_of};
@@ -88,6 +88,16 @@ impl<T> InheritedAttr<T> {
         }
     }
 
+    // Whether the top was given at a depth or deeper.
+    fn has_top_from(&self, depth: i64) -> bool
+        ensures { result ≡ false → left_for depth self.now ≡ self.now }
+    {
+        match self.items.last() {
+            Some(item) => is_from(item, depth),
+            None => false,
+        }
+    }
+
     // The value on top, to change.
     fn top_mut(&mut self) -> &mut T
         requires { 0 < length self.old }
@@ -113,14 +123,25 @@ impl<T> InheritedAttr<T> {
 }
 
 impl<T: Drop> InheritedAttr<T> {
+    // Drops what was given at a depth or deeper.
+    #[inline(never)]
+    fn leave(&mut self, depth: i64)
+        ensures { self.new ≡ left_for depth self.old }
+    {
+        let left = count_left(depth, &self.items);
+        self.items.truncate(left);
+    }
+
     /// Drops the top as long as it was given at a depth or deeper. Where the depths rise towards the top, what is left was given at
     /// lower depths alone.
     pub fn update(&mut self, depth: i64)
         ensures left { self.new ≡ left_for depth self.old }
         ensures below { DepthsRise self.old → All (λ g. g.0 <ℤ depth) self.new × DepthsRise self.new }
     {
-        let left = count_left(depth, &self.items);
-        self.items.truncate(left);
+        if !self.has_top_from(depth) {
+            return;
+        }
+        self.leave(depth);
     }
 
     /// Puts what an entry of a depth gives on top.

@@ -7,9 +7,9 @@ ghost use Rattle.dwc_base.specs.Scopes.{left_for, top_of};
 ghost use Rattle.dwc_addr.specs.Transforms.{function_view};
 ghost use Rattle.dwc_read.specs.EntriesSeen.{entry_view};
 ghost use Rattle.dwc_clone.specs.declared.error.CloneError.TheVariants.{OutOfMemory};
+ghost use Rattle.dwc_clone.specs.CodeNames.{have_code_name};
 ghost use Rattle.dwc_clone.specs.Lineages.{Stacks, given_on, no_stacks, stacks_left, stacks_with, with_entry};
 
-use crate::code_names::speaks_of_code;
 use crate::given::{base_given, scope_given};
 use crate::{CloneError, CloneSource, InheritedAttr};
 use dwc_addr::FunctionMap;
@@ -29,6 +29,7 @@ pub(crate) struct Lineage {
 
 impl Model for Lineage {
     ghost use Rattle.std.specs.Prelude.{map};
+    ghost use Rattle.dwc_clone.specs.CodeNames.{have_code_name};
     ghost use Rattle.dwc_clone.specs.Lineages.{Stacks};
 
     ghost Value = { Stacks };
@@ -56,13 +57,15 @@ fn gives_nothing(
     source: &CloneSource<'_, '_>,
     entry: &Entry<'_>,
     function: Option<&FunctionMap>,
+    speaks: bool,
 ) -> bool
+    requires speaks { speaks ≡ have_code_name (entry_view entry.now).attributes }
     requires begun { option_map (λ f. function_view f.now) function ≡ begun_function (list_source source.now.unit.now.sections source.now.unit.now.header) source.now.transform.now (entry_view entry.now) }
     ensures { result ≡ true → (old : Stacks) → with_entry (list_source source.now.unit.now.sections source.now.unit.now.header) source.now.transform.now (entry_view entry.now) old ≡ stacks_left (entry_view entry.now).depth old }
 {
     match function {
         Some(_) => false,
-        None => !speaks_of_code(entry),
+        None => !speaks,
     }
 }
 
@@ -124,7 +127,7 @@ impl Lineage {
     }
 
     /// Enters an entry, the next in file order, of those that are walked: what is in force is then what is in force at it. The root gives
-    /// nothing.
+    /// nothing. `speaks` tells whether the entry says something of its code.
     ///
     /// # Errors
     /// `OutOfMemory` for want of memory. Nothing is said of what is in force then.
@@ -134,7 +137,9 @@ impl Lineage {
         source: &CloneSource<'_, '_>,
         entry: &Entry<'_>,
         function: Option<&FunctionMap>,
+        speaks: bool,
     ) -> Result<(), CloneError>
+        requires speaks { speaks ≡ have_code_name (entry_view entry.now).attributes }
         requires symbol { IfSome function (λ f. IsSome f.now.symbol) }
         requires begun { option_map (λ f. function_view f.now) function ≡ begun_function (list_source source.now.unit.now.sections source.now.unit.now.header) source.now.transform.now (entry_view entry.now) }
         ensures entered { OnOk result (self.new ≡ with_entry (list_source source.now.unit.now.sections source.now.unit.now.header) source.now.transform.now (entry_view entry.now) self.old) }
@@ -144,7 +149,7 @@ impl Lineage {
         if is_root(entry) {
             return Ok(());
         }
-        if gives_nothing(source, entry, function) {
+        if gives_nothing(source, entry, function, speaks) {
             return Ok(());
         }
         let scope = scope_given(alloc, source, entry, function)?;

@@ -5,7 +5,7 @@ use Rattle.dwc_read.specs.EntriesSeen.{entry_view}
 use Rattle.dwc_clone.proofs.CodeNameLaws.{nowhere-is}
 use Rattle.dwc_clone.proofs.extent.native_extent.Goals as goal
 
-pub returns-then-not-speaks_of_code-clause-says : goal.returns-then-not-speaks_of_code-clause-says
-returns-then-not-speaks_of_code-clause-says c =
+pub returns-then-not-speaks-clause-says : goal.returns-then-not-speaks-clause-says
+returns-then-not-speaks-clause-says c =
     let u = c.args.unit.now in
-    ap (said_extent c.args.transform.now c.args.entry.now.tag) (nowhere-is (list_source u.sections u.header) c.args.transform.now (entry_view c.args.entry.now) (sym c.speaks_of_code.ensures ∙ c.if-not-speaks_of_code.true))
+    ap (said_extent c.args.transform.now c.args.entry.now.tag) (nowhere-is (list_source u.sections u.header) c.args.transform.now (entry_view c.args.entry.now) (sym c.requires.speaks ∙ c.if-not-speaks.true))

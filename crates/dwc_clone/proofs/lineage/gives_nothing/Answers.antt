@@ -9,4 +9,4 @@ pub returns-in-None : goal.returns-in-None
 returns-in-None c silent =
     let u = c.args.source.now.unit.now in
     let none = sym c.requires.begun ∙ ap (option_map (λ f. function_view f.now)) c.in-None.is in
-    nothing-given (list_source u.sections u.header) c.args.source.now.transform.now (entry_view c.args.entry.now) (unspoken c.speaks_of_code.result _ c.speaks_of_code.ensures silent) none
+    nothing-given (list_source u.sections u.header) c.args.source.now.transform.now (entry_view c.args.entry.now) (unspoken c.args.speaks _ c.requires.speaks silent) none
