@@ -27,7 +27,7 @@ in_directory-there directories f = go f.directory f.name
     go (suc d) name = got-within _ directories d
 
 -- files with names and directories that are there
-files-there : (directories : List (List ℕ)) (files : List LineFile) → list_all (is_named_within (length directories)) files ≡ list_all (has_names directories) files
+pub files-there : (directories : List (List ℕ)) (files : List LineFile) → list_all (is_named_within (length directories)) files ≡ list_all (has_names directories) files
 files-there directories [] = refl
 files-there directories (f ∷ fs) =
     ap (λ b. (b && nat_lt 0 (length f.name)) && list_all (is_named_within (length directories)) fs) (sym (in_directory-there directories f))

@@ -6,6 +6,9 @@ pub mod TableLaws
 pub mod EntryLaws
 pub mod FileLaws
 pub mod RowLaws
+pub mod OpenLaws
+pub mod DecodeLaws
+pub mod OpenedLaws
 pub mod OpenListLaws
 pub mod RangeLaws
 pub mod GivenLaws

@@ -4,6 +4,7 @@ pub mod Steps
 pub mod Programs
 pub mod Faults
 pub mod Tables
+pub mod OpenTables
 pub mod OpenLists
 pub mod RangeLists
 pub mod RangeEnds

@@ -12,6 +12,15 @@ pub enum LineStep {
     End(Option<u64>),
 }
 
+/// What stops the rows of a segment.
+#[derive(Clone, Copy)]
+pub enum LineStop {
+    /// The next one's start.
+    Start(Address),
+    /// The end of the sequence, as that of a step.
+    End(Option<u64>),
+}
+
 /// What one instruction does that shows.
 #[derive(Clone, Copy)]
 pub enum Shown {

@@ -16,7 +16,7 @@ use crate::header::{LineFile, line_header};
 use crate::parameters::Parameters;
 use crate::program::{ProgramCheck, check_program, next_step};
 use crate::registers::{Registers, sequence_start};
-use crate::source::Source;
+use crate::source::{Source, source_of};
 use crate::step::LineStep;
 use crate::unread::unread_from;
 use dwc_base::{Cursor, Flaw, NotRead, Relocations, SectionName};
@@ -82,14 +82,7 @@ impl<'d> LineTable<'d> {
     pub fn read(alloc: Global, unit: &Unit<'d>, offset: u64) -> Result<LineTable<'d>, TabFault>
         ensures { AnswersTable offset (line_table unit.now.sections unit.now.header.address_size (text_base unit.now.sections unit.now.header) offset) result }
     {
-        let source = Source {
-            order: unit.order(),
-            strings: unit.section(SectionName::Str),
-            line_strings: unit.section(SectionName::LineStr),
-            offsets: unit.section(SectionName::StrOffsets),
-            base: unit.index_base(SectionName::StrOffsets),
-            relocations: unit.relocations(SectionName::Line),
-        };
+        let source = source_of(unit);
         let line = unit.section(SectionName::Line);
         LineTable::read_at(alloc, source, line, unit.address_size(), offset)
     }
@@ -143,11 +136,25 @@ impl<'d> LineTable<'d> {
         at_number(&self.directories, i).copied()
     }
 
+    /// The directories, from number 1 on.
+    pub fn directories(&self) -> &[&'d [u8]]
+        ensures { map slice_bytes result.now ≡ self.now.header.directories }
+    {
+        &self.directories
+    }
+
     /// How many files the table has, those that its program defines among them.
     pub fn file_count(&self) -> u64
         ensures { result ≡ length self.now.files }
     {
         self.files.len() as u64
+    }
+
+    /// The files in order, those that its program defines behind the others.
+    pub fn files(&self) -> &[LineFile<'d>]
+        ensures { map file_view result.now ≡ self.now.files }
+    {
+        &self.files
     }
 
     /// The file of a number; files count from 1, from version 5 on from 0. (DWARF 4, section 6.2.4, 12; DWARF 5, section 6.2.4,
@@ -245,7 +252,7 @@ fn have_files(check: ProgramCheck, version: u16, files: usize) -> bool
 }
 
 // Whether files have names, and directories that are there.
-fn are_named(files: &[LineFile<'_>], directories: usize) -> bool
+pub(crate) fn are_named(files: &[LineFile<'_>], directories: usize) -> bool
     ensures { result ≡ list_all (is_named_within directories) (map file_view files.now) }
 {
     files.iter().all(|file| is_named(*file, directories))
@@ -259,7 +266,7 @@ fn has_name(name: &[u8]) -> bool
 }
 
 // Whether directories have names.
-fn have_names(directories: &[&[u8]]) -> bool
+pub(crate) fn have_names(directories: &[&[u8]]) -> bool
     ensures { result ≡ list_all is_named_directory (map slice_bytes directories.now) }
 {
     directories.iter().all(|name| has_name(name))
