@@ -1,5 +1,5 @@
 -- A line table that was read, with all its files and directories, can be carried.
-use Rattle.std.proofs.Common.{◌≡◌, ℕ, zero, suc, ◌^◌, ◌<◌, ◌≤◌, refl, sym, ◌∙◌, arith, List, [], ◌∷◌, map, length, Bool, true, false, Option, Some, None, Result, Ok, Err, All}
+use Rattle.std.proofs.Common.{◌≡◌, ℕ, zero, suc, ◌^◌, ◌<◌, ◌≤◌, refl, sym, subst, ◌∙◌, arith, List, [], ◌∷◌, map, length, Bool, true, false, Option, Some, None, Result, Ok, Err, All}
 use Rattle.std.specs.Prelude.{◌&&◌, if◌then◌else◌, nat_lt, not, int_lt, nat_abs, ℤ, pos, negsuc, slice_get, option_map, is_some}
 use Rattle.std.specs.List.{list_all}
 use Rattle.std.specs.Option.{option_and_then}
@@ -16,13 +16,15 @@ use Rattle.dwc_base.specs.LineHeaders.{LineFile, LineHeader, line_source, line_h
 use Rattle.dwc_base.specs.LineRows.{LineTable, LineStep, start, row, end, segments, line_table, line_table_at, checked_table, table_of, Effect, starts, appends, ends, effects, is_in_range, step_of, at_sequence_start, source_file, numbered, in_directory, SourceFile}
 use Rattle.dwc_base.specs.Sections.{Sections, Fault, section_from, reported}
 use Rattle.dwc_base.specs.LineFiles.{names_file, has_names, is_named, has_all_files}
+use Rattle.dwc_tabs.specs.OpenTables.{OpenLines}
 use Rattle.dwc_write.specs.SpelledLines.{FitsName}
 use Rattle.dwc_image.specs.ImageSequences.{FitsStep}
 use Rattle.dwc_image.specs.ImageRows.{RowsRise}
 use Rattle.dwc_image.specs.CarriedLines.{carried_number, carried_step, carried_steps, FitsDirectories, IsRead}
+use Rattle.dwc_image.specs.OpenedTables.{IsOpen}
 use Rattle.dwc_image.proofs.RisingRows.{line_table-rise}
 use Rattle.dwc_image.proofs.PlainNames.{IsPlain, IsPlainFile}
-use Rattle.dwc_image.proofs.NameLaws.{table-names}
+use Rattle.dwc_image.proofs.NameLaws.{HasNames, header-names, table-names}
 
 -- What can be carried of a table.
 pub record CanCarry (t : LineTable) : Type 0 where
@@ -158,3 +160,19 @@ can-carry s address_size base offset t read named =
 
 pub read-carried : (t : LineTable) → IsRead t → CanCarry t
 read-carried t h = can-carry h.sections h.address_size h.base h.offset t h.is_read h.files
+
+-- ---- a table that is read along with what carries it
+
+-- What can be carried of a table whose header is read.
+pub record CanCarryNames (t : OpenLines) : Type 0 where
+  pub directories : All FitsName t.table.header.directories
+  pub files : All (FitsDirectories (length t.table.header.directories)) t.table.files
+
+pub open-carried : (t : OpenLines) → IsOpen t → CanCarryNames t
+open-carried t h =
+    let o = h.opens in
+    let names = subst HasNames o.header (header-names (line_source h.sections h.base) h.address_size (section_from h.sections Line h.offset)) in
+    record {
+      directories = directories-fit t.table.header.directories names.of.directories o.directories;
+      files = files-fit t.table.header.directories t.table.files (rw o.same_files names.of.files) o.files;
+    }

@@ -5,6 +5,7 @@ pub mod ImageLaws
 pub mod RisingRows
 pub mod SequenceLaws
 pub mod LinesLaws
+pub mod OpenedLaws
 pub mod SegmentLaws
 pub mod WidestImages
 pub mod CarriedTables

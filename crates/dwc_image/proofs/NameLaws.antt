@@ -120,7 +120,7 @@ fields-names : (s : LineSource) (version address_size : ℕ) (program u : Unread
 unfolding line_fields_at
 fields-names s version address_size program u = search (names-read, names-last, names-behind) depth 16
 
-header-names : (s : LineSource) (address_size : ℕ) (u : Unread) → HasNames (line_header_at s address_size u)
+pub header-names : (s : LineSource) (address_size : ℕ) (u : Unread) → HasNames (line_header_at s address_size u)
 unfolding line_header_at
 header-names s address_size u = search (names-behind, fields-names) depth 10
 

@@ -1,4 +1,5 @@
 pub mod CarriedLines
+pub mod OpenedTables
 pub mod ImageRows
 pub mod ImageSequences
 pub mod RunRows

@@ -3,8 +3,10 @@
 
 mod image;
 mod lines;
+mod open_lines;
 mod sequence;
 mod simulated;
 
 pub use lines::carried_lines;
+pub use open_lines::carried_open_lines;
 pub use simulated::{add_simulated, simulated_lines};

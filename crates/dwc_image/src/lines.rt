@@ -1,5 +1,6 @@
 //! The line program that carries a line table.
-ghost use Rattle.std.specs.Prelude.{◌≡◌, ◌+◌, ◌<◌, ◌^◌, None, [], IsSome, OnOk, IfOk, IsOkUnless, length, All, option_map, slice_get};
+ghost use Rattle.std.specs.Prelude.{◌≡◌, ◌+◌, ◌<◌, ◌^◌, None, [], IsSome, OnOk, IfOk, IsOkUnless, length, map, All};
+ghost use Rattle.dwc_base.specs.Cursors.{slice_bytes};
 ghost use Rattle.dwc_tabs.specs.Headers.{file_view};
 ghost use Rattle.dwc_write.specs.SpelledLines.{FitsName};
 ghost use Rattle.dwc_image.specs.ImageRows.{IsOrdered};
@@ -31,46 +32,35 @@ pub fn carried_lines(
     ensures memory { IsOkUnless result WriteError.OutOfMemory }
 {
     let mut program = LineProgram::new(alloc, encoding)?;
-    add_directories(&mut program, table)?;
-    add_files(&mut program, table)?;
+    add_directories(&mut program, table.directories())?;
+    add_files(&mut program, table.files())?;
     add_images(alloc, &mut program, table, transform)?;
     Ok(program)
 }
 
 // Adds the directories of a table.
-fn add_directories(program: &mut LineProgram, table: &LineTable<'_>) -> Result<(), WriteError>
-    requires { All FitsName table.now.header.directories }
-    ensures added { OnOk result (program.new ≡ with_directories table.now.header.directories program.old) }
+pub(crate) fn add_directories(
+    program: &mut LineProgram,
+    directories: &[&[u8]],
+) -> Result<(), WriteError>
+    requires { All FitsName (map slice_bytes directories.now) }
+    ensures added { OnOk result (program.new ≡ with_directories (map slice_bytes directories.now) program.old) }
     ensures memory { IsOkUnless result WriteError.OutOfMemory }
 {
-    for i in 0..table.directory_count() {
-        let name = table.directory(i + 1).unwrap();
-        program.add_directory(name)?;
+    for directory in directories {
+        program.add_directory(directory)?;
     }
     Ok(())
 }
 
-// The file at a place; files count from 1, from version 5 on from 0.
-fn file_at<'d>(table: &LineTable<'d>, place: u64) -> Option<LineFile<'d>>
-    requires { place + 1 < 2 ^ 64 }
-    ensures { option_map file_view result ≡ slice_get table.now.files place }
-{
-    if table.version() < 5 {
-        table.file(place + 1)
-    } else {
-        table.file(place)
-    }
-}
-
 // Adds the files of a table, whose directories are added.
-fn add_files(program: &mut LineProgram, table: &LineTable<'_>) -> Result<(), WriteError>
-    requires { All (FitsDirectories (length program.old.directories)) table.now.files }
-    ensures added { OnOk result (program.new ≡ with_files table.now.files program.old) }
-    ensures counted { OnOk result (length table.now.files < 2 ^ 64) }
+pub(crate) fn add_files(program: &mut LineProgram, files: &[LineFile<'_>]) -> Result<(), WriteError>
+    requires { All (FitsDirectories (length program.old.directories)) (map file_view files.now) }
+    ensures added { OnOk result (program.new ≡ with_files (map file_view files.now) program.old) }
+    ensures counted { OnOk result (length files.now < 2 ^ 64) }
     ensures memory { IsOkUnless result WriteError.OutOfMemory }
 {
-    for i in 0..table.file_count() {
-        let file = file_at(table, i).unwrap();
+    for file in files {
         program.add_file(file.directory, file.name)?;
     }
     Ok(())

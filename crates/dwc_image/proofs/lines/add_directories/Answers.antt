@@ -1,11 +1,8 @@
-use Rattle.std.proofs.Common.{sym, ap, ◌∙◌}
-use Rattle.std.specs.Prelude.{option_map}
+use Rattle.std.proofs.Common.{arith}
 use Rattle.dwc_base.specs.Cursors.{slice_bytes}
-use Rattle.dwc_image.proofs.LinesLaws.{numbered-next, more_directories}
+use Rattle.dwc_write.specs.SpelledLines.{FitsName}
+use Rattle.dwc_image.proofs.LinesLaws.{mapped-at}
 use Rattle.dwc_image.proofs.lines.add_directories.Goals as goal
 
-pub loop-i-preserved : goal.loop-i-preserved
-loop-i-preserved c =
-    let names = c.args.table.now.header.directories in
-    let found = sym (numbered-next names c.loop-i.i) ∙ sym c.directory.ensures ∙ ap (option_map slice_bytes) c.unwrap-name.ensures in
-    rw c.in_ok-add_directory.ensures.ok (more_directories names c.loop-i.i c.unwrap-name.result.now c.args.program.now c.loop-i.program found c.loop-i.invariant)
+pub add_directory-requires : goal.add_directory-requires
+add_directory-requires c = mapped-at FitsName slice_bytes c.args.directories.now c.loop-directory.directory-index _ (omega (arith, c.loop-directory-test.true)) c.requires
