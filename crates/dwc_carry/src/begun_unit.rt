@@ -1,17 +1,17 @@
 //! The unit of the output that is begun: its line program, and a root alone.
-ghost use Rattle.std.specs.Prelude.{◌≡◌, ◌⊎◌};
+ghost use Rattle.std.specs.Prelude.{◌≡◌, ◌⊎◌, Some, IfSome};
 ghost use Rattle.dwc_image.specs.CarriedLines.{AreKept};
 ghost use Rattle.dwc_carry.specs.LastLines.{IsLast};
-ghost use Rattle.dwc_carry.specs.UnitPrograms.{GivesBegun};
+ghost use Rattle.dwc_carry.specs.UnitPrograms.{GivesBegun, IsBegun};
 
 use crate::DebugError;
 use crate::last_lines::LastLines;
 use dwc_addr::AddressTransform;
 use dwc_base::{Encoding, SectionName};
 use dwc_clone::UnitFiles;
-use dwc_image::carried_lines;
+use dwc_image::{carried_lines, carried_open_lines};
 use dwc_kept::ReadUnit;
-use dwc_tabs::LineTable;
+use dwc_tabs::{LineTable, OpenTable};
 use dwc_write::{LineProgram, Unit, UnitTable};
 use std::alloc::Global;
 
@@ -56,6 +56,52 @@ pub(crate) fn begun_unit(
         let files = known.files;
         return Ok(BegunUnit { unit, files });
     }
+    if let Some(begun) = begun_at_once(alloc, read, offset, transform, encoding) {
+        return Ok(begun);
+    }
+    begun_behind(alloc, read, offset, transform, encoding)
+}
+
+// The same with the line table at an offset, which is carried as it is read. None where something is not sound, or for want of memory.
+fn begun_at_once(
+    alloc: Global,
+    read: &ReadUnit<'_>,
+    offset: u64,
+    transform: &AddressTransform,
+    encoding: Encoding,
+) -> Option<BegunUnit>
+    requires version { encoding.version ≡ 4 }
+    requires size { (encoding.address_size ≡ 4) ⊎ (encoding.address_size ≡ 8) }
+    requires functions { AreKept transform.now }
+    ensures { IfSome result (IsBegun transform.now read.now.unit.sections read.now.unit.header encoding.address_size (Some offset)) }
+{
+    let Ok(mut table) = OpenTable::begin(alloc, &read.unit, offset) else {
+        return None;
+    };
+    let files = UnitFiles {
+        version: table.version(),
+        count: Some(table.file_count()),
+    };
+    let lines = carried_open_lines(alloc, &mut table, transform, encoding)?;
+    let Ok(unit) = Unit::new(alloc, encoding, lines) else {
+        return None;
+    };
+    Some(BegunUnit { unit, files })
+}
+
+// The same with a line table that is read first.
+fn begun_behind(
+    alloc: Global,
+    read: &ReadUnit<'_>,
+    offset: u64,
+    transform: &AddressTransform,
+    encoding: Encoding,
+) -> Result<BegunUnit, DebugError>
+    requires version { encoding.version ≡ 4 }
+    requires size { (encoding.address_size ≡ 4) ⊎ (encoding.address_size ≡ 8) }
+    requires functions { AreKept transform.now }
+    ensures { GivesBegun transform.now read.now.unit.sections read.now.unit.header encoding.address_size (Some offset) result }
+{
     let table = LineTable::read(alloc, &read.unit, offset)?;
     let files = UnitFiles {
         version: table.version(),
