@@ -1,5 +1,5 @@
 -- What the edge of the program says of words, loaded files and written texts.
-use Rattle.std.specs.Prelude.{◌≡◌, ℕ, ◌<◌, ◌≤◌, List, map, take, length, string_bytes, Option, Some, IfSome}
+use Rattle.std.specs.Prelude.{◌≡◌, ℕ, ◌<◌, ◌≤◌, List, ◌++◌, map, take, length, string_bytes, Option, Some, IfSome, Result, Ok, Err}
 use Rattle.std.specs.FinMap as finite
 use Rattle.dwc_cli.specs.declared.words.Paths.{Paths as NamedPaths}
 use Rattle.dwc_cli.specs.Inputs.{Paths}
@@ -24,3 +24,14 @@ IsLongFile files path = IfSome files (λ told. (bytes : List ℕ) × (finite.get
 -- what was taken grew by a front of some text
 abbrev pub AppendsFront : Option (List ℕ) → Option (List ℕ) → List ℕ → Type 0
 AppendsFront before now text = (count : ℕ) × Appended before now (take count text)
+
+-- What was held and a text behind it were taken, but for what is held now.
+pub record Sends (before : Option (List ℕ)) (held : List ℕ) (now : Option (List ℕ)) (left text : List ℕ) : Type 0 where
+  pub sent : List ℕ
+  pub taken : Appended before now sent
+  pub whole : sent ++ left ≡ held ++ text
+
+-- A text was printed behind what was held. Where the sink failed, a front of both was taken.
+abbrev pub Prints : {T E : Type 0} → Option (List ℕ) → List ℕ → Option (List ℕ) → List ℕ → List ℕ → Result T E → Type 0
+Prints before held now left text (Ok x) = Sends before held now left text
+Prints before held now left text (Err e) = AppendsFront before now (held ++ text)

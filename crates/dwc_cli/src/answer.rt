@@ -1,24 +1,27 @@
-//! The text that a run prints.
+//! The sections that a run prints.
 ghost use Rattle.std.specs.Prelude.{map, IfOk, IfErr, IfSome};
-ghost use Rattle.std.specs.List.{flat_map};
+ghost use Rattle.dwc_base.specs.Outputs.{section_view};
 ghost use Rattle.dwc_map.specs.MapFile.{IsMap};
 ghost use Rattle.dwc_map.specs.MapViews.{map_file_view};
 ghost use Rattle.dwc_cli.specs.Inputs.{Input};
 ghost use Rattle.dwc_cli.specs.Failures.{failure_status};
+ghost use Rattle.dwc_cli.specs.Printed.{printed};
 ghost use Rattle.dwc_cli.specs.Answers.{status_of, IsInputOf, TranslatesFiles, CarriesText, TextCauses, IsTextStatus, GivesText};
 
 use crate::emitting::emitted;
 use crate::failure::Failure;
 use crate::input_files::InputFiles;
-use crate::printing::printed_pieces;
-use dwc_base::{ModuleTranslation, split_wasm};
+use dwc_base::{DwarfSection, ModuleTranslation, split_wasm};
 use dwc_map::map_for;
 use std::alloc::Global;
 
-// The printed text of an input in pieces: of the sections of DWARF of its modules, rewritten for the code that its map tells of.
-pub(crate) fn text_of(alloc: Global, files: InputFiles) -> Result<Vec<Vec<u8>>, Failure<'static>>
+// The sections that are printed of an input: those of DWARF of its modules, rewritten for the code that its map tells of.
+pub(crate) fn sections_of(
+    alloc: Global,
+    files: InputFiles,
+) -> Result<Vec<DwarfSection>, Failure<'static>>
     requires kinds { IfSome files.map_file (λ f. IsMap (map_file_view f)) }
-    ensures carried { (input : Input) → IsInputOf files input → IfOk result (λ pieces. CarriesText input (flat_map (λ piece. piece.items) pieces.items)) }
+    ensures carried { (input : Input) → IsInputOf files input → IfOk result (λ sections. CarriesText input (printed (map section_view sections.items))) }
     ensures causes { (input : Input) → IsInputOf files input → TextCauses input (status_of result) }
     ensures status { IfErr result (λ failure. IsTextStatus (failure_status failure)) }
     ensures complete { (input : Input) → IsInputOf files input → GivesText input (status_of result) }
@@ -29,7 +32,7 @@ pub(crate) fn text_of(alloc: Global, files: InputFiles) -> Result<Vec<Vec<u8>>, 
         return Err(Failure::MalformedMap);
     };
     let sections = emitted(alloc, map_file, translations)?;
-    Ok(printed_pieces(alloc, &sections)?)
+    Ok(sections)
 }
 
 // The translations of some modules in order.

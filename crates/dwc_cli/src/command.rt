@@ -4,10 +4,11 @@ ghost use Rattle.dwc_cli.specs.RunStatus.{Rose, Succeeds, UsageCause, MissingCau
 ghost use Rattle.dwc_cli.specs.Failures.{failure_status, failure_message, IsOnOneLine};
 ghost use Rattle.dwc_cli.specs.Answers.{Tells, Complains};
 
-use crate::answer::text_of;
+use crate::answer::sections_of;
 use crate::failure::{Failure, complain};
+use crate::printing::print_sections;
 use crate::reading::read_input;
-use crate::sink::{Sink, write_pieces};
+use crate::sink::Sink;
 use crate::source::{Failed, Source};
 use crate::status::Status;
 use crate::words::read_words;
@@ -55,11 +56,11 @@ pub fn run<S: Source, K: Sink, E: Sink>(
         Ok(input) => input,
         Err(failure) => return refuse(err, &failure),
     };
-    let text = match text_of(alloc, input) {
-        Ok(text) => text,
+    let sections = match sections_of(alloc, input) {
+        Ok(sections) => sections,
         Err(failure) => return refuse(err, &failure),
     };
-    match write_pieces(out, &text) {
+    match print_sections(out, &sections) {
         Ok(()) => Status::Done.code(),
         Err(Failed) => refuse(err, &Failure::WriteFault),
     }

@@ -2,6 +2,7 @@
 #![tactic(auto)]
 
 mod answer;
+mod backward;
 mod calls;
 mod command;
 mod emitting;
@@ -15,6 +16,7 @@ mod mem_sink;
 mod mem_source;
 mod memory_files;
 mod opened;
+mod page;
 mod plain_sink;
 mod plain_source;
 mod printing;

@@ -1,154 +1,218 @@
 //! The printed text of sections.
-ghost use Rattle.std.specs.Prelude.{◌≡◌, ◌++◌, map, IfOk, OnOk};
+ghost use Rattle.std.specs.Prelude.{◌≡◌, ◌+◌, ◌≤◌, ◌++◌, [], map, length, codes, Some, IfOk, OnOk, OnErr};
 ghost use Rattle.std.specs.List.{flat_map};
+ghost use Rattle.std.specs.Fmt.{decimal, signed_decimal};
 ghost use Rattle.hex.specs.Hex.{encode_lower};
-ghost use Rattle.dwc_base.specs.Outputs.{target_view, relocation_view, section_view};
-ghost use Rattle.std.specs.Fmt.{decimal};
-ghost use Rattle.dwc_cli.specs.Printed.{printed, space, printed_section, printed_relocation, printed_target, IsTextOfOne};
+ghost use Rattle.dwc_base.specs.Outputs.{relocation_view, section_view};
+ghost use Rattle.dwc_cli.specs.Devices.{HasCause, Accepts};
+ghost use Rattle.dwc_cli.specs.RunStatus.{Appended};
+ghost use Rattle.dwc_cli.specs.Edge.{AppendsFront, Prints};
+ghost use Rattle.dwc_cli.specs.Printed.{printed, space, line_feed, printed_section, printed_relocation, IsTextOfOne};
 
+use crate::backward::{
+    LINE, begin_line, bytes_before, end_line, end_section_line, number_before, text_from,
+};
+use crate::page::{PAGE, Page};
+use crate::sink::{Sink, write_all};
+use crate::source::Failed;
 use dwc_base::{DwarfSection, DwarfSectionReloc, DwarfSectionRelocTarget};
-use itoa::Integer;
 use std::alloc::{AllocError, Global};
 
 // How many bytes are turned into digits at a time.
 const PIECE: usize = 4096;
 
-// The text of a section without its body and relocations, and that of a relocation, are seldom longer.
-const SECTION_LINE: usize = 64;
-
-const RELOCATION_LINE: usize = 48;
-
-fn push_number<I: Integer>(text: &mut Vec<u8>, number: I) -> Result<(), AllocError>
-    ensures { OnOk result (text.new.items ≡ text.old.items ++ I.text number) }
+// Writes what a page holds.
+fn flush<K: Sink>(sink: &mut K, page: &mut Page) -> Result<(), Failed>
+    ensures text { Prints (K.written sink.old) page.old (K.written sink.new) page.new [] result }
+    ensures empty { OnOk result (page.new ≡ []) }
+    ensures cause { HasCause (K.faults sink.old) (K.faults sink.new) result }
 {
-    let mut digits = itoa::Buffer::new();
-    text.extend_from_slice(digits.format(number).as_bytes())?;
+    write_all(sink, page.text())?;
+    page.clear();
     Ok(())
 }
 
-fn push_target(text: &mut Vec<u8>, target: DwarfSectionRelocTarget) -> Result<(), AllocError>
-    ensures { OnOk result (text.new.items ≡ text.old.items ++ printed_target (target_view target)) }
+// Makes room for so many bytes.
+fn make_room<K: Sink>(sink: &mut K, page: &mut Page, size: usize) -> Result<(), Failed>
+    requires { size ≤ 65536 }
+    ensures text { Prints (K.written sink.old) page.old (K.written sink.new) page.new [] result }
+    ensures room { OnOk result (length page.new + size ≤ 65536) }
+    ensures cause { HasCause (K.faults sink.old) (K.faults sink.new) result }
 {
-    match target {
-        DwarfSectionRelocTarget::Func(number) => {
-            text.extend_from_slice(b"func ")?;
-            push_number(text, number)
-        }
-        DwarfSectionRelocTarget::Section(name) => {
-            text.extend_from_slice(b"section ")?;
-            text.extend_from_slice(name.as_bytes())
-        }
+    if page.room() < size {
+        return flush(sink, page);
     }
+    Ok(())
 }
 
-// A size between spaces. It has one digit.
-fn push_size(text: &mut Vec<u8>, size: u8) -> Result<(), AllocError>
-    ensures { OnOk result (text.new.items ≡ text.old.items ++ (space ++ (decimal size ++ space))) }
+fn print_bytes<K: Sink>(sink: &mut K, page: &mut Page, bytes: &[u8]) -> Result<(), Failed>
+    ensures text { Prints (K.written sink.old) page.old (K.written sink.new) page.new bytes.now result }
+    ensures cause { HasCause (K.faults sink.old) (K.faults sink.new) result }
 {
-    if size < 10 {
-        text.extend_from_slice(&[b' ', b'0' + size, b' '])?;
-        return Ok(());
+    if bytes.len() > PAGE {
+        return print_long(sink, page, bytes);
     }
-    text.push(b' ')?;
-    push_number(text, size)?;
-    text.push(b' ')?;
+    make_room(sink, page, bytes.len())?;
+    page.push(bytes);
     Ok(())
 }
 
-fn push_relocation(text: &mut Vec<u8>, reloc: &DwarfSectionReloc) -> Result<(), AllocError>
-    ensures { OnOk result (text.new.items ≡ text.old.items ++ printed_relocation (relocation_view reloc.now)) }
+// Prints what no page has room for.
+fn print_long<K: Sink>(sink: &mut K, page: &mut Page, bytes: &[u8]) -> Result<(), Failed>
+    ensures text { Prints (K.written sink.old) page.old (K.written sink.new) page.new bytes.now result }
+    ensures cause { HasCause (K.faults sink.old) (K.faults sink.new) result }
 {
-    text.extend_from_slice(b"reloc ")?;
-    push_number(text, reloc.offset)?;
-    push_size(text, reloc.size)?;
-    push_target(text, reloc.target)?;
-    text.push(b' ')?;
-    push_number(text, reloc.addend)?;
-    text.push(b'\n')?;
-    Ok(())
+    flush(sink, page)?;
+    write_all(sink, bytes)
 }
 
-// The bytes in lower-case hexadecimal.
-fn push_hex(text: &mut Vec<u8>, bytes: &[u8]) -> Result<(), AllocError>
-    ensures { OnOk result (text.new.items ≡ text.old.items ++ encode_lower bytes.now) }
+// Prints a line with a name between two parts.
+fn print_named<K: Sink>(
+    sink: &mut K,
+    page: &mut Page,
+    head: &[u8],
+    name: &str,
+    tail: &[u8],
+) -> Result<(), Failed>
+    ensures text { Prints (K.written sink.old) page.old (K.written sink.new) page.new (head.now ++ (name.now ++ tail.now)) result }
+    ensures cause { HasCause (K.faults sink.old) (K.faults sink.new) result }
 {
-    let mut digits = [0; 2 * PIECE];
+    print_bytes(sink, page, head)?;
+    print_bytes(sink, page, name.as_bytes())?;
+    print_bytes(sink, page, tail)
+}
+
+// Prints some bytes in lower-case hexadecimal.
+fn print_hex<K: Sink>(sink: &mut K, page: &mut Page, bytes: &[u8]) -> Result<(), Failed>
+    ensures text { Prints (K.written sink.old) page.old (K.written sink.new) page.new (encode_lower bytes.now) result }
+    ensures cause { HasCause (K.faults sink.old) (K.faults sink.new) result }
+{
     let mut rest = bytes;
     while !rest.is_empty() {
         let (piece, later) = rest.split_at(rest.len().min(PIECE));
-        let digits = &mut digits[..2 * piece.len()];
-        hex::encode_to_slice(piece, digits).unwrap();
-        text.extend_from_slice(digits)?;
+        make_room(sink, page, 2 * piece.len())?;
+        page.push_hex(piece);
         rest = later;
     }
     Ok(())
 }
 
-fn push_relocations(text: &mut Vec<u8>, relocs: &[DwarfSectionReloc]) -> Result<(), AllocError>
-    ensures { OnOk result (text.new.items
-        ≡ text.old.items ++ flat_map printed_relocation (map relocation_view relocs.now)) }
+// Prints the line of a relocation that refers to a function.
+fn print_to_function<K: Sink>(
+    sink: &mut K,
+    page: &mut Page,
+    reloc: &DwarfSectionReloc,
+    number: usize,
+) -> Result<(), Failed>
+    ensures text { Prints (K.written sink.old) page.old (K.written sink.new) page.new (codes "reloc " ++ decimal reloc.now.offset ++ space ++ decimal reloc.now.size ++ space ++ (codes "func " ++ decimal number) ++ space ++ signed_decimal reloc.now.addend ++ line_feed) result }
+    ensures cause { HasCause (K.faults sink.old) (K.faults sink.new) result }
+{
+    let mut line = [0; LINE];
+    let tail = end_line(reloc.addend, &mut line);
+    let target = number_before(number as u64, &mut line, tail);
+    let kind = bytes_before(b"func ", &mut line, target);
+    let start = begin_line(reloc, &mut line, kind);
+    print_bytes(sink, page, text_from(&line, start))
+}
+
+// Prints the line of a relocation that refers to a section.
+fn print_to_section<K: Sink>(
+    sink: &mut K,
+    page: &mut Page,
+    reloc: &DwarfSectionReloc,
+    name: &str,
+) -> Result<(), Failed>
+    ensures text { Prints (K.written sink.old) page.old (K.written sink.new) page.new (codes "reloc " ++ decimal reloc.now.offset ++ space ++ decimal reloc.now.size ++ space ++ (codes "section " ++ name.now) ++ space ++ signed_decimal reloc.now.addend ++ line_feed) result }
+    ensures cause { HasCause (K.faults sink.old) (K.faults sink.new) result }
+{
+    let mut line = [0; LINE];
+    let tail = end_line(reloc.addend, &mut line);
+    let mut head = [0; LINE];
+    let kind = bytes_before(b"section ", &mut head, LINE);
+    let start = begin_line(reloc, &mut head, kind);
+    let front = text_from(&head, start);
+    let back = text_from(&line, tail);
+    print_named(sink, page, front, name, back)
+}
+
+// Prints the line of a relocation.
+fn print_relocation<K: Sink>(
+    sink: &mut K,
+    page: &mut Page,
+    reloc: &DwarfSectionReloc,
+) -> Result<(), Failed>
+    ensures text { Prints (K.written sink.old) page.old (K.written sink.new) page.new (printed_relocation (relocation_view reloc.now)) result }
+    ensures cause { HasCause (K.faults sink.old) (K.faults sink.new) result }
+{
+    match reloc.target {
+        DwarfSectionRelocTarget::Func(number) => print_to_function(sink, page, reloc, number),
+        DwarfSectionRelocTarget::Section(name) => print_to_section(sink, page, reloc, name),
+    }
+}
+
+fn print_relocations<K: Sink>(
+    sink: &mut K,
+    page: &mut Page,
+    relocs: &[DwarfSectionReloc],
+) -> Result<(), Failed>
+    ensures text { Prints (K.written sink.old) page.old (K.written sink.new) page.new (flat_map printed_relocation (map relocation_view relocs.now)) result }
+    ensures cause { HasCause (K.faults sink.old) (K.faults sink.new) result }
 {
     for reloc in relocs {
-        push_relocation(text, reloc)?;
+        print_relocation(sink, page, reloc)?;
     }
     Ok(())
 }
 
-// The line of a section and its body.
-fn push_body(text: &mut Vec<u8>, section: &DwarfSection) -> Result<(), AllocError>
-    ensures { OnOk result (text.new.items ++ flat_map printed_relocation (map relocation_view section.now.relocs.items) ≡ text.old.items ++ printed_section (section_view section.now)) }
+// Prints the line of a section and its body.
+fn print_body<K: Sink>(sink: &mut K, page: &mut Page, name: &str, body: &[u8]) -> Result<(), Failed>
+    ensures text { Prints (K.written sink.old) page.old (K.written sink.new) page.new (codes "section " ++ (name.now ++ (space ++ (decimal (length body.now) ++ (line_feed ++ (encode_lower body.now ++ line_feed)))))) result }
+    ensures cause { HasCause (K.faults sink.old) (K.faults sink.new) result }
 {
-    text.extend_from_slice(b"section ")?;
-    text.extend_from_slice(section.name.as_bytes())?;
-    text.push(b' ')?;
-    push_number(text, section.body.len())?;
-    text.push(b'\n')?;
-    push_hex(text, &section.body)?;
-    text.push(b'\n')?;
-    Ok(())
+    let mut line = [0; LINE];
+    let end = end_section_line(body.len(), &mut line);
+    print_named(sink, page, b"section ", name, text_from(&line, end))?;
+    print_hex(sink, page, body)?;
+    print_bytes(sink, page, b"\n")
 }
 
-// The text of a section without its relocations, in a buffer that is made once.
-fn body_text(alloc: Global, section: &DwarfSection) -> Result<Vec<u8>, AllocError>
-    ensures { IfOk result (λ text. text.items ++ flat_map printed_relocation (map relocation_view section.now.relocs.items) ≡ printed_section (section_view section.now)) }
+fn print_section<K: Sink>(
+    sink: &mut K,
+    page: &mut Page,
+    section: &DwarfSection,
+) -> Result<(), Failed>
+    ensures text { Prints (K.written sink.old) page.old (K.written sink.new) page.new (printed_section (section_view section.now)) result }
+    ensures cause { HasCause (K.faults sink.old) (K.faults sink.new) result }
 {
-    let size = section.body.len().saturating_mul(2);
-    let mut text = Vec::with_capacity(alloc, size.saturating_add(SECTION_LINE))?;
-    push_body(&mut text, section)?;
-    Ok(text)
+    print_body(sink, page, section.name, &section.body)?;
+    print_relocations(sink, page, &section.relocs)
 }
 
-// The text of relocations, in a buffer that is seldom made anew.
-fn relocations_text(alloc: Global, relocs: &[DwarfSectionReloc]) -> Result<Vec<u8>, AllocError>
-    ensures { IfOk result (λ text. text.items ≡ flat_map printed_relocation (map relocation_view relocs.now)) }
-{
-    let size = relocs.len().saturating_mul(RELOCATION_LINE);
-    let mut text = Vec::with_capacity(alloc, size)?;
-    push_relocations(&mut text, relocs)?;
-    Ok(text)
-}
-
-/// The printed text of some sections, in pieces: as [`printed`], but no piece is longer than the text of a section, so that memory that was
-/// let go is found for it.
-///
-/// # Errors
-///
-/// `AllocError` for want of memory alone.
-#[tactic(auto, unfolding(crate::specs::Printed::printed))]
-pub(crate) fn printed_pieces(
-    alloc: Global,
+fn print_each<K: Sink>(
+    sink: &mut K,
+    page: &mut Page,
     sections: &[DwarfSection],
-) -> Result<Vec<Vec<u8>>, AllocError>
-    ensures { IfOk result (λ pieces. flat_map (λ piece. piece.items) pieces.items ≡ printed (map section_view sections.now)) }
+) -> Result<(), Failed>
+    ensures text { Prints (K.written sink.old) page.old (K.written sink.new) page.new (flat_map printed_section (map section_view sections.now)) result }
+    ensures cause { HasCause (K.faults sink.old) (K.faults sink.new) result }
 {
-    let mut pieces = Vec::new(alloc);
     for section in sections {
-        let body = body_text(alloc, section)?;
-        pieces.push(body)?;
-        let relocations = relocations_text(alloc, &section.relocs)?;
-        pieces.push(relocations)?;
+        print_section(sink, page, section)?;
     }
-    Ok(pieces)
+    Ok(())
+}
+
+/// Prints some sections, one behind another: a line `section NAME LENGTH`, the body in lower-case hexadecimal on a line, and a line
+/// `reloc OFFSET SIZE func N ADDEND` or `reloc OFFSET SIZE section NAME ADDEND` for each relocation. No memory is wanted. Where the sink
+/// fails, a front of the text was taken.
+pub(crate) fn print_sections<K: Sink>(sink: &mut K, sections: &[DwarfSection]) -> Result<(), Failed>
+    ensures whole { OnOk result (Appended (K.written sink.old) (K.written sink.new) (printed (map section_view sections.now))) }
+    ensures front { OnErr result (AppendsFront (K.written sink.old) (K.written sink.new) (printed (map section_view sections.now))) }
+    ensures cause { HasCause (K.faults sink.old) (K.faults sink.new) result }
+{
+    let mut page = Page::new();
+    print_each(sink, &mut page, sections)?;
+    flush(sink, &mut page)
 }
 
 /// The printed text of some sections, one behind another: a line `section NAME LENGTH`, the body in lower-case hexadecimal
@@ -168,14 +232,39 @@ pub fn printed(alloc: Global, sections: &[DwarfSection]) -> Result<Vec<u8>, Allo
 }
 
 // The text of sections, one behind another.
-#[tactic(auto, unfolding(crate::specs::Printed::printed))]
 fn joined_text(alloc: Global, sections: &[DwarfSection]) -> Result<Vec<u8>, AllocError>
     ensures { IfOk result (λ text. text.items ≡ printed (map section_view sections.now)) }
 {
-    let mut text = Vec::new(alloc);
-    for section in sections {
-        push_body(&mut text, section)?;
-        push_relocations(&mut text, &section.relocs)?;
+    let mut kept = KeptText {
+        text: Vec::new(alloc),
+        faults: 0,
+    };
+    match print_sections(&mut kept, sections) {
+        Ok(()) => Ok(kept.text),
+        Err(Failed) => Err(AllocError),
     }
-    Ok(text)
+}
+
+// A sink that keeps all that it takes, and fails for want of memory.
+#[derive(Drop)]
+struct KeptText {
+    text: Vec<u8>,
+    faults: u64,
+}
+
+impl Sink for KeptText {
+    ghost written = { λ s. Some s.text.items };
+
+    ghost faults = { λ s. s.faults };
+
+    fn write(&mut self, bytes: &[u8]) -> Result<usize, Failed>
+        ensures bytes { Accepts (Some self.old.text.items) (Some self.new.text.items) bytes.now result }
+        ensures cause { HasCause self.old.faults self.new.faults result }
+    {
+        if self.text.extend_from_slice(bytes).is_err() {
+            self.faults = self.faults.saturating_add(1);
+            return Err(Failed);
+        }
+        Ok(bytes.len())
+    }
 }

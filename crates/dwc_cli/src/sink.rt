@@ -1,6 +1,5 @@
 //! Where a run writes to.
 ghost use Rattle.std.specs.Prelude.{◌≡◌, ℕ, List, Option, OnOk, OnErr};
-ghost use Rattle.std.specs.List.{flat_map};
 ghost use Rattle.dwc_cli.specs.Devices.{HasCause, Accepts};
 ghost use Rattle.dwc_cli.specs.RunStatus.{Appended};
 ghost use Rattle.dwc_cli.specs.Edge.{AppendsFront};
@@ -31,18 +30,6 @@ pub(crate) fn write_all<K: Sink>(sink: &mut K, bytes: &[u8]) -> Result<(), Faile
     let mut sent = 0;
     while sent < bytes.len() {
         sent += sink.write(&bytes[sent..])?;
-    }
-    Ok(())
-}
-
-/// Writes all of some pieces of a text, one behind another. Where the sink fails, a front of the text was taken.
-pub(crate) fn write_pieces<K: Sink>(sink: &mut K, pieces: &[Vec<u8>]) -> Result<(), Failed>
-    ensures whole { OnOk result (Appended (K.written sink.old) (K.written sink.new) (flat_map (λ piece. piece.items) pieces.now)) }
-    ensures front { OnErr result (AppendsFront (K.written sink.old) (K.written sink.new) (flat_map (λ piece. piece.items) pieces.now)) }
-    ensures cause { HasCause (K.faults sink.old) (K.faults sink.new) result }
-{
-    for piece in pieces {
-        write_all(sink, piece)?;
     }
     Ok(())
 }

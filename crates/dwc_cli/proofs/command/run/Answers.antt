@@ -1,8 +1,9 @@
 use Rattle.std.proofs.Common.{[], ◌∷◌, map, string_bytes, refl, sym, subst, arith}
-use Rattle.std.specs.List.{flat_map}
+use Rattle.dwc_base.specs.Outputs.{section_view}
 use Rattle.dwc_cli.specs.Edge.{paths_view}
 use Rattle.dwc_cli.specs.RunStatus.{InputCauses, run_statuses, IsStatus, IsOneOf}
 use Rattle.dwc_cli.specs.Failures.{failure_status, failure_message, usage_message, write_message}
+use Rattle.dwc_cli.specs.Printed.{printed}
 use Rattle.dwc_cli.specs.Answers.{IsMessage, reading_statuses, text_statuses}
 use Rattle.dwc_cli.proofs.Statuses.{IsOneOf-from, IsOneOf-more, IsOneOf-other}
 use Rattle.dwc_cli.proofs.Messages.{IsMessage-usage, IsMessage-reading, IsMessage-text, IsMessage-write}
@@ -32,55 +33,55 @@ returns-in-Err-clause-complete g c = λ well.
     let said = only_memory files words (paths_view c.in-Some.paths) _ _ _ _ (failure_status c.in-Err.failure) (sym c.in-Some.ensures) c.in-Err.ensures.status c.in-Err.ensures.long_file c.in-Err.ensures.read_fault well in
     subst (IsOneOf (0 ∷ 9 ∷ [])) (sym c.refuse-in-Err.ensures.status) said
 
-pub returns-in-Err-text_of-clause-missing : goal.returns-in-Err-text_of-clause-missing
-returns-in-Err-text_of-clause-missing g c =
+pub returns-in-Err-sections_of-clause-missing : goal.returns-in-Err-sections_of-clause-missing
+returns-in-Err-sections_of-clause-missing g c =
     let files = g.S.Source.files c.args.source.now in
     let words = map string_bytes c.args.words.now in
     let read = c.in-Ok.ensures.input in
     MissingCause-read files words (paths_view c.in-Some.paths) read.0 _ (sym c.in-Some.ensures) read.2
 
-pub returns-in-Err-text_of-clause-input : goal.returns-in-Err-text_of-clause-input
-returns-in-Err-text_of-clause-input g c =
+pub returns-in-Err-sections_of-clause-input : goal.returns-in-Err-sections_of-clause-input
+returns-in-Err-sections_of-clause-input g c =
     let files = g.S.Source.files c.args.source.now in
     let words = map string_bytes c.args.words.now in
     let read = c.in-Ok.ensures.input in
-    let status = failure_status c.in-Err-text_of.failure in
-    let not_long = IsOneOf-other text_statuses status 4 c.in-Err-text_of.ensures.status refl in
-    let said = InputCauses-text files words (paths_view c.in-Some.paths) read.0 status (sym c.in-Some.ensures) read.2 (c.in-Err-text_of.ensures.causes read.0 read.1) not_long in
-    subst (InputCauses files words) (sym c.refuse-in-Err-text_of.ensures.status) said
+    let status = failure_status c.in-Err-sections_of.failure in
+    let not_long = IsOneOf-other text_statuses status 4 c.in-Err-sections_of.ensures.status refl in
+    let said = InputCauses-text files words (paths_view c.in-Some.paths) read.0 status (sym c.in-Some.ensures) read.2 (c.in-Err-sections_of.ensures.causes read.0 read.1) not_long in
+    subst (InputCauses files words) (sym c.refuse-in-Err-sections_of.ensures.status) said
 
-pub returns-in-Err-text_of-clause-status : goal.returns-in-Err-text_of-clause-status
-returns-in-Err-text_of-clause-status g c =
-    subst IsStatus (sym c.refuse-in-Err-text_of.ensures.status) (IsOneOf-more text_statuses run_statuses (failure_status c.in-Err-text_of.failure) refl c.in-Err-text_of.ensures.status)
+pub returns-in-Err-sections_of-clause-status : goal.returns-in-Err-sections_of-clause-status
+returns-in-Err-sections_of-clause-status g c =
+    subst IsStatus (sym c.refuse-in-Err-sections_of.ensures.status) (IsOneOf-more text_statuses run_statuses (failure_status c.in-Err-sections_of.failure) refl c.in-Err-sections_of.ensures.status)
 
-pub returns-in-Err-text_of-clause-complete : goal.returns-in-Err-text_of-clause-complete
-returns-in-Err-text_of-clause-complete g c = λ well.
+pub returns-in-Err-sections_of-clause-complete : goal.returns-in-Err-sections_of-clause-complete
+returns-in-Err-sections_of-clause-complete g c = λ well.
     let files = g.S.Source.files c.args.source.now in
     let words = map string_bytes c.args.words.now in
     let read = c.in-Ok.ensures.input in
-    let said = complete_read files words (paths_view c.in-Some.paths) read.0 _ _ _ _ (failure_status c.in-Err-text_of.failure) (sym c.in-Some.ensures) read.2 (c.in-Err-text_of.ensures.complete read.0 read.1) well in
-    subst (IsOneOf (0 ∷ 9 ∷ [])) (sym c.refuse-in-Err-text_of.ensures.status) said
+    let said = complete_read files words (paths_view c.in-Some.paths) read.0 _ _ _ _ (failure_status c.in-Err-sections_of.failure) (sym c.in-Some.ensures) read.2 (c.in-Err-sections_of.ensures.complete read.0 read.1) well in
+    subst (IsOneOf (0 ∷ 9 ∷ [])) (sym c.refuse-in-Err-sections_of.ensures.status) said
 
-pub returns-in-Ok-write_pieces-clause-carried : goal.returns-in-Ok-write_pieces-clause-carried
-returns-in-Ok-write_pieces-clause-carried g c = λ _.
+pub returns-in-Ok-print_sections-clause-carried : goal.returns-in-Ok-print_sections-clause-carried
+returns-in-Ok-print_sections-clause-carried g c = λ _.
     let files = g.S.Source.files c.args.source.now in
     let words = map string_bytes c.args.words.now in
     let read = c.in-Ok.ensures.input in
-    Succeeds-read files words (paths_view c.in-Some.paths) read.0 (flat_map (λ piece. piece.items) c.in-Ok-text_of.text.items) _ _ (sym c.in-Some.ensures) read.2 (c.in-Ok-text_of.ensures.carried read.0 read.1) (rw c.deref.ensures.value at c.in-Ok-write_pieces.ensures.whole)
+    Succeeds-read files words (paths_view c.in-Some.paths) read.0 (printed (map section_view c.in-Ok-sections_of.sections.items)) _ _ (sym c.in-Some.ensures) read.2 (c.in-Ok-sections_of.ensures.carried read.0 read.1) (rw c.deref.ensures.value at c.in-Ok-print_sections.ensures.whole)
 
-pub returns-in-Ok-write_pieces-clause-missing : goal.returns-in-Ok-write_pieces-clause-missing
-returns-in-Ok-write_pieces-clause-missing g c =
+pub returns-in-Ok-print_sections-clause-missing : goal.returns-in-Ok-print_sections-clause-missing
+returns-in-Ok-print_sections-clause-missing g c =
     let files = g.S.Source.files c.args.source.now in
     let words = map string_bytes c.args.words.now in
     let read = c.in-Ok.ensures.input in
     MissingCause-read files words (paths_view c.in-Some.paths) read.0 _ (sym c.in-Some.ensures) read.2
 
-pub returns-in-Ok-write_pieces-clause-input : goal.returns-in-Ok-write_pieces-clause-input
-returns-in-Ok-write_pieces-clause-input g c =
+pub returns-in-Ok-print_sections-clause-input : goal.returns-in-Ok-print_sections-clause-input
+returns-in-Ok-print_sections-clause-input g c =
     let files = g.S.Source.files c.args.source.now in
     let words = map string_bytes c.args.words.now in
     let read = c.in-Ok.ensures.input in
-    let said = InputCauses-text files words (paths_view c.in-Some.paths) read.0 0 (sym c.in-Some.ensures) read.2 (c.in-Ok-text_of.ensures.causes read.0 read.1) (λ e. omega (arith, e)) in
+    let said = InputCauses-text files words (paths_view c.in-Some.paths) read.0 0 (sym c.in-Some.ensures) read.2 (c.in-Ok-sections_of.ensures.causes read.0 read.1) (λ e. omega (arith, e)) in
     subst (InputCauses files words) (sym c.code.ensures) said
 
 pub returns-clause-missing : goal.returns-clause-missing
@@ -95,19 +96,19 @@ returns-clause-input g c =
     let files = g.S.Source.files c.args.source.now in
     let words = map string_bytes c.args.words.now in
     let read = c.in-Ok.ensures.input in
-    let said = InputCauses-text files words (paths_view c.in-Some.paths) read.0 8 (sym c.in-Some.ensures) read.2 (TextCauses-write read.0 (c.in-Ok-text_of.ensures.causes read.0 read.1)) (λ e. omega (arith, e)) in
-    subst (InputCauses files words) (sym c.refuse-in-Err-write_pieces.ensures.status) said
+    let said = InputCauses-text files words (paths_view c.in-Some.paths) read.0 8 (sym c.in-Some.ensures) read.2 (TextCauses-write read.0 (c.in-Ok-sections_of.ensures.causes read.0 read.1)) (λ e. omega (arith, e)) in
+    subst (InputCauses files words) (sym c.refuse-in-Err-print_sections.ensures.status) said
 
 pub returns-clause-front : goal.returns-clause-front
 returns-clause-front g c = λ _.
     let files = g.S.Source.files c.args.source.now in
     let words = map string_bytes c.args.words.now in
     let read = c.in-Ok.ensures.input in
-    PrefixWritten-read files words (paths_view c.in-Some.paths) read.0 (flat_map (λ piece. piece.items) c.in-Ok-text_of.text.items) _ _ (sym c.in-Some.ensures) read.2 (c.in-Ok-text_of.ensures.carried read.0 read.1) (rw c.deref.ensures.value at c.in-Err-write_pieces.ensures.front)
+    PrefixWritten-read files words (paths_view c.in-Some.paths) read.0 (printed (map section_view c.in-Ok-sections_of.sections.items)) _ _ (sym c.in-Some.ensures) read.2 (c.in-Ok-sections_of.ensures.carried read.0 read.1) (rw c.deref.ensures.value at c.in-Err-print_sections.ensures.front)
 
 pub returns-clause-status : goal.returns-clause-status
 returns-clause-status g c =
-    subst IsStatus (sym c.refuse-in-Err-write_pieces.ensures.status) (IsOneOf-from run_statuses 8 refl)
+    subst IsStatus (sym c.refuse-in-Err-print_sections.ensures.status) (IsOneOf-from run_statuses 8 refl)
 
 pub returns-in-Err-clause-said : goal.returns-in-Err-clause-said
 returns-in-Err-clause-said g c = λ _.
@@ -116,14 +117,14 @@ returns-in-Err-clause-said g c = λ _.
     let says = IsMessage-reading words (paths_view c.in-Some.paths) c.in-Err.failure (sym c.in-Some.ensures) c.refuse-in-Err.ensures.one_line c.in-Err.ensures.status c.in-Err.ensures.fault_told c.in-Err.ensures.length_told in
     (message, subst (λ s. IsMessage words s message) (sym c.refuse-in-Err.ensures.status) says, c.refuse-in-Err.ensures.said)
 
-pub returns-in-Err-text_of-clause-said : goal.returns-in-Err-text_of-clause-said
-returns-in-Err-text_of-clause-said g c = λ _.
+pub returns-in-Err-sections_of-clause-said : goal.returns-in-Err-sections_of-clause-said
+returns-in-Err-sections_of-clause-said g c = λ _.
     let words = map string_bytes c.args.words.now in
-    let message = failure_message c.in-Err-text_of.failure in
-    let says = IsMessage-text words c.in-Err-text_of.failure c.refuse-in-Err-text_of.ensures.one_line c.in-Err-text_of.ensures.status in
-    (message, subst (λ s. IsMessage words s message) (sym c.refuse-in-Err-text_of.ensures.status) says, c.refuse-in-Err-text_of.ensures.said)
+    let message = failure_message c.in-Err-sections_of.failure in
+    let says = IsMessage-text words c.in-Err-sections_of.failure c.refuse-in-Err-sections_of.ensures.one_line c.in-Err-sections_of.ensures.status in
+    (message, subst (λ s. IsMessage words s message) (sym c.refuse-in-Err-sections_of.ensures.status) says, c.refuse-in-Err-sections_of.ensures.said)
 
 pub returns-clause-said : goal.returns-clause-said
 returns-clause-said g c = λ _.
     let words = map string_bytes c.args.words.now in
-    (write_message, subst (λ s. IsMessage words s write_message) (sym c.refuse-in-Err-write_pieces.ensures.status) (IsMessage-write words), c.refuse-in-Err-write_pieces.ensures.said)
+    (write_message, subst (λ s. IsMessage words s write_message) (sym c.refuse-in-Err-print_sections.ensures.status) (IsMessage-write words), c.refuse-in-Err-print_sections.ensures.said)

@@ -1,17 +1,16 @@
 use Rattle.std.proofs.Common.{map, Ok, refl, sym, ap, ◌∙◌, subst}
 use Rattle.std.specs.Prelude.{option_map}
-use Rattle.std.specs.List.{flat_map}
 use Rattle.std.proofs.lemmas.Result.{err_from_is_err_and}
 use Rattle.dwc_base.specs.Outputs.{section_view}
 use Rattle.dwc_map.specs.MapViews.{map_file_view}
 use Rattle.dwc_map.proofs.MapFits.{map-of_bytes}
 use Rattle.dwc_cli.specs.Failures.{failure_status}
 use Rattle.dwc_cli.specs.Inputs.{Input, Loaded}
-use Rattle.dwc_cli.specs.Answers.{IsInputOf, IsBroken, TranslatesFiles, IsReadAs, IsTextStatus, text_statuses}
+use Rattle.dwc_cli.specs.Answers.{IsInputOf, IsBroken, TranslatesFiles, IsReadAs, IsTextStatus}
+use Rattle.dwc_cli.specs.Printed.{printed}
 use Rattle.dwc_cli.proofs.PathLaws.{sorted-whole}
-use Rattle.dwc_cli.proofs.Statuses.{IsOneOf-from}
-use Rattle.dwc_cli.proofs.TextExits.{Refuses, Refuses-memory, Refuses-broken, Refuses-no_map, Refuses-cause, broken-status, cause-text_status, Gives, Gives-emitted, was_read, none_from}
-use Rattle.dwc_cli.proofs.answer.text_of.Goals as goal
+use Rattle.dwc_cli.proofs.TextExits.{Refuses, Refuses-broken, Refuses-no_map, Refuses-cause, broken-status, cause-text_status, Gives, Gives-emitted, was_read, none_from}
+use Rattle.dwc_cli.proofs.answer.sections_of.Goals as goal
 
 -- ---- a module is refused
 
@@ -95,32 +94,16 @@ returns-in_err-sections-clause-complete c = λ input is.
     let p = err_from_is_err_and c.from_residual-in_err-sections.result c.from_residual-in_err-sections.ensures.1 in
     rw (p.1, p.2) (sections_refused c input is).complete
 
--- ---- the text
+-- ---- the sections are emitted
 
-pub returns-in_err-printed_pieces-clause-causes : goal.returns-in_err-printed_pieces-clause-causes
-returns-in_err-printed_pieces-clause-causes c = λ input is.
-    let p = err_from_is_err_and c.from_residual-in_err-printed_pieces.result c.from_residual-in_err-printed_pieces.ensures.1 in
-    rw (p.1, p.2) (Refuses-memory input).causes
-
-pub returns-in_err-printed_pieces-clause-status : goal.returns-in_err-printed_pieces-clause-status
-returns-in_err-printed_pieces-clause-status c =
-    let p = err_from_is_err_and c.from_residual-in_err-printed_pieces.result c.from_residual-in_err-printed_pieces.ensures.1 in
-    rw (p.1, p.2) (IsOneOf-from text_statuses 9 refl)
-
-pub returns-in_err-printed_pieces-clause-complete : goal.returns-in_err-printed_pieces-clause-complete
-returns-in_err-printed_pieces-clause-complete c = λ input is.
-    let p = err_from_is_err_and c.from_residual-in_err-printed_pieces.result c.from_residual-in_err-printed_pieces.ensures.1 in
-    rw (p.1, p.2) (Refuses-memory input).complete
-
-text_given : (c : goal.After-drop-modules-2) (input : Input) → IsInputOf c.args.files input → Gives input (flat_map (λ piece. piece.items) c.in_ok-printed_pieces.field-0.items)
+text_given : (c : goal.After-drop-modules-2) (input : Input) → IsInputOf c.args.files input → Gives input (printed (map section_view c.in_ok-sections.sections.items))
 text_given c input is =
     let ts = c.in_ok-translations.translations.items in
     let held = subst (λ ms. TranslatesFiles (map (λ m. m.items) ms) (Ok c.in_ok-translations.translations)) c.deref.ensures.value c.in_ok-translations.ensures in
     let found = subst (λ ms. TranslatesFiles ms (Ok c.in_ok-translations.translations)) is.modules held in
     let seen = ap (option_map map_file_view) (sym c.in-Some.is) ∙ map-of_bytes _ c.args.files.map_file c.map_for.result c.map_for.ensures.value input.map_bytes is.map_is in
     let was = was_read ts c.in-Some.map_file input found (rw (c.deref-2.ensures.value) at seen) in
-    let sections = map section_view c.in_ok-sections.sections.items in
-    rw (c.in_ok-printed_pieces.ensures, c.deref-3.ensures.value) (Gives-emitted input was.read sections was.is_read (c.in_ok-sections.ensures was.read was.read_as))
+    Gives-emitted input was.read (map section_view c.in_ok-sections.sections.items) was.is_read (c.in_ok-sections.ensures was.read was.read_as)
 
 pub returns-clause-carried : goal.returns-clause-carried
 returns-clause-carried c = λ input is. (text_given c input is).carried
