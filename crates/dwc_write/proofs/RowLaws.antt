@@ -8,6 +8,10 @@ use Rattle.std.specs.Prelude.{not, ◌==◌, ◌-◌}
 use Rattle.dwc_write.proofs.ReadNumbers.{uleb_bytes-small}
 use Rattle.dwc_write.proofs.ReadWritten.{rows-bytes-end}
 
+-- three bytes, one after another
+pub three-appended : (before one two now : List ℕ) (a b c : ℕ) → one ≡ before ++ a ∷ [] → two ≡ one ++ b ∷ [] → now ≡ two ++ c ∷ [] → now ≡ before ++ a ∷ b ∷ c ∷ []
+three-appended before one two now a b c first second third = rw (third, second, first) (append_assoc (before ++ a ∷ []) (b ∷ []) (c ∷ []) ∙ append_assoc before (a ∷ []) (b ∷ c ∷ []))
+
 -- an extended instruction whose length is written as one byte
 pub extended-appended : (before now after : List ℕ) (opcode : ℕ) (operands : List ℕ) (n : ℕ) → now ≡ before ++ 0 ∷ n ∷ opcode ∷ [] → after ≡ now ++ operands → n ≡ 1 + length operands → n < 128
     → after ≡ before ++ extended_bytes opcode operands

@@ -6,6 +6,7 @@ mod abbreviations;
 mod additions;
 mod append;
 mod attributes;
+mod digits;
 mod entries;
 mod error;
 mod file_order;

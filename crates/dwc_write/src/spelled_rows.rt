@@ -4,21 +4,16 @@ ghost use Rattle.dwc_base.specs.declared.records.Endian.TheVariants.{Little};
 ghost use Rattle.dwc_write.specs.GivenLines.{last_offset, row_at};
 ghost use Rattle.dwc_write.specs.SpelledLines.{FitsRow, first_row, program_bytes, rows_instructions};
 
-use crate::rows::{FIRST_ROW, put_end, put_row};
+use crate::rows::{FIRST_ROW, WIDEST_END, WIDEST_ROW, put_end, put_row};
 use dwc_base::LineRow;
 use std::alloc::{AllocError, Global};
 use std::marker::Model;
-
-// The most bytes that the end of a sequence has: a step of 5 digits behind its opcode, and the end itself.
-const WIDEST_END: usize = 9;
 
 /// The rows of a sequence that is not ended.
 #[derive(Drop)]
 pub(crate) struct SpelledRows {
     code: Vec<u8>,
     last: LineRow,
-    // Where a row is spelled before it is appended, so that for want of memory no part of it is.
-    buffer: Vec<u8>,
 }
 
 impl Model for SpelledRows {
@@ -42,7 +37,6 @@ impl SpelledRows {
         SpelledRows {
             code: Vec::new(alloc),
             last: FIRST_ROW,
-            buffer: Vec::new(alloc),
         }
     }
 
@@ -62,9 +56,8 @@ impl SpelledRows {
         ensures ok { OnOk result (self.new ≡ self.old ++ row_at offset row.now ∷ []) }
         ensures err { OnErr result (self.new ≡ self.old) }
     {
-        self.buffer.clear();
-        put_row(&mut self.buffer, &self.last, row, offset)?;
-        self.code.extend_from_slice(&self.buffer)?;
+        self.code.reserve(WIDEST_ROW)?;
+        put_row(&mut self.code, &self.last, row, offset);
         self.last = LineRow { offset, ..*row };
         Ok(())
     }

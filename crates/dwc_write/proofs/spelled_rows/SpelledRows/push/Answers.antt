@@ -1,4 +1,4 @@
-use Rattle.std.proofs.Common.{◌∙◌, ◌++◌, ap, arith}
+use Rattle.std.proofs.Common.{ap, arith}
 use Rattle.dwc_write.specs.GivenLines.{last_offset, row_at}
 use Rattle.dwc_write.proofs.ToldLaws.{last-line, last-offset, row-spelled}
 use Rattle.dwc_write.proofs.spelled_rows.SpelledRows.push.Goals as goal
@@ -11,11 +11,9 @@ put_row-requires-clause-offset c = omega (arith, c.requires.behind, last-offset 
 
 pub invariant_of-self-2 : goal.invariant_of-self-2
 invariant_of-self-2 c =
-    let put = c.deref.ensures.value ∙ rw (c.clear.ensures.items) at c.in_ok-put_row.ensures in
-    (row-spelled c.self.inside.code.items _ c.self.inside.last (row_at c.args.offset c.args.row.now) c.self.invariant c.requires.fits (rw (← c.self.view_is) at c.requires.behind) (c.in_ok-extend_from_slice.ensures.items ∙ ap (λ bs. c.self.inside.code.items ++ bs) put)).spelled
+    (row-spelled c.self.inside.code.items _ c.self.inside.last (row_at c.args.offset c.args.row.now) c.self.invariant c.requires.fits (rw (← c.self.view_is) at c.requires.behind) (rw (c.reserve.ensures.items) at c.put_row.ensures)).spelled
 
 pub returns-clause-ok : goal.returns-clause-ok
 returns-clause-ok c =
-    let put = c.deref.ensures.value ∙ rw (c.clear.ensures.items) at c.in_ok-put_row.ensures in
     rw (← c.self.view_is)
-    (row-spelled c.self.inside.code.items _ c.self.inside.last (row_at c.args.offset c.args.row.now) c.self.invariant c.requires.fits (rw (← c.self.view_is) at c.requires.behind) (c.in_ok-extend_from_slice.ensures.items ∙ ap (λ bs. c.self.inside.code.items ++ bs) put)).told
+    (row-spelled c.self.inside.code.items _ c.self.inside.last (row_at c.args.offset c.args.row.now) c.self.invariant c.requires.fits (rw (← c.self.view_is) at c.requires.behind) (rw (c.reserve.ensures.items) at c.put_row.ensures)).told
