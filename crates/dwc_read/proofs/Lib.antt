@@ -6,6 +6,8 @@ pub mod CodeLaws
 pub mod TableLaws
 pub mod AttributeLaws
 pub mod StepLaws
+pub mod LinkLaws
+pub mod LinkValueLaws
 pub mod EntriesLaws
 pub mod LoneLaws
 pub mod IndexedLaws

@@ -17,3 +17,4 @@ pub mod RootValues
 pub mod Bases
 pub mod Lent
 pub mod TextPlaces
+pub mod Links

@@ -87,7 +87,7 @@ pub fn value<'d>(
 // The same in the loop over attributes. Common forms are read in place and the others by a call with a cursor of its own, so that
 // the loop keeps its cursor in registers.
 #[inline(always)]
-fn next_value<'d>(
+pub fn next_value<'d>(
     unit: &Unit<'d>,
     spec: AttributeSpec,
     cursor: &mut Cursor<'d>,

@@ -2,6 +2,7 @@
 ghost use Rattle.std.specs.Prelude.{◌≡◌, pos, ◌≤ℤ◌, []};
 
 use crate::attribute::{attributes, first_of_name};
+use crate::links::links;
 use crate::table::Table;
 use crate::{AttributeValue, Unit};
 use dwc_base::{Cursor, Flaw, NotRead};
@@ -25,6 +26,7 @@ impl<'d> Entry<'d> {
     ghost use Rattle.dwc_base.specs.Cursors.{GivesOrMemory};
     ghost use Rattle.dwc_base.specs.Entries.{attribute, entry_at};
     ghost use Rattle.dwc_read.specs.EntriesSeen.{entry_view, found_view};
+    ghost use Rattle.dwc_read.specs.Links.{linked_entry_at};
     ghost use Rattle.dwc_read.specs.ValuesSeen.{value_view, attribute_view};
 
     // An entry without attributes.
@@ -79,6 +81,34 @@ impl<'d> Entry<'d> {
         self.tag = declaration.tag;
         let specs = declaration.attributes.as_slice();
         attributes(unit, specs, cursor, &mut self.attributes)?;
+        Ok(Some(declaration.has_children))
+    }
+
+    // The same with the links of the entry alone.
+    #[inline(always)]
+    #[tactic(auto, unfolding(crate::specs::Links::linked_entry_at, crate::specs::Links::declared_links_at))]
+    pub fn read_links(
+        &mut self,
+        unit: &Unit<'d>,
+        table: &Table,
+        depth: u32,
+        cursor: &mut Cursor<'d>,
+    ) -> Result<Option<bool>, NotRead>
+        ensures { GivesOrMemory (option_map (found_view self.new)) (linked_entry_at unit.now.sections unit.now.header table.now depth cursor.old) cursor.new result }
+    {
+        let offset = cursor.place() as u64;
+        let code = cursor.uleb()?;
+        if code == 0 {
+            return Ok(None);
+        }
+        let Some(declaration) = table.declaration(code) else {
+            return Err(NotRead::Flawed(Flaw::Malformed));
+        };
+        self.offset = offset;
+        self.depth = i64::from(depth);
+        self.tag = declaration.tag;
+        let specs = declaration.attributes.as_slice();
+        links(unit, specs, cursor, &mut self.attributes)?;
         Ok(Some(declaration.has_children))
     }
 }

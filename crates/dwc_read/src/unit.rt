@@ -10,7 +10,7 @@ use crate::lone::{lone_entry as read_alone, no_entry};
 use crate::table::Table;
 use crate::unit_table::{UnitTable, shared};
 use crate::value_end::entry_end;
-use crate::{AttributeValue, Entries, Entry, ReadFault, Sections, TextPlace};
+use crate::{AttributeValue, Entries, Entry, EntryLinks, ReadFault, Sections, TextPlace};
 use dwc_base::fields::address;
 use dwc_base::{Address, Cursor, Encoding, Endian, Flaw, Relocations, SectionName, What};
 use std::alloc::{AllocError, Global};
@@ -58,6 +58,7 @@ impl<'d> Unit<'d> {
     ghost use Rattle.dwc_base.specs.Entries.{entries as entries_of};
     ghost use Rattle.dwc_read.specs.Faults.{GivesOrFault};
     ghost use Rattle.dwc_read.specs.EntriesSeen.{StartsAt, entry_view};
+    ghost use Rattle.dwc_read.specs.Links.{linked};
     ghost use Rattle.dwc_read.specs.Lone.{lone_entry, unread_from, IsUnread};
     ghost use Rattle.dwc_base.specs.ExpressionPlaces.{value_ends, expression_place};
     ghost use Rattle.std.specs.Prelude.{◌≢◌, Some, Err, option_map, slice_get};
@@ -365,6 +366,16 @@ impl<'d> Unit<'d> {
     {
         let table = self.table()?;
         Ok(Entries::of(alloc, self.again()?, table))
+    }
+
+    /// The entries of the unit, in file order, with their links alone.
+    ///
+    /// Answers `Read` with the table's offset where the unit's abbreviation table cannot be read.
+    pub fn links(&self, alloc: Global) -> Result<EntryLinks<'d>, ReadFault>
+        ensures { StartsAt (linked (entries_of self.now.sections self.now.header)) result }
+    {
+        let table = self.table()?;
+        Ok(EntryLinks::of(alloc, self.again()?, table))
     }
 
     // The unit's version of DWARF.
