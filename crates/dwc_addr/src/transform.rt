@@ -198,8 +198,7 @@ fn function_map(
     ensures { IfOk result (λ f. function_view f ≡ function_of code_section_offset number (address_map_view (symbol, metadata.now))) }
 {
     let map = &metadata.address_map;
-    let addresses = sources(alloc, code_section_offset, &map.instructions)?;
-    let gaps = gaps(alloc, &map.instructions)?;
+    let (addresses, gaps) = sources_and_gaps(alloc, code_section_offset, &map.instructions)?;
     let later_runs = later_runs(alloc, &addresses)?;
     let wasm_start = start_offset(map.start_srcloc, code_section_offset);
     let wasm_end = start_offset(map.end_srcloc, code_section_offset);
@@ -241,43 +240,32 @@ fn start_offset(place: FilePos, code_section_offset: u64) -> WasmAddress
     u64::from(offset).saturating_sub(code_section_offset)
 }
 
-// The entries that have a source.
-fn sources(
+// The entries that have a source, and those that have none.
+fn sources_and_gaps(
     alloc: Global,
     code_section_offset: u64,
     entries: &[InstructionAddressMap],
-) -> Result<Vec<AddressMap>, AllocError>
-    ensures low { IfOk result (λ found. All (λ e. e.generated < 2 ^ 32) found.items) }
-    ensures wasm_low { IfOk result (λ found. All (λ e. e.wasm < 2 ^ 32) found.items) }
-    ensures found { IfOk result (λ found. map recorded_view found.items ≡ filter_map recorded_entry (map (wasm_entry code_section_offset) (map entry_view entries.now))) }
+) -> Result<(Vec<AddressMap>, Vec<Gap>), AllocError>
+    ensures low { IfOk result (λ found. All (λ e. e.generated < 2 ^ 32) found.0.items) }
+    ensures wasm_low { IfOk result (λ found. All (λ e. e.wasm < 2 ^ 32) found.0.items) }
+    ensures gaps_low { IfOk result (λ found. All (λ g. g.generated < 2 ^ 32) found.1.items) }
+    ensures found { IfOk result (λ found. map recorded_view found.0.items ≡ filter_map recorded_entry (map (wasm_entry code_section_offset) (map entry_view entries.now))) }
+    ensures gaps { IfOk result (λ found. found.1.items ≡ gaps_of 0 (map entry_view entries.now)) }
 {
-    let mut found = Vec::with_capacity(alloc, entries.len())?;
-    for entry in entries {
-        if let Some(source) = entry.srcloc.file_offset() {
-            let wasm = u64::from(source).saturating_sub(code_section_offset);
-            let generated = entry.code_offset as usize;
-            found.push(AddressMap { generated, wasm })?;
-        }
-    }
-    Ok(found)
-}
-
-// The entries that have no source.
-fn gaps(alloc: Global, entries: &[InstructionAddressMap]) -> Result<Vec<Gap>, AllocError>
-    ensures low { IfOk result (λ gaps. All (λ g. g.generated < 2 ^ 32) gaps.items) }
-    ensures gaps { IfOk result (λ gaps. gaps.items ≡ gaps_of 0 (map entry_view entries.now)) }
-{
+    let mut sources = Vec::with_capacity(alloc, entries.len())?;
     let mut gaps = Vec::new(alloc);
     let mut before = 0;
     for entry in entries {
-        if entry.srcloc.file_offset().is_some() {
+        let generated = entry.code_offset as usize;
+        if let Some(source) = entry.srcloc.file_offset() {
+            let wasm = u64::from(source).saturating_sub(code_section_offset);
+            sources.push(AddressMap { generated, wasm })?;
             before += 1;
         } else {
-            let generated = entry.code_offset as usize;
             gaps.push(Gap { before, generated })?;
         }
     }
-    Ok(gaps)
+    Ok((sources, gaps))
 }
 
 // The places of the sources that lie below the one before.
