@@ -101,30 +101,6 @@ pub fn write_unit(
     requires shapes { map shape_view layout.now.shapes.keys ≡ first_uses [] (shapes_of (map (looked_up additions.now) layout.now.order.items)) }
     ensures { WritesUnit tables.old tables.new info.old info.new result spelling.now.size spelling.now.lists (spelling_places spelling.now) (map (looked_up additions.now) layout.now.order.items) }
 {
-    let relocations = layout.notes.counts.relocated.saturating_add(1);
-    info.make_room(layout.length, relocations);
-    put_unit(tables, info, scratch, spelling, additions, layout)
-}
-
-// The same, where there is room.
-fn put_unit(
-    tables: &mut WriterRelocate,
-    info: &mut WriterRelocate,
-    scratch: &mut Vec<u8>,
-    spelling: &Spelling<'_>,
-    additions: &Additions,
-    layout: &UnitLayout,
-) -> Result<(), WriteError>
-    requires order { spelling.now.order ≡ info.old.order }
-    requires size { (spelling.now.size ≡ 4) ⊎ (spelling.now.size ≡ 8) }
-    requires short { AreShort (spelling_places spelling.now) }
-    requires fits { All (FitsGivenEntry spelling.now.size) (map (looked_up additions.now) layout.now.order.items) }
-    requires lists { AreWithin (behind_entries spelling.now.size spelling.now.lists (map (looked_up additions.now) layout.now.order.items)) }
-    requires known { All (λ f. f.index < length additions.now) layout.now.order.items }
-    requires codes { layout.now.codes.items ≡ codes_of (map (looked_up additions.now) layout.now.order.items) }
-    requires shapes { map shape_view layout.now.shapes.keys ≡ first_uses [] (shapes_of (map (looked_up additions.now) layout.now.order.items)) }
-    ensures { WritesUnit tables.old tables.new info.old info.new result spelling.now.size spelling.now.lists (spelling_places spelling.now) (map (looked_up additions.now) layout.now.order.items) }
-{
     let place = info.place();
     write_header(info, spelling, tables.place())?;
     write_entries(

@@ -68,6 +68,15 @@ fn add_to(count: &mut usize, more: usize) {
 }
 
 impl Counts {
+    // Adds what is counted of another unit.
+    pub fn add(&mut self, more: &Counts) {
+        add_to(&mut self.relocated, more.relocated);
+        add_to(&mut self.ranges, more.ranges);
+        add_to(&mut self.lists, more.lists);
+        add_to(&mut self.locations, more.locations);
+        add_to(&mut self.held, more.held);
+    }
+
     // The bytes of range lists, whose addresses have so many bytes.
     pub fn range_bytes(&self, size: u8) -> usize {
         self.ranges.saturating_mul(2 * usize::from(size))

@@ -35,6 +35,7 @@ use crate::layout::{UnitLayout, lay_out};
 use crate::list_places::ListPlaces;
 use crate::lists::{ListKind, write_lists};
 use crate::notes::Notes;
+use crate::room::NO_COUNTS;
 use crate::short_lists::are_short_lists;
 use crate::tables::write_lines;
 use crate::text_layout::{lay_out_texts, write_texts};
@@ -182,6 +183,7 @@ fn write_units(
         ranges: WriterRelocate::new(alloc, order, SectionName::Ranges)?,
         locations: WriterRelocate::new(alloc, order, SectionName::Loc)?,
     };
+    make_room(&mut sections, units.as_slice(), layouts);
     let mut scratch = Vec::new(alloc);
     let mut place = 0;
     for unit in units {
@@ -199,7 +201,29 @@ fn write_units(
     Ok(sections)
 }
 
-// A unit with its line table, at a place among others. What is not read again is let go before there is room for more.
+// Makes room for the entries and lists of all units at once, if there is memory for it, so that their sections are not moved while they
+// grow.
+fn make_room(sections: &mut Sections, units: &[Unit], layouts: &[UnitLayout])
+    ensures { sections.new ≡ sections.old }
+{
+    let size = address_size_of(units);
+    let mut counts = NO_COUNTS;
+    let mut length: usize = 0;
+    for layout in layouts {
+        counts.add(&layout.notes.counts);
+        length = length.saturating_add(layout.length);
+    }
+    let relocations = counts.relocated.saturating_add(layouts.len());
+    sections.info.make_room(length, relocations);
+    sections
+        .ranges
+        .make_room(counts.range_bytes(size), counts.range_relocations());
+    sections
+        .locations
+        .make_room(counts.location_bytes(size), counts.location_relocations());
+}
+
+// A unit with its line table, at a place among others. What is not read again is let go.
 fn write_one(
     order: Endian,
     sections: &mut Sections,
@@ -261,26 +285,6 @@ fn write_one(
 
 // The lists of a unit's entries, each kind in its section.
 fn write_unit_lists(
-    ranges: &mut WriterRelocate,
-    locations: &mut WriterRelocate,
-    size: u8,
-    additions: &Additions,
-    notes: &Notes,
-) -> Result<(), WriteError>
-    requires size { (size ≡ 4) ⊎ (size ≡ 8) }
-    requires fits { All (FitsEntry size) (in_file_order additions.now) }
-    requires noted { IsNoting additions.now notes.now (in_file_order additions.now) }
-    requires short { HaveShortLists (in_file_order additions.now) }
-    ensures { WritesLists ranges.old ranges.new locations.old locations.new result (entries_alone size (in_file_order additions.now)) }
-{
-    let counts = notes.counts;
-    ranges.make_room(counts.range_bytes(size), counts.range_relocations());
-    locations.make_room(counts.location_bytes(size), counts.location_relocations());
-    put_unit_lists(ranges, locations, size, additions, notes)
-}
-
-// The same, where there is room.
-fn put_unit_lists(
     ranges: &mut WriterRelocate,
     locations: &mut WriterRelocate,
     size: u8,

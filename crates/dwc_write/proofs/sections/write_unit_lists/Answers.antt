@@ -6,7 +6,7 @@ use Rattle.dwc_write.specs.Lists.{FitsListed, ListEntry}
 use Rattle.dwc_write.proofs.ListsFit.{locations-fit, ranges-fit}
 use Rattle.dwc_write.proofs.NotedLaws.{noted-lists}
 use Rattle.dwc_write.proofs.OutputLaws.{lists-written, ranges-refused}
-use Rattle.dwc_write.proofs.sections.put_unit_lists.Goals as goal
+use Rattle.dwc_write.proofs.sections.write_unit_lists.Goals as goal
 
 pub write_lists-requires-clause-fits : goal.write_lists-requires-clause-fits
 write_lists-requires-clause-fits c =

@@ -8,7 +8,7 @@ use Rattle.dwc_write.specs.SpelledOutput.{unit_of}
 use Rattle.dwc_write.proofs.EntriesLaws.{uses-plain}
 use Rattle.dwc_write.proofs.UnitBytes.{front, header-length, unit-length, unit-clear, unit-appended}
 use Rattle.dwc_write.proofs.OutputLaws.{info-refused, info-refused-later, unit-result}
-use Rattle.dwc_write.proofs.entries.put_unit.Goals as goal
+use Rattle.dwc_write.proofs.entries.write_unit.Goals as goal
 
 pub finish_length-requires-clause-clear : goal.finish_length-requires-clause-clear
 finish_length-requires-clause-clear c =
