@@ -11,6 +11,7 @@ pub mod OffsetLaws
 pub mod KeptOffsets
 pub mod LastLaws
 pub mod ReadLaws
+pub mod LinkedLaws
 pub mod RangeCodeLaws
 pub mod StandingLaws
 pub mod GraphLaws

@@ -16,12 +16,12 @@ use crate::graph::EntryGraph;
 use crate::read_unit::{ReadUnit, RootEntry, is_compile_unit, root_or, table_named};
 use crate::reading::{Reading, add_entry, none_read};
 use dwc_addr::AddressTransform;
-use dwc_read::{Entries, ReadFault, Unit, Units};
+use dwc_read::{EntryLinks, ReadFault, Unit, Units};
 use std::alloc::Global;
 
 // Adds the entries of a unit that are still to come, and answers what the first says.
 fn add_entries(
-    entries: &mut Entries<'_>,
+    entries: &mut EntryLinks<'_>,
     transform: &AddressTransform,
     unit: &Unit<'_>,
     reading: &mut Reading,
@@ -56,7 +56,7 @@ fn add_unit(
     requires rise { RiseIn unit.now.header.offset unit.now.header.end (entries_of unit.now.sections unit.now.header).items }
     ensures { ReadsOrTells (λ root. HasRead (with_entries_read (is_required transform.now unit.now.sections unit.now.header) unit.now.header (entries_of unit.now.sections unit.now.header).items (reading_view reading.old)) unit.now.header.end (reading_view reading.new) × (root ≡ first_said (entries_of unit.now.sections unit.now.header).items)) (first_of (listing_faults (named_faults unit.now.sections unit.now.header) (entries_of unit.now.sections unit.now.header))) result }
 {
-    let mut entries = unit.entries(alloc)?;
+    let mut entries = unit.links(alloc)?;
     add_entries(&mut entries, transform, unit, reading)
 }
 
