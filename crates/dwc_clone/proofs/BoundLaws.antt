@@ -1,7 +1,10 @@
 -- What is refused of bounds.
-use Rattle.std.proofs.Common.{◌≡◌, subst, ℕ, refl, sym, ap, ap₂, ◌∙◌, List, Bool, true, false, Option, Some, None, Result, Ok, Err}
+use Rattle.std.proofs.Common.{◌≡◌, ◌≢◌, ◌<◌, ◌+◌, subst, ℕ, refl, sym, ap, ap₂, ◌∙◌, List, drop, get_or, length, map, take, Bool, true, false, Option, Some, None, Result, Ok, Err}
 use Rattle.std.specs.Prelude.{not, ◌&&◌, ◌||◌, ◌==◌, if◌then◌else◌, option_map}
 use Rattle.std.specs.Option.{option_or}
+use Rattle.std.proofs.lemmas.Bool.{eq-eqb, ne_eqb}
+use Rattle.std.proofs.lemmas.List.{drop_more, get_or-map, length-map, take-map}
+use Rattle.std.proofs.lemmas.List.Folds.{list_any_at}
 use Rattle.dwc_base.specs.declared.records.Address.{Address}
 use Rattle.dwc_base.specs.declared.section_name.SectionName.{SectionName}
 use Rattle.dwc_base.specs.declared.section_name.SectionName.TheVariants.{Info}
@@ -28,12 +31,12 @@ use Rattle.dwc_base.specs.RangeRefusals.{begins_by_low_pc, bound_refusal, extent
 use Rattle.dwc_base.specs.EntryRules.{bound_value_refused, of_list}
 use Rattle.dwc_base.specs.Clones.{UnitSource, bound_becomes, nothing_unless, text_drafted}
 use Rattle.dwc_clif.specs.Registers.{Registers}
+use Rattle.dwc_read.specs.ValuesSeen.{attribute_view}
+use Rattle.dwc_read.specs.declared.value.AttributeValue.{AttributeValue as InputValue}
 use Rattle.dwc_read.specs.Bases.{address_of_value}
 use Rattle.dwc_read.specs.Faults.{Refuses, fault_at}
-use Rattle.dwc_clone.specs.declared.bounds.AttributesSeen.{AttributesSeen}
 use Rattle.dwc_clone.specs.declared.error.CloneError.{CloneError}
 use Rattle.dwc_clone.specs.declared.source.CloneSource.{CloneSource}
-use Rattle.dwc_clone.specs.AttributesSeen.{seen_among}
 use Rattle.dwc_clone.specs.ClonedUnits.{clone_rules, source_with}
 use Rattle.dwc_clone.specs.Errors.{refusal_told}
 use Rattle.dwc_clone.specs.MadeValues.{GivesMade, RefusesSo}
@@ -41,20 +44,57 @@ use Rattle.dwc_clone.specs.NativeExtents.{IsTold, TellsRefusal}
 
 -- ---- both bounds
 
--- the bounds among some attributes and one behind them
-turned : (b c : Bool) → (b || c) ≡ (c || b)
-turned true true = refl
-turned true false = refl
-turned false true = refl
-turned false false = refl
+without-low : (low high : Bool) → (not low && high) ≡ (high && not (low && high))
+without-low true true = refl
+without-low true false = refl
+without-low false true = refl
+without-low false false = refl
 
--- The later bound is the one behind which both are, and before which they are not.
-pub later-is : (seen behind : AttributesSeen) (before : List (ℕ × Value)) (a : ℕ × Value) → seen ≡ seen_among before → behind.low ≡ (seen.low || (a.0 == DW_AT_low_pc)) → behind.high ≡ (seen.high || (a.0 == DW_AT_high_pc))
-    → is_later_bound before a ≡ ((behind.low && behind.high) && not (seen.low && seen.high))
-later-is seen behind before a is low high =
-    ap₂ (λ low high. (low && high) && not (has_name DW_AT_low_pc before && has_name DW_AT_high_pc before)) (turned (a.0 == DW_AT_low_pc) (has_name DW_AT_low_pc before)) (turned (a.0 == DW_AT_high_pc) (has_name DW_AT_high_pc before))
-    ∙ ap (λ (x : AttributesSeen). ((x.low || (a.0 == DW_AT_low_pc)) && (x.high || (a.0 == DW_AT_high_pc))) && not (x.low && x.high)) (sym is)
-    ∙ ap₂ (λ low high. (low && high) && not (seen.low && seen.high)) (sym low) (sym high)
+without-high : (low high : Bool) → (not high && low) ≡ ((low && true) && not (low && high))
+without-high true true = refl
+without-high true false = refl
+without-high false true = refl
+without-high false false = refl
+
+never-both : (low high : Bool) → ((low && high) && not (low && high)) ≡ false
+never-both true true = refl
+never-both true false = refl
+never-both false true = refl
+never-both false false = refl
+
+-- A bound is the later one of both where the other one comes before it and none of its name does; no other attribute is.
+pub later-low : (before : List (ℕ × Value)) (name : ℕ) (v : Value) → name ≡ DW_AT_low_pc → (not (has_name DW_AT_low_pc before) && has_name DW_AT_high_pc before) ≡ is_later_bound before (name, v)
+later-low before name v is =
+    subst (λ n. (not (has_name DW_AT_low_pc before) && has_name DW_AT_high_pc before) ≡ is_later_bound before (n, v)) (sym is) (without-low (has_name DW_AT_low_pc before) (has_name DW_AT_high_pc before))
+
+pub later-high : (before : List (ℕ × Value)) (name : ℕ) (v : Value) → name ≡ DW_AT_high_pc → (not (has_name DW_AT_high_pc before) && has_name DW_AT_low_pc before) ≡ is_later_bound before (name, v)
+later-high before name v is =
+    subst (λ n. (not (has_name DW_AT_high_pc before) && has_name DW_AT_low_pc before) ≡ is_later_bound before (n, v)) (sym is) (without-high (has_name DW_AT_low_pc before) (has_name DW_AT_high_pc before))
+
+pub later-not : (before : List (ℕ × Value)) (name : ℕ) (v : Value) → (name == DW_AT_low_pc) ≡ false → (name == DW_AT_high_pc) ≡ false → is_later_bound before (name, v) ≡ false
+later-not before name v low high =
+    let has_low = has_name DW_AT_low_pc before in
+    let has_high = has_name DW_AT_high_pc before in
+    ap₂ (λ l h. ((l || has_low) && (h || has_high)) && not (has_low && has_high)) low high ∙ never-both has_low has_high
+
+-- What stands before a bound, as the front that is looked through.
+pub before-front : (xs front : List (ℕ × InputValue)) (number : ℕ) (all before : List (ℕ × Value)) → map attribute_view xs ≡ all → front ≡ take number xs → before ≡ take number all → map attribute_view front ≡ before
+before-front xs front number all before is cut so = ap (map attribute_view) cut ∙ sym (take-map attribute_view number xs) ∙ ap (take number) is ∙ sym so
+
+-- ---- attributes of a name, looked for from the last one on
+
+-- one stands among some where it stands at a place
+pub name-here : (xs : List (ℕ × InputValue)) (i name : ℕ) (d : ℕ × InputValue) → i < length xs → (get_or xs i d).0 ≡ name → has_name name (map attribute_view xs) ≡ true
+name-here xs i name d within is =
+    list_any_at (λ a. a.0 == name) (map attribute_view xs) i (attribute_view d) (subst (λ n. i < n) (sym (length-map xs attribute_view)) within)
+    (ap (λ (a : ℕ × Value). a.0 == name) (get_or-map attribute_view xs i d (attribute_view d) within) ∙ eq-eqb (get_or xs i d).0 name is)
+
+-- none stands from a place on where none does behind it, and none there
+pub name-not : (xs : List (ℕ × InputValue)) (i name : ℕ) (d : ℕ × InputValue) → i < length xs → (get_or xs i d).0 ≢ name → has_name name (map attribute_view (drop (i + 1) xs)) ≡ false → has_name name (map attribute_view (drop i xs)) ≡ false
+name-not xs i name d within other none =
+    ap (λ ys. has_name name (map attribute_view ys)) (drop_more xs i d within)
+    ∙ ap (λ b. b || has_name name (map attribute_view (drop (i + 1) xs))) (ne_eqb (get_or xs i d).0 name other)
+    ∙ none
 
 -- ---- addresses
 

@@ -1,5 +1,5 @@
 -- The values that the last entry of a unit is given, one behind another, and what the attributes of an entry become.
-use Rattle.std.proofs.Common.{◌≡◌, ℕ, ◌<◌, ◌≤◌, refl, sym, ap, subst, ◌∙◌, arith, List, [], ◌∷◌, ◌++◌, ◌+◌, drop, take, get_or, length, length-append, map, Option, Some, None, Result, Ok, Err}
+use Rattle.std.proofs.Common.{◌≡◌, ℕ, ◌<◌, refl, sym, ap, ap₂, subst, ◌∙◌, arith, List, [], ◌∷◌, ◌++◌, ◌+◌, drop, take, get_or, length, length-append, map, Option, Some, None, Result, Ok, Err}
 use Rattle.std.specs.Prelude.{◌==◌, ◌&&◌, OnOk, filter_map, option_and_then, option_map, option_to_list, Bool, true, false, if◌then◌else◌}
 use Rattle.std.specs.List.{All, cons_option}
 use Rattle.std.proofs.lemmas.Bool.{eq-eqb}
@@ -28,9 +28,7 @@ use Rattle.dwc_write.specs.AddedInOrder.{attribute_meant, value_meant}
 use Rattle.dwc_write.proofs.ReadValues.{All-back, All-front}
 use Rattle.dwc_write.proofs.AddedInOrderUnits.{last-set}
 use Rattle.dwc_write.proofs.AddedInOrderValues.{attributes-meant-more, set-meant}
-use Rattle.dwc_clone.specs.declared.bounds.AttributesSeen.{AttributesSeen}
 use Rattle.dwc_clone.specs.declared.source.CloneSource.{CloneSource}
-use Rattle.dwc_clone.specs.AttributesSeen.{seen_among}
 use Rattle.dwc_clone.specs.MadeValues.{ArePlaced, Grows, HasTexts, RefusesSo, SaysMore, wanted_value}
 use Rattle.dwc_clone.specs.ClonedUnits.{clone_rules, TellsFirst}
 use Rattle.dwc_clone.specs.ClonedEntries.{AreSet, IsGiven, IsLast, KeepsNames, Tell, set_behind, told_draft, values_refused, values_wanted, with_made}
@@ -141,31 +139,32 @@ attributes-drop xs i d within =
     drop_more (map attribute_view xs) i (attribute_view d) (subst (λ n. i < n) (sym (length-map xs attribute_view)) within)
     ∙ ap (λ a. a ∷ drop (i + 1) (map attribute_view xs)) (get_or-map attribute_view xs i d (attribute_view d) within)
 
--- What comes before the attributes from one on, and behind that one.
-pub seen-count : (xs : List (ℕ × InputValue)) (i most : ℕ) (seen : AttributesSeen) → seen ≡ seen_among (take i (map attribute_view xs)) → i ≤ length xs → length xs < most → seen.count < most
-seen-count xs i most seen is within few =
-    let count : seen.count ≡ i = ap (λ (x : AttributesSeen). x.count) is ∙ length-take-le i (map attribute_view xs) (subst (λ n. i ≤ n) (sym (length-map xs attribute_view)) within) in
-    omega (arith, count, within, few)
+-- The attributes in front of the one behind an attribute are that one behind those in front of it.
+pub before-next : (xs : List (ℕ × InputValue)) (i number : ℕ) (d : ℕ × InputValue) (all before : List (ℕ × Value)) → map attribute_view xs ≡ all → number ≡ i → i < length xs → before ≡ take number all
+    → before ++ attribute_view (get_or xs i d) ∷ [] ≡ take (number + 1) all
+before-next xs i number d all before is at within so =
+    let front : before ≡ take i (map attribute_view xs) = so ∙ ap₂ take at (sym is) in
+    ap (λ b. b ++ attribute_view (get_or xs i d) ∷ []) front
+    ∙ ap (λ a. take i (map attribute_view xs) ++ a ∷ []) (sym (get_or-map attribute_view xs i d (attribute_view d) within))
+    ∙ sym (take_more (map attribute_view xs) i (attribute_view d) (subst (λ n. i < n) (sym (length-map xs attribute_view)) within))
+    ∙ ap₂ (λ n all. take (n + 1) all) (sym at) is
 
-pub seen-next : (xs : List (ℕ × InputValue)) (i : ℕ) (d : ℕ × InputValue) (next : AttributesSeen) → i < length xs → next ≡ seen_among (take i (map attribute_view xs) ++ attribute_view (get_or xs i d) ∷ []) → next ≡ seen_among (take (i + 1) (map attribute_view xs))
-seen-next xs i d next within is =
-    is
-    ∙ ap (λ a. seen_among (take i (map attribute_view xs) ++ a ∷ [])) (sym (get_or-map attribute_view xs i d (attribute_view d) within))
-    ∙ ap seen_among (sym (take_more (map attribute_view xs) i (attribute_view d) (subst (λ n. i < n) (sym (length-map xs attribute_view)) within)))
+-- There are as many of them as its number says.
+pub before-many : (all before : List (ℕ × Value)) (number : ℕ) → before ≡ take number all → number < length all → length before ≡ number
+before-many all before number is within = ap length is ∙ length-take-le number all (omega (arith, within))
 
--- What is set of the attributes of an entry: what was set so far, and what the attributes that are left are to say, make all; the bounds
--- among those before are known.
-pub record AreSetSoFar (goals : Goal → Option (ℕ × ℕ)) (tell : Tell) (registers : Registers) (c : CloneSource) (number : ℕ) (s : UnitSource) (p : Placed) (t0 t1 : List (List ℕ)) (base : GivenUnit) (e : Addition) (u : GivenUnit) (seen : AttributesSeen) (left : List (ℕ × Value)) : Type 0 where
+-- What is set of the attributes of an entry behind so many: what was set so far, and what the attributes that are left are to say, make all.
+pub record AreSetSoFar (goals : Goal → Option (ℕ × ℕ)) (tell : Tell) (registers : Registers) (c : CloneSource) (number : ℕ) (s : UnitSource) (p : Placed) (t0 t1 : List (List ℕ)) (base : GivenUnit) (e : Addition) (u : GivenUnit) (seen : ℕ) (left : List (ℕ × Value)) : Type 0 where
   pub before : List (ℕ × Value)
-  pub bounds : seen ≡ seen_among before
+  pub front : before ≡ take seen p.entry.attributes
   pub values : List (ℕ × TreeValue)
   pub given : IsGiven number t0 t1 values base e u
   pub whole : values ++ values_wanted goals tell registers c s p before left ≡ values_wanted goals tell registers c s p [] p.entry.attributes
   pub refused : values_refused registers c s p before left ≡ values_refused registers c s p [] p.entry.attributes
 
-pub set-start : (goals : Goal → Option (ℕ × ℕ)) (tell : Tell) (registers : Registers) (c : CloneSource) (number : ℕ) (s : UnitSource) (p : Placed) (t : List (List ℕ)) (id : UnitEntryId) (base : GivenUnit) (e : Addition) (u : GivenUnit) (seen : AttributesSeen) → seen ≡ seen_among [] → IsLast t id base e u
-    → AreSetSoFar goals tell registers c number s p t t base e u seen p.entry.attributes
-set-start goals tell registers c number s p t id base e u seen none last = record { before = []; bounds = none; values = []; given = given-none number t t id base e u last (grows-not t); whole = refl; refused = refl }
+pub set-start : (goals : Goal → Option (ℕ × ℕ)) (tell : Tell) (registers : Registers) (c : CloneSource) (number : ℕ) (s : UnitSource) (p : Placed) (t : List (List ℕ)) (id : UnitEntryId) (base : GivenUnit) (e : Addition) (u : GivenUnit) → IsLast t id base e u
+    → AreSetSoFar goals tell registers c number s p t t base e u 0 p.entry.attributes
+set-start goals tell registers c number s p t id base e u last = record { before = []; front = refl; values = []; given = given-none number t t id base e u last (grows-not t); whole = refl; refused = refl }
 
 -- an attribute in front of others
 wanted-more : (goals : Goal → Option (ℕ × ℕ)) (tell : Tell) (registers : Registers) (c : CloneSource) (s : UnitSource) (p : Placed) (before : List (ℕ × Value)) (a : ℕ × Value) (left : List (ℕ × Value)) (draft : Option DraftValue) → KeepsNames tell → attribute_becomes (clone_rules registers c s) s p before a ≡ Ok draft
@@ -201,15 +200,15 @@ pub refused-here : (registers : Registers) (c : CloneSource) (s : UnitSource) (p
 unfolding attributes_become
 refused-here registers c s p before a left refusal is = ap (λ r. first_of (cons_option (if_refused r) (values_refused registers c s p (before ++ a ∷ []) left))) is
 
-pub set-more : (goals : Goal → Option (ℕ × ℕ)) (tell : Tell) (registers : Registers) (c : CloneSource) (number : ℕ) (s : UnitSource) (p : Placed) (t0 t1 t2 : List (List ℕ)) (id : UnitEntryId) (base : GivenUnit) (e : Addition) (u0 u : GivenUnit) (seen next : AttributesSeen) (a : ℕ × Value) (left : List (ℕ × Value)) (draft : Option DraftValue) (v : Option AttributeValue)
-    → ArePlaced c.places.now goals → KeepsNames tell → IsLast t0 id base e u0 → (so : AreSetSoFar goals tell registers c number s p t0 t1 base e u seen (a ∷ left)) → next ≡ seen_among (so.before ++ a ∷ [])
+pub set-more : (goals : Goal → Option (ℕ × ℕ)) (tell : Tell) (registers : Registers) (c : CloneSource) (number : ℕ) (s : UnitSource) (p : Placed) (t0 t1 t2 : List (List ℕ)) (id : UnitEntryId) (base : GivenUnit) (e : Addition) (u0 u : GivenUnit) (seen next : ℕ) (a : ℕ × Value) (left : List (ℕ × Value)) (draft : Option DraftValue) (v : Option AttributeValue)
+    → ArePlaced c.places.now goals → KeepsNames tell → IsLast t0 id base e u0 → (so : AreSetSoFar goals tell registers c number s p t0 t1 base e u seen (a ∷ left)) → so.before ++ a ∷ [] ≡ take next p.entry.attributes
     → attribute_becomes (clone_rules registers c s) s p so.before a ≡ Ok draft → SaysMore c.places.now number a.0 t1 t2 (told_draft tell a.0 draft) v
     → AreSetSoFar goals tell registers c number s p t0 t2 base e (with_made id.index a.0 v u) next left
 set-more goals tell registers c number s p t0 t1 t2 id base e u0 u seen next a left draft v at keeps last so behind is says =
     let one = named a.0 (wanted_value goals (told_draft tell a.0 draft)) in
     record {
       before = so.before ++ a ∷ [];
-      bounds = behind;
+      front = behind;
       values = so.values ++ one;
       given = given-on number t0 t1 t2 so.values one base e u (with_made id.index a.0 v u) so.given
           (given-made goals c number t1 t2 id base so.given.given u a.0 (told_draft tell a.0 draft) v at (given-last number t0 t1 so.values id base e u0 u last so.given) says);
@@ -217,12 +216,12 @@ set-more goals tell registers c number s p t0 t1 t2 id base e u0 u seen next a l
       refused = sym (refused-not registers c s p so.before a left draft is) ∙ so.refused;
     }
 
-pub set-refused : (goals : Goal → Option (ℕ × ℕ)) (tell : Tell) (registers : Registers) (c : CloneSource) (number : ℕ) (s : UnitSource) (p : Placed) (t0 t1 : List (List ℕ)) (base : GivenUnit) (e : Addition) (u : GivenUnit) (seen : AttributesSeen) (a : ℕ × Value) (left : List (ℕ × Value)) (told : Option Refusal)
+pub set-refused : (goals : Goal → Option (ℕ × ℕ)) (tell : Tell) (registers : Registers) (c : CloneSource) (number : ℕ) (s : UnitSource) (p : Placed) (t0 t1 : List (List ℕ)) (base : GivenUnit) (e : Addition) (u : GivenUnit) (seen : ℕ) (a : ℕ × Value) (left : List (ℕ × Value)) (told : Option Refusal)
     → (so : AreSetSoFar goals tell registers c number s p t0 t1 base e u seen (a ∷ left)) → RefusesSo (attribute_becomes (clone_rules registers c s) s p so.before a) told → TellsFirst (values_refused registers c s p [] p.entry.attributes) told
 set-refused goals tell registers c number s p t0 t1 base e u seen a left None so refused = tt
 set-refused goals tell registers c number s p t0 t1 base e u seen a left (Some refusal) so refused = ap first_of (sym so.refused) ∙ refused-here registers c s p so.before a left refusal refused
 
-pub set-end : (goals : Goal → Option (ℕ × ℕ)) (tell : Tell) (registers : Registers) (c : CloneSource) (number : ℕ) (s : UnitSource) (p : Placed) (t0 t1 : List (List ℕ)) (base : GivenUnit) (e : Addition) (u : GivenUnit) (seen : AttributesSeen) → AreSetSoFar goals tell registers c number s p t0 t1 base e u seen []
+pub set-end : (goals : Goal → Option (ℕ × ℕ)) (tell : Tell) (registers : Registers) (c : CloneSource) (number : ℕ) (s : UnitSource) (p : Placed) (t0 t1 : List (List ℕ)) (base : GivenUnit) (e : Addition) (u : GivenUnit) (seen : ℕ) → AreSetSoFar goals tell registers c number s p t0 t1 base e u seen []
     → AreSet goals tell registers c number s p t0 t1 base e u
 unfolding attributes_become
 set-end goals tell registers c number s p t0 t1 base e u seen so = record {

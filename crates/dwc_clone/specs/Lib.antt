@@ -3,7 +3,7 @@ pub mod InputExtents
 pub mod CodeNames
 pub mod Lineages
 pub mod NativeExtents
-pub mod AttributesSeen
+pub mod BoundRefusals
 pub mod OutputPlaces
 pub mod Sources
 pub mod MadeValues

@@ -1,5 +1,5 @@
 //! What attributes become. (DWARF 4 and 5, section 2.2.)
-ghost use Rattle.std.specs.Prelude.{◌≡◌, ℕ, List, IfOk, IfSome};
+ghost use Rattle.std.specs.Prelude.{◌≡◌, ◌<◌, ℕ, List, length, take, IfOk, IfSome};
 ghost use Rattle.dwc_base.specs.declared.constants.TheConstants.{DW_AT_stmt_list};
 ghost use Rattle.dwc_base.specs.Kept.{Placed};
 ghost use Rattle.dwc_base.specs.Values.{Value};
@@ -15,10 +15,9 @@ ghost use Rattle.dwc_clone.specs.declared.places.EmittedEntry.{EmittedEntry};
 ghost use Rattle.dwc_clone.specs.Sources.{AreFiles, IsSource};
 ghost use Rattle.dwc_clone.specs.ClonedUnits.{IsInForce, clone_rules};
 ghost use Rattle.dwc_clone.specs.KnownTexts.{KnowsTexts};
-ghost use Rattle.dwc_clone.specs.AttributesSeen.{seen_among};
 ghost use Rattle.dwc_clone.specs.MadeValues.{GivesMade, Grows, Says, SaysMore};
 
-use crate::bounds::{AttributesSeen, check_bound};
+use crate::bounds::check_bound;
 use crate::in_force::InForce;
 use crate::names::{is_bound_name, is_dropped_name};
 use crate::value::output_value;
@@ -42,7 +41,7 @@ fn line_table(source: &CloneSource<'_, '_>, entry: &Entry<'_>) -> Option<Attribu
 }
 
 /// What an attribute of an entry becomes; None where it goes. `begins` tells whether the entry is a subprogram that begins in a function
-/// by its `low_pc`; `seen` tells what comes before this attribute. Texts are added to `strings`, and noted in `known`, by which they are
+/// by its `low_pc`; `number` attributes come before this one. Texts are added to `strings`, and noted in `known`, by which they are
 /// found when they are named again.
 ///
 /// # Errors
@@ -56,17 +55,18 @@ pub(crate) fn output_attribute(
     source: &CloneSource<'_, '_>,
     in_force: &InForce<'_>,
     begins: bool,
-    seen: AttributesSeen,
     entry: &Entry<'_>,
+    number: usize,
     attribute: &(u16, InputValue<'_>),
     strings: &mut StringTable,
     known: &mut KnownTexts,
 ) -> Result<Option<AttributeValue>, CloneError>
     requires functions { HaveAddends source.now.transform.now }
     requires begins { begins ≡ begins_by_low_pc (list_source source.now.unit.now.sections source.now.unit.now.header) source.now.transform.now (entry_view entry.now) }
+    requires within { number < length (entry_view entry.now).attributes }
     requires read { IsReadValue attribute.now.0 (value_view attribute.now.1) }
     requires known { KnowsTexts source.now.unit.now.sections strings.old known.old }
-    ensures made { (number : ℕ) (s : UnitSource) (e : Placed) (before : List (ℕ × Value)) → IsSource source.now number s → e.unit ≡ source.now.unit.now.header.offset → e.entry ≡ entry_view entry.now → seen ≡ seen_among before → IsInForce (dwarf_registers isa.now) source.now s e in_force.now → GivesMade (SaysMore source.now.places.now number attribute.now.0 strings.old strings.new) (attribute_becomes (clone_rules (dwarf_registers isa.now) source.now s) s e before (attribute_view attribute.now)) result }
+    ensures made { (unit : ℕ) (s : UnitSource) (e : Placed) (before : List (ℕ × Value)) → IsSource source.now unit s → e.unit ≡ source.now.unit.now.header.offset → e.entry ≡ entry_view entry.now → before ≡ take number (entry_view entry.now).attributes → IsInForce (dwarf_registers isa.now) source.now s e in_force.now → GivesMade (SaysMore source.now.places.now unit attribute.now.0 strings.old strings.new) (attribute_becomes (clone_rules (dwarf_registers isa.now) source.now s) s e before (attribute_view attribute.now)) result }
     ensures fits { IfOk result (λ v. (size : ℕ) → IfSome v (FitsValue size attribute.now.0)) }
     ensures known { KnowsTexts source.now.unit.now.sections strings.new known.new }
     ensures grows { Grows strings.old strings.new }
@@ -80,11 +80,11 @@ pub(crate) fn output_attribute(
     }
     if is_bound_name(name) {
         check_bound(
-            alloc, source, in_force, begins, seen, entry, name, value, known,
+            alloc, source, in_force, begins, entry, number, name, value, known,
         )?;
         return Ok(None);
     }
     output_value(
-        alloc, isa, source, in_force, entry, seen.count, name, value, strings, known,
+        alloc, isa, source, in_force, entry, number, name, value, strings, known,
     )
 }

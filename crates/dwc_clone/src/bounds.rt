@@ -1,18 +1,17 @@
 //! The bounds of entries, as their attributes are read in order. (DWARF 4 and 5, section 2.17.)
-ghost use Rattle.std.specs.Prelude.{◌≡◌, ◌<◌, ◌^◌, ℕ, ◌==◌, List, [], ◌∷◌, ◌++◌, ◌&&◌, ◌||◌, None, option_map};
-ghost use Rattle.dwc_base.specs.declared.constants.TheConstants.{DW_AT_high_pc as high_pc, DW_AT_low_pc as low_pc};
+ghost use Rattle.std.specs.Prelude.{◌≡◌, ◌<◌, ℕ, List, ◌&&◌, not, None, length, map, option_map, take};
 ghost use Rattle.dwc_base.specs.EntryRules.{bound_value_refused, of_list};
 ghost use Rattle.dwc_base.specs.Functions.{Function};
 ghost use Rattle.dwc_base.specs.Indexed.{texts_of_unit};
 ghost use Rattle.dwc_base.specs.Kept.{Placed};
 ghost use Rattle.dwc_base.specs.Lists.{list_source};
-ghost use Rattle.dwc_base.specs.RangeRefusals.{begins_by_low_pc, bound_refusal, extent_refusal, index_fault, is_later_bound};
+ghost use Rattle.dwc_base.specs.RangeRefusals.{begins_by_low_pc, bound_refusal, extent_refusal, has_name, index_fault, is_later_bound};
 ghost use Rattle.dwc_base.specs.Refusals.{of_place};
 ghost use Rattle.dwc_base.specs.Clones.{UnitSource, bound_becomes};
 ghost use Rattle.dwc_base.specs.Values.{Value};
 ghost use Rattle.dwc_read.specs.EntriesSeen.{entry_view};
-ghost use Rattle.dwc_read.specs.ValuesSeen.{value_view};
-ghost use Rattle.dwc_clone.specs.AttributesSeen.{seen_among, interval_refusal, list_refusal};
+ghost use Rattle.dwc_read.specs.ValuesSeen.{attribute_view, value_view};
+ghost use Rattle.dwc_clone.specs.BoundRefusals.{interval_refusal, list_refusal};
 ghost use Rattle.dwc_clif.specs.Registers.{Registers};
 ghost use Rattle.dwc_clone.specs.ClonedUnits.{IsInForce, clone_rules, source_with};
 ghost use Rattle.dwc_clone.specs.KnownTexts.{KnowsTexts};
@@ -30,63 +29,42 @@ use dwc_read::{AttributeValue, Entry, Unit};
 use dwc_tabs::is_range_list;
 use std::alloc::Global;
 
-/// How many attributes of an entry come before one of them, and which bounds are among those.
-#[derive(Clone, Copy, Debug)]
-pub(crate) struct AttributesSeen {
-    pub count: usize,
-    pub low: bool,
-    pub high: bool,
-}
-
-/// What comes before the first attribute of an entry: nothing.
-pub(crate) fn nothing_seen() -> AttributesSeen
-    ensures { result ≡ seen_among [] }
+// Whether some attributes have one of a name. It is looked for from the last one on, so that the looks for all bounds of a name in front
+// of each go over the attributes of an entry once, as each ends at the one before.
+fn has_name(attributes: &[(u16, AttributeValue<'_>)], name: u16) -> bool
+    ensures { result ≡ has_name name (map attribute_view attributes.now) }
 {
-    AttributesSeen {
-        count: 0,
-        low: false,
-        high: false,
+    let mut left = attributes.len();
+    while left > 0 {
+        left -= 1;
+        let found = attributes[left].0;
+        if found == name {
+            return true;
+        }
     }
+    false
 }
 
-// Which bounds come before the attribute behind one of a name, with the number of those before that one.
-fn bounds_behind(seen: AttributesSeen, name: u16) -> AttributesSeen
-    ensures count { result.count ≡ seen.count }
-    ensures low { result.low ≡ (seen.low || (name == low_pc)) }
-    ensures high { result.high ≡ (seen.high || (name == high_pc)) }
+// Whether some attributes have one of a name and none of another.
+fn has_only(attributes: &[(u16, AttributeValue<'_>)], name: u16, other: u16) -> bool
+    ensures { result ≡ (not (has_name other (map attribute_view attributes.now)) && has_name name (map attribute_view attributes.now)) }
 {
-    AttributesSeen {
-        count: seen.count,
-        low: seen.low || name == DW_AT_low_pc,
-        high: seen.high || name == DW_AT_high_pc,
+    !has_name(attributes, other) && has_name(attributes, name)
+}
+
+// Whether an attribute of an entry, of a name and behind so many, is the later one of both bounds.
+fn is_later_bound(entry: &Entry<'_>, number: usize, name: u16) -> bool
+    requires { number < length (entry_view entry.now).attributes }
+    ensures { (before : List (ℕ × Value)) (v : Value) → before ≡ take number (entry_view entry.now).attributes → result ≡ is_later_bound before (name, v) }
+{
+    let (before, _) = entry.attrs().split_at(number);
+    if name == DW_AT_low_pc {
+        return has_only(before, DW_AT_high_pc, DW_AT_low_pc);
     }
-}
-
-/// What comes before the attribute behind one of a name.
-pub(crate) fn seen_behind(seen: AttributesSeen, name: u16) -> AttributesSeen
-    requires few { seen.count < 2 ^ 63 }
-    ensures { (before : List (ℕ × Value)) (v : Value) → seen ≡ seen_among before → result ≡ seen_among (before ++ (name, v) ∷ []) }
-{
-    let bounds = bounds_behind(seen, name);
-    AttributesSeen {
-        count: seen.count + 1,
-        low: bounds.low,
-        high: bounds.high,
+    if name == DW_AT_high_pc {
+        return has_only(before, DW_AT_low_pc, DW_AT_high_pc);
     }
-}
-
-// Whether both bounds come before.
-fn has_both(seen: AttributesSeen) -> bool
-    ensures { result ≡ (seen.low && seen.high) }
-{
-    seen.low && seen.high
-}
-
-// Whether an attribute of a name is the later one of both bounds.
-fn is_later_bound(seen: AttributesSeen, name: u16) -> bool
-    ensures { (before : List (ℕ × Value)) (v : Value) → seen ≡ seen_among before → result ≡ is_later_bound before (name, v) }
-{
-    has_both(bounds_behind(seen, name)) && !has_both(seen)
+    false
 }
 
 // Reads the address that a value is, of the entry at an offset.
@@ -121,13 +99,14 @@ fn check_listed(
 // Reads the interval between both bounds of an entry, at the later one of them.
 fn check_interval(
     unit: &Unit<'_>,
-    seen: AttributesSeen,
     entry: &Entry<'_>,
+    number: usize,
     name: u16,
 ) -> Result<(), CloneError>
-    ensures { (before : List (ℕ × Value)) (v : Value) → seen ≡ seen_among before → TellsRefusal (option_map of_list (interval_refusal (list_source unit.now.sections unit.now.header) (entry_view entry.now) before (name, v))) result }
+    requires { number < length (entry_view entry.now).attributes }
+    ensures { (before : List (ℕ × Value)) (v : Value) → before ≡ take number (entry_view entry.now).attributes → TellsRefusal (option_map of_list (interval_refusal (list_source unit.now.sections unit.now.header) (entry_view entry.now) before (name, v))) result }
 {
-    if is_later_bound(seen, name) {
+    if is_later_bound(entry, number, name) {
         return check_bounds(unit, entry);
     }
     Ok(())
@@ -136,33 +115,35 @@ fn check_interval(
 // Reads what a bound of an entry says of its extent: its range list, or at the later one of both bounds the interval between them.
 fn check_extent(
     unit: &Unit<'_>,
-    seen: AttributesSeen,
     entry: &Entry<'_>,
+    number: usize,
     name: u16,
     value: AttributeValue<'_>,
 ) -> Result<(), CloneError>
-    ensures { (before : List (ℕ × Value)) → seen ≡ seen_among before → TellsRefusal (option_map of_list (extent_refusal (list_source unit.now.sections unit.now.header) (entry_view entry.now) before (name, value_view value.entry))) result }
+    requires { number < length (entry_view entry.now).attributes }
+    ensures { (before : List (ℕ × Value)) → before ≡ take number (entry_view entry.now).attributes → TellsRefusal (option_map of_list (extent_refusal (list_source unit.now.sections unit.now.header) (entry_view entry.now) before (name, value_view value.entry))) result }
 {
     check_listed(unit, entry.offset, name, value)?;
-    check_interval(unit, seen, entry, name)
+    check_interval(unit, entry, number, name)
 }
 
 // Reads what a bound of an entry says of its code. Where the entry begins in a function by its `low_pc`, its extent is not looked at.
 fn check_code(
     unit: &Unit<'_>,
     begins: bool,
-    seen: AttributesSeen,
     entry: &Entry<'_>,
+    number: usize,
     name: u16,
     value: AttributeValue<'_>,
 ) -> Result<(), CloneError>
-    ensures { (fs : List Function) (before : List (ℕ × Value)) → begins ≡ begins_by_low_pc (list_source unit.now.sections unit.now.header) fs (entry_view entry.now) → seen ≡ seen_among before → TellsRefusal (option_map of_list (bound_refusal (list_source unit.now.sections unit.now.header) fs (entry_view entry.now) before (name, value_view value.entry))) result }
+    requires { number < length (entry_view entry.now).attributes }
+    ensures { (fs : List Function) (before : List (ℕ × Value)) → begins ≡ begins_by_low_pc (list_source unit.now.sections unit.now.header) fs (entry_view entry.now) → before ≡ take number (entry_view entry.now).attributes → TellsRefusal (option_map of_list (bound_refusal (list_source unit.now.sections unit.now.header) fs (entry_view entry.now) before (name, value_view value.entry))) result }
 {
     check_address(unit, entry.offset, value)?;
     if begins {
         return Ok(());
     }
-    check_extent(unit, seen, entry, name, value)
+    check_extent(unit, entry, number, name, value)
 }
 
 // Reads what a bound of an entry says: an expression in its place as one, and else what it says of its code.
@@ -171,12 +152,13 @@ fn check_said(
     source: &CloneSource<'_, '_>,
     in_force: &InForce<'_>,
     begins: bool,
-    seen: AttributesSeen,
     entry: &Entry<'_>,
+    number: usize,
     name: u16,
     value: AttributeValue<'_>,
 ) -> Result<(), CloneError>
-    ensures { (registers : Registers) (s : UnitSource) (e : Placed) (before : List (ℕ × Value)) → e.entry ≡ entry_view entry.now → begins ≡ begins_by_low_pc (list_source source.now.unit.now.sections source.now.unit.now.header) source.now.transform.now e.entry → seen ≡ seen_among before → IsInForce registers source.now s e in_force.now → TellsRefusal (bound_value_refused (source_with registers source.now s) e before name (value_view value.entry)) result }
+    requires { number < length (entry_view entry.now).attributes }
+    ensures { (registers : Registers) (s : UnitSource) (e : Placed) (before : List (ℕ × Value)) → e.entry ≡ entry_view entry.now → begins ≡ begins_by_low_pc (list_source source.now.unit.now.sections source.now.unit.now.header) source.now.transform.now e.entry → before ≡ take number (entry_view entry.now).attributes → IsInForce registers source.now s e in_force.now → TellsRefusal (bound_value_refused (source_with registers source.now s) e before name (value_view value.entry)) result }
 {
     match value {
         AttributeValue::Exprloc(bytes) => check_located(
@@ -184,16 +166,16 @@ fn check_said(
             source,
             in_force,
             entry.offset,
-            seen.count,
+            number,
             name,
             bytes,
         ),
-        _ => check_code(source.unit, begins, seen, entry, name, value),
+        _ => check_code(source.unit, begins, entry, number, name, value),
     }
 }
 
 /// Reads a bound of an entry, which becomes nothing where it stands: a text that it is, and what it says of the code. `begins` tells whether
-/// the entry is a subprogram that begins in a function by its `low_pc`; `seen` tells what comes before this one.
+/// the entry is a subprogram that begins in a function by its `low_pc`; `number` attributes come before this one.
 ///
 /// # Errors
 /// `Read` at the entry for a text, or an address by an index, that cannot be read, at a range list, and at an expression; `LongRange` for
@@ -204,15 +186,16 @@ pub(crate) fn check_bound(
     source: &CloneSource<'_, '_>,
     in_force: &InForce<'_>,
     begins: bool,
-    seen: AttributesSeen,
     entry: &Entry<'_>,
+    number: usize,
     name: u16,
     value: AttributeValue<'_>,
     known: &mut KnownTexts,
 ) -> Result<(), CloneError>
-    ensures made { (texts : List (List ℕ)) → KnowsTexts source.now.unit.now.sections texts known.old → (registers : Registers) (s : UnitSource) (e : Placed) (before : List (ℕ × Value)) → s.texts ≡ texts_of_unit source.now.unit.now.sections source.now.unit.now.header → e.entry ≡ entry_view entry.now → begins ≡ begins_by_low_pc (list_source source.now.unit.now.sections source.now.unit.now.header) source.now.transform.now e.entry → seen ≡ seen_among before → IsInForce registers source.now s e in_force.now → GivesMade (λ draft done. draft ≡ None) (bound_becomes (clone_rules registers source.now s) s e before (name, value_view value.entry)) result }
+    requires { number < length (entry_view entry.now).attributes }
+    ensures made { (texts : List (List ℕ)) → KnowsTexts source.now.unit.now.sections texts known.old → (registers : Registers) (s : UnitSource) (e : Placed) (before : List (ℕ × Value)) → s.texts ≡ texts_of_unit source.now.unit.now.sections source.now.unit.now.header → e.entry ≡ entry_view entry.now → begins ≡ begins_by_low_pc (list_source source.now.unit.now.sections source.now.unit.now.header) source.now.transform.now e.entry → before ≡ take number (entry_view entry.now).attributes → IsInForce registers source.now s e in_force.now → GivesMade (λ draft done. draft ≡ None) (bound_becomes (clone_rules registers source.now s) s e before (name, value_view value.entry)) result }
     ensures known { (texts : List (List ℕ)) → KnowsTexts source.now.unit.now.sections texts known.old → KnowsTexts source.now.unit.now.sections texts known.new }
 {
     check_text(source.unit, entry.offset, value, known)?;
-    check_said(alloc, source, in_force, begins, seen, entry, name, value)
+    check_said(alloc, source, in_force, begins, entry, number, name, value)
 }

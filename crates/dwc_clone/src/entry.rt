@@ -40,7 +40,6 @@ ghost use Rattle.dwc_clone.specs.ClonedEntries.{AddsBelow, AreKnown, CanAdd, Giv
 
 use crate::attribute::output_attribute;
 use crate::begun_numbers::note_function;
-use crate::bounds::{nothing_seen, seen_behind};
 use crate::code::set_code;
 use crate::code_names::speaks_of_code;
 use crate::in_force::InForce;
@@ -194,10 +193,10 @@ fn set_attributes(
     ensures given { (number : ℕ) (s : UnitSource) (goals : Goal → Option (ℕ × ℕ)) (base : GivenUnit) (e : Addition) → IsSource source.now number s → ArePlaced source.now.places.now goals → IsLast strings.old id base e unit.old → IsInForce (dwarf_registers isa.now) source.now s (placed_entry source.now (entry_view entry.now)) in_force.now → GivesSet goals (tell_of telling s.entries (placed_entry source.now (entry_view entry.now))) (dwarf_registers isa.now) source.now number s (placed_entry source.now (entry_view entry.now)) strings.old strings.new base e unit.new result }
 {
     let attributes = entry.attrs();
-    let mut seen = nothing_seen();
+    let mut number = 0;
     for attribute in attributes {
         let value = output_attribute(
-            alloc, isa, source, in_force, begins, seen, entry, attribute, strings, known,
+            alloc, isa, source, in_force, begins, entry, number, attribute, strings, known,
         )?;
         let value = told_value(
             alloc,
@@ -209,7 +208,7 @@ fn set_attributes(
             strings,
         )?;
         of_memory(set_made(unit, id, attribute.0, value))?;
-        seen = seen_behind(seen, attribute.0);
+        number += 1;
     }
     Ok(())
 }

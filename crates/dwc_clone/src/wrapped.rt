@@ -23,7 +23,6 @@ ghost use Rattle.dwc_clone.specs.WrappedEntries.{AddsWrapper, GivesChecked, Give
 ghost use Rattle.dwc_clone.specs.declared.error.CloneError.TheVariants.{OutOfMemory};
 
 use crate::attribute::output_attribute;
-use crate::bounds::{nothing_seen, seen_behind};
 use crate::entry::{add_entry, depth_of, frame_in_force, of_memory};
 use crate::in_force::InForce;
 use crate::lineage::Lineage;
@@ -59,12 +58,12 @@ fn check_attributes(
     ensures checked { (number : ℕ) (s : UnitSource) → IsSource source.now number s → IsInForce (dwarf_registers isa.now) source.now s (placed_entry source.now (entry_view entry.now)) in_force.now → GivesChecked (dwarf_registers isa.now) source.now s (placed_entry source.now (entry_view entry.now)) strings.old strings.new result }
 {
     let attributes = entry.attrs();
-    let mut seen = nothing_seen();
+    let mut number = 0;
     for attribute in attributes {
         output_attribute(
-            alloc, isa, source, in_force, begins, seen, entry, attribute, strings, known,
+            alloc, isa, source, in_force, begins, entry, number, attribute, strings, known,
         )?;
-        seen = seen_behind(seen, attribute.0);
+        number += 1;
     }
     Ok(())
 }

@@ -1,7 +1,7 @@
 use Rattle.dwc_base.specs.Lists.{list_source}
 use Rattle.dwc_read.specs.EntriesSeen.{entry_view}
 use Rattle.dwc_read.specs.ValuesSeen.{value_view}
-use Rattle.dwc_clone.specs.AttributesSeen.{interval_refusal, list_refusal}
+use Rattle.dwc_clone.specs.BoundRefusals.{interval_refusal, list_refusal}
 use Rattle.dwc_clone.proofs.BoundLaws.{told-second}
 use Rattle.dwc_clone.proofs.bounds.check_extent.Goals as goal
 

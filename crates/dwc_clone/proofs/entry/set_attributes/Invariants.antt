@@ -1,11 +1,10 @@
-use Rattle.std.proofs.Common.{◌≡◌, ℕ, drop, map, take}
+use Rattle.std.proofs.Common.{◌≡◌, ℕ, drop, map}
 use Rattle.std.specs.Prelude.{Option}
 use Rattle.dwc_base.specs.Drafts.{Goal}
 use Rattle.dwc_base.specs.Clones.{UnitSource}
 use Rattle.dwc_read.specs.ValuesSeen.{attribute_view}
 use Rattle.dwc_read.specs.EntriesSeen.{entry_view}
 use Rattle.dwc_write.specs.GivenUnits.{Addition, GivenUnit}
-use Rattle.dwc_clone.specs.AttributesSeen.{seen_among}
 use Rattle.dwc_clone.specs.Sources.{IsSource}
 use Rattle.dwc_clone.specs.KnownTexts.{KnowsTexts}
 use Rattle.dwc_clone.specs.ClonedUnits.{IsInForce}
@@ -21,8 +20,8 @@ invariant-loop-attribute g l =
     let registers = (goal.TargetIsa-dyn g l.isa.now).dwarf_registers l.isa.now.1 in
     record {
       places : l.unit.places ≡ l.fn.unit.places;
-      seen : l.seen ≡ seen_among (take l.attribute-index (map attribute_view l.attributes));
+      number : l.number ≡ l.attribute-index;
       texts : KnowsTexts l.source.unit.now.sections l.strings l.known;
       set : (number : ℕ) (s : UnitSource) (goals : Goal → Option (ℕ × ℕ)) (base : GivenUnit) (e : Addition) → IsSource l.source number s → ArePlaced l.source.places.now goals → IsLast l.fn.strings l.id base e l.fn.unit → IsInForce registers l.source s (placed_entry l.source (entry_view l.entry)) l.in_force
-          → AreSetSoFar goals (tell_of l.telling s.entries (placed_entry l.source (entry_view l.entry))) registers l.source number s (placed_entry l.source (entry_view l.entry)) l.fn.strings l.strings base e l.unit l.seen (drop l.attribute-index (map attribute_view l.attributes));
+          → AreSetSoFar goals (tell_of l.telling s.entries (placed_entry l.source (entry_view l.entry))) registers l.source number s (placed_entry l.source (entry_view l.entry)) l.fn.strings l.strings base e l.unit l.number (drop l.attribute-index (map attribute_view l.attributes));
     }

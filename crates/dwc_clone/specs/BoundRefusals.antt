@@ -1,16 +1,11 @@
--- Which attributes come before one of an entry, and what is refused of a bound behind them.
-use Rattle.std.specs.Prelude.{ℕ, ◌==◌, List, length, ◌&&◌, if◌then◌else◌, Option, None}
-use Rattle.dwc_base.specs.declared.constants.TheConstants.{DW_AT_high_pc, DW_AT_low_pc, DW_AT_ranges}
+-- What is refused of a bound of an entry, behind the attributes before it.
+use Rattle.std.specs.Prelude.{ℕ, ◌==◌, List, ◌&&◌, if◌then◌else◌, Option, None}
+use Rattle.dwc_base.specs.declared.constants.TheConstants.{DW_AT_ranges}
 use Rattle.dwc_base.specs.Values.{Value}
 use Rattle.dwc_base.specs.Entries.{Entry}
 use Rattle.dwc_base.specs.RawLists.{ListSource, is_range_list}
 use Rattle.dwc_base.specs.Lists.{ListRefusal, ranges_of_value}
-use Rattle.dwc_base.specs.RangeRefusals.{bounds_refusal, has_name, is_later_bound}
-use Rattle.dwc_clone.specs.declared.bounds.AttributesSeen.{AttributesSeen}
-
--- how many some attributes are, and which bounds are among them
-abbrev pub seen_among : List (ℕ × Value) → AttributesSeen
-seen_among attributes = record { count = length attributes; low = has_name DW_AT_low_pc attributes; high = has_name DW_AT_high_pc attributes }
+use Rattle.dwc_base.specs.RangeRefusals.{bounds_refusal, is_later_bound}
 
 -- what is refused of the range list that a bound of an entry at an offset names, if it names one
 abbrev pub list_refusal : ListSource → ℕ → ℕ × Value → Option ListRefusal
