@@ -11,6 +11,7 @@ use Rattle.dwc_base.specs.Clones.{UnitSource, CodeRules, entry_refusals}
 use Rattle.dwc_base.specs.CarriedDrafts.{unit_drafts}
 use Rattle.dwc_base.specs.DraftForests.{settled_unit}
 use Rattle.dwc_base.specs.EntryRules.{code_rules}
+use Rattle.dwc_base.specs.Lists.{list_source}
 use Rattle.dwc_base.specs.LocationRules.{ExpressionSource, in_force_at}
 use Rattle.dwc_clif.specs.Registers.{Registers}
 use Rattle.dwc_kept.specs.KeptUnits.{IsTree}
@@ -25,8 +26,9 @@ use Rattle.dwc_clone.specs.declared.source.CloneSource.{CloneSource}
 use Rattle.dwc_clone.specs.Errors.{refusal_told}
 use Rattle.dwc_clone.specs.OutputPlaces.{place_of}
 use Rattle.dwc_clone.specs.Sources.{own_unit_of}
-use Rattle.dwc_clone.specs.CompiledModules.{told_by}
+use Rattle.dwc_clone.specs.CompiledModules.{HasFrames, told_by}
 use Rattle.dwc_clone.specs.InForceSeen.{in_force_view}
+use Rattle.dwc_clone.specs.Lineages.{AreInForce, Stacks}
 use Rattle.dwc_clone.specs.MadeValues.{Grows}
 
 -- the entries at some offsets, both in file order
@@ -53,6 +55,10 @@ source_with registers c s = record { sections = c.unit.now.sections; header = c.
 -- What is said to be in force at an entry of the unit is.
 abbrev pub IsInForce : Registers → CloneSource → UnitSource → Placed → InForce → Type 0
 IsInForce registers c s e in_force = in_force_view c.transform.now registers in_force ≡ in_force_at (source_with registers c s) e
+
+-- What is on top of the stacks is in force at an entry of the unit, and the module tells its frames.
+abbrev pub GivesInForce : CloneSource → UnitSource → Placed → Stacks → Type 0
+GivesInForce c s e stacks = HasFrames c.module c.transform.now × AreInForce (list_source c.unit.now.sections c.unit.now.header) c.transform.now s.entries e stacks
 
 -- what is refused of some entries of the unit, in order
 abbrev pub clone_refusals : Registers → CloneSource → UnitSource → List Entry → List Refusal

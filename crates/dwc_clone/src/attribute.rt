@@ -13,12 +13,12 @@ ghost use Rattle.dwc_read.specs.EntriesSeen.{entry_view};
 ghost use Rattle.dwc_write.specs.GivenUnits.{FitsValue};
 ghost use Rattle.dwc_clone.specs.declared.places.EmittedEntry.{EmittedEntry};
 ghost use Rattle.dwc_clone.specs.Sources.{AreFiles, IsSource};
-ghost use Rattle.dwc_clone.specs.ClonedUnits.{IsInForce, clone_rules};
+ghost use Rattle.dwc_clone.specs.ClonedUnits.{GivesInForce, clone_rules};
 ghost use Rattle.dwc_clone.specs.KnownTexts.{KnowsTexts};
 ghost use Rattle.dwc_clone.specs.MadeValues.{GivesMade, Grows, Says, SaysMore};
 
 use crate::bounds::check_bound;
-use crate::in_force::InForce;
+use crate::lineage::Lineage;
 use crate::names::{is_bound_name, is_dropped_name};
 use crate::value::output_value;
 use crate::{CloneError, CloneSource, KnownTexts};
@@ -53,7 +53,7 @@ pub(crate) fn output_attribute(
     alloc: Global,
     isa: &dyn TargetIsa,
     source: &CloneSource<'_, '_>,
-    in_force: &InForce<'_>,
+    lineage: &Lineage,
     begins: bool,
     entry: &Entry<'_>,
     number: usize,
@@ -66,7 +66,7 @@ pub(crate) fn output_attribute(
     requires within { number < length (entry_view entry.now).attributes }
     requires read { IsReadValue attribute.now.0 (value_view attribute.now.1) }
     requires known { KnowsTexts source.now.unit.now.sections strings.old known.old }
-    ensures made { (unit : ℕ) (s : UnitSource) (e : Placed) (before : List (ℕ × Value)) → IsSource source.now unit s → e.unit ≡ source.now.unit.now.header.offset → e.entry ≡ entry_view entry.now → before ≡ take number (entry_view entry.now).attributes → IsInForce (dwarf_registers isa.now) source.now s e in_force.now → GivesMade (SaysMore source.now.places.now unit attribute.now.0 strings.old strings.new) (attribute_becomes (clone_rules (dwarf_registers isa.now) source.now s) s e before (attribute_view attribute.now)) result }
+    ensures made { (unit : ℕ) (s : UnitSource) (e : Placed) (before : List (ℕ × Value)) → IsSource source.now unit s → e.unit ≡ source.now.unit.now.header.offset → e.entry ≡ entry_view entry.now → before ≡ take number (entry_view entry.now).attributes → GivesInForce source.now s e lineage.now → GivesMade (SaysMore source.now.places.now unit attribute.now.0 strings.old strings.new) (attribute_becomes (clone_rules (dwarf_registers isa.now) source.now s) s e before (attribute_view attribute.now)) result }
     ensures fits { IfOk result (λ v. (size : ℕ) → IfSome v (FitsValue size attribute.now.0)) }
     ensures known { KnowsTexts source.now.unit.now.sections strings.new known.new }
     ensures grows { Grows strings.old strings.new }
@@ -80,11 +80,11 @@ pub(crate) fn output_attribute(
     }
     if is_bound_name(name) {
         check_bound(
-            alloc, source, in_force, begins, entry, number, name, value, known,
+            alloc, source, lineage, begins, entry, number, name, value, known,
         )?;
         return Ok(None);
     }
     output_value(
-        alloc, isa, source, in_force, entry, number, name, value, strings, known,
+        alloc, isa, source, lineage, entry, number, name, value, strings, known,
     )
 }

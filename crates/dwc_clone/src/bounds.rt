@@ -13,14 +13,14 @@ ghost use Rattle.dwc_read.specs.EntriesSeen.{entry_view};
 ghost use Rattle.dwc_read.specs.ValuesSeen.{attribute_view, value_view};
 ghost use Rattle.dwc_clone.specs.BoundRefusals.{interval_refusal, list_refusal};
 ghost use Rattle.dwc_clif.specs.Registers.{Registers};
-ghost use Rattle.dwc_clone.specs.ClonedUnits.{IsInForce, clone_rules, source_with};
+ghost use Rattle.dwc_clone.specs.ClonedUnits.{GivesInForce, clone_rules, source_with};
 ghost use Rattle.dwc_clone.specs.KnownTexts.{KnowsTexts};
 ghost use Rattle.dwc_clone.specs.MadeValues.{GivesMade};
 ghost use Rattle.dwc_clone.specs.NativeExtents.{TellsRefusal};
 
-use crate::in_force::InForce;
 use crate::input_extent::check_bounds;
-use crate::location::check_located;
+use crate::lineage::Lineage;
+use crate::location::check_placed;
 use crate::ranges::check_list;
 use crate::text::check_text;
 use crate::{CloneError, CloneSource, KnownTexts};
@@ -150,7 +150,7 @@ fn check_code(
 fn check_said(
     alloc: Global,
     source: &CloneSource<'_, '_>,
-    in_force: &InForce<'_>,
+    lineage: &Lineage,
     begins: bool,
     entry: &Entry<'_>,
     number: usize,
@@ -158,13 +158,13 @@ fn check_said(
     value: AttributeValue<'_>,
 ) -> Result<(), CloneError>
     requires { number < length (entry_view entry.now).attributes }
-    ensures { (registers : Registers) (s : UnitSource) (e : Placed) (before : List (ℕ × Value)) → e.entry ≡ entry_view entry.now → begins ≡ begins_by_low_pc (list_source source.now.unit.now.sections source.now.unit.now.header) source.now.transform.now e.entry → before ≡ take number (entry_view entry.now).attributes → IsInForce registers source.now s e in_force.now → TellsRefusal (bound_value_refused (source_with registers source.now s) e before name (value_view value.entry)) result }
+    ensures { (registers : Registers) (s : UnitSource) (e : Placed) (before : List (ℕ × Value)) → e.entry ≡ entry_view entry.now → begins ≡ begins_by_low_pc (list_source source.now.unit.now.sections source.now.unit.now.header) source.now.transform.now e.entry → before ≡ take number (entry_view entry.now).attributes → GivesInForce source.now s e lineage.now → TellsRefusal (bound_value_refused (source_with registers source.now s) e before name (value_view value.entry)) result }
 {
     match value {
-        AttributeValue::Exprloc(bytes) => check_located(
+        AttributeValue::Exprloc(bytes) => check_placed(
             alloc,
             source,
-            in_force,
+            lineage,
             entry.offset,
             number,
             name,
@@ -184,7 +184,7 @@ fn check_said(
 pub(crate) fn check_bound(
     alloc: Global,
     source: &CloneSource<'_, '_>,
-    in_force: &InForce<'_>,
+    lineage: &Lineage,
     begins: bool,
     entry: &Entry<'_>,
     number: usize,
@@ -193,9 +193,9 @@ pub(crate) fn check_bound(
     known: &mut KnownTexts,
 ) -> Result<(), CloneError>
     requires { number < length (entry_view entry.now).attributes }
-    ensures made { (texts : List (List ℕ)) → KnowsTexts source.now.unit.now.sections texts known.old → (registers : Registers) (s : UnitSource) (e : Placed) (before : List (ℕ × Value)) → s.texts ≡ texts_of_unit source.now.unit.now.sections source.now.unit.now.header → e.entry ≡ entry_view entry.now → begins ≡ begins_by_low_pc (list_source source.now.unit.now.sections source.now.unit.now.header) source.now.transform.now e.entry → before ≡ take number (entry_view entry.now).attributes → IsInForce registers source.now s e in_force.now → GivesMade (λ draft done. draft ≡ None) (bound_becomes (clone_rules registers source.now s) s e before (name, value_view value.entry)) result }
+    ensures made { (texts : List (List ℕ)) → KnowsTexts source.now.unit.now.sections texts known.old → (registers : Registers) (s : UnitSource) (e : Placed) (before : List (ℕ × Value)) → s.texts ≡ texts_of_unit source.now.unit.now.sections source.now.unit.now.header → e.entry ≡ entry_view entry.now → begins ≡ begins_by_low_pc (list_source source.now.unit.now.sections source.now.unit.now.header) source.now.transform.now e.entry → before ≡ take number (entry_view entry.now).attributes → GivesInForce source.now s e lineage.now → GivesMade (λ draft done. draft ≡ None) (bound_becomes (clone_rules registers source.now s) s e before (name, value_view value.entry)) result }
     ensures known { (texts : List (List ℕ)) → KnowsTexts source.now.unit.now.sections texts known.old → KnowsTexts source.now.unit.now.sections texts known.new }
 {
     check_text(source.unit, entry.offset, value, known)?;
-    check_said(alloc, source, in_force, begins, entry, number, name, value)
+    check_said(alloc, source, lineage, begins, entry, number, name, value)
 }

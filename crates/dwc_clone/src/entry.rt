@@ -18,12 +18,9 @@ ghost use Rattle.dwc_base.specs.ReadValues.{IsReadEntry};
 ghost use Rattle.dwc_read.specs.EntriesSeen.{entry_view};
 ghost use Rattle.dwc_write.specs.GivenUnits.{Addition, GivenUnit, FitsValue, IsAdded, IsReserved};
 ghost use Rattle.dwc_write.specs.TextTables.{IsText};
-ghost use Rattle.dwc_base.specs.LocationRules.{frame_at};
-ghost use Rattle.dwc_clif.specs.Registers.{Registers};
-ghost use Rattle.dwc_expr.specs.Frames.{frame_view};
 ghost use Rattle.dwc_clone.specs.CodeNames.{have_code_name};
 ghost use Rattle.dwc_clone.specs.CompiledModules.{HasFrames};
-ghost use Rattle.dwc_clone.specs.ClonedUnits.{IsInForce, placed_in, source_with};
+ghost use Rattle.dwc_clone.specs.ClonedUnits.{GivesInForce, placed_in, source_with};
 ghost use Rattle.dwc_clone.specs.BegunNumbers.{NotesFunctions};
 ghost use Rattle.dwc_clone.specs.BuiltUnits.{AreClonedSoFar, GivesEntry};
 ghost use Rattle.dwc_clone.specs.OpenWrappers.{CanCloseAll, IsOther, KeepsNumbers};
@@ -42,11 +39,10 @@ use crate::attribute::output_attribute;
 use crate::begun_numbers::note_function;
 use crate::code::set_code;
 use crate::code_names::speaks_of_code;
-use crate::in_force::InForce;
 use crate::lineage::Lineage;
 use crate::location::of_expression;
 use crate::object_pointer::{Telling, entry_told, told_value};
-use crate::walk::{Walk, in_force_by};
+use crate::walk::{Walk, frame_in_force, in_force_by};
 use crate::wrapped::wrap_entry;
 use crate::wrapper::{close_wrappers, is_wrapped};
 use crate::{CloneError, CloneSource, KnownTexts, append_vmctx_info};
@@ -56,7 +52,6 @@ use dwc_base::constants::{
     DW_TAG_subprogram,
 };
 use dwc_clif::TargetIsa;
-use dwc_expr::FunctionFrameInfo;
 use dwc_kept::{address_said, function_begun};
 use dwc_read::Entry;
 use dwc_write::{AttributeValue, StringTable, Unit, UnitEntryId, WriteError};
@@ -174,7 +169,7 @@ fn set_attributes(
     alloc: Global,
     isa: &dyn TargetIsa,
     source: &CloneSource<'_, '_>,
-    in_force: &InForce<'_>,
+    lineage: &Lineage,
     begins: bool,
     telling: Telling,
     entry: &Entry<'_>,
@@ -190,13 +185,13 @@ fn set_attributes(
     requires texts { KnowsTexts source.now.unit.now.sections strings.old known.old }
     ensures places { OnOk result (unit.new.places ≡ unit.old.places) }
     ensures texts { KnowsTexts source.now.unit.now.sections strings.new known.new }
-    ensures given { (number : ℕ) (s : UnitSource) (goals : Goal → Option (ℕ × ℕ)) (base : GivenUnit) (e : Addition) → IsSource source.now number s → ArePlaced source.now.places.now goals → IsLast strings.old id base e unit.old → IsInForce (dwarf_registers isa.now) source.now s (placed_entry source.now (entry_view entry.now)) in_force.now → GivesSet goals (tell_of telling s.entries (placed_entry source.now (entry_view entry.now))) (dwarf_registers isa.now) source.now number s (placed_entry source.now (entry_view entry.now)) strings.old strings.new base e unit.new result }
+    ensures given { (number : ℕ) (s : UnitSource) (goals : Goal → Option (ℕ × ℕ)) (base : GivenUnit) (e : Addition) → IsSource source.now number s → ArePlaced source.now.places.now goals → IsLast strings.old id base e unit.old → GivesInForce source.now s (placed_entry source.now (entry_view entry.now)) lineage.now → GivesSet goals (tell_of telling s.entries (placed_entry source.now (entry_view entry.now))) (dwarf_registers isa.now) source.now number s (placed_entry source.now (entry_view entry.now)) strings.old strings.new base e unit.new result }
 {
     let attributes = entry.attrs();
     let mut number = 0;
     for attribute in attributes {
         let value = output_attribute(
-            alloc, isa, source, in_force, begins, entry, number, attribute, strings, known,
+            alloc, isa, source, lineage, begins, entry, number, attribute, strings, known,
         )?;
         let value = told_value(
             alloc,
@@ -230,23 +225,13 @@ fn has_begin(source: &CloneSource<'_, '_>, entry: &Entry<'_>) -> bool
     address_said(source.unit, entry, DW_AT_low_pc).is_some()
 }
 
-/// What the function tells to expressions whose frame is in force.
-pub(crate) fn frame_in_force<'c>(
-    source: &CloneSource<'c, '_>,
-    lineage: &Lineage,
-) -> Option<FunctionFrameInfo<'c>>
-    ensures { (registers : Registers) (s : UnitSource) (e : Placed) → HasFrames source.now.module source.now.transform.now → AreInForce (list_source source.now.unit.now.sections source.now.unit.now.header) source.now.transform.now s.entries e lineage.now → frame_view result ≡ frame_at (source_with registers source.now s) e }
-{
-    source.module.frame(lineage.frame()?)
-}
-
 // Adds the variable of the context below a subprogram with a scope in force.
 #[inline(always)]
 fn add_context(
     alloc: Global,
     isa: &dyn TargetIsa,
     source: &CloneSource<'_, '_>,
-    in_force: &InForce<'_>,
+    lineage: &Lineage,
     entry: &Entry<'_>,
     unit: &mut Unit,
     id: UnitEntryId,
@@ -256,11 +241,13 @@ fn add_context(
     requires parent { IsAdded id.index unit.old }
     ensures grows { Grows strings.old strings.new }
     ensures numbers { (but : ℕ) → OnOk result (KeepsNumbers but unit.old unit.new) }
-    ensures variable { (s : UnitSource) → IsInForce (dwarf_registers isa.now) source.now s (placed_entry source.now (entry_view entry.now)) in_force.now → AddsVariable source.now.module.place (context_over (source_with (dwarf_registers isa.now) source.now s) (placed_entry source.now (entry_view entry.now))) id.index source.now.vmctx_ptr strings.new unit.old unit.new result }
+    ensures variable { (s : UnitSource) → GivesInForce source.now s (placed_entry source.now (entry_view entry.now)) lineage.now → AddsVariable source.now.module.place (context_over (source_with (dwarf_registers isa.now) source.now s) (placed_entry source.now (entry_view entry.now))) id.index source.now.vmctx_ptr strings.new unit.old unit.new result }
 {
     if entry.tag != DW_TAG_subprogram {
         return Ok(());
     }
+    let frame = frame_in_force(source, lineage);
+    let in_force = in_force_by(lineage, frame.as_ref());
     let Some(scope) = in_force.scope else {
         return Ok(());
     };
@@ -330,13 +317,21 @@ fn clone_itself(
     ))?;
     let id = placed.id;
     of_memory(set_code(alloc, source, entry, function, speaks, unit, id))?;
-    let frame = frame_in_force(source, &walk.lineage);
-    let in_force = in_force_by(&walk.lineage, frame.as_ref());
     set_attributes(
-        alloc, isa, source, &in_force, begins, telling, entry, unit, id, strings, known,
+        alloc,
+        isa,
+        source,
+        &walk.lineage,
+        begins,
+        telling,
+        entry,
+        unit,
+        id,
+        strings,
+        known,
     )?;
     of_memory(set_endianity(unit, id, source.big_endian, entry.tag))?;
-    add_context(alloc, isa, source, &in_force, entry, unit, id, strings)
+    add_context(alloc, isa, source, &walk.lineage, entry, unit, id, strings)
 }
 
 /// Adds what a kept entry becomes, the next one in file order, under a number that was reserved for it. Wrappers that it does not lie in

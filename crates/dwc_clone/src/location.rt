@@ -14,16 +14,18 @@ ghost use Rattle.dwc_read.specs.EntriesSeen.{entry_view};
 ghost use Rattle.dwc_read.specs.ValuesSeen.{value_view};
 ghost use Rattle.dwc_write.specs.AddedInOrder.{value_meant};
 ghost use Rattle.dwc_write.specs.GivenUnits.{FitsValue};
-ghost use Rattle.dwc_clone.specs.ClonedUnits.{IsInForce, source_with};
+ghost use Rattle.dwc_clone.specs.ClonedUnits.{GivesInForce, IsInForce, source_with};
 ghost use Rattle.dwc_clone.specs.Errors.{refusal_told};
 ghost use Rattle.dwc_clone.specs.LocatedValues.{error_at, located_view, told};
 ghost use Rattle.dwc_clone.specs.MadeValues.{GivesMade, HasTexts, Says};
 ghost use Rattle.dwc_clone.specs.NativeExtents.{TellsRefusal};
 
 use crate::in_force::InForce;
+use crate::lineage::Lineage;
 use crate::located::{Located, check_expression, located_expression};
 use crate::located_error::LocatedError;
 use crate::located_list::{check_listed, located_list};
+use crate::walk::{frame_in_force, in_force_by};
 use crate::wrapper::is_wrapped;
 use crate::{CloneError, CloneSource};
 use dwc_addr::translations_are_said;
@@ -101,18 +103,20 @@ pub(crate) fn output_expression(
     alloc: Global,
     isa: &dyn TargetIsa,
     source: &CloneSource<'_, '_>,
-    in_force: &InForce<'_>,
+    lineage: &Lineage,
     entry: &Entry<'_>,
     number: usize,
     name: u16,
     bytes: &[u8],
 ) -> Result<Option<AttributeValue>, CloneError>
     requires functions { HaveAddends source.now.transform.now }
-    ensures made { (s : UnitSource) (e : Placed) (before : List (ℕ × Value)) (unit : ℕ) (texts : List (List ℕ)) → e.entry ≡ entry_view entry.now → length before ≡ number → IsInForce (dwarf_registers isa.now) source.now s e in_force.now → GivesMade (Says source.now.places.now unit name texts) (code_value_becomes (source_with (dwarf_registers isa.now) source.now s) e before name (expression bytes.now)) result }
+    ensures made { (s : UnitSource) (e : Placed) (before : List (ℕ × Value)) (unit : ℕ) (texts : List (List ℕ)) → e.entry ≡ entry_view entry.now → length before ≡ number → GivesInForce source.now s e lineage.now → GivesMade (Says source.now.places.now unit name texts) (code_value_becomes (source_with (dwarf_registers isa.now) source.now s) e before name (expression bytes.now)) result }
     ensures fits { (size : ℕ) → IfOk result (λ v. IfSome v (FitsValue size name)) }
 {
+    let frame = frame_in_force(source, lineage);
+    let in_force = in_force_by(lineage, frame.as_ref());
     if is_wrapped(entry) {
-        check_located(alloc, source, in_force, entry.offset, number, name, bytes)?;
+        check_located(alloc, source, &in_force, entry.offset, number, name, bytes)?;
         return Ok(None);
     }
     translations_are_said();
@@ -122,7 +126,7 @@ pub(crate) fn output_expression(
         alloc,
         source.transform,
         isa,
-        in_force,
+        &in_force,
         name,
         encoding,
         bytes,
@@ -146,17 +150,19 @@ pub(crate) fn output_locations(
     alloc: Global,
     isa: &dyn TargetIsa,
     source: &CloneSource<'_, '_>,
-    in_force: &InForce<'_>,
+    lineage: &Lineage,
     entry: &Entry<'_>,
     value: InputValue<'_>,
 ) -> Result<Option<AttributeValue>, CloneError>
     requires functions { HaveAddends source.now.transform.now }
     requires list { IsTrue (is_location_list (value_view value)) }
-    ensures made { (s : UnitSource) (e : Placed) (before : List (ℕ × Value)) (unit name : ℕ) (texts : List (List ℕ)) → e.entry ≡ entry_view entry.now → is_location_name name ≡ true → IsInForce (dwarf_registers isa.now) source.now s e in_force.now → GivesMade (Says source.now.places.now unit name texts) (code_value_becomes (source_with (dwarf_registers isa.now) source.now s) e before name (value_view value.entry)) result }
+    ensures made { (s : UnitSource) (e : Placed) (before : List (ℕ × Value)) (unit name : ℕ) (texts : List (List ℕ)) → e.entry ≡ entry_view entry.now → is_location_name name ≡ true → GivesInForce source.now s e lineage.now → GivesMade (Says source.now.places.now unit name texts) (code_value_becomes (source_with (dwarf_registers isa.now) source.now s) e before name (value_view value.entry)) result }
     ensures fits { (size name : ℕ) → is_location_name name ≡ true → IfOk result (λ v. IfSome v (FitsValue size name)) }
 {
+    let frame = frame_in_force(source, lineage);
+    let in_force = in_force_by(lineage, frame.as_ref());
     if is_wrapped(entry) {
-        check_locations(alloc, source, in_force, entry.offset, value)?;
+        check_locations(alloc, source, &in_force, entry.offset, value)?;
         return Ok(None);
     }
     translations_are_said();
@@ -165,7 +171,7 @@ pub(crate) fn output_locations(
         source.unit,
         source.transform,
         isa,
-        in_force,
+        &in_force,
         entry.offset,
         value,
     ) {
@@ -194,11 +200,8 @@ fn check_locations(
     }
 }
 
-/// Reads an expression in the place of a bound, the attribute of a name and of a number of the entry at an offset; nothing becomes of it.
-///
-/// # Errors
-/// `Read` with the offset of the expression exactly where an operation cannot be read. `OutOfMemory` for want of memory.
-pub(crate) fn check_located(
+// Reads an expression, the attribute of a name and of a number of the entry at an offset, where so much is in force; nothing becomes of it.
+fn check_located(
     alloc: Global,
     source: &CloneSource<'_, '_>,
     in_force: &InForce<'_>,
@@ -215,4 +218,24 @@ pub(crate) fn check_located(
         Ok(()) => Ok(()),
         Err(error) => Err(at_expression(error, source, offset, number, bytes)),
     }
+}
+
+/// Reads an expression in the place of a bound, the attribute of a name and of a number of the entry at an offset; nothing becomes of it.
+///
+/// # Errors
+/// `Read` with the offset of the expression exactly where an operation cannot be read. `OutOfMemory` for want of memory.
+pub(crate) fn check_placed(
+    alloc: Global,
+    source: &CloneSource<'_, '_>,
+    lineage: &Lineage,
+    offset: u64,
+    number: usize,
+    name: u16,
+    bytes: &[u8],
+) -> Result<(), CloneError>
+    ensures { (registers : Registers) (s : UnitSource) (e : Placed) (before : List (ℕ × Value)) → e.entry.offset ≡ offset → length before ≡ number → GivesInForce source.now s e lineage.now → TellsRefusal (bound_value_refused (source_with registers source.now s) e before name (expression bytes.now)) result }
+{
+    let frame = frame_in_force(source, lineage);
+    let in_force = in_force_by(lineage, frame.as_ref());
+    check_located(alloc, source, &in_force, offset, number, name, bytes)
 }

@@ -22,12 +22,12 @@ ghost use Rattle.dwc_read.specs.ValuesSeen.{value_view};
 ghost use Rattle.dwc_write.specs.GivenUnits.{FitsValue};
 ghost use Rattle.dwc_clone.specs.declared.places.EmittedEntry.{EmittedEntry};
 ghost use Rattle.dwc_clone.specs.Sources.{AreFiles, IsSource};
-ghost use Rattle.dwc_clone.specs.ClonedUnits.{IsInForce, clone_rules};
+ghost use Rattle.dwc_clone.specs.ClonedUnits.{GivesInForce, clone_rules};
 ghost use Rattle.dwc_clone.specs.KnownTexts.{KnowsTexts};
 ghost use Rattle.dwc_clone.specs.MadeValues.{GivesMade, Grows, Says, SaysMore, any_reference, is_address, own_reference, target_place};
 
 use crate::extent::carried_address;
-use crate::in_force::InForce;
+use crate::lineage::Lineage;
 use crate::location::{output_expression, output_locations};
 use crate::names::is_file_name;
 use crate::ranges::native_ranges;
@@ -172,7 +172,7 @@ fn any_value(
     alloc: Global,
     isa: &dyn TargetIsa,
     source: &CloneSource<'_, '_>,
-    in_force: &InForce<'_>,
+    lineage: &Lineage,
     entry: &Entry<'_>,
     number: usize,
     name: u16,
@@ -183,7 +183,7 @@ fn any_value(
     requires functions { HaveAddends source.now.transform.now }
     requires read { IsReadValue name (value_view value) }
     requires known { KnowsTexts source.now.unit.now.sections strings.old known.old }
-    ensures made { (unit : ℕ) (s : UnitSource) (e : Placed) (before : List (ℕ × Value)) → IsSource source.now unit s → e.unit ≡ source.now.unit.now.header.offset → e.entry ≡ entry_view entry.now → length before ≡ number → IsInForce (dwarf_registers isa.now) source.now s e in_force.now → GivesMade (SaysMore source.now.places.now unit name strings.old strings.new) (value_becomes (clone_rules (dwarf_registers isa.now) source.now s) s e before name (value_view value.entry)) result }
+    ensures made { (unit : ℕ) (s : UnitSource) (e : Placed) (before : List (ℕ × Value)) → IsSource source.now unit s → e.unit ≡ source.now.unit.now.header.offset → e.entry ≡ entry_view entry.now → length before ≡ number → GivesInForce source.now s e lineage.now → GivesMade (SaysMore source.now.places.now unit name strings.old strings.new) (value_becomes (clone_rules (dwarf_registers isa.now) source.now s) s e before name (value_view value.entry)) result }
     ensures fits { IfOk result (λ v. (size : ℕ) → IfSome v (FitsValue size name)) }
     ensures known { KnowsTexts source.now.unit.now.sections strings.new known.new }
     ensures grows { Grows strings.old strings.new }
@@ -203,10 +203,10 @@ fn any_value(
             Ok(Some(range_list(alloc, source, entry.offset, value)?))
         }
         InputValue::Exprloc(bytes) => {
-            output_expression(alloc, isa, source, in_force, entry, number, name, bytes)
+            output_expression(alloc, isa, source, lineage, entry, number, name, bytes)
         }
         InputValue::LocRef(_) | InputValue::LocIndex(_) => {
-            output_locations(alloc, isa, source, in_force, entry, value)
+            output_locations(alloc, isa, source, lineage, entry, value)
         }
     }
 }
@@ -223,7 +223,7 @@ pub(crate) fn output_value(
     alloc: Global,
     isa: &dyn TargetIsa,
     source: &CloneSource<'_, '_>,
-    in_force: &InForce<'_>,
+    lineage: &Lineage,
     entry: &Entry<'_>,
     number: usize,
     name: u16,
@@ -234,7 +234,7 @@ pub(crate) fn output_value(
     requires functions { HaveAddends source.now.transform.now }
     requires read { IsReadValue name (value_view value) }
     requires known { KnowsTexts source.now.unit.now.sections strings.old known.old }
-    ensures made { (unit : ℕ) (s : UnitSource) (e : Placed) (before : List (ℕ × Value)) → IsSource source.now unit s → e.unit ≡ source.now.unit.now.header.offset → e.entry ≡ entry_view entry.now → length before ≡ number → IsInForce (dwarf_registers isa.now) source.now s e in_force.now → GivesMade (SaysMore source.now.places.now unit name strings.old strings.new) (value_becomes (clone_rules (dwarf_registers isa.now) source.now s) s e before name (value_view value.entry)) result }
+    ensures made { (unit : ℕ) (s : UnitSource) (e : Placed) (before : List (ℕ × Value)) → IsSource source.now unit s → e.unit ≡ source.now.unit.now.header.offset → e.entry ≡ entry_view entry.now → length before ≡ number → GivesInForce source.now s e lineage.now → GivesMade (SaysMore source.now.places.now unit name strings.old strings.new) (value_becomes (clone_rules (dwarf_registers isa.now) source.now s) s e before name (value_view value.entry)) result }
     ensures fits { IfOk result (λ v. (size : ℕ) → IfSome v (FitsValue size name)) }
     ensures known { KnowsTexts source.now.unit.now.sections strings.new known.new }
     ensures grows { Grows strings.old strings.new }
@@ -246,7 +246,7 @@ pub(crate) fn output_value(
         // The common ones above stay in registers, as the result of the call has a place of its own.
         _ => {
             let made = any_value(
-                alloc, isa, source, in_force, entry, number, name, value, strings, known,
+                alloc, isa, source, lineage, entry, number, name, value, strings, known,
             )?;
             Ok(made)
         }

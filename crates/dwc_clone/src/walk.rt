@@ -7,6 +7,7 @@ ghost use Rattle.dwc_clif.specs.Registers.{Registers};
 ghost use Rattle.dwc_expr.specs.Frames.{frame_view};
 ghost use Rattle.dwc_clone.specs.declared.source.CloneSource.{CloneSource};
 ghost use Rattle.dwc_clone.specs.ClonedUnits.{IsInForce, source_with};
+ghost use Rattle.dwc_clone.specs.CompiledModules.{HasFrames};
 ghost use Rattle.dwc_clone.specs.Lineages.{AreInForce};
 ghost use Rattle.std.specs.Prelude.{◌≡◌, ℕ, List, [], option_map};
 ghost use Rattle.dwc_clone.specs.KnownNames.{KnowsNames};
@@ -17,7 +18,7 @@ use crate::in_force::InForce;
 use crate::lineage::Lineage;
 use crate::type_name::TypeNames;
 use crate::wrapper::OpenWrapper;
-use crate::{InheritedAttr, SubprogramContext};
+use crate::{CloneSource, InheritedAttr, SubprogramContext};
 use dwc_expr::FunctionFrameInfo;
 use dwc_write::UnitEntryId;
 use std::alloc::Global;
@@ -53,6 +54,16 @@ pub(crate) fn begin_walk(alloc: Global) -> Walk
         opened: Vec::new(alloc),
         names: TypeNames::new(alloc),
     }
+}
+
+/// What the function tells to expressions whose frame is in force.
+pub(crate) fn frame_in_force<'c>(
+    source: &CloneSource<'c, '_>,
+    lineage: &Lineage,
+) -> Option<FunctionFrameInfo<'c>>
+    ensures { (registers : Registers) (s : UnitSource) (e : Placed) → HasFrames source.now.module source.now.transform.now → AreInForce (list_source source.now.unit.now.sections source.now.unit.now.header) source.now.transform.now s.entries e lineage.now → frame_view result ≡ frame_at (source_with registers source.now s) e }
+{
+    source.module.frame(lineage.frame()?)
 }
 
 /// What is in force at the last entry, with what the function tells whose frame is.

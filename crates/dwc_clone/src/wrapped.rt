@@ -10,7 +10,7 @@ ghost use Rattle.dwc_read.specs.EntriesSeen.{entry_view};
 ghost use Rattle.dwc_write.specs.GivenUnits.{IsReserved};
 ghost use Rattle.dwc_write.specs.TextTables.{IsText};
 ghost use Rattle.dwc_clone.specs.ClonedEntries.{AreKnown, CanAdd, placed_entry};
-ghost use Rattle.dwc_clone.specs.ClonedUnits.{IsInForce};
+ghost use Rattle.dwc_clone.specs.ClonedUnits.{GivesInForce};
 ghost use Rattle.dwc_clone.specs.CompiledModules.{HasFrames};
 ghost use Rattle.dwc_clone.specs.KnownNames.{KnowsNames};
 ghost use Rattle.dwc_clone.specs.KnownTexts.{KnowsTexts};
@@ -23,12 +23,11 @@ ghost use Rattle.dwc_clone.specs.WrappedEntries.{AddsWrapper, GivesChecked, Give
 ghost use Rattle.dwc_clone.specs.declared.error.CloneError.TheVariants.{OutOfMemory};
 
 use crate::attribute::output_attribute;
-use crate::entry::{add_entry, depth_of, frame_in_force, of_memory};
-use crate::in_force::InForce;
+use crate::entry::{add_entry, depth_of, of_memory};
 use crate::lineage::Lineage;
 use crate::type_entry::{type_id, type_of};
 use crate::type_name::{TypeNames, name_of_wrapper};
-use crate::walk::{Walk, in_force_by};
+use crate::walk::Walk;
 use crate::wrapper::{OpenWrapper, WrapperTexts, open_wrapper, wrapper_texts};
 use crate::{CloneError, CloneSource, KnownTexts};
 use dwc_base::constants::DW_TAG_structure_type;
@@ -43,7 +42,7 @@ fn check_attributes(
     alloc: Global,
     isa: &dyn TargetIsa,
     source: &CloneSource<'_, '_>,
-    in_force: &InForce<'_>,
+    lineage: &Lineage,
     begins: bool,
     entry: &Entry<'_>,
     strings: &mut StringTable,
@@ -55,13 +54,13 @@ fn check_attributes(
     requires texts { KnowsTexts source.now.unit.now.sections strings.old known.old }
     ensures texts { KnowsTexts source.now.unit.now.sections strings.new known.new }
     ensures grows { Grows strings.old strings.new }
-    ensures checked { (number : ℕ) (s : UnitSource) → IsSource source.now number s → IsInForce (dwarf_registers isa.now) source.now s (placed_entry source.now (entry_view entry.now)) in_force.now → GivesChecked (dwarf_registers isa.now) source.now s (placed_entry source.now (entry_view entry.now)) strings.old strings.new result }
+    ensures checked { (number : ℕ) (s : UnitSource) → IsSource source.now number s → GivesInForce source.now s (placed_entry source.now (entry_view entry.now)) lineage.now → GivesChecked (dwarf_registers isa.now) source.now s (placed_entry source.now (entry_view entry.now)) strings.old strings.new result }
 {
     let attributes = entry.attrs();
     let mut number = 0;
     for attribute in attributes {
         output_attribute(
-            alloc, isa, source, in_force, begins, entry, number, attribute, strings, known,
+            alloc, isa, source, lineage, begins, entry, number, attribute, strings, known,
         )?;
         number += 1;
     }
@@ -91,9 +90,7 @@ fn read_wrapper_name(
     ensures names { (number : ℕ) (s : UnitSource) → IsSource source.now number s → IsEmitted source.now s (placed_entry source.now (entry_view entry.now)) → KnowsNames source.now s strings.old names.old → OnOk result (KnowsNames source.now s strings.new names.new) }
     ensures named { (number : ℕ) (s : UnitSource) → IsSource source.now number s → HasFrames source.now.module source.now.transform.now → IsEmitted source.now s (placed_entry source.now (entry_view entry.now)) → KnowsNames source.now s strings.old names.old → AreInForce (list_source source.now.unit.now.sections source.now.unit.now.header) source.now.transform.now s.entries (placed_entry source.now (entry_view entry.now)) lineage.now → is_wrapped (placed_entry source.now (entry_view entry.now)) ≡ true → GivesWrapperName (dwarf_registers isa.now) source.now s (placed_entry source.now (entry_view entry.now)) strings.old strings.new result }
 {
-    let frame = frame_in_force(source, lineage);
-    let in_force = in_force_by(lineage, frame.as_ref());
-    check_attributes(alloc, isa, source, &in_force, begins, entry, strings, known)?;
+    check_attributes(alloc, isa, source, lineage, begins, entry, strings, known)?;
     name_of_wrapper(alloc, source, entry, names, strings)
 }
 

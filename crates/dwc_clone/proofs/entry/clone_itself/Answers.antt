@@ -1,4 +1,4 @@
-use Rattle.std.proofs.Common.{◌≡◌, ℕ, [], ◌∷◌, ◌++◌, take, refl, sym, ap, subst, ◌∙◌}
+use Rattle.std.proofs.Common.{◌≡◌, ℕ, [], ◌∷◌, ◌++◌, take, refl, sym, subst}
 use Rattle.std.specs.Prelude.{IfOk, filter_map}
 use Rattle.std.proofs.lemmas.Result.{err_from_is_err_and}
 use Rattle.dwc_base.specs.Clones.{endianity}
@@ -8,7 +8,6 @@ use Rattle.dwc_base.specs.Lists.{list_source}
 use Rattle.dwc_base.specs.RangeAttributes.{range_attributes}
 use Rattle.dwc_clone.specs.ClonedUnits.{source_with}
 use Rattle.dwc_read.specs.EntriesSeen.{entry_view}
-use Rattle.dwc_expr.specs.Frames.{frame_view}
 use Rattle.dwc_clone.specs.declared.entry.PlacedEntry.{PlacedEntry}
 use Rattle.dwc_clone.specs.Errors.{refusal_told}
 use Rattle.dwc_clone.specs.ContextPlaces.{AddsVariable}
@@ -38,9 +37,7 @@ returns-in_err-set_attributes-clause-itself g c number s goals bare base placed 
     let last1 = subst (λ (i : PlacedEntry). IsLast t0 i.id base e u1) (sym same.1) (subst (λ v. IsLast t0 placed.id base e v) (sym same.0) last) in
     let bounds = succeeded c.set_code.result c.in_ok-of_memory.field-0 c.in_ok-of_memory.ensures (c.set_code.ensures.given number t0 base e last1) in
     let last2 = given-last number t0 t0 (range_attributes (list_source src.unit.now.sections src.unit.now.header) src.transform.now x) real.id base e u1 u2 last1 bounds in
-    let frame = ap frame_view c.as_ref.ensures.value ∙ c.frame_in_force-frame.ensures registers s p frames force in
-    let in_force = c.in_force_by-in_force.ensures registers src s p force frame in
-    let refused = c.in_err-set_attributes.ensures.given number s goals base bounds.given source at last2 in_force in
+    let refused = c.in_err-set_attributes.ensures.given number s goals base bounds.given source at last2 (frames, force) in
     let q = err_from_is_err_and c.from_residual-in_err-set_attributes.result c.from_residual-in_err-set_attributes.ensures.1 in
     rw (q.1, q.2) (attributes-refused registers src s p plain (refusal_told c.in_err-set_attributes.field-0.0) refused)
 
@@ -96,8 +93,6 @@ returns-clause-itself g c number s goals bare base placed e source frames at for
     let last1 = subst (λ (i : PlacedEntry). IsLast t0 i.id base e u1) (sym same.1) (subst (λ v. IsLast t0 placed.id base e v) (sym same.0) last) in
     let bounds = succeeded c.set_code.result c.in_ok-of_memory.field-0 c.in_ok-of_memory.ensures (c.set_code.ensures.given number t0 base e last1) in
     let last2 = given-last number t0 t0 (range_attributes (list_source src.unit.now.sections src.unit.now.header) src.transform.now x) real.id base e u1 u2 last1 bounds in
-    let frame = ap frame_view c.as_ref.ensures.value ∙ c.frame_in_force-frame.ensures registers s p frames force in
-    let in_force = c.in_force_by-in_force.ensures registers src s p force frame in
     let t1 = c.set_attributes.new.strings in
     let bounds_said = range_attributes (list_source src.unit.now.sections src.unit.now.header) src.transform.now x in
     let values_said = values_wanted goals (tell_of c.args.telling s.entries p) registers src s p [] x.attributes in
@@ -105,7 +100,7 @@ returns-clause-itself g c number s goals bare base placed e source frames at for
     let u3 = c.set_attributes.new.unit in
     let u4 = c.set_endianity.new.unit in
     let u5 = c.add_context.new.unit in
-    let set = c.in_ok-set_attributes.ensures.given number s goals base bounds.given source at last2 in_force in
+    let set = c.in_ok-set_attributes.ensures.given number s goals base bounds.given source at last2 (frames, force) in
     let both = given-on number t0 t0 t1 bounds_said values_said base e u2 u3 bounds set.given in
     let last3 = given-last number t0 t1 (bounds_said ++ values_said) real.id base e u1 u3 last1 both in
     let order = succeeded c.set_endianity.result c.in_ok-of_memory-2.field-0 c.in_ok-of_memory-2.ensures (c.set_endianity.ensures.given number t1 goals base both.given p last3 refl) in
@@ -116,4 +111,4 @@ returns-clause-itself g c number s goals bare base placed e source frames at for
     (subst (λ t. IsGiven number t0 t1 (bounds_said ++ values_wanted goals (tell_of t s.entries p) registers src s p [] x.attributes ++ order_said) base e u4) told whole)
     c.add_context.ensures.grows set.accepted (subst (λ (i : PlacedEntry). c.add_entry_with_room.new.parents.items ≡ take x.depth parents ++ i.id ∷ []) same.1 items)
     c.add_context.result
-    (subst (λ (i : PlacedEntry). AddsVariable src.module.place (context_over (source_with registers src s) p) i.id.index src.vmctx_ptr c.add_context.new.strings u4 u5 c.add_context.result) same.1 (c.add_context.ensures.variable s in_force))
+    (subst (λ (i : PlacedEntry). AddsVariable src.module.place (context_over (source_with registers src s) p) i.id.index src.vmctx_ptr c.add_context.new.strings u4 u5 c.add_context.result) same.1 (c.add_context.ensures.variable s (frames, force)))

@@ -7,7 +7,7 @@ use Rattle.dwc_read.specs.EntriesSeen.{entry_view}
 use Rattle.dwc_write.specs.GivenUnits.{Addition, GivenUnit}
 use Rattle.dwc_clone.specs.Sources.{IsSource}
 use Rattle.dwc_clone.specs.KnownTexts.{KnowsTexts}
-use Rattle.dwc_clone.specs.ClonedUnits.{IsInForce}
+use Rattle.dwc_clone.specs.ClonedUnits.{GivesInForce}
 use Rattle.dwc_clone.specs.ClonedEntries.{IsLast, placed_entry}
 use Rattle.dwc_clone.specs.MadeValues.{ArePlaced}
 use Rattle.dwc_clone.specs.Tellings.{tell_of}
@@ -22,6 +22,6 @@ invariant-loop-attribute g l =
       places : l.unit.places ≡ l.fn.unit.places;
       number : l.number ≡ l.attribute-index;
       texts : KnowsTexts l.source.unit.now.sections l.strings l.known;
-      set : (number : ℕ) (s : UnitSource) (goals : Goal → Option (ℕ × ℕ)) (base : GivenUnit) (e : Addition) → IsSource l.source number s → ArePlaced l.source.places.now goals → IsLast l.fn.strings l.id base e l.fn.unit → IsInForce registers l.source s (placed_entry l.source (entry_view l.entry)) l.in_force
+      set : (number : ℕ) (s : UnitSource) (goals : Goal → Option (ℕ × ℕ)) (base : GivenUnit) (e : Addition) → IsSource l.source number s → ArePlaced l.source.places.now goals → IsLast l.fn.strings l.id base e l.fn.unit → GivesInForce l.source s (placed_entry l.source (entry_view l.entry)) l.lineage
           → AreSetSoFar goals (tell_of l.telling s.entries (placed_entry l.source (entry_view l.entry))) registers l.source number s (placed_entry l.source (entry_view l.entry)) l.fn.strings l.strings base e l.unit l.number (drop l.attribute-index (map attribute_view l.attributes));
     }

@@ -3,6 +3,7 @@ use Rattle.std.proofs.Common.{◌∙◌, Some, None, refl, ap, sym, subst}
 use Rattle.dwc_base.specs.declared.section_name.SectionName.TheVariants.{Info}
 use Rattle.dwc_base.specs.Entries.{Entry}
 use Rattle.dwc_base.specs.LocationAttributes.{LocationRefusal, drafted, value_of_expression}
+use Rattle.dwc_expr.specs.Frames.{frame_view}
 use Rattle.dwc_clone.specs.ClonedUnits.{source_with}
 use Rattle.dwc_clone.specs.Errors.{refusal_told}
 use Rattle.dwc_clone.specs.InForceSeen.{in_force_view}
@@ -14,18 +15,19 @@ use Rattle.dwc_clone.proofs.location.output_expression.Goals as goal
 pub returns-in-Ok-Some-clause-fits : goal.returns-in-Ok-Some-clause-fits
 returns-in-Ok-Some-clause-fits g c = λ size.
     let fs = c.args.source.now.transform.now in
-    let force = in_force_view fs ((goal.TargetIsa-dyn g c.args.isa.now).dwarf_registers c.args.isa.now.1) c.args.in_force.now in
+    let force = in_force_view fs ((goal.TargetIsa-dyn g c.args.isa.now).dwarf_registers c.args.isa.now.1) c.in_force_by-in_force.result in
     let seen = located-seen (value_of_expression c.args.name force (expression_at c.args.bytes.now (Info, 0))) c.in-Ok-Some.field-0 (Some c.in-Ok-Some.located) c.in-Ok-Some.ensures (c.in-Ok-Some.field-0-is ∙ ap Some (sym c.in-Ok-Some.located-is)) in
     fits-located size c.args.name c.in-Ok-Some.located c.output_located.result c.output_located.ensures.means
     (subst (FitsSeen {E = LocationRefusal} c.args.name) seen (fits-expression c.args.name fs (c.translations_are_said.ensures fs c.requires.functions) force refl (expression_at c.args.bytes.now (Info, 0))))
 
 pub returns-in-Ok-Some-clause-made : goal.returns-in-Ok-Some-clause-made
-returns-in-Ok-Some-clause-made g c = λ s e before unit texts entry numbered is.
+returns-in-Ok-Some-clause-made g c = λ s e before unit texts entry numbered tops.
     let at = ap (λ (x : Entry). x.offset) entry in
     let plain = sym (c.is_wrapped.ensures e entry) ∙ c.if-is_wrapped.false in
     let source = c.args.source.now in
     let registers = (goal.TargetIsa-dyn g c.args.isa.now).dwarf_registers c.args.isa.now.1 in
-    let force = in_force_view source.transform.now registers c.args.in_force.now in
+    let is = c.in_force_by-in_force.ensures registers c.args.source.now s e tops.1 (ap frame_view c.as_ref.ensures.value ∙ c.frame_in_force-frame.ensures registers s e tops.0 tops.1) in
+    let force = in_force_view source.transform.now registers c.in_force_by-in_force.result in
     let located = c.in-Ok-Some.located in
     let seen = located-seen (value_of_expression c.args.name force (expression_at c.args.bytes.now (Info, 0))) c.in-Ok-Some.field-0 (Some c.in-Ok-Some.located) c.in-Ok-Some.ensures (c.in-Ok-Some.field-0-is ∙ ap Some (sym c.in-Ok-Some.located-is)) in
     record {
@@ -35,12 +37,13 @@ returns-in-Ok-Some-clause-made g c = λ s e before unit texts entry numbered is.
     }
 
 pub returns-in-Ok-None-clause-made : goal.returns-in-Ok-None-clause-made
-returns-in-Ok-None-clause-made g c = λ s e before unit texts entry numbered is.
+returns-in-Ok-None-clause-made g c = λ s e before unit texts entry numbered tops.
     let at = ap (λ (x : Entry). x.offset) entry in
     let plain = sym (c.is_wrapped.ensures e entry) ∙ c.if-is_wrapped.false in
     let source = c.args.source.now in
     let registers = (goal.TargetIsa-dyn g c.args.isa.now).dwarf_registers c.args.isa.now.1 in
-    let force = in_force_view source.transform.now registers c.args.in_force.now in
+    let is = c.in_force_by-in_force.ensures registers c.args.source.now s e tops.1 (ap frame_view c.as_ref.ensures.value ∙ c.frame_in_force-frame.ensures registers s e tops.0 tops.1) in
+    let force = in_force_view source.transform.now registers c.in_force_by-in_force.result in
     let seen = located-seen (value_of_expression c.args.name force (expression_at c.args.bytes.now (Info, 0))) c.in-Ok-None.field-0 None c.in-Ok-None.ensures c.in-Ok-None.field-0-is in
     record {
       drafted = drafted None;
@@ -49,29 +52,32 @@ returns-in-Ok-None-clause-made g c = λ s e before unit texts entry numbered is.
     }
 
 pub returns-in-Err-clause-made : goal.returns-in-Err-clause-made
-returns-in-Err-clause-made g c = λ s e before unit texts entry numbered is.
+returns-in-Err-clause-made g c = λ s e before unit texts entry numbered tops.
     let at = ap (λ (x : Entry). x.offset) entry in
     let plain = sym (c.is_wrapped.ensures e entry) ∙ c.if-is_wrapped.false in
     let source = c.args.source.now in
     let registers = (goal.TargetIsa-dyn g c.args.isa.now).dwarf_registers c.args.isa.now.1 in
-    let force = in_force_view source.transform.now registers c.args.in_force.now in
+    let is = c.in_force_by-in_force.ensures registers c.args.source.now s e tops.1 (ap frame_view c.as_ref.ensures.value ∙ c.frame_in_force-frame.ensures registers s e tops.0 tops.1) in
+    let force = in_force_view source.transform.now registers c.in_force_by-in_force.result in
     expression-told (source_with registers source s) e before c.args.entry.now.offset c.args.number at numbered force is c.args.name c.args.bytes.now (Info, 0) plain c.in-Err.error (refusal_told c.at_expression.result) c.at_expression.ensures c.in-Err.ensures
 
 pub returns-in_err-check_located-clause-made : goal.returns-in_err-check_located-clause-made
-returns-in_err-check_located-clause-made g c = λ s e before unit texts entry numbered is.
+returns-in_err-check_located-clause-made g c = λ s e before unit texts entry numbered tops.
     let source = c.args.source.now in
     let registers = (goal.TargetIsa-dyn g c.args.isa.now).dwarf_registers c.args.isa.now.1 in
-    let force = in_force_view source.transform.now registers c.args.in_force.now in
+    let is = c.in_force_by-in_force.ensures registers c.args.source.now s e tops.1 (ap frame_view c.as_ref.ensures.value ∙ c.frame_in_force-frame.ensures registers s e tops.0 tops.1) in
+    let force = in_force_view source.transform.now registers c.in_force_by-in_force.result in
     let at = ap (λ (x : Entry). x.offset) entry in
     let wrapped = sym (c.is_wrapped.ensures e entry) ∙ c.if-is_wrapped.true in
     let p = err_from_is_err_and c.from_residual.result c.from_residual.ensures.1 in
     rw (p.1, p.2) (wrapped-told (source_with registers source s) e before c.args.entry.now.offset c.args.number at numbered force is c.args.name c.args.bytes.now (Info, 0) wrapped (refusal_told c.in_err-check_located.field-0.0) (c.in_err-check_located.ensures registers s e before at numbered is))
 
 pub returns-then-is_wrapped-clause-made : goal.returns-then-is_wrapped-clause-made
-returns-then-is_wrapped-clause-made g c = λ s e before unit texts entry numbered is.
+returns-then-is_wrapped-clause-made g c = λ s e before unit texts entry numbered tops.
     let source = c.args.source.now in
     let registers = (goal.TargetIsa-dyn g c.args.isa.now).dwarf_registers c.args.isa.now.1 in
-    let force = in_force_view source.transform.now registers c.args.in_force.now in
+    let is = c.in_force_by-in_force.ensures registers c.args.source.now s e tops.1 (ap frame_view c.as_ref.ensures.value ∙ c.frame_in_force-frame.ensures registers s e tops.0 tops.1) in
+    let force = in_force_view source.transform.now registers c.in_force_by-in_force.result in
     let at = ap (λ (x : Entry). x.offset) entry in
     let wrapped = sym (c.is_wrapped.ensures e entry) ∙ c.if-is_wrapped.true in
     record {

@@ -5,6 +5,7 @@ use Rattle.dwc_base.specs.EntryRules.{code_value_becomes}
 use Rattle.dwc_base.specs.Lists.{list_source}
 use Rattle.dwc_base.specs.LocationAttributes.{drafted}
 use Rattle.dwc_read.specs.ValuesSeen.{value_view}
+use Rattle.dwc_expr.specs.Frames.{frame_view}
 use Rattle.dwc_clone.specs.ClonedUnits.{source_with}
 use Rattle.dwc_clone.specs.Errors.{refusal_told}
 use Rattle.dwc_clone.specs.InForceSeen.{in_force_view}
@@ -19,20 +20,21 @@ pub returns-in-Ok-Some-clause-fits : goal.returns-in-Ok-Some-clause-fits
 returns-in-Ok-Some-clause-fits g c = λ size name named.
     let fs = c.args.source.now.transform.now in
     let u = c.args.source.now.unit.now in
-    let force = in_force_view fs ((goal.TargetIsa-dyn g c.args.isa.now).dwarf_registers c.args.isa.now.1) c.args.in_force.now in
+    let force = in_force_view fs ((goal.TargetIsa-dyn g c.args.isa.now).dwarf_registers c.args.isa.now.1) c.in_force_by-in_force.result in
     let lists = list_source u.sections u.header in
     let seen = located-seen (located_by lists force c.args.entry.now.offset (value_view c.args.value)) c.in-Ok-Some.field-0 (Some c.in-Ok-Some.located) c.in-Ok-Some.ensures (c.in-Ok-Some.field-0-is ∙ ap Some (sym c.in-Ok-Some.located-is)) in
     fits-located size name c.in-Ok-Some.located c.output_located.result c.output_located.ensures.means
     (subst (FitsSeen {E = ListedRefusal} name) seen (fits-list fs (c.translations_are_said.ensures fs c.requires.functions) force refl name named lists c.args.entry.now.offset (value_view c.args.value)))
 
 pub returns-in-Ok-Some-clause-made : goal.returns-in-Ok-Some-clause-made
-returns-in-Ok-Some-clause-made g c = λ s e before unit name texts entry named is.
+returns-in-Ok-Some-clause-made g c = λ s e before unit name texts entry named tops.
     let at = ap (λ (x : Entry). x.offset) entry in
     let plain = sym (c.is_wrapped.ensures e entry) ∙ c.if-is_wrapped.false in
     let source = c.args.source.now in
     let u = source.unit.now in
     let registers = (goal.TargetIsa-dyn g c.args.isa.now).dwarf_registers c.args.isa.now.1 in
-    let force = in_force_view source.transform.now registers c.args.in_force.now in
+    let is = c.in_force_by-in_force.ensures registers c.args.source.now s e tops.1 (ap frame_view c.as_ref.ensures.value ∙ c.frame_in_force-frame.ensures registers s e tops.0 tops.1) in
+    let force = in_force_view source.transform.now registers c.in_force_by-in_force.result in
     let located = c.in-Ok-Some.located in
     let v = value_view c.args.value in
     let seen = located-seen (located_by (list_source u.sections u.header) force c.args.entry.now.offset v) c.in-Ok-Some.field-0 (Some located) c.in-Ok-Some.ensures (c.in-Ok-Some.field-0-is ∙ ap Some (sym c.in-Ok-Some.located-is)) in
@@ -43,13 +45,14 @@ returns-in-Ok-Some-clause-made g c = λ s e before unit name texts entry named i
     }
 
 pub returns-in-Ok-None-clause-made : goal.returns-in-Ok-None-clause-made
-returns-in-Ok-None-clause-made g c = λ s e before unit name texts entry named is.
+returns-in-Ok-None-clause-made g c = λ s e before unit name texts entry named tops.
     let at = ap (λ (x : Entry). x.offset) entry in
     let plain = sym (c.is_wrapped.ensures e entry) ∙ c.if-is_wrapped.false in
     let source = c.args.source.now in
     let u = source.unit.now in
     let registers = (goal.TargetIsa-dyn g c.args.isa.now).dwarf_registers c.args.isa.now.1 in
-    let force = in_force_view source.transform.now registers c.args.in_force.now in
+    let is = c.in_force_by-in_force.ensures registers c.args.source.now s e tops.1 (ap frame_view c.as_ref.ensures.value ∙ c.frame_in_force-frame.ensures registers s e tops.0 tops.1) in
+    let force = in_force_view source.transform.now registers c.in_force_by-in_force.result in
     let v = value_view c.args.value in
     let seen = located-seen (located_by (list_source u.sections u.header) force c.args.entry.now.offset v) c.in-Ok-None.field-0 None c.in-Ok-None.ensures c.in-Ok-None.field-0-is in
     record {
@@ -59,37 +62,41 @@ returns-in-Ok-None-clause-made g c = λ s e before unit name texts entry named i
     }
 
 pub returns-in-Err-List-clause-made : goal.returns-in-Err-List-clause-made
-returns-in-Err-List-clause-made g c = λ s e before unit name texts entry named is.
+returns-in-Err-List-clause-made g c = λ s e before unit name texts entry named tops.
     let at = ap (λ (x : Entry). x.offset) entry in
     let plain = sym (c.is_wrapped.ensures e entry) ∙ c.if-is_wrapped.false in
     let source = c.args.source.now in
     let registers = (goal.TargetIsa-dyn g c.args.isa.now).dwarf_registers c.args.isa.now.1 in
-    let force = in_force_view source.transform.now registers c.args.in_force.now in
+    let is = c.in_force_by-in_force.ensures registers c.args.source.now s e tops.1 (ap frame_view c.as_ref.ensures.value ∙ c.frame_in_force-frame.ensures registers s e tops.0 tops.1) in
+    let force = in_force_view source.transform.now registers c.in_force_by-in_force.result in
     let x = source_with registers source s in
     let v = value_view c.args.value in
     subst (λ told. RefusesSo (code_value_becomes x e before name v) (refusal_told told)) (sym c.from.ensures)
     (list-unread x e before name v _ drafted (plain-becomes x e before c.args.entry.now.offset at force is name v c.requires.list plain) c.in-Err-List.field-0 c.in-Err-List.fault c.in-Err-List.field-0-is c.in-Err-List.ensures)
 
 pub returns-in-Err-Expression-clause-made : goal.returns-in-Err-Expression-clause-made
-returns-in-Err-Expression-clause-made g c = λ s e before unit name texts entry named is.
+returns-in-Err-Expression-clause-made g c = λ s e before unit name texts entry named tops.
     let at = ap (λ (x : Entry). x.offset) entry in
     let plain = sym (c.is_wrapped.ensures e entry) ∙ c.if-is_wrapped.false in
     let source = c.args.source.now in
     let registers = (goal.TargetIsa-dyn g c.args.isa.now).dwarf_registers c.args.isa.now.1 in
-    let force = in_force_view source.transform.now registers c.args.in_force.now in
+    let is = c.in_force_by-in_force.ensures registers c.args.source.now s e tops.1 (ap frame_view c.as_ref.ensures.value ∙ c.frame_in_force-frame.ensures registers s e tops.0 tops.1) in
+    let force = in_force_view source.transform.now registers c.in_force_by-in_force.result in
     listed-told (source_with registers source s) e before name (value_view c.args.value) _ drafted (plain-becomes (source_with registers source s) e before c.args.entry.now.offset at force is name (value_view c.args.value) c.requires.list plain) c.in-Err-Expression.field-0 c.in-Err-Expression.error c.in-Err-Expression.field-0-is c.in-Err-Expression.ensures (refusal_told c.of_expression.result) c.of_expression.ensures
 
 pub returns-in_err-check_locations-clause-made : goal.returns-in_err-check_locations-clause-made
-returns-in_err-check_locations-clause-made g c = λ s e before unit name texts entry named is.
+returns-in_err-check_locations-clause-made g c = λ s e before unit name texts entry named tops.
     let registers = (goal.TargetIsa-dyn g c.args.isa.now).dwarf_registers c.args.isa.now.1 in
+    let is = c.in_force_by-in_force.ensures registers c.args.source.now s e tops.1 (ap frame_view c.as_ref.ensures.value ∙ c.frame_in_force-frame.ensures registers s e tops.0 tops.1) in
     let at = ap (λ (x : Entry). x.offset) entry in
     let wrapped = sym (c.is_wrapped.ensures e entry) ∙ c.if-is_wrapped.true in
     let p = err_from_is_err_and c.from_residual.result c.from_residual.ensures.1 in
     rw (p.1, p.2) (c.in_err-check_locations.ensures registers s e before name at wrapped is)
 
 pub returns-then-is_wrapped-clause-made : goal.returns-then-is_wrapped-clause-made
-returns-then-is_wrapped-clause-made g c = λ s e before unit name texts entry named is.
+returns-then-is_wrapped-clause-made g c = λ s e before unit name texts entry named tops.
     let registers = (goal.TargetIsa-dyn g c.args.isa.now).dwarf_registers c.args.isa.now.1 in
+    let is = c.in_force_by-in_force.ensures registers c.args.source.now s e tops.1 (ap frame_view c.as_ref.ensures.value ∙ c.frame_in_force-frame.ensures registers s e tops.0 tops.1) in
     let at = ap (λ (x : Entry). x.offset) entry in
     let wrapped = sym (c.is_wrapped.ensures e entry) ∙ c.if-is_wrapped.true in
     let read = c.in_ok-check_locations.ensures registers s e before name at wrapped is in

@@ -5,7 +5,7 @@ use Rattle.dwc_read.specs.EntriesSeen.{entry_view}
 use Rattle.dwc_clone.specs.Sources.{IsSource}
 use Rattle.dwc_clone.specs.KnownTexts.{KnowsTexts}
 use Rattle.dwc_clone.specs.MadeValues.{Grows}
-use Rattle.dwc_clone.specs.ClonedUnits.{IsInForce}
+use Rattle.dwc_clone.specs.ClonedUnits.{GivesInForce}
 use Rattle.dwc_clone.specs.ClonedEntries.{placed_entry}
 use Rattle.dwc_clone.proofs.CheckedAttributes.{AreReadSoFar}
 use Rattle.dwc_clone.proofs.wrapped.check_attributes.Given as goal
@@ -18,6 +18,6 @@ invariant-loop-attribute g l =
       number : l.number ≡ l.attribute-index;
       texts : KnowsTexts l.source.unit.now.sections l.strings l.known;
       grows : Grows l.fn.strings l.strings;
-      read : (number : ℕ) (s : UnitSource) → IsSource l.source number s → IsInForce registers l.source s (placed_entry l.source (entry_view l.entry)) l.in_force
+      read : (number : ℕ) (s : UnitSource) → IsSource l.source number s → GivesInForce l.source s (placed_entry l.source (entry_view l.entry)) l.lineage
           → AreReadSoFar registers l.source s (placed_entry l.source (entry_view l.entry)) l.fn.strings l.strings l.number (drop l.attribute-index (map attribute_view l.attributes));
     }

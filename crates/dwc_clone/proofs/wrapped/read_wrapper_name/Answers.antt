@@ -1,6 +1,4 @@
-use Rattle.std.proofs.Common.{ap, ◌∙◌}
 use Rattle.std.proofs.lemmas.Result.{err_from_is_err_and}
-use Rattle.dwc_expr.specs.Frames.{frame_view}
 use Rattle.dwc_read.specs.EntriesSeen.{entry_view}
 use Rattle.dwc_clone.specs.Errors.{refusal_told}
 use Rattle.dwc_clone.specs.ClonedEntries.{placed_entry}
@@ -14,10 +12,8 @@ returns-in_err-check_attributes-clause-named g c number s source frames emitted 
     let registers = (goal.TargetIsa-dyn g c.args.isa.now).dwarf_registers c.args.isa.now.1 in
     let src = c.args.source.now in
     let p = placed_entry src (entry_view c.args.entry.now) in
-    let frame = ap frame_view c.as_ref.ensures.value ∙ c.frame_in_force-frame.ensures registers s p frames tops in
-    let force = c.in_force_by-in_force.ensures registers src s p tops frame in
     let q = err_from_is_err_and c.from_residual.result c.from_residual.ensures.1 in
-    rw (q.1, q.2) (attributes-refused registers src number s p source wrapped (refusal_told c.in_err-check_attributes.field-0.0) (c.in_err-check_attributes.ensures.checked number s source force))
+    rw (q.1, q.2) (attributes-refused registers src number s p source wrapped (refusal_told c.in_err-check_attributes.field-0.0) (c.in_err-check_attributes.ensures.checked number s source (frames, tops)))
 
 pub returns-clause-texts : goal.returns-clause-texts
 returns-clause-texts g c = known-grown c.args.source.now.unit.now.sections c.check_attributes.new.strings c.name_of_wrapper.new.strings c.check_attributes.new.known c.name_of_wrapper.ensures.grows c.in_ok-check_attributes.ensures.texts
@@ -33,8 +29,6 @@ returns-clause-named g c number s source frames emitted knows tops wrapped =
     let p = placed_entry src (entry_view c.args.entry.now) in
     let old = c.args.strings.now in
     let middle = c.check_attributes.new.strings in
-    let frame = ap frame_view c.as_ref.ensures.value ∙ c.frame_in_force-frame.ensures registers s p frames tops in
-    let force = c.in_force_by-in_force.ensures registers src s p tops frame in
-    let checked = c.in_ok-check_attributes.ensures.checked number s source force in
+    let checked = c.in_ok-check_attributes.ensures.checked number s source (frames, tops) in
     let known = names-grown src s old middle c.args.names.now c.in_ok-check_attributes.ensures.grows knows in
     gives-name registers src number s p source wrapped old middle c.name_of_wrapper.new.strings c.name_of_wrapper.result checked c.name_of_wrapper.ensures.grows (c.name_of_wrapper.ensures.name number s source emitted known)

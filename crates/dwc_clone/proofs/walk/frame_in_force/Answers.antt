@@ -1,7 +1,7 @@
 use Rattle.std.proofs.Common.{ap, ◌∙◌}
 use Rattle.dwc_expr.specs.Frames.{frame_view}
 use Rattle.dwc_clone.proofs.FrameLaws.{frame-none, frame-some}
-use Rattle.dwc_clone.proofs.entry.frame_in_force.Goals as goal
+use Rattle.dwc_clone.proofs.walk.frame_in_force.Goals as goal
 
 pub returns-in_err-frame : goal.returns-in_err-frame
 returns-in_err-frame c = λ registers s e frames force. ap frame_view c.from_residual.ensures ∙ frame-none registers c.args.source.now s e (c.in_err-frame.ensures ∙ force.frame)
