@@ -16,7 +16,7 @@ use Rattle.dwc_write.specs.Layouts.{UnitPlaces, offset_among, offset_if_added, o
 use Rattle.dwc_base.specs.declared.section_name.SectionName.TheVariants.{Info}
 use Rattle.dwc_write.specs.Writers.{section_of}
 use Rattle.dwc_write.proofs.RefusalLaws.{past-limit}
-use Rattle.dwc_write.specs.LayoutViews.{Advances, AdvancesOrMemory, offset_known, places_view}
+use Rattle.dwc_write.specs.LayoutViews.{AdvancesOrMemory, offset_known, places_view}
 use Rattle.dwc_write.specs.declared.layout.UnitLayout.{UnitLayout}
 
 -- ---- places
@@ -35,16 +35,10 @@ spelled-done spell view (x ∷ xs) zero past = absurd (omega arith)
 spelled-done spell view (x ∷ xs) (suc i) past = spelled-done spell view xs i (omega arith)
 
 -- a refusal on the way is one of the whole
-pub advance-refused : (result : Result ℕ WriteError) (e : WriteError) (behind more place total : ℕ) → ((error : WriteError) × (result ≡ Err error) × (error ≡ e)) → Advances (Err e) behind more → behind + more ≤ place + total → Advances result place total
-advance-refused result OutOfMemory behind more place total p refused less = absurd refused
-advance-refused result (InvalidFrameCodeOffset symbol) behind more place total p refused less = absurd refused
-advance-refused result (InvalidFrameDataOffset symbol) behind more place total p refused less = absurd refused
-advance-refused result (TooLarge what) behind more place total p refused less =
-    let is : result ≡ Err (TooLarge what) = p.1 ∙ ap Err p.2 in
-    rw (is) (past-limit Info _ _ (section_of what) (λ large. omega (arith, large, less)) refused)
-
-pub advance-free : (result : Result ℕ WriteError) (e : WriteError) (behind more place total : ℕ) → ((error : WriteError) × (result ≡ Err error) × (error ≡ e)) → Advances (Err e) behind more → behind + more ≤ place + total → AdvancesOrMemory result place total
-advance-free result OutOfMemory behind more place total p refused less = absurd refused
+pub advance-free : (result : Result ℕ WriteError) (e : WriteError) (behind more place total : ℕ) → ((error : WriteError) × (result ≡ Err error) × (error ≡ e)) → AdvancesOrMemory (Err e) behind more → behind + more ≤ place + total → AdvancesOrMemory result place total
+advance-free result OutOfMemory behind more place total p refused less =
+    let is : result ≡ Err OutOfMemory = p.1 ∙ ap Err p.2 in
+    rw (is) refused
 advance-free result (InvalidFrameCodeOffset symbol) behind more place total p refused less = absurd refused
 advance-free result (InvalidFrameDataOffset symbol) behind more place total p refused less = absurd refused
 advance-free result (TooLarge what) behind more place total p refused less =

@@ -1,18 +1,22 @@
 //! Where the entries of units stand, found before a byte is written: a reference names an entry by its offset, which may stand
 //! behind it. (DWARF 4, sections 7.5.1 and 7.5.4.)
-ghost use Rattle.std.specs.Prelude.{◌≡◌, ◌++◌, ◌∷◌, [], ℕ, List, ◌+◌, ◌<◌, ◌≤◌, ◌⊎◌, OnOk, IfOk, IfErr, get_or, length, map, replicate};
+ghost use Rattle.std.specs.Prelude.{◌≡◌, ◌++◌, ◌∷◌, [], ℕ, List, ◌+◌, ◌<◌, ◌≤◌, ◌⊎◌, OnOk, IfOk, IfErr, ◌&&◌, get_or, length, map, replicate};
 ghost use Rattle.std.specs.List.{All, AllZip, flat_map};
 ghost use Rattle.dwc_base.specs.declared.records.Endian.{Endian};
 ghost use Rattle.dwc_write.specs.FileOrders.{looked_up};
 ghost use Rattle.dwc_write.specs.GivenUnits.{Addition, AreWritable, FitsOrdered, first_uses, no_places, ordered, shapes_of, size_of, written_attributes, written_entries};
-ghost use Rattle.dwc_write.specs.LayoutViews.{Advances, AdvancesOrMemory, IsLaidOut, IsNoting, IsTooLong, offset_known, places_view};
+ghost use Rattle.dwc_write.specs.LayoutViews.{AdvancesOrMemory, IsLaidOut, IsNoting, IsTooLong, offset_known, places_view};
 ghost use Rattle.dwc_write.specs.Layouts.{codes_of, offset_among, offsets_by_number, places_of_units, unit_length, units_length};
 ghost use Rattle.dwc_write.specs.Lists.{no_lists, nowhere};
+ghost use Rattle.dwc_write.specs.Noted.{if_listed};
+ghost use Rattle.dwc_write.specs.declared.lists.ListKind.TheVariants.{Locations, Ranges};
 ghost use Rattle.dwc_write.specs.ShapeViews.{shape_view};
+ghost use Rattle.dwc_write.specs.ShortLists.{are_short_values};
 ghost use Rattle.dwc_base.specs.NumberBytes.{uleb_bytes};
 ghost use Rattle.dwc_write.specs.Spelled.{at_places};
 ghost use Rattle.dwc_write.specs.SpelledOutput.{IsRefusal};
 ghost use Rattle.dwc_write.specs.SpelledUnits.{attribute_bytes, entry_bytes, header_length, shaped};
+ghost use Rattle.dwc_write.specs.UsedTexts.{texts_of_attributes};
 ghost use Rattle.dwc_write.specs.WidestGiven.{IsWideRefusal};
 ghost use Rattle.dwc_write.specs.Writers.{most_bytes, OkUnlessMemory};
 
@@ -21,11 +25,9 @@ use crate::additions::Additions;
 use crate::attributes::KeptAttribute;
 use crate::file_order::{FilePlace, depth_of_first, file_order};
 use crate::notes::{Notes, note_entry};
-use crate::sizes::{uleb_length, value_size};
+use crate::sizes::{advanced, uleb_length};
 use crate::small_places::SmallPlace;
-use crate::writer::MOST_BYTES;
 use crate::{Unit, WriteError};
-use dwc_base::{Limit, SectionName};
 use indexmap::IndexSet;
 use std::alloc::{AllocError, Global};
 
@@ -167,8 +169,15 @@ fn place_entries(
         guesses[alike] = code - 1;
         coded.codes.push(in_four_bytes(code)?)?;
         coded.offsets.push(in_four_bytes(place as u64)?)?;
-        note_entry(&mut coded.notes, order[i], attributes)?;
-        place = behind_entry(place, size, code, attributes, depth.saturating_sub(next))?;
+        place = place_entry(
+            &mut coded.notes,
+            order[i],
+            attributes,
+            place,
+            size,
+            code,
+            depth.saturating_sub(next),
+        )?;
     }
     Ok(place)
 }
@@ -183,34 +192,27 @@ fn guess_place(tag: u16, has_children: bool, count: usize) -> usize
     kind.wrapping_mul(8).wrapping_add(count) % GUESSES
 }
 
-// The place behind an entry: its code, its values, and an end for each list of siblings that ends behind it.
-fn behind_entry(
+// Notes an entry at a place. Answers the place behind it: behind its code, its values, and an end for each list of siblings that ends.
+fn place_entry(
+    notes: &mut Notes,
+    entry: FilePlace,
+    attributes: &[KeptAttribute],
     place: usize,
     size: u8,
     code: u64,
-    attributes: &[KeptAttribute],
     ends: usize,
 ) -> Result<usize, WriteError>
     requires place { place ≤ most_bytes }
     requires size { (size ≡ 4) ⊎ (size ≡ 8) }
-    ensures { (order : Endian) → Advances result place (length (uleb_bytes code ++ (flat_map (attribute_bytes order size) (written_attributes nowhere no_places no_lists attributes.now) ++ replicate {A = ℕ} ends 0))) }
+    ensures ranged { OnOk result (notes.new.ranged.items ≡ notes.old.ranged.items ++ if_listed Ranges attributes.now entry) }
+    ensures located { OnOk result (notes.new.located.items ≡ notes.old.located.items ++ if_listed Locations attributes.now entry) }
+    ensures texts { OnOk result (notes.new.texts.items ≡ notes.old.texts.items ++ texts_of_attributes attributes.now) }
+    ensures short { OnOk result (notes.new.short ≡ (notes.old.short && are_short_values attributes.now)) }
+    ensures end { (order : Endian) → AdvancesOrMemory result place (length (uleb_bytes code ++ (flat_map (attribute_bytes order size) (written_attributes nowhere no_places no_lists attributes.now) ++ replicate {A = ℕ} ends 0))) }
 {
     let behind_code = advanced(place, usize::from(uleb_length(code)))?;
-    let behind_values = behind_values(behind_code, size, attributes)?;
-    advanced(behind_values, ends)
-}
-
-// The place behind values.
-fn behind_values(place: usize, size: u8, attributes: &[KeptAttribute]) -> Result<usize, WriteError>
-    requires place { place ≤ most_bytes }
-    requires size { (size ≡ 4) ⊎ (size ≡ 8) }
-    ensures { (order : Endian) → Advances result place (length (flat_map (attribute_bytes order size) (written_attributes nowhere no_places no_lists attributes.now))) }
-{
-    let mut behind = place;
-    for i in 0..attributes.len() {
-        behind = advanced(behind, value_size(&attributes[i], size))?;
-    }
-    Ok(behind)
+    let behind_values = note_entry(notes, entry, attributes, behind_code, size)?;
+    Ok(advanced(behind_values, ends)?)
 }
 
 // A number in four bytes. No unit with a greater one has room in memory.
@@ -221,19 +223,6 @@ fn in_four_bytes(number: u64) -> Result<u32, WriteError>
         Ok(narrow) => Ok(narrow),
         Err(_) => Err(WriteError::OutOfMemory),
     }
-}
-
-// A place that is so many bytes behind another, in `.debug_info`.
-fn advanced(place: usize, more: usize) -> Result<usize, WriteError>
-    requires { place ≤ most_bytes }
-    ensures { Advances result place more }
-{
-    if more > MOST_BYTES - place {
-        return Err(WriteError::TooLarge {
-            what: Limit::Section(SectionName::Info),
-        });
-    }
-    Ok(place + more)
 }
 
 // The offsets of entries by their places in the order of addition, of which there are so many. The first of a place counts.

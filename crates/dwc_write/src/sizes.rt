@@ -1,16 +1,19 @@
-//! How long values are. What they name by an offset has four bytes wherever it stands. (DWARF 4, sections 7.5.4 and 7.6.)
-ghost use Rattle.std.specs.Prelude.{◌≡◌, ◌≤◌, ◌⊎◌, length, negsuc, pos};
+//! How long values are, and the places behind them. (DWARF 4, sections 7.5.4 and 7.6.)
+ghost use Rattle.std.specs.Prelude.{◌≡◌, ◌≤◌, length, negsuc, pos};
 ghost use Rattle.dwc_base.specs.declared.records.Endian.{Endian};
-ghost use Rattle.dwc_write.specs.GivenUnits.{constant_of, no_places, written_of};
-ghost use Rattle.dwc_write.specs.Lists.{no_lists};
+ghost use Rattle.dwc_write.specs.GivenUnits.{constant_of};
+ghost use Rattle.dwc_write.specs.LayoutViews.{Advances};
 ghost use Rattle.dwc_base.specs.NumberBytes.{sleb_bytes, uleb_bytes};
 ghost use Rattle.dwc_write.specs.Spelled.{block_bytes};
 ghost use Rattle.dwc_write.specs.SpelledUnits.{written_bytes};
+ghost use Rattle.dwc_write.specs.Writers.{most_bytes};
 
-use crate::attributes::{Held, KeptAttribute};
+use crate::WriteError;
+use crate::writer::MOST_BYTES;
 use dwc_base::constants::{
     DW_FORM_data1, DW_FORM_data2, DW_FORM_data4, DW_FORM_data8, DW_FORM_sdata,
 };
+use dwc_base::{Limit, SectionName};
 
 // How many bytes an unsigned LEB128 number has.
 pub fn uleb_length(value: u64) -> u8
@@ -57,35 +60,15 @@ fn sleb_length_from_0(value: u64) -> u8
     count
 }
 
-// How many bytes a value has, in a unit of a size of addresses.
-pub fn value_size(attribute: &KeptAttribute, size: u8) -> usize
-    requires { (size ≡ 4) ⊎ (size ≡ 8) }
-    ensures { (order : Endian) → result ≡ length (written_bytes order size (written_of no_places no_lists attribute.now.value)) }
-{
-    match attribute.value() {
-        Held::Address(_) => usize::from(size),
-        Held::Constant { form, bits } => usize::from(constant_size(form, bits)),
-        Held::Flag(_) => 1,
-        Held::Block(bytes) => block_size(bytes),
-        Held::Exprloc(expression) => block_size(expression.as_slice()),
-        Held::StringRef(_) => 4,
-        Held::LineProgramRef => 4,
-        Held::RangeListRef(_) => 4,
-        Held::LocationListRef(_) => 4,
-        Held::UnitRef(_) => 4,
-        Held::DebugInfoRef(_) => 4,
-    }
-}
-
 // How many bytes a block has with its length.
-fn block_size(bytes: &[u8]) -> usize
+pub fn block_size(bytes: &[u8]) -> usize
     ensures { result ≡ length (block_bytes bytes.now) }
 {
     usize::from(uleb_length(bytes.len() as u64)) + bytes.len()
 }
 
 // How many bytes a constant has in its form.
-fn constant_size(form: u16, bits: u64) -> u8
+pub fn constant_size(form: u16, bits: u64) -> u8
     ensures { (order : Endian) → result ≡ length (written_bytes order 8 (constant_of form bits)) }
 {
     match form {
@@ -96,4 +79,17 @@ fn constant_size(form: u16, bits: u64) -> u8
         DW_FORM_sdata => sleb_length(bits.cast_signed()),
         _ => uleb_length(bits),
     }
+}
+
+// A place that is so many bytes behind another, in `.debug_info`.
+pub fn advanced(place: usize, more: usize) -> Result<usize, WriteError>
+    requires { place ≤ most_bytes }
+    ensures { Advances result place more }
+{
+    if more > MOST_BYTES - place {
+        return Err(WriteError::TooLarge {
+            what: Limit::Section(SectionName::Info),
+        });
+    }
+    Ok(place + more)
 }
