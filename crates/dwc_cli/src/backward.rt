@@ -6,8 +6,11 @@ ghost use Rattle.dwc_cli.specs.Printed.{space, line_feed};
 use dwc_base::DwarfSectionReloc;
 use itoa::write_digits;
 
-/// No line without a name is longer: one has at most four numbers of up to 20 digits.
+/// No line without a name is longer: one has at most four numbers of up to 20 digits. Nor is a line with a name of `NAME` bytes.
 pub(crate) const LINE: usize = 96;
+
+/// How long the name of a section is at most that a line has room for.
+pub(crate) const NAME: usize = 18;
 
 // Puts some bytes in front of the place `end`. Answers where they start.
 #[inline]

@@ -10,7 +10,7 @@ ghost use Rattle.dwc_cli.specs.Edge.{AppendsFront, Prints};
 ghost use Rattle.dwc_cli.specs.Printed.{printed, space, line_feed, printed_section, printed_relocation, IsTextOfOne};
 
 use crate::backward::{
-    LINE, begin_line, bytes_before, end_line, end_section_line, number_before, text_from,
+    LINE, NAME, begin_line, bytes_before, end_line, end_section_line, number_before, text_from,
 };
 use crate::page::{PAGE, Page};
 use crate::sink::{Sink, write_all};
@@ -22,6 +22,7 @@ use std::alloc::{AllocError, Global};
 const PIECE: usize = 4096;
 
 // Writes what a page holds.
+#[inline(never)]
 fn flush<K: Sink>(sink: &mut K, page: &mut Page) -> Result<(), Failed>
     ensures text { Prints (K.written sink.old) page.old (K.written sink.new) page.new [] result }
     ensures empty { OnOk result (page.new ≡ []) }
@@ -33,6 +34,7 @@ fn flush<K: Sink>(sink: &mut K, page: &mut Page) -> Result<(), Failed>
 }
 
 // Makes room for so many bytes.
+#[inline]
 fn make_room<K: Sink>(sink: &mut K, page: &mut Page, size: usize) -> Result<(), Failed>
     requires { size ≤ 65536 }
     ensures text { Prints (K.written sink.old) page.old (K.written sink.new) page.new [] result }
@@ -45,6 +47,7 @@ fn make_room<K: Sink>(sink: &mut K, page: &mut Page, size: usize) -> Result<(), 
     Ok(())
 }
 
+#[inline]
 fn print_bytes<K: Sink>(sink: &mut K, page: &mut Page, bytes: &[u8]) -> Result<(), Failed>
     ensures text { Prints (K.written sink.old) page.old (K.written sink.new) page.new bytes.now result }
     ensures cause { HasCause (K.faults sink.old) (K.faults sink.new) result }
@@ -58,6 +61,7 @@ fn print_bytes<K: Sink>(sink: &mut K, page: &mut Page, bytes: &[u8]) -> Result<(
 }
 
 // Prints what no page has room for.
+#[inline(never)]
 fn print_long<K: Sink>(sink: &mut K, page: &mut Page, bytes: &[u8]) -> Result<(), Failed>
     ensures text { Prints (K.written sink.old) page.old (K.written sink.new) page.new bytes.now result }
     ensures cause { HasCause (K.faults sink.old) (K.faults sink.new) result }
@@ -97,26 +101,50 @@ fn print_hex<K: Sink>(sink: &mut K, page: &mut Page, bytes: &[u8]) -> Result<(),
     Ok(())
 }
 
-// Prints the line of a relocation that refers to a function.
+// Prints the line of a relocation that refers to a function. It is made in `line`.
+#[inline]
 fn print_to_function<K: Sink>(
     sink: &mut K,
     page: &mut Page,
     reloc: &DwarfSectionReloc,
     number: usize,
+    line: &mut [u8; LINE],
 ) -> Result<(), Failed>
     ensures text { Prints (K.written sink.old) page.old (K.written sink.new) page.new (codes "reloc " ++ decimal reloc.now.offset ++ space ++ decimal reloc.now.size ++ space ++ (codes "func " ++ decimal number) ++ space ++ signed_decimal reloc.now.addend ++ line_feed) result }
     ensures cause { HasCause (K.faults sink.old) (K.faults sink.new) result }
 {
-    let mut line = [0; LINE];
-    let tail = end_line(reloc.addend, &mut line);
-    let target = number_before(number as u64, &mut line, tail);
-    let kind = bytes_before(b"func ", &mut line, target);
-    let start = begin_line(reloc, &mut line, kind);
-    print_bytes(sink, page, text_from(&line, start))
+    let tail = end_line(reloc.addend, line);
+    let target = number_before(number as u64, line, tail);
+    let kind = bytes_before(b"func ", line, target);
+    let start = begin_line(reloc, line, kind);
+    print_bytes(sink, page, text_from(line, start))
 }
 
-// Prints the line of a relocation that refers to a section.
+// Prints the line of a relocation that refers to a section. It is made in `line`.
+#[inline]
 fn print_to_section<K: Sink>(
+    sink: &mut K,
+    page: &mut Page,
+    reloc: &DwarfSectionReloc,
+    name: &str,
+    line: &mut [u8; LINE],
+) -> Result<(), Failed>
+    ensures text { Prints (K.written sink.old) page.old (K.written sink.new) page.new (codes "reloc " ++ decimal reloc.now.offset ++ space ++ decimal reloc.now.size ++ space ++ (codes "section " ++ name.now) ++ space ++ signed_decimal reloc.now.addend ++ line_feed) result }
+    ensures cause { HasCause (K.faults sink.old) (K.faults sink.new) result }
+{
+    if name.len() > NAME {
+        return print_in_pieces(sink, page, reloc, name);
+    }
+    let tail = end_line(reloc.addend, line);
+    let target = bytes_before(name.as_bytes(), line, tail);
+    let kind = bytes_before(b"section ", line, target);
+    let start = begin_line(reloc, line, kind);
+    print_bytes(sink, page, text_from(line, start))
+}
+
+// Prints the line of a relocation that refers to a section, whose name a line may have no room for.
+#[inline(never)]
+fn print_in_pieces<K: Sink>(
     sink: &mut K,
     page: &mut Page,
     reloc: &DwarfSectionReloc,
@@ -135,18 +163,20 @@ fn print_to_section<K: Sink>(
     print_named(sink, page, front, name, back)
 }
 
-// Prints the line of a relocation.
+// Prints the line of a relocation. It is made in `line`.
+#[inline]
 fn print_relocation<K: Sink>(
     sink: &mut K,
     page: &mut Page,
     reloc: &DwarfSectionReloc,
+    line: &mut [u8; LINE],
 ) -> Result<(), Failed>
     ensures text { Prints (K.written sink.old) page.old (K.written sink.new) page.new (printed_relocation (relocation_view reloc.now)) result }
     ensures cause { HasCause (K.faults sink.old) (K.faults sink.new) result }
 {
     match reloc.target {
-        DwarfSectionRelocTarget::Func(number) => print_to_function(sink, page, reloc, number),
-        DwarfSectionRelocTarget::Section(name) => print_to_section(sink, page, reloc, name),
+        DwarfSectionRelocTarget::Func(number) => print_to_function(sink, page, reloc, number, line),
+        DwarfSectionRelocTarget::Section(name) => print_to_section(sink, page, reloc, name, line),
     }
 }
 
@@ -158,8 +188,9 @@ fn print_relocations<K: Sink>(
     ensures text { Prints (K.written sink.old) page.old (K.written sink.new) page.new (flat_map printed_relocation (map relocation_view relocs.now)) result }
     ensures cause { HasCause (K.faults sink.old) (K.faults sink.new) result }
 {
+    let mut line = [0; LINE];
     for reloc in relocs {
-        print_relocation(sink, page, reloc)?;
+        print_relocation(sink, page, reloc, &mut line)?;
     }
     Ok(())
 }
