@@ -71,7 +71,7 @@ pub(crate) fn end_line(addend: i32, line: &mut [u8; LINE]) -> usize
 }
 
 /// Begins the line of a relocation, up to the place `end`, where its target starts. Answers where the line starts.
-#[inline]
+#[inline(always)]
 pub(crate) fn begin_line(reloc: &DwarfSectionReloc, line: &mut [u8; LINE], end: usize) -> usize
     requires { (48 ≤ end) × (end ≤ 96) }
     ensures start { result ≤ 96 }

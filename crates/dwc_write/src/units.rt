@@ -146,6 +146,7 @@ impl Unit {
     }
 
     /// Gives an entry a value under a name: in the place of the value of that name, else behind the others.
+    #[inline(always)]
     pub fn set(
         &mut self,
         id: UnitEntryId,
