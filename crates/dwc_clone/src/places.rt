@@ -74,6 +74,7 @@ impl Places {
     }
 
     /// Where the entry at an offset stands in the output; None where it is not in it.
+    #[inline(always)]
     pub fn find(&self, offset: u32) -> Option<OutputPlace>
         ensures { option_map place_pair result ≡ place_of self.now offset }
     {

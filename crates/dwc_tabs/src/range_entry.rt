@@ -114,6 +114,7 @@ pub(crate) fn pair(
 }
 
 // The operands of an entry from version 5 on, by its kind; None at the end of the list.
+#[inline(always)]
 #[tactic(auto, unfolding(dwc_base::specs::RawLists::entry_of_kind_at))]
 pub(crate) fn entry_of_kind(
     relocations: &Relocations<'_>,

@@ -143,6 +143,7 @@ impl Additions {
     }
 
     // Gives an entry a value under a name: in the place of the value of that name, else behind the others.
+    #[inline(always)]
     pub(crate) fn set(
         &mut self,
         place: usize,
@@ -190,6 +191,7 @@ fn part_of_shared(shared: &[KeptAttribute], begin: usize, count: usize) -> &[Kep
 }
 
 // Gives an entry a value. Where it is the last one, its part of the list of all can grow.
+#[inline(always)]
 fn set_value(
     entry: &mut Entry,
     shared: &mut Vec<KeptAttribute>,
@@ -227,6 +229,7 @@ fn set_own(
 }
 
 // Gives an entry without a list of its own a value.
+#[inline(always)]
 fn set_shared(
     entry: &mut Entry,
     shared: &mut Vec<KeptAttribute>,
@@ -274,6 +277,7 @@ fn is_open(entry: &Entry, shared: &[KeptAttribute]) -> bool
 }
 
 // Adds a value of a new name behind the last part.
+#[inline(always)]
 fn add(
     entry: &mut Entry,
     shared: &mut Vec<KeptAttribute>,

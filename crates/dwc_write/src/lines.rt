@@ -131,6 +131,7 @@ impl LineProgram {
     }
 
     /// Appends a row, at another offset than its own, to the sequence that is begun.
+    #[inline(always)]
     pub fn generate_row_at(&mut self, row: &LineRow, offset: u64) -> Result<(), WriteError>
         requires { CanAppend self.old (row_at offset row.now) }
         ensures ok { OnOk result (self.new ≡ with_row (row_at offset row.now) self.old) }

@@ -249,6 +249,7 @@ fn write_entries<T: Listed>(
 }
 
 // An entry: where it begins and where it ends, and its expression.
+#[inline(always)]
 fn write_entry(
     lists: &mut WriterRelocate,
     size: u8,

@@ -47,6 +47,7 @@ pub fn put_end(out: &mut Vec<u8>, last: &LineRow, end_offset: u64) -> Result<(),
 }
 
 // A row at an offset behind another, where there is room: what differs from the registers, and the row itself.
+#[inline(always)]
 pub fn put_row(out: &mut Vec<u8>, before: &LineRow, row: &LineRow, offset: u64)
     requires room { vec_len out.old + 73 ≤ vec_capacity out.old }
     requires before { before.now.line < 2 ^ 32 }

@@ -50,6 +50,7 @@ impl SpelledRows {
     }
 
     // Appends a row at an offset.
+    #[inline(always)]
     pub(crate) fn push(&mut self, row: &LineRow, offset: u64) -> Result<(), AllocError>
         requires fits { FitsRow (row_at offset row.now) }
         requires behind { last_offset 0 self.old ≤ offset }

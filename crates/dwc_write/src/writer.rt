@@ -183,6 +183,7 @@ impl WriterRelocate {
     }
 
     // Appends a number of so many bytes, the low ones of the value.
+    #[inline(always)]
     pub(crate) fn put_number(&mut self, size: u8, value: u64) -> Result<(), WriteError>
         requires { IsSize size }
         ensures { Writes self.old self.new result (number_bytes self.old.order size value) [] }
@@ -193,6 +194,7 @@ impl WriterRelocate {
     }
 
     // Appends an address.
+    #[inline(always)]
     pub(crate) fn put_address(&mut self, address: Address, size: u8) -> Result<(), WriteError>
         requires size { (size ≡ 4) ⊎ (size ≡ 8) }
         requires fits { FitsField size address }
@@ -202,6 +204,7 @@ impl WriterRelocate {
     }
 
     // Appends an offset in a section, of four bytes.
+    #[inline(always)]
     pub(crate) fn put_offset(&mut self, val: usize, section: SectionName) -> Result<(), WriteError>
         requires { val ≤ most_bytes }
         ensures { Writes self.old self.new result (number_bytes self.old.order 4 val) (offset_relocation (length self.old.body) 4 section val ∷ []) }
@@ -290,6 +293,7 @@ impl Writer for WriterRelocate {
         Ok(())
     }
 
+    #[inline(always)]
     fn write_address(&mut self, address: Address, size: u8) -> Result<(), WriteError> {
         let offset = self.body.len();
         check_room(offset, usize::from(size), self.name)?;
@@ -309,6 +313,7 @@ impl Writer for WriterRelocate {
         Ok(())
     }
 
+    #[inline(always)]
     fn write_offset(
         &mut self,
         val: usize,
@@ -386,6 +391,7 @@ fn section_reloc(section: SectionName, offset: usize, val: usize, size: u8) -> D
 }
 
 // A field behind what is there, and its relocation.
+#[inline(always)]
 fn put_field(
     body: &mut Vec<u8>,
     relocs: &mut Vec<DwarfSectionReloc>,
@@ -401,6 +407,6 @@ fn put_field(
 {
     relocs.reserve(1)?;
     put_sized(body, order, reloc.size, value)?;
-    relocs.push(reloc).unwrap();
+    relocs.push_reserved(reloc);
     Ok(())
 }
