@@ -1,14 +1,14 @@
 -- What is refused of bounds.
 use Rattle.std.proofs.Common.{◌≡◌, ◌≢◌, ◌<◌, ◌+◌, subst, ℕ, refl, sym, ap, ap₂, ◌∙◌, List, drop, get_or, length, map, take, Bool, true, false, Option, Some, None, Result, Ok, Err}
-use Rattle.std.specs.Prelude.{not, ◌&&◌, ◌||◌, ◌==◌, if◌then◌else◌, option_map}
+use Rattle.std.specs.Prelude.{not, ◌&&◌, ◌||◌, ◌==◌, if◌then◌else◌, option_and_then, option_map}
 use Rattle.std.specs.Option.{option_or}
-use Rattle.std.proofs.lemmas.Bool.{eq-eqb, ne_eqb}
+use Rattle.std.proofs.lemmas.Bool.{eq-eqb, eqb-true, ne_eqb}
 use Rattle.std.proofs.lemmas.List.{drop_more, get_or-map, length-map, take-map}
 use Rattle.std.proofs.lemmas.List.Folds.{list_any_at}
 use Rattle.dwc_base.specs.declared.records.Address.{Address}
 use Rattle.dwc_base.specs.declared.section_name.SectionName.{SectionName}
 use Rattle.dwc_base.specs.declared.section_name.SectionName.TheVariants.{Info}
-use Rattle.dwc_base.specs.declared.constants.TheConstants.{DW_AT_high_pc, DW_AT_low_pc}
+use Rattle.dwc_base.specs.declared.constants.TheConstants.{DW_AT_high_pc, DW_AT_low_pc, DW_AT_ranges}
 use Rattle.dwc_base.specs.declared.faults.What.{What}
 use Rattle.dwc_base.specs.declared.faults.What.TheVariants.{AddressValue, Text}
 use Rattle.dwc_base.specs.declared.faults.Flaw.{Flaw}
@@ -17,26 +17,28 @@ use Rattle.dwc_base.specs.Reading.{◌>>=◌}
 use Rattle.dwc_base.specs.Sections.{Fault, Sections, fault_of, reported}
 use Rattle.dwc_base.specs.Units.{UnitHeader}
 use Rattle.dwc_base.specs.Values.{Value, address, address_index, constant, flag, block, text, text_reference, unit_reference, info_reference, line_reference, dropped, expression, range_reference, range_index, location_reference, location_index}
-use Rattle.dwc_base.specs.Entries.{Entry}
+use Rattle.dwc_base.specs.Entries.{Entry, attribute}
 use Rattle.dwc_base.specs.Texts.{TextSource, text_named}
 use Rattle.dwc_base.specs.Functions.{Function}
 use Rattle.dwc_base.specs.Indexed.{address_indexed, address_named}
 use Rattle.dwc_base.specs.Kept.{Placed}
 use Rattle.dwc_base.specs.Drafts.{DraftValue}
-use Rattle.dwc_base.specs.RawLists.{ListSource}
-use Rattle.dwc_base.specs.Lists.{ListRefusal, list_source}
+use Rattle.dwc_base.specs.RawLists.{ListSource, is_range_list}
+use Rattle.dwc_base.specs.Lists.{ListRefusal, list_source, ranges_of_value}
 use Rattle.dwc_base.specs.Lists as Lists
 use Rattle.dwc_base.specs.Refusals.{Refusal, of_place}
-use Rattle.dwc_base.specs.RangeRefusals.{begins_by_low_pc, bound_refusal, extent_refusal, flaw_in, has_name, index_fault, is_later_bound}
+use Rattle.dwc_base.specs.RangeRefusals.{begins_by_low_pc, bound_refusal, bounds_refusal, extent_refusal, flaw_in, has_name, index_fault, is_later_bound}
 use Rattle.dwc_base.specs.EntryRules.{bound_value_refused, of_list}
 use Rattle.dwc_base.specs.Clones.{UnitSource, bound_becomes, nothing_unless, text_drafted}
 use Rattle.dwc_clif.specs.Registers.{Registers}
-use Rattle.dwc_read.specs.ValuesSeen.{attribute_view}
+use Rattle.dwc_read.specs.ValuesSeen.{attribute_view, value_view}
+use Rattle.dwc_read.specs.declared.value.AttributeValue.TheVariants.{RangeIndex, RangeRef}
 use Rattle.dwc_read.specs.declared.value.AttributeValue.{AttributeValue as InputValue}
 use Rattle.dwc_read.specs.Bases.{address_of_value}
 use Rattle.dwc_read.specs.Faults.{Refuses, fault_at}
 use Rattle.dwc_clone.specs.declared.error.CloneError.{CloneError}
 use Rattle.dwc_clone.specs.declared.source.CloneSource.{CloneSource}
+use Rattle.dwc_clone.specs.BoundRefusals.{IsSound, list_refusal}
 use Rattle.dwc_clone.specs.ClonedUnits.{clone_rules, source_with}
 use Rattle.dwc_clone.specs.Errors.{refusal_told}
 use Rattle.dwc_clone.specs.MadeValues.{GivesMade, RefusesSo}
@@ -194,6 +196,41 @@ module _ (s : ListSource) (fs : List Function) (e : Entry) (before : List (ℕ �
   -- Of another its extent is.
   pub code-extent : (r : Result (Unit {0}) CloneError) → option_map of_place (index_fault s e.offset a.1) ≡ None → false ≡ begins_by_low_pc s fs e → TellsRefusal (option_map of_list (extent_refusal s e before a)) r → TellsRefusal (option_map of_list (bound_refusal s fs e before a)) r
   code-extent r read begins is = code-behind r read (subst (λ b. TellsRefusal (option_map of_list (if b then None else extent_refusal s e before a)) r) begins is)
+
+  -- Of one with a sound extent no bound is that names no other list.
+  pub code-sound : option_map of_place (index_fault s e.offset a.1) ≡ None → IsSound s e → list_refusal s e.offset a ≡ None → option_map of_list (bound_refusal s fs e before a) ≡ None
+  code-sound read sound listed = code-behind (Ok tt) read (unless (begins_by_low_pc s fs e))
+    where
+      bounded : (b : Bool) → (if b then bounds_refusal s e else None) ≡ None
+      bounded true = sound.bounded
+      bounded false = refl
+
+      unrefused : extent_refusal s e before a ≡ None
+      unrefused = ap (λ o. option_or o (if is_later_bound before a then bounds_refusal s e else None)) listed ∙ bounded (is_later_bound before a)
+
+      unless : (b : Bool) → option_map of_list (if b then None else extent_refusal s e before a) ≡ None
+      unless true = refl
+      unless false = ap (option_map of_list) unrefused
+
+-- ---- the range list of an entry
+
+pub same_reference : (v w : InputValue) (m n : ℕ) → v ≡ RangeRef m → w ≡ RangeRef n → (m == n) ≡ true → value_view v ≡ value_view w
+same_reference v w m n first other same = ap value_view first ∙ ap range_reference (eqb-true m n same) ∙ sym (ap value_view other)
+
+pub same_index : (v w : InputValue) (m n : ℕ) → v ≡ RangeIndex m → w ≡ RangeIndex n → (m == n) ≡ true → value_view v ≡ value_view w
+same_index v w m n first other same = ap value_view first ∙ ap range_index (eqb-true m n same) ∙ sym (ap value_view other)
+
+module _ (s : ListSource) (e : Entry) (name : ℕ) (v : Value) where
+  pub own-list : attribute DW_AT_ranges e ≡ Some v → IsSound s e → list_refusal s e.offset (name, v) ≡ None
+  own-list is sound = go (name == DW_AT_ranges) (is_range_list v) refl
+    where
+      go : (named list : Bool) → is_range_list v ≡ list → (if named && list then (ranges_of_value s e.offset v).fault else None) ≡ None
+      go false list at = refl
+      go true false at = refl
+      go true true at = sound.listed v (ap (option_and_then (λ w. if is_range_list w then Some w else None)) is ∙ ap (λ b. if b then Some v else None) at)
+
+  pub other-name : (name == DW_AT_ranges) ≡ false → list_refusal s e.offset (name, v) ≡ None
+  other-name other = ap (λ b. if b && is_range_list v then (ranges_of_value s e.offset v).fault else None) other
 
 -- ---- bounds
 

@@ -23,6 +23,8 @@ pub mod StackPlaces
 pub mod StackViews
 pub mod WalkBegins
 pub mod LineageLaws
+pub mod OwnScopeLaws
+pub mod ReadExtentLaws
 pub mod FrameLaws
 pub mod ChainNameLaws
 pub mod TypeFoundLaws

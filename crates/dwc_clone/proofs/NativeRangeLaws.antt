@@ -35,7 +35,7 @@ use Rattle.dwc_tabs.specs.RangeEnds.{interval_view, refusal_view}
 use Rattle.dwc_write.specs.RangeLists.{FitsRange, interval_of}
 use Rattle.dwc_write.specs.Writers.{FitsField}
 use Rattle.dwc_clone.specs.declared.ranges.NativeRanges.{NativeRanges}
-use Rattle.dwc_clone.specs.NativeExtents.{AreRanges, IsNative}
+use Rattle.dwc_clone.specs.NativeExtents.{AreRanges, IsNative, ranges_of_offsets}
 
 -- ---- addresses
 
@@ -109,6 +109,12 @@ are-behind rs qs is js first second = record {
 
 pub none-said : (rs : List (Address × ℕ)) → rs ≡ [] → AreRanges rs []
 none-said rs none = subst (λ xs. AreRanges xs []) (sym none) (record { say = refl; fit = λ size. All-nil (FitsRange size) })
+
+-- What intervals of wasm offsets are translated to is said by ranges.
+pub offsets-said : (fs : List Function) → TranslationsAreSaid fs → (is : List (ℕ × ℕ)) → AreRanges (ranges_of_offsets fs is) (flat_map (λ i. native fs i.0 i.1) is)
+offsets-said fs said [] = none-said [] refl
+offsets-said fs said (i ∷ is) =
+    are-behind (with_lengths (native_in_function fs i.0 i.1)) (ranges_of_offsets fs is) (native fs i.0 i.1) (flat_map (λ j. native fs j.0 j.1) is) (are-translated fs i.0 i.1 (said.intervals i.0 i.1)) (offsets-said fs said is)
 
 module _ (fs : List Function) where
   native-one : (start end : ℕ) → native_of_intervals fs (interval_view (Constant start, Constant end) ∷ []) ≡ native fs start end

@@ -1,8 +1,8 @@
 -- Stacks of what entries give, by the places of their items.
-use Rattle.std.proofs.Common.{◌≡◌, ℕ, zero, suc, ◌<◌, ◌≤◌, ◌-◌, true, false, ℤ, int_le, List, [], ◌∷◌, length, get_or, take, slice_set, slice_get, Some, refl, ap, arith, sym, ◌∙◌, ◌&&◌, is_some, Bool, if◌then◌else◌, None}
-use Rattle.std.specs.Prelude.{unwrap_or}
+use Rattle.std.proofs.Common.{◌≡◌, ℕ, zero, suc, ◌<◌, ◌≤◌, ◌-◌, true, false, ℤ, int_le, List, [], ◌∷◌, length, get_or, take, slice_set, slice_get, Some, refl, ap, arith, sym, ◌∙◌, ◌&&◌, is_some, Bool, if◌then◌else◌, Option, None, option_map}
+use Rattle.std.specs.Prelude.{option_and_then, unwrap_or}
 use Rattle.std.proofs.lemmas.Option.{slice_get-get_or}
-use Rattle.dwc_base.specs.Scopes.{Given, left_for, left_under, top_at}
+use Rattle.dwc_base.specs.Scopes.{Given, left_for, left_under, top_at, top_of}
 use Rattle.dwc_base.specs.Wasm.{last_of}
 use Rattle.dwc_clone.specs.StacksByDepth.{with_top}
 
@@ -77,3 +77,16 @@ top_at-is depth gs g is = rw is (go (int_le depth g.0 && int_le g.0 depth))
     go : (b : Bool) → b ≡ is_some (if b then Some g.1 else None)
     go true = refl
     go false = refl
+
+-- a top of the depth is the top
+pub top_at-top : {X : Type 0} (depth : ℤ) (gs : List (Given X)) → true ≡ is_some (top_at depth gs) → top_of gs ≡ top_at depth gs
+top_at-top {X = X} depth gs = go (last_of gs)
+  where
+    one : (b : Bool) (x : X) → true ≡ is_some (if b then Some x else None) → Some x ≡ (if b then Some x else None)
+    one true x is = refl
+    one false x is = absurd (cc)
+
+    go : (o : Option (Given X)) → true ≡ is_some (option_and_then (λ (g : Given X). if int_le depth g.0 && int_le g.0 depth then Some g.1 else None) o)
+        → option_map (λ (g : Given X). g.1) o ≡ option_and_then (λ (g : Given X). if int_le depth g.0 && int_le g.0 depth then Some g.1 else None) o
+    go None is = absurd (cc)
+    go (Some g) is = one (int_le depth g.0 && int_le g.0 depth) g.1 is

@@ -1,7 +1,7 @@
 -- Stacks of what entries give, with each value seen by a function.
 use Rattle.std.proofs.Common.{◌≡◌, ℤ, int_le, Bool, true, false, if◌then◌else◌, List, [], ◌∷◌, map, Option, Some, None, option_map, refl, ap, ◌∙◌}
-use Rattle.std.specs.Prelude.{unwrap_or}
-use Rattle.dwc_base.specs.Scopes.{Given, left_for, left_under, top_of}
+use Rattle.std.specs.Prelude.{◌&&◌, option_and_then, unwrap_or}
+use Rattle.dwc_base.specs.Scopes.{Given, left_for, left_under, top_at, top_of}
 use Rattle.dwc_base.specs.Wasm.{last_of}
 
 module _ {X Y : Type 0} (f : X → Y) where
@@ -37,3 +37,15 @@ module _ {X Y : Type 0} (f : X → Y) where
       value : (o : Option (Given X)) → option_map (λ (g : Given Y). g.1) (option_map seen o) ≡ option_map f (option_map (λ (g : Given X). g.1) o)
       value None = refl
       value (Some g) = refl
+
+  -- the top, if it has a depth
+  pub top-at-seen : (depth : ℤ) (gs : List (Given X)) → top_at depth (map seen gs) ≡ option_map f (top_at depth gs)
+  top-at-seen depth gs = ap (option_and_then (λ (g : Given Y). if int_le depth g.0 && int_le g.0 depth then Some g.1 else None)) (last-seen gs) ∙ value (last_of gs)
+    where
+      one : (b : Bool) (x : X) → (if b then Some (f x) else None) ≡ option_map f (if b then Some x else None)
+      one true x = refl
+      one false x = refl
+
+      value : (o : Option (Given X)) → option_and_then (λ (g : Given Y). if int_le depth g.0 && int_le g.0 depth then Some g.1 else None) (option_map seen o) ≡ option_map f (option_and_then (λ (g : Given X). if int_le depth g.0 && int_le g.0 depth then Some g.1 else None) o)
+      value None = refl
+      value (Some g) = one (int_le depth g.0 && int_le g.0 depth) g.1

@@ -1,5 +1,5 @@
 -- What the input says of the code of entries.
-use Rattle.std.specs.Prelude.{◌≡◌, ℕ, ⊤, List, [], ◌∷◌, IsTrue, Option, Some, None, option_map, option_to_list, Result, Ok}
+use Rattle.std.specs.Prelude.{ℕ, ⊤, IsTrue, Option, Some, None, option_map, option_to_list, Result, Ok}
 use Rattle.dwc_base.specs.declared.records.Address.{Address}
 use Rattle.dwc_base.specs.Lists.{ListRefusal, interval_between, interval_of_length, ranges_of_value}
 use Rattle.dwc_base.specs.RangeAttributes.{Extent, intervals, position, nowhere}
@@ -36,8 +36,3 @@ NamesRanges (Listed v) = IsTrue (is_range_list (value_view v))
 NamesRanges (Bounded i) = ⊤
 NamesRanges (Position a) = ⊤
 NamesRanges Nowhere = ⊤
-
--- A call takes the first of a list, if it has one.
-abbrev pub TakesFirst : {A : Type 0} → List A → List A → Option A → Type 0
-TakesFirst old new (Some x) = old ≡ x ∷ new
-TakesFirst old new None = old ≡ []

@@ -4,6 +4,7 @@ pub mod CodeNames
 pub mod Lineages
 pub mod NativeExtents
 pub mod BoundRefusals
+pub mod ReadExtents
 pub mod OutputPlaces
 pub mod Sources
 pub mod MadeValues

@@ -1,13 +1,14 @@
 -- What is in force at an entry, as it is kept on stacks in a walk over entries in file order.
-use Rattle.std.specs.Prelude.{◌≡◌, ℕ, suc, ◌==◌, pos, List, [], ◌∷◌, ◌++◌, map, take, slice_get, if◌then◌else◌, Option, Some, option_map, option_to_list}
+use Rattle.std.specs.Prelude.{◌≡◌, ℕ, suc, ◌==◌, pos, List, [], ◌∷◌, ◌++◌, map, take, slice_get, if◌then◌else◌, Option, Some, None, option_map, option_to_list}
 use Rattle.dwc_base.specs.Entries.{Entry}
+use Rattle.dwc_base.specs.declared.constants.TheConstants.{DW_TAG_subprogram}
 use Rattle.dwc_base.specs.Functions.{Function}
 use Rattle.dwc_base.specs.Kept.{Placed}
 use Rattle.dwc_base.specs.LocationAttributes.{base_of_expression}
 use Rattle.dwc_base.specs.Parts.{CompiledParts}
 use Rattle.dwc_base.specs.RangeAttributes.{begun_function}
 use Rattle.dwc_base.specs.RawLists.{ListSource}
-use Rattle.dwc_base.specs.Scopes.{Given, IsWalk, Rises, Steps, base_given, base_in_force, frame_in_force, left_for, lineage, scope_given, scope_in_force, top_of}
+use Rattle.dwc_base.specs.Scopes.{Given, IsWalk, Rises, Steps, base_given, base_in_force, frame_in_force, left_for, lineage, scope_given, scope_in_force, top_at, top_of}
 
 -- the scopes, the functions by their numbers, and the frame bases that entries gave
 pub record Stacks : Type 0 where
@@ -49,6 +50,14 @@ with_entry s fs e old = record {
   frames = entered (frame_given s fs) e old.frames;
   bases = entered (base_given base_of_expression) e old.bases;
 }
+
+-- the scope on top of the stacks, if an entry that is no subprogram is of its depth
+abbrev pub own_scope : Entry → Stacks → Option (List (ℕ × ℕ))
+own_scope e stacks = if e.tag == DW_TAG_subprogram then None else top_at (pos e.depth) stacks.scopes
+
+-- A scope on top of the stacks that is of the depth of an entry is what the entry gives.
+abbrev pub HasOwnScope : ListSource → List Function → Entry → Stacks → Type 0
+HasOwnScope s fs e stacks = (scope : List (ℕ × ℕ)) → top_at (pos e.depth) stacks.scopes ≡ Some scope → scope_given s fs e ≡ Some scope
 
 -- and behind some, one after another
 abbrev pub with_entries : ListSource → List Function → List Entry → Stacks → Stacks

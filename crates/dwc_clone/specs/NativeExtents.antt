@@ -1,5 +1,6 @@
 -- Range lists and extents of the input, as they are in the native code.
 use Rattle.std.specs.Prelude.{◌≡◌, ℕ, List, [], ◌∷◌, map, is_some, All, Option, Some, None, option_map, Result, Ok, Err}
+use Rattle.std.specs.List.{flat_map}
 use Rattle.dwc_base.specs.declared.records.Address.{Address}
 use Rattle.dwc_base.specs.declared.constants.TheConstants.{DW_AT_low_pc}
 use Rattle.dwc_base.specs.Functions.{Function}
@@ -8,6 +9,8 @@ use Rattle.dwc_base.specs.Refusals.{Refusal, first_of}
 use Rattle.dwc_base.specs.Trees.{Interval, TreeValue, address as address_of_tree}
 use Rattle.dwc_base.specs.Lists.{ListRefusal}
 use Rattle.dwc_base.specs.RangeAttributes.{Extent, native_of_intervals, said_extent, said_intervals}
+use Rattle.dwc_base.specs.Runs.{native_in_function}
+use Rattle.dwc_addr.specs.Translations.{with_lengths}
 use Rattle.dwc_write.specs.RangeLists.{FitsRange, interval_of}
 use Rattle.dwc_write.specs.Writers.{FitsField}
 use Rattle.dwc_tabs.specs.declared.list_fault.ListFault.{ListFault}
@@ -22,6 +25,10 @@ use Rattle.dwc_clone.specs.Errors.{refusal_told}
 pub record AreRanges (rs : List (Address × ℕ)) (is : List Interval) : Type 0 where
   pub say : map interval_of rs ≡ is
   pub fit : (size : ℕ) → All (FitsRange size) rs
+
+-- what some intervals of wasm offsets are translated to, one after another
+abbrev pub ranges_of_offsets : List Function → List (ℕ × ℕ) → List (Address × ℕ)
+ranges_of_offsets fs is = flat_map (λ i. with_lengths (native_in_function fs i.0 i.1)) is
 
 -- What a range list is in the native code: whether it has intervals, their translations one after another, and why it is refused.
 pub record IsNative (fs : List Function) (listed : Listing ListRefusal Interval) (r : NativeRanges) : Type 0 where

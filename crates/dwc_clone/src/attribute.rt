@@ -1,5 +1,5 @@
 //! What attributes become. (DWARF 4 and 5, section 2.2.)
-ghost use Rattle.std.specs.Prelude.{◌≡◌, ◌<◌, ℕ, List, length, take, IfOk, IfSome};
+ghost use Rattle.std.specs.Prelude.{◌≡◌, ◌<◌, ℕ, List, true, length, take, IfOk, IfSome};
 ghost use Rattle.dwc_base.specs.declared.constants.TheConstants.{DW_AT_stmt_list};
 ghost use Rattle.dwc_base.specs.Kept.{Placed};
 ghost use Rattle.dwc_base.specs.Values.{Value};
@@ -11,6 +11,7 @@ ghost use Rattle.dwc_base.specs.Clones.{UnitSource, attribute_becomes, table_bec
 ghost use Rattle.dwc_read.specs.ValuesSeen.{value_view, attribute_view};
 ghost use Rattle.dwc_read.specs.EntriesSeen.{entry_view};
 ghost use Rattle.dwc_write.specs.GivenUnits.{FitsValue};
+ghost use Rattle.dwc_clone.specs.BoundRefusals.{IsSound};
 ghost use Rattle.dwc_clone.specs.declared.places.EmittedEntry.{EmittedEntry};
 ghost use Rattle.dwc_clone.specs.Sources.{AreFiles, IsSource};
 ghost use Rattle.dwc_clone.specs.ClonedUnits.{GivesInForce, clone_rules};
@@ -41,8 +42,8 @@ fn line_table(source: &CloneSource<'_, '_>, entry: &Entry<'_>) -> Option<Attribu
 }
 
 /// What an attribute of an entry becomes; None where it goes. `begins` tells whether the entry is a subprogram that begins in a function
-/// by its `low_pc`; `number` attributes come before this one. Texts are added to `strings`, and noted in `known`, by which they are
-/// found when they are named again.
+/// by its `low_pc`, `is_sound` that nothing is refused of its extent; `number` attributes come before this one. Texts are added to
+/// `strings`, and noted in `known`, by which they are found when they are named again.
 ///
 /// # Errors
 /// `Read` with the entry's offset where a text, or an address by an index, cannot be read, at a list, or at an expression; `LongRange`
@@ -55,6 +56,7 @@ pub(crate) fn output_attribute(
     source: &CloneSource<'_, '_>,
     lineage: &Lineage,
     begins: bool,
+    is_sound: bool,
     entry: &Entry<'_>,
     number: usize,
     attribute: &(u16, InputValue<'_>),
@@ -63,6 +65,7 @@ pub(crate) fn output_attribute(
 ) -> Result<Option<AttributeValue>, CloneError>
     requires functions { HaveAddends source.now.transform.now }
     requires begins { begins ≡ begins_by_low_pc (list_source source.now.unit.now.sections source.now.unit.now.header) source.now.transform.now (entry_view entry.now) }
+    requires sound { is_sound ≡ true → IsSound (list_source source.now.unit.now.sections source.now.unit.now.header) (entry_view entry.now) }
     requires within { number < length (entry_view entry.now).attributes }
     requires read { IsReadValue attribute.now.0 (value_view attribute.now.1) }
     requires known { KnowsTexts source.now.unit.now.sections strings.old known.old }
@@ -80,7 +83,7 @@ pub(crate) fn output_attribute(
     }
     if is_bound_name(name) {
         check_bound(
-            alloc, source, lineage, begins, entry, number, name, value, known,
+            alloc, source, lineage, begins, is_sound, entry, number, name, value, known,
         )?;
         return Ok(None);
     }

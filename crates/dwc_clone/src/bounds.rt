@@ -1,9 +1,12 @@
 //! The bounds of entries, as their attributes are read in order. (DWARF 4 and 5, section 2.17.)
-ghost use Rattle.std.specs.Prelude.{◌≡◌, ◌<◌, ℕ, List, ◌&&◌, not, None, length, map, option_map, take};
+ghost use Rattle.std.specs.Prelude.{◌≡◌, ◌<◌, ℕ, List, ◌&&◌, not, true, None, Some, length, map, option_map, take};
+ghost use Rattle.dwc_base.specs.declared.constants.TheConstants.{DW_AT_ranges as ranges};
+ghost use Rattle.dwc_base.specs.Entries.{attribute};
 ghost use Rattle.dwc_base.specs.EntryRules.{bound_value_refused, of_list};
 ghost use Rattle.dwc_base.specs.Functions.{Function};
 ghost use Rattle.dwc_base.specs.Indexed.{texts_of_unit};
 ghost use Rattle.dwc_base.specs.Kept.{Placed};
+ghost use Rattle.dwc_base.specs.RawLists.{ListSource};
 ghost use Rattle.dwc_base.specs.Lists.{list_source};
 ghost use Rattle.dwc_base.specs.RangeRefusals.{begins_by_low_pc, bound_refusal, extent_refusal, has_name, index_fault, is_later_bound};
 ghost use Rattle.dwc_base.specs.Refusals.{of_place};
@@ -11,7 +14,7 @@ ghost use Rattle.dwc_base.specs.Clones.{UnitSource, bound_becomes};
 ghost use Rattle.dwc_base.specs.Values.{Value};
 ghost use Rattle.dwc_read.specs.EntriesSeen.{entry_view};
 ghost use Rattle.dwc_read.specs.ValuesSeen.{attribute_view, value_view};
-ghost use Rattle.dwc_clone.specs.BoundRefusals.{interval_refusal, list_refusal};
+ghost use Rattle.dwc_clone.specs.BoundRefusals.{IsSound, interval_refusal, list_refusal};
 ghost use Rattle.dwc_clif.specs.Registers.{Registers};
 ghost use Rattle.dwc_clone.specs.ClonedUnits.{GivesInForce, clone_rules, source_with};
 ghost use Rattle.dwc_clone.specs.KnownTexts.{KnowsTexts};
@@ -127,20 +130,64 @@ fn check_extent(
     check_interval(unit, entry, number, name)
 }
 
-// Reads what a bound of an entry says of its code. Where the entry begins in a function by its `low_pc`, its extent is not looked at.
+// Whether two values name the same range list.
+#[tactic(auto, using(crate::proofs::BoundLaws::same_reference, crate::proofs::BoundLaws::same_index))]
+fn is_same_list(first: AttributeValue<'_>, other: AttributeValue<'_>) -> bool
+    ensures { result ≡ true → value_view first.entry ≡ value_view other.entry }
+{
+    match first {
+        AttributeValue::RangeRef(here) => match other {
+            AttributeValue::RangeRef(there) => here == there,
+            _ => false,
+        },
+        AttributeValue::RangeIndex(here) => match other {
+            AttributeValue::RangeIndex(there) => here == there,
+            _ => false,
+        },
+        _ => false,
+    }
+}
+
+// Whether a value names the range list of an entry, which is that of its first `ranges`.
+fn is_own_list(entry: &Entry<'_>, value: AttributeValue<'_>) -> bool
+    ensures { result ≡ true → attribute ranges (entry_view entry.now) ≡ Some (value_view value.entry) }
+{
+    match entry.attr(DW_AT_ranges) {
+        Some(first) => is_same_list(first, value),
+        None => false,
+    }
+}
+
+// Whether a bound of an entry names no range list but the entry's own.
+fn names_no_other(entry: &Entry<'_>, name: u16, value: AttributeValue<'_>) -> bool
+    ensures { result ≡ true → (s : ListSource) → IsSound s (entry_view entry.now) → list_refusal s (entry_view entry.now).offset (name, value_view value.entry) ≡ None }
+{
+    if name == DW_AT_ranges {
+        return is_own_list(entry, value);
+    }
+    true
+}
+
+// Reads what a bound of an entry says of its code. Where the entry begins in a function by its `low_pc`, its extent is not looked at; where
+// the extent is sound, it is not read again.
 fn check_code(
     unit: &Unit<'_>,
     begins: bool,
+    is_sound: bool,
     entry: &Entry<'_>,
     number: usize,
     name: u16,
     value: AttributeValue<'_>,
 ) -> Result<(), CloneError>
-    requires { number < length (entry_view entry.now).attributes }
+    requires within { number < length (entry_view entry.now).attributes }
+    requires sound { is_sound ≡ true → IsSound (list_source unit.now.sections unit.now.header) (entry_view entry.now) }
     ensures { (fs : List Function) (before : List (ℕ × Value)) → begins ≡ begins_by_low_pc (list_source unit.now.sections unit.now.header) fs (entry_view entry.now) → before ≡ take number (entry_view entry.now).attributes → TellsRefusal (option_map of_list (bound_refusal (list_source unit.now.sections unit.now.header) fs (entry_view entry.now) before (name, value_view value.entry))) result }
 {
     check_address(unit, entry.offset, value)?;
     if begins {
+        return Ok(());
+    }
+    if is_sound && names_no_other(entry, name, value) {
         return Ok(());
     }
     check_extent(unit, entry, number, name, value)
@@ -152,12 +199,14 @@ fn check_said(
     source: &CloneSource<'_, '_>,
     lineage: &Lineage,
     begins: bool,
+    is_sound: bool,
     entry: &Entry<'_>,
     number: usize,
     name: u16,
     value: AttributeValue<'_>,
 ) -> Result<(), CloneError>
-    requires { number < length (entry_view entry.now).attributes }
+    requires within { number < length (entry_view entry.now).attributes }
+    requires sound { is_sound ≡ true → IsSound (list_source source.now.unit.now.sections source.now.unit.now.header) (entry_view entry.now) }
     ensures { (registers : Registers) (s : UnitSource) (e : Placed) (before : List (ℕ × Value)) → e.entry ≡ entry_view entry.now → begins ≡ begins_by_low_pc (list_source source.now.unit.now.sections source.now.unit.now.header) source.now.transform.now e.entry → before ≡ take number (entry_view entry.now).attributes → GivesInForce source.now s e lineage.now → TellsRefusal (bound_value_refused (source_with registers source.now s) e before name (value_view value.entry)) result }
 {
     match value {
@@ -170,12 +219,13 @@ fn check_said(
             name,
             bytes,
         ),
-        _ => check_code(source.unit, begins, entry, number, name, value),
+        _ => check_code(source.unit, begins, is_sound, entry, number, name, value),
     }
 }
 
 /// Reads a bound of an entry, which becomes nothing where it stands: a text that it is, and what it says of the code. `begins` tells whether
-/// the entry is a subprogram that begins in a function by its `low_pc`; `number` attributes come before this one.
+/// the entry is a subprogram that begins in a function by its `low_pc`, `is_sound` that nothing is refused of its extent; `number`
+/// attributes come before this one.
 ///
 /// # Errors
 /// `Read` at the entry for a text, or an address by an index, that cannot be read, at a range list, and at an expression; `LongRange` for
@@ -186,16 +236,20 @@ pub(crate) fn check_bound(
     source: &CloneSource<'_, '_>,
     lineage: &Lineage,
     begins: bool,
+    is_sound: bool,
     entry: &Entry<'_>,
     number: usize,
     name: u16,
     value: AttributeValue<'_>,
     known: &mut KnownTexts,
 ) -> Result<(), CloneError>
-    requires { number < length (entry_view entry.now).attributes }
+    requires within { number < length (entry_view entry.now).attributes }
+    requires sound { is_sound ≡ true → IsSound (list_source source.now.unit.now.sections source.now.unit.now.header) (entry_view entry.now) }
     ensures made { (texts : List (List ℕ)) → KnowsTexts source.now.unit.now.sections texts known.old → (registers : Registers) (s : UnitSource) (e : Placed) (before : List (ℕ × Value)) → s.texts ≡ texts_of_unit source.now.unit.now.sections source.now.unit.now.header → e.entry ≡ entry_view entry.now → begins ≡ begins_by_low_pc (list_source source.now.unit.now.sections source.now.unit.now.header) source.now.transform.now e.entry → before ≡ take number (entry_view entry.now).attributes → GivesInForce source.now s e lineage.now → GivesMade (λ draft done. draft ≡ None) (bound_becomes (clone_rules registers source.now s) s e before (name, value_view value.entry)) result }
     ensures known { (texts : List (List ℕ)) → KnowsTexts source.now.unit.now.sections texts known.old → KnowsTexts source.now.unit.now.sections texts known.new }
 {
     check_text(source.unit, entry.offset, value, known)?;
-    check_said(alloc, source, lineage, begins, entry, number, name, value)
+    check_said(
+        alloc, source, lineage, begins, is_sound, entry, number, name, value,
+    )
 }

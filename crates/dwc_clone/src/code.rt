@@ -11,10 +11,11 @@ ghost use Rattle.dwc_write.specs.Writers.{FitsField};
 ghost use Rattle.dwc_clone.specs.ClonedEntries.{IsGiven, IsLast};
 ghost use Rattle.dwc_clone.specs.CodeNames.{have_code_name};
 ghost use Rattle.dwc_clone.specs.NativeExtents.{FitsExtent, said_by};
+ghost use Rattle.dwc_clone.specs.ReadExtents.{IsScopeOf};
 ghost use Rattle.std.specs.Prelude.{option_map, IfSome, IsSome, map};
 
 use crate::CloneSource;
-use crate::extent::{NativeExtent, native_extent};
+use crate::extent::{NativeExtent, extent_by_scope};
 use dwc_addr::FunctionMap;
 use dwc_base::Address;
 use dwc_base::constants::{
@@ -86,13 +87,15 @@ fn set_extent(
 }
 
 /// Gives an entry of the output what says where its code is: a subprogram that begins in a function has that function whole, and another
-/// entry what its extent is in the native code. `speaks` tells whether the entry says something of its code.
+/// entry what its extent is in the native code. `speaks` tells whether the entry says something of its code; `scope` is its extent as
+/// intervals of wasm offsets, where these are known already.
 pub(crate) fn set_code(
     alloc: Global,
     source: &CloneSource<'_, '_>,
     entry: &Entry<'_>,
     function: Option<&FunctionMap>,
     speaks: bool,
+    scope: Option<&[(u64, u64)]>,
     unit: &mut Unit,
     id: UnitEntryId,
 ) -> Result<(), WriteError>
@@ -100,12 +103,13 @@ pub(crate) fn set_code(
     requires speaks { speaks ≡ have_code_name (entry_view entry.now).attributes }
     requires known { IsAdded id.index unit.old }
     requires symbol { IfSome function (λ f. IsSome f.now.symbol) }
+    requires scope { IsScopeOf (list_source source.now.unit.now.sections source.now.unit.now.header) (entry_view entry.now) (option_map (λ is. is.now) scope) }
     requires begun { option_map (λ f. function_view f.now) function ≡ begun_function (list_source source.now.unit.now.sections source.now.unit.now.header) source.now.transform.now (entry_view entry.now) }
     ensures places { OnOk result (unit.new.places ≡ unit.old.places) }
     ensures given { (number : ℕ) (texts : List (List ℕ)) (base : GivenUnit) (e : Addition) → IsLast texts id base e unit.old → OnOk result (IsGiven number texts texts (range_attributes (list_source source.now.unit.now.sections source.now.unit.now.header) source.now.transform.now (entry_view entry.now)) base e unit.new) }
 {
     let Some(function) = function else {
-        let extent = native_extent(alloc, source.unit, source.transform, entry, speaks)?;
+        let extent = extent_by_scope(alloc, source, entry, speaks, scope)?;
         return set_extent(unit, id, entry.tag, extent);
     };
     let begin = Address::Symbol {

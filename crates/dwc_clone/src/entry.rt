@@ -1,6 +1,6 @@
 //! Clones the kept entries of a unit, one after another.
 ghost use Rattle.std.specs.Option.{option_to_list};
-ghost use Rattle.std.specs.Prelude.{◌≡◌, ◌≢◌, ℕ, List, [], ◌∷◌, ◌++◌, false, length, reverse, take, Option, is_some, option_map, IfSome, IsSome, IfOk, OnOk, filter_map};
+ghost use Rattle.std.specs.Prelude.{◌≡◌, ◌≢◌, ℕ, List, [], ◌∷◌, ◌++◌, false, true, length, reverse, take, Option, is_some, option_map, IfSome, IsSome, IfOk, OnOk, filter_map};
 ghost use Rattle.dwc_base.specs.Entries as Entries;
 ghost use Rattle.dwc_base.specs.Drafts.{Goal, Role};
 ghost use Rattle.dwc_base.specs.Wrappers.{is_wrapped};
@@ -18,6 +18,7 @@ ghost use Rattle.dwc_base.specs.ReadValues.{IsReadEntry};
 ghost use Rattle.dwc_read.specs.EntriesSeen.{entry_view};
 ghost use Rattle.dwc_write.specs.GivenUnits.{Addition, GivenUnit, FitsValue, IsAdded, IsReserved};
 ghost use Rattle.dwc_write.specs.TextTables.{IsText};
+ghost use Rattle.dwc_clone.specs.BoundRefusals.{IsSound};
 ghost use Rattle.dwc_clone.specs.CodeNames.{have_code_name};
 ghost use Rattle.dwc_clone.specs.CompiledModules.{HasFrames};
 ghost use Rattle.dwc_clone.specs.ClonedUnits.{GivesInForce, placed_in, source_with};
@@ -26,7 +27,7 @@ ghost use Rattle.dwc_clone.specs.BuiltUnits.{AreClonedSoFar, GivesEntry};
 ghost use Rattle.dwc_clone.specs.OpenWrappers.{CanCloseAll, IsOther, KeepsNumbers};
 ghost use Rattle.dwc_clone.specs.PlainEntries.{GivesItself};
 ghost use Rattle.dwc_clone.specs.declared.entry.PlacedEntry.{PlacedEntry};
-ghost use Rattle.dwc_clone.specs.Lineages.{AreInForce, AreWalked};
+ghost use Rattle.dwc_clone.specs.Lineages.{AreInForce, AreWalked, HasOwnScope};
 ghost use Rattle.dwc_clone.specs.Sources.{AreEmitted, IsSource};
 ghost use Rattle.dwc_clone.specs.TypeSteps.{AreNames};
 ghost use Rattle.dwc_clone.specs.KnownTexts.{KnowsTexts};
@@ -171,6 +172,7 @@ fn set_attributes(
     source: &CloneSource<'_, '_>,
     lineage: &Lineage,
     begins: bool,
+    is_sound: bool,
     telling: Telling,
     entry: &Entry<'_>,
     unit: &mut Unit,
@@ -180,6 +182,7 @@ fn set_attributes(
 ) -> Result<(), CloneError>
     requires functions { HaveAddends source.now.transform.now }
     requires begins { begins ≡ begins_by_low_pc (list_source source.now.unit.now.sections source.now.unit.now.header) source.now.transform.now (entry_view entry.now) }
+    requires sound { is_sound ≡ true → IsSound (list_source source.now.unit.now.sections source.now.unit.now.header) (entry_view entry.now) }
     requires read { IsReadEntry (entry_view entry.now) }
     requires known { IsAdded id.index unit.old }
     requires texts { KnowsTexts source.now.unit.now.sections strings.old known.old }
@@ -191,7 +194,7 @@ fn set_attributes(
     let mut number = 0;
     for attribute in attributes {
         let value = output_attribute(
-            alloc, isa, source, lineage, begins, entry, number, attribute, strings, known,
+            alloc, isa, source, lineage, begins, is_sound, entry, number, attribute, strings, known,
         )?;
         let value = told_value(
             alloc,
@@ -279,6 +282,7 @@ fn clone_itself(
     function: Option<&FunctionMap>,
     speaks: bool,
     begins: bool,
+    is_sound: bool,
     telling: Telling,
     entry: &Entry<'_>,
     id: UnitEntryId,
@@ -292,6 +296,8 @@ fn clone_itself(
     requires symbol { IfSome function (λ f. IsSome f.now.symbol) }
     requires begun { option_map (λ f. function_view f.now) function ≡ begun_function (list_source source.now.unit.now.sections source.now.unit.now.header) source.now.transform.now (entry_view entry.now) }
     requires begins { begins ≡ begins_by_low_pc (list_source source.now.unit.now.sections source.now.unit.now.header) source.now.transform.now (entry_view entry.now) }
+    requires sound { is_sound ≡ true → IsSound (list_source source.now.unit.now.sections source.now.unit.now.header) (entry_view entry.now) }
+    requires own { HasOwnScope (list_source source.now.unit.now.sections source.now.unit.now.header) source.now.transform.now (entry_view entry.now) walk.old.lineage }
     requires read { IsReadEntry (entry_view entry.now) }
     requires parents { AreKnown walk.old.parents.items unit.old }
     requires reserved { CanAdd id walk.old.parents.items unit.old }
@@ -316,13 +322,15 @@ fn clone_itself(
         room,
     ))?;
     let id = placed.id;
-    of_memory(set_code(alloc, source, entry, function, speaks, unit, id))?;
+    let scope = walk.lineage.own_scope(entry);
+    of_memory(set_code(alloc, source, entry, function, speaks, scope, unit, id))?;
     set_attributes(
         alloc,
         isa,
         source,
         &walk.lineage,
         begins,
+        is_sound,
         telling,
         entry,
         unit,
@@ -372,14 +380,14 @@ pub(crate) fn clone_entry(
     note_function(translated, function)?;
     let begins = function.is_some() && has_begin(source, entry);
     let speaks = speaks_of_code(entry);
-    walk.lineage.enter(alloc, source, entry, function, speaks)?;
+    let is_sound = walk.lineage.enter(alloc, source, entry, function, speaks)?;
     if is_wrapped(entry) {
         return wrap_entry(
-            alloc, isa, source, begins, entry, id, walk, unit, strings, known,
+            alloc, isa, source, begins, is_sound, entry, id, walk, unit, strings, known,
         );
     }
     clone_itself(
-        alloc, isa, source, function, speaks, begins, telling, entry, id, walk, unit, strings,
-        known,
+        alloc, isa, source, function, speaks, begins, is_sound, telling, entry, id, walk, unit,
+        strings, known,
     )
 }

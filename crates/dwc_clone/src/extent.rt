@@ -1,9 +1,10 @@
 //! What entries have of the native code. (DWARF 4 and 5, section 2.17.)
-ghost use Rattle.std.specs.Prelude.{◌≡◌, ℕ, IfOk, IsTrue, option_map, option_to_list};
+ghost use Rattle.std.specs.Prelude.{◌≡◌, ◌<◌, ℕ, IfOk, IsTrue, length, option_map, option_to_list};
 ghost use Rattle.dwc_base.specs.Addends.{HaveAddends};
 ghost use Rattle.dwc_base.specs.Lists.{list_source, ranges_of_value};
-ghost use Rattle.dwc_base.specs.RangeAttributes.{carried_address, extent, intervals, position, said_extent};
+ghost use Rattle.dwc_base.specs.RangeAttributes.{Extent, carried_address, extent, intervals, position, said_extent};
 ghost use Rattle.dwc_base.specs.RawLists.{is_range_list};
+ghost use Rattle.dwc_base.specs.Scopes.{scope_of_extent};
 ghost use Rattle.dwc_base.specs.Trees as Trees;
 ghost use Rattle.dwc_read.specs.EntriesSeen.{entry_view};
 ghost use Rattle.dwc_read.specs.ValuesSeen.{value_view};
@@ -11,9 +12,11 @@ ghost use Rattle.dwc_tabs.specs.RangeEnds.{interval_view};
 ghost use Rattle.dwc_write.specs.Writers.{FitsField};
 ghost use Rattle.dwc_clone.specs.CodeNames.{have_code_name};
 ghost use Rattle.dwc_clone.specs.NativeExtents.{FitsExtent, IsExtent, said_by};
+ghost use Rattle.dwc_clone.specs.ReadExtents.{IsScopeOf};
 
+use crate::CloneSource;
 use crate::input_extent::{InputExtent, input_extent};
-use crate::ranges::{add_native, native_ranges};
+use crate::ranges::{add_native, native_ranges, translated_offsets};
 use dwc_addr::{AddressTransform, translations_are_said};
 use dwc_base::Address;
 use dwc_base::constants::DW_TAG_compile_unit;
@@ -96,10 +99,10 @@ fn position_of(transform: &AddressTransform, tag: u16, address: Address) -> Nati
     NativeExtent::Position(carried_address(transform, address))
 }
 
-/// What an entry has of the native code: the intervals of its range list; without one, the interval from its `low_pc` to its `high_pc`; and
-/// with a `low_pc` alone a position, which is 0 for a compile unit. What cannot be read counts as not there. `speaks` tells whether the entry
-/// says something of its code.
-pub(crate) fn native_extent(
+// What an entry has of the native code: the intervals of its range list; without one, the interval from its `low_pc` to its `high_pc`; and
+// with a `low_pc` alone a position, which is 0 for a compile unit. What cannot be read counts as not there. `speaks` tells whether the entry
+// says something of its code.
+fn native_extent(
     alloc: Global,
     unit: &Unit<'_>,
     transform: &AddressTransform,
@@ -119,5 +122,48 @@ pub(crate) fn native_extent(
         InputExtent::Bounded(interval) => interval_extent(alloc, transform, interval),
         InputExtent::Position(address) => Ok(position_of(transform, entry.tag, address)),
         InputExtent::Nowhere => Ok(NativeExtent::Nowhere),
+    }
+}
+
+// What an extent is whose intervals of wasm offsets are these, of which there is one at least.
+fn extent_of_scope(
+    alloc: Global,
+    transform: &AddressTransform,
+    scope: &[(u64, u64)],
+) -> Result<NativeExtent, AllocError>
+    requires functions { HaveAddends transform.now }
+    requires some { 0 < length scope.now }
+    ensures says { (tag : ℕ) (e : Extent) → scope.now ≡ scope_of_extent e → IfOk result (IsExtent transform.now tag e) }
+    ensures fits { IfOk result FitsExtent }
+{
+    translations_are_said();
+    let ranges = translated_offsets(alloc, transform, scope)?;
+    Ok(NativeExtent::Intervals(ranges))
+}
+
+/// What an entry has of the native code. `speaks` tells whether the entry says something of its code; `scope` is its extent as intervals of
+/// wasm offsets, where these are known already.
+pub(crate) fn extent_by_scope(
+    alloc: Global,
+    source: &CloneSource<'_, '_>,
+    entry: &Entry<'_>,
+    speaks: bool,
+    scope: Option<&[(u64, u64)]>,
+) -> Result<NativeExtent, AllocError>
+    requires functions { HaveAddends source.now.transform.now }
+    requires speaks { speaks ≡ have_code_name (entry_view entry.now).attributes }
+    requires scope { IsScopeOf (list_source source.now.unit.now.sections source.now.unit.now.header) (entry_view entry.now) (option_map (λ is. is.now) scope) }
+    ensures says { IfOk result (λ x. said_by (entry_view entry.now).tag x ≡ said_extent source.now.transform.now (entry_view entry.now).tag (extent (list_source source.now.unit.now.sections source.now.unit.now.header) (entry_view entry.now))) }
+    ensures fits { IfOk result FitsExtent }
+{
+    match scope {
+        Some(known) => {
+            // The extent may be a position, or intervals that are none of wasm offsets.
+            if known.is_empty() {
+                return native_extent(alloc, source.unit, source.transform, entry, speaks);
+            }
+            extent_of_scope(alloc, source.transform, known)
+        }
+        None => native_extent(alloc, source.unit, source.transform, entry, speaks),
     }
 }

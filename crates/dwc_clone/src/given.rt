@@ -1,5 +1,5 @@
 //! What entries give to themselves and those below them: a scope, and a frame base. (DWARF 4 and 5, sections 2.6 and 3.3.5.)
-ghost use Rattle.std.specs.Prelude.{◌≡◌, ◌||◌, IfOk, is_some, option_map};
+ghost use Rattle.std.specs.Prelude.{◌≡◌, ◌||◌, true, IfOk, is_some, option_map};
 ghost use Rattle.dwc_base.specs.declared.constants.TheConstants.{DW_AT_high_pc as high_pc, DW_AT_ranges as ranges};
 ghost use Rattle.dwc_base.specs.Entries.{attribute};
 ghost use Rattle.dwc_base.specs.Lists.{list_source};
@@ -8,6 +8,7 @@ ghost use Rattle.dwc_base.specs.RangeAttributes.{begun_function};
 ghost use Rattle.dwc_base.specs.Scopes.{base_given, scope_given, source_range};
 ghost use Rattle.dwc_addr.specs.Transforms.{function_view};
 ghost use Rattle.dwc_read.specs.EntriesSeen.{entry_view};
+ghost use Rattle.dwc_clone.specs.BoundRefusals.{IsSound};
 
 use crate::CloneSource;
 use crate::wasm_intervals::intervals_of;
@@ -48,7 +49,7 @@ fn has_extent(entry: &Entry<'_>) -> bool
 
 /// The scope that an entry gives, as intervals of wasm offsets. A subprogram gives the source range of the function that it begins in, if
 /// there is one; an entry of another tag with a `high_pc` or `ranges` the intervals of its extent, which may be none. What cannot be read
-/// counts as not there.
+/// counts as not there. The second answer tells whether it is known that nothing is refused of the entry's extent.
 ///
 /// # Errors
 /// `AllocError` for want of memory.
@@ -57,17 +58,19 @@ pub(crate) fn scope_given(
     source: &CloneSource<'_, '_>,
     entry: &Entry<'_>,
     function: Option<&FunctionMap>,
-) -> Result<Option<Vec<(u64, u64)>>, AllocError>
+) -> Result<(Option<Vec<(u64, u64)>>, bool), AllocError>
     requires begun { option_map (λ f. function_view f.now) function ≡ begun_function (list_source source.now.unit.now.sections source.now.unit.now.header) source.now.transform.now (entry_view entry.now) }
-    ensures { IfOk result (λ scope. option_map (λ is. is.items) scope ≡ scope_given (list_source source.now.unit.now.sections source.now.unit.now.header) source.now.transform.now (entry_view entry.now)) }
+    ensures given { IfOk result (λ r. option_map (λ is. is.items) r.0 ≡ scope_given (list_source source.now.unit.now.sections source.now.unit.now.header) source.now.transform.now (entry_view entry.now)) }
+    ensures sound { IfOk result (λ r. r.1 ≡ true → IsSound (list_source source.now.unit.now.sections source.now.unit.now.header) (entry_view entry.now)) }
 {
     if entry.tag == DW_TAG_subprogram {
-        return scope_of_function(alloc, function);
+        return Ok((scope_of_function(alloc, function)?, false));
     }
     if !has_extent(entry) {
-        return Ok(None);
+        return Ok((None, false));
     }
-    Ok(Some(intervals_of(alloc, source.unit, entry)?))
+    let read = intervals_of(alloc, source.unit, entry)?;
+    Ok((Some(read.intervals), read.is_sound))
 }
 
 /// The frame base that an entry gives: its first `frame_base`, where that is an expression that is supported, compiled without a frame

@@ -98,6 +98,16 @@ impl<T> InheritedAttr<T> {
         }
     }
 
+    /// What the nearest entry gave, where that entry is of a depth; None for another depth.
+    pub(crate) fn top_with_depth(&self, depth: i64) -> Option<&T>
+        ensures { option_copied result ≡ top_at depth self.now }
+    {
+        if self.has_top_at(depth) {
+            return self.top();
+        }
+        None
+    }
+
     // The value on top, to change.
     fn top_mut(&mut self) -> &mut T
         requires { 0 < length self.old }

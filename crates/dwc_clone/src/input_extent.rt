@@ -1,5 +1,5 @@
 //! What the input says of the code of entries. (DWARF 4 and 5, section 2.17.)
-ghost use Rattle.std.specs.Prelude.{◌≡◌, ℕ, IfSome, IsTrue, option_map, option_and_then};
+ghost use Rattle.std.specs.Prelude.{◌≡◌, ℕ, IfSome, IsTrue, None, option_map, option_and_then};
 ghost use Rattle.dwc_base.specs.declared.constants.TheConstants.{DW_AT_high_pc as high_pc};
 ghost use Rattle.dwc_base.specs.Entries.{attribute};
 ghost use Rattle.dwc_base.specs.EntryRules.{of_list};
@@ -11,6 +11,7 @@ ghost use Rattle.dwc_read.specs.EntriesSeen.{entry_view};
 ghost use Rattle.dwc_read.specs.ValuesSeen.{value_view};
 ghost use Rattle.dwc_tabs.specs.RangeEnds.{GivesOrRefusal, interval_view};
 ghost use Rattle.dwc_clone.specs.InputExtents.{NamesRanges, constant_said, extent_said, interval_up_to};
+ghost use Rattle.dwc_clone.specs.ReadExtents.{IsSoundWhere};
 ghost use Rattle.dwc_clone.specs.NativeExtents.{TellsRefusal};
 
 use crate::CloneError;
@@ -84,10 +85,12 @@ fn range_list<'d>(entry: &Entry<'d>) -> Option<AttributeValue<'d>>
     None
 }
 
-// What the bounds of an entry say.
+// What the bounds of an entry without a range list say.
 fn bounds_said<'d>(unit: &Unit<'_>, entry: &Entry<'d>) -> InputExtent<'d>
+    requires { None ≡ range_list_of (entry_view entry.now) }
     ensures said { extent_said (list_source unit.now.sections unit.now.header) (entry_view entry.now).offset result ≡ extent_of_bounds (list_source unit.now.sections unit.now.header) (entry_view entry.now) }
     ensures named { NamesRanges result }
+    ensures sound { IsSoundWhere (list_source unit.now.sections unit.now.header) (entry_view entry.now) result }
 {
     let Some(low) = address_said(unit, entry, DW_AT_low_pc) else {
         return InputExtent::Nowhere;
@@ -106,6 +109,7 @@ fn bounds_said<'d>(unit: &Unit<'_>, entry: &Entry<'d>) -> InputExtent<'d>
 pub(crate) fn input_extent<'d>(unit: &Unit<'_>, entry: &Entry<'d>) -> InputExtent<'d>
     ensures said { extent_said (list_source unit.now.sections unit.now.header) (entry_view entry.now).offset result ≡ extent (list_source unit.now.sections unit.now.header) (entry_view entry.now) }
     ensures named { NamesRanges result }
+    ensures sound { IsSoundWhere (list_source unit.now.sections unit.now.header) (entry_view entry.now) result }
 {
     match range_list(entry) {
         Some(list) => InputExtent::Listed(list),

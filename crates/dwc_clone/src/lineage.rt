@@ -1,18 +1,20 @@
 //! What is in force at an entry: the scope, the frame and the frame base of the nearest of it and its ancestors that gives one. (DWARF 4
 //! and 5, sections 2.6 and 3.3.5.)
-ghost use Rattle.std.specs.Prelude.{◌≡◌, ◌==◌, pos, true, IfErr, IfSome, IsSome, OnOk, option_map};
+ghost use Rattle.std.specs.Prelude.{◌≡◌, ◌==◌, pos, true, IfErr, IfOk, IfSome, IsSome, OnOk, option_copied, option_map};
 ghost use Rattle.dwc_base.specs.Lists.{list_source};
 ghost use Rattle.dwc_base.specs.RangeAttributes.{begun_function};
-ghost use Rattle.dwc_base.specs.Scopes.{left_for, top_of};
+ghost use Rattle.dwc_base.specs.Scopes.{left_for, top_at, top_of};
 ghost use Rattle.dwc_addr.specs.Transforms.{function_view};
 ghost use Rattle.dwc_read.specs.EntriesSeen.{entry_view};
 ghost use Rattle.dwc_clone.specs.declared.error.CloneError.TheVariants.{OutOfMemory};
 ghost use Rattle.dwc_clone.specs.CodeNames.{have_code_name};
-ghost use Rattle.dwc_clone.specs.Lineages.{Stacks, given_on, no_stacks, stacks_left, stacks_with, with_entry};
+ghost use Rattle.dwc_clone.specs.BoundRefusals.{IsSound};
+ghost use Rattle.dwc_clone.specs.Lineages.{Stacks, given_on, no_stacks, own_scope, stacks_left, stacks_with, with_entry};
 
 use crate::given::{base_given, scope_given};
 use crate::{CloneError, CloneSource, InheritedAttr};
 use dwc_addr::FunctionMap;
+use dwc_base::constants::DW_TAG_subprogram;
 use dwc_expr::CompiledExpression;
 use dwc_read::Entry;
 use std::alloc::{AllocError, Global};
@@ -90,6 +92,13 @@ fn push_given<T: Drop>(
     }
 }
 
+// What is on top of a stack, where it was given at the depth of an entry.
+fn top_for<'s, T>(stack: &'s InheritedAttr<T>, entry: &Entry<'_>) -> Option<&'s T>
+    ensures { option_copied result ≡ top_at (pos (entry_view entry.now).depth) stack.now }
+{
+    stack.top_with_depth(entry.depth)
+}
+
 impl Lineage {
     /// Nothing is in force.
     pub(crate) fn new(alloc: Global) -> Lineage
@@ -127,7 +136,8 @@ impl Lineage {
     }
 
     /// Enters an entry, the next in file order, of those that are walked: what is in force is then what is in force at it. The root gives
-    /// nothing. `speaks` tells whether the entry says something of its code.
+    /// nothing. `speaks` tells whether the entry says something of its code. Answers whether it is known that nothing is refused of the
+    /// entry's extent.
     ///
     /// # Errors
     /// `OutOfMemory` for want of memory. Nothing is said of what is in force then.
@@ -138,24 +148,38 @@ impl Lineage {
         entry: &Entry<'_>,
         function: Option<&FunctionMap>,
         speaks: bool,
-    ) -> Result<(), CloneError>
+    ) -> Result<bool, CloneError>
         requires speaks { speaks ≡ have_code_name (entry_view entry.now).attributes }
         requires symbol { IfSome function (λ f. IsSome f.now.symbol) }
         requires begun { option_map (λ f. function_view f.now) function ≡ begun_function (list_source source.now.unit.now.sections source.now.unit.now.header) source.now.transform.now (entry_view entry.now) }
         ensures entered { OnOk result (self.new ≡ with_entry (list_source source.now.unit.now.sections source.now.unit.now.header) source.now.transform.now (entry_view entry.now) self.old) }
+        ensures sound { IfOk result (λ is_sound. is_sound ≡ true → IsSound (list_source source.now.unit.now.sections source.now.unit.now.header) (entry_view entry.now)) }
         ensures memory { IfErr result (λ e. e ≡ OutOfMemory) }
     {
         self.leave(entry);
         if is_root(entry) {
-            return Ok(());
+            return Ok(false);
         }
         if gives_nothing(source, entry, function, speaks) {
-            return Ok(());
+            return Ok(false);
         }
-        let scope = scope_given(alloc, source, entry, function)?;
+        let (scope, is_sound) = scope_given(alloc, source, entry, function)?;
         let base = base_given(alloc, source, entry)?;
         self.push(entry, scope, number_of(function), base)?;
-        Ok(())
+        Ok(is_sound)
+    }
+
+    /// The scope that an entry itself gave, the last that was entered, where it is no subprogram.
+    pub(crate) fn own_scope(&self, entry: &Entry<'_>) -> Option<&[(u64, u64)]>
+        ensures { option_map (λ scope. scope.now) result ≡ own_scope (entry_view entry.now) self.now }
+    {
+        if entry.tag == DW_TAG_subprogram {
+            return None;
+        }
+        match top_for(&self.scopes, entry) {
+            Some(scope) => Some(scope.as_slice()),
+            None => None,
+        }
     }
 
     /// The scope in force, as intervals of wasm offsets.

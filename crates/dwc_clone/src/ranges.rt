@@ -12,7 +12,7 @@ ghost use Rattle.dwc_addr.specs.Translations.{with_lengths};
 ghost use Rattle.dwc_read.specs.Faults.{fault_at, fault_seen};
 ghost use Rattle.dwc_read.specs.ValuesSeen.{value_view};
 ghost use Rattle.dwc_tabs.specs.RangeEnds.{interval_view, refusal_view};
-ghost use Rattle.dwc_clone.specs.NativeExtents.{AreRanges, BeginsList, EndsList, IsNative, TellsRefusal};
+ghost use Rattle.dwc_clone.specs.NativeExtents.{AreRanges, BeginsList, EndsList, IsNative, TellsRefusal, ranges_of_offsets};
 
 use crate::CloneError;
 use dwc_addr::{AddressTransform, translations_are_said};
@@ -65,6 +65,21 @@ fn push_translated(
         ranges.push(range)?;
     }
     Ok(())
+}
+
+/// What some intervals of wasm offsets are translated to, one after another.
+pub(crate) fn translated_offsets(
+    alloc: Global,
+    transform: &AddressTransform,
+    intervals: &[(u64, u64)],
+) -> Result<Vec<(Address, u64)>, AllocError>
+    ensures { IfOk result (λ ranges. ranges.items ≡ ranges_of_offsets transform.now intervals.now) }
+{
+    let mut ranges = Vec::new(alloc);
+    for (begin, end) in intervals {
+        push_translated(transform, *begin, *end, &mut ranges)?;
+    }
+    Ok(ranges)
 }
 
 /// The fault of a list that cannot be found, told at the entry at an offset.

@@ -1,5 +1,5 @@
 //! The code of entries as intervals of wasm offsets. (DWARF 4 and 5, section 2.17.)
-ghost use Rattle.std.specs.Prelude.{◌≡◌, ◌++◌, IfOk, OnOk, IsTrue, option_map, option_to_list};
+ghost use Rattle.std.specs.Prelude.{◌≡◌, ◌++◌, [], true, false, is_some, IfOk, OnOk, IsTrue, option_map, option_to_list};
 ghost use Rattle.std.specs.List.{filter_map};
 ghost use Rattle.dwc_base.specs.Lists.{list_source, ranges_of_value};
 ghost use Rattle.dwc_base.specs.RangeAttributes.{extent, wasm_interval};
@@ -8,7 +8,8 @@ ghost use Rattle.dwc_base.specs.Scopes.{scope_of_extent};
 ghost use Rattle.dwc_read.specs.EntriesSeen.{entry_view};
 ghost use Rattle.dwc_read.specs.ValuesSeen.{value_view};
 ghost use Rattle.dwc_tabs.specs.RangeEnds.{interval_view};
-ghost use Rattle.dwc_clone.specs.InputExtents.{TakesFirst};
+ghost use Rattle.dwc_clone.specs.BoundRefusals.{IsSound};
+ghost use Rattle.dwc_clone.specs.ReadExtents.{AreReadOf};
 
 use crate::input_extent::{InputExtent, input_extent};
 use crate::ranges::list_begun;
@@ -41,25 +42,43 @@ fn add_interval(
     Ok(())
 }
 
-// The next interval of a list, if there is one that can be read.
-fn next_interval(list: &mut Ranges<'_, '_>) -> Option<(Address, Address)>
-    ensures { TakesFirst list.old.items list.new.items (option_map interval_view result) }
-{
-    match list.next_range() {
-        Ok(interval) => interval,
-        Err(_) => None,
-    }
+/// The intervals of wasm offsets that an extent is read as.
+#[derive(Drop)]
+pub(crate) struct ReadIntervals {
+    pub intervals: Vec<(u64, u64)>,
+    /// Whether it is known that nothing is refused of the extent.
+    pub is_sound: bool,
 }
 
 // The intervals of wasm offsets that are left of a list.
-fn intervals_left(alloc: Global, list: &mut Ranges<'_, '_>) -> Result<Vec<(u64, u64)>, AllocError>
-    ensures { IfOk result (λ intervals. intervals.items ≡ filter_map wasm_interval list.old.items) }
+fn intervals_left(alloc: Global, list: &mut Ranges<'_, '_>) -> Result<ReadIntervals, AllocError>
+    ensures { IfOk result (AreReadOf list.old) }
 {
     let mut intervals = Vec::new(alloc);
-    while let Some((begin, end)) = next_interval(list) {
-        add_interval(begin, end, &mut intervals)?;
+    loop {
+        match list.next_range() {
+            Ok(Some((begin, end))) => add_interval(begin, end, &mut intervals)?,
+            Ok(None) => return Ok(ReadIntervals {
+                intervals,
+                is_sound: true,
+            }),
+            Err(_) => return Ok(ReadIntervals {
+                intervals,
+                is_sound: false,
+            }),
+        }
     }
-    Ok(intervals)
+}
+
+// No intervals, of an extent that may be refused.
+fn no_intervals(alloc: Global) -> ReadIntervals
+    ensures none { result.intervals.items ≡ [] }
+    ensures unsound { result.is_sound ≡ false }
+{
+    ReadIntervals {
+        intervals: Vec::new(alloc),
+        is_sound: false,
+    }
 }
 
 // Those of the range list that a value of the entry at an offset names.
@@ -68,16 +87,16 @@ fn listed_intervals(
     unit: &Unit<'_>,
     offset: u64,
     value: AttributeValue<'_>,
-) -> Result<Vec<(u64, u64)>, AllocError>
+) -> Result<ReadIntervals, AllocError>
     requires list { IsTrue (is_range_list (value_view value)) }
-    ensures { IfOk result (λ intervals. intervals.items ≡ filter_map wasm_interval (ranges_of_value (list_source unit.now.sections unit.now.header) offset (value_view value.entry)).items) }
+    ensures { IfOk result (AreReadOf (ranges_of_value (list_source unit.now.sections unit.now.header) offset (value_view value.entry))) }
 {
     match list_begun(unit, offset, value) {
         Ok(list) => {
             let mut list = list;
             intervals_left(alloc, &mut list)
         }
-        Err(_) => Ok(Vec::new(alloc)),
+        Err(_) => Ok(no_intervals(alloc)),
     }
 }
 
@@ -85,28 +104,35 @@ fn listed_intervals(
 fn interval_alone(
     alloc: Global,
     interval: Option<(Address, Address)>,
-) -> Result<Vec<(u64, u64)>, AllocError>
-    ensures { IfOk result (λ intervals. intervals.items ≡ filter_map wasm_interval (option_to_list (option_map interval_view interval))) }
+) -> Result<ReadIntervals, AllocError>
+    ensures alone { IfOk result (λ r. r.intervals.items ≡ filter_map wasm_interval (option_to_list (option_map interval_view interval))) }
+    ensures sound { IfOk result (λ r. r.is_sound ≡ is_some interval) }
 {
     let mut intervals = Vec::new(alloc);
+    let is_sound = interval.is_some();
     if let Some((begin, end)) = interval {
         add_interval(begin, end, &mut intervals)?;
     }
-    Ok(intervals)
+    Ok(ReadIntervals {
+        intervals,
+        is_sound,
+    })
 }
 
 /// The intervals of wasm offsets that an entry has: those of its range list; without one, that from its `low_pc` to its `high_pc`. A
-/// position is none, and what cannot be read counts as not there.
+/// position is none, and what cannot be read counts as not there. An extent is known to be sound where its list was read to its end, or its
+/// bounds make an interval.
 pub(crate) fn intervals_of(
     alloc: Global,
     unit: &Unit<'_>,
     entry: &Entry<'_>,
-) -> Result<Vec<(u64, u64)>, AllocError>
-    ensures { IfOk result (λ intervals. intervals.items ≡ scope_of_extent (extent (list_source unit.now.sections unit.now.header) (entry_view entry.now))) }
+) -> Result<ReadIntervals, AllocError>
+    ensures intervals { IfOk result (λ r. r.intervals.items ≡ scope_of_extent (extent (list_source unit.now.sections unit.now.header) (entry_view entry.now))) }
+    ensures sound { IfOk result (λ r. r.is_sound ≡ true → IsSound (list_source unit.now.sections unit.now.header) (entry_view entry.now)) }
 {
     match input_extent(unit, entry) {
         InputExtent::Listed(list) => listed_intervals(alloc, unit, entry.offset, list),
         InputExtent::Bounded(interval) => interval_alone(alloc, interval),
-        InputExtent::Position(_) | InputExtent::Nowhere => Ok(Vec::new(alloc)),
+        InputExtent::Position(_) | InputExtent::Nowhere => Ok(no_intervals(alloc)),
     }
 }

@@ -9,6 +9,7 @@ ghost use Rattle.dwc_base.specs.Wrappers.{is_wrapped};
 ghost use Rattle.dwc_read.specs.EntriesSeen.{entry_view};
 ghost use Rattle.dwc_write.specs.GivenUnits.{IsReserved};
 ghost use Rattle.dwc_write.specs.TextTables.{IsText};
+ghost use Rattle.dwc_clone.specs.BoundRefusals.{IsSound};
 ghost use Rattle.dwc_clone.specs.ClonedEntries.{AreKnown, CanAdd, placed_entry};
 ghost use Rattle.dwc_clone.specs.ClonedUnits.{GivesInForce};
 ghost use Rattle.dwc_clone.specs.CompiledModules.{HasFrames};
@@ -44,12 +45,14 @@ fn check_attributes(
     source: &CloneSource<'_, '_>,
     lineage: &Lineage,
     begins: bool,
+    is_sound: bool,
     entry: &Entry<'_>,
     strings: &mut StringTable,
     known: &mut KnownTexts,
 ) -> Result<(), CloneError>
     requires functions { HaveAddends source.now.transform.now }
     requires begins { begins ≡ begins_by_low_pc (list_source source.now.unit.now.sections source.now.unit.now.header) source.now.transform.now (entry_view entry.now) }
+    requires sound { is_sound ≡ true → IsSound (list_source source.now.unit.now.sections source.now.unit.now.header) (entry_view entry.now) }
     requires read { IsReadEntry (entry_view entry.now) }
     requires texts { KnowsTexts source.now.unit.now.sections strings.old known.old }
     ensures texts { KnowsTexts source.now.unit.now.sections strings.new known.new }
@@ -60,7 +63,7 @@ fn check_attributes(
     let mut number = 0;
     for attribute in attributes {
         output_attribute(
-            alloc, isa, source, lineage, begins, entry, number, attribute, strings, known,
+            alloc, isa, source, lineage, begins, is_sound, entry, number, attribute, strings, known,
         )?;
         number += 1;
     }
@@ -74,6 +77,7 @@ fn read_wrapper_name(
     isa: &dyn TargetIsa,
     source: &CloneSource<'_, '_>,
     begins: bool,
+    is_sound: bool,
     entry: &Entry<'_>,
     lineage: &Lineage,
     names: &mut TypeNames,
@@ -82,6 +86,7 @@ fn read_wrapper_name(
 ) -> Result<StringId, CloneError>
     requires functions { HaveAddends source.now.transform.now }
     requires begins { begins ≡ begins_by_low_pc (list_source source.now.unit.now.sections source.now.unit.now.header) source.now.transform.now (entry_view entry.now) }
+    requires sound { is_sound ≡ true → IsSound (list_source source.now.unit.now.sections source.now.unit.now.header) (entry_view entry.now) }
     requires read { IsReadEntry (entry_view entry.now) }
     requires texts { KnowsTexts source.now.unit.now.sections strings.old known.old }
     requires plain { AreNames names.old }
@@ -90,7 +95,9 @@ fn read_wrapper_name(
     ensures names { (number : ℕ) (s : UnitSource) → IsSource source.now number s → IsEmitted source.now s (placed_entry source.now (entry_view entry.now)) → KnowsNames source.now s strings.old names.old → OnOk result (KnowsNames source.now s strings.new names.new) }
     ensures named { (number : ℕ) (s : UnitSource) → IsSource source.now number s → HasFrames source.now.module source.now.transform.now → IsEmitted source.now s (placed_entry source.now (entry_view entry.now)) → KnowsNames source.now s strings.old names.old → AreInForce (list_source source.now.unit.now.sections source.now.unit.now.header) source.now.transform.now s.entries (placed_entry source.now (entry_view entry.now)) lineage.now → is_wrapped (placed_entry source.now (entry_view entry.now)) ≡ true → GivesWrapperName (dwarf_registers isa.now) source.now s (placed_entry source.now (entry_view entry.now)) strings.old strings.new result }
 {
-    check_attributes(alloc, isa, source, lineage, begins, entry, strings, known)?;
+    check_attributes(
+        alloc, isa, source, lineage, begins, is_sound, entry, strings, known,
+    )?;
     name_of_wrapper(alloc, source, entry, names, strings)
 }
 
@@ -137,6 +144,7 @@ pub(crate) fn wrap_entry(
     isa: &dyn TargetIsa,
     source: &CloneSource<'_, '_>,
     begins: bool,
+    is_sound: bool,
     entry: &Entry<'_>,
     id: UnitEntryId,
     walk: &mut Walk,
@@ -146,6 +154,7 @@ pub(crate) fn wrap_entry(
 ) -> Result<(), CloneError>
     requires functions { HaveAddends source.now.transform.now }
     requires begins { begins ≡ begins_by_low_pc (list_source source.now.unit.now.sections source.now.unit.now.header) source.now.transform.now (entry_view entry.now) }
+    requires sound { is_sound ≡ true → IsSound (list_source source.now.unit.now.sections source.now.unit.now.header) (entry_view entry.now) }
     requires read { IsReadEntry (entry_view entry.now) }
     requires resolve { IsText source.now.module.names.resolve_memory.now }
     requires parents { AreKnown walk.old.parents.items unit.old }
@@ -169,6 +178,7 @@ pub(crate) fn wrap_entry(
         isa,
         source,
         begins,
+        is_sound,
         entry,
         &walk.lineage,
         &mut walk.names,

@@ -39,7 +39,7 @@ pub returns-in-Exprloc : goal.returns-in-Exprloc
 returns-in-Exprloc c = λ registers s e before entry begins seen force.
     let src = c.args.source.now in
     subst (λ v. TellsRefusal (bound_value_refused (source_with registers src s) e before c.args.name (value_view v)) c.check_placed.result) (sym c.in-Exprloc.is)
-    (c.check_placed.ensures registers s e before (ap (λ (x : Entry). x.offset) entry) (before-many (entry_view c.args.entry.now).attributes before c.args.number seen c.requires) force)
+    (c.check_placed.ensures registers s e before (ap (λ (x : Entry). x.offset) entry) (before-many (entry_view c.args.entry.now).attributes before c.args.number seen c.requires.within) force)
 
 pub returns-in_default : goal.returns-in_default
 returns-in_default c = λ registers s e before entry begins seen force.

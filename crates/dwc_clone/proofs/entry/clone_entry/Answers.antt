@@ -6,7 +6,7 @@ use Rattle.dwc_write.specs.GivenUnits.{IsReserved}
 use Rattle.dwc_clone.specs.BuiltUnits.{TakesRoles, numbers_taken}
 use Rattle.dwc_clone.specs.ClonedUnits.{goal_number}
 use Rattle.dwc_clone.specs.ClonedEntries.{CanAdd, placed_entry}
-use Rattle.dwc_clone.specs.Lineages.{AreInForce}
+use Rattle.dwc_clone.specs.Lineages.{AreInForce, HasOwnScope}
 use Rattle.dwc_clone.specs.OpenWrappers.{CanCloseAll, IsOther, closed_from, still_open}
 use Rattle.dwc_clone.specs.WrappedEntries.{IsWrapped}
 use Rattle.dwc_clone.proofs.ClonedSteps.{at-place, can-add-kept, can-itself, can-wrapped, follows-next, gives-itself_cloned, gives-wrapped_cloned, next-in-force, other-still, stands}
@@ -15,6 +15,7 @@ use Rattle.dwc_clone.proofs.EntrySteps.{closed-length}
 use Rattle.dwc_clone.proofs.EntryValues.{on-ok, succeeded}
 use Rattle.dwc_clone.proofs.NumbersKept.{can-kept}
 use Rattle.dwc_clone.proofs.OpenWrapperLaws.{can-below}
+use Rattle.dwc_clone.proofs.OwnScopeLaws.{own-scope-entered}
 use Rattle.dwc_clone.proofs.ParameterLaws.{this-emitted}
 use Rattle.dwc_clone.proofs.TakenNumbers.{numbers_in}
 use Rattle.dwc_clone.proofs.entry.clone_entry.Goals as goal
@@ -31,6 +32,13 @@ wrap_entry-requires-clause-other g c =
     let others1 : (k : ℕ) → IsOther k ws0 → IsOther k ws1 = λ k other. subst (IsOther k) (sym still) (other-still x.depth k ws0 other) in
     let reserved1 : (k : ℕ) → IsReserved k u0 → IsOther k ws0 → IsReserved k u1 = λ k reserved other. succeeded c.close_wrappers.result c.in_ok-of_memory.field-0 c.in_ok-of_memory.ensures (c.close_wrappers.ensures.reserved k reserved other) in
     others1 c.args.id.index c.requires.other
+
+pub clone_itself-requires-clause-own : goal.clone_itself-requires-clause-own
+clone_itself-requires-clause-own g c =
+    let x = entry_view c.args.entry.now in
+    let src = c.args.source.now in
+    let sources = list_source src.unit.now.sections src.unit.now.header in
+    subst (HasOwnScope sources src.transform.now x) (sym c.in_ok-is_sound.ensures.entered) (own-scope-entered sources src.transform.now x c.args.walk.now.lineage)
 
 pub returns-then-is_wrapped-clause-others : goal.returns-then-is_wrapped-clause-others
 returns-then-is_wrapped-clause-others g c = λ k reserved other apart.
@@ -96,7 +104,7 @@ returns-then-is_wrapped-clause-cloned g c number s roles es others old begun sou
     let sources = list_source src.unit.now.sections src.unit.now.header in
     let unit_is : u1 ≡ closed_from x.depth ws0 u0 = succeeded c.close_wrappers.result c.in_ok-of_memory.field-0 c.in_ok-of_memory.ensures c.close_wrappers.ensures.unit ∙ ap (λ d. closed_from d ws0 u0) c.depth_of.ensures in
     let count : numbers_in u1 ≡ numbers_in u0 = ap numbers_in unit_is ∙ closed-length x.depth ws0 u0 in
-    let force = subst (AreInForce sources src.transform.now s.entries p) (sym c.in_ok-enter.ensures.entered) (next-in-force src s es others x c.args.walk.now.lineage walked so.entered) in
+    let force = subst (AreInForce sources src.transform.now s.entries p) (sym c.in_ok-is_sound.ensures.entered) (next-in-force src s es others x c.args.walk.now.lineage walked so.entered) in
     let standing = stands registers src number s roles x others old t0 begun u0 ws0 es parents so.built so.follow in
     let add = subst (CanAdd id parents) unit_is (can-add-kept id parents u0 u1 (λ r. reserved1 id.index r c.requires.other) c.requires.reserved) in
     let placed_at = emitted.each (length es) x (at-place src s es others x) ∙ ap (λ n. Some (number, n)) (sym place) in
@@ -112,7 +120,7 @@ returns-then-is_wrapped-clause-cloned g c number s roles es others old begun sou
     (λ made.
     let both = can-wrapped registers src number s roles x others old t0 begun u0 ws0 es parents source (length u0.places) id standing c.requires.wrappers wrapped add placed_at takes before behind new path v (sym still) (subst (λ w. IsWrapped registers src s p t0 new parents path id before behind w v) unit_is made) in
     (both.0, both.1 ∙ ap (λ w. numbers_in w + numbers_taken registers src s p) (sym unit_is), follows-next registers src number s roles x others old t0 begun u0 ws0 es parents source made.placed.id path standing made.path_is))
-    (c.wrap_entry.ensures.lineage ∙ c.in_ok-enter.ensures.entered) (c.wrap_entry.ensures.contexts ∙ c.in_ok-telling.ensures.contexts)
+    (c.wrap_entry.ensures.lineage ∙ c.in_ok-is_sound.ensures.entered) (c.wrap_entry.ensures.contexts ∙ c.in_ok-telling.ensures.contexts)
     c.wrap_entry.result (c.wrap_entry.ensures.names number s source here so.known)
     (c.wrap_entry.ensures.wrapped number s source frames here so.known force wrapped)
 
@@ -136,7 +144,7 @@ returns-clause-cloned g c number s roles es others old begun source frames emitt
     let sources = list_source src.unit.now.sections src.unit.now.header in
     let unit_is : u1 ≡ closed_from x.depth ws0 u0 = succeeded c.close_wrappers.result c.in_ok-of_memory.field-0 c.in_ok-of_memory.ensures c.close_wrappers.ensures.unit ∙ ap (λ d. closed_from d ws0 u0) c.depth_of.ensures in
     let count : numbers_in u1 ≡ numbers_in u0 = ap numbers_in unit_is ∙ closed-length x.depth ws0 u0 in
-    let force = subst (AreInForce sources src.transform.now s.entries p) (sym c.in_ok-enter.ensures.entered) (next-in-force src s es others x c.args.walk.now.lineage walked so.entered) in
+    let force = subst (AreInForce sources src.transform.now s.entries p) (sym c.in_ok-is_sound.ensures.entered) (next-in-force src s es others x c.args.walk.now.lineage walked so.entered) in
     let standing = stands registers src number s roles x others old t0 begun u0 ws0 es parents so.built so.follow in
     let add = subst (CanAdd id parents) unit_is (can-add-kept id parents u0 u1 (λ r. reserved1 id.index r c.requires.other) c.requires.reserved) in
     let placed_at = emitted.each (length es) x (at-place src s es others x) ∙ ap (λ n. Some (number, n)) (sym place) in
@@ -151,6 +159,6 @@ returns-clause-cloned g c number s roles es others old begun source frames emitt
     gives-itself_cloned registers src number s roles es x others old t0 begun u0 parents ws0 c.args.walk.now.lineage c.args.walk.now.contexts c.args.walk.now.names so source id u1 v ws1 (reverse c.clone_itself.new.walk.opened.items) new path c.clone_itself.new.walk.lineage c.clone_itself.new.walk.contexts c.clone_itself.new.walk.names can count
     (ap (λ ws. reverse ws.items) c.clone_itself.ensures.wrappers)
     (λ it. follows-next registers src number s roles x others old t0 begun u0 ws0 es parents source can.placed.id path standing it.path_is)
-    (c.clone_itself.ensures.lineage ∙ c.in_ok-enter.ensures.entered) (c.clone_itself.ensures.contexts ∙ c.in_ok-telling.ensures.contexts) c.clone_itself.ensures.names
+    (c.clone_itself.ensures.lineage ∙ c.in_ok-is_sound.ensures.entered) (c.clone_itself.ensures.contexts ∙ c.in_ok-telling.ensures.contexts) c.clone_itself.ensures.names
     c.clone_itself.result
     (c.clone_itself.ensures.itself number s (goal_number src number roles) can.bare_unit can.base can.placed can.added source frames (λ offset. refl) force telling plain can.adds can.last)

@@ -17,7 +17,13 @@ use Rattle.dwc_clone.specs.Tellings.{tell_of}
 use Rattle.dwc_clone.proofs.EntryValues.{given-last, given-on, on-ok, succeeded}
 use Rattle.dwc_clone.proofs.ItselfLaws.{attributes-refused, gives-itself}
 use Rattle.dwc_clone.proofs.NumbersKept.{adds-same, keeps-below, keeps-on, keeps-places, known-kept}
+use Rattle.dwc_clone.proofs.OwnScopeLaws.{own-scope-is}
 use Rattle.dwc_clone.proofs.entry.clone_itself.Goals as goal
+
+pub set_code-requires-clause-scope : goal.set_code-requires-clause-scope
+set_code-requires-clause-scope g c =
+    let src = c.args.source.now in
+    own-scope-is (list_source src.unit.now.sections src.unit.now.header) src.transform.now (entry_view c.args.entry.now) c.args.walk.now.lineage _ c.requires.own c.own_scope-scope.ensures
 
 pub returns-in_err-set_attributes-clause-itself : goal.returns-in_err-set_attributes-clause-itself
 returns-in_err-set_attributes-clause-itself g c number s goals bare base placed e source frames at force told plain adds last =
