@@ -1,9 +1,9 @@
 -- The entries of a map are kept whole: the sources among them are those that are kept, and all come back in order.
-use Rattle.std.proofs.Common.{◌≡◌, ℕ, suc, ◌<◌, refl, ap, ◌∙◌, arith, List, [], ◌∷◌, ◌++◌, map, Option, Some, None}
-use Rattle.std.specs.Prelude.{nat_lt, ◌==◌, if◌then◌else◌, option_map, Bool, true, false, All}
+use Rattle.std.proofs.Common.{◌≡◌, ℕ, suc, ◌+◌, ◌-◌, ◌%◌, ◌^◌, ◌<◌, ◌≤◌, inl, inr, refl, ap, ◌∙◌, arith, List, [], ◌∷◌, ◌++◌, map, Option, Some, None}
+use Rattle.std.specs.Prelude.{nat_lt, nat_le, ◌&&◌, ◌⊎◌, ◌==◌, if◌then◌else◌, option_map, Bool, true, false, All}
 use Rattle.std.specs.List.{filter, filter_map}
 use Rattle.std.specs.Option.{option_or}
-use Rattle.std.proofs.lemmas.Bool.{eq-eqb, ne_eqb, ltb-false}
+use Rattle.std.proofs.lemmas.Bool.{eq-eqb, ne_eqb, ltb-false, le-leb, lt-leb, cases_lt}
 use Rattle.std.proofs.lemmas.List.Elements.{All-nil, All-cons}
 use Rattle.dwc_base.specs.declared.records.MapFault.{MapFault}
 use Rattle.dwc_base.specs.declared.records.MapFault.TheVariants.{BodyOffset, BeforeCodeSection, Reversed, CodeFalls, CodePastBody, SourceOutside}
@@ -97,6 +97,15 @@ entries-rise start end len code (e ∷ es) = go (nat_lt e.0 code) (nat_lt len e.
     go false true c is more h = absurd (cc)
     go false false false is more h = absurd (cc)
     go false false true is more h = (ltb-false e.0 code is, more h)
+
+-- whether an offset lies from start to end, by one comparison
+pub within-once : (start end offset past : ℕ) → past ≡ (offset + (2 ^ 32 - start)) % 2 ^ 32 → start ≤ end → end < 2 ^ 32 → offset < 2 ^ 32 → nat_le past (end - start) ≡ (nat_le start offset && nat_le offset end)
+within-once start end offset past is order low offset_low = go (cases_lt offset start) (cases_lt end offset)
+  where
+    go : (offset < start) ⊎ (start ≤ offset) → (end < offset) ⊎ (offset ≤ end) → nat_le past (end - start) ≡ (nat_le start offset && nat_le offset end)
+    go (inl less) other = rw (lt-leb start offset less) (lt-leb past (end - start) (omega (arith, is, order, low, less)))
+    go (inr from) (inl behind) = rw (le-leb start offset from, lt-leb offset end behind) (lt-leb past (end - start) (omega (arith, is, order, offset_low, from, behind)))
+    go (inr from) (inr within) = rw (le-leb start offset from, le-leb offset end within) (le-leb past (end - start) (omega (arith, is, offset_low, from, within)))
 
 -- what holds of entries without a fault holds of those of a good map
 pub good-so : (P : Type 0) (code_offset : ℕ) (m : AddressMap) → ((start end : ℕ) → entry_fault start end m.body_len 0 m.entries ≡ None → P) → map_fault code_offset m ≡ None → P

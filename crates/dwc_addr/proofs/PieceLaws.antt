@@ -1,8 +1,9 @@
 -- The pieces of positions, cut at the places where the wasm offset falls, and the runs of a function by their numbers.
 use Rattle.std.proofs.Common.{◌≡◌, ℕ, zero, suc, ◌+◌, ◌-◌, ◌<◌, ◌≤◌, refl, sym, ap, subst, ◌∙◌, arith, List, [], ◌∷◌, map, length, take, drop, get_or, add-one, inl, inr}
-use Rattle.std.specs.Prelude.{◌⊎◌, nat_lt, if◌then◌else◌, Bool, true, false}
+use Rattle.std.specs.Prelude.{◌⊎◌, nat_lt, if◌then◌else◌, Bool, true, false, All}
 use Rattle.std.specs.List.{AllByRecursion}
 use Rattle.std.proofs.lemmas.Bool.{lt-ltb, le-ltb, ltb-false, cases_lt}
+use Rattle.std.proofs.lemmas.List.Elements.{All-nil, All-cons}
 use Rattle.std.proofs.lemmas.List.{drop_more, length-drop, drop_all, get_or-drop, drop-drop}
 use Rattle.dwc_base.specs.Functions.{Function, Recorded}
 use Rattle.dwc_base.specs.Runs.{Position, Run, in_front, pieces, joined_positions, runs_from, first_wasm, last_wasm, first_native}
@@ -72,6 +73,14 @@ pieces-cut (p ∷ ps) = rw (le-ltb p.wasm 0 (omega arith)) (pieces-from 0 p ps)
 pub places-rise : (es : List Recorded) → Rise 0 (length es) (run_starts 0 0 es)
 places-rise [] = tt
 places-rise (e ∷ es) = rw (le-ltb e.wasm 0 (omega arith)) (starts-rise 0 e.wasm (length (e ∷ es)) es (omega arith))
+
+-- they are places behind the first one
+rise-inside : (low n : ℕ) (ss : List ℕ) → Rise low n ss → All (λ s. (0 < s) × (s < n)) ss
+rise-inside low n [] h = All-nil (λ s. (0 < s) × (s < n))
+rise-inside low n (s ∷ ss) h = All-cons (λ s. (0 < s) × (s < n)) s ss (omega (arith, h.0), h.1) (rise-inside s n ss h.2)
+
+pub places-inside : (es : List Recorded) → All (λ s. (0 < s) × (s < length es)) (run_starts 0 0 es)
+places-inside es = rise-inside 0 (length es) (run_starts 0 0 es) (places-rise es)
 
 -- the wasm offsets of a piece do not fall
 abbrev pub PieceRises : List Position → Type 0

@@ -1,13 +1,14 @@
 -- A search by halves in the keys of some functions finds the owner of an address.
 use Rattle.std.proofs.Common.{◌≡◌, ℕ, zero, suc, ◌+◌, ◌-◌, ◌/◌, ◌%◌, ◌^◌, ◌<◌, ◌≤◌, refl, ap, ◌∙◌, arith, List, [], ◌∷◌, length, get_or}
 use Rattle.std.specs.Prelude.{nat_le, true, false, None, All, ◌⊎◌}
-use Rattle.std.specs.List.Sorted.{IsPartitionPoint, IsPartitionedBy}
+use Rattle.std.specs.List.Sorted.{IsNonDecreasingBy, IsPartitionPoint}
 use Rattle.std.proofs.Common.{inl, inr}
-use Rattle.std.proofs.lemmas.Bool.{leb-true, leb-false, cases_lt}
+use Rattle.std.proofs.lemmas.Bool.{leb-true, leb-false, le-leb, lt-leb, cases_lt}
 use Rattle.std.proofs.lemmas.List.Elements.{All-get_or, All-from_get_or, Contains-get_or, at_from_Contains}
-use Rattle.std.proofs.lemmas.List.Sorted.{All-permutation, Contains-permutation, IsPartitionedBy-leb}
+use Rattle.std.proofs.lemmas.List.Sorted.{All-permutation, Contains-permutation}
 use Rattle.std.proofs.lemmas.Nat.{shr_high, mod_low}
 use Rattle.dwc_base.specs.Functions.{Function}
+use Rattle.dwc_addr.specs.PositionPlaces.{IsCountUpTo}
 use Rattle.dwc_addr.specs.Starts.{start_key, start_keys, IsStartTable, IsOwnerPlace}
 
 -- there are as many keys as functions
@@ -99,9 +100,13 @@ owner_place-none fs keys a t h = λ k d inside.
     let start : get_or keys held.at 0 / 2 ^ 32 ≡ (get_or fs k d).start = ap (λ n. n / 2 ^ 32) held.is ∙ start_of_key _ k (omega (arith, t.few)) in
     omega arith
 
--- the keys of a table are split by an address
-pub start_table-split : (fs : List Function) (keys : List ℕ) (a : ℕ) → IsStartTable fs keys → IsPartitionedBy (λ y. nat_le (y / 2 ^ 32) a) keys
-start_table-split fs keys a t = IsPartitionedBy-leb (λ y. y / 2 ^ 32) keys a (λ i j d le inside. div_rises _ _ (t.rises i j d le inside))
+-- so many keys part a table
+pub begun-parts : (keys : List ℕ) (count a : ℕ) → IsCountUpTo (λ y. y / 2 ^ 32) keys a count → IsPartitionPoint (λ y. nat_le (y / 2 ^ 32) a ≡ true) (λ y. nat_le (y / 2 ^ 32) a ≡ false) keys count
+begun-parts keys count a h = ((λ k d from less. le-leb _ a (h.below k d less)), (λ k d past less. lt-leb _ a (h.above k d past less)))
+
+-- the starts in a table do not fall
+pub starts-rise : (fs : List Function) (keys : List ℕ) → IsStartTable fs keys → IsNonDecreasingBy (λ y. y / 2 ^ 32) keys
+starts-rise fs keys t = λ i j d le inside. div_rises _ _ (t.rises i j d le inside)
   where
     div_rises : (m n : ℕ) → m ≤ n → m / 2 ^ 32 ≤ n / 2 ^ 32
     div_rises m n le = omega arith

@@ -3,12 +3,16 @@
 ghost use Rattle.std.specs.Prelude.{◌≤◌, IfOk};
 
 use crate::address_map::{AddressMap, WasmAddress};
+use crate::by_start::start_of;
 use crate::function_map::{FunctionMap, Gap};
 use crate::near::WINDOW;
 use std::alloc::{AllocError, Global};
 
 // So many sources stand in a block of wasm offsets on average, at least.
 const SOURCES_OF_BLOCK: usize = 4;
+
+// A function has so many blocks of wasm offsets on average, at least.
+const BLOCKS_OF_FUNCTION: usize = 4;
 
 // Each of so many sources in a row is noted.
 const STEP: usize = 4;
@@ -102,6 +106,55 @@ fn note_gaps(hints: &mut [u32], gaps: &[Gap]) {
     for i in 0..gaps.len() {
         note(hints, gaps[i].before >> GAP_BITS, i);
     }
+}
+
+// About how many functions begin below each block of a power of two wasm offsets; and that power.
+#[derive(Drop)]
+pub(crate) struct StartHints {
+    bits: u32,
+    counts: Vec<u32>,
+    ghost few_bits: { bits ≤ 32 },
+}
+
+// The hints of some functions by their keys.
+pub(crate) fn start_hints(alloc: Global, keys: &[u64]) -> Result<StartHints, AllocError> {
+    let bytes = match keys.last() {
+        Some(key) => start_of(*key),
+        None => 0,
+    };
+    let bits = block_bits(
+        bytes,
+        keys.len()
+            .saturating_mul(SOURCES_OF_BLOCK * BLOCKS_OF_FUNCTION),
+    );
+    let mut counts = Vec::new(alloc);
+    counts.resize(block_of(0, bits, bytes).saturating_add(1), 0)?;
+    note_starts(&mut counts, bits, keys);
+    fill(&mut counts);
+    Ok(StartHints { bits, counts })
+}
+
+// Notes functions in the hints of the blocks behind their starts.
+fn note_starts(counts: &mut [u32], bits: u32, keys: &[u64])
+    requires { bits ≤ 32 }
+{
+    for i in 0..keys.len() {
+        note(counts, block_of(0, bits, start_of(keys[i])), i);
+    }
+}
+
+// Gives blocks that have no hint that of the block before.
+fn fill(counts: &mut [u32]) {
+    let mut before = 0;
+    for i in 0..counts.len() {
+        before = before.max(counts[i]);
+        counts[i] = before;
+    }
+}
+
+// About how many functions begin at or below an address.
+pub(crate) fn start_hint(hints: &StartHints, addr: WasmAddress) -> usize {
+    hint_at(&hints.counts, block_of(0, hints.bits, addr))
 }
 
 // About how many sources of a function lie below a wasm offset.

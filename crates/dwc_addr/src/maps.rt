@@ -1,5 +1,5 @@
 //! The rules of an address map.
-ghost use Rattle.std.specs.Prelude.{◌≡◌, ◌<◌, ◌^◌, ◌-◌, map, None, IsSome};
+ghost use Rattle.std.specs.Prelude.{◌≡◌, ◌<◌, ◌≤◌, ◌^◌, ◌-◌, ◌&&◌, nat_le, map, None, IsSome};
 ghost use Rattle.std.specs.Option.{unwrap_or};
 ghost use Rattle.dwc_base.specs.Functions.{map_fault, entry_fault, is_source_within};
 ghost use Rattle.dwc_clif.specs.AddressMaps.{address_map_view, entry_view};
@@ -42,6 +42,7 @@ fn entries_fault(
     body_len: u32,
     entries: &[InstructionAddressMap],
 ) -> Option<MapFault>
+    requires { start ≤ end }
     ensures { result ≡ entry_fault start end body_len 0 (map entry_view entries.now) }
 {
     let mut code = 0;
@@ -62,12 +63,21 @@ fn entries_fault(
 
 // Whether a source, if there is one, lies from start to end.
 fn is_source_within(start: u32, end: u32, source: FilePos) -> bool
+    requires { start ≤ end }
     ensures { result ≡ is_source_within start end source }
 {
     match source.file_offset() {
-        Some(source) => start <= source && source <= end,
+        Some(source) => lies_within(start, end, source),
         None => true,
     }
+}
+
+// Whether an offset lies from start to end, by one comparison.
+fn lies_within(start: u32, end: u32, offset: u32) -> bool
+    requires { start ≤ end }
+    ensures { result ≡ (nat_le start offset && nat_le offset end) }
+{
+    offset.wrapping_sub(start) <= end - start
 }
 
 /// The wasm offset of a source: its file offset less the low 32 bits of the code section's, modulo 2^32, so that a file

@@ -1,5 +1,5 @@
 //! The native ranges of intervals of wasm offsets.
-ghost use Rattle.std.specs.Prelude.{◌≡◌, ◌<◌, ◌^◌, ◌+◌, ◌≤◌, length, option_map, Some, None, IfSome};
+ghost use Rattle.std.specs.Prelude.{◌≡◌, ◌<◌, ◌^◌, ◌+◌, ◌≤◌, true, [], length, option_map, Some, None, IfSome};
 ghost use Rattle.std.specs.Iterator.{YieldsFirst};
 ghost use Rattle.dwc_base.specs.Runs.{native_ranges, native_in_function};
 ghost use Rattle.dwc_addr.specs.RunViews.{run_view, IsRunOf};
@@ -39,6 +39,29 @@ impl<'t> Model for RawRanges<'t> {
 impl<'t> RawRanges<'t> {
     /// The next range, which has a byte and ends below 2^32; None behind the last.
     pub fn next_range(&mut self) -> Option<(GeneratedAddress, GeneratedAddress)>
+        ensures order { IfSome result (λ range. range.0 < range.1) }
+        ensures low { IfSome result (λ range. range.1 < 2 ^ 32) }
+        ensures next { YieldsFirst (λ r. r) self.old result self.new }
+    {
+        if self.is_behind() {
+            return None;
+        }
+        self.find_range()
+    }
+
+    // Whether no run is left: then there is no further range.
+    fn is_behind(&self) -> bool
+        ensures { result ≡ true → self.now ≡ [] }
+    {
+        match self.function {
+            Some(function) => self.number >= run_count(function),
+            None => true,
+        }
+    }
+
+    // The next range, of the runs that are left. It stands apart, so that what callers take in of `next_range` is the test alone.
+    #[inline(never)]
+    fn find_range(&mut self) -> Option<(GeneratedAddress, GeneratedAddress)>
         ensures order { IfSome result (λ range. range.0 < range.1) }
         ensures low { IfSome result (λ range. range.1 < 2 ^ 32) }
         ensures next { YieldsFirst (λ r. r) self.old result self.new }
@@ -180,6 +203,9 @@ fn runs_apart(function: &FunctionMap, place: usize, start: WasmAddress, end: Was
     ensures few { result ≤ 4096 }
     ensures ranges { ranges_from function.now start end (place + result) ≡ ranges_from function.now start end place }
 {
+    if place >= function.run_bounds.len() {
+        return 0;
+    }
     if place % OUTER == 0 && is_apart(&function.outer_bounds, place / OUTER, start, end) {
         return OUTER;
     }

@@ -17,7 +17,7 @@ use crate::bounds::{block_bounds, run_bounds};
 use crate::by_start::{owner_place, start_table};
 use crate::error::AddrError;
 use crate::function_map::{FunctionMap, Gap};
-use crate::hints::{gap_hints, source_hints};
+use crate::hints::{StartHints, gap_hints, source_hints, start_hints};
 use crate::maps::map_fault;
 use dwc_base::{DefinedFuncIndex, FilePos, StaticModuleIndex, SymbolId};
 use dwc_clif::{CompiledFunctionMetadata, InstructionAddressMap};
@@ -30,6 +30,7 @@ pub struct AddressTransform {
     functions: Vec<FunctionMap>,
     // Their keys in rising order.
     by_start: Vec<u64>,
+    hints: StartHints,
 }
 
 impl Model for AddressTransform {
@@ -87,9 +88,11 @@ impl AddressTransform {
             functions,
         )?;
         let by_start = start_table(alloc, &functions)?;
+        let hints = start_hints(alloc, &by_start)?;
         Ok(AddressTransform {
             functions,
             by_start,
+            hints,
         })
     }
 
@@ -99,7 +102,7 @@ impl AddressTransform {
         ensures owner { option_map (λ k. slice_get self.now k.0) result ≡ option_map Some (owner self.now addr) }
         ensures place { IfSome result (λ k. IsOwnerPlace self.now addr k.0) }
     {
-        let place = owner_place(&self.by_start, addr)?;
+        let place = owner_place(&self.by_start, &self.hints, addr)?;
         Some(DefinedFuncIndex(place))
     }
 
@@ -109,7 +112,7 @@ impl AddressTransform {
         ensures symbol { IfSome result (λ f. IsSome f.now.symbol) }
         ensures found { option_map (λ f. function_view f.now) result ≡ function_at self.now addr }
     {
-        function_at(&self.functions, &self.by_start, addr)
+        function_at(&self.functions, &self.by_start, &self.hints, addr)
     }
 
     /// Where the code of a defined function begins, counted from itself, and how many bytes it has: 0 and its length.
@@ -141,7 +144,12 @@ impl AddressTransform {
 const UNLINKED: u64 = 0xFFFF_FFFF;
 
 // What `func_at` answers, of the functions and their keys.
-fn function_at<'f>(functions: &'f [FunctionMap], keys: &[u64], addr: u64) -> Option<&'f FunctionMap>
+fn function_at<'f>(
+    functions: &'f [FunctionMap],
+    keys: &[u64],
+    hints: &StartHints,
+    addr: u64,
+) -> Option<&'f FunctionMap>
     requires { IsStartTable (map function_view functions.now) keys.now }
     ensures symbol { IfSome result (λ f. IsSome f.now.symbol) }
     ensures found { option_map (λ f. function_view f.now) result ≡ function_at (map function_view functions.now) addr }
@@ -149,7 +157,7 @@ fn function_at<'f>(functions: &'f [FunctionMap], keys: &[u64], addr: u64) -> Opt
     if addr == 0 || addr == UNLINKED {
         return None;
     }
-    let place = owner_place(keys, addr)?;
+    let place = owner_place(keys, hints, addr)?;
     let function = &functions[place as usize];
     if function.symbol.is_none() {
         return None;
@@ -198,8 +206,11 @@ fn function_map(
     ensures { IfOk result (λ f. function_view f ≡ function_of code_section_offset number (address_map_view (symbol, metadata.now))) }
 {
     let map = &metadata.address_map;
-    let (addresses, gaps) = sources_and_gaps(alloc, code_section_offset, &map.instructions)?;
-    let later_runs = later_runs(alloc, &addresses)?;
+    let (addresses, gaps, later_runs) = split_entries(
+        alloc,
+        code_section_offset,
+        &map.instructions,
+    )?;
     let wasm_start = start_offset(map.start_srcloc, code_section_offset);
     let wasm_end = start_offset(map.end_srcloc, code_section_offset);
     let run_bounds = run_bounds(alloc, wasm_start, wasm_end, &addresses, &later_runs)?;
@@ -240,47 +251,37 @@ fn start_offset(place: FilePos, code_section_offset: u64) -> WasmAddress
     u64::from(offset).saturating_sub(code_section_offset)
 }
 
-// The entries that have a source, and those that have none.
-fn sources_and_gaps(
+// The entries that have a source, those that have none, and the places of the sources that lie below the one before.
+fn split_entries(
     alloc: Global,
     code_section_offset: u64,
     entries: &[InstructionAddressMap],
-) -> Result<(Vec<AddressMap>, Vec<Gap>), AllocError>
+) -> Result<(Vec<AddressMap>, Vec<Gap>, Vec<usize>), AllocError>
     ensures low { IfOk result (λ found. All (λ e. e.generated < 2 ^ 32) found.0.items) }
     ensures wasm_low { IfOk result (λ found. All (λ e. e.wasm < 2 ^ 32) found.0.items) }
     ensures gaps_low { IfOk result (λ found. All (λ g. g.generated < 2 ^ 32) found.1.items) }
     ensures found { IfOk result (λ found. map recorded_view found.0.items ≡ filter_map recorded_entry (map (wasm_entry code_section_offset) (map entry_view entries.now))) }
     ensures gaps { IfOk result (λ found. found.1.items ≡ gaps_of 0 (map entry_view entries.now)) }
+    ensures places { IfOk result (λ found. found.2.items ≡ run_starts 0 0 (filter_map recorded_entry (map (wasm_entry code_section_offset) (map entry_view entries.now)))) }
 {
     let mut sources = Vec::with_capacity(alloc, entries.len())?;
     let mut gaps = Vec::new(alloc);
+    let mut later_runs = Vec::new(alloc);
     let mut before = 0;
+    let mut last = 0;
     for entry in entries {
         let generated = entry.code_offset as usize;
-        if let Some(source) = entry.srcloc.file_offset() {
-            let wasm = u64::from(source).saturating_sub(code_section_offset);
-            sources.push(AddressMap { generated, wasm })?;
-            before += 1;
-        } else {
+        let Some(source) = entry.srcloc.file_offset() else {
             gaps.push(Gap { before, generated })?;
+            continue;
+        };
+        let wasm = u64::from(source).saturating_sub(code_section_offset);
+        if wasm < last {
+            later_runs.push(before)?;
         }
+        sources.push_reserved(AddressMap { generated, wasm });
+        last = wasm;
+        before += 1;
     }
-    Ok((sources, gaps))
-}
-
-// The places of the sources that lie below the one before.
-fn later_runs(alloc: Global, sources: &[AddressMap]) -> Result<Vec<usize>, AllocError>
-    ensures inside { IfOk result (λ places. All (λ p. (0 < p) × (p < length sources.now)) places.items) }
-    ensures places { IfOk result (λ places. places.items ≡ run_starts 0 0 (map recorded_view sources.now)) }
-{
-    let mut places = Vec::new(alloc);
-    let mut before = 0;
-    for i in 0..sources.len() {
-        let wasm = sources[i].wasm;
-        if wasm < before {
-            places.push(i)?;
-        }
-        before = wasm;
-    }
-    Ok(places)
+    Ok((sources, gaps, later_runs))
 }

@@ -1,12 +1,20 @@
-use Rattle.std.proofs.Common.{◌∙◌, ap, rules, map}
+use Rattle.std.proofs.Common.{◌≡◌, ◌∙◌, ap, sym, rules, map}
 use Rattle.std.specs.List.{filter_map}
 use Rattle.dwc_base.specs.Functions.{recorded_entry, wasm_entry}
 use Rattle.dwc_clif.specs.AddressMaps.{address_map_view, entry_view}
 use Rattle.dwc_addr.specs.Gaps.{gaps_of}
 use Rattle.dwc_addr.specs.Runs.{recorded_view, run_starts}
+use Rattle.std.proofs.lemmas.List.{length-map}
 use Rattle.dwc_addr.proofs.EntryLaws.{entries-merged, gaps-rise, good-entries}
+use Rattle.dwc_addr.proofs.PieceLaws.{places-inside}
 use Rattle.dwc_addr.proofs.RisingLaws.{RisesFrom-non_decreasing}
 use Rattle.dwc_addr.proofs.transform.function_map.Goals as goal
+
+pub run_bounds-requires-clause-places : goal.run_bounds-requires-clause-places
+run_bounds-requires-clause-places c =
+    let sources = c.in_ok-addresses.addresses.items in
+    let split : c.in_ok-addresses.later_runs.items ≡ run_starts 0 0 (map recorded_view sources) = c.in_ok-addresses.ensures.places ∙ ap (run_starts 0 0) (sym c.in_ok-addresses.ensures.found) in
+    rw (c.deref-2.ensures.value, c.deref-3.ensures.value, split) (rw (length-map sources recorded_view) at (places-inside (map recorded_view sources)))
 
 pub invariant_of-result-clause-rises : goal.invariant_of-result-clause-rises
 invariant_of-result-clause-rises c =
@@ -25,16 +33,16 @@ pub invariant_of-result-clause-gaps_low : goal.invariant_of-result-clause-gaps_l
 invariant_of-result-clause-gaps_low c = c.in_ok-addresses.ensures.gaps_low
 
 pub invariant_of-result-clause-bounded : goal.invariant_of-result-clause-bounded
-invariant_of-result-clause-bounded c = rw (c.deref-3.ensures.value, c.deref-4.ensures.value) at c.in_ok-run_bounds.ensures
+invariant_of-result-clause-bounded c = rw (c.deref-2.ensures.value, c.deref-3.ensures.value) at c.in_ok-run_bounds.ensures
 
 pub invariant_of-result-clause-blocks_bounded : goal.invariant_of-result-clause-blocks_bounded
-invariant_of-result-clause-blocks_bounded c = rw c.deref-5.ensures.value at c.in_ok-blocks.ensures
+invariant_of-result-clause-blocks_bounded c = rw c.deref-4.ensures.value at c.in_ok-blocks.ensures
 
 pub invariant_of-result-clause-outer_bounded : goal.invariant_of-result-clause-outer_bounded
-invariant_of-result-clause-outer_bounded c = rw c.deref-6.ensures.value at c.in_ok-outer_bounds.ensures
+invariant_of-result-clause-outer_bounded c = rw c.deref-5.ensures.value at c.in_ok-outer_bounds.ensures
 
 pub invariant_of-result-clause-split : goal.invariant_of-result-clause-split
-invariant_of-result-clause-split c = c.in_ok-later_runs.ensures.places ∙ ap (λ es. run_starts 0 0 (map recorded_view es)) c.deref-2.ensures.value
+invariant_of-result-clause-split c = c.in_ok-addresses.ensures.places ∙ ap (run_starts 0 0) (sym c.in_ok-addresses.ensures.found)
 
 pub returns : goal.returns
 returns c =
