@@ -11,7 +11,7 @@ use std::alloc::{AllocError, Global};
 // So many sources stand in a block of wasm offsets on average, at least.
 const SOURCES_OF_BLOCK: usize = 4;
 
-// A function has so many blocks of wasm offsets on average, at least.
+// For each function there are so many blocks of wasm offsets at most, and half as many at least.
 const BLOCKS_OF_FUNCTION: usize = 4;
 
 // Each of so many sources in a row is noted.

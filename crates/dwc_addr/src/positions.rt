@@ -28,6 +28,7 @@ fn gap_behind(gaps: &[Gap], hint: usize, before: usize) -> Option<GeneratedAddre
 }
 
 // Where the native code of a source ends: where the next entry begins, with or without a source, or with the function.
+#[inline(always)]
 fn native_end(function: &FunctionMap, place: usize) -> GeneratedAddress
     requires { place < length function.now.addresses.items }
     ensures end { (d : Position) → result ≡ (slice_index_or (positions_of function.now) place d).end }
@@ -134,6 +135,7 @@ fn sources_of<'f>(function: &'f FunctionMap, run: &Run) -> &'f [AddressMap]
 
 // Where a run begins to have the code from a wasm offset on: the start of the first position at it; else the end of the last position
 // below it; else the run's own start. Sources that begin at one native offset are one position.
+#[inline(always)]
 pub(crate) fn start_in(function: &FunctionMap, run: &Run, addr: WasmAddress) -> GeneratedAddress
     requires { IsRunOf function.now run.now }
     ensures start { result ≡ begin_in addr (run_view function.now run.now) }

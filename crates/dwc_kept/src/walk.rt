@@ -71,6 +71,7 @@ pub(crate) struct ReadModule<'d> {
 ///
 /// Answers the first fault in the order of reading: of each unit its header, its abbreviation table, and then its entries, each with what
 /// it names before the next one is read.
+#[inline(never)]
 pub(crate) fn read_entries<'d>(
     alloc: Global,
     headers: Units<'d>,
