@@ -18,7 +18,7 @@ use Rattle.dwc_tabs.specs.RangeEnds.{refusal_view}
 use Rattle.dwc_clone.specs.declared.error.CloneError.{CloneError}
 use Rattle.dwc_clone.specs.declared.ranges.NativeRanges.{NativeRanges}
 use Rattle.dwc_clone.specs.declared.extent.NativeExtent.{NativeExtent}
-use Rattle.dwc_clone.specs.declared.extent.NativeExtent.TheVariants.{Intervals, Position, Nowhere}
+use Rattle.dwc_clone.specs.declared.extent.NativeExtent.TheVariants.{Intervals, Range, Position, Nowhere}
 use Rattle.dwc_clone.specs.Errors.{refusal_told}
 
 -- Ranges, each by its begin and its length, say some intervals, and fit the fields of each size.
@@ -59,12 +59,14 @@ TellsRefusal refusal (Err e) = IsTold refusal (refusal_told e)
 -- what the extent of an entry of a tag is said by
 abbrev pub said_by : ℕ → NativeExtent → List (ℕ × TreeValue)
 said_by tag (Intervals rs) = said_intervals tag (map interval_of rs.items)
+said_by tag (Range begin length) = said_intervals tag (interval_of (begin, length) ∷ [])
 said_by tag (Position a) = (DW_AT_low_pc, address_of_tree a) ∷ []
 said_by tag Nowhere = []
 
 -- its addresses fit the fields of each size
 abbrev pub FitsExtent : NativeExtent → Type 0
 FitsExtent (Intervals rs) = (size : ℕ) → All (FitsRange size) rs.items
+FitsExtent (Range begin length) = (size : ℕ) → All (FitsRange size) ((begin, length) ∷ [])
 FitsExtent (Position a) = (size : ℕ) → FitsField size a
 FitsExtent Nowhere = Unit {0}
 

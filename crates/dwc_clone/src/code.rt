@@ -1,5 +1,5 @@
 //! The attributes that say where the code of an entry is. (DWARF 4 and 5, section 2.17.)
-ghost use Rattle.std.specs.Prelude.{◌≡◌, ℕ, ◌<◌, List, OnOk, IsOkUnless, All};
+ghost use Rattle.std.specs.Prelude.{◌≡◌, ℕ, ◌<◌, ◌∷◌, [], List, OnOk, IsOkUnless, All};
 ghost use Rattle.dwc_base.specs.Addends.{HaveAddends};
 ghost use Rattle.dwc_base.specs.Lists.{list_source};
 ghost use Rattle.dwc_base.specs.RangeAttributes.{bounds, begun_function, range_attributes, said_intervals};
@@ -65,8 +65,30 @@ fn set_ranges(
     unit.set(id, DW_AT_ranges, list)
 }
 
+// Gives an entry of a tag what says its one range.
+fn set_range(
+    alloc: Global,
+    unit: &mut Unit,
+    id: UnitEntryId,
+    tag: u16,
+    begin: Address,
+    length: u64,
+) -> Result<(), WriteError>
+    requires known { IsAdded id.index unit.old }
+    requires fits { (size : ℕ) → All (FitsRange size) ((begin, length) ∷ []) }
+    ensures places { OnOk result (unit.new.places ≡ unit.old.places) }
+    ensures given { (number : ℕ) (texts : List (List ℕ)) (base : GivenUnit) (e : Addition) → IsLast texts id base e unit.old → OnOk result (IsGiven number texts texts (said_intervals tag (interval_of (begin, length) ∷ [])) base e unit.new) }
+{
+    if tag != DW_TAG_compile_unit {
+        return set_bounds(unit, id, begin, length);
+    }
+    let ranges = Vec::from_slice(alloc, &[(begin, length)])?;
+    set_ranges(unit, id, tag, ranges)
+}
+
 // Gives an entry of a tag what says its extent.
 fn set_extent(
+    alloc: Global,
     unit: &mut Unit,
     id: UnitEntryId,
     tag: u16,
@@ -79,6 +101,7 @@ fn set_extent(
 {
     match extent {
         NativeExtent::Intervals(ranges) => set_ranges(unit, id, tag, ranges),
+        NativeExtent::Range(begin, length) => set_range(alloc, unit, id, tag, begin, length),
         NativeExtent::Position(address) => {
             unit.set(id, DW_AT_low_pc, AttributeValue::Address(address))
         }
@@ -110,7 +133,7 @@ pub(crate) fn set_code(
 {
     let Some(function) = function else {
         let extent = extent_by_scope(alloc, source, entry, speaks, scope)?;
-        return set_extent(unit, id, entry.tag, extent);
+        return set_extent(alloc, unit, id, entry.tag, extent);
     };
     let begin = Address::Symbol {
         symbol: function.symbol.unwrap(),

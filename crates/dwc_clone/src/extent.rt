@@ -1,5 +1,5 @@
 //! What entries have of the native code. (DWARF 4 and 5, section 2.17.)
-ghost use Rattle.std.specs.Prelude.{◌≡◌, ◌<◌, ℕ, IfOk, IsTrue, length, option_map, option_to_list};
+ghost use Rattle.std.specs.Prelude.{◌≡◌, ◌<◌, ◌∷◌, [], ℕ, IfOk, IfSome, IsTrue, length, option_map, option_to_list};
 ghost use Rattle.dwc_base.specs.Addends.{HaveAddends};
 ghost use Rattle.dwc_base.specs.Lists.{list_source, ranges_of_value};
 ghost use Rattle.dwc_base.specs.RangeAttributes.{Extent, carried_address, extent, intervals, position, said_extent};
@@ -11,7 +11,7 @@ ghost use Rattle.dwc_read.specs.ValuesSeen.{value_view};
 ghost use Rattle.dwc_tabs.specs.RangeEnds.{interval_view};
 ghost use Rattle.dwc_write.specs.Writers.{FitsField};
 ghost use Rattle.dwc_clone.specs.CodeNames.{have_code_name};
-ghost use Rattle.dwc_clone.specs.NativeExtents.{FitsExtent, IsExtent, said_by};
+ghost use Rattle.dwc_clone.specs.NativeExtents.{FitsExtent, IsExtent, ranges_of_offsets, said_by};
 ghost use Rattle.dwc_clone.specs.ReadExtents.{IsScopeOf};
 
 use crate::CloneSource;
@@ -28,6 +28,8 @@ use std::alloc::{AllocError, Global};
 pub(crate) enum NativeExtent {
     /// Intervals of the input were translated to these ranges, of which there may be none.
     Intervals(Vec<(Address, u64)>),
+    /// Intervals of the input were translated to one range: where it begins, and how many bytes it has.
+    Range(Address, u64),
     /// One address alone.
     Position(Address),
     Nowhere,
@@ -125,6 +127,23 @@ fn native_extent(
     }
 }
 
+// The one range that one interval of wasm offsets is translated to; None for another number of either.
+fn only_range(transform: &AddressTransform, scope: &[(u64, u64)]) -> Option<(Address, u64)>
+    ensures { IfSome result (λ range. ranges_of_offsets transform.now scope.now ≡ range ∷ []) }
+{
+    match scope {
+        [(begin, end)] => {
+            let mut ranges = transform.translate_ranges(*begin, *end);
+            let first = ranges.next()?;
+            match ranges.next() {
+                None => Some(first),
+                Some(_) => None,
+            }
+        }
+        _ => None,
+    }
+}
+
 // What an extent is whose intervals of wasm offsets are these, of which there is one at least.
 fn extent_of_scope(
     alloc: Global,
@@ -137,6 +156,9 @@ fn extent_of_scope(
     ensures fits { IfOk result FitsExtent }
 {
     translations_are_said();
+    if let Some((begin, length)) = only_range(transform, scope) {
+        return Ok(NativeExtent::Range(begin, length));
+    }
     let ranges = translated_offsets(alloc, transform, scope)?;
     Ok(NativeExtent::Intervals(ranges))
 }
