@@ -148,10 +148,16 @@ fn is_same_list(first: AttributeValue<'_>, other: AttributeValue<'_>) -> bool
     }
 }
 
-// Whether a value names the range list of an entry, which is that of its first `ranges`.
-fn is_own_list(entry: &Entry<'_>, value: AttributeValue<'_>) -> bool
+// Whether a value behind so many attributes names the range list of an entry, which is that of its first `ranges`. An earlier one is looked
+// for first, so that the looks for all `ranges` of an entry go over its attributes once.
+fn is_own_list(entry: &Entry<'_>, number: usize, value: AttributeValue<'_>) -> bool
+    requires { number < length (entry_view entry.now).attributes }
     ensures { result ≡ true → attribute ranges (entry_view entry.now) ≡ Some (value_view value.entry) }
 {
+    let (before, _) = entry.attrs().split_at(number);
+    if has_name(before, DW_AT_ranges) {
+        return false;
+    }
     match entry.attr(DW_AT_ranges) {
         Some(first) => is_same_list(first, value),
         None => false,
@@ -159,11 +165,12 @@ fn is_own_list(entry: &Entry<'_>, value: AttributeValue<'_>) -> bool
 }
 
 // Whether a bound of an entry names no range list but the entry's own.
-fn names_no_other(entry: &Entry<'_>, name: u16, value: AttributeValue<'_>) -> bool
+fn names_no_other(entry: &Entry<'_>, number: usize, name: u16, value: AttributeValue<'_>) -> bool
+    requires { number < length (entry_view entry.now).attributes }
     ensures { result ≡ true → (s : ListSource) → IsSound s (entry_view entry.now) → list_refusal s (entry_view entry.now).offset (name, value_view value.entry) ≡ None }
 {
     if name == DW_AT_ranges {
-        return is_own_list(entry, value);
+        return is_own_list(entry, number, value);
     }
     true
 }
@@ -187,7 +194,7 @@ fn check_code(
     if begins {
         return Ok(());
     }
-    if is_sound && names_no_other(entry, name, value) {
+    if is_sound && names_no_other(entry, number, name, value) {
         return Ok(());
     }
     check_extent(unit, entry, number, name, value)
