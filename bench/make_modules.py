@@ -29,6 +29,7 @@ Entries of any kind:
 - nested: N blocks, one in another.
 - blocks: one function of N sources, with a block for each of them.
 - long_list: the same with one block, whose range list has an interval for every second source.
+- many_ranges: one block of N attributes and N range lists behind them, all of which are one.
 
 Pointers:
 
@@ -483,6 +484,20 @@ def long_list_module(count):
     return wasm + custom(".debug_ranges", pairs + bytes(8)), functions
 
 
+def many_ranges_module(count):
+    """A block of so many attributes of one byte and of so many range lists behind them, all of which are one."""
+    attributes = b"".join(uleb(0x2000 + i % 0x1000) + bytes([0x0B]) for i in range(count))
+    table = bytes.fromhex("01 1101 1101 0000 02 2E01 1101 1206 0000 03 0B00") + attributes + bytes.fromhex("5517") * count + bytes(3)
+
+    def info(start):
+        block = bytes([3]) + bytes(count) + u32(0) * count
+        return unit_of(bytes([1]) + u32(0) + bytes([2]) + u32(start) + u32(BODY) + block + bytes([0]))
+
+    wasm, functions = one_function(BODY, info, no_lines, table, [[0, 0]])
+    [start] = places([body_of(BODY)])
+    return wasm + custom(".debug_ranges", u32(start) + u32(start + BODY) + bytes(8)), functions
+
+
 # ---- pointers
 
 # A compile unit, a subprogram with children, and of entries with a type: parameters, constants and pointers; a base type with a name; and
@@ -646,6 +661,7 @@ KINDS = {
     "nested": lambda n: [nested_module(n)],
     "blocks": lambda n: [blocks_module(n)],
     "long_list": lambda n: [long_list_module(n)],
+    "many_ranges": lambda n: [many_ranges_module(n)],
     "pointers": lambda n: [pointers_module(n)],
     "named_pointers": lambda n: [named_pointers_module(n)],
     "one_long_chain": lambda n: [named_pointers_module(n, n)],
@@ -681,6 +697,7 @@ SIZES = {
     "nested": [50000, 100000],
     "blocks": [50000, 100000],
     "long_list": [100000, 200000],
+    "many_ranges": [20000, 40000],
     "pointers": [50000, 100000],
     "named_pointers": [50000, 100000],
     "one_long_chain": [20000, 40000],
