@@ -4,6 +4,7 @@ ghost use Rattle.std.specs.Prelude.{◌≤◌, IfOk};
 
 use crate::address_map::{AddressMap, WasmAddress};
 use crate::by_start::start_of;
+use crate::capacity::capacity;
 use crate::function_map::{FunctionMap, Gap};
 use crate::near::WINDOW;
 use std::alloc::{AllocError, Global};
@@ -16,6 +17,9 @@ const BLOCKS_OF_FUNCTION: usize = 4;
 
 // Each of so many sources in a row is noted.
 const STEP: usize = 4;
+
+// A list of hints has room for so many at least: 64 bytes.
+const LEAST_HINTS: usize = 16;
 
 // A wasm offset has so many bits.
 const OFFSET_BITS: u32 = 32;
@@ -34,15 +38,21 @@ pub(crate) fn source_hints(
 ) -> Result<(u32, Vec<u32>), AllocError>
     ensures { IfOk result (λ found. found.0 ≤ 32) }
 {
-    let mut hints = Vec::new(alloc);
     if sources.len() <= WINDOW || !later_runs.is_empty() {
-        return Ok((0, hints));
+        return Ok((0, Vec::new(alloc)));
     }
     let bytes = end.saturating_sub(start);
     let bits = block_bits(bytes, sources.len());
-    hints.resize(block_of(0, bits, bytes).saturating_add(1), 0)?;
+    let mut hints = no_hints(alloc, block_of(0, bits, bytes).saturating_add(1))?;
     note_sources(&mut hints, start, bits, sources);
     Ok((bits, hints))
+}
+
+// The hints of so many blocks before anything is noted.
+fn no_hints(alloc: Global, blocks: usize) -> Result<Vec<u32>, AllocError> {
+    let mut hints = Vec::with_capacity(alloc, capacity(blocks, LEAST_HINTS))?;
+    hints.resize(blocks, 0)?;
+    Ok(hints)
 }
 
 // The least power of two of a block, of so many bytes of sources.
@@ -92,11 +102,10 @@ pub(crate) fn gap_hints(
     sources: usize,
     gaps: &[Gap],
 ) -> Result<Vec<u32>, AllocError> {
-    let mut hints = Vec::new(alloc);
     if gaps.len() <= WINDOW {
-        return Ok(hints);
+        return Ok(Vec::new(alloc));
     }
-    hints.resize((sources >> GAP_BITS).saturating_add(1), 0)?;
+    let mut hints = no_hints(alloc, (sources >> GAP_BITS).saturating_add(1))?;
     note_gaps(&mut hints, gaps);
     Ok(hints)
 }
@@ -127,8 +136,7 @@ pub(crate) fn start_hints(alloc: Global, keys: &[u64]) -> Result<StartHints, All
         keys.len()
             .saturating_mul(SOURCES_OF_BLOCK * BLOCKS_OF_FUNCTION),
     );
-    let mut counts = Vec::new(alloc);
-    counts.resize(block_of(0, bits, bytes).saturating_add(1), 0)?;
+    let mut counts = no_hints(alloc, block_of(0, bits, bytes).saturating_add(1))?;
     note_starts(&mut counts, bits, keys);
     fill(&mut counts);
     Ok(StartHints { bits, counts })

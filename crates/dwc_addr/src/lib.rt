@@ -5,6 +5,7 @@
 mod address_map;
 mod bounds;
 mod by_start;
+mod capacity;
 mod compilation;
 mod compilation_error;
 mod compilation_text;

@@ -15,6 +15,7 @@ use crate::Compilation;
 use crate::address_map::{AddressMap, WasmAddress};
 use crate::bounds::{block_bounds, run_bounds};
 use crate::by_start::{owner_place, start_table};
+use crate::capacity::capacity;
 use crate::error::AddrError;
 use crate::function_map::{FunctionMap, Gap};
 use crate::hints::{StartHints, gap_hints, source_hints, start_hints};
@@ -251,6 +252,9 @@ fn start_offset(place: FilePos, code_section_offset: u64) -> WasmAddress
     u64::from(offset).saturating_sub(code_section_offset)
 }
 
+// A list of sources has room for so many at least: 64 bytes.
+const LEAST_SOURCES: usize = 4;
+
 // The entries that have a source, those that have none, and the places of the sources that lie below the one before.
 fn split_entries(
     alloc: Global,
@@ -264,7 +268,7 @@ fn split_entries(
     ensures gaps { IfOk result (λ found. found.1.items ≡ gaps_of 0 (map entry_view entries.now)) }
     ensures places { IfOk result (λ found. found.2.items ≡ run_starts 0 0 (filter_map recorded_entry (map (wasm_entry code_section_offset) (map entry_view entries.now)))) }
 {
-    let mut sources = Vec::with_capacity(alloc, entries.len())?;
+    let mut sources = Vec::with_capacity(alloc, capacity(entries.len(), LEAST_SOURCES))?;
     let mut gaps = Vec::new(alloc);
     let mut later_runs = Vec::new(alloc);
     let mut before = 0;
