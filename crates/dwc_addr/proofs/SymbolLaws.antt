@@ -1,5 +1,5 @@
 -- Functions that have one symbol, found with a map from symbols to numbers.
-use Rattle.std.proofs.Common.{◌≡◌, ℕ, suc, ◌+◌, ◌<◌, refl, sym, ap, ◌∙◌, arith, rules, List, [], ◌∷◌, ◌++◌, map, length, take, drop, get_or, Bool, true, false, Option, Some, None, nat_cmp}
+use Rattle.std.proofs.Common.{◌≡◌, ℕ, suc, ne_eqb, ◌+◌, ◌<◌, ◌≤◌, refl, sym, ap, ◌∙◌, arith, rules, List, [], ◌∷◌, ◌++◌, map, length, take, drop, get_or, Bool, true, false, Option, Some, None, nat_cmp}
 use Rattle.std.specs.Prelude.{cond, if◌then◌else◌, option_map, ◌==◌, is_some, Ok}
 use Rattle.std.specs.Option.{option_or}
 use Rattle.std.specs.Ordering.{is_eq}
@@ -66,3 +66,14 @@ found-at ss i first inside found = rw (step ss i inside, found) refl
 pub new-at : (ss : List (Option SymbolId)) (i : ℕ) → i < length ss → holder_of (symbol_view (get_or ss i None)) (map symbol_view (take i ss)) ≡ None
     → shared_behind (map symbol_view (take i ss)) (map symbol_view (drop i ss)) ≡ shared_behind (map symbol_view (take (i + 1) ss)) (map symbol_view (drop (i + 1) ss))
 new-at ss i inside none = rw (step ss i inside, none) refl
+
+-- none of some functions has a symbol that is a number or a greater
+abbrev pub EndBelow : ℕ → List (Option ℕ) → Type 0
+EndBelow least before = (q : ℕ) → least ≤ q → holder q before ≡ None
+
+-- nor has one of them or a further one whose symbol is such, from behind that on
+pub end-behind : (least k : ℕ) (before : List (Option ℕ)) → EndBelow least before → least ≤ k → EndBelow (k + 1) (before ++ (Some k ∷ []))
+end-behind least k before below reached = λ q more. rw (holder-push q k before, below q (omega (arith, reached, more)), ne_eqb k q (λ same. absurd (omega (arith, same, more)))) refl
+
+pub end-pass : (least : ℕ) (before : List (Option ℕ)) → EndBelow least before → EndBelow least (before ++ (None ∷ []))
+end-pass least before below = λ q more. holder-pass q before ∙ below q more

@@ -1,5 +1,6 @@
 //! The symbols of functions by their numbers, and functions that have one symbol.
-ghost use Rattle.std.specs.Prelude.{◌≡◌, ℕ, ◌<◌, ◌^◌, List, ◌++◌, map, length, Option, Some, IfOk, OnOk};
+ghost use Rattle.std.specs.Prelude.{◌≡◌, ℕ, ◌<◌, ◌^◌, List, ◌++◌, map, length, Option, Some, None, true, IfOk, OnOk};
+ghost use Rattle.dwc_base.specs.SharedSymbols.{shared_symbol};
 ghost use Rattle.dwc_addr.specs.Numbers.{function_count, numbers_from, all_symbols, symbols_in, symbol_view, AreDistinct};
 ghost use Rattle.dwc_addr.specs.SymbolIndexes.{IsIndex, Notes};
 ghost use Rattle.dwc_addr.specs.Compilations.{lists};
@@ -55,6 +56,27 @@ pub(crate) fn first_numbers(
     Ok(numbers)
 }
 
+// Whether symbols rise from function to function, as a compiler counts them, and none is the greatest number. Then no two are one.
+fn do_rise(symbols: &[Option<SymbolId>]) -> bool
+    ensures { result ≡ true → shared_symbol (map symbol_view symbols.now) ≡ None }
+{
+    // no symbol so far is this one or a greater
+    let mut least = 0;
+    for i in 0..symbols.len() {
+        let Some(symbol) = symbols[i] else {
+            continue;
+        };
+        if symbol.0 < least {
+            return false;
+        }
+        let Some(next) = symbol.0.checked_add(1) else {
+            return false;
+        };
+        least = next;
+    }
+    true
+}
+
 // Finds the first function whose symbol one before it has.
 pub(crate) fn check_distinct(
     alloc: Global,
@@ -62,6 +84,9 @@ pub(crate) fn check_distinct(
 ) -> Result<(), CompilationError>
     ensures { AreDistinct symbols.now result }
 {
+    if do_rise(symbols) {
+        return Ok(());
+    }
     let mut numbers = BTreeMap::new(alloc);
     for i in 0..symbols.len() {
         if let Some(first) = note(&mut numbers, symbols[i], i)? {
