@@ -1,5 +1,6 @@
 //! The attributes of an entry. (DWARF 4 and 5, section 7.5.4.)
 ghost use Rattle.std.specs.Prelude.{◌≡◌, map, option_map, length, IsTrue};
+ghost use Rattle.dwc_base.specs.declared.constants.TheConstants.{DW_FORM_exprloc};
 ghost use Rattle.dwc_base.specs.Cursors.{Gives, GivesOrMemory};
 ghost use Rattle.dwc_base.specs.Entries.{attributes_at};
 ghost use Rattle.dwc_base.specs.Values.{form_behind as code_behind, form_code_at, encoded_value_at, value_at};
@@ -12,7 +13,7 @@ use crate::common::common_value;
 use crate::form::form_named;
 use crate::formed::formed_value;
 use crate::{AttributeValue, Unit};
-use dwc_base::constants::{DW_FORM_implicit_const, DW_FORM_indirect};
+use dwc_base::constants::{DW_FORM_exprloc, DW_FORM_implicit_const, DW_FORM_indirect};
 use dwc_base::{Cursor, Encoding, Flaw, NotRead, Relocations};
 
 // The code of the form behind `indirect`, which may stand there again.
@@ -84,8 +85,24 @@ pub fn value<'d>(
     encoded_value(unit.info_relocations(), encoding, spec, cursor)
 }
 
-// The same in the loop over attributes. Common forms are read in place and the others by a call with a cursor of its own, so that
-// the loop keeps its cursor in registers.
+// The same of an expression.
+#[inline(always)]
+#[tactic(auto, unfolding(dwc_base::specs::Values::value_at, dwc_base::specs::Values::encoded_value_at, dwc_base::specs::Values::form_code_at, dwc_base::specs::Values::formed_value_at, dwc_base::specs::Values::block_at, dwc_base::specs::Values::sized_number_at))]
+fn expression<'d>(
+    unit: &Unit<'d>,
+    spec: AttributeSpec,
+    cursor: &mut Cursor<'d>,
+) -> Result<AttributeValue<'d>, Flaw>
+    requires { spec.form ≡ DW_FORM_exprloc }
+    ensures { Gives value_view (value_at unit.now.sections unit.now.header (spec_view spec) cursor.old) cursor.new result }
+{
+    let length = cursor.uleb()?;
+    let bytes = cursor.take(length as usize)?;
+    Ok(AttributeValue::Exprloc(bytes))
+}
+
+// The same in the loop over attributes. Common forms and expressions are read in place and the others by a call with a cursor of its
+// own, so that the loop keeps its cursor in registers.
 #[inline(always)]
 pub fn next_value<'d>(
     unit: &Unit<'d>,
@@ -96,6 +113,9 @@ pub fn next_value<'d>(
 {
     if let Some(value) = common_value(unit, spec, cursor) {
         return Ok(value);
+    }
+    if spec.form == u64::from(DW_FORM_exprloc) {
+        return Ok(expression(unit, spec, cursor)?);
     }
     let mut ahead = cursor.fork();
     let value = value(unit, spec, &mut ahead)?;

@@ -5,13 +5,13 @@ ghost use Rattle.dwc_read.specs.Tables.{spec_view};
 ghost use Rattle.dwc_read.specs.ValuesSeen.{value_view, GivesOrStays};
 
 use crate::abbreviation::AttributeSpec;
-use crate::name::section_offset;
+use crate::name::{is_location_name, section_offset};
 use crate::{AttributeValue, Unit};
 use dwc_base::Cursor;
 use dwc_base::constants::{
     DW_FORM_addr, DW_FORM_addrx, DW_FORM_data1, DW_FORM_data2, DW_FORM_data4, DW_FORM_flag_present,
-    DW_FORM_implicit_const, DW_FORM_ref4, DW_FORM_sec_offset, DW_FORM_strp, DW_FORM_strx1,
-    DW_FORM_strx2,
+    DW_FORM_implicit_const, DW_FORM_loclistx, DW_FORM_ref4, DW_FORM_sec_offset, DW_FORM_strp,
+    DW_FORM_strx1, DW_FORM_strx2,
 };
 
 // The bytes of an address of WebAssembly.
@@ -100,7 +100,30 @@ fn common_constant<'d>(
         DW_FORM_data2 => u64::from(cursor.u16().ok()?),
         DW_FORM_data4 if unit.version() >= 4 => u64::from(cursor.u32().ok()?),
         DW_FORM_implicit_const => spec.implicit.cast_unsigned(),
-        _ => return None,
+        _ => return common_list(unit, spec, form, cursor),
     };
     Some(AttributeValue::Constant { form, bits })
+}
+
+// The same of location lists by their indexes.
+#[inline(always)]
+#[tactic(auto, unfolding(dwc_base::specs::Values::value_at, dwc_base::specs::Values::encoded_value_at, dwc_base::specs::Values::form_code_at, dwc_base::specs::Values::formed_value_at))]
+fn common_list<'d>(
+    unit: &Unit<'d>,
+    spec: AttributeSpec,
+    form: u16,
+    cursor: &mut Cursor<'d>,
+) -> Option<AttributeValue<'d>>
+    requires { spec.form ≡ form }
+    ensures { GivesOrStays value_view (value_at unit.now.sections unit.now.header (spec_view spec) cursor.old) cursor.old cursor.new result }
+{
+    if form != DW_FORM_loclistx {
+        return None;
+    }
+    let index = cursor.uleb().ok()?;
+    if is_location_name(spec.name) {
+        Some(AttributeValue::LocIndex(index))
+    } else {
+        Some(AttributeValue::Dropped)
+    }
 }
