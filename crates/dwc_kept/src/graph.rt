@@ -1,10 +1,14 @@
 //! The graph of what the entries of a module keep.
-ghost use Rattle.std.specs.Prelude.{◌≡◌, ◌++◌, ◌∷◌, [], ◌<◌, ◌≤◌, ◌^◌, ◌&&◌, length, map, is_some, All, IfSome, IfOk, OnOk, OnErr, IsTrue};
+ghost use Rattle.std.specs.Prelude.{◌≡◌, ◌++◌, ◌∷◌, [], ◌<◌, ◌≤◌, ◌^◌, ◌&&◌, length, map, filter_map, is_some, All, IfSome, IfOk, OnOk, OnErr, IsTrue};
 ghost use Rattle.dwc_kept.specs.EntryGraphs.{AreLeastMarks};
 ghost use Rattle.dwc_kept.specs.GraphEntries.{with_entry, AreRising};
+ghost use Rattle.dwc_kept.specs.ReadEntries.{attribute_offset};
+ghost use Rattle.dwc_read.specs.ValuesSeen.{attribute_view};
 
 use crate::graph_entry::GraphEntry;
 use crate::marks::least_marks;
+use crate::references::put_offsets;
+use dwc_read::AttributeValue;
 use std::alloc::{AllocError, Global};
 use std::marker::Model;
 
@@ -86,6 +90,39 @@ impl EntryGraph {
             first_target,
         )?;
         self.targets.extend_from_slice(targets).unwrap();
+        Ok(())
+    }
+
+    // The same of an entry of a unit, with the offsets that its attributes name.
+    pub(crate) fn push_named(
+        &mut self,
+        offset: u32,
+        parent: Option<u32>,
+        is_part: bool,
+        unit: u64,
+        end: u64,
+        attributes: &[(u16, AttributeValue<'_>)],
+    ) -> Result<(), AllocError>
+        requires behind { All (λ n. n.offset < offset) self.old }
+        requires parent { IfSome parent (λ p. p < length self.old) }
+        ensures { OnOk result (self.new ≡ self.old ++ record { offset = offset; parent = parent; targets = filter_map (attribute_offset unit end) (map attribute_view attributes.now); is_part = is_some parent && is_part } ∷ []) }
+    {
+        let number = self.entries.len() as u32;
+        let Ok(first_target) = u32::try_from(self.targets.len()) else {
+            return Err(AllocError);
+        };
+        self.targets.reserve(attributes.len())?;
+        let own_parent = parent.unwrap_or(number);
+        let is_part = has_part(parent, is_part);
+        push_entry(
+            &mut self.entries,
+            number,
+            offset,
+            own_parent,
+            is_part,
+            first_target,
+        )?;
+        put_offsets(unit, end, attributes, &mut self.targets);
         Ok(())
     }
 }

@@ -10,7 +10,6 @@ ghost use Rattle.dwc_kept.specs.ReadingSeen.{reading_view};
 use crate::graph::EntryGraph;
 use crate::last_at::LastAt;
 use crate::parts::is_part_below;
-use crate::references::name_offsets;
 use crate::required::is_required;
 use dwc_addr::AddressTransform;
 use dwc_base::constants::DW_TAG_namespace;
@@ -23,8 +22,6 @@ pub(crate) struct Reading {
     pub graph: EntryGraph,
     pub lasts: Vec<Option<LastAt>>,
     pub required: Vec<bool>,
-    // The targets of the entry that is read; a buffer.
-    pub targets: Vec<u32>,
 }
 
 /// Nothing is read yet.
@@ -35,7 +32,6 @@ pub(crate) fn none_read(alloc: Global) -> Reading
         graph: EntryGraph::new(alloc),
         lasts: Vec::new(alloc),
         required: Vec::new(alloc),
-        targets: Vec::new(alloc),
     }
 }
 
@@ -109,16 +105,15 @@ pub(crate) fn add_entry(
     };
     let depth = depth_of(entry);
     let parent = last_above(&reading.lasts, depth);
-    name_offsets(
+    let is_part = is_part_below(parent, entry.tag);
+    reading.graph.push_named(
+        offset,
+        number_of(parent),
+        is_part,
         unit.offset(),
         unit.end(),
         entry.attrs(),
-        &mut reading.targets,
     )?;
-    let is_part = is_part_below(parent, entry.tag);
-    reading
-        .graph
-        .push(offset, number_of(parent), is_part, &reading.targets)?;
     let is_outer = is_outer(depth, entry.tag);
     put_last(&mut reading.lasts, depth, LastAt { number, is_outer })?;
     reading.required.push(is_required)?;

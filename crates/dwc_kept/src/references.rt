@@ -1,12 +1,11 @@
 //! The offsets that the references of an entry name.
-ghost use Rattle.std.specs.Prelude.{◌≡◌, map, OnOk, filter_map};
+ghost use Rattle.std.specs.Prelude.{◌≡◌, ◌+◌, ◌≤◌, ◌++◌, length, map, filter_map, vec_capacity, vec_len};
 ghost use Rattle.dwc_read.specs.ValuesSeen.{value_view, attribute_view};
 ghost use Rattle.dwc_base.specs.Values.{unit_reference};
 ghost use Rattle.dwc_kept.specs.ReadEntries.{small_offset, named_offset, attribute_offset};
 
 use dwc_base::constants::DW_AT_sibling;
 use dwc_read::AttributeValue;
-use std::alloc::AllocError;
 
 // An offset of `.debug_info`, if an entry may stand there.
 fn small_offset(offset: u64) -> Option<u32>
@@ -48,21 +47,20 @@ fn attribute_offset(unit: u64, end: u64, attribute: &(u16, AttributeValue<'_>)) 
     }
 }
 
-/// Puts the offsets that attributes name, other than `sibling`, in place of those in a list. A reference within the unit names an offset
-/// before the unit's end.
-pub(crate) fn name_offsets(
+/// Puts the offsets that attributes name, other than `sibling`, behind those in a list with room for one each. A reference within the
+/// unit names an offset before the unit's end.
+pub(crate) fn put_offsets(
     unit: u64,
     end: u64,
     attributes: &[(u16, AttributeValue<'_>)],
     offsets: &mut Vec<u32>,
-) -> Result<(), AllocError>
-    ensures { OnOk result (offsets.new.items ≡ filter_map (attribute_offset unit end) (map attribute_view attributes.now)) }
+)
+    requires { vec_len offsets.old + length attributes.now ≤ vec_capacity offsets.old }
+    ensures { offsets.new.items ≡ offsets.old.items ++ filter_map (attribute_offset unit end) (map attribute_view attributes.now) }
 {
-    offsets.clear();
     for attribute in attributes {
         if let Some(offset) = attribute_offset(unit, end, attribute) {
-            offsets.push(offset)?;
+            offsets.push_reserved(offset);
         }
     }
-    Ok(())
 }
