@@ -6,7 +6,7 @@ use Rattle.dwc_base.specs.declared.records.Address.{Address as RangeAddress}
 use Rattle.dwc_write.specs.declared.attributes.Attribute.{Attribute}
 use Rattle.dwc_write.specs.declared.attributes.AttributeValue.{AttributeValue}
 use Rattle.dwc_write.specs.declared.attributes.AttributeValue.TheVariants.{Address, Constant, Flag, Block, Exprloc, StringRef, LineProgramRef, RangeListRef, LocationListRef, UnitRef, DebugInfoRef}
-use Rattle.dwc_write.specs.declared.attributes.Expression.{Expression}
+use Rattle.dwc_write.specs.declared.expressions.Expression.{Expression}
 use Rattle.dwc_write.specs.GivenUnits.{GivenEntry, FitsAttribute, FitsEntry, FitsValue, HaveShortLists, lists_of_entries}
 use Rattle.dwc_write.specs.RangeLists.{FitsEnds, FitsRange}
 use Rattle.dwc_write.specs.Lists.{ListEntry, FitsListed, FitsLocation, IsShort, ended, list_end, lists_of_attributes, location_entry, locations_in, range_entry, ranges_in}

@@ -34,7 +34,7 @@ use Rattle.dwc_write.specs.declared.attributes.AttributeValue.TheVariants.{Addre
 use Rattle.dwc_write.specs.declared.attributes.DebugInfoRef.TheVariants.{Entry as entry_of}
 use Rattle.dwc_write.specs.declared.abbreviations.AttributeForm.{AttributeForm}
 use Rattle.dwc_write.specs.GivenLines.{GivenLines, FitsLines, FitsSequences, FitsGivenSequence}
-use Rattle.dwc_write.specs.GivenUnits.{GivenEntry, OrderedUnit, Places, no_places, IsOfSize, written_of, FitsValue, FitsAttribute, AreBelow, IsTree, FitsEntry, FitsOrdered, is_lines, names_lines_in, names_lines, IsWritable, size_of, AreWritable, EntryShape, form_of, forms_of, shape_of, shapes_of, same_shape, place_in, with_use, first_uses, code_in, spec_of_form, numbered, shapes_in, written_attribute, written_attributes, written_entries, behind_entries, lists_of_entries, lists_of_units}
+use Rattle.dwc_write.specs.GivenUnits.{GivenEntry, OrderedUnit, Places, no_places, IsOfSize, written_of, FitsValue, FitsAttribute, FitsMemory, AreBelow, IsTree, FitsEntry, FitsOrdered, is_lines, names_lines_in, names_lines, IsWritable, size_of, AreWritable, EntryShape, form_of, forms_of, shape_of, shapes_of, same_shape, place_in, with_use, first_uses, code_in, spec_of_form, numbered, shapes_in, written_attribute, written_attributes, written_entries, behind_entries, lists_of_entries, lists_of_units}
 use Rattle.dwc_write.specs.Layouts.{AllPlaces, AreShort, offset_of_text, offsets_by_number, offset_in_section, places_in, unit_length, behind_unit, written_unit, written_lines, written_units, written_tables}
 use Rattle.dwc_write.specs.UsedTexts.{strings_bytes}
 use Rattle.dwc_write.specs.SpelledOutput.{section_unless_empty, abbrev_bytes, all_info_bytes, all_lines_bytes, all_lists_bytes, all_lists_relocations, units_placed, all_places, spelled_sections}
@@ -99,20 +99,20 @@ pub vec-short : (bytes : Vec ℕ Global) → length bytes.items < 2 ^ 64
 vec-short bytes = let long = bytes.ok.0 in let room = bytes.ok.1 in let small = bytes.small in omega (arith, long, room, small)
 
 value-fits : (size : ℕ) (p : Places) (lists : ListPlaces) (a : Attribute) → AreShort p → AreWithin lists → FitsAttribute size a → FitsWritten size (written_of p lists a.value)
-value-fits size p lists a near short_list fits = go a.value fits.value
+value-fits size p lists a near short_list fits = go a.value fits.value fits.held
   where
-    go : (v : AttributeValue) → FitsValue size a.name v → FitsWritten size (written_of p lists v)
-    go (Address x) h = field-address size x h
-    go (Constant form bits) h = constant-fits size (form == DW_FORM_data1) (form == DW_FORM_data2) (form == DW_FORM_data4) (form == DW_FORM_data8) (form == DW_FORM_sdata) bits h.1
-    go (Flag b) h = tt
-    go (Block bytes) h = vec-short bytes
-    go (Exprloc e) h = vec-short e.bytes
-    go (StringRef id) h = let short = near.text id.index in omega (arith, short)
-    go LineProgramRef h = let short = near.line in omega (arith, short)
-    go (RangeListRef list) h = let short = short_list.ranges in omega (arith, short)
-    go (LocationListRef list) h = let short = short_list.locations in omega (arith, short)
-    go (UnitRef id) h = let short = near.entry id.index in omega (arith, short)
-    go (DebugInfoRef (entry_of unit id)) h = let short = near.entry_of unit.index id.index in omega (arith, short)
+    go : (v : AttributeValue) → FitsValue size a.name v → FitsMemory v → FitsWritten size (written_of p lists v)
+    go (Address x) h held = field-address size x h
+    go (Constant form bits) h held = constant-fits size (form == DW_FORM_data1) (form == DW_FORM_data2) (form == DW_FORM_data4) (form == DW_FORM_data8) (form == DW_FORM_sdata) bits h.1
+    go (Flag b) h held = tt
+    go (Block bytes) h held = vec-short bytes
+    go (Exprloc e) h held = held
+    go (StringRef id) h held = let short = near.text id.index in omega (arith, short)
+    go LineProgramRef h held = let short = near.line in omega (arith, short)
+    go (RangeListRef list) h held = let short = short_list.ranges in omega (arith, short)
+    go (LocationListRef list) h held = let short = short_list.locations in omega (arith, short)
+    go (UnitRef id) h held = let short = near.entry id.index in omega (arith, short)
+    go (DebugInfoRef (entry_of unit id)) h held = let short = near.entry_of unit.index id.index in omega (arith, short)
 
 values-fit : (size : ℕ) (p : Places) (lists : ListPlaces) (xs : List Attribute) → AreShort p → AreWithin (behind_attributes size lists xs) → All (FitsAttribute size) xs → All (λ a. FitsWritten size a.value) (written_attributes (behind_attributes size) p lists xs)
 values-fit size p lists [] near short fits = All-nil _

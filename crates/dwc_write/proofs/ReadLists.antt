@@ -24,7 +24,7 @@ use Rattle.dwc_base.specs.Values.{is_location_name, is_range_name, location_refe
 use Rattle.dwc_base.specs.TreeReading.{list_read, unreadable_list, ranges_read, location_said, locations_read}
 use Rattle.dwc_base.specs.Lists.{list_source, list_of_value, ranges_at, ranges_of_value, ListRefusal, interval_given, base_behind, intervals_given, interval_between, ListedLocation, located, locations_at, locations_of_value}
 use Rattle.dwc_base.specs.Spelling.{unread_at}
-use Rattle.dwc_write.specs.declared.attributes.Expression.{Expression}
+use Rattle.dwc_write.specs.declared.expressions.Expression.{Expression}
 use Rattle.dwc_write.specs.Spelled.{at_places}
 use Rattle.dwc_write.specs.SpelledAddresses.{IsHeld}
 use Rattle.dwc_write.specs.RangeLists.{FitsRange, address_behind, interval_of, is_symbol}
@@ -168,7 +168,7 @@ module _ (s : Sections) (h : UnitHeader) (version : h.version ≡ 4) (some : 0 <
   are-locations [] fits short = All-nil IsLocation
   are-locations (l ∷ ls) fits short =
       All-cons IsLocation (location_entry l) (map location_entry ls)
-      (record { fits = All-head (FitsLocation size) l ls fits; bytes = l.2.bytes.items; holds = refl; short = All-head Shorts (location_entry l) (ended (map location_entry ls)) short })
+      (record { fits = All-head (FitsLocation size) l ls fits; bytes = l.2; holds = refl; short = All-head Shorts (location_entry l) (ended (map location_entry ls)) short })
       (are-locations ls (All-tail (FitsLocation size) l ls fits) (All-tail Shorts (location_entry l) (ended (map location_entry ls)) short))
 
   locations-fit : (es : List ListEntry) → All IsLocation es → All (FitsInterval size) es

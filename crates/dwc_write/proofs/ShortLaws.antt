@@ -15,7 +15,7 @@ use Rattle.dwc_write.specs.declared.attributes.Attribute.{Attribute}
 use Rattle.dwc_write.specs.declared.attributes.AttributeValue.{AttributeValue}
 use Rattle.dwc_write.specs.declared.attributes.AttributeValue.TheVariants.{Address, Constant, Flag, Block, Exprloc, StringRef, LineProgramRef, RangeListRef, LocationListRef, UnitRef, DebugInfoRef}
 use Rattle.dwc_write.specs.declared.attributes.DebugInfoRef.TheVariants.{Entry as entry_of}
-use Rattle.dwc_write.specs.declared.attributes.Expression.{Expression}
+use Rattle.dwc_write.specs.declared.expressions.Expression.{Expression}
 use Rattle.dwc_write.specs.GivenTrees.{given_said, attribute_said, tree_entry, given_tree, trees_from, given_trees}
 use Rattle.dwc_write.specs.GivenUnits.{Addition, GivenEntry, GivenUnit, OrderedUnit, AreBehindParents, AreShortUnits, FitsGivenUnit, HaveShortLists, IsRooted, below, entry_at, in_file_order, lists_of_entries, ordered}
 use Rattle.dwc_write.specs.Lists.{ended, list_end, lists_of_attributes, location_entry, location_of, locations_in}

@@ -116,7 +116,7 @@ module _ (texts : List (List ℕ)) (offsets : List (Option ℕ)) (source : TextS
   value-place name lists (Constant form bits) rest readable = ap (λ o. cons_option o rest) (no-place source name (constant_of form bits) (constant-none form bits))
   value-place name lists (Flag b) rest readable = ap (λ o. cons_option o rest) (no-place source name (as_flag b) tt)
   value-place name lists (Block bytes) rest readable = ap (λ o. cons_option o rest) (no-place source name (as_block bytes.items) tt)
-  value-place name lists (Exprloc e) rest readable = ap (λ o. cons_option o rest) (no-place source name (as_exprloc e.bytes.items) tt)
+  value-place name lists (Exprloc e) rest readable = ap (λ o. cons_option o rest) (no-place source name (as_exprloc e) tt)
   value-place name lists LineProgramRef rest readable = ap (λ o. cons_option o rest) (no-place source name (as_sec_offset Line p.line) tt)
   value-place name lists (RangeListRef list) rest readable = ap (λ o. cons_option o rest) (no-place source name (as_sec_offset Ranges lists.ranges) tt)
   value-place name lists (LocationListRef list) rest readable = ap (λ o. cons_option o rest) (no-place source name (as_sec_offset Loc lists.locations) tt)

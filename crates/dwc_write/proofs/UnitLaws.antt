@@ -7,7 +7,7 @@ use Rattle.dwc_write.specs.declared.attributes.Attribute.{Attribute}
 use Rattle.dwc_write.specs.declared.attributes.AttributeValue.{AttributeValue}
 use Rattle.dwc_write.specs.declared.attributes.AttributeValue.TheVariants.{Address, Constant, Flag, Block, Exprloc, StringRef, LineProgramRef, RangeListRef, LocationListRef, UnitRef, DebugInfoRef}
 use Rattle.dwc_write.specs.FileOrders.{no_addition}
-use Rattle.dwc_write.specs.GivenUnits.{Addition, GivenUnit, FitsAttribute, FitsValue, FitsOperand, FitsAddition, FitsGivenUnit, IsPlaceBelow, set_attribute, set_in_addition, set_in, with_additions, with_value, with_child, with_next, with_known, place_of, tag_at, tag_of, AreBehindParents, IsRooted}
+use Rattle.dwc_write.specs.GivenUnits.{Addition, GivenUnit, FitsAttribute, FitsMemory, FitsValue, FitsOperand, FitsAddition, FitsGivenUnit, IsPlaceBelow, set_attribute, set_in_addition, set_in, with_additions, with_value, with_child, with_next, with_known, place_of, tag_at, tag_of, AreBehindParents, IsRooted}
 
 -- ---- attributes
 
@@ -47,15 +47,15 @@ set-rooted zero name value (e ∷ es) rooted = rooted
 set-rooted (suc place) name value (e ∷ es) rooted = set-behind 1 place name value es rooted
 
 -- A value that fits leaves the unit as it is to be.
-pub set-kept : (u : GivenUnit) (place name : ℕ) (value : AttributeValue) → FitsGivenUnit u → name ≤ 65535 → FitsValue u.address_size name value → FitsGivenUnit (with_additions (set_in place name value u.additions) u)
-set-kept u place name value fits small fit =
+pub set-kept : (u : GivenUnit) (place name : ℕ) (value : AttributeValue) → FitsGivenUnit u → name ≤ 65535 → FitsValue u.address_size name value → FitsMemory value → FitsGivenUnit (with_additions (set_in place name value u.additions) u)
+set-kept u place name value fits small fit held =
     let same = length-set_in place name value u.additions in
     let few = fits.few in
     record {
       size = fits.size;
       lines = fits.lines;
       rooted = set-rooted place name value u.additions fits.rooted;
-      additions = set-all (FitsAddition u.address_size) place name value (λ e h. record { tag = h.tag; attributes = set-fits u.address_size name value e.attributes (record { name = small; value = fit }) h.attributes }) u.additions fits.additions;
+      additions = set-all (FitsAddition u.address_size) place name value (λ e h. record { tag = h.tag; attributes = set-fits u.address_size name value e.attributes (record { name = small; value = fit; held = held }) h.attributes }) u.additions fits.additions;
       known = subst (λ n. All (IsPlaceBelow n) u.places) (sym same) fits.known;
       few = omega (arith, few, same);
     }

@@ -1,5 +1,5 @@
 -- The sections of given units are no longer than their widest sizes: `within-widest`.
-use Rattle.std.proofs.Common.{◌≡◌, ℕ, suc, ◌+◌, ◌-◌, ◌*◌, ◌^◌, ◌<◌, ◌≤◌, ◌⊎◌, inl, inr, refl, sym, ap, subst, ◌∙◌, arith, lit<, List, [], ◌∷◌, ◌++◌, length, length-append, map, replicate, Option, Some, None, Bool, true, false, ltb, refl, Vec, Global}
+use Rattle.std.proofs.Common.{◌≡◌, ℕ, suc, ◌+◌, ◌-◌, ◌*◌, ◌^◌, ◌<◌, ◌≤◌, ◌⊎◌, inl, inr, refl, sym, ap, subst, ◌∙◌, arith, lit<, List, [], ◌∷◌, ◌++◌, length, length-append, map, replicate, Option, Some, None, Bool, true, false, ltb, refl}
 use Rattle.std.specs.Prelude.{ℤ, pos, negsuc, nat_abs, ◌-ℤ◌, ◌==◌, ◌||◌, not, nat_lt, if◌then◌else◌, sum_by, FitsSigned}
 use Rattle.std.specs.List.{All, flat_map}
 use Rattle.std.specs.Int.{w64, cast_signed}
@@ -33,7 +33,7 @@ use Rattle.dwc_write.specs.declared.attributes.AttributeValue.TheVariants.{Addre
 use Rattle.dwc_write.specs.declared.attributes.DebugInfoRef.TheVariants.{Entry as entry_of}
 use Rattle.dwc_write.specs.declared.abbreviations.AttributeForm.{AttributeForm}
 use Rattle.dwc_write.specs.GivenLines.{FitsLines, FitsSequences, FitsGivenSequence}
-use Rattle.dwc_write.specs.GivenUnits.{GivenEntry, OrderedUnit, Places, EntryShape, AreBelow, IsTree, IsOfSize, IsWritable, AreWritable, FitsAttribute, FitsValue, FitsEntry, FitsOrdered, size_of, constant_of, is_constant_form, constant_bound, written_of, form_of, first_depth, shape_of, shapes_of, place_in, with_use, first_uses, code_in, spec_of_form, numbered, shapes_in, written_attribute, written_attributes, written_entries}
+use Rattle.dwc_write.specs.GivenUnits.{GivenEntry, OrderedUnit, Places, EntryShape, AreBelow, IsTree, IsOfSize, IsWritable, AreWritable, FitsAttribute, FitsMemory, FitsValue, FitsEntry, FitsOrdered, size_of, constant_of, is_constant_form, constant_bound, written_of, form_of, first_depth, shape_of, shapes_of, place_in, with_use, first_uses, code_in, spec_of_form, numbered, shapes_in, written_attribute, written_attributes, written_entries}
 use Rattle.dwc_write.specs.Layouts.{AllPlaces, offsets_by_number, places_in, behind_unit, written_unit, written_lines, written_units, written_tables}
 use Rattle.dwc_write.specs.SpelledOutput.{abbrev_bytes, all_info_bytes, all_lines_bytes, all_lists_bytes, bytes_of}
 use Rattle.dwc_write.specs.declared.list_places.ListPlaces.{ListPlaces}
@@ -157,24 +157,24 @@ constant-widest order size form bits known small =
     go false n false o false p false q false r false s known small = absurd (cc)
 
 -- bytes behind their length
-block-widest : (bytes : Vec ℕ Global) → length (block_bytes bytes.items) ≤ variable_bytes + length bytes.items
-block-widest bytes = omega (arith, uleb-10 (length bytes.items) (vec-short bytes), length-append (uleb_bytes (length bytes.items)) bytes.items)
+block-widest : (bytes : List ℕ) → length bytes < 2 ^ 64 → length (block_bytes bytes) ≤ variable_bytes + length bytes
+block-widest bytes short = omega (arith, uleb-10 (length bytes) short, length-append (uleb_bytes (length bytes)) bytes)
 
 value-widest : (order : Endian) (size : ℕ) (p : Places) (lists : ListPlaces) (x : Attribute) → size ≤ 8 → FitsAttribute size x → length (written_bytes order size (written_of p lists x.value)) ≤ widest_value x.value
-value-widest order size p lists x short fits = go x.value fits.value
+value-widest order size p lists x short fits = go x.value fits.value fits.held
   where
-    go : (v : AttributeValue) → FitsValue size x.name v → length (written_bytes order size (written_of p lists v)) ≤ widest_value v
-    go (Address a) h = omega (arith, short, number_bytes-length order size (stored a))
-    go (Constant form bits) h = constant-widest order size form bits h.0 h.1
-    go (Flag b) h = omega arith
-    go (Block bytes) h = block-widest bytes
-    go (Exprloc e) h = block-widest e.bytes
-    go (StringRef id) h = omega (arith, number_bytes-length order 4 (p.text id.index))
-    go LineProgramRef h = omega (arith, number_bytes-length order 4 p.line)
-    go (RangeListRef list) h = omega (arith, number_bytes-length order 4 lists.ranges)
-    go (LocationListRef list) h = omega (arith, number_bytes-length order 4 lists.locations)
-    go (UnitRef id) h = omega (arith, number_bytes-length order 4 (p.entry id.index))
-    go (DebugInfoRef (entry_of unit id)) h = omega (arith, number_bytes-length order 4 (p.entry_of unit.index id.index))
+    go : (v : AttributeValue) → FitsValue size x.name v → FitsMemory v → length (written_bytes order size (written_of p lists v)) ≤ widest_value v
+    go (Address a) h held = omega (arith, short, number_bytes-length order size (stored a))
+    go (Constant form bits) h held = constant-widest order size form bits h.0 h.1
+    go (Flag b) h held = omega arith
+    go (Block bytes) h held = block-widest bytes.items (vec-short bytes)
+    go (Exprloc e) h held = block-widest e held
+    go (StringRef id) h held = omega (arith, number_bytes-length order 4 (p.text id.index))
+    go LineProgramRef h held = omega (arith, number_bytes-length order 4 p.line)
+    go (RangeListRef list) h held = omega (arith, number_bytes-length order 4 lists.ranges)
+    go (LocationListRef list) h held = omega (arith, number_bytes-length order 4 lists.locations)
+    go (UnitRef id) h held = omega (arith, number_bytes-length order 4 (p.entry id.index))
+    go (DebugInfoRef (entry_of unit id)) h held = omega (arith, number_bytes-length order 4 (p.entry_of unit.index id.index))
 
 values-widest : (order : Endian) (size : ℕ) (next : ListPlaces → List Attribute → ListPlaces) (p : Places) (lists : ListPlaces) (xs : List Attribute) → size ≤ 8 → All (FitsAttribute size) xs → length (flat_map (attribute_bytes order size) (written_attributes next p lists xs)) ≤ sum_by (λ a. widest_value a.value) xs
 values-widest order size next p lists [] short fits = omega arith

@@ -11,7 +11,7 @@ use Rattle.dwc_base.specs.Trees.{Location, Tree, TreeValue}
 use Rattle.dwc_base.specs.TreeLaws.{values_of}
 use Rattle.dwc_base.specs.TreeReading.{entry_or_nothing}
 use Rattle.dwc_base.specs.WidestTrees as trees
-use Rattle.dwc_write.specs.declared.attributes.Expression.{Expression}
+use Rattle.dwc_write.specs.declared.expressions.Expression.{Expression}
 use Rattle.dwc_write.specs.RangeLists.{interval_of}
 use Rattle.dwc_write.specs.Lists.{ListEntry, ended, location_entry, location_of, locations_in, range_entry, ranges_in}
 use Rattle.dwc_write.specs.declared.attributes.Attribute.{Attribute}

@@ -98,7 +98,7 @@ written_of places lists (Address a) = as_addr a
 written_of places lists (Constant form bits) = constant_of form bits
 written_of places lists (Flag b) = as_flag b
 written_of places lists (Block bytes) = as_block bytes.items
-written_of places lists (Exprloc e) = as_exprloc e.bytes.items
+written_of places lists (Exprloc e) = as_exprloc e
 written_of places lists (StringRef id) = as_strp (places.text id.index)
 written_of places lists LineProgramRef = as_sec_offset Line places.line
 written_of places lists (RangeListRef list) = as_sec_offset Ranges lists.ranges
@@ -128,6 +128,11 @@ FitsValue size name (LocationListRef list) = (is_location_name name ≡ true) ×
 FitsValue size name (UnitRef id) = Unit {0}
 FitsValue size name (DebugInfoRef reference) = Unit {0}
 
+-- An expression is no longer than memory is.
+abbrev pub FitsMemory : AttributeValue → Type 0
+FitsMemory (Exprloc e) = length e < 2 ^ 64
+FitsMemory _ = Unit {0}
+
 -- what writing asks of a value
 abbrev pub FitsOperand : ℕ → AttributeValue → Type 0
 FitsOperand size (Address a) = FitsField size a
@@ -136,6 +141,7 @@ FitsOperand size _ = Unit {0}
 pub record FitsAttribute (size : ℕ) (a : Attribute) : Type 0 where
   pub name : a.name ≤ 65535
   pub value : FitsValue size a.name a.value
+  pub held : FitsMemory a.value
 
 -- ---- what the calls do
 

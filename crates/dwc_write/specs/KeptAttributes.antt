@@ -18,7 +18,8 @@ given (kept.Lines name) = record { name = name; value = value.LineProgramRef }
 given (kept.Entry name id) = record { name = name; value = value.UnitRef id }
 given (kept.Symbol name symbol addend) = record { name = name; value = value.Address (address.Symbol symbol addend) }
 given (kept.UnitEntry name unit id) = record { name = name; value = value.DebugInfoRef (reference.Entry (record { index = unit }) id) }
-given (kept.Expression name expression) = record { name = name; value = value.Exprloc expression.value }
+given (kept.Short name bytes) = record { name = name; value = value.Exprloc bytes }
+given (kept.Expression name bytes) = record { name = name; value = value.Exprloc bytes.value.items }
 given (kept.Ranges name list) = record { name = name; value = value.RangeListRef list.value }
 given (kept.Locations name list) = record { name = name; value = value.LocationListRef list.value }
 given (kept.Block name bytes) = record { name = name; value = value.Block bytes.value }
@@ -31,7 +32,7 @@ value_of_held (held.Address address) = value.Address address
 value_of_held (held.Constant form bits) = value.Constant form bits
 value_of_held (held.Flag flag) = value.Flag flag
 value_of_held (held.Block bytes) = value.Block bytes.now
-value_of_held (held.Exprloc expression) = value.Exprloc expression.now
+value_of_held (held.Exprloc bytes) = value.Exprloc bytes.now
 value_of_held (held.StringRef id) = value.StringRef id
 value_of_held held.LineProgramRef = value.LineProgramRef
 value_of_held (held.RangeListRef list) = value.RangeListRef list.now

@@ -18,6 +18,7 @@ pub mod UsedTexts
 pub mod ShortLists
 pub mod Layouts
 pub mod UnitViews
+pub mod ExpressionBytes
 pub mod KeptAttributes
 pub mod AttributePlaces
 pub mod FileOrders

@@ -11,7 +11,7 @@ use Rattle.dwc_base.specs.Trees.{Location}
 use Rattle.dwc_write.specs.declared.attributes.Attribute.{Attribute}
 use Rattle.dwc_write.specs.declared.attributes.AttributeValue.{AttributeValue}
 use Rattle.dwc_write.specs.declared.attributes.AttributeValue.TheVariants.{RangeListRef, LocationListRef}
-use Rattle.dwc_write.specs.declared.attributes.Expression.{Expression}
+use Rattle.dwc_write.specs.declared.expressions.Expression.{Expression}
 use Rattle.dwc_write.specs.declared.list_places.ListPlaces.{ListPlaces}
 use Rattle.dwc_write.specs.declared.lists.ListKind.{ListKind}
 use Rattle.dwc_write.specs.declared.lists.ListKind.TheVariants.{Ranges, Locations}
@@ -87,11 +87,11 @@ range_entry r = record { begin = r.0; extent = r.1; holds = None }
 
 -- one of a location list has one
 abbrev pub location_entry : Address × ℕ × Expression → ListEntry
-location_entry l = record { begin = l.0; extent = l.1; holds = Some l.2.bytes.items }
+location_entry l = record { begin = l.0; extent = l.1; holds = Some l.2 }
 
 -- the same as it is read
 abbrev pub location_of : Address × ℕ × Expression → Location
-location_of l = record { over = interval_of (l.0, l.1); bytes = l.2.bytes.items }
+location_of l = record { over = interval_of (l.0, l.1); bytes = l.2 }
 
 -- The interval of a location begins at a function and is not empty.
 abbrev pub FitsLocation : ℕ → Address × ℕ × Expression → Type 0

@@ -5,11 +5,11 @@ use Rattle.dwc_base.specs.declared.records.Address.{Address}
 use Rattle.dwc_write.specs.declared.attributes.Attribute.{Attribute}
 use Rattle.dwc_write.specs.declared.attributes.AttributeValue.{AttributeValue}
 use Rattle.dwc_write.specs.declared.attributes.AttributeValue.TheVariants.{LocationListRef}
-use Rattle.dwc_write.specs.declared.attributes.Expression.{Expression}
+use Rattle.dwc_write.specs.declared.expressions.Expression.{Expression}
 use Rattle.dwc_write.specs.GivenUnits.{OrderedUnit}
 
 abbrev pub is_short_location : Address × ℕ × Expression → Bool
-is_short_location l = nat_lt (length l.2.bytes.items) (2 ^ 16)
+is_short_location l = nat_lt (length l.2) (2 ^ 16)
 
 abbrev pub is_short_value : AttributeValue → Bool
 is_short_value (LocationListRef list) = list_all is_short_location list.locations.items

@@ -3,12 +3,14 @@ ghost use Rattle.std.specs.Prelude.{◌≡◌, ◌++◌, ◌∷◌, [], ℕ, OnO
 ghost use Rattle.std.specs.Ordering.{nat_cmp};
 ghost use Rattle.std.specs.BTreeMap.{get};
 ghost use Rattle.dwc_write.specs.SpelledUnits.{form_number};
-ghost use Rattle.dwc_write.specs.GivenUnits.{constant_of, no_places, set_attribute, written_of};
+ghost use Rattle.dwc_write.specs.GivenUnits.{FitsMemory, constant_of, no_places, set_attribute, written_of};
 ghost use Rattle.dwc_write.specs.Lists.{no_lists};
 ghost use Rattle.dwc_write.specs.AttributePlaces.{place_from};
 ghost use Rattle.dwc_write.specs.KeptAttributes.{given, value_of_held};
-ghost use Rattle.dwc_write.specs.declared.attributes.AttributeValue.TheVariants.{Address as ValueAddress, DebugInfoRef as ValueReference};
+ghost use Rattle.dwc_write.specs.declared.attributes.AttributeValue.TheVariants.{Address as ValueAddress, DebugInfoRef as ValueReference, Exprloc as ValueExpression};
 
+use crate::expressions::{Bytes, Expression};
+use crate::few_bytes::FewBytes;
 use crate::{LocationList, RangeList, StringId, UnitEntryId, UnitId};
 use dwc_base::Address;
 use dwc_base::constants::{
@@ -47,25 +49,14 @@ pub enum AttributeValue {
     DebugInfoRef(DebugInfoRef),
 }
 
-/// A DWARF expression, as its bytes. (DWARF 4, sections 2.5 and 7.7.)
-#[derive(Debug, Drop)]
-pub struct Expression {
-    bytes: Vec<u8>,
-}
-
-impl Expression {
-    /// The expression of some bytes. They are not looked into.
-    pub fn new(bytes: Vec<u8>) -> Expression
-        ensures { result ≡ record { bytes = bytes } }
+impl AttributeValue {
+    // That an expression is no longer than memory is.
+    pub(crate) fn know_length(&self)
+        ensures { FitsMemory self.now }
     {
-        Expression { bytes }
-    }
-
-    /// Its bytes.
-    pub fn as_slice(&self) -> &[u8]
-        ensures { result.now ≡ self.now.bytes.items }
-    {
-        self.bytes.as_slice()
+        if let AttributeValue::Exprloc(expression) = self {
+            expression.know_length();
+        }
     }
 }
 
@@ -116,9 +107,13 @@ pub(crate) enum Kept {
         unit: u32,
         id: UnitEntryId,
     },
+    Short {
+        name: u16,
+        bytes: FewBytes,
+    },
     Expression {
         name: u16,
-        expression: Box<Expression>,
+        bytes: Box<Vec<u8>>,
     },
     Ranges {
         name: u16,
@@ -164,7 +159,7 @@ pub(crate) enum Held<'a> {
     Constant { form: u16, bits: u64 },
     Flag(bool),
     Block(&'a Vec<u8>),
-    Exprloc(&'a Expression),
+    Exprloc(&'a [u8]),
     StringRef(StringId),
     LineProgramRef,
     RangeListRef(&'a RangeList),
@@ -212,6 +207,7 @@ impl KeptAttribute {
             Kept::Entry { name, .. } => *name,
             Kept::Symbol { name, .. } => *name,
             Kept::UnitEntry { name, .. } => *name,
+            Kept::Short { name, .. } => *name,
             Kept::Expression { name, .. } => *name,
             Kept::Ranges { name, .. } => *name,
             Kept::Locations { name, .. } => *name,
@@ -244,7 +240,8 @@ impl KeptAttribute {
                 };
                 Held::DebugInfoRef(DebugInfoRef::Entry(unit, *id))
             }
-            Kept::Expression { expression, .. } => Held::Exprloc(expression),
+            Kept::Short { bytes, .. } => Held::Exprloc(bytes.as_slice()),
+            Kept::Expression { bytes, .. } => Held::Exprloc(bytes.as_slice()),
             Kept::Ranges { list, .. } => Held::RangeListRef(list),
             Kept::Locations { list, .. } => Held::LocationListRef(list),
             Kept::Block { bytes, .. } => Held::Block(bytes),
@@ -266,10 +263,7 @@ fn keep_any(alloc: Global, name: u16, value: AttributeValue) -> Result<Kept, All
             name,
             bytes: Box::new(alloc, bytes)?,
         }),
-        AttributeValue::Exprloc(expression) => Ok(Kept::Expression {
-            name,
-            expression: Box::new(alloc, expression)?,
-        }),
+        AttributeValue::Exprloc(expression) => Ok(keep_expression(name, expression)),
         AttributeValue::StringRef(id) => Ok(Kept::Text { name, id }),
         AttributeValue::LineProgramRef => Ok(Kept::Lines { name }),
         AttributeValue::RangeListRef(list) => Ok(Kept::Ranges {
@@ -282,6 +276,16 @@ fn keep_any(alloc: Global, name: u16, value: AttributeValue) -> Result<Kept, All
         }),
         AttributeValue::UnitRef(id) => Ok(Kept::Entry { name, id }),
         AttributeValue::DebugInfoRef(reference) => keep_reference(alloc, name, reference),
+    }
+}
+
+// An expression, as it is held.
+fn keep_expression(name: u16, expression: Expression) -> Kept
+    ensures { given result ≡ record { name = name; value = ValueExpression expression } }
+{
+    match expression.into_bytes() {
+        Bytes::Few(bytes) => Kept::Short { name, bytes },
+        Bytes::Many(bytes) => Kept::Expression { name, bytes },
     }
 }
 

@@ -278,7 +278,7 @@ fn write_value(
         Held::Constant { form, bits } => write_constant(info, scratch, form, bits),
         Held::Flag(flag) => info.put_byte(u8::from(flag)),
         Held::Block(bytes) => write_block(info, scratch, bytes),
-        Held::Exprloc(expression) => write_block(info, scratch, expression.as_slice()),
+        Held::Exprloc(bytes) => write_block(info, scratch, bytes),
         Held::StringRef(id) => { info.put_offset(spelling.text_offset_of(id), SectionName::Str) }
         Held::LineProgramRef => info.put_offset(spelling.line_offset, SectionName::Line),
         Held::RangeListRef(_) => info.put_offset(lists.ranges, SectionName::Ranges),

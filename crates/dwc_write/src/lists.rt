@@ -9,7 +9,8 @@ ghost use Rattle.dwc_write.specs.RangeLists.{address_behind as address_behind_by
 ghost use Rattle.dwc_write.specs.Writers.{FitsField, Writes};
 
 use crate::additions::Additions;
-use crate::attributes::{Expression, Held, KeptAttribute};
+use crate::attributes::{Held, KeptAttribute};
+use crate::expressions::Expression;
 use crate::file_order::FilePlace;
 use crate::{WriteError, WriterRelocate};
 use dwc_base::Address;

@@ -148,7 +148,7 @@ fn note_value(
         Held::Constant { form, bits } => Ok(usize::from(constant_size(form, bits))),
         Held::Flag(_) => Ok(1),
         Held::Block(bytes) => Ok(block_size(bytes)),
-        Held::Exprloc(expression) => Ok(block_size(expression.as_slice())),
+        Held::Exprloc(bytes) => Ok(block_size(bytes)),
         Held::StringRef(id) => {
             count_relocated(counts);
             texts.push(id.index)?;

@@ -1,7 +1,7 @@
 //! The room that sections take, counted while entries are laid out, so that it is made once for a unit. No contract hangs on it.
 ghost use Rattle.std.specs.Prelude.{◌≡◌};
 
-use crate::attributes::Expression;
+use crate::expressions::Expression;
 use crate::lists::held_length;
 use dwc_base::Address;
 

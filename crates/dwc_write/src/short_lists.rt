@@ -8,7 +8,8 @@ ghost use Rattle.dwc_write.specs.ShortLists.{are_short_values, is_short_location
 
 use crate::WriteError;
 use crate::additions::Additions;
-use crate::attributes::{Expression, Held, KeptAttribute};
+use crate::attributes::{Held, KeptAttribute};
+use crate::expressions::Expression;
 use crate::layout::UnitLayout;
 use crate::units::Unit;
 use dwc_base::Address;

@@ -159,6 +159,7 @@ impl Unit {
         ensures err { OnErr result (self.new ≡ self.old) }
         ensures memory { IsOkUnless result OutOfMemory }
     {
+        value.know_length();
         let place = known_place(&self.places, id);
         self.additions.set(place, name, value)?;
         Ok(())

@@ -19,7 +19,7 @@ returns-in_err-set-clause-err c =
 
 pub invariant_of-self-2 : goal.invariant_of-self-2
 invariant_of-self-2 c =
-    rw (c.in_ok-set.ensures.ok) (set-kept _ c.known_place-place.result c.args.name c.args.value c.self.invariant (omega (arith, c.ranges.name)) (rw (← c.self.view_is) at c.requires.fits))
+    rw (c.in_ok-set.ensures.ok) (set-kept _ c.known_place-place.result c.args.name c.args.value c.self.invariant (omega (arith, c.ranges.name)) (rw (← c.self.view_is) at c.requires.fits) c.know_length.ensures)
 
 pub returns-clause-ok : goal.returns-clause-ok
 returns-clause-ok c =
