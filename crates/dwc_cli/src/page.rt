@@ -1,7 +1,8 @@
 //! Text on its way to a sink.
-ghost use Rattle.std.specs.Prelude.{◌≡◌, ◌+◌, ◌*◌, ◌≤◌, ◌++◌, [], length};
+ghost use Rattle.std.specs.Prelude.{◌≡◌, ◌+◌, ◌*◌, ◌≤◌, ◌++◌, [], length, take, drop};
 ghost use Rattle.hex.specs.Hex.{encode_lower};
 
+use crate::backward::{LINE, ROOM};
 use std::marker::Model;
 
 /// How many bytes a page has room for.
@@ -60,6 +61,17 @@ impl Page {
         let end = self.filled + text.len();
         self.bytes[self.filled..end].copy_from_slice(text);
         self.filled = end;
+    }
+
+    /// Pushes a line, which starts at a place of `line`. A copy of a size that is known is a few moves, and no call.
+    #[inline(always)]
+    pub(crate) fn push_line(&mut self, line: &[u8; ROOM], start: usize)
+        requires { (start ≤ 64) × (length self.old + 64 ≤ 65536) }
+        ensures { self.new ≡ self.old ++ drop start (take 64 line.now) }
+    {
+        let end = self.filled + LINE;
+        self.bytes[self.filled..end].copy_from_slice(&line[start..start + LINE]);
+        self.filled = end - start;
     }
 
     /// Pushes some bytes in lower-case hexadecimal.

@@ -1,5 +1,5 @@
 //! The printed text of sections.
-ghost use Rattle.std.specs.Prelude.{◌≡◌, ◌+◌, ◌≤◌, ◌++◌, [], map, length, codes, Some, IfOk, OnOk, OnErr};
+ghost use Rattle.std.specs.Prelude.{◌≡◌, ◌+◌, ◌≤◌, ◌++◌, [], map, length, take, drop, codes, Some, IfOk, OnOk, OnErr};
 ghost use Rattle.std.specs.List.{flat_map};
 ghost use Rattle.std.specs.Fmt.{decimal, signed_decimal};
 ghost use Rattle.hex.specs.Hex.{encode_lower};
@@ -10,7 +10,8 @@ ghost use Rattle.dwc_cli.specs.Edge.{AppendsFront, Prints};
 ghost use Rattle.dwc_cli.specs.Printed.{printed, space, line_feed, printed_section, printed_relocation, IsTextOfOne};
 
 use crate::backward::{
-    LINE, NAME, begin_line, bytes_before, end_line, end_section_line, number_before, text_from,
+    LINE, NAME, ROOM, begin_line, end_line, end_section_line, name_before, number_before,
+    text_from, word_before,
 };
 use crate::page::{PAGE, Page};
 use crate::sink::{Sink, write_all};
@@ -101,6 +102,23 @@ fn print_hex<K: Sink>(sink: &mut K, page: &mut Page, bytes: &[u8]) -> Result<(),
     Ok(())
 }
 
+// Prints the line that starts at a place of `line`.
+#[inline(always)]
+fn print_line<K: Sink>(
+    sink: &mut K,
+    page: &mut Page,
+    line: &[u8; ROOM],
+    start: usize,
+) -> Result<(), Failed>
+    requires { start ≤ 64 }
+    ensures text { Prints (K.written sink.old) page.old (K.written sink.new) page.new (drop start (take 64 line.now)) result }
+    ensures cause { HasCause (K.faults sink.old) (K.faults sink.new) result }
+{
+    make_room(sink, page, LINE)?;
+    page.push_line(line, start);
+    Ok(())
+}
+
 // Prints the line of a relocation that refers to a function. It is made in `line`.
 #[inline]
 fn print_to_function<K: Sink>(
@@ -108,16 +126,16 @@ fn print_to_function<K: Sink>(
     page: &mut Page,
     reloc: &DwarfSectionReloc,
     number: usize,
-    line: &mut [u8; LINE],
+    line: &mut [u8; ROOM],
 ) -> Result<(), Failed>
     ensures text { Prints (K.written sink.old) page.old (K.written sink.new) page.new (codes "reloc " ++ decimal reloc.now.offset ++ space ++ decimal reloc.now.size ++ space ++ (codes "func " ++ decimal number) ++ space ++ signed_decimal reloc.now.addend ++ line_feed) result }
     ensures cause { HasCause (K.faults sink.old) (K.faults sink.new) result }
 {
     let tail = end_line(reloc.addend, line);
     let target = number_before(number as u64, line, tail);
-    let kind = bytes_before(b"func ", line, target);
+    let kind = word_before(b"func ", line, target);
     let start = begin_line(reloc, line, kind);
-    print_bytes(sink, page, text_from(line, start))
+    print_line(sink, page, line, start)
 }
 
 // Prints the line of a relocation that refers to a section. It is made in `line`.
@@ -127,7 +145,7 @@ fn print_to_section<K: Sink>(
     page: &mut Page,
     reloc: &DwarfSectionReloc,
     name: &str,
-    line: &mut [u8; LINE],
+    line: &mut [u8; ROOM],
 ) -> Result<(), Failed>
     ensures text { Prints (K.written sink.old) page.old (K.written sink.new) page.new (codes "reloc " ++ decimal reloc.now.offset ++ space ++ decimal reloc.now.size ++ space ++ (codes "section " ++ name.now) ++ space ++ signed_decimal reloc.now.addend ++ line_feed) result }
     ensures cause { HasCause (K.faults sink.old) (K.faults sink.new) result }
@@ -136,10 +154,10 @@ fn print_to_section<K: Sink>(
         return print_in_pieces(sink, page, reloc, name);
     }
     let tail = end_line(reloc.addend, line);
-    let target = bytes_before(name.as_bytes(), line, tail);
-    let kind = bytes_before(b"section ", line, target);
+    let target = name_before(name.as_bytes(), line, tail);
+    let kind = word_before(b"section ", line, target);
     let start = begin_line(reloc, line, kind);
-    print_bytes(sink, page, text_from(line, start))
+    print_line(sink, page, line, start)
 }
 
 // Prints the line of a relocation that refers to a section, whose name a line may have no room for.
@@ -153,10 +171,10 @@ fn print_in_pieces<K: Sink>(
     ensures text { Prints (K.written sink.old) page.old (K.written sink.new) page.new (codes "reloc " ++ decimal reloc.now.offset ++ space ++ decimal reloc.now.size ++ space ++ (codes "section " ++ name.now) ++ space ++ signed_decimal reloc.now.addend ++ line_feed) result }
     ensures cause { HasCause (K.faults sink.old) (K.faults sink.new) result }
 {
-    let mut line = [0; LINE];
+    let mut line = [0; ROOM];
     let tail = end_line(reloc.addend, &mut line);
-    let mut head = [0; LINE];
-    let kind = bytes_before(b"section ", &mut head, LINE);
+    let mut head = [0; ROOM];
+    let kind = word_before(b"section ", &mut head, LINE);
     let start = begin_line(reloc, &mut head, kind);
     let front = text_from(&head, start);
     let back = text_from(&line, tail);
@@ -169,7 +187,7 @@ fn print_relocation<K: Sink>(
     sink: &mut K,
     page: &mut Page,
     reloc: &DwarfSectionReloc,
-    line: &mut [u8; LINE],
+    line: &mut [u8; ROOM],
 ) -> Result<(), Failed>
     ensures text { Prints (K.written sink.old) page.old (K.written sink.new) page.new (printed_relocation (relocation_view reloc.now)) result }
     ensures cause { HasCause (K.faults sink.old) (K.faults sink.new) result }
@@ -188,7 +206,7 @@ fn print_relocations<K: Sink>(
     ensures text { Prints (K.written sink.old) page.old (K.written sink.new) page.new (flat_map printed_relocation (map relocation_view relocs.now)) result }
     ensures cause { HasCause (K.faults sink.old) (K.faults sink.new) result }
 {
-    let mut line = [0; LINE];
+    let mut line = [0; ROOM];
     for reloc in relocs {
         print_relocation(sink, page, reloc, &mut line)?;
     }
@@ -200,7 +218,7 @@ fn print_body<K: Sink>(sink: &mut K, page: &mut Page, name: &str, body: &[u8]) -
     ensures text { Prints (K.written sink.old) page.old (K.written sink.new) page.new (codes "section " ++ (name.now ++ (space ++ (decimal (length body.now) ++ (line_feed ++ (encode_lower body.now ++ line_feed)))))) result }
     ensures cause { HasCause (K.faults sink.old) (K.faults sink.new) result }
 {
-    let mut line = [0; LINE];
+    let mut line = [0; ROOM];
     let end = end_section_line(body.len(), &mut line);
     print_named(sink, page, b"section ", name, text_from(&line, end))?;
     print_hex(sink, page, body)?;
