@@ -20,7 +20,7 @@ use Rattle.dwc_base.specs.Trees.{Location}
 use Rattle.dwc_base.proofs.InLists.{IsIn}
 use Rattle.dwc_base.proofs.LabelRangeMaximal.{label-ranges-maximal}
 use Rattle.dwc_clif.specs.Registers.{Registers}
-use Rattle.dwc_write.specs.declared.attributes.Expression.{Expression}
+use Rattle.dwc_write.specs.declared.expressions.Expression.{Expression}
 use Rattle.dwc_expr.specs.declared.error.ExprError.{ExprError}
 use Rattle.dwc_expr.specs.declared.frame.FunctionFrameInfo.{FunctionFrameInfo}
 use Rattle.dwc_expr.specs.Alone.{LeadsAlone, PutsAlone, lone_location, lone_refusals}

@@ -9,7 +9,7 @@ use Rattle.dwc_base.specs.Runs.{interval_of}
 use Rattle.dwc_base.specs.Trees.{Location}
 use Rattle.dwc_clif.specs.Registers.{Registers}
 use Rattle.dwc_addr.specs.Translations.{with_length}
-use Rattle.dwc_write.specs.declared.attributes.Expression.{Expression}
+use Rattle.dwc_write.specs.declared.expressions.Expression.{Expression}
 use Rattle.dwc_expr.specs.declared.cached_range.CachedValueLabelRange.{CachedValueLabelRange}
 use Rattle.dwc_expr.specs.Builds.{location_view}
 use Rattle.dwc_expr.specs.RangeExpressions.{location_on}
@@ -28,15 +28,15 @@ views-more view wanted xs i x now new a whole inside is pushed same before =
 
 module _ (parts : List Part) (registers : Registers) (memory : Memory) where
   -- the expression on a range
-  location-is : (r : CachedValueLabelRange) (extent : Address × ℕ) (e : Expression) → r.start < r.end → extent ≡ with_length r.func_index (r.start, r.end) → e.bytes.items ≡ built_bytes (setting_in r registers memory) parts
+  location-is : (r : CachedValueLabelRange) (extent : Address × ℕ) (e : Expression) → r.start < r.end → extent ≡ with_length r.func_index (r.start, r.end) → e ≡ built_bytes (setting_in r registers memory) parts
       → location_view (extent.0, extent.1, e) ≡ location_on parts registers memory r
   location-is r extent e some at built =
       ap (λ (x : Address × ℕ). location_view (x.0, x.1, e)) at
-      ∙ ap {B = Location} (λ i. record { over = i; bytes = e.bytes.items }) (interval-said r.func_index r.start r.end some)
+      ∙ ap {B = Location} (λ i. record { over = i; bytes = e }) (interval-said r.func_index r.start r.end some)
       ∙ ap {B = Location} (λ bytes. record { over = interval_of r.func_index (r.start, r.end); bytes = bytes }) built
 
   pub expression-more : (ranges : List CachedValueLabelRange) (i : ℕ) (r : CachedValueLabelRange) (now new : List (Address × ℕ × Expression)) (extent : Address × ℕ) (e : Expression) (whole : List Location)
-      → i < length ranges → r ≡ get_or ranges i r → r.start < r.end → extent ≡ with_length r.func_index (r.start, r.end) → e.bytes.items ≡ built_bytes (setting_in r registers memory) parts → new ≡ now ++ (extent.0, extent.1, e) ∷ []
+      → i < length ranges → r ≡ get_or ranges i r → r.start < r.end → extent ≡ with_length r.func_index (r.start, r.end) → e ≡ built_bytes (setting_in r registers memory) parts → new ≡ now ++ (extent.0, extent.1, e) ∷ []
       → map location_view now ++ map (location_on parts registers memory) (drop i ranges) ≡ whole → map location_view new ++ map (location_on parts registers memory) (drop (i + 1) ranges) ≡ whole
   expression-more ranges i r now new extent e whole inside is some at built pushed before =
       views-more location_view (location_on parts registers memory) ranges i r now new (extent.0, extent.1, e) whole inside is pushed (location-is r extent e some at built) before

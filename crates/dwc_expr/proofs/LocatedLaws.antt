@@ -14,7 +14,7 @@ use Rattle.dwc_clif.specs.FlatRanges.{Flattens}
 use Rattle.dwc_clif.specs.Registers.{Registers}
 use Rattle.dwc_clif.specs.ValueLabels.{range_view}
 use Rattle.dwc_clif.specs.declared.value_label.ValueLocRange.{ValueLocRange}
-use Rattle.dwc_write.specs.declared.attributes.Expression.{Expression}
+use Rattle.dwc_write.specs.declared.expressions.Expression.{Expression}
 use Rattle.dwc_expr.specs.declared.error.ExprError.{ExprError}
 use Rattle.dwc_expr.specs.declared.error.ExprError.TheVariants.{Read, TooLarge, BadLabelRange, InvalidAttributeValue, UnmappedRegister, OutOfMemory}
 use Rattle.dwc_expr.specs.declared.frame.FunctionFrameInfo.{FunctionFrameInfo}

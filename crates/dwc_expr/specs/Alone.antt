@@ -16,7 +16,7 @@ use Rattle.dwc_clif.specs.Registers.{Registers}
 use Rattle.dwc_clif.specs.ValueLabels.{place_view, range_view}
 use Rattle.dwc_clif.specs.declared.value_label.LabelValueLoc.{LabelValueLoc}
 use Rattle.dwc_clif.specs.declared.value_label.ValueLocRange.{ValueLocRange}
-use Rattle.dwc_write.specs.declared.attributes.Expression.{Expression}
+use Rattle.dwc_write.specs.declared.expressions.Expression.{Expression}
 use Rattle.dwc_expr.specs.declared.alone.LoneLocal.{LoneLocal}
 use Rattle.dwc_expr.specs.declared.code_range.CodeRange.{CodeRange}
 use Rattle.dwc_expr.specs.declared.error.ExprError.{ExprError}

@@ -6,7 +6,7 @@ use Rattle.dwc_base.specs.Functions.{Function}
 use Rattle.dwc_base.specs.Trees.{Location}
 use Rattle.dwc_base.specs.BuiltExpressions.{BuildRefusal, Surroundings, BuiltExpressions}
 use Rattle.dwc_clif.specs.Registers.{Registers}
-use Rattle.dwc_write.specs.declared.attributes.Expression.{Expression}
+use Rattle.dwc_write.specs.declared.expressions.Expression.{Expression}
 use Rattle.dwc_write.specs.RangeLists.{interval_of}
 use Rattle.dwc_expr.specs.declared.built.BuiltCompiledExpression.{BuiltCompiledExpression}
 use Rattle.dwc_expr.specs.declared.error.ExprError.{ExprError}
@@ -21,7 +21,7 @@ surroundings fs frame registers = record { functions = fs; frame = frame_view fr
 
 -- a built expression: an address, the length of what it holds for, and its bytes
 abbrev pub location_view : Address × ℕ × Expression → Location
-location_view e = record { over = interval_of (e.0, e.1); bytes = e.2.bytes.items }
+location_view e = record { over = interval_of (e.0, e.1); bytes = e.2 }
 
 abbrev pub built_view : BuiltCompiledExpression → BuiltExpressions
 built_view b = record { expressions = map location_view b.expressions.items; covers_entire_scope = b.covers_entire_scope }

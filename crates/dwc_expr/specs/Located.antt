@@ -5,7 +5,7 @@ use Rattle.dwc_base.specs.BuiltExpressions.{BuildRefusal, BuiltExpressions, Surr
 use Rattle.dwc_base.specs.Parts.{CompiledParts, code}
 use Rattle.dwc_base.specs.Reading.{◌>>=◌}
 use Rattle.dwc_base.specs.Trees.{Location}
-use Rattle.dwc_write.specs.declared.attributes.Expression.{Expression}
+use Rattle.dwc_write.specs.declared.expressions.Expression.{Expression}
 use Rattle.dwc_expr.specs.declared.error.ExprError.{ExprError}
 use Rattle.dwc_expr.specs.declared.error.ExprError.TheVariants.{OutOfMemory}
 use Rattle.dwc_expr.specs.Builds.{IsTold, location_view}

@@ -11,7 +11,7 @@ use Rattle.dwc_base.specs.Refusals.{first_of}
 use Rattle.dwc_base.specs.Runs.{interval_of}
 use Rattle.dwc_base.specs.Trees.{Location}
 use Rattle.dwc_clif.specs.Registers.{Registers}
-use Rattle.dwc_write.specs.declared.attributes.Expression.{Expression}
+use Rattle.dwc_write.specs.declared.expressions.Expression.{Expression}
 use Rattle.dwc_expr.specs.declared.cached_range.CachedValueLabelRange.{CachedValueLabelRange}
 use Rattle.dwc_expr.specs.declared.error.ExprError.{ExprError}
 use Rattle.dwc_expr.specs.Builds.{location_view}
@@ -34,7 +34,7 @@ jumps_refused parts registers memory r = unless_fit (jumps_fit (setting_in r reg
 
 -- The expression of parts in a setting is answered, and its jumps fit; or that is refused.
 abbrev pub BuildsOne : Setting → List Part → Result Expression ExprError → Type 0
-BuildsOne s parts (Ok e) = (jumps_fit s parts ≡ true) × (e.bytes.items ≡ built_bytes s parts)
+BuildsOne s parts (Ok e) = (jumps_fit s parts ≡ true) × (e ≡ built_bytes s parts)
 BuildsOne s parts (Err e) = TellsFirst (unless_fit (jumps_fit s parts)) e
 
 -- The same of each of some ranges.

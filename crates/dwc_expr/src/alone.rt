@@ -30,9 +30,6 @@ use dwc_clif::{LabelValueLoc, TargetIsa, ValueLabel, ValueLocRange};
 use dwc_write::Expression;
 use std::alloc::{AllocError, Global};
 
-// How many bytes most places and values have at most.
-const USUAL_BYTES: usize = 8;
-
 // One local alone; where it is trailing, the place of the value itself.
 #[derive(Clone, Copy)]
 pub(crate) struct LoneLocal {
@@ -234,9 +231,9 @@ fn expression_at(
     place: LabelValueLoc,
     isa: &dyn TargetIsa,
 ) -> Result<Expression, AllocError>
-    ensures { IfOk result (λ e. e.bytes.items ≡ (if trailing then location_bytes (with_registers (dwarf_registers isa.now)) (Some (place_view place)) else value_bytes (with_registers (dwarf_registers isa.now)) (Some (place_view place)))) }
+    ensures { IfOk result (λ e. e ≡ (if trailing then location_bytes (with_registers (dwarf_registers isa.now)) (Some (place_view place)) else value_bytes (with_registers (dwarf_registers isa.now)) (Some (place_view place)))) }
 {
-    let mut bytes = Vec::with_capacity(alloc, USUAL_BYTES)?;
-    put_local(&mut bytes, place, trailing, isa)?;
-    Ok(Expression::new(bytes))
+    let mut expression = Expression::new(alloc);
+    put_local(&mut expression, place, trailing, isa)?;
+    Ok(expression)
 }

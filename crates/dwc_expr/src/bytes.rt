@@ -19,7 +19,7 @@ use dwc_base::constants::{
     DW_OP_fbreg, DW_OP_plus, DW_OP_reg0, DW_OP_regx, DW_OP_skip, DW_OP_swap,
 };
 use dwc_clif::{LabelValueLoc, Reg, TargetIsa, get_vmctx_value_label};
-use dwc_write::{put_sleb, put_uleb};
+use dwc_write::Expression;
 use std::alloc::AllocError;
 
 // Registers below this number have operations of their own.
@@ -36,41 +36,45 @@ fn register_number(register: Reg, isa: &dyn TargetIsa) -> u16
 }
 
 // A register's value plus an offset, by its DWARF number.
-fn put_register_value(out: &mut Vec<u8>, register: u16, offset: i64) -> Result<(), AllocError>
-    ensures { OnOk result (out.new.items ≡ out.old.items ++ register_value register offset) }
+fn put_register_value(out: &mut Expression, register: u16, offset: i64) -> Result<(), AllocError>
+    ensures { OnOk result (out.new ≡ out.old ++ register_value register offset) }
 {
     if register < SHORT_REGISTERS {
         out.push(DW_OP_breg0 + register as u8)?;
     } else {
         out.push(DW_OP_bregx)?;
-        put_uleb(out, u64::from(register))?;
+        out.put_uleb(u64::from(register))?;
     }
-    put_sleb(out, offset)
+    out.put_sleb(offset)
 }
 
 // The register itself.
-fn put_register(out: &mut Vec<u8>, register: u16) -> Result<(), AllocError>
-    ensures { OnOk result (out.new.items ≡ out.old.items ++ register_location register) }
+fn put_register(out: &mut Expression, register: u16) -> Result<(), AllocError>
+    ensures { OnOk result (out.new ≡ out.old ++ register_location register) }
 {
     if register < SHORT_REGISTERS {
         out.push(DW_OP_reg0 + register as u8)?;
         return Ok(());
     }
     out.push(DW_OP_regx)?;
-    put_uleb(out, u64::from(register))
+    out.put_uleb(u64::from(register))
 }
 
 // An address at an offset from the canonical frame address.
-fn put_frame_address(out: &mut Vec<u8>, offset: i64) -> Result<(), AllocError>
-    ensures { OnOk result (out.new.items ≡ out.old.items ++ frame_address offset) }
+fn put_frame_address(out: &mut Expression, offset: i64) -> Result<(), AllocError>
+    ensures { OnOk result (out.new ≡ out.old ++ frame_address offset) }
 {
     out.push(DW_OP_fbreg)?;
-    put_sleb(out, offset)
+    out.put_sleb(offset)
 }
 
 // The value that lies at a place.
-fn put_value(out: &mut Vec<u8>, place: LabelValueLoc, isa: &dyn TargetIsa) -> Result<(), AllocError>
-    ensures { OnOk result (out.new.items ≡ out.old.items ++ value_bytes (with_registers (dwarf_registers isa.now)) (Some (place_view place))) }
+fn put_value(
+    out: &mut Expression,
+    place: LabelValueLoc,
+    isa: &dyn TargetIsa,
+) -> Result<(), AllocError>
+    ensures { OnOk result (out.new ≡ out.old ++ value_bytes (with_registers (dwarf_registers isa.now)) (Some (place_view place))) }
 {
     match place {
         LabelValueLoc::Reg(register) => {
@@ -81,8 +85,8 @@ fn put_value(out: &mut Vec<u8>, place: LabelValueLoc, isa: &dyn TargetIsa) -> Re
 }
 
 // The value at an offset from the canonical frame address.
-fn put_frame_value(out: &mut Vec<u8>, offset: i64) -> Result<(), AllocError>
-    ensures { OnOk result (out.new.items ≡ out.old.items ++ (frame_address offset ++ DW_OP_deref ∷ [])) }
+fn put_frame_value(out: &mut Expression, offset: i64) -> Result<(), AllocError>
+    ensures { OnOk result (out.new ≡ out.old ++ (frame_address offset ++ DW_OP_deref ∷ [])) }
 {
     put_frame_address(out, offset)?;
     out.push(DW_OP_deref)?;
@@ -91,11 +95,11 @@ fn put_frame_value(out: &mut Vec<u8>, offset: i64) -> Result<(), AllocError>
 
 // The place itself.
 fn put_location(
-    out: &mut Vec<u8>,
+    out: &mut Expression,
     place: LabelValueLoc,
     isa: &dyn TargetIsa,
 ) -> Result<(), AllocError>
-    ensures { OnOk result (out.new.items ≡ out.old.items ++ location_bytes (with_registers (dwarf_registers isa.now)) (Some (place_view place))) }
+    ensures { OnOk result (out.new ≡ out.old ++ location_bytes (with_registers (dwarf_registers isa.now)) (Some (place_view place))) }
 {
     match place {
         LabelValueLoc::Reg(register) => put_register(out, register_number(register, isa)),
@@ -104,18 +108,18 @@ fn put_location(
 }
 
 // An offset added.
-fn put_plus(out: &mut Vec<u8>, offset: u32) -> Result<(), AllocError>
-    ensures { OnOk result (out.new.items ≡ out.old.items ++ plus_offset offset) }
+fn put_plus(out: &mut Expression, offset: u32) -> Result<(), AllocError>
+    ensures { OnOk result (out.new ≡ out.old ++ plus_offset offset) }
 {
     out.push(DW_OP_consts)?;
-    put_sleb(out, i64::from(offset))?;
+    out.put_sleb(i64::from(offset))?;
     out.push(DW_OP_plus)?;
     Ok(())
 }
 
 // The same where it is not 0.
-fn put_plus_some(out: &mut Vec<u8>, offset: u32) -> Result<(), AllocError>
-    ensures { OnOk result (out.new.items ≡ out.old.items ++ plus_some offset) }
+fn put_plus_some(out: &mut Expression, offset: u32) -> Result<(), AllocError>
+    ensures { OnOk result (out.new ≡ out.old ++ plus_some offset) }
 {
     if offset == 0 {
         return Ok(());
@@ -125,12 +129,12 @@ fn put_plus_some(out: &mut Vec<u8>, offset: u32) -> Result<(), AllocError>
 
 // Where the address of the linear memory's base lies, by the register in which the context lies.
 fn put_base_by_register(
-    out: &mut Vec<u8>,
+    out: &mut Expression,
     memory: ModuleMemoryOffset,
     register: Reg,
     isa: &dyn TargetIsa,
 ) -> Result<(), AllocError>
-    ensures { OnOk result (out.new.items ≡ out.old.items ++ base_place_bytes (with_registers (dwarf_registers isa.now)) (memory_view memory) (Some (in_register register.0))) }
+    ensures { OnOk result (out.new ≡ out.old ++ base_place_bytes (with_registers (dwarf_registers isa.now)) (memory_view memory) (Some (in_register register.0))) }
 {
     let number = register_number(register, isa);
     match memory {
@@ -149,11 +153,11 @@ fn put_base_by_register(
 
 // The same by the offset from the canonical frame address at which the context lies.
 fn put_base_by_frame(
-    out: &mut Vec<u8>,
+    out: &mut Expression,
     memory: ModuleMemoryOffset,
     offset: i64,
 ) -> Result<(), AllocError>
-    ensures { OnOk result (out.new.items ≡ out.old.items ++ base_place_bytes no_registers (memory_view memory) (Some (at_frame_offset offset))) }
+    ensures { OnOk result (out.new ≡ out.old ++ base_place_bytes no_registers (memory_view memory) (Some (at_frame_offset offset))) }
 {
     match memory {
         ModuleMemoryOffset::None => Ok(()),
@@ -175,12 +179,12 @@ fn put_base_by_frame(
 
 // The same by the place of the context.
 fn put_base_place(
-    out: &mut Vec<u8>,
+    out: &mut Expression,
     memory: ModuleMemoryOffset,
     place: LabelValueLoc,
     isa: &dyn TargetIsa,
 ) -> Result<(), AllocError>
-    ensures { OnOk result (out.new.items ≡ out.old.items ++ base_place_bytes (with_registers (dwarf_registers isa.now)) (memory_view memory) (Some (place_view place))) }
+    ensures { OnOk result (out.new ≡ out.old ++ base_place_bytes (with_registers (dwarf_registers isa.now)) (memory_view memory) (Some (place_view place))) }
 {
     match place {
         LabelValueLoc::Reg(register) => put_base_by_register(out, memory, register, isa),
@@ -189,8 +193,8 @@ fn put_base_place(
 }
 
 // The base that lies there added to the low 32 bits of the address under it.
-fn put_base_added(out: &mut Vec<u8>) -> Result<(), AllocError>
-    ensures { OnOk result (out.new.items ≡ out.old.items ++ base_added) }
+fn put_base_added(out: &mut Expression) -> Result<(), AllocError>
+    ensures { OnOk result (out.new ≡ out.old ++ base_added) }
 {
     out.extend_from_slice(&[DW_OP_deref, DW_OP_swap, DW_OP_const4u])?;
     out.extend_from_slice(&LOW_BITS)?;
@@ -199,12 +203,12 @@ fn put_base_added(out: &mut Vec<u8>) -> Result<(), AllocError>
 
 // An address in linear memory made one of the native code.
 fn put_dereference(
-    out: &mut Vec<u8>,
+    out: &mut Expression,
     setting: &RangeSetting<'_>,
     isa: &dyn TargetIsa,
 ) -> Result<(), AllocError>
     requires { IsPlacedOn setting.now.range.now dereference }
-    ensures { OnOk result (out.new.items ≡ out.old.items ++ part_bytes (setting_on setting.now (dwarf_registers isa.now)) (pos 0) dereference) }
+    ensures { OnOk result (out.new ≡ out.old ++ part_bytes (setting_on setting.now (dwarf_registers isa.now)) (pos 0) dereference) }
 {
     let context = place_on(setting.range, get_vmctx_value_label());
     put_base_place(out, setting.memory, context, isa)?;
@@ -214,12 +218,12 @@ fn put_dereference(
 // The same, if it is wanted.
 pub(crate) fn put_dereference_if(
     wanted: bool,
-    out: &mut Vec<u8>,
+    out: &mut Expression,
     setting: &RangeSetting<'_>,
     isa: &dyn TargetIsa,
 ) -> Result<(), AllocError>
     requires { wanted ≡ true → IsPlacedOn setting.now.range.now dereference }
-    ensures { OnOk result (out.new.items ≡ out.old.items ++ (if wanted then part_bytes (setting_on setting.now (dwarf_registers isa.now)) (pos 0) dereference else [])) }
+    ensures { OnOk result (out.new ≡ out.old ++ (if wanted then part_bytes (setting_on setting.now (dwarf_registers isa.now)) (pos 0) dereference else [])) }
 {
     if !wanted {
         return Ok(());
@@ -229,12 +233,12 @@ pub(crate) fn put_dereference_if(
 
 // The value of a label by its place, or, trailing, the place.
 pub(crate) fn put_local(
-    out: &mut Vec<u8>,
+    out: &mut Expression,
     place: LabelValueLoc,
     trailing: bool,
     isa: &dyn TargetIsa,
 ) -> Result<(), AllocError>
-    ensures { OnOk result (out.new.items ≡ out.old.items ++ (if trailing then location_bytes (with_registers (dwarf_registers isa.now)) (Some (place_view place)) else value_bytes (with_registers (dwarf_registers isa.now)) (Some (place_view place)))) }
+    ensures { OnOk result (out.new ≡ out.old ++ (if trailing then location_bytes (with_registers (dwarf_registers isa.now)) (Some (place_view place)) else value_bytes (with_registers (dwarf_registers isa.now)) (Some (place_view place)))) }
 {
     if trailing {
         put_location(out, place, isa)
@@ -251,8 +255,8 @@ fn jump_opcode(conditionally: bool) -> u8
 }
 
 // A jump over a distance from behind it.
-fn put_jump(out: &mut Vec<u8>, conditionally: bool, distance: i16) -> Result<(), AllocError>
-    ensures { OnOk result (out.new.items ≡ out.old.items ++ jump_bytes conditionally distance) }
+fn put_jump(out: &mut Expression, conditionally: bool, distance: i16) -> Result<(), AllocError>
+    ensures { OnOk result (out.new ≡ out.old ++ jump_bytes conditionally distance) }
 {
     out.push(jump_opcode(conditionally))?;
     out.extend_from_slice(&distance.to_le_bytes())
@@ -260,14 +264,14 @@ fn put_jump(out: &mut Vec<u8>, conditionally: bool, distance: i16) -> Result<(),
 
 // A part; a jump goes over a distance from behind it.
 pub(crate) fn put_part(
-    out: &mut Vec<u8>,
+    out: &mut Expression,
     part: &CompiledExpressionPart,
     distance: i16,
     setting: &RangeSetting<'_>,
     isa: &dyn TargetIsa,
 ) -> Result<(), AllocError>
     requires { IsPlacedOn setting.now.range.now (part_view part.now) }
-    ensures { OnOk result (out.new.items ≡ out.old.items ++ part_bytes (setting_on setting.now (dwarf_registers isa.now)) distance (part_view part.now)) }
+    ensures { OnOk result (out.new ≡ out.old ++ part_bytes (setting_on setting.now (dwarf_registers isa.now)) distance (part_view part.now)) }
 {
     match part {
         CompiledExpressionPart::Code(code) => out.extend_from_slice(code),

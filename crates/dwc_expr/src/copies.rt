@@ -44,8 +44,8 @@ pub(crate) fn push_copies(
     ensures { OnOk result (map location_view expressions.new.items ≡ map location_view expressions.old.items ++ map (copy_at code.now) (with_lengths (native_in_function addr_tr.now start end))) }
 {
     for (begin, length) in addr_tr.translate_ranges(start, end) {
-        let copy = Vec::from_slice(alloc, code)?;
-        expressions.push((begin, length, Expression::new(copy)))?;
+        let copy = Expression::from_slice(alloc, code)?;
+        expressions.push((begin, length, copy))?;
     }
     Ok(())
 }

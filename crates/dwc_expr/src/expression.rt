@@ -1,5 +1,5 @@
 //! Compiled expressions.
-ghost use Rattle.std.specs.Prelude.{◌≡◌, IfOk, IfErr, map, option_map};
+ghost use Rattle.std.specs.Prelude.{◌≡◌, IfOk, IfErr, map};
 ghost use Rattle.std.specs.List.{list_any};
 ghost use Rattle.dwc_base.specs.Parts.{context_label, is_jump, is_simple as is_simple_by, label_alone, single_code};
 ghost use Rattle.dwc_expr.specs.PartViews.{part_view};
@@ -91,14 +91,12 @@ impl CompiledExpression {
     /// # Errors
     /// `OutOfMemory` for want of memory.
     pub fn build(&self, alloc: Global) -> Result<Option<Expression>, ExprError>
-        ensures code { IfOk result (λ built. option_map (λ x. x.bytes.items) built ≡ single_code self.now.parts) }
+        ensures code { IfOk result (λ built. built ≡ single_code self.now.parts) }
         ensures memory { IfErr result (λ e. e ≡ OutOfMemory) }
     {
         match self.parts.as_slice() {
             [CompiledExpressionPart::Code(code)] => {
-                let mut bytes = Vec::with_capacity(alloc, code.len())?;
-                bytes.extend_from_slice(code)?;
-                Ok(Some(Expression::new(bytes)))
+                Ok(Some(Expression::from_slice(alloc, code)?))
             }
             _ => Ok(None),
         }

@@ -69,15 +69,15 @@ fn expression_on(
     ensures { BuildsOne (setting_on setting.now (dwarf_registers isa.now)) (all_parts parts.now) result }
 {
     let pads = pads_of(alloc, parts, setting, isa)?;
-    let mut bytes = Vec::new(alloc);
-    put_parts(&mut bytes, parts, setting, isa, &pads)?;
-    put_dereference_if(parts.then_dereference, &mut bytes, setting, isa)?;
-    Ok(Expression::new(bytes))
+    let mut expression = Expression::new(alloc);
+    put_parts(&mut expression, parts, setting, isa, &pads)?;
+    put_dereference_if(parts.then_dereference, &mut expression, setting, isa)?;
+    Ok(expression)
 }
 
 // The parts one behind another. Each jump goes to where its landing pad lies.
 fn put_parts(
-    out: &mut Vec<u8>,
+    out: &mut Expression,
     parts: &PartsToBuild<'_>,
     setting: &RangeSetting<'_>,
     isa: &dyn TargetIsa,
@@ -85,7 +85,7 @@ fn put_parts(
 ) -> Result<(), ExprError>
     requires places { HasPlaces (labels_needed parts.now) setting.now.range.now }
     requires pads { KnowsPads (setting_on setting.now (dwarf_registers isa.now)) (all_parts parts.now) (map part_view parts.now.parts.now) pads.now }
-    ensures { PutsParts (setting_on setting.now (dwarf_registers isa.now)) (all_parts parts.now) (map part_view parts.now.parts.now) out.old.items out.new.items result }
+    ensures { PutsParts (setting_on setting.now (dwarf_registers isa.now)) (all_parts parts.now) (map part_view parts.now.parts.now) out.old out.new result }
 {
     for part in parts.parts {
         let distance = jump_distance(part, out.len(), pads)?;

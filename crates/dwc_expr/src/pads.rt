@@ -15,6 +15,7 @@ use crate::bytes::put_part;
 use crate::parts_to_build::{PartsToBuild, has_jump};
 use crate::setting::RangeSetting;
 use dwc_clif::TargetIsa;
+use dwc_write::Expression;
 use std::alloc::{AllocError, Global};
 use std::collections::BTreeMap;
 
@@ -53,7 +54,7 @@ fn find_pads(
     requires { HasPlaces (labels_needed parts.now) setting.now.range.now }
     ensures { IfOk result (FindsPads (setting_on setting.now (dwarf_registers isa.now)) (all_parts parts.now) (map part_view parts.now.parts.now)) }
 {
-    let mut bytes = Vec::new(alloc);
+    let mut bytes = Expression::new(alloc);
     let mut offsets = BTreeMap::new(alloc);
     for part in parts.parts {
         note_pad(&mut offsets, part, bytes.len())?;

@@ -17,12 +17,12 @@ returns-in_err-put_parts g c =
     let s : Setting = setting_on c.args.setting.now ((goal.TargetIsa-dyn g c.args.isa.now).dwarf_registers c.args.isa.now.1) in
     let parts = c.args.parts.now in
     let p = err_from_is_err_and c.from_residual-in_err-put_parts.result c.from_residual-in_err-put_parts.ensures.1 in
-    rw (p.1, p.2) (subst (λ b. TellsFirst (unless_fit b) c.in_err-put_parts.field-0.0) (fits-whole s (map part_view parts.parts.now) parts.then_dereference c.new-bytes.result.items c.new-bytes.ensures.items) c.in_err-put_parts.ensures)
+    rw (p.1, p.2) (subst (λ b. TellsFirst (unless_fit b) c.in_err-put_parts.field-0.0) (fits-whole s (map part_view parts.parts.now) parts.then_dereference c.new-expression.result c.new-expression.ensures) c.in_err-put_parts.ensures)
 
 pub returns : goal.returns
 returns g c =
     let s : Setting = setting_on c.args.setting.now ((goal.TargetIsa-dyn g c.args.isa.now).dwarf_registers c.args.isa.now.1) in
     let parts = c.args.parts.now in (
-      sym (fits-whole s (map part_view parts.parts.now) parts.then_dereference c.new-bytes.result.items c.new-bytes.ensures.items) ∙ c.in_ok-put_parts.ensures.0,
-      rw c.new.ensures (bytes-whole s (map part_view parts.parts.now) parts.then_dereference c.new-bytes.result.items c.new-bytes.ensures.items _ _ c.in_ok-put_parts.ensures.1 c.in_ok-put_dereference_if.ensures),
+      sym (fits-whole s (map part_view parts.parts.now) parts.then_dereference c.new-expression.result c.new-expression.ensures) ∙ c.in_ok-put_parts.ensures.0,
+      bytes-whole s (map part_view parts.parts.now) parts.then_dereference c.new-expression.result c.new-expression.ensures _ _ c.in_ok-put_parts.ensures.1 c.in_ok-put_dereference_if.ensures,
     )

@@ -1,4 +1,4 @@
-use Rattle.std.proofs.Common.{rules, ◌∙◌, subst, sym}
+use Rattle.std.proofs.Common.{rules, subst, sym}
 use Rattle.std.proofs.lemmas.Result.{err_from_is_err_and}
 use Rattle.dwc_base.specs.Built.{Setting}
 use Rattle.dwc_expr.specs.declared.part.CompiledExpressionPart.{CompiledExpressionPart}
@@ -22,7 +22,7 @@ returns-in_err-distance g c =
     let parts = c.args.parts.now in
     let p = err_from_is_err_and c.from_residual.result c.from_residual.ensures.1 in
     rw (p.1, p.2)
-    (too-far s (all_parts parts) c.args.pads.now parts.parts.now c.requires.pads c.loop-part.part-index c.part-item.result c.loop-part-test.true c.part-item.is c.loop-part.out.items c.len.result (c.len.ensures ∙ c.loop-part.out.ok.0)
+    (too-far s (all_parts parts) c.args.pads.now parts.parts.now c.requires.pads c.loop-part.part-index c.part-item.result c.loop-part-test.true c.part-item.is c.loop-part.out c.len.result c.len.ensures.count
     c.in_err-distance.field-0.0 _ c.in_err-distance.ensures c.loop-part.invariant.fit)
 
 pub put_part-requires : goal.put_part-requires
@@ -36,6 +36,6 @@ loop-part-preserved g c =
     let parts = c.args.parts.now in
     let l = c.loop-part in
     let more =
-    walk-more s (all_parts parts) c.args.pads.now parts.parts.now c.requires.pads l.part-index c.part-item.result c.loop-part-test.true c.part-item.is l.out.items c.len.result (c.len.ensures ∙ l.out.ok.0)
-    c.put_part.new.out.items c.in_ok-distance.distance _ c.in_ok-distance.ensures (search rules) c.in_ok-put_part.ensures c.args.out.now.items l.invariant.bytes l.invariant.fit in
+    walk-more s (all_parts parts) c.args.pads.now parts.parts.now c.requires.pads l.part-index c.part-item.result c.loop-part-test.true c.part-item.is l.out c.len.result c.len.ensures.count
+    c.put_part.new.out c.in_ok-distance.distance _ c.in_ok-distance.ensures (search rules) c.in_ok-put_part.ensures c.args.out.now l.invariant.bytes l.invariant.fit in
     record { bytes = more.0; fit = more.1 }

@@ -12,6 +12,6 @@ invariant-loop-part g l =
     let s : Setting = setting_on l.setting ((goal.TargetIsa-dyn g l.isa.now).dwarf_registers l.isa.now.1) in
     let left : List Part = map part_view (drop l.part-index l.parts.parts.now) in
     record {
-      bytes : l.out.items ++ bytes_from s (all_parts l.parts) (length l.out.items) left ≡ l.fn.out.items ++ bytes_from s (all_parts l.parts) (length l.fn.out.items) (map part_view l.parts.parts.now);
-      fit : jumps_fit_from s (all_parts l.parts) (length l.out.items) left ≡ jumps_fit_from s (all_parts l.parts) (length l.fn.out.items) (map part_view l.parts.parts.now);
+      bytes : l.out ++ bytes_from s (all_parts l.parts) (length l.out) left ≡ l.fn.out ++ bytes_from s (all_parts l.parts) (length l.fn.out) (map part_view l.parts.parts.now);
+      fit : jumps_fit_from s (all_parts l.parts) (length l.out) left ≡ jumps_fit_from s (all_parts l.parts) (length l.fn.out) (map part_view l.parts.parts.now);
     }

@@ -15,6 +15,6 @@ invariant-loop-part g l =
     let s : Setting = setting_on l.setting ((goal.TargetIsa-dyn g l.isa.now).dwarf_registers l.isa.now.1) in
     let left : List Part = map part_view (drop l.part-index l.parts.parts.now) in
     record {
-      offsets : (place : ℕ) → unwrap_or (get nat_cmp l.offsets place) (length l.bytes.items + pad_offset s place (left ++ (if l.parts.then_dereference then dereference ∷ [] else []))) ≡ pad_offset s place (all_parts l.parts);
+      offsets : (place : ℕ) → unwrap_or (get nat_cmp l.offsets place) (length l.bytes + pad_offset s place (left ++ (if l.parts.then_dereference then dereference ∷ [] else []))) ≡ pad_offset s place (all_parts l.parts);
       pads : (place : ℕ) → (is_some (get nat_cmp l.offsets place) || has_pad left place) ≡ has_pad (map part_view l.parts.parts.now) place;
     }
