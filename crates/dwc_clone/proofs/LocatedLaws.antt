@@ -9,7 +9,7 @@ use Rattle.dwc_base.specs.Trees.{TreeValue, expression}
 use Rattle.dwc_base.specs.Parts.{CompiledParts, compiled}
 use Rattle.dwc_base.specs.BuiltExpressions.{Surroundings, built_over}
 use Rattle.dwc_base.specs.LocationAttributes.{GivenExpression, InForce, LocationRefusal, base_for, built_at, compiled_at, output_frame_base, read_expression, value_of_attribute, value_of_built, value_of_expression, value_of_parts}
-use Rattle.dwc_write.specs.declared.attributes.Expression.{Expression}
+use Rattle.dwc_write.specs.declared.expressions.Expression.{Expression}
 use Rattle.dwc_expr.specs.declared.built.BuiltCompiledExpression.{BuiltCompiledExpression}
 use Rattle.dwc_expr.specs.declared.error.ExprError.{ExprError}
 use Rattle.dwc_expr.specs.declared.error.ExprError.TheVariants.{Read, TooLarge, BadLabelRange, InvalidAttributeValue, UnmappedRegister, OutOfMemory}
@@ -78,6 +78,6 @@ built-told s scope x (Err OutOfMemory) is = tt
 
 -- The one expression where it holds for each byte of a scope.
 pub one-built : (name : ℕ) (es : List (Address × ℕ × Expression)) (covers : Bool) (first : Expression) → (length es == 0) ≡ false → ((d : Address × ℕ × Expression) → first ≡ (get_or es 0 d).2) → (covers && are_alike (map location_view es)) ≡ true
-    → Some (expression first.bytes.items) ≡ value_of_built name (record { expressions = map location_view es; covers_entire_scope = covers })
+    → Some (expression first) ≡ value_of_built name (record { expressions = map location_view es; covers_entire_scope = covers })
 one-built name [] covers first some is same = absurd (cc)
-one-built name (e ∷ es) covers first some is same = rw same (ap {B = Option TreeValue} (λ (x : Expression). Some (expression x.bytes.items)) (is e))
+one-built name (e ∷ es) covers first some is same = rw same (ap {B = Option TreeValue} (λ (x : Expression). Some (expression x)) (is e))

@@ -26,7 +26,7 @@ use Rattle.dwc_base.specs.LocationAttributes.{InForce, ListedExpression, Locatio
 use Rattle.dwc_read.specs.Faults.{fault_at}
 use Rattle.dwc_tabs.specs.LocationLists.{location_list_named}
 use Rattle.dwc_tabs.specs.RangeLists.{Tells}
-use Rattle.dwc_write.specs.declared.attributes.Expression.{Expression}
+use Rattle.dwc_write.specs.declared.expressions.Expression.{Expression}
 use Rattle.dwc_expr.specs.declared.error.ExprError.{ExprError}
 use Rattle.dwc_expr.specs.declared.error.ExprError.TheVariants.{Read, TooLarge, BadLabelRange, InvalidAttributeValue, UnmappedRegister, OutOfMemory}
 use Rattle.dwc_expr.specs.Builds.{IsTold, location_view}

@@ -14,7 +14,7 @@ use Rattle.dwc_base.specs.LocationAttributes.{LocationRefusal, InForce, compiled
 use Rattle.dwc_base.specs.LocationRules.{listed}
 use Rattle.dwc_base.specs.Parts.{CompiledParts}
 use Rattle.dwc_tabs.specs.RangeEnds.{refusal_view}
-use Rattle.dwc_write.specs.declared.attributes.Expression.{Expression}
+use Rattle.dwc_write.specs.declared.expressions.Expression.{Expression}
 use Rattle.dwc_expr.specs.declared.error.ExprError.{ExprError}
 use Rattle.dwc_expr.specs.Builds.{location_view}
 use Rattle.dwc_clone.specs.declared.listed.ListedExpression.{ListedExpression}

@@ -7,7 +7,7 @@ use Rattle.dwc_base.specs.declared.faults.What.TheVariants.{Expression as Expres
 use Rattle.dwc_base.specs.Sections.{unreadable}
 use Rattle.dwc_base.specs.Trees.{Location, TreeValue, expression, locations}
 use Rattle.dwc_base.specs.LocationAttributes.{LocationRefusal, of_place, of_build, GivenExpression, are_equal_to}
-use Rattle.dwc_write.specs.declared.attributes.Expression.{Expression}
+use Rattle.dwc_write.specs.declared.expressions.Expression.{Expression}
 use Rattle.dwc_expr.specs.declared.error.ExprError.{ExprError}
 use Rattle.dwc_expr.specs.declared.error.ExprError.TheVariants.{Read}
 use Rattle.dwc_expr.specs.Builds.{location_view}
@@ -54,7 +54,7 @@ are_alike (l ∷ ls) = are_equal_to l.bytes ls
 
 -- what an attribute becomes
 abbrev pub located_view : Located → TreeValue
-located_view (located.Expression e) = expression e.bytes.items
+located_view (located.Expression e) = expression e
 located_view (located.List es) = locations (locations_view es)
 
 -- A call answers what an attribute becomes, if it becomes something, or tells why it is refused.

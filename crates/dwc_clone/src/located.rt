@@ -141,9 +141,9 @@ fn located_parts(
 
 // The frame base of the output: the canonical frame address.
 fn output_frame_base(alloc: Global) -> Result<Expression, AllocError>
-    ensures { IfOk result (λ e. e.bytes.items ≡ frame_base_bytes) }
+    ensures { IfOk result (λ e. e ≡ frame_base_bytes) }
 {
-    Ok(Expression::new(Vec::from_slice(alloc, &[DW_OP_call_frame_cfa])?))
+    Expression::from_slice(alloc, &[DW_OP_call_frame_cfa])
 }
 
 /// What an attribute of a name becomes whose value is an expression that stands at a place; None where it becomes nothing. A frame base
