@@ -57,11 +57,9 @@ pub fn put_uleb(out: &mut Vec<u8>, value: u64) -> Result<(), AllocError>
     Ok(())
 }
 
-/// Puts a signed LEB128 number behind what a buffer holds, as short as it can be. (DWARF 4, section 7.6.)
-///
-/// # Errors
-/// `AllocError` for want of memory; some of the number's bytes may have been put then.
-pub fn put_sleb(out: &mut Vec<u8>, value: i64) -> Result<(), AllocError>
+// Puts a signed LEB128 number behind what a buffer holds, as short as it can be. Some of its bytes may have been put where memory is
+// wanting. (DWARF 4, section 7.6.)
+pub(crate) fn put_sleb(out: &mut Vec<u8>, value: i64) -> Result<(), AllocError>
     ensures { OnOk result (out.new.items ≡ out.old.items ++ sleb_bytes value) }
 {
     if value < 0 {

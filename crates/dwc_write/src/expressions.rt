@@ -1,5 +1,5 @@
 //! Expressions of entries and of location lists. (DWARF 4, sections 2.5 and 7.7.)
-ghost use Rattle.std.specs.Prelude.{◌≡◌, ◌++◌, ◌∷◌, [], ◌<◌, ◌^◌, IfOk, OnOk, length, pos, negsuc};
+ghost use Rattle.std.specs.Prelude.{◌≡◌, ◌++◌, ◌∷◌, [], ◌<◌, ◌^◌, IfOk, OnErr, OnOk, length, pos, negsuc};
 ghost use Rattle.dwc_base.specs.NumberBytes.{uleb_bytes, sleb_bytes};
 ghost use Rattle.dwc_write.specs.ExpressionBytes.{held_bytes};
 
@@ -86,10 +86,11 @@ impl Expression {
     /// Puts a byte behind its bytes.
     ///
     /// # Errors
-    /// `AllocError` for want of memory.
+    /// `AllocError` for want of memory; its bytes are as before then.
     #[inline(always)]
     pub fn push(&mut self, byte: u8) -> Result<(), AllocError>
-        ensures { OnOk result (self.new ≡ self.old ++ byte ∷ []) }
+        ensures bytes { OnOk result (self.new ≡ self.old ++ byte ∷ []) }
+        ensures kept { OnErr result (self.new ≡ self.old) }
     {
         self.extend_from_slice(&[byte])
     }
@@ -97,10 +98,11 @@ impl Expression {
     /// Puts bytes behind its bytes.
     ///
     /// # Errors
-    /// `AllocError` for want of memory.
+    /// `AllocError` for want of memory; its bytes are as before then.
     #[inline(always)]
     pub fn extend_from_slice(&mut self, more: &[u8]) -> Result<(), AllocError>
-        ensures { OnOk result (self.new ≡ self.old ++ more.now) }
+        ensures bytes { OnOk result (self.new ≡ self.old ++ more.now) }
+        ensures kept { OnErr result (self.new ≡ self.old) }
     {
         extend(self.alloc, &mut self.bytes, more)
     }
@@ -185,7 +187,8 @@ fn length_of(held: &Bytes) -> usize
 // Puts bytes behind those that are held.
 #[inline(always)]
 fn extend(alloc: Global, held: &mut Bytes, more: &[u8]) -> Result<(), AllocError>
-    ensures { OnOk result (held_bytes held.new ≡ held_bytes held.old ++ more.now) }
+    ensures bytes { OnOk result (held_bytes held.new ≡ held_bytes held.old ++ more.now) }
+    ensures kept { OnErr result (held_bytes held.new ≡ held_bytes held.old) }
 {
     match held {
         Bytes::Few(few) => {

@@ -35,7 +35,7 @@ mod text_layout;
 mod units;
 mod writer;
 
-pub use append::{put_sleb, put_uleb};
+pub use append::put_uleb;
 pub use attributes::{AttributeValue, DebugInfoRef};
 pub use error::WriteError;
 pub use expressions::Expression;
