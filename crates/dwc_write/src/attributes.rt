@@ -74,8 +74,8 @@ pub(crate) struct Attribute {
     pub(crate) value: AttributeValue,
 }
 
-// An attribute as it is kept, in 16 bytes: what is longer stands in a box. Its name stands beside the tag in each.
-#[derive(Drop)]
+// An attribute as it is kept, in 16 bytes: what is longer stands in a box. Its name stands beside the tag in each. Those with a box
+// come last, so that one comparison tells whether there is memory to free.
 pub(crate) enum Kept {
     Constant {
         name: u16,
@@ -135,6 +135,47 @@ pub(crate) enum Kept {
         name: u16,
         reference: Box<DebugInfoRef>,
     },
+}
+
+impl Drop for Kept {
+    // Most attributes have no box.
+    #[inline(always)]
+    fn drop(self) {
+        match self {
+            Kept::Expression { name: _, bytes } => free(bytes),
+            Kept::Ranges { name: _, list } => free(list),
+            Kept::Locations { name: _, list } => free(list),
+            Kept::Block { name: _, bytes } => free(bytes),
+            Kept::Address { name: _, address } => free(address),
+            Kept::Reference { name: _, reference } => free(reference),
+            Kept::Constant {
+                name: _,
+                form: _,
+                bits: _,
+            }
+            | Kept::Flag { name: _, flag: _ }
+            | Kept::Text { name: _, id: _ }
+            | Kept::Lines { name: _ }
+            | Kept::Entry { name: _, id: _ }
+            | Kept::Symbol {
+                name: _,
+                symbol: _,
+                addend: _,
+            }
+            | Kept::UnitEntry {
+                name: _,
+                unit: _,
+                id: _,
+            }
+            | Kept::Short { name: _, bytes: _ } => {}
+        }
+    }
+}
+
+// Drops a box with what it holds.
+#[inline(never)]
+fn free<T: Drop>(held: Box<T>) {
+    drop(held);
 }
 
 // A kept attribute.
