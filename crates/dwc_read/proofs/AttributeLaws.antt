@@ -7,8 +7,8 @@ use Rattle.dwc_base.specs.Sections.{Sections}
 use Rattle.dwc_base.specs.Units.{UnitHeader}
 use Rattle.dwc_base.specs.Values.{Value, value_at}
 use Rattle.dwc_base.specs.Entries.{attributes_at}
-use Rattle.dwc_read.specs.declared.abbreviation.AttributeSpec.{AttributeSpec}
-use Rattle.dwc_read.specs.Tables.{spec_view}
+use Rattle.dwc_read.specs.declared.attribute_spec.AttributeSpec.{AttributeSpec}
+use Rattle.dwc_read.specs.AttributeSpecs.{spec_view}
 
 as_seen : {A : Type 0} (x : A) (r : Read (List A)) → (r >>= λ others. Ok (x ∷ others.0, others.1)) ≡ seen_as (λ ys. x ∷ ys) r
 as_seen x (Ok others) = refl

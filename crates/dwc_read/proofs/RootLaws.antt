@@ -12,8 +12,8 @@ use Rattle.dwc_base.specs.Units.{UnitHeader}
 use Rattle.dwc_base.specs.Values.{Value, value_at}
 use Rattle.dwc_base.specs.Entries.{attributes_at}
 use Rattle.dwc_base.specs.Indexed.{as_section_offset}
-use Rattle.dwc_read.specs.declared.abbreviation.AttributeSpec.{AttributeSpec}
-use Rattle.dwc_read.specs.Tables.{spec_view}
+use Rattle.dwc_read.specs.declared.attribute_spec.AttributeSpec.{AttributeSpec}
+use Rattle.dwc_read.specs.AttributeSpecs.{spec_view}
 use Rattle.dwc_read.specs.ValuesSeen.{first_value}
 use Rattle.dwc_read.specs.RootValues.{named_offsets, said, first_among, kept_first}
 use Rattle.dwc_read.specs.declared.root_values.Said.{Said}

@@ -14,9 +14,9 @@ use Rattle.dwc_base.specs.ExpressionPlaces.{unit_from, attribute_ends, entry_end
 use Rattle.dwc_base.proofs.LebLaws.{uleb_at-none}
 use Rattle.dwc_base.proofs.ReadValuesParts.{Holds}
 use Rattle.dwc_base.proofs.ExpressionPlaceLaws.{ExpressionsStand, FoundStands, entry_at-stands}
-use Rattle.dwc_read.specs.declared.abbreviation.AttributeSpec.{AttributeSpec}
+use Rattle.dwc_read.specs.declared.attribute_spec.AttributeSpec.{AttributeSpec}
 use Rattle.dwc_read.specs.Lone.{unread_from, entry_found, entry_with, lone_entry}
-use Rattle.dwc_read.specs.Tables.{spec_view}
+use Rattle.dwc_read.specs.AttributeSpecs.{spec_view}
 use Rattle.dwc_read.specs.Views.{UnitView}
 use Rattle.dwc_read.proofs.AttributeLaws.{specs_from, specs_from-next, drop-past}
 

@@ -2,6 +2,8 @@ pub mod Faults
 pub mod SectionsSeen
 pub mod Named
 pub mod Sizes
+pub mod AttributeSpecs
+pub mod Runs
 pub mod Tables
 pub mod Codes
 pub mod UnitTables

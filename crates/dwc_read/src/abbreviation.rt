@@ -1,30 +1,18 @@
 //! Abbreviation tables: which attributes the entries of a unit have. (DWARF 4 and 5, section 7.5.3.)
-ghost use Rattle.std.specs.Prelude.{◌≡◌, Some, map, option_map};
+ghost use Rattle.std.specs.Prelude.{◌≡◌, Some, map, option_map, IfOk};
 ghost use Rattle.dwc_base.specs.Cursors.{Gives, GivesOrMemory};
 ghost use Rattle.dwc_base.specs.Reading.{items_at};
 ghost use Rattle.dwc_base.specs.Abbreviations.{implicit_at, attribute_spec_at, declaration_behind as behind_code, declaration_at};
-ghost use Rattle.dwc_read.specs.Tables.{spec_view, declaration_view};
+ghost use Rattle.dwc_read.specs.AttributeSpecs.{spec_view};
+ghost use Rattle.dwc_read.specs.Runs.{AreRuns};
+ghost use Rattle.dwc_read.specs.Tables.{declaration_view};
 
+use crate::attribute_spec::AttributeSpec;
+use crate::declaration::Declaration;
+use crate::runs::note_runs;
 use dwc_base::constants::{DW_CHILDREN_yes, DW_FORM_implicit_const};
 use dwc_base::{Cursor, Flaw, NotRead};
 use std::alloc::Global;
-
-/// An attribute of a declaration: its name, its form, and the value of an implicit constant.
-#[derive(Clone, Copy)]
-pub struct AttributeSpec {
-    pub name: u16,
-    pub form: u64,
-    pub implicit: i64,
-}
-
-/// A declaration: its code, and the tag and the attributes of the entries that name it.
-#[derive(Drop)]
-pub struct Declaration {
-    pub code: u64,
-    pub tag: u16,
-    pub has_children: bool,
-    pub attributes: Vec<AttributeSpec>,
-}
 
 // The value of an implicit constant, which stands in the declaration.
 #[tactic(auto, unfolding(dwc_base::specs::Abbreviations::implicit_at))]
@@ -53,11 +41,7 @@ fn attribute_spec(cursor: &mut Cursor<'_>) -> Result<Option<AttributeSpec>, Flaw
         return Ok(None);
     }
     let name = name as u16;
-    Ok(Some(AttributeSpec {
-        name,
-        form,
-        implicit,
-    }))
+    Ok(Some(AttributeSpec::new(name, form, implicit)))
 }
 
 // The attributes of a declaration.
@@ -68,6 +52,16 @@ fn attribute_specs(alloc: Global, cursor: &mut Cursor<'_>) -> Result<Vec<Attribu
     while let Some(spec) = attribute_spec(cursor)? {
         specs.push(spec)?;
     }
+    Ok(specs)
+}
+
+// The same, with the runs among them.
+fn noted_specs(alloc: Global, cursor: &mut Cursor<'_>) -> Result<Vec<AttributeSpec>, NotRead>
+    ensures read { GivesOrMemory (λ v. map spec_view v.items) (items_at attribute_spec_at cursor.old) cursor.new result }
+    ensures runs { IfOk result (λ v. AreRuns v.items) }
+{
+    let mut specs = attribute_specs(alloc, cursor)?;
+    note_runs(specs.as_mut_slice());
     Ok(specs)
 }
 
@@ -88,7 +82,7 @@ fn declaration_behind(
     if children > DW_CHILDREN_yes {
         return Err(NotRead::Flawed(Flaw::Malformed));
     }
-    let attributes = attribute_specs(alloc, cursor)?;
+    let attributes = noted_specs(alloc, cursor)?;
     Ok(Declaration {
         code,
         tag: tag as u16,

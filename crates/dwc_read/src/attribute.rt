@@ -5,10 +5,10 @@ ghost use Rattle.dwc_base.specs.Cursors.{Gives, GivesOrMemory};
 ghost use Rattle.dwc_base.specs.Entries.{attributes_at};
 ghost use Rattle.dwc_base.specs.Values.{form_behind as code_behind, form_code_at, encoded_value_at, value_at};
 ghost use Rattle.dwc_base.specs.FieldSizes.{is_field_size};
-ghost use Rattle.dwc_read.specs.Tables.{spec_view};
+ghost use Rattle.dwc_read.specs.AttributeSpecs.{spec_view};
 ghost use Rattle.dwc_read.specs.ValuesSeen.{value_view, attribute_view, first_value};
 
-use crate::abbreviation::AttributeSpec;
+use crate::attribute_spec::AttributeSpec;
 use crate::common::common_value;
 use crate::form::form_named;
 use crate::formed::formed_value;

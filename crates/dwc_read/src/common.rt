@@ -1,10 +1,10 @@
 //! The values of the forms that compilers mostly use, read in place.
 ghost use Rattle.std.specs.Prelude.{◌≡◌};
 ghost use Rattle.dwc_base.specs.Values.{value_at};
-ghost use Rattle.dwc_read.specs.Tables.{spec_view};
+ghost use Rattle.dwc_read.specs.AttributeSpecs.{spec_view};
 ghost use Rattle.dwc_read.specs.ValuesSeen.{value_view, GivesOrStays};
 
-use crate::abbreviation::AttributeSpec;
+use crate::attribute_spec::AttributeSpec;
 use crate::name::{is_location_name, section_offset};
 use crate::{AttributeValue, Unit};
 use dwc_base::Cursor;

@@ -5,11 +5,11 @@ ghost use Rattle.dwc_base.specs.Values.{block_at, formed_value_at};
 ghost use Rattle.dwc_base.specs.FieldSizes.{is_field_size};
 ghost use Rattle.dwc_read.specs.Sizes.{size_view};
 ghost use Rattle.dwc_read.specs.Forms.{form_view};
-ghost use Rattle.dwc_read.specs.Tables.{spec_view};
+ghost use Rattle.dwc_read.specs.AttributeSpecs.{spec_view};
 ghost use Rattle.dwc_read.specs.ValuesSeen.{value_view};
 
 use crate::AttributeValue;
-use crate::abbreviation::AttributeSpec;
+use crate::attribute_spec::AttributeSpec;
 use crate::form::Form;
 use crate::name::{block_value, constant_value, is_location_name, is_range_name, section_offset};
 use crate::number::{Size, sized_number};

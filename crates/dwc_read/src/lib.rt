@@ -4,8 +4,10 @@
 
 mod abbreviation;
 mod attribute;
+mod attribute_spec;
 mod bases;
 mod common;
+mod declaration;
 mod entries;
 mod entry;
 mod entry_links;
@@ -22,6 +24,7 @@ mod name;
 mod number;
 mod place;
 mod root_values;
+mod runs;
 mod sections;
 mod steps;
 mod table;
@@ -32,8 +35,9 @@ mod units;
 mod value;
 mod value_end;
 
-pub use abbreviation::{AttributeSpec, Declaration};
 pub use attribute::encoded_value;
+pub use attribute_spec::AttributeSpec;
+pub use declaration::Declaration;
 pub use entries::Entries;
 pub use entry::Entry;
 pub use entry_links::EntryLinks;

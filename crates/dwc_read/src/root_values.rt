@@ -4,13 +4,13 @@ ghost use Rattle.dwc_base.specs.declared.section_name.SectionName.TheVariants.{I
 ghost use Rattle.dwc_base.specs.Indexed.{root_offsets, as_section_offset as read_as_offset};
 ghost use Rattle.dwc_base.specs.Values.{value_at};
 ghost use Rattle.dwc_read.specs.Headers.{header_view};
-ghost use Rattle.dwc_read.specs.Tables.{spec_view};
+ghost use Rattle.dwc_read.specs.AttributeSpecs.{spec_view};
 ghost use Rattle.dwc_read.specs.UnitTables.{IsTable};
 ghost use Rattle.dwc_read.specs.ValuesSeen.{value_view};
 ghost use Rattle.dwc_read.specs.RootValues.{HoldsForEach, kept_first, AreOfRoot, AreAmong, named_offsets, GivesSaid, said};
 
-use crate::abbreviation::AttributeSpec;
 use crate::attribute::encoded_value;
+use crate::attribute_spec::AttributeSpec;
 use crate::header::Header;
 use crate::table::Table;
 use crate::unit_table::UnitTable;
@@ -81,11 +81,7 @@ fn kept(seen: Option<Said>, wanted: u16, name: u16, more: Said) -> Option<Said>
 fn as_section_offset(spec: AttributeSpec) -> AttributeSpec
     ensures { spec_view result ≡ read_as_offset (spec_view spec) }
 {
-    AttributeSpec {
-        name: DW_AT_stmt_list,
-        form: spec.form,
-        implicit: spec.implicit,
-    }
+    AttributeSpec::new(DW_AT_stmt_list, spec.form, spec.implicit)
 }
 
 // What an attribute of a root says.

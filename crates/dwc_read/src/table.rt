@@ -6,7 +6,7 @@ ghost use Rattle.dwc_base.specs.Abbreviations.{declaration_of};
 ghost use Rattle.dwc_read.specs.Codes.{counts_from, place_from};
 ghost use Rattle.dwc_read.specs.Tables.{declaration_view};
 
-use crate::abbreviation::Declaration;
+use crate::declaration::Declaration;
 use std::alloc::{AllocError, Global};
 use std::collections::BTreeMap;
 use std::marker::Model;

@@ -4,7 +4,8 @@ ghost use Rattle.dwc_read.specs.declared.fault.ReadFault.TheVariants.{OutOfMemor
 ghost use Rattle.dwc_read.specs.Tables.{declaration_view};
 ghost use Rattle.dwc_read.specs.UnitTables.{IsTable, IsLast, IsSame};
 
-use crate::abbreviation::{Declaration, declarations};
+use crate::abbreviation::declarations;
+use crate::declaration::Declaration;
 use crate::table::Table;
 use crate::{ReadFault, Sections};
 use dwc_base::{Cursor, Flaw, NotRead, SectionName};

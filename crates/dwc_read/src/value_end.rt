@@ -1,11 +1,11 @@
 //! Where the values of an entry's attributes end. (DWARF 4 and 5, section 7.5.)
 ghost use Rattle.std.specs.Prelude.{◌≡◌, map, slice_get};
 ghost use Rattle.dwc_base.specs.ExpressionPlaces.{attribute_ends, entry_ends};
-ghost use Rattle.dwc_read.specs.Tables.{spec_view};
+ghost use Rattle.dwc_read.specs.AttributeSpecs.{spec_view};
 
 use crate::Unit;
-use crate::abbreviation::AttributeSpec;
 use crate::attribute::value;
+use crate::attribute_spec::AttributeSpec;
 use crate::table::Table;
 use dwc_base::Cursor;
 

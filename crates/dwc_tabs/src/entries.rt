@@ -158,11 +158,7 @@ fn entry_field<'d>(
         version: 5,
         address_size,
     };
-    let spec = AttributeSpec {
-        name: 0,
-        form: format.form,
-        implicit: 0,
-    };
+    let spec = AttributeSpec::new(0, format.form, 0);
     let value = encoded_value(&source.relocations, encoding, spec, cursor)?;
     Ok(with_field(source, looked_up, format.content, value, entry)?)
 }

@@ -6,7 +6,7 @@ use Rattle.dwc_base.specs.Abbreviations.{attribute_spec_at}
 use Rattle.dwc_base.proofs.Items.{items-more, items-end, items-flaw, seen-in_front}
 use Rattle.dwc_base.proofs.Takes.{Leaves-at}
 use Rattle.dwc_base.proofs.TakesMore.{attribute_spec_at-leaves}
-use Rattle.dwc_read.specs.Tables.{spec_view}
+use Rattle.dwc_read.specs.AttributeSpecs.{spec_view}
 use Rattle.dwc_read.proofs.abbreviation.attribute_specs.Goals as goal
 
 pub returns-in_err-spec : goal.returns-in_err-spec

@@ -1,7 +1,7 @@
 use Rattle.std.proofs.Common.{◌≡◌, ◌++◌, map, length}
 use Rattle.dwc_base.specs.Reading.{seen_as, items_at}
 use Rattle.dwc_base.specs.Abbreviations.{attribute_spec_at}
-use Rattle.dwc_read.specs.Tables.{spec_view}
+use Rattle.dwc_read.specs.AttributeSpecs.{spec_view}
 use Rattle.dwc_read.proofs.abbreviation.attribute_specs.Given as goal
 
 -- what was read so far, and what is still unread, is all

@@ -5,13 +5,13 @@ use Rattle.dwc_base.specs.Reading.{seen_as}
 use Rattle.dwc_base.specs.Values.{Value}
 use Rattle.dwc_base.specs.Entries.{attributes_at}
 use Rattle.dwc_base.proofs.Items.{seen-in_front}
-use Rattle.dwc_read.specs.declared.abbreviation.AttributeSpec.{AttributeSpec}
+use Rattle.dwc_read.specs.declared.attribute_spec.AttributeSpec.{AttributeSpec}
 use Rattle.dwc_read.specs.ValuesSeen.{value_view, attribute_view}
 use Rattle.dwc_read.proofs.AttributeLaws.{specs_from, attributes_at-more, attributes_at-flaw, attributes_at-end}
 use Rattle.dwc_read.proofs.attribute.attributes.Goals as goal
 
 abbrev none : AttributeSpec
-none = record { name = 0; form = 0; implicit = pos 0 }
+none = record { name = 0; run = 0; run_bytes = 0; form = 0; implicit = pos 0 }
 
 pub returns-in_err-value : goal.returns-in_err-value
 returns-in_err-value c =

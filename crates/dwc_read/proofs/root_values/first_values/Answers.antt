@@ -1,13 +1,13 @@
 use Rattle.std.proofs.Common.{ℕ, pos, sym, ◌∙◌, arith, Option}
 use Rattle.dwc_base.specs.declared.constants.TheConstants.{DW_AT_addr_base, DW_AT_loclists_base, DW_AT_low_pc, DW_AT_rnglists_base, DW_AT_str_offsets_base}
-use Rattle.dwc_read.specs.declared.abbreviation.AttributeSpec.{AttributeSpec}
+use Rattle.dwc_read.specs.declared.attribute_spec.AttributeSpec.{AttributeSpec}
 use Rattle.dwc_read.specs.declared.root_values.Said.{Said}
 use Rattle.dwc_read.specs.Headers.{header_view}
 use Rattle.dwc_read.proofs.RootLaws.{firsts-flaw, firsts-end, firsts-preserved}
 use Rattle.dwc_read.proofs.root_values.first_values.Goals as goal
 
 abbrev none : AttributeSpec
-none = record { name = 0; form = 0; implicit = pos 0 }
+none = record { name = 0; run = 0; run_bytes = 0; form = 0; implicit = pos 0 }
 
 pub loop-spec-preserved : goal.loop-spec-preserved
 loop-spec-preserved c =

@@ -1,6 +1,6 @@
 use Rattle.std.proofs.Common.{◌≡◌, drop, map, None}
 use Rattle.dwc_read.specs.Headers.{header_view}
-use Rattle.dwc_read.specs.Tables.{spec_view}
+use Rattle.dwc_read.specs.AttributeSpecs.{spec_view}
 use Rattle.dwc_read.specs.RootValues.{HoldsForEach, first_among, named_offsets}
 use Rattle.dwc_read.proofs.root_values.first_values.Given as goal
 

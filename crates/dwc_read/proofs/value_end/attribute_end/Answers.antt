@@ -1,14 +1,14 @@
 use Rattle.std.proofs.Common.{◌≡◌, ℕ, suc, ◌+◌, ◌-◌, List, sym, ap, ◌∙◌, arith, pos}
 use Rattle.std.specs.Prelude.{slice_get}
 use Rattle.dwc_base.specs.ExpressionPlaces.{attribute_ends}
-use Rattle.dwc_read.specs.declared.abbreviation.AttributeSpec.{AttributeSpec}
+use Rattle.dwc_read.specs.declared.attribute_spec.AttributeSpec.{AttributeSpec}
 use Rattle.dwc_read.specs.ValuesSeen.{value_view}
 use Rattle.dwc_read.proofs.AttributeLaws.{specs_from}
 use Rattle.dwc_read.proofs.ValueEndLaws.{attribute_ends-more, attribute_ends-flaw, attribute_ends-end, slice_get-behind}
 use Rattle.dwc_read.proofs.value_end.attribute_end.Goals as goal
 
 abbrev none : AttributeSpec
-none = record { name = 0; form = 0; implicit = pos 0 }
+none = record { name = 0; run = 0; run_bytes = 0; form = 0; implicit = pos 0 }
 
 pub returns-in_default : goal.returns-in_default
 returns-in_default c =

@@ -1,7 +1,7 @@
 use Rattle.std.proofs.Common.{◌≡◌, drop, map}
 use Rattle.std.specs.Prelude.{slice_get}
 use Rattle.dwc_base.specs.ExpressionPlaces.{attribute_ends}
-use Rattle.dwc_read.specs.Tables.{spec_view}
+use Rattle.dwc_read.specs.AttributeSpecs.{spec_view}
 use Rattle.dwc_read.proofs.value_end.attribute_end.Given as goal
 
 -- the end that is wanted stands among those of what is left
