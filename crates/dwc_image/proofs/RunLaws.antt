@@ -261,3 +261,9 @@ module _ {X : Type 0} (n : X → ℕ) (xs : List X) (from limit : ℕ) where
 
   pub below-ends : (end : ℕ) → AreBelow end → from ≤ end → IsFirstBehind n xs from end limit end
   below-ends end so_far low = record { low = low; high = omega arith; before = so_far.below; at = λ d less. absurd (omega arith) }
+
+  -- where the numbers rise, all up to one that is below the limit are
+  pub below-step : (end i : ℕ) (e : X) → RisesBetween n xs from end → i < end → end ≤ length xs → n (get_or xs i e) < limit → AreBelow (i + 1)
+  below-step end i e rises high inside less = record {
+    below = λ k d a b. omega (arith, rises.rises k i d a (omega arith) high, less, ap n (get_or_default xs i d e (omega arith)));
+  }

@@ -1,7 +1,7 @@
 //! The rows of an image: for each recorded source of a function that finds another row of a segment than the one before, that
 //! row, at the source's code. The sources are a few runs along which they do not fall, so in each run the next source that finds
-//! another row is itself looked for, among the next few and then by halves: the work is that of the runs and the rows written,
-//! not of all sources. Each row goes into the line program as it is found; the first begins the sequence.
+//! another row is itself looked for, among the next few, by steps that double, and then by halves: the work is that of the runs
+//! and the rows written, not of all sources. Each row goes into the line program as it is found; the first begins the sequence.
 ghost use Rattle.std.specs.Prelude.{◌≡◌, ℕ, List, Option, Some, ◌++◌, ◌+◌, ◌<◌, ◌≤◌, false, length, map, drop, nat_lt, slice_index_or, None, OnOk, IfOk, IsOkUnless, IsSome};
 ghost use Rattle.std.specs.List.Sorted.{IsNonDecreasingBy};
 ghost use Rattle.dwc_base.specs.declared.records.LineRow.{LineRow};
@@ -99,7 +99,32 @@ fn first_behind(sources: &[AddressMap], from: usize, end: usize, start: u64, off
     if found < near {
         return found;
     }
-    behind_by_halves(sources, near, end, start, offset)
+    behind_by_doubling(sources, near, end, start, offset)
+}
+
+// The same by steps that double, and then by halves: the work grows as the digits of how far it lies.
+fn behind_by_doubling(
+    sources: &[AddressMap],
+    from: usize,
+    end: usize,
+    start: u64,
+    offset: u64,
+) -> usize
+    requires low { from ≤ end }
+    requires high { end ≤ length sources.now }
+    requires rises { RisesBetween (λ s. s.wasm) sources.now from end }
+    ensures { IsFirstBehind (λ s. s.wasm) sources.now from end (start + offset) result }
+{
+    let mut at = from;
+    let mut step = NEAR;
+    while step < end - at {
+        if !lies_before(&sources[at + step], start, offset) {
+            return behind_by_halves(sources, at, at + step, start, offset);
+        }
+        at += step + 1;
+        step = step.saturating_mul(2);
+    }
+    behind_by_halves(sources, at, end, start, offset)
 }
 
 // The same source by source.
