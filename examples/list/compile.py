@@ -20,28 +20,28 @@ CONTEXT_LABEL = 4294967294
 RBP, RSP, RETURN_ADDRESS = 6, 7, 16  # as DWARF numbers them
 CFA_ABOVE_RBP = 2 * WORD  # the return address and the caller's rbp lie between
 
-STORE_ARGUMENT = ["48 89 B5", "48 89 95", "48 89 8D", "4C 89 85", "4C 89 8D"]  # mov [rbp + number], rsi ..
-POP_ARGUMENT = ["5E", "5A", "59", "41 58", "41 59"]  # pop rsi ..
-LOAD_CONTEXT = "48 8B BD {context}"  # mov rdi, [rbp + context]
-LOAD_ADDRESS = "59 89 C9" + LOAD_CONTEXT + "48 03 8F {memory}"  # pop rcx; mov ecx, ecx; LOAD_CONTEXT; add rcx, [rdi + memory]
+STORE_ARGUMENT = ["48 89 b5", "48 89 95", "48 89 8d", "4c 89 85", "4c 89 8d"]  # mov [rbp + number], rsi ..
+POP_ARGUMENT = ["5e", "5a", "59", "41 58", "41 59"]  # pop rsi ..
+LOAD_CONTEXT = "48 8b bd {context}"  # mov rdi, [rbp + context]
+LOAD_ADDRESS = "59 89 c9" + LOAD_CONTEXT + "48 03 8f {memory}"  # pop rcx; mov ecx, ecx; LOAD_CONTEXT; add rcx, [rdi + memory]
 
 # Of each instruction but those of control, how much higher the operand stack is behind it, and its machine code.
 TEMPLATES = {
-    "local.get": (1, "FF B5 {local}"),  # push [rbp + local]
-    "local.set": (-1, "8F 85 {local}"),  # pop [rbp + local]
-    "global.get": (1, LOAD_CONTEXT + "FF B7 {global}"),  # push [rdi + global]
-    "global.set": (-1, LOAD_CONTEXT + "8F 87 {global}"),  # pop [rdi + global]
-    "i32.load": (0, LOAD_ADDRESS + "8B 81 {number} 50"),  # mov eax, [rcx + number]; push rax
+    "local.get": (1, "ff b5 {local}"),  # push [rbp + local]
+    "local.set": (-1, "8f 85 {local}"),  # pop [rbp + local]
+    "global.get": (1, LOAD_CONTEXT + "ff b7 {global}"),  # push [rdi + global]
+    "global.set": (-1, LOAD_CONTEXT + "8f 87 {global}"),  # pop [rdi + global]
+    "i32.load": (0, LOAD_ADDRESS + "8b 81 {number} 50"),  # mov eax, [rcx + number]; push rax
     "i32.store": (-2, "58" + LOAD_ADDRESS + "89 81 {number}"),  # pop rax; LOAD_ADDRESS; mov [rcx + number], eax
     "i32.const": (1, "68 {number}"),  # push number
-    "i32.eqz": (0, "58 85 C0 0F 94 C0 0F B6 C0 50"),  # pop rax; test eax, eax; sete al; movzx eax, al; push rax
-    "i32.ne": (-1, "59 58 39 C8 0F 95 C0 0F B6 C0 50"),  # pop rcx; pop rax; cmp eax, ecx; setne al; movzx eax, al; push rax
-    "i32.lt_s": (-1, "59 58 39 C8 0F 9C C0 0F B6 C0 50"),  # the same with setl al
-    "i32.add": (-1, "59 58 01 C8 50"),  # pop rcx; pop rax; add eax, ecx; push rax
-    "i32.sub": (-1, "59 58 29 C8 50"),  # the same with sub eax, ecx
-    "i32.mul": (-1, "59 58 0F AF C1 50"),  # .. imul eax, ecx
-    "i32.and": (-1, "59 58 21 C8 50"),  # .. and eax, ecx
-    "i32.shl": (-1, "59 58 D3 E0 50"),  # .. shl eax, cl
+    "i32.eqz": (0, "58 85 c0 0f 94 c0 0f b6 c0 50"),  # pop rax; test eax, eax; sete al; movzx eax, al; push rax
+    "i32.ne": (-1, "59 58 39 c8 0f 95 c0 0f b6 c0 50"),  # pop rcx; pop rax; cmp eax, ecx; setne al; movzx eax, al; push rax
+    "i32.lt_s": (-1, "59 58 39 c8 0f 9c c0 0f b6 c0 50"),  # the same with setl al
+    "i32.add": (-1, "59 58 01 c8 50"),  # pop rcx; pop rax; add eax, ecx; push rax
+    "i32.sub": (-1, "59 58 29 c8 50"),  # the same with sub eax, ecx
+    "i32.mul": (-1, "59 58 0f af c1 50"),  # .. imul eax, ecx
+    "i32.and": (-1, "59 58 21 c8 50"),  # .. and eax, ecx
+    "i32.shl": (-1, "59 58 d3 e0 50"),  # .. shl eax, cl
 }
 
 
@@ -114,14 +114,14 @@ class FunctionCompiler:
         self.assembler.add(template.format_map({name: number_bytes(field).hex() for name, field in fields.items()}))
 
     def add_prologue(self) -> None:
-        self.add("55 48 89 E5")  # push rbp; mov rbp, rsp
-        self.add("48 81 EC {number}", -local_slot(self.function.local_count - 1))  # sub rsp, number
-        self.add("48 89 BD {context}")  # mov [rbp + context], rdi
+        self.add("55 48 89 e5")  # push rbp; mov rbp, rsp
+        self.add("48 81 ec {number}", -local_slot(self.function.local_count - 1))  # sub rsp, number
+        self.add("48 89 bd {context}")  # mov [rbp + context], rdi
         for index in range(self.function.local_count):
             if index < self.function.signature.parameters:
                 self.add(STORE_ARGUMENT[index] + "{local}", index)
             else:
-                self.add("48 C7 85 {local} 00000000", index)  # mov qword [rbp + local], 0
+                self.add("48 c7 85 {local} 00000000", index)  # mov qword [rbp + local], 0
 
     def add_instruction(self, instruction: Instruction) -> None:
         if instruction.name in TEMPLATES:
@@ -136,7 +136,7 @@ class FunctionCompiler:
         for pop in reversed(POP_ARGUMENT[: called.parameters]):
             self.add(pop)
         self.add(LOAD_CONTEXT)
-        self.assembler.jump("E8", self.places[index])  # call
+        self.assembler.jump("e8", self.places[index])  # call
         self.add("50" * called.results)  # push rax
         self.height += called.results - called.parameters
 
@@ -147,12 +147,12 @@ class FunctionCompiler:
         self.blocks.append(Block(Place(len(self.assembler.code)), self.height))
 
     def add_br(self, depth: int) -> None:
-        self.add_jump("E9", depth)  # jmp
+        self.add_jump("e9", depth)  # jmp
 
     def add_br_if(self, depth: int) -> None:
-        self.add("58 85 C0")  # pop rax; test eax, eax
+        self.add("58 85 c0")  # pop rax; test eax, eax
         self.height -= 1
-        self.add_jump("0F 85", depth)  # jne
+        self.add_jump("0f 85", depth)  # jne
 
     def add_jump(self, jump: str, depth: int) -> None:
         block = self.blocks[-1 - depth]
@@ -162,7 +162,7 @@ class FunctionCompiler:
 
     def add_return(self, _: int) -> None:
         self.add("58" * self.function.signature.results)  # pop rax
-        self.assembler.jump("E9", self.blocks[0].target)  # jmp
+        self.assembler.jump("e9", self.blocks[0].target)  # jmp
 
     def add_end(self, _: int) -> None:
         block = self.blocks.pop()
@@ -172,7 +172,7 @@ class FunctionCompiler:
         if block.target.position is None:
             self.assembler.put(block.target)
         if not self.blocks:
-            self.add("C9 C3")  # leave; ret
+            self.add("c9 c3")  # leave; ret
 
 
 def compile_module(module: Module) -> tuple[bytes, list[dict]]:
