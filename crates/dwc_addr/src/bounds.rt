@@ -54,9 +54,9 @@ pub(crate) fn run_bounds(
     }
     let mut begin = start as u32;
     for place in later_runs {
-        let last = sources[*place - 1].wasm as u32;
+        let last = sources[*place - 1].wasm;
         bounds.push(Bounds { begin, end: last })?;
-        begin = sources[*place].wasm as u32;
+        begin = sources[*place].wasm;
     }
     bounds.push(Bounds {
         begin,

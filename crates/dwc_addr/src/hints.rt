@@ -81,7 +81,7 @@ fn note_sources(hints: &mut [u32], start: WasmAddress, bits: u32, sources: &[Add
 {
     for i in 0..sources.len() / STEP {
         let place = i * STEP;
-        let block = block_of(start, bits, sources[place].wasm);
+        let block = block_of(start, bits, u64::from(sources[place].wasm));
         note(hints, block, place);
     }
 }

@@ -19,7 +19,7 @@ pub(crate) fn sources_below(sources: &[AddressMap], hint: usize, addr: WasmAddre
     if are_sources_below(sources, count, addr) && !is_source_below(sources, count, addr) {
         return count;
     }
-    sources.partition_point(|source| source.wasm < addr)
+    sources.partition_point(|source| u64::from(source.wasm) < addr)
 }
 
 // The same, if the last that does stands in the window that a hint begins.
@@ -27,10 +27,11 @@ fn sources_near(sources: &[AddressMap], hint: usize, addr: WasmAddress) -> usize
     if sources.len() < WINDOW {
         return sources.len();
     }
+    let narrow = u32::try_from(addr).unwrap_or(u32::MAX);
     let first = hint.min(sources.len() - WINDOW);
     let mut count = first;
     for i in first..first + WINDOW {
-        if sources[i].wasm < addr {
+        if sources[i].wasm < narrow {
             count = count.wrapping_add(1);
         }
     }
@@ -42,7 +43,7 @@ fn is_source_below(sources: &[AddressMap], place: usize, addr: WasmAddress) -> b
     ensures below { result ≡ true → AreBelow (λ e. e.wasm) sources.now addr (place + 1) }
     ensures above { result ≡ false → (d : AddressMap) → place < length sources.now → addr ≤ (slice_index_or sources.now place d).wasm }
 {
-    place < sources.len() && sources[place].wasm < addr
+    place < sources.len() && u64::from(sources[place].wasm) < addr
 }
 
 // Whether there are so many sources, and the last of them lies below one.

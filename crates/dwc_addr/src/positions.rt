@@ -48,7 +48,7 @@ fn start_or(sources: &[AddressMap], place: usize, other: GeneratedAddress) -> Ge
     ensures low { result < 2 ^ 32 }
 {
     match sources.get(place) {
-        Some(source) => source.generated,
+        Some(source) => source.generated as usize,
         None => other,
     }
 }
@@ -60,10 +60,10 @@ fn start_at(sources: &[AddressMap], place: usize, addr: WasmAddress) -> Option<G
     ensures low { IfSome result (λ native. native < 2 ^ 32) }
 {
     let source = sources.get(place)?;
-    if source.wasm != addr {
+    if u64::from(source.wasm) != addr {
         return None;
     }
-    Some(source.generated)
+    Some(source.generated as usize)
 }
 
 // How many sources do not lie above a wasm offset.
@@ -75,7 +75,7 @@ fn sources_up_to(sources: &[AddressMap], hint: usize, addr: WasmAddress) -> usiz
     if addr < u64::MAX {
         return sources_below(sources, hint, addr + 1);
     }
-    sources.partition_point(|source| source.wasm <= addr)
+    sources.partition_point(|source| u64::from(source.wasm) <= addr)
 }
 
 // How many sources begin below a native offset, by the place of one that begins there: seldom does another.
@@ -85,7 +85,7 @@ fn begun_below(sources: &[AddressMap], place: usize, native: GeneratedAddress) -
     requires begins { (d : AddressMap) → (slice_index_or sources.now place d).generated ≡ native }
     ensures { IsCountBelow (λ e. e.generated) sources.now native result }
 {
-    if place > 0 && sources[place - 1].generated >= native {
+    if place > 0 && sources[place - 1].generated as usize >= native {
         return below_by_halves(sources, native);
     }
     place
@@ -96,7 +96,7 @@ fn below_by_halves(sources: &[AddressMap], native: GeneratedAddress) -> usize
     requires { IsNonDecreasingBy (λ e. e.generated) sources.now }
     ensures { IsCountBelow (λ e. e.generated) sources.now native result }
 {
-    sources.partition_point(|source| source.generated < native)
+    sources.partition_point(|source| (source.generated as usize) < native)
 }
 
 // How many do not begin above it, by such a place.
@@ -107,7 +107,7 @@ fn begun_up_to(sources: &[AddressMap], place: usize, native: GeneratedAddress) -
     ensures { IsCountUpTo (λ e. e.generated) sources.now native result }
 {
     let behind = place + 1;
-    if behind < sources.len() && sources[behind].generated <= native {
+    if behind < sources.len() && sources[behind].generated as usize <= native {
         return up_to_by_halves(sources, native);
     }
     behind
@@ -118,7 +118,7 @@ fn up_to_by_halves(sources: &[AddressMap], native: GeneratedAddress) -> usize
     requires { IsNonDecreasingBy (λ e. e.generated) sources.now }
     ensures { IsCountUpTo (λ e. e.generated) sources.now native result }
 {
-    sources.partition_point(|source| source.generated <= native)
+    sources.partition_point(|source| source.generated as usize <= native)
 }
 
 // The sources of a run.
@@ -146,7 +146,7 @@ pub(crate) fn start_in(function: &FunctionMap, run: &Run, addr: WasmAddress) -> 
     if count == 0 {
         return start_at(sources, 0, addr).unwrap_or(run.start);
     }
-    let behind = begun_up_to(sources, count - 1, sources[count - 1].generated);
+    let behind = begun_up_to(sources, count - 1, sources[count - 1].generated as usize);
     match start_at(sources, behind, addr) {
         Some(start) => start,
         None => native_end(function, run.first + behind - 1),
@@ -165,10 +165,10 @@ pub(crate) fn end_in(function: &FunctionMap, run: &Run, addr: WasmAddress) -> Ge
     if count == 0 {
         return start_or(sources, 0, run.end);
     }
-    let native = sources[count - 1].generated;
+    let native = sources[count - 1].generated as usize;
     let first = begun_below(sources, count - 1, native);
     let behind = begun_up_to(sources, count - 1, native);
-    if sources[first].wasm == addr {
+    if u64::from(sources[first].wasm) == addr {
         return native_end(function, run.first + behind - 1);
     }
     start_or(sources, behind, run.end)

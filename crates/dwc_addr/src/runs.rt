@@ -46,7 +46,7 @@ fn run_begin(function: &FunctionMap, number: usize) -> (usize, WasmAddress, Gene
     }
     let first = function.later_runs[number - 1];
     let source = function.addresses[first];
-    (first, source.wasm, source.generated)
+    (first, u64::from(source.wasm), source.generated as usize)
 }
 
 // Where it ends: the place behind its last address, and where it ends in the wasm code and in the native code.
@@ -60,5 +60,6 @@ fn run_end(function: &FunctionMap, number: usize) -> (usize, WasmAddress, Genera
     }
     let behind = function.later_runs[number];
     let last = function.addresses[behind - 1];
-    (behind, last.wasm, function.addresses[behind].generated)
+    let native = function.addresses[behind].generated as usize;
+    (behind, u64::from(last.wasm), native)
 }

@@ -253,7 +253,7 @@ fn start_offset(place: FilePos, code_section_offset: u64) -> WasmAddress
 }
 
 // A list of sources has room for so many at least: 64 bytes.
-const LEAST_SOURCES: usize = 4;
+const LEAST_SOURCES: usize = 8;
 
 // The entries that have a source, those that have none, and the places of the sources that lie below the one before.
 fn split_entries(
@@ -274,16 +274,22 @@ fn split_entries(
     let mut before = 0;
     let mut last = 0;
     for entry in entries {
-        let generated = entry.code_offset as usize;
+        let generated = entry.code_offset;
         let Some(source) = entry.srcloc.file_offset() else {
-            gaps.push(Gap { before, generated })?;
+            gaps.push(Gap {
+                before,
+                generated: generated as usize,
+            })?;
             continue;
         };
         let wasm = u64::from(source).saturating_sub(code_section_offset);
         if wasm < last {
             later_runs.push(before)?;
         }
-        sources.push_reserved(AddressMap { generated, wasm });
+        sources.push_reserved(AddressMap {
+            generated,
+            wasm: wasm as u32,
+        });
         last = wasm;
         before += 1;
     }

@@ -54,7 +54,7 @@ fn first_source(function: &FunctionMap) -> u64
     ensures { result ≡ first_source (function_view function.now) }
 {
     match function.addresses.first() {
-        Some(entry) => entry.wasm,
+        Some(entry) => u64::from(entry.wasm),
         None => function.wasm_start,
     }
 }

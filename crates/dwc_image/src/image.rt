@@ -84,7 +84,8 @@ fn count_behind(rows: &[LineRow], known: usize, offset: u64) -> usize
 fn lies_before(source: &AddressMap, start: u64, offset: u64) -> bool
     ensures { result ≡ nat_lt source.now.wasm (start + offset) }
 {
-    source.wasm < start || source.wasm - start < offset
+    let wasm = u64::from(source.wasm);
+    wasm < start || wasm - start < offset
 }
 
 // The first source from `from` on, and before `end`, that does not lie in front of a row; `end` where all do.
@@ -224,7 +225,7 @@ fn add_run(
             return Ok(found);
         }
         let source = sources[at];
-        let count = count_at(rows, next, source.wasm - start);
+        let count = count_at(rows, next, u64::from(source.wasm) - start);
         let row = &rows[count - 1];
         add_row(program, function, row, source.generated as u64, found)?;
         found = Some(row.offset);

@@ -39,7 +39,7 @@ fn line_of(source: &AddressMap, code_offset: u64, prologue_end: bool) -> LineRow
 {
     line_at(
         source.generated as u64,
-        code_offset + source.wasm,
+        code_offset + u64::from(source.wasm),
         prologue_end,
     )
 }

@@ -13,8 +13,8 @@ returns-then-count-eq0-clause-end c =
     let h = subst (IsCountUpTo (λ e. e.wasm) xs c.args.addr) c.if-count-eq0.true c.sources_up_to-count.ensures in
     c.start_or.ensures.start ∙ sym (end-none (positions_in m r) xs (run-seen m r c.requires xs all.sources) (run-front m r c.requires) c.args.addr all.wasm r.end h)
 
-pub returns-then-sources-first-clause-end : goal.returns-then-sources-first-clause-end
-returns-then-sources-first-clause-end c =
+pub returns-then-from-addr-clause-end : goal.returns-then-from-addr-clause-end
+returns-then-from-addr-clause-end c =
     let m = c.args.function.now in
     let r = c.args.run.now in
     let xs = c.sources_of-sources.result.now in
@@ -25,7 +25,7 @@ returns-then-sources-first-clause-end c =
     let inside : count - 1 < length xs = omega (arith, one, c.sources_up_to-count.ensures.inside) in
     let some = some-behind xs (count - 1) _ _ inside refl c.begun_up_to-behind.ensures in
     end-in m r c.requires c.native_end.result c.begun_up_to-behind.result some (omega (arith, c.begun_up_to-behind.ensures.inside, all.size)) c.native_end.ensures.end
-    ∙ sym (end-some (positions_in m r) xs (run-seen m r c.requires xs all.sources) (run-front m r c.requires) c.args.addr all.wasm (count - 1) _ _ _ h refl c.begun_below-first.ensures c.begun_up_to-behind.ensures r.end c.if-sources-first.true)
+    ∙ sym (end-some (positions_in m r) xs (run-seen m r c.requires xs all.sources) (run-front m r c.requires) c.args.addr all.wasm (count - 1) _ _ _ h refl c.begun_below-first.ensures c.begun_up_to-behind.ensures r.end (sym c.from.ensures ∙ c.if-from-addr.true))
 
 pub returns-clause-end : goal.returns-clause-end
 returns-clause-end c =
@@ -37,4 +37,4 @@ returns-clause-end c =
     let one : count ≡ suc (count - 1) = omega (arith, c.if-count-eq0.false) in
     let h = subst (IsCountUpTo (λ e. e.wasm) xs c.args.addr) one c.sources_up_to-count.ensures in
     c.start_or-2.ensures.start
-    ∙ sym (end-other (positions_in m r) xs (run-seen m r c.requires xs all.sources) (run-front m r c.requires) c.args.addr all.wasm (count - 1) _ _ _ h refl c.begun_below-first.ensures c.begun_up_to-behind.ensures r.end c.if-sources-first.false)
+    ∙ sym (end-other (positions_in m r) xs (run-seen m r c.requires xs all.sources) (run-front m r c.requires) c.args.addr all.wasm (count - 1) _ _ _ h refl c.begun_below-first.ensures c.begun_up_to-behind.ensures r.end (subst (λ n. ¬ (n ≡ c.args.addr)) c.from.ensures c.if-from-addr.false))

@@ -8,7 +8,7 @@ index-source-requires c =
     omega (arith, m.addresses.ok, begin-inside m c.args.number c.index-first.result.now c.if-number-eq0.false c.requires c.index-first.ensures)
 
 pub returns-clause-begin : goal.returns-clause-begin
-returns-clause-begin c = begin-is c.args.function.now c.args.number c.index-first.result.now c.index-source.result.now c.if-number-eq0.false c.requires c.index-first.ensures c.index-source.ensures
+returns-clause-begin c = rw c.from.ensures (begin-is c.args.function.now c.args.number c.index-first.result.now c.index-source.result.now c.if-number-eq0.false c.requires c.index-first.ensures c.index-source.ensures)
 
 pub returns-clause-low : goal.returns-clause-low
 returns-clause-low c =

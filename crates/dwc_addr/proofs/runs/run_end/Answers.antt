@@ -24,7 +24,7 @@ pub returns-clause-end : goal.returns-clause-end
 returns-clause-end c =
     let m = c.args.function.now in
     let less : c.args.number < length m.later_runs.items = omega (arith, m.later_runs.ok, c.requires, c.len.ensures, c.if-number-len.false) in
-    end-is m c.args.number c.index-behind.result.now c.index-last.result.now c.index.result.now less c.index-behind.ensures c.index-last.ensures c.index.ensures
+    rw c.from.ensures (end-is m c.args.number c.index-behind.result.now c.index-last.result.now c.index.result.now less c.index-behind.ensures c.index-last.ensures c.index.ensures)
 
 pub returns-clause-low : goal.returns-clause-low
 returns-clause-low c =
