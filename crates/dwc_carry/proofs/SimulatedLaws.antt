@@ -15,7 +15,7 @@ use Rattle.dwc_base.specs.Parts.{context_label}
 use Rattle.dwc_base.specs.SimulatedUnit.{base_type, base_types, context_entry, first_source, function_entry, function_index, function_name, label_located, local_entry, local_name, local_tag, surroundings_of}
 use Rattle.dwc_write.specs.declared.attributes.DebugInfoRef.{DebugInfoRef}
 use Rattle.dwc_write.specs.declared.attributes.DebugInfoRef.TheVariants.{Entry}
-use Rattle.dwc_write.specs.declared.lists.LocationList.{LocationList}
+use Rattle.dwc_write.specs.LocationLists.{LocationList}
 use Rattle.dwc_write.specs.declared.strings.StringId.{StringId}
 use Rattle.dwc_write.specs.AddedInOrder.{IsInOrder, with_entry}
 use Rattle.dwc_write.specs.GivenUnits.{Addition, GivenUnit}

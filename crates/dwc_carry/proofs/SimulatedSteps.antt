@@ -11,7 +11,7 @@ use Rattle.dwc_base.specs.Parts.{context_label}
 use Rattle.dwc_base.specs.SimulatedUnit.{base_types, context_entry, first_source, function_entries, function_entry, function_index, function_name, label_entry, label_located, local_entry, local_name, local_tag, modules_entries, simulated_root, simulated_unit, type_place, whole_intervals}
 use Rattle.dwc_base.specs.Trees.{TreeValue}
 use Rattle.dwc_write.specs.declared.attributes.DebugInfoRef.{DebugInfoRef}
-use Rattle.dwc_write.specs.declared.lists.LocationList.{LocationList}
+use Rattle.dwc_write.specs.LocationLists.{LocationList}
 use Rattle.dwc_write.specs.declared.strings.StringId.{StringId}
 use Rattle.dwc_write.specs.AddedInOrder.{with_entry}
 use Rattle.dwc_write.specs.GivenUnits.{GivenUnit}

@@ -7,7 +7,7 @@ use Rattle.dwc_base.specs.UnitPaths.{path_directory, path_name}
 use Rattle.dwc_clone.specs.GivenAttributes.{Attribute}
 use Rattle.dwc_write.specs.declared.attributes.AttributeValue.TheVariants as write
 use Rattle.dwc_write.specs.declared.attributes.DebugInfoRef.{DebugInfoRef}
-use Rattle.dwc_write.specs.declared.lists.LocationList.{LocationList}
+use Rattle.dwc_write.specs.LocationLists.{LocationList}
 use Rattle.dwc_write.specs.declared.lists.RangeList.{RangeList}
 use Rattle.dwc_write.specs.declared.strings.StringId.{StringId}
 use Rattle.dwc_write.specs.GivenLines.{GivenLines}

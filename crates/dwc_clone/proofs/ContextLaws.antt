@@ -18,7 +18,7 @@ use Rattle.dwc_expr.specs.Errors.{refusal_told}
 use Rattle.dwc_write.specs.declared.attributes.AttributeValue.TheVariants.{LocationListRef}
 use Rattle.dwc_write.specs.declared.attributes.DebugInfoRef.{DebugInfoRef}
 use Rattle.dwc_write.specs.declared.error.WriteError.{WriteError}
-use Rattle.dwc_write.specs.declared.lists.LocationList.{LocationList}
+use Rattle.dwc_write.specs.LocationLists.{LocationList}
 use Rattle.dwc_write.specs.GivenUnits.{FitsValue, GivenUnit}
 use Rattle.dwc_clone.specs.ClonedUnits.{TellsFirst}
 use Rattle.dwc_clone.specs.ContextPlaces.{AddsContext, IsRefused, IsVariable, OfWritten}

@@ -31,7 +31,7 @@ use Rattle.dwc_write.specs.declared.attributes.AttributeValue.{AttributeValue}
 use Rattle.dwc_write.specs.declared.attributes.AttributeValue.TheVariants as output
 use Rattle.dwc_write.specs.declared.attributes.DebugInfoRef.TheVariants as reference
 use Rattle.dwc_write.specs.declared.expressions.Expression.{Expression}
-use Rattle.dwc_write.specs.declared.lists.LocationList.{LocationList}
+use Rattle.dwc_write.specs.LocationLists.{LocationList}
 use Rattle.dwc_write.specs.AddedInOrder.{value_meant}
 use Rattle.dwc_write.specs.GivenUnits.{FitsValue}
 use Rattle.dwc_write.specs.Lists.{FitsLocation, location_of}

@@ -18,7 +18,7 @@ use Rattle.dwc_expr.specs.declared.error.ExprError.{ExprError}
 use Rattle.dwc_expr.specs.declared.error.ExprError.TheVariants.{OutOfMemory}
 use Rattle.dwc_expr.specs.Builds.{location_view}
 use Rattle.dwc_expr.specs.Errors.{refusal_told}
-use Rattle.dwc_write.specs.declared.lists.LocationList.{LocationList}
+use Rattle.dwc_write.specs.LocationLists.{LocationList}
 
 -- An error is the refusal that it tells; one that tells nothing is want of memory.
 abbrev pub IsRefused : Result (List Location) BuildRefusal → ExprError → Option BuildRefusal → Type 0

@@ -85,5 +85,6 @@ pub fn clone_unit(
         }
     }
     of_memory(close_wrappers(&mut unit, &mut walk.opened, 0))?;
+    unit.give_back();
     Ok(unit)
 }

@@ -1,4 +1,5 @@
 -- Attributes as they are kept, and as they are given.
+use Rattle.std.specs.Prelude.{[], ◌∷◌}
 use Rattle.dwc_base.specs.declared.records.Address.TheVariants as address
 use Rattle.dwc_write.specs.declared.attributes.Attribute.{Attribute}
 use Rattle.dwc_write.specs.declared.attributes.AttributeValue.{AttributeValue}
@@ -21,6 +22,8 @@ given (kept.UnitEntry name unit id) = record { name = name; value = value.DebugI
 given (kept.Short name bytes) = record { name = name; value = value.Exprloc bytes }
 given (kept.Expression name bytes) = record { name = name; value = value.Exprloc bytes.value.items }
 given (kept.Ranges name list) = record { name = name; value = value.RangeListRef list.value }
+given (kept.NoLocations name) = record { name = name; value = value.LocationListRef (record { locations = record { items = [] } }) }
+given (kept.Location name location) = record { name = name; value = value.LocationListRef (record { locations = record { items = location.value ∷ [] } }) }
 given (kept.Locations name list) = record { name = name; value = value.LocationListRef list.value }
 given (kept.Block name bytes) = record { name = name; value = value.Block bytes.value }
 given (kept.Address name address) = record { name = name; value = value.Address address.value }
@@ -36,6 +39,6 @@ value_of_held (held.Exprloc bytes) = value.Exprloc bytes.now
 value_of_held (held.StringRef id) = value.StringRef id
 value_of_held held.LineProgramRef = value.LineProgramRef
 value_of_held (held.RangeListRef list) = value.RangeListRef list.now
-value_of_held (held.LocationListRef list) = value.LocationListRef list.now
+value_of_held (held.LocationListRef locations) = value.LocationListRef (record { locations = record { items = locations.now } })
 value_of_held (held.UnitRef id) = value.UnitRef id
 value_of_held (held.DebugInfoRef reference) = value.DebugInfoRef reference

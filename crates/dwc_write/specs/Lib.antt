@@ -9,6 +9,7 @@ pub mod Frames
 pub mod GivenLines
 pub mod ToldRows
 pub mod RangeLists
+pub mod LocationLists
 pub mod Lists
 pub mod LineViews
 pub mod NameViews

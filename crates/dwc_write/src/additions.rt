@@ -110,6 +110,14 @@ impl Additions {
         Ok(())
     }
 
+    // Gives back the memory that nothing stands in.
+    pub(crate) fn give_back(&mut self)
+        ensures { self.new ≡ self.old }
+    {
+        self.shared.shrink_to_fit();
+        self.entries.shrink_to_fit();
+    }
+
     // Whether an entry is the last one.
     fn is_last(&self, place: usize) -> bool
         requires { place < length self.now }

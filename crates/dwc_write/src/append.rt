@@ -1,5 +1,5 @@
 //! The bytes of numbers and texts, behind what a buffer holds.
-ghost use Rattle.std.specs.Prelude.{◌≡◌, ◌++◌, ◌∷◌, [], ◌<◌, ◌^◌, OnOk, OnErr, pos, negsuc, length, vec_capacity, vec_len, ◌+◌, ◌≤◌};
+ghost use Rattle.std.specs.Prelude.{◌≡◌, ◌++◌, ◌∷◌, [], ◌<◌, ◌^◌, OnOk, OnErr, pos, negsuc, length, ◌+◌, ◌≤◌};
 ghost use Rattle.dwc_base.specs.declared.records.Endian.TheVariants.{Big, Little};
 ghost use Rattle.dwc_base.specs.NumberBytes.{number_bytes, uleb_bytes, sleb_bytes};
 ghost use Rattle.dwc_write.specs.Spelled.{text_bytes};
@@ -118,46 +118,18 @@ pub fn put_sized(out: &mut Vec<u8>, order: Endian, size: u8, value: u64) -> Resu
 
 // The same with the lowest byte first.
 #[inline(always)]
+#[tactic(auto, using(crate::proofs::SizedBytes::sized_bytes_are, crate::proofs::ReadBytes::number_bytes_are))]
 fn put_low_first(out: &mut Vec<u8>, size: u8, value: u64) -> Result<(), AllocError>
     requires { IsSize size }
     ensures ok { OnOk result (out.new.items ≡ out.old.items ++ number_bytes Little size value) }
     ensures err { OnErr result (out.new.items ≡ out.old.items) }
 {
-    out.reserve(usize::from(size))?;
     match size {
-        1 => out.push_reserved((value % 256) as u8),
-        2 => put_low_2(out, value),
-        4 => put_low_4(out, value),
-        _ => {
-            put_low_4(out, value);
-            put_low_4(out, value / 0x1_0000_0000);
-        }
+        1 => out.extend_from_slice(&[(value % 256) as u8]),
+        2 => out.extend_from_slice(&((value % 0x1_0000) as u16).to_le_bytes()),
+        4 => out.extend_from_slice(&((value % 0x1_0000_0000) as u32).to_le_bytes()),
+        _ => out.extend_from_slice(&value.to_le_bytes()),
     }
-    Ok(())
-}
-
-// Two bytes, the lowest first.
-#[inline(always)]
-fn put_low_2(out: &mut Vec<u8>, value: u64)
-    requires { vec_len out.old + 2 ≤ vec_capacity out.old }
-    ensures bytes { out.new.items ≡ out.old.items ++ number_bytes Little 2 value }
-{
-    out.push_reserved((value % 256) as u8);
-    out.push_reserved((value / 256 % 256) as u8);
-}
-
-// Four bytes, the lowest first.
-#[inline(always)]
-fn put_low_4(out: &mut Vec<u8>, value: u64)
-    requires { vec_len out.old + 4 ≤ vec_capacity out.old }
-    ensures bytes { out.new.items ≡ out.old.items ++ number_bytes Little 4 value }
-    ensures len { vec_len out.new ≡ vec_len out.old + 4 }
-    ensures room { vec_capacity out.new ≡ vec_capacity out.old }
-{
-    out.push_reserved((value % 256) as u8);
-    out.push_reserved((value / 256 % 256) as u8);
-    out.push_reserved((value / 256 / 256 % 256) as u8);
-    out.push_reserved((value / 256 / 256 / 256 % 256) as u8);
 }
 
 // The same with the highest byte first.

@@ -7,7 +7,7 @@ ghost use Rattle.dwc_write.specs.GivenUnits.{FitsMemory, constant_of, no_places,
 ghost use Rattle.dwc_write.specs.Lists.{no_lists};
 ghost use Rattle.dwc_write.specs.AttributePlaces.{place_from};
 ghost use Rattle.dwc_write.specs.KeptAttributes.{given, value_of_held};
-ghost use Rattle.dwc_write.specs.declared.attributes.AttributeValue.TheVariants.{Address as ValueAddress, DebugInfoRef as ValueReference, Exprloc as ValueExpression};
+ghost use Rattle.dwc_write.specs.declared.attributes.AttributeValue.TheVariants.{Address as ValueAddress, DebugInfoRef as ValueReference, Exprloc as ValueExpression, LocationListRef as ValueLocations};
 
 use crate::expressions::{Bytes, Expression};
 use crate::few_bytes::FewBytes;
@@ -21,6 +21,7 @@ use dwc_base::constants::{
 use std::alloc::{AllocError, Global};
 use std::collections::BTreeMap;
 use std::marker::Model;
+use std::slice;
 
 /// The value of an attribute.
 #[derive(Debug, Drop)]
@@ -111,6 +112,9 @@ pub(crate) enum Kept {
         name: u16,
         bytes: FewBytes,
     },
+    NoLocations {
+        name: u16,
+    },
     Expression {
         name: u16,
         bytes: Box<Vec<u8>>,
@@ -118,6 +122,10 @@ pub(crate) enum Kept {
     Ranges {
         name: u16,
         list: Box<RangeList>,
+    },
+    Location {
+        name: u16,
+        location: Box<(Address, u64, Expression)>,
     },
     Locations {
         name: u16,
@@ -144,6 +152,7 @@ impl Drop for Kept {
         match self {
             Kept::Expression { name: _, bytes } => free(bytes),
             Kept::Ranges { name: _, list } => free(list),
+            Kept::Location { name: _, location } => free(location),
             Kept::Locations { name: _, list } => free(list),
             Kept::Block { name: _, bytes } => free(bytes),
             Kept::Address { name: _, address } => free(address),
@@ -167,7 +176,8 @@ impl Drop for Kept {
                 unit: _,
                 id: _,
             }
-            | Kept::Short { name: _, bytes: _ } => {}
+            | Kept::Short { name: _, bytes: _ }
+            | Kept::NoLocations { name: _ } => {}
         }
     }
 }
@@ -204,7 +214,7 @@ pub(crate) enum Held<'a> {
     StringRef(StringId),
     LineProgramRef,
     RangeListRef(&'a RangeList),
-    LocationListRef(&'a LocationList),
+    LocationListRef(&'a [(Address, u64, Expression)]),
     UnitRef(UnitEntryId),
     DebugInfoRef(DebugInfoRef),
 }
@@ -249,8 +259,10 @@ impl KeptAttribute {
             Kept::Symbol { name, .. } => *name,
             Kept::UnitEntry { name, .. } => *name,
             Kept::Short { name, .. } => *name,
+            Kept::NoLocations { name } => *name,
             Kept::Expression { name, .. } => *name,
             Kept::Ranges { name, .. } => *name,
+            Kept::Location { name, .. } => *name,
             Kept::Locations { name, .. } => *name,
             Kept::Block { name, .. } => *name,
             Kept::Address { name, .. } => *name,
@@ -282,9 +294,11 @@ impl KeptAttribute {
                 Held::DebugInfoRef(DebugInfoRef::Entry(unit, *id))
             }
             Kept::Short { bytes, .. } => Held::Exprloc(bytes.as_slice()),
+            Kept::NoLocations { .. } => Held::LocationListRef(&[]),
             Kept::Expression { bytes, .. } => Held::Exprloc(bytes.as_slice()),
             Kept::Ranges { list, .. } => Held::RangeListRef(list),
-            Kept::Locations { list, .. } => Held::LocationListRef(list),
+            Kept::Location { location, .. } => Held::LocationListRef(slice::from_ref(location)),
+            Kept::Locations { list, .. } => Held::LocationListRef(list.as_slice()),
             Kept::Block { bytes, .. } => Held::Block(bytes),
             Kept::Address { address, .. } => Held::Address(**address),
             Kept::Reference { reference, .. } => Held::DebugInfoRef(**reference),
@@ -311,10 +325,7 @@ fn keep_any(alloc: Global, name: u16, value: AttributeValue) -> Result<Kept, All
             name,
             list: Box::new(alloc, list)?,
         }),
-        AttributeValue::LocationListRef(list) => Ok(Kept::Locations {
-            name,
-            list: Box::new(alloc, list)?,
-        }),
+        AttributeValue::LocationListRef(list) => keep_locations(alloc, name, list),
         AttributeValue::UnitRef(id) => Ok(Kept::Entry { name, id }),
         AttributeValue::DebugInfoRef(reference) => keep_reference(alloc, name, reference),
     }
@@ -327,6 +338,27 @@ fn keep_expression(name: u16, expression: Expression) -> Kept
     match expression.into_bytes() {
         Bytes::Few(bytes) => Kept::Short { name, bytes },
         Bytes::Many(bytes) => Kept::Expression { name, bytes },
+    }
+}
+
+// A location list: one without intervals takes no memory, and one of a single interval one piece.
+fn keep_locations(alloc: Global, name: u16, list: LocationList) -> Result<Kept, AllocError>
+    ensures { IfOk result (λ k. given k ≡ record { name = name; value = ValueLocations list }) }
+{
+    let mut locations = list.into_locations();
+    if locations.len() > 1 {
+        let list = LocationList::new(locations);
+        return Ok(Kept::Locations {
+            name,
+            list: Box::new(alloc, list)?,
+        });
+    }
+    match locations.pop() {
+        None => Ok(Kept::NoLocations { name }),
+        Some(location) => Ok(Kept::Location {
+            name,
+            location: Box::new(alloc, location)?,
+        }),
     }
 }
 

@@ -34,6 +34,9 @@ use std::alloc::{AllocError, Global};
 // The bytes of a unit's header.
 const HEADER_LENGTH: usize = 11;
 
+// Room is made at first for so many shapes.
+const USUAL_SHAPES: usize = 14;
+
 // How many guesses of shapes are kept: for 64 tags, with children or without, and 8 numbers of attributes.
 const GUESSES: usize = 1024;
 
@@ -92,10 +95,10 @@ fn lay_out_unit(alloc: Global, unit: &Unit, start: usize) -> Result<UnitLayout, 
 {
     let order = file_order(alloc, &unit.additions)?;
     let mut coded = Coded {
-        shapes: IndexSet::new(alloc),
+        shapes: IndexSet::with_capacity(alloc, USUAL_SHAPES)?,
         codes: Vec::with_capacity(alloc, order.len())?,
         offsets: Vec::with_capacity(alloc, order.len())?,
-        notes: Notes::new(alloc),
+        notes: Notes::new(alloc, order.len())?,
     };
     let length = place_entries(
         alloc,

@@ -24,9 +24,9 @@ pub fn behind_value(places: ListPlaces, size: u8, attribute: &KeptAttribute) -> 
             ranges: behind_list(places.ranges, size, list.as_slice()),
             locations: places.locations,
         },
-        Held::LocationListRef(list) => ListPlaces {
+        Held::LocationListRef(locations) => ListPlaces {
             ranges: places.ranges,
-            locations: behind_list(places.locations, size, list.as_slice()),
+            locations: behind_list(places.locations, size, locations),
         },
         _ => places,
     }

@@ -14,6 +14,7 @@ use crate::expressions::Expression;
 use crate::file_order::FilePlace;
 use crate::{WriteError, WriterRelocate};
 use dwc_base::Address;
+use std::marker::Model;
 
 /// A range list: intervals of addresses in order, each by where it begins and how many bytes it has.
 #[derive(Debug, Drop)]
@@ -43,12 +44,27 @@ pub struct LocationList {
     locations: Vec<(Address, u64, Expression)>,
 }
 
+impl Model for LocationList {
+    ghost use Rattle.dwc_write.specs.LocationLists as seen;
+
+    ghost Value = { seen.LocationList };
+
+    ghost view = { λ l. record { locations = record { items = l.locations.items } } };
+}
+
 impl LocationList {
     /// The list of some intervals, each by where it begins and how many bytes it has.
     pub fn new(locations: Vec<(Address, u64, Expression)>) -> LocationList
-        ensures { result ≡ record { locations = locations } }
+        ensures { result ≡ record { locations = record { items = locations.items } } }
     {
         LocationList { locations }
+    }
+
+    // Its intervals with their expressions, taken out.
+    pub(crate) fn into_locations(self) -> Vec<(Address, u64, Expression)>
+        ensures { result.items ≡ self.locations.items }
+    {
+        self.locations
     }
 
     /// Its intervals with their expressions.
@@ -207,7 +223,7 @@ fn write_locations_of(
     ensures { Writes lists.old lists.new result (list_bytes lists.old.order size (locations_in attribute.now.value)) (list_relocations lists.old.order size (length lists.old.body) (locations_in attribute.now.value)) }
 {
     match attribute.value() {
-        Held::LocationListRef(list) => write_list(lists, size, list.as_slice()),
+        Held::LocationListRef(locations) => write_list(lists, size, locations),
         _ => Ok(()),
     }
 }

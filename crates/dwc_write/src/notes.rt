@@ -27,7 +27,7 @@ pub struct Notes {
     pub ranged: Vec<FilePlace>,
     pub located: Vec<FilePlace>,
     // the numbers of the texts that they name, each as often as it is named
-    pub texts: Vec<usize>,
+    pub texts: Vec<u32>,
     // whether the expressions of their location lists are short
     pub short: bool,
     // how much room is taken in sections
@@ -35,20 +35,20 @@ pub struct Notes {
 }
 
 impl Notes {
-    // Nothing is noted.
-    pub fn new(alloc: Global) -> Notes
-        ensures ranged { result.ranged.items ≡ [] }
-        ensures located { result.located.items ≡ [] }
-        ensures texts { result.texts.items ≡ [] }
-        ensures short { result.short ≡ true }
+    // Nothing is noted of so many entries, of which most name one text.
+    pub fn new(alloc: Global, entries: usize) -> Result<Notes, AllocError>
+        ensures ranged { IfOk result (λ notes. notes.ranged.items ≡ []) }
+        ensures located { IfOk result (λ notes. notes.located.items ≡ []) }
+        ensures texts { IfOk result (λ notes. notes.texts.items ≡ []) }
+        ensures short { IfOk result (λ notes. notes.short ≡ true) }
     {
-        Notes {
+        Ok(Notes {
             ranged: Vec::new(alloc),
             located: Vec::new(alloc),
-            texts: Vec::new(alloc),
+            texts: Vec::with_capacity(alloc, entries)?,
             short: true,
             counts: NO_COUNTS,
-        }
+        })
     }
 }
 
@@ -102,7 +102,7 @@ struct Free {
 // behind them.
 fn note_values(
     counts: &mut Counts,
-    texts: &mut Vec<usize>,
+    texts: &mut Vec<u32>,
     free: &mut Free,
     attributes: &[KeptAttribute],
     place: usize,
@@ -129,7 +129,7 @@ fn note_values(
 #[inline(always)]
 fn note_value(
     counts: &mut Counts,
-    texts: &mut Vec<usize>,
+    texts: &mut Vec<u32>,
     free: &mut Free,
     attribute: &KeptAttribute,
     size: u8,
@@ -151,7 +151,7 @@ fn note_value(
         Held::Exprloc(bytes) => Ok(block_size(bytes)),
         Held::StringRef(id) => {
             count_relocated(counts);
-            texts.push(id.index)?;
+            texts.push(in_four_bytes(id.index)?)?;
             Ok(4)
         }
         Held::LineProgramRef => {
@@ -163,8 +163,8 @@ fn note_value(
             free.of_ranges = false;
             Ok(4)
         }
-        Held::LocationListRef(list) => {
-            count_locations(counts, list.as_slice());
+        Held::LocationListRef(locations) => {
+            count_locations(counts, locations);
             free.of_locations = false;
             Ok(4)
         }
@@ -174,4 +174,11 @@ fn note_value(
             Ok(4)
         }
     }
+}
+
+// The number of a text in four bytes. There is no memory for so many texts that it does not fit.
+fn in_four_bytes(index: usize) -> Result<u32, AllocError>
+    ensures { IfOk result (λ n. n ≡ index) }
+{
+    u32::try_from(index).map_err(|_| AllocError)
 }

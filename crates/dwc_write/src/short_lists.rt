@@ -71,7 +71,7 @@ fn is_short_list(attribute: &KeptAttribute) -> bool
     ensures { result ≡ is_short_value attribute.now.value }
 {
     match attribute.value() {
-        Held::LocationListRef(list) => are_short(list.as_slice()),
+        Held::LocationListRef(locations) => are_short(locations),
         _ => true,
     }
 }

@@ -50,13 +50,13 @@ pub fn lay_out_texts(
 }
 
 // Texts by their numbers, in this order.
-fn use_texts(layout: &mut TextLayout, texts: &[Vec<u8>], named: &[usize]) -> Result<(), WriteError>
+fn use_texts(layout: &mut TextLayout, texts: &[Vec<u8>], named: &[u32]) -> Result<(), WriteError>
     requires texts { IsTextLayout (map (λ v. v.items) texts.now) layout.old }
     requires known { All (λ n. n < length texts.now) named.now }
     ensures { UsesTexts (map (λ v. v.items) texts.now) layout.old layout.new result named.now }
 {
     for i in 0..named.len() {
-        use_text(layout, texts, named[i])?;
+        use_text(layout, texts, named[i] as usize)?;
     }
     Ok(())
 }

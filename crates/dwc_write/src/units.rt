@@ -93,6 +93,14 @@ impl Unit {
         Ok(())
     }
 
+    /// Gives back the memory that nothing stands in, where no more is to be added. Nothing else changes.
+    pub fn give_back(&mut self)
+        ensures { self.new ≡ self.old }
+    {
+        self.places.shrink_to_fit();
+        self.additions.give_back();
+    }
+
     /// Adds an entry without attributes below a parent, which was added before. In the file it stands behind the entries that
     /// were added below that parent before it.
     pub fn add(&mut self, parent: UnitEntryId, tag: u16) -> Result<UnitEntryId, WriteError>

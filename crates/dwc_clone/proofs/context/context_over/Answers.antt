@@ -2,7 +2,7 @@ use Rattle.std.proofs.Common.{refl, ap, map}
 use Rattle.std.specs.Prelude.{option_map}
 use Rattle.dwc_base.specs.declared.constants.TheConstants.{DW_AT_location}
 use Rattle.dwc_expr.specs.Builds.{built_view, surroundings}
-use Rattle.dwc_write.specs.declared.lists.LocationList.{LocationList}
+use Rattle.dwc_write.specs.LocationLists.{LocationList}
 use Rattle.dwc_write.specs.Lists.{location_of}
 use Rattle.dwc_clone.proofs.LocationsFit.{fits-built-over}
 use Rattle.dwc_clone.proofs.context.context_over.Goals as goal

@@ -209,14 +209,14 @@ returns-clause-cloned g c number s source frames none can emitted walked =
     let roles = roles_from registers src s first all in
     let a = c.loop-next.invariant.cloned number s roles source frames can emitted walked (unit-roles registers src s number first all emitted.each) in
     let closed = succeeded c.close_wrappers.result c.in_ok-of_memory-2.field-0 c.in_ok-of_memory-2.ensures c.close_wrappers.ensures.unit in
-    among-end registers src number s source roles all _ c.loop-next.next (length c.loop-next.unit.places) c.args.strings.now c.loop-next.strings c.args.begun c.loop-next.unit c.close_wrappers.new.unit walk.parents.items (reverse walk.opened.items) walk.lineage walk.contexts walk.names a
+    rw (c.give_back.ensures) (among-end registers src number s source roles all _ c.loop-next.next (length c.loop-next.unit.places) c.args.strings.now c.loop-next.strings c.args.begun c.loop-next.unit c.close_wrappers.new.unit walk.parents.items (reverse walk.opened.items) walk.lineage walk.contexts walk.names a
     (elim c.loop-next-test.branch [
       | then-loop-next-test+in_ok-advance+else-branch w ↦
           ap (λ (l : Listing Fault Entry). picked (drop c.loop-next.next kept) l.items) (gone-not c.loop-next.entries.left w.advance.new.self.left w.advance.new.self.current w.in_ok-advance.field-0 w.in_ok-advance.ensures.next w.if-branch.false)
           ∙ picked-none (drop c.loop-next.next kept)
       | else-loop-next-test w ↦ picked-past kept c.loop-next.next c.loop-next.entries.left.items w.loop-next-test.false
     ])
-    can c.loop-next.invariant.wrappers closed
+    can c.loop-next.invariant.wrappers closed)
 
 pub returns-clause-noted : goal.returns-clause-noted
 returns-clause-noted g c =

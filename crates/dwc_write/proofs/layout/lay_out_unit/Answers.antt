@@ -54,6 +54,16 @@ returns-in_err-with_capacity-2-clause-fits c =
     let P : GivenUnit → Type 0 = λ u. FitsOrdered (ordered u) in
     subst P c.unit.view_is (ordered-fits _ c.unit.invariant)
 
+pub returns-in_err-with_capacity-3-clause-fits : goal.returns-in_err-with_capacity-3-clause-fits
+returns-in_err-with_capacity-3-clause-fits c =
+    let P : GivenUnit → Type 0 = λ u. FitsOrdered (ordered u) in
+    subst P c.unit.view_is (ordered-fits _ c.unit.invariant)
+
+pub returns-in_err-new-clause-fits : goal.returns-in_err-new-clause-fits
+returns-in_err-new-clause-fits c =
+    let P : GivenUnit → Type 0 = λ u. FitsOrdered (ordered u) in
+    subst P c.unit.view_is (ordered-fits _ c.unit.invariant)
+
 pub returns-in_err-length-clause-fits : goal.returns-in_err-length-clause-fits
 returns-in_err-length-clause-fits c =
     let P : GivenUnit → Type 0 = λ u. FitsOrdered (ordered u) in
