@@ -28,11 +28,14 @@ pub(crate) fn is_wrapped(entry: &Entry<'_>) -> bool
     entry.tag == DW_TAG_pointer_type || entry.tag == DW_TAG_reference_type
 }
 
+// So many bytes of a wrapper's name stand beside the name in it.
+const WRAPPER_LENGTH: usize = 23;
+
 /// The name of a wrapper of an entry of a tag, by the name of what that goes to.
 pub(crate) fn wrapper_name(alloc: Global, tag: u16, name: &[u8]) -> Result<Vec<u8>, AllocError>
     ensures { IfOk result (λ whole. whole.items ≡ wrapper_name tag name.now) }
 {
-    let mut whole = Vec::new(alloc);
+    let mut whole = Vec::with_capacity(alloc, name.len().saturating_add(WRAPPER_LENGTH))?;
     if tag == DW_TAG_pointer_type {
         whole.extend_from_slice(b"WebAssemblyPtrWrapper<")?;
     } else {

@@ -43,6 +43,9 @@ fn extend_code(part: &mut CompiledExpressionPart, bytes: &[u8]) -> Result<(), Al
     }
 }
 
+// Room is made at first for so many bytes, no less than which a piece of memory has.
+const USUAL_CODE: usize = 24;
+
 // Puts bytes behind some parts.
 fn push_code(
     alloc: Global,
@@ -56,7 +59,8 @@ fn push_code(
         let last = parts.len() - 1;
         return extend_code(&mut parts[last], bytes);
     }
-    let copy = Vec::from_slice(alloc, bytes)?;
+    let mut copy = Vec::with_capacity(alloc, bytes.len().max(USUAL_CODE))?;
+    copy.extend_from_slice(bytes)?;
     parts.push(CompiledExpressionPart::Code(copy))?;
     Ok(())
 }

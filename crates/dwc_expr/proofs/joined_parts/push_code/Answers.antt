@@ -24,4 +24,4 @@ pub returns-clause-ok : goal.returns-clause-ok
 returns-clause-ok c =
     let parts = c.args.parts.now in
     let ends : ends_in_code (map part_view parts.items) ≡ false = ap (λ xs. ends_in_code (map part_view xs)) (sym c.deref.ensures.value) ∙ sym c.ends_in_code.ensures ∙ c.if-ends_in_code.false in
-    rw (c.in_ok-push.ensures.items, map-append, c.in_ok-copy.ensures.items) (sym (behind-no_code (map part_view parts.items) c.args.bytes.now ends))
+    rw (c.in_ok-push.ensures.items, map-append, c.in_ok-extend_from_slice.ensures.items, c.in_ok-copy.ensures.items) (sym (behind-no_code (map part_view parts.items) c.args.bytes.now ends))
