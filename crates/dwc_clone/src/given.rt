@@ -11,7 +11,7 @@ ghost use Rattle.dwc_read.specs.EntriesSeen.{entry_view};
 ghost use Rattle.dwc_clone.specs.BoundRefusals.{IsSound};
 
 use crate::CloneSource;
-use crate::wasm_intervals::intervals_of;
+use crate::wasm_intervals::{Scope, intervals_of};
 use dwc_addr::FunctionMap;
 use dwc_base::constants::{DW_AT_frame_base, DW_AT_high_pc, DW_AT_ranges, DW_TAG_subprogram};
 use dwc_expr::{CompiledExpression, ExprError, compile_expression};
@@ -19,10 +19,10 @@ use dwc_read::{AttributeValue, Entry};
 use std::alloc::{AllocError, Global};
 
 // Where a function begins and ends in the wasm file.
-fn source_range(alloc: Global, function: &FunctionMap) -> Result<Vec<(u64, u64)>, AllocError>
+fn source_range(alloc: Global, function: &FunctionMap) -> Result<Scope, AllocError>
     ensures { IfOk result (λ scope. scope.items ≡ source_range (function_view function.now)) }
 {
-    let mut scope = Vec::with_capacity(alloc, 1)?;
+    let mut scope = Scope::new(alloc);
     scope.push((function.wasm_start, function.wasm_end))?;
     Ok(scope)
 }
@@ -31,7 +31,7 @@ fn source_range(alloc: Global, function: &FunctionMap) -> Result<Vec<(u64, u64)>
 fn scope_of_function(
     alloc: Global,
     function: Option<&FunctionMap>,
-) -> Result<Option<Vec<(u64, u64)>>, AllocError>
+) -> Result<Option<Scope>, AllocError>
     ensures { IfOk result (λ scope. option_map (λ is. is.items) scope ≡ option_map source_range (option_map (λ f. function_view f.now) function.entry)) }
 {
     match function {
@@ -58,7 +58,7 @@ pub(crate) fn scope_given(
     source: &CloneSource<'_, '_>,
     entry: &Entry<'_>,
     function: Option<&FunctionMap>,
-) -> Result<(Option<Vec<(u64, u64)>>, bool), AllocError>
+) -> Result<(Option<Scope>, bool), AllocError>
     requires begun { option_map (λ f. function_view f.now) function ≡ begun_function (list_source source.now.unit.now.sections source.now.unit.now.header) source.now.transform.now (entry_view entry.now) }
     ensures given { IfOk result (λ r. option_map (λ is. is.items) r.0 ≡ scope_given (list_source source.now.unit.now.sections source.now.unit.now.header) source.now.transform.now (entry_view entry.now)) }
     ensures sound { IfOk result (λ r. r.1 ≡ true → IsSound (list_source source.now.unit.now.sections source.now.unit.now.header) (entry_view entry.now)) }

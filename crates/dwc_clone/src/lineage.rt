@@ -12,6 +12,7 @@ ghost use Rattle.dwc_clone.specs.BoundRefusals.{IsSound};
 ghost use Rattle.dwc_clone.specs.Lineages.{Stacks, given_on, no_stacks, own_scope, stacks_left, stacks_with, with_entry};
 
 use crate::given::{base_given, scope_given};
+use crate::wasm_intervals::Scope;
 use crate::{CloneError, CloneSource, InheritedAttr};
 use dwc_addr::FunctionMap;
 use dwc_base::constants::DW_TAG_subprogram;
@@ -23,7 +24,7 @@ use std::marker::Model;
 /// What the entries of a unit gave to those below them, in a walk over its kept entries in file order.
 #[derive(Drop)]
 pub(crate) struct Lineage {
-    scopes: InheritedAttr<Vec<(u64, u64)>>,
+    scopes: InheritedAttr<Scope>,
     // Functions by their numbers among those of all modules.
     frames: InheritedAttr<usize>,
     bases: InheritedAttr<CompiledExpression>,
@@ -124,7 +125,7 @@ impl Lineage {
     fn push(
         &mut self,
         entry: &Entry<'_>,
-        scope: Option<Vec<(u64, u64)>>,
+        scope: Option<Scope>,
         frame: Option<usize>,
         base: Option<CompiledExpression>,
     ) -> Result<(), AllocError>

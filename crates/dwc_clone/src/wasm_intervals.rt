@@ -16,7 +16,11 @@ use crate::ranges::list_begun;
 use dwc_base::Address;
 use dwc_read::{AttributeValue, Entry, Unit};
 use dwc_tabs::Ranges;
+use smallvec::SmallVec;
 use std::alloc::{AllocError, Global};
+
+/// Intervals of wasm offsets. Most scopes are one, which takes no memory.
+pub(crate) type Scope = SmallVec<(u64, u64), 1>;
 
 // An interval of the input as two numbers.
 fn wasm_interval(begin: Address, end: Address) -> Option<(u64, u64)>
@@ -29,11 +33,7 @@ fn wasm_interval(begin: Address, end: Address) -> Option<(u64, u64)>
 }
 
 // Adds an interval of the input, if it is one of wasm offsets.
-fn add_interval(
-    begin: Address,
-    end: Address,
-    intervals: &mut Vec<(u64, u64)>,
-) -> Result<(), AllocError>
+fn add_interval(begin: Address, end: Address, intervals: &mut Scope) -> Result<(), AllocError>
     ensures { OnOk result (intervals.new.items ≡ intervals.old.items ++ option_to_list (wasm_interval (interval_view (begin, end)))) }
 {
     if let Some(interval) = wasm_interval(begin, end) {
@@ -45,7 +45,7 @@ fn add_interval(
 /// The intervals of wasm offsets that an extent is read as.
 #[derive(Drop)]
 pub(crate) struct ReadIntervals {
-    pub intervals: Vec<(u64, u64)>,
+    pub intervals: Scope,
     /// Whether it is known that nothing is refused of the extent.
     pub is_sound: bool,
 }
@@ -54,7 +54,7 @@ pub(crate) struct ReadIntervals {
 fn intervals_left(alloc: Global, list: &mut Ranges<'_, '_>) -> Result<ReadIntervals, AllocError>
     ensures { IfOk result (AreReadOf list.old) }
 {
-    let mut intervals = Vec::new(alloc);
+    let mut intervals = Scope::new(alloc);
     loop {
         match list.next_range() {
             Ok(Some((begin, end))) => add_interval(begin, end, &mut intervals)?,
@@ -76,7 +76,7 @@ fn no_intervals(alloc: Global) -> ReadIntervals
     ensures unsound { result.is_sound ≡ false }
 {
     ReadIntervals {
-        intervals: Vec::new(alloc),
+        intervals: Scope::new(alloc),
         is_sound: false,
     }
 }
@@ -108,7 +108,7 @@ fn interval_alone(
     ensures alone { IfOk result (λ r. r.intervals.items ≡ filter_map wasm_interval (option_to_list (option_map interval_view interval))) }
     ensures sound { IfOk result (λ r. r.is_sound ≡ is_some interval) }
 {
-    let mut intervals = Vec::new(alloc);
+    let mut intervals = Scope::new(alloc);
     let is_sound = interval.is_some();
     if let Some((begin, end)) = interval {
         add_interval(begin, end, &mut intervals)?;

@@ -14,10 +14,10 @@ use Rattle.dwc_write.specs.declared.notes.Notes.{Notes}
 use Rattle.dwc_write.specs.Noted.{listed_among}
 use Rattle.dwc_write.specs.ShortLists.{are_short_values}
 use Rattle.dwc_write.specs.UsedTexts.{texts_of_entries}
-use Rattle.dwc_write.specs.GivenUnits.{Addition, GivenEntry, GivenUnit, Places, in_file_order, ordered, shapes_in}
+use Rattle.dwc_write.specs.GivenUnits.{Addition, GivenEntry, GivenUnit, Places, in_file_order, numbered, ordered, shapes_in}
 use Rattle.dwc_write.specs.FileOrders.{looked_up}
 use Rattle.dwc_write.specs.Layouts.{UnitPlaces, AllPlaces, codes_of, places_in}
-use Rattle.dwc_write.specs.ShapeViews.{shape_view}
+use Rattle.dwc_write.specs.SpelledTables.{table_bytes}
 
 -- where a unit and its entries stand
 abbrev pub places_view : UnitLayout → UnitPlaces
@@ -43,12 +43,12 @@ pub record IsNoting (added : List Addition) (notes : Notes) (es : List GivenEntr
   pub texts : notes.texts.items ≡ texts_of_entries es
   pub short : notes.short ≡ list_all (λ e. are_short_values e.attributes) es
 
--- A unit is laid out: its entries in file order, with the codes of their shapes and what is noted of them.
+-- A unit is laid out: its entries in file order, with the codes of their shapes, the table that declares these, and what is noted of them.
 pub record IsLaidOut (u : GivenUnit) (l : UnitLayout) : Type 0 where
   pub order : map (looked_up u.additions) l.order.items ≡ in_file_order u.additions
   pub known : All (λ f. f.index < length u.additions) l.order.items
   pub codes : l.codes.items ≡ codes_of (in_file_order u.additions)
-  pub shapes : map shape_view l.shapes.keys ≡ shapes_in (ordered u)
+  pub table : l.table.items ≡ table_bytes (numbered 1 (shapes_in (ordered u)))
   pub notes : IsNoting u.additions l.notes (in_file_order u.additions)
 
 -- the texts that are noted of units

@@ -8,21 +8,36 @@ ghost use Rattle.dwc_write.specs.ShapeViews.{shape_view};
 use crate::append::put_uleb;
 use crate::attributes::{KeptAttribute, form_of};
 use indexmap::IndexSet;
-use std::alloc::AllocError;
+use smallvec::SmallVec;
+use std::alloc::{AllocError, Global};
 
 /// An attribute of a declaration: its name and its form.
-#[derive(Clone, Copy, Debug, PartialEq, Eq, Hash)]
+#[derive(Clone, Copy, Debug, Default, PartialEq, Eq, Hash)]
 pub struct AttributeForm {
     pub(crate) name: u16,
     pub(crate) form: u16,
 }
+
+// Most declarations have no more attributes.
+const USUAL_ATTRIBUTES: usize = 6;
 
 // What the declaration of an entry says beside its code.
 #[derive(PartialEq, Eq, Hash, Drop)]
 pub struct Shape {
     pub(crate) tag: u16,
     pub(crate) has_children: bool,
-    pub(crate) attributes: Vec<AttributeForm>,
+    pub(crate) attributes: SmallVec<AttributeForm, USUAL_ATTRIBUTES>,
+}
+
+impl Shape {
+    // One without attributes.
+    pub fn new(alloc: Global) -> Shape {
+        Shape {
+            tag: 0,
+            has_children: false,
+            attributes: SmallVec::new(alloc),
+        }
+    }
 }
 
 // The code of an entry by its shape, which is kept where it is new. One place is looked at first, since entries of a tag often have one
@@ -55,7 +70,7 @@ fn is_shape_of(shape: &Shape, tag: u16, has_children: bool, attributes: &[KeptAt
 {
     shape.tag == tag
         && shape.has_children == has_children
-        && are_forms_of(&shape.attributes, attributes)
+        && are_forms_of(shape.attributes.as_slice(), attributes)
 }
 
 // Whether names and forms are those of attributes.
@@ -101,7 +116,10 @@ fn copied(shape: &Shape) -> Result<Shape, AllocError>
     Ok(Shape {
         tag: shape.tag,
         has_children: shape.has_children,
-        attributes: shape.attributes.to_vec(*shape.attributes.allocator())?,
+        attributes: SmallVec::from_slice(
+            *shape.attributes.allocator(),
+            shape.attributes.as_slice(),
+        )?,
     })
 }
 
@@ -123,7 +141,7 @@ fn set_shape(
 
 // The names and forms of attributes, behind others.
 fn push_forms(
-    forms: &mut Vec<AttributeForm>,
+    forms: &mut SmallVec<AttributeForm, USUAL_ATTRIBUTES>,
     attributes: &[KeptAttribute],
 ) -> Result<(), AllocError>
     ensures { OnOk result (forms.new.items ≡ forms.old.items ++ forms_of attributes.now) }
@@ -157,7 +175,7 @@ fn put_shape(out: &mut Vec<u8>, shape: &Shape) -> Result<(), AllocError>
 {
     put_uleb(out, u64::from(shape.tag))?;
     out.push(u8::from(shape.has_children))?;
-    put_forms(out, &shape.attributes)?;
+    put_forms(out, shape.attributes.as_slice())?;
     out.extend_from_slice(&[0, 0])?;
     Ok(())
 }

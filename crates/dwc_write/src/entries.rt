@@ -5,17 +5,16 @@ ghost use Rattle.dwc_base.specs.NumberBytes.{number_bytes, sleb_bytes, uleb_byte
 ghost use Rattle.dwc_write.specs.Spelled.{block_bytes};
 ghost use Rattle.dwc_write.specs.SpelledUnits.{attribute_bytes, entry_bytes, shaped, written_bytes};
 ghost use Rattle.dwc_write.specs.SpelledRelocations.{entries_relocations, value_relocations, values_relocations};
-ghost use Rattle.dwc_write.specs.GivenUnits.{FitsAttribute, FitsEntry as FitsGivenEntry, FitsOperand, constant_of, first_uses, shapes_of, behind_entries, written_attributes, written_entries, written_of};
+ghost use Rattle.dwc_write.specs.GivenUnits.{FitsAttribute, FitsEntry as FitsGivenEntry, FitsOperand, constant_of, first_uses, numbered, shapes_of, behind_entries, written_attributes, written_entries, written_of};
 ghost use Rattle.dwc_write.specs.FileOrders.{looked_up};
 ghost use Rattle.dwc_write.specs.LayoutViews.{places_view, spelling_places};
 ghost use Rattle.dwc_write.specs.Layouts.{AreShort, codes_of, offset_in_section, offset_of_text};
-ghost use Rattle.dwc_write.specs.ShapeViews.{shape_view};
+ghost use Rattle.dwc_write.specs.SpelledTables.{table_bytes};
 ghost use Rattle.dwc_write.specs.SpelledOutput.{WritesUnit};
 ghost use Rattle.dwc_write.specs.Lists.{AreWithin, behind_attributes as behind_all};
 ghost use Rattle.dwc_base.specs.declared.section_name.SectionName.TheVariants.{Abbrev};
 ghost use Rattle.dwc_write.specs.Writers.{Writes, most_bytes, offset_relocation};
 
-use crate::abbreviations::put_table;
 use crate::additions::Additions;
 use crate::append::{bytes_2, put_sleb, put_uleb};
 use crate::attributes::{Held, KeptAttribute};
@@ -98,7 +97,7 @@ pub fn write_unit(
     requires lists { AreWithin (behind_entries spelling.now.size spelling.now.lists (map (looked_up additions.now) layout.now.order.items)) }
     requires known { All (λ f. f.index < length additions.now) layout.now.order.items }
     requires codes { layout.now.codes.items ≡ codes_of (map (looked_up additions.now) layout.now.order.items) }
-    requires shapes { map shape_view layout.now.shapes.keys ≡ first_uses [] (shapes_of (map (looked_up additions.now) layout.now.order.items)) }
+    requires table { layout.now.table.items ≡ table_bytes (numbered 1 (first_uses [] (shapes_of (map (looked_up additions.now) layout.now.order.items)))) }
     ensures { WritesUnit tables.old tables.new info.old info.new result spelling.now.size spelling.now.lists (spelling_places spelling.now) (map (looked_up additions.now) layout.now.order.items) }
 {
     let place = info.place();
@@ -112,9 +111,7 @@ pub fn write_unit(
         &layout.codes,
     )?;
     info.finish_length(place);
-    scratch.clear();
-    put_table(scratch, layout.shapes.as_slice())?;
-    tables.put_bytes(scratch)
+    tables.put_bytes(&layout.table)
 }
 
 // A header: room for the length, the version, the offset of the abbreviation table, and the size of an address.

@@ -20,12 +20,12 @@ ghost use Rattle.dwc_write.specs.UsedTexts.{texts_of_attributes};
 ghost use Rattle.dwc_write.specs.WidestGiven.{IsWideRefusal};
 ghost use Rattle.dwc_write.specs.Writers.{most_bytes, OkUnlessMemory};
 
-use crate::abbreviations::{Shape, code_of_entry};
+use crate::abbreviations::{Shape, code_of_entry, put_table};
 use crate::additions::Additions;
 use crate::attributes::KeptAttribute;
 use crate::file_order::{FilePlace, depth_of_first, file_order};
 use crate::notes::{Notes, note_entry};
-use crate::sizes::{advanced, uleb_length};
+use crate::sizes::{advanced, in_four_bytes, uleb_length};
 use crate::small_places::SmallPlace;
 use crate::{Unit, WriteError};
 use indexmap::IndexSet;
@@ -37,6 +37,9 @@ const HEADER_LENGTH: usize = 11;
 // Room is made at first for so many shapes.
 const USUAL_SHAPES: usize = 14;
 
+// Most declarations have no more bytes.
+const USUAL_BYTES: usize = 16;
+
 // How many guesses of shapes are kept: for 64 tags, with children or without, and 8 numbers of attributes.
 const GUESSES: usize = 1024;
 
@@ -46,10 +49,10 @@ pub struct UnitLayout {
     // where it begins in `.debug_info`, and how long it is
     pub start: usize,
     pub length: usize,
-    // its entries in file order, the codes of their shapes, and the shapes
+    // its entries in file order, the codes of their shapes, and the table that declares these
     pub order: Vec<FilePlace>,
     pub codes: Vec<u32>,
-    pub shapes: IndexSet<Shape>,
+    pub table: Vec<u8>,
     // what is noted of its entries
     pub notes: Notes,
     // the offsets in it of its entries by their numbers, 0 for a number that is only reserved
@@ -95,7 +98,7 @@ fn lay_out_unit(alloc: Global, unit: &Unit, start: usize) -> Result<UnitLayout, 
 {
     let order = file_order(alloc, &unit.additions)?;
     let mut coded = Coded {
-        shapes: IndexSet::with_capacity(alloc, USUAL_SHAPES)?,
+        shapes: IndexSet::with_capacity(alloc, order.len().min(USUAL_SHAPES))?,
         codes: Vec::with_capacity(alloc, order.len())?,
         offsets: Vec::with_capacity(alloc, order.len())?,
         notes: Notes::new(alloc, order.len())?,
@@ -108,18 +111,15 @@ fn lay_out_unit(alloc: Global, unit: &Unit, start: usize) -> Result<UnitLayout, 
         &mut coded,
     )?;
     let by_place = offsets_by_place(alloc, &order, &coded.offsets, unit.additions.len())?;
-    let Coded {
-        shapes,
-        codes,
-        notes,
-        ..
-    } = coded;
+    let mut table = Vec::with_capacity(alloc, coded.shapes.len().saturating_mul(USUAL_BYTES))?;
+    put_table(&mut table, coded.shapes.as_slice())?;
+    let Coded { codes, notes, .. } = coded;
     Ok(UnitLayout {
         start,
         length,
         order,
         codes,
-        shapes,
+        table,
         notes,
         offsets: offsets_by_number(alloc, &unit.places, &by_place)?,
     })
@@ -146,11 +146,7 @@ fn place_entries(
     ensures notes { OnOk result (IsNoting additions.now coded.new.notes (map (looked_up additions.now) order.now)) }
     ensures end { (o : Endian) → AdvancesOrMemory result header_length (length (flat_map (entry_bytes o size) (shaped (written_entries nowhere no_places no_lists (first_uses [] (shapes_of (map (looked_up additions.now) order.now))) (map (looked_up additions.now) order.now))))) }
 {
-    let mut shape = Shape {
-        tag: 0,
-        has_children: false,
-        attributes: Vec::new(alloc),
-    };
+    let mut shape = Shape::new(alloc);
     // the places of the shapes that were last found for entries alike
     let mut guesses = [0; GUESSES];
     let mut place = HEADER_LENGTH;
@@ -170,8 +166,8 @@ fn place_entries(
             attributes,
         )?;
         guesses[alike] = code - 1;
-        coded.codes.push(in_four_bytes(code)?)?;
-        coded.offsets.push(in_four_bytes(place as u64)?)?;
+        coded.codes.push(in_four_bytes(code as usize)?)?;
+        coded.offsets.push(in_four_bytes(place)?)?;
         place = place_entry(
             &mut coded.notes,
             order[i],
@@ -216,16 +212,6 @@ fn place_entry(
     let behind_code = advanced(place, usize::from(uleb_length(code)))?;
     let behind_values = note_entry(notes, entry, attributes, behind_code, size)?;
     Ok(advanced(behind_values, ends)?)
-}
-
-// A number in four bytes. No unit with a greater one has room in memory.
-fn in_four_bytes(number: u64) -> Result<u32, WriteError>
-    ensures { OkUnlessMemory result (λ n. n ≡ number) }
-{
-    match u32::try_from(number) {
-        Ok(narrow) => Ok(narrow),
-        Err(_) => Err(WriteError::OutOfMemory),
-    }
 }
 
 // The offsets of entries by their places in the order of addition, of which there are so many. The first of a place counts.

@@ -17,7 +17,7 @@ use crate::attributes::{Held, KeptAttribute};
 use crate::file_order::FilePlace;
 use crate::room::{Counts, NO_COUNTS, count_locations, count_ranges, count_relocated};
 use crate::short_lists::has_short_values;
-use crate::sizes::{advanced, block_size, constant_size};
+use crate::sizes::{advanced, block_size, constant_size, in_four_bytes};
 use std::alloc::{AllocError, Global};
 
 // What is noted of entries, in file order.
@@ -174,11 +174,4 @@ fn note_value(
             Ok(4)
         }
     }
-}
-
-// The number of a text in four bytes. There is no memory for so many texts that it does not fit.
-fn in_four_bytes(index: usize) -> Result<u32, AllocError>
-    ensures { IfOk result (λ n. n ≡ index) }
-{
-    u32::try_from(index).map_err(|_| AllocError)
 }

@@ -1,5 +1,5 @@
 //! How long values are, and the places behind them. (DWARF 4, sections 7.5.4 and 7.6.)
-ghost use Rattle.std.specs.Prelude.{◌≡◌, ◌≤◌, length, negsuc, pos};
+ghost use Rattle.std.specs.Prelude.{◌≡◌, ◌≤◌, IfOk, length, negsuc, pos};
 ghost use Rattle.dwc_base.specs.declared.records.Endian.{Endian};
 ghost use Rattle.dwc_write.specs.GivenUnits.{constant_of};
 ghost use Rattle.dwc_write.specs.LayoutViews.{Advances};
@@ -14,6 +14,7 @@ use dwc_base::constants::{
     DW_FORM_data1, DW_FORM_data2, DW_FORM_data4, DW_FORM_data8, DW_FORM_sdata,
 };
 use dwc_base::{Limit, SectionName};
+use std::alloc::AllocError;
 
 // How many bytes an unsigned LEB128 number has.
 pub fn uleb_length(value: u64) -> u8
@@ -92,4 +93,11 @@ pub fn advanced(place: usize, more: usize) -> Result<usize, WriteError>
         });
     }
     Ok(place + more)
+}
+
+// A number in four bytes. There is no memory for so much of anything that its number does not fit.
+pub fn in_four_bytes(number: usize) -> Result<u32, AllocError>
+    ensures { IfOk result (λ n. n ≡ number) }
+{
+    u32::try_from(number).map_err(|_| AllocError)
 }

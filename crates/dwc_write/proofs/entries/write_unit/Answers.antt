@@ -1,11 +1,8 @@
-use Rattle.std.proofs.Common.{◌∙◌, [], map, length}
+use Rattle.std.proofs.Common.{◌∙◌, map, length}
 use Rattle.std.proofs.lemmas.Result.{err_from_is_err_and}
-use Rattle.std.proofs.lemmas.List.Elements.{All-nil}
 use Rattle.dwc_write.specs.FileOrders.{looked_up}
-use Rattle.dwc_write.specs.GivenUnits.{IsPlainShape}
 use Rattle.dwc_write.specs.LayoutViews.{spelling_places}
 use Rattle.dwc_write.specs.SpelledOutput.{unit_of}
-use Rattle.dwc_write.proofs.EntriesLaws.{uses-plain}
 use Rattle.dwc_write.proofs.UnitBytes.{front, header-length, unit-length, unit-clear, unit-appended}
 use Rattle.dwc_write.proofs.OutputLaws.{info-refused, info-refused-later, unit-result}
 use Rattle.dwc_write.proofs.entries.write_unit.Goals as goal
@@ -15,9 +12,6 @@ finish_length-requires-clause-clear c =
     let u = unit_of c.args.spelling.now.size c.args.spelling.now.lists (length c.args.tables.now.body) (spelling_places c.args.spelling.now) (map (looked_up c.args.additions.now) c.args.layout.now.order.items) in
     let headed = rw (c.place.ensures.place) at c.in_ok-write_header.ensures in
     rw (c.place-place.ensures.place) (unit-clear c.args.spelling.now.size u c.args.info.now c.write_header.new.info c.write_entries.new.info headed (rw (c.deref.ensures.value) at c.in_ok-write_entries.ensures) c.place-place.ensures.below)
-
-pub put_table-requires : goal.put_table-requires
-put_table-requires c = rw (c.as_slice.ensures.keys, c.requires.shapes) (uses-plain [] (map (looked_up c.args.additions.now) c.args.layout.now.order.items) (All-nil IsPlainShape))
 
 pub returns-in_err-write_header : goal.returns-in_err-write_header
 returns-in_err-write_header c =
@@ -38,6 +32,6 @@ pub returns : goal.returns
 returns c =
     let u = unit_of c.args.spelling.now.size c.args.spelling.now.lists (length c.args.tables.now.body) (spelling_places c.args.spelling.now) (map (looked_up c.args.additions.now) c.args.layout.now.order.items) in
     let headed = rw (c.place.ensures.place) at c.in_ok-write_header.ensures in
-    let table = c.deref-3.ensures.value ∙ rw (c.clear.ensures.items, c.as_slice.ensures.keys, c.requires.shapes) at c.in_ok-put_table.ensures in
+    let table = c.deref-3.ensures.value ∙ c.requires.table in
     let info = unit-appended c.args.spelling.now.size u c.args.info.now c.write_header.new.info c.write_entries.new.info headed (rw (c.deref.ensures.value) at c.in_ok-write_entries.ensures) c.finish_length.new.self (rw (c.place-place.ensures.place) at c.finish_length.ensures) in
     unit-result _ _ _ _ _ c.args.spelling.now.size c.args.spelling.now.lists (spelling_places c.args.spelling.now) (map (looked_up c.args.additions.now) c.args.layout.now.order.items) _ c.put_bytes.ensures table info

@@ -1,15 +1,17 @@
 use Rattle.std.proofs.Common.{◌≡◌, ◌∙◌, ap, subst, ℕ, List, [], ◌∷◌, map, length}
 use Rattle.std.proofs.lemmas.List.{length-map}
+use Rattle.std.proofs.lemmas.List.Elements.{All-nil}
 use Rattle.std.proofs.lemmas.Result.{err_from_is_err_and}
 use Rattle.dwc_base.specs.declared.records.Endian.{Endian}
 use Rattle.dwc_base.specs.declared.records.Endian.TheVariants.{Little}
 use Rattle.dwc_write.specs.FileOrders.{looked_up}
 use Rattle.dwc_write.specs.Lists.{no_lists, nowhere}
-use Rattle.dwc_write.specs.GivenUnits.{FitsOrdered, GivenEntry, GivenUnit, first_uses, in_file_order, no_places, ordered, shapes_of, written_entries}
+use Rattle.dwc_write.specs.GivenUnits.{FitsOrdered, IsPlainShape, GivenEntry, GivenUnit, first_uses, in_file_order, no_places, ordered, shapes_of, written_entries}
 use Rattle.dwc_write.specs.Layouts.{UnitPlaces, offsets_by_number, unit_length}
 use Rattle.dwc_write.specs.LayoutViews.{IsTooLong}
 use Rattle.dwc_write.specs.Spelled.{at_places}
 use Rattle.dwc_write.specs.SpelledUnits.{entry_bytes, header_length, shaped}
+use Rattle.dwc_write.proofs.EntriesLaws.{uses-plain}
 use Rattle.dwc_write.proofs.LayoutLaws.{offsets-known, offsets-many, shaped-many}
 use Rattle.dwc_write.proofs.OrderedLaws.{ordered-fits}
 use Rattle.dwc_write.proofs.WideLaws.{err-exit}
@@ -92,3 +94,18 @@ returns-in_err-length-clause-large c =
     let P : GivenUnit → Type 0 = λ u. (order : Endian) → IsTooLong c.in_err-length.field-0.0 (unit_length order u.address_size (ordered u)) in
     err-exit (λ e. (order : Endian) → IsTooLong e (unit_length order c.args.unit.now.address_size (ordered c.args.unit.now))) _ _ p
     (subst P c.unit.view_is (λ order. rw (c.deref.ensures.value, in_order) at (c.in_err-length.ensures.end order)))
+
+pub put_table-requires : goal.put_table-requires
+put_table-requires c =
+    let es = map (looked_up c.unit.inside.additions) c.deref.result.now in
+    rw (c.as_slice.ensures.keys, c.in_ok-length.ensures.shapes) (uses-plain [] es (All-nil IsPlainShape))
+
+pub returns-in_err-table-clause-fits : goal.returns-in_err-table-clause-fits
+returns-in_err-table-clause-fits c =
+    let P : GivenUnit → Type 0 = λ u. FitsOrdered (ordered u) in
+    subst P c.unit.view_is (ordered-fits _ c.unit.invariant)
+
+pub returns-in_err-put_table-clause-fits : goal.returns-in_err-put_table-clause-fits
+returns-in_err-put_table-clause-fits c =
+    let P : GivenUnit → Type 0 = λ u. FitsOrdered (ordered u) in
+    subst P c.unit.view_is (ordered-fits _ c.unit.invariant)

@@ -11,7 +11,7 @@ use Rattle.dwc_clone.proofs.lineage.Lineage.own_scope.Goals as goal
 pub returns-in-Some : goal.returns-in-Some
 returns-in-Some c =
     let depth = pos (entry_view c.args.entry.now).depth in
-    ap Some c.as_slice.ensures.value
+    ap Some c.as_slice.ensures
     ∙ ap (option_map (λ scope. scope.items)) c.in-Some.ensures
     ∙ sym (top-at-seen (λ scope. scope.items) depth c.self.inside.scopes)
     ∙ ap (λ (s : Stacks). top_at depth s.scopes) c.self.view_is

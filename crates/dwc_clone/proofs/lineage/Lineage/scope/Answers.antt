@@ -6,7 +6,7 @@ use Rattle.dwc_clone.proofs.lineage.Lineage.scope.Goals as goal
 
 pub returns-in-Some : goal.returns-in-Some
 returns-in-Some c =
-    ap Some c.as_slice.ensures.value
+    ap Some c.as_slice.ensures
     ∙ ap (option_map (λ scope. scope.items)) c.in-Some.ensures
     ∙ sym (top-seen (λ scope. scope.items) c.self.inside.scopes)
     ∙ ap (λ (s : Stacks). top_of s.scopes) c.self.view_is
