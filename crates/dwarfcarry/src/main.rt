@@ -10,6 +10,10 @@ use std::{env, io};
 // The size in bytes of the block that is let go first: less than 32 MiB, from where on the C library learns nothing of one.
 const KEPT: usize = 31 << 20;
 
+// The size of each of two blocks that are let go behind it, so that together they are free at the end of the heap: less than `KEPT`, from
+// where on a block has pages of its own, and both less than twice as much, from where on the C library gives the end of the heap back.
+const FREE_AT_END: usize = 30 << 20;
+
 // The status where the words cannot be got.
 const NO_WORDS: u8 = 1;
 
@@ -31,9 +35,14 @@ fn main(rt: HostRuntime) -> ExitCode {
 }
 
 // Makes the C library hand out again what is let go later: it gives each block of more than 128 KiB back to the system until a larger one
-// was let go, and new pages take time. A block that nothing touches takes no page.
+// was let go, and new pages take time. And makes the end of the heap free: a list that grows there is not moved, as one is that the C
+// library gives pages of its own. A block that nothing touches takes no page.
 fn keep_memory(alloc: Global) {
     drop(Vec::<u8>::with_capacity(alloc, KEPT));
+    let front = Vec::<u8>::with_capacity(alloc, FREE_AT_END);
+    let behind = Vec::<u8>::with_capacity(alloc, FREE_AT_END);
+    drop(behind);
+    drop(front);
 }
 
 // The words behind the program's name.
