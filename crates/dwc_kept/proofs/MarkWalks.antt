@@ -1,13 +1,13 @@
--- Marks and the list of work: what marking numbers changes, and when the marks are the least ones.
-use Rattle.std.proofs.Common.{◌≡◌, ℕ, zero, suc, ◌+◌, ◌<◌, ◌≤◌, ◌⊎◌, List, [], ◌∷◌, ◌++◌, length, get_or, set, replicate, refl, ap, sym, subst, ◌∙◌, inl, inr, arith, Bool, true, false, cond}
-use Rattle.std.specs.Prelude.{not, slice_index}
+-- Marks and the stack of what is still to be looked at: what marking numbers changes, and when the marks are the least ones.
+use Rattle.std.proofs.Common.{◌≡◌, ℕ, zero, suc, ◌+◌, ◌<◌, ◌⊎◌, List, [], ◌∷◌, ◌++◌, length, set, replicate, refl, ap, sym, subst, ◌∙◌, inl, inr, arith, Bool, true, false, cond}
+use Rattle.std.specs.Prelude.{not}
 use Rattle.std.specs.List.{filter}
-use Rattle.std.proofs.lemmas.Bool.{cases_order, cases_eq}
-use Rattle.std.proofs.lemmas.List.{get_or-set_same, get_or-set_other, length-set, get_or_append_left, get_or_push, length_push, get_or_default, length-replicate}
+use Rattle.std.proofs.lemmas.Bool.{cases_eq}
+use Rattle.std.proofs.lemmas.List.{get_or-set_same, get_or-set_other, length-set, length_push, length-replicate}
 use Rattle.dwc_kept.specs.declared.graph_entry.GraphEntry.{GraphEntry}
 use Rattle.dwc_kept.specs.EntryGraphs.{is_marked, Holds, IsClosedIn, AreLeastMarks, keeps_number}
 use Rattle.dwc_kept.specs.GraphEntries.{nodes_seen, AreEntries, Marking, mark, mark_all, kept_numbers, numbers_from}
-use Rattle.dwc_base.proofs.InLists.{IsIn, append-left, append-right, in-at}
+use Rattle.dwc_base.proofs.InLists.{IsIn, append-left, append-right, in-append}
 use Rattle.dwc_kept.proofs.KeptNumbers.{nodes-length, keeps-marked, marked-keeps}
 
 pub mark_all-append : (is js : List ℕ) (m : Marking) → mark_all (is ++ js) m ≡ mark_all js (mark_all is m)
@@ -33,19 +33,22 @@ left-set (b ∷ bs) (suc i) less h = go b (left-set bs i (omega (arith, less)) h
     go true e = e
     go false e = omega (arith, e)
 
--- Marks, and all numbers that are marked.
+-- what is still to be done: marks to set, and entries to look at
+abbrev pub work_left : Marking → ℕ
+work_left m = left m.marks + length m.stack
+
+-- Marks, and numbers of entries that are still to be looked at, which are marked.
 pub record IsMarking (n : ℕ) (m : Marking) : Type 0 where
   pub counted : length m.marks ≡ n
-  pub inside : (k : ℕ) → k < length m.queue → slice_index m.queue k < n
-  pub each : (k : ℕ) → k < length m.queue → is_marked m.marks (slice_index m.queue k) ≡ true
-  pub some : (j : ℕ) → is_marked m.marks j ≡ true → IsIn j m.queue
-  pub total : left m.marks + length m.queue ≡ n
+  pub inside : (j : ℕ) → IsIn j m.stack → j < n
+  pub each : (j : ℕ) → IsIn j m.stack → is_marked m.marks j ≡ true
 
--- One marking has the marks of another, and its list of work goes on from that one's.
+-- One marking has the marks of another and what is to be looked at there, and what it has marked besides is to be looked at.
 pub record Grows (old new : Marking) : Type 0 where
   pub marked : (j : ℕ) → is_marked old.marks j ≡ true → is_marked new.marks j ≡ true
-  pub longer : length old.queue ≤ length new.queue
-  pub same : (k : ℕ) → k < length old.queue → slice_index new.queue k ≡ slice_index old.queue k
+  pub stacked : (j : ℕ) → IsIn j old.stack → IsIn j new.stack
+  pub fresh : (j : ℕ) → is_marked new.marks j ≡ true → (is_marked old.marks j ≡ true) ⊎ IsIn j new.stack
+  pub total : work_left new ≡ work_left old
 
 -- some numbers are marked, and no others
 pub record Marks (is : List ℕ) (old new : Marking) : Type 0 where
@@ -54,30 +57,38 @@ pub record Marks (is : List ℕ) (old new : Marking) : Type 0 where
   pub only : (j : ℕ) → is_marked new.marks j ≡ true → (is_marked old.marks j ≡ true) ⊎ IsIn j is
 
 grows-same : (m : Marking) → Grows m m
-grows-same m = record { marked = λ j h. h; longer = omega arith; same = λ k less. refl }
+grows-same m = record { marked = λ j h. h; stacked = λ j k. k; fresh = λ j h. inl h; total = refl }
 
 grows-on : (a b c : Marking) → Grows a b → Grows b c → Grows a c
 grows-on a b c f g = record {
   marked = λ j h. g.marked j (f.marked j h);
-  longer = omega (arith, f.longer, g.longer);
-  same = λ k less. g.same k (omega (arith, less, f.longer)) ∙ f.same k less;
+  stacked = λ j k. g.stacked j (f.stacked j k);
+  fresh = λ j h. fresh j (g.fresh j h);
+  total = g.total ∙ f.total;
 }
+  where
+    before : (j : ℕ) → (is_marked a.marks j ≡ true) ⊎ IsIn j b.stack → (is_marked a.marks j ≡ true) ⊎ IsIn j c.stack
+    before j (inl h) = inl h
+    before j (inr k) = inr (g.stacked j k)
+
+    fresh : (j : ℕ) → (is_marked b.marks j ≡ true) ⊎ IsIn j c.stack → (is_marked a.marks j ≡ true) ⊎ IsIn j c.stack
+    fresh j (inl h) = before j (f.fresh j h)
+    fresh j (inr k) = inr k
 
 -- a number that is not marked is
-set-marks : (n i : ℕ) (m : Marking) → IsMarking n m → i < n → is_marked m.marks i ≡ false → IsMarking n (record { marks = set m.marks i true; queue = m.queue ++ i ∷ [] }) × Marks (i ∷ []) m (record { marks = set m.marks i true; queue = m.queue ++ i ∷ [] })
+set-marks : (n i : ℕ) (m : Marking) → IsMarking n m → i < n → is_marked m.marks i ≡ false → IsMarking n (record { marks = set m.marks i true; stack = m.stack ++ i ∷ [] }) × Marks (i ∷ []) m (record { marks = set m.marks i true; stack = m.stack ++ i ∷ [] })
 set-marks n i m is less h = (
   record {
     counted = length-set m.marks i true ∙ is.counted;
-    inside = λ k l. inside k l (cases_order k (length m.queue));
-    each = λ k l. each k l (cases_order k (length m.queue));
-    some = λ j t. some j t (cases_eq j i);
-    total = omega (arith, left-set m.marks i (omega (arith, less, is.counted)) h, length_push m.queue i, is.total);
+    inside = λ j k. inside j (in-append m.stack (i ∷ []) j k);
+    each = λ j k. each j (in-append m.stack (i ∷ []) j k);
   },
   record {
     grows = record {
       marked = λ j t. marked j t (cases_eq j i);
-      longer = omega (arith, length_push m.queue i);
-      same = λ k l. get_or_append_left m.queue (i ∷ []) 0 k l;
+      stacked = λ j k. append-left m.stack (i ∷ []) j k;
+      fresh = λ j t. fresh j t (cases_eq j i);
+      total = omega (arith, left-set m.marks i (omega (arith, less, is.counted)) h, length_push m.stack i);
     };
     all = λ j k. all j k;
     only = λ j t. only j t (cases_eq j i);
@@ -90,23 +101,23 @@ set-marks n i m is less h = (
     there : (j : ℕ) → (j ≡ i → ⊥) → is_marked (set m.marks i true) j ≡ is_marked m.marks j
     there j d = get_or-set_other m.marks i j true false d
 
-    inside : (k : ℕ) → k < length (m.queue ++ i ∷ []) → (k ≡ length m.queue) ⊎ ((k < length m.queue) ⊎ (length m.queue < k)) → slice_index (m.queue ++ i ∷ []) k < n
-    inside k l (inl e) = omega (arith, less, get_or_push m.queue i 0 k (sym e))
-    inside k l (inr (inl low)) = omega (arith, is.inside k low, get_or_append_left m.queue (i ∷ []) 0 k low)
-    inside k l (inr (inr high)) = absurd (omega (arith, l, high, length_push m.queue i))
+    inside : (j : ℕ) → IsIn j m.stack ⊎ IsIn j (i ∷ []) → j < n
+    inside j (inl k) = is.inside j k
+    inside j (inr (inl e)) = omega (arith, less, e)
+    inside j (inr (inr k)) = absurd k
 
     marked : (j : ℕ) → is_marked m.marks j ≡ true → (j ≡ i) ⊎ (j ≡ i → ⊥) → is_marked (set m.marks i true) j ≡ true
     marked j t (inl e) = ap (is_marked (set m.marks i true)) e ∙ here
     marked j t (inr d) = there j d ∙ t
 
-    each : (k : ℕ) → k < length (m.queue ++ i ∷ []) → (k ≡ length m.queue) ⊎ ((k < length m.queue) ⊎ (length m.queue < k)) → is_marked (set m.marks i true) (slice_index (m.queue ++ i ∷ []) k) ≡ true
-    each k l (inl e) = ap (is_marked (set m.marks i true)) (get_or_push m.queue i 0 k (sym e)) ∙ here
-    each k l (inr (inl low)) = ap (is_marked (set m.marks i true)) (get_or_append_left m.queue (i ∷ []) 0 k low) ∙ marked (slice_index m.queue k) (is.each k low) (cases_eq (slice_index m.queue k) i)
-    each k l (inr (inr high)) = absurd (omega (arith, l, high, length_push m.queue i))
+    each : (j : ℕ) → IsIn j m.stack ⊎ IsIn j (i ∷ []) → is_marked (set m.marks i true) j ≡ true
+    each j (inl k) = marked j (is.each j k) (cases_eq j i)
+    each j (inr (inl e)) = ap (is_marked (set m.marks i true)) e ∙ here
+    each j (inr (inr k)) = absurd k
 
-    some : (j : ℕ) → is_marked (set m.marks i true) j ≡ true → (j ≡ i) ⊎ (j ≡ i → ⊥) → IsIn j (m.queue ++ i ∷ [])
-    some j t (inl e) = append-right m.queue (i ∷ []) j (inl e)
-    some j t (inr d) = append-left m.queue (i ∷ []) j (is.some j (sym (there j d) ∙ t))
+    fresh : (j : ℕ) → is_marked (set m.marks i true) j ≡ true → (j ≡ i) ⊎ (j ≡ i → ⊥) → (is_marked m.marks j ≡ true) ⊎ IsIn j (m.stack ++ i ∷ [])
+    fresh j t (inl e) = inr (append-right m.stack (i ∷ []) j (inl e))
+    fresh j t (inr d) = inl (sym (there j d) ∙ t)
 
     all : (j : ℕ) → IsIn j (i ∷ []) → is_marked (set m.marks i true) j ≡ true
     all j (inl e) = ap (is_marked (set m.marks i true)) e ∙ here
@@ -123,7 +134,7 @@ mark-marks n i m is less = go (is_marked m.marks i) refl
     all t j (inl e) = ap (is_marked m.marks) e ∙ t
     all t j (inr k) = absurd k
 
-    go : (b : Bool) → is_marked m.marks i ≡ b → IsMarking n (cond b m (record { marks = set m.marks i true; queue = m.queue ++ i ∷ [] })) × Marks (i ∷ []) m (cond b m (record { marks = set m.marks i true; queue = m.queue ++ i ∷ [] }))
+    go : (b : Bool) → is_marked m.marks i ≡ b → IsMarking n (cond b m (record { marks = set m.marks i true; stack = m.stack ++ i ∷ [] })) × Marks (i ∷ []) m (cond b m (record { marks = set m.marks i true; stack = m.stack ++ i ∷ [] }))
     go true t = (is, record { grows = grows-same m; all = all t; only = λ j h. inl h })
     go false t = set-marks n i m is less t
 
@@ -156,73 +167,79 @@ all-marks n (i ∷ is) m marking inside =
     let first : IsMarking n (mark i m) × Marks (i ∷ []) m (mark i m) = mark-marks n i m marking (inside i (inl refl)) in
     all-on n i is m first.1 (all-marks n is (mark i m) first.0 (λ j k. inside j (inr k)))
 
--- ---- the list of work
+-- ---- the work
 
--- The marks so far, of which so many numbers have been worked on.
-pub record WorkSoFar (es : List GraphEntry) (ts : List ℕ) (required : List Bool) (done : ℕ) (m : Marking) : Type 0 where
+-- The marks so far: of each that is set, what its entry keeps is marked too, or it is still to be looked at.
+pub record WorkSoFar (es : List GraphEntry) (ts : List ℕ) (required : List Bool) (m : Marking) : Type 0 where
   pub marking : IsMarking (length es) m
-  pub reached : done ≤ length m.queue
   pub required_marked : (j : ℕ) → j < length es → is_marked required j ≡ true → is_marked m.marks j ≡ true
-  pub kept : (k j : ℕ) → k < done → IsIn j (kept_numbers es ts (slice_index m.queue k)) → is_marked m.marks j ≡ true
+  pub kept : (i : ℕ) → is_marked m.marks i ≡ true → IsIn i m.stack ⊎ ((j : ℕ) → IsIn j (kept_numbers es ts i) → is_marked m.marks j ≡ true)
   pub sound : (set : ℕ → Bool) → Holds (nodes_seen 0 es ts) required set → IsClosedIn (nodes_seen 0 es ts) set → (j : ℕ) → is_marked m.marks j ≡ true → set j ≡ true
 
--- there is work only for numbers of entries
-pub work-inside : (es : List GraphEntry) (ts : List ℕ) (required : List Bool) (done : ℕ) (m : Marking) → WorkSoFar es ts required done m → done < length m.queue → (slice_index m.queue done < length es) × (done < length es)
-unfolding left
-work-inside es ts required done m work more = (work.marking.inside done more, omega (arith, more, work.marking.total))
+-- what is taken from the stack is the number of an entry
+pub work-inside : (es : List GraphEntry) (ts : List ℕ) (required : List Bool) (number : ℕ) (rest : List ℕ) (m : Marking) → WorkSoFar es ts required m → m.stack ≡ rest ++ number ∷ [] → number < length es
+work-inside es ts required number rest m work popped = work.marking.inside number (subst (IsIn number) (sym popped) (append-right rest (number ∷ []) number (inl refl)))
 
 module _ (es : List GraphEntry) (ts : List ℕ) (entries : AreEntries es (length ts)) (required : List Bool) where
-  pub work-goes : (done : ℕ) (m n : Marking) → WorkSoFar es ts required done m → done < length m.queue → n ≡ mark_all (kept_numbers es ts (slice_index m.queue done)) m → WorkSoFar es ts required (done + 1) n
-  work-goes done m n work more is = subst (WorkSoFar es ts required (done + 1)) (sym is) (record {
-    marking = next.0;
-    reached = omega (arith, more, next.1.grows.longer);
-    required_marked = λ j less h. next.1.grows.marked j (work.required_marked j less h);
-    kept = λ k j less i. kept k j i (cases_order k done) less;
-    sound = λ set all closed j h. sound set all closed j (next.1.only j h);
-  })
+  pub work-goes : (number : ℕ) (rest : List ℕ) (m n : Marking) → WorkSoFar es ts required m → m.stack ≡ rest ++ number ∷ [] → n ≡ mark_all (kept_numbers es ts number) (record { marks = m.marks; stack = rest }) → WorkSoFar es ts required n × (work_left n < work_left m)
+  work-goes number rest m n work popped is = subst (λ x. WorkSoFar es ts required x × (work_left x < work_left m)) (sym is) (
+    record {
+      marking = next.0;
+      required_marked = λ j less h. next.1.grows.marked j (work.required_marked j less h);
+      kept = λ i h. kept i (next.1.grows.fresh i h);
+      sound = λ set all closed j h. sound set all closed j (next.1.only j h);
+    },
+    omega (arith, next.1.grows.total, ap length popped, length_push rest number),
+  )
     where
-      number : ℕ
-      number = slice_index m.queue done
+      stacked : IsIn number m.stack
+      stacked = subst (IsIn number) (sym popped) (append-right rest (number ∷ []) number (inl refl))
 
-      within : slice_index m.queue done < length es
-      within = work.marking.inside done more
+      within : number < length es
+      within = work.marking.inside number stacked
 
-      next : IsMarking (length es) (mark_all (kept_numbers es ts (slice_index m.queue done)) m) × Marks (kept_numbers es ts (slice_index m.queue done)) m (mark_all (kept_numbers es ts (slice_index m.queue done)) m)
-      next = all-marks (length es) (kept_numbers es ts (slice_index m.queue done)) m work.marking (λ j k. (marked-keeps es ts entries (slice_index m.queue done) j within k).0)
+      others : (j : ℕ) → IsIn j rest → IsIn j m.stack
+      others j k = subst (IsIn j) (sym popped) (append-left rest (number ∷ []) j k)
 
-      kept : (k j : ℕ) → IsIn j (kept_numbers es ts (slice_index (mark_all (kept_numbers es ts (slice_index m.queue done)) m).queue k)) → (k ≡ done) ⊎ ((k < done) ⊎ (done < k)) → k < done + 1 → is_marked (mark_all (kept_numbers es ts (slice_index m.queue done)) m).marks j ≡ true
-      kept k j i (inl e) less =
-          let here : slice_index (mark_all (kept_numbers es ts (slice_index m.queue done)) m).queue k ≡ slice_index m.queue done = next.1.grows.same k (omega (arith, e, more)) ∙ ap (slice_index m.queue) e in
-          next.1.all j (subst (λ x. IsIn j (kept_numbers es ts x)) here i)
-      kept k j i (inr (inl low)) less =
-          let here : slice_index (mark_all (kept_numbers es ts (slice_index m.queue done)) m).queue k ≡ slice_index m.queue k = next.1.grows.same k (omega (arith, low, more)) in
-          next.1.grows.marked j (work.kept k j low (subst (λ x. IsIn j (kept_numbers es ts x)) here i))
-      kept k j i (inr (inr high)) less = absurd (omega (arith, high, less))
+      next : IsMarking (length es) (mark_all (kept_numbers es ts number) (record { marks = m.marks; stack = rest })) × Marks (kept_numbers es ts number) (record { marks = m.marks; stack = rest }) (mark_all (kept_numbers es ts number) (record { marks = m.marks; stack = rest }))
+      next = all-marks (length es) (kept_numbers es ts number) (record { marks = m.marks; stack = rest }) (record { counted = work.marking.counted; inside = λ j k. work.marking.inside j (others j k); each = λ j k. work.marking.each j (others j k) }) (λ j k. (marked-keeps es ts entries number j within k).0)
 
-      sound : (set : ℕ → Bool) → Holds (nodes_seen 0 es ts) required set → IsClosedIn (nodes_seen 0 es ts) set → (j : ℕ) → (is_marked m.marks j ≡ true) ⊎ IsIn j (kept_numbers es ts (slice_index m.queue done)) → set j ≡ true
+      before : (i : ℕ) → IsIn i rest ⊎ IsIn i (number ∷ []) → IsIn i (mark_all (kept_numbers es ts number) (record { marks = m.marks; stack = rest })).stack ⊎ ((j : ℕ) → IsIn j (kept_numbers es ts i) → is_marked (mark_all (kept_numbers es ts number) (record { marks = m.marks; stack = rest })).marks j ≡ true)
+      before i (inl k) = inl (next.1.grows.stacked i k)
+      before i (inr (inl e)) = inr (λ j k. next.1.all j (subst (λ x. IsIn j (kept_numbers es ts x)) e k))
+      before i (inr (inr k)) = absurd k
+
+      looked : (i : ℕ) → IsIn i m.stack ⊎ ((j : ℕ) → IsIn j (kept_numbers es ts i) → is_marked m.marks j ≡ true) → IsIn i (mark_all (kept_numbers es ts number) (record { marks = m.marks; stack = rest })).stack ⊎ ((j : ℕ) → IsIn j (kept_numbers es ts i) → is_marked (mark_all (kept_numbers es ts number) (record { marks = m.marks; stack = rest })).marks j ≡ true)
+      looked i (inl k) = before i (in-append rest (number ∷ []) i (subst (IsIn i) popped k))
+      looked i (inr f) = inr (λ j k. next.1.grows.marked j (f j k))
+
+      kept : (i : ℕ) → (is_marked m.marks i ≡ true) ⊎ IsIn i (mark_all (kept_numbers es ts number) (record { marks = m.marks; stack = rest })).stack → IsIn i (mark_all (kept_numbers es ts number) (record { marks = m.marks; stack = rest })).stack ⊎ ((j : ℕ) → IsIn j (kept_numbers es ts i) → is_marked (mark_all (kept_numbers es ts number) (record { marks = m.marks; stack = rest })).marks j ≡ true)
+      kept i (inl h) = looked i (work.kept i h)
+      kept i (inr k) = inl k
+
+      sound : (set : ℕ → Bool) → Holds (nodes_seen 0 es ts) required set → IsClosedIn (nodes_seen 0 es ts) set → (j : ℕ) → (is_marked m.marks j ≡ true) ⊎ IsIn j (kept_numbers es ts number) → set j ≡ true
       sound set all closed j (inl h) = work.sound set all closed j h
-      sound set all closed j (inr k) = by (marked-keeps es ts entries (slice_index m.queue done) j within k)
+      sound set all closed j (inr k) = by (marked-keeps es ts entries number j within k)
         where
-          own : set (slice_index m.queue done) ≡ true
-          own = work.sound set all closed (slice_index m.queue done) (work.marking.each done more)
+          own : set number ≡ true
+          own = work.sound set all closed number (work.marking.each number stacked)
 
-          by : (j < length es) × ((j ≡ slice_index m.queue done) ⊎ (keeps_number (nodes_seen 0 es ts) (slice_index m.queue done) j ≡ true)) → set j ≡ true
+          by : (j < length es) × ((j ≡ number) ⊎ (keeps_number (nodes_seen 0 es ts) number j ≡ true)) → set j ≡ true
           by (b, inl e) = ap set e ∙ own
-          by (b, inr h) = closed (slice_index m.queue done) j (omega (arith, within, nodes-length 0 es ts)) (omega (arith, b, nodes-length 0 es ts)) own h
+          by (b, inr h) = closed number j (omega (arith, within, nodes-length 0 es ts)) (omega (arith, b, nodes-length 0 es ts)) own h
 
-  -- where no work is left
-  pub work-ends : (done : ℕ) (m : Marking) → WorkSoFar es ts required done m → length m.queue ≤ done → AreLeastMarks (nodes_seen 0 es ts) required m.marks
-  work-ends done m work none = record {
+  -- where nothing is left to be looked at
+  pub work-ends : (m : Marking) → WorkSoFar es ts required m → m.stack ≡ [] → AreLeastMarks (nodes_seen 0 es ts) required m.marks
+  work-ends m work none = record {
     counted = work.marking.counted ∙ sym (nodes-length 0 es ts);
     required_marked = λ j less h. work.required_marked j (omega (arith, less, nodes-length 0 es ts)) h;
-    closed = λ i j a b h k. closed i j (omega (arith, a, nodes-length 0 es ts)) (omega (arith, b, nodes-length 0 es ts)) h k (in-at m.queue i (work.marking.some i h));
+    closed = λ i j a b h k. closed i j (omega (arith, a, nodes-length 0 es ts)) (omega (arith, b, nodes-length 0 es ts)) k (work.kept i h);
     least = λ set all closed j less h. work.sound set all closed j h;
   }
     where
-      closed : (i j : ℕ) → i < length es → j < length es → is_marked m.marks i ≡ true → keeps_number (nodes_seen 0 es ts) i j ≡ true → (k : ℕ) × (k < length m.queue) × (get_or m.queue k i ≡ i) → is_marked m.marks j ≡ true
-      closed i j a b h keeps (k, less, is) =
-          let here : slice_index m.queue k ≡ i = get_or_default m.queue k 0 i less ∙ is in
-          work.kept k j (omega (arith, less, none)) (subst (λ x. IsIn j (kept_numbers es ts x)) (sym here) (keeps-marked es ts entries i j a b keeps))
+      closed : (i j : ℕ) → i < length es → j < length es → keeps_number (nodes_seen 0 es ts) i j ≡ true → IsIn i m.stack ⊎ ((j : ℕ) → IsIn j (kept_numbers es ts i) → is_marked m.marks j ≡ true) → is_marked m.marks j ≡ true
+      closed i j a b keeps (inl k) = absurd (subst (IsIn i) none k)
+      closed i j a b keeps (inr f) = f j (keeps-marked es ts entries i j a b keeps)
 
 -- ---- where the work begins
 
@@ -255,38 +272,30 @@ numbers-from i j (suc k) (b ∷ bs) is less h = go b (numbers-from (suc i) j k b
     go true k = inr k
     go false k = k
 
-no-marks : (n : ℕ) → IsMarking n (record { marks = replicate n false; queue = [] })
-no-marks n = record {
-  counted = length-replicate n false;
-  inside = λ k less. absurd (omega (arith, less));
-  each = λ k less. absurd (omega (arith, less));
-  some = λ j h. absurd (clash (sym (none-marked n j) ∙ h));
-  total = total;
-}
-  where
-    clash : false ≡ true → ⊥
-    clash e = cc
+no-marks : (n : ℕ) → IsMarking n (record { marks = replicate n false; stack = [] })
+no-marks n = record { counted = length-replicate n false; inside = λ j k. absurd k; each = λ j k. absurd k }
 
-    total : left (replicate n false) + 0 ≡ n
-    total = omega (arith, left-none n)
-
-pub work-begins : (es : List GraphEntry) (ts : List ℕ) (required : List Bool) (m : Marking) → length required ≡ length es → m ≡ mark_all (numbers_from 0 required) (record { marks = replicate (length es) false; queue = [] }) → WorkSoFar es ts required 0 m
-work-begins es ts required m same is = subst (WorkSoFar es ts required 0) (sym is) (record {
+pub work-begins : (es : List GraphEntry) (ts : List ℕ) (required : List Bool) (m : Marking) → length required ≡ length es → m ≡ mark_all (numbers_from 0 required) (record { marks = replicate (length es) false; stack = [] }) → WorkSoFar es ts required m
+work-begins es ts required m same is = subst (WorkSoFar es ts required) (sym is) (record {
   marking = first.0;
-  reached = omega arith;
   required_marked = λ j less h. first.1.all j (numbers-from 0 j j required (omega arith) (omega (arith, less, same)) h);
-  kept = λ k j less i. absurd (omega (arith, less));
+  kept = λ i h. kept i (first.1.grows.fresh i h);
   sound = λ set all closed j h. sound set all j (first.1.only j h);
 })
   where
     inside : (j : ℕ) → IsIn j (numbers_from 0 required) → j < length es
     inside j k = let found = from-numbers 0 j required k in omega (arith, found.1, found.2, same)
 
-    first : IsMarking (length es) (mark_all (numbers_from 0 required) (record { marks = replicate (length es) false; queue = [] })) × Marks (numbers_from 0 required) (record { marks = replicate (length es) false; queue = [] }) (mark_all (numbers_from 0 required) (record { marks = replicate (length es) false; queue = [] }))
-    first = all-marks (length es) (numbers_from 0 required) (record { marks = replicate (length es) false; queue = [] }) (no-marks (length es)) inside
+    first : IsMarking (length es) (mark_all (numbers_from 0 required) (record { marks = replicate (length es) false; stack = [] })) × Marks (numbers_from 0 required) (record { marks = replicate (length es) false; stack = [] }) (mark_all (numbers_from 0 required) (record { marks = replicate (length es) false; stack = [] }))
+    first = all-marks (length es) (numbers_from 0 required) (record { marks = replicate (length es) false; stack = [] }) (no-marks (length es)) inside
 
     clash : false ≡ true → ⊥
     clash e = cc
+
+    kept : (i : ℕ) → (is_marked (replicate (length es) false) i ≡ true) ⊎ IsIn i (mark_all (numbers_from 0 required) (record { marks = replicate (length es) false; stack = [] })).stack
+        → IsIn i (mark_all (numbers_from 0 required) (record { marks = replicate (length es) false; stack = [] })).stack ⊎ ((j : ℕ) → IsIn j (kept_numbers es ts i) → is_marked (mark_all (numbers_from 0 required) (record { marks = replicate (length es) false; stack = [] })).marks j ≡ true)
+    kept i (inl h) = absurd (clash (sym (none-marked (length es) i) ∙ h))
+    kept i (inr k) = inl k
 
     sound : (set : ℕ → Bool) → Holds (nodes_seen 0 es ts) required set → (j : ℕ) → (is_marked (replicate (length es) false) j ≡ true) ⊎ IsIn j (numbers_from 0 required) → set j ≡ true
     sound set all j (inl h) = absurd (clash (sym (none-marked (length es) j) ∙ h))

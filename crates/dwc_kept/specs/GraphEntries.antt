@@ -80,15 +80,15 @@ pub record AreEntries (es : List GraphEntry) (size : ℕ) : Type 0 where
   pub linked : AreLinked es
   pub targets : HaveTargets es size
 
--- ---- marks, and the numbers that are marked, in order
+-- ---- marks, and the marked numbers that are still to be looked at, the next one last
 
 pub record Marking : Type 0 where
   pub marks : List Bool
-  pub queue : List ℕ
+  pub stack : List ℕ
 
 -- a number is marked, if it is not yet
 abbrev pub mark : ℕ → Marking → Marking
-mark i m = if is_marked m.marks i then m else record { marks = set m.marks i true; queue = m.queue ++ i ∷ [] }
+mark i m = if is_marked m.marks i then m else record { marks = set m.marks i true; stack = m.stack ++ i ∷ [] }
 
 -- some numbers are marked, one after another
 abbrev pub mark_all : List ℕ → Marking → Marking

@@ -1,4 +1,4 @@
-//! Marks numbers of entries, and keeps those that are marked in a list of work to do.
+//! Marks numbers of entries, and keeps those whose entries are still to be looked at on a stack.
 ghost use Rattle.std.specs.Prelude.{◌≡◌, ◌<◌, ◌≤◌, ◌^◌, length, drop, suc, replicate, false, [], OnOk, IfOk, filter_map};
 ghost use Rattle.dwc_kept.specs.EntryGraphs.{AreLeastMarks};
 ghost use Rattle.dwc_kept.specs.GraphEntries.{mark as mark_one, mark_all, number_at, parts_below, kept_numbers, numbers_from, targets_of, targets_start, AreRising, AreFirsts, AreLinked, HaveTargets, AreEntries, nodes_seen};
@@ -8,13 +8,13 @@ use crate::graph_entry::GraphEntry;
 use std::alloc::{AllocError, Global};
 
 // Marks a number, if it is not marked yet.
-fn mark(marks: &mut [bool], queue: &mut Vec<u32>, number: u32) -> Result<(), AllocError>
+fn mark(marks: &mut [bool], stack: &mut Vec<u32>, number: u32) -> Result<(), AllocError>
     requires { number < length marks.old }
-    ensures { OnOk result (record { marks = marks.new; queue = queue.new.items } ≡ mark_one number (record { marks = marks.old; queue = queue.old.items })) }
+    ensures { OnOk result (record { marks = marks.new; stack = stack.new.items } ≡ mark_one number (record { marks = marks.old; stack = stack.old.items })) }
 {
     let place = number as usize;
     if !marks[place] {
-        queue.push(number)?;
+        stack.push(number)?;
         marks[place] = true;
     }
     Ok(())
@@ -26,16 +26,16 @@ fn mark_targets(
     firsts: &[u32],
     targets: &[u32],
     marks: &mut [bool],
-    queue: &mut Vec<u32>,
+    stack: &mut Vec<u32>,
 ) -> Result<(), AllocError>
     requires rising { AreRising entries.now }
     requires firsts { AreFirsts entries.now firsts.now }
     requires counted { length marks.old ≡ length entries.now }
-    ensures { OnOk result (record { marks = marks.new; queue = queue.new.items } ≡ mark_all (filter_map (number_at entries.now) targets.now) (record { marks = marks.old; queue = queue.old.items })) }
+    ensures { OnOk result (record { marks = marks.new; stack = stack.new.items } ≡ mark_all (filter_map (number_at entries.now) targets.now) (record { marks = marks.old; stack = stack.old.items })) }
 {
     for target in targets {
         if let Some(number) = number_of(entries, firsts, *target) {
-            mark(marks, queue, number)?;
+            mark(marks, stack, number)?;
         }
     }
     Ok(())
@@ -46,16 +46,16 @@ fn mark_parts(
     entries: &[GraphEntry],
     number: u32,
     marks: &mut [bool],
-    queue: &mut Vec<u32>,
+    stack: &mut Vec<u32>,
 ) -> Result<(), AllocError>
     requires linked { AreLinked entries.now }
     requires counted { length marks.old ≡ length entries.now }
     requires inside { number < length entries.now }
-    ensures { OnOk result (record { marks = marks.new; queue = queue.new.items } ≡ mark_all (parts_below entries.now number (length entries.now)) (record { marks = marks.old; queue = queue.old.items })) }
+    ensures { OnOk result (record { marks = marks.new; stack = stack.new.items } ≡ mark_all (parts_below entries.now number (length entries.now)) (record { marks = marks.old; stack = stack.old.items })) }
 {
     let mut part = entries[number as usize].last_part;
     while part != number {
-        mark(marks, queue, part)?;
+        mark(marks, stack, part)?;
         part = entries[part as usize].previous_part;
     }
     Ok(())
@@ -90,18 +90,18 @@ fn mark_kept(
     targets: &[u32],
     number: u32,
     marks: &mut [bool],
-    queue: &mut Vec<u32>,
+    stack: &mut Vec<u32>,
 ) -> Result<(), AllocError>
     requires entries { AreEntries entries.now (length targets.now) }
     requires firsts { AreFirsts entries.now firsts.now }
     requires counted { length marks.old ≡ length entries.now }
     requires inside { number < length entries.now }
-    ensures { OnOk result (record { marks = marks.new; queue = queue.new.items } ≡ mark_all (kept_numbers entries.now targets.now number) (record { marks = marks.old; queue = queue.old.items })) }
+    ensures { OnOk result (record { marks = marks.new; stack = stack.new.items } ≡ mark_all (kept_numbers entries.now targets.now number) (record { marks = marks.old; stack = stack.old.items })) }
 {
-    mark(marks, queue, entries[number as usize].parent)?;
+    mark(marks, stack, entries[number as usize].parent)?;
     let named = targets_at(entries, targets, number as usize);
-    mark_targets(entries, firsts, named, marks, queue)?;
-    mark_parts(entries, number, marks, queue)?;
+    mark_targets(entries, firsts, named, marks, stack)?;
+    mark_parts(entries, number, marks, stack)?;
     Ok(())
 }
 
@@ -109,15 +109,15 @@ fn mark_kept(
 fn mark_required(
     required: &[bool],
     marks: &mut [bool],
-    queue: &mut Vec<u32>,
+    stack: &mut Vec<u32>,
 ) -> Result<(), AllocError>
     requires few { length required.now ≤ 2 ^ 32 }
     requires counted { length marks.old ≡ length required.now }
-    ensures { OnOk result (record { marks = marks.new; queue = queue.new.items } ≡ mark_all (numbers_from 0 required.now) (record { marks = marks.old; queue = queue.old.items })) }
+    ensures { OnOk result (record { marks = marks.new; stack = stack.new.items } ≡ mark_all (numbers_from 0 required.now) (record { marks = marks.old; stack = stack.old.items })) }
 {
     for i in 0..required.len() {
         if required[i] {
-            mark(marks, queue, i as u32)?;
+            mark(marks, stack, i as u32)?;
         }
     }
     Ok(())
@@ -130,21 +130,18 @@ fn mark_least(
     targets: &[u32],
     required: &[bool],
     marks: &mut [bool],
-    queue: &mut Vec<u32>,
+    stack: &mut Vec<u32>,
 ) -> Result<(), AllocError>
     requires entries { AreEntries entries.now (length targets.now) }
     requires firsts { AreFirsts entries.now firsts.now }
     requires each { length required.now ≡ length entries.now }
     requires unmarked { marks.old ≡ replicate (length entries.now) false }
-    requires empty { queue.old.items ≡ [] }
+    requires empty { stack.old.items ≡ [] }
     ensures { OnOk result (AreLeastMarks (nodes_seen 0 entries.now targets.now) required.now marks.new) }
 {
-    mark_required(required, marks, queue)?;
-    let mut done = 0;
-    while done < queue.len() {
-        let number = queue[done];
-        mark_kept(entries, firsts, targets, number, marks, queue)?;
-        done += 1;
+    mark_required(required, marks, stack)?;
+    while let Some(number) = stack.pop() {
+        mark_kept(entries, firsts, targets, number, marks, stack)?;
     }
     Ok(())
 }
@@ -166,7 +163,7 @@ pub(crate) fn least_marks(
 {
     let firsts = firsts_of_blocks(alloc, entries)?;
     let mut marks = vec![in alloc; false; entries.len()]?;
-    let mut queue = Vec::new(alloc);
-    mark_least(entries, &firsts, targets, required, &mut marks, &mut queue)?;
+    let mut stack = Vec::new(alloc);
+    mark_least(entries, &firsts, targets, required, &mut marks, &mut stack)?;
     Ok(marks)
 }

@@ -9,5 +9,5 @@ returns c =
     let es = c.args.entries.now in
     let ts = c.args.targets.now in
     c.in_ok-mark_parts.ensures
-    ∙ ap (mark_all (parts_below es c.args.number (length es))) (c.in_ok-mark_targets.ensures ∙ ap (λ us. mark_all (filter_map (number_at es) us) (record { marks = c.mark.new.marks; queue = c.mark.new.queue.items })) c.targets_at-named.ensures ∙ ap (mark_all (filter_map (number_at es) (targets_of es ts c.args.number))) c.in_ok-mark.ensures)
-    ∙ sym (mark_all-append (filter_map (number_at es) (targets_of es ts c.args.number)) (parts_below es c.args.number (length es)) (mark (entry es c.args.number).parent (record { marks = c.args.marks.now; queue = c.args.queue.now.items })))
+    ∙ ap (mark_all (parts_below es c.args.number (length es))) (c.in_ok-mark_targets.ensures ∙ ap (λ us. mark_all (filter_map (number_at es) us) (record { marks = c.mark.new.marks; stack = c.mark.new.stack.items })) c.targets_at-named.ensures ∙ ap (mark_all (filter_map (number_at es) (targets_of es ts c.args.number))) c.in_ok-mark.ensures)
+    ∙ sym (mark_all-append (filter_map (number_at es) (targets_of es ts c.args.number)) (parts_below es c.args.number (length es)) (mark (entry es c.args.number).parent (record { marks = c.args.marks.now; stack = c.args.stack.now.items })))

@@ -1,10 +1,9 @@
-use Rattle.std.proofs.Common.{length, ◌-◌}
-use Rattle.dwc_kept.proofs.MarkWalks.{WorkSoFar}
+use Rattle.dwc_kept.proofs.MarkWalks.{WorkSoFar, work_left}
 use Rattle.dwc_kept.proofs.marks.mark_least.Given as goal
 
--- what the numbers that have been worked on keep is marked
-abbrev pub invariant-loop-done : goal.invariant-loop-done
-invariant-loop-done l = WorkSoFar l.entries l.targets l.required l.done (record { marks = l.marks; queue = l.queue.items })
+-- what the marked entries keep is marked too, but for those that are still to be looked at
+abbrev pub invariant-loop-number : goal.invariant-loop-number
+invariant-loop-number l = WorkSoFar l.entries l.targets l.required (record { marks = l.marks; stack = l.stack.items })
 
-abbrev pub decreases-loop-done : goal.decreases-loop-done
-decreases-loop-done l = length l.entries - l.done
+abbrev pub decreases-loop-number : goal.decreases-loop-number
+decreases-loop-number l = work_left (record { marks = l.marks; stack = l.stack.items })
