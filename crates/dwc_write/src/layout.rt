@@ -18,7 +18,7 @@ ghost use Rattle.dwc_write.specs.SpelledOutput.{IsRefusal};
 ghost use Rattle.dwc_write.specs.SpelledUnits.{attribute_bytes, entry_bytes, header_length, shaped};
 ghost use Rattle.dwc_write.specs.UsedTexts.{texts_of_attributes};
 ghost use Rattle.dwc_write.specs.WidestGiven.{IsWideRefusal};
-ghost use Rattle.dwc_write.specs.Writers.{most_bytes, OkUnlessMemory};
+ghost use Rattle.dwc_write.specs.Writers.{most_bytes};
 
 use crate::abbreviations::{Shape, code_of_entry, put_table};
 use crate::additions::Additions;

@@ -31,6 +31,7 @@ mod small_places;
 mod spelled_rows;
 mod strings;
 mod tables;
+mod text;
 mod text_layout;
 mod units;
 mod writer;

@@ -1,14 +1,15 @@
 //! Texts that entries name, each once. (DWARF 4, section 7.5.4.)
-ghost use Rattle.std.specs.Prelude.{◌≡◌, [], ◌<◌, OnOk, OnErr, IfOk, IsOkUnless, map};
-ghost use Rattle.std.specs.List.{All, position_or_len};
+ghost use Rattle.std.specs.Prelude.{◌≡◌, [], OnOk, OnErr, IfOk, IsOkUnless};
+ghost use Rattle.std.specs.List.{position_or_len};
 ghost use Rattle.std.specs.Str.{bytes_eq};
 ghost use Rattle.dwc_base.specs.TreeLaws.{with_new_text};
 ghost use Rattle.dwc_write.specs.TextTables.{AreTexts, IsText};
 ghost use Rattle.dwc_write.specs.declared.error.WriteError.TheVariants.{OutOfMemory};
 
 use crate::WriteError;
+use crate::text::{Sought, Text};
 use indexmap::IndexSet;
-use std::alloc::{AllocError, Global};
+use std::alloc::Global;
 use std::marker::Model;
 
 /// A text of a table, by its number.
@@ -20,18 +21,18 @@ pub struct StringId {
 /// Texts in the order in which they were added, each once.
 #[derive(Drop)]
 pub struct StringTable {
-    texts: IndexSet<Vec<u8>>,
+    texts: IndexSet<Text>,
 }
 
 impl Model for StringTable {
-    ghost use Rattle.std.specs.Prelude.{List, ℕ, map};
+    ghost use Rattle.std.specs.Prelude.{List, ℕ};
     ghost use Rattle.dwc_write.specs.TextTables.{AreTexts};
 
     ghost Value = { List (List ℕ) };
 
-    ghost view = { λ t. map (λ v. v.items) t.texts.keys };
+    ghost view = { λ t. t.texts.keys };
 
-    ghost invariant = { λ t. AreTexts (map (λ v. v.items) t.texts.keys) };
+    ghost invariant = { λ t. AreTexts t.texts.keys };
 }
 
 impl StringTable {
@@ -52,12 +53,12 @@ impl StringTable {
         ensures err { OnErr result (self.new ≡ self.old) }
         ensures memory { IsOkUnless result OutOfMemory }
     {
-        if let Some(index) = self.texts.get_index_of(text) {
+        if let Some(index) = self.texts.get_index_of(Sought { bytes: text }) {
             return Ok(StringId { index });
         }
         let index = self.texts.len();
         let alloc = *self.texts.allocator();
-        self.texts.insert(copied(alloc, text)?)?;
+        self.texts.insert(Text::new(alloc, text)?)?;
         Ok(StringId { index })
     }
 
@@ -69,17 +70,9 @@ impl StringTable {
     }
 
     // The texts in their order.
-    pub(crate) fn as_slice(&self) -> &[Vec<u8>]
-        ensures { map (λ v. v.items) result.now ≡ self.now }
+    pub(crate) fn as_slice(&self) -> &[Text]
+        ensures { result.now ≡ self.now }
     {
         self.texts.as_slice()
     }
-}
-
-// A text of its own.
-fn copied(alloc: Global, text: &[u8]) -> Result<Vec<u8>, AllocError>
-    ensures same { IfOk result (λ v. v.items ≡ text.now) }
-    ensures bytes { All (λ b. b < 256) text.now }
-{
-    text.to_vec(alloc)
 }

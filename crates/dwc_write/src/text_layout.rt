@@ -10,6 +10,7 @@ ghost use Rattle.dwc_write.specs.UsedTexts.{texts_bytes, with_numbers};
 ghost use Rattle.dwc_write.specs.Writers.{Writes, most_bytes};
 
 use crate::layout::UnitLayout;
+use crate::text::Text;
 use crate::writer::MOST_BYTES;
 use crate::{WriteError, WriterRelocate};
 use dwc_base::{Endian, Limit, SectionName};
@@ -31,12 +32,12 @@ pub struct TextLayout {
 pub fn lay_out_texts(
     alloc: Global,
     layouts: &[UnitLayout],
-    texts: &[Vec<u8>],
+    texts: &[Text],
 ) -> Result<TextLayout, WriteError>
     requires { All (λ n. n < length texts.now) (texts_noted layouts.now) }
     ensures used { IfOk result (λ l. l.used.items ≡ with_numbers [] (texts_noted layouts.now)) }
-    ensures laid { IfOk result (λ l. IsTextLayout (map (λ v. v.items) texts.now) l) }
-    ensures large { IfErr result (λ e. IsTextRefusal e (length (texts_bytes (map (λ v. v.items) texts.now) (with_numbers [] (texts_noted layouts.now))))) }
+    ensures laid { IfOk result (λ l. IsTextLayout texts.now l) }
+    ensures large { IfErr result (λ e. IsTextRefusal e (length (texts_bytes texts.now (with_numbers [] (texts_noted layouts.now))))) }
 {
     let mut layout = TextLayout {
         offsets: vec![in alloc; None; texts.len()]?,
@@ -50,10 +51,10 @@ pub fn lay_out_texts(
 }
 
 // Texts by their numbers, in this order.
-fn use_texts(layout: &mut TextLayout, texts: &[Vec<u8>], named: &[u32]) -> Result<(), WriteError>
-    requires texts { IsTextLayout (map (λ v. v.items) texts.now) layout.old }
+fn use_texts(layout: &mut TextLayout, texts: &[Text], named: &[u32]) -> Result<(), WriteError>
+    requires texts { IsTextLayout texts.now layout.old }
     requires known { All (λ n. n < length texts.now) named.now }
-    ensures { UsesTexts (map (λ v. v.items) texts.now) layout.old layout.new result named.now }
+    ensures { UsesTexts texts.now layout.old layout.new result named.now }
 {
     for i in 0..named.len() {
         use_text(layout, texts, named[i] as usize)?;
@@ -62,15 +63,15 @@ fn use_texts(layout: &mut TextLayout, texts: &[Vec<u8>], named: &[u32]) -> Resul
 }
 
 // A text by its number: where it is new, it stands behind the others.
-fn use_text(layout: &mut TextLayout, texts: &[Vec<u8>], index: usize) -> Result<(), WriteError>
-    requires texts { IsTextLayout (map (λ v. v.items) texts.now) layout.old }
+fn use_text(layout: &mut TextLayout, texts: &[Text], index: usize) -> Result<(), WriteError>
+    requires texts { IsTextLayout texts.now layout.old }
     requires known { index < length texts.now }
-    ensures { UsesTexts (map (λ v. v.items) texts.now) layout.old layout.new result (index ∷ []) }
+    ensures { UsesTexts texts.now layout.old layout.new result (index ∷ []) }
 {
     if layout.offsets[index].is_some() {
         return Ok(());
     }
-    let behind = behind_text(layout.length, &texts[index])?;
+    let behind = behind_text(layout.length, texts[index].as_bytes())?;
     layout.used.push(index)?;
     layout.offsets[index] = Some(layout.length);
     layout.length = behind;
@@ -94,11 +95,11 @@ fn behind_text(place: usize, text: &[u8]) -> Result<usize, WriteError>
 pub fn write_texts(
     alloc: Global,
     order: Endian,
-    texts: &[Vec<u8>],
+    texts: &[Text],
     layout: &TextLayout,
 ) -> Result<WriterRelocate, WriteError>
-    requires { IsTextLayout (map (λ v. v.items) texts.now) layout.now }
-    ensures ok { IfOk result (λ w. w ≡ record { order = order; name = Str; body = texts_bytes (map (λ v. v.items) texts.now) layout.now.used.items; relocations = [] }) }
+    requires { IsTextLayout texts.now layout.now }
+    ensures ok { IfOk result (λ w. w ≡ record { order = order; name = Str; body = texts_bytes texts.now layout.now.used.items; relocations = [] }) }
     ensures memory { IsOkUnless result OutOfMemory }
 {
     let mut section = WriterRelocate::with_room(alloc, order, SectionName::Str, layout.length, 0)?;
@@ -107,16 +108,12 @@ pub fn write_texts(
 }
 
 // Texts by their numbers, one behind another.
-fn put_texts(
-    section: &mut WriterRelocate,
-    texts: &[Vec<u8>],
-    used: &[usize],
-) -> Result<(), WriteError>
+fn put_texts(section: &mut WriterRelocate, texts: &[Text], used: &[usize]) -> Result<(), WriteError>
     requires { All (λ n. n < length texts.now) used.now }
-    ensures { Writes section.old section.new result (texts_bytes (map (λ v. v.items) texts.now) used.now) [] }
+    ensures { Writes section.old section.new result (texts_bytes texts.now used.now) [] }
 {
     for i in 0..used.len() {
-        put_text(section, &texts[used[i]])?;
+        put_text(section, texts[used[i]].as_bytes())?;
     }
     Ok(())
 }

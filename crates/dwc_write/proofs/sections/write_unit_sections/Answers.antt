@@ -2,7 +2,6 @@ use Rattle.std.proofs.Common.{◌≡◌, ◌<◌, Global, Vec, ℕ, refl, ap, sy
 use Rattle.std.specs.List.{All, AllZip}
 use Rattle.std.proofs.lemmas.List.Elements.{All-map}
 use Rattle.std.proofs.lemmas.Result.{IfErr-at_err, IfErr-weaker, IfOk-at_ok, err_from_is_err_and}
-use Rattle.std.proofs.lemmas.List.{length-map}
 use Rattle.dwc_base.specs.Fields.{AreRelocated}
 use Rattle.dwc_base.specs.OutputForm.{HasDistinctNames}
 use Rattle.dwc_base.specs.Outputs.{OutputSection, output_sections, section_view}
@@ -117,7 +116,7 @@ pub lay_out_texts-requires : goal.lay_out_texts-requires
 lay_out_texts-requires c =
     let units = IfOk-at_ok (λ (ls : Vec UnitLayout Global). AllZip IsLaidOut c.as_slice-units.result.now ls.items) c.in_ok-layouts.was c.lay_out-laid.ensures.units in
     let named = named-noted _ _ (rw (c.as_slice-units.ensures.value) at units) in
-    let many = sym (length-map c.as_slice-texts.result.now (λ v. v.items)) ∙ ap length c.as_slice-texts.ensures in
+    let many = ap length c.as_slice-texts.ensures in
     rw (c.deref.ensures.value, named) (subst (λ k. All (λ n. n < k) (texts_named (map ordered c.args.dwarf.units.units.items))) (sym many) c.requires.texts)
 
 pub write_units-requires-clause-texts : goal.write_units-requires-clause-texts
