@@ -3,7 +3,7 @@ use Rattle.std.proofs.Common.{◌≡◌, ℕ, suc, ◌+◌, ◌<◌, List, [], �
 use Rattle.std.specs.Prelude.{option_map}
 use Rattle.std.specs.List.{flat_map}
 use Rattle.std.proofs.lemmas.List.{append-nil, append_assoc, length-append, length-map}
-use Rattle.dwc_base.specs.Carried.{Unit, units, Module, own_unit, carried_unit}
+use Rattle.dwc_base.specs.Carried.{Unit, Module, own_unit, carried_unit}
 use Rattle.dwc_base.specs.Compiled.{Memory, no_memory, defined, imported}
 use Rattle.dwc_base.specs.OwnUnits as Own
 use Rattle.dwc_base.specs.OwnUnits.{memory_members, place_of_context_pointer}

@@ -1,6 +1,6 @@
 //! Emits the DWARF of a compilation for the native code of its functions.
-ghost use Rattle.std.specs.Prelude.{◌≡◌, ◌⊎◌, false, is_some, true, IfErr, OnOk};
-ghost use Rattle.dwc_carry.specs.Emits.{Emits};
+ghost use Rattle.std.specs.Prelude.{◌≡◌, ◌⊎◌, false, is_some, true, IfErr, IfOk, OnOk};
+ghost use Rattle.dwc_carry.specs.Emits.{Carries, Emits, IsReady};
 ghost use Rattle.dwc_carry.specs.Inputs.{counted_behind, refused_before_path};
 ghost use Rattle.dwc_carry.specs.Refusals.{memory, told};
 
@@ -8,15 +8,78 @@ use crate::DebugError;
 use crate::frames::frame_table;
 use crate::transform::transform_dwarf;
 use dwc_addr::{Compilation, translations_keep_scopes};
-use dwc_base::DwarfSection;
+use dwc_base::{DwarfSection, Endian};
 use dwc_clif::TargetIsa;
-use dwc_write::write_sections;
+use dwc_write::{Dwarf, FrameTable, write_sections};
 use std::alloc::Global;
 
+/// The DWARF that the one of a compilation carries over to, before it is written: units with the texts that they name, the call frames of
+/// functions, and the byte order. It holds nothing of the compilation, which can be let go before the sections take memory.
+#[derive(Drop)]
+pub struct CarriedDwarf {
+    pub(crate) dwarf: Dwarf,
+    pub(crate) frames: Option<FrameTable>,
+    pub(crate) order: Endian,
+}
+
+impl CarriedDwarf {
+    ghost use Rattle.dwc_carry.specs.Emits.{IsReady, Writes};
+
+    /// Its sections. The work is linear in what is written.
+    ///
+    /// # Errors
+    /// `InvalidFrameCodeOffset` or `InvalidFrameDataOffset` exactly where a function's frame description cannot be written, for the first.
+    /// Where none is refused: `TooLarge` `Expression` exactly where an expression of a location list has more than 65,535 bytes; else
+    /// `TooLarge` `Section` only for a section that could be longer than 2^31 - 1 bytes, each of its numbers at its widest. `OutOfMemory`
+    /// for want of memory.
+    pub fn write(self, alloc: Global) -> Result<Vec<DwarfSection>, DebugError>
+        requires { IsReady self }
+        ensures { Writes self result }
+    {
+        translations_keep_scopes();
+        let CarriedDwarf {
+            dwarf,
+            frames,
+            order,
+        } = self;
+        Ok(write_sections(alloc, dwarf, frames, order)?)
+    }
+}
+
+/// What the DWARF of a compilation carries over to, for a target, with the call frames of its functions where the target has a common
+/// information entry. The compilation is left as it is but for its counter of names, which rises where the path of the unit for functions
+/// without debugging information is made of it: not where an address map, a length or a module is refused. The work is linear in what is
+/// read and made.
+///
+/// # Errors
+/// Those of [`emit_dwarf`], each exactly where it says, but of frames, expressions of location lists and sections, which are looked at as they
+/// are written.
+pub fn carry_dwarf(
+    alloc: Global,
+    isa: &dyn TargetIsa,
+    compilation: &mut Compilation<'_>,
+) -> Result<CarriedDwarf, DebugError>
+    ensures carried { Carries (byte_order isa.now) (pointer_size isa.now) (dwarf_registers isa.now) (common_entry isa.now) compilation.old result }
+    ensures ready { IfOk result IsReady }
+    ensures counter { OnOk result (compilation.new ≡ counted_behind (dwarf_registers isa.now) compilation.old) }
+    ensures refused { IfErr result (λ e. (compilation.new ≡ compilation.old) ⊎ (compilation.new ≡ counted_behind (dwarf_registers isa.now) compilation.old)) }
+    ensures early { is_some (refused_before_path (dwarf_registers isa.now) compilation.old) ≡ true → compilation.new ≡ compilation.old }
+    ensures late { is_some (refused_before_path (dwarf_registers isa.now) compilation.old) ≡ false → IfErr result (λ e. (told e ≡ memory) ⊎ (compilation.new ≡ counted_behind (dwarf_registers isa.now) compilation.old)) }
+{
+    let dwarf = transform_dwarf(alloc, isa, compilation)?;
+    let frames = frame_table(alloc, isa, compilation)?;
+    let order = isa.endianness();
+    Ok(CarriedDwarf {
+        dwarf,
+        frames,
+        order,
+    })
+}
+
 /// The sections of DWARF that those of a compilation carry over to, for a target, with the call frames of its functions behind them where
-/// the target has a common information entry. The compilation is left as it is but for its counter of names, which rises where the path of
-/// the unit for functions without debugging information is made of it: not where an address map, a length or a module is refused. The work is
-/// linear in what is read and written.
+/// the target has a common information entry: [`carry_dwarf`], and what it carries written. The compilation is left as it is but for its
+/// counter of names, which rises where the path of the unit for functions without debugging information is made of it: not where an address
+/// map, a length or a module is refused. The work is linear in what is read and written.
 ///
 /// # Errors
 /// `BadAddressMap` exactly where a function's address map breaks a rule: the first module, its first such function, and the
@@ -39,8 +102,6 @@ pub fn emit_dwarf(
     ensures early { is_some (refused_before_path (dwarf_registers isa.now) compilation.old) ≡ true → compilation.new ≡ compilation.old }
     ensures late { is_some (refused_before_path (dwarf_registers isa.now) compilation.old) ≡ false → IfErr result (λ e. (told e ≡ memory) ⊎ (compilation.new ≡ counted_behind (dwarf_registers isa.now) compilation.old)) }
 {
-    translations_keep_scopes();
-    let dwarf = transform_dwarf(alloc, isa, compilation)?;
-    let frames = frame_table(alloc, isa, compilation)?;
-    Ok(write_sections(alloc, dwarf, frames, isa.endianness())?)
+    let carried = carry_dwarf(alloc, isa, compilation)?;
+    carried.write(alloc)
 }

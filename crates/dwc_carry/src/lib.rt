@@ -34,7 +34,7 @@ mod unit_path;
 pub use dependencies::build_dependencies;
 pub use die_ref::resolve_die_ref;
 pub use dwc_clone::{InheritedAttr, SubprogramContext, append_vmctx_info};
-pub use emit::emit_dwarf;
+pub use emit::{CarriedDwarf, carry_dwarf, emit_dwarf};
 pub use error::DebugError;
 pub use simulated_unit::generate_simulated_dwarf;
 pub use synthetic_unit::ModuleSyntheticUnit;

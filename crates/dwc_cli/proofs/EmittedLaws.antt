@@ -1,5 +1,5 @@
 -- What is emitted for a map and modules, as it was read.
-use Rattle.std.proofs.Common.{◌≡◌, ℕ, suc, ◌+◌, ◌<◌, ◌^◌, List, [], ◌∷◌, map, length, refl, sym, ap, ◌∙◌, subst, arith, inl, inr, Bool, true, false, Option, Some, None, Ok, Err, Vec}
+use Rattle.std.proofs.Common.{◌≡◌, ℕ, suc, ◌+◌, ◌<◌, ◌^◌, List, [], ◌∷◌, map, length, refl, sym, ap, ◌∙◌, subst, arith, inl, inr, Bool, true, false, Option, Some, None, Result, Ok, Err, Vec}
 use Rattle.std.specs.Prelude.{◌==◌, ◌&&◌, nat_lt, option_map, if◌then◌else◌, sum_by}
 use Rattle.std.specs.Option.{option_or}
 use Rattle.std.specs.FinMap as finite
@@ -44,15 +44,17 @@ use Rattle.dwc_addr.specs.declared.compilation_error.CompilationError.TheVariant
 use Rattle.dwc_addr.specs.declared.memory_offset.ModuleMemoryOffset.{ModuleMemoryOffset}
 use Rattle.dwc_addr.specs.Numbers.{AreDistinct}
 use Rattle.dwc_addr.specs.Compilations.{CompilationValue, IsCounted}
+use Rattle.dwc_carry.specs.declared.emit.CarriedDwarf.{CarriedDwarf}
 use Rattle.dwc_carry.specs.declared.error.DebugError.{DebugError}
 use Rattle.dwc_carry.specs.Refusals as refusals
 use Rattle.dwc_carry.specs.Refusals.{Told, told, bad_address_map, in_reading}
 use Rattle.dwc_base.specs.declared.faults.Limit.TheVariants.{Section, Addend, Range, Jump, Expression, Vmctx}
 use Rattle.dwc_carry.specs.Emits as emits
+use Rattle.dwc_carry.proofs.EmitLaws.{emits-refused}
 use Rattle.dwc_cli.specs.Inputs.{Loaded, compilation_of, bad_map, shared_in, ranges_of, told_of, modules_of, bad_function, bad_module}
 use Rattle.dwc_cli.specs.RunStatus.{AreWhole, PassesLimit}
 use Rattle.dwc_cli.specs.Failures.{compiling_status, input_status, told_status, carrying_status}
-use Rattle.dwc_cli.specs.Answers.{first_status, hindrance, IsEmitted, IsCause, IsReadAs}
+use Rattle.dwc_cli.specs.Answers.{first_status, hindrance, Carries, Emits, IsEmitted, IsCause, IsReadAs}
 use Rattle.dwc_cli.specs.Compiled.{bad_view, IsCompiled}
 use Rattle.dwc_cli.specs.ToldPaths.{HasPath, HavePaths}
 use Rattle.dwc_cli.proofs.PathLaws.{told_file-with_path, code_offset-is, counted-with_paths}
@@ -228,7 +230,7 @@ module _ (c : CompilationValue) (order : Endian) (size : ℕ) (registers : Regis
       ∙ ap (λ input. first_status None (option_map bad_view (carry.bad_map c)) (first_refusal input)) input-is
       ∙ first-is (carry.bad_map c) (first_refusal (carry.input_of order size registers entry c))
 
-  pub emitted : shared_symbol (map symbol_view (all_symbols c.functions)) ≡ None → (s : Vec DwarfSection Global) → emits.Emits order size registers entry c (Ok s) → IsEmitted read (map section_view s.items)
+  emitted : shared_symbol (map symbol_view (all_symbols c.functions)) ≡ None → (s : Vec DwarfSection Global) → emits.Emits order size registers entry c (Ok s) → IsEmitted read (map section_view s.items)
   emitted none s h = record {
     unhindered = hindrance-is none ∙ ap (option_map input_status) h.0;
     carried = subst (λ input. OutputCarried input (map section_view s.items)) (sym input-is) h.1.output;
@@ -236,7 +238,7 @@ module _ (c : CompilationValue) (order : Endian) (size : ℕ) (registers : Regis
     whole = subst (λ input. AreWhole input.order (map section_view s.items)) (sym input-is) (record { sound = h.1.sound; spelled = h.1.spelled });
   }
 
-  pub refused-emitting : shared_symbol (map symbol_view (all_symbols c.functions)) ≡ None → (e : DebugError) → emits.Emits order size registers entry c (Err e) → IsCause read (carrying_status e)
+  refused-emitting : shared_symbol (map symbol_view (all_symbols c.functions)) ≡ None → (e : DebugError) → emits.Emits order size registers entry c (Err e) → IsCause read (carrying_status e)
   refused-emitting none e = go (told e)
     where
       -- a limit that the output passes
@@ -252,6 +254,18 @@ module _ (c : CompilationValue) (order : Endian) (size : ℕ) (registers : Regis
       go (refusals.limit Expression) h = limit h.0 (inr h.1)
       go (refusals.limit Vmctx) h = absurd h.1
       go refusals.memory h = inl refl
+
+  -- what is refused before anything is written
+  pub refused-carrying : shared_symbol (map symbol_view (all_symbols c.functions)) ≡ None → (e : DebugError) → refusals.Refuses (carry.refusal_of order size registers None c) e → IsCause read (carrying_status e)
+  refused-carrying none e h = refused-emitting none e (emits-refused order size registers entry c e h)
+
+  -- whatever is written of what is carried
+  pub carried : shared_symbol (map symbol_view (all_symbols c.functions)) ≡ None → (d : CarriedDwarf) → emits.IsCarried order size registers entry c d → Carries read (Ok d)
+  carried none d h = λ written writes. go written (writes order size registers entry c h)
+    where
+      go : (written : Result (Vec DwarfSection Global) DebugError) → emits.Emits order size registers entry c written → Emits read written
+      go (Ok s) k = emitted none s k
+      go (Err e) k = refused-emitting none e k
 
 shared-some : (read : Loaded) (functions : ℕ × ℕ) → shared_in read ≡ Some functions → hindrance read ≡ Some 21
 shared-some read functions e = rw e refl

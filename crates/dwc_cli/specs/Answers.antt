@@ -11,6 +11,9 @@ use Rattle.dwc_base.specs.OutputCarried.{OutputCarried}
 use Rattle.dwc_base.specs.TreeLaws.{have_short_expressions}
 use Rattle.dwc_base.specs.Wasm.{WasmModule}
 use Rattle.dwc_base.specs.Translations.{IsWholeTranslation}
+use Rattle.dwc_carry.specs.declared.emit.CarriedDwarf.{CarriedDwarf}
+use Rattle.dwc_carry.specs.declared.error.DebugError.{DebugError}
+use Rattle.dwc_carry.specs.Emits.{Writes}
 use Rattle.dwc_cli.specs.declared.failure.Failure.{Failure}
 use Rattle.dwc_map.specs.declared.map_file.MapFile.{MapFile}
 use Rattle.dwc_cli.specs.declared.input_files.InputFiles.{InputFiles}
@@ -20,7 +23,7 @@ use Rattle.dwc_cli.specs.Inputs.{Paths, all_paths, Input, all_files, wasm_module
 use Rattle.dwc_cli.specs.Printed.{printed, is_plain, is_line}
 use Rattle.dwc_cli.specs.RunStatus.{AreWhole, Files, Rose, Appended, IsOneOf, WasmCause, MapCause, refusal_status, PassesLimit, LoadedCauses, IsValid}
 use Rattle.dwc_cli.specs.Edge.{IsReadFile}
-use Rattle.dwc_cli.specs.Failures.{failure_status, usage_message, fault_message, length_message, write_message, failure_message, line_of}
+use Rattle.dwc_cli.specs.Failures.{failure_status, carrying_status, usage_message, fault_message, length_message, write_message, failure_message, line_of}
 
 -- the status of a run in which a part answers so
 abbrev pub status_of : {T : Type 0} → Result T Failure → ℕ
@@ -78,9 +81,14 @@ abbrev pub IsCause : Loaded → ℕ → Type 0
 IsCause read status = (status ≡ 9) ⊎ ((hindrance read ≡ Some status) ⊎ ((status ≡ 20) × (hindrance read ≡ None) × PassesLimit (compilation_of read)))
 
 -- the sections of what was read, or the cause of a refusal
-abbrev pub Emits : Loaded → Result (Vec DwarfSection Global) Failure → Type 0
+abbrev pub Emits : Loaded → Result (Vec DwarfSection Global) DebugError → Type 0
 Emits read (Ok sections) = IsEmitted read (map section_view sections.items)
-Emits read (Err failure) = IsCause read (failure_status failure)
+Emits read (Err e) = IsCause read (carrying_status e)
+
+-- what is carried of what was read: whatever its writing answers, its sections are of it; or the cause of a refusal
+abbrev pub Carries : Loaded → Result CarriedDwarf Failure → Type 0
+Carries read (Ok carried) = (written : Result (Vec DwarfSection Global) DebugError) → Writes carried written → Emits read written
+Carries read (Err failure) = IsCause read (failure_status failure)
 
 -- the text of what was read: the printed sections carry all its lines
 pub record CarriesRead (read : Loaded) (text : List ℕ) : Type 0 where

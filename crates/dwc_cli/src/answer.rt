@@ -8,7 +8,7 @@ ghost use Rattle.dwc_cli.specs.Failures.{failure_status};
 ghost use Rattle.dwc_cli.specs.Printed.{printed};
 ghost use Rattle.dwc_cli.specs.Answers.{status_of, IsInputOf, TranslatesFiles, CarriesText, TextCauses, IsTextStatus, GivesText};
 
-use crate::emitting::emitted;
+use crate::carrying::carry;
 use crate::failure::Failure;
 use crate::input_files::InputFiles;
 use dwc_base::{DwarfSection, ModuleTranslation, split_wasm};
@@ -31,7 +31,9 @@ pub(crate) fn sections_of(
     let Some(map_file) = map_for(map_file, &translations) else {
         return Err(Failure::MalformedMap);
     };
-    let sections = emitted(alloc, map_file, translations)?;
+    let carried = carry(alloc, map_file, translations)?;
+    drop(modules);
+    let sections = carried.write(alloc)?;
     Ok(sections)
 }
 

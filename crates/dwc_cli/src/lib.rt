@@ -4,8 +4,8 @@
 mod answer;
 mod backward;
 mod calls;
+mod carrying;
 mod command;
-mod emitting;
 mod failure;
 mod front;
 mod host;

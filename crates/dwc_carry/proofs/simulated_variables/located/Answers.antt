@@ -1,1 +1,0 @@
-use Rattle.dwc_carry.proofs.simulated_variables.located.Goals as goal

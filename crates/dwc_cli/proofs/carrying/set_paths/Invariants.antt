@@ -1,7 +1,7 @@
 use Rattle.std.proofs.Common.{◌≡◌, length, map}
 use Rattle.dwc_map.specs.MapViews.{path_view}
 use Rattle.dwc_cli.proofs.PathLaws.{HaveFirstPaths}
-use Rattle.dwc_cli.proofs.emitting.set_paths.Given as goal
+use Rattle.dwc_cli.proofs.carrying.set_paths.Given as goal
 
 -- there are as many translations as paths, and those of the first are set
 abbrev pub invariant-loop-i : goal.invariant-loop-i

@@ -2,7 +2,7 @@ use Rattle.std.proofs.Common.{◌≡◌, ◌<◌, ◌∙◌, sym, ap, arith, add
 use Rattle.std.proofs.lemmas.List.{length-map, length-set}
 use Rattle.dwc_map.specs.MapViews.{path_view}
 use Rattle.dwc_cli.proofs.PathLaws.{first_paths-more, all_paths-set, path-at}
-use Rattle.dwc_cli.proofs.emitting.set_paths.Goals as goal
+use Rattle.dwc_cli.proofs.carrying.set_paths.Goals as goal
 
 pub loop-i-preserved : goal.loop-i-preserved
 loop-i-preserved c =

@@ -1,6 +1,6 @@
 use Rattle.std.proofs.Common.{◌≡◌, ◌++◌, map}
 use Rattle.dwc_addr.specs.Compilations.{lists}
-use Rattle.dwc_cli.proofs.emitting.parts_of.Given as goal
+use Rattle.dwc_cli.proofs.carrying.parts_of.Given as goal
 
 -- what is told of the modules so far, and of the modules to come
 abbrev pub invariant-loop-module : goal.invariant-loop-module

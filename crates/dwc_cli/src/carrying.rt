@@ -1,4 +1,4 @@
-//! The sections of DWARF for the functions of a map.
+//! The DWARF for the functions of a map, before it is written.
 ghost use Rattle.std.specs.Prelude.{◌≡◌, ◌⊎◌, true, map, length, option_map, if◌then◌else◌, IfOk, All, string_bytes};
 ghost use Rattle.dwc_base.specs.declared.records.Endian.TheVariants.{Little, Big};
 ghost use Rattle.dwc_base.specs.CallFrames.{is_sound_if};
@@ -6,18 +6,19 @@ ghost use Rattle.dwc_base.specs.TranslationNames.{HasSortedNames};
 ghost use Rattle.dwc_clif.specs.CallFrames.{cie_view};
 ghost use Rattle.dwc_clif.specs.Registers.{registers_of};
 ghost use Rattle.dwc_addr.specs.Compilations.{lists, IsCounted, AreNames};
-ghost use Rattle.dwc_carry.specs.Emits as emitting;
+ghost use Rattle.dwc_carry.specs.Emits as carrying;
+ghost use Rattle.dwc_carry.specs.Emits.{IsReady};
 ghost use Rattle.dwc_cli.specs.Inputs.{Loaded};
 ghost use Rattle.dwc_map.specs.MapFile.{IsMapFor};
 ghost use Rattle.dwc_map.specs.MapViews.{path_view, map_file_view, linkage_names};
 ghost use Rattle.dwc_cli.specs.ToldPaths.{HavePaths};
-ghost use Rattle.dwc_cli.specs.Answers.{IsReadAs, Emits};
+ghost use Rattle.dwc_cli.specs.Answers.{IsReadAs, Carries};
 ghost use Rattle.dwc_cli.specs.Compiled.{IsCompiled};
 
 use crate::failure::Failure;
 use dwc_addr::{Compilation, LinkageNames, ModuleMemoryOffset};
-use dwc_base::{DwarfSection, Endian, ModuleTranslation, SymbolId, Tunables};
-use dwc_carry::{DebugError, emit_dwarf};
+use dwc_base::{Endian, ModuleTranslation, SymbolId, Tunables};
+use dwc_carry::{CarriedDwarf, DebugError, carry_dwarf};
 use dwc_clif::{CompiledFunctionMetadata, TableIsa};
 use dwc_map::{MapFile, MapModule, Names, Target};
 use std::alloc::{AllocError, Global};
@@ -29,15 +30,17 @@ const TUNABLES: Tunables = Tunables {
     internal_traps: false,
 };
 
-// The sections of DWARF that the lines of some modules carry over to, for the functions of a map of these modules.
-pub(crate) fn emitted(
+// The DWARF that the one of some modules carries over to, for the functions of a map of these modules. Nothing of the map and of the
+// translations is held behind it.
+pub(crate) fn carry(
     alloc: Global,
     map_file: MapFile,
     translations: Vec<ModuleTranslation<'_>>,
-) -> Result<Vec<DwarfSection>, Failure<'static>>
+) -> Result<CarriedDwarf, Failure<'static>>
     requires fits { IsMapFor (map (λ t. t.defined_funcs) translations.items) (map_file_view map_file) }
     requires sorted { All HasSortedNames translations.items }
-    ensures { (read : Loaded) → IsReadAs translations.entry.items map_file read → Emits read result }
+    ensures carried { (read : Loaded) → IsReadAs translations.entry.items map_file read → Carries read result }
+    ensures ready { IfOk result IsReady }
 {
     let MapFile {
         target,
@@ -51,7 +54,7 @@ pub(crate) fn emitted(
         paths,
     } = parts_of(alloc, modules)?;
     let translations = with_paths(translations, &paths);
-    emitted_at(
+    carry_at(
         alloc,
         target,
         &translations,
@@ -62,8 +65,8 @@ pub(crate) fn emitted(
     )
 }
 
-// The sections of DWARF of modules for a target, for the functions that are compiled from them.
-fn emitted_at(
+// The DWARF of modules for a target, for the functions that are compiled from them.
+fn carry_at(
     alloc: Global,
     target: Target,
     translations: &[ModuleTranslation<'_>],
@@ -71,13 +74,14 @@ fn emitted_at(
     names: &Names,
     memory_offsets: Vec<ModuleMemoryOffset>,
     next_id: u64,
-) -> Result<Vec<DwarfSection>, Failure<'static>>
+) -> Result<CarriedDwarf, Failure<'static>>
     requires size { (target.pointer_bytes ≡ 4) ⊎ (target.pointer_bytes ≡ 8) }
     requires sound { is_sound_if (option_map cie_view target.cie) ≡ true }
     requires counted { IsCounted translations.now (lists functions.now) memory_offsets.items }
     requires names { AreNames (string_bytes names.now.set) (string_bytes names.now.resolve) }
     requires sorted { All HasSortedNames translations.now }
-    ensures { (read : Loaded) → IsCompiled (if target.big_endian then Big else Little) target.pointer_bytes (registers_of target.registers.items) (option_map cie_view target.cie) (linkage_names names.now) translations.now (lists functions.now) memory_offsets.items next_id read → Emits read result }
+    ensures carried { (read : Loaded) → IsCompiled (if target.big_endian then Big else Little) target.pointer_bytes (registers_of target.registers.items) (option_map cie_view target.cie) (linkage_names names.now) translations.now (lists functions.now) memory_offsets.items next_id read → Carries read result }
+    ensures ready { IfOk result IsReady }
 {
     let isa = table_of(alloc, target)?;
     compiled(
@@ -91,7 +95,7 @@ fn emitted_at(
     )
 }
 
-// The sections of DWARF of modules, for the functions that are compiled from them.
+// The DWARF of modules, for the functions that are compiled from them.
 fn compiled<'a>(
     alloc: Global,
     isa: &TableIsa,
@@ -100,11 +104,12 @@ fn compiled<'a>(
     names: &'a Names,
     memory_offsets: Vec<ModuleMemoryOffset>,
     next_id: u64,
-) -> Result<Vec<DwarfSection>, Failure<'static>>
+) -> Result<CarriedDwarf, Failure<'static>>
     requires counted { IsCounted translations.now (lists functions.now) memory_offsets.items }
     requires names { AreNames (string_bytes names.now.set) (string_bytes names.now.resolve) }
     requires sorted { All HasSortedNames translations.now }
-    ensures { (read : Loaded) → IsCompiled isa.now.order isa.now.pointer_bytes isa.now.registers isa.now.common_entry (linkage_names names.now) translations.now (lists functions.now) memory_offsets.items next_id read → Emits read result }
+    ensures carried { (read : Loaded) → IsCompiled isa.now.order isa.now.pointer_bytes isa.now.registers isa.now.common_entry (linkage_names names.now) translations.now (lists functions.now) memory_offsets.items next_id read → Carries read result }
+    ensures ready { IfOk result IsReady }
 {
     let names = LinkageNames {
         set_memory: &names.set,
@@ -121,18 +126,19 @@ fn compiled<'a>(
         names,
         next_id,
     )?;
-    Ok(emitted_for(alloc, isa, &mut compilation)?)
+    Ok(carry_for(alloc, isa, &mut compilation)?)
 }
 
-// The sections of DWARF of a compilation, for a target that is given by tables.
-fn emitted_for(
+// The DWARF of a compilation, for a target that is given by tables.
+fn carry_for(
     alloc: Global,
     isa: &TableIsa,
     compilation: &mut Compilation<'_>,
-) -> Result<Vec<DwarfSection>, DebugError>
-    ensures { emitting.Emits isa.now.order isa.now.pointer_bytes isa.now.registers isa.now.common_entry compilation.old result }
+) -> Result<CarriedDwarf, DebugError>
+    ensures carried { carrying.Carries isa.now.order isa.now.pointer_bytes isa.now.registers isa.now.common_entry compilation.old result }
+    ensures ready { IfOk result IsReady }
 {
-    emit_dwarf(alloc, isa, compilation)
+    carry_dwarf(alloc, isa, compilation)
 }
 
 // What a map tells of its modules, module by module.
