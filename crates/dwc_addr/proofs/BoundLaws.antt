@@ -54,14 +54,14 @@ enclosed b start end begin last h (inl behind) = inl (omega (arith, h.0, behind)
 enclosed b start end begin last h (inr front) = inr (omega (arith, h.1, front))
 
 module _ (m : FunctionMap) (start end : ℕ) where
-  begin-seen : (k : ℕ) → wasm_begin m.wasm_start m.addresses.items m.later_runs.items k ≡ (begin_of m k).1
+  begin-seen : (k : ℕ) → wasm_begin m.wasm_start m.addresses m.later_runs.items k ≡ (begin_of m k).1
   begin-seen zero = refl
   begin-seen (suc k) = refl
 
-  end-seen : (k : ℕ) → wasm_end m.wasm_end m.addresses.items m.later_runs.items k ≡ (end_of m k).1
+  end-seen : (k : ℕ) → wasm_end m.wasm_end m.addresses m.later_runs.items k ≡ (end_of m k).1
   end-seen k = go (cases_lt k (length m.later_runs.items))
     where
-      go : (k < length m.later_runs.items) ⊎ (length m.later_runs.items ≤ k) → wasm_end m.wasm_end m.addresses.items m.later_runs.items k ≡ (end_of m k).1
+      go : (k < length m.later_runs.items) ⊎ (length m.later_runs.items ≤ k) → wasm_end m.wasm_end m.addresses m.later_runs.items k ≡ (end_of m k).1
       go (inl less) = rw (lt-ltb k (length m.later_runs.items) less) refl
       go (inr past) = rw (le-ltb k (length m.later_runs.items) past) refl
 

@@ -1,68 +1,46 @@
 -- The entries of a map are kept whole: the sources among them are those that are kept, and all come back in order.
-use Rattle.std.proofs.Common.{◌≡◌, ℕ, suc, ◌+◌, ◌-◌, ◌%◌, ◌^◌, ◌<◌, ◌≤◌, inl, inr, refl, ap, ◌∙◌, arith, List, [], ◌∷◌, ◌++◌, map, Option, Some, None}
+use Rattle.std.proofs.Common.{◌≡◌, ℕ, suc, ◌+◌, ◌-◌, ◌%◌, ◌^◌, ◌<◌, ◌≤◌, inl, inr, refl, ap, sym, ◌∙◌, arith, List, [], ◌∷◌, map, Option, Some, None}
 use Rattle.std.specs.Prelude.{nat_lt, nat_le, ◌&&◌, ◌⊎◌, ◌==◌, if◌then◌else◌, option_map, Bool, true, false, All}
-use Rattle.std.specs.List.{filter, filter_map}
+use Rattle.std.specs.List.{filter_map}
 use Rattle.std.specs.Option.{option_or}
-use Rattle.std.proofs.lemmas.Bool.{eq-eqb, ne_eqb, ltb-false, le-leb, lt-leb, cases_lt}
+use Rattle.std.proofs.lemmas.Bool.{ltb-false, le-leb, lt-leb, cases_lt}
 use Rattle.std.proofs.lemmas.List.Elements.{All-nil, All-cons}
 use Rattle.dwc_base.specs.declared.records.MapFault.{MapFault}
 use Rattle.dwc_base.specs.declared.records.MapFault.TheVariants.{BodyOffset, BeforeCodeSection, Reversed, CodeFalls, CodePastBody, SourceOutside}
 use Rattle.dwc_base.specs.Functions.{AddressMap, Recorded, recorded_entry, wasm_entry, map_fault, bounds_fault, entry_fault, is_source_within}
-use Rattle.dwc_addr.specs.declared.function_map.Gap.{Gap}
-use Rattle.dwc_addr.specs.Gaps.{gaps_of, entry_of_source, merged}
+use Rattle.dwc_clif.specs.declared.instruction_maps.Gap.{Gap}
+use Rattle.dwc_clif.specs.declared.instruction_maps.InstructionSource.{InstructionSource}
+use Rattle.dwc_clif.specs.Gaps.{gaps_of, merged, source_view}
+use Rattle.dwc_clif.proofs.GapLaws.{gaps-counted, merged-all}
+pub use Rattle.dwc_clif.proofs.GapLaws.{recorded-merged}
+use Rattle.dwc_addr.specs.Runs.{recorded_view}
+use Rattle.dwc_addr.specs.Sources.{counted_from}
 use Rattle.dwc_addr.specs.Rising.{RisesFrom}
 use Rattle.dwc_addr.specs.Transforms.{first_bad_map}
 use Rattle.dwc_addr.proofs.RisingLaws.{RisesFrom-weaker}
 
 -- ---- the sources among all entries
 
--- gaps have no sources
-recorded-behind : (gs : List Gap) (rest : List (ℕ × Option ℕ)) → filter_map recorded_entry (map (λ g. (g.generated, None)) gs ++ rest) ≡ filter_map recorded_entry rest
-recorded-behind [] rest = refl
-recorded-behind (g ∷ gs) rest = recorded-behind gs rest
+abbrev counted : ℕ → Recorded → Recorded
+counted code_offset e = record { native = e.native; wasm = e.wasm - code_offset }
 
-recorded-gaps : (gs : List Gap) → filter_map recorded_entry (map (λ g. (g.generated, None)) gs) ≡ []
-recorded-gaps [] = refl
-recorded-gaps (g ∷ gs) = recorded-gaps gs
+among-counted : (code_offset : ℕ) (es : List (ℕ × Option ℕ)) → filter_map recorded_entry (map (wasm_entry code_offset) es) ≡ map (counted code_offset) (filter_map recorded_entry es)
+among-counted code_offset [] = refl
+among-counted code_offset ((native, None) ∷ es) = among-counted code_offset es
+among-counted code_offset ((native, Some source) ∷ es) = ap (λ rest. record { native = native; wasm = source - code_offset } ∷ rest) (among-counted code_offset es)
 
--- The recorded sources of merged entries are those that were merged.
-pub recorded-merged : (gs : List Gap) (before : ℕ) (es : List Recorded) → filter_map recorded_entry (merged gs before es) ≡ es
-recorded-merged gs before [] = recorded-gaps (filter (λ g. g.before == before) gs)
-recorded-merged gs before (e ∷ es) = recorded-behind (filter (λ g. g.before == before) gs) (entry_of_source e ∷ merged gs (suc before) es) ∙ ap (λ rest. e ∷ rest) (recorded-merged gs (suc before) es)
+sources-seen : (code_offset : ℕ) (sources : List InstructionSource) → map recorded_view (map (counted_from code_offset) sources) ≡ map (counted code_offset) (map source_view sources)
+sources-seen code_offset [] = refl
+sources-seen code_offset (s ∷ ss) = ap (λ rest. record { native = s.code_offset; wasm = s.source - code_offset } ∷ rest) (sources-seen code_offset ss)
+
+-- The sources of a map, counted from the code section, are the recorded sources of its function.
+pub sources-counted : (code_offset : ℕ) (es : List (ℕ × Option ℕ)) (sources : List InstructionSource) → map source_view sources ≡ filter_map recorded_entry es
+    → map recorded_view (map (counted_from code_offset) sources) ≡ filter_map recorded_entry (map (wasm_entry code_offset) es)
+sources-counted code_offset es sources is = sources-seen code_offset sources ∙ (ap (map (counted code_offset)) is ∙ sym (among-counted code_offset es))
 
 -- ---- all entries
 
--- the gaps of entries do not hang on what sources are counted from
-pub gaps-counted : (code_offset before : ℕ) (es : List (ℕ × Option ℕ)) → gaps_of before (map (wasm_entry code_offset) es) ≡ gaps_of before es
-gaps-counted code_offset before [] = refl
-gaps-counted code_offset before ((native, None) ∷ es) = ap (λ gs. record { before = before; generated = native } ∷ gs) (gaps-counted code_offset before es)
-gaps-counted code_offset before ((native, Some source) ∷ es) = gaps-counted code_offset (suc before) es
-
--- the gaps of entries are not in front of those entries
-none-behind : (before low : ℕ) (es : List (ℕ × Option ℕ)) → low < before → filter (λ g. g.before == low) (gaps_of before es) ≡ []
-none-behind before low [] less = refl
-none-behind before low ((native, None) ∷ es) less = rw (ne_eqb before low (λ same. absurd (omega (arith, same, less)))) (none-behind before low es less)
-none-behind before low ((native, Some source) ∷ es) less = none-behind (suc before) low es (omega (arith, less))
-
--- a gap plays no part behind it
-merged-past : (g : Gap) (gs : List Gap) (before : ℕ) (es : List Recorded) → g.before < before → merged (g ∷ gs) before es ≡ merged gs before es
-merged-past g gs before [] less = rw (ne_eqb g.before before (λ same. absurd (omega (arith, same, less)))) refl
-merged-past g gs before (e ∷ es) less = rw (ne_eqb g.before before (λ same. absurd (omega (arith, same, less))), merged-past g gs (suc before) es (omega (arith, less))) refl
-
--- a gap in front of the others
-merged-gap : (g : Gap) (gs : List Gap) (es : List Recorded) → merged (g ∷ gs) g.before es ≡ (g.generated, None) ∷ merged gs g.before es
-merged-gap g gs [] = rw (eq-eqb g.before g.before refl) refl
-merged-gap g gs (e ∷ es) = rw (eq-eqb g.before g.before refl, merged-past g gs (suc g.before) es (omega arith)) refl
-
--- Entries are the sources among them, merged with their gaps.
-pub merged-all : (before : ℕ) (es : List (ℕ × Option ℕ)) → merged (gaps_of before es) before (filter_map recorded_entry es) ≡ es
-merged-all before [] = refl
-merged-all before ((native, None) ∷ es) = merged-gap (record { before = before; generated = native }) (gaps_of before es) (filter_map recorded_entry es) ∙ ap (λ rest. (native, None) ∷ rest) (merged-all before es)
-merged-all before ((native, Some source) ∷ es) =
-    ap (λ gs. map (λ g. (g.generated, None)) gs ++ ((native, Some source) ∷ merged (gaps_of (suc before) es) (suc before) (filter_map recorded_entry es))) (none-behind (suc before) before es (omega arith))
-    ∙ ap (λ rest. (native, Some source) ∷ rest) (merged-all (suc before) es)
-
--- So do those of a function.
+-- The entries of a function are its sources, merged with its gaps.
 pub entries-merged : (code_offset : ℕ) (es : List (ℕ × Option ℕ)) (gaps : List Gap) (sources : List Recorded) → gaps ≡ gaps_of 0 es → sources ≡ filter_map recorded_entry (map (wasm_entry code_offset) es)
     → merged gaps 0 sources ≡ map (wasm_entry code_offset) es
 entries-merged code_offset es gaps sources kept found = rw (kept, found, ← gaps-counted code_offset 0 es) (merged-all 0 (map (wasm_entry code_offset) es))

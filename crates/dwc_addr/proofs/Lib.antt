@@ -17,6 +17,7 @@ pub mod PositionLaws
 pub mod RisingLaws
 pub mod RunLaws
 pub mod SharedCases
+pub mod SourceCounts
 pub mod SourceLaws
 pub mod StartLaws
 pub mod SymbolLaws

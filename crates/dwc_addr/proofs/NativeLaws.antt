@@ -8,10 +8,10 @@ use Rattle.std.proofs.lemmas.Bool.{ltb-true, ltb-false, lt-ltb, le-ltb, eq-eqb, 
 use Rattle.std.proofs.lemmas.List.{length-map, length-drop, length-take-le, get_or-map, get_or-take, get_or-drop, get_or_default, drop_more, drop_all, nil_from_length}
 use Rattle.dwc_addr.specs.declared.address_map.AddressMap.{AddressMap}
 use Rattle.dwc_addr.specs.declared.function_map.FunctionMap.{FunctionMap}
-use Rattle.dwc_addr.specs.declared.function_map.Gap.{Gap}
+use Rattle.dwc_clif.specs.declared.instruction_maps.Gap.{Gap}
 use Rattle.dwc_base.specs.Runs.{Position}
 use Rattle.dwc_addr.specs.declared.run.Run.{Run}
-use Rattle.dwc_addr.specs.Gaps.{merged}
+use Rattle.dwc_clif.specs.Gaps.{merged}
 use Rattle.dwc_addr.specs.Rising.{RisesFrom}
 use Rattle.dwc_addr.specs.Runs.{recorded_view}
 use Rattle.dwc_addr.specs.RunViews.{positions_of, positions_in, no_source, IsRunOf}
@@ -79,15 +79,15 @@ module _ (m : FunctionMap) where
       shift (inr past) = rw (le-ltb k (length es) past, le-ltb (suc k) (suc (length es)) (omega (arith, past))) refl
 
   -- where the position of a source ends
-  end-is : (k : ℕ) (d : Position) → k < length m.addresses.items
-      → (get_or (positions_of m) k d).end ≡ unwrap_or (option_map (λ g. g.generated) (find (λ g. g.before == suc k) m.gaps.items)) (start_or m.addresses.items (suc k) m.len)
+  end-is : (k : ℕ) (d : Position) → k < length m.addresses
+      → (get_or (positions_of m) k d).end ≡ unwrap_or (option_map (λ g. g.generated) (find (λ g. g.before == suc k) m.gaps.now)) (start_or m.addresses (suc k) m.len)
   end-is k d less =
-      position-end m.len m.gaps.items 0 (map recorded_view m.addresses.items) k d (omega (arith, less, length-map m.addresses.items recorded_view))
-      ∙ ap (λ n. unwrap_or (option_map (λ (g : Gap). g.generated) (find (λ g. g.before == suc n) m.gaps.items)) (next_source m.len (map recorded_view m.addresses.items) (suc k))) (omega arith)
-      ∙ ap (λ n. unwrap_or (option_map (λ (g : Gap). g.generated) (find (λ g. g.before == suc k) m.gaps.items)) n) (next-at m.addresses.items (suc k) m.len)
+      position-end m.len m.gaps.now 0 (map recorded_view m.addresses) k d (omega (arith, less, length-map m.addresses recorded_view))
+      ∙ ap (λ n. unwrap_or (option_map (λ (g : Gap). g.generated) (find (λ g. g.before == suc n) m.gaps.now)) (next_source m.len (map recorded_view m.addresses) (suc k))) (omega arith)
+      ∙ ap (λ n. unwrap_or (option_map (λ (g : Gap). g.generated) (find (λ g. g.before == suc k) m.gaps.now)) n) (next-at m.addresses (suc k) m.len)
 
   -- the entries' order
-  entries-rise : RisesFrom (λ e. e.0) 0 (merged m.gaps.items 0 (map recorded_view m.addresses.items))
+  entries-rise : RisesFrom (λ e. e.0) 0 (merged m.gaps.now 0 (map recorded_view m.addresses))
   entries-rise = RisesFrom-from_non_decreasing (λ e. e.0) 0 _ m.rises (λ d some. omega arith)
 
   pub ends-front : EndInFront (positions_of m)
@@ -97,15 +97,15 @@ module _ (m : FunctionMap) where
   starts-rise = begins-low m.len 0 _ entries-rise
 
   -- so the sources do not begin below the one before
-  pub natives-rise : IsNonDecreasingBy (λ (e : AddressMap). e.generated) m.addresses.items
+  pub natives-rise : IsNonDecreasingBy (λ (e : AddressMap). e.generated) m.addresses
   natives-rise =
-      RisesFrom-non_decreasing (λ e. e.generated) 0 m.addresses.items
-      (RisesFrom-seen (λ e. e.native) recorded_view 0 m.addresses.items
+      RisesFrom-non_decreasing (λ e. e.generated) 0 m.addresses
+      (RisesFrom-seen (λ e. e.native) recorded_view 0 m.addresses
       (subst (RisesFrom (λ e. e.native) 0) (recorded m) (RisesFrom-map (λ e. e.native) recorded_at 0 (positions_of m) starts-rise)))
 
   -- where the native code of a source ends, by what stands behind it
-  pub end-at : (k : ℕ) (d : Position) (gap : Option ℕ) → k < length m.addresses.items → gap ≡ option_map (λ (g : Gap). g.generated) (find (λ g. g.before == k + 1) m.gaps.items)
-      → (get_or (positions_of m) k d).end ≡ unwrap_or gap (start_or m.addresses.items (k + 1) m.len)
+  pub end-at : (k : ℕ) (d : Position) (gap : Option ℕ) → k < length m.addresses → gap ≡ option_map (λ (g : Gap). g.generated) (find (λ g. g.before == k + 1) m.gaps.now)
+      → (get_or (positions_of m) k d).end ≡ unwrap_or gap (start_or m.addresses (k + 1) m.len)
   end-at k d gap less is = rw (is, add-one) (end-is k d less)
 
 -- ---- parts of lists
@@ -344,7 +344,7 @@ module _ (ps : List Position) (xs : List AddressMap) (seen : map recorded_at ps 
 -- ---- the positions of a run of a function
 
 module _ (m : FunctionMap) (r : Run) (inside : IsRunOf m r) where
-  pub run-seen : (xs : List AddressMap) → xs ≡ take (r.behind - r.first) (drop r.first m.addresses.items) → map recorded_at (positions_in m r) ≡ map recorded_view xs
+  pub run-seen : (xs : List AddressMap) → xs ≡ take (r.behind - r.first) (drop r.first m.addresses) → map recorded_at (positions_in m r) ≡ map recorded_view xs
   run-seen xs is = part-recorded m r.first (r.behind - r.first) ∙ ap (map recorded_view) (sym is)
 
   pub run-front : EndInFront (positions_in m r)
@@ -355,6 +355,14 @@ module _ (m : FunctionMap) (r : Run) (inside : IsRunOf m r) where
   end-in native behind some le is =
       is no_position
       ∙ ap (λ (p : Position). p.end) (ap (λ k. get_or (positions_of m) k no_position) (omega (arith, some)) ∙ sym (part-at (positions_of m) r.first r.behind (behind - 1) no_position (omega (arith, some, le))))
+
+-- the first source that begins where one of them begins is among them
+pub source-inside : (xs : List AddressMap) (k s first : ℕ) → k < length xs → s ≡ (get_or xs k no_source).generated → IsCountBelow (λ (e : AddressMap). e.generated) xs s first → first < length xs
+source-inside xs k s first less is h = go (cases_lt k first)
+  where
+    go : (k < first) ⊎ (first ≤ k) → first < length xs
+    go (inl past) = absurd (omega (arith, h.below k no_source past, is))
+    go (inr before) = omega (arith, before, less)
 
 -- one behind the place of a source is not the first place
 pub some-behind : (xs : List AddressMap) (k s behind : ℕ) → k < length xs → s ≡ (get_or xs k no_source).generated → IsCountUpTo (λ (e : AddressMap). e.generated) xs s behind → 0 < behind

@@ -1,10 +1,10 @@
 -- The runs of a function by their numbers, as they are found in what is kept of it.
-use Rattle.std.proofs.Common.{◌≡◌, ℕ, zero, suc, ◌-◌, ◌<◌, ◌≤◌, refl, sym, ap, subst, ◌∙◌, arith, [], ◌∷◌, map, length, take, drop, get_or, inl, inr}
-use Rattle.std.specs.Prelude.{◌⊎◌}
+use Rattle.std.proofs.Common.{◌≡◌, ℕ, zero, suc, ◌+◌, ◌-◌, ◌<◌, ◌≤◌, refl, sym, ap, subst, ◌∙◌, arith, List, [], ◌∷◌, map, length, take, drop, get_or, inl, inr}
+use Rattle.std.specs.Prelude.{◌⊎◌, nat_lt, if◌then◌else◌}
 use Rattle.std.specs.List.{AllByRecursion}
 use Rattle.std.specs.List.Sorted.{IsNonDecreasingBy}
 use Rattle.std.proofs.lemmas.Bool.{lt-ltb, le-ltb, cases_lt}
-use Rattle.std.proofs.lemmas.List.{length-map, length-drop, get_or-map, take-map, drop-map, take_all, get_or_default}
+use Rattle.std.proofs.lemmas.List.{drop_more, length-map, length-drop, get_or-map, take-map, drop-map, take_all, get_or_default}
 use Rattle.dwc_base.specs.Runs as base
 use Rattle.dwc_base.specs.Runs.{Position, runs, pieces, source_positions, joined_positions}
 use Rattle.dwc_addr.specs.declared.address_map.AddressMap.{AddressMap}
@@ -18,24 +18,32 @@ use Rattle.dwc_addr.proofs.PieceLaws.{recorded_at, no_position, cut, Rise, Piece
 use Rattle.dwc_addr.proofs.PositionLaws.{positions-recorded}
 use Rattle.dwc_addr.proofs.RisingLaws.{RisesFrom-map, RisesFrom-seen, RisesFrom-non_decreasing}
 
+-- the places of later runs among the sources that are left, by the first of these
+pub starts-left : (xs : List AddressMap) (place last : ℕ) (e : AddressMap) → place < length xs → e ≡ get_or xs place e
+    → run_starts place last (map recorded_view (drop place xs))
+    ≡ (if nat_lt e.wasm last then place ∷ run_starts (place + 1) e.wasm (map recorded_view (drop (place + 1) xs)) else run_starts (place + 1) e.wasm (map recorded_view (drop (place + 1) xs)))
+starts-left xs place last e less is =
+    ap (λ rest. run_starts place last (map recorded_view rest)) (drop_more xs place e less ∙ ap (λ first. first ∷ drop (place + 1) xs) (sym is))
+    ∙ ap (λ n. if nat_lt e.wasm last then place ∷ run_starts n e.wasm (map recorded_view (drop (place + 1) xs)) else run_starts n e.wasm (map recorded_view (drop (place + 1) xs))) (omega arith)
+
 module _ (m : FunctionMap) where
   -- the positions are those of the sources
-  pub recorded : map recorded_at (positions_of m) ≡ map recorded_view m.addresses.items
-  recorded = positions-recorded m.len m.gaps.items 0 (map recorded_view m.addresses.items)
+  pub recorded : map recorded_at (positions_of m) ≡ map recorded_view m.addresses
+  recorded = positions-recorded m.len m.gaps.now 0 (map recorded_view m.addresses)
 
-  pub count : length (positions_of m) ≡ length m.addresses.items
-  count = sym (length-map (positions_of m) recorded_at) ∙ ap length recorded ∙ length-map m.addresses.items recorded_view
+  pub count : length (positions_of m) ≡ length m.addresses
+  count = sym (length-map (positions_of m) recorded_at) ∙ ap length recorded ∙ length-map m.addresses recorded_view
 
-  pub recorded-at : (k : ℕ) → k < length m.addresses.items → recorded_at (get_or (positions_of m) k no_position) ≡ recorded_view (source_at m k)
+  pub recorded-at : (k : ℕ) → k < length m.addresses → recorded_at (get_or (positions_of m) k no_position) ≡ recorded_view (source_at m k)
   recorded-at k less =
       sym (get_or-map recorded_at (positions_of m) k no_position (recorded_view no_source) (omega (arith, less, count)))
       ∙ ap (λ es. get_or es k (recorded_view no_source)) recorded
-      ∙ get_or-map recorded_view m.addresses.items k no_source (recorded_view no_source) less
+      ∙ get_or-map recorded_view m.addresses k no_source (recorded_view no_source) less
 
-  pub wasm-at : (k : ℕ) → k < length m.addresses.items → (get_or (positions_of m) k no_position).wasm ≡ (source_at m k).wasm
+  pub wasm-at : (k : ℕ) → k < length m.addresses → (get_or (positions_of m) k no_position).wasm ≡ (source_at m k).wasm
   wasm-at k less = ap (λ e. e.wasm) (recorded-at k less)
 
-  pub native-at : (k : ℕ) → k < length m.addresses.items → (get_or (positions_of m) k no_position).start ≡ (source_at m k).generated
+  pub native-at : (k : ℕ) → k < length m.addresses → (get_or (positions_of m) k no_position).start ≡ (source_at m k).generated
   native-at k less = ap (λ e. e.native) (recorded-at k less)
 
   starts : m.later_runs.items ≡ run_starts 0 0 (map recorded_at (positions_of m))
@@ -55,41 +63,41 @@ module _ (m : FunctionMap) where
   runs-cut = ap (base.runs_from (function_view m) m.wasm_start 0) cut-at
 
   -- Where a run ends that is not the last.
-  pub ends-inside : (k : ℕ) → k < length m.later_runs.items → (0 < get_or m.later_runs.items k 0) × (get_or m.later_runs.items k 0 < length m.addresses.items)
+  pub ends-inside : (k : ℕ) → k < length m.later_runs.items → (0 < get_or m.later_runs.items k 0) × (get_or m.later_runs.items k 0 < length m.addresses)
   ends-inside k less =
       let h = place-behind (function_view m) (positions_of m) m.later_runs.items rise k less in
       (omega (arith, h.0), omega (arith, h.1, count))
 
   -- ---- where a run begins and ends, by what the code looks up
 
-  pub begin-inside : (k first : ℕ) → (k ≡ 0 → ⊥) → k ≤ length m.later_runs.items → first ≡ get_or m.later_runs.items (k - 1) first → first < length m.addresses.items
+  pub begin-inside : (k first : ℕ) → (k ≡ 0 → ⊥) → k ≤ length m.later_runs.items → first ≡ get_or m.later_runs.items (k - 1) first → first < length m.addresses
   begin-inside zero first some le is = absurd (some refl)
   begin-inside (suc k) first some le is =
       let e : suc k - 1 ≡ k = omega arith in
       omega (arith, (ends-inside k (omega (arith, le))).1, is ∙ ap (λ n. get_or m.later_runs.items n first) e ∙ get_or_default m.later_runs.items k first 0 (omega (arith, le)))
 
-  pub begin-is : (k first : ℕ) (source : AddressMap) → (k ≡ 0 → ⊥) → k ≤ length m.later_runs.items → first ≡ get_or m.later_runs.items (k - 1) first → source ≡ get_or m.addresses.items first source → (first, source.wasm, source.generated) ≡ begin_of m k
+  pub begin-is : (k first : ℕ) (source : AddressMap) → (k ≡ 0 → ⊥) → k ≤ length m.later_runs.items → first ≡ get_or m.later_runs.items (k - 1) first → source ≡ get_or m.addresses first source → (first, source.wasm, source.generated) ≡ begin_of m k
   begin-is zero first source some le is at = absurd (some refl)
   begin-is (suc k) first source some le is at =
       let e : suc k - 1 ≡ k = omega arith in
       let inside = begin-inside (suc k) first some le is in
       let place : first ≡ get_or m.later_runs.items k 0 = is ∙ ap (λ n. get_or m.later_runs.items n first) e ∙ get_or_default m.later_runs.items k first 0 (omega (arith, le)) in
-      let there : source ≡ source_at m first = at ∙ get_or_default m.addresses.items first source no_source inside in
+      let there : source ≡ source_at m first = at ∙ get_or_default m.addresses first source no_source inside in
       ap (λ (s : AddressMap). (first, s.wasm, s.generated)) there ∙ ap (λ n. (n, (source_at m n).wasm, (source_at m n).generated)) place
 
-  pub end-inside : (k behind : ℕ) → k < length m.later_runs.items → behind ≡ get_or m.later_runs.items k behind → (0 < behind) × (behind < length m.addresses.items)
+  pub end-inside : (k behind : ℕ) → k < length m.later_runs.items → behind ≡ get_or m.later_runs.items k behind → (0 < behind) × (behind < length m.addresses)
   end-inside k behind less is =
       let h = ends-inside k less in
       let place : behind ≡ get_or m.later_runs.items k 0 = is ∙ get_or_default m.later_runs.items k behind 0 less in
       (omega (arith, h.0, place), omega (arith, h.1, place))
 
-  pub end-is : (k behind : ℕ) (last next : AddressMap) → k < length m.later_runs.items → behind ≡ get_or m.later_runs.items k behind → last ≡ get_or m.addresses.items (behind - 1) last → next ≡ get_or m.addresses.items behind next
+  pub end-is : (k behind : ℕ) (last next : AddressMap) → k < length m.later_runs.items → behind ≡ get_or m.later_runs.items k behind → last ≡ get_or m.addresses (behind - 1) last → next ≡ get_or m.addresses behind next
       → (behind, last.wasm, next.generated) ≡ end_of m k
   end-is k behind last next less is before at =
       let inside = end-inside k behind less is in
       let place : behind ≡ get_or m.later_runs.items k 0 = is ∙ get_or_default m.later_runs.items k behind 0 less in
-      let one : last ≡ source_at m (behind - 1) = before ∙ get_or_default m.addresses.items (behind - 1) last no_source (omega (arith, inside.1)) in
-      let two : next ≡ source_at m behind = at ∙ get_or_default m.addresses.items behind next no_source inside.1 in
+      let one : last ≡ source_at m (behind - 1) = before ∙ get_or_default m.addresses (behind - 1) last no_source (omega (arith, inside.1)) in
+      let two : next ≡ source_at m behind = at ∙ get_or_default m.addresses behind next no_source inside.1 in
       rw (lt-ltb k (length m.later_runs.items) less)
       (ap (λ (s : AddressMap). (behind, s.wasm, next.generated)) one
       ∙ ap (λ (s : AddressMap). (behind, (source_at m (behind - 1)).wasm, s.generated)) two
@@ -109,7 +117,7 @@ module _ (m : FunctionMap) where
   begin-native zero le = refl
   begin-native (suc k) le = native-at (get_or m.later_runs.items k 0) (ends-inside k (omega (arith, le))).1
 
-  begin-low : (k : ℕ) → k ≤ length m.later_runs.items → (begin_of m k).0 ≤ length m.addresses.items
+  begin-low : (k : ℕ) → k ≤ length m.later_runs.items → (begin_of m k).0 ≤ length m.addresses
   begin-low zero le = omega arith
   begin-low (suc k) le = omega (arith, (ends-inside k (omega (arith, le))).1)
 
@@ -124,8 +132,8 @@ module _ (m : FunctionMap) where
           let inside = ends-inside k less in
           rw (lt-ltb k (length m.later_runs.items) less, begin-place k, begin-wasm k le, begin-native k le, wasm-at (get_or m.later_runs.items k 0 - 1) (omega (arith, inside.1)), native-at (get_or m.later_runs.items k 0) inside.1) refl
       go (inr past) =
-          let whole : take (length m.addresses.items - (begin_of m k).0) (drop (begin_of m k).0 (positions_of m)) ≡ drop (begin_of m k).0 (positions_of m) =
-          take_all (length m.addresses.items - (begin_of m k).0) (drop (begin_of m k).0 (positions_of m)) (omega (arith, length-drop (begin_of m k).0 (positions_of m), count)) in
+          let whole : take (length m.addresses - (begin_of m k).0) (drop (begin_of m k).0 (positions_of m)) ≡ drop (begin_of m k).0 (positions_of m) =
+          take_all (length m.addresses - (begin_of m k).0) (drop (begin_of m k).0 (positions_of m)) (omega (arith, length-drop (begin_of m k).0 (positions_of m), count)) in
           rw (le-ltb k (length m.later_runs.items) past, begin-place k, begin-wasm k le, begin-native k le, whole) refl
 
   -- The runs from one on are that run and those behind it.
@@ -147,29 +155,29 @@ module _ (m : FunctionMap) where
       go : (k < length m.later_runs.items) ⊎ (length m.later_runs.items ≤ k) → PieceRises (take ((end_of m k).0 - (begin_of m k).0) (drop (begin_of m k).0 (positions_of m)))
       go (inl less) = rw (lt-ltb k (length m.later_runs.items) less, ← begin-place k) (positions-rise (function_view m) (positions_of m) m.later_runs.items rise rises k less)
       go (inr past) =
-          let whole : take (length m.addresses.items - (begin_of m k).0) (drop (begin_of m k).0 (positions_of m)) ≡ drop (begin_of m k).0 (positions_of m) =
-          take_all (length m.addresses.items - (begin_of m k).0) (drop (begin_of m k).0 (positions_of m)) (omega (arith, length-drop (begin_of m k).0 (positions_of m), count)) in
+          let whole : take (length m.addresses - (begin_of m k).0) (drop (begin_of m k).0 (positions_of m)) ≡ drop (begin_of m k).0 (positions_of m) =
+          take_all (length m.addresses - (begin_of m k).0) (drop (begin_of m k).0 (positions_of m)) (omega (arith, length-drop (begin_of m k).0 (positions_of m), count)) in
           let last : length m.later_runs.items ≡ k = omega (arith, past, le) in
           rw (le-ltb k (length m.later_runs.items) past, whole, ← begin-place k, ← last) (last-rises (function_view m) (positions_of m) m.later_runs.items rise rises)
 
-  pub part-recorded : (from n : ℕ) → map recorded_at (take n (drop from (positions_of m))) ≡ map recorded_view (take n (drop from m.addresses.items))
+  pub part-recorded : (from n : ℕ) → map recorded_at (take n (drop from (positions_of m))) ≡ map recorded_view (take n (drop from m.addresses))
   part-recorded from n =
       sym (take-map recorded_at n (drop from (positions_of m)) ∙ refl)
-      ∙ ap (take n) (sym (drop-map recorded_at from (positions_of m)) ∙ ap (drop from) recorded ∙ drop-map recorded_view from m.addresses.items)
-      ∙ take-map recorded_view n (drop from m.addresses.items)
+      ∙ ap (take n) (sym (drop-map recorded_at from (positions_of m)) ∙ ap (drop from) recorded ∙ drop-map recorded_view from m.addresses)
+      ∙ take-map recorded_view n (drop from m.addresses)
 
-  sources-rise : (k : ℕ) → k ≤ length m.later_runs.items → IsNonDecreasingBy (λ e. e.wasm) (take ((end_of m k).0 - (begin_of m k).0) (drop (begin_of m k).0 m.addresses.items))
+  sources-rise : (k : ℕ) → k ≤ length m.later_runs.items → IsNonDecreasingBy (λ e. e.wasm) (take ((end_of m k).0 - (begin_of m k).0) (drop (begin_of m k).0 m.addresses))
   sources-rise k le =
       let n = (end_of m k).0 - (begin_of m k).0 in
       let from = (begin_of m k).0 in
-      RisesFrom-non_decreasing (λ e. e.wasm) 0 (take n (drop from m.addresses.items))
-      (RisesFrom-seen (λ e. e.wasm) recorded_view 0 (take n (drop from m.addresses.items))
+      RisesFrom-non_decreasing (λ e. e.wasm) 0 (take n (drop from m.addresses))
+      (RisesFrom-seen (λ e. e.wasm) recorded_view 0 (take n (drop from m.addresses))
       (subst (RisesFrom (λ e. e.wasm) 0) (part-recorded from n) (RisesFrom-map (λ e. e.wasm) recorded_at 0 (take n (drop from (positions_of m))) (piece-rises k le))))
 
-  order : (k : ℕ) → k ≤ length m.later_runs.items → ((begin_of m k).0 ≤ (end_of m k).0) × ((end_of m k).0 ≤ length m.addresses.items)
+  order : (k : ℕ) → k ≤ length m.later_runs.items → ((begin_of m k).0 ≤ (end_of m k).0) × ((end_of m k).0 ≤ length m.addresses)
   order k le = go (cases_lt k (length m.later_runs.items))
     where
-      go : (k < length m.later_runs.items) ⊎ (length m.later_runs.items ≤ k) → ((begin_of m k).0 ≤ (end_of m k).0) × ((end_of m k).0 ≤ length m.addresses.items)
+      go : (k < length m.later_runs.items) ⊎ (length m.later_runs.items ≤ k) → ((begin_of m k).0 ≤ (end_of m k).0) × ((end_of m k).0 ≤ length m.addresses)
       go (inl less) =
           let h = place-behind (function_view m) (positions_of m) m.later_runs.items rise k less in
           rw (lt-ltb k (length m.later_runs.items) less, ← begin-place k) (omega (arith, h.0), omega (arith, (ends-inside k less).1))

@@ -1,12 +1,12 @@
 pub mod CompilationTexts
 pub mod Compilations
-pub mod Gaps
 pub mod Numbers
 pub mod PositionPlaces
 pub mod Rising
 pub mod RunBounds
 pub mod RunViews
 pub mod Runs
+pub mod Sources
 pub mod Starts
 pub mod SymbolIndexes
 pub mod Transforms

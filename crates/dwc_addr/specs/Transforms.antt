@@ -4,7 +4,7 @@ use Rattle.std.specs.Option.{unwrap_or, option_or}
 use Rattle.dwc_base.specs.declared.records.MapFault.{MapFault}
 use Rattle.dwc_base.specs.Functions.{AddressMap, Function, map_fault, functions_of}
 use Rattle.dwc_addr.specs.declared.function_map.FunctionMap.{FunctionMap}
-use Rattle.dwc_addr.specs.Gaps.{merged}
+use Rattle.dwc_clif.specs.Gaps.{merged}
 use Rattle.dwc_addr.specs.Runs.{recorded_view}
 use Rattle.dwc_addr.specs.declared.error.AddrError.{AddrError}
 use Rattle.dwc_addr.specs.declared.error.AddrError.TheVariants.{BadAddressMap, OutOfMemory}
@@ -26,7 +26,7 @@ function_view f = record {
   start = f.wasm_start;
   end = f.wasm_end;
   length = f.len;
-  entries = merged f.gaps.items 0 (map recorded_view f.addresses.items);
+  entries = merged f.gaps.now 0 (map recorded_view f.addresses);
 }
 
 -- No map is bad and the functions, seen by `view`, are those of the maps; or the first bad map is named; or memory was

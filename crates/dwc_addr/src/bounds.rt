@@ -2,7 +2,8 @@
 ghost use Rattle.std.specs.Prelude.{ℕ, ◌≡◌, ◌+◌, ◌<◌, ◌≤◌, ◌^◌, true, length, All, IfOk, slice_index_or};
 ghost use Rattle.dwc_addr.specs.RunBounds.{no_bounds, wasm_begin, wasm_end as wasm_end_of, AreRunBounds, AreBlockBounds, IsApart, Encloses};
 
-use crate::address_map::{AddressMap, WasmAddress};
+use crate::address_map::WasmAddress;
+use crate::sources::Sources;
 use std::alloc::{AllocError, Global};
 
 /// Where a run, or a block of runs, begins and ends in the wasm file.
@@ -39,12 +40,11 @@ pub(crate) fn run_bounds(
     alloc: Global,
     start: WasmAddress,
     end: WasmAddress,
-    sources: &[AddressMap],
+    sources: &Sources<'_>,
     later_runs: &[usize],
 ) -> Result<Vec<Bounds>, AllocError>
     requires start_low { start < 2 ^ 32 }
     requires end_low { end < 2 ^ 32 }
-    requires low { All (λ e. e.wasm < 2 ^ 32) sources.now }
     requires places { All (λ p. (0 < p) × (p < length sources.now)) later_runs.now }
     ensures { IfOk result (λ bounds. AreRunBounds (wasm_begin start sources.now later_runs.now) (wasm_end_of end sources.now later_runs.now) (length later_runs.now) bounds.items) }
 {
@@ -54,9 +54,9 @@ pub(crate) fn run_bounds(
     }
     let mut begin = start as u32;
     for place in later_runs {
-        let last = sources[*place - 1].wasm;
+        let last = sources.at(*place - 1).wasm;
         bounds.push(Bounds { begin, end: last })?;
-        begin = sources[*place].wasm;
+        begin = sources.at(*place).wasm;
     }
     bounds.push(Bounds {
         begin,

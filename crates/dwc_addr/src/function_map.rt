@@ -1,25 +1,18 @@
 //! A defined function as an address transform keeps it.
-ghost use Rattle.std.specs.Prelude.{◌≡◌, ◌<◌, ◌≤◌, ◌^◌, length, map, All};
+ghost use Rattle.std.specs.Prelude.{◌≡◌, ◌<◌, ◌≤◌, ◌^◌, length, map};
 ghost use Rattle.std.specs.List.Sorted.{IsNonDecreasingBy};
-ghost use Rattle.dwc_addr.specs.Gaps.{merged};
+ghost use Rattle.dwc_clif.specs.Gaps.{merged};
 ghost use Rattle.dwc_addr.specs.Runs.{recorded_view, run_starts};
 ghost use Rattle.dwc_addr.specs.RunBounds.{wasm_begin, wasm_end as wasm_end_of, AreRunBounds, AreBlockBounds};
 
-use crate::address_map::{AddressMap, GeneratedAddress, WasmAddress};
+use crate::address_map::{GeneratedAddress, WasmAddress};
 use crate::bounds::Bounds;
+use crate::sources::Sources;
+use dwc_clif::Gap;
 
-/// An entry of an address map that has no source.
-#[derive(Clone, Copy, Debug, PartialEq, Eq)]
-pub struct Gap {
-    /// How many entries that have a source stand in front of it.
-    pub before: usize,
-    /// Where the code without a source begins.
-    pub generated: GeneratedAddress,
-}
-
-/// A defined function.
+/// A defined function, with the entries of its address map as they stand there.
 #[derive(Drop)]
-pub struct FunctionMap {
+pub struct FunctionMap<'a> {
     /// Its number among the functions of all modules, where it has a symbol.
     pub symbol: Option<usize>,
     /// Where its code begins in its body: at 0.
@@ -31,9 +24,9 @@ pub struct FunctionMap {
     /// Where it ends there.
     pub wasm_end: WasmAddress,
     /// The entries of its address map that have a source, in order.
-    pub addresses: Vec<AddressMap>,
+    pub addresses: Sources<'a>,
     /// The entries of its address map that have none, in order.
-    pub gaps: Vec<Gap>,
+    pub gaps: &'a [Gap],
     /// The places of the entries whose source lies below that of the entry before. Between two of them the sources do not
     /// fall.
     pub later_runs: Vec<usize>,
@@ -50,16 +43,15 @@ pub struct FunctionMap {
     // About how many gaps stand in front of each block of sources, where it has more than a few.
     pub(crate) gap_hints: Vec<u32>,
     ghost few_bits: { block_bits ≤ 32 },
+    ghost counted: { length addresses < 2 ^ 63 },
     ghost begins: { offset ≡ 0 },
     ghost short: { len < 2 ^ 32 },
     ghost starts_low: { wasm_start < 2 ^ 32 },
     // The code offsets of all entries do not fall, nor do the places of those without a source.
-    ghost rises: { IsNonDecreasingBy (λ e. e.0) (merged gaps.items 0 (map recorded_view addresses.items)) },
-    ghost apart: { IsNonDecreasingBy (λ g. g.before) gaps.items },
-    ghost low: { All (λ e. e.generated < 2 ^ 32) addresses.items },
-    ghost gaps_low: { All (λ g. g.generated < 2 ^ 32) gaps.items },
-    ghost bounded: { AreRunBounds (wasm_begin wasm_start addresses.items later_runs.items) (wasm_end_of wasm_end addresses.items later_runs.items) (length later_runs.items) run_bounds.items },
+    ghost rises: { IsNonDecreasingBy (λ e. e.0) (merged gaps.now 0 (map recorded_view addresses)) },
+    ghost apart: { IsNonDecreasingBy (λ g. g.before) gaps.now },
+    ghost bounded: { AreRunBounds (wasm_begin wasm_start addresses later_runs.items) (wasm_end_of wasm_end addresses later_runs.items) (length later_runs.items) run_bounds.items },
     ghost blocks_bounded: { AreBlockBounds run_bounds.items block_bounds.items },
     ghost outer_bounded: { AreBlockBounds block_bounds.items outer_bounds.items },
-    ghost split: { later_runs.items ≡ run_starts 0 0 (map recorded_view addresses.items) },
+    ghost split: { later_runs.items ≡ run_starts 0 0 (map recorded_view addresses) },
 }

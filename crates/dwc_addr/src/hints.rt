@@ -2,11 +2,12 @@
 //! used, so a block that has no hint, or one that is not true, costs a search by halves.
 ghost use Rattle.std.specs.Prelude.{◌≤◌, IfOk};
 
-use crate::address_map::{AddressMap, WasmAddress};
+use crate::address_map::WasmAddress;
 use crate::by_start::start_of;
-use crate::capacity::capacity;
-use crate::function_map::{FunctionMap, Gap};
+use crate::function_map::FunctionMap;
 use crate::near::WINDOW;
+use crate::sources::Sources;
+use dwc_clif::{Gap, capacity};
 use std::alloc::{AllocError, Global};
 
 // So many sources stand in a block of wasm offsets on average, at least.
@@ -33,7 +34,7 @@ pub(crate) fn source_hints(
     alloc: Global,
     start: WasmAddress,
     end: WasmAddress,
-    sources: &[AddressMap],
+    sources: &Sources<'_>,
     later_runs: &[usize],
 ) -> Result<(u32, Vec<u32>), AllocError>
     ensures { IfOk result (λ found. found.0 ≤ 32) }
@@ -76,12 +77,12 @@ fn block_of(start: WasmAddress, bits: u32, addr: WasmAddress) -> usize
 }
 
 // Notes sources in the hints of the blocks behind them.
-fn note_sources(hints: &mut [u32], start: WasmAddress, bits: u32, sources: &[AddressMap])
+fn note_sources(hints: &mut [u32], start: WasmAddress, bits: u32, sources: &Sources<'_>)
     requires { bits ≤ 32 }
 {
     for i in 0..sources.len() / STEP {
         let place = i * STEP;
-        let block = block_of(start, bits, u64::from(sources[place].wasm));
+        let block = block_of(start, bits, u64::from(sources.at(place).wasm));
         note(hints, block, place);
     }
 }
@@ -113,7 +114,7 @@ pub(crate) fn gap_hints(
 // Notes gaps in the hints of the blocks behind them.
 fn note_gaps(hints: &mut [u32], gaps: &[Gap]) {
     for i in 0..gaps.len() {
-        note(hints, gaps[i].before >> GAP_BITS, i);
+        note(hints, (gaps[i].before >> GAP_BITS) as usize, i);
     }
 }
 
@@ -166,13 +167,13 @@ pub(crate) fn start_hint(hints: &StartHints, addr: WasmAddress) -> usize {
 }
 
 // About how many sources of a function lie below a wasm offset.
-pub(crate) fn source_hint(function: &FunctionMap, addr: WasmAddress) -> usize {
+pub(crate) fn source_hint(function: &FunctionMap<'_>, addr: WasmAddress) -> usize {
     let block = block_of(function.wasm_start, function.block_bits, addr);
     hint_at(&function.source_hints, block)
 }
 
 // About how many gaps of a function have fewer sources in front of them than so many.
-pub(crate) fn gap_hint(function: &FunctionMap, before: usize) -> usize {
+pub(crate) fn gap_hint(function: &FunctionMap<'_>, before: usize) -> usize {
     hint_at(&function.gap_hints, before >> GAP_BITS)
 }
 

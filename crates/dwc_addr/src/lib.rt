@@ -5,7 +5,6 @@
 mod address_map;
 mod bounds;
 mod by_start;
-mod capacity;
 mod compilation;
 mod compilation_error;
 mod compilation_text;
@@ -21,6 +20,7 @@ mod positions;
 mod ranges;
 mod run;
 mod runs;
+mod sources;
 mod symbols;
 mod transform;
 mod translate;
@@ -30,7 +30,7 @@ pub use bounds::Bounds;
 pub use compilation::Compilation;
 pub use compilation_error::CompilationError;
 pub use error::AddrError;
-pub use function_map::{FunctionMap, Gap};
+pub use function_map::FunctionMap;
 pub use laws::{
     runs_have_all, translations_are_said, translations_ascend, translations_keep_scopes,
 };
@@ -38,4 +38,5 @@ pub use linkage_names::LinkageNames;
 pub use maps::{get_wasm_code_offset, map_fault};
 pub use memory_offset::ModuleMemoryOffset;
 pub use ranges::{RawRanges, TranslatedRanges};
+pub use sources::Sources;
 pub use transform::AddressTransform;

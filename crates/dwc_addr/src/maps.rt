@@ -1,13 +1,13 @@
 //! The rules of an address map.
-ghost use Rattle.std.specs.Prelude.{◌≡◌, ◌<◌, ◌≤◌, ◌^◌, ◌-◌, ◌&&◌, nat_le, map, None, IsSome};
+ghost use Rattle.std.specs.Prelude.{◌≡◌, ◌<◌, ◌≤◌, ◌^◌, ◌-◌, ◌&&◌, nat_le, None, IsSome};
 ghost use Rattle.std.specs.Option.{unwrap_or};
 ghost use Rattle.dwc_base.specs.Functions.{map_fault, entry_fault, is_source_within};
-ghost use Rattle.dwc_clif.specs.AddressMaps.{address_map_view, entry_view};
+ghost use Rattle.dwc_clif.specs.AddressMaps.{address_map_view};
 ghost use Rattle.dwc_addr.specs.Transforms.{wasm_code_offset};
 
 use crate::WasmAddress;
 use dwc_base::{FilePos, MapFault};
-use dwc_clif::{CompiledFunctionMetadata, InstructionAddressMap};
+use dwc_clif::{CompiledFunctionMetadata, InstructionMaps};
 
 /// The first rule that the address map of a compiled function breaks, none where it is good. In this order: the body begins
 /// at 0; start and end are there; the code section's contents, at `code_section_offset` of the wasm file, do not begin behind
@@ -36,37 +36,32 @@ pub fn map_fault(code_section_offset: u64, metadata: &CompiledFunctionMetadata) 
 }
 
 // The first rule that the entries of a function from `start` to `end` break.
-fn entries_fault(
-    start: u32,
-    end: u32,
-    body_len: u32,
-    entries: &[InstructionAddressMap],
-) -> Option<MapFault>
+fn entries_fault(start: u32, end: u32, body_len: u32, entries: &InstructionMaps) -> Option<MapFault>
     requires { start ≤ end }
-    ensures { result ≡ entry_fault start end body_len 0 (map entry_view entries.now) }
+    ensures { result ≡ entry_fault start end body_len 0 entries.now }
 {
     let mut code = 0;
-    for entry in entries {
-        if entry.code_offset < code {
+    for (code_offset, source) in entries.iter() {
+        if code_offset < code {
             return Some(MapFault::CodeFalls);
         }
-        if entry.code_offset > body_len {
+        if code_offset > body_len {
             return Some(MapFault::CodePastBody);
         }
-        if !is_source_within(start, end, entry.srcloc) {
+        if !is_source_within(start, end, source) {
             return Some(MapFault::SourceOutside);
         }
-        code = entry.code_offset;
+        code = code_offset;
     }
     None
 }
 
 // Whether a source, if there is one, lies from start to end.
-fn is_source_within(start: u32, end: u32, source: FilePos) -> bool
+fn is_source_within(start: u32, end: u32, source: Option<u32>) -> bool
     requires { start ≤ end }
     ensures { result ≡ is_source_within start end source }
 {
-    match source.file_offset() {
+    match source {
         Some(source) => lies_within(start, end, source),
         None => true,
     }

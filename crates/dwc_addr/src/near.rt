@@ -2,52 +2,38 @@
 //! to look: what is found near one is tested, and where the test fails, found by halves.
 ghost use Rattle.std.specs.Prelude.{◌≡◌, ◌<◌, ◌≤◌, ◌+◌, true, false, length, slice_index_or};
 ghost use Rattle.std.specs.List.Sorted.{IsNonDecreasingBy};
+ghost use Rattle.dwc_addr.specs.declared.address_map.AddressMap.{AddressMap};
 ghost use Rattle.dwc_addr.specs.PositionPlaces.{AreBelow, IsCountBelow};
 
-use crate::address_map::{AddressMap, WasmAddress};
-use crate::function_map::Gap;
+use crate::address_map::WasmAddress;
+use crate::sources::Sources;
+use dwc_clif::Gap;
 
 // So many sources, or gaps, are counted from where a hint says, without a branch.
 pub(crate) const WINDOW: usize = 12;
 
 // How many sources of some lie below a wasm offset.
-pub(crate) fn sources_below(sources: &[AddressMap], hint: usize, addr: WasmAddress) -> usize
+pub(crate) fn sources_below(sources: &Sources<'_>, hint: usize, addr: WasmAddress) -> usize
     requires { IsNonDecreasingBy (λ e. e.wasm) sources.now }
     ensures { IsCountBelow (λ e. e.wasm) sources.now addr result }
 {
-    let count = sources_near(sources, hint, addr);
+    let count = sources.below_near(hint, addr);
     if are_sources_below(sources, count, addr) && !is_source_below(sources, count, addr) {
         return count;
     }
-    sources.partition_point(|source| u64::from(source.wasm) < addr)
-}
-
-// The same, if the last that does stands in the window that a hint begins.
-fn sources_near(sources: &[AddressMap], hint: usize, addr: WasmAddress) -> usize {
-    if sources.len() < WINDOW {
-        return sources.len();
-    }
-    let narrow = u32::try_from(addr).unwrap_or(u32::MAX);
-    let first = hint.min(sources.len() - WINDOW);
-    let mut count = first;
-    for i in first..first + WINDOW {
-        if sources[i].wasm < narrow {
-            count = count.wrapping_add(1);
-        }
-    }
-    count
+    sources.below(addr)
 }
 
 // Whether there is a source at a place, and it lies below a wasm offset.
-fn is_source_below(sources: &[AddressMap], place: usize, addr: WasmAddress) -> bool
+fn is_source_below(sources: &Sources<'_>, place: usize, addr: WasmAddress) -> bool
     ensures below { result ≡ true → AreBelow (λ e. e.wasm) sources.now addr (place + 1) }
     ensures above { result ≡ false → (d : AddressMap) → place < length sources.now → addr ≤ (slice_index_or sources.now place d).wasm }
 {
-    place < sources.len() && u64::from(sources[place].wasm) < addr
+    place < sources.len() && u64::from(sources.at(place).wasm) < addr
 }
 
 // Whether there are so many sources, and the last of them lies below one.
-fn are_sources_below(sources: &[AddressMap], count: usize, addr: WasmAddress) -> bool
+fn are_sources_below(sources: &Sources<'_>, count: usize, addr: WasmAddress) -> bool
     ensures { result ≡ true → AreBelow (λ e. e.wasm) sources.now addr count }
 {
     match count.checked_sub(1) {
@@ -65,7 +51,7 @@ pub(crate) fn gaps_before(gaps: &[Gap], hint: usize, before: usize) -> usize
     if are_gaps_before(gaps, count, before) && !is_gap_before(gaps, count, before) {
         return count;
     }
-    gaps.partition_point(|gap| gap.before < before)
+    gaps.partition_point(|gap| (gap.before as usize) < before)
 }
 
 // The same, if the last that has stands in the window that a hint begins.
@@ -76,7 +62,7 @@ fn gaps_near(gaps: &[Gap], hint: usize, before: usize) -> usize {
     let first = hint.min(gaps.len() - WINDOW);
     let mut count = first;
     for i in first..first + WINDOW {
-        if gaps[i].before < before {
+        if (gaps[i].before as usize) < before {
             count = count.wrapping_add(1);
         }
     }
@@ -88,7 +74,7 @@ fn is_gap_before(gaps: &[Gap], place: usize, before: usize) -> bool
     ensures below { result ≡ true → AreBelow (λ g. g.before) gaps.now before (place + 1) }
     ensures above { result ≡ false → (d : Gap) → place < length gaps.now → before ≤ (slice_index_or gaps.now place d).before }
 {
-    place < gaps.len() && gaps[place].before < before
+    place < gaps.len() && (gaps[place].before as usize) < before
 }
 
 // Whether there are so many gaps, and the last of them has.

@@ -20,7 +20,7 @@ use std::marker::Model;
 /// native code. They take no memory.
 #[derive(Drop)]
 pub struct RawRanges<'t> {
-    function: Option<&'t FunctionMap>,
+    function: Option<&'t FunctionMap<'t>>,
     start: WasmAddress,
     end: WasmAddress,
     // The number of the next run.
@@ -123,7 +123,7 @@ impl<'t> Iterator for TranslatedRanges<'t> {
     }
 }
 
-impl AddressTransform {
+impl AddressTransform<'_> {
     /// The native ranges of an interval, from `start` up to `end`, in the function that it begins in: its symbol, and for each run that
     /// has code of the interval where the native code begins and ends, in order, without the ranges that have no byte. An interval that
     /// is empty or reversed has none. None where the interval begins in no function that has a symbol.
@@ -164,7 +164,7 @@ impl AddressTransform {
 }
 
 // The number of the first run in which an interval can have a range: that behind the last where the interval is empty or reversed.
-fn first_run(function: &FunctionMap, start: WasmAddress, end: WasmAddress) -> usize
+fn first_run(function: &FunctionMap<'_>, start: WasmAddress, end: WasmAddress) -> usize
     ensures { ranges_from function.now start end result ≡ native_ranges (function_view function.now) start end }
 {
     if start < end { 0 } else { run_count(function) }
@@ -172,7 +172,7 @@ fn first_run(function: &FunctionMap, start: WasmAddress, end: WasmAddress) -> us
 
 // The first native range of an interval in the runs of a function from one on, and the number of the run behind its own.
 fn range_behind(
-    function: &FunctionMap,
+    function: &FunctionMap<'_>,
     start: WasmAddress,
     end: WasmAddress,
     number: usize,
@@ -199,7 +199,12 @@ fn range_behind(
 
 // So many runs from one on, by their bounds, an interval does not meet: those of a block of blocks or of a block that begins there, that one
 // alone, or none.
-fn runs_apart(function: &FunctionMap, place: usize, start: WasmAddress, end: WasmAddress) -> usize
+fn runs_apart(
+    function: &FunctionMap<'_>,
+    place: usize,
+    start: WasmAddress,
+    end: WasmAddress,
+) -> usize
     ensures few { result ≤ 4096 }
     ensures ranges { ranges_from function.now start end (place + result) ≡ ranges_from function.now start end place }
 {
@@ -220,7 +225,7 @@ fn runs_apart(function: &FunctionMap, place: usize, start: WasmAddress, end: Was
 
 // The native range of an interval in a run, if it has one: where the run has code of the interval, and a byte of it.
 fn range_in(
-    function: &FunctionMap,
+    function: &FunctionMap<'_>,
     run: &Run,
     start: WasmAddress,
     end: WasmAddress,

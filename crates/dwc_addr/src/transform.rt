@@ -1,10 +1,8 @@
 //! The functions of a module as its DWARF names them: by wasm offsets, which count from the contents of the code section.
-ghost use Rattle.std.specs.Prelude.{◌≡◌, ◌-◌, ◌+◌, ◌<◌, ◌≤◌, ◌^◌, ℕ, length, map, slice_get, option_map, Some, None, All, IfOk, IfSome, IsSome, vec_len};
+ghost use Rattle.std.specs.Prelude.{◌≡◌, ◌-◌, ◌+◌, ◌<◌, ◌≤◌, ◌^◌, ℕ, length, map, slice_get, option_map, Some, None, IfOk, IfSome, IsSome, vec_len};
 ghost use Rattle.std.specs.Option.{unwrap_or};
-ghost use Rattle.std.specs.List.{filter_map};
-ghost use Rattle.dwc_base.specs.Functions.{map_fault as first_fault, function_of, owner, function_at, wasm_entry, recorded_entry};
-ghost use Rattle.dwc_clif.specs.AddressMaps.{address_map_view, entry_view};
-ghost use Rattle.dwc_addr.specs.Gaps.{gaps_of};
+ghost use Rattle.dwc_base.specs.Functions.{map_fault as first_fault, function_of, owner, function_at};
+ghost use Rattle.dwc_clif.specs.AddressMaps.{address_map_view};
 ghost use Rattle.dwc_addr.specs.Transforms.{function_view, Transforms};
 ghost use Rattle.dwc_addr.specs.Numbers.{first_number};
 ghost use Rattle.dwc_addr.specs.Compilations.{functions_at, code_offset_at};
@@ -12,29 +10,29 @@ ghost use Rattle.dwc_addr.specs.Runs.{recorded_view, run_starts};
 ghost use Rattle.dwc_addr.specs.Starts.{IsStartTable, IsOwnerPlace};
 
 use crate::Compilation;
-use crate::address_map::{AddressMap, WasmAddress};
+use crate::address_map::WasmAddress;
 use crate::bounds::{block_bounds, run_bounds};
 use crate::by_start::{owner_place, start_table};
-use crate::capacity::capacity;
 use crate::error::AddrError;
-use crate::function_map::{FunctionMap, Gap};
+use crate::function_map::FunctionMap;
 use crate::hints::{StartHints, gap_hints, source_hints, start_hints};
 use crate::maps::map_fault;
+use crate::sources::Sources;
 use dwc_base::{DefinedFuncIndex, FilePos, StaticModuleIndex, SymbolId};
-use dwc_clif::{CompiledFunctionMetadata, InstructionAddressMap};
+use dwc_clif::CompiledFunctionMetadata;
 use std::alloc::{AllocError, Global};
 use std::marker::Model;
 
 /// The defined functions of a module, found by wasm offset. A contract sees the list of them.
 #[derive(Drop)]
-pub struct AddressTransform {
-    functions: Vec<FunctionMap>,
+pub struct AddressTransform<'a> {
+    functions: Vec<FunctionMap<'a>>,
     // Their keys in rising order.
     by_start: Vec<u64>,
     hints: StartHints,
 }
 
-impl Model for AddressTransform {
+impl<'a> Model for AddressTransform<'a> {
     ghost use Rattle.std.specs.Prelude.{List, map};
     ghost use Rattle.dwc_base.specs.Functions.{Function};
     ghost use Rattle.dwc_addr.specs.Transforms.{function_view};
@@ -47,7 +45,7 @@ impl Model for AddressTransform {
     ghost invariant = { λ t. IsStartTable (map function_view t.functions.items) t.by_start.items };
 }
 
-impl AddressTransform {
+impl<'a> AddressTransform<'a> {
     /// The transform of a module of a compilation.
     ///
     /// # Errors
@@ -55,9 +53,9 @@ impl AddressTransform {
     /// `OutOfMemory` for want of memory.
     pub fn new(
         alloc: Global,
-        compilation: &Compilation<'_>,
+        compilation: &Compilation<'a>,
         module: StaticModuleIndex,
-    ) -> Result<AddressTransform, AddrError>
+    ) -> Result<AddressTransform<'a>, AddrError>
         requires { «module».0 < length compilation.now.translations }
         ensures { Transforms (λ t. t) «module».0 (code_offset_at compilation.now «module».0) (first_number compilation.now.functions «module».0) (map address_map_view (functions_at compilation.now «module».0)) result }
     {
@@ -75,8 +73,8 @@ impl AddressTransform {
         module_index: u32,
         code_section_offset: u64,
         first_number: usize,
-        functions: &[(Option<SymbolId>, CompiledFunctionMetadata)],
-    ) -> Result<AddressTransform, AddrError>
+        functions: &'a [(Option<SymbolId>, CompiledFunctionMetadata)],
+    ) -> Result<AddressTransform<'a>, AddrError>
         requires count { length functions.now < 2 ^ 32 }
         requires numbers { first_number + length functions.now < 2 ^ 64 }
         ensures { Transforms (λ t. t) module_index code_section_offset first_number (map address_map_view functions.now) result }
@@ -109,7 +107,7 @@ impl AddressTransform {
 
     /// That function where it has a symbol, and the address is neither 0 nor 0xFFFFFFFF, the marks of code that was not
     /// linked.
-    pub fn func_at(&self, addr: u64) -> Option<&FunctionMap>
+    pub fn func_at(&self, addr: u64) -> Option<&FunctionMap<'a>>
         ensures symbol { IfSome result (λ f. IsSome f.now.symbol) }
         ensures found { option_map (λ f. function_view f.now) result ≡ function_at self.now addr }
     {
@@ -134,7 +132,7 @@ impl AddressTransform {
     }
 
     /// The defined functions, in order.
-    pub fn map(&self) -> &[FunctionMap]
+    pub fn map(&self) -> &[FunctionMap<'a>]
         ensures { map function_view result.now ≡ self.now }
     {
         &self.functions
@@ -145,12 +143,12 @@ impl AddressTransform {
 const UNLINKED: u64 = 0xFFFF_FFFF;
 
 // What `func_at` answers, of the functions and their keys.
-fn function_at<'f>(
-    functions: &'f [FunctionMap],
+fn function_at<'f, 'a>(
+    functions: &'f [FunctionMap<'a>],
     keys: &[u64],
     hints: &StartHints,
     addr: u64,
-) -> Option<&'f FunctionMap>
+) -> Option<&'f FunctionMap<'a>>
     requires { IsStartTable (map function_view functions.now) keys.now }
     ensures symbol { IfSome result (λ f. IsSome f.now.symbol) }
     ensures found { option_map (λ f. function_view f.now) result ≡ function_at (map function_view functions.now) addr }
@@ -167,13 +165,13 @@ fn function_at<'f>(
 }
 
 // What is kept of some functions, of which the first has a number; or the first whose map is not good.
-fn function_maps(
+fn function_maps<'a>(
     alloc: Global,
     module_index: u32,
     code_section_offset: u64,
     first_number: usize,
-    functions: &[(Option<SymbolId>, CompiledFunctionMetadata)],
-) -> Result<Vec<FunctionMap>, AddrError>
+    functions: &'a [(Option<SymbolId>, CompiledFunctionMetadata)],
+) -> Result<Vec<FunctionMap<'a>>, AddrError>
     requires count { length functions.now < 2 ^ 32 }
     requires numbers { first_number + length functions.now < 2 ^ 64 }
     ensures count { IfOk result (λ maps. vec_len maps ≡ length functions.now) }
@@ -196,22 +194,20 @@ fn function_maps(
 }
 
 // What is kept of a function by its number.
-fn function_map(
+fn function_map<'a>(
     alloc: Global,
     code_section_offset: u64,
     number: usize,
     symbol: Option<SymbolId>,
-    metadata: &CompiledFunctionMetadata,
-) -> Result<FunctionMap, AllocError>
+    metadata: &'a CompiledFunctionMetadata,
+) -> Result<FunctionMap<'a>, AllocError>
     requires { first_fault code_section_offset (address_map_view (symbol, metadata.now)) ≡ None }
     ensures { IfOk result (λ f. function_view f ≡ function_of code_section_offset number (address_map_view (symbol, metadata.now))) }
 {
     let map = &metadata.address_map;
-    let (addresses, gaps, later_runs) = split_entries(
-        alloc,
-        code_section_offset,
-        &map.instructions,
-    )?;
+    let addresses = Sources::new(map.instructions.sources(), code_section_offset);
+    let gaps = map.instructions.gaps();
+    let later_runs = later_runs(alloc, &addresses)?;
     let wasm_start = start_offset(map.start_srcloc, code_section_offset);
     let wasm_end = start_offset(map.end_srcloc, code_section_offset);
     let run_bounds = run_bounds(alloc, wasm_start, wasm_end, &addresses, &later_runs)?;
@@ -224,7 +220,7 @@ fn function_map(
         &addresses,
         &later_runs,
     )?;
-    let gap_hints = gap_hints(alloc, addresses.len(), &gaps)?;
+    let gap_hints = gap_hints(alloc, addresses.len(), gaps)?;
     Ok(FunctionMap {
         symbol: symbol.map(|_| number),
         offset: 0,
@@ -252,46 +248,18 @@ fn start_offset(place: FilePos, code_section_offset: u64) -> WasmAddress
     u64::from(offset).saturating_sub(code_section_offset)
 }
 
-// A list of sources has room for so many at least: 64 bytes.
-const LEAST_SOURCES: usize = 8;
-
-// The entries that have a source, those that have none, and the places of the sources that lie below the one before.
-fn split_entries(
-    alloc: Global,
-    code_section_offset: u64,
-    entries: &[InstructionAddressMap],
-) -> Result<(Vec<AddressMap>, Vec<Gap>, Vec<usize>), AllocError>
-    ensures low { IfOk result (λ found. All (λ e. e.generated < 2 ^ 32) found.0.items) }
-    ensures wasm_low { IfOk result (λ found. All (λ e. e.wasm < 2 ^ 32) found.0.items) }
-    ensures gaps_low { IfOk result (λ found. All (λ g. g.generated < 2 ^ 32) found.1.items) }
-    ensures found { IfOk result (λ found. map recorded_view found.0.items ≡ filter_map recorded_entry (map (wasm_entry code_section_offset) (map entry_view entries.now))) }
-    ensures gaps { IfOk result (λ found. found.1.items ≡ gaps_of 0 (map entry_view entries.now)) }
-    ensures places { IfOk result (λ found. found.2.items ≡ run_starts 0 0 (filter_map recorded_entry (map (wasm_entry code_section_offset) (map entry_view entries.now)))) }
+// The places of the sources that lie below the one before.
+fn later_runs(alloc: Global, sources: &Sources<'_>) -> Result<Vec<usize>, AllocError>
+    ensures { IfOk result (λ places. places.items ≡ run_starts 0 0 (map recorded_view sources.now)) }
 {
-    let mut sources = Vec::with_capacity(alloc, capacity(entries.len(), LEAST_SOURCES))?;
-    let mut gaps = Vec::new(alloc);
-    let mut later_runs = Vec::new(alloc);
-    let mut before = 0;
+    let mut places = Vec::new(alloc);
     let mut last = 0;
-    for entry in entries {
-        let generated = entry.code_offset;
-        let Some(source) = entry.srcloc.file_offset() else {
-            gaps.push(Gap {
-                before,
-                generated: generated as usize,
-            })?;
-            continue;
-        };
-        let wasm = u64::from(source).saturating_sub(code_section_offset);
+    for place in 0..sources.len() {
+        let wasm = sources.at(place).wasm;
         if wasm < last {
-            later_runs.push(before)?;
+            places.push(place)?;
         }
-        sources.push_reserved(AddressMap {
-            generated,
-            wasm: wasm as u32,
-        });
         last = wasm;
-        before += 1;
     }
-    Ok((sources, gaps, later_runs))
+    Ok(places)
 }

@@ -14,7 +14,7 @@ use crate::run::Run;
 use crate::runs::{run_at, run_count};
 use dwc_base::Address;
 
-impl AddressTransform {
+impl AddressTransform<'_> {
     /// Whether an address is in a function that has a symbol, and is neither 0 nor 0xFFFFFFFF, the marks of code that was not linked.
     pub fn can_translate_address(&self, addr: u64) -> bool
         ensures { result ≡ is_some (function_at self.now addr) }
@@ -36,7 +36,7 @@ impl AddressTransform {
 }
 
 // The native offset of a wasm offset of a function.
-fn native_offset(function: &FunctionMap, addr: WasmAddress) -> GeneratedAddress
+fn native_offset(function: &FunctionMap<'_>, addr: WasmAddress) -> GeneratedAddress
     ensures offset { result ≡ offset_in (function_view function.now) addr }
     ensures low { result < 2 ^ 32 }
 {
@@ -50,7 +50,7 @@ fn native_offset(function: &FunctionMap, addr: WasmAddress) -> GeneratedAddress
 }
 
 // The first run of a function that has a wasm offset, its ends included.
-fn run_with(function: &FunctionMap, addr: WasmAddress) -> Option<Run>
+fn run_with(function: &FunctionMap<'_>, addr: WasmAddress) -> Option<Run>
     ensures run { option_map (run_view function.now) result ≡ find (has_offset addr) (runs (function_view function.now)) }
     ensures places { IfSome result (IsRunOf function.now) }
 {

@@ -55,13 +55,13 @@ first-among [] start = refl
 first-among (e ∷ es) start = refl
 
 -- the first source of a function as it is kept is that of the first recorded source, if there is one
-first-kept : (f : FunctionMap) → unwrap_or (option_map (λ (e : AddressMap). e.wasm) (slice_get f.addresses.items 0)) f.wasm_start ≡ first_source (function_view f)
-first-kept f = first-among f.addresses.items f.wasm_start ∙ sym (ap (λ (es : List Recorded). unwrap_or (option_map (λ (e : Recorded). e.wasm) (first_of es)) f.wasm_start) (recorded-merged f.gaps.items 0 (map recorded_view f.addresses.items)))
+first-kept : (f : FunctionMap) → unwrap_or (option_map (λ (e : AddressMap). e.wasm) (slice_get f.addresses 0)) f.wasm_start ≡ first_source (function_view f)
+first-kept f = first-among f.addresses f.wasm_start ∙ sym (ap (λ (es : List Recorded). unwrap_or (option_map (λ (e : Recorded). e.wasm) (first_of es)) f.wasm_start) (recorded-merged f.gaps.now 0 (map recorded_view f.addresses)))
 
-pub first-there : (f : FunctionMap) (e : AddressMap) → slice_get f.addresses.items 0 ≡ Some e → e.wasm ≡ first_source (function_view f)
+pub first-there : (f : FunctionMap) (e : AddressMap) → slice_get f.addresses 0 ≡ Some e → e.wasm ≡ first_source (function_view f)
 first-there f e is = sym (ap (λ (o : Option AddressMap). unwrap_or (option_map (λ (x : AddressMap). x.wasm) o) f.wasm_start) is) ∙ first-kept f
 
-pub first-absent : (f : FunctionMap) → slice_get f.addresses.items 0 ≡ None → f.wasm_start ≡ first_source (function_view f)
+pub first-absent : (f : FunctionMap) → slice_get f.addresses 0 ≡ None → f.wasm_start ≡ first_source (function_view f)
 first-absent f is = sym (ap (λ (o : Option AddressMap). unwrap_or (option_map (λ (x : AddressMap). x.wasm) o) f.wasm_start) is) ∙ first-kept f
 
 module _ (fs : List FunctionMap) (kept : List Function) (place : ℕ) (are : map function_view fs ≡ kept) where

@@ -29,7 +29,7 @@ pub(crate) fn begun_unit(
     read: &ReadUnit<'_>,
     last: Option<LastLines>,
     units: &UnitTable,
-    transform: &AddressTransform,
+    transform: &AddressTransform<'_>,
     encoding: Encoding,
 ) -> Result<BegunUnit, DebugError>
     requires version { encoding.version ≡ 4 }
@@ -67,7 +67,7 @@ fn begun_at_once(
     alloc: Global,
     read: &ReadUnit<'_>,
     offset: u64,
-    transform: &AddressTransform,
+    transform: &AddressTransform<'_>,
     encoding: Encoding,
 ) -> Option<BegunUnit>
     requires version { encoding.version ≡ 4 }
@@ -94,7 +94,7 @@ fn begun_behind(
     alloc: Global,
     read: &ReadUnit<'_>,
     offset: u64,
-    transform: &AddressTransform,
+    transform: &AddressTransform<'_>,
     encoding: Encoding,
 ) -> Result<BegunUnit, DebugError>
     requires version { encoding.version ≡ 4 }

@@ -44,7 +44,7 @@ fn carry_module(
     alloc: Global,
     isa: &dyn TargetIsa,
     translation: &ModuleTranslation<'_>,
-    transform: &AddressTransform,
+    transform: &AddressTransform<'_>,
     compiled: &CompiledModule<'_>,
     own: &ModuleSyntheticUnit,
     form: OutputForm,
@@ -93,7 +93,7 @@ pub(crate) fn carry_modules(
     alloc: Global,
     isa: &dyn TargetIsa,
     compilation: &Compilation<'_>,
-    transforms: &[AddressTransform],
+    transforms: &[AddressTransform<'_>],
     form: OutputForm,
     dwarf: &mut Dwarf,
 ) -> Result<CarriedModules, DebugError>

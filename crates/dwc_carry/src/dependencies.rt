@@ -24,7 +24,7 @@ use std::alloc::Global;
 pub fn build_dependencies(
     alloc: Global,
     units: Units<'_>,
-    transform: &AddressTransform,
+    transform: &AddressTransform<'_>,
 ) -> Result<Kept, DebugError>
     ensures kept { ReadsOr (λ kept. kept ≡ offsets_kept_of transform.now units.entry.sections (units_of units.entry.sections units.entry.headers)) (option_map of_place (first_of (headers_faults (named_faults units.entry.sections) units.entry.sections units.entry.headers))) result }
     ensures least { IfOk result (λ kept. AreLeastOffsets transform.now units.entry.sections (units_of units.entry.sections units.entry.headers) kept) }

@@ -13,14 +13,14 @@ use dwc_base::Limit;
 const LONGEST_FUNCTION: usize = (1 << 31) - 1;
 
 // Whether a function with a symbol is longer.
-fn is_long(function: &FunctionMap) -> bool
+fn is_long(function: &FunctionMap<'_>) -> bool
     ensures { result ≡ is_long_function (function_view function.now) }
 {
     function.symbol.is_some() && function.len > LONGEST_FUNCTION
 }
 
 // Whether one of some functions is.
-fn has_long(functions: &[FunctionMap]) -> bool
+fn has_long(functions: &[FunctionMap<'_>]) -> bool
     ensures { result ≡ list_any is_long_function (map function_view functions.now) }
 {
     for function in functions {
@@ -35,7 +35,7 @@ fn has_long(functions: &[FunctionMap]) -> bool
 ///
 /// # Errors
 /// `TooLarge` exactly where a function with a symbol, of any module, is longer than 2^31 - 1 bytes.
-pub(crate) fn check_lengths(transforms: &[AddressTransform]) -> Result<(), DebugError>
+pub(crate) fn check_lengths(transforms: &[AddressTransform<'_>]) -> Result<(), DebugError>
     ensures { result ≡ lengths_checked transforms.now }
 {
     for transform in transforms {

@@ -18,7 +18,7 @@ use std::alloc::{AllocError, Global};
 use std::collections::BTreeSet;
 
 // Whether a function has a symbol and its number is not among `translated`.
-fn is_listed(function: &FunctionMap, translated: &BTreeSet<usize>) -> bool
+fn is_listed(function: &FunctionMap<'_>, translated: &BTreeSet<usize>) -> bool
     ensures { result ≡ is_listed (is_noted translated.now) (function_view function.now) }
 {
     match function.symbol {
@@ -28,11 +28,11 @@ fn is_listed(function: &FunctionMap, translated: &BTreeSet<usize>) -> bool
 }
 
 // Adds the listed functions of a module, each beside the offset in its file that the contents of the code section begin at.
-fn add_listed<'a>(
+fn add_listed<'t, 'a>(
     code_offset: u64,
-    functions: &'a [FunctionMap],
+    functions: &'t [FunctionMap<'a>],
     translated: &BTreeSet<usize>,
-    listed: &mut Vec<(u64, &'a FunctionMap)>,
+    listed: &mut Vec<(u64, &'t FunctionMap<'a>)>,
 ) -> Result<(), AllocError>
     ensures { OnOk result (map listed_view listed.new.items ≡ map listed_view listed.old.items ++ left_of (is_noted translated.now) code_offset (map function_view functions.now)) }
 {
@@ -71,12 +71,12 @@ fn all_ends_are_low(compilation: &Compilation<'_>)
 
 /// The listed functions of all modules, in order, each beside the offset in its file that the contents of the code section begin at: those
 /// with a symbol whose numbers are not among `translated`. `transforms` are those of the modules, none of whose address maps is bad.
-pub(crate) fn listed_functions<'a>(
+pub(crate) fn listed_functions<'t, 'a>(
     alloc: Global,
     compilation: &Compilation<'_>,
-    transforms: &'a [AddressTransform],
+    transforms: &'t [AddressTransform<'a>],
     translated: &BTreeSet<usize>,
-) -> Result<Vec<(u64, &'a FunctionMap)>, AllocError>
+) -> Result<Vec<(u64, &'t FunctionMap<'a>)>, AllocError>
     requires transforms { transforms.now ≡ functions_from 0 compilation.now.translations compilation.now.functions }
     requires maps { bad_map compilation.now ≡ None }
     requires addends { All HaveAddends transforms.now }
@@ -96,7 +96,7 @@ pub(crate) fn listed_functions<'a>(
 }
 
 // The interval of a function whole.
-fn whole_range(function: &FunctionMap) -> (Address, u64)
+fn whole_range(function: &FunctionMap<'_>) -> (Address, u64)
     ensures { result ≡ (Address.Symbol (function_view function.now).number (pos 0), (function_view function.now).length) }
 {
     let begin = Address::Symbol {
@@ -109,7 +109,7 @@ fn whole_range(function: &FunctionMap) -> (Address, u64)
 /// The range list of the code of some functions, each whole; those without code have no interval.
 pub(crate) fn whole_ranges(
     alloc: Global,
-    functions: &[(u64, &FunctionMap)],
+    functions: &[(u64, &FunctionMap<'_>)],
 ) -> Result<RangeList, AllocError>
     requires { All CanWrite (map listed_view functions.now) }
     ensures { IfOk result (λ list. AreRanges list.ranges.items (intervals_of (map listed_view functions.now))) }

@@ -18,7 +18,7 @@ use std::alloc::Global;
 pub(crate) fn label_over(
     alloc: Global,
     label: ValueLabel,
-    addr_tr: &AddressTransform,
+    addr_tr: &AddressTransform<'_>,
     frame_info: Option<&FunctionFrameInfo<'_>>,
     scope_ranges: &[(u64, u64)],
     isa: &dyn TargetIsa,

@@ -43,17 +43,17 @@ use std::collections::BTreeSet;
 #[derive(Clone, Copy)]
 pub(crate) struct ListedModule<'a> {
     pub translation: &'a ModuleTranslation<'a>,
-    pub transform: &'a AddressTransform,
+    pub transform: &'a AddressTransform<'a>,
     pub compiled: &'a CompiledModule<'a>,
     /// The type of a pointer to the module's context.
     pub vmctx_ptr: DebugInfoRef,
 }
 
 // The offset in the code section that a function's code comes from: its first recorded source, else its start.
-fn first_source(function: &FunctionMap) -> u64
+fn first_source(function: &FunctionMap<'_>) -> u64
     ensures { result ≡ first_source (function_view function.now) }
 {
-    match function.addresses.first() {
+    match function.addresses.get(0) {
         Some(entry) => u64::from(entry.wasm),
         None => function.wasm_start,
     }
@@ -64,7 +64,7 @@ fn begin_function(
     alloc: Global,
     translation: &ModuleTranslation<'_>,
     place: usize,
-    function: &FunctionMap,
+    function: &FunctionMap<'_>,
     number: usize,
     unit: &mut Unit,
     strings: &mut StringTable,

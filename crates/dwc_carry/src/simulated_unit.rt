@@ -37,7 +37,7 @@ fn typed_unit(
     alloc: Global,
     encoding: Encoding,
     path: &[u8],
-    functions: &[(u64, &FunctionMap)],
+    functions: &[(u64, &FunctionMap<'_>)],
     strings: &mut StringTable,
 ) -> Result<Unit, WriteError>
     requires version { encoding.version ≡ 4 }
@@ -63,7 +63,7 @@ fn simulated_unit(
     alloc: Global,
     isa: &dyn TargetIsa,
     compilation: &Compilation<'_>,
-    transforms: &[AddressTransform],
+    transforms: &[AddressTransform<'_>],
     translated: &BTreeSet<usize>,
     vmctx_ptrs: &[DebugInfoRef],
     encoding: Encoding,
@@ -145,7 +145,7 @@ fn taken_path(alloc: Global, compilation: &mut Compilation<'_>) -> Result<Vec<u8
 pub fn generate_simulated_dwarf(
     alloc: Global,
     compilation: &mut Compilation<'_>,
-    addr_tr: &[AddressTransform],
+    addr_tr: &[AddressTransform<'_>],
     translated: &BTreeSet<usize>,
     out_encoding: Encoding,
     vmctx_ptr_die_refs: &[DebugInfoRef],

@@ -83,10 +83,10 @@ fn output_form(isa: &dyn TargetIsa) -> OutputForm
 }
 
 // The transforms of the modules of a compilation, in order.
-fn transforms(
+fn transforms<'a>(
     alloc: Global,
-    compilation: &Compilation<'_>,
-) -> Result<Vec<AddressTransform>, DebugError>
+    compilation: &Compilation<'a>,
+) -> Result<Vec<AddressTransform<'a>>, DebugError>
     ensures counted { IsCounted compilation.now.translations compilation.now.functions compilation.now.memory_offsets }
     ensures transforms { GivesTransforms compilation.now result }
 {

@@ -1,13 +1,8 @@
 -- The records of a compiled function, seen as an address map.
-use Rattle.std.specs.Prelude.{ℕ, map, Option, option_map}
+use Rattle.std.specs.Prelude.{Option, option_map}
 use Rattle.dwc_base.specs.declared.records.SymbolId.{SymbolId}
 use Rattle.dwc_base.specs.Functions.{AddressMap}
-use Rattle.dwc_clif.specs.declared.address_map.InstructionAddressMap.{InstructionAddressMap}
 use Rattle.dwc_clif.specs.declared.metadata.CompiledFunctionMetadata.{CompiledFunctionMetadata}
-
--- an entry: its native offset, and the file offset of its source
-abbrev pub entry_view : InstructionAddressMap → ℕ × Option ℕ
-entry_view e = (e.code_offset, e.srcloc)
 
 -- the address map of a function that has a symbol or none
 abbrev pub address_map_view : Option SymbolId × CompiledFunctionMetadata → AddressMap
@@ -17,5 +12,5 @@ address_map_view f = record {
   end = (f.1).address_map.end_srcloc;
   body_offset = (f.1).address_map.body_offset;
   body_len = (f.1).address_map.body_len;
-  entries = map entry_view (f.1).address_map.instructions.items;
+  entries = (f.1).address_map.instructions;
 }

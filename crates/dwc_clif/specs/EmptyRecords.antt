@@ -6,7 +6,7 @@ use Rattle.dwc_clif.specs.declared.metadata.CompiledFunctionMetadata.{CompiledFu
 
 -- a map without entries and places, of a body of no bytes at 0
 pub record IsEmptyMap (m : FunctionAddressMap) : Type 0 where
-  pub entries : m.instructions.items ≡ []
+  pub entries : m.instructions ≡ []
   pub start : m.start_srcloc ≡ None
   pub end : m.end_srcloc ≡ None
   pub body_offset : m.body_offset ≡ 0

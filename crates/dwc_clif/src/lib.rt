@@ -6,7 +6,9 @@ mod architecture;
 mod cie;
 mod flat;
 mod frame_op;
+mod instruction_maps;
 mod isa;
+mod list_room;
 mod metadata;
 mod reg;
 mod table_isa;
@@ -15,11 +17,15 @@ mod unwind_info;
 mod value_label;
 mod value_labels_ranges;
 
-pub use address_map::{FunctionAddressMap, InstructionAddressMap};
+pub use address_map::FunctionAddressMap;
 pub use architecture::Architecture;
 pub use cie::Cie;
 pub use frame_op::FrameOp;
+pub use instruction_maps::{
+    Gap, InstructionAddressMap, InstructionMaps, InstructionSource, Instructions,
+};
 pub use isa::TargetIsa;
+pub use list_room::capacity;
 pub use metadata::CompiledFunctionMetadata;
 pub use reg::Reg;
 pub use table_isa::TableIsa;

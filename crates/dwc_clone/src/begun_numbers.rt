@@ -21,7 +21,7 @@ fn note_number(translated: &mut BTreeSet<usize>, number: usize) -> Result<(), Al
 /// Notes the number of the function that a kept subprogram begins in, where it begins in one.
 pub(crate) fn note_function(
     translated: &mut BTreeSet<usize>,
-    function: Option<&FunctionMap>,
+    function: Option<&FunctionMap<'_>>,
 ) -> Result<(), AllocError>
     requires symbol { IfSome function (λ f. IsSome f.now.symbol) }
     ensures { OnOk result (NotesFunctions (option_to_list (option_map (λ f. function_view f.now) function.entry)) translated.old translated.new) }

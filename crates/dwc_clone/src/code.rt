@@ -116,7 +116,7 @@ pub(crate) fn set_code(
     alloc: Global,
     source: &CloneSource<'_, '_>,
     entry: &Entry<'_>,
-    function: Option<&FunctionMap>,
+    function: Option<&FunctionMap<'_>>,
     speaks: bool,
     scope: Option<&[(u64, u64)]>,
     unit: &mut Unit,

@@ -35,7 +35,7 @@ fn of_memory<T: Drop>(written: Result<T, WriteError>) -> Result<T, ExprError>
 // Where the context lies over a scope.
 fn context_over(
     alloc: Global,
-    addr_tr: &AddressTransform,
+    addr_tr: &AddressTransform<'_>,
     frame_info: Option<&FunctionFrameInfo<'_>>,
     scope_ranges: &[(u64, u64)],
     isa: &dyn TargetIsa,
@@ -89,7 +89,7 @@ pub fn append_vmctx_info(
     unit: &mut Unit,
     parent: UnitEntryId,
     vmctx_ptr_die_ref: DebugInfoRef,
-    addr_tr: &AddressTransform,
+    addr_tr: &AddressTransform<'_>,
     frame_info: Option<&FunctionFrameInfo<'_>>,
     scope_ranges: &[(u64, u64)],
     out_strings: &mut StringTable,

@@ -279,7 +279,7 @@ fn clone_itself(
     alloc: Global,
     isa: &dyn TargetIsa,
     source: &CloneSource<'_, '_>,
-    function: Option<&FunctionMap>,
+    function: Option<&FunctionMap<'_>>,
     speaks: bool,
     begins: bool,
     is_sound: bool,

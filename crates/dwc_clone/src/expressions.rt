@@ -51,7 +51,7 @@ pub(crate) fn compile_at(
 /// Those of `build_with_locals`.
 pub(crate) fn build_over(
     alloc: Global,
-    transform: &AddressTransform,
+    transform: &AddressTransform<'_>,
     isa: &dyn TargetIsa,
     in_force: &InForce<'_>,
     scope: &[(u64, u64)],

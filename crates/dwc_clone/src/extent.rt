@@ -36,7 +36,7 @@ pub(crate) enum NativeExtent {
 }
 
 /// What an address of the input is in the native code: its translation, or 0 where it is in no function with a symbol.
-pub(crate) fn carried_address(transform: &AddressTransform, address: Address) -> Address
+pub(crate) fn carried_address(transform: &AddressTransform<'_>, address: Address) -> Address
     requires functions { HaveAddends transform.now }
     ensures address { Trees.address result ≡ carried_address transform.now address }
     ensures fits { (size : ℕ) → FitsField size result }
@@ -55,7 +55,7 @@ pub(crate) fn carried_address(transform: &AddressTransform, address: Address) ->
 fn listed_extent(
     alloc: Global,
     unit: &Unit<'_>,
-    transform: &AddressTransform,
+    transform: &AddressTransform<'_>,
     offset: u64,
     list: AttributeValue<'_>,
 ) -> Result<NativeExtent, AllocError>
@@ -74,7 +74,7 @@ fn listed_extent(
 // What an interval is, if there is one.
 fn interval_extent(
     alloc: Global,
-    transform: &AddressTransform,
+    transform: &AddressTransform<'_>,
     interval: Option<(Address, Address)>,
 ) -> Result<NativeExtent, AllocError>
     requires functions { HaveAddends transform.now }
@@ -90,7 +90,7 @@ fn interval_extent(
 }
 
 // What an address alone is, of an entry of a tag.
-fn position_of(transform: &AddressTransform, tag: u16, address: Address) -> NativeExtent
+fn position_of(transform: &AddressTransform<'_>, tag: u16, address: Address) -> NativeExtent
     requires functions { HaveAddends transform.now }
     ensures says { IsExtent transform.now tag (position address) result }
     ensures fits { FitsExtent result }
@@ -107,7 +107,7 @@ fn position_of(transform: &AddressTransform, tag: u16, address: Address) -> Nati
 fn native_extent(
     alloc: Global,
     unit: &Unit<'_>,
-    transform: &AddressTransform,
+    transform: &AddressTransform<'_>,
     entry: &Entry<'_>,
     speaks: bool,
 ) -> Result<NativeExtent, AllocError>
@@ -128,7 +128,7 @@ fn native_extent(
 }
 
 // The one range that one interval of wasm offsets is translated to; None for another number of either.
-fn only_range(transform: &AddressTransform, scope: &[(u64, u64)]) -> Option<(Address, u64)>
+fn only_range(transform: &AddressTransform<'_>, scope: &[(u64, u64)]) -> Option<(Address, u64)>
     ensures { IfSome result (λ range. ranges_of_offsets transform.now scope.now ≡ range ∷ []) }
 {
     match scope {
@@ -147,7 +147,7 @@ fn only_range(transform: &AddressTransform, scope: &[(u64, u64)]) -> Option<(Add
 // What an extent is whose intervals of wasm offsets are these, of which there is one at least.
 fn extent_of_scope(
     alloc: Global,
-    transform: &AddressTransform,
+    transform: &AddressTransform<'_>,
     scope: &[(u64, u64)],
 ) -> Result<NativeExtent, AllocError>
     requires functions { HaveAddends transform.now }

@@ -19,7 +19,7 @@ use dwc_read::{AttributeValue, Entry};
 use std::alloc::{AllocError, Global};
 
 // Where a function begins and ends in the wasm file.
-fn source_range(alloc: Global, function: &FunctionMap) -> Result<Scope, AllocError>
+fn source_range(alloc: Global, function: &FunctionMap<'_>) -> Result<Scope, AllocError>
     ensures { IfOk result (λ scope. scope.items ≡ source_range (function_view function.now)) }
 {
     let mut scope = Scope::new(alloc);
@@ -30,7 +30,7 @@ fn source_range(alloc: Global, function: &FunctionMap) -> Result<Scope, AllocErr
 // The scope that a subprogram gives, by the function that it begins in.
 fn scope_of_function(
     alloc: Global,
-    function: Option<&FunctionMap>,
+    function: Option<&FunctionMap<'_>>,
 ) -> Result<Option<Scope>, AllocError>
     ensures { IfOk result (λ scope. option_map (λ is. is.items) scope ≡ option_map source_range (option_map (λ f. function_view f.now) function.entry)) }
 {
@@ -57,7 +57,7 @@ pub(crate) fn scope_given(
     alloc: Global,
     source: &CloneSource<'_, '_>,
     entry: &Entry<'_>,
-    function: Option<&FunctionMap>,
+    function: Option<&FunctionMap<'_>>,
 ) -> Result<(Option<Scope>, bool), AllocError>
     requires begun { option_map (λ f. function_view f.now) function ≡ begun_function (list_source source.now.unit.now.sections source.now.unit.now.header) source.now.transform.now (entry_view entry.now) }
     ensures given { IfOk result (λ r. option_map (λ is. is.items) r.0 ≡ scope_given (list_source source.now.unit.now.sections source.now.unit.now.header) source.now.transform.now (entry_view entry.now)) }

@@ -41,7 +41,7 @@ impl Model for Lineage {
 }
 
 // The number of a function among those of all modules.
-fn number_of(function: Option<&FunctionMap>) -> Option<usize>
+fn number_of(function: Option<&FunctionMap<'_>>) -> Option<usize>
     requires { IfSome function (λ f. IsSome f.now.symbol) }
     ensures { result ≡ option_map (λ f. f.number) (option_map (λ f. function_view f.now) function.entry) }
 {
@@ -59,7 +59,7 @@ fn is_root(entry: &Entry<'_>) -> bool
 fn gives_nothing(
     source: &CloneSource<'_, '_>,
     entry: &Entry<'_>,
-    function: Option<&FunctionMap>,
+    function: Option<&FunctionMap<'_>>,
     speaks: bool,
 ) -> bool
     requires speaks { speaks ≡ have_code_name (entry_view entry.now).attributes }
@@ -147,7 +147,7 @@ impl Lineage {
         alloc: Global,
         source: &CloneSource<'_, '_>,
         entry: &Entry<'_>,
-        function: Option<&FunctionMap>,
+        function: Option<&FunctionMap<'_>>,
         speaks: bool,
     ) -> Result<bool, CloneError>
         requires speaks { speaks ≡ have_code_name (entry_view entry.now).attributes }

@@ -104,7 +104,7 @@ fn located_code(alloc: Global, parts: &CompiledExpression) -> Result<Option<Loca
 // What a compiled expression becomes over the scope in force, if there is one.
 fn located_over(
     alloc: Global,
-    transform: &AddressTransform,
+    transform: &AddressTransform<'_>,
     isa: &dyn TargetIsa,
     in_force: &InForce<'_>,
     name: u16,
@@ -122,7 +122,7 @@ fn located_over(
 // What a compiled expression becomes under a name. A simple one becomes its operations.
 fn located_parts(
     alloc: Global,
-    transform: &AddressTransform,
+    transform: &AddressTransform<'_>,
     isa: &dyn TargetIsa,
     in_force: &InForce<'_>,
     name: u16,
@@ -154,7 +154,7 @@ fn output_frame_base(alloc: Global) -> Result<Expression, AllocError>
 /// force. `OutOfMemory` for want of memory.
 pub(crate) fn located_expression(
     alloc: Global,
-    transform: &AddressTransform,
+    transform: &AddressTransform<'_>,
     isa: &dyn TargetIsa,
     in_force: &InForce<'_>,
     name: u16,

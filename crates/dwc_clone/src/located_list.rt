@@ -27,7 +27,7 @@ use std::alloc::Global;
 fn put_interval(
     alloc: Global,
     locations: &mut Vec<(Address, u64, Expression)>,
-    transform: &AddressTransform,
+    transform: &AddressTransform<'_>,
     isa: &dyn TargetIsa,
     in_force: &InForce<'_>,
     encoding: Encoding,
@@ -71,7 +71,7 @@ fn if_supported(
 // What is built for each of some intervals in order; None where no expression is supported.
 fn built_intervals(
     alloc: Global,
-    transform: &AddressTransform,
+    transform: &AddressTransform<'_>,
     isa: &dyn TargetIsa,
     in_force: &InForce<'_>,
     encoding: Encoding,
@@ -107,7 +107,7 @@ fn built_intervals(
 pub(crate) fn located_list(
     alloc: Global,
     unit: &Unit<'_>,
-    transform: &AddressTransform,
+    transform: &AddressTransform<'_>,
     isa: &dyn TargetIsa,
     in_force: &InForce<'_>,
     offset: u64,

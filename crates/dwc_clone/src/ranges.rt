@@ -34,7 +34,7 @@ pub(crate) struct NativeRanges {
 
 /// Adds what an interval of the input is translated to.
 pub(crate) fn add_native(
-    transform: &AddressTransform,
+    transform: &AddressTransform<'_>,
     begin: Address,
     end: Address,
     ranges: &mut Vec<(Address, u64)>,
@@ -54,7 +54,7 @@ pub(crate) fn add_native(
 
 // Pushes what an interval of wasm offsets is translated to.
 fn push_translated(
-    transform: &AddressTransform,
+    transform: &AddressTransform<'_>,
     begin: u64,
     end: u64,
     ranges: &mut Vec<(Address, u64)>,
@@ -70,7 +70,7 @@ fn push_translated(
 /// What some intervals of wasm offsets are translated to, one after another.
 pub(crate) fn translated_offsets(
     alloc: Global,
-    transform: &AddressTransform,
+    transform: &AddressTransform<'_>,
     intervals: &[(u64, u64)],
 ) -> Result<Vec<(Address, u64)>, AllocError>
     ensures { IfOk result (λ ranges. ranges.items ≡ ranges_of_offsets transform.now intervals.now) }
@@ -116,7 +116,7 @@ pub(crate) fn list_begun<'u, 'd>(
 // What the intervals that are left of a list are in the native code.
 fn translated_list(
     alloc: Global,
-    transform: &AddressTransform,
+    transform: &AddressTransform<'_>,
     list: &mut Ranges<'_, '_>,
 ) -> Result<NativeRanges, AllocError>
     requires functions { HaveAddends transform.now }
@@ -149,7 +149,7 @@ fn translated_list(
 pub(crate) fn native_ranges(
     alloc: Global,
     unit: &Unit<'_>,
-    transform: &AddressTransform,
+    transform: &AddressTransform<'_>,
     offset: u64,
     value: AttributeValue<'_>,
 ) -> Result<NativeRanges, AllocError>

@@ -10,7 +10,7 @@ use dwc_write::DebugInfoRef;
 #[derive(Clone, Copy)]
 pub struct CloneSource<'c, 'd> {
     pub unit: &'c Unit<'d>,
-    pub transform: &'c AddressTransform,
+    pub transform: &'c AddressTransform<'c>,
     pub module: CompiledModule<'c>,
     pub places: &'c Places,
     pub vmctx_ptr: DebugInfoRef,

@@ -38,7 +38,7 @@ pub(crate) struct LoneLocal {
 }
 
 // The native code of a scope, where it is one range of one interval.
-pub(crate) fn one_range(scope: &[(u64, u64)], addr_tr: &AddressTransform) -> Option<CodeRange>
+pub(crate) fn one_range(scope: &[(u64, u64)], addr_tr: &AddressTransform<'_>) -> Option<CodeRange>
     ensures range { IfSome result (λ r. scope_ranges addr_tr.now scope.now ≡ code_range_view r ∷ []) }
     ensures some { IfSome result (λ r. r.start < r.end) }
     ensures low { IfSome result (λ r. r.end < 2 ^ 32) }
@@ -50,7 +50,7 @@ pub(crate) fn one_range(scope: &[(u64, u64)], addr_tr: &AddressTransform) -> Opt
 }
 
 // The native code of an interval, where it is one range.
-fn one_native(addr_tr: &AddressTransform, start: u64, end: u64) -> Option<CodeRange>
+fn one_native(addr_tr: &AddressTransform<'_>, start: u64, end: u64) -> Option<CodeRange>
     ensures range { IfSome result (λ r. ranges_in_function (native_in_function addr_tr.now start end) ≡ code_range_view r ∷ []) }
     ensures some { IfSome result (λ r. r.start < r.end) }
     ensures low { IfSome result (λ r. r.end < 2 ^ 32) }

@@ -51,7 +51,7 @@ impl CompiledExpression {
         &self,
         alloc: Global,
         scope: &[(u64, u64)],
-        addr_tr: &AddressTransform,
+        addr_tr: &AddressTransform<'_>,
         frame_info: Option<&FunctionFrameInfo<'_>>,
         isa: &dyn TargetIsa,
     ) -> Result<BuiltCompiledExpression, ExprError>
@@ -92,7 +92,7 @@ fn build_parts(
     alloc: Global,
     parts: &PartsToBuild<'_>,
     scope: &[(u64, u64)],
-    addr_tr: &AddressTransform,
+    addr_tr: &AddressTransform<'_>,
     frame_info: Option<&FunctionFrameInfo<'_>>,
     isa: &dyn TargetIsa,
 ) -> Result<BuiltCompiledExpression, ExprError>
@@ -113,7 +113,7 @@ fn build_local(
     parts: &PartsToBuild<'_>,
     local: LoneLocal,
     scope: &[(u64, u64)],
-    addr_tr: &AddressTransform,
+    addr_tr: &AddressTransform<'_>,
     frame_info: Option<&FunctionFrameInfo<'_>>,
     isa: &dyn TargetIsa,
 ) -> Result<BuiltCompiledExpression, ExprError>
@@ -143,7 +143,7 @@ fn build_on_labels(
     parts: &PartsToBuild<'_>,
     labels: &[ValueLabel],
     scope: &[(u64, u64)],
-    addr_tr: &AddressTransform,
+    addr_tr: &AddressTransform<'_>,
     frame_info: Option<&FunctionFrameInfo<'_>>,
     isa: &dyn TargetIsa,
 ) -> Result<BuiltCompiledExpression, ExprError>

@@ -17,7 +17,7 @@ use std::alloc::{AllocError, Global};
 pub(crate) fn copied(
     alloc: Global,
     scope: &[(u64, u64)],
-    addr_tr: &AddressTransform,
+    addr_tr: &AddressTransform<'_>,
     code: &[u8],
 ) -> Result<BuiltCompiledExpression, AllocError>
     ensures { IfOk result (λ built. built_view built ≡ copied_over (scope_intervals addr_tr.now scope.now) code.now) }
@@ -36,7 +36,7 @@ pub(crate) fn copied(
 pub(crate) fn push_copies(
     alloc: Global,
     expressions: &mut Vec<(Address, u64, Expression)>,
-    addr_tr: &AddressTransform,
+    addr_tr: &AddressTransform<'_>,
     start: u64,
     end: u64,
     code: &[u8],

@@ -62,7 +62,7 @@ impl<'a> ValueLabelRangesBuilder<'a> {
     pub fn new(
         alloc: Global,
         scope: &[(u64, u64)],
-        addr_tr: &'a AddressTransform,
+        addr_tr: &'a AddressTransform<'_>,
         frame_info: Option<&'a FunctionFrameInfo<'a>>,
         _isa: &dyn TargetIsa,
     ) -> Result<ValueLabelRangesBuilder<'a>, ExprError>

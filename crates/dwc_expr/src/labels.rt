@@ -123,7 +123,7 @@ pub(crate) fn ranges_of_labels(
     alloc: Global,
     labels: &[ValueLabel],
     scope: &[(u64, u64)],
-    addr_tr: &AddressTransform,
+    addr_tr: &AddressTransform<'_>,
     frame_info: Option<&FunctionFrameInfo<'_>>,
 ) -> Result<BuiltValueLabelRanges, ExprError>
     ensures given { GivesLabelRanges (gathered_of addr_tr.now (option_map (λ f. told_frame f.now) frame_info.entry) scope.now) (numbers labels.now) result }
@@ -140,7 +140,7 @@ pub(crate) fn ranges_of_labels(
 fn ranges_of_scope(
     alloc: Global,
     scope: &[(u64, u64)],
-    addr_tr: &AddressTransform,
+    addr_tr: &AddressTransform<'_>,
 ) -> Result<BuiltValueLabelRanges, ExprError>
     ensures given { IfOk result (λ built. (frame : Option ToldFrame) → Gives (gathered_of addr_tr.now frame scope.now) built) }
     ensures memory { IfErr result (λ e. e ≡ OutOfMemory) }

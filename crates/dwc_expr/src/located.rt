@@ -45,7 +45,7 @@ pub fn put_locations(
     encoding: Encoding,
     frame_base: Option<&CompiledExpression>,
     interval: (u64, u64),
-    addr_tr: &AddressTransform,
+    addr_tr: &AddressTransform<'_>,
     frame_info: Option<&FunctionFrameInfo<'_>>,
     isa: &dyn TargetIsa,
 ) -> Result<bool, ExprError>
@@ -76,7 +76,7 @@ fn put_other(
     encoding: Encoding,
     frame_base: Option<&CompiledExpression>,
     interval: (u64, u64),
-    addr_tr: &AddressTransform,
+    addr_tr: &AddressTransform<'_>,
     frame_info: Option<&FunctionFrameInfo<'_>>,
     isa: &dyn TargetIsa,
 ) -> Result<bool, ExprError>
@@ -98,7 +98,7 @@ fn put_constant(
     locations: &mut Vec<(Address, u64, Expression)>,
     bytes: &[u8],
     interval: (u64, u64),
-    addr_tr: &AddressTransform,
+    addr_tr: &AddressTransform<'_>,
 ) -> Result<(), ExprError>
     ensures ok { OnOk result ((frame : Option Frame) (registers : Registers) → PutsBuilt (built_over (framed addr_tr.now frame registers) (interval ∷ []) (constant bytes.now)) locations.old.items locations.new.items (Ok tt)) }
     ensures memory { IfErr result (λ e. e ≡ OutOfMemory) }
@@ -116,7 +116,7 @@ fn put_operations(
     encoding: Encoding,
     frame_base: Option<&CompiledExpression>,
     interval: (u64, u64),
-    addr_tr: &AddressTransform,
+    addr_tr: &AddressTransform<'_>,
     frame_info: Option<&FunctionFrameInfo<'_>>,
     isa: &dyn TargetIsa,
 ) -> Result<bool, ExprError>
@@ -137,7 +137,7 @@ fn put_built(
     locations: &mut Vec<(Address, u64, Expression)>,
     parts: &CompiledExpression,
     interval: (u64, u64),
-    addr_tr: &AddressTransform,
+    addr_tr: &AddressTransform<'_>,
     frame_info: Option<&FunctionFrameInfo<'_>>,
     isa: &dyn TargetIsa,
 ) -> Result<(), ExprError>
@@ -156,7 +156,7 @@ fn put_label(
     locations: &mut Vec<(Address, u64, Expression)>,
     label: ValueLabel,
     interval: (u64, u64),
-    addr_tr: &AddressTransform,
+    addr_tr: &AddressTransform<'_>,
     frame_info: Option<&FunctionFrameInfo<'_>>,
     isa: &dyn TargetIsa,
 ) -> Result<(), ExprError>
@@ -180,7 +180,7 @@ fn put_by_pieces(
     label: ValueLabel,
     pieces: &[ValueLocRange],
     interval: (u64, u64),
-    addr_tr: &AddressTransform,
+    addr_tr: &AddressTransform<'_>,
     frame_info: Option<&FunctionFrameInfo<'_>>,
     isa: &dyn TargetIsa,
 ) -> Result<(), ExprError>

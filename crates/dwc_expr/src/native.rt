@@ -13,7 +13,7 @@ use std::collections::BTreeMap;
 pub(crate) fn native_ranges(
     alloc: Global,
     scope: &[(u64, u64)],
-    addr_tr: &AddressTransform,
+    addr_tr: &AddressTransform<'_>,
 ) -> Result<Vec<CachedValueLabelRange>, AllocError>
     ensures ranges { IfOk result (λ ranges. map bounds_of ranges.items ≡ scope_ranges addr_tr.now scope.now) }
     ensures nonempty { IfOk result (λ ranges. All (λ r. r.start < r.end) ranges.items) }
@@ -31,7 +31,7 @@ pub(crate) fn native_ranges(
 fn push_native(
     alloc: Global,
     ranges: &mut Vec<CachedValueLabelRange>,
-    addr_tr: &AddressTransform,
+    addr_tr: &AddressTransform<'_>,
     start: u64,
     end: u64,
 ) -> Result<(), AllocError>

@@ -101,26 +101,26 @@ pub grows-on : (function : ℕ) (found more : Option ℕ) (a b c : GivenLines) �
 grows-on function found more a b c h k = record { begun = k.begun; same = k.same ∙ ap (with_begun c.begun) h.same }
 
 -- the recorded sources of a function as it is kept
-pub sources-view : (m : FunctionMap) → recorded_sources (function_view m) ≡ map recorded_view m.addresses.items
-sources-view m = recorded-merged m.gaps.items 0 (map recorded_view m.addresses.items)
+pub sources-view : (m : FunctionMap) → recorded_sources (function_view m) ≡ map recorded_view m.addresses
+sources-view m = recorded-merged m.gaps.now 0 (map recorded_view m.addresses)
 
 -- what is written of a segment that is in a function
-pub sequence-found : (fs : List Function) (a : ℕ) (rows image : List LineRow) (m : FunctionMap) → function_at fs a ≡ Some (function_view m) → image ≡ image_rows rows a None (map recorded_view m.addresses.items)
+pub sequence-found : (fs : List Function) (a : ℕ) (rows image : List LineRow) (m : FunctionMap) → function_at fs a ≡ Some (function_view m) → image ≡ image_rows rows a None (map recorded_view m.addresses)
     → sequence_at fs (Constant a) rows ≡ sequence_with_rows (record { start_address = Symbol (function_view m).number (pos 0); rows = image; end_offset = m.len })
 sequence-found fs a rows image m found is = rw (found, sources-view m, is) refl
 
 -- its rows may be written, and lie in the function
 module _ (a : ℕ) (rows : List LineRow) (m : FunctionMap) (order : IsOrdered (function_view m)) where
-  image-within : All (λ r. r.offset ≤ m.len) (image_rows rows a None (map recorded_view m.addresses.items))
-  image-within = rows_from-within (λ r. r.offset) move_row (λ k r. refl) rows a (map recorded_view m.addresses.items) None m.len (rw (sources-view m) at order.within)
+  image-within : All (λ r. r.offset ≤ m.len) (image_rows rows a None (map recorded_view m.addresses))
+  image-within = rows_from-within (λ r. r.offset) move_row (λ k r. refl) rows a (map recorded_view m.addresses) None m.len (rw (sources-view m) at order.within)
 
-  pub image-last : last_offset 0 (image_rows rows a None (map recorded_view m.addresses.items)) ≤ m.len
-  image-last = last-within (image_rows rows a None (map recorded_view m.addresses.items)) 0 m.len (omega arith) image-within
+  pub image-last : last_offset 0 (image_rows rows a None (map recorded_view m.addresses)) ≤ m.len
+  image-last = last-within (image_rows rows a None (map recorded_view m.addresses)) 0 m.len (omega arith) image-within
 
-  pub image-fits : (files : ℕ) → All (FitsFiles files) rows → m.len < 2 ^ 32 → FitsImage files (image_rows rows a None (map recorded_view m.addresses.items))
+  pub image-fits : (files : ℕ) → All (FitsFiles files) rows → m.len < 2 ^ 32 → FitsImage files (image_rows rows a None (map recorded_view m.addresses))
   image-fits files each short = record {
-    each = rows_from-each (λ r. r.offset) move_row (FitsFiles files) (λ k r h. record { line = h.line; some = h.some; known = h.known }) rows a (map recorded_view m.addresses.items) None each;
-    rise = rows_from-rises (λ r. r.offset) move_row (λ k r. refl) rows a (map recorded_view m.addresses.items) 0 (rw (sources-view m) at order.rises);
+    each = rows_from-each (λ r. r.offset) move_row (FitsFiles files) (λ k r h. record { line = h.line; some = h.some; known = h.known }) rows a (map recorded_view m.addresses) None each;
+    rise = rows_from-rises (λ r. r.offset) move_row (λ k r. refl) rows a (map recorded_view m.addresses) 0 (rw (sources-view m) at order.rises);
     short = λ k d less. omega (arith, image-within k d less, short);
   }
 

@@ -119,14 +119,14 @@ ended : (g : GivenLines) (start : Address) (len : ℕ) (rows : List LineRow) →
 ended g start len rows = ap (with_end len) (appended g start (simulated_line 0 0 false ∷ []) rows)
 
 -- and then it is there
-pub ended-listed : (code_offset : ℕ) (m : FunctionMap) (g after : GivenLines) → after ≡ with_rows (lines_of_recorded code_offset (map recorded_view m.addresses.items)) (begun_at (Symbol (function_view m).number (pos 0)) g) → with_end m.len after ≡ with_sequences (simulated_sequence code_offset (function_view m) ∷ []) g
+pub ended-listed : (code_offset : ℕ) (m : FunctionMap) (g after : GivenLines) → after ≡ with_rows (lines_of_recorded code_offset (map recorded_view m.addresses)) (begun_at (Symbol (function_view m).number (pos 0)) g) → with_end m.len after ≡ with_sequences (simulated_sequence code_offset (function_view m) ∷ []) g
 ended-listed code_offset m g after is =
     ap (with_end m.len) is
-    ∙ ended g (Symbol (function_view m).number (pos 0)) m.len (lines_of_recorded code_offset (map recorded_view m.addresses.items))
+    ∙ ended g (Symbol (function_view m).number (pos 0)) m.len (lines_of_recorded code_offset (map recorded_view m.addresses))
     ∙ ap (λ es. with_sequences (record { start_address = Symbol (function_view m).number (pos 0); rows = simulated_line 0 0 false ∷ lines_of_recorded code_offset es; end_offset = m.len } ∷ []) g) (sym (sources-view m))
 
 -- the sources of a function that can be listed, as it is kept
-pub sources-listed : (code_offset : ℕ) (m : FunctionMap) → CanList code_offset (function_view m) → AreListed code_offset m.len 0 (map recorded_view m.addresses.items)
+pub sources-listed : (code_offset : ℕ) (m : FunctionMap) → CanList code_offset (function_view m) → AreListed code_offset m.len 0 (map recorded_view m.addresses)
 sources-listed code_offset m h = record {
   rises = rw (sources-view m) at h.order.rises;
   within = rw (sources-view m) at h.order.within;

@@ -10,7 +10,7 @@ ghost use Rattle.dwc_image.specs.ImageRows.{move_row, placed_at, is_repeated, wi
 ghost use Rattle.dwc_image.specs.ImageSequences.{FitsImage, FitsNext, IsBegun, begun_rows, HasGrown};
 ghost use Rattle.dwc_image.specs.RunRows.{RisesBetween, IsCut, IsFirstBehind};
 
-use dwc_addr::AddressMap;
+use dwc_addr::{AddressMap, Sources};
 use dwc_base::{Address, LineRow};
 use dwc_write::{LineProgram, WriteError};
 use std::ops::Range;
@@ -81,15 +81,15 @@ fn count_behind(rows: &[LineRow], known: usize, offset: u64) -> usize
 }
 
 // Whether a source lies in front of a row of a segment that begins at `start`.
-fn lies_before(source: &AddressMap, start: u64, offset: u64) -> bool
-    ensures { result ≡ nat_lt source.now.wasm (start + offset) }
+fn lies_before(source: AddressMap, start: u64, offset: u64) -> bool
+    ensures { result ≡ nat_lt source.wasm (start + offset) }
 {
     let wasm = u64::from(source.wasm);
     wasm < start || wasm - start < offset
 }
 
 // The first source from `from` on, and before `end`, that does not lie in front of a row; `end` where all do.
-fn first_behind(sources: &[AddressMap], from: usize, end: usize, start: u64, offset: u64) -> usize
+fn first_behind(sources: &Sources<'_>, from: usize, end: usize, start: u64, offset: u64) -> usize
     requires low { from ≤ end }
     requires high { end ≤ length sources.now }
     requires rises { RisesBetween (λ s. s.wasm) sources.now from end }
@@ -105,7 +105,7 @@ fn first_behind(sources: &[AddressMap], from: usize, end: usize, start: u64, off
 
 // The same by steps that double, and then by halves: the work grows as the digits of how far it lies.
 fn behind_by_doubling(
-    sources: &[AddressMap],
+    sources: &Sources<'_>,
     from: usize,
     end: usize,
     start: u64,
@@ -119,7 +119,7 @@ fn behind_by_doubling(
     let mut at = from;
     let mut step = NEAR;
     while step < end - at {
-        if !lies_before(&sources[at + step], start, offset) {
+        if !lies_before(sources.at(at + step), start, offset) {
             return behind_by_halves(sources, at, at + step, start, offset);
         }
         at += step + 1;
@@ -129,19 +129,13 @@ fn behind_by_doubling(
 }
 
 // The same source by source.
-fn behind_by_steps(
-    sources: &[AddressMap],
-    from: usize,
-    end: usize,
-    start: u64,
-    offset: u64,
-) -> usize
+fn behind_by_steps(sources: &Sources<'_>, from: usize, end: usize, start: u64, offset: u64) -> usize
     requires low { from ≤ end }
     requires high { end ≤ length sources.now }
     ensures { IsFirstBehind (λ s. s.wasm) sources.now from end (start + offset) result }
 {
     for at in from..end {
-        if !lies_before(&sources[at], start, offset) {
+        if !lies_before(sources.at(at), start, offset) {
             return at;
         }
     }
@@ -150,7 +144,7 @@ fn behind_by_steps(
 
 // The same by halves.
 fn behind_by_halves(
-    sources: &[AddressMap],
+    sources: &Sources<'_>,
     from: usize,
     end: usize,
     start: u64,
@@ -161,7 +155,17 @@ fn behind_by_halves(
     requires rises { RisesBetween (λ s. s.wasm) sources.now from end }
     ensures { IsFirstBehind (λ s. s.wasm) sources.now from end (start + offset) result }
 {
-    from + sources[from..end].partition_point(|source| lies_before(source, start, offset))
+    let mut low = from;
+    let mut high = end;
+    while low < high {
+        let middle = low + (high - low) / 2;
+        if lies_before(sources.at(middle), start, offset) {
+            low = middle + 1;
+        } else {
+            high = middle;
+        }
+    }
+    low
 }
 
 // Adds a row that the source at an offset of a function's code found, unless it is the one found last, whose offset is
@@ -199,7 +203,7 @@ fn add_run(
     function: usize,
     rows: &[LineRow],
     start: u64,
-    sources: &[AddressMap],
+    sources: &Sources<'_>,
     run: Range<usize>,
     found: Option<u64>,
 ) -> Result<Option<u64>, WriteError>
@@ -224,7 +228,7 @@ fn add_run(
         if at == run.end {
             return Ok(found);
         }
-        let source = sources[at];
+        let source = sources.at(at);
         let count = count_at(rows, next, u64::from(source.wasm) - start);
         let row = &rows[count - 1];
         add_row(program, function, row, source.generated as u64, found)?;
@@ -249,7 +253,7 @@ pub(crate) fn add_rows(
     function: usize,
     rows: &[LineRow],
     start: u64,
-    sources: &[AddressMap],
+    sources: &Sources<'_>,
     later_runs: &[usize],
 ) -> Result<Option<u64>, WriteError>
     requires order { IsNonDecreasingBy (λ r. r.offset) rows.now }

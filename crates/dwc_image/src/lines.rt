@@ -23,7 +23,7 @@ use std::alloc::Global;
 pub fn carried_lines(
     alloc: Global,
     table: &LineTable<'_>,
-    transform: &AddressTransform,
+    transform: &AddressTransform<'_>,
     encoding: Encoding,
 ) -> Result<LineProgram, WriteError>
     requires table { IsRead table.now }
@@ -86,7 +86,7 @@ fn add_images(
     alloc: Global,
     program: &mut LineProgram,
     table: &LineTable<'_>,
-    transform: &AddressTransform,
+    transform: &AddressTransform<'_>,
 ) -> Result<(), WriteError>
     requires sized { IsSome program.old.address_size }
     requires ended { program.old.begun ≡ None }

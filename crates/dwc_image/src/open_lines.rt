@@ -19,7 +19,7 @@ use std::alloc::Global;
 pub fn carried_open_lines(
     alloc: Global,
     table: &mut OpenTable<'_>,
-    transform: &AddressTransform,
+    transform: &AddressTransform<'_>,
     encoding: Encoding,
 ) -> Option<LineProgram>
     requires table { IsOpen table.old }
@@ -67,7 +67,7 @@ fn add_open_images(
     alloc: Global,
     program: &mut LineProgram,
     table: &mut OpenTable<'_>,
-    transform: &AddressTransform,
+    transform: &AddressTransform<'_>,
 ) -> bool
     requires sized { IsSome program.old.address_size }
     requires ended { program.old.begun ≡ None }

@@ -15,7 +15,7 @@ use dwc_write::{LineProgram, WriteError};
 /// `OutOfMemory` for want of memory, and nothing else.
 pub(crate) fn add_image(
     program: &mut LineProgram,
-    transform: &AddressTransform,
+    transform: &AddressTransform<'_>,
     start: Option<Address>,
     rows: &[LineRow],
 ) -> Result<(), WriteError>

@@ -9,7 +9,7 @@ ghost use Rattle.dwc_write.specs.ReadBack.{given_segments};
 ghost use Rattle.dwc_image.specs.ImageSequences.{with_sequences};
 ghost use Rattle.dwc_image.specs.SimulatedSequences.{simulated_line, line_of_recorded, lines_of_recorded, simulated_sequence, simulated_program, CanList, listed_view, with_rows, CanAppendEach};
 
-use dwc_addr::{AddressMap, FunctionMap};
+use dwc_addr::{AddressMap, FunctionMap, Sources};
 use dwc_base::{Address, Encoding, LineRow};
 use dwc_write::{LineProgram, WriteError};
 use std::alloc::Global;
@@ -33,9 +33,9 @@ fn line_at(offset: u64, line: u64, prologue_end: bool) -> LineRow
 }
 
 // The row of a recorded source.
-fn line_of(source: &AddressMap, code_offset: u64, prologue_end: bool) -> LineRow
-    requires { code_offset + source.now.wasm < 2 ^ 64 }
-    ensures { result ≡ line_of_recorded code_offset prologue_end (recorded_view source.now) }
+fn line_of(source: AddressMap, code_offset: u64, prologue_end: bool) -> LineRow
+    requires { code_offset + source.wasm < 2 ^ 64 }
+    ensures { result ≡ line_of_recorded code_offset prologue_end (recorded_view source) }
 {
     line_at(
         source.generated as u64,
@@ -47,7 +47,7 @@ fn line_of(source: &AddressMap, code_offset: u64, prologue_end: bool) -> LineRow
 // Adds the rows of sources of which none ends the prologue.
 fn add_later(
     program: &mut LineProgram,
-    sources: &[AddressMap],
+    sources: &Sources<'_>,
     code_offset: u64,
 ) -> Result<(), WriteError>
     requires rows { CanAppendEach program.old (map (line_of_recorded code_offset false) (map recorded_view sources.now)) }
@@ -55,8 +55,8 @@ fn add_later(
     ensures added { OnOk result (program.new ≡ with_rows (map (line_of_recorded code_offset false) (map recorded_view sources.now)) program.old) }
     ensures memory { IsOkUnless result WriteError.OutOfMemory }
 {
-    for source in sources {
-        program.generate_row(line_of(source, code_offset, false))?;
+    for place in 0..sources.len() {
+        program.generate_row(line_of(sources.at(place), code_offset, false))?;
     }
     Ok(())
 }
@@ -64,7 +64,7 @@ fn add_later(
 // Adds the rows of sources, of which the first ends the prologue.
 fn add_sources(
     program: &mut LineProgram,
-    sources: &[AddressMap],
+    sources: &Sources<'_>,
     code_offset: u64,
 ) -> Result<(), WriteError>
     requires rows { CanAppendEach program.old (lines_of_recorded code_offset (map recorded_view sources.now)) }
@@ -72,11 +72,11 @@ fn add_sources(
     ensures added { OnOk result (program.new ≡ with_rows (lines_of_recorded code_offset (map recorded_view sources.now)) program.old) }
     ensures memory { IsOkUnless result WriteError.OutOfMemory }
 {
-    let Some((first, later)) = sources.split_first() else {
+    let Some(first) = sources.get(0) else {
         return Ok(());
     };
     program.generate_row(line_of(first, code_offset, true))?;
-    add_later(program, later, code_offset)
+    add_later(program, &sources.part(1, sources.len()), code_offset)
 }
 
 /// Adds the sequence of a function, in whose file the contents of the code section begin at an offset: a row at its begin, and
@@ -86,7 +86,7 @@ fn add_sources(
 /// `OutOfMemory` for want of memory, and nothing else.
 pub fn add_simulated(
     program: &mut LineProgram,
-    function: &FunctionMap,
+    function: &FunctionMap<'_>,
     code_offset: u64,
 ) -> Result<(), WriteError>
     requires sized { IsSome program.old.address_size }
@@ -106,7 +106,10 @@ pub fn add_simulated(
 }
 
 // Adds the sequences of some functions.
-fn add_all(program: &mut LineProgram, functions: &[(u64, &FunctionMap)]) -> Result<(), WriteError>
+fn add_all(
+    program: &mut LineProgram,
+    functions: &[(u64, &FunctionMap<'_>)],
+) -> Result<(), WriteError>
     requires sized { IsSome program.old.address_size }
     requires ended { program.old.begun ≡ None }
     requires some { 0 < length program.old.files }
@@ -129,7 +132,7 @@ pub fn simulated_lines(
     alloc: Global,
     encoding: Encoding,
     name: &[u8],
-    functions: &[(u64, &FunctionMap)],
+    functions: &[(u64, &FunctionMap<'_>)],
 ) -> Result<LineProgram, WriteError>
     requires name { FitsName name.now }
     requires functions { All (λ f. CanList f.0 f.1) (map listed_view functions.now) }

@@ -71,8 +71,8 @@ fn begin_of(unit: &Unit<'_>, entry: &Entry<'_>) -> Option<Address>
 pub fn function_begun<'t>(
     unit: &Unit<'_>,
     entry: &Entry<'_>,
-    transform: &'t AddressTransform,
-) -> Option<&'t FunctionMap>
+    transform: &'t AddressTransform<'t>,
+) -> Option<&'t FunctionMap<'t>>
     ensures symbol { IfSome result (λ f. IsSome f.now.symbol) }
     ensures found { option_map (λ f. function_view f.now) result ≡ begun_function (list_source unit.now.sections unit.now.header) transform.now (entry_view entry.now) }
 {

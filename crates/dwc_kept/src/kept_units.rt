@@ -26,7 +26,7 @@ pub struct KeptModule<'d> {
 fn keep<'d>(
     alloc: Global,
     units: Units<'d>,
-    transform: &AddressTransform,
+    transform: &AddressTransform<'_>,
 ) -> Result<KeptModule<'d>, ReadFault>
     ensures { ReadsOrTells (λ m. IsKeptAmong transform.now units.entry.sections units.entry.headers m) (first_of (headers_faults (named_faults units.entry.sections) units.entry.sections units.entry.headers)) result }
 {
@@ -48,7 +48,7 @@ fn keep<'d>(
 pub fn kept_module<'d>(
     alloc: Global,
     sections: Sections<'d>,
-    transform: &AddressTransform,
+    transform: &AddressTransform<'_>,
 ) -> Result<KeptModule<'d>, ReadFault>
     ensures { ReadsOrTells (λ m. IsKeptModule transform.now sections.entry m) (first_of (info_faults (named_faults sections.entry) sections.entry)) result }
 {
@@ -63,7 +63,7 @@ pub fn kept_module<'d>(
 pub fn build_dependencies(
     alloc: Global,
     units: Units<'_>,
-    transform: &AddressTransform,
+    transform: &AddressTransform<'_>,
 ) -> Result<Kept, ReadFault>
     ensures kept { ReadsOrTells (λ kept. kept ≡ offsets_kept_of transform.now units.entry.sections (units_of units.entry.sections units.entry.headers)) (first_of (headers_faults (named_faults units.entry.sections) units.entry.sections units.entry.headers)) result }
     ensures least { IfOk result (λ kept. AreLeastOffsets transform.now units.entry.sections (units_of units.entry.sections units.entry.headers) kept) }

@@ -29,7 +29,7 @@ pub(crate) struct CodeSeen {
 }
 
 // Whether an address is in a function with a symbol.
-fn can_translate(transform: &AddressTransform, address: Address) -> bool
+fn can_translate(transform: &AddressTransform<'_>, address: Address) -> bool
     ensures { result ≡ can_translate transform.now address }
 {
     match address {
@@ -93,7 +93,7 @@ fn seen_behind(
     unit: &Unit<'_>,
     section: SectionName,
     offset: u64,
-    transform: &AddressTransform,
+    transform: &AddressTransform<'_>,
     seen: CodeSeen,
     entry: RangeEntry,
 ) -> Result<CodeSeen, ReadFault>
@@ -130,7 +130,7 @@ fn entries_show_code(
     unit: &Unit<'_>,
     section: SectionName,
     offset: u64,
-    transform: &AddressTransform,
+    transform: &AddressTransform<'_>,
     base: Option<bool>,
     entries: &mut RangeEntries<'_>,
 ) -> Result<bool, ReadFault>
@@ -147,7 +147,7 @@ fn entries_show_code(
 }
 
 // Whether the `low_pc` beside a list is in a function, if it is an address in place.
-fn base_beside(transform: &AddressTransform, low_pc: Option<AttributeValue<'_>>) -> Option<bool>
+fn base_beside(transform: &AddressTransform<'_>, low_pc: Option<AttributeValue<'_>>) -> Option<bool>
     ensures { result ≡ base_beside transform.now (option_map value_view low_pc.entry) }
 {
     match low_pc {
@@ -160,7 +160,7 @@ fn base_beside(transform: &AddressTransform, low_pc: Option<AttributeValue<'_>>)
 fn list_shows_code(
     unit: &Unit<'_>,
     entry: &Entry<'_>,
-    transform: &AddressTransform,
+    transform: &AddressTransform<'_>,
     value: AttributeValue<'_>,
 ) -> Result<bool, ReadFault>
     ensures { ReadsOrTells (λ shows. shows ≡ list_shows_code (list_source unit.now.sections unit.now.header) transform.now (attribute DW_AT_low_pc (entry_view entry.now)) (value_view value.entry)) (first_of (list_faults (list_source unit.now.sections unit.now.header) (entry_view entry.now).offset (value_view value.entry))) result }
@@ -188,7 +188,7 @@ fn list_shows_code(
 pub(crate) fn ranges_show_code(
     unit: &Unit<'_>,
     entry: &Entry<'_>,
-    transform: &AddressTransform,
+    transform: &AddressTransform<'_>,
 ) -> Result<Option<bool>, ReadFault>
     ensures { ReadsOrTells (λ shows. shows ≡ option_map (list_shows_code (list_source unit.now.sections unit.now.header) transform.now (attribute DW_AT_low_pc (entry_view entry.now))) (attribute DW_AT_ranges (entry_view entry.now))) (first_of (flat_map (list_faults (list_source unit.now.sections unit.now.header) (entry_view entry.now).offset) (option_to_list (attribute DW_AT_ranges (entry_view entry.now))))) result }
 {
@@ -203,7 +203,7 @@ pub(crate) fn ranges_show_code(
 fn begins_at_index(
     unit: &Unit<'_>,
     offset: u64,
-    transform: &AddressTransform,
+    transform: &AddressTransform<'_>,
     index: u64,
 ) -> Result<bool, ReadFault>
     ensures { ReadsOrTells (λ begins. begins ≡ begins_in_code (list_source unit.now.sections unit.now.header) transform.now (Some (address_index index))) (index_fault (list_source unit.now.sections unit.now.header) offset (address_index index)) result }
@@ -221,7 +221,7 @@ fn begins_at_index(
 pub(crate) fn begins_in_code(
     unit: &Unit<'_>,
     entry: &Entry<'_>,
-    transform: &AddressTransform,
+    transform: &AddressTransform<'_>,
 ) -> Result<bool, ReadFault>
     ensures { ReadsOrTells (λ begins. begins ≡ begins_in_code (list_source unit.now.sections unit.now.header) transform.now (attribute DW_AT_low_pc (entry_view entry.now))) (first_of (filter_map (index_fault (list_source unit.now.sections unit.now.header) (entry_view entry.now).offset) (option_to_list (attribute DW_AT_low_pc (entry_view entry.now))))) result }
 {

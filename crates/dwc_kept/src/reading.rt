@@ -86,7 +86,7 @@ fn number_of(last: Option<LastAt>) -> Option<u32>
 /// What [`is_required`] answers; else `OutOfMemory` alone.
 pub(crate) fn add_entry(
     reading: &mut Reading,
-    transform: &AddressTransform,
+    transform: &AddressTransform<'_>,
     unit: &Unit<'_>,
     entry: &Entry<'_>,
 ) -> Result<(), ReadFault>

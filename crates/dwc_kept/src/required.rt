@@ -21,7 +21,7 @@ use dwc_read::{Entry, ReadFault, Unit};
 pub(crate) fn is_required(
     unit: &Unit<'_>,
     entry: &Entry<'_>,
-    transform: &AddressTransform,
+    transform: &AddressTransform<'_>,
 ) -> Result<bool, ReadFault>
     ensures { ReadsOrTells (λ needed. needed ≡ is_required transform.now unit.now.sections unit.now.header (entry_view entry.now)) (first_of (named_faults unit.now.sections unit.now.header (entry_view entry.now))) result }
 {

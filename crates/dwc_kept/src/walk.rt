@@ -22,7 +22,7 @@ use std::alloc::Global;
 // Adds the entries of a unit that are still to come, and answers what the first says.
 fn add_entries(
     entries: &mut EntryLinks<'_>,
-    transform: &AddressTransform,
+    transform: &AddressTransform<'_>,
     unit: &Unit<'_>,
     reading: &mut Reading,
 ) -> Result<Option<RootEntry>, ReadFault>
@@ -46,7 +46,7 @@ fn add_entries(
 fn add_unit(
     alloc: Global,
     unit: &Unit<'_>,
-    transform: &AddressTransform,
+    transform: &AddressTransform<'_>,
     reading: &mut Reading,
 ) -> Result<Option<RootEntry>, ReadFault>
     requires among { AreAmong (reading_view reading.old) }
@@ -75,7 +75,7 @@ pub(crate) struct ReadModule<'d> {
 pub(crate) fn read_entries<'d>(
     alloc: Global,
     headers: Units<'d>,
-    transform: &AddressTransform,
+    transform: &AddressTransform<'_>,
 ) -> Result<ReadModule<'d>, ReadFault>
     requires { StandFrom headers.sections 0 headers.headers.items }
     ensures { ReadsOrTells (λ m. IsRead (with_units_read (is_required transform.now headers.entry.sections) headers.entry.sections headers.entry.headers.items none_read) (reading_view m.reading) × AllZip (IsReadUnit headers.entry.sections) headers.entry.headers.items m.units.items) (first_of (headers_faults (named_faults headers.entry.sections) headers.entry.sections headers.entry.headers)) result }
@@ -109,7 +109,7 @@ pub(crate) struct ModuleGraph<'d> {
 pub(crate) fn graph_of<'d>(
     alloc: Global,
     headers: Units<'d>,
-    transform: &AddressTransform,
+    transform: &AddressTransform<'_>,
 ) -> Result<ModuleGraph<'d>, ReadFault>
     ensures { ReadsOrTells (λ m. IsModuleGraph transform.now headers.entry.sections (units_of headers.entry.sections headers.entry.headers) m.graph m.required.items × AllZip (IsReadUnit headers.entry.sections) headers.entry.headers.items m.units.items) (first_of (headers_faults (named_faults headers.entry.sections) headers.entry.sections headers.entry.headers)) result }
 {

@@ -1,16 +1,18 @@
 -- Names and kinds of the map file's values.
-use Rattle.std.proofs.Common.{◌≡◌, ◌≢◌, List, ℕ, suc, Option, Some, None, Bool, true, false, [], ◌∷◌, length, bytes_eq, codes, sym, ap, refl}
+use Rattle.std.proofs.Common.{◌≡◌, ◌≢◌, ◌<◌, ◌+◌, List, ℕ, suc, Option, Some, None, Bool, true, false, [], ◌∷◌, ◌++◌, length, map, drop, get_or, option_map, bytes_eq, codes, sym, ap, refl, ◌∙◌}
 use Rattle.std.specs.Str.{IsUtf8, is_utf8}
 use Rattle.std.proofs.lemmas.Str.{IsUtf8-from_is_utf8, is_utf8-from_IsUtf8}
+use Rattle.std.proofs.lemmas.List.{append_assoc, at_drop_more}
 use Rattle.std.proofs.Math.Bool.{and-false}
 use Rattle.std.proofs.lemmas.Slice.Eq.{bytes_eq-Decides}
 use Rattle.serde_json.specs.Data.{Data, null, boolean, number, string, array, object, no_items, item}
 use Rattle.serde_json.specs.Read.{read}
 use Rattle.serde_json.specs.Find.{as_array}
-use Rattle.serde_json.specs.View.{items_view}
+use Rattle.serde_json.specs.View.{view, items_view}
 use Rattle.serde_json.specs.declared.value.Value.{Value}
 use Rattle.dwc_map.specs.MapFile.{MapModule, architectures, have_counts, map_in, map_in_bytes}
 use Rattle.dwc_map.specs.MapValues.{named_in, pair_of, four_of, list_of, table_in, table_of, all_items, ◌>>=◌}
+use Rattle.dwc_map.proofs.TokenLists.{map-push}
 
 -- a test that cannot hold is false
 false_from_not : (b : Bool) → (b ≡ true → ⊥) → b ≡ false
@@ -63,6 +65,30 @@ list_of_items kind (number n) = refl
 list_of_items kind (string s) = refl
 list_of_items kind (array ds) = refl
 list_of_items kind (object ms) = refl
+
+-- items that were read, behind others
+append-front : {A : Type 0} (xs : List A) (x : A) (o : Option (List A)) → option_map (λ ys. (xs ++ x ∷ []) ++ ys) o ≡ option_map (λ ys. xs ++ ys) (o >>= λ ys. Some (x ∷ ys))
+append-front xs x None = refl
+append-front xs x (Some ys) = ap (λ zs. Some zs) (append_assoc xs (x ∷ []) ys)
+
+-- the values of a list from one on that is of a kind
+values-next : {A : Type 0} (kind : Data → Option A) (vs : List Value) (i : ℕ) (v : Value) (x : A) → i < length vs → v ≡ get_or vs i v → kind (view v) ≡ Some x
+    → all_items kind (items_view (drop i vs)) ≡ all_items kind (items_view (drop (i + 1) vs)) >>= λ ys. Some (x ∷ ys)
+values-next kind vs i v x inside at read =
+    let later = all_items kind (items_view (drop (i + 1) vs)) in
+    ap (all_items kind) (at_drop_more items_view vs i v inside)
+    ∙ ap (λ w. kind (view w) >>= λ y. later >>= λ ys. Some (y ∷ ys)) (sym at)
+    ∙ ap (λ o. o >>= λ y. later >>= λ ys. Some (y ∷ ys)) read
+
+-- Values of a list were read, and are those of the whole list with those to come; so they are with the next one.
+pub values-pushed : {X A : Type 0} (kind : Data → Option A) (f : X → A) (vs : List Value) (i : ℕ) (v : Value) (xs ys : List X) (x : X) (whole : Option (List A)) → i < length vs → v ≡ get_or vs i v → option_map f (Some x) ≡ kind (view v) → ys ≡ xs ++ x ∷ []
+    → option_map (λ zs. map f xs ++ zs) (all_items kind (items_view (drop i vs))) ≡ whole → option_map (λ zs. map f ys ++ zs) (all_items kind (items_view (drop (i + 1) vs))) ≡ whole
+values-pushed kind f vs i v xs ys x whole inside at read is before =
+    let later = all_items kind (items_view (drop (i + 1) vs)) in
+    ap (λ zs. option_map (λ us. zs ++ us) later) (ap (map f) is ∙ map-push f xs x)
+    ∙ append-front (map f xs) (f x) later
+    ∙ ap (option_map (λ zs. map f xs ++ zs)) (sym (values-next kind vs i v (f x) inside at (sym read)))
+    ∙ before
 
 -- a table by its items
 pub table_of_items : {X : Type 0} (kind : Data → Option X) (d : Data) → table_of kind d ≡ as_array d >>= table_in kind

@@ -100,12 +100,18 @@ module _ {A : Type 0} (kind : Data → Option A) where
           read = a.read ∙ ap (parse_map (λ ys. xs ++ ys)) turn ∙ one-more xs x (left (a.most - 1) next);
         }
 
-    -- the same of what is pushed to other items, behind the test for the end
+    -- the same, behind the test for the end
+    pub items-added : (start now tested next : List Token) (xs ys : List A) (x : A) → (after_end_array now ≡ None) × (tested ≡ now) → Tells depth kind tested x next → length next < length tested → ys ≡ xs ++ x ∷ [] → ItemsAlong start now xs
+        → ItemsAlong start next ys
+    items-added start now tested next xs ys x going told less is a =
+        subst (ItemsAlong start next) (sym is)
+        (items-next start now next xs x going.0 (subst (λ ts. Tells depth kind ts x next) going.1 told) (subst (λ ts. length next < length ts) going.1 less) a)
+
+    -- and of what is pushed to other items
     pub items-pushed : {X : Type 0} (view : X → A) (start now tested next : List Token) (xs ys : List X) (x : X) → (after_end_array now ≡ None) × (tested ≡ now) → Tells depth kind tested (view x) next → length next < length tested → ys ≡ xs ++ x ∷ [] → ItemsAlong start now (map view xs)
         → ItemsAlong start next (map view ys)
     items-pushed view start now tested next xs ys x going told less is a =
-        subst (ItemsAlong start next) (sym (ap (map view) is ∙ map-push view xs x))
-        (items-next start now next (map view xs) (view x) going.0 (subst (λ ts. Tells depth kind ts (view x) next) going.1 told) (subst (λ ts. length next < length ts) going.1 less) a)
+        items-added start now tested next (map view xs) (map view ys) (view x) going told less (ap (map view) is ∙ map-push view xs x) a
 
     pub items-over : (start now rest : List Token) (xs : List A) → after_end_array now ≡ Some rest → ItemsAlong start now xs → left (length start) start ≡ Some (xs, rest)
     items-over start now rest xs over a =

@@ -3,7 +3,7 @@
 //! order; any other, and what is no map, is left to the plain way.
 ghost use Rattle.std.specs.Prelude.{◌≡◌, ◌<◌, ◌-◌, ◌^◌, ℕ, map, codes, length, option_map, Some, IfOk, OnOk};
 ghost use Rattle.serde_json.specs.View.{members_view};
-ghost use Rattle.dwc_clif.specs.AddressMaps.{entry_view};
+ghost use Rattle.dwc_clif.specs.Gaps.{entry_view};
 ghost use Rattle.dwc_clif.specs.CallFrames.{description_view};
 ghost use Rattle.dwc_map.specs.ByTokens.{IsNumber, IsSource, Puts, Tells, TellsFunction, TellsItems, TellsMembers};
 ghost use Rattle.dwc_map.specs.MapFile.{entries_of, functions_of, map_function_of, map_in, map_in_bytes, map_module_of, modules_of};
@@ -19,7 +19,10 @@ use crate::stop::Stop;
 use crate::token_parts::{begin_list, begin_object, end_list, number_in, read_number};
 use crate::tokens::{put_value, read_value};
 use dwc_base::{FilePos, SymbolId};
-use dwc_clif::{CfaUnwindInfo, CompiledFunctionMetadata, InstructionAddressMap, ValueLabelsRanges};
+use dwc_clif::{
+    CfaUnwindInfo, CompiledFunctionMetadata, InstructionAddressMap, InstructionMaps,
+    ValueLabelsRanges,
+};
 use json::{Reader, Scratch, Token};
 use serde_json::{Map, Value};
 use std::alloc::Global;
@@ -65,18 +68,19 @@ fn read_entry(reader: &mut Reader<'_>, depth: usize) -> Result<InstructionAddres
     })
 }
 
-// The entries of a function.
+// The entries of a function. They are read into room that is used again for each function.
 fn read_entries(
     alloc: Global,
     reader: &mut Reader<'_>,
     depth: usize,
-) -> Result<Vec<InstructionAddressMap>, Stop>
+    room: &mut InstructionMaps,
+) -> Result<InstructionMaps, Stop>
     requires { 1 < depth }
-    ensures told { IfOk result (λ es. Tells depth entries_of reader.old (map entry_view es.items) reader.new) }
+    ensures told { IfOk result (λ es. Tells depth entries_of reader.old es reader.new) }
     ensures shorter { OnOk result (length reader.new < length reader.old) }
 {
     begin_list(reader)?;
-    entries_inside(alloc, reader, depth - 1)
+    entries_inside(alloc, reader, depth - 1, room)
 }
 
 // The entries of a function, behind the bracket that opens their list.
@@ -84,18 +88,18 @@ fn entries_inside(
     alloc: Global,
     reader: &mut Reader<'_>,
     depth: usize,
-) -> Result<Vec<InstructionAddressMap>, Stop>
+    room: &mut InstructionMaps,
+) -> Result<InstructionMaps, Stop>
     requires { 0 < depth }
-    ensures told { IfOk result (λ es. TellsItems depth (pair_of u32_of source_of) reader.old (map entry_view es.items) reader.new) }
+    ensures told { IfOk result (λ es. TellsItems depth (pair_of u32_of source_of) reader.old es reader.new) }
     ensures shorter { OnOk result (length reader.new < length reader.old) }
 {
-    let mut entries = Vec::new(alloc);
+    room.clear();
     'items: while !reader.take_end_array() {
         let entry = read_entry(reader, depth)?;
-        entries.push(entry)?;
+        room.push(entry)?;
     }
-    entries.shrink_to_fit();
-    Ok(entries)
+    Ok(room.compact(alloc)?)
 }
 
 // Reads the value of a field and puts it among others.
@@ -117,7 +121,7 @@ fn read_field(
 #[derive(Drop)]
 struct FunctionParts {
     fields: Map<String, Value>,
-    entries: Vec<InstructionAddressMap>,
+    entries: InstructionMaps,
     labels: ValueLabelsRanges,
     frame: Option<CfaUnwindInfo>,
 }
@@ -127,9 +131,10 @@ fn function_members(
     alloc: Global,
     reader: &mut Reader<'_>,
     depth: usize,
+    room: &mut InstructionMaps,
 ) -> Result<FunctionParts, Stop>
     requires { 3 < depth }
-    ensures told { IfOk result (λ p. TellsFunction depth reader.old (members_view p.fields.entries) (map entry_view p.entries.items) p.labels (option_map description_view p.frame) reader.new) }
+    ensures told { IfOk result (λ p. TellsFunction depth reader.old (members_view p.fields.entries) p.entries p.labels (option_map description_view p.frame) reader.new) }
     ensures shorter { OnOk result (length reader.new < length reader.old) }
 {
     let mut fields = Map::new(alloc);
@@ -138,7 +143,7 @@ fn function_members(
     let mut frame = None;
     'members: while let Some(name) = reader.next_key()? {
         match name {
-            "map" => entries = Some(read_entries(alloc, reader, depth)?),
+            "map" => entries = Some(read_entries(alloc, reader, depth, room)?),
             "labels" => labels = read_labels(alloc, reader, depth)?,
             "frame" => frame = read_frame(alloc, reader, depth)?,
             _ => read_field(alloc, reader, depth, name, &mut fields)?,
@@ -159,6 +164,7 @@ fn read_function(
     alloc: Global,
     reader: &mut Reader<'_>,
     depth: usize,
+    room: &mut InstructionMaps,
 ) -> Result<(Option<SymbolId>, CompiledFunctionMetadata), Stop>
     requires { 4 < depth }
     ensures told { IfOk result (λ f. Tells depth map_function_of reader.old (function_view f) reader.new) }
@@ -171,7 +177,7 @@ fn read_function(
         entries,
         labels,
         frame,
-    } = function_members(alloc, reader, depth - 1)?;
+    } = function_members(alloc, reader, depth - 1, room)?;
     match function_with(&fields, entries, labels, frame) {
         Some(function) => Ok(function),
         None => Err(Stop::Unusual),
@@ -182,6 +188,7 @@ fn read_functions(
     alloc: Global,
     reader: &mut Reader<'_>,
     depth: usize,
+    room: &mut InstructionMaps,
 ) -> Result<Vec<(Option<SymbolId>, CompiledFunctionMetadata)>, Stop>
     requires { 5 < depth }
     ensures told { IfOk result (λ fs. Tells depth functions_of reader.old (map function_view fs.items) reader.new) }
@@ -189,7 +196,7 @@ fn read_functions(
     ensures shorter { OnOk result (length reader.new < length reader.old) }
 {
     begin_list(reader)?;
-    functions_inside(alloc, reader, depth - 1)
+    functions_inside(alloc, reader, depth - 1, room)
 }
 
 // The functions of a module, behind the bracket that opens their list.
@@ -197,6 +204,7 @@ fn functions_inside(
     alloc: Global,
     reader: &mut Reader<'_>,
     depth: usize,
+    room: &mut InstructionMaps,
 ) -> Result<Vec<(Option<SymbolId>, CompiledFunctionMetadata)>, Stop>
     requires { 4 < depth }
     ensures told { IfOk result (λ fs. TellsItems depth map_function_of reader.old (map function_view fs.items) reader.new) }
@@ -205,7 +213,7 @@ fn functions_inside(
 {
     let mut functions = Vec::new(alloc);
     'items: while !reader.take_end_array() {
-        let function = read_function(alloc, reader, depth)?;
+        let function = read_function(alloc, reader, depth, room)?;
         functions.push(function)?;
     }
     Ok(functions)
@@ -216,6 +224,7 @@ fn module_members(
     alloc: Global,
     reader: &mut Reader<'_>,
     depth: usize,
+    room: &mut InstructionMaps,
 ) -> Result<
     (
         Map<String, Value>,
@@ -232,7 +241,7 @@ fn module_members(
     let mut functions = None;
     'members: while let Some(name) = reader.next_key()? {
         if name == "functions" {
-            functions = Some(read_functions(alloc, reader, depth)?);
+            functions = Some(read_functions(alloc, reader, depth, room)?);
         } else {
             read_field(alloc, reader, depth, name, &mut fields)?;
         }
@@ -243,14 +252,19 @@ fn module_members(
     }
 }
 
-fn read_module(alloc: Global, reader: &mut Reader<'_>, depth: usize) -> Result<MapModule, Stop>
+fn read_module(
+    alloc: Global,
+    reader: &mut Reader<'_>,
+    depth: usize,
+    room: &mut InstructionMaps,
+) -> Result<MapModule, Stop>
     requires { 6 < depth }
     ensures told { IfOk result (λ m. Tells depth map_module_of reader.old (module_view m) reader.new) }
     ensures sources { IfOk result (λ m. HaveOneSource m.functions.items) }
     ensures shorter { OnOk result (length reader.new < length reader.old) }
 {
     begin_object(reader)?;
-    let (fields, functions) = module_members(alloc, reader, depth - 1)?;
+    let (fields, functions) = module_members(alloc, reader, depth - 1, room)?;
     match module_from(alloc, &fields, functions)? {
         Some(module) => Ok(module),
         None => Err(Stop::Unusual),
@@ -261,6 +275,7 @@ fn read_modules(
     alloc: Global,
     reader: &mut Reader<'_>,
     depth: usize,
+    room: &mut InstructionMaps,
 ) -> Result<Vec<MapModule>, Stop>
     requires { 7 < depth }
     ensures told { IfOk result (λ ms. Tells depth modules_of reader.old (map module_view ms.items) reader.new) }
@@ -268,7 +283,7 @@ fn read_modules(
     ensures shorter { OnOk result (length reader.new < length reader.old) }
 {
     begin_list(reader)?;
-    modules_inside(alloc, reader, depth - 1)
+    modules_inside(alloc, reader, depth - 1, room)
 }
 
 // The modules of a map, behind the bracket that opens their list.
@@ -276,6 +291,7 @@ fn modules_inside(
     alloc: Global,
     reader: &mut Reader<'_>,
     depth: usize,
+    room: &mut InstructionMaps,
 ) -> Result<Vec<MapModule>, Stop>
     requires { 6 < depth }
     ensures told { IfOk result (λ ms. TellsItems depth map_module_of reader.old (map module_view ms.items) reader.new) }
@@ -284,7 +300,7 @@ fn modules_inside(
 {
     let mut modules = Vec::new(alloc);
     'items: while !reader.take_end_array() {
-        let module = read_module(alloc, reader, depth)?;
+        let module = read_module(alloc, reader, depth, room)?;
         modules.push(module)?;
     }
     Ok(modules)
@@ -295,6 +311,7 @@ fn map_members(
     alloc: Global,
     reader: &mut Reader<'_>,
     depth: usize,
+    room: &mut InstructionMaps,
 ) -> Result<(Map<String, Value>, Vec<MapModule>), Stop>
     requires { 7 < depth }
     ensures told { IfOk result (λ r. TellsMembers depth (codes "modules") modules_of reader.old (members_view r.0.entries) (map module_view r.1.items) reader.new) }
@@ -305,7 +322,7 @@ fn map_members(
     let mut modules = None;
     'members: while let Some(name) = reader.next_key()? {
         if name == "modules" {
-            modules = Some(read_modules(alloc, reader, depth)?);
+            modules = Some(read_modules(alloc, reader, depth, room)?);
         } else {
             read_field(alloc, reader, depth, name, &mut fields)?;
         }
@@ -316,13 +333,18 @@ fn map_members(
     }
 }
 
-fn read_map(alloc: Global, reader: &mut Reader<'_>, depth: usize) -> Result<MapFile, Stop>
+fn read_map(
+    alloc: Global,
+    reader: &mut Reader<'_>,
+    depth: usize,
+    room: &mut InstructionMaps,
+) -> Result<MapFile, Stop>
     requires { 8 < depth }
     ensures told { IfOk result (λ m. Tells depth map_in reader.old (map_file_view m) reader.new) }
     ensures sources { IfOk result (λ m. ModulesHaveOneSource m.modules.items) }
 {
     begin_object(reader)?;
-    let (fields, modules) = map_members(alloc, reader, depth - 1)?;
+    let (fields, modules) = map_members(alloc, reader, depth - 1, room)?;
     match map_from(alloc, &fields, modules)? {
         Some(map) => Ok(map),
         None => Err(Stop::Unusual),
@@ -339,7 +361,8 @@ pub(crate) fn map_by_tokens(alloc: Global, bytes: &[u8]) -> Result<MapFile, Stop
     };
     let mut scratch = Scratch::new(alloc);
     let mut reader = Reader::new(text, &mut scratch)?;
-    let map = read_map(alloc, &mut reader, DEPTH)?;
+    let mut room = InstructionMaps::new(alloc);
+    let map = read_map(alloc, &mut reader, DEPTH, &mut room)?;
     if reader.next().is_some() {
         return Err(Stop::Unusual);
     }

@@ -2,7 +2,7 @@
 ghost use Rattle.std.specs.Prelude.{ℕ, List, Option, ◌≡◌, map, option_map, option_and_then, IfOk, IfSome};
 ghost use Rattle.serde_json.specs.View.{view, items_view, members_view};
 ghost use Rattle.dwc_base.specs.CallFrames.{FrameDescription};
-ghost use Rattle.dwc_clif.specs.AddressMaps.{entry_view};
+ghost use Rattle.dwc_clif.specs.Gaps.{entry_view};
 ghost use Rattle.dwc_clif.specs.CallFrames.{description_view};
 ghost use Rattle.dwc_clif.specs.ValueLabels.{LabelledRanges};
 ghost use Rattle.dwc_map.specs.MapFile.{function_by, function_in, map_function_of};
@@ -17,7 +17,7 @@ use crate::labels::read_labels;
 use dwc_base::SymbolId;
 use dwc_clif::{
     CfaUnwindInfo, CompiledFunctionMetadata, FunctionAddressMap, InstructionAddressMap,
-    ValueLabelsRanges,
+    InstructionMaps, ValueLabelsRanges,
 };
 use serde_json::{Map, Value};
 use std::alloc::{AllocError, Global};
@@ -61,13 +61,13 @@ fn function_fields(fields: &Map<String, Value>) -> Option<FunctionFields<'_>>
 // A function by its fields.
 fn function_of(
     fields: &FunctionFields<'_>,
-    instructions: Vec<InstructionAddressMap>,
+    instructions: InstructionMaps,
     value_labels_ranges: ValueLabelsRanges,
     cfa_unwind_info: Option<CfaUnwindInfo>,
 ) -> (Option<SymbolId>, CompiledFunctionMetadata)
     requires start { IsPlace fields.now.start }
     requires end { IsPlace fields.now.end }
-    ensures value { function_view result ≡ function_told (map entry_view instructions.items) value_labels_ranges (option_map description_view cfa_unwind_info) fields.now }
+    ensures value { function_view result ≡ function_told instructions value_labels_ranges (option_map description_view cfa_unwind_info) fields.now }
     ensures sources { told_sources result ≡ mapped_sources result }
 {
     let start = place_at(fields.start);
@@ -93,11 +93,11 @@ fn function_of(
 /// A function with these entries, labels and frame, by the other fields of its object; None where one is missing or of the wrong kind.
 pub(crate) fn function_with(
     fields: &Map<String, Value>,
-    instructions: Vec<InstructionAddressMap>,
+    instructions: InstructionMaps,
     labels: ValueLabelsRanges,
     frame: Option<CfaUnwindInfo>,
 ) -> Option<(Option<SymbolId>, CompiledFunctionMetadata)>
-    ensures value { option_map function_view result ≡ function_by (map entry_view instructions.items) labels (option_map description_view frame) (members_view fields.now.entries) }
+    ensures value { option_map function_view result ≡ function_by instructions labels (option_map description_view frame) (members_view fields.now.entries) }
     ensures sources { IfSome result (λ f. told_sources f ≡ mapped_sources f) }
 {
     let fields = function_fields(fields)?;
@@ -108,9 +108,9 @@ pub(crate) fn function_with(
 fn function_from(
     alloc: Global,
     fields: &Map<String, Value>,
-    instructions: Vec<InstructionAddressMap>,
+    instructions: InstructionMaps,
 ) -> Result<Option<(Option<SymbolId>, CompiledFunctionMetadata)>, AllocError>
-    ensures value { IfOk result (λ o. option_map function_view o ≡ function_in (map entry_view instructions.items) (members_view fields.now.entries)) }
+    ensures value { IfOk result (λ o. option_map function_view o ≡ function_in instructions (members_view fields.now.entries)) }
     ensures sources { IfOk result (λ o. IfSome o (λ f. told_sources f ≡ mapped_sources f)) }
 {
     let Some(fields) = function_fields(fields) else {
@@ -139,14 +139,11 @@ fn read_entry(value: &Value) -> Option<InstructionAddressMap>
     })
 }
 
-fn read_entries(
-    alloc: Global,
-    values: &[Value],
-) -> Result<Option<Vec<InstructionAddressMap>>, AllocError>
-    ensures { IfOk result (λ o. option_map (λ v. map entry_view v.items) o
+fn read_entries(alloc: Global, values: &[Value]) -> Result<Option<InstructionMaps>, AllocError>
+    ensures { IfOk result (λ o. o
         ≡ all_items (pair_of u32_of source_of) (items_view values.now)) }
 {
-    let mut entries = Vec::with_capacity(alloc, values.len())?;
+    let mut entries = InstructionMaps::new(alloc);
     for value in values {
         let Some(entry) = read_entry(value) else {
             return Ok(None);

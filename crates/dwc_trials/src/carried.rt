@@ -2,7 +2,7 @@
 ghost use Rattle.std.specs.Prelude.{◌≡◌, [], ◌∷◌, map, All};
 ghost use Rattle.dwc_base.specs.TranslationNames.{HasSortedNames};
 
-use crate::compiled::transform_of;
+use crate::compiled::{functions_of, transform_of};
 use crate::module_file::SMALL;
 use dwc_base::constants::DW_TAG_subprogram;
 use dwc_base::{ModuleTranslation, split_wasm};
@@ -49,7 +49,8 @@ fn kept_of(alloc: Global, modules: &[ModuleTranslation<'_>]) -> Result<Kept, Fai
     requires modules { map (λ m. m.defined_funcs) modules.now ≡ 1 ∷ [] }
     requires sorted { All HasSortedNames modules.now }
 {
-    let transform = transform_of(alloc, modules, (22, 33), &[])?;
+    let functions = functions_of(alloc, (22, 33), &[])?;
+    let transform = transform_of(alloc, modules, &functions)?;
     let units = Units::new(Sections::of_module(&modules[0]));
     Ok(build_dependencies(alloc, units, &transform)?)
 }

@@ -6,8 +6,8 @@ ghost use Rattle.dwc_addr.specs.Compilations.{lists, AreNames};
 use dwc_addr::{AddressTransform, Compilation, LinkageNames, ModuleMemoryOffset};
 use dwc_base::{Endian, FilePos, ModuleTranslation, StaticModuleIndex, SymbolId, Tunables};
 use dwc_clif::{
-    Architecture, CompiledFunctionMetadata, FunctionAddressMap, InstructionAddressMap, TableIsa,
-    ValueLabelsRanges,
+    Architecture, CompiledFunctionMetadata, FunctionAddressMap, InstructionAddressMap,
+    InstructionMaps, TableIsa, ValueLabelsRanges,
 };
 use std::alloc::{AllocError, Global};
 use std::test::Fail;
@@ -34,6 +34,9 @@ fn place(offset: Option<u32>) -> FilePos {
     }
 }
 
+/// The functions of the modules of a compilation.
+pub(crate) type Functions = Vec<Vec<(Option<SymbolId>, CompiledFunctionMetadata)>>;
+
 // A function of 30 bytes whose source begins and ends at places of the file.
 fn compiled(
     alloc: Global,
@@ -42,7 +45,7 @@ fn compiled(
 ) -> Result<CompiledFunctionMetadata, AllocError> {
     let start = place(Some(source.0));
     let end = place(Some(source.1));
-    let mut instructions = Vec::new(alloc);
+    let mut instructions = InstructionMaps::new(alloc);
     for (code_offset, offset) in entries {
         instructions.push(InstructionAddressMap {
             srcloc: place(*offset),
@@ -65,18 +68,33 @@ fn compiled(
     })
 }
 
-// The functions of one module: one, which has a symbol.
-fn functions(
+/// The functions of one module: one, which has a symbol, and whose code, source and entries are these.
+pub(crate) fn functions_of(
     alloc: Global,
-    function: CompiledFunctionMetadata,
-) -> Result<Vec<Vec<(Option<SymbolId>, CompiledFunctionMetadata)>>, AllocError>
+    source: (u32, u32),
+    entries: &[MapEntry],
+) -> Result<Functions, AllocError>
     ensures { IfOk result (λ functions. map length (lists functions.items) ≡ 1 ∷ []) }
 {
     let mut of_module = Vec::new(alloc);
-    of_module.push((Some(SymbolId(0)), function))?;
+    of_module.push((Some(SymbolId(0)), compiled(alloc, source, entries)?))?;
     let mut functions = Vec::new(alloc);
     functions.push(of_module)?;
     Ok(functions)
+}
+
+/// The transform of a module that defines one function, which is compiled.
+pub(crate) fn transform_of<'a>(
+    alloc: Global,
+    modules: &'a [ModuleTranslation<'a>],
+    functions: &'a [Vec<(Option<SymbolId>, CompiledFunctionMetadata)>],
+) -> Result<AddressTransform<'a>, Fail>
+    requires modules { map (λ m. m.defined_funcs) modules.now ≡ 1 ∷ [] }
+    requires functions { map length (lists functions.now) ≡ 1 ∷ [] }
+    requires sorted { All HasSortedNames modules.now }
+{
+    let isa = target(alloc)?;
+    transform_over(alloc, &isa, modules, functions, &TUNABLES, NAMES)
 }
 
 // The transform of a module that defines one function.
@@ -87,7 +105,7 @@ fn transform_over<'a>(
     functions: &'a [Vec<(Option<SymbolId>, CompiledFunctionMetadata)>],
     tunables: &'a Tunables,
     names: LinkageNames<'a>,
-) -> Result<AddressTransform, Fail>
+) -> Result<AddressTransform<'a>, Fail>
     requires modules { map (λ m. m.defined_funcs) modules.now ≡ 1 ∷ [] }
     requires functions { map length (lists functions.now) ≡ 1 ∷ [] }
     requires names { AreNames names.set_memory.now names.resolve_memory.now }
@@ -113,20 +131,4 @@ fn target(alloc: Global) -> Result<TableIsa, AllocError> {
         registers,
         None,
     )
-}
-
-/// The transform of a module that defines one function: the function has 30 bytes, its source begins and ends at places of the
-/// file, and its address map has these entries.
-pub(crate) fn transform_of(
-    alloc: Global,
-    modules: &[ModuleTranslation<'_>],
-    source: (u32, u32),
-    entries: &[MapEntry],
-) -> Result<AddressTransform, Fail>
-    requires modules { map (λ m. m.defined_funcs) modules.now ≡ 1 ∷ [] }
-    requires sorted { All HasSortedNames modules.now }
-{
-    let isa = target(alloc)?;
-    let functions = functions(alloc, compiled(alloc, source, entries)?)?;
-    transform_over(alloc, &isa, modules, &functions, &TUNABLES, NAMES)
 }

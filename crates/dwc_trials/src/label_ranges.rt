@@ -1,6 +1,6 @@
 //! On which native code of a scope values lie at unchanged places, and what expressions become there. The function has 30 bytes, and
 //! is that of one run in `translations`.
-use crate::translations::{ONE_RUN, transform};
+use crate::translations::{ONE_RUN, SmallModule};
 use dwc_addr::{AddressTransform, ModuleMemoryOffset};
 use dwc_base::{Address, Encoding, Endian};
 use dwc_clif::{
@@ -153,7 +153,7 @@ fn gathered(
     alloc: Global,
     scope: &[(u64, u64)],
     needed: &[u32],
-    transform: &AddressTransform,
+    transform: &AddressTransform<'_>,
     frame: Option<&FunctionFrameInfo<'_>>,
 ) -> Result<BuiltValueLabelRanges, Fail> {
     let isa = target(alloc)?;
@@ -173,7 +173,8 @@ fn are_bounded(built: &BuiltValueLabelRanges, wanted: &[(usize, usize)]) -> bool
 #[test]
 fn ranges_of_labels(rt: HostRuntime) -> Result<(), Fail> {
     let alloc = rt.alloc();
-    let transform = transform(alloc, ONE_RUN)?;
+    let module = SmallModule::new(alloc, ONE_RUN)?;
+    let transform = module.transform(alloc)?;
     let labels = labels(alloc, LABELS)?;
     let frame = frame(&labels, NO_MEMORY);
     for (scope, needed, wanted, covers) in &RANGES {
@@ -187,7 +188,8 @@ fn ranges_of_labels(rt: HostRuntime) -> Result<(), Fail> {
 #[test]
 fn a_reversed_range_is_refused(rt: HostRuntime) -> Result<(), Fail> {
     let alloc = rt.alloc();
-    let transform = transform(alloc, ONE_RUN)?;
+    let module = SmallModule::new(alloc, ONE_RUN)?;
+    let transform = module.transform(alloc)?;
     let isa = target(alloc)?;
     let labels = labels(alloc, LABELS)?;
     let frame = frame(&labels, NO_MEMORY);
@@ -409,7 +411,8 @@ fn build(
     memory: ModuleMemoryOffset,
     places: &[Placed],
 ) -> Result<Result<BuiltCompiledExpression, ExprError>, Fail> {
-    let transform = transform(alloc, ONE_RUN)?;
+    let module = SmallModule::new(alloc, ONE_RUN)?;
+    let transform = module.transform(alloc)?;
     let isa = target(alloc)?;
     let labels = labels(alloc, places)?;
     let frame = frame(&labels, memory);

@@ -1,8 +1,12 @@
 //! Wasm offsets and intervals as native code, of a function with one run and of one with two.
-use crate::compiled::{MapEntry, transform_of};
+ghost use Rattle.std.specs.Prelude.{◌≡◌, [], ◌∷◌, map, length, IfOk};
+ghost use Rattle.dwc_base.specs.TranslationNames.{HasSortedNames};
+ghost use Rattle.dwc_addr.specs.Compilations.{lists};
+
+use crate::compiled::{Functions, MapEntry, functions_of, transform_of};
 use crate::module_file::SMALL;
 use dwc_addr::AddressTransform;
-use dwc_base::{Address, split_wasm};
+use dwc_base::{Address, ModuleTranslation, split_wasm};
 use std::alloc::Global;
 use std::slice;
 use std::test::Fail;
@@ -76,13 +80,37 @@ const LENGTHS_OF_TWO_RUNS: [(u64, u64, &[(i64, u64)]); 4] = [
     (0, 20, &[]),
 ];
 
-/// The transform of the small module, whose function has 30 bytes and these entries.
-pub(crate) fn transform(alloc: Global, entries: &[MapEntry]) -> Result<AddressTransform, Fail> {
-    let module = split_wasm(alloc, SMALL)?;
-    if module.defined_funcs != 1 {
-        return Err("not one function".into());
+/// The small module, whose function is compiled.
+#[derive(Drop)]
+pub(crate) struct SmallModule {
+    translation: ModuleTranslation<'static>,
+    functions: Functions,
+    ghost one: { translation.defined_funcs ≡ 1 },
+    ghost listed: { map length (lists functions.items) ≡ 1 ∷ [] },
+}
+
+impl SmallModule {
+    /// The small module, whose function has 30 bytes and these entries.
+    pub(crate) fn new(alloc: Global, entries: &[MapEntry]) -> Result<SmallModule, Fail>
+        ensures { IfOk result (λ m. HasSortedNames m.translation) }
+    {
+        let translation = split_wasm(alloc, SMALL)?;
+        if translation.defined_funcs != 1 {
+            return Err("not one function".into());
+        }
+        let functions = functions_of(alloc, SOURCE, entries)?;
+        Ok(SmallModule {
+            translation,
+            functions,
+        })
     }
-    transform_of(alloc, slice::from_ref(&module), SOURCE, entries)
+
+    /// Its transform.
+    pub(crate) fn transform(&self, alloc: Global) -> Result<AddressTransform<'_>, Fail>
+        requires { HasSortedNames self.now.translation }
+    {
+        transform_of(alloc, slice::from_ref(&self.translation), &self.functions)
+    }
 }
 
 fn address(addend: i64) -> Address {
@@ -91,7 +119,8 @@ fn address(addend: i64) -> Address {
 
 #[test]
 fn addresses_of_one_run(rt: HostRuntime) -> Result<(), Fail> {
-    let transform = transform(rt.alloc(), ONE_RUN)?;
+    let module = SmallModule::new(rt.alloc(), ONE_RUN)?;
+    let transform = module.transform(rt.alloc())?;
     for (offset, wanted) in &OF_ONE_RUN {
         assert_eq!(rt;
             transform.can_translate_address(*offset),
@@ -109,7 +138,8 @@ fn addresses_of_one_run(rt: HostRuntime) -> Result<(), Fail> {
 
 #[test]
 fn addresses_of_two_runs(rt: HostRuntime) -> Result<(), Fail> {
-    let transform = transform(rt.alloc(), TWO_RUNS)?;
+    let module = SmallModule::new(rt.alloc(), TWO_RUNS)?;
+    let transform = module.transform(rt.alloc())?;
     for (offset, wanted) in &OF_TWO_RUNS {
         assert_eq!(rt;
             transform.can_translate_address(*offset),
@@ -127,7 +157,7 @@ fn addresses_of_two_runs(rt: HostRuntime) -> Result<(), Fail> {
 
 // Whether an interval becomes these native ranges.
 fn becomes(
-    transform: &AddressTransform,
+    transform: &AddressTransform<'_>,
     start: u64,
     end: u64,
     wanted: Option<&[(usize, usize)]>,
@@ -141,7 +171,8 @@ fn becomes(
 
 #[test]
 fn ranges_of_one_run(rt: HostRuntime) -> Result<(), Fail> {
-    let transform = transform(rt.alloc(), ONE_RUN)?;
+    let module = SmallModule::new(rt.alloc(), ONE_RUN)?;
+    let transform = module.transform(rt.alloc())?;
     for (start, end, wanted) in &RANGES_OF_ONE_RUN {
         assert!(rt; becomes(&transform, *start, *end, *wanted), "{start} {end}");
     }
@@ -150,7 +181,8 @@ fn ranges_of_one_run(rt: HostRuntime) -> Result<(), Fail> {
 
 #[test]
 fn ranges_of_two_runs(rt: HostRuntime) -> Result<(), Fail> {
-    let transform = transform(rt.alloc(), TWO_RUNS)?;
+    let module = SmallModule::new(rt.alloc(), TWO_RUNS)?;
+    let transform = module.transform(rt.alloc())?;
     for (start, end, wanted) in &RANGES_OF_TWO_RUNS {
         assert!(rt; becomes(&transform, *start, *end, *wanted), "{start} {end}");
     }
@@ -159,7 +191,8 @@ fn ranges_of_two_runs(rt: HostRuntime) -> Result<(), Fail> {
 
 #[test]
 fn ranges_have_lengths(rt: HostRuntime) -> Result<(), Fail> {
-    let transform = transform(rt.alloc(), TWO_RUNS)?;
+    let module = SmallModule::new(rt.alloc(), TWO_RUNS)?;
+    let transform = module.transform(rt.alloc())?;
     for (start, end, wanted) in &LENGTHS_OF_TWO_RUNS {
         let mut ranges = transform.translate_ranges(*start, *end);
         for (begin, length) in *wanted {

@@ -8,26 +8,20 @@ overflow_sub-behind c =
     let less : c.args.number < length m.later_runs.items = omega (arith, m.later_runs.ok, c.requires, c.len.ensures, c.if-number-len.false) in
     omega (arith, (end-inside m c.args.number c.index-behind.result.now less c.index-behind.ensures).0)
 
-pub index-last-requires : goal.index-last-requires
-index-last-requires c =
+pub at-last-requires : goal.at-last-requires
+at-last-requires c =
     let m = c.args.function.now in
     let less : c.args.number < length m.later_runs.items = omega (arith, m.later_runs.ok, c.requires, c.len.ensures, c.if-number-len.false) in
-    omega (arith, m.addresses.ok, (end-inside m c.args.number c.index-behind.result.now less c.index-behind.ensures).1)
+    omega (arith, (end-inside m c.args.number c.index-behind.result.now less c.index-behind.ensures).1)
 
-pub index-requires : goal.index-requires
-index-requires c =
+pub at-native-requires : goal.at-native-requires
+at-native-requires c =
     let m = c.args.function.now in
     let less : c.args.number < length m.later_runs.items = omega (arith, m.later_runs.ok, c.requires, c.len.ensures, c.if-number-len.false) in
-    omega (arith, m.addresses.ok, (end-inside m c.args.number c.index-behind.result.now less c.index-behind.ensures).1)
+    omega (arith, (end-inside m c.args.number c.index-behind.result.now less c.index-behind.ensures).1)
 
 pub returns-clause-end : goal.returns-clause-end
 returns-clause-end c =
     let m = c.args.function.now in
     let less : c.args.number < length m.later_runs.items = omega (arith, m.later_runs.ok, c.requires, c.len.ensures, c.if-number-len.false) in
-    rw c.from.ensures (end-is m c.args.number c.index-behind.result.now c.index-last.result.now c.index.result.now less c.index-behind.ensures c.index-last.ensures c.index.ensures)
-
-pub returns-clause-low : goal.returns-clause-low
-returns-clause-low c =
-    let m = c.args.function.now in
-    let less : c.args.number < length m.later_runs.items = omega (arith, m.later_runs.ok, c.requires, c.len.ensures, c.if-number-len.false) in
-    rw c.index.ensures (m.low c.index-behind.result.now c.index.result.now (end-inside m c.args.number c.index-behind.result.now less c.index-behind.ensures).1)
+    rw c.from.ensures (end-is m c.args.number c.index-behind.result.now c.at-last.result c.at-native.result less c.index-behind.ensures (c.at-last.ensures c.at-last.result) (c.at-native.ensures c.at-native.result))

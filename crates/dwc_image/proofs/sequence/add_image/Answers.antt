@@ -10,14 +10,14 @@ pub add_rows-requires-clause-fits : goal.add_rows-requires-clause-fits
 add_rows-requires-clause-fits c =
     let m = c.in-Some-func_at.function.now in
     let order = function_at-among IsOrdered c.args.transform.now c.in-Constant.start _ c.requires.functions (sym c.in-Some-func_at.ensures.found) in
-    rw c.deref.ensures.value (image-fits c.in-Constant.start c.args.rows.now m order (length c.args.program.now.files) c.requires.each m.short)
+    image-fits c.in-Constant.start c.args.rows.now m order (length c.args.program.now.files) c.requires.each m.short
 
 pub returns-then-is_none-clause-added : goal.returns-then-is_none-clause-added
 returns-then-is_none-clause-added c =
     let rows = c.args.rows.now in
     let m = c.in-Some-func_at.function.now in
     let after = c.add_rows.new.program in
-    let image = c.in_ok-found.ensures.rows ∙ ap (λ xs. image_rows rows c.in-Constant.start None (map recorded_view xs)) c.deref.ensures.value in
+    let image = c.in_ok-found.ensures.rows in
     let grown = grown-none c.unwrap-symbol.result c.in_ok-found.found c.args.program.now after c.if-is_none.ensures c.in_ok-found.ensures.begun in
     let none = sequence-none _ (ap (λ q. length (begun_rows q)) grown.begun) in
     let written = sequence-found c.args.transform.now c.in-Constant.start rows (begun_rows after.begun) m (sym c.in-Some-func_at.ensures.found) image in
@@ -28,7 +28,7 @@ end_sequence-requires c =
     let rows = c.args.rows.now in
     let m = c.in-Some-func_at.function.now in
     let after = c.add_rows.new.program in
-    let image = c.in_ok-found.ensures.rows ∙ ap (λ xs. image_rows rows c.in-Constant.start None (map recorded_view xs)) c.deref.ensures.value in
+    let image = c.in_ok-found.ensures.rows in
     let order = function_at-among IsOrdered c.args.transform.now c.in-Constant.start _ c.requires.functions (sym c.in-Some-func_at.ensures.found) in
     let grown = grown-some c.unwrap-symbol.result c.in_ok-found.found c.args.program.now after c.if-is_none.ensures c.in_ok-found.ensures.begun in
     can-end c.unwrap-symbol.result 0 after m.len grown.begun (rw image (image-last c.in-Constant.start rows m order)) m.short
@@ -38,7 +38,7 @@ returns-clause-added c =
     let rows = c.args.rows.now in
     let m = c.in-Some-func_at.function.now in
     let after = c.add_rows.new.program in
-    let image = c.in_ok-found.ensures.rows ∙ ap (λ xs. image_rows rows c.in-Constant.start None (map recorded_view xs)) c.deref.ensures.value in
+    let image = c.in_ok-found.ensures.rows in
     let grown = grown-some c.unwrap-symbol.result c.in_ok-found.found c.args.program.now after c.if-is_none.ensures c.in_ok-found.ensures.begun in
     let written = sequence-found c.args.transform.now c.in-Constant.start rows (begun_rows after.begun) m (sym c.in-Some-func_at.ensures.found) image in
     let some = sequence-some _ (begun-some c.unwrap-symbol.result 0 after.begun grown.begun) in

@@ -1,8 +1,7 @@
-use Rattle.std.proofs.Common.{◌≡◌, ◌<◌, codes, map, length, Some, None, option_map, sym, subst, arith}
+use Rattle.std.proofs.Common.{◌≡◌, ◌<◌, codes, length, Some, None, option_map, sym, subst, arith}
 use Rattle.std.specs.FinMap as finite
 use Rattle.json.specs.Json.{read_key}
 use Rattle.serde_json.specs.View.{members_view}
-use Rattle.dwc_clif.specs.AddressMaps.{entry_view}
 use Rattle.dwc_clif.specs.CallFrames.{description_view}
 use Rattle.dwc_map.proofs.TokenFunctions.{FunctionAlong, function-entries, function-field, function-frame, function-labels, function-over, function-start}
 use Rattle.dwc_map.proofs.by_tokens.function_members.Goals as goal
@@ -22,7 +21,7 @@ members-preserved-then-str_eq c =
     let done = c.in_ok-read_entries-in-map in
     let key : read_key l.reader ≡ Some (Some (codes "map"), behind) = grind arith in
     let less : length r < length l.reader = grind arith in
-    function-entries c.args.depth c.args.reader.now l.reader behind r (members_view l.fields.entries) (option_map (λ xs. map entry_view xs.items) l.entries) l.labels (option_map description_view l.frame) less l.invariant (map entry_view done.field-0.items) key done.ensures.told
+    function-entries c.args.depth c.args.reader.now l.reader behind r (members_view l.fields.entries) l.entries l.labels (option_map description_view l.frame) less l.invariant done.field-0 key done.ensures.told
 
 pub members-preserved-then-str_eq-2 : goal.members-preserved-then-str_eq-2
 members-preserved-then-str_eq-2 c =
@@ -32,7 +31,7 @@ members-preserved-then-str_eq-2 c =
     let done = c.in_ok-labels-in-labels in
     let key : read_key l.reader ≡ Some (Some (codes "labels"), behind) = grind arith in
     let less : length r < length l.reader = grind arith in
-    function-labels c.args.depth c.args.reader.now l.reader behind r (members_view l.fields.entries) (option_map (λ xs. map entry_view xs.items) l.entries) l.labels (option_map description_view l.frame) less l.invariant done.labels key done.ensures.told
+    function-labels c.args.depth c.args.reader.now l.reader behind r (members_view l.fields.entries) l.entries l.labels (option_map description_view l.frame) less l.invariant done.labels key done.ensures.told
 
 pub members-preserved-then-str_eq-3 : goal.members-preserved-then-str_eq-3
 members-preserved-then-str_eq-3 c =
@@ -42,7 +41,7 @@ members-preserved-then-str_eq-3 c =
     let done = c.in_ok-frame-in-frame in
     let key : read_key l.reader ≡ Some (Some (codes "frame"), behind) = grind arith in
     let less : length r < length l.reader = grind arith in
-    function-frame c.args.depth c.args.reader.now l.reader behind r (members_view l.fields.entries) (option_map (λ xs. map entry_view xs.items) l.entries) l.labels (option_map description_view l.frame) less l.invariant (option_map description_view done.frame) key done.ensures.told
+    function-frame c.args.depth c.args.reader.now l.reader behind r (members_view l.fields.entries) l.entries l.labels (option_map description_view l.frame) less l.invariant (option_map description_view done.frame) key done.ensures.told
 
 pub members-preserved : goal.members-preserved
 members-preserved c =
@@ -53,7 +52,7 @@ members-preserved c =
     let key : read_key l.reader ≡ Some (Some name, behind) = grind arith in
     let less : length r < length l.reader = grind arith in
     let no = c.in_default-name in
-    function-field c.args.depth c.args.reader.now l.reader behind r (members_view l.fields.entries) (option_map (λ xs. map entry_view xs.items) l.entries) l.labels (option_map description_view l.frame) less l.invariant name (members_view c.read_field.new.fields.entries) key no.not-map no.not-labels no.not-frame c.in_ok-read_field-in_default-name.ensures.puts
+    function-field c.args.depth c.args.reader.now l.reader behind r (members_view l.fields.entries) l.entries l.labels (option_map description_view l.frame) less l.invariant name (members_view c.read_field.new.fields.entries) key no.not-map no.not-labels no.not-frame c.in_ok-read_field-in_default-name.ensures.puts
 
 pub returns-in-Some-entries-clause-told : goal.returns-in-Some-entries-clause-told
 returns-in-Some-entries-clause-told c =
@@ -61,5 +60,5 @@ returns-in-Some-entries-clause-told c =
     let r = c.next_key.new.self in
     let over : read_key l.reader ≡ Some (None, r) = grind arith in
     let frame = option_map description_view l.frame in
-    function-over c.args.depth c.args.reader.now l.reader r (members_view l.fields.entries) (map entry_view (c.in-Some-entries.entries).items) l.labels frame over
-    (subst (λ o. FunctionAlong c.args.depth c.args.reader.now l.reader (members_view l.fields.entries) (option_map (λ xs. map entry_view xs.items) o) l.labels frame) c.in-Some-entries.is l.invariant)
+    function-over c.args.depth c.args.reader.now l.reader r (members_view l.fields.entries) c.in-Some-entries.entries l.labels frame over
+    (subst (λ o. FunctionAlong c.args.depth c.args.reader.now l.reader (members_view l.fields.entries) o l.labels frame) c.in-Some-entries.is l.invariant)

@@ -8,7 +8,7 @@ const SHORT: usize = 16;
 /// functions are of few sizes, and when they end, nearly all that they held is one piece again: an allocator sets freed blocks of each size
 /// aside, and each of these parts what stands around it.
 #[inline(never)]
-pub(crate) fn capacity(count: usize, least: usize) -> usize
+pub fn capacity(count: usize, least: usize) -> usize
     requires { least ≤ 64 }
     ensures { count ≤ result }
 {
