@@ -5,7 +5,8 @@
 
 PROGRAM is crates/dwarfcarry/out/dwarfcarry unless it is given; the kinds are those of make_modules.py. A row shows the status and
 the best of the rounds (one alone where it takes ten seconds): seconds, MB of wasm and of map a second, the peak memory, and the time
-beside that of the row above of the same kind, with the ratio of their sizes, which linear work keeps to. With --real the pairs
+beside that of the row above of the same kind, with the ratio of their sizes, which work that is linear in the module keeps to, and that of
+all bytes that are read and written: where names hold names, what is written grows faster than the module. With --real the pairs
 NAME.json and NAME.wasm of a folder are run too. The files that are made stand in a temporary folder, which is removed. It asks for GNU
 time at /usr/bin/time.
 """
@@ -70,7 +71,7 @@ def main():
     parser.add_argument("--real")
     make_modules.add_sizes(parser)
     words = parser.parse_args()
-    titles = ["status", "wasm MB", "map MB", "out MB", "seconds", "wasm MB/s", "map MB/s", "peak MB", "times", "size"]
+    titles = ["status", "wasm MB", "map MB", "out MB", "seconds", "wasm MB/s", "map MB/s", "peak MB", "times", "size", "bytes"]
     print_row("module", titles)
     with tempfile.TemporaryDirectory() as folder:
         before = {}
@@ -81,8 +82,8 @@ def main():
             cells = [str(status)] + [f"{size / MB:.2f}" for size in sizes] + [f"{seconds:.3f}"]
             cells += [f"{size / MB / seconds:.1f}" for size in sizes[:2]] + [f"{peak / MB:.1f}"]
             if kind in before:
-                cells += [f"{seconds / before[kind][0]:.2f}", f"{number / before[kind][1]:.2f}"]
-            before[kind] = (seconds, number)
+                cells += [f"{it / other:.2f}" for it, other in zip((seconds, number, sum(sizes)), before[kind])]
+            before[kind] = (seconds, number, sum(sizes))
             print_row(name, cells)
 
 
