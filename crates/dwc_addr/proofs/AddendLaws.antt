@@ -7,10 +7,10 @@ use Rattle.std.specs.List.{AllByRecursion, filter, find}
 use Rattle.std.proofs.lemmas.Bool.{ltb-false}
 use Rattle.std.proofs.lemmas.List.Elements.{All-nil, All-cons}
 use Rattle.dwc_base.specs.declared.records.Address.TheVariants.{Symbol}
-use Rattle.dwc_base.specs.Functions.{Function, function_of, function_at, with_symbol, owner, is_unlinked}
+use Rattle.dwc_native.specs.Functions.{Function, function_of, function_at, with_symbol, owner, is_unlinked}
 use Rattle.dwc_base.specs.Wasm.{last_of}
-use Rattle.dwc_base.specs.Runs.{Position, Run, runs, start_in, has_offset, native_offset, native_ranges, native_in_function, native, translated, interval_of, as_intervals, Ascend, HasGoodMap}
-use Rattle.dwc_base.specs.Addends.{is_long, longest_function, HaveAddends, IsSaid, AreSaid, TranslationsAreSaid}
+use Rattle.dwc_native.specs.Runs.{Position, Run, runs, start_in, has_offset, native_offset, native_ranges, native_in_function, native, translated, interval_of, as_intervals, Ascend, HasGoodMap}
+use Rattle.dwc_native.specs.Addends.{is_long, longest_function, HaveAddends, IsSaid, AreSaid, TranslationsAreSaid}
 use Rattle.dwc_addr.proofs.AscendLaws.{EntriesTo, Inside, Holds, RunSpan, found-holds, passing-hold, last-holds, good-runs, good-to, ranges-ascend_in}
 use Rattle.dwc_addr.proofs.OwnerLaws.{function_at-among}
 

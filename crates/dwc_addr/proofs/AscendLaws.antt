@@ -6,9 +6,9 @@ use Rattle.std.specs.List.{AllByRecursion, filter, find}
 use Rattle.std.proofs.lemmas.Bool.{ltb-true, ltb-false}
 use Rattle.dwc_base.specs.declared.records.MapFault.{MapFault}
 use Rattle.dwc_base.specs.declared.records.MapFault.TheVariants.{CodeFalls, CodePastBody, SourceOutside}
-use Rattle.dwc_base.specs.Functions.{AddressMap, Function, map_fault, entry_fault, is_source_within, function_of, function_at, wasm_entry}
+use Rattle.dwc_native.specs.Functions.{AddressMap, Function, map_fault, entry_fault, is_source_within, function_of, function_at, wasm_entry}
 use Rattle.dwc_base.specs.Wasm.{last_of}
-use Rattle.dwc_base.specs.Runs.{Position, Run, native_end, source_positions, in_front, pieces, has_code, joined, joined_positions, first_native, runs_from, runs, start_in, end_in, meets, is_range, native_ranges, native_in_function, as_intervals, native, Ascend, AscendInOne, HasGoodMap, TranslationsAscend}
+use Rattle.dwc_native.specs.Runs.{Position, Run, native_end, source_positions, in_front, pieces, has_code, joined, joined_positions, first_native, runs_from, runs, start_in, end_in, meets, is_range, native_ranges, native_in_function, as_intervals, native, Ascend, AscendInOne, HasGoodMap, TranslationsAscend}
 use Rattle.dwc_addr.proofs.EntryLaws.{good-so}
 use Rattle.dwc_addr.proofs.OwnerLaws.{function_at-among}
 

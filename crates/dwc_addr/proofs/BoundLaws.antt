@@ -4,7 +4,7 @@ use Rattle.std.specs.Prelude.{nat_lt, Bool, true, false, ◌&&◌, ◌⊎◌}
 use Rattle.std.specs.List.{filter_map, cons_option}
 use Rattle.std.proofs.lemmas.Bool.{lt-ltb, le-ltb, lt-leb, cases_lt}
 use Rattle.std.proofs.lemmas.List.{get_or_append_left, get_or_push, length-append}
-use Rattle.dwc_base.specs.Runs as base
+use Rattle.dwc_native.specs.Runs as base
 use Rattle.dwc_addr.specs.declared.bounds.Bounds.{Bounds}
 use Rattle.dwc_addr.specs.declared.function_map.FunctionMap.{FunctionMap}
 use Rattle.dwc_addr.specs.RunBounds.{no_bounds, wasm_begin, wasm_end, Encloses, AreRunBounds, AreBlockBounds, IsApart}

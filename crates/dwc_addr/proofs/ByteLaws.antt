@@ -5,8 +5,8 @@ use Rattle.std.specs.Option.{option_or, unwrap_or}
 use Rattle.std.specs.List.{AllByRecursion, filter, find}
 use Rattle.std.proofs.lemmas.Bool.{lt-ltb, le-ltb, lt-leb, ltb-true, leb-true, leb-false, eqb-true, eq-eqb, ne_eqb, cases_lt}
 use Rattle.dwc_base.specs.Wasm.{last_of}
-use Rattle.dwc_base.specs.Runs.{Position, Run, native_end, source_positions, in_front, pieces, joined, joined_positions, first_native, start_in, end_in}
-use Rattle.dwc_base.specs.ScopesCarried.{entry_for_byte}
+use Rattle.dwc_native.specs.Runs.{Position, Run, native_end, source_positions, in_front, pieces, joined, joined_positions, first_native, start_in, end_in}
+use Rattle.dwc_native.specs.ScopesKept.{entry_for_byte}
 use Rattle.dwc_addr.specs.Rising.{RisesFrom}
 use Rattle.dwc_addr.proofs.AscendLaws.{Span, Spans, EntriesTo, Inside, Holds, entries-first, span-through, span-inside, last-holds}
 

@@ -7,7 +7,7 @@ use Rattle.std.proofs.lemmas.Bool.{ltb-false, le-leb, lt-leb, cases_lt}
 use Rattle.std.proofs.lemmas.List.Elements.{All-nil, All-cons}
 use Rattle.dwc_base.specs.declared.records.MapFault.{MapFault}
 use Rattle.dwc_base.specs.declared.records.MapFault.TheVariants.{BodyOffset, BeforeCodeSection, Reversed, CodeFalls, CodePastBody, SourceOutside}
-use Rattle.dwc_base.specs.Functions.{AddressMap, Recorded, recorded_entry, wasm_entry, map_fault, bounds_fault, entry_fault, is_source_within}
+use Rattle.dwc_native.specs.Functions.{AddressMap, Recorded, recorded_entry, wasm_entry, map_fault, bounds_fault, entry_fault, is_source_within}
 use Rattle.dwc_clif.specs.declared.instruction_maps.Gap.{Gap}
 use Rattle.dwc_clif.specs.declared.instruction_maps.InstructionSource.{InstructionSource}
 use Rattle.dwc_clif.specs.Gaps.{gaps_of, merged, source_view}

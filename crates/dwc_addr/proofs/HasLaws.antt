@@ -3,8 +3,8 @@ use Rattle.std.proofs.Common.{◌≡◌, ℕ, ◌<◌, ◌≤◌, refl, arith, L
 use Rattle.std.specs.Prelude.{◌⊎◌, nat_lt, nat_le, ◌&&◌, ◌||◌, if◌then◌else◌, Bool, true, false}
 use Rattle.std.specs.List.{list_any}
 use Rattle.std.proofs.lemmas.Bool.{ltb-true, le-leb, cases_lt}
-use Rattle.dwc_base.specs.Functions.{Function}
-use Rattle.dwc_base.specs.Runs.{Position, source_positions, in_front, pieces, first_wasm, last_wasm, first_native, runs_from, runs, has_offset, RunsHaveAll}
+use Rattle.dwc_native.specs.Functions.{Function}
+use Rattle.dwc_native.specs.Runs.{Position, source_positions, in_front, pieces, first_wasm, last_wasm, first_native, runs_from, runs, has_offset, RunsHaveAll}
 
 -- each piece but the first begins below where the one before ends
 abbrev Falls : List (List Position) → Type 0

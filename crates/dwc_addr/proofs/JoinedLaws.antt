@@ -5,7 +5,7 @@ use Rattle.std.specs.Option.{option_or, unwrap_or}
 use Rattle.std.specs.List.{AllByRecursion, filter, find}
 use Rattle.std.proofs.lemmas.Bool.{eq-eqb, ne_eqb, lt-ltb, le-ltb}
 use Rattle.dwc_base.specs.Wasm.{last_of}
-use Rattle.dwc_base.specs.Runs.{Position, has_code, joined, joined_positions}
+use Rattle.dwc_native.specs.Runs.{Position, has_code, joined, joined_positions}
 
 -- ---- what is joined of some positions
 

@@ -6,11 +6,11 @@ use Rattle.std.specs.Option.{unwrap_or}
 use Rattle.std.proofs.lemmas.Bool.{lt-ltb, le-leb, ltb-true, leb-true, eqb-true, eq-eqb}
 use Rattle.std.proofs.lemmas.List.Elements.{All-nil, All-cons, All-head, All-tail, All-contains_itself}
 use Rattle.std.proofs.lemmas.List.Kept.{AllPairs-cons, AllPairs-filter}
-use Rattle.dwc_base.specs.Functions.{AddressMap, Function, map_fault, function_of, functions_of, function_at, with_symbol, owner, is_unlinked}
-use Rattle.dwc_base.specs.Trees.{Interval}
-use Rattle.dwc_base.specs.Runs.{Run, runs, start_in, end_in, meets, is_range, native_ranges, interval_of, native_in_function, as_intervals, native, Ascend, HasGoodMap}
-use Rattle.dwc_base.specs.RangeAttributes.{wasm_interval, native_of_intervals}
-use Rattle.dwc_base.specs.ScopesCarried.{source_of_byte, HasDistinctSources, is_at_or_below, is_behind, cover_byte, IsInSome, IsInOneOf, AreNumbered, TranslationsKeepScopes}
+use Rattle.dwc_native.specs.Functions.{AddressMap, Function, map_fault, function_of, functions_of, function_at, with_symbol, owner, is_unlinked}
+use Rattle.dwc_dwarf.specs.Trees.{Interval}
+use Rattle.dwc_native.specs.Runs.{Run, runs, start_in, end_in, meets, is_range, native_ranges, interval_of, native_in_function, as_intervals, native, Ascend, HasGoodMap}
+use Rattle.dwc_native.specs.ScopesKept.{wasm_interval, native_of_intervals}
+use Rattle.dwc_native.specs.ScopesKept.{source_of_byte, HasDistinctSources, is_at_or_below, is_behind, cover_byte, IsInSome, IsInOneOf, AreNumbered, TranslationsKeepScopes}
 use Rattle.dwc_base.proofs.InLists.{IsIn, at-in, contains-in, in-contains, distinct-same, any-in, in-any, in-filter, filter-in, in-map, map-in, in-flat_map, flat_map-in}
 use Rattle.dwc_addr.specs.Transforms.{first_bad_map}
 use Rattle.dwc_addr.proofs.EntryLaws.{all-good}

@@ -7,7 +7,6 @@ pub mod EntryLaws
 pub mod HasLaws
 pub mod ItemLaws
 pub mod JoinedLaws
-pub mod KeepCases
 pub mod KeepLaws
 pub mod NativeLaws
 pub mod OwnerLaws

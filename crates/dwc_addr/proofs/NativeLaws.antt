@@ -9,7 +9,7 @@ use Rattle.std.proofs.lemmas.List.{length-map, length-drop, length-take-le, get_
 use Rattle.dwc_addr.specs.declared.address_map.AddressMap.{AddressMap}
 use Rattle.dwc_addr.specs.declared.function_map.FunctionMap.{FunctionMap}
 use Rattle.dwc_clif.specs.declared.instruction_maps.Gap.{Gap}
-use Rattle.dwc_base.specs.Runs.{Position}
+use Rattle.dwc_native.specs.Runs.{Position}
 use Rattle.dwc_addr.specs.declared.run.Run.{Run}
 use Rattle.dwc_clif.specs.Gaps.{merged}
 use Rattle.dwc_addr.specs.Rising.{RisesFrom}
@@ -17,7 +17,7 @@ use Rattle.dwc_addr.specs.Runs.{recorded_view}
 use Rattle.dwc_addr.specs.RunViews.{positions_of, positions_in, no_source, IsRunOf}
 use Rattle.dwc_addr.specs.PositionPlaces.{AreBelow, IsCountBelow, IsCountUpTo, start_at, start_or}
 use Rattle.dwc_base.specs.Wasm.{last_of}
-use Rattle.dwc_base.specs.Runs.{joined_positions}
+use Rattle.dwc_native.specs.Runs.{joined_positions}
 use Rattle.dwc_addr.proofs.JoinedLaws.{EndInFront, Parts, start_among, end_among, start-there, start-behind, start-first, start-none as start-none_below, end-there, end-behind, end-last, end-first}
 use Rattle.dwc_addr.proofs.PartLaws.{part_of, parts-at, part-last, all-front, all-behind, in_front-between}
 use Rattle.dwc_addr.proofs.PieceLaws.{recorded_at, no_position}

@@ -5,7 +5,7 @@ use Rattle.std.proofs.lemmas.Bool.{leb-true, le-leb, lt-leb, le-ltb, lt-ltb, ne_
 use Rattle.std.proofs.lemmas.List.Elements.{All-head, All-tail}
 use Rattle.std.proofs.lemmas.Option.{slice_get-get_or}
 use Rattle.std.proofs.Math.ListN.{get_or-map}
-use Rattle.dwc_base.specs.Functions.{Function, owner, owner_with, function_at, with_symbol, is_unlinked}
+use Rattle.dwc_native.specs.Functions.{Function, owner, owner_with, function_at, with_symbol, is_unlinked}
 use Rattle.dwc_addr.specs.declared.function_map.FunctionMap.{FunctionMap}
 use Rattle.dwc_addr.specs.Transforms.{function_view}
 use Rattle.dwc_addr.specs.Starts.{IsOwnerPlace}

@@ -5,7 +5,7 @@ use Rattle.std.specs.List.{AllByRecursion}
 use Rattle.std.proofs.lemmas.List.{drop_more, get_or-take, get_or-drop, length-take-le, length-drop, take-append-drop, drop-drop}
 use Rattle.std.proofs.lemmas.List.Elements.{All-from_get_or, recursion_from_All}
 use Rattle.dwc_base.specs.Wasm.{last_of}
-use Rattle.dwc_base.specs.Runs.{Position}
+use Rattle.dwc_native.specs.Runs.{Position}
 use Rattle.dwc_addr.proofs.JoinedLaws.{EndInFront, Parts}
 use Rattle.dwc_addr.proofs.PieceLaws.{no_position}
 

@@ -5,8 +5,8 @@ use Rattle.std.specs.List.{AllByRecursion}
 use Rattle.std.proofs.lemmas.Bool.{lt-ltb, le-ltb, ltb-false, cases_lt}
 use Rattle.std.proofs.lemmas.List.Elements.{All-nil, All-cons}
 use Rattle.std.proofs.lemmas.List.{drop_more, length-drop, drop_all, get_or-drop, drop-drop}
-use Rattle.dwc_base.specs.Functions.{Function, Recorded}
-use Rattle.dwc_base.specs.Runs.{Position, Run, in_front, pieces, joined_positions, runs_from, first_wasm, last_wasm, first_native}
+use Rattle.dwc_native.specs.Functions.{Function, Recorded}
+use Rattle.dwc_native.specs.Runs.{Position, Run, in_front, pieces, joined_positions, runs_from, first_wasm, last_wasm, first_native}
 use Rattle.dwc_addr.specs.Rising.{RisesFrom}
 use Rattle.dwc_addr.specs.Runs.{run_starts}
 

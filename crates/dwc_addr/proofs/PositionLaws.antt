@@ -4,8 +4,8 @@ use Rattle.std.specs.Prelude.{◌==◌, if◌then◌else◌, option_map, Bool, t
 use Rattle.std.specs.Option.{unwrap_or}
 use Rattle.std.proofs.lemmas.List.{append-nil}
 use Rattle.std.specs.List.{filter, find}
-use Rattle.dwc_base.specs.Functions.{Recorded}
-use Rattle.dwc_base.specs.Runs.{Position, native_end, source_positions}
+use Rattle.dwc_native.specs.Functions.{Recorded}
+use Rattle.dwc_native.specs.Runs.{Position, native_end, source_positions}
 use Rattle.dwc_clif.specs.declared.instruction_maps.Gap.{Gap}
 use Rattle.dwc_clif.specs.Gaps.{gaps_behind, entry_of_source, merged}
 use Rattle.dwc_addr.specs.Rising.{RisesFrom}

@@ -5,8 +5,8 @@ use Rattle.std.specs.List.{AllByRecursion}
 use Rattle.std.specs.List.Sorted.{IsNonDecreasingBy}
 use Rattle.std.proofs.lemmas.Bool.{lt-ltb, le-ltb, cases_lt}
 use Rattle.std.proofs.lemmas.List.{drop_more, length-map, length-drop, get_or-map, take-map, drop-map, take_all, get_or_default}
-use Rattle.dwc_base.specs.Runs as base
-use Rattle.dwc_base.specs.Runs.{Position, runs, pieces, source_positions, joined_positions}
+use Rattle.dwc_native.specs.Runs as base
+use Rattle.dwc_native.specs.Runs.{Position, runs, pieces, source_positions, joined_positions}
 use Rattle.dwc_addr.specs.declared.address_map.AddressMap.{AddressMap}
 use Rattle.dwc_addr.specs.declared.function_map.FunctionMap.{FunctionMap}
 use Rattle.dwc_addr.specs.declared.run.Run.{Run}

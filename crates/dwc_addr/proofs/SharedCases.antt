@@ -1,6 +1,6 @@
 -- Functions that share symbols, on small lists.
 use Rattle.std.proofs.Common.{◌≡◌, refl, [], ◌∷◌, Some, None}
-use Rattle.dwc_base.specs.SharedSymbols.{shared_symbol}
+use Rattle.dwc_native.specs.SharedSymbols.{shared_symbol}
 
 no_functions : shared_symbol [] ≡ None
 no_functions = refl

@@ -7,9 +7,9 @@ use Rattle.std.proofs.lemmas.Bool.{leb-true, cases_lt}
 use Rattle.std.proofs.lemmas.List.Elements.{All-head, All-tail}
 use Rattle.dwc_base.specs.declared.records.MapFault.{MapFault}
 use Rattle.dwc_base.specs.declared.records.MapFault.TheVariants.{BodyOffset, BeforeCodeSection, Reversed, CodeFalls, CodePastBody, SourceOutside}
-use Rattle.dwc_base.specs.Functions.{AddressMap, Function, Recorded, recorded_entry, wasm_entry, map_fault, bounds_fault, entry_fault, is_source_within}
-use Rattle.dwc_base.specs.Runs.{Position, Run, source_positions, in_front, pieces, joined_positions, first_wasm, last_wasm, first_native, runs_from, runs, HasGoodMap}
-use Rattle.dwc_base.specs.ScopesCarried.{entry_for_byte, source_of_byte, HasDistinctSources}
+use Rattle.dwc_native.specs.Functions.{AddressMap, Function, Recorded, recorded_entry, wasm_entry, map_fault, bounds_fault, entry_fault, is_source_within}
+use Rattle.dwc_native.specs.Runs.{Position, Run, source_positions, in_front, pieces, joined_positions, first_wasm, last_wasm, first_native, runs_from, runs, HasGoodMap}
+use Rattle.dwc_native.specs.ScopesKept.{entry_for_byte, source_of_byte, HasDistinctSources}
 use Rattle.dwc_base.proofs.InLists.{IsIn}
 use Rattle.dwc_addr.specs.Rising.{RisesFrom}
 use Rattle.dwc_addr.proofs.AscendLaws.{Span, Spans, EntriesTo, RunSpan, Inside, span-through, positions-span, pieces-spans, good-to, good-runs}

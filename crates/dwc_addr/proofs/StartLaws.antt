@@ -7,7 +7,7 @@ use Rattle.std.proofs.lemmas.Bool.{leb-true, leb-false, le-leb, lt-leb, cases_lt
 use Rattle.std.proofs.lemmas.List.Elements.{All-get_or, All-from_get_or, Contains-get_or, at_from_Contains}
 use Rattle.std.proofs.lemmas.List.Sorted.{All-permutation, Contains-permutation}
 use Rattle.std.proofs.lemmas.Nat.{shr_high, mod_low}
-use Rattle.dwc_base.specs.Functions.{Function}
+use Rattle.dwc_native.specs.Functions.{Function}
 use Rattle.dwc_addr.specs.PositionPlaces.{IsCountUpTo}
 use Rattle.dwc_addr.specs.Starts.{start_key, start_keys, IsStartTable, IsOwnerPlace}
 

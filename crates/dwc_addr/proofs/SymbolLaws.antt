@@ -5,7 +5,7 @@ use Rattle.std.specs.Option.{option_or}
 use Rattle.std.specs.Ordering.{is_eq}
 use Rattle.std.proofs.lemmas.List.{take_more, at_drop_more, map-append, length-map, length-take}
 use Rattle.dwc_base.specs.declared.records.SymbolId.{SymbolId}
-use Rattle.dwc_base.specs.SharedSymbols.{has_symbol, holder, holder_of, shared_behind}
+use Rattle.dwc_native.specs.SharedSymbols.{has_symbol, holder, holder_of, shared_behind}
 use Rattle.std.specs.BTreeMap.{BTreeMap, get}
 use Rattle.dwc_addr.specs.Numbers.{symbol_view}
 use Rattle.dwc_addr.specs.SymbolIndexes.{IsIndex, Notes}

@@ -7,8 +7,8 @@ use Rattle.std.proofs.lemmas.List.{drop-drop, drop_all}
 use Rattle.std.proofs.lemmas.Bool.{le-leb, lt-leb, lt-ltb, le-ltb}
 use Rattle.dwc_base.specs.declared.records.Address.{Address}
 use Rattle.dwc_base.specs.declared.records.Address.TheVariants.{Symbol}
-use Rattle.dwc_base.specs.Functions.{Function, function_at}
-use Rattle.dwc_base.specs.Runs.{Run, runs, has_offset, start_in, end_in, meets, is_range, native_ranges, native_in_function, native_offset, translated}
+use Rattle.dwc_native.specs.Functions.{Function, function_at}
+use Rattle.dwc_native.specs.Runs.{Run, runs, has_offset, start_in, end_in, meets, is_range, native_ranges, native_in_function, native_offset, translated}
 use Rattle.dwc_addr.specs.declared.function_map.FunctionMap.{FunctionMap}
 use Rattle.dwc_addr.specs.Transforms.{function_view}
 use Rattle.dwc_addr.specs.Translations.{range_in, ranges_from}

@@ -4,7 +4,7 @@ use Rattle.std.specs.Option.{unwrap_or}
 use Rattle.std.specs.Global.{Global}
 use Rattle.dwc_base.specs.declared.records.Tunables.{Tunables}
 use Rattle.dwc_base.specs.declared.wasm.ModuleTranslation.{ModuleTranslation}
-use Rattle.dwc_base.specs.SharedSymbols.{shared_symbol}
+use Rattle.dwc_native.specs.SharedSymbols.{shared_symbol}
 use Rattle.dwc_addr.specs.declared.memory_offset.ModuleMemoryOffset.{ModuleMemoryOffset}
 use Rattle.dwc_clif.specs.declared.metadata.CompiledFunctionMetadata.{CompiledFunctionMetadata}
 use Rattle.dwc_addr.specs.Numbers.{Compiled, function_count, all_symbols, symbol_view}

@@ -1,8 +1,8 @@
 -- The runs of a function as an address transform finds them.
 use Rattle.std.specs.Prelude.{ℕ, zero, suc, ◌-◌, ◌≤◌, nat_lt, if◌then◌else◌, List, map, length, take, drop, slice_index_or}
 use Rattle.std.specs.List.Sorted.{IsNonDecreasingBy}
-use Rattle.dwc_base.specs.Runs as base
-use Rattle.dwc_base.specs.Runs.{Position, source_positions, joined_positions}
+use Rattle.dwc_native.specs.Runs as base
+use Rattle.dwc_native.specs.Runs.{Position, source_positions, joined_positions}
 use Rattle.dwc_addr.specs.declared.address_map.AddressMap.{AddressMap}
 use Rattle.dwc_addr.specs.declared.function_map.FunctionMap.{FunctionMap}
 use Rattle.dwc_addr.specs.declared.run.Run.{Run}

@@ -1,6 +1,6 @@
 -- The runs of a function's recorded sources, along which the sources do not fall.
 use Rattle.std.specs.Prelude.{ℕ, suc, nat_lt, List, [], ◌∷◌, if◌then◌else◌}
-use Rattle.dwc_base.specs.Functions.{Recorded}
+use Rattle.dwc_native.specs.Functions.{Recorded}
 use Rattle.dwc_addr.specs.declared.address_map.AddressMap.{AddressMap}
 
 -- a recorded source

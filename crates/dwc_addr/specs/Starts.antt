@@ -1,7 +1,7 @@
 -- The keys by which functions are found by their starts.
 use Rattle.std.specs.Prelude.{ℕ, suc, ◌+◌, ◌*◌, ◌^◌, ◌<◌, ◌≤◌, List, [], ◌∷◌, length, slice_index_or, Option, Some, None, All}
 use Rattle.std.specs.List.Sorted.{IsNonDecreasing, IsPermutation}
-use Rattle.dwc_base.specs.Functions.{Function}
+use Rattle.dwc_native.specs.Functions.{Function}
 
 -- a function's key: its start above its place
 abbrev pub start_key : ℕ → ℕ → ℕ

@@ -2,7 +2,7 @@
 use Rattle.std.specs.Prelude.{◌≡◌, ℕ, List, [], ◌∷◌, ◌++◌, Option, Some, None, Result, Ok, Err}
 use Rattle.std.specs.Ordering.{nat_cmp}
 use Rattle.std.specs.BTreeMap.{BTreeMap, get}
-use Rattle.dwc_base.specs.SharedSymbols.{holder, holder_of}
+use Rattle.dwc_native.specs.SharedSymbols.{holder, holder_of}
 
 -- the map has the first of some functions with each symbol
 abbrev pub IsIndex : List (Option ℕ) → BTreeMap ℕ ℕ → Type 0

@@ -2,7 +2,7 @@
 use Rattle.std.specs.Prelude.{◌≡◌, ℕ, suc, ◌+◌, ◌-◌, ◌%◌, ◌^◌, List, [], ◌∷◌, map, Option, Some, None, option_map, Result, Ok, Err}
 use Rattle.std.specs.Option.{unwrap_or, option_or}
 use Rattle.dwc_base.specs.declared.records.MapFault.{MapFault}
-use Rattle.dwc_base.specs.Functions.{AddressMap, Function, map_fault, functions_of}
+use Rattle.dwc_native.specs.Functions.{AddressMap, Function, map_fault, functions_of}
 use Rattle.dwc_addr.specs.declared.function_map.FunctionMap.{FunctionMap}
 use Rattle.dwc_clif.specs.Gaps.{merged}
 use Rattle.dwc_addr.specs.Runs.{recorded_view}

@@ -3,7 +3,7 @@ use Rattle.std.specs.Prelude.{◌≡◌, ℕ, ◌-◌, pos, List, [], ◌∷◌,
 use Rattle.std.specs.List.{filter_map}
 use Rattle.dwc_base.specs.declared.records.Address.{Address}
 use Rattle.dwc_base.specs.declared.records.Address.TheVariants.{Symbol}
-use Rattle.dwc_base.specs.Runs.{Run, runs, start_in, end_in, meets, is_range}
+use Rattle.dwc_native.specs.Runs.{Run, runs, start_in, end_in, meets, is_range}
 use Rattle.dwc_addr.specs.declared.function_map.FunctionMap.{FunctionMap}
 use Rattle.dwc_addr.specs.Transforms.{function_view}
 

@@ -1,7 +1,7 @@
 //! The functions of a module in the order in which they begin.
 ghost use Rattle.std.specs.Prelude.{◌≡◌, ◌+◌, ◌*◌, ◌/◌, ◌%◌, ◌^◌, ◌<◌, ◌≤◌, ℕ, true, false, List, length, map, slice_index_or, IfOk};
 ghost use Rattle.std.specs.List.Sorted.{IsNonDecreasingBy};
-ghost use Rattle.dwc_base.specs.Functions.{Function};
+ghost use Rattle.dwc_native.specs.Functions.{Function};
 ghost use Rattle.dwc_addr.specs.PositionPlaces.{AreBelow, IsCountUpTo};
 ghost use Rattle.dwc_addr.specs.Transforms.{function_view};
 ghost use Rattle.dwc_addr.specs.Starts.{start_key, IsStartTable, IsOwnerPlaceIf};

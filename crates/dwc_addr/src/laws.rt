@@ -1,9 +1,9 @@
 //! What the definition of translation means.
 ghost use Rattle.std.specs.Prelude.{◌≡◌, ℕ, List, None};
-ghost use Rattle.dwc_base.specs.Functions.{AddressMap, Function, functions_of};
-ghost use Rattle.dwc_base.specs.Addends.{HaveAddends, TranslationsAreSaid};
-ghost use Rattle.dwc_base.specs.Runs.{TranslationsAscend, RunsHaveAll};
-ghost use Rattle.dwc_base.specs.ScopesCarried.{AreNumbered, TranslationsKeepScopes};
+ghost use Rattle.dwc_native.specs.Functions.{AddressMap, Function, functions_of};
+ghost use Rattle.dwc_native.specs.Addends.{HaveAddends, TranslationsAreSaid};
+ghost use Rattle.dwc_native.specs.Runs.{TranslationsAscend, RunsHaveAll};
+ghost use Rattle.dwc_native.specs.ScopesKept.{AreNumbered, TranslationsKeepScopes};
 ghost use Rattle.dwc_addr.specs.Transforms.{first_bad_map};
 
 /// Says, and does nothing: where the address maps of functions are good, an interval is translated to intervals that are nonempty, ascending

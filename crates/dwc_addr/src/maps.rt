@@ -1,7 +1,7 @@
 //! The rules of an address map.
 ghost use Rattle.std.specs.Prelude.{◌≡◌, ◌<◌, ◌≤◌, ◌^◌, ◌-◌, ◌&&◌, nat_le, None, IsSome};
 ghost use Rattle.std.specs.Option.{unwrap_or};
-ghost use Rattle.dwc_base.specs.Functions.{map_fault, entry_fault, is_source_within};
+ghost use Rattle.dwc_native.specs.Functions.{map_fault, entry_fault, is_source_within};
 ghost use Rattle.dwc_clif.specs.AddressMaps.{address_map_view};
 ghost use Rattle.dwc_addr.specs.Transforms.{wasm_code_offset};
 

@@ -2,7 +2,7 @@
 ghost use Rattle.std.specs.Prelude.{◌≡◌, ◌+◌, ◌-◌, ◌<◌, ◌≤◌, ◌^◌, ◌==◌, ◌&&◌, nat_lt, length, take, drop, All, IfSome, slice_index_or, option_map, if◌then◌else◌, Some, None};
 ghost use Rattle.std.specs.List.{find};
 ghost use Rattle.std.specs.List.Sorted.{IsNonDecreasingBy};
-ghost use Rattle.dwc_base.specs.Runs.{Position, start_in as begin_in, end_in as cease_in};
+ghost use Rattle.dwc_native.specs.Runs.{Position, start_in as begin_in, end_in as cease_in};
 ghost use Rattle.dwc_addr.specs.declared.address_map.AddressMap.{AddressMap};
 ghost use Rattle.dwc_addr.specs.RunViews.{positions_of, run_view, IsRunOf};
 ghost use Rattle.dwc_addr.specs.PositionPlaces.{IsCountBelow, IsCountUpTo, start_at as begin_at, start_or as begin_or};

@@ -1,7 +1,7 @@
 //! The native ranges of intervals of wasm offsets.
 ghost use Rattle.std.specs.Prelude.{◌≡◌, ◌<◌, ◌^◌, ◌+◌, ◌≤◌, true, [], length, option_map, Some, None, IfSome};
 ghost use Rattle.std.specs.Iterator.{YieldsFirst};
-ghost use Rattle.dwc_base.specs.Runs.{native_ranges, native_in_function};
+ghost use Rattle.dwc_native.specs.Runs.{native_ranges, native_in_function};
 ghost use Rattle.dwc_addr.specs.RunViews.{run_view, IsRunOf};
 ghost use Rattle.dwc_addr.specs.Transforms.{function_view};
 ghost use Rattle.dwc_addr.specs.Translations.{range_in as range_of, ranges_from, GivesRange, with_lengths};

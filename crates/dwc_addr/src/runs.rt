@@ -1,7 +1,7 @@
 //! The runs of a function, by their numbers.
 ghost use Rattle.std.specs.Prelude.{◌≡◌, ◌+◌, ◌<◌, ◌≤◌, ◌^◌, ◌∷◌, suc, length, drop, option_map};
 ghost use Rattle.std.specs.List.{find};
-ghost use Rattle.dwc_base.specs.Runs.{runs, has_offset};
+ghost use Rattle.dwc_native.specs.Runs.{runs, has_offset};
 ghost use Rattle.dwc_addr.specs.RunViews.{run_view, begin_of, end_of, IsRunOf};
 ghost use Rattle.dwc_addr.specs.Transforms.{function_view};
 

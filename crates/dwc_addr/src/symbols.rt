@@ -1,6 +1,6 @@
 //! The symbols of functions by their numbers, and functions that have one symbol.
 ghost use Rattle.std.specs.Prelude.{◌≡◌, ℕ, ◌<◌, ◌^◌, List, ◌++◌, map, length, Option, Some, None, true, IfOk, OnOk};
-ghost use Rattle.dwc_base.specs.SharedSymbols.{shared_symbol};
+ghost use Rattle.dwc_native.specs.SharedSymbols.{shared_symbol};
 ghost use Rattle.dwc_addr.specs.Numbers.{function_count, numbers_from, all_symbols, symbols_in, symbol_view, AreDistinct};
 ghost use Rattle.dwc_addr.specs.SymbolIndexes.{IsIndex, Notes};
 ghost use Rattle.dwc_addr.specs.Compilations.{lists};

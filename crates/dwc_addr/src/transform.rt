@@ -1,7 +1,7 @@
 //! The functions of a module as its DWARF names them: by wasm offsets, which count from the contents of the code section.
 ghost use Rattle.std.specs.Prelude.{◌≡◌, ◌-◌, ◌+◌, ◌<◌, ◌≤◌, ◌^◌, ℕ, length, map, slice_get, option_map, Some, None, IfOk, IfSome, IsSome, vec_len};
 ghost use Rattle.std.specs.Option.{unwrap_or};
-ghost use Rattle.dwc_base.specs.Functions.{map_fault as first_fault, function_of, owner, function_at};
+ghost use Rattle.dwc_native.specs.Functions.{map_fault as first_fault, function_of, owner, function_at};
 ghost use Rattle.dwc_clif.specs.AddressMaps.{address_map_view};
 ghost use Rattle.dwc_addr.specs.Transforms.{function_view, Transforms};
 ghost use Rattle.dwc_addr.specs.Numbers.{first_number};
@@ -34,7 +34,7 @@ pub struct AddressTransform<'a> {
 
 impl<'a> Model for AddressTransform<'a> {
     ghost use Rattle.std.specs.Prelude.{List, map};
-    ghost use Rattle.dwc_base.specs.Functions.{Function};
+    ghost use Rattle.dwc_native.specs.Functions.{Function};
     ghost use Rattle.dwc_addr.specs.Transforms.{function_view};
     ghost use Rattle.dwc_addr.specs.Starts.{IsStartTable};
 

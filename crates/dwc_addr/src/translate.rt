@@ -1,8 +1,8 @@
 //! Wasm offsets, and intervals of them, as native code.
 ghost use Rattle.std.specs.Prelude.{◌≡◌, ◌+◌, ◌<◌, ◌≤◌, ◌^◌, length, option_map, is_some, IfSome};
 ghost use Rattle.std.specs.List.{find};
-ghost use Rattle.dwc_base.specs.Functions.{function_at};
-ghost use Rattle.dwc_base.specs.Runs.{runs, has_offset, translated, native_offset as offset_in};
+ghost use Rattle.dwc_native.specs.Functions.{function_at};
+ghost use Rattle.dwc_native.specs.Runs.{runs, has_offset, translated, native_offset as offset_in};
 ghost use Rattle.dwc_addr.specs.RunViews.{run_view, IsRunOf};
 ghost use Rattle.dwc_addr.specs.Transforms.{function_view};
 

@@ -6,7 +6,6 @@ use Rattle.std.specs.List.{position}
 use Rattle.dwc_base.specs.declared.faults.Flaw.{Flaw}
 use Rattle.dwc_base.specs.declared.faults.Flaw.TheVariants.{EndsEarly}
 use Rattle.dwc_base.specs.Reading.{Unread, Read, ◌>>=◌, passed, front, seen_as, number, bytes_at, part_at, number_at, text_at}
-use Rattle.dwc_base.specs.LineHeaders.{directory_at}
 use Rattle.dwc_base.specs.declared.faults.What.TheVariants.{UnitHeader as UnitHeaderRead}
 use Rattle.dwc_base.specs.declared.section_name.SectionName.TheVariants.{Info}
 use Rattle.dwc_base.specs.Sections.{Fault, fault_of}
@@ -76,10 +75,6 @@ number_at-leaves size u some = record { fewer = go (bytes_at size u) (bytes_at-l
     go : (r : Read (List ℕ)) → LeavesFewer r (length u.left) → LeavesFewer (seen_as (number u.order) r) (length u.left)
     go (Ok x) h = h
     go (Err flaw) h = tt
-
-pub directory_at-leaves : (u : Unread) → Leaves (directory_at u) (length u.left)
-unfolding directory_at
-directory_at-leaves u = Leaves-bind _ _ _ (text_at-leaves u) (λ name. Leaves-same _ _)
 
 sized_part_at-leaves : (u : Unread) → Leaves (sized_part_at u) (length u.left)
 unfolding sized_part_at

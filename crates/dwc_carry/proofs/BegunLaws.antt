@@ -2,14 +2,15 @@
 use Rattle.std.proofs.Common.{◌≡◌, ℕ, ◌<◌, ◌≤◌, List, [], ◌∷◌, length, map, filter_map, refl, ap, ap₂, sym, subst, ◌∙◌, Bool, Option}
 use Rattle.std.specs.List.{cons_option, filter, flat_map}
 use Rattle.std.specs.BTreeSet.{BTreeSet}
-use Rattle.dwc_base.specs.Carried.{Unit, Module}
-use Rattle.dwc_base.specs.Compiled.{ToldModule}
-use Rattle.dwc_base.specs.Entries.{Entry, entries}
-use Rattle.dwc_base.specs.Functions.{Function}
-use Rattle.dwc_base.specs.Kept.{Placed}
-use Rattle.dwc_base.specs.ListedFunctions.{begun_functions, begun_in_module}
-use Rattle.dwc_base.specs.Lists.{list_source}
-use Rattle.dwc_base.specs.RangeAttributes.{begun_function}
+use Rattle.dwc_rules.specs.Carried.{Module}
+use Rattle.dwc_dwarf.specs.ReadUnits.{Unit}
+use Rattle.dwc_native.specs.Compiled.{ToldModule}
+use Rattle.dwc_dwarf.specs.Entries.{Entry, entries}
+use Rattle.dwc_native.specs.Functions.{Function}
+use Rattle.dwc_rules.specs.Kept.{Placed}
+use Rattle.dwc_carried.specs.ListedFunctions.{begun_functions, begun_in_module}
+use Rattle.dwc_dwarf.specs.Lists.{list_source}
+use Rattle.dwc_rules.specs.RangeAttributes.{begun_function}
 use Rattle.dwc_kept.specs.declared.kept_units.KeptModule.{KeptModule}
 use Rattle.dwc_kept.specs.declared.read_unit.ReadUnit.{ReadUnit}
 use Rattle.dwc_kept.specs.ReadUnits.{unit_read, is_carried_read}

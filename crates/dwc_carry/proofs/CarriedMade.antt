@@ -4,15 +4,19 @@ use Rattle.std.specs.Prelude.{◌==◌, if◌then◌else◌}
 use Rattle.std.specs.List.{AllZip}
 use Rattle.std.proofs.lemmas.Bool.{ne_eqb}
 use Rattle.std.proofs.lemmas.List.{append_assoc}
-use Rattle.dwc_base.specs.Carried.{Unit, Module, carried_unit}
-use Rattle.dwc_base.specs.Drafts.{itself, pointer_to_wrapper, reference_to_target, pointer_to_target, Goal, made_of, own_entry, Draft}
-use Rattle.dwc_base.specs.DraftForests.{place_of_goal}
-use Rattle.dwc_base.specs.CarriedDrafts.{source_of}
-use Rattle.dwc_base.specs.KeptModules.{kept_in}
-use Rattle.dwc_base.specs.Forests.{kept_of, drafts_of, module_drafts}
-use Rattle.dwc_base.specs.OwnUnits.{own_unit}
-use Rattle.dwc_base.specs.Trees.{place_among}
-use Rattle.dwc_base.proofs.ForestTargets.{GoalsHave, unit-no-place}
+use Rattle.dwc_rules.specs.Carried.{Module, carried_unit}
+use Rattle.dwc_dwarf.specs.ReadUnits.{Unit}
+use Rattle.dwc_rules.specs.Drafts.{itself, pointer_to_wrapper, reference_to_target, pointer_to_target, Goal, made_of, own_entry, Draft}
+use Rattle.dwc_rules.specs.DraftForests.{place_of_goal}
+use Rattle.dwc_rules.specs.CarriedDrafts.{source_of}
+use Rattle.dwc_rules.specs.KeptModules.{kept_in}
+use Rattle.dwc_carried.specs.Forests.{drafts_of}
+use Rattle.dwc_rules.specs.ModuleDrafts.{module_drafts}
+use Rattle.dwc_rules.specs.CarriedUnits.{kept_of}
+use Rattle.dwc_rules.specs.OwnUnits.{own_unit}
+use Rattle.dwc_dwarf.specs.Trees.{place_among}
+use Rattle.dwc_carried.proofs.ForestTargets.{unit-no-place}
+use Rattle.dwc_rules.proofs.GoalsHave.{GoalsHave}
 use Rattle.dwc_kept.specs.declared.kept_units.KeptModule.{KeptModule}
 use Rattle.dwc_kept.specs.declared.read_unit.ReadUnit.{ReadUnit}
 use Rattle.dwc_kept.specs.ReadUnits.{unit_read, IsKeptModule}
@@ -20,7 +24,7 @@ use Rattle.dwc_kept.proofs.KeptGoals.{carried, inside}
 use Rattle.dwc_kept.proofs.NumberedGoals.{HasNumber, AreAtNumbers, AreNumberedUnits, goals-put}
 use Rattle.dwc_write.specs.GivenUnits.{GivenUnit}
 use Rattle.dwc_write.specs.Renumbered.{renumbered_entry}
-use Rattle.dwc_write.proofs.SettledLaws.{IsPutAt, unit-put}
+use Rattle.dwc_carry.proofs.SettledLaws.{IsPutAt, unit-put}
 use Rattle.dwc_clone.specs.declared.places.EmittedEntry.{EmittedEntry}
 use Rattle.dwc_clone.specs.OutputPlaces.{place_of}
 use Rattle.dwc_carry.specs.MadeUnits.{LeadsTo, IsMadeOf, AreMadeOf}

@@ -1,7 +1,8 @@
 -- What cloning refuses of some entries is refused in the order of reading.
 use Rattle.std.proofs.Common.{List, ap}
 use Rattle.std.specs.Prelude.{option_map}
-use Rattle.dwc_base.specs.Refusals.{Refusal, first_of}
+use Rattle.dwc_rules.specs.Refusals.{Refusal}
+use Rattle.dwc_base.specs.Listing.{first_of}
 use Rattle.dwc_clone.specs.declared.error.CloneError.{CloneError}
 use Rattle.dwc_clone.specs.declared.error.CloneError.TheVariants as clone
 use Rattle.dwc_clone.specs.ClonedUnits.{TellsFirst}

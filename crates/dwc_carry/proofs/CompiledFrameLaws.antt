@@ -3,10 +3,10 @@ use Rattle.std.proofs.Common.{◌≡◌, ℕ, suc, ◌+◌, ◌-◌, refl, ap, a
 use Rattle.std.specs.Option.{unwrap_or}
 use Rattle.std.specs.List.{cons_option}
 use Rattle.std.proofs.lemmas.Option.{slice_get-map}
-use Rattle.dwc_base.specs.CallFrames.{FrameDescription}
-use Rattle.dwc_base.specs.Compiled.{frames_from}
-use Rattle.dwc_base.specs.Functions.{function_of, functions_of}
-use Rattle.dwc_base.specs.FramesCarried.{description_of, descriptions}
+use Rattle.dwc_native.specs.CallFrames.{FrameDescription}
+use Rattle.dwc_native.specs.Compiled.{frames_from}
+use Rattle.dwc_native.specs.Functions.{function_of, functions_of}
+use Rattle.dwc_output.specs.FramesCarried.{description_of, descriptions}
 use Rattle.dwc_clif.specs.AddressMaps.{address_map_view}
 use Rattle.dwc_clif.specs.CallFrames.{description_of_metadata}
 use Rattle.dwc_addr.specs.Numbers.{Compiled}

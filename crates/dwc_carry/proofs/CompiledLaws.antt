@@ -5,9 +5,9 @@ use Rattle.std.specs.Option.{unwrap_or}
 use Rattle.std.proofs.lemmas.List.{length-map}
 use Rattle.std.proofs.lemmas.List.Elements.{All-nil, All-cons, All-weaker}
 use Rattle.dwc_base.specs.declared.wasm.ModuleTranslation.{ModuleTranslation}
-use Rattle.dwc_base.specs.Functions.{AddressMap, Function, function_of, functions_of}
-use Rattle.dwc_base.specs.Carried.{Module}
-use Rattle.dwc_base.specs.Compiled.{LinkageNames, ToldModule}
+use Rattle.dwc_native.specs.Functions.{AddressMap, Function, function_of, functions_of}
+use Rattle.dwc_rules.specs.Carried.{Module}
+use Rattle.dwc_native.specs.Compiled.{LinkageNames, ToldModule}
 use Rattle.dwc_clif.specs.AddressMaps.{address_map_view}
 use Rattle.dwc_clif.specs.Registers.{Registers}
 use Rattle.dwc_addr.specs.declared.memory_offset.ModuleMemoryOffset.{ModuleMemoryOffset}

@@ -8,18 +8,21 @@ use Rattle.dwc_base.specs.declared.section_name.SectionName.TheVariants.{Line}
 use Rattle.dwc_base.specs.Sections.{Sections}
 use Rattle.dwc_base.specs.Outputs.{OutputSection, output_sections}
 use Rattle.dwc_base.specs.Reading.{◌>>=◌}
-use Rattle.dwc_base.specs.LineRows.{LineTable, segments}
-use Rattle.dwc_base.specs.Images.{is_carried_segment, IsImageOf}
-use Rattle.dwc_base.specs.SimulatedLines.{IsSimulated}
-use Rattle.dwc_base.specs.Carried.{Unit, units, table_of_unit, segments_of, segments_of_unit, CarriedUnit, WantedUnit, own_unit, carried_unit, listed_unit, Module, Compilation}
-use Rattle.dwc_base.specs.LastUnit.{last_drafts, last_wanted, listed_in_files, widest_last, widest_listed}
-use Rattle.dwc_base.specs.LinesCarried.{CarriesUnit, HasLines, LinesCarried}
-use Rattle.dwc_base.specs.ListedFunctions.{is_begun}
-use Rattle.dwc_base.specs.Widest.{widest_lines_of}
-use Rattle.dwc_base.specs.DraftForests as Drafts
-use Rattle.dwc_base.specs.Forests.{carried_units, carried_units_of, first_refusal, forest, module_units, wanted_units, wanted_units_of, trees_made, is_big, module_drafts}
-use Rattle.dwc_base.specs.Refusals.{Refusal}
-use Rattle.dwc_base.specs.Trees.{Tree}
+use Rattle.dwc_dwarf.specs.LineRows.{LineTable, segments}
+use Rattle.dwc_native.specs.Images.{is_carried_segment, IsImageOf}
+use Rattle.dwc_output.specs.SimulatedLines.{IsSimulated}
+use Rattle.dwc_rules.specs.Carried.{CarriedUnit, WantedUnit, own_unit, carried_unit, listed_unit, Module, Compilation}
+use Rattle.dwc_dwarf.specs.ReadUnits.{Unit, units, table_of_unit, segments_of, segments_of_unit}
+use Rattle.dwc_carried.specs.LastUnit.{last_drafts, last_wanted, listed_in_files, widest_last, widest_listed}
+use Rattle.dwc_carried.specs.LinesCarried.{CarriesUnit, HasLines, LinesCarried}
+use Rattle.dwc_carried.specs.ListedFunctions.{is_begun}
+use Rattle.dwc_carried.specs.OutputCarried.{widest_lines_of}
+use Rattle.dwc_rules.specs.DraftForests as Drafts
+use Rattle.dwc_carried.specs.Forests.{carried_units, first_refusal, forest, module_units, wanted_units, trees_made, is_big}
+use Rattle.dwc_rules.specs.ModuleDrafts.{module_drafts}
+use Rattle.dwc_rules.specs.CarriedUnits.{carried_units_of, wanted_units_of}
+use Rattle.dwc_rules.specs.Refusals.{Refusal}
+use Rattle.dwc_dwarf.specs.Trees.{Tree}
 use Rattle.dwc_write.specs.GivenLines.{GivenLines}
 use Rattle.dwc_write.specs.GivenTrees.{given_trees}
 use Rattle.dwc_write.specs.GivenUnits.{GivenUnit, IsWritable, AreWritable, ordered}

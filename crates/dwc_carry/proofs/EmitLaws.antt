@@ -8,22 +8,23 @@ use Rattle.dwc_base.specs.declared.faults.Limit.TheVariants.{Section, Addend, Ra
 use Rattle.dwc_base.specs.declared.output.DwarfSection.{DwarfSection}
 use Rattle.dwc_base.specs.declared.section_name.SectionName.{SectionName}
 use Rattle.dwc_base.specs.declared.section_name.SectionName.TheVariants.{Abbrev, Addr, Info, Line, LineStr, Loc, Loclists, Ranges, Rnglists, Str, StrOffsets, CuIndex, Frame}
-use Rattle.dwc_base.specs.Functions.{Function}
+use Rattle.dwc_native.specs.Functions.{Function}
 use Rattle.dwc_base.specs.Outputs.{output_sections, section_view}
-use Rattle.dwc_base.specs.ScopesCarried.{TranslationsKeepScopes}
-use Rattle.dwc_base.specs.TreeReading.{CarriesTrees}
-use Rattle.dwc_base.specs.Forests.{first_refusal, frame_descriptions, wanted_units, trees_made}
-use Rattle.dwc_base.specs.TreeLaws.{HasTextsOnce, have_short_expressions}
-use Rattle.dwc_base.specs.OutputCarried.{widest}
-use Rattle.dwc_base.specs.OutputForm.{HaveTargetForm, HasDistinctNames, are_of_output}
-use Rattle.dwc_base.specs.Fields.{IsRelocated}
-use Rattle.dwc_base.specs.CallFrames.{CommonEntry}
-use Rattle.dwc_base.specs.FramesCarried.{FramesCarried, others_in}
-use Rattle.dwc_base.specs.Refusals.{of_frame}
-use Rattle.dwc_base.specs.Trees.{Tree}
-use Rattle.dwc_base.specs.WidestTrees.{widest_of_trees}
+use Rattle.dwc_native.specs.ScopesKept.{TranslationsKeepScopes}
+use Rattle.dwc_output.specs.TreeReading.{CarriesTrees}
+use Rattle.dwc_carried.specs.Forests.{first_refusal, frame_descriptions, wanted_units, trees_made}
+use Rattle.dwc_dwarf.specs.TreeLaws.{HasTextsOnce, have_short_expressions}
+use Rattle.dwc_carried.specs.OutputCarried.{widest}
+use Rattle.dwc_output.specs.OutputForm.{HaveTargetForm, HasDistinctNames, are_of_output}
+use Rattle.dwc_output.specs.Fields.{IsRelocated}
+use Rattle.dwc_native.specs.CallFrames.{CommonEntry}
+use Rattle.dwc_output.specs.FramesCarried.{FramesCarried, others_in}
+use Rattle.dwc_rules.specs.Refusals.{of_frame}
+use Rattle.dwc_dwarf.specs.Trees.{Tree}
+use Rattle.dwc_output.specs.WidestTrees.{widest_of_trees}
 use Rattle.dwc_write.specs.GivenTrees.{given_trees}
-use Rattle.dwc_base.specs.Carried.{units, Compilation}
+use Rattle.dwc_rules.specs.Carried.{Compilation}
+use Rattle.dwc_dwarf.specs.ReadUnits.{units}
 use Rattle.dwc_clif.specs.Registers.{Registers}
 use Rattle.dwc_addr.specs.Compilations.{CompilationValue}
 use Rattle.dwc_write.specs.declared.error.WriteError.{WriteError}

@@ -1,7 +1,7 @@
 -- The frame descriptions of modules, one module after another.
 use Rattle.std.proofs.Common.{◌≡◌, ℕ, zero, suc, ◌+◌, add-one, ◌<◌, refl, sym, ap, ◌∙◌, arith, List, [], ◌∷◌, ◌++◌, length, drop, get_or}
 use Rattle.std.proofs.lemmas.List.{append_assoc, drop_more}
-use Rattle.dwc_base.specs.CallFrames.{CommonEntry, FrameDescription}
+use Rattle.dwc_native.specs.CallFrames.{CommonEntry, FrameDescription}
 use Rattle.dwc_addr.specs.Numbers.{Compiled, first_number}
 use Rattle.dwc_carry.specs.CompiledFrames.{compiled_frames, all_frames}
 

@@ -6,16 +6,17 @@ use Rattle.std.specs.List.{flat_map}
 use Rattle.std.proofs.lemmas.List.{append-nil, append_assoc}
 use Rattle.std.proofs.lemmas.List.Elements.{All-head}
 use Rattle.dwc_base.specs.declared.records.Endian.{Endian}
-use Rattle.dwc_base.specs.CallFrames.{CommonEntry, FrameDescription}
-use Rattle.dwc_base.specs.Carried.{Compilation, Module}
-use Rattle.dwc_base.specs.Forests.{frame_descriptions, function_refusals, module_refusals, refused_frames, wanted_units}
-use Rattle.dwc_base.specs.LastUnit.{last_refusals}
-use Rattle.dwc_base.specs.ListedFunctions.{is_begun}
-use Rattle.dwc_base.specs.FrameRefusals.{FrameRefusal, frame_refusals}
-use Rattle.dwc_base.specs.FrameSections.{frame_section_if}
-use Rattle.dwc_base.specs.FramesCarried.{widest_frames}
-use Rattle.dwc_base.specs.Refusals.{Refusal, first_of, of_frame}
-use Rattle.dwc_base.specs.Trees.{Tree}
+use Rattle.dwc_native.specs.CallFrames.{CommonEntry, FrameDescription}
+use Rattle.dwc_rules.specs.Carried.{Compilation, Module}
+use Rattle.dwc_carried.specs.Forests.{frame_descriptions, function_refusals, module_refusals, refused_frames, wanted_units}
+use Rattle.dwc_carried.specs.LastUnit.{last_refusals}
+use Rattle.dwc_carried.specs.ListedFunctions.{is_begun}
+use Rattle.dwc_native.specs.FrameRefusals.{FrameRefusal, frame_refusals}
+use Rattle.dwc_output.specs.FrameSections.{frame_section_if}
+use Rattle.dwc_output.specs.FramesCarried.{widest_frames}
+use Rattle.dwc_rules.specs.Refusals.{Refusal, of_frame}
+use Rattle.dwc_base.specs.Listing.{first_of}
+use Rattle.dwc_dwarf.specs.Trees.{Tree}
 use Rattle.dwc_clif.specs.Registers.{Registers}
 use Rattle.dwc_addr.specs.Compilations.{CompilationValue}
 use Rattle.dwc_write.specs.Frames as write

@@ -7,18 +7,19 @@ use Rattle.std.proofs.lemmas.List.{drop_all, drop_more, length-map}
 use Rattle.std.proofs.lemmas.List.Elements.{All-get_or}
 use Rattle.std.proofs.lemmas.Option.{get_or_from_slice_get, slice_get-get_or, slice_get-map, slice_get_within}
 use Rattle.dwc_base.specs.declared.wasm.ModuleTranslation.{ModuleTranslation}
-use Rattle.dwc_base.specs.Carried.{Module}
-use Rattle.dwc_base.specs.Compiled.{ToldModule}
-use Rattle.dwc_base.specs.DefinedFunctions.{DefinedFunction, types_at}
-use Rattle.dwc_base.specs.Drafts.{Draft}
-use Rattle.dwc_base.specs.Functions.{Function, Recorded}
-use Rattle.dwc_base.specs.ListedFunctions.{defined_from, is_listed, listed_among, listed_functions}
-use Rattle.dwc_base.specs.LocationRules.{frame_told}
-use Rattle.dwc_base.specs.Refusals.{Refusal, first_of}
-use Rattle.dwc_base.specs.SimulatedUnit.{first_source, function_entries, function_index, function_name, variable_refusals}
+use Rattle.dwc_rules.specs.Carried.{Module}
+use Rattle.dwc_native.specs.Compiled.{ToldModule}
+use Rattle.dwc_carried.specs.DefinedFunctions.{DefinedFunction, types_at}
+use Rattle.dwc_rules.specs.Drafts.{Draft}
+use Rattle.dwc_native.specs.Functions.{Function, Recorded}
+use Rattle.dwc_carried.specs.ListedFunctions.{defined_from, is_listed, listed_among, listed_functions}
+use Rattle.dwc_rules.specs.LocationRules.{frame_told}
+use Rattle.dwc_rules.specs.Refusals.{Refusal}
+use Rattle.dwc_base.specs.Listing.{first_of}
+use Rattle.dwc_carried.specs.SimulatedUnit.{first_source, function_entries, function_index, function_name, variable_refusals}
 use Rattle.dwc_base.specs.ToldFiles.{ToldFile}
 use Rattle.dwc_base.specs.TranslationNames.{told_file}
-use Rattle.dwc_base.specs.Trees.{TreeValue}
+use Rattle.dwc_dwarf.specs.Trees.{TreeValue}
 use Rattle.dwc_clif.specs.Registers.{Registers}
 use Rattle.dwc_addr.specs.declared.address_map.AddressMap.{AddressMap}
 use Rattle.dwc_addr.specs.declared.function_map.FunctionMap.{FunctionMap}

@@ -4,8 +4,8 @@ use Rattle.std.proofs.lemmas.List.{get_or_append_left, length-append}
 use Rattle.std.proofs.Math.Seq.{get_or-append_seam}
 use Rattle.dwc_base.specs.Sections.{Sections}
 use Rattle.dwc_base.specs.Units.{UnitHeader}
-use Rattle.dwc_base.specs.Indexed.{text_base}
-use Rattle.dwc_base.specs.Functions.{Function}
+use Rattle.dwc_dwarf.specs.Indexed.{text_base}
+use Rattle.dwc_native.specs.Functions.{Function}
 use Rattle.dwc_write.specs.declared.units.UnitId.{UnitId}
 use Rattle.dwc_write.specs.GivenUnits.{GivenUnit}
 use Rattle.dwc_clone.specs.declared.files.UnitFiles.{UnitFiles}

@@ -5,30 +5,31 @@ use Rattle.std.specs.List.{AllZip, cons_option, filter, filter_map, flat_map}
 use Rattle.std.proofs.lemmas.Bool.{eqb-true}
 use Rattle.std.proofs.lemmas.List.{map-append}
 use Rattle.std.proofs.lemmas.List.Elements.{filter-append, All-head, All-tail}
-use Rattle.dwc_base.specs.BuiltExpressions.{BuildRefusal}
-use Rattle.dwc_base.specs.Carried.{Module, Compilation, CarriedUnit}
-use Rattle.dwc_base.specs.ContextVariable.{location_refusals}
-use Rattle.dwc_base.specs.DefinedFunctions.{DefinedFunction}
-use Rattle.dwc_base.specs.DraftForests.{settled_entry, settled_unit}
-use Rattle.dwc_base.specs.Drafts.{Draft, Goal}
-use Rattle.dwc_base.specs.EntryRules.{of_build}
-use Rattle.dwc_base.specs.Forests.{first_refusal, function_refusals, module_refusals, refused_frames, refusals}
-use Rattle.dwc_base.specs.Functions.{Function}
-use Rattle.dwc_base.specs.LastUnit.{last_refusals, path_refusals}
-use Rattle.dwc_base.specs.ListedFunctions.{is_begun, listed_functions}
-use Rattle.dwc_base.specs.LocationsCarried.{UnitHasLocations}
-use Rattle.dwc_base.specs.OwnUnits.{place_of_context_pointer}
-use Rattle.dwc_base.specs.Parts.{context_label}
-use Rattle.dwc_base.specs.RangeAttributes.{native_of_intervals}
-use Rattle.dwc_base.specs.Refusals.{Refusal, first_of}
-use Rattle.dwc_base.specs.ScopesCarried.{AreNumbered, TranslationsKeepScopes}
-use Rattle.dwc_base.specs.SimulatedLocations.{LabelUse, uses_in_function, label_uses, IsLocated, LocatesLabels}
-use Rattle.dwc_base.specs.SimulatedUnit.{context_entry, context_pointers, function_entries, has_entry, label_entry, label_located, local_entry, modules_entries, simulated_refusals, simulated_unit, type_place, unit_count, variable_refusals}
-use Rattle.dwc_base.specs.Trees.{Location, TreeEntry, TreeValue, Tree, entry}
+use Rattle.dwc_native.specs.BuiltExpressions.{BuildRefusal}
+use Rattle.dwc_rules.specs.Carried.{Module, Compilation, CarriedUnit}
+use Rattle.dwc_rules.specs.ContextVariable.{location_refusals}
+use Rattle.dwc_carried.specs.DefinedFunctions.{DefinedFunction}
+use Rattle.dwc_rules.specs.DraftForests.{settled_entry, settled_unit}
+use Rattle.dwc_rules.specs.Drafts.{Draft, Goal}
+use Rattle.dwc_rules.specs.EntryRules.{of_build}
+use Rattle.dwc_carried.specs.Forests.{first_refusal, function_refusals, module_refusals, refused_frames, refusals}
+use Rattle.dwc_native.specs.Functions.{Function}
+use Rattle.dwc_carried.specs.LastUnit.{last_refusals, path_refusals}
+use Rattle.dwc_carried.specs.ListedFunctions.{is_begun, listed_functions}
+use Rattle.dwc_carried.specs.LocationsCarried.{UnitHasLocations}
+use Rattle.dwc_rules.specs.OwnUnits.{place_of_context_pointer}
+use Rattle.dwc_native.specs.Parts.{context_label}
+use Rattle.dwc_native.specs.ScopesKept.{native_of_intervals}
+use Rattle.dwc_rules.specs.Refusals.{Refusal}
+use Rattle.dwc_base.specs.Listing.{first_of}
+use Rattle.dwc_native.specs.ScopesKept.{AreNumbered, TranslationsKeepScopes}
+use Rattle.dwc_carried.specs.SimulatedLocations.{LabelUse, uses_in_function, label_uses, IsLocated, LocatesLabels}
+use Rattle.dwc_carried.specs.SimulatedUnit.{context_entry, context_pointers, function_entries, has_entry, label_entry, label_located, local_entry, modules_entries, simulated_refusals, simulated_unit, type_place, unit_count, variable_refusals}
+use Rattle.dwc_dwarf.specs.Trees.{Location, TreeEntry, TreeValue, Tree, entry}
 use Rattle.dwc_base.specs.declared.records.Address.TheVariants.{Constant}
-use Rattle.dwc_base.proofs.LocationForest.{both-none}
-use Rattle.dwc_base.proofs.SimulatedLocationLaws.{KeepsSource, local-located, context-located}
-use Rattle.dwc_base.proofs.UnitsMade.{LastIs}
+use Rattle.dwc_carried.proofs.LocationForest.{both-none}
+use Rattle.dwc_carried.proofs.SimulatedLocationLaws.{KeepsSource, local-located, context-located}
+use Rattle.dwc_carried.proofs.UnitsMade.{LastIs}
 
 -- an entry says its places already
 abbrev settled_there : Draft → TreeEntry

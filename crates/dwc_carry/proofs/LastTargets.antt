@@ -4,29 +4,30 @@ use Rattle.std.specs.Prelude.{◌==◌, ◌&&◌, codes, nat_lt, IfSome, option_
 use Rattle.std.specs.List.{cons_option, filter_map, flat_map, list_all}
 use Rattle.std.proofs.lemmas.Bool.{lt-ltb, ltb-true}
 use Rattle.std.proofs.lemmas.List.{append-nil, append_assoc, length-append, length-map}
-use Rattle.dwc_base.specs.Carried.{Module, Compilation}
-use Rattle.dwc_base.specs.Compiled.{Memory, no_memory, defined, imported}
-use Rattle.dwc_base.specs.ContextVariable.{located_or_none}
-use Rattle.dwc_base.specs.DefinedFunctions.{DefinedFunction, types_at}
-use Rattle.dwc_base.specs.DraftForests.{units_drafted, place_of_goal, settled_entry, settled_unit, trees_from, forest}
-use Rattle.dwc_base.specs.Drafts.{Draft, Goal, done}
-use Rattle.dwc_base.specs.Forests.{is_big, module_drafts, module_trees, trees_made}
-use Rattle.dwc_base.specs.LastUnit.{last_drafts}
-use Rattle.dwc_base.specs.ListedFunctions.{is_begun, listed_functions}
-use Rattle.dwc_base.specs.MadeEntries.{made, named}
-use Rattle.dwc_base.specs.OwnUnits.{own_unit, place_of_context_pointer}
-use Rattle.dwc_base.specs.Parts.{context_label}
-use Rattle.dwc_base.specs.SimulatedUnit.{base_types, context_entry, context_pointers, function_entries, function_entry, label_entry, local_entry, local_name, local_tag, label_located, modules_entries, place_of_type, simulated_root, simulated_unit, type_place, unit_count, whole_intervals}
+use Rattle.dwc_rules.specs.Carried.{Module, Compilation}
+use Rattle.dwc_native.specs.Compiled.{Memory, no_memory, defined, imported}
+use Rattle.dwc_rules.specs.ContextVariable.{located_or_none}
+use Rattle.dwc_carried.specs.DefinedFunctions.{DefinedFunction, types_at}
+use Rattle.dwc_rules.specs.DraftForests.{units_drafted, place_of_goal, settled_entry, settled_unit, trees_from, forest}
+use Rattle.dwc_rules.specs.Drafts.{Draft, Goal, done}
+use Rattle.dwc_carried.specs.Forests.{is_big, module_trees, trees_made}
+use Rattle.dwc_rules.specs.ModuleDrafts.{module_drafts}
+use Rattle.dwc_carried.specs.LastUnit.{last_drafts}
+use Rattle.dwc_carried.specs.ListedFunctions.{is_begun, listed_functions}
+use Rattle.dwc_rules.specs.MadeEntries.{made, named}
+use Rattle.dwc_rules.specs.OwnUnits.{own_unit, place_of_context_pointer}
+use Rattle.dwc_native.specs.Parts.{context_label}
+use Rattle.dwc_carried.specs.SimulatedUnit.{base_types, context_entry, context_pointers, function_entries, function_entry, label_entry, local_entry, local_name, local_tag, label_located, modules_entries, place_of_type, simulated_root, simulated_unit, type_place, unit_count, whole_intervals}
 use Rattle.dwc_base.specs.ToldFiles.{type_of_local}
-use Rattle.dwc_base.specs.TreeLaws.{size_of_unit, goes_somewhere, values_of, HasAllTargets}
-use Rattle.dwc_base.specs.Trees.{Interval, Location, TreeValue, address, constant, flag, block, expression, line_table, ranges, nothing, Tree, entry, locations, text}
-use Rattle.dwc_base.specs.UnitPaths.{unit_path}
+use Rattle.dwc_dwarf.specs.TreeLaws.{size_of_unit, goes_somewhere, values_of, HasAllTargets}
+use Rattle.dwc_dwarf.specs.Trees.{Interval, Location, TreeValue, address, constant, flag, block, expression, line_table, ranges, nothing, Tree, entry, locations, text}
+use Rattle.dwc_carried.specs.UnitPaths.{unit_path}
 use Rattle.dwc_base.specs.declared.constants.TheConstants.{DW_AT_location, DW_AT_name, DW_AT_type, DW_TAG_variable}
 use Rattle.dwc_base.specs.declared.wasm.ValType.{ValType}
 use Rattle.dwc_base.specs.declared.wasm.ValType.TheVariants.{I32, I64, F32, F64, Other}
-use Rattle.dwc_base.proofs.ForestLaws.{Each, each_both}
-use Rattle.dwc_base.proofs.ForestTargets.{made-targets}
-use Rattle.dwc_base.proofs.SimulatedUnitLaws.{last-number, units-counted}
+use Rattle.dwc_rules.proofs.ForestLaws.{Each, each_both}
+use Rattle.dwc_carried.proofs.ForestTargets.{made-targets}
+use Rattle.dwc_carried.proofs.SimulatedUnitLaws.{last-number, units-counted}
 
 -- ---- what is there with more trees behind
 

@@ -6,16 +6,17 @@ use Rattle.std.proofs.lemmas.List.{append-nil, length-map}
 use Rattle.std.proofs.lemmas.List.Elements.{All-weaker}
 use Rattle.std.proofs.lemmas.List.Sums.{sum_by-cons}
 use Rattle.dwc_base.specs.declared.wasm.ModuleTranslation.{ModuleTranslation}
-use Rattle.dwc_base.specs.Carried.{Module, listed_unit}
-use Rattle.dwc_base.specs.DraftForests.{settled_unit}
-use Rattle.dwc_base.specs.Functions.{Function, Recorded, recorded_sources}
-use Rattle.dwc_base.specs.LastUnit.{last_refusals, listed_in_files, path_refusals, widest_listed}
-use Rattle.dwc_base.specs.Refusals.{Refusal, bad_path, first_of}
-use Rattle.dwc_base.specs.SimulatedLines as Lines
-use Rattle.dwc_base.specs.SimulatedUnit.{base_types, simulated_refusals, simulated_root, simulated_unit}
-use Rattle.dwc_base.specs.Trees.{TreeValue}
-use Rattle.dwc_base.specs.UnitPaths.{is_file_name, next_id_behind, path_name, unit_path}
-use Rattle.dwc_base.specs.Widest.{widest_header, widest_image}
+use Rattle.dwc_rules.specs.Carried.{Module, listed_unit}
+use Rattle.dwc_rules.specs.DraftForests.{settled_unit}
+use Rattle.dwc_native.specs.Functions.{Function, Recorded, recorded_sources}
+use Rattle.dwc_carried.specs.LastUnit.{last_refusals, listed_in_files, path_refusals, widest_listed}
+use Rattle.dwc_rules.specs.Refusals.{Refusal, bad_path}
+use Rattle.dwc_base.specs.Listing.{first_of}
+use Rattle.dwc_output.specs.SimulatedLines as Lines
+use Rattle.dwc_carried.specs.SimulatedUnit.{base_types, simulated_refusals, simulated_root, simulated_unit}
+use Rattle.dwc_dwarf.specs.Trees.{TreeValue}
+use Rattle.dwc_carried.specs.UnitPaths.{is_file_name, next_id_behind, path_name, unit_path}
+use Rattle.dwc_output.specs.Widest.{widest_header, widest_image}
 use Rattle.dwc_clif.specs.Registers.{Registers}
 use Rattle.dwc_addr.specs.Compilations.{CompilationValue, IsCounted}
 use Rattle.dwc_image.specs.SimulatedSequences.{CanList, line_of_recorded, lines_of_recorded, simulated_program, simulated_sequence}

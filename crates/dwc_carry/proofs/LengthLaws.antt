@@ -6,11 +6,12 @@ use Rattle.std.specs.List.{cons_option, flat_map, list_any}
 use Rattle.std.proofs.lemmas.List.{append_assoc}
 use Rattle.std.proofs.lemmas.List.Elements.{All-nil, All-cons, All-head, All-tail}
 use Rattle.dwc_base.specs.declared.faults.Limit.TheVariants.{Addend}
-use Rattle.dwc_base.specs.Functions.{AddressMap, Function, map_fault, function_of, functions_of, wasm_entry}
-use Rattle.dwc_base.specs.Runs.{HasGoodMap}
-use Rattle.dwc_base.specs.Addends.{is_long, HaveAddends}
-use Rattle.dwc_base.specs.Refusals.{Refusal, long_function, first_of}
-use Rattle.dwc_base.specs.Forests.{function_refusals}
+use Rattle.dwc_native.specs.Functions.{AddressMap, Function, map_fault, function_of, functions_of, wasm_entry}
+use Rattle.dwc_native.specs.Runs.{HasGoodMap}
+use Rattle.dwc_native.specs.Addends.{is_long, HaveAddends}
+use Rattle.dwc_rules.specs.Refusals.{Refusal, long_function}
+use Rattle.dwc_base.specs.Listing.{first_of}
+use Rattle.dwc_carried.specs.Forests.{function_refusals}
 use Rattle.dwc_addr.proofs.EntryLaws.{all-good}
 use Rattle.dwc_image.specs.CarriedLines.{AreKept}
 use Rattle.dwc_carry.specs.declared.error.DebugError.{DebugError}

@@ -52,3 +52,4 @@ pub mod PathLaws
 pub mod SimulatedModuleLaws
 pub mod LastUnitLaws
 mod OutputNameLaws
+pub mod SettledLaws

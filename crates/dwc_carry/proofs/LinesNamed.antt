@@ -7,29 +7,30 @@ use Rattle.std.proofs.lemmas.List.Folds.{list_any-append}
 use Rattle.std.proofs.lemmas.List.Elements.{All-nil, All-cons, All-head, All-tail, All-append}
 use Rattle.dwc_base.specs.declared.constants.TheConstants.{DW_AT_stmt_list, DW_AT_ranges, DW_AT_endianity, DW_TAG_base_type, DW_TAG_compile_unit, DW_TAG_entry_point, DW_TAG_formal_parameter, DW_TAG_inlined_subroutine, DW_TAG_pointer_type, DW_TAG_reference_type, DW_TAG_subprogram, DW_FORM_data1, DW_END_little}
 use Rattle.dwc_base.specs.declared.records.Address.TheVariants.{Symbol}
-use Rattle.dwc_base.specs.Values.{Value, is_one_of}
-use Rattle.dwc_base.specs.Functions.{Function}
-use Rattle.dwc_base.specs.Compiled.{ToldModule}
-use Rattle.dwc_base.specs.Kept.{Placed, parent_of}
-use Rattle.dwc_base.specs.Trees.{Interval, TreeValue, constant, line_table, ranges, Tree, set_attribute}
-use Rattle.dwc_base.specs.Drafts.{Goal, itself, DraftValue, done}
-use Rattle.dwc_base.specs.DraftForests.{settled_value, settled, settled_entry}
-use Rattle.dwc_base.specs.Clones.{UnitSource, CodeRules, table_becomes, attribute_becomes, attributes_become, if_made, endianity, attributes_made}
-use Rattle.dwc_base.specs.CarriedDrafts.{draft_of, entry_made, unit_drafts}
-use Rattle.dwc_base.specs.ContextVariable.{context_entries}
-use Rattle.dwc_base.specs.LocationRules.{ExpressionSource}
-use Rattle.dwc_base.specs.ObjectPointers.{is_object_pointer, names_no_pointer, pointers_changed, points_to_object, unlike_this}
-use Rattle.dwc_base.specs.Texts.{TextSource}
-use Rattle.dwc_base.specs.Wrappers.{entries_made, with_wrapper}
-use Rattle.dwc_base.specs.Refusals.{Refusal}
+use Rattle.dwc_dwarf.specs.Values.{Value, is_one_of}
+use Rattle.dwc_native.specs.Functions.{Function}
+use Rattle.dwc_native.specs.Compiled.{ToldModule}
+use Rattle.dwc_rules.specs.Kept.{Placed, parent_of}
+use Rattle.dwc_dwarf.specs.Trees.{Interval, TreeValue, constant, line_table, ranges, Tree, set_attribute}
+use Rattle.dwc_rules.specs.Drafts.{Goal, itself, DraftValue, done}
+use Rattle.dwc_rules.specs.DraftForests.{settled_value, settled, settled_entry}
+use Rattle.dwc_rules.specs.Clones.{UnitSource, CodeRules, table_becomes, attribute_becomes, attributes_become, if_made, endianity, attributes_made}
+use Rattle.dwc_rules.specs.CarriedDrafts.{draft_of, entry_made, unit_drafts}
+use Rattle.dwc_rules.specs.ContextVariable.{context_entries}
+use Rattle.dwc_rules.specs.LocationRules.{ExpressionSource}
+use Rattle.dwc_rules.specs.ObjectPointers.{is_object_pointer, names_no_pointer, pointers_changed, points_to_object, unlike_this}
+use Rattle.dwc_dwarf.specs.Texts.{TextSource}
+use Rattle.dwc_rules.specs.Wrappers.{entries_made, with_wrapper}
+use Rattle.dwc_rules.specs.Refusals.{Refusal}
 use Rattle.dwc_base.specs.Sections.{Sections}
 use Rattle.dwc_base.specs.Units.{UnitHeader}
-use Rattle.dwc_base.specs.Entries.{Entry}
-use Rattle.dwc_base.specs.Lists.{list_source}
-use Rattle.dwc_base.specs.RawLists.{ListSource}
-use Rattle.dwc_base.specs.RangeAttributes.{begun_function, Extent, intervals, position, nowhere, extent, native_of_intervals, bounds as bounds_of, length_of, said_intervals, said_extent, range_attributes}
-use Rattle.dwc_base.specs.EntryRules.{code_rules, rules_of_source, wrappers_of}
-use Rattle.dwc_base.proofs.ForestLaws.{Each, each_chosen}
+use Rattle.dwc_dwarf.specs.Entries.{Entry}
+use Rattle.dwc_dwarf.specs.Lists.{list_source}
+use Rattle.dwc_dwarf.specs.RawLists.{ListSource}
+use Rattle.dwc_rules.specs.RangeAttributes.{begun_function, Extent, intervals, position, nowhere, extent, bounds as bounds_of, length_of, said_intervals, said_extent, range_attributes}
+use Rattle.dwc_native.specs.ScopesKept.{native_of_intervals}
+use Rattle.dwc_rules.specs.EntryRules.{code_rules, rules_of_source, wrappers_of}
+use Rattle.dwc_rules.proofs.ForestLaws.{Each, each_chosen}
 use Rattle.dwc_clone.specs.GivenAttributes.{Attribute}
 use Rattle.dwc_write.specs.declared.attributes.AttributeValue.{AttributeValue}
 use Rattle.dwc_write.specs.declared.attributes.AttributeValue.TheVariants.{Address, Constant, Flag, Block, Exprloc, StringRef, LineProgramRef, RangeListRef, LocationListRef, UnitRef, DebugInfoRef}

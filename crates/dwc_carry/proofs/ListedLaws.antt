@@ -9,15 +9,15 @@ use Rattle.std.proofs.lemmas.List.Elements.{All-nil, All-cons, All-head, All-tai
 use Rattle.dwc_base.specs.declared.records.MapFault.{MapFault}
 use Rattle.dwc_base.specs.declared.records.MapFault.TheVariants.{BodyOffset, BeforeCodeSection, Reversed, CodeFalls, CodePastBody, SourceOutside}
 use Rattle.dwc_base.specs.declared.wasm.ModuleTranslation.{ModuleTranslation}
-use Rattle.dwc_base.specs.Addends.{HaveAddends, is_long, longest_function}
-use Rattle.dwc_base.specs.Carried.{Module}
-use Rattle.dwc_base.specs.Compiled.{ToldModule}
-use Rattle.dwc_base.specs.DefinedFunctions.{DefinedFunction}
-use Rattle.dwc_base.specs.Functions.{AddressMap, Function, Recorded, bounds_fault, entry_fault, function_of, functions_of, is_source_within, map_fault, recorded_entry, recorded_sources, wasm_entry}
-use Rattle.dwc_base.specs.LastUnit.{listed_in_files}
-use Rattle.dwc_base.specs.ListedFunctions.{defined_from, is_listed, listed_among, listed_functions}
-use Rattle.dwc_base.specs.Refusals.{first_of}
-use Rattle.dwc_base.specs.SimulatedUnit.{whole_interval, whole_intervals}
+use Rattle.dwc_native.specs.Addends.{HaveAddends, is_long, longest_function}
+use Rattle.dwc_rules.specs.Carried.{Module}
+use Rattle.dwc_native.specs.Compiled.{ToldModule}
+use Rattle.dwc_carried.specs.DefinedFunctions.{DefinedFunction}
+use Rattle.dwc_native.specs.Functions.{AddressMap, Function, Recorded, bounds_fault, entry_fault, function_of, functions_of, is_source_within, map_fault, recorded_entry, recorded_sources, wasm_entry}
+use Rattle.dwc_carried.specs.LastUnit.{listed_in_files}
+use Rattle.dwc_carried.specs.ListedFunctions.{defined_from, is_listed, listed_among, listed_functions}
+use Rattle.dwc_base.specs.Listing.{first_of}
+use Rattle.dwc_carried.specs.SimulatedUnit.{whole_interval, whole_intervals}
 use Rattle.dwc_clif.specs.AddressMaps.{address_map_view}
 use Rattle.dwc_clif.specs.Registers.{Registers}
 use Rattle.dwc_addr.specs.Compilations.{CompilationValue, IsCounted}

@@ -11,10 +11,10 @@ use Rattle.std.proofs.lemmas.List.Elements.{All-nil, All-cons, All-head, All-tai
 use Rattle.dwc_base.specs.declared.records.Address.{Address}
 use Rattle.dwc_base.specs.declared.records.Address.TheVariants.{Symbol}
 use Rattle.dwc_base.specs.declared.wasm.ModuleTranslation.{ModuleTranslation}
-use Rattle.dwc_base.specs.Functions.{Function}
-use Rattle.dwc_base.specs.ListedFunctions.{is_listed}
-use Rattle.dwc_base.specs.SimulatedUnit.{whole_interval}
-use Rattle.dwc_base.specs.Trees.{Interval}
+use Rattle.dwc_native.specs.Functions.{Function}
+use Rattle.dwc_carried.specs.ListedFunctions.{is_listed}
+use Rattle.dwc_carried.specs.SimulatedUnit.{whole_interval}
+use Rattle.dwc_dwarf.specs.Trees.{Interval}
 use Rattle.dwc_addr.specs.declared.function_map.FunctionMap.{FunctionMap}
 use Rattle.dwc_image.specs.SimulatedSequences.{listed_view}
 use Rattle.dwc_write.specs.RangeLists.{FitsRange, interval_of}
@@ -98,12 +98,12 @@ ranges-more whole f left rs some can h = record {
     nonzero = false_from_ne_true (f.1.length == 0) (λ h. omega (arith, eqb-true f.1.length 0 h, some))
 
     interval : whole_interval f.1 ≡ Some (record { begin = Symbol f.1.number (pos 0); end = Symbol f.1.number (pos f.1.length) })
-    interval = ap (λ (b : Bool). if b then None else Some (Rattle.dwc_base.specs.Runs.interval_of f.1.number (0, f.1.length))) nonzero
+    interval = ap (λ (b : Bool). if b then None else Some (Rattle.dwc_native.specs.Runs.interval_of f.1.number (0, f.1.length))) nonzero
 
 -- one more without code
 pub ranges-none : (whole : List Interval) (f : ℕ × Function) (left : List (ℕ × Function)) (rs : List (Address × ℕ)) → f.1.length ≡ 0 → RangesSoFar whole (f ∷ left) rs → RangesSoFar whole left rs
 ranges-none whole f left rs none h = record {
-  say = ap (λ (k : ℕ). map interval_of rs ++ cons_option (if k == 0 then None else Some (Rattle.dwc_base.specs.Runs.interval_of f.1.number (0, f.1.length))) (intervals_of left)) (sym none) ∙ h.say;
+  say = ap (λ (k : ℕ). map interval_of rs ++ cons_option (if k == 0 then None else Some (Rattle.dwc_native.specs.Runs.interval_of f.1.number (0, f.1.length))) (intervals_of left)) (sym none) ∙ h.say;
   fit = h.fit;
 }
 

@@ -3,8 +3,8 @@ use Rattle.std.proofs.Common.{◌≡◌, ℕ, zero, suc, ◌+◌, ◌<◌, arith
 use Rattle.std.specs.List.{flat_map, AllZip}
 use Rattle.std.proofs.lemmas.List.{append-nil, append_assoc, length-append}
 use Rattle.std.proofs.lemmas.List.Elements.{All-nil, All-cons, All-head, All-tail}
-use Rattle.dwc_base.specs.Carried.{WantedUnit}
-use Rattle.dwc_base.specs.Trees.{Tree}
+use Rattle.dwc_rules.specs.Carried.{WantedUnit}
+use Rattle.dwc_dwarf.specs.Trees.{Tree}
 use Rattle.std.specs.Prelude.{slice_get, option_map, option_and_then}
 use Rattle.dwc_write.specs.GivenUnits.{Addition, GivenUnit, place_of}
 use Rattle.dwc_write.specs.UsedTexts.{texts_of_attributes}

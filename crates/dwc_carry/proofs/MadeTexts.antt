@@ -6,7 +6,7 @@ use Rattle.std.proofs.lemmas.List.{append_assoc, drop_more, get_or_append_left, 
 use Rattle.std.proofs.lemmas.List.Elements.{All-nil, All-cons}
 use Rattle.std.proofs.lemmas.Bool.{and_parts, ltb-true}
 use Rattle.std.specs.Prelude.{nat_lt, true}
-use Rattle.dwc_base.specs.TreeLaws.{with_new_text}
+use Rattle.dwc_dwarf.specs.TreeLaws.{with_new_text}
 use Rattle.dwc_write.specs.declared.strings.StringId.{StringId}
 use Rattle.dwc_write.specs.TextTables.{IsText}
 use Rattle.dwc_write.specs.UsedTexts.{text_numbered}

@@ -4,13 +4,16 @@ use Rattle.std.specs.Prelude.{option_map, option_to_list}
 use Rattle.std.specs.List.{flat_map}
 use Rattle.dwc_base.specs.declared.faults.Kind.TheVariants.{Compressed}
 use Rattle.dwc_base.specs.Sections.{Fault, unsupported}
-use Rattle.dwc_base.specs.Carried.{units, Module}
-use Rattle.dwc_base.specs.Refusals.{Refusal, of_place, unit_refusal, first_of}
-use Rattle.dwc_base.specs.KeptModules.{kept_module, carried_in}
-use Rattle.dwc_base.specs.EntryRules.{named_faults}
-use Rattle.dwc_base.specs.ReachedEntries.{info_faults, unit_refusals}
-use Rattle.dwc_base.specs.ReachedEntries as Reached
-use Rattle.dwc_base.specs.Forests.{kept_of, rules_of, reading_refusals}
+use Rattle.dwc_rules.specs.Carried.{Module}
+use Rattle.dwc_dwarf.specs.ReadUnits.{units}
+use Rattle.dwc_rules.specs.Refusals.{Refusal, of_place, unit_refusal}
+use Rattle.dwc_base.specs.Listing.{first_of}
+use Rattle.dwc_rules.specs.KeptModules.{kept_module, carried_in}
+use Rattle.dwc_rules.specs.EntryRules.{named_faults}
+use Rattle.dwc_rules.specs.ReachedEntries.{info_faults, unit_refusals}
+use Rattle.dwc_rules.specs.ReachedEntries as Reached
+use Rattle.dwc_carried.specs.Forests.{rules_of, reading_refusals}
+use Rattle.dwc_rules.specs.CarriedUnits.{kept_of}
 use Rattle.dwc_read.specs.declared.fault.ReadFault.{ReadFault}
 use Rattle.dwc_read.specs.declared.fault.ReadFault.TheVariants as read
 use Rattle.dwc_read.specs.Faults.{fault_seen}

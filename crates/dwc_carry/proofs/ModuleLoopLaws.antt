@@ -5,14 +5,19 @@ use Rattle.std.specs.List.{flat_map}
 use Rattle.std.proofs.lemmas.List.{append-nil, append_assoc, length-append, length-map}
 use Rattle.std.proofs.lemmas.List.Elements.{All-nil, All-cons}
 use Rattle.std.specs.BTreeSet.{BTreeSet, IsEmpty}
-use Rattle.dwc_base.specs.Carried.{units, Module}
-use Rattle.dwc_base.specs.Refusals.{Refusal, first_of}
-use Rattle.dwc_base.specs.DraftForests.{units_drafted, place_of_goal, settled_unit, trees_from}
-use Rattle.dwc_base.specs.Forests.{wanted_units_of, module_refusals, module_drafts}
-use Rattle.dwc_base.specs.ListedFunctions.{begun_in_module, is_number_of}
-use Rattle.dwc_base.specs.OwnUnits.{place_of_context_pointer}
-use Rattle.dwc_base.specs.SimulatedUnit.{unit_count}
-use Rattle.dwc_base.specs.Trees.{Tree}
+use Rattle.dwc_rules.specs.Carried.{Module}
+use Rattle.dwc_dwarf.specs.ReadUnits.{units}
+use Rattle.dwc_rules.specs.Refusals.{Refusal}
+use Rattle.dwc_base.specs.Listing.{first_of}
+use Rattle.dwc_rules.specs.DraftForests.{units_drafted, place_of_goal, settled_unit, trees_from}
+use Rattle.dwc_carried.specs.Forests.{module_refusals}
+use Rattle.dwc_rules.specs.ModuleDrafts.{module_drafts}
+use Rattle.dwc_rules.specs.CarriedUnits.{wanted_units_of}
+use Rattle.dwc_carried.specs.ListedFunctions.{begun_in_module}
+use Rattle.dwc_rules.specs.RangeAttributes.{is_number_of}
+use Rattle.dwc_rules.specs.OwnUnits.{place_of_context_pointer}
+use Rattle.dwc_carried.specs.SimulatedUnit.{unit_count}
+use Rattle.dwc_dwarf.specs.Trees.{Tree}
 use Rattle.dwc_write.specs.GivenUnits.{GivenUnit}
 use Rattle.dwc_write.specs.declared.attributes.DebugInfoRef.{DebugInfoRef}
 use Rattle.dwc_clone.specs.BegunNumbers.{NotesFunctions}

@@ -3,8 +3,8 @@ use Rattle.std.proofs.Common.{◌≡◌, ℕ, None, suc, ◌+◌, ◌<◌, ◌�
 use Rattle.std.specs.List.Sorted.{IsNonDecreasingBy}
 use Rattle.std.proofs.lemmas.Bool.{lt-ltb, le-ltb}
 use Rattle.std.proofs.lemmas.List.{append_assoc, drop_more}
-use Rattle.dwc_base.specs.Carried.{Module}
-use Rattle.dwc_base.specs.Compiled.{nothing_told}
+use Rattle.dwc_rules.specs.Carried.{Module}
+use Rattle.dwc_native.specs.Compiled.{nothing_told}
 use Rattle.dwc_base.specs.ToldFiles.{bare_file}
 use Rattle.dwc_kept.specs.declared.read_unit.ReadUnit.{ReadUnit}
 use Rattle.dwc_kept.specs.declared.kept_units.KeptModule.{KeptModule}

@@ -6,9 +6,9 @@ use Rattle.std.proofs.lemmas.List.{append_assoc}
 use Rattle.dwc_base.specs.declared.records.Endian.{Endian}
 use Rattle.dwc_base.specs.declared.section_name.SectionName.{SectionName}
 use Rattle.dwc_base.specs.declared.section_name.SectionName.TheVariants.{Abbrev, Frame, Info, Line, Loc, Ranges, Str}
-use Rattle.dwc_base.specs.CallFrames.{CommonEntry, FrameDescription}
-use Rattle.dwc_base.specs.FrameSections.{frame_section, frame_section_if}
-use Rattle.dwc_base.specs.OutputForm.{are_of_output, stand_in_order}
+use Rattle.dwc_native.specs.CallFrames.{CommonEntry, FrameDescription}
+use Rattle.dwc_output.specs.FrameSections.{frame_section, frame_section_if}
+use Rattle.dwc_output.specs.OutputForm.{are_of_output, stand_in_order}
 use Rattle.dwc_base.specs.Outputs.{OutputRelocation, OutputSection}
 use Rattle.dwc_base.specs.Sections.{section_text}
 use Rattle.dwc_write.specs.declared.frames.FrameTable.{FrameTable}

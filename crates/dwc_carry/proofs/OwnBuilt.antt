@@ -4,13 +4,14 @@ use Rattle.std.specs.Prelude.{if◌then◌else◌, option_map, nat_lt, Option}
 use Rattle.std.specs.List.{list_all}
 use Rattle.std.proofs.lemmas.List.{length-map}
 use Rattle.std.proofs.lemmas.List.Elements.{All-nil, All-cons}
-use Rattle.dwc_base.proofs.ForestLaws.{Each}
-use Rattle.dwc_base.specs.Carried.{own_unit}
-use Rattle.dwc_base.specs.Compiled.{Memory, no_memory, defined, imported}
-use Rattle.dwc_base.specs.OwnUnits as Own
-use Rattle.dwc_base.specs.OwnUnits.{place_of_context_pointer, place_of_wasm_pointer}
-use Rattle.dwc_base.specs.Forests.{own_refusals}
-use Rattle.dwc_base.specs.Refusals.{far_memory, first_of}
+use Rattle.dwc_rules.proofs.ForestLaws.{Each}
+use Rattle.dwc_rules.specs.Carried.{own_unit}
+use Rattle.dwc_native.specs.Compiled.{Memory, no_memory, defined, imported}
+use Rattle.dwc_rules.specs.OwnUnits as Own
+use Rattle.dwc_rules.specs.OwnUnits.{place_of_context_pointer, place_of_wasm_pointer}
+use Rattle.dwc_carried.specs.Forests.{own_refusals}
+use Rattle.dwc_rules.specs.Refusals.{far_memory}
+use Rattle.dwc_base.specs.Listing.{first_of}
 use Rattle.dwc_write.specs.declared.attributes.DebugInfoRef.{DebugInfoRef}
 use Rattle.dwc_write.specs.declared.attributes.DebugInfoRef.TheVariants.{Entry}
 use Rattle.dwc_write.specs.declared.strings.StringId.{StringId}

@@ -5,18 +5,18 @@ use Rattle.std.specs.Option.{option_or}
 use Rattle.std.specs.List.{list_all}
 use Rattle.std.proofs.lemmas.Bool.{and_parts, leb-true, ltb-true}
 use Rattle.std.proofs.lemmas.List.Elements.{All-nil, All-cons}
-use Rattle.dwc_base.proofs.ForestLaws.{Each, Anywhere, SaysNoPlace, UnitSaysNoPlace}
-use Rattle.dwc_base.proofs.ForestTargets.{own-no-place}
-use Rattle.dwc_base.specs.Drafts.{Goal, made_of, own_entry, DraftValue, done, goes_to, Draft}
-use Rattle.dwc_base.specs.DraftForests.{place_of_goal}
+use Rattle.dwc_rules.proofs.ForestLaws.{Each, Anywhere, SaysNoPlace, UnitSaysNoPlace}
+use Rattle.dwc_carried.proofs.ForestTargets.{own-no-place}
+use Rattle.dwc_rules.specs.Drafts.{Goal, made_of, own_entry, DraftValue, done, goes_to, Draft}
+use Rattle.dwc_rules.specs.DraftForests.{place_of_goal}
 use Rattle.dwc_kept.proofs.NumberedGoals.{own-apart}
-use Rattle.dwc_base.specs.Carried.{own_unit}
-use Rattle.dwc_base.specs.Compiled.{Memory, no_memory, defined, imported}
-use Rattle.dwc_base.specs.OwnUnits as Own
+use Rattle.dwc_rules.specs.Carried.{own_unit}
+use Rattle.dwc_native.specs.Compiled.{Memory, no_memory, defined, imported}
+use Rattle.dwc_rules.specs.OwnUnits as Own
 use Rattle.dwc_write.specs.AddedInOrder.{IsParent, IsInOrder, IsNumberedByPlaces, tree_meant}
 use Rattle.dwc_write.specs.Renumbered.{renumbered_entry}
 use Rattle.dwc_write.proofs.AddedInOrderUnits.{numbered-leads, numbered-place}
-use Rattle.dwc_write.proofs.SettledLaws.{IsPutAt, unit-put}
+use Rattle.dwc_carry.proofs.SettledLaws.{IsPutAt, unit-put}
 use Rattle.dwc_write.specs.GivenUnits.{Addition, IsWritable, ordered}
 use Rattle.dwc_write.specs.UsedTexts.{text_numbered, texts_of_attributes}
 use Rattle.dwc_carry.specs.declared.own_entries.OwnTexts.{OwnTexts}

@@ -3,16 +3,20 @@ use Rattle.std.proofs.Common.{◌≡◌, ℕ, suc, ◌+◌, ◌<◌, List, [], �
 use Rattle.std.specs.Prelude.{option_map}
 use Rattle.std.specs.List.{flat_map}
 use Rattle.std.proofs.lemmas.List.{append-nil, append_assoc, length-append, length-map}
-use Rattle.dwc_base.specs.Carried.{Unit, Module, own_unit, carried_unit}
-use Rattle.dwc_base.specs.Compiled.{Memory, no_memory, defined, imported}
-use Rattle.dwc_base.specs.OwnUnits as Own
-use Rattle.dwc_base.specs.OwnUnits.{memory_members, place_of_context_pointer}
-use Rattle.dwc_base.specs.Drafts.{Draft}
-use Rattle.dwc_base.specs.Refusals.{Refusal, first_of}
-use Rattle.dwc_base.specs.KeptModules.{carried_in, kept_in}
-use Rattle.dwc_base.specs.CarriedDrafts.{source_of, unit_drafts, carried_drafts}
-use Rattle.dwc_base.specs.DraftForests.{place_of_goal, settled_entry, settled_unit, trees_from}
-use Rattle.dwc_base.specs.Forests.{kept_of, expressions_of, carried_units_of, wanted_units_of, own_refusals, reading_refusals, module_refusals, module_drafts}
+use Rattle.dwc_rules.specs.Carried.{Module, own_unit, carried_unit}
+use Rattle.dwc_dwarf.specs.ReadUnits.{Unit}
+use Rattle.dwc_native.specs.Compiled.{Memory, no_memory, defined, imported}
+use Rattle.dwc_rules.specs.OwnUnits as Own
+use Rattle.dwc_rules.specs.OwnUnits.{memory_members, place_of_context_pointer}
+use Rattle.dwc_rules.specs.Drafts.{Draft}
+use Rattle.dwc_rules.specs.Refusals.{Refusal}
+use Rattle.dwc_base.specs.Listing.{first_of}
+use Rattle.dwc_rules.specs.KeptModules.{carried_in, kept_in}
+use Rattle.dwc_rules.specs.CarriedDrafts.{source_of, unit_drafts, carried_drafts}
+use Rattle.dwc_rules.specs.DraftForests.{place_of_goal, settled_entry, settled_unit, trees_from}
+use Rattle.dwc_carried.specs.Forests.{own_refusals, reading_refusals, module_refusals}
+use Rattle.dwc_rules.specs.ModuleDrafts.{expressions_of, module_drafts}
+use Rattle.dwc_rules.specs.CarriedUnits.{kept_of, carried_units_of, wanted_units_of}
 use Rattle.dwc_write.specs.declared.units.Dwarf.{Dwarf}
 use Rattle.dwc_write.specs.AddedInOrder.{IsNumberedByPlaces, tree_meant}
 use Rattle.dwc_write.specs.Renumbered.{renumbered_entry}

@@ -8,10 +8,10 @@ use Rattle.std.proofs.lemmas.Fmt.{decimal_is_IsNumeral}
 use Rattle.std.proofs.lemmas.Str.Parse.{digit_at}
 use Rattle.std.proofs.lemmas.List.Elements.{All-append, All-drop, All-from_get_or, All-take}
 use Rattle.dwc_base.specs.declared.wasm.ModuleTranslation.{ModuleTranslation}
-use Rattle.dwc_base.specs.Carried.{Module}
-use Rattle.dwc_base.specs.Compiled.{ToldModule}
+use Rattle.dwc_rules.specs.Carried.{Module}
+use Rattle.dwc_native.specs.Compiled.{ToldModule}
 use Rattle.dwc_base.specs.TranslationNames.{told_file}
-use Rattle.dwc_base.specs.UnitPaths.{cut_path, is_file_name, is_slash, numbered_path, path_name, unit_path, without_zero}
+use Rattle.dwc_carried.specs.UnitPaths.{cut_path, is_file_name, is_slash, numbered_path, path_name, unit_path, without_zero}
 use Rattle.dwc_clif.specs.Registers.{Registers}
 use Rattle.dwc_addr.specs.Compilations.{CompilationValue, IsCounted}
 use Rattle.dwc_addr.specs.Numbers.{Compiled}
@@ -106,7 +106,7 @@ module _ (c : CompilationValue) (t : ModuleTranslation) (u : UnitPath) (at : t �
       let first = has-first registers c counted some in
       let file = first-file registers c t first.m first.ms at first.is in
       ap (λ (b : Bool). counted_name b c) (of.is_generated first.m file)
-      ∙ ap (λ (ms : List Module). record c { next_id = Rattle.dwc_base.specs.UnitPaths.next_id_behind c.next_id ms }) (sym first.is)
+      ∙ ap (λ (ms : List Module). record c { next_id = Rattle.dwc_carried.specs.UnitPaths.next_id_behind c.next_id ms }) (sym first.is)
 
 -- What is given as the path of the unit of a module has no zero byte.
 pub plain-given : {E : Type 0} (t : ModuleTranslation) (next_id : ℕ) (r : Result UnitPath E) → next_id < 2 ^ 64 → IfOk r (IsUnitPath t next_id) → (m : Module) → m.file ≡ told_file t → IfOk r (λ u. IsText u.path.items)

@@ -5,8 +5,8 @@ use Rattle.dwc_base.specs.Listing.{only_fault}
 use Rattle.dwc_base.specs.Sections.{Sections, Fault}
 use Rattle.dwc_base.specs.Abbreviations.{Declaration, abbreviation_table}
 use Rattle.dwc_base.specs.Units.{UnitHeader}
-use Rattle.dwc_base.specs.Entries.{entries, entries_from, root_place}
-use Rattle.dwc_base.specs.Targets.{entry_listed, entry_begun_at}
+use Rattle.dwc_dwarf.specs.Entries.{entries, entries_from, root_place}
+use Rattle.dwc_rules.specs.Targets.{entry_listed, entry_begun_at}
 use Rattle.dwc_read.specs.Faults.{Refuses}
 
 -- the entries of a unit whose abbreviation table is read

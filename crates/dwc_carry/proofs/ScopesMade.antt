@@ -6,15 +6,16 @@ use Rattle.std.specs.Option.{option_or}
 use Rattle.std.proofs.lemmas.List.Elements.{All-nil, All-cons}
 use Rattle.dwc_base.specs.declared.records.Endian.{Endian}
 use Rattle.dwc_base.specs.declared.wasm.ModuleTranslation.{ModuleTranslation}
-use Rattle.dwc_base.specs.CallFrames.{CommonEntry}
-use Rattle.dwc_base.specs.Functions.{AddressMap, Function, functions_of}
-use Rattle.dwc_base.specs.Carried.{Module}
-use Rattle.dwc_base.specs.Compiled.{ToldModule}
-use Rattle.dwc_base.specs.Forests.{wanted_units, drafts_of, first_refusal, is_big, trees_made}
-use Rattle.dwc_base.specs.LocationsCarried.{LocationsCarried}
-use Rattle.dwc_base.specs.ScopesCarried.{AreNumbered, ScopesCarried, TranslationsKeepScopes}
-use Rattle.dwc_base.proofs.LocationForest.{made-locations}
-use Rattle.dwc_base.proofs.ScopeForest.{made-scopes}
+use Rattle.dwc_native.specs.CallFrames.{CommonEntry}
+use Rattle.dwc_native.specs.Functions.{AddressMap, Function, functions_of}
+use Rattle.dwc_rules.specs.Carried.{Module}
+use Rattle.dwc_native.specs.Compiled.{ToldModule}
+use Rattle.dwc_carried.specs.Forests.{wanted_units, drafts_of, first_refusal, is_big, trees_made}
+use Rattle.dwc_carried.specs.LocationsCarried.{LocationsCarried}
+use Rattle.dwc_rules.specs.ScopesCarried.{ScopesCarried}
+use Rattle.dwc_native.specs.ScopesKept.{AreNumbered, TranslationsKeepScopes}
+use Rattle.dwc_carried.proofs.LocationForest.{made-locations}
+use Rattle.dwc_carried.proofs.ScopeForest.{made-scopes}
 use Rattle.dwc_clif.specs.AddressMaps.{address_map_view}
 use Rattle.dwc_clif.specs.Registers.{Registers}
 use Rattle.dwc_addr.specs.Numbers.{Compiled}
@@ -24,8 +25,8 @@ use Rattle.dwc_write.specs.GivenTrees.{given_trees}
 use Rattle.dwc_write.specs.GivenUnits.{GivenUnit, ordered}
 use Rattle.dwc_carry.specs.Refusals.{in_reading}
 use Rattle.dwc_write.specs.Renumbered.{place_at}
-use Rattle.dwc_base.specs.ContextsCarried.{ContextsCarried}
-use Rattle.dwc_base.proofs.ContextForest.{made-contexts}
+use Rattle.dwc_carried.specs.ContextsCarried.{ContextsCarried}
+use Rattle.dwc_carried.proofs.ContextForest.{made-contexts}
 use Rattle.dwc_carry.specs.MadeUnits.{AreMadeOf}
 use Rattle.dwc_carry.specs.Inputs.{names_of, module_view, modules_from, told_from, input_of, bad_map_from, bad_map, maps_refusal, refusal_of}
 use Rattle.dwc_carry.proofs.CompositionLaws.{made-trees}

@@ -5,14 +5,14 @@ use Rattle.std.proofs.lemmas.List.{map-append}
 use Rattle.std.proofs.lemmas.List.Elements.{All-nil, All-cons}
 use Rattle.std.specs.List.{AllZip}
 use Rattle.dwc_base.specs.declared.constants.TheConstants.{DW_ATE_float, DW_ATE_signed}
-use Rattle.dwc_base.specs.BuiltExpressions.{Surroundings, label_over}
-use Rattle.dwc_base.specs.Carried.{Module}
-use Rattle.dwc_base.specs.DefinedFunctions.{DefinedFunction}
-use Rattle.dwc_base.specs.DraftForests.{settled_entry}
-use Rattle.dwc_base.specs.Drafts.{Draft}
-use Rattle.dwc_base.specs.Functions.{Function}
-use Rattle.dwc_base.specs.Parts.{context_label}
-use Rattle.dwc_base.specs.SimulatedUnit.{base_type, base_types, context_entry, first_source, function_entry, function_index, function_name, label_located, local_entry, local_name, local_tag, surroundings_of}
+use Rattle.dwc_native.specs.BuiltExpressions.{Surroundings, label_over}
+use Rattle.dwc_rules.specs.Carried.{Module}
+use Rattle.dwc_carried.specs.DefinedFunctions.{DefinedFunction}
+use Rattle.dwc_rules.specs.DraftForests.{settled_entry}
+use Rattle.dwc_rules.specs.Drafts.{Draft}
+use Rattle.dwc_native.specs.Functions.{Function}
+use Rattle.dwc_native.specs.Parts.{context_label}
+use Rattle.dwc_carried.specs.SimulatedUnit.{base_type, base_types, context_entry, first_source, function_entry, function_index, function_name, label_located, local_entry, local_name, local_tag, surroundings_of}
 use Rattle.dwc_write.specs.declared.attributes.DebugInfoRef.{DebugInfoRef}
 use Rattle.dwc_write.specs.declared.attributes.DebugInfoRef.TheVariants.{Entry}
 use Rattle.dwc_write.specs.LocationLists.{LocationList}

@@ -3,11 +3,11 @@ use Rattle.std.proofs.Common.{◌≡◌, ℕ, suc, ◌+◌, ◌<◌, arith, refl
 use Rattle.std.specs.Prelude.{is_some}
 use Rattle.std.specs.List.{flat_map}
 use Rattle.std.proofs.lemmas.List.{length-map}
-use Rattle.dwc_base.specs.Carried.{Module, WantedUnit}
-use Rattle.dwc_base.specs.DraftForests.{settled_unit}
-use Rattle.dwc_base.specs.Drafts.{Draft}
-use Rattle.dwc_base.specs.SimulatedUnit.{base_types, modules_entries, simulated_root, simulated_unit, whole_intervals}
-use Rattle.dwc_base.specs.Trees.{TreeValue}
+use Rattle.dwc_rules.specs.Carried.{Module, WantedUnit}
+use Rattle.dwc_rules.specs.DraftForests.{settled_unit}
+use Rattle.dwc_rules.specs.Drafts.{Draft}
+use Rattle.dwc_carried.specs.SimulatedUnit.{base_types, modules_entries, simulated_root, simulated_unit, whole_intervals}
+use Rattle.dwc_dwarf.specs.Trees.{TreeValue}
 use Rattle.dwc_write.specs.declared.lists.RangeList.{RangeList}
 use Rattle.dwc_write.specs.AddedInOrder.{with_entry}
 use Rattle.dwc_write.specs.GivenLines.{GivenLines}

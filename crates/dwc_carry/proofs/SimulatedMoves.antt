@@ -4,18 +4,18 @@ use Rattle.std.proofs.Common.{◌≡◌, ℕ, ◌<◌, refl, ap, ap₂, sym, ◌
 use Rattle.std.specs.Prelude.{◌==◌, codes, IfSome, option_map, option_and_then}
 use Rattle.std.specs.List.{cons_option, filter_map, flat_map}
 use Rattle.std.proofs.lemmas.List.{map-append}
-use Rattle.dwc_base.specs.Carried.{Module}
-use Rattle.dwc_base.specs.ContextVariable.{located_or_none}
-use Rattle.dwc_base.specs.DefinedFunctions.{DefinedFunction, types_at}
-use Rattle.dwc_base.specs.DraftForests.{settled_entry, settled_unit}
-use Rattle.dwc_base.specs.Drafts.{Draft, Goal, done}
-use Rattle.dwc_base.specs.ListedFunctions.{listed_functions}
-use Rattle.dwc_base.specs.MadeEntries.{made, named}
-use Rattle.dwc_base.specs.Parts.{context_label}
-use Rattle.dwc_base.specs.SimulatedUnit.{base_types, context_entry, function_entries, function_entry, label_entry, local_entry, local_name, local_tag, label_located, modules_entries, place_of_type, simulated_root, simulated_unit, type_place, whole_intervals}
+use Rattle.dwc_rules.specs.Carried.{Module}
+use Rattle.dwc_rules.specs.ContextVariable.{located_or_none}
+use Rattle.dwc_carried.specs.DefinedFunctions.{DefinedFunction, types_at}
+use Rattle.dwc_rules.specs.DraftForests.{settled_entry, settled_unit}
+use Rattle.dwc_rules.specs.Drafts.{Draft, Goal, done}
+use Rattle.dwc_carried.specs.ListedFunctions.{listed_functions}
+use Rattle.dwc_rules.specs.MadeEntries.{made, named}
+use Rattle.dwc_native.specs.Parts.{context_label}
+use Rattle.dwc_carried.specs.SimulatedUnit.{base_types, context_entry, function_entries, function_entry, label_entry, local_entry, local_name, local_tag, label_located, modules_entries, place_of_type, simulated_root, simulated_unit, type_place, whole_intervals}
 use Rattle.dwc_base.specs.ToldFiles.{type_of_local}
-use Rattle.dwc_base.specs.TreeReading.{entry_or_nothing}
-use Rattle.dwc_base.specs.Trees.{Location, TreeEntry, TreeValue, locations, text}
+use Rattle.dwc_output.specs.TreeReading.{entry_or_nothing}
+use Rattle.dwc_dwarf.specs.Trees.{Location, TreeEntry, TreeValue, locations, text}
 use Rattle.dwc_base.specs.declared.constants.TheConstants.{DW_AT_location, DW_AT_name, DW_AT_type, DW_TAG_variable}
 use Rattle.dwc_base.specs.declared.wasm.ValType.{ValType}
 use Rattle.dwc_base.specs.declared.wasm.ValType.TheVariants.{I32, I64, F32, F64, Other}

@@ -3,9 +3,9 @@ use Rattle.std.proofs.Common.{◌≡◌, ℕ, ◌<◌, refl, arith, List, [], �
 use Rattle.std.specs.Prelude.{codes}
 use Rattle.std.specs.List.{AllZip}
 use Rattle.std.proofs.lemmas.List.Elements.{All-nil, All-cons}
-use Rattle.dwc_base.specs.SimulatedUnit.{simulated_root}
-use Rattle.dwc_base.specs.Trees.{Interval}
-use Rattle.dwc_base.specs.UnitPaths.{path_directory, path_name}
+use Rattle.dwc_carried.specs.SimulatedUnit.{simulated_root}
+use Rattle.dwc_dwarf.specs.Trees.{Interval}
+use Rattle.dwc_carried.specs.UnitPaths.{path_directory, path_name}
 use Rattle.dwc_write.specs.declared.lists.RangeList.{RangeList}
 use Rattle.dwc_write.specs.GivenLines.{GivenLines}
 use Rattle.dwc_write.specs.GivenUnits.{Addition}

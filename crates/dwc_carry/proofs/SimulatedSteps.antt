@@ -3,13 +3,13 @@ use Rattle.std.proofs.Common.{◌≡◌, ℕ, ◌+◌, refl, sym, ap, subst, ◌
 use Rattle.std.specs.Prelude.{◌==◌, option_map}
 use Rattle.std.specs.List.{cons_option, filter_map, flat_map}
 use Rattle.std.proofs.lemmas.List.{append-nil, append_assoc}
-use Rattle.dwc_base.specs.Carried.{Module}
-use Rattle.dwc_base.specs.DefinedFunctions.{DefinedFunction}
-use Rattle.dwc_base.specs.Drafts.{Draft}
-use Rattle.dwc_base.specs.ListedFunctions.{listed_functions}
-use Rattle.dwc_base.specs.Parts.{context_label}
-use Rattle.dwc_base.specs.SimulatedUnit.{base_types, context_entry, first_source, function_entries, function_entry, function_index, function_name, label_entry, label_located, local_entry, local_name, local_tag, modules_entries, simulated_root, simulated_unit, type_place, whole_intervals}
-use Rattle.dwc_base.specs.Trees.{TreeValue}
+use Rattle.dwc_rules.specs.Carried.{Module}
+use Rattle.dwc_carried.specs.DefinedFunctions.{DefinedFunction}
+use Rattle.dwc_rules.specs.Drafts.{Draft}
+use Rattle.dwc_carried.specs.ListedFunctions.{listed_functions}
+use Rattle.dwc_native.specs.Parts.{context_label}
+use Rattle.dwc_carried.specs.SimulatedUnit.{base_types, context_entry, first_source, function_entries, function_entry, function_index, function_name, label_entry, label_located, local_entry, local_name, local_tag, modules_entries, simulated_root, simulated_unit, type_place, whole_intervals}
+use Rattle.dwc_dwarf.specs.Trees.{TreeValue}
 use Rattle.dwc_write.specs.declared.attributes.DebugInfoRef.{DebugInfoRef}
 use Rattle.dwc_write.specs.LocationLists.{LocationList}
 use Rattle.dwc_write.specs.declared.strings.StringId.{StringId}

@@ -10,19 +10,22 @@ use Rattle.std.proofs.lemmas.Option.{slice_get-get_or}
 use Rattle.dwc_base.specs.declared.records.Endian.{Endian}
 use Rattle.dwc_base.specs.declared.records.MapFault.{MapFault}
 use Rattle.dwc_base.specs.declared.wasm.ModuleTranslation.{ModuleTranslation}
-use Rattle.dwc_base.specs.Functions.{Function, functions_of}
-use Rattle.dwc_base.specs.Carried.{Module, Compilation, units}
-use Rattle.dwc_base.specs.Forests.{module_units, wanted_units, first_refusal, function_refusals, is_big, module_drafts, module_refusals, trees_made}
-use Rattle.dwc_base.specs.DraftForests.{settled_unit, trees_from}
-use Rattle.dwc_base.specs.LastUnit.{last_drafts, last_refusals, last_wanted, listed_drafts}
-use Rattle.dwc_base.specs.ListedFunctions.{is_begun}
-use Rattle.dwc_base.specs.SimulatedUnit.{context_pointers, unit_count}
-use Rattle.dwc_base.specs.Refusals.{Refusal, first_of}
-use Rattle.dwc_base.specs.Drafts.{Draft}
-use Rattle.dwc_base.specs.TreeReading.{entry_or_nothing}
-use Rattle.dwc_base.specs.Trees.{Tree, TreeValue}
-use Rattle.dwc_base.specs.TreeLaws.{HasAllTargets}
-use Rattle.dwc_base.proofs.SimulatedUnitLaws.{last-number}
+use Rattle.dwc_native.specs.Functions.{Function, functions_of}
+use Rattle.dwc_rules.specs.Carried.{Module, Compilation}
+use Rattle.dwc_dwarf.specs.ReadUnits.{units}
+use Rattle.dwc_carried.specs.Forests.{module_units, wanted_units, first_refusal, function_refusals, is_big, module_refusals, trees_made}
+use Rattle.dwc_rules.specs.ModuleDrafts.{module_drafts}
+use Rattle.dwc_rules.specs.DraftForests.{settled_unit, trees_from}
+use Rattle.dwc_carried.specs.LastUnit.{last_drafts, last_refusals, last_wanted, listed_drafts}
+use Rattle.dwc_carried.specs.ListedFunctions.{is_begun}
+use Rattle.dwc_carried.specs.SimulatedUnit.{context_pointers, unit_count}
+use Rattle.dwc_rules.specs.Refusals.{Refusal}
+use Rattle.dwc_base.specs.Listing.{first_of}
+use Rattle.dwc_rules.specs.Drafts.{Draft}
+use Rattle.dwc_output.specs.TreeReading.{entry_or_nothing}
+use Rattle.dwc_dwarf.specs.Trees.{Tree, TreeValue}
+use Rattle.dwc_dwarf.specs.TreeLaws.{HasAllTargets}
+use Rattle.dwc_carried.proofs.SimulatedUnitLaws.{last-number}
 use Rattle.dwc_clif.specs.AddressMaps.{address_map_view}
 use Rattle.dwc_clif.specs.Registers.{Registers}
 use Rattle.dwc_addr.specs.declared.error.AddrError.{AddrError}

@@ -1,13 +1,14 @@
 -- What is answered for a carried unit, from what its line program and its cloned entries answer.
 use Rattle.std.proofs.Common.{◌≡◌, refl, ℕ, List, [], ◌∷◌, ◌++◌, length, ap, sym, subst, ◌∙◌, Bool, Option, None, Result, Ok, Err}
 use Rattle.std.specs.Prelude.{option_map}
-use Rattle.dwc_base.specs.Entries.{entries}
-use Rattle.dwc_base.specs.Indexed.{text_base}
-use Rattle.dwc_base.specs.Carried.{Module}
-use Rattle.dwc_base.specs.Clones.{UnitSource}
-use Rattle.dwc_base.specs.CarriedDrafts.{source_of}
-use Rattle.dwc_base.specs.Forests.{kept_of}
-use Rattle.dwc_base.specs.Refusals.{lines_refusal, first_of}
+use Rattle.dwc_dwarf.specs.Entries.{entries}
+use Rattle.dwc_dwarf.specs.Indexed.{text_base}
+use Rattle.dwc_rules.specs.Carried.{Module}
+use Rattle.dwc_rules.specs.Clones.{UnitSource}
+use Rattle.dwc_rules.specs.CarriedDrafts.{source_of}
+use Rattle.dwc_rules.specs.CarriedUnits.{kept_of}
+use Rattle.dwc_rules.specs.Refusals.{lines_refusal}
+use Rattle.dwc_base.specs.Listing.{first_of}
 use Rattle.dwc_clif.specs.Registers.{Registers}
 use Rattle.dwc_kept.specs.declared.kept_units.KeptModule.{KeptModule}
 use Rattle.dwc_kept.specs.ReadUnits.{unit_read}

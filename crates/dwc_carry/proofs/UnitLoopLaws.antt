@@ -5,13 +5,15 @@ use Rattle.std.specs.List.{filter, flat_map}
 use Rattle.std.proofs.lemmas.Bool.{lt-ltb, le-ltb}
 use Rattle.std.proofs.lemmas.List.{append-nil, append_assoc, length-append, length-map, drop_more}
 use Rattle.std.proofs.lemmas.List.Elements.{All-nil, All-cons, All-head, All-tail, All-append, All-weaker}
-use Rattle.dwc_base.specs.Functions.{Function}
-use Rattle.dwc_base.specs.Compiled.{ToldModule}
+use Rattle.dwc_native.specs.Functions.{Function}
+use Rattle.dwc_native.specs.Compiled.{ToldModule}
 use Rattle.dwc_base.specs.Units.{UnitHeader}
-use Rattle.dwc_base.specs.Carried.{Unit, Module, carried_unit}
-use Rattle.dwc_base.specs.Refusals.{Refusal, first_of}
-use Rattle.dwc_base.specs.KeptModules.{carried_in}
-use Rattle.dwc_base.specs.Forests.{kept_of}
+use Rattle.dwc_rules.specs.Carried.{Module, carried_unit}
+use Rattle.dwc_dwarf.specs.ReadUnits.{Unit}
+use Rattle.dwc_rules.specs.Refusals.{Refusal}
+use Rattle.dwc_base.specs.Listing.{first_of}
+use Rattle.dwc_rules.specs.KeptModules.{carried_in}
+use Rattle.dwc_rules.specs.CarriedUnits.{kept_of}
 use Rattle.dwc_kept.specs.declared.read_unit.ReadUnit.{ReadUnit}
 use Rattle.dwc_kept.specs.declared.kept_units.KeptModule.{KeptModule}
 use Rattle.dwc_kept.specs.KeptUnits.{is_in_unit}

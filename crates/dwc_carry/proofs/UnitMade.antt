@@ -6,30 +6,34 @@ use Rattle.dwc_base.specs.declared.constants.TheConstants.{DW_AT_stmt_list}
 use Rattle.dwc_base.specs.Reading.{◌>>=◌}
 use Rattle.dwc_base.specs.Sections.{Sections, Fault}
 use Rattle.dwc_base.specs.Units.{UnitHeader}
-use Rattle.dwc_base.specs.Values.{Value}
-use Rattle.dwc_base.specs.Entries.{Entry, entries, attribute}
-use Rattle.dwc_base.specs.Indexed.{text_base}
-use Rattle.dwc_base.specs.LineRows.{LineTable, line_table}
-use Rattle.dwc_base.specs.Images.{is_carried_segment, IsImageOf}
-use Rattle.dwc_base.specs.Carried.{Unit, Module, root, line_offset, table_of_root, table_of_unit, segments_of}
-use Rattle.dwc_base.specs.Refusals.{Refusal, table_offset, lines_refusal, unit_refusal, first_of}
-use Rattle.dwc_base.specs.Widest.{widest_table}
-use Rattle.dwc_base.specs.Drafts.{Goal, Draft}
-use Rattle.dwc_base.specs.DraftForests.{settled_unit}
-use Rattle.dwc_base.specs.Clones.{UnitSource, entry_refusals}
-use Rattle.dwc_base.specs.KeptModules.{kept_module, kept_in}
-use Rattle.dwc_base.specs.CarriedDrafts.{readable_table, source_of, unit_drafts}
-use Rattle.dwc_base.specs.ReachedEntries.{kept_refusals}
-use Rattle.dwc_base.specs.EntryRules.{code_rules}
-use Rattle.dwc_base.specs.Forests.{kept_of, expressions_of, rules_of, drafts_of}
+use Rattle.dwc_dwarf.specs.Values.{Value}
+use Rattle.dwc_dwarf.specs.Entries.{Entry, entries, attribute}
+use Rattle.dwc_dwarf.specs.Indexed.{text_base}
+use Rattle.dwc_dwarf.specs.LineRows.{LineTable, line_table}
+use Rattle.dwc_native.specs.Images.{is_carried_segment, IsImageOf}
+use Rattle.dwc_rules.specs.Carried.{Module}
+use Rattle.dwc_dwarf.specs.ReadUnits.{Unit, root, line_offset, table_of_root, table_of_unit, segments_of}
+use Rattle.dwc_rules.specs.Refusals.{Refusal, table_offset, lines_refusal, unit_refusal}
+use Rattle.dwc_base.specs.Listing.{first_of}
+use Rattle.dwc_output.specs.Widest.{widest_table}
+use Rattle.dwc_rules.specs.Drafts.{Goal, Draft}
+use Rattle.dwc_rules.specs.DraftForests.{settled_unit}
+use Rattle.dwc_rules.specs.Clones.{UnitSource, entry_refusals}
+use Rattle.dwc_rules.specs.KeptModules.{kept_module, kept_in}
+use Rattle.dwc_rules.specs.CarriedDrafts.{readable_table, source_of, unit_drafts}
+use Rattle.dwc_rules.specs.ReachedEntries.{kept_refusals}
+use Rattle.dwc_rules.specs.EntryRules.{code_rules}
+use Rattle.dwc_carried.specs.Forests.{rules_of, drafts_of}
+use Rattle.dwc_rules.specs.ModuleDrafts.{expressions_of}
+use Rattle.dwc_rules.specs.CarriedUnits.{kept_of}
 use Rattle.dwc_kept.specs.declared.kept_units.KeptModule.{KeptModule}
 use Rattle.dwc_kept.specs.KeptUnits.{IsTree}
 use Rattle.dwc_kept.specs.ReadUnits.{unit_read}
 use Rattle.dwc_kept.specs.declared.read_unit.ReadUnit.{ReadUnit}
 use Rattle.dwc_base.proofs.InLists.{contains-in}
 use Rattle.dwc_kept.proofs.KeptModuleLaws.{read-unit, read-entries}
-use Rattle.dwc_base.specs.Functions.{Function}
-use Rattle.dwc_base.specs.Compiled.{ToldModule}
+use Rattle.dwc_native.specs.Functions.{Function}
+use Rattle.dwc_native.specs.Compiled.{ToldModule}
 use Rattle.dwc_clif.specs.Registers.{Registers}
 use Rattle.dwc_clone.specs.declared.places.EmittedEntry.{EmittedEntry}
 use Rattle.dwc_clone.specs.declared.error.CloneError.{CloneError}

@@ -10,25 +10,26 @@ use Rattle.dwc_base.specs.declared.constants.TheConstants.{DW_TAG_compile_unit, 
 use Rattle.dwc_base.specs.Sections.{Sections, Fault}
 use Rattle.dwc_base.specs.Listing.{Listing}
 use Rattle.dwc_base.specs.Units.{UnitHeader, unit_headers}
-use Rattle.dwc_base.specs.Entries.{Entry, entries}
-use Rattle.dwc_base.specs.ReadValues.{IsReadEntry}
-use Rattle.dwc_base.specs.Carried.{Unit, Module, units, units_of_headers, root, has_root_tag}
-use Rattle.dwc_base.specs.EntryRules.{is_required}
-use Rattle.dwc_base.specs.Indexed.{texts_of_unit}
-use Rattle.dwc_base.specs.Kept.{Placed, parent_of}
-use Rattle.dwc_base.specs.Functions.{Function}
-use Rattle.dwc_base.specs.Compiled.{ToldModule, Memory}
-use Rattle.dwc_base.specs.OwnUnits.{place_of_context_pointer, place_of_wasm_pointer}
-use Rattle.dwc_base.specs.TypeNames.{type_of}
-use Rattle.dwc_base.specs.Targets.{target_of}
-use Rattle.dwc_base.specs.Trees.{place_among}
-use Rattle.dwc_base.specs.KeptModules.{kept_module}
-use Rattle.dwc_base.specs.CarriedDrafts.{source_of}
-use Rattle.dwc_base.specs.Forests.{kept_of}
-use Rattle.dwc_base.proofs.ReadValuesEntries.{entries-read}
+use Rattle.dwc_dwarf.specs.Entries.{Entry, entries}
+use Rattle.dwc_dwarf.specs.ReadValues.{IsReadEntry}
+use Rattle.dwc_rules.specs.Carried.{Module, has_root_tag}
+use Rattle.dwc_dwarf.specs.ReadUnits.{Unit, units, units_of_headers, root}
+use Rattle.dwc_rules.specs.EntryRules.{is_required}
+use Rattle.dwc_dwarf.specs.Indexed.{texts_of_unit}
+use Rattle.dwc_rules.specs.Kept.{Placed, parent_of}
+use Rattle.dwc_native.specs.Functions.{Function}
+use Rattle.dwc_native.specs.Compiled.{ToldModule, Memory}
+use Rattle.dwc_rules.specs.OwnUnits.{place_of_context_pointer, place_of_wasm_pointer}
+use Rattle.dwc_rules.specs.TypeNames.{type_of}
+use Rattle.dwc_rules.specs.Targets.{target_of}
+use Rattle.dwc_dwarf.specs.Trees.{place_among}
+use Rattle.dwc_rules.specs.KeptModules.{kept_module}
+use Rattle.dwc_rules.specs.CarriedDrafts.{source_of}
+use Rattle.dwc_rules.specs.CarriedUnits.{kept_of}
+use Rattle.dwc_dwarf.proofs.ReadValuesEntries.{entries-read}
 use Rattle.dwc_kept.specs.declared.read_unit.ReadUnit.{ReadUnit}
 use Rattle.dwc_kept.specs.declared.kept_units.KeptModule.{KeptModule}
-use Rattle.dwc_base.specs.UnitOffsets.{RiseIn}
+use Rattle.dwc_dwarf.specs.UnitOffsets.{RiseIn}
 use Rattle.dwc_kept.specs.KeptUnits.{is_in_unit, stands_at, kept_of_unit, IsTree, AreEntryOffsets}
 use Rattle.dwc_kept.specs.ReadEntries.{named_offset}
 use Rattle.dwc_kept.specs.ReadUnits.{unit_read, IsReadUnit, IsKeptModule, is_carried_read}
@@ -222,7 +223,7 @@ module _ (k : CloneSource) (compile : Bool) (table : Option ℕ) (told : ToldMod
       }
 
   -- The root of the unit is the first of its kept entries.
-  pub first-root : (root : Entry) (others : List Entry) → kept_of_unit m.kept unit_of ≡ root ∷ others → Rattle.dwc_base.specs.Carried.root unit_of ≡ Some root
+  pub first-root : (root : Entry) (others : List Entry) → kept_of_unit m.kept unit_of ≡ root ∷ others → Rattle.dwc_dwarf.specs.ReadUnits.root unit_of ≡ Some root
   first-root root others e = read-root c m is (read_of k compile table) unit-in root others e
 
   lists-are : AreEntryOffsets (kept_of c) (emitted m.kept m.units.items)

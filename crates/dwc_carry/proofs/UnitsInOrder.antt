@@ -6,14 +6,14 @@ use Rattle.std.specs.List.Sorted.{IsNonDecreasingBy}
 use Rattle.std.proofs.lemmas.Bool.{leb-true, ltb-true, and_parts}
 use Rattle.dwc_base.specs.Sections.{Sections}
 use Rattle.dwc_base.specs.Units.{UnitHeader, unit_headers}
-use Rattle.dwc_base.specs.Carried.{Module}
-use Rattle.dwc_base.specs.EntryRules.{is_required}
+use Rattle.dwc_rules.specs.Carried.{Module}
+use Rattle.dwc_rules.specs.EntryRules.{is_required}
 use Rattle.dwc_kept.specs.declared.read_unit.ReadUnit.{ReadUnit}
 use Rattle.dwc_kept.specs.declared.kept_units.KeptModule.{KeptModule}
 use Rattle.dwc_kept.specs.KeptUnits.{is_in_unit}
-use Rattle.dwc_base.specs.UnitOffsets.{StandFrom}
+use Rattle.dwc_dwarf.specs.UnitOffsets.{StandFrom}
 use Rattle.dwc_kept.specs.ReadUnits.{IsReadUnit, IsKeptModule, is_carried_read}
-use Rattle.dwc_base.proofs.UnitOffsets.{units-stand}
+use Rattle.dwc_dwarf.proofs.UnitOffsets.{units-stand}
 use Rattle.dwc_kept.proofs.KeptUnitLaws.{kept-rise}
 use Rattle.dwc_kept.proofs.KeptModuleLaws.{read-kept}
 use Rattle.dwc_carry.specs.ModulePlaces.{carried_offsets, has_some, emitted}

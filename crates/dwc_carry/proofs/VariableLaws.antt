@@ -3,14 +3,15 @@ use Rattle.std.proofs.Common.{◌≡◌, ℕ, ◌+◌, ◌<◌, arith, refl, sym
 use Rattle.std.specs.Prelude.{◌==◌, ◌||◌, cond, is_some, option_and_then, if◌then◌else◌}
 use Rattle.std.specs.List.{filter, flat_map}
 use Rattle.std.proofs.lemmas.List.{length-append}
-use Rattle.dwc_base.specs.BuiltExpressions.{BuildRefusal, label_over}
-use Rattle.dwc_base.specs.Carried.{Module}
-use Rattle.dwc_base.specs.DefinedFunctions.{DefinedFunction}
-use Rattle.dwc_base.specs.Parts.{context_label}
-use Rattle.dwc_base.specs.Refusals.{Refusal, first_of}
-use Rattle.dwc_base.specs.SimulatedUnit.{has_entry, label_located, place_of_type, type_place, variable_refusals}
+use Rattle.dwc_native.specs.BuiltExpressions.{BuildRefusal, label_over}
+use Rattle.dwc_rules.specs.Carried.{Module}
+use Rattle.dwc_carried.specs.DefinedFunctions.{DefinedFunction}
+use Rattle.dwc_native.specs.Parts.{context_label}
+use Rattle.dwc_rules.specs.Refusals.{Refusal}
+use Rattle.dwc_base.specs.Listing.{first_of}
+use Rattle.dwc_carried.specs.SimulatedUnit.{has_entry, label_located, place_of_type, type_place, variable_refusals}
 use Rattle.dwc_base.specs.ToldFiles.{type_of_local}
-use Rattle.dwc_base.specs.Trees.{Location}
+use Rattle.dwc_dwarf.specs.Trees.{Location}
 use Rattle.dwc_clif.specs.Registers.{Registers}
 use Rattle.dwc_expr.specs.Builds.{surroundings}
 use Rattle.dwc_write.specs.AddedInOrder.{with_entry}

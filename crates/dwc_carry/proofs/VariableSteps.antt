@@ -2,14 +2,15 @@
 use Rattle.std.proofs.Common.{◌≡◌, ℕ, refl, sym, ap, subst, ◌∙◌, List, [], ◌∷◌, map, true, false, Option, Some, None, Result, Ok, Err}
 use Rattle.std.specs.Prelude.{◌==◌, option_map}
 use Rattle.std.proofs.lemmas.Bool.{eqb-true}
-use Rattle.dwc_base.specs.BuiltExpressions.{label_over}
-use Rattle.dwc_base.specs.Carried.{Module}
-use Rattle.dwc_base.specs.DefinedFunctions.{DefinedFunction}
-use Rattle.dwc_base.specs.Drafts.{Draft}
-use Rattle.dwc_base.specs.Parts.{context_label}
-use Rattle.dwc_base.specs.Refusals.{Refusal, first_of}
-use Rattle.dwc_base.specs.SimulatedUnit.{label_located, local_name, local_tag, type_place}
-use Rattle.dwc_base.specs.Trees.{TreeValue}
+use Rattle.dwc_native.specs.BuiltExpressions.{label_over}
+use Rattle.dwc_rules.specs.Carried.{Module}
+use Rattle.dwc_carried.specs.DefinedFunctions.{DefinedFunction}
+use Rattle.dwc_rules.specs.Drafts.{Draft}
+use Rattle.dwc_native.specs.Parts.{context_label}
+use Rattle.dwc_rules.specs.Refusals.{Refusal}
+use Rattle.dwc_base.specs.Listing.{first_of}
+use Rattle.dwc_carried.specs.SimulatedUnit.{label_located, local_name, local_tag, type_place}
+use Rattle.dwc_dwarf.specs.Trees.{TreeValue}
 use Rattle.dwc_clif.specs.Registers.{Registers}
 use Rattle.dwc_clif.specs.declared.value_label.ValueLabel.{ValueLabel}
 use Rattle.dwc_expr.specs.Builds.{location_view, surroundings}

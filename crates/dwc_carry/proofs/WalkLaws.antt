@@ -7,15 +7,16 @@ use Rattle.std.specs.List.{filter, prefix_len, take_while}
 use Rattle.std.proofs.lemmas.Bool.{cases_eq, eq-eqb, eqb-true, eqb-false, ne_eqb, not_from_false}
 use Rattle.std.proofs.lemmas.Option.{none-some}
 use Rattle.dwc_base.specs.declared.constants.TheConstants.{DW_TAG_constant, DW_TAG_formal_parameter, DW_TAG_namespace, DW_TAG_variable}
-use Rattle.dwc_base.specs.Entries.{Entry}
-use Rattle.dwc_base.specs.EntryRules.{is_required}
-use Rattle.dwc_base.specs.Carried.{Unit, Module, placed_entries}
-use Rattle.dwc_base.specs.Forests.{kept_of}
-use Rattle.dwc_base.specs.Kept.{Placed, is_parent, is_part_of, is_part_tag, keeps, parent_of, refers_to, same_place}
-use Rattle.dwc_base.specs.KeptEntries.{has_place}
-use Rattle.dwc_base.specs.KeptModules.{KeptModule, kept_in}
-use Rattle.dwc_base.specs.Scopes.{Rises, Steps}
-use Rattle.dwc_base.specs.UnitOffsets.{RiseIn}
+use Rattle.dwc_dwarf.specs.Entries.{Entry}
+use Rattle.dwc_rules.specs.EntryRules.{is_required}
+use Rattle.dwc_rules.specs.Carried.{Module, placed_entries}
+use Rattle.dwc_dwarf.specs.ReadUnits.{Unit}
+use Rattle.dwc_rules.specs.CarriedUnits.{kept_of}
+use Rattle.dwc_rules.specs.Kept.{Placed, is_parent, is_part_of, is_part_tag, keeps, parent_of, refers_to, same_place}
+use Rattle.dwc_rules.specs.KeptEntries.{has_place}
+use Rattle.dwc_rules.specs.KeptModules.{KeptModule, kept_in}
+use Rattle.dwc_rules.specs.Scopes.{Rises, Steps}
+use Rattle.dwc_dwarf.specs.UnitOffsets.{RiseIn}
 use Rattle.dwc_base.specs.Wasm.{last_of}
 use Rattle.dwc_base.proofs.InLists.{IsIn, contains-in, in-contains, in-filter, filter-in, in-map, map-in}
 use Rattle.dwc_kept.specs.declared.kept_units.KeptModule as read

@@ -4,12 +4,15 @@ use Rattle.std.specs.List.{flat_map}
 use Rattle.dwc_base.specs.declared.wasm.ModuleTranslation.{ModuleTranslation}
 use Rattle.dwc_base.specs.Translations.{translation_sections}
 use Rattle.dwc_base.specs.TranslationNames.{told_file}
-use Rattle.dwc_base.specs.Functions.{Function}
-use Rattle.dwc_base.specs.Compiled.{ToldModule}
-use Rattle.dwc_base.specs.Carried.{units, Module}
-use Rattle.dwc_base.specs.Refusals.{first_of}
-use Rattle.dwc_base.specs.DraftForests.{trees_from}
-use Rattle.dwc_base.specs.Forests.{wanted_units_of, reading_refusals, module_refusals, module_drafts}
+use Rattle.dwc_native.specs.Functions.{Function}
+use Rattle.dwc_native.specs.Compiled.{ToldModule}
+use Rattle.dwc_rules.specs.Carried.{Module}
+use Rattle.dwc_dwarf.specs.ReadUnits.{units}
+use Rattle.dwc_base.specs.Listing.{first_of}
+use Rattle.dwc_rules.specs.DraftForests.{trees_from}
+use Rattle.dwc_carried.specs.Forests.{reading_refusals, module_refusals}
+use Rattle.dwc_rules.specs.ModuleDrafts.{module_drafts}
+use Rattle.dwc_rules.specs.CarriedUnits.{wanted_units_of}
 use Rattle.dwc_write.specs.declared.units.Dwarf.{Dwarf}
 use Rattle.dwc_write.specs.GivenUnits.{GivenUnit}
 use Rattle.dwc_clone.specs.MadeValues.{Grows}

@@ -2,17 +2,21 @@
 use Rattle.std.specs.Prelude.{◌≡◌, ℕ, suc, ◌≤◌, ◌<◌, List, [], ◌∷◌, ◌++◌, map, length, Bool, Some, Option, Result, Contains, All}
 use Rattle.std.specs.List.{flat_map}
 use Rattle.dwc_base.specs.declared.section_name.SectionName.TheVariants.{Info}
-use Rattle.dwc_base.specs.Functions.{Function}
-use Rattle.dwc_base.specs.Compiled.{ToldModule}
-use Rattle.dwc_base.specs.Carried.{Unit, Module, carried_unit}
-use Rattle.dwc_base.specs.Refusals.{Refusal, unit_refusal, first_of}
-use Rattle.dwc_base.specs.KeptModules.{carried_in}
-use Rattle.dwc_base.specs.Drafts.{Goal, made_of, own_entry, itself}
-use Rattle.dwc_base.specs.DraftForests.{place_of_goal, settled_unit}
-use Rattle.dwc_base.specs.OwnUnits.{own_unit}
-use Rattle.dwc_base.specs.ReachedEntries.{unit_refusals}
-use Rattle.dwc_base.specs.Forests.{kept_of, rules_of, carried_units_of, drafts_of, module_drafts}
-use Rattle.dwc_base.specs.Trees.{Tree}
+use Rattle.dwc_native.specs.Functions.{Function}
+use Rattle.dwc_native.specs.Compiled.{ToldModule}
+use Rattle.dwc_rules.specs.Carried.{Module, carried_unit}
+use Rattle.dwc_dwarf.specs.ReadUnits.{Unit}
+use Rattle.dwc_rules.specs.Refusals.{Refusal, unit_refusal}
+use Rattle.dwc_base.specs.Listing.{first_of}
+use Rattle.dwc_rules.specs.KeptModules.{carried_in}
+use Rattle.dwc_rules.specs.Drafts.{Goal, made_of, own_entry, itself}
+use Rattle.dwc_rules.specs.DraftForests.{place_of_goal, settled_unit}
+use Rattle.dwc_rules.specs.OwnUnits.{own_unit}
+use Rattle.dwc_rules.specs.ReachedEntries.{unit_refusals}
+use Rattle.dwc_carried.specs.Forests.{rules_of, drafts_of}
+use Rattle.dwc_rules.specs.ModuleDrafts.{module_drafts}
+use Rattle.dwc_rules.specs.CarriedUnits.{kept_of, carried_units_of}
+use Rattle.dwc_dwarf.specs.Trees.{Tree}
 use Rattle.dwc_kept.specs.declared.read_unit.ReadUnit.{ReadUnit}
 use Rattle.dwc_kept.specs.declared.kept_units.KeptModule.{KeptModule}
 use Rattle.dwc_kept.specs.ReadUnits.{IsKeptModule}

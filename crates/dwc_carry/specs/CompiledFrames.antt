@@ -3,8 +3,8 @@
 use Rattle.std.specs.Prelude.{◌≡◌, ℕ, ◌+◌, List, [], ◌∷◌, ◌++◌, length, is_some, if◌then◌else◌, Option, None, option_map, Result, OnOk}
 use Rattle.std.specs.List.{cons_option}
 use Rattle.dwc_base.specs.declared.records.Endian.{Endian}
-use Rattle.dwc_base.specs.CallFrames.{CommonEntry, FrameDescription}
-use Rattle.dwc_base.specs.Forests.{frame_descriptions}
+use Rattle.dwc_native.specs.CallFrames.{CommonEntry, FrameDescription}
+use Rattle.dwc_carried.specs.Forests.{frame_descriptions}
 use Rattle.dwc_clif.specs.CallFrames.{description_of_metadata}
 use Rattle.dwc_clif.specs.Registers.{Registers}
 use Rattle.dwc_write.specs.declared.frames.FrameTable.{FrameTable}

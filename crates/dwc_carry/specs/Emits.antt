@@ -6,11 +6,11 @@ use Rattle.dwc_base.specs.declared.faults.Limit.TheVariants.{Section, Expression
 use Rattle.dwc_base.specs.declared.records.Endian.{Endian}
 use Rattle.dwc_base.specs.declared.output.DwarfSection.{DwarfSection}
 use Rattle.dwc_base.specs.Outputs.{OutputSection, section_view}
-use Rattle.dwc_base.specs.Carried.{Compilation}
-use Rattle.dwc_base.specs.CallFrames.{CommonEntry, is_sound_if}
-use Rattle.dwc_base.specs.Forests.{trees_made}
-use Rattle.dwc_base.specs.OutputCarried.{OutputCarried, widest}
-use Rattle.dwc_base.specs.TreeLaws.{have_short_expressions}
+use Rattle.dwc_rules.specs.Carried.{Compilation}
+use Rattle.dwc_native.specs.CallFrames.{CommonEntry, is_sound_if}
+use Rattle.dwc_carried.specs.Forests.{trees_made}
+use Rattle.dwc_carried.specs.OutputCarried.{OutputCarried, widest}
+use Rattle.dwc_dwarf.specs.TreeLaws.{have_short_expressions}
 use Rattle.dwc_clif.specs.Registers.{Registers}
 use Rattle.dwc_addr.specs.Compilations.{CompilationValue}
 use Rattle.dwc_write.specs.Frames.{common_given, descriptions_given}

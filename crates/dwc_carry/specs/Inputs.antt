@@ -7,13 +7,13 @@ use Rattle.dwc_base.specs.declared.records.MapFault.{MapFault}
 use Rattle.dwc_base.specs.declared.wasm.ModuleTranslation.{ModuleTranslation}
 use Rattle.dwc_base.specs.Translations.{translation_sections}
 use Rattle.dwc_base.specs.TranslationNames.{told_file}
-use Rattle.dwc_base.specs.Functions.{Function, functions_of}
-use Rattle.dwc_base.specs.Carried.{Module, Compilation}
-use Rattle.dwc_base.specs.CallFrames.{CommonEntry}
-use Rattle.dwc_base.specs.Compiled.{LinkageNames, ToldModule}
-use Rattle.dwc_base.specs.Forests.{first_refusal, function_refusals, module_refusals}
-use Rattle.dwc_base.specs.Refusals.{first_of}
-use Rattle.dwc_base.specs.UnitPaths.{next_id_behind}
+use Rattle.dwc_native.specs.Functions.{Function, functions_of}
+use Rattle.dwc_rules.specs.Carried.{Module, Compilation}
+use Rattle.dwc_native.specs.CallFrames.{CommonEntry}
+use Rattle.dwc_native.specs.Compiled.{LinkageNames, ToldModule}
+use Rattle.dwc_carried.specs.Forests.{first_refusal, function_refusals, module_refusals}
+use Rattle.dwc_base.specs.Listing.{first_of}
+use Rattle.dwc_carried.specs.UnitPaths.{next_id_behind}
 use Rattle.dwc_clif.specs.AddressMaps.{address_map_view}
 use Rattle.dwc_clif.specs.Registers.{Registers}
 use Rattle.dwc_addr.specs.declared.memory_offset.ModuleMemoryOffset.{ModuleMemoryOffset}

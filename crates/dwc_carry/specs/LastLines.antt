@@ -1,7 +1,7 @@
 -- The line table that was carried last.
 use Rattle.std.specs.Prelude.{◌≡◌, ℕ, ◌<◌, List, length, slice_index_or, Option, Some, None}
 use Rattle.dwc_base.specs.Sections.{Sections}
-use Rattle.dwc_base.specs.Functions.{Function}
+use Rattle.dwc_native.specs.Functions.{Function}
 use Rattle.dwc_write.specs.declared.units.UnitId.{UnitId}
 use Rattle.dwc_write.specs.GivenUnits.{GivenUnit}
 use Rattle.dwc_carry.specs.UnitPrograms.{CarriesTableAt}

@@ -1,17 +1,17 @@
 -- The unit for functions without debugging information, added behind those of all modules.
 use Rattle.std.specs.Prelude.{◌≡◌, ℕ, ◌+◌, ◌%◌, ◌^◌, ◌<◌, Bool, if◌then◌else◌, List, [], ◌∷◌, ◌++◌, map, length, Option, None, option_to_list, Result}
 use Rattle.std.specs.BTreeSet.{BTreeSet}
-use Rattle.dwc_base.specs.Carried.{Module}
-use Rattle.dwc_base.specs.Functions.{Function}
-use Rattle.dwc_base.specs.Refusals.{first_of}
-use Rattle.dwc_base.specs.OwnUnits.{place_of_context_pointer}
-use Rattle.dwc_base.specs.DraftForests.{settled_unit}
-use Rattle.dwc_base.specs.ListedFunctions.{is_begun}
-use Rattle.dwc_base.specs.Drafts.{Draft}
-use Rattle.dwc_base.specs.SimulatedUnit.{base_types, simulated_refusals, simulated_root, simulated_unit, unit_count}
-use Rattle.dwc_base.specs.LastUnit.{last_refusals, last_wanted, listed_drafts, listed_in_files}
-use Rattle.dwc_base.specs.Trees.{TreeValue}
-use Rattle.dwc_base.specs.UnitPaths.{path_name, unit_path}
+use Rattle.dwc_rules.specs.Carried.{Module}
+use Rattle.dwc_native.specs.Functions.{Function}
+use Rattle.dwc_base.specs.Listing.{first_of}
+use Rattle.dwc_rules.specs.OwnUnits.{place_of_context_pointer}
+use Rattle.dwc_rules.specs.DraftForests.{settled_unit}
+use Rattle.dwc_carried.specs.ListedFunctions.{is_begun}
+use Rattle.dwc_rules.specs.Drafts.{Draft}
+use Rattle.dwc_carried.specs.SimulatedUnit.{base_types, simulated_refusals, simulated_root, simulated_unit, unit_count}
+use Rattle.dwc_carried.specs.LastUnit.{last_refusals, last_wanted, listed_drafts, listed_in_files}
+use Rattle.dwc_dwarf.specs.Trees.{TreeValue}
+use Rattle.dwc_carried.specs.UnitPaths.{path_name, unit_path}
 use Rattle.dwc_addr.specs.Compilations.{CompilationValue}
 use Rattle.dwc_clif.specs.Registers.{Registers}
 use Rattle.dwc_image.specs.SimulatedSequences.{simulated_program}

@@ -2,10 +2,10 @@
 use Rattle.std.specs.Prelude.{ℕ, ◌+◌, ◌<◌, ◌^◌, List, [], ◌∷◌, ◌++◌, Bool, if◌then◌else◌, IfSome}
 use Rattle.std.specs.List.{filter_map}
 use Rattle.dwc_base.specs.declared.wasm.ModuleTranslation.{ModuleTranslation}
-use Rattle.dwc_base.specs.Functions.{Function}
-use Rattle.dwc_base.specs.ListedFunctions.{is_listed}
-use Rattle.dwc_base.specs.SimulatedUnit.{first_source, whole_interval}
-use Rattle.dwc_base.specs.Trees.{Interval}
+use Rattle.dwc_native.specs.Functions.{Function}
+use Rattle.dwc_carried.specs.ListedFunctions.{is_listed}
+use Rattle.dwc_carried.specs.SimulatedUnit.{first_source, whole_interval}
+use Rattle.dwc_dwarf.specs.Trees.{Interval}
 use Rattle.dwc_addr.specs.Numbers.{Compiled}
 use Rattle.dwc_image.specs.SimulatedSequences.{CanList}
 

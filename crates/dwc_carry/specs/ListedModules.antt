@@ -1,14 +1,15 @@
 -- The listed functions of a module, as they are added to the unit for functions without debugging information.
 use Rattle.std.specs.Prelude.{◌≡◌, ℕ, List, [], drop, Bool, Option, Result, Ok, Err}
 use Rattle.std.specs.List.{flat_map}
-use Rattle.dwc_base.specs.Carried.{Module}
-use Rattle.dwc_base.specs.DefinedFunctions.{DefinedFunction}
-use Rattle.dwc_base.specs.Drafts.{Draft}
-use Rattle.dwc_base.specs.ListedFunctions.{defined_from, listed_among, listed_functions}
-use Rattle.dwc_base.specs.Refusals.{Refusal, first_of}
-use Rattle.dwc_base.specs.SimulatedUnit.{variable_refusals}
+use Rattle.dwc_rules.specs.Carried.{Module}
+use Rattle.dwc_carried.specs.DefinedFunctions.{DefinedFunction}
+use Rattle.dwc_rules.specs.Drafts.{Draft}
+use Rattle.dwc_carried.specs.ListedFunctions.{defined_from, listed_among, listed_functions}
+use Rattle.dwc_rules.specs.Refusals.{Refusal}
+use Rattle.dwc_base.specs.Listing.{first_of}
+use Rattle.dwc_carried.specs.SimulatedUnit.{variable_refusals}
 use Rattle.dwc_base.specs.TranslationNames.{told_file}
-use Rattle.dwc_base.specs.Trees.{TreeValue}
+use Rattle.dwc_dwarf.specs.Trees.{TreeValue}
 use Rattle.dwc_clif.specs.Registers.{Registers}
 use Rattle.dwc_write.specs.GivenUnits.{GivenUnit}
 use Rattle.dwc_clone.specs.CompiledModules.{told_by, HasFrames}

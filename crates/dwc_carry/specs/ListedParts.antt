@@ -1,10 +1,10 @@
 -- The parts of a module whose functions are listed.
 use Rattle.std.specs.Prelude.{◌≡◌, ℕ, List, Bool, Result}
 use Rattle.dwc_base.specs.declared.wasm.ModuleTranslation.{ModuleTranslation}
-use Rattle.dwc_base.specs.Carried.{Module}
-use Rattle.dwc_base.specs.Drafts.{Draft}
-use Rattle.dwc_base.specs.Functions.{Function}
-use Rattle.dwc_base.specs.ListedFunctions.{listed_functions}
+use Rattle.dwc_rules.specs.Carried.{Module}
+use Rattle.dwc_rules.specs.Drafts.{Draft}
+use Rattle.dwc_native.specs.Functions.{Function}
+use Rattle.dwc_carried.specs.ListedFunctions.{listed_functions}
 use Rattle.dwc_base.specs.TranslationNames.{told_file}
 use Rattle.dwc_clif.specs.Registers.{Registers}
 use Rattle.dwc_write.specs.declared.attributes.DebugInfoRef.{DebugInfoRef}

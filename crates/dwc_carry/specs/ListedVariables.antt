@@ -3,17 +3,18 @@ use Rattle.std.specs.Prelude.{◌≡◌, ℕ, ◌≤◌, List, [], map, length, 
 use Rattle.std.specs.List.{flat_map}
 use Rattle.dwc_base.specs.declared.constants.TheConstants.{DW_TAG_formal_parameter, DW_TAG_variable}
 use Rattle.dwc_base.specs.declared.faults.Limit.TheVariants.{Jump}
-use Rattle.dwc_base.specs.BuiltExpressions.{BuildRefusal}
-use Rattle.dwc_base.specs.Carried.{Module}
-use Rattle.dwc_base.specs.ContextVariable.{location_refusals}
-use Rattle.dwc_base.specs.DefinedFunctions.{DefinedFunction, types_at}
-use Rattle.dwc_base.specs.Drafts.{Draft}
-use Rattle.dwc_base.specs.EntryRules.{of_build}
-use Rattle.dwc_base.specs.Refusals.{Refusal, first_of}
-use Rattle.dwc_base.specs.SimulatedUnit.{function_index, has_entry, label_located, surroundings_of}
+use Rattle.dwc_native.specs.BuiltExpressions.{BuildRefusal}
+use Rattle.dwc_rules.specs.Carried.{Module}
+use Rattle.dwc_rules.specs.ContextVariable.{location_refusals}
+use Rattle.dwc_carried.specs.DefinedFunctions.{DefinedFunction, types_at}
+use Rattle.dwc_rules.specs.Drafts.{Draft}
+use Rattle.dwc_rules.specs.EntryRules.{of_build}
+use Rattle.dwc_rules.specs.Refusals.{Refusal}
+use Rattle.dwc_base.specs.Listing.{first_of}
+use Rattle.dwc_carried.specs.SimulatedUnit.{function_index, has_entry, label_located, surroundings_of}
 use Rattle.dwc_base.specs.ToldFiles.{is_parameter}
 use Rattle.dwc_base.specs.TranslationNames.{told_file}
-use Rattle.dwc_base.specs.Trees.{Location, TreeValue}
+use Rattle.dwc_dwarf.specs.Trees.{Location, TreeValue}
 use Rattle.dwc_base.specs.WasmFunctions.{LocalTypes}
 use Rattle.dwc_clif.specs.Registers.{Registers}
 use Rattle.dwc_expr.specs.declared.error.ExprError.{ExprError}

@@ -2,7 +2,7 @@
 use Rattle.std.specs.Prelude.{◌≡◌, ℕ, ◌<◌, suc, List, [], ◌∷◌, fold, true, All}
 use Rattle.std.specs.List.{position_or_len}
 use Rattle.std.specs.Str.{bytes_eq}
-use Rattle.dwc_base.specs.TreeLaws.{with_new_text}
+use Rattle.dwc_dwarf.specs.TreeLaws.{with_new_text}
 use Rattle.dwc_write.specs.declared.attributes.AttributeValue.{AttributeValue}
 use Rattle.dwc_write.specs.declared.attributes.AttributeValue.TheVariants as write
 use Rattle.dwc_write.specs.declared.strings.StringId.{StringId}

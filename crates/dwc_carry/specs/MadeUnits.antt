@@ -1,15 +1,16 @@
 -- The units of the output: the one that a module has of its own, and those that carry units of the input.
 use Rattle.std.specs.Prelude.{◌≡◌, ℕ, suc, ◌+◌, ◌<◌, ◌≤◌, List, [], ◌∷◌, map, length, slice_get, Option, Some, None, Ok, All}
 use Rattle.std.specs.List.{filter, AllZip}
-use Rattle.dwc_base.specs.LineHeaders.{LineFile}
-use Rattle.dwc_base.specs.LineRows.{LineTable}
-use Rattle.dwc_base.specs.Images.{is_carried_segment, IsImageOf}
-use Rattle.dwc_base.specs.Carried.{CarriedUnit, WantedUnit, own_unit, carried_unit, listed_unit, table_of_unit, segments_of}
-use Rattle.dwc_base.specs.Functions.{Function}
-use Rattle.dwc_base.specs.SimulatedLines.{IsSimulated}
-use Rattle.dwc_base.specs.LastUnit.{listed_in_files, widest_listed}
-use Rattle.dwc_base.specs.Widest.{widest_lines_of}
-use Rattle.dwc_base.specs.Trees.{Tree}
+use Rattle.dwc_dwarf.specs.LineHeaders.{LineFile}
+use Rattle.dwc_dwarf.specs.LineRows.{LineTable}
+use Rattle.dwc_native.specs.Images.{is_carried_segment, IsImageOf}
+use Rattle.dwc_rules.specs.Carried.{CarriedUnit, WantedUnit, own_unit, carried_unit, listed_unit}
+use Rattle.dwc_dwarf.specs.ReadUnits.{table_of_unit, segments_of}
+use Rattle.dwc_native.specs.Functions.{Function}
+use Rattle.dwc_output.specs.SimulatedLines.{IsSimulated}
+use Rattle.dwc_carried.specs.LastUnit.{listed_in_files, widest_listed}
+use Rattle.dwc_carried.specs.OutputCarried.{widest_lines_of}
+use Rattle.dwc_dwarf.specs.Trees.{Tree}
 use Rattle.dwc_write.specs.AddedInOrder.{IsInOrder, tree_meant}
 use Rattle.dwc_write.specs.Renumbered.{renumbered_entry, LeadsToEntries}
 use Rattle.dwc_write.specs.GivenLines.{GivenLines, no_lines}

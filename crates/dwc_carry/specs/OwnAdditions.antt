@@ -1,8 +1,8 @@
 -- The entries of a module's own unit, as they are added: their texts by numbers, and the places of their parents.
 use Rattle.std.specs.Prelude.{ℕ, ◌+◌, List, [], ◌∷◌, ◌++◌, length, true, None, codes}
 use Rattle.dwc_base.specs.declared.constants.TheConstants.{DW_AT_artificial, DW_AT_byte_size, DW_AT_data_member_location, DW_AT_encoding, DW_AT_language, DW_AT_linkage_name, DW_AT_name, DW_AT_producer, DW_AT_type, DW_ATE_unsigned, DW_FORM_data1, DW_FORM_data2, DW_FORM_data4, DW_FORM_udata, DW_LANG_C11, DW_TAG_base_type, DW_TAG_compile_unit, DW_TAG_formal_parameter, DW_TAG_member, DW_TAG_pointer_type, DW_TAG_structure_type, DW_TAG_subprogram}
-use Rattle.dwc_base.specs.Compiled.{Memory, no_memory, defined, imported}
-use Rattle.dwc_base.specs.OwnUnits.{memory_members}
+use Rattle.dwc_native.specs.Compiled.{Memory, no_memory, defined, imported}
+use Rattle.dwc_rules.specs.OwnUnits.{memory_members}
 use Rattle.dwc_clone.specs.GivenAttributes.{Attribute}
 use Rattle.dwc_write.specs.declared.attributes.AttributeValue.TheVariants as write
 use Rattle.dwc_write.specs.declared.strings.StringId.{StringId}

@@ -1,14 +1,14 @@
 -- The unit that a module has of its own, added to those of the output.
 use Rattle.std.specs.Prelude.{◌≡◌, ℕ, List, [], ◌∷◌, ◌++◌, length, slice_get, Option, Some, option_map, Result}
 use Rattle.std.specs.Option.{unwrap_or}
-use Rattle.dwc_base.specs.Carried.{own_unit}
-use Rattle.dwc_base.specs.Compiled.{Memory, no_memory}
-use Rattle.dwc_base.specs.OwnUnits as Own
-use Rattle.dwc_base.specs.OwnUnits.{place_of_context_pointer, place_of_wasm_pointer}
-use Rattle.dwc_base.specs.DraftForests.{place_of_goal, settled_unit}
-use Rattle.dwc_base.specs.Forests.{own_refusals}
-use Rattle.dwc_base.specs.Refusals.{first_of}
-use Rattle.dwc_base.specs.Trees.{Tree, TreeValue, entry}
+use Rattle.dwc_rules.specs.Carried.{own_unit}
+use Rattle.dwc_native.specs.Compiled.{Memory, no_memory}
+use Rattle.dwc_rules.specs.OwnUnits as Own
+use Rattle.dwc_rules.specs.OwnUnits.{place_of_context_pointer, place_of_wasm_pointer}
+use Rattle.dwc_rules.specs.DraftForests.{place_of_goal, settled_unit}
+use Rattle.dwc_carried.specs.Forests.{own_refusals}
+use Rattle.dwc_base.specs.Listing.{first_of}
+use Rattle.dwc_dwarf.specs.Trees.{Tree, TreeValue, entry}
 use Rattle.dwc_expr.specs.Frames.{memory_view}
 use Rattle.dwc_addr.specs.Compilations.{CompilationValue}
 use Rattle.dwc_write.specs.declared.attributes.DebugInfoRef.{DebugInfoRef}

@@ -4,8 +4,8 @@ use Rattle.dwc_base.specs.Sections.{unreadable, unsupported}
 use Rattle.dwc_base.specs.declared.records.MapFault.{MapFault}
 use Rattle.dwc_base.specs.declared.faults.Limit.{Limit}
 use Rattle.dwc_base.specs.declared.faults.Limit.TheVariants.{Section, Addend, Range, Jump, Expression, Vmctx}
-use Rattle.dwc_base.specs.Refusals.{Refusal, of_place, missing_file, long_function, long_range, bad_label, lacks_memory, unmapped_register, long_jump, far_memory, bad_path, of_frame}
-use Rattle.dwc_base.specs.FrameRefusals.{bad_code_offset, bad_data_offset}
+use Rattle.dwc_rules.specs.Refusals.{Refusal, of_place, missing_file, long_function, long_range, bad_label, lacks_memory, unmapped_register, long_jump, far_memory, bad_path, of_frame}
+use Rattle.dwc_native.specs.FrameRefusals.{bad_code_offset, bad_data_offset}
 use Rattle.dwc_read.specs.declared.fault.ReadFault.{ReadFault}
 use Rattle.dwc_read.specs.declared.fault.ReadFault.TheVariants as read
 use Rattle.dwc_addr.specs.declared.error.AddrError.{AddrError}

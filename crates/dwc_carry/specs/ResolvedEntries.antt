@@ -2,9 +2,9 @@
 use Rattle.std.specs.Prelude.{◌≡◌, ℕ, nat_lt, true, false, Bool, Option, Some, None, option_map, Result, Ok, Err}
 use Rattle.dwc_base.specs.Listing.{Listing}
 use Rattle.dwc_base.specs.Sections.{Fault}
-use Rattle.dwc_base.specs.Entries.{Entry}
-use Rattle.dwc_base.specs.Refusals.{of_place}
-use Rattle.dwc_base.specs.Targets.{entry_listed, place_of_fault, fault_up_to}
+use Rattle.dwc_dwarf.specs.Entries.{Entry}
+use Rattle.dwc_rules.specs.Refusals.{of_place}
+use Rattle.dwc_rules.specs.Targets.{entry_listed, place_of_fault, fault_up_to}
 use Rattle.dwc_read.specs.declared.fault.ReadFault.{ReadFault}
 use Rattle.dwc_read.specs.Faults.{fault_seen}
 use Rattle.dwc_carry.specs.declared.error.DebugError.{DebugError}

@@ -3,7 +3,7 @@
 use Rattle.std.specs.Prelude.{ℕ, pos, List, [], ◌∷◌, Some, codes}
 use Rattle.dwc_base.specs.declared.constants.TheConstants.{DW_AT_byte_size, DW_AT_comp_dir, DW_AT_decl_file, DW_AT_decl_line, DW_AT_encoding, DW_AT_high_pc, DW_AT_language, DW_AT_location, DW_AT_low_pc, DW_AT_name, DW_AT_producer, DW_AT_ranges, DW_AT_stmt_list, DW_AT_type, DW_ATE_float, DW_ATE_signed, DW_FORM_data1, DW_FORM_data2, DW_FORM_udata, DW_LANG_C11, DW_TAG_base_type, DW_TAG_compile_unit, DW_TAG_subprogram, DW_TAG_variable}
 use Rattle.dwc_base.specs.declared.records.Address.TheVariants.{Symbol}
-use Rattle.dwc_base.specs.UnitPaths.{path_directory, path_name}
+use Rattle.dwc_carried.specs.UnitPaths.{path_directory, path_name}
 use Rattle.dwc_clone.specs.GivenAttributes.{Attribute}
 use Rattle.dwc_write.specs.declared.attributes.AttributeValue.TheVariants as write
 use Rattle.dwc_write.specs.declared.attributes.DebugInfoRef.{DebugInfoRef}

@@ -1,13 +1,13 @@
 -- The unit for functions without debugging information, while its entries are added one behind another in file order.
 use Rattle.std.specs.Prelude.{◌≡◌, ℕ, ◌+◌, ◌<◌, List, [], ◌∷◌, ◌++◌, length, All, Bool, Option, Some, None}
 use Rattle.std.specs.List.{filter_map, flat_map}
-use Rattle.dwc_base.specs.Carried.{Module}
-use Rattle.dwc_base.specs.DefinedFunctions.{DefinedFunction}
-use Rattle.dwc_base.specs.Drafts.{Draft}
-use Rattle.dwc_base.specs.DraftForests.{settled_entry}
-use Rattle.dwc_base.specs.OwnUnits.{place_of_context_pointer}
-use Rattle.dwc_base.specs.SimulatedUnit.{function_entries, label_entry, modules_entries, unit_count}
-use Rattle.dwc_base.specs.Trees.{TreeValue}
+use Rattle.dwc_rules.specs.Carried.{Module}
+use Rattle.dwc_carried.specs.DefinedFunctions.{DefinedFunction}
+use Rattle.dwc_rules.specs.Drafts.{Draft}
+use Rattle.dwc_rules.specs.DraftForests.{settled_entry}
+use Rattle.dwc_rules.specs.OwnUnits.{place_of_context_pointer}
+use Rattle.dwc_carried.specs.SimulatedUnit.{function_entries, label_entry, modules_entries, unit_count}
+use Rattle.dwc_dwarf.specs.Trees.{TreeValue}
 use Rattle.dwc_write.specs.AddedInOrder.{entry_meant}
 use Rattle.dwc_write.specs.GivenLines.{GivenLines}
 use Rattle.dwc_write.specs.GivenUnits.{Addition, GivenUnit}

@@ -4,15 +4,16 @@ use Rattle.std.specs.Global.{Global}
 use Rattle.std.specs.List.{list_any}
 use Rattle.dwc_base.specs.declared.records.Endian.{Endian}
 use Rattle.dwc_base.specs.declared.faults.Limit.TheVariants.{Addend}
-use Rattle.dwc_base.specs.Functions.{Function}
-use Rattle.dwc_base.specs.Addends.{is_long}
-use Rattle.dwc_base.specs.Carried.{units, Compilation}
+use Rattle.dwc_native.specs.Functions.{Function}
+use Rattle.dwc_native.specs.Addends.{is_long}
+use Rattle.dwc_rules.specs.Carried.{Compilation}
+use Rattle.dwc_dwarf.specs.ReadUnits.{units}
 use Rattle.dwc_clif.specs.Registers.{Registers}
 use Rattle.dwc_addr.specs.declared.transform.AddressTransform.{AddressTransform}
 use Rattle.dwc_addr.specs.Compilations.{CompilationValue}
 use Rattle.dwc_write.specs.declared.units.Dwarf.{Dwarf}
-use Rattle.dwc_base.specs.Forests.{wanted_units, trees_made, forest}
-use Rattle.dwc_base.specs.TreeLaws.{HasAllTargets}
+use Rattle.dwc_carried.specs.Forests.{wanted_units, trees_made, forest}
+use Rattle.dwc_dwarf.specs.TreeLaws.{HasAllTargets}
 use Rattle.dwc_write.specs.UsedTexts.{HaveTexts}
 use Rattle.dwc_write.specs.GivenTrees.{given_trees}
 use Rattle.dwc_write.specs.Renumbered.{place_at}

@@ -2,9 +2,9 @@
 use Rattle.std.specs.Prelude.{◌≡◌, ℕ, Option, option_map}
 use Rattle.std.specs.Option.{is_none}
 use Rattle.std.specs.Global.{Vec}
-use Rattle.dwc_base.specs.Carried.{Module}
+use Rattle.dwc_rules.specs.Carried.{Module}
 use Rattle.dwc_base.specs.TranslationNames.{told_file}
-use Rattle.dwc_base.specs.UnitPaths.{named_path, unit_path}
+use Rattle.dwc_carried.specs.UnitPaths.{named_path, unit_path}
 use Rattle.dwc_base.specs.declared.wasm.ModuleTranslation.{ModuleTranslation}
 use Rattle.dwc_carry.specs.declared.unit_path.UnitPath.{UnitPath}
 

@@ -2,11 +2,11 @@
 use Rattle.std.specs.Prelude.{◌≡◌, ℕ, List, true, Option, Some, None, Result, Ok}
 use Rattle.dwc_base.specs.Sections.{Sections}
 use Rattle.dwc_base.specs.Units.{UnitHeader}
-use Rattle.dwc_base.specs.Indexed.{text_base}
-use Rattle.dwc_base.specs.Functions.{Function}
-use Rattle.dwc_base.specs.LineRows.{LineTable, line_table}
-use Rattle.dwc_base.specs.LineFiles.{has_all_files}
-use Rattle.dwc_base.specs.Refusals.{lines_refusal}
+use Rattle.dwc_dwarf.specs.Indexed.{text_base}
+use Rattle.dwc_native.specs.Functions.{Function}
+use Rattle.dwc_dwarf.specs.LineRows.{LineTable, line_table}
+use Rattle.dwc_dwarf.specs.LineFiles.{has_all_files}
+use Rattle.dwc_rules.specs.Refusals.{lines_refusal}
 use Rattle.dwc_write.specs.GivenLines.{GivenLines, no_lines}
 use Rattle.dwc_write.specs.GivenUnits.{new_unit}
 use Rattle.dwc_image.specs.CarriedLines.{CarriesTable}

@@ -1,8 +1,8 @@
 //! The units of the output, from the modules of an input.
 ghost use Rattle.std.specs.Prelude.{◌≡◌, ◌⊎◌, ◌<◌, ℕ, suc, length, All, OnOk};
 ghost use Rattle.dwc_base.specs.declared.section_name.SectionName.TheVariants.{Info};
-ghost use Rattle.dwc_base.specs.Addends.{HaveAddends};
-ghost use Rattle.dwc_base.specs.ListedFunctions.{begun_in_module};
+ghost use Rattle.dwc_native.specs.Addends.{HaveAddends};
+ghost use Rattle.dwc_carried.specs.ListedFunctions.{begun_in_module};
 ghost use Rattle.dwc_base.specs.Translations.{translation_sections};
 ghost use Rattle.dwc_image.specs.CarriedLines.{AreKept};
 ghost use Rattle.dwc_write.specs.TextTables.{IsText};

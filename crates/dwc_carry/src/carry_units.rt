@@ -1,10 +1,10 @@
 //! The units of the output, from those of a module.
 ghost use Rattle.std.specs.Prelude.{◌≡◌, ◌<◌, ◌⊎◌, ℕ, suc, length, All, OnOk};
-ghost use Rattle.dwc_base.specs.Addends.{HaveAddends};
-ghost use Rattle.dwc_base.specs.Carried.{Module};
-ghost use Rattle.dwc_base.specs.ListedFunctions.{begun_functions, begun_in_module};
-ghost use Rattle.dwc_base.specs.Entries.{entries as entries_of};
-ghost use Rattle.dwc_base.specs.ReadValues.{IsReadEntry};
+ghost use Rattle.dwc_native.specs.Addends.{HaveAddends};
+ghost use Rattle.dwc_rules.specs.Carried.{Module};
+ghost use Rattle.dwc_carried.specs.ListedFunctions.{begun_functions, begun_in_module};
+ghost use Rattle.dwc_dwarf.specs.Entries.{entries as entries_of};
+ghost use Rattle.dwc_dwarf.specs.ReadValues.{IsReadEntry};
 ghost use Rattle.dwc_kept.specs.declared.kept_units.KeptModule.{KeptModule as KeptModuleValue};
 ghost use Rattle.dwc_kept.specs.ReadUnits.{unit_read};
 ghost use Rattle.dwc_image.specs.CarriedLines.{AreKept};

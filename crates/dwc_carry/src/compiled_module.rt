@@ -1,6 +1,6 @@
 //! What a code generator tells of a module of a compilation.
 ghost use Rattle.std.specs.Prelude.{◌≡◌, ◌<◌, ℕ, length, map, slice_get, Some};
-ghost use Rattle.dwc_base.specs.Functions.{functions_of};
+ghost use Rattle.dwc_native.specs.Functions.{functions_of};
 ghost use Rattle.dwc_clif.specs.AddressMaps.{address_map_view};
 ghost use Rattle.dwc_clif.specs.Registers.{Registers};
 ghost use Rattle.dwc_addr.specs.Numbers.{first_number};

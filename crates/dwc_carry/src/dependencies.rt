@@ -1,7 +1,8 @@
 //! What is kept of the entries of some units.
 ghost use Rattle.std.specs.Prelude.{◌≡◌, IfOk, option_map};
-ghost use Rattle.dwc_base.specs.EntryRules.{named_faults};
-ghost use Rattle.dwc_base.specs.Refusals.{first_of, of_place};
+ghost use Rattle.dwc_rules.specs.EntryRules.{named_faults};
+ghost use Rattle.dwc_rules.specs.Refusals.{of_place};
+ghost use Rattle.dwc_base.specs.Listing.{first_of};
 ghost use Rattle.dwc_kept.specs.ReadEntries.{headers_faults};
 ghost use Rattle.dwc_kept.specs.ReadGraphs.{offsets_kept_of, units_of, AreLeastOffsets};
 ghost use Rattle.dwc_carry.specs.Refusals.{ReadsOr};

@@ -1,6 +1,6 @@
 //! The entry that a reference goes to. (DWARF 4, section 7.5.4; DWARF 5, section 7.5.5.)
 ghost use Rattle.std.specs.Prelude.{◌≡◌, option_map};
-ghost use Rattle.dwc_base.specs.Targets.{entry_listed, entry_begun_at, entry_resolved};
+ghost use Rattle.dwc_rules.specs.Targets.{entry_listed, entry_begun_at, entry_resolved};
 ghost use Rattle.dwc_read.specs.EntriesSeen.{entry_view};
 ghost use Rattle.dwc_read.specs.Faults.{GivesOrFault, fault_seen};
 ghost use Rattle.dwc_read.specs.ValuesSeen.{value_view};

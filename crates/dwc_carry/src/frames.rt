@@ -1,6 +1,6 @@
 //! The frame table of a compilation. (DWARF 4 and 5, section 6.4.)
 ghost use Rattle.std.specs.Prelude.{◌≡◌, ◌+◌, ◌++◌, ◌<◌, ◌^◌, length, option_map, IfOk, IfSome, IsOkUnless, OnOk, true};
-ghost use Rattle.dwc_base.specs.CallFrames.{is_sound_if};
+ghost use Rattle.dwc_native.specs.CallFrames.{is_sound_if};
 ghost use Rattle.dwc_addr.specs.Compilations.{IsCounted};
 ghost use Rattle.dwc_clif.specs.CallFrames.{description_of_metadata, description_view};
 ghost use Rattle.dwc_write.specs.Frames.{common_given};

@@ -1,6 +1,6 @@
 //! The line table that was carried last, which several units may name.
 ghost use Rattle.std.specs.Prelude.{◌≡◌};
-ghost use Rattle.dwc_base.specs.Indexed.{text_base};
+ghost use Rattle.dwc_dwarf.specs.Indexed.{text_base};
 ghost use Rattle.dwc_carry.specs.LastLines.{last_after};
 
 use dwc_base::SectionName;

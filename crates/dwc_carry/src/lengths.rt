@@ -1,7 +1,7 @@
 //! Functions whose ends no addend can say.
 ghost use Rattle.std.specs.Prelude.{◌≡◌, map};
 ghost use Rattle.std.specs.List.{list_any};
-ghost use Rattle.dwc_base.specs.Addends.{is_long as is_long_function};
+ghost use Rattle.dwc_native.specs.Addends.{is_long as is_long_function};
 ghost use Rattle.dwc_addr.specs.Transforms.{function_view};
 ghost use Rattle.dwc_carry.specs.Transformed.{lengths_checked};
 

@@ -1,7 +1,7 @@
 //! The functions without debugging information of a compilation, and their code.
 ghost use Rattle.std.specs.Prelude.{◌≡◌, ◌++◌, ◌<◌, ◌^◌, pos, map, None, All, IfOk, IfSome, OnOk};
-ghost use Rattle.dwc_base.specs.Addends.{HaveAddends};
-ghost use Rattle.dwc_base.specs.ListedFunctions.{is_listed};
+ghost use Rattle.dwc_native.specs.Addends.{HaveAddends};
+ghost use Rattle.dwc_carried.specs.ListedFunctions.{is_listed};
 ghost use Rattle.dwc_addr.specs.Compilations.{IsCounted};
 ghost use Rattle.dwc_addr.specs.Transforms.{function_view};
 ghost use Rattle.dwc_image.specs.SimulatedSequences.{listed_view};

@@ -3,14 +3,14 @@ ghost use Rattle.std.specs.Prelude.{◌≡◌, ◌<◌, [], ◌∷◌, map, opti
 ghost use Rattle.std.specs.List.{All};
 ghost use Rattle.std.specs.List.Sorted.{IsStrictlySortedBy};
 ghost use Rattle.std.specs.Ordering.{nat_cmp};
-ghost use Rattle.dwc_base.specs.Carried.{Module};
-ghost use Rattle.dwc_base.specs.DefinedFunctions.{DefinedFunction};
+ghost use Rattle.dwc_rules.specs.Carried.{Module};
+ghost use Rattle.dwc_carried.specs.DefinedFunctions.{DefinedFunction};
 ghost use Rattle.dwc_base.specs.NamesRead.{function_name_view, local_name_view};
 ghost use Rattle.dwc_base.specs.Reading.{coded};
-ghost use Rattle.dwc_base.specs.SimulatedUnit.{function_index, function_name, local_name};
+ghost use Rattle.dwc_carried.specs.SimulatedUnit.{function_index, function_name, local_name};
 ghost use Rattle.dwc_base.specs.SortedEntries.{pair_cmp};
 ghost use Rattle.dwc_base.specs.TranslationNames.{HasSortedNames, told_file};
-ghost use Rattle.dwc_base.specs.UnitPaths.{without_zero};
+ghost use Rattle.dwc_carried.specs.UnitPaths.{without_zero};
 ghost use Rattle.dwc_carry.specs.ListedNames.{is_before, name_among, numbered_function, numbered_local};
 
 use crate::unit_path::{joined, without_zero};

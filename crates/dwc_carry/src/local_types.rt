@@ -1,9 +1,9 @@
 //! The types of the locals of a function, each found by halves.
 ghost use Rattle.std.specs.Prelude.{◌≡◌, IfOk};
 ghost use Rattle.std.specs.List.Sorted.{IsNonDecreasingBy};
-ghost use Rattle.dwc_base.specs.Carried.{Module};
-ghost use Rattle.dwc_base.specs.DefinedFunctions.{DefinedFunction, types_at};
-ghost use Rattle.dwc_base.specs.SimulatedUnit.{place_of_type};
+ghost use Rattle.dwc_rules.specs.Carried.{Module};
+ghost use Rattle.dwc_carried.specs.DefinedFunctions.{DefinedFunction, types_at};
+ghost use Rattle.dwc_carried.specs.SimulatedUnit.{place_of_type};
 ghost use Rattle.dwc_base.specs.ToldFiles.{is_parameter, type_in_groups, type_of_local};
 ghost use Rattle.dwc_base.specs.TranslationNames.{told_file};
 ghost use Rattle.dwc_carry.specs.LocalGroups.{groups_from, types_of};

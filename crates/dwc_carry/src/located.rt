@@ -1,8 +1,8 @@
 //! Where the values of labels lie in native code.
 ghost use Rattle.std.specs.Prelude.{◌≡◌, ℕ, IfOk, option_map};
 ghost use Rattle.dwc_base.specs.declared.constants.TheConstants.{DW_AT_location};
-ghost use Rattle.dwc_base.specs.Addends.{HaveAddends};
-ghost use Rattle.dwc_base.specs.BuiltExpressions as Built;
+ghost use Rattle.dwc_native.specs.Addends.{HaveAddends};
+ghost use Rattle.dwc_native.specs.BuiltExpressions as Built;
 ghost use Rattle.dwc_expr.specs.Builds.{surroundings};
 ghost use Rattle.dwc_write.specs.declared.attributes.AttributeValue.TheVariants.{LocationListRef};
 ghost use Rattle.dwc_write.specs.GivenUnits.{FitsValue};

@@ -1,6 +1,6 @@
 //! The entries of the unit that a module has of its own.
 ghost use Rattle.std.specs.Prelude.{◌≡◌, ◌≤◌, ◌<◌, ◌+◌, ◌⊎◌, length, false, IfOk, IsOkUnless, OnOk, All};
-ghost use Rattle.dwc_base.specs.OwnUnits as Own;
+ghost use Rattle.dwc_rules.specs.OwnUnits as Own;
 ghost use Rattle.dwc_expr.specs.Frames.{memory_view};
 ghost use Rattle.dwc_clone.specs.MadeValues.{Grows};
 ghost use Rattle.dwc_write.specs.GivenUnits.{new_unit};

@@ -1,15 +1,16 @@
 //! The listed functions of a module, with their parameters and variables, in the unit for functions without debugging information.
 ghost use Rattle.std.specs.Prelude.{◌≡◌, ◌<◌, ◌+◌, ◌++◌, ◌^◌, ℕ, List, Option, Some, length, slice_get, All, IfOk, IsOkUnless, OnOk};
-ghost use Rattle.dwc_base.specs.Addends.{HaveAddends};
-ghost use Rattle.dwc_base.specs.Carried.{Module};
-ghost use Rattle.dwc_base.specs.DefinedFunctions.{DefinedFunction};
-ghost use Rattle.dwc_base.specs.Drafts.{Draft};
-ghost use Rattle.dwc_base.specs.Functions.{Function};
-ghost use Rattle.dwc_base.specs.ListedFunctions.{listed_functions};
-ghost use Rattle.dwc_base.specs.Refusals.{Refusal, first_of};
-ghost use Rattle.dwc_base.specs.SimulatedUnit.{first_source, function_entries, variable_refusals};
+ghost use Rattle.dwc_native.specs.Addends.{HaveAddends};
+ghost use Rattle.dwc_rules.specs.Carried.{Module};
+ghost use Rattle.dwc_carried.specs.DefinedFunctions.{DefinedFunction};
+ghost use Rattle.dwc_rules.specs.Drafts.{Draft};
+ghost use Rattle.dwc_native.specs.Functions.{Function};
+ghost use Rattle.dwc_carried.specs.ListedFunctions.{listed_functions};
+ghost use Rattle.dwc_rules.specs.Refusals.{Refusal};
+ghost use Rattle.dwc_base.specs.Listing.{first_of};
+ghost use Rattle.dwc_carried.specs.SimulatedUnit.{first_source, function_entries, variable_refusals};
 ghost use Rattle.dwc_base.specs.TranslationNames.{HasSortedNames, told_file};
-ghost use Rattle.dwc_base.specs.Trees.{TreeValue};
+ghost use Rattle.dwc_dwarf.specs.Trees.{TreeValue};
 ghost use Rattle.dwc_addr.specs.Transforms.{function_view};
 ghost use Rattle.dwc_image.specs.CarriedLines.{AreKept};
 ghost use Rattle.dwc_write.specs.GivenLines.{GivenLines};

@@ -1,7 +1,7 @@
 //! The entries of the listed functions of all modules, in the unit for functions without debugging information.
 ghost use Rattle.std.specs.Prelude.{◌≡◌, ◌<◌, ◌^◌, ℕ, List, None, length, map, All, OnOk};
-ghost use Rattle.dwc_base.specs.Addends.{HaveAddends};
-ghost use Rattle.dwc_base.specs.Drafts.{Draft};
+ghost use Rattle.dwc_native.specs.Addends.{HaveAddends};
+ghost use Rattle.dwc_rules.specs.Drafts.{Draft};
 ghost use Rattle.dwc_base.specs.TranslationNames.{HasSortedNames};
 ghost use Rattle.dwc_image.specs.CarriedLines.{AreKept};
 ghost use Rattle.dwc_write.specs.GivenLines.{GivenLines};

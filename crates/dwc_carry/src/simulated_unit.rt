@@ -1,9 +1,9 @@
 //! The unit for functions without debugging information, behind those of all modules.
 ghost use Rattle.std.specs.Prelude.{◌≡◌, ◌<◌, ◌⊎◌, map, None, true, length, All, IfErr, IfOk, IsOkUnless, OnErr, OnOk};
-ghost use Rattle.dwc_base.specs.Addends.{HaveAddends};
-ghost use Rattle.dwc_base.specs.Carried.{Module};
+ghost use Rattle.dwc_native.specs.Addends.{HaveAddends};
+ghost use Rattle.dwc_rules.specs.Carried.{Module};
 ghost use Rattle.dwc_base.specs.TranslationNames.{told_file};
-ghost use Rattle.dwc_base.specs.UnitPaths.{is_file_name, path_name};
+ghost use Rattle.dwc_carried.specs.UnitPaths.{is_file_name, path_name};
 ghost use Rattle.dwc_clif.specs.Registers.{Registers};
 ghost use Rattle.dwc_image.specs.CarriedLines.{AreKept};
 ghost use Rattle.dwc_image.specs.SimulatedSequences.{listed_view};

@@ -1,6 +1,6 @@
 //! The unit that a module has of its own: the type of its context, in which its linear memory is found, and that of an address in it.
 ghost use Rattle.std.specs.Prelude.{◌≡◌, ◌<◌, ◌⊎◌, length, OnErr};
-ghost use Rattle.dwc_base.specs.OwnUnits as Own;
+ghost use Rattle.dwc_rules.specs.OwnUnits as Own;
 ghost use Rattle.dwc_expr.specs.Frames.{memory_view};
 ghost use Rattle.dwc_clone.specs.MadeValues.{Grows};
 ghost use Rattle.dwc_carry.specs.OwnUnits.{GivesOwnUnit, memory_at};

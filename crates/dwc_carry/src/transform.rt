@@ -1,6 +1,6 @@
 //! The DWARF of a compilation, before it is written.
 ghost use Rattle.std.specs.Prelude.{◌≡◌, ◌⊎◌, false, is_some, true, IfErr, OnOk};
-ghost use Rattle.dwc_base.specs.Forests.{is_big};
+ghost use Rattle.dwc_carried.specs.Forests.{is_big};
 ghost use Rattle.dwc_addr.specs.Compilations.{IsCounted};
 ghost use Rattle.dwc_carry.specs.Inputs.{counted_behind, refused_before_path};
 ghost use Rattle.dwc_carry.specs.Refusals.{memory, told};

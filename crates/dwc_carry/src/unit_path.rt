@@ -1,7 +1,7 @@
 //! The path of the unit that stands for functions without debugging information, its directory and its name.
 ghost use Rattle.std.specs.Prelude.{◌≡◌, ◌+◌, ◌++◌, ◌==◌, Some, length, not, codes, option_map, IfOk};
 ghost use Rattle.std.specs.List.{list_any, suffix_len};
-ghost use Rattle.dwc_base.specs.UnitPaths.{without_zero, numbered_path, is_slash, cut_path, path_name, before_name, or_root, directory_before, path_directory, is_file_name};
+ghost use Rattle.dwc_carried.specs.UnitPaths.{without_zero, numbered_path, is_slash, cut_path, path_name, before_name, or_root, directory_before, path_directory, is_file_name};
 ghost use Rattle.dwc_carry.specs.UnitPathParts.{IsNamedPath, IsUnitPath};
 
 use dwc_base::ModuleTranslation;

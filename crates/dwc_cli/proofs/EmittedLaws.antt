@@ -12,19 +12,19 @@ use Rattle.dwc_base.specs.declared.records.Endian.TheVariants.{Little, Big}
 use Rattle.dwc_base.specs.declared.records.MapFault.{MapFault}
 use Rattle.dwc_base.specs.declared.output.DwarfSection.{DwarfSection}
 use Rattle.dwc_base.specs.declared.wasm.ModuleTranslation.{ModuleTranslation}
-use Rattle.dwc_base.specs.SharedSymbols.{shared_symbol}
-use Rattle.dwc_base.specs.Compiled.{LinkageNames, ToldModule, frames_from, labels_from, values_from}
-use Rattle.dwc_base.specs.CallFrames.{CommonEntry}
-use Rattle.dwc_base.specs.Functions.{AddressMap, map_fault, functions_of}
+use Rattle.dwc_native.specs.SharedSymbols.{shared_symbol}
+use Rattle.dwc_native.specs.Compiled.{LinkageNames, ToldModule, frames_from, labels_from, values_from}
+use Rattle.dwc_native.specs.CallFrames.{CommonEntry}
+use Rattle.dwc_native.specs.Functions.{AddressMap, map_fault, functions_of}
 use Rattle.dwc_base.specs.Wasm.{WasmModule, module_sections}
 use Rattle.dwc_base.specs.Translations.{translation_sections, IsWholeTranslation}
 use Rattle.dwc_base.specs.TranslationNames.{told_file}
 use Rattle.dwc_base.specs.ToldFiles.{file_of}
-use Rattle.dwc_base.specs.Carried.{Module, Compilation}
-use Rattle.dwc_base.specs.Refusals.{Refusal}
-use Rattle.dwc_base.specs.Forests.{first_refusal, trees_made}
-use Rattle.dwc_base.specs.TreeLaws.{have_short_expressions}
-use Rattle.dwc_base.specs.OutputCarried.{OutputCarried}
+use Rattle.dwc_rules.specs.Carried.{Module, Compilation}
+use Rattle.dwc_rules.specs.Refusals.{Refusal}
+use Rattle.dwc_carried.specs.Forests.{first_refusal, trees_made}
+use Rattle.dwc_dwarf.specs.TreeLaws.{have_short_expressions}
+use Rattle.dwc_carried.specs.OutputCarried.{OutputCarried}
 use Rattle.dwc_base.proofs.Translated.{translation_sections-is}
 use Rattle.dwc_clif.specs.AddressMaps.{address_map_view}
 use Rattle.dwc_clif.specs.CallFrames.{cie_view, description_of_metadata}

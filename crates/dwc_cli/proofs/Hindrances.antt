@@ -3,9 +3,9 @@ use Rattle.std.proofs.Common.{◌≡◌, ℕ, List, [], ◌∷◌, Option, Some,
 use Rattle.std.specs.Prelude.{option_map, unwrap_or, IsSome}
 use Rattle.dwc_base.specs.Outputs.{OutputSection}
 use Rattle.dwc_base.specs.Sections.{unreadable, unsupported}
-use Rattle.dwc_base.specs.Refusals.{Refusal, of_place, missing_file, long_function, long_range, bad_label, lacks_memory, unmapped_register, long_jump, far_memory, bad_path, of_frame}
-use Rattle.dwc_base.specs.FrameRefusals.{bad_code_offset, bad_data_offset}
-use Rattle.dwc_base.specs.Forests.{first_refusal}
+use Rattle.dwc_rules.specs.Refusals.{Refusal, of_place, missing_file, long_function, long_range, bad_label, lacks_memory, unmapped_register, long_jump, far_memory, bad_path, of_frame}
+use Rattle.dwc_native.specs.FrameRefusals.{bad_code_offset, bad_data_offset}
+use Rattle.dwc_carried.specs.Forests.{first_refusal}
 use Rattle.dwc_cli.specs.Inputs.{BadMap, Loaded, compilation_of, shared_in, bad_map}
 use Rattle.dwc_cli.specs.RunStatus.{IsOneOf, refusal_status, refusal_statuses, PassesLimit, LoadedCauses, IsValid}
 use Rattle.dwc_cli.specs.Printed.{printed}

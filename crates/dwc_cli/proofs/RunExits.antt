@@ -2,8 +2,8 @@
 use Rattle.std.proofs.Common.{◌≡◌, ℕ, zero, suc, List, [], ◌∷◌, take, false, Option, Some, refl, sym, ◌∙◌, subst, arith}
 use Rattle.std.specs.Prelude.{Any}
 use Rattle.dwc_base.specs.Sections.{unreadable, unsupported}
-use Rattle.dwc_base.specs.Refusals.{Refusal, of_place, missing_file, long_function, long_range, bad_label, lacks_memory, unmapped_register, long_jump, far_memory, bad_path, of_frame}
-use Rattle.dwc_base.specs.FrameRefusals.{bad_code_offset, bad_data_offset}
+use Rattle.dwc_rules.specs.Refusals.{Refusal, of_place, missing_file, long_function, long_range, bad_label, lacks_memory, unmapped_register, long_jump, far_memory, bad_path, of_frame}
+use Rattle.dwc_native.specs.FrameRefusals.{bad_code_offset, bad_data_offset}
 use Rattle.dwc_cli.specs.Inputs.{Paths, paths_of, all_paths, Input, Loaded}
 use Rattle.dwc_cli.specs.RunStatus.{Files, Appended, CarryInput, IsOneOf, Succeeds, PrefixWritten, MissingCause, refusal_status, refusal_statuses, LoadedCauses, InputCauses, RunsWell, Rose}
 use Rattle.dwc_cli.specs.Edge.{IsLongFile, AppendsFront}

@@ -5,10 +5,10 @@ use Rattle.std.specs.List.{list_all, AllZip}
 use Rattle.dwc_base.specs.declared.output.DwarfSection.{DwarfSection}
 use Rattle.dwc_base.specs.declared.wasm.ModuleTranslation.{ModuleTranslation}
 use Rattle.dwc_base.specs.Outputs.{OutputSection, section_view}
-use Rattle.dwc_base.specs.Refusals.{Refusal}
-use Rattle.dwc_base.specs.Forests.{first_refusal, trees_made}
-use Rattle.dwc_base.specs.OutputCarried.{OutputCarried}
-use Rattle.dwc_base.specs.TreeLaws.{have_short_expressions}
+use Rattle.dwc_rules.specs.Refusals.{Refusal}
+use Rattle.dwc_carried.specs.Forests.{first_refusal, trees_made}
+use Rattle.dwc_carried.specs.OutputCarried.{OutputCarried}
+use Rattle.dwc_dwarf.specs.TreeLaws.{have_short_expressions}
 use Rattle.dwc_base.specs.Wasm.{WasmModule}
 use Rattle.dwc_base.specs.Translations.{IsWholeTranslation}
 use Rattle.dwc_carry.specs.declared.emit.CarriedDwarf.{CarriedDwarf}

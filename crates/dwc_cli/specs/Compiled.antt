@@ -3,9 +3,9 @@ use Rattle.std.specs.Prelude.{◌≡◌, ℕ, List, map, Option, option_map}
 use Rattle.dwc_base.specs.declared.records.Endian.{Endian}
 use Rattle.dwc_base.specs.declared.records.MapFault.{MapFault}
 use Rattle.dwc_base.specs.declared.wasm.ModuleTranslation.{ModuleTranslation}
-use Rattle.dwc_base.specs.SharedSymbols.{shared_symbol}
-use Rattle.dwc_base.specs.Compiled.{LinkageNames}
-use Rattle.dwc_base.specs.CallFrames.{CommonEntry}
+use Rattle.dwc_native.specs.SharedSymbols.{shared_symbol}
+use Rattle.dwc_native.specs.Compiled.{LinkageNames}
+use Rattle.dwc_native.specs.CallFrames.{CommonEntry}
 use Rattle.dwc_clif.specs.Registers.{Registers}
 use Rattle.dwc_addr.specs.declared.memory_offset.ModuleMemoryOffset.{ModuleMemoryOffset}
 use Rattle.dwc_addr.specs.Numbers.{Compiled, all_symbols, symbol_view}

@@ -7,11 +7,11 @@ use Rattle.std.specs.List.{list_all, flat_map}
 use Rattle.dwc_base.specs.declared.records.Endian.TheVariants.{Little, Big}
 use Rattle.dwc_base.specs.declared.records.MapFault.{MapFault}
 use Rattle.dwc_base.specs.Wasm.{WasmModule, wasm_module, module_sections}
-use Rattle.dwc_base.specs.Functions.{map_fault, functions_of}
-use Rattle.dwc_base.specs.Compiled.{LabelRange, LinkageNames, ToldModule, frames_from, labels_from, values_from}
+use Rattle.dwc_native.specs.Functions.{map_fault, functions_of}
+use Rattle.dwc_native.specs.Compiled.{LabelRange, LinkageNames, ToldModule, frames_from, labels_from, values_from}
 use Rattle.dwc_base.specs.ToldFiles.{file_of}
-use Rattle.dwc_base.specs.Carried.{Module, Compilation}
-use Rattle.dwc_base.specs.SharedSymbols.{shared_symbol}
+use Rattle.dwc_rules.specs.Carried.{Module, Compilation}
+use Rattle.dwc_native.specs.SharedSymbols.{shared_symbol}
 use Rattle.dwc_clif.specs.Registers.{Registers}
 use Rattle.dwc_map.specs.MapFile.{MapFile, MapFunction, MapModule, map_of_bytes}
 use Rattle.dwc_map.specs.MapValues.{◌>>=◌}

@@ -9,12 +9,12 @@ use Rattle.dwc_base.specs.declared.section_name.SectionName.{SectionName}
 use Rattle.dwc_base.specs.Sections.{unreadable, unsupported}
 use Rattle.dwc_base.specs.Wasm.{WasmModule}
 use Rattle.dwc_base.specs.Outputs.{OutputSection}
-use Rattle.dwc_base.specs.Refusals.{Refusal, of_place, missing_file, long_function, long_range, bad_label, lacks_memory, unmapped_register, long_jump, far_memory, bad_path, of_frame}
-use Rattle.dwc_base.specs.FrameRefusals.{bad_code_offset, bad_data_offset}
-use Rattle.dwc_base.specs.Carried.{Compilation}
-use Rattle.dwc_base.specs.Forests.{first_refusal, trees_made}
-use Rattle.dwc_base.specs.OutputCarried.{OutputCarried, widest}
-use Rattle.dwc_base.specs.TreeLaws.{have_short_expressions}
+use Rattle.dwc_rules.specs.Refusals.{Refusal, of_place, missing_file, long_function, long_range, bad_label, lacks_memory, unmapped_register, long_jump, far_memory, bad_path, of_frame}
+use Rattle.dwc_native.specs.FrameRefusals.{bad_code_offset, bad_data_offset}
+use Rattle.dwc_rules.specs.Carried.{Compilation}
+use Rattle.dwc_carried.specs.Forests.{first_refusal, trees_made}
+use Rattle.dwc_carried.specs.OutputCarried.{OutputCarried, widest}
+use Rattle.dwc_dwarf.specs.TreeLaws.{have_short_expressions}
 use Rattle.dwc_write.specs.SpelledOutput.{AreSpelled}
 use Rattle.dwc_write.specs.Writers.{IsSound}
 use Rattle.dwc_map.specs.MapFile.{map_of_bytes}

@@ -1,7 +1,7 @@
 //! The DWARF for the functions of a map, before it is written.
 ghost use Rattle.std.specs.Prelude.{◌≡◌, ◌⊎◌, true, map, length, option_map, if◌then◌else◌, IfOk, All, string_bytes};
 ghost use Rattle.dwc_base.specs.declared.records.Endian.TheVariants.{Little, Big};
-ghost use Rattle.dwc_base.specs.CallFrames.{is_sound_if};
+ghost use Rattle.dwc_native.specs.CallFrames.{is_sound_if};
 ghost use Rattle.dwc_base.specs.TranslationNames.{HasSortedNames};
 ghost use Rattle.dwc_clif.specs.CallFrames.{cie_view};
 ghost use Rattle.dwc_clif.specs.Registers.{registers_of};

@@ -5,8 +5,8 @@ use Rattle.std.specs.List.{list_any}
 use Rattle.std.specs.Option.{unwrap_or}
 use Rattle.std.proofs.lemmas.Bool.{and_cases, eq-eqb, le-ltb}
 use Rattle.std.proofs.lemmas.List.Elements.{All-nil, All-head, All-tail, All-weaker, All-push}
-use Rattle.dwc_base.specs.Compiled.{LabelRange}
-use Rattle.dwc_base.specs.Placed.{same_place}
+use Rattle.dwc_native.specs.Compiled.{LabelRange}
+use Rattle.dwc_native.specs.Placed.{same_place}
 use Rattle.dwc_clif.specs.declared.value_label.LabelValueLoc.TheVariants.{Reg}
 use Rattle.dwc_clif.specs.declared.value_label.ValueLocRange.{ValueLocRange}
 use Rattle.dwc_clif.specs.FlatRanges.{IsFlat, goes_on, goes_on_last, IsFlatTo}

@@ -5,7 +5,7 @@ use Rattle.std.specs.List.{filter, filter_map}
 use Rattle.std.proofs.lemmas.Bool.{eq-eqb, ne_eqb}
 use Rattle.std.proofs.lemmas.List.{map-append, append_assoc, length-map, length-append}
 use Rattle.std.proofs.lemmas.List.Elements.{All-append, All-nil, All-cons, All-head, All-tail, filter-append}
-use Rattle.dwc_base.specs.Functions.{Recorded, recorded_entry, wasm_entry}
+use Rattle.dwc_native.specs.Functions.{Recorded, recorded_entry, wasm_entry}
 use Rattle.dwc_clif.specs.declared.instruction_maps.Gap.{Gap}
 use Rattle.dwc_clif.specs.declared.instruction_maps.InstructionSource.{InstructionSource}
 use Rattle.dwc_clif.specs.Gaps.{gaps_of, gaps_behind, entry_of_source, merged, source_view, AreGapsOf, IsSplit}

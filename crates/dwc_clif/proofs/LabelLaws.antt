@@ -8,7 +8,7 @@ use Rattle.std.specs.Cmp.{nat_cmp_total, eq_by_cmp_equiv}
 use Rattle.std.specs.List.Sorted.{IsStrictlySortedBy}
 use Rattle.std.specs.FinMap as finite
 use Rattle.std.specs.FinMap.{get-empty, get-insert, nat_cmp-IsAntisymmetric, same_map, entries-insert, len-entries, len-empty, put}
-use Rattle.dwc_base.specs.Compiled.{LabelRange}
+use Rattle.dwc_native.specs.Compiled.{LabelRange}
 use Rattle.dwc_clif.specs.ValueLabels.{labelled_by}
 
 -- the entries of an ordered map

@@ -4,8 +4,8 @@ use Rattle.std.specs.Prelude.{All}
 use Rattle.std.specs.Option.{option_or}
 use Rattle.std.proofs.lemmas.Bool.{cases_lt}
 use Rattle.std.proofs.lemmas.List.Elements.{All-nil, All-cons, All-head, All-weaker}
-use Rattle.dwc_base.specs.Compiled.{Place, LabelRange}
-use Rattle.dwc_base.specs.Placed.{last_place}
+use Rattle.dwc_native.specs.Compiled.{Place, LabelRange}
+use Rattle.dwc_native.specs.Placed.{last_place}
 use Rattle.dwc_clif.specs.FlatRanges.{IsFlat, IsFlatTo, Flattens, IsPut, Puts, part_between, AnswersTo, IsWantedBetween, PutsBetween, IsRest}
 use Rattle.dwc_clif.proofs.PlaceLaws.{alone-inside, alone-below, alone-behind, part-same, or-none, answers-append, first-answers, others-answer, none-below, none-behind}
 use Rattle.dwc_clif.proofs.FlatLaws.{flat-none-to}

@@ -5,8 +5,8 @@ use Rattle.std.specs.Option.{option_or}
 use Rattle.std.proofs.lemmas.Bool.{cases_lt, and_parts, eqb-true}
 use Rattle.std.proofs.lemmas.Bool.Decides.{Decides-int_eq}
 use Rattle.std.proofs.lemmas.List.Elements.{All-head, All-tail, All-weaker, All-push}
-use Rattle.dwc_base.specs.Compiled.{Place, in_register, at_frame_offset, LabelRange}
-use Rattle.dwc_base.specs.Placed.{same_place, last_place}
+use Rattle.dwc_native.specs.Compiled.{Place, in_register, at_frame_offset, LabelRange}
+use Rattle.dwc_native.specs.Placed.{same_place, last_place}
 use Rattle.dwc_clif.specs.FlatRanges.{IsFlat, goes_on_last, IsFlatTo, Puts}
 use Rattle.dwc_clif.proofs.FlatLaws.{flat-behind, goes_on-end}
 use Rattle.dwc_clif.proofs.ListEnds.{all-front, all-last, pairs-front, pairs-last, pairs-push}

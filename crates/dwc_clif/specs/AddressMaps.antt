@@ -1,7 +1,7 @@
 -- The records of a compiled function, seen as an address map.
 use Rattle.std.specs.Prelude.{Option, option_map}
 use Rattle.dwc_base.specs.declared.records.SymbolId.{SymbolId}
-use Rattle.dwc_base.specs.Functions.{AddressMap}
+use Rattle.dwc_native.specs.Functions.{AddressMap}
 use Rattle.dwc_clif.specs.declared.metadata.CompiledFunctionMetadata.{CompiledFunctionMetadata}
 
 -- the address map of a function that has a symbol or none

@@ -1,7 +1,7 @@
 -- Call frames, as the definitions see them (DWARF 5, section 6.4).
 use Rattle.std.specs.Prelude.{map, Option, option_map}
-use Rattle.dwc_base.specs.CallFrames.{FrameInstruction, def_cfa, def_cfa_register, def_cfa_offset, restore, undefined, same_value, saved_at, remember_state, restore_state, CommonEntry, FrameDescription}
-use Rattle.dwc_base.specs.UnwindRecords.{UnwindRecord, description_told, system_v, windows_x64, windows_arm64}
+use Rattle.dwc_native.specs.CallFrames.{FrameInstruction, def_cfa, def_cfa_register, def_cfa_offset, restore, undefined, same_value, saved_at, remember_state, restore_state, CommonEntry, FrameDescription}
+use Rattle.dwc_native.specs.UnwindRecords.{UnwindRecord, description_told, system_v, windows_x64, windows_arm64}
 use Rattle.dwc_clif.specs.declared.cie.Cie.{Cie}
 use Rattle.dwc_clif.specs.declared.frame_op.FrameOp.{FrameOp}
 use Rattle.dwc_clif.specs.declared.frame_op.FrameOp.TheVariants.{Cfa, CfaRegister, CfaOffset, Restore, Undefined, SameValue, Offset, RememberState, RestoreState}

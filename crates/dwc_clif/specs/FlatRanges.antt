@@ -3,8 +3,8 @@ use Rattle.std.specs.Prelude.{◌≡◌, ◌≤◌, ◌<◌, ℕ, min, max, List
 use Rattle.std.specs.List.{list_any}
 use Rattle.std.specs.Option.{unwrap_or}
 use Rattle.dwc_base.specs.Wasm.{last_of}
-use Rattle.dwc_base.specs.Compiled.{Place, LabelRange}
-use Rattle.dwc_base.specs.Placed.{last_place, same_place}
+use Rattle.dwc_native.specs.Compiled.{Place, LabelRange}
+use Rattle.dwc_native.specs.Placed.{last_place, same_place}
 use Rattle.dwc_clif.specs.declared.told_ranges.FlatForm.{FlatForm}
 use Rattle.dwc_clif.specs.declared.told_ranges.FlatForm.TheVariants.{Given, Made, Reversed}
 use Rattle.dwc_clif.specs.ValueLabels.{range_view}

@@ -1,7 +1,7 @@
 -- The entries of an address map, kept as those that have a source and those that have none.
 use Rattle.std.specs.Prelude.{◌≡◌, ℕ, suc, ◌+◌, ◌<◌, ◌≤◌, ◌^◌, ◌==◌, List, [], ◌∷◌, ◌++◌, map, length, All, if◌then◌else◌, Option, Some, None, is_some}
 use Rattle.std.specs.List.{filter}
-use Rattle.dwc_base.specs.Functions.{Recorded}
+use Rattle.dwc_native.specs.Functions.{Recorded}
 use Rattle.dwc_clif.specs.declared.instruction_maps.Gap.{Gap}
 use Rattle.dwc_clif.specs.declared.instruction_maps.InstructionSource.{InstructionSource}
 use Rattle.dwc_clif.specs.declared.instruction_maps.InstructionAddressMap.{InstructionAddressMap}

@@ -5,7 +5,7 @@ use Rattle.std.specs.Coded.{Coded, codes, code_by, coded×, coded_ℕ}
 use Rattle.std.specs.FinMap as finite
 use Rattle.dwc_base.specs.declared.records.Endian.{Endian}
 use Rattle.dwc_clif.specs.declared.architecture.Architecture.{Architecture}
-use Rattle.dwc_base.specs.CallFrames.{CommonEntry}
+use Rattle.dwc_native.specs.CallFrames.{CommonEntry}
 use Rattle.dwc_clif.specs.Registers.{Registers}
 
 -- what debug information wants to know of a target

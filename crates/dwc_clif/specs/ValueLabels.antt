@@ -3,7 +3,7 @@ use Rattle.std.specs.Prelude.{ℕ, List}
 use Rattle.std.specs.Coded.{Coded, codes, coded_list, coded_ℕ}
 use Rattle.std.specs.Ordering.{nat_cmp}
 use Rattle.std.specs.FinMap as finite
-use Rattle.dwc_base.specs.Compiled.{Place, in_register, at_frame_offset, LabelRange}
+use Rattle.dwc_native.specs.Compiled.{Place, in_register, at_frame_offset, LabelRange}
 use Rattle.dwc_clif.specs.declared.value_label.LabelValueLoc.{LabelValueLoc}
 use Rattle.dwc_clif.specs.declared.value_label.LabelValueLoc.TheVariants.{Reg, CFAOffset}
 use Rattle.dwc_clif.specs.declared.value_label.ValueLocRange.{ValueLocRange}

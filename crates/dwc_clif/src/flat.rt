@@ -1,6 +1,6 @@
 //! Ranges in which a value lies, made disjoint and put in order.
 ghost use Rattle.std.specs.Prelude.{◌≡◌, ◌≤◌, ◌-◌, ◌^◌, ◌++◌, ℕ, [], length, map, IfOk, OnOk, MatchOption};
-ghost use Rattle.dwc_base.specs.Placed.{last_place};
+ghost use Rattle.dwc_native.specs.Placed.{last_place};
 ghost use Rattle.dwc_clif.specs.FlatRanges.{IsFlat, Flattens, Puts, part_between as part_of, PutsBetween, IsRest};
 ghost use Rattle.dwc_clif.specs.ValueLabels.{range_view};
 

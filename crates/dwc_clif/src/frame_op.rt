@@ -1,6 +1,6 @@
 //! Instructions of call frames.
 ghost use Rattle.std.specs.Prelude.{◌≡◌, ◌<◌, nat_abs, Some};
-ghost use Rattle.dwc_base.specs.CallFrames.{below_zero, has_factored_offset, is_multiple_of};
+ghost use Rattle.dwc_native.specs.CallFrames.{below_zero, has_factored_offset, is_multiple_of};
 ghost use Rattle.dwc_clif.specs.CallFrames.{instruction_view};
 
 /// An instruction of a call frame (DWARF 5, section 6.4.2). Registers have DWARF's numbers; offsets are in bytes.

@@ -2,7 +2,7 @@
 ghost use Rattle.std.specs.Prelude.{◌≡◌, [], ◌∷◌, ◌++◌, List, map, IfOk, OnOk, IfSome, None};
 ghost use Rattle.std.specs.Iterator.{YieldsFirst};
 ghost use Rattle.std.specs.List.{filter_map};
-ghost use Rattle.dwc_base.specs.Functions.{Recorded, recorded_entry};
+ghost use Rattle.dwc_native.specs.Functions.{Recorded, recorded_entry};
 ghost use Rattle.dwc_clif.specs.Gaps.{entry_view, gaps_behind, gaps_of, source_view, AreGapsOf};
 
 use crate::list_room::capacity;

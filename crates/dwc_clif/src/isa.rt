@@ -4,7 +4,7 @@ ghost use Rattle.std.specs.declared.option.Option.{Option};
 ghost use Rattle.std.specs.FinMap as map;
 ghost use Rattle.dwc_base.specs.declared.records.Endian.{Endian};
 ghost use Rattle.dwc_clif.specs.declared.architecture.Architecture.{Architecture};
-ghost use Rattle.dwc_base.specs.CallFrames.{CommonEntry, is_sound_if};
+ghost use Rattle.dwc_native.specs.CallFrames.{CommonEntry, is_sound_if};
 ghost use Rattle.dwc_clif.specs.CallFrames.{cie_view};
 ghost use Rattle.dwc_clif.specs.Registers.{Registers};
 

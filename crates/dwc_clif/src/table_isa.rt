@@ -2,7 +2,7 @@
 ghost use Rattle.std.specs.Prelude.{◌≡◌, ◌⊎◌, ℕ, IfOk, option_map, true};
 ghost use Rattle.std.specs.Ordering.{nat_cmp};
 ghost use Rattle.std.specs.BTreeMap.{get};
-ghost use Rattle.dwc_base.specs.CallFrames.{is_sound_if};
+ghost use Rattle.dwc_native.specs.CallFrames.{is_sound_if};
 ghost use Rattle.dwc_clif.specs.CallFrames.{cie_view};
 ghost use Rattle.dwc_clif.specs.Registers.{registers_of, number_in};
 
@@ -27,7 +27,7 @@ pub struct TableIsa {
 impl Model for TableIsa {
     ghost use Rattle.std.specs.Prelude.{option_map, ◌≡◌, ◌⊎◌, true};
     ghost use Rattle.std.specs.FinMap as finite;
-    ghost use Rattle.dwc_base.specs.CallFrames.{is_sound_if};
+    ghost use Rattle.dwc_native.specs.CallFrames.{is_sound_if};
     ghost use Rattle.dwc_clif.specs.CallFrames.{cie_view};
     ghost use Rattle.dwc_clif.specs.Targets.{Target, target_code};
 

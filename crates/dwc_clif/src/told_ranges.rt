@@ -29,7 +29,7 @@ pub struct ToldRanges {
 
 impl Model for ToldRanges {
     ghost use Rattle.std.specs.Prelude.{List, map};
-    ghost use Rattle.dwc_base.specs.Compiled.{LabelRange};
+    ghost use Rattle.dwc_native.specs.Compiled.{LabelRange};
     ghost use Rattle.dwc_clif.specs.FlatRanges.{IsFlatForm};
     ghost use Rattle.dwc_clif.specs.ValueLabels.{range_view, ranges_code};
 

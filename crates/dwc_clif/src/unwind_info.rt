@@ -1,6 +1,6 @@
 //! How the code of a function unwinds, as a code generator tells it.
 ghost use Rattle.std.specs.Prelude.{◌≡◌, Some, None, if◌then◌else◌, option_map};
-ghost use Rattle.dwc_base.specs.UnwindRecords.{are_arm_codes};
+ghost use Rattle.dwc_native.specs.UnwindRecords.{are_arm_codes};
 
 use crate::FrameOp;
 

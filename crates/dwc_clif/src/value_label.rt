@@ -1,6 +1,6 @@
 //! Labels of values, and where values lie.
 ghost use Rattle.std.specs.Prelude.{◌≡◌};
-ghost use Rattle.dwc_base.specs.Parts.{context_label};
+ghost use Rattle.dwc_native.specs.Parts.{context_label};
 
 use crate::Reg;
 

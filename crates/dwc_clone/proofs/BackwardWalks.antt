@@ -3,12 +3,12 @@ use Rattle.std.proofs.Common.{◌≡◌, ℕ, suc, ◌+◌, ◌<◌, ◌≤◌, 
 use Rattle.std.specs.Prelude.{◌==◌, not, unwrap_or}
 use Rattle.std.specs.List.{filter, prefix_len, take_while}
 use Rattle.std.proofs.lemmas.Bool.{eq-eqb, ne_eqb, not_from_false}
-use Rattle.dwc_base.specs.Kept.{Placed, parent_of, same_place}
-use Rattle.dwc_base.specs.Refusals.{first_of}
-use Rattle.dwc_base.specs.Scopes.{Rises, Steps}
+use Rattle.dwc_rules.specs.Kept.{Placed, parent_of, same_place}
+use Rattle.dwc_base.specs.Listing.{first_of}
+use Rattle.dwc_rules.specs.Scopes.{Rises, Steps}
 use Rattle.dwc_base.specs.Wasm.{last_of}
 use Rattle.dwc_base.proofs.InLists.{IsIn}
-use Rattle.dwc_base.proofs.StackWalks.{Falls, StepsBack, deepest_after, low_after, nearest_above, unwind}
+use Rattle.dwc_rules.proofs.StackWalks.{Falls, StepsBack, deepest_after, low_after, nearest_above, unwind}
 
 -- of entries in front of others
 pub falls : (rs zs : List Placed) → Rises 0 (unwind rs zs) → Falls rs × Rises (low_after rs) zs

@@ -6,9 +6,9 @@ use Rattle.std.specs.BTreeMap.{is_at}
 use Rattle.std.specs.BTreeSet.{BTreeSet, IsEmpty}
 use Rattle.std.specs.Ordering.{nat_cmp}
 use Rattle.std.proofs.lemmas.List.Folds.{list_any-append}
-use Rattle.dwc_base.specs.Functions.{Function}
+use Rattle.dwc_native.specs.Functions.{Function}
 use Rattle.dwc_clone.specs.BegunNumbers.{is_noted, NotesFunctions}
-use Rattle.dwc_base.specs.ListedFunctions.{is_number_of}
+use Rattle.dwc_rules.specs.RangeAttributes.{is_number_of}
 
 or-false : (a : Bool) → (a || false) ≡ a
 or-false true = refl

@@ -16,20 +16,20 @@ use Rattle.dwc_base.specs.declared.faults.Flaw.TheVariants.{EndsEarly, TooWide, 
 use Rattle.dwc_base.specs.Reading.{◌>>=◌}
 use Rattle.dwc_base.specs.Sections.{Fault, Sections, fault_of, reported}
 use Rattle.dwc_base.specs.Units.{UnitHeader}
-use Rattle.dwc_base.specs.Values.{Value, address, address_index, constant, flag, block, text, text_reference, unit_reference, info_reference, line_reference, dropped, expression, range_reference, range_index, location_reference, location_index}
-use Rattle.dwc_base.specs.Entries.{Entry, attribute}
-use Rattle.dwc_base.specs.Texts.{TextSource, text_named}
-use Rattle.dwc_base.specs.Functions.{Function}
-use Rattle.dwc_base.specs.Indexed.{address_indexed, address_named}
-use Rattle.dwc_base.specs.Kept.{Placed}
-use Rattle.dwc_base.specs.Drafts.{DraftValue}
-use Rattle.dwc_base.specs.RawLists.{ListSource, is_range_list}
-use Rattle.dwc_base.specs.Lists.{ListRefusal, list_source, ranges_of_value}
-use Rattle.dwc_base.specs.Lists as Lists
-use Rattle.dwc_base.specs.Refusals.{Refusal, of_place}
-use Rattle.dwc_base.specs.RangeRefusals.{begins_by_low_pc, bound_refusal, bounds_refusal, extent_refusal, flaw_in, has_name, index_fault, is_later_bound}
-use Rattle.dwc_base.specs.EntryRules.{bound_value_refused, of_list}
-use Rattle.dwc_base.specs.Clones.{UnitSource, bound_becomes, nothing_unless, text_drafted}
+use Rattle.dwc_dwarf.specs.Values.{Value, address, address_index, constant, flag, block, text, text_reference, unit_reference, info_reference, line_reference, dropped, expression, range_reference, range_index, location_reference, location_index}
+use Rattle.dwc_dwarf.specs.Entries.{Entry, attribute}
+use Rattle.dwc_dwarf.specs.Texts.{TextSource, text_named}
+use Rattle.dwc_native.specs.Functions.{Function}
+use Rattle.dwc_dwarf.specs.Indexed.{address_indexed, address_named}
+use Rattle.dwc_rules.specs.Kept.{Placed}
+use Rattle.dwc_rules.specs.Drafts.{DraftValue}
+use Rattle.dwc_dwarf.specs.RawLists.{ListSource, is_range_list}
+use Rattle.dwc_dwarf.specs.Lists.{ListRefusal, list_source, ranges_of_value}
+use Rattle.dwc_dwarf.specs.Lists as Lists
+use Rattle.dwc_rules.specs.Refusals.{Refusal, of_place}
+use Rattle.dwc_rules.specs.RangeRefusals.{begins_by_low_pc, bound_refusal, bounds_refusal, extent_refusal, flaw_in, has_name, index_fault, is_later_bound}
+use Rattle.dwc_rules.specs.EntryRules.{bound_value_refused, of_list}
+use Rattle.dwc_rules.specs.Clones.{UnitSource, bound_becomes, nothing_unless, text_drafted}
 use Rattle.dwc_clif.specs.Registers.{Registers}
 use Rattle.dwc_read.specs.ValuesSeen.{attribute_view, value_view}
 use Rattle.dwc_read.specs.declared.value.AttributeValue.TheVariants.{RangeIndex, RangeRef}

@@ -9,13 +9,13 @@ use Rattle.std.proofs.lemmas.List.{take_more}
 use Rattle.dwc_base.specs.declared.section_name.SectionName.TheVariants.{Info}
 use Rattle.dwc_base.specs.declared.faults.What.TheVariants.{BaseName, Text}
 use Rattle.dwc_base.specs.declared.constants.TheConstants.{DW_AT_name, DW_TAG_array_type, DW_TAG_const_type, DW_TAG_pointer_type, DW_TAG_reference_type}
-use Rattle.dwc_base.specs.Entries.{attribute}
-use Rattle.dwc_base.specs.Kept.{Placed}
+use Rattle.dwc_dwarf.specs.Entries.{attribute}
+use Rattle.dwc_rules.specs.Kept.{Placed}
 use Rattle.dwc_base.specs.Reading.{◌>>=◌}
 use Rattle.dwc_base.specs.Sections.{Fault, reported, unreadable}
-use Rattle.dwc_base.specs.Texts.{TextSource, text_named}
-use Rattle.dwc_base.specs.TypeNames.{in_utf8, name_of, utf8_text}
-use Rattle.dwc_base.specs.Values.{Value}
+use Rattle.dwc_dwarf.specs.Texts.{TextSource, text_named}
+use Rattle.dwc_rules.specs.TypeNames.{in_utf8, name_of, utf8_text}
+use Rattle.dwc_dwarf.specs.Values.{Value}
 use Rattle.dwc_clone.specs.declared.error.CloneError.TheVariants.{Read}
 use Rattle.dwc_write.specs.TextTables.{IsText}
 use Rattle.dwc_clone.specs.TypeChains.{GivesRead, behind, behind_name, in_front, named_chain}

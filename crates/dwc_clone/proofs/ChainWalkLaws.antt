@@ -6,12 +6,12 @@ use Rattle.std.proofs.lemmas.Bool.{eq-eqb, eqb-true, ne_eqb}
 use Rattle.dwc_base.specs.declared.constants.TheConstants.{DW_TAG_array_type, DW_TAG_const_type, DW_TAG_pointer_type, DW_TAG_reference_type}
 use Rattle.dwc_base.specs.Reading.{◌>>=◌}
 use Rattle.dwc_base.specs.Sections.{Fault}
-use Rattle.dwc_base.specs.Kept.{Placed}
-use Rattle.dwc_base.specs.Clones.{UnitSource}
-use Rattle.dwc_base.specs.TypeNames.{derived_name, name_of, type_name, type_of, unknown}
-use Rattle.dwc_base.specs.Values.{is_one_of}
-use Rattle.dwc_base.proofs.ForestLaws.{none_is}
-use Rattle.dwc_base.proofs.NameSteps.{if_unmet, name-next, name-start, name_from, name_next, with_tag, with_tags}
+use Rattle.dwc_rules.specs.Kept.{Placed}
+use Rattle.dwc_rules.specs.Clones.{UnitSource}
+use Rattle.dwc_rules.specs.TypeNames.{derived_name, name_of, type_name, type_of, unknown}
+use Rattle.dwc_dwarf.specs.Values.{is_one_of}
+use Rattle.dwc_rules.proofs.ForestLaws.{none_is}
+use Rattle.dwc_rules.proofs.NameSteps.{if_unmet, name-next, name-start, name_from, name_next, with_tag, with_tags}
 use Rattle.dwc_clone.specs.declared.error.CloneError.{CloneError}
 use Rattle.dwc_clone.specs.declared.source.CloneSource.{CloneSource}
 use Rattle.dwc_clone.specs.declared.type_entry.TypeEntry.{TypeEntry}

@@ -1,9 +1,10 @@
 -- Attributes of an entry that are read in their order, of which nothing becomes.
 use Rattle.std.proofs.Common.{◌≡◌, ℕ, refl, sym, ap, ◌∙◌, List, [], ◌∷◌, ◌++◌, take, Option, Some, None}
-use Rattle.dwc_base.specs.Values.{Value}
-use Rattle.dwc_base.specs.Kept.{Placed}
-use Rattle.dwc_base.specs.Refusals.{Refusal, first_of}
-use Rattle.dwc_base.specs.Clones.{UnitSource, attribute_becomes, attributes_become}
+use Rattle.dwc_dwarf.specs.Values.{Value}
+use Rattle.dwc_rules.specs.Kept.{Placed}
+use Rattle.dwc_rules.specs.Refusals.{Refusal}
+use Rattle.dwc_base.specs.Listing.{first_of}
+use Rattle.dwc_rules.specs.Clones.{UnitSource, attribute_becomes, attributes_become}
 use Rattle.dwc_clif.specs.Registers.{Registers}
 use Rattle.dwc_write.specs.declared.attributes.AttributeValue.{AttributeValue}
 use Rattle.dwc_clone.specs.declared.source.CloneSource.{CloneSource}

@@ -8,11 +8,11 @@ use Rattle.std.proofs.lemmas.List.Elements.{All-nil}
 use Rattle.dwc_base.specs.declared.constants.TheConstants.{DW_AT_high_pc, DW_AT_low_pc, DW_AT_ranges, DW_FORM_udata, DW_TAG_compile_unit}
 use Rattle.dwc_base.specs.declared.records.Address.{Address}
 use Rattle.dwc_base.specs.declared.records.Address.TheVariants.{Constant as Number, Symbol}
-use Rattle.dwc_base.specs.Entries.{Entry}
-use Rattle.dwc_base.specs.Functions.{Function}
-use Rattle.dwc_base.specs.RawLists.{ListSource}
-use Rattle.dwc_base.specs.RangeAttributes.{begun_function, bounds, extent, length_of, range_attributes, said_extent, said_intervals}
-use Rattle.dwc_base.specs.Trees.{Interval, TreeValue, ranges}
+use Rattle.dwc_dwarf.specs.Entries.{Entry}
+use Rattle.dwc_native.specs.Functions.{Function}
+use Rattle.dwc_dwarf.specs.RawLists.{ListSource}
+use Rattle.dwc_rules.specs.RangeAttributes.{begun_function, bounds, extent, length_of, range_attributes, said_extent, said_intervals}
+use Rattle.dwc_dwarf.specs.Trees.{Interval, TreeValue, ranges}
 use Rattle.dwc_write.specs.declared.attributes.AttributeValue.TheVariants.{Address as AddressValue, Constant}
 use Rattle.dwc_write.specs.declared.units.UnitEntryId.{UnitEntryId}
 use Rattle.dwc_write.specs.GivenUnits.{Addition, GivenUnit, with_value}

@@ -4,14 +4,14 @@ use Rattle.std.specs.Prelude.{◌==◌, ◌||◌, if◌then◌else◌, is_some, 
 use Rattle.std.specs.List.{find}
 use Rattle.std.proofs.lemmas.Bool.{eqb-true}
 use Rattle.dwc_base.specs.declared.constants.TheConstants.{DW_AT_frame_base, DW_AT_high_pc, DW_AT_low_pc, DW_AT_ranges, DW_TAG_subprogram}
-use Rattle.dwc_base.specs.Entries.{Entry, attribute}
-use Rattle.dwc_base.specs.Functions.{Function}
-use Rattle.dwc_base.specs.Lists.{address_among}
-use Rattle.dwc_base.specs.LocationAttributes.{base_of_expression}
-use Rattle.dwc_base.specs.RangeAttributes.{address_said, begun_function, extent, extent_of_bounds, nowhere, range_list_of}
-use Rattle.dwc_base.specs.RawLists.{ListSource, is_range_list}
-use Rattle.dwc_base.specs.Scopes.{Given, base_given, compiled_base, left_for, scope_given, scope_of_extent, source_range}
-use Rattle.dwc_base.specs.Values.{Value}
+use Rattle.dwc_dwarf.specs.Entries.{Entry, attribute}
+use Rattle.dwc_native.specs.Functions.{Function}
+use Rattle.dwc_dwarf.specs.Lists.{address_among}
+use Rattle.dwc_rules.specs.LocationAttributes.{base_of_expression}
+use Rattle.dwc_rules.specs.RangeAttributes.{address_said, begun_function, extent, extent_of_bounds, nowhere, range_list_of}
+use Rattle.dwc_dwarf.specs.RawLists.{ListSource, is_range_list}
+use Rattle.dwc_rules.specs.Scopes.{Given, base_given, compiled_base, left_for, scope_given, scope_of_extent, source_range}
+use Rattle.dwc_dwarf.specs.Values.{Value}
 use Rattle.dwc_clone.specs.CodeNames.{is_code_name, have_code_name}
 use Rattle.dwc_clone.proofs.InputExtentLaws.{bounded-is}
 use Rattle.dwc_clone.specs.Lineages.{Stacks, frame_given, stacks_left, with_entry, with_given}

@@ -12,21 +12,22 @@ use Rattle.dwc_base.specs.declared.faults.Flaw.TheVariants.{EndsEarly, TooWide, 
 use Rattle.dwc_base.specs.Reading.{◌>>=◌}
 use Rattle.dwc_base.specs.Sections.{Sections, Fault, fault_of, reported}
 use Rattle.dwc_base.specs.Units.{UnitHeader}
-use Rattle.dwc_base.specs.Values.{Value, is_location_name, is_range_name}
-use Rattle.dwc_base.specs.Values as Values
-use Rattle.dwc_base.specs.Functions.{Function}
-use Rattle.dwc_base.specs.Indexed.{address_indexed, address_named}
-use Rattle.dwc_base.specs.Refusals.{Refusal, of_place}
-use Rattle.dwc_base.specs.Trees.{ranges}
-use Rattle.dwc_base.specs.Trees as Trees
-use Rattle.dwc_base.specs.Drafts.{DraftValue, done}
-use Rattle.dwc_base.specs.RawLists.{is_location_list, is_range_list}
-use Rattle.dwc_base.specs.Lists.{ListRefusal, list_source, ranges_of_value}
-use Rattle.dwc_base.specs.Lists as Lists
-use Rattle.dwc_base.specs.RangeAttributes.{carried_address, native_of_intervals}
-use Rattle.dwc_base.specs.RangeRules.{all_items, code_becomes, list_becomes, told_as}
-use Rattle.dwc_base.specs.EntryRules.{of_list}
-use Rattle.dwc_base.specs.ReadValues.{IsReadValue}
+use Rattle.dwc_dwarf.specs.Values.{Value, is_location_name, is_range_name}
+use Rattle.dwc_dwarf.specs.Values as Values
+use Rattle.dwc_native.specs.Functions.{Function}
+use Rattle.dwc_dwarf.specs.Indexed.{address_indexed, address_named}
+use Rattle.dwc_rules.specs.Refusals.{Refusal, of_place}
+use Rattle.dwc_dwarf.specs.Trees.{ranges}
+use Rattle.dwc_dwarf.specs.Trees as Trees
+use Rattle.dwc_rules.specs.Drafts.{DraftValue, done}
+use Rattle.dwc_dwarf.specs.RawLists.{is_location_list, is_range_list}
+use Rattle.dwc_dwarf.specs.Lists.{ListRefusal, list_source, ranges_of_value}
+use Rattle.dwc_dwarf.specs.Lists as Lists
+use Rattle.dwc_rules.specs.RangeAttributes.{carried_address}
+use Rattle.dwc_native.specs.ScopesKept.{native_of_intervals}
+use Rattle.dwc_rules.specs.RangeRules.{all_items, code_becomes, list_becomes, told_as}
+use Rattle.dwc_rules.specs.EntryRules.{of_list}
+use Rattle.dwc_dwarf.specs.ReadValues.{IsReadValue}
 use Rattle.dwc_read.specs.Bases.{address_of_value}
 use Rattle.dwc_read.specs.Faults.{Refuses, fault_at}
 use Rattle.dwc_read.specs.declared.value.AttributeValue as values

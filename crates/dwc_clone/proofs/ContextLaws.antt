@@ -3,14 +3,14 @@ use Rattle.std.proofs.Common.{◌≡◌, ℕ, refl, sym, ap, subst, ◌∙◌, L
 use Rattle.std.specs.Prelude.{◌≢◌, OnOk, option_map, true, false}
 use Rattle.std.proofs.lemmas.Bool.{eq-eqb, ne_eqb}
 use Rattle.dwc_base.specs.declared.constants.TheConstants.{DW_AT_location, DW_TAG_subprogram}
-use Rattle.dwc_base.specs.BuiltExpressions.{BuildRefusal}
-use Rattle.dwc_base.specs.ContextVariable.{context_in, context_over, location_refusals}
-use Rattle.dwc_base.specs.EntryRules.{of_build, of_location}
-use Rattle.dwc_base.specs.Kept.{Placed}
-use Rattle.dwc_base.specs.LocationAttributes.{InForce}
-use Rattle.dwc_base.specs.LocationRules.{ExpressionSource, in_force_at}
-use Rattle.dwc_base.specs.Refusals.{Refusal}
-use Rattle.dwc_base.specs.Trees.{Location}
+use Rattle.dwc_native.specs.BuiltExpressions.{BuildRefusal}
+use Rattle.dwc_rules.specs.ContextVariable.{context_in, context_over, location_refusals}
+use Rattle.dwc_rules.specs.EntryRules.{of_build, of_location}
+use Rattle.dwc_rules.specs.Kept.{Placed}
+use Rattle.dwc_rules.specs.LocationAttributes.{InForce}
+use Rattle.dwc_rules.specs.LocationRules.{ExpressionSource, in_force_at}
+use Rattle.dwc_rules.specs.Refusals.{Refusal}
+use Rattle.dwc_dwarf.specs.Trees.{Location}
 use Rattle.dwc_expr.specs.declared.error.ExprError.{ExprError}
 use Rattle.dwc_expr.specs.declared.error.ExprError.TheVariants.{Read, TooLarge, BadLabelRange, InvalidAttributeValue, UnmappedRegister, OutOfMemory}
 use Rattle.dwc_expr.specs.Builds.{location_view}

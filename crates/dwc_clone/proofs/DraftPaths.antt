@@ -2,7 +2,7 @@
 use Rattle.std.proofs.Common.{◌≡◌, ℕ, zero, suc, ◌+◌, ◌-◌, ◌<◌, ◌≤◌, refl, sym, ap, subst, ◌∙◌, arith, List, [], ◌∷◌, ◌++◌, length, length-append, take, true, Option, Some, None}
 use Rattle.std.specs.Prelude.{is_some, slice_get}
 use Rattle.std.proofs.lemmas.List.{length-take-le}
-use Rattle.dwc_base.specs.Entries.{Entry}
+use Rattle.dwc_dwarf.specs.Entries.{Entry}
 use Rattle.dwc_kept.specs.KeptUnits.{AreBelow}
 use Rattle.dwc_write.specs.declared.units.UnitEntryId.{UnitEntryId}
 use Rattle.dwc_write.specs.GivenUnits.{GivenUnit}

@@ -2,8 +2,8 @@
 use Rattle.std.proofs.Common.{◌≡◌, ◌≢◌, ℕ, zero, suc, ◌<◌, ◌≤◌, refl, sym, ap, subst, ◌∙◌, arith, List, [], ◌∷◌, ◌++◌, length, append_assoc, Option, Some, None}
 use Rattle.std.specs.Prelude.{IfSome, fold, slice_set}
 use Rattle.std.specs.List.{All}
-use Rattle.dwc_base.specs.Drafts.{Draft, Goal, made_of}
-use Rattle.dwc_base.specs.DraftForests.{settled_entry}
+use Rattle.dwc_rules.specs.Drafts.{Draft, Goal, made_of}
+use Rattle.dwc_rules.specs.DraftForests.{settled_entry}
 use Rattle.dwc_write.specs.declared.units.UnitEntryId.{UnitEntryId}
 use Rattle.dwc_write.specs.GivenUnits.{Addition, GivenUnit, IsReserved, place_of, set_in_addition, with_child, with_known, with_next}
 use Rattle.dwc_write.specs.UsedTexts.{texts_of_attributes}

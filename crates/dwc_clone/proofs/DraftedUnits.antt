@@ -5,8 +5,8 @@ use Rattle.std.specs.List.{All, AllZip}
 use Rattle.std.proofs.lemmas.Bool.{eqb-true, eqb-false}
 use Rattle.std.proofs.lemmas.List.{get_or_append_left, get_or_push, map-append}
 use Rattle.std.proofs.lemmas.List.Elements.{All-append, All-head, All-nil, All-push, All-tail, All-weaker}
-use Rattle.dwc_base.specs.Drafts.{Draft, Goal}
-use Rattle.dwc_base.specs.DraftForests.{settled_entry}
+use Rattle.dwc_rules.specs.Drafts.{Draft, Goal}
+use Rattle.dwc_rules.specs.DraftForests.{settled_entry}
 use Rattle.dwc_write.specs.declared.units.UnitEntryId.{UnitEntryId}
 use Rattle.dwc_write.specs.GivenUnits.{Addition, GivenUnit, place_of, with_places}
 use Rattle.dwc_write.specs.UsedTexts.{texts_of_attributes}

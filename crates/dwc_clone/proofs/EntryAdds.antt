@@ -4,16 +4,16 @@ use Rattle.std.specs.Prelude.{codes, get_or, option_map, option_to_list}
 use Rattle.std.specs.List.{All}
 use Rattle.std.proofs.lemmas.List.Elements.{All-cons, All-nil}
 use Rattle.dwc_base.specs.declared.constants.TheConstants.{DW_AT_location, DW_AT_name, DW_AT_type, DW_TAG_variable}
-use Rattle.dwc_base.specs.BuiltExpressions.{BuildRefusal}
-use Rattle.dwc_base.specs.CarriedDrafts.{draft_told}
-use Rattle.dwc_base.specs.Clones.{UnitSource}
-use Rattle.dwc_base.specs.ContextVariable.{context_entries, context_over, context_pointer, context_variable, located_or_none}
-use Rattle.dwc_base.specs.Drafts.{Draft, Goal, Role}
-use Rattle.dwc_base.specs.DraftForests.{settled_entry}
-use Rattle.dwc_base.specs.Kept.{Placed}
-use Rattle.dwc_base.specs.OwnUnits.{place_of_context_pointer}
-use Rattle.dwc_base.specs.Trees as trees
-use Rattle.dwc_base.specs.Trees.{Location, TreeEntry, TreeValue, entry, set_in_order}
+use Rattle.dwc_native.specs.BuiltExpressions.{BuildRefusal}
+use Rattle.dwc_rules.specs.CarriedDrafts.{draft_told}
+use Rattle.dwc_rules.specs.Clones.{UnitSource}
+use Rattle.dwc_rules.specs.ContextVariable.{context_entries, context_over, context_pointer, context_variable, located_or_none}
+use Rattle.dwc_rules.specs.Drafts.{Draft, Goal, Role}
+use Rattle.dwc_rules.specs.DraftForests.{settled_entry}
+use Rattle.dwc_rules.specs.Kept.{Placed}
+use Rattle.dwc_rules.specs.OwnUnits.{place_of_context_pointer}
+use Rattle.dwc_dwarf.specs.Trees as trees
+use Rattle.dwc_dwarf.specs.Trees.{Location, TreeEntry, TreeValue, entry, set_in_order}
 use Rattle.dwc_clif.specs.Registers.{Registers}
 use Rattle.dwc_expr.specs.Builds.{location_view}
 use Rattle.dwc_expr.specs.Frames.{memory_view}

@@ -5,19 +5,19 @@ use Rattle.std.specs.List.{All}
 use Rattle.std.proofs.lemmas.List.{length-set, reverse-append}
 use Rattle.std.proofs.lemmas.List.Elements.{All-nil}
 use Rattle.dwc_base.specs.declared.constants.TheConstants.{DW_TAG_compile_unit, DW_TAG_pointer_type, DW_TAG_reference_type, DW_TAG_structure_type, DW_TAG_subprogram}
-use Rattle.dwc_base.specs.BuiltExpressions.{BuildRefusal}
-use Rattle.dwc_base.specs.Entries.{Entry}
-use Rattle.dwc_base.specs.Kept.{Placed}
-use Rattle.dwc_base.specs.Trees.{Location}
-use Rattle.dwc_base.specs.CarriedDrafts.{entry_made}
-use Rattle.dwc_base.specs.Clones.{UnitSource}
-use Rattle.dwc_base.specs.ContextVariable.{context_entries, context_in, context_over, context_pointer, context_variable, located_or_none}
-use Rattle.dwc_base.specs.Drafts.{Draft, Goal, Role}
-use Rattle.dwc_base.specs.EntryRules.{wrappers_of}
-use Rattle.dwc_base.specs.LocationRules.{ExpressionSource, in_force_at}
-use Rattle.dwc_base.specs.TypeNames.{type_name}
-use Rattle.dwc_base.specs.Wrappers.{WrapperSource, closing, entries_made, is_wrapped, made_itself, name_or_unknown, open_behind, wrapper, wrapper_name}
-use Rattle.dwc_base.proofs.WrapperLaws.{entries-in_place, made-next}
+use Rattle.dwc_native.specs.BuiltExpressions.{BuildRefusal}
+use Rattle.dwc_dwarf.specs.Entries.{Entry}
+use Rattle.dwc_rules.specs.Kept.{Placed}
+use Rattle.dwc_dwarf.specs.Trees.{Location}
+use Rattle.dwc_rules.specs.CarriedDrafts.{entry_made}
+use Rattle.dwc_rules.specs.Clones.{UnitSource}
+use Rattle.dwc_rules.specs.ContextVariable.{context_entries, context_in, context_over, context_pointer, context_variable, located_or_none}
+use Rattle.dwc_rules.specs.Drafts.{Draft, Goal, Role}
+use Rattle.dwc_rules.specs.EntryRules.{wrappers_of}
+use Rattle.dwc_rules.specs.LocationRules.{ExpressionSource, in_force_at}
+use Rattle.dwc_rules.specs.TypeNames.{type_name}
+use Rattle.dwc_rules.specs.Wrappers.{WrapperSource, closing, entries_made, is_wrapped, made_itself, name_or_unknown, open_behind, wrapper, wrapper_name}
+use Rattle.dwc_rules.proofs.WrapperLaws.{entries-in_place, made-next}
 use Rattle.dwc_clif.specs.Registers.{Registers}
 use Rattle.dwc_write.specs.declared.units.UnitEntryId.{UnitEntryId}
 use Rattle.dwc_write.specs.GivenUnits.{Addition, GivenUnit, IsPlaceBelow, IsReserved, place_of, with_child, with_known}

@@ -2,15 +2,15 @@
 use Rattle.std.proofs.Common.{◌≡◌, ℕ, zero, suc, ◌+◌, ◌≤◌, refl, sym, ap, subst, ◌∙◌, arith, append_assoc, List, [], ◌∷◌, ◌++◌, length, take, Bool, true, false, Option}
 use Rattle.std.specs.Prelude.{if◌then◌else◌, nat_lt}
 use Rattle.std.proofs.lemmas.List.{length-take-le}
-use Rattle.dwc_base.specs.Entries.{Entry}
-use Rattle.dwc_base.specs.Kept.{Placed}
-use Rattle.dwc_base.specs.CarriedDrafts.{entry_made}
-use Rattle.dwc_base.specs.Clones.{UnitSource}
-use Rattle.dwc_base.specs.Drafts.{Draft, Goal, Role}
-use Rattle.dwc_base.specs.EntryRules.{wrappers_of}
-use Rattle.dwc_base.specs.LocationRules.{ExpressionSource}
-use Rattle.dwc_base.specs.Wrappers.{WrapperSource, closing, entries_made, left_open, made_itself, open_behind, types_closed}
-use Rattle.dwc_base.proofs.WrapperLaws.{entries-in_place, made-next}
+use Rattle.dwc_dwarf.specs.Entries.{Entry}
+use Rattle.dwc_rules.specs.Kept.{Placed}
+use Rattle.dwc_rules.specs.CarriedDrafts.{entry_made}
+use Rattle.dwc_rules.specs.Clones.{UnitSource}
+use Rattle.dwc_rules.specs.Drafts.{Draft, Goal, Role}
+use Rattle.dwc_rules.specs.EntryRules.{wrappers_of}
+use Rattle.dwc_rules.specs.LocationRules.{ExpressionSource}
+use Rattle.dwc_rules.specs.Wrappers.{WrapperSource, closing, entries_made, left_open, made_itself, open_behind, types_closed}
+use Rattle.dwc_rules.proofs.WrapperLaws.{entries-in_place, made-next}
 use Rattle.dwc_clif.specs.Registers.{Registers}
 use Rattle.dwc_write.specs.declared.units.UnitEntryId.{UnitEntryId}
 use Rattle.dwc_write.specs.GivenUnits.{GivenUnit}

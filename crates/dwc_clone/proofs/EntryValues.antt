@@ -7,13 +7,14 @@ use Rattle.std.proofs.lemmas.List.{append-nil, append_assoc, drop_more, get_or-m
 use Rattle.std.proofs.lemmas.List.Elements.{All-append, All-nil}
 use Rattle.std.proofs.lemmas.List.Sums.{fold-append}
 use Rattle.dwc_base.specs.declared.constants.TheConstants.{DW_AT_endianity, DW_END_little, DW_FORM_data1, DW_TAG_base_type}
-use Rattle.dwc_base.specs.Values.{Value}
-use Rattle.dwc_base.specs.Kept.{Placed}
-use Rattle.dwc_base.specs.Refusals.{Refusal, first_of}
-use Rattle.dwc_base.specs.Trees.{TreeValue, constant, set_attribute}
-use Rattle.dwc_base.specs.Clones.{UnitSource, attribute_becomes, attributes_become, endianity, if_made, if_refused}
-use Rattle.dwc_base.specs.Drafts.{Goal, DraftValue, done}
-use Rattle.dwc_base.specs.DraftForests.{settled, settled_value}
+use Rattle.dwc_dwarf.specs.Values.{Value}
+use Rattle.dwc_rules.specs.Kept.{Placed}
+use Rattle.dwc_rules.specs.Refusals.{Refusal}
+use Rattle.dwc_base.specs.Listing.{first_of}
+use Rattle.dwc_dwarf.specs.Trees.{TreeValue, constant, set_attribute}
+use Rattle.dwc_rules.specs.Clones.{UnitSource, attribute_becomes, attributes_become, endianity, if_made, if_refused}
+use Rattle.dwc_rules.specs.Drafts.{Goal, DraftValue, done}
+use Rattle.dwc_rules.specs.DraftForests.{settled, settled_value}
 use Rattle.dwc_clif.specs.Registers.{Registers}
 use Rattle.dwc_read.specs.declared.value.AttributeValue.{AttributeValue as InputValue}
 use Rattle.dwc_read.specs.ValuesSeen.{attribute_view}

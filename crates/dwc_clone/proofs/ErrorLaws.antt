@@ -1,7 +1,7 @@
 -- What errors tell.
 use Rattle.std.proofs.Common.{◌≡◌, refl}
 use Rattle.std.specs.Prelude.{option_map}
-use Rattle.dwc_base.specs.Refusals.{of_place}
+use Rattle.dwc_rules.specs.Refusals.{of_place}
 use Rattle.dwc_read.specs.declared.fault.ReadFault.{ReadFault}
 use Rattle.dwc_read.specs.declared.fault.ReadFault.TheVariants.{Read, Unsupported, OutOfMemory}
 use Rattle.dwc_read.specs.Faults.{fault_seen}

@@ -7,21 +7,21 @@ use Rattle.std.proofs.lemmas.Option.{slice_get-map}
 use Rattle.dwc_base.specs.declared.constants.TheConstants.{DW_TAG_subprogram}
 use Rattle.dwc_base.specs.declared.records.Address.{Address}
 use Rattle.dwc_base.specs.declared.records.Address.TheVariants.{Constant, Symbol}
-use Rattle.dwc_base.specs.Compiled.{LabelRange}
-use Rattle.dwc_base.specs.Entries.{Entry}
-use Rattle.dwc_base.specs.Functions.{Function, function_at, is_unlinked, owner, with_symbol}
-use Rattle.dwc_base.specs.Kept.{Placed}
-use Rattle.dwc_base.specs.Lists.{list_source}
-use Rattle.dwc_base.specs.LocationAttributes as located
-use Rattle.dwc_base.specs.LocationRules.{frame_at, frame_told, in_force_at}
-use Rattle.dwc_base.specs.Parts.{CompiledParts}
-use Rattle.dwc_base.specs.Placed.{Frame}
-use Rattle.dwc_base.specs.RangeAttributes.{begin_of, begun_function}
-use Rattle.dwc_base.specs.RangeKept.{function_of_address}
-use Rattle.dwc_base.specs.RawLists.{ListSource}
-use Rattle.dwc_base.specs.Refusals.{first_of}
-use Rattle.dwc_base.specs.Scopes.{frame_in_force, lineage, nearest, scope_in_force, top_of}
-use Rattle.dwc_base.specs.Clones.{UnitSource}
+use Rattle.dwc_native.specs.Compiled.{LabelRange}
+use Rattle.dwc_dwarf.specs.Entries.{Entry}
+use Rattle.dwc_native.specs.Functions.{Function, function_at, is_unlinked, owner, with_symbol}
+use Rattle.dwc_rules.specs.Kept.{Placed}
+use Rattle.dwc_dwarf.specs.Lists.{list_source}
+use Rattle.dwc_rules.specs.LocationAttributes as located
+use Rattle.dwc_rules.specs.LocationRules.{frame_at, frame_told, in_force_at}
+use Rattle.dwc_native.specs.Parts.{CompiledParts}
+use Rattle.dwc_native.specs.Placed.{Frame}
+use Rattle.dwc_rules.specs.RangeAttributes.{begin_of, begun_function}
+use Rattle.dwc_rules.specs.RangeKept.{function_of_address}
+use Rattle.dwc_dwarf.specs.RawLists.{ListSource}
+use Rattle.dwc_base.specs.Listing.{first_of}
+use Rattle.dwc_rules.specs.Scopes.{frame_in_force, lineage, nearest, scope_in_force, top_of}
+use Rattle.dwc_rules.specs.Clones.{UnitSource}
 use Rattle.dwc_clif.specs.Registers.{Registers}
 use Rattle.dwc_addr.specs.Numbers.{Compiled}
 use Rattle.dwc_addr.proofs.OwnerLaws.{function_at-among}

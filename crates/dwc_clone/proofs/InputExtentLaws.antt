@@ -3,13 +3,13 @@ use Rattle.std.proofs.Common.{◌≡◌, refl, ap, Option, Some, None}
 use Rattle.std.specs.Prelude.{option_map, option_and_then}
 use Rattle.dwc_base.specs.declared.records.Address.{Address}
 use Rattle.dwc_base.specs.declared.constants.TheConstants.{DW_AT_high_pc, DW_AT_low_pc}
-use Rattle.dwc_base.specs.Entries.{Entry, attribute}
-use Rattle.dwc_base.specs.EntryRules.{of_list}
-use Rattle.dwc_base.specs.Lists.{ranges_of_value}
-use Rattle.dwc_base.specs.RangeAttributes.{intervals, position, address_said, extent, extent_of_bounds, interval_to, range_list_of}
-use Rattle.dwc_base.specs.RangeRefusals.{bounds_refusal}
-use Rattle.dwc_base.specs.RawLists.{ListSource}
-use Rattle.dwc_base.specs.Values.{Value}
+use Rattle.dwc_dwarf.specs.Entries.{Entry, attribute}
+use Rattle.dwc_rules.specs.EntryRules.{of_list}
+use Rattle.dwc_dwarf.specs.Lists.{ranges_of_value}
+use Rattle.dwc_rules.specs.RangeAttributes.{intervals, position, address_said, extent, extent_of_bounds, interval_to, range_list_of}
+use Rattle.dwc_rules.specs.RangeRefusals.{bounds_refusal}
+use Rattle.dwc_dwarf.specs.RawLists.{ListSource}
+use Rattle.dwc_dwarf.specs.Values.{Value}
 
 module _ (s : ListSource) (e : Entry) where
   pub listed-is : (v : Value) → Some v ≡ range_list_of e → intervals (ranges_of_value s e.offset v).items ≡ extent s e

@@ -1,17 +1,17 @@
 -- What is refused of an entry that is not wrapped, and what is made of it.
 use Rattle.std.proofs.Common.{◌≡◌, ℕ, refl, sym, ap, subst, ◌∙◌, List, [], ◌∷◌, ◌++◌, map, true, false, Option, Some, None, Result, Ok, Err}
-use Rattle.dwc_base.specs.BuiltExpressions.{BuildRefusal}
-use Rattle.dwc_base.specs.Kept.{Placed}
-use Rattle.dwc_base.specs.Trees.{Location}
-use Rattle.dwc_base.specs.Clones.{UnitSource, entry_refusals}
-use Rattle.dwc_base.specs.ContextVariable.{context_over, location_refusals}
-use Rattle.dwc_base.specs.EntryRules.{of_build, wrappers_of}
-use Rattle.dwc_base.specs.Refusals.{Refusal, of_place}
-use Rattle.dwc_base.specs.TypeNames.{type_name}
-use Rattle.dwc_base.specs.Wrappers.{is_wrapped, name_fault, wrapper_refusals}
+use Rattle.dwc_native.specs.BuiltExpressions.{BuildRefusal}
+use Rattle.dwc_rules.specs.Kept.{Placed}
+use Rattle.dwc_dwarf.specs.Trees.{Location}
+use Rattle.dwc_rules.specs.Clones.{UnitSource, entry_refusals}
+use Rattle.dwc_rules.specs.ContextVariable.{context_over, location_refusals}
+use Rattle.dwc_rules.specs.EntryRules.{of_build, wrappers_of}
+use Rattle.dwc_rules.specs.Refusals.{Refusal, of_place}
+use Rattle.dwc_rules.specs.TypeNames.{type_name}
+use Rattle.dwc_rules.specs.Wrappers.{is_wrapped, name_fault, wrapper_refusals}
 use Rattle.dwc_clif.specs.Registers.{Registers}
 use Rattle.std.specs.Prelude.{take}
-use Rattle.dwc_base.specs.Drafts.{Goal}
+use Rattle.dwc_rules.specs.Drafts.{Goal}
 use Rattle.dwc_write.specs.declared.units.UnitEntryId.{UnitEntryId}
 use Rattle.dwc_write.specs.GivenUnits.{Addition, GivenUnit}
 use Rattle.dwc_clone.specs.declared.entry.PlacedEntry.{PlacedEntry}

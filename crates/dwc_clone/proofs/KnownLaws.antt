@@ -11,14 +11,14 @@ use Rattle.dwc_base.specs.declared.faults.What.TheVariants.{Text}
 use Rattle.dwc_base.specs.Reading.{◌>>=◌}
 use Rattle.dwc_base.specs.Sections.{Fault, Sections, fault_of, reported}
 use Rattle.dwc_base.specs.Units.{UnitHeader}
-use Rattle.dwc_base.specs.Values.{Value}
-use Rattle.dwc_base.specs.Texts.{text_named}
-use Rattle.dwc_base.specs.Indexed.{texts_of_unit}
-use Rattle.dwc_base.specs.TreeLaws.{with_new_text}
-use Rattle.dwc_base.specs.Trees.{text}
-use Rattle.dwc_base.specs.Refusals.{of_place}
-use Rattle.dwc_base.specs.Drafts.{done}
-use Rattle.dwc_base.specs.Clones.{text_drafted}
+use Rattle.dwc_dwarf.specs.Values.{Value}
+use Rattle.dwc_dwarf.specs.Texts.{text_named}
+use Rattle.dwc_dwarf.specs.Indexed.{texts_of_unit}
+use Rattle.dwc_dwarf.specs.TreeLaws.{with_new_text}
+use Rattle.dwc_dwarf.specs.Trees.{text}
+use Rattle.dwc_rules.specs.Refusals.{of_place}
+use Rattle.dwc_rules.specs.Drafts.{done}
+use Rattle.dwc_rules.specs.Clones.{text_drafted}
 use Rattle.dwc_read.specs.declared.text_place.TextPlace.{TextPlace}
 use Rattle.dwc_read.specs.Faults.{Refuses}
 use Rattle.dwc_read.specs.TextPlaces.{text_at_place, text_place_named}

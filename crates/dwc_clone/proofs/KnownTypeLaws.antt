@@ -6,9 +6,9 @@ use Rattle.std.specs.BTreeMap.{get}
 use Rattle.std.specs.Cmp.{unsigned_tied}
 use Rattle.std.specs.Global.{Global}
 use Rattle.std.proofs.lemmas.Bool.{eq-eqb, eqb-true, ne_eqb}
-use Rattle.dwc_base.specs.Kept.{Placed}
-use Rattle.dwc_base.specs.Clones.{UnitSource}
-use Rattle.dwc_base.specs.TypeNames.{name_of, unknown}
+use Rattle.dwc_rules.specs.Kept.{Placed}
+use Rattle.dwc_rules.specs.Clones.{UnitSource}
+use Rattle.dwc_rules.specs.TypeNames.{name_of, unknown}
 use Rattle.dwc_clone.specs.declared.source.CloneSource.{CloneSource}
 use Rattle.dwc_clone.specs.declared.type_entry.TypeEntry.{TypeEntry}
 use Rattle.dwc_clone.specs.declared.type_name.DerivedType.{DerivedType}

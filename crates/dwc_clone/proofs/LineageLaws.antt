@@ -6,16 +6,16 @@ use Rattle.std.proofs.Math.Seq.{take-suc}
 use Rattle.std.proofs.lemmas.Bool.{ne_eqb}
 use Rattle.std.proofs.lemmas.List.{map-append, reverse-append}
 use Rattle.std.proofs.lemmas.Option.{get_or_from_slice_get, slice_get_within, slice_get-get_or}
-use Rattle.dwc_base.specs.Entries.{Entry}
-use Rattle.dwc_base.specs.Functions.{Function}
-use Rattle.dwc_base.specs.Kept.{Placed, parent_of}
-use Rattle.dwc_base.specs.LocationAttributes.{base_of_expression}
-use Rattle.dwc_base.specs.RangeAttributes.{begun_function}
-use Rattle.dwc_base.specs.RawLists.{ListSource}
-use Rattle.dwc_base.specs.Refusals.{first_of}
-use Rattle.dwc_base.specs.Scopes.{Given, IsWalk, Rises, Steps, base_given, frame_in_force, given_by, lineage, lineage_of, nearest, scope_given, scope_in_force}
-use Rattle.dwc_base.proofs.StackLaws.{top-in-force}
-use Rattle.dwc_base.proofs.StackWalks.{stack-follows}
+use Rattle.dwc_dwarf.specs.Entries.{Entry}
+use Rattle.dwc_native.specs.Functions.{Function}
+use Rattle.dwc_rules.specs.Kept.{Placed, parent_of}
+use Rattle.dwc_rules.specs.LocationAttributes.{base_of_expression}
+use Rattle.dwc_rules.specs.RangeAttributes.{begun_function}
+use Rattle.dwc_dwarf.specs.RawLists.{ListSource}
+use Rattle.dwc_base.specs.Listing.{first_of}
+use Rattle.dwc_rules.specs.Scopes.{Given, IsWalk, Rises, Steps, base_given, frame_in_force, given_by, lineage, lineage_of, nearest, scope_given, scope_in_force}
+use Rattle.dwc_rules.proofs.StackLaws.{top-in-force}
+use Rattle.dwc_rules.proofs.StackWalks.{stack-follows}
 use Rattle.dwc_clone.specs.Lineages.{AreInForce, Stacks, WalkIsInForce, entered, frame_given, given_on, no_stacks, with_entries, with_entry, with_given}
 use Rattle.dwc_clone.proofs.WalkBegins.{first-is-root}
 

@@ -5,10 +5,10 @@ use Rattle.std.proofs.lemmas.Bool.{ne_eqb}
 use Rattle.dwc_base.specs.declared.records.Address.{Address}
 use Rattle.dwc_base.specs.declared.section_name.SectionName.{SectionName}
 use Rattle.dwc_base.specs.declared.constants.TheConstants.{DW_AT_frame_base}
-use Rattle.dwc_base.specs.Trees.{TreeValue, expression}
-use Rattle.dwc_base.specs.Parts.{CompiledParts, compiled}
-use Rattle.dwc_base.specs.BuiltExpressions.{Surroundings, built_over}
-use Rattle.dwc_base.specs.LocationAttributes.{GivenExpression, InForce, LocationRefusal, base_for, built_at, compiled_at, output_frame_base, read_expression, value_of_attribute, value_of_built, value_of_expression, value_of_parts}
+use Rattle.dwc_dwarf.specs.Trees.{TreeValue, expression}
+use Rattle.dwc_native.specs.Parts.{CompiledParts, compiled}
+use Rattle.dwc_native.specs.BuiltExpressions.{Surroundings, built_over}
+use Rattle.dwc_rules.specs.LocationAttributes.{GivenExpression, InForce, LocationRefusal, base_for, built_at, compiled_at, output_frame_base, read_expression, value_of_attribute, value_of_built, value_of_expression, value_of_parts}
 use Rattle.dwc_write.specs.declared.expressions.Expression.{Expression}
 use Rattle.dwc_expr.specs.declared.built.BuiltCompiledExpression.{BuiltCompiledExpression}
 use Rattle.dwc_expr.specs.declared.error.ExprError.{ExprError}

@@ -11,18 +11,18 @@ use Rattle.dwc_base.specs.Listing.{only_fault}
 use Rattle.dwc_base.specs.Reading.{◌>>=◌}
 use Rattle.dwc_base.specs.Sections.{Sections, Fault, fault_of, reported}
 use Rattle.dwc_base.specs.Units.{UnitHeader}
-use Rattle.dwc_base.specs.Values.{Value}
-use Rattle.dwc_base.specs.Trees.{Location, TreeValue}
-use Rattle.dwc_base.specs.Kept.{Placed}
-use Rattle.dwc_base.specs.RangeRules.{told_as}
-use Rattle.dwc_base.specs.RawLists.{ListSource, ListPlace, list_named}
-use Rattle.dwc_base.specs.Lists.{ListRefusal, of_place, list_source, list_of_value, locations_at, locations_of_value}
-use Rattle.dwc_base.specs.Drafts.{DraftValue}
-use Rattle.dwc_base.specs.LocationRules.{ExpressionSource, in_force_at, listed_by, lists_of, locations_become}
-use Rattle.dwc_base.specs.BuiltExpressions.{BuildRefusal, BuiltExpressions, built_over}
-use Rattle.dwc_base.specs.Parts.{CompiledParts, compiled}
-use Rattle.dwc_base.specs.Wrappers.{is_wrapped}
-use Rattle.dwc_base.specs.LocationAttributes.{InForce, ListedExpression, LocationRefusal, built_at, built_for, built_for_each, compiled_at, drafted, read_locations, value_of_locations, with_locations}
+use Rattle.dwc_dwarf.specs.Values.{Value}
+use Rattle.dwc_dwarf.specs.Trees.{Location, TreeValue}
+use Rattle.dwc_rules.specs.Kept.{Placed}
+use Rattle.dwc_rules.specs.RangeRules.{told_as}
+use Rattle.dwc_dwarf.specs.RawLists.{ListSource, ListPlace, list_named}
+use Rattle.dwc_dwarf.specs.Lists.{ListRefusal, of_place, list_source, list_of_value, locations_at, locations_of_value}
+use Rattle.dwc_rules.specs.Drafts.{DraftValue}
+use Rattle.dwc_rules.specs.LocationRules.{ExpressionSource, in_force_at, listed_by, lists_of, locations_become}
+use Rattle.dwc_native.specs.BuiltExpressions.{BuildRefusal, BuiltExpressions, built_over}
+use Rattle.dwc_native.specs.Parts.{CompiledParts, compiled}
+use Rattle.dwc_rules.specs.Wrappers.{is_wrapped}
+use Rattle.dwc_rules.specs.LocationAttributes.{InForce, ListedExpression, LocationRefusal, built_at, built_for, built_for_each, compiled_at, drafted, read_locations, value_of_locations, with_locations}
 use Rattle.dwc_read.specs.Faults.{fault_at}
 use Rattle.dwc_tabs.specs.LocationLists.{location_list_named}
 use Rattle.dwc_tabs.specs.RangeLists.{Tells}

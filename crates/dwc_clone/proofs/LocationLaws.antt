@@ -5,24 +5,24 @@ use Rattle.dwc_base.specs.declared.constants.TheConstants.{DW_AT_frame_base}
 use Rattle.dwc_base.specs.declared.faults.What.TheVariants.{Expression as ExpressionRead}
 use Rattle.dwc_base.specs.declared.section_name.SectionName.{SectionName}
 use Rattle.dwc_base.specs.declared.section_name.SectionName.TheVariants.{Info}
-use Rattle.dwc_base.specs.BuiltExpressions.{BuildRefusal, BuiltExpressions, Surroundings, built_over}
-use Rattle.dwc_base.specs.EntryRules as rules
-use Rattle.dwc_base.specs.EntryRules.{bound_value_refused, code_value_becomes, of_location}
-use Rattle.dwc_base.specs.ExpressionPlaces.{expression_place}
-use Rattle.dwc_base.specs.Kept.{Placed}
-use Rattle.dwc_base.specs.LocationAttributes.{GivenExpression, InForce, LocationRefusal, base_for, built_at, compiled_at, drafted, of_build, of_place, output_frame_base, read_expression, value_of_attribute, value_of_built, value_of_code, value_of_expression, value_of_parts, value_over}
-use Rattle.dwc_base.specs.LocationRules.{ExpressionSource, expression_becomes, expression_refused, given_expression, in_force_at, lists_of, locations_become, refusal_in}
-use Rattle.dwc_base.specs.Parts.{CompiledParts, compiled, is_simple, single_code}
-use Rattle.dwc_base.specs.RangeRules.{told_as}
-use Rattle.dwc_base.specs.RawLists.{is_location_list}
+use Rattle.dwc_native.specs.BuiltExpressions.{BuildRefusal, BuiltExpressions, Surroundings, built_over}
+use Rattle.dwc_rules.specs.EntryRules as rules
+use Rattle.dwc_rules.specs.EntryRules.{bound_value_refused, code_value_becomes, of_location}
+use Rattle.dwc_dwarf.specs.ExpressionPlaces.{expression_place}
+use Rattle.dwc_rules.specs.Kept.{Placed}
+use Rattle.dwc_rules.specs.LocationAttributes.{GivenExpression, InForce, LocationRefusal, base_for, built_at, compiled_at, drafted, of_build, of_place, output_frame_base, read_expression, value_of_attribute, value_of_built, value_of_code, value_of_expression, value_of_parts, value_over}
+use Rattle.dwc_rules.specs.LocationRules.{ExpressionSource, expression_becomes, expression_refused, given_expression, in_force_at, lists_of, locations_become, refusal_in}
+use Rattle.dwc_native.specs.Parts.{CompiledParts, compiled, is_simple, single_code}
+use Rattle.dwc_rules.specs.RangeRules.{told_as}
+use Rattle.dwc_dwarf.specs.RawLists.{is_location_list}
 use Rattle.dwc_base.specs.Reading.{◌>>=◌}
-use Rattle.dwc_base.specs.Refusals.{Refusal}
+use Rattle.dwc_rules.specs.Refusals.{Refusal}
 use Rattle.dwc_base.specs.Sections.{Fault, unreadable}
-use Rattle.dwc_base.specs.Trees.{TreeValue, expression}
-use Rattle.dwc_base.specs.Drafts.{DraftValue}
-use Rattle.dwc_base.specs.Wrappers.{is_wrapped}
-use Rattle.dwc_base.specs.Values as Values
-use Rattle.dwc_base.specs.Values.{Value}
+use Rattle.dwc_dwarf.specs.Trees.{TreeValue, expression}
+use Rattle.dwc_rules.specs.Drafts.{DraftValue}
+use Rattle.dwc_rules.specs.Wrappers.{is_wrapped}
+use Rattle.dwc_dwarf.specs.Values as Values
+use Rattle.dwc_dwarf.specs.Values.{Value}
 use Rattle.dwc_tabs.specs.declared.list_fault.ListFault.{ListFault}
 use Rattle.dwc_tabs.specs.declared.list_fault.ListFault.TheVariants as faults
 use Rattle.dwc_write.specs.declared.attributes.AttributeValue.{AttributeValue}

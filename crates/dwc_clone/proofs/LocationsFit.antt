@@ -10,23 +10,23 @@ use Rattle.std.proofs.lemmas.List.Elements.{All-append, All-cons, All-head, All-
 use Rattle.dwc_base.specs.declared.records.Address.{Address}
 use Rattle.dwc_base.specs.declared.records.Address.TheVariants.{Constant, Symbol}
 use Rattle.dwc_base.specs.declared.constants.TheConstants.{DW_AT_frame_base}
-use Rattle.dwc_base.specs.Addends.{AreSaid, TranslationsAreSaid}
-use Rattle.dwc_base.specs.BuiltExpressions.{BuildRefusal, BuiltExpressions, Surroundings, build_refusals, built_on, built_on_ranges, built_over, copied, ranges_built}
-use Rattle.dwc_base.specs.Functions.{Function, function_at}
-use Rattle.dwc_base.specs.LabelRanges.{all_bytes_placed, label_ranges}
-use Rattle.dwc_base.specs.Lists.{ListRefusal}
-use Rattle.dwc_base.specs.LocationAttributes.{InForce, GivenExpression, ListedExpression, LocationRefusal, are_equal_to, base_for, built_at, built_for, built_for_each, compiled_at, output_frame_base, value_of_attribute, value_of_code, value_of_expression, value_of_listed, value_of_locations, value_of_locations_built, value_of_parts, value_over, with_locations}
-use Rattle.dwc_base.specs.Parts.{CompiledParts, is_simple, single_code}
-use Rattle.dwc_base.specs.Placed.{Frame, NativeRange, is_between, is_byte_of, needed_labels, ranges_in_function, scope_intervals, scope_ranges}
-use Rattle.dwc_base.specs.RangeRules.{told_as}
-use Rattle.dwc_base.specs.RawLists.{ListSource}
+use Rattle.dwc_native.specs.Addends.{AreSaid, TranslationsAreSaid}
+use Rattle.dwc_native.specs.BuiltExpressions.{BuildRefusal, BuiltExpressions, Surroundings, build_refusals, built_on, built_on_ranges, built_over, copied, ranges_built}
+use Rattle.dwc_native.specs.Functions.{Function, function_at}
+use Rattle.dwc_native.specs.LabelRanges.{all_bytes_placed, label_ranges}
+use Rattle.dwc_dwarf.specs.Lists.{ListRefusal}
+use Rattle.dwc_rules.specs.LocationAttributes.{InForce, GivenExpression, ListedExpression, LocationRefusal, are_equal_to, base_for, built_at, built_for, built_for_each, compiled_at, output_frame_base, value_of_attribute, value_of_code, value_of_expression, value_of_listed, value_of_locations, value_of_locations_built, value_of_parts, value_over, with_locations}
+use Rattle.dwc_native.specs.Parts.{CompiledParts, is_simple, single_code}
+use Rattle.dwc_native.specs.Placed.{Frame, NativeRange, is_between, is_byte_of, needed_labels, ranges_in_function, scope_intervals, scope_ranges}
+use Rattle.dwc_rules.specs.RangeRules.{told_as}
+use Rattle.dwc_dwarf.specs.RawLists.{ListSource}
 use Rattle.dwc_base.specs.Reading.{◌>>=◌}
-use Rattle.dwc_base.specs.Refusals.{first_of}
-use Rattle.dwc_base.specs.Runs as runs
-use Rattle.dwc_base.specs.Runs.{as_intervals, end_in, is_range, meets, native, native_in_function, native_ranges, start_in}
-use Rattle.dwc_base.specs.Trees.{Interval, Location, TreeValue, expression, locations}
-use Rattle.dwc_base.specs.Values.{Value, is_location_name}
-use Rattle.dwc_base.proofs.LabelRangeLaws.{label-ranges}
+use Rattle.dwc_base.specs.Listing.{first_of}
+use Rattle.dwc_native.specs.Runs as runs
+use Rattle.dwc_native.specs.Runs.{as_intervals, end_in, is_range, meets, native, native_in_function, native_ranges, start_in}
+use Rattle.dwc_dwarf.specs.Trees.{Interval, Location, TreeValue, expression, locations}
+use Rattle.dwc_dwarf.specs.Values.{Value, is_location_name}
+use Rattle.dwc_native.proofs.LabelRangeLaws.{label-ranges}
 use Rattle.dwc_write.specs.declared.attributes.AttributeValue.{AttributeValue}
 use Rattle.dwc_write.specs.declared.attributes.AttributeValue.TheVariants as output
 use Rattle.dwc_write.specs.declared.attributes.DebugInfoRef.TheVariants as reference

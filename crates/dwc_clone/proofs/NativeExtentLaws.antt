@@ -3,10 +3,11 @@ use Rattle.std.proofs.Common.{◌≡◌, ◌<◌, ℕ, List, [], ◌∷◌, ◌+
 use Rattle.std.specs.List.{flat_map}
 use Rattle.std.specs.Prelude.{◌==◌, map, option_map, option_to_list}
 use Rattle.dwc_base.specs.declared.records.Address.{Address}
-use Rattle.dwc_base.specs.Functions.{Function}
-use Rattle.dwc_base.specs.RangeAttributes.{Extent, intervals, native_of_intervals, nowhere, position, said_extent, said_intervals}
-use Rattle.dwc_base.specs.Runs.{native}
-use Rattle.dwc_base.specs.Scopes.{scope_of_extent}
+use Rattle.dwc_native.specs.Functions.{Function}
+use Rattle.dwc_rules.specs.RangeAttributes.{Extent, intervals, nowhere, position, said_extent, said_intervals}
+use Rattle.dwc_native.specs.ScopesKept.{native_of_intervals}
+use Rattle.dwc_native.specs.Runs.{native}
+use Rattle.dwc_rules.specs.Scopes.{scope_of_extent}
 use Rattle.dwc_tabs.specs.RangeEnds.{interval_view}
 use Rattle.dwc_write.specs.RangeLists.{interval_of}
 use Rattle.dwc_clone.specs.NativeExtents.{AreRanges}

@@ -14,19 +14,19 @@ use Rattle.dwc_base.specs.declared.faults.What.{What}
 use Rattle.dwc_base.specs.declared.faults.What.TheVariants.{RangeList}
 use Rattle.dwc_base.specs.declared.faults.Flaw.{Flaw}
 use Rattle.dwc_base.specs.declared.faults.Flaw.TheVariants.{EndsEarly, TooWide, Malformed, Refused}
-use Rattle.dwc_base.specs.Addends.{AreSaid, IsSaid, TranslationsAreSaid}
-use Rattle.dwc_base.specs.Functions.{Function, function_at}
+use Rattle.dwc_native.specs.Addends.{AreSaid, IsSaid, TranslationsAreSaid}
+use Rattle.dwc_native.specs.Functions.{Function, function_at}
 use Rattle.dwc_base.specs.Listing.{Listing, only_fault, with_first}
-use Rattle.dwc_base.specs.Refusals.{first_of}
-use Rattle.dwc_base.specs.Runs as runs
-use Rattle.dwc_base.specs.Runs.{start_in, end_in, meets, is_range, native, native_in_function, native_ranges, as_intervals}
+use Rattle.dwc_base.specs.Listing.{first_of}
+use Rattle.dwc_native.specs.Runs as runs
+use Rattle.dwc_native.specs.Runs.{start_in, end_in, meets, is_range, native, native_in_function, native_ranges, as_intervals}
 use Rattle.dwc_base.specs.Sections.{Sections, Fault, fault_of, reported}
-use Rattle.dwc_base.specs.Trees.{Interval}
+use Rattle.dwc_dwarf.specs.Trees.{Interval}
 use Rattle.dwc_base.specs.Units.{UnitHeader}
-use Rattle.dwc_base.specs.Values.{Value}
-use Rattle.dwc_base.specs.RawLists.{ListSource, ListPlace, list_named}
-use Rattle.dwc_base.specs.Lists.{ListRefusal, of_place, list_source, list_of_value, ranges_at, ranges_of_value}
-use Rattle.dwc_base.specs.RangeAttributes.{native_of_intervals, wasm_interval}
+use Rattle.dwc_dwarf.specs.Values.{Value}
+use Rattle.dwc_dwarf.specs.RawLists.{ListSource, ListPlace, list_named}
+use Rattle.dwc_dwarf.specs.Lists.{ListRefusal, of_place, list_source, list_of_value, ranges_at, ranges_of_value}
+use Rattle.dwc_native.specs.ScopesKept.{native_of_intervals, wasm_interval}
 use Rattle.dwc_addr.specs.Translations.{with_length, with_lengths}
 use Rattle.dwc_read.specs.Faults.{fault_at}
 use Rattle.dwc_tabs.specs.declared.list_fault.ListFault.{ListFault}

@@ -2,11 +2,11 @@
 use Rattle.std.proofs.Common.{◌≡◌, ℕ, pos, List, ◌++◌, append-nil, Bool, true, false, Option, Some, None, option_map, refl, ap, sym, ◌∙◌}
 use Rattle.std.specs.Prelude.{◌==◌, ◌||◌, if◌then◌else◌, is_some, option_to_list}
 use Rattle.dwc_base.specs.declared.constants.TheConstants.{DW_AT_high_pc, DW_AT_ranges, DW_TAG_subprogram}
-use Rattle.dwc_base.specs.Entries.{Entry, attribute}
-use Rattle.dwc_base.specs.Functions.{Function}
-use Rattle.dwc_base.specs.RangeAttributes.{begun_function, extent}
-use Rattle.dwc_base.specs.RawLists.{ListSource}
-use Rattle.dwc_base.specs.Scopes.{Given, left_for, scope_given, scope_of_extent, source_range, top_at}
+use Rattle.dwc_dwarf.specs.Entries.{Entry, attribute}
+use Rattle.dwc_native.specs.Functions.{Function}
+use Rattle.dwc_rules.specs.RangeAttributes.{begun_function, extent}
+use Rattle.dwc_dwarf.specs.RawLists.{ListSource}
+use Rattle.dwc_rules.specs.Scopes.{Given, left_for, scope_given, scope_of_extent, source_range, top_at}
 use Rattle.dwc_clone.specs.Lineages.{HasOwnScope, Stacks, entered, own_scope, with_entry}
 use Rattle.dwc_clone.specs.ReadExtents.{IsScopeOf}
 use Rattle.dwc_clone.proofs.StackDepths.{top-left, top-push}

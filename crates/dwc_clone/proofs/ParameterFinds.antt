@@ -4,13 +4,13 @@ use Rattle.std.specs.Prelude.{◌==◌, ◌&&◌, not, if◌then◌else◌, get_
 use Rattle.std.specs.List.{filter, find}
 use Rattle.std.proofs.lemmas.Bool.{and_parts, eq-eqb, eqb-true, ne_eqb}
 use Rattle.dwc_base.specs.declared.constants.TheConstants.{DW_TAG_formal_parameter}
-use Rattle.dwc_base.specs.Entries.{Entry}
-use Rattle.dwc_base.specs.Kept.{Placed, is_parent, parent_of, same_place}
-use Rattle.dwc_base.specs.ObjectPointers.{first_parameter, is_that}
-use Rattle.dwc_base.specs.Refusals.{first_of}
-use Rattle.dwc_base.specs.Scopes.{Rises}
+use Rattle.dwc_dwarf.specs.Entries.{Entry}
+use Rattle.dwc_rules.specs.Kept.{Placed, is_parent, parent_of, same_place}
+use Rattle.dwc_rules.specs.ObjectPointers.{first_parameter, is_that}
+use Rattle.dwc_base.specs.Listing.{first_of}
+use Rattle.dwc_rules.specs.Scopes.{Rises}
 use Rattle.dwc_base.proofs.InLists.{IsIn, in-filter}
-use Rattle.dwc_base.proofs.StackWalks.{Falls, low_after, nearest_above, unwind}
+use Rattle.dwc_rules.proofs.StackWalks.{Falls, low_after, nearest_above, unwind}
 use Rattle.dwc_clone.specs.declared.source.CloneSource.{CloneSource}
 use Rattle.dwc_clone.specs.ClonedUnits.{placed_in}
 use Rattle.dwc_clone.specs.ParameterContexts.{Contexts, with_context, with_contexts}

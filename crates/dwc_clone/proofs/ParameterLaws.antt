@@ -6,19 +6,19 @@ use Rattle.std.proofs.lemmas.Bool.{eq-eqb, eqb-true, eqb-false, ne_eqb}
 use Rattle.std.proofs.lemmas.Int.{ints}
 use Rattle.std.proofs.lemmas.Option.{slice_get-get_or}
 use Rattle.dwc_base.specs.declared.constants.TheConstants.{DW_AT_object_pointer, DW_AT_type, DW_TAG_formal_parameter, DW_TAG_pointer_type}
-use Rattle.dwc_base.specs.Clones.{UnitSource}
-use Rattle.dwc_base.specs.Entries.{Entry, attribute}
-use Rattle.dwc_base.specs.Kept.{Placed, parent_of}
-use Rattle.dwc_base.specs.ObjectPointers.{first_parameter, has_parameters, is_object_pointer, is_pointer, is_that, looks_like_this, named_pointer, points_to_object}
-use Rattle.dwc_base.specs.Refusals.{first_of}
-use Rattle.dwc_base.specs.Scopes.{Steps, left_for, top_at}
+use Rattle.dwc_rules.specs.Clones.{UnitSource}
+use Rattle.dwc_dwarf.specs.Entries.{Entry, attribute}
+use Rattle.dwc_rules.specs.Kept.{Placed, parent_of}
+use Rattle.dwc_rules.specs.ObjectPointers.{first_parameter, has_parameters, is_object_pointer, is_pointer, is_that, looks_like_this, named_pointer, points_to_object}
+use Rattle.dwc_base.specs.Listing.{first_of}
+use Rattle.dwc_rules.specs.Scopes.{Steps, left_for, top_at}
 use Rattle.dwc_base.specs.Sections.{Fault}
-use Rattle.dwc_base.specs.Targets.{target_of}
-use Rattle.dwc_base.specs.Texts.{TextSource}
-use Rattle.dwc_base.specs.TypeNames.{target_in_unit, type_of}
-use Rattle.dwc_base.specs.Values.{Value, address, address_index, constant, flag, block, expression, text, text_reference, line_reference, range_reference, range_index, location_reference, location_index, unit_reference, info_reference, dropped}
+use Rattle.dwc_rules.specs.Targets.{target_of}
+use Rattle.dwc_dwarf.specs.Texts.{TextSource}
+use Rattle.dwc_rules.specs.TypeNames.{target_in_unit, type_of}
+use Rattle.dwc_dwarf.specs.Values.{Value, address, address_index, constant, flag, block, expression, text, text_reference, line_reference, range_reference, range_index, location_reference, location_index, unit_reference, info_reference, dropped}
 use Rattle.dwc_base.proofs.InLists.{IsIn, append-right, contains-in, in-at, in-contains, in-filter, in-map, map-in}
-use Rattle.dwc_base.proofs.StackWalks.{StepsBack, deepest_after, nearest_above}
+use Rattle.dwc_rules.proofs.StackWalks.{StepsBack, deepest_after, nearest_above}
 use Rattle.dwc_read.specs.Faults.{Refuses}
 use Rattle.dwc_read.specs.Lone.{lone_entry, unread_from}
 use Rattle.dwc_kept.specs.ReadEntries.{named_offset}

@@ -5,13 +5,13 @@ use Rattle.std.specs.List.{filter}
 use Rattle.std.proofs.lemmas.Bool.{eqb-true, eqb-false, le-leb, lt-leb}
 use Rattle.std.proofs.lemmas.Int.{ints}
 use Rattle.dwc_base.specs.declared.constants.TheConstants.{DW_TAG_entry_point, DW_TAG_formal_parameter, DW_TAG_inlined_subroutine, DW_TAG_subprogram}
-use Rattle.dwc_base.specs.Entries.{Entry}
-use Rattle.dwc_base.specs.Kept.{Placed}
-use Rattle.dwc_base.specs.ObjectPointers.{has_parameters}
-use Rattle.dwc_base.specs.Refusals.{first_of}
-use Rattle.dwc_base.specs.Scopes.{left_for, top_at}
-use Rattle.dwc_base.specs.Values.{is_one_of}
-use Rattle.dwc_base.proofs.StackWalks.{StepsBack, deepest_after, nearest_above}
+use Rattle.dwc_dwarf.specs.Entries.{Entry}
+use Rattle.dwc_rules.specs.Kept.{Placed}
+use Rattle.dwc_rules.specs.ObjectPointers.{has_parameters}
+use Rattle.dwc_base.specs.Listing.{first_of}
+use Rattle.dwc_rules.specs.Scopes.{left_for, top_at}
+use Rattle.dwc_dwarf.specs.Values.{is_one_of}
+use Rattle.dwc_rules.proofs.StackWalks.{StepsBack, deepest_after, nearest_above}
 use Rattle.dwc_clone.specs.declared.object_pointer.SubprogramContext.{SubprogramContext}
 use Rattle.dwc_clone.specs.declared.source.CloneSource.{CloneSource}
 use Rattle.dwc_clone.specs.ClonedEntries.{placed_entry}

@@ -7,27 +7,28 @@ use Rattle.dwc_base.specs.declared.constants.TheConstants.{DW_AT_endianity, DW_A
 use Rattle.dwc_base.specs.declared.records.Address.TheVariants.{Symbol}
 use Rattle.dwc_base.specs.declared.records.Address.{Address}
 use Rattle.std.specs.Prelude.{pos}
-use Rattle.dwc_base.specs.Functions.{Function}
-use Rattle.dwc_base.specs.RawLists.{ListSource}
-use Rattle.dwc_base.specs.Entries.{Entry}
-use Rattle.dwc_base.specs.Kept.{Placed}
-use Rattle.dwc_base.specs.Lists.{list_source}
-use Rattle.dwc_base.specs.RangeAttributes.{Extent, begun_function, bounds, extent, intervals, length_of, native_of_intervals, nowhere, position, range_attributes, said_extent, said_intervals}
-use Rattle.dwc_base.specs.Trees as trees
-use Rattle.dwc_base.specs.Trees.{Interval, Location, TreeEntry, TreeValue, constant, set_in_order}
-use Rattle.dwc_base.specs.Clones.{UnitSource, attributes_become, attributes_made, endianity, if_made}
-use Rattle.dwc_base.specs.CarriedDrafts.{draft_told}
-use Rattle.dwc_base.specs.Drafts.{DraftValue, Goal, done}
-use Rattle.dwc_base.specs.DraftForests.{settled, settled_entry}
-use Rattle.dwc_base.specs.EntryRules.{wrappers_of}
-use Rattle.dwc_base.specs.ObjectPointers.{has_parameters, is_object_pointer, names_no_pointer, pointers_changed, unlike_this}
+use Rattle.dwc_native.specs.Functions.{Function}
+use Rattle.dwc_dwarf.specs.RawLists.{ListSource}
+use Rattle.dwc_dwarf.specs.Entries.{Entry}
+use Rattle.dwc_rules.specs.Kept.{Placed}
+use Rattle.dwc_dwarf.specs.Lists.{list_source}
+use Rattle.dwc_rules.specs.RangeAttributes.{Extent, begun_function, bounds, extent, intervals, length_of, nowhere, position, range_attributes, said_extent, said_intervals}
+use Rattle.dwc_native.specs.ScopesKept.{native_of_intervals}
+use Rattle.dwc_dwarf.specs.Trees as trees
+use Rattle.dwc_dwarf.specs.Trees.{Interval, Location, TreeEntry, TreeValue, constant, set_in_order}
+use Rattle.dwc_rules.specs.Clones.{UnitSource, attributes_become, attributes_made, endianity, if_made}
+use Rattle.dwc_rules.specs.CarriedDrafts.{draft_told}
+use Rattle.dwc_rules.specs.Drafts.{DraftValue, Goal, done}
+use Rattle.dwc_rules.specs.DraftForests.{settled, settled_entry}
+use Rattle.dwc_rules.specs.EntryRules.{wrappers_of}
+use Rattle.dwc_rules.specs.ObjectPointers.{has_parameters, is_object_pointer, names_no_pointer, pointers_changed, unlike_this}
 use Rattle.dwc_clif.specs.Registers.{Registers}
 use Rattle.dwc_clone.specs.declared.object_pointer.Telling.{Telling}
 use Rattle.dwc_clone.specs.declared.object_pointer.Telling.TheVariants.{Function as OfFunction, ObjectPointer, Plain}
 use Rattle.dwc_clone.specs.declared.source.CloneSource.{CloneSource}
 use Rattle.dwc_clone.specs.ClonedUnits.{clone_rules, source_with}
 use Rattle.dwc_clone.specs.ClonedEntries.{Tell, set_behind, values_wanted}
-use Rattle.dwc_base.specs.Texts.{TextSource}
+use Rattle.dwc_dwarf.specs.Texts.{TextSource}
 use Rattle.dwc_clone.specs.PlainEntries.{values_whole}
 use Rattle.dwc_clone.specs.Tellings.{tell_of, telling_of}
 

@@ -4,15 +4,16 @@ use Rattle.std.specs.Prelude.{IfOk, option_and_then, option_to_list, filter_map}
 use Rattle.std.specs.List.{cons_option}
 use Rattle.dwc_base.specs.declared.records.Address.{Address}
 use Rattle.dwc_base.specs.declared.constants.TheConstants.{DW_AT_high_pc, DW_AT_low_pc}
-use Rattle.dwc_base.specs.Entries.{Entry, attribute}
+use Rattle.dwc_dwarf.specs.Entries.{Entry, attribute}
 use Rattle.dwc_base.specs.Listing.{Listing, only_fault, with_first}
-use Rattle.dwc_base.specs.Lists.{ListRefusal, ranges_of_value}
-use Rattle.dwc_base.specs.RangeAttributes.{address_said, extent, interval_to, intervals, range_list_of, wasm_interval}
-use Rattle.dwc_base.specs.RangeRefusals.{bounds_refusal}
-use Rattle.dwc_base.specs.RawLists.{ListSource}
-use Rattle.dwc_base.specs.Scopes.{scope_of_extent}
-use Rattle.dwc_base.specs.Trees.{Interval}
-use Rattle.dwc_base.specs.Values.{Value}
+use Rattle.dwc_dwarf.specs.Lists.{ListRefusal, ranges_of_value}
+use Rattle.dwc_rules.specs.RangeAttributes.{address_said, extent, interval_to, intervals, range_list_of}
+use Rattle.dwc_native.specs.ScopesKept.{wasm_interval}
+use Rattle.dwc_rules.specs.RangeRefusals.{bounds_refusal}
+use Rattle.dwc_dwarf.specs.RawLists.{ListSource}
+use Rattle.dwc_rules.specs.Scopes.{scope_of_extent}
+use Rattle.dwc_dwarf.specs.Trees.{Interval}
+use Rattle.dwc_dwarf.specs.Values.{Value}
 use Rattle.dwc_clone.specs.BoundRefusals.{IsSound}
 use Rattle.dwc_clone.specs.ReadExtents.{AreReadOf}
 use Rattle.dwc_clone.specs.declared.wasm_intervals.ReadIntervals.{ReadIntervals}

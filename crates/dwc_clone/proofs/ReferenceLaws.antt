@@ -3,12 +3,12 @@ use Rattle.std.proofs.Common.{◌≡◌, ℕ, ◌+◌, ◌<◌, ◌≤◌, ◌-�
 use Rattle.std.specs.Prelude.{if◌then◌else◌, nat_lt, option_map, option_and_then}
 use Rattle.std.proofs.lemmas.Bool.{ltb-true}
 use Rattle.std.proofs.lemmas.List.Elements.{All-nil}
-use Rattle.dwc_base.specs.Values.{Value, unit_reference}
-use Rattle.dwc_base.specs.Kept.{Placed}
-use Rattle.dwc_base.specs.Targets.{target_of}
-use Rattle.dwc_base.specs.Trees.{TreeValue, entry}
-use Rattle.dwc_base.specs.Drafts.{itself, Goal, made_of, goes_to}
-use Rattle.dwc_base.specs.Clones.{UnitSource, reference_becomes}
+use Rattle.dwc_dwarf.specs.Values.{Value, unit_reference}
+use Rattle.dwc_rules.specs.Kept.{Placed}
+use Rattle.dwc_rules.specs.Targets.{target_of}
+use Rattle.dwc_dwarf.specs.Trees.{TreeValue, entry}
+use Rattle.dwc_rules.specs.Drafts.{itself, Goal, made_of, goes_to}
+use Rattle.dwc_rules.specs.Clones.{UnitSource, reference_becomes}
 use Rattle.dwc_kept.specs.ReadEntries.{named_offset}
 use Rattle.dwc_clone.specs.declared.source.CloneSource.{CloneSource}
 use Rattle.dwc_clone.specs.OutputPlaces.{place_of}

@@ -5,11 +5,11 @@ use Rattle.std.specs.Option.{unwrap_or}
 use Rattle.std.proofs.lemmas.Bool.{eq-eqb, eqb-true, ne_eqb}
 use Rattle.dwc_base.specs.Reading.{◌>>=◌}
 use Rattle.dwc_base.specs.Sections.{Fault}
-use Rattle.dwc_base.specs.Kept.{Placed}
-use Rattle.dwc_base.specs.Texts.{TextSource}
-use Rattle.dwc_base.specs.TypeNames.{derived_name, name_of, type_name, type_of, unknown}
-use Rattle.dwc_base.specs.Values.{is_one_of}
-use Rattle.dwc_base.proofs.NameSteps.{if_unmet, name-next, name-start, name_from, name_next, with_tags}
+use Rattle.dwc_rules.specs.Kept.{Placed}
+use Rattle.dwc_dwarf.specs.Texts.{TextSource}
+use Rattle.dwc_rules.specs.TypeNames.{derived_name, name_of, type_name, type_of, unknown}
+use Rattle.dwc_dwarf.specs.Values.{is_one_of}
+use Rattle.dwc_rules.proofs.NameSteps.{if_unmet, name-next, name-start, name_from, name_next, with_tags}
 use Rattle.dwc_clone.proofs.ChainWalkLaws.{turned}
 
 -- ---- chains

@@ -3,7 +3,7 @@ use Rattle.std.proofs.Common.{◌≡◌, ℕ, ℤ, ◌≤ℤ◌, int_le, pos, Bo
 use Rattle.std.specs.Prelude.{◌&&◌, if◌then◌else◌, option_and_then}
 use Rattle.std.proofs.lemmas.Bool.{le-leb}
 use Rattle.std.proofs.lemmas.Int.{ints}
-use Rattle.dwc_base.specs.Scopes.{Given, left_for, left_under, top_at}
+use Rattle.dwc_rules.specs.Scopes.{Given, left_for, left_under, top_at}
 use Rattle.dwc_base.proofs.Translated.{last_of-push}
 use Rattle.dwc_clone.specs.declared.object_pointer.SubprogramContext.{SubprogramContext}
 use Rattle.dwc_clone.specs.ParameterContexts.{Contexts, met, met_at}

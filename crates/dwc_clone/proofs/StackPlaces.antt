@@ -2,7 +2,7 @@
 use Rattle.std.proofs.Common.{◌≡◌, ℕ, zero, suc, ◌<◌, ◌≤◌, ◌-◌, true, false, ℤ, int_le, List, [], ◌∷◌, length, get_or, take, slice_set, slice_get, Some, refl, ap, arith, sym, ◌∙◌, ◌&&◌, is_some, Bool, if◌then◌else◌, Option, None, option_map}
 use Rattle.std.specs.Prelude.{option_and_then, unwrap_or}
 use Rattle.std.proofs.lemmas.Option.{slice_get-get_or}
-use Rattle.dwc_base.specs.Scopes.{Given, left_for, left_under, top_at, top_of}
+use Rattle.dwc_rules.specs.Scopes.{Given, left_for, left_under, top_at, top_of}
 use Rattle.dwc_base.specs.Wasm.{last_of}
 use Rattle.dwc_clone.specs.StacksByDepth.{with_top}
 

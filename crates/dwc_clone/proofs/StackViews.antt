@@ -1,7 +1,7 @@
 -- Stacks of what entries give, with each value seen by a function.
 use Rattle.std.proofs.Common.{◌≡◌, ℤ, int_le, Bool, true, false, if◌then◌else◌, List, [], ◌∷◌, map, Option, Some, None, option_map, refl, ap, ◌∙◌}
 use Rattle.std.specs.Prelude.{◌&&◌, option_and_then, unwrap_or}
-use Rattle.dwc_base.specs.Scopes.{Given, left_for, left_under, top_at, top_of}
+use Rattle.dwc_rules.specs.Scopes.{Given, left_for, left_under, top_at, top_of}
 use Rattle.dwc_base.specs.Wasm.{last_of}
 
 module _ {X Y : Type 0} (f : X → Y) where

@@ -1,8 +1,8 @@
 -- How many numbers a unit has when entries were added.
 use Rattle.std.proofs.Common.{◌≡◌, ℕ, suc, ◌+◌, refl, ap, ◌∙◌, arith, List, [], ◌∷◌, length, length-append, true, Option, Some, None, Result}
 use Rattle.dwc_base.specs.declared.constants.TheConstants.{DW_AT_artificial, DW_AT_byte_size, DW_AT_data_member_location, DW_AT_linkage_name, DW_AT_location, DW_AT_name, DW_AT_type, DW_FORM_data1, DW_TAG_formal_parameter, DW_TAG_member, DW_TAG_subprogram, DW_TAG_template_type_parameter, DW_TAG_variable}
-use Rattle.dwc_base.specs.BuiltExpressions.{BuildRefusal}
-use Rattle.dwc_base.specs.Trees.{Location}
+use Rattle.dwc_native.specs.BuiltExpressions.{BuildRefusal}
+use Rattle.dwc_dwarf.specs.Trees.{Location}
 use Rattle.dwc_write.specs.declared.attributes.AttributeValue.TheVariants.{DebugInfoRef as Reference, LocationListRef, StringRef, UnitRef}
 use Rattle.dwc_write.specs.declared.attributes.DebugInfoRef.{DebugInfoRef}
 use Rattle.dwc_write.specs.declared.strings.StringId.{StringId}

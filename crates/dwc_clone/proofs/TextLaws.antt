@@ -13,13 +13,13 @@ use Rattle.dwc_base.specs.declared.faults.Flaw.{Flaw}
 use Rattle.dwc_base.specs.declared.section_name.SectionName.TheVariants.{Info}
 use Rattle.dwc_base.specs.declared.faults.What.TheVariants.{Text}
 use Rattle.dwc_base.specs.Sections.{reported}
-use Rattle.dwc_base.specs.Texts.{TextSource, text_named}
-use Rattle.dwc_base.specs.Values.{Value}
-use Rattle.dwc_base.specs.ReadValues.{IsReadValue}
-use Rattle.dwc_base.specs.TreeLaws.{with_new_text}
-use Rattle.dwc_base.specs.Trees.{text}
-use Rattle.dwc_base.specs.Drafts.{done}
-use Rattle.dwc_base.proofs.ReadValuesTexts.{text-read}
+use Rattle.dwc_dwarf.specs.Texts.{TextSource, text_named}
+use Rattle.dwc_dwarf.specs.Values.{Value}
+use Rattle.dwc_dwarf.specs.ReadValues.{IsReadValue}
+use Rattle.dwc_dwarf.specs.TreeLaws.{with_new_text}
+use Rattle.dwc_dwarf.specs.Trees.{text}
+use Rattle.dwc_rules.specs.Drafts.{done}
+use Rattle.dwc_dwarf.proofs.ReadValuesTexts.{text-read}
 use Rattle.dwc_write.specs.declared.attributes.AttributeValue.TheVariants.{StringRef}
 use Rattle.dwc_write.specs.declared.error.WriteError.{WriteError}
 use Rattle.dwc_write.specs.declared.strings.StringId.{StringId}

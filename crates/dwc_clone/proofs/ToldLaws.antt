@@ -8,31 +8,31 @@ use Rattle.dwc_base.specs.declared.faults.Flaw.{Flaw}
 use Rattle.dwc_base.specs.declared.faults.What.TheVariants.{AddressValue, Text}
 use Rattle.dwc_base.specs.declared.section_name.SectionName.TheVariants.{Info}
 use Rattle.dwc_base.specs.declared.constants.TheConstants.{DW_AT_artificial, DW_AT_frame_base, DW_AT_name, DW_AT_object_pointer, DW_FORM_udata}
-use Rattle.dwc_base.specs.BuiltExpressions.{BuiltExpressions}
-use Rattle.dwc_base.specs.Clones.{UnitSource, attribute_becomes, constant_becomes, constant_form, file_number, is_file_name, reference_becomes, text_becomes, text_drafted, value_becomes}
-use Rattle.dwc_base.specs.Drafts.{itself, Goal, made_of, DraftValue, done, goes_to}
-use Rattle.dwc_base.specs.DraftForests.{settled_value}
-use Rattle.dwc_base.specs.EntryRules.{code_value_becomes, of_list, of_location, rules_of_source}
-use Rattle.dwc_base.specs.Kept.{Placed, names_entry}
-use Rattle.dwc_base.specs.Lists as lists
-use Rattle.dwc_base.specs.Lists.{ListRefusal, ranges_of_value}
-use Rattle.dwc_base.specs.LocationAttributes.{GivenExpression, InForce, ListedExpression, LocationRefusal, are_equal_to, base_for, built_at, built_for_each, compiled_at, drafted, output_frame_base, read_expression, read_locations, value_of_attribute, value_of_code, value_of_expression, value_of_listed, value_of_locations, value_of_locations_built, value_of_parts, value_over}
-use Rattle.dwc_base.specs.LocationRules.{ExpressionSource, expression_becomes, given_expression, in_force_at, listed_become, listed_by, lists_of, locations_become}
-use Rattle.dwc_base.specs.ObjectPointers.{names_no_pointer, stays_in_unit, underscored, unlike_this}
-use Rattle.dwc_base.specs.Parts.{CompiledParts, is_simple, single_code}
-use Rattle.dwc_base.specs.RangeAttributes.{carried_address}
-use Rattle.dwc_base.specs.RangeRules.{all_items, code_becomes, list_becomes, told_as}
-use Rattle.dwc_base.specs.RawLists.{ListSource}
+use Rattle.dwc_native.specs.BuiltExpressions.{BuiltExpressions}
+use Rattle.dwc_rules.specs.Clones.{UnitSource, attribute_becomes, constant_becomes, constant_form, file_number, is_file_name, reference_becomes, text_becomes, text_drafted, value_becomes}
+use Rattle.dwc_rules.specs.Drafts.{itself, Goal, made_of, DraftValue, done, goes_to}
+use Rattle.dwc_rules.specs.DraftForests.{settled_value}
+use Rattle.dwc_rules.specs.EntryRules.{code_value_becomes, of_list, of_location, rules_of_source}
+use Rattle.dwc_rules.specs.Kept.{Placed, names_entry}
+use Rattle.dwc_dwarf.specs.Lists as lists
+use Rattle.dwc_dwarf.specs.Lists.{ListRefusal, ranges_of_value}
+use Rattle.dwc_rules.specs.LocationAttributes.{GivenExpression, InForce, ListedExpression, LocationRefusal, are_equal_to, base_for, built_at, built_for_each, compiled_at, drafted, output_frame_base, read_expression, read_locations, value_of_attribute, value_of_code, value_of_expression, value_of_listed, value_of_locations, value_of_locations_built, value_of_parts, value_over}
+use Rattle.dwc_rules.specs.LocationRules.{ExpressionSource, expression_becomes, given_expression, in_force_at, listed_become, listed_by, lists_of, locations_become}
+use Rattle.dwc_rules.specs.ObjectPointers.{names_no_pointer, stays_in_unit, underscored, unlike_this}
+use Rattle.dwc_native.specs.Parts.{CompiledParts, is_simple, single_code}
+use Rattle.dwc_rules.specs.RangeAttributes.{carried_address}
+use Rattle.dwc_rules.specs.RangeRules.{all_items, code_becomes, list_becomes, told_as}
+use Rattle.dwc_dwarf.specs.RawLists.{ListSource}
 use Rattle.dwc_base.specs.Reading.{◌>>=◌}
-use Rattle.dwc_base.specs.Functions.{Function}
-use Rattle.dwc_base.specs.Refusals.{Refusal, of_place}
+use Rattle.dwc_native.specs.Functions.{Function}
+use Rattle.dwc_rules.specs.Refusals.{Refusal, of_place}
 use Rattle.dwc_base.specs.Sections.{Fault, fault_of, reported}
-use Rattle.dwc_base.specs.Targets.{target_of}
-use Rattle.dwc_base.specs.Texts.{TextSource, text_named}
-use Rattle.dwc_base.specs.Trees.{Interval, Location, TreeValue, address, block, constant, entry, expression, flag, line_table, locations, nothing, ranges, text}
-use Rattle.dwc_base.specs.Values as Values
-use Rattle.dwc_base.specs.Wrappers.{is_wrapped}
-use Rattle.dwc_base.specs.Values.{Value, is_location_name}
+use Rattle.dwc_rules.specs.Targets.{target_of}
+use Rattle.dwc_dwarf.specs.Texts.{TextSource, text_named}
+use Rattle.dwc_dwarf.specs.Trees.{Interval, Location, TreeValue, address, block, constant, entry, expression, flag, line_table, locations, nothing, ranges, text}
+use Rattle.dwc_dwarf.specs.Values as Values
+use Rattle.dwc_rules.specs.Wrappers.{is_wrapped}
+use Rattle.dwc_dwarf.specs.Values.{Value, is_location_name}
 use Rattle.dwc_base.proofs.InLists.{IsIn, any-in, in-any, in-contains}
 use Rattle.std.specs.Option.{unwrap_or}
 use Rattle.dwc_clif.specs.Registers.{Registers}

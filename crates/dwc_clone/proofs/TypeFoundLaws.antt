@@ -10,14 +10,14 @@ use Rattle.dwc_base.specs.declared.section_name.SectionName.TheVariants.{Info}
 use Rattle.dwc_base.specs.declared.constants.TheConstants.{DW_AT_name, DW_AT_type}
 use Rattle.dwc_base.specs.Reading.{◌>>=◌}
 use Rattle.dwc_base.specs.Sections.{Fault, fault_of, reported, unreadable, unsupported}
-use Rattle.dwc_base.specs.Entries.{Entry, attribute}
-use Rattle.dwc_base.specs.Kept.{Placed}
-use Rattle.dwc_base.specs.Clones.{UnitSource}
-use Rattle.dwc_base.specs.Targets.{target_of}
-use Rattle.dwc_base.specs.Texts.{TextSource, text_named}
-use Rattle.dwc_base.specs.TypeNames.{in_utf8, name_of, target_in_unit, type_of, utf8_text}
-use Rattle.dwc_base.specs.Values.{Value, address, address_index, constant, flag, block, expression, text, text_reference, line_reference, range_reference, range_index, location_reference, location_index, unit_reference, info_reference, dropped}
-use Rattle.dwc_base.proofs.ForestLaws.{none_is}
+use Rattle.dwc_dwarf.specs.Entries.{Entry, attribute}
+use Rattle.dwc_rules.specs.Kept.{Placed}
+use Rattle.dwc_rules.specs.Clones.{UnitSource}
+use Rattle.dwc_rules.specs.Targets.{target_of}
+use Rattle.dwc_dwarf.specs.Texts.{TextSource, text_named}
+use Rattle.dwc_rules.specs.TypeNames.{in_utf8, name_of, target_in_unit, type_of, utf8_text}
+use Rattle.dwc_dwarf.specs.Values.{Value, address, address_index, constant, flag, block, expression, text, text_reference, line_reference, range_reference, range_index, location_reference, location_index, unit_reference, info_reference, dropped}
+use Rattle.dwc_rules.proofs.ForestLaws.{none_is}
 use Rattle.dwc_kept.specs.ReadEntries.{named_offset}
 use Rattle.dwc_read.specs.declared.fault.ReadFault.{ReadFault}
 use Rattle.dwc_read.specs.declared.fault.ReadFault.TheVariants.{Read, Unsupported, OutOfMemory}

@@ -4,14 +4,14 @@ use Rattle.std.specs.Prelude.{◌==◌, ◌||◌, ◌&&◌, ◌≢◌, codes, if
 use Rattle.std.specs.List.{find}
 use Rattle.std.proofs.lemmas.Bool.{ne_eqb}
 use Rattle.dwc_base.specs.declared.constants.TheConstants.{DW_AT_type, DW_TAG_const_type, DW_TAG_pointer_type}
-use Rattle.dwc_base.specs.Entries.{attribute}
-use Rattle.dwc_base.specs.Kept.{Placed}
-use Rattle.dwc_base.specs.Clones.{UnitSource}
-use Rattle.dwc_base.specs.Targets.{target_of}
-use Rattle.dwc_base.specs.TypeNames.{derived_name, target_in_unit, type_name, type_of, unknown}
-use Rattle.dwc_base.specs.Values.{is_one_of, Value, address, address_index, constant, flag, block, expression, text, text_reference, line_reference, range_reference, range_index, location_reference, location_index, unit_reference, info_reference, dropped}
-use Rattle.dwc_base.specs.Wrappers.{wrapper_name}
-use Rattle.dwc_base.proofs.NameSteps.{with_tags}
+use Rattle.dwc_dwarf.specs.Entries.{attribute}
+use Rattle.dwc_rules.specs.Kept.{Placed}
+use Rattle.dwc_rules.specs.Clones.{UnitSource}
+use Rattle.dwc_rules.specs.Targets.{target_of}
+use Rattle.dwc_rules.specs.TypeNames.{derived_name, target_in_unit, type_name, type_of, unknown}
+use Rattle.dwc_dwarf.specs.Values.{is_one_of, Value, address, address_index, constant, flag, block, expression, text, text_reference, line_reference, range_reference, range_index, location_reference, location_index, unit_reference, info_reference, dropped}
+use Rattle.dwc_rules.specs.Wrappers.{wrapper_name}
+use Rattle.dwc_rules.proofs.NameSteps.{with_tags}
 use Rattle.dwc_write.specs.declared.strings.StringId.{StringId}
 use Rattle.dwc_clone.specs.declared.source.CloneSource.{CloneSource}
 use Rattle.dwc_clone.specs.declared.type_entry.TypeEntry.{TypeEntry}

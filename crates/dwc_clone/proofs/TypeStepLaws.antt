@@ -1,13 +1,13 @@
 -- What is read of one type of a chain.
 use Rattle.std.proofs.Common.{◌≡◌, ℕ, refl, sym, ap, subst, ◌∙◌, List, true, false, is_some, Option, Some, None, Result, Ok, Err}
 use Rattle.std.specs.Prelude.{option_map}
-use Rattle.dwc_base.specs.Entries.{Entry}
-use Rattle.dwc_base.specs.Kept.{Placed}
-use Rattle.dwc_base.specs.Clones.{UnitSource}
-use Rattle.dwc_base.specs.Indexed.{texts_of_unit}
-use Rattle.dwc_base.specs.Refusals.{Refusal, of_place}
+use Rattle.dwc_dwarf.specs.Entries.{Entry}
+use Rattle.dwc_rules.specs.Kept.{Placed}
+use Rattle.dwc_rules.specs.Clones.{UnitSource}
+use Rattle.dwc_dwarf.specs.Indexed.{texts_of_unit}
+use Rattle.dwc_rules.specs.Refusals.{Refusal, of_place}
 use Rattle.dwc_base.specs.Sections.{Fault}
-use Rattle.dwc_base.specs.TypeNames.{derived_name, name_of}
+use Rattle.dwc_rules.specs.TypeNames.{derived_name, name_of}
 use Rattle.dwc_clone.specs.declared.error.CloneError.{CloneError}
 use Rattle.dwc_clone.specs.declared.source.CloneSource.{CloneSource}
 use Rattle.dwc_clone.specs.declared.type_entry.TypeEntry.{TypeEntry}

@@ -5,15 +5,15 @@ use Rattle.std.proofs.lemmas.Bool.{eq-eqb, eqb-false, eqb-true, le-ltb, ne_eqb}
 use Rattle.dwc_base.specs.declared.constants.TheConstants.{DW_TAG_compile_unit}
 use Rattle.std.proofs.lemmas.List.{append-nil, drop_all, drop_more}
 use Rattle.std.proofs.lemmas.List.Elements.{All-cons, All-nil}
-use Rattle.dwc_base.specs.Entries.{Entry}
-use Rattle.dwc_base.specs.Kept.{Placed}
+use Rattle.dwc_dwarf.specs.Entries.{Entry}
+use Rattle.dwc_rules.specs.Kept.{Placed}
 use Rattle.dwc_base.specs.Listing.{Listing, no_items, with_first}
 use Rattle.dwc_base.specs.Sections.{Fault, unreadable, unsupported}
-use Rattle.dwc_base.specs.Clones.{UnitSource, entry_refusals}
-use Rattle.dwc_base.specs.Drafts.{Role}
-use Rattle.dwc_base.specs.EntryRules.{wrappers_of}
-use Rattle.dwc_base.specs.Refusals.{Refusal}
-use Rattle.dwc_base.specs.Wrappers.{WrapperSource, closing, entries_made, types_closed, wrapper_types}
+use Rattle.dwc_rules.specs.Clones.{UnitSource, entry_refusals}
+use Rattle.dwc_rules.specs.Drafts.{Role}
+use Rattle.dwc_rules.specs.EntryRules.{wrappers_of}
+use Rattle.dwc_rules.specs.Refusals.{Refusal}
+use Rattle.dwc_rules.specs.Wrappers.{WrapperSource, closing, entries_made, types_closed, wrapper_types}
 use Rattle.dwc_clif.specs.Registers.{Registers}
 use Rattle.dwc_kept.specs.KeptUnits.{IsTree}
 use Rattle.dwc_read.specs.declared.fault.ReadFault.{ReadFault}

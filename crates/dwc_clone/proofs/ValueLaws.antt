@@ -6,15 +6,15 @@ use Rattle.dwc_base.specs.declared.faults.What.TheVariants.{Text as TextRead}
 use Rattle.dwc_base.specs.declared.constants.TheConstants.{DW_AT_stmt_list}
 use Rattle.dwc_base.specs.Sections.{reported}
 use Rattle.dwc_base.specs.declared.records.Address.{Address}
-use Rattle.dwc_base.specs.Values.{Value, expression}
-use Rattle.dwc_base.specs.Texts.{TextSource, text_named}
-use Rattle.dwc_base.specs.Kept.{Placed}
-use Rattle.dwc_base.specs.Refusals.{Refusal, of_place}
-use Rattle.dwc_base.specs.Drafts.{DraftValue}
-use Rattle.dwc_base.specs.EntryRules.{code_value_becomes, of_list, rules_of_source}
-use Rattle.dwc_base.specs.LocationRules.{ExpressionSource, lists_of}
-use Rattle.dwc_base.specs.RangeRules.{code_becomes, told_as}
-use Rattle.dwc_base.specs.Clones.{CodeRules, UnitSource, attribute_becomes, bound_becomes, is_bound_name, is_dropped_name, table_becomes, text_becomes, text_drafted, value_becomes}
+use Rattle.dwc_dwarf.specs.Values.{Value, expression}
+use Rattle.dwc_dwarf.specs.Texts.{TextSource, text_named}
+use Rattle.dwc_rules.specs.Kept.{Placed}
+use Rattle.dwc_rules.specs.Refusals.{Refusal, of_place}
+use Rattle.dwc_rules.specs.Drafts.{DraftValue}
+use Rattle.dwc_rules.specs.EntryRules.{code_value_becomes, of_list, rules_of_source}
+use Rattle.dwc_rules.specs.LocationRules.{ExpressionSource, lists_of}
+use Rattle.dwc_rules.specs.RangeRules.{code_becomes, told_as}
+use Rattle.dwc_rules.specs.Clones.{CodeRules, UnitSource, attribute_becomes, bound_becomes, is_bound_name, is_dropped_name, table_becomes, text_becomes, text_drafted, value_becomes}
 use Rattle.dwc_read.specs.declared.value.AttributeValue.TheVariants as input
 use Rattle.dwc_read.specs.declared.value.AttributeValue as values
 use Rattle.dwc_read.specs.ValuesSeen.{value_view}

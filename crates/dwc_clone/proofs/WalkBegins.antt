@@ -5,8 +5,8 @@ use Rattle.std.specs.List.{filter, take_while}
 use Rattle.std.proofs.lemmas.Bool.{eq-eqb, eqb-false, ne_eqb}
 use Rattle.std.proofs.lemmas.List.Sums.{take_while-cons}
 use Rattle.std.proofs.lemmas.Option.{get_or_from_slice_get, slice_get_within}
-use Rattle.dwc_base.specs.Kept.{Placed, parent_of, same_place}
-use Rattle.dwc_base.specs.Scopes.{IsWalk, Rises, Steps}
+use Rattle.dwc_rules.specs.Kept.{Placed, parent_of, same_place}
+use Rattle.dwc_rules.specs.Scopes.{IsWalk, Rises, Steps}
 use Rattle.dwc_base.specs.Wasm.{last_of}
 use Rattle.dwc_base.proofs.InLists.{IsIn, contains-in, in-filter}
 

@@ -2,13 +2,13 @@
 use Rattle.std.proofs.Common.{append_assoc, ◌≡◌, ℕ, suc, refl, sym, ap, subst, ◌∙◌, arith, List, [], ◌∷◌, ◌++◌, length, true, Option, Some, None}
 use Rattle.std.specs.Prelude.{option_map, codes}
 use Rattle.dwc_base.specs.declared.constants.TheConstants.{DW_AT_artificial, DW_AT_byte_size, DW_AT_data_member_location, DW_AT_linkage_name, DW_AT_name, DW_AT_type, DW_FORM_data1, DW_TAG_formal_parameter, DW_TAG_member, DW_TAG_pointer_type, DW_TAG_reference_type, DW_TAG_structure_type, DW_TAG_subprogram, DW_TAG_template_type_parameter}
-use Rattle.dwc_base.specs.Kept.{Placed}
-use Rattle.dwc_base.specs.Clones.{UnitSource}
-use Rattle.dwc_base.specs.Trees as trees
-use Rattle.dwc_base.specs.Drafts.{Draft, Goal, Role, goes_to, itself, made_of, own_entry, pointer_to_target, pointer_to_wrapper, reference_to_target}
-use Rattle.dwc_base.specs.MadeEntries.{data1, made, named}
-use Rattle.dwc_base.specs.TypeNames as definitions
-use Rattle.dwc_base.specs.Wrappers.{beside, method, name_or_unknown, target_type, type_made, wrapper, wrapper_name, wrapper_types}
+use Rattle.dwc_rules.specs.Kept.{Placed}
+use Rattle.dwc_rules.specs.Clones.{UnitSource}
+use Rattle.dwc_dwarf.specs.Trees as trees
+use Rattle.dwc_rules.specs.Drafts.{Draft, Goal, Role, goes_to, itself, made_of, own_entry, pointer_to_target, pointer_to_wrapper, reference_to_target}
+use Rattle.dwc_rules.specs.MadeEntries.{data1, made, named}
+use Rattle.dwc_rules.specs.TypeNames as definitions
+use Rattle.dwc_rules.specs.Wrappers.{beside, method, name_or_unknown, target_type, type_made, wrapper, wrapper_name, wrapper_types}
 use Rattle.dwc_clif.specs.Registers.{Registers}
 use Rattle.dwc_write.specs.declared.strings.StringId.{StringId}
 use Rattle.dwc_write.specs.declared.units.UnitEntryId.{UnitEntryId}
@@ -46,7 +46,7 @@ module _ (registers : Registers) (c : CloneSource) (number : ℕ) (s : UnitSourc
   abbrev at : Goal → Option (ℕ × ℕ)
   at = goals registers c number s source roles e own
 
-  abbrev from : Rattle.dwc_base.specs.Wrappers.WrapperSource
+  abbrev from : Rattle.dwc_rules.specs.Wrappers.WrapperSource
   from = ws registers c number s source roles e own
 
   abbrev Added : ℕ → List Draft → List Draft → GivenUnit → GivenUnit → Type 0

@@ -4,18 +4,18 @@ use Rattle.std.specs.Prelude.{filter_map, option_and_then, option_map, option_to
 use Rattle.std.specs.List.{All, cons_option}
 use Rattle.std.proofs.lemmas.List.Elements.{All-cons, All-nil}
 use Rattle.dwc_base.specs.declared.constants.TheConstants.{DW_AT_artificial, DW_AT_byte_size, DW_AT_data_member_location, DW_AT_linkage_name, DW_AT_name, DW_AT_type, DW_FORM_data1, DW_TAG_formal_parameter, DW_TAG_member, DW_TAG_pointer_type, DW_TAG_structure_type, DW_TAG_subprogram}
-use Rattle.dwc_base.specs.Values.{Value, address, address_index, block, constant, dropped, expression, flag, info_reference, line_reference, location_index, location_reference, range_index, range_reference, text, text_reference, unit_reference}
-use Rattle.dwc_base.specs.Entries.{attribute}
-use Rattle.dwc_base.specs.Kept.{Placed}
-use Rattle.dwc_base.specs.TypeNames.{target_in_unit, type_of}
-use Rattle.dwc_base.specs.Trees as trees
-use Rattle.dwc_base.specs.Trees.{TreeEntry, TreeValue, entry, set_in_order}
-use Rattle.dwc_base.specs.Clones.{UnitSource}
-use Rattle.dwc_base.specs.EntryRules.{wrappers_of}
-use Rattle.dwc_base.specs.Drafts.{Draft, Goal, Role, goes_to, itself, made_of, own_entry, pointer_to_wrapper}
-use Rattle.dwc_base.specs.DraftForests.{settled}
-use Rattle.dwc_base.specs.MadeEntries.{data1, made, named}
-use Rattle.dwc_base.specs.Wrappers.{WrapperSource, beside, target_type, type_made}
+use Rattle.dwc_dwarf.specs.Values.{Value, address, address_index, block, constant, dropped, expression, flag, info_reference, line_reference, location_index, location_reference, range_index, range_reference, text, text_reference, unit_reference}
+use Rattle.dwc_dwarf.specs.Entries.{attribute}
+use Rattle.dwc_rules.specs.Kept.{Placed}
+use Rattle.dwc_rules.specs.TypeNames.{target_in_unit, type_of}
+use Rattle.dwc_dwarf.specs.Trees as trees
+use Rattle.dwc_dwarf.specs.Trees.{TreeEntry, TreeValue, entry, set_in_order}
+use Rattle.dwc_rules.specs.Clones.{UnitSource}
+use Rattle.dwc_rules.specs.EntryRules.{wrappers_of}
+use Rattle.dwc_rules.specs.Drafts.{Draft, Goal, Role, goes_to, itself, made_of, own_entry, pointer_to_wrapper}
+use Rattle.dwc_rules.specs.DraftForests.{settled}
+use Rattle.dwc_rules.specs.MadeEntries.{data1, made, named}
+use Rattle.dwc_rules.specs.Wrappers.{WrapperSource, beside, target_type, type_made}
 use Rattle.dwc_clif.specs.Registers.{Registers}
 use Rattle.dwc_kept.specs.ReadEntries.{named_offset}
 use Rattle.dwc_write.specs.declared.strings.StringId.{StringId}

@@ -6,14 +6,15 @@ use Rattle.std.proofs.lemmas.Bool.{and_parts, eqb-true, ltb-true}
 use Rattle.std.proofs.lemmas.List.Elements.{All-append, All-cons, All-nil}
 use Rattle.dwc_base.specs.declared.constants.TheConstants.{DW_TAG_pointer_type, DW_TAG_reference_type, DW_TAG_subprogram}
 use Rattle.dwc_base.specs.Sections.{Fault}
-use Rattle.dwc_base.specs.Kept.{Placed}
-use Rattle.dwc_base.specs.Refusals.{Refusal, first_of, of_place}
-use Rattle.dwc_base.specs.Clones.{UnitSource, entry_refusals}
-use Rattle.dwc_base.specs.ContextVariable.{context_in, context_over, location_refusals}
-use Rattle.dwc_base.specs.EntryRules.{of_build}
-use Rattle.dwc_base.specs.LocationRules.{in_force_at}
-use Rattle.dwc_base.specs.TypeNames.{type_name}
-use Rattle.dwc_base.specs.Wrappers.{is_wrapped, name_fault, name_or_unknown, wrapper_name, wrapper_refusals}
+use Rattle.dwc_rules.specs.Kept.{Placed}
+use Rattle.dwc_rules.specs.Refusals.{Refusal, of_place}
+use Rattle.dwc_base.specs.Listing.{first_of}
+use Rattle.dwc_rules.specs.Clones.{UnitSource, entry_refusals}
+use Rattle.dwc_rules.specs.ContextVariable.{context_in, context_over, location_refusals}
+use Rattle.dwc_rules.specs.EntryRules.{of_build}
+use Rattle.dwc_rules.specs.LocationRules.{in_force_at}
+use Rattle.dwc_rules.specs.TypeNames.{type_name}
+use Rattle.dwc_rules.specs.Wrappers.{is_wrapped, name_fault, name_or_unknown, wrapper_name, wrapper_refusals}
 use Rattle.dwc_clif.specs.Registers.{Registers}
 use Rattle.dwc_write.specs.declared.strings.StringId.{StringId}
 use Rattle.dwc_write.specs.declared.units.UnitEntryId.{UnitEntryId}

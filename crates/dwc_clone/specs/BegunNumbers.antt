@@ -2,8 +2,8 @@
 use Rattle.std.specs.Prelude.{◌≡◌, ℕ, List, Bool, ◌||◌}
 use Rattle.std.specs.Ordering.{nat_cmp}
 use Rattle.std.specs.BTreeSet.{BTreeSet, contains}
-use Rattle.dwc_base.specs.Functions.{Function}
-use Rattle.dwc_base.specs.ListedFunctions.{is_number_of}
+use Rattle.dwc_native.specs.Functions.{Function}
+use Rattle.dwc_rules.specs.RangeAttributes.{is_number_of}
 
 -- whether a number is noted
 abbrev pub is_noted : BTreeSet ℕ → ℕ → Bool

@@ -1,12 +1,12 @@
 -- What is refused of a bound of an entry, behind the attributes before it.
 use Rattle.std.specs.Prelude.{◌≡◌, ℕ, ◌==◌, List, ◌&&◌, if◌then◌else◌, Option, Some, None}
 use Rattle.dwc_base.specs.declared.constants.TheConstants.{DW_AT_ranges}
-use Rattle.dwc_base.specs.Values.{Value}
-use Rattle.dwc_base.specs.Entries.{Entry}
-use Rattle.dwc_base.specs.RawLists.{ListSource, is_range_list}
-use Rattle.dwc_base.specs.Lists.{ListRefusal, ranges_of_value}
-use Rattle.dwc_base.specs.RangeAttributes.{range_list_of}
-use Rattle.dwc_base.specs.RangeRefusals.{bounds_refusal, is_later_bound}
+use Rattle.dwc_dwarf.specs.Values.{Value}
+use Rattle.dwc_dwarf.specs.Entries.{Entry}
+use Rattle.dwc_dwarf.specs.RawLists.{ListSource, is_range_list}
+use Rattle.dwc_dwarf.specs.Lists.{ListRefusal, ranges_of_value}
+use Rattle.dwc_rules.specs.RangeAttributes.{range_list_of}
+use Rattle.dwc_rules.specs.RangeRefusals.{bounds_refusal, is_later_bound}
 
 -- what is refused of the range list that a bound of an entry at an offset names, if it names one
 abbrev pub list_refusal : ListSource → ℕ → ℕ × Value → Option ListRefusal

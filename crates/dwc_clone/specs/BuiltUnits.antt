@@ -1,16 +1,16 @@
 -- A unit of the output while it is made of the kept entries of a unit, one after another in file order.
 use Rattle.std.specs.Prelude.{◌≡◌, ℕ, suc, ◌+◌, ◌<◌, List, [], ◌∷◌, ◌++◌, length, All, true, if◌then◌else◌, Option, Some, Result, Ok, Err}
 use Rattle.dwc_base.specs.declared.constants.TheConstants.{DW_TAG_compile_unit}
-use Rattle.dwc_base.specs.Entries.{Entry}
-use Rattle.dwc_base.specs.Kept.{Placed}
-use Rattle.dwc_base.specs.Lists.{list_source}
-use Rattle.dwc_base.specs.Clones.{UnitSource, entry_refusals}
-use Rattle.dwc_base.specs.CarriedDrafts.{entry_made}
-use Rattle.dwc_base.specs.ContextVariable.{context_entries}
-use Rattle.dwc_base.specs.Drafts.{Draft, Goal, Role, pointer_to_target, pointer_to_wrapper, reference_to_target}
-use Rattle.dwc_base.specs.DraftForests.{settled_unit}
-use Rattle.dwc_base.specs.EntryRules.{wrappers_of}
-use Rattle.dwc_base.specs.Wrappers.{closing, entries_made, is_wrapped}
+use Rattle.dwc_dwarf.specs.Entries.{Entry}
+use Rattle.dwc_rules.specs.Kept.{Placed}
+use Rattle.dwc_dwarf.specs.Lists.{list_source}
+use Rattle.dwc_rules.specs.Clones.{UnitSource, entry_refusals}
+use Rattle.dwc_rules.specs.CarriedDrafts.{entry_made}
+use Rattle.dwc_rules.specs.ContextVariable.{context_entries}
+use Rattle.dwc_rules.specs.Drafts.{Draft, Goal, Role, pointer_to_target, pointer_to_wrapper, reference_to_target}
+use Rattle.dwc_rules.specs.DraftForests.{settled_unit}
+use Rattle.dwc_rules.specs.EntryRules.{wrappers_of}
+use Rattle.dwc_rules.specs.Wrappers.{closing, entries_made, is_wrapped}
 use Rattle.dwc_clif.specs.Registers.{Registers}
 use Rattle.dwc_write.specs.declared.units.UnitEntryId.{UnitEntryId}
 use Rattle.dwc_write.specs.GivenLines.{GivenLines}

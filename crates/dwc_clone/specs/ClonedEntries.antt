@@ -1,14 +1,14 @@
 -- The entries of the output that kept entries become, added one behind another to a unit.
 use Rattle.std.specs.Prelude.{◌≡◌, ℕ, suc, ◌<◌, ◌-◌, List, [], ◌∷◌, map, length, take, fold, get_or, slice_get, All, Option, Some, None, option_map, option_and_then, Result, Ok, Err, filter_map}
 use Rattle.dwc_base.specs.declared.constants.TheConstants.{DW_TAG_compile_unit}
-use Rattle.dwc_base.specs.Values.{Value}
-use Rattle.dwc_base.specs.Entries as Entries
-use Rattle.dwc_base.specs.Kept.{Placed}
-use Rattle.dwc_base.specs.Refusals.{Refusal}
-use Rattle.dwc_base.specs.Trees.{TreeValue, set_attribute}
-use Rattle.dwc_base.specs.Clones.{UnitSource, attributes_become, if_made, if_refused}
-use Rattle.dwc_base.specs.Drafts.{Goal, DraftValue}
-use Rattle.dwc_base.specs.DraftForests.{settled}
+use Rattle.dwc_dwarf.specs.Values.{Value}
+use Rattle.dwc_dwarf.specs.Entries as Entries
+use Rattle.dwc_rules.specs.Kept.{Placed}
+use Rattle.dwc_rules.specs.Refusals.{Refusal}
+use Rattle.dwc_dwarf.specs.Trees.{TreeValue, set_attribute}
+use Rattle.dwc_rules.specs.Clones.{UnitSource, attributes_become, if_made, if_refused}
+use Rattle.dwc_rules.specs.Drafts.{Goal, DraftValue}
+use Rattle.dwc_rules.specs.DraftForests.{settled}
 use Rattle.dwc_clif.specs.Registers.{Registers}
 use Rattle.dwc_kept.specs.KeptUnits.{AreBelow}
 use Rattle.dwc_write.specs.declared.attributes.AttributeValue.{AttributeValue}

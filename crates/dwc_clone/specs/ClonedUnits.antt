@@ -2,17 +2,18 @@
 use Rattle.std.specs.Prelude.{◌≡◌, ℕ, ◌<◌, ◌==◌, List, [], ◌∷◌, map, length, get_or, if◌then◌else◌, All, Option, Some, None, option_map, IfSome, Result, Ok, Err}
 use Rattle.std.specs.List.{flat_map, AllZip}
 use Rattle.dwc_base.specs.declared.constants.TheConstants.{DW_TAG_compile_unit}
-use Rattle.dwc_base.specs.Entries.{Entry}
-use Rattle.dwc_base.specs.ReadValues.{IsReadEntry}
-use Rattle.dwc_base.specs.Kept.{Placed}
-use Rattle.dwc_base.specs.Refusals.{Refusal, first_of}
-use Rattle.dwc_base.specs.Drafts.{Role, itself, pointer_to_wrapper, reference_to_target, pointer_to_target, Goal, made_of, own_entry, Draft}
-use Rattle.dwc_base.specs.Clones.{UnitSource, CodeRules, entry_refusals}
-use Rattle.dwc_base.specs.CarriedDrafts.{unit_drafts}
-use Rattle.dwc_base.specs.DraftForests.{settled_unit}
-use Rattle.dwc_base.specs.EntryRules.{code_rules}
-use Rattle.dwc_base.specs.Lists.{list_source}
-use Rattle.dwc_base.specs.LocationRules.{ExpressionSource, in_force_at}
+use Rattle.dwc_dwarf.specs.Entries.{Entry}
+use Rattle.dwc_dwarf.specs.ReadValues.{IsReadEntry}
+use Rattle.dwc_rules.specs.Kept.{Placed}
+use Rattle.dwc_rules.specs.Refusals.{Refusal}
+use Rattle.dwc_base.specs.Listing.{first_of}
+use Rattle.dwc_rules.specs.Drafts.{Role, itself, pointer_to_wrapper, reference_to_target, pointer_to_target, Goal, made_of, own_entry, Draft}
+use Rattle.dwc_rules.specs.Clones.{UnitSource, CodeRules, entry_refusals}
+use Rattle.dwc_rules.specs.CarriedDrafts.{unit_drafts}
+use Rattle.dwc_rules.specs.DraftForests.{settled_unit}
+use Rattle.dwc_rules.specs.EntryRules.{code_rules}
+use Rattle.dwc_dwarf.specs.Lists.{list_source}
+use Rattle.dwc_rules.specs.LocationRules.{ExpressionSource, in_force_at}
 use Rattle.dwc_clif.specs.Registers.{Registers}
 use Rattle.dwc_kept.specs.KeptUnits.{IsTree}
 use Rattle.dwc_write.specs.GivenUnits.{GivenUnit}

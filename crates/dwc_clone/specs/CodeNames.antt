@@ -2,7 +2,7 @@
 use Rattle.std.specs.Prelude.{ℕ, Bool, List, [], ◌∷◌}
 use Rattle.std.specs.List.{list_any}
 use Rattle.dwc_base.specs.declared.constants.TheConstants.{DW_AT_frame_base, DW_AT_high_pc, DW_AT_low_pc, DW_AT_ranges}
-use Rattle.dwc_base.specs.Values.{Value, is_one_of}
+use Rattle.dwc_dwarf.specs.Values.{Value, is_one_of}
 
 -- the names of bounds and of a frame base
 abbrev pub is_code_name : ℕ → Bool

@@ -2,9 +2,9 @@
 use Rattle.std.specs.Prelude.{◌≡◌, ℕ, ◌≤◌, ◌<◌, ◌+◌, List, [], map, length, Option, IfSome, All}
 use Rattle.std.specs.Option.{unwrap_or}
 use Rattle.std.specs.FinMap as finite
-use Rattle.dwc_base.specs.Compiled.{LabelRange, LinkageNames, ToldModule, frames_from, labels_from, values_from}
-use Rattle.dwc_base.specs.CallFrames.{FrameDescription}
-use Rattle.dwc_base.specs.Functions.{Function}
+use Rattle.dwc_native.specs.Compiled.{LabelRange, LinkageNames, ToldModule, frames_from, labels_from, values_from}
+use Rattle.dwc_native.specs.CallFrames.{FrameDescription}
+use Rattle.dwc_native.specs.Functions.{Function}
 use Rattle.dwc_clif.specs.CallFrames.{description_of_metadata}
 use Rattle.dwc_clif.specs.Registers.{Registers}
 use Rattle.dwc_clif.specs.ValueLabels.{LabelledRanges}

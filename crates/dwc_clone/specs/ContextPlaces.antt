@@ -1,10 +1,10 @@
 -- Where the context of a module lies, as calls answer it.
 use Rattle.std.specs.Prelude.{◌≡◌, ℕ, List, map, length, Option, Some, None, Result, Ok, Err, codes}
 use Rattle.dwc_base.specs.declared.constants.TheConstants.{DW_AT_location, DW_AT_name, DW_AT_type, DW_TAG_variable}
-use Rattle.dwc_base.specs.BuiltExpressions.{BuildRefusal}
-use Rattle.dwc_base.specs.Trees.{Location}
-use Rattle.dwc_base.specs.EntryRules.{of_build}
-use Rattle.dwc_base.specs.ContextVariable.{location_refusals}
+use Rattle.dwc_native.specs.BuiltExpressions.{BuildRefusal}
+use Rattle.dwc_dwarf.specs.Trees.{Location}
+use Rattle.dwc_rules.specs.EntryRules.{of_build}
+use Rattle.dwc_rules.specs.ContextVariable.{location_refusals}
 use Rattle.dwc_write.specs.declared.attributes.AttributeValue.TheVariants.{LocationListRef, StringRef, DebugInfoRef as Reference}
 use Rattle.dwc_write.specs.declared.attributes.DebugInfoRef.{DebugInfoRef}
 use Rattle.dwc_write.specs.declared.error.WriteError.{WriteError}

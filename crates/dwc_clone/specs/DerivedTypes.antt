@@ -3,7 +3,7 @@ use Rattle.std.specs.Prelude.{◌≡◌, ℕ, ◌+◌, ◌-◌, ◌^◌, ◌<◌
 use Rattle.std.specs.Ordering.{nat_cmp}
 use Rattle.std.specs.BTreeMap.{get}
 use Rattle.std.specs.List.{list_any, sum_by}
-use Rattle.dwc_base.specs.TypeNames.{unknown}
+use Rattle.dwc_rules.specs.TypeNames.{unknown}
 use Rattle.dwc_clone.specs.declared.type_name.DerivedType.{DerivedType}
 use Rattle.dwc_clone.specs.declared.type_name.KnownTypes.{KnownTypes}
 

@@ -1,7 +1,7 @@
 -- The errors of cloning, and what they tell.
 use Rattle.std.specs.Prelude.{Option, Some, None}
 use Rattle.dwc_base.specs.Sections.{unreadable, unsupported}
-use Rattle.dwc_base.specs.Refusals.{Refusal, of_place, long_range, bad_label, lacks_memory, unmapped_register, long_jump}
+use Rattle.dwc_rules.specs.Refusals.{Refusal, of_place, long_range, bad_label, lacks_memory, unmapped_register, long_jump}
 use Rattle.dwc_read.specs.declared.fault.ReadFault.{ReadFault}
 use Rattle.dwc_read.specs.declared.fault.ReadFault.TheVariants as read
 use Rattle.dwc_tabs.specs.declared.list_fault.ListFault.{ListFault}

@@ -1,7 +1,7 @@
 -- What is in force at an entry, as the definitions have it.
 use Rattle.std.specs.Prelude.{List, option_map}
-use Rattle.dwc_base.specs.Functions.{Function}
-use Rattle.dwc_base.specs.LocationAttributes as definitions
+use Rattle.dwc_native.specs.Functions.{Function}
+use Rattle.dwc_rules.specs.LocationAttributes as definitions
 use Rattle.dwc_clif.specs.Registers.{Registers}
 use Rattle.dwc_expr.specs.Builds.{surroundings}
 use Rattle.dwc_clone.specs.declared.in_force.InForce.{InForce}

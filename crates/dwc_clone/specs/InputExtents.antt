@@ -1,11 +1,11 @@
 -- What the input says of the code of entries.
 use Rattle.std.specs.Prelude.{ℕ, ⊤, IsTrue, Option, Some, None, option_map, option_to_list, Result, Ok}
 use Rattle.dwc_base.specs.declared.records.Address.{Address}
-use Rattle.dwc_base.specs.Lists.{ListRefusal, interval_between, interval_of_length, ranges_of_value}
-use Rattle.dwc_base.specs.RangeAttributes.{Extent, intervals, position, nowhere}
-use Rattle.dwc_base.specs.RawLists.{ListSource, is_range_list}
-use Rattle.dwc_base.specs.Trees.{Interval}
-use Rattle.dwc_base.specs.Values.{Value, constant}
+use Rattle.dwc_dwarf.specs.Lists.{ListRefusal, interval_between, interval_of_length, ranges_of_value}
+use Rattle.dwc_rules.specs.RangeAttributes.{Extent, intervals, position, nowhere}
+use Rattle.dwc_dwarf.specs.RawLists.{ListSource, is_range_list}
+use Rattle.dwc_dwarf.specs.Trees.{Interval}
+use Rattle.dwc_dwarf.specs.Values.{Value, constant}
 use Rattle.dwc_read.specs.ValuesSeen.{value_view}
 use Rattle.dwc_tabs.specs.RangeEnds.{interval_view}
 use Rattle.dwc_clone.specs.declared.input_extent.CodeEnd.{CodeEnd}

@@ -1,14 +1,14 @@
 -- What is in force at an entry, as it is kept on stacks in a walk over entries in file order.
 use Rattle.std.specs.Prelude.{◌≡◌, ℕ, suc, ◌==◌, pos, List, [], ◌∷◌, ◌++◌, map, take, slice_get, if◌then◌else◌, Option, Some, None, option_map, option_to_list}
-use Rattle.dwc_base.specs.Entries.{Entry}
+use Rattle.dwc_dwarf.specs.Entries.{Entry}
 use Rattle.dwc_base.specs.declared.constants.TheConstants.{DW_TAG_subprogram}
-use Rattle.dwc_base.specs.Functions.{Function}
-use Rattle.dwc_base.specs.Kept.{Placed}
-use Rattle.dwc_base.specs.LocationAttributes.{base_of_expression}
-use Rattle.dwc_base.specs.Parts.{CompiledParts}
-use Rattle.dwc_base.specs.RangeAttributes.{begun_function}
-use Rattle.dwc_base.specs.RawLists.{ListSource}
-use Rattle.dwc_base.specs.Scopes.{Given, IsWalk, Rises, Steps, base_given, base_in_force, frame_in_force, left_for, lineage, scope_given, scope_in_force, top_at, top_of}
+use Rattle.dwc_native.specs.Functions.{Function}
+use Rattle.dwc_rules.specs.Kept.{Placed}
+use Rattle.dwc_rules.specs.LocationAttributes.{base_of_expression}
+use Rattle.dwc_native.specs.Parts.{CompiledParts}
+use Rattle.dwc_rules.specs.RangeAttributes.{begun_function}
+use Rattle.dwc_dwarf.specs.RawLists.{ListSource}
+use Rattle.dwc_rules.specs.Scopes.{Given, IsWalk, Rises, Steps, base_given, base_in_force, frame_in_force, left_for, lineage, scope_given, scope_in_force, top_at, top_of}
 
 -- the scopes, the functions by their numbers, and the frame bases that entries gave
 pub record Stacks : Type 0 where

@@ -4,15 +4,15 @@ use Rattle.std.specs.List.{filter_map}
 use Rattle.dwc_base.specs.declared.records.Address.{Address}
 use Rattle.dwc_base.specs.Reading.{◌>>=◌}
 use Rattle.dwc_base.specs.Listing.{Listing}
-use Rattle.dwc_base.specs.Values.{Value}
-use Rattle.dwc_base.specs.Trees.{Location, TreeValue}
-use Rattle.dwc_base.specs.RawLists.{ListSource}
-use Rattle.dwc_base.specs.Lists.{ListRefusal, ListedLocation, locations_of_value}
-use Rattle.dwc_base.specs.RangeRules.{all_items, told_as}
-use Rattle.dwc_base.specs.LocationAttributes as definitions
-use Rattle.dwc_base.specs.LocationAttributes.{LocationRefusal, InForce, compiled_at, read_locations, value_of_locations}
-use Rattle.dwc_base.specs.LocationRules.{listed}
-use Rattle.dwc_base.specs.Parts.{CompiledParts}
+use Rattle.dwc_dwarf.specs.Values.{Value}
+use Rattle.dwc_dwarf.specs.Trees.{Location, TreeValue}
+use Rattle.dwc_dwarf.specs.RawLists.{ListSource}
+use Rattle.dwc_dwarf.specs.Lists.{ListRefusal, ListedLocation, locations_of_value}
+use Rattle.dwc_rules.specs.RangeRules.{all_items, told_as}
+use Rattle.dwc_rules.specs.LocationAttributes as definitions
+use Rattle.dwc_rules.specs.LocationAttributes.{LocationRefusal, InForce, compiled_at, read_locations, value_of_locations}
+use Rattle.dwc_rules.specs.LocationRules.{listed}
+use Rattle.dwc_native.specs.Parts.{CompiledParts}
 use Rattle.dwc_tabs.specs.RangeEnds.{refusal_view}
 use Rattle.dwc_write.specs.declared.expressions.Expression.{Expression}
 use Rattle.dwc_expr.specs.declared.error.ExprError.{ExprError}

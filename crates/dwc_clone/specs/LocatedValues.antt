@@ -5,8 +5,8 @@ use Rattle.dwc_base.specs.declared.records.Address.{Address}
 use Rattle.dwc_base.specs.declared.section_name.SectionName.{SectionName}
 use Rattle.dwc_base.specs.declared.faults.What.TheVariants.{Expression as ExpressionRead}
 use Rattle.dwc_base.specs.Sections.{unreadable}
-use Rattle.dwc_base.specs.Trees.{Location, TreeValue, expression, locations}
-use Rattle.dwc_base.specs.LocationAttributes.{LocationRefusal, of_place, of_build, GivenExpression, are_equal_to}
+use Rattle.dwc_dwarf.specs.Trees.{Location, TreeValue, expression, locations}
+use Rattle.dwc_rules.specs.LocationAttributes.{LocationRefusal, of_place, of_build, GivenExpression, are_equal_to}
 use Rattle.dwc_write.specs.declared.expressions.Expression.{Expression}
 use Rattle.dwc_expr.specs.declared.error.ExprError.{ExprError}
 use Rattle.dwc_expr.specs.declared.error.ExprError.TheVariants.{Read}

@@ -1,10 +1,10 @@
 -- What is made of the values of attributes, and of attributes in order.
 use Rattle.std.specs.Prelude.{◌≡◌, ℕ, ◌<◌, List, ◌++◌, length, All, IfSome, Bool, true, false, Option, Some, None, option_map, option_and_then, Result, Ok, Err}
-use Rattle.dwc_base.specs.Refusals.{Refusal}
-use Rattle.dwc_base.specs.Trees.{TreeValue}
-use Rattle.dwc_base.specs.Drafts.{itself, Goal, made_of, DraftValue}
-use Rattle.dwc_base.specs.DraftForests.{settled_value}
-use Rattle.dwc_base.specs.Values.{Value, address, address_index}
+use Rattle.dwc_rules.specs.Refusals.{Refusal}
+use Rattle.dwc_dwarf.specs.Trees.{TreeValue}
+use Rattle.dwc_rules.specs.Drafts.{itself, Goal, made_of, DraftValue}
+use Rattle.dwc_rules.specs.DraftForests.{settled_value}
+use Rattle.dwc_dwarf.specs.Values.{Value, address, address_index}
 use Rattle.dwc_kept.specs.ReadEntries.{named_offset}
 use Rattle.dwc_write.specs.declared.attributes.AttributeValue.{AttributeValue}
 use Rattle.dwc_write.specs.declared.attributes.AttributeValue.TheVariants.{UnitRef, DebugInfoRef}

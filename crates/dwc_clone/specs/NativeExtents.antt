@@ -3,13 +3,15 @@ use Rattle.std.specs.Prelude.{◌≡◌, ℕ, List, [], ◌∷◌, map, is_some,
 use Rattle.std.specs.List.{flat_map}
 use Rattle.dwc_base.specs.declared.records.Address.{Address}
 use Rattle.dwc_base.specs.declared.constants.TheConstants.{DW_AT_low_pc}
-use Rattle.dwc_base.specs.Functions.{Function}
+use Rattle.dwc_native.specs.Functions.{Function}
 use Rattle.dwc_base.specs.Listing.{Listing, only_fault}
-use Rattle.dwc_base.specs.Refusals.{Refusal, first_of}
-use Rattle.dwc_base.specs.Trees.{Interval, TreeValue, address as address_of_tree}
-use Rattle.dwc_base.specs.Lists.{ListRefusal}
-use Rattle.dwc_base.specs.RangeAttributes.{Extent, native_of_intervals, said_extent, said_intervals}
-use Rattle.dwc_base.specs.Runs.{native_in_function}
+use Rattle.dwc_rules.specs.Refusals.{Refusal}
+use Rattle.dwc_base.specs.Listing.{first_of}
+use Rattle.dwc_dwarf.specs.Trees.{Interval, TreeValue, address as address_of_tree}
+use Rattle.dwc_dwarf.specs.Lists.{ListRefusal}
+use Rattle.dwc_rules.specs.RangeAttributes.{Extent, said_extent, said_intervals}
+use Rattle.dwc_native.specs.ScopesKept.{native_of_intervals}
+use Rattle.dwc_native.specs.Runs.{native_in_function}
 use Rattle.dwc_addr.specs.Translations.{with_lengths}
 use Rattle.dwc_write.specs.RangeLists.{FitsRange, interval_of}
 use Rattle.dwc_write.specs.Writers.{FitsField}

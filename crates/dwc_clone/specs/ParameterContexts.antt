@@ -1,11 +1,11 @@
 -- What functions tell of their parameters, as it is kept on a stack in a walk over entries in file order.
 use Rattle.std.specs.Prelude.{◌≡◌, ℤ, ◌==◌, ◌&&◌, ◌||◌, ◌-ℤ◌, int_le, pos, negsuc, Bool, List, [], ◌∷◌, ◌++◌, if◌then◌else◌, Option, Some, None, option_and_then, unwrap_or, Result, Ok, Err}
 use Rattle.dwc_base.specs.declared.constants.TheConstants.{DW_AT_object_pointer, DW_TAG_formal_parameter}
-use Rattle.dwc_base.specs.Entries.{Entry, attribute}
-use Rattle.dwc_base.specs.Kept.{Placed}
-use Rattle.dwc_base.specs.ObjectPointers.{has_parameters, looks_like_this}
-use Rattle.dwc_base.specs.Scopes.{Given, left_for}
-use Rattle.dwc_base.specs.Texts.{TextSource}
+use Rattle.dwc_dwarf.specs.Entries.{Entry, attribute}
+use Rattle.dwc_rules.specs.Kept.{Placed}
+use Rattle.dwc_rules.specs.ObjectPointers.{has_parameters, looks_like_this}
+use Rattle.dwc_rules.specs.Scopes.{Given, left_for}
+use Rattle.dwc_dwarf.specs.Texts.{TextSource}
 use Rattle.dwc_kept.specs.ReadEntries.{named_offset}
 use Rattle.dwc_clone.specs.declared.error.CloneError.{CloneError}
 use Rattle.dwc_clone.specs.Errors.{refusal_told}

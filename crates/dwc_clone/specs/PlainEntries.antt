@@ -1,13 +1,13 @@
 -- What is made of an entry that is not wrapped.
 use Rattle.std.specs.Prelude.{◌≡◌, ℕ, List, [], ◌∷◌, ◌++◌, take, filter_map, Option, Result, Ok, Err}
-use Rattle.dwc_base.specs.Kept.{Placed}
-use Rattle.dwc_base.specs.Lists.{list_source}
-use Rattle.dwc_base.specs.RangeAttributes.{range_attributes}
-use Rattle.dwc_base.specs.Trees.{TreeValue}
-use Rattle.dwc_base.specs.Clones.{UnitSource, endianity, entry_refusals}
-use Rattle.dwc_base.specs.ContextVariable.{context_over}
-use Rattle.dwc_base.specs.Drafts.{Goal}
-use Rattle.dwc_base.specs.DraftForests.{settled}
+use Rattle.dwc_rules.specs.Kept.{Placed}
+use Rattle.dwc_dwarf.specs.Lists.{list_source}
+use Rattle.dwc_rules.specs.RangeAttributes.{range_attributes}
+use Rattle.dwc_dwarf.specs.Trees.{TreeValue}
+use Rattle.dwc_rules.specs.Clones.{UnitSource, endianity, entry_refusals}
+use Rattle.dwc_rules.specs.ContextVariable.{context_over}
+use Rattle.dwc_rules.specs.Drafts.{Goal}
+use Rattle.dwc_rules.specs.DraftForests.{settled}
 use Rattle.dwc_clif.specs.Registers.{Registers}
 use Rattle.dwc_write.specs.declared.units.UnitEntryId.{UnitEntryId}
 use Rattle.dwc_write.specs.GivenUnits.{Addition, GivenUnit}

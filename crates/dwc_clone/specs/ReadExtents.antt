@@ -1,12 +1,13 @@
 -- What extents are read as: intervals of wasm offsets, and whether nothing is refused of them.
 use Rattle.std.specs.Prelude.{◌≡◌, ℕ, ⊤, List, true, is_some, IfSome, Option, None, filter_map}
-use Rattle.dwc_base.specs.Entries.{Entry}
+use Rattle.dwc_dwarf.specs.Entries.{Entry}
 use Rattle.dwc_base.specs.Listing.{Listing}
-use Rattle.dwc_base.specs.Lists.{ListRefusal, ranges_of_value}
-use Rattle.dwc_base.specs.RangeAttributes.{extent, wasm_interval}
-use Rattle.dwc_base.specs.RawLists.{ListSource}
-use Rattle.dwc_base.specs.Scopes.{scope_of_extent}
-use Rattle.dwc_base.specs.Trees.{Interval}
+use Rattle.dwc_dwarf.specs.Lists.{ListRefusal, ranges_of_value}
+use Rattle.dwc_rules.specs.RangeAttributes.{extent}
+use Rattle.dwc_native.specs.ScopesKept.{wasm_interval}
+use Rattle.dwc_dwarf.specs.RawLists.{ListSource}
+use Rattle.dwc_rules.specs.Scopes.{scope_of_extent}
+use Rattle.dwc_dwarf.specs.Trees.{Interval}
 use Rattle.dwc_read.specs.ValuesSeen.{value_view}
 use Rattle.dwc_clone.specs.BoundRefusals.{IsSound}
 use Rattle.dwc_clone.specs.declared.input_extent.InputExtent.{InputExtent}

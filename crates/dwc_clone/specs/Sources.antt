@@ -1,15 +1,15 @@
 -- What the entries of a unit are cloned with.
 use Rattle.std.specs.Prelude.{◌≡◌, ℕ, ◌≤◌, ◌<◌, ◌==◌, ◌&&◌, nat_le, nat_lt, Bool, List, length, slice_get, true, is_some, Option, Some, None, option_and_then, Contains, Ok}
 use Rattle.dwc_base.specs.declared.constants.TheConstants.{DW_TAG_formal_parameter}
-use Rattle.dwc_base.specs.Values.{Value}
-use Rattle.dwc_base.specs.LineRows.{LineTable}
-use Rattle.dwc_base.specs.Kept.{Placed, parent_of}
-use Rattle.dwc_base.specs.Entries as entries
-use Rattle.dwc_base.specs.Targets.{target_of}
-use Rattle.dwc_base.specs.TypeNames.{type_of}
-use Rattle.dwc_base.specs.OwnUnits.{place_of_context_pointer, place_of_wasm_pointer}
-use Rattle.dwc_base.specs.Indexed.{texts_of_unit}
-use Rattle.dwc_base.specs.Clones.{UnitSource}
+use Rattle.dwc_dwarf.specs.Values.{Value}
+use Rattle.dwc_dwarf.specs.LineRows.{LineTable}
+use Rattle.dwc_rules.specs.Kept.{Placed, parent_of}
+use Rattle.dwc_dwarf.specs.Entries as entries
+use Rattle.dwc_rules.specs.Targets.{target_of}
+use Rattle.dwc_rules.specs.TypeNames.{type_of}
+use Rattle.dwc_rules.specs.OwnUnits.{place_of_context_pointer, place_of_wasm_pointer}
+use Rattle.dwc_dwarf.specs.Indexed.{texts_of_unit}
+use Rattle.dwc_rules.specs.Clones.{UnitSource}
 use Rattle.dwc_read.specs.Lone.{lone_entry, unread_from}
 use Rattle.dwc_expr.specs.Frames.{memory_view}
 use Rattle.dwc_kept.specs.ReadEntries.{named_offset}

@@ -1,7 +1,7 @@
 -- What a stack of what entries give becomes where its top is changed.
 use Rattle.std.specs.Prelude.{List, [], ◌∷◌, Option}
 use Rattle.std.specs.Borrow.{Lends, LendsIf, Fml, RattleType, MutBor}
-use Rattle.dwc_base.specs.Scopes.{Given}
+use Rattle.dwc_rules.specs.Scopes.{Given}
 use Rattle.dwc_clone.specs.contracts.inherited_attr.InheritedAttr.{the_row}
 
 -- a stack with another value on its top, at the top's depth

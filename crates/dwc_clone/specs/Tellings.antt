@@ -1,9 +1,9 @@
 -- How the attributes of entries are told: which are object pointers, and which have parameters.
 use Rattle.std.specs.Prelude.{ℕ, if◌then◌else◌, Bool, false, List, Option, Some, None}
-use Rattle.dwc_base.specs.Kept.{Placed}
-use Rattle.dwc_base.specs.Texts.{TextSource}
-use Rattle.dwc_base.specs.Values.{Value}
-use Rattle.dwc_base.specs.ObjectPointers.{has_parameters, is_object_pointer, names_no_pointer, unlike_this}
+use Rattle.dwc_rules.specs.Kept.{Placed}
+use Rattle.dwc_dwarf.specs.Texts.{TextSource}
+use Rattle.dwc_dwarf.specs.Values.{Value}
+use Rattle.dwc_rules.specs.ObjectPointers.{has_parameters, is_object_pointer, names_no_pointer, unlike_this}
 use Rattle.dwc_kept.specs.ReadEntries.{named_offset}
 use Rattle.dwc_clone.specs.declared.source.CloneSource.{CloneSource}
 use Rattle.dwc_clone.specs.declared.object_pointer.Telling.{Telling}

@@ -1,10 +1,10 @@
 -- Types that are derived from one another, as they are read, and the names that they have.
 use Rattle.std.specs.Prelude.{◌≡◌, ℕ, List, [], ◌∷◌, ◌++◌, ◌==◌, if◌then◌else◌, Option, Some, None, option_map, option_and_then, Result, Ok, Err, codes}
 use Rattle.dwc_base.specs.declared.constants.TheConstants.{DW_AT_type, DW_TAG_array_type, DW_TAG_const_type, DW_TAG_pointer_type, DW_TAG_reference_type}
-use Rattle.dwc_base.specs.Entries.{Entry, attribute}
+use Rattle.dwc_dwarf.specs.Entries.{Entry, attribute}
 use Rattle.dwc_base.specs.Sections.{Fault}
-use Rattle.dwc_base.specs.Refusals.{of_place}
-use Rattle.dwc_base.specs.Values.{Value, unit_reference}
+use Rattle.dwc_rules.specs.Refusals.{of_place}
+use Rattle.dwc_dwarf.specs.Values.{Value, unit_reference}
 use Rattle.dwc_kept.specs.ReadEntries.{named_offset}
 use Rattle.dwc_clone.specs.declared.error.CloneError.{CloneError}
 use Rattle.dwc_clone.specs.declared.source.CloneSource.{CloneSource}

@@ -1,10 +1,10 @@
 -- What is made of an entry that is wrapped, when its wrapper is opened.
 use Rattle.std.specs.Prelude.{◌≡◌, ℕ, List, [], ◌∷◌, ◌++◌, length, take, Option, option_map, Result, Ok, Err}
 use Rattle.dwc_base.specs.declared.constants.TheConstants.{DW_TAG_structure_type}
-use Rattle.dwc_base.specs.Kept.{Placed}
-use Rattle.dwc_base.specs.Clones.{UnitSource, entry_refusals}
-use Rattle.dwc_base.specs.TypeNames.{type_name}
-use Rattle.dwc_base.specs.Wrappers.{name_or_unknown, wrapper_name}
+use Rattle.dwc_rules.specs.Kept.{Placed}
+use Rattle.dwc_rules.specs.Clones.{UnitSource, entry_refusals}
+use Rattle.dwc_rules.specs.TypeNames.{type_name}
+use Rattle.dwc_rules.specs.Wrappers.{name_or_unknown, wrapper_name}
 use Rattle.dwc_clif.specs.Registers.{Registers}
 use Rattle.dwc_write.specs.declared.strings.StringId.{StringId}
 use Rattle.dwc_write.specs.declared.units.UnitEntryId.{UnitEntryId}

@@ -1,13 +1,13 @@
 //! What attributes become. (DWARF 4 and 5, section 2.2.)
 ghost use Rattle.std.specs.Prelude.{◌≡◌, ◌<◌, ℕ, List, true, length, take, IfOk, IfSome};
 ghost use Rattle.dwc_base.specs.declared.constants.TheConstants.{DW_AT_stmt_list};
-ghost use Rattle.dwc_base.specs.Kept.{Placed};
-ghost use Rattle.dwc_base.specs.Values.{Value};
-ghost use Rattle.dwc_base.specs.ReadValues.{IsReadValue};
-ghost use Rattle.dwc_base.specs.Addends.{HaveAddends};
-ghost use Rattle.dwc_base.specs.Lists.{list_source};
-ghost use Rattle.dwc_base.specs.RangeRefusals.{begins_by_low_pc};
-ghost use Rattle.dwc_base.specs.Clones.{UnitSource, attribute_becomes, table_becomes};
+ghost use Rattle.dwc_rules.specs.Kept.{Placed};
+ghost use Rattle.dwc_dwarf.specs.Values.{Value};
+ghost use Rattle.dwc_dwarf.specs.ReadValues.{IsReadValue};
+ghost use Rattle.dwc_native.specs.Addends.{HaveAddends};
+ghost use Rattle.dwc_dwarf.specs.Lists.{list_source};
+ghost use Rattle.dwc_rules.specs.RangeRefusals.{begins_by_low_pc};
+ghost use Rattle.dwc_rules.specs.Clones.{UnitSource, attribute_becomes, table_becomes};
 ghost use Rattle.dwc_read.specs.ValuesSeen.{value_view, attribute_view};
 ghost use Rattle.dwc_read.specs.EntriesSeen.{entry_view};
 ghost use Rattle.dwc_write.specs.GivenUnits.{FitsValue};

@@ -1,17 +1,17 @@
 //! The bounds of entries, as their attributes are read in order. (DWARF 4 and 5, section 2.17.)
 ghost use Rattle.std.specs.Prelude.{◌≡◌, ◌<◌, ℕ, List, ◌&&◌, not, true, None, Some, length, map, option_map, take};
 ghost use Rattle.dwc_base.specs.declared.constants.TheConstants.{DW_AT_ranges as ranges};
-ghost use Rattle.dwc_base.specs.Entries.{attribute};
-ghost use Rattle.dwc_base.specs.EntryRules.{bound_value_refused, of_list};
-ghost use Rattle.dwc_base.specs.Functions.{Function};
-ghost use Rattle.dwc_base.specs.Indexed.{texts_of_unit};
-ghost use Rattle.dwc_base.specs.Kept.{Placed};
-ghost use Rattle.dwc_base.specs.RawLists.{ListSource};
-ghost use Rattle.dwc_base.specs.Lists.{list_source};
-ghost use Rattle.dwc_base.specs.RangeRefusals.{begins_by_low_pc, bound_refusal, extent_refusal, has_name, index_fault, is_later_bound};
-ghost use Rattle.dwc_base.specs.Refusals.{of_place};
-ghost use Rattle.dwc_base.specs.Clones.{UnitSource, bound_becomes};
-ghost use Rattle.dwc_base.specs.Values.{Value};
+ghost use Rattle.dwc_dwarf.specs.Entries.{attribute};
+ghost use Rattle.dwc_rules.specs.EntryRules.{bound_value_refused, of_list};
+ghost use Rattle.dwc_native.specs.Functions.{Function};
+ghost use Rattle.dwc_dwarf.specs.Indexed.{texts_of_unit};
+ghost use Rattle.dwc_rules.specs.Kept.{Placed};
+ghost use Rattle.dwc_dwarf.specs.RawLists.{ListSource};
+ghost use Rattle.dwc_dwarf.specs.Lists.{list_source};
+ghost use Rattle.dwc_rules.specs.RangeRefusals.{begins_by_low_pc, bound_refusal, extent_refusal, has_name, index_fault, is_later_bound};
+ghost use Rattle.dwc_rules.specs.Refusals.{of_place};
+ghost use Rattle.dwc_rules.specs.Clones.{UnitSource, bound_becomes};
+ghost use Rattle.dwc_dwarf.specs.Values.{Value};
 ghost use Rattle.dwc_read.specs.EntriesSeen.{entry_view};
 ghost use Rattle.dwc_read.specs.ValuesSeen.{attribute_view, value_view};
 ghost use Rattle.dwc_clone.specs.BoundRefusals.{IsSound, interval_refusal, list_refusal};

@@ -1,8 +1,8 @@
 //! The attributes that say where the code of an entry is. (DWARF 4 and 5, section 2.17.)
 ghost use Rattle.std.specs.Prelude.{◌≡◌, ℕ, ◌<◌, ◌∷◌, [], List, OnOk, IsOkUnless, All};
-ghost use Rattle.dwc_base.specs.Addends.{HaveAddends};
-ghost use Rattle.dwc_base.specs.Lists.{list_source};
-ghost use Rattle.dwc_base.specs.RangeAttributes.{bounds, begun_function, range_attributes, said_intervals};
+ghost use Rattle.dwc_native.specs.Addends.{HaveAddends};
+ghost use Rattle.dwc_dwarf.specs.Lists.{list_source};
+ghost use Rattle.dwc_rules.specs.RangeAttributes.{bounds, begun_function, range_attributes, said_intervals};
 ghost use Rattle.dwc_read.specs.EntriesSeen.{entry_view};
 ghost use Rattle.dwc_addr.specs.Transforms.{function_view};
 ghost use Rattle.dwc_write.specs.GivenUnits.{Addition, GivenUnit, IsAdded};

@@ -1,8 +1,8 @@
 //! What a code generator tells of a module.
 ghost use Rattle.std.specs.Prelude.{◌≡◌, ◌≤◌, ◌<◌, ◌+◌, ◌&&◌, length, is_some, nat_le, nat_lt, Some, IfSome};
 ghost use Rattle.std.specs.FinMap as finite;
-ghost use Rattle.dwc_base.specs.Functions.{Function};
-ghost use Rattle.dwc_base.specs.LocationRules.{frame_told};
+ghost use Rattle.dwc_native.specs.Functions.{Function};
+ghost use Rattle.dwc_rules.specs.LocationRules.{frame_told};
 ghost use Rattle.dwc_clif.specs.Registers.{Registers};
 ghost use Rattle.dwc_expr.specs.Frames.{frame_view};
 ghost use Rattle.dwc_clone.specs.CompiledModules.{told_by};

@@ -1,8 +1,8 @@
 //! The variable that leads a debugger to the context of a module, and so to its linear memory. (DWARF 4 and 5, section 4.1.)
 ghost use Rattle.std.specs.Prelude.{◌≡◌, ℕ, is_some, true, IfErr, IfOk, OnOk, option_map};
-ghost use Rattle.dwc_base.specs.Addends.{HaveAddends};
-ghost use Rattle.dwc_base.specs.BuiltExpressions.{label_over};
-ghost use Rattle.dwc_base.specs.Parts.{context_label};
+ghost use Rattle.dwc_native.specs.Addends.{HaveAddends};
+ghost use Rattle.dwc_native.specs.BuiltExpressions.{label_over};
+ghost use Rattle.dwc_native.specs.Parts.{context_label};
 ghost use Rattle.dwc_expr.specs.Builds.{surroundings};
 ghost use Rattle.dwc_expr.specs.Errors.{refusal_told};
 ghost use Rattle.dwc_base.specs.declared.constants.TheConstants.{DW_AT_location};

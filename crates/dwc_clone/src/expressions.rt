@@ -1,6 +1,6 @@
 //! Expressions of the input, compiled where they stand and built over scopes.
 ghost use Rattle.std.specs.Prelude.{◌≡◌, option_map};
-ghost use Rattle.dwc_base.specs.LocationAttributes.{built_at, compiled_at};
+ghost use Rattle.dwc_rules.specs.LocationAttributes.{built_at, compiled_at};
 ghost use Rattle.dwc_expr.specs.Builds.{built_view};
 ghost use Rattle.dwc_clone.specs.InForceSeen.{in_force_view};
 ghost use Rattle.dwc_clone.specs.LocatedValues.{GivesTold, error_at, expression_at, told};

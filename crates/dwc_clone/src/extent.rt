@@ -1,11 +1,11 @@
 //! What entries have of the native code. (DWARF 4 and 5, section 2.17.)
 ghost use Rattle.std.specs.Prelude.{◌≡◌, ◌<◌, ◌∷◌, [], ℕ, IfOk, IfSome, IsTrue, length, option_map, option_to_list};
-ghost use Rattle.dwc_base.specs.Addends.{HaveAddends};
-ghost use Rattle.dwc_base.specs.Lists.{list_source, ranges_of_value};
-ghost use Rattle.dwc_base.specs.RangeAttributes.{Extent, carried_address, extent, intervals, position, said_extent};
-ghost use Rattle.dwc_base.specs.RawLists.{is_range_list};
-ghost use Rattle.dwc_base.specs.Scopes.{scope_of_extent};
-ghost use Rattle.dwc_base.specs.Trees as Trees;
+ghost use Rattle.dwc_native.specs.Addends.{HaveAddends};
+ghost use Rattle.dwc_dwarf.specs.Lists.{list_source, ranges_of_value};
+ghost use Rattle.dwc_rules.specs.RangeAttributes.{Extent, carried_address, extent, intervals, position, said_extent};
+ghost use Rattle.dwc_dwarf.specs.RawLists.{is_range_list};
+ghost use Rattle.dwc_rules.specs.Scopes.{scope_of_extent};
+ghost use Rattle.dwc_dwarf.specs.Trees as Trees;
 ghost use Rattle.dwc_read.specs.EntriesSeen.{entry_view};
 ghost use Rattle.dwc_read.specs.ValuesSeen.{value_view};
 ghost use Rattle.dwc_tabs.specs.RangeEnds.{interval_view};

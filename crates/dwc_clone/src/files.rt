@@ -1,6 +1,6 @@
 //! The files that entries of a unit name.
 ghost use Rattle.std.specs.Prelude.{◌≡◌};
-ghost use Rattle.dwc_base.specs.Clones.{UnitSource, file_number};
+ghost use Rattle.dwc_rules.specs.Clones.{UnitSource, file_number};
 ghost use Rattle.dwc_clone.specs.Sources.{AreFiles};
 
 /// The files of a unit's line table: the table's version and how many files it has. Of a unit without one, the unit's version.

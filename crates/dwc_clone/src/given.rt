@@ -1,11 +1,11 @@
 //! What entries give to themselves and those below them: a scope, and a frame base. (DWARF 4 and 5, sections 2.6 and 3.3.5.)
 ghost use Rattle.std.specs.Prelude.{◌≡◌, ◌||◌, true, IfOk, is_some, option_map};
 ghost use Rattle.dwc_base.specs.declared.constants.TheConstants.{DW_AT_high_pc as high_pc, DW_AT_ranges as ranges};
-ghost use Rattle.dwc_base.specs.Entries.{attribute};
-ghost use Rattle.dwc_base.specs.Lists.{list_source};
-ghost use Rattle.dwc_base.specs.LocationAttributes.{base_of_expression};
-ghost use Rattle.dwc_base.specs.RangeAttributes.{begun_function};
-ghost use Rattle.dwc_base.specs.Scopes.{base_given, scope_given, source_range};
+ghost use Rattle.dwc_dwarf.specs.Entries.{attribute};
+ghost use Rattle.dwc_dwarf.specs.Lists.{list_source};
+ghost use Rattle.dwc_rules.specs.LocationAttributes.{base_of_expression};
+ghost use Rattle.dwc_rules.specs.RangeAttributes.{begun_function};
+ghost use Rattle.dwc_rules.specs.Scopes.{base_given, scope_given, source_range};
 ghost use Rattle.dwc_addr.specs.Transforms.{function_view};
 ghost use Rattle.dwc_read.specs.EntriesSeen.{entry_view};
 ghost use Rattle.dwc_clone.specs.BoundRefusals.{IsSound};
@@ -78,7 +78,7 @@ pub(crate) fn scope_given(
 ///
 /// # Errors
 /// `AllocError` for want of memory.
-#[tactic(auto, unfolding(dwc_base::specs::LocationAttributes::base_of_expression))]
+#[tactic(auto, unfolding(dwc_rules::specs::LocationAttributes::base_of_expression))]
 pub(crate) fn base_given(
     alloc: Global,
     source: &CloneSource<'_, '_>,

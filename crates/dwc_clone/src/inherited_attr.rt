@@ -2,7 +2,7 @@
 ghost use Rattle.std.specs.Prelude.{◌≡◌, ◌≤◌, ◌<◌, ◌==◌, ◌<ℤ◌, All, false, [], ◌∷◌, ◌++◌, ◌&&◌, int_le, take, length, is_some, IsSome, OnOk, OnErr, option_copied};
 ghost use Rattle.std.specs.Option.{option_copied_mut};
 ghost use Rattle.std.specs.Borrow.{sem};
-ghost use Rattle.dwc_base.specs.Scopes.{DepthsRise, left_for, top_at, top_of};
+ghost use Rattle.dwc_rules.specs.Scopes.{DepthsRise, left_for, top_at, top_of};
 
 use std::alloc::{AllocError, Global};
 use std::marker::Model;
@@ -17,7 +17,7 @@ pub struct InheritedAttr<T> {
 impl<T> Model for InheritedAttr<T> {
     ghost use Rattle.std.specs.Prelude.{List};
     ghost use Rattle.std.specs.Coded.{coded_list, coded×, coded_ℤ};
-    ghost use Rattle.dwc_base.specs.Scopes.{Given};
+    ghost use Rattle.dwc_rules.specs.Scopes.{Given};
 
     ghost Value = { List (Given T) };
 

@@ -1,12 +1,12 @@
 //! What the input says of the code of entries. (DWARF 4 and 5, section 2.17.)
 ghost use Rattle.std.specs.Prelude.{◌≡◌, ℕ, IfSome, IsTrue, None, option_map, option_and_then};
 ghost use Rattle.dwc_base.specs.declared.constants.TheConstants.{DW_AT_high_pc as high_pc};
-ghost use Rattle.dwc_base.specs.Entries.{attribute};
-ghost use Rattle.dwc_base.specs.EntryRules.{of_list};
-ghost use Rattle.dwc_base.specs.Lists.{list_source};
-ghost use Rattle.dwc_base.specs.RangeAttributes.{extent, extent_of_bounds, interval_to, range_list_of};
-ghost use Rattle.dwc_base.specs.RangeRefusals.{bounds_refusal};
-ghost use Rattle.dwc_base.specs.RawLists.{is_range_list};
+ghost use Rattle.dwc_dwarf.specs.Entries.{attribute};
+ghost use Rattle.dwc_rules.specs.EntryRules.{of_list};
+ghost use Rattle.dwc_dwarf.specs.Lists.{list_source};
+ghost use Rattle.dwc_rules.specs.RangeAttributes.{extent, extent_of_bounds, interval_to, range_list_of};
+ghost use Rattle.dwc_rules.specs.RangeRefusals.{bounds_refusal};
+ghost use Rattle.dwc_dwarf.specs.RawLists.{is_range_list};
 ghost use Rattle.dwc_read.specs.EntriesSeen.{entry_view};
 ghost use Rattle.dwc_read.specs.ValuesSeen.{value_view};
 ghost use Rattle.dwc_tabs.specs.RangeEnds.{GivesOrRefusal, interval_view};

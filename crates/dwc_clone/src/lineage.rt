@@ -1,9 +1,9 @@
 //! What is in force at an entry: the scope, the frame and the frame base of the nearest of it and its ancestors that gives one. (DWARF 4
 //! and 5, sections 2.6 and 3.3.5.)
 ghost use Rattle.std.specs.Prelude.{◌≡◌, ◌==◌, pos, true, IfErr, IfOk, IfSome, IsSome, OnOk, option_copied, option_map};
-ghost use Rattle.dwc_base.specs.Lists.{list_source};
-ghost use Rattle.dwc_base.specs.RangeAttributes.{begun_function};
-ghost use Rattle.dwc_base.specs.Scopes.{left_for, top_at, top_of};
+ghost use Rattle.dwc_dwarf.specs.Lists.{list_source};
+ghost use Rattle.dwc_rules.specs.RangeAttributes.{begun_function};
+ghost use Rattle.dwc_rules.specs.Scopes.{left_for, top_at, top_of};
 ghost use Rattle.dwc_addr.specs.Transforms.{function_view};
 ghost use Rattle.dwc_read.specs.EntriesSeen.{entry_view};
 ghost use Rattle.dwc_clone.specs.declared.error.CloneError.TheVariants.{OutOfMemory};

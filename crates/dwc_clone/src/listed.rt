@@ -1,9 +1,9 @@
 //! Location lists of the input, read whole. (DWARF 4 and 5, section 2.6.2.)
 ghost use Rattle.std.specs.Prelude.{◌≡◌, IsTrue, map, option_map};
-ghost use Rattle.dwc_base.specs.Lists.{list_source, locations_of_value};
-ghost use Rattle.dwc_base.specs.LocationRules.{listed};
-ghost use Rattle.dwc_base.specs.RangeRules.{told_as};
-ghost use Rattle.dwc_base.specs.RawLists.{is_location_list};
+ghost use Rattle.dwc_dwarf.specs.Lists.{list_source, locations_of_value};
+ghost use Rattle.dwc_rules.specs.LocationRules.{listed};
+ghost use Rattle.dwc_rules.specs.RangeRules.{told_as};
+ghost use Rattle.dwc_dwarf.specs.RawLists.{is_location_list};
 ghost use Rattle.dwc_read.specs.ValuesSeen.{value_view};
 ghost use Rattle.dwc_tabs.specs.Locations.{listed_view as location_seen};
 ghost use Rattle.dwc_clone.specs.LocatedLists.{list_told, listed_in, listed_view, of_list};

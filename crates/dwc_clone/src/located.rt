@@ -1,9 +1,9 @@
 //! What attributes become whose values are expressions. (DWARF 4 and 5, section 2.6.)
 ghost use Rattle.std.specs.Prelude.{◌≡◌, ℕ, ◌<◌, ◌&&◌, [], List, map, length, option_map, slice_index_or, IfOk};
 ghost use Rattle.std.specs.Option.{unwrap_or};
-ghost use Rattle.dwc_base.specs.Functions.{Function};
-ghost use Rattle.dwc_base.specs.LocationAttributes.{are_equal_to as are_equal, output_frame_base as frame_base_bytes, read_expression, value_of_built, value_of_code, value_of_expression, value_of_parts, value_over};
-ghost use Rattle.dwc_base.specs.Parts.{single_code};
+ghost use Rattle.dwc_native.specs.Functions.{Function};
+ghost use Rattle.dwc_rules.specs.LocationAttributes.{are_equal_to as are_equal, output_frame_base as frame_base_bytes, read_expression, value_of_built, value_of_code, value_of_expression, value_of_parts, value_over};
+ghost use Rattle.dwc_native.specs.Parts.{single_code};
 ghost use Rattle.dwc_clif.specs.Registers.{Registers};
 ghost use Rattle.dwc_expr.specs.Builds.{built_view, location_view};
 ghost use Rattle.dwc_clone.specs.InForceSeen.{in_force_view};

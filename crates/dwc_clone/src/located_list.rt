@@ -1,9 +1,9 @@
 //! What attributes become whose values are location lists. (DWARF 4 and 5, section 2.6.2.)
 ghost use Rattle.std.specs.Prelude.{◌≡◌, ◌||◌, IsTrue, List, map, option_map};
-ghost use Rattle.dwc_base.specs.Functions.{Function};
-ghost use Rattle.dwc_base.specs.LocationAttributes.{built_for, built_for_each, read_locations};
-ghost use Rattle.dwc_base.specs.Lists.{list_source};
-ghost use Rattle.dwc_base.specs.RawLists.{is_location_list};
+ghost use Rattle.dwc_native.specs.Functions.{Function};
+ghost use Rattle.dwc_rules.specs.LocationAttributes.{built_for, built_for_each, read_locations};
+ghost use Rattle.dwc_dwarf.specs.Lists.{list_source};
+ghost use Rattle.dwc_dwarf.specs.RawLists.{is_location_list};
 ghost use Rattle.dwc_read.specs.ValuesSeen.{value_view};
 ghost use Rattle.dwc_clone.specs.InForceSeen.{in_force_view};
 ghost use Rattle.dwc_clif.specs.Registers.{Registers};
@@ -103,7 +103,7 @@ fn built_intervals(
 /// The first that is refused of the list: `Read` at the list, or at the entry where the list cannot be found; `TooLarge` for a start
 /// plus a length that is no address. Else the first that is refused of its expressions: `Read` where an operation cannot be read, with
 /// the place of its expression, or what `build_with_locals` refuses. `OutOfMemory` for want of memory.
-#[tactic(auto, unfolding(dwc_base::specs::LocationAttributes::value_of_locations))]
+#[tactic(auto, unfolding(dwc_rules::specs::LocationAttributes::value_of_locations))]
 pub(crate) fn located_list(
     alloc: Global,
     unit: &Unit<'_>,

@@ -1,14 +1,14 @@
 //! What attributes become whose values are expressions or location lists, and what is refused of them. (DWARF 4 and 5, section 2.6.)
 ghost use Rattle.std.specs.Prelude.{◌≡◌, ℕ, List, length, true, None, IfOk, IfSome, IsTrue, option_map};
 ghost use Rattle.dwc_base.specs.declared.section_name.SectionName.TheVariants.{Info};
-ghost use Rattle.dwc_base.specs.Addends.{HaveAddends};
-ghost use Rattle.dwc_base.specs.Clones.{UnitSource};
-ghost use Rattle.dwc_base.specs.EntryRules.{bound_value_refused, code_value_becomes, of_location};
-ghost use Rattle.dwc_base.specs.ExpressionPlaces.{expression_place};
-ghost use Rattle.dwc_base.specs.Kept.{Placed};
-ghost use Rattle.dwc_base.specs.RawLists.{is_location_list};
-ghost use Rattle.dwc_base.specs.Values.{Value, expression, is_location_name};
-ghost use Rattle.dwc_base.specs.Wrappers.{is_wrapped};
+ghost use Rattle.dwc_native.specs.Addends.{HaveAddends};
+ghost use Rattle.dwc_rules.specs.Clones.{UnitSource};
+ghost use Rattle.dwc_rules.specs.EntryRules.{bound_value_refused, code_value_becomes, of_location};
+ghost use Rattle.dwc_dwarf.specs.ExpressionPlaces.{expression_place};
+ghost use Rattle.dwc_rules.specs.Kept.{Placed};
+ghost use Rattle.dwc_dwarf.specs.RawLists.{is_location_list};
+ghost use Rattle.dwc_dwarf.specs.Values.{Value, expression, is_location_name};
+ghost use Rattle.dwc_rules.specs.Wrappers.{is_wrapped};
 ghost use Rattle.dwc_clif.specs.Registers.{Registers};
 ghost use Rattle.dwc_read.specs.EntriesSeen.{entry_view};
 ghost use Rattle.dwc_read.specs.ValuesSeen.{value_view};

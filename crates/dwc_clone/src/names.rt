@@ -1,7 +1,7 @@
 //! Names of attributes that decide alone what becomes of a value.
 ghost use Rattle.std.specs.Prelude.{◌≡◌};
-ghost use Rattle.dwc_base.specs.Clones.{is_dropped_name, is_bound_name, is_file_name};
-ghost use Rattle.dwc_base.specs.Values.{is_location_name};
+ghost use Rattle.dwc_rules.specs.Clones.{is_dropped_name, is_bound_name, is_file_name};
+ghost use Rattle.dwc_dwarf.specs.Values.{is_location_name};
 
 use dwc_base::constants::{
     DW_AT_GNU_locviews, DW_AT_addr_base, DW_AT_call_file, DW_AT_data_member_location,

@@ -1,20 +1,20 @@
 //! Parameters that point to the object of a function. Such a parameter becomes a wrapper, which no debugger takes for one of its own: so it
 //! gets another name, and is no longer told as an object pointer. (DWARF 4, section 5.5.7; DWARF 5, section 5.7.8.)
 ghost use Rattle.std.specs.Prelude.{◌≡◌, ◌==◌, ◌&&◌, ◌-ℤ◌, ℕ, pos, List, ◌∷◌, ◌++◌, Option, Some, Ok, IfOk, IfSome, IsOkUnless, OnOk, codes, option_map};
-ghost use Rattle.dwc_base.specs.Kept.{Placed};
-ghost use Rattle.dwc_base.specs.ObjectPointers.{has_parameters, is_pointer, is_this_name, looks_like_this, unlike_this};
-ghost use Rattle.dwc_base.specs.Scopes.{top_at};
-ghost use Rattle.dwc_base.specs.TypeNames.{type_of as type_named};
-ghost use Rattle.dwc_base.specs.Indexed.{texts_of_unit};
-ghost use Rattle.dwc_base.specs.Entries as Entries;
-ghost use Rattle.dwc_base.specs.Entries.{attribute};
+ghost use Rattle.dwc_rules.specs.Kept.{Placed};
+ghost use Rattle.dwc_rules.specs.ObjectPointers.{has_parameters, is_pointer, is_this_name, looks_like_this, unlike_this};
+ghost use Rattle.dwc_rules.specs.Scopes.{top_at};
+ghost use Rattle.dwc_rules.specs.TypeNames.{type_of as type_named};
+ghost use Rattle.dwc_dwarf.specs.Indexed.{texts_of_unit};
+ghost use Rattle.dwc_dwarf.specs.Entries as Entries;
+ghost use Rattle.dwc_dwarf.specs.Entries.{attribute};
 ghost use Rattle.dwc_base.specs.declared.constants.TheConstants.{DW_AT_name as name, DW_AT_object_pointer as object_pointer};
-ghost use Rattle.dwc_base.specs.Clones.{UnitSource, attribute_becomes};
-ghost use Rattle.dwc_base.specs.Values.{Value};
+ghost use Rattle.dwc_rules.specs.Clones.{UnitSource, attribute_becomes};
+ghost use Rattle.dwc_dwarf.specs.Values.{Value};
 ghost use Rattle.dwc_clif.specs.Registers.{Registers};
-ghost use Rattle.dwc_base.specs.Drafts.{DraftValue, done};
-ghost use Rattle.dwc_base.specs.ReadValues.{IsReadValue};
-ghost use Rattle.dwc_base.specs.Trees as Trees;
+ghost use Rattle.dwc_rules.specs.Drafts.{DraftValue, done};
+ghost use Rattle.dwc_dwarf.specs.ReadValues.{IsReadValue};
+ghost use Rattle.dwc_dwarf.specs.Trees as Trees;
 ghost use Rattle.dwc_read.specs.EntriesSeen.{entry_view};
 ghost use Rattle.dwc_read.specs.ValuesSeen.{attribute_view, value_view};
 ghost use Rattle.dwc_write.specs.GivenUnits.{FitsValue};

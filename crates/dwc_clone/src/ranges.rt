@@ -1,13 +1,13 @@
 //! Range lists as native code. (DWARF 4, section 2.17.3; DWARF 5, section 2.17.3.)
 ghost use Rattle.std.specs.Prelude.{◌≡◌, ◌++◌, ◌∷◌, [], IsTrue, IfOk, OnOk, List, Some, option_map};
-ghost use Rattle.dwc_base.specs.Addends.{HaveAddends};
-ghost use Rattle.dwc_base.specs.EntryRules.{of_list};
-ghost use Rattle.dwc_base.specs.Lists.{list_source, of_place, ranges_of_value};
-ghost use Rattle.dwc_base.specs.RangeAttributes.{native_of_intervals};
-ghost use Rattle.dwc_base.specs.RawLists.{is_range_list};
-ghost use Rattle.dwc_base.specs.Runs.{native_in_function};
+ghost use Rattle.dwc_native.specs.Addends.{HaveAddends};
+ghost use Rattle.dwc_rules.specs.EntryRules.{of_list};
+ghost use Rattle.dwc_dwarf.specs.Lists.{list_source, of_place, ranges_of_value};
+ghost use Rattle.dwc_native.specs.ScopesKept.{native_of_intervals};
+ghost use Rattle.dwc_dwarf.specs.RawLists.{is_range_list};
+ghost use Rattle.dwc_native.specs.Runs.{native_in_function};
 ghost use Rattle.dwc_base.specs.Sections.{Fault};
-ghost use Rattle.dwc_base.specs.Trees.{Interval};
+ghost use Rattle.dwc_dwarf.specs.Trees.{Interval};
 ghost use Rattle.dwc_addr.specs.Translations.{with_lengths};
 ghost use Rattle.dwc_read.specs.Faults.{fault_at, fault_seen};
 ghost use Rattle.dwc_read.specs.ValuesSeen.{value_view};

@@ -4,8 +4,8 @@ ghost use Rattle.dwc_base.specs.declared.section_name.SectionName.TheVariants.{I
 ghost use Rattle.dwc_base.specs.declared.faults.What.TheVariants.{Text};
 ghost use Rattle.dwc_base.specs.Cursors.{slice_bytes};
 ghost use Rattle.dwc_base.specs.Sections.{reported};
-ghost use Rattle.dwc_base.specs.Texts.{text_named};
-ghost use Rattle.dwc_base.specs.Indexed.{texts_of_unit};
+ghost use Rattle.dwc_dwarf.specs.Texts.{text_named};
+ghost use Rattle.dwc_dwarf.specs.Indexed.{texts_of_unit};
 ghost use Rattle.dwc_read.specs.Faults.{GivesOrFault};
 ghost use Rattle.dwc_read.specs.TextPlaces.{text_place_named};
 ghost use Rattle.dwc_read.specs.ValuesSeen.{value_view};
@@ -70,7 +70,7 @@ fn check_named<'d>(
 /// Reads the text that a value of the entry at an offset names, unless it is known by its place. Most values are no texts.
 ///
 /// Answers `Read` with that offset where the text cannot be read.
-#[tactic(auto, unfolding(dwc_base::specs::Texts::text_named))]
+#[tactic(auto, unfolding(dwc_dwarf::specs::Texts::text_named))]
 pub(crate) fn check_text<'d>(
     unit: &Unit<'d>,
     offset: u64,

@@ -1,7 +1,7 @@
 //! Types that are derived from one another in a ring, and which of them have names that are the same text.
 ghost use Rattle.std.specs.Prelude.{◌≡◌, ◌==◌, ◌<◌, ◌+◌, ◌^◌, Bool, List, ℕ, IfOk, IfSome, OnOk, false, true};
 ghost use Rattle.dwc_base.specs.declared.constants.TheConstants.{DW_TAG_const_type};
-ghost use Rattle.dwc_base.specs.Clones.{UnitSource};
+ghost use Rattle.dwc_rules.specs.Clones.{UnitSource};
 ghost use Rattle.dwc_clone.specs.declared.source.CloneSource.{CloneSource};
 ghost use Rattle.dwc_clone.specs.KnownNames.{AreOwnNames, AreWrapperNames, IsOwnName, NamesRing, NamesRingFrom, NamesWrappers};
 ghost use Rattle.dwc_clone.specs.TypeRings.{IsKeptAt, IsRoundOrNone, IsTurn, last_type_at, passed_with, spelt_of};

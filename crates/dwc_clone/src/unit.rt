@@ -1,12 +1,12 @@
 //! Clones the kept entries of a unit.
 ghost use Rattle.std.specs.Prelude.{◌≡◌, ◌-◌, ℕ, None, All, OnOk};
 ghost use Rattle.std.specs.List.{filter_map};
-ghost use Rattle.dwc_base.specs.Entries.{entries as entries_of};
-ghost use Rattle.dwc_base.specs.Lists.{list_source};
-ghost use Rattle.dwc_base.specs.RangeAttributes.{begun_function};
-ghost use Rattle.dwc_base.specs.Addends.{HaveAddends};
-ghost use Rattle.dwc_base.specs.Clones.{UnitSource};
-ghost use Rattle.dwc_base.specs.ReadValues.{IsReadEntry};
+ghost use Rattle.dwc_dwarf.specs.Entries.{entries as entries_of};
+ghost use Rattle.dwc_dwarf.specs.Lists.{list_source};
+ghost use Rattle.dwc_rules.specs.RangeAttributes.{begun_function};
+ghost use Rattle.dwc_native.specs.Addends.{HaveAddends};
+ghost use Rattle.dwc_rules.specs.Clones.{UnitSource};
+ghost use Rattle.dwc_dwarf.specs.ReadValues.{IsReadEntry};
 ghost use Rattle.dwc_write.specs.GivenUnits.{new_unit};
 ghost use Rattle.dwc_write.specs.TextTables.{IsText};
 ghost use Rattle.dwc_clone.specs.BegunNumbers.{NotesFunctions};

@@ -1,8 +1,8 @@
 //! What is known of entries that were cloned, in a walk over the kept entries of a unit in file order.
-ghost use Rattle.dwc_base.specs.Clones.{UnitSource};
-ghost use Rattle.dwc_base.specs.Kept.{Placed};
-ghost use Rattle.dwc_base.specs.Lists.{list_source};
-ghost use Rattle.dwc_base.specs.LocationRules.{frame_at};
+ghost use Rattle.dwc_rules.specs.Clones.{UnitSource};
+ghost use Rattle.dwc_rules.specs.Kept.{Placed};
+ghost use Rattle.dwc_dwarf.specs.Lists.{list_source};
+ghost use Rattle.dwc_rules.specs.LocationRules.{frame_at};
 ghost use Rattle.dwc_clif.specs.Registers.{Registers};
 ghost use Rattle.dwc_expr.specs.Frames.{frame_view};
 ghost use Rattle.dwc_clone.specs.declared.source.CloneSource.{CloneSource};

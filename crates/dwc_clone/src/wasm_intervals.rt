@@ -1,10 +1,11 @@
 //! The code of entries as intervals of wasm offsets. (DWARF 4 and 5, section 2.17.)
 ghost use Rattle.std.specs.Prelude.{◌≡◌, ◌++◌, [], true, false, is_some, IfOk, OnOk, IsTrue, option_map, option_to_list};
 ghost use Rattle.std.specs.List.{filter_map};
-ghost use Rattle.dwc_base.specs.Lists.{list_source, ranges_of_value};
-ghost use Rattle.dwc_base.specs.RangeAttributes.{extent, wasm_interval};
-ghost use Rattle.dwc_base.specs.RawLists.{is_range_list};
-ghost use Rattle.dwc_base.specs.Scopes.{scope_of_extent};
+ghost use Rattle.dwc_dwarf.specs.Lists.{list_source, ranges_of_value};
+ghost use Rattle.dwc_rules.specs.RangeAttributes.{extent};
+ghost use Rattle.dwc_native.specs.ScopesKept.{wasm_interval};
+ghost use Rattle.dwc_dwarf.specs.RawLists.{is_range_list};
+ghost use Rattle.dwc_rules.specs.Scopes.{scope_of_extent};
 ghost use Rattle.dwc_read.specs.EntriesSeen.{entry_view};
 ghost use Rattle.dwc_read.specs.ValuesSeen.{value_view};
 ghost use Rattle.dwc_tabs.specs.RangeEnds.{interval_view};

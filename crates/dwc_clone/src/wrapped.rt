@@ -1,11 +1,11 @@
 //! Clones pointers and references: a wrapper stands in the place of each.
 ghost use Rattle.std.specs.Prelude.{◌≡◌, ◌≢◌, ℕ, length, reverse, true, IfErr, OnOk};
-ghost use Rattle.dwc_base.specs.Addends.{HaveAddends};
-ghost use Rattle.dwc_base.specs.Clones.{UnitSource};
-ghost use Rattle.dwc_base.specs.Lists.{list_source};
-ghost use Rattle.dwc_base.specs.RangeRefusals.{begins_by_low_pc};
-ghost use Rattle.dwc_base.specs.ReadValues.{IsReadEntry};
-ghost use Rattle.dwc_base.specs.Wrappers.{is_wrapped};
+ghost use Rattle.dwc_native.specs.Addends.{HaveAddends};
+ghost use Rattle.dwc_rules.specs.Clones.{UnitSource};
+ghost use Rattle.dwc_dwarf.specs.Lists.{list_source};
+ghost use Rattle.dwc_rules.specs.RangeRefusals.{begins_by_low_pc};
+ghost use Rattle.dwc_dwarf.specs.ReadValues.{IsReadEntry};
+ghost use Rattle.dwc_rules.specs.Wrappers.{is_wrapped};
 ghost use Rattle.dwc_read.specs.EntriesSeen.{entry_view};
 ghost use Rattle.dwc_write.specs.GivenUnits.{IsReserved};
 ghost use Rattle.dwc_write.specs.TextTables.{IsText};

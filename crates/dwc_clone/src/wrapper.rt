@@ -6,8 +6,8 @@ ghost use Rattle.dwc_clone.specs.KnownTexts.{IsNumbered};
 ghost use Rattle.dwc_clone.specs.MadeValues.{Grows};
 ghost use Rattle.dwc_clone.specs.OpenWrappers.{AreNext, CanClose, CanCloseAll, HasWrapperTexts, IsOpened, IsOther, closed_from, members_added, method_added, still_open, types_added, with_type, wrapper_added};
 ghost use Rattle.dwc_base.specs.declared.constants.TheConstants.{DW_FORM_data1};
-ghost use Rattle.dwc_base.specs.Kept.{Placed};
-ghost use Rattle.dwc_base.specs.Wrappers.{is_wrapped, wrapper_name};
+ghost use Rattle.dwc_rules.specs.Kept.{Placed};
+ghost use Rattle.dwc_rules.specs.Wrappers.{is_wrapped, wrapper_name};
 ghost use Rattle.dwc_read.specs.EntriesSeen.{entry_view};
 
 use crate::made::{MadeValue, add_made, set_values};

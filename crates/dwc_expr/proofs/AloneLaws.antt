@@ -7,18 +7,18 @@ use Rattle.std.specs.Option.{option_or}
 use Rattle.std.proofs.lemmas.Grind.{flat_map-append}
 use Rattle.std.proofs.lemmas.List.{map-append}
 use Rattle.dwc_base.specs.declared.records.Address.{Address}
-use Rattle.dwc_base.specs.Built.{Setting, location_bytes, value_bytes, built_bytes, jumps_fit}
-use Rattle.dwc_base.specs.BuiltExpressions.{BuildRefusal, Surroundings, BuiltExpressions, setting_at, memory_of, memory_refusals, register_refusal, register_refusal_at, has_bad_range, label_refusal, bad_label_range, place_refusals, jump_refusals, build_refusals, built_on, built_on_ranges, jump_too_large}
-use Rattle.dwc_base.specs.Compiled.{LabelRange, Memory, Place, in_register, at_frame_offset, no_memory, defined, imported}
-use Rattle.dwc_base.specs.Functions.{Function}
-use Rattle.dwc_base.specs.LabelRanges.{AreMaximal, bytes_of, label_ranges, all_bytes_placed}
-use Rattle.dwc_base.specs.Parts.{CompiledParts, local}
-use Rattle.dwc_base.specs.Placed.{Frame, NativeRange, built_parts, is_dereference, label_needed, placed, last_place, is_number}
-use Rattle.dwc_base.specs.Refusals.{first_of}
-use Rattle.dwc_base.specs.Runs.{interval_of}
-use Rattle.dwc_base.specs.Trees.{Location}
+use Rattle.dwc_native.specs.Built.{Setting, location_bytes, value_bytes, built_bytes, jumps_fit}
+use Rattle.dwc_native.specs.BuiltExpressions.{BuildRefusal, Surroundings, BuiltExpressions, setting_at, memory_of, memory_refusals, register_refusal, register_refusal_at, has_bad_range, label_refusal, bad_label_range, place_refusals, jump_refusals, build_refusals, built_on, built_on_ranges, jump_too_large}
+use Rattle.dwc_native.specs.Compiled.{LabelRange, Memory, Place, in_register, at_frame_offset, no_memory, defined, imported}
+use Rattle.dwc_native.specs.Functions.{Function}
+use Rattle.dwc_native.specs.LabelRanges.{AreMaximal, bytes_of, label_ranges, all_bytes_placed}
+use Rattle.dwc_native.specs.Parts.{CompiledParts, local}
+use Rattle.dwc_native.specs.Placed.{Frame, NativeRange, built_parts, is_dereference, label_needed, placed, last_place, is_number}
+use Rattle.dwc_base.specs.Listing.{first_of}
+use Rattle.dwc_native.specs.Runs.{interval_of}
+use Rattle.dwc_dwarf.specs.Trees.{Location}
 use Rattle.dwc_base.proofs.InLists.{IsIn}
-use Rattle.dwc_base.proofs.LabelRangeMaximal.{label-ranges-maximal}
+use Rattle.dwc_native.proofs.LabelRangeMaximal.{label-ranges-maximal}
 use Rattle.dwc_clif.specs.Registers.{Registers}
 use Rattle.dwc_write.specs.declared.expressions.Expression.{Expression}
 use Rattle.dwc_expr.specs.declared.error.ExprError.{ExprError}

@@ -3,14 +3,14 @@ use Rattle.std.proofs.Common.{◌≡◌, ℕ, ◌==◌, List, [], ◌∷◌, ◌
 use Rattle.std.specs.FinMap as finite
 use Rattle.std.specs.List.{list_any}
 use Rattle.std.specs.Option.{option_or}
-use Rattle.dwc_base.specs.Compiled.{Memory}
-use Rattle.dwc_base.specs.Functions.{Function}
-use Rattle.dwc_base.specs.Parts.{Part, CompiledParts, dereference, single_code}
-use Rattle.dwc_base.specs.Placed.{Frame, label_needed, is_dereference, NativeRange, scope_intervals, scope_ranges, built_parts, reads_memory}
-use Rattle.dwc_base.specs.LabelRanges.{label_ranges, all_bytes_placed}
-use Rattle.dwc_base.specs.Trees.{Location}
-use Rattle.dwc_base.specs.BuiltExpressions.{BuildRefusal, Surroundings, BuiltExpressions, setting_at, memory_of, memory_refusals, label_refusal, place_refusals, jump_refusals, build_refusals, built_on, built_on_ranges, built_over, copied, without_memory}
-use Rattle.dwc_base.specs.Refusals.{first_of}
+use Rattle.dwc_native.specs.Compiled.{Memory}
+use Rattle.dwc_native.specs.Functions.{Function}
+use Rattle.dwc_native.specs.Parts.{Part, CompiledParts, dereference, single_code}
+use Rattle.dwc_native.specs.Placed.{Frame, label_needed, is_dereference, NativeRange, scope_intervals, scope_ranges, built_parts, reads_memory}
+use Rattle.dwc_native.specs.LabelRanges.{label_ranges, all_bytes_placed}
+use Rattle.dwc_dwarf.specs.Trees.{Location}
+use Rattle.dwc_native.specs.BuiltExpressions.{BuildRefusal, Surroundings, BuiltExpressions, setting_at, memory_of, memory_refusals, label_refusal, place_refusals, jump_refusals, build_refusals, built_on, built_on_ranges, built_over, copied, without_memory}
+use Rattle.dwc_base.specs.Listing.{first_of}
 use Rattle.dwc_clif.specs.Registers.{Registers}
 use Rattle.dwc_expr.specs.declared.cached_range.CachedValueLabelRange.{CachedValueLabelRange}
 use Rattle.dwc_expr.specs.declared.built.BuiltCompiledExpression.{BuiltCompiledExpression}

@@ -8,9 +8,9 @@ use Rattle.std.proofs.lemmas.Cmp.{nat_cmp_total, on_total, then_total}
 use Rattle.std.proofs.lemmas.List.{get_or_at, set_at, length_push, map_push}
 use Rattle.std.proofs.lemmas.List.Sorted.{ranks_by, sorted_far, IsPermutation-map, All-permutation, list_any-IsPermutation}
 use Rattle.std.proofs.lemmas.List.Elements.{All-map}
-use Rattle.dwc_base.specs.Placed.{NativeRange}
-use Rattle.dwc_base.specs.LabelRanges.{label_ranges}
-use Rattle.dwc_base.proofs.LabelRangeCoverage.{holds}
+use Rattle.dwc_native.specs.Placed.{NativeRange}
+use Rattle.dwc_native.specs.LabelRanges.{label_ranges}
+use Rattle.dwc_native.proofs.LabelRangeCoverage.{holds}
 use Rattle.dwc_expr.specs.declared.code_range.CodeRange.{CodeRange}
 use Rattle.dwc_expr.specs.CodeRanges.{code_range_view}
 use Rattle.dwc_expr.specs.JoinedScopes.{IsInOrder, begins_in_last, HaveBytesOf, AreJoined, Adds}

@@ -4,8 +4,8 @@ use Rattle.std.specs.List.{list_all, cons_option, last_or}
 use Rattle.std.proofs.lemmas.Bool.{and_parts, leb-true}
 use Rattle.std.proofs.lemmas.List.Elements.{All-nil, All-cons}
 use Rattle.dwc_base.specs.Listing.{Listing}
-use Rattle.dwc_base.specs.Operations.{Operation, operations, target}
-use Rattle.dwc_base.specs.Parts.{Part, CompiledParts, Rule, loads_local, adds_to_frame_base, jumps, reads_memory, shifts_right, stays, rule_of, is_supported_by, is_supported, is_unsupported_early, jump_by, jump_target, targets, has_whole_jumps, holds_jump, joined, is_address_behind, leaves_address, lone_local, label_alone, old_format, parts_behind_pads, compiled_operations, compiled_behind, compiled_listing, compiled}
+use Rattle.dwc_dwarf.specs.Operations.{Operation, operations, target}
+use Rattle.dwc_native.specs.Parts.{Part, CompiledParts, Rule, loads_local, adds_to_frame_base, jumps, reads_memory, shifts_right, stays, rule_of, is_supported_by, is_supported, is_unsupported_early, jump_by, jump_target, targets, has_whole_jumps, holds_jump, joined, is_address_behind, leaves_address, lone_local, label_alone, old_format, parts_behind_pads, compiled_operations, compiled_behind, compiled_listing, compiled}
 use Rattle.dwc_expr.specs.declared.error.ExprError.{ExprError}
 use Rattle.dwc_expr.specs.declared.error.ExprError.TheVariants.{Read, TooLarge, BadLabelRange, InvalidAttributeValue, UnmappedRegister, OutOfMemory}
 use Rattle.dwc_expr.specs.Compiles.{TellsPlace}

@@ -2,11 +2,11 @@
 use Rattle.std.proofs.Common.{◌≡◌, ℕ, ◌<◌, ◌≤◌, Bool, true, false, cond, nat_lt, pos, List, [], ◌∷◌, ◌++◌, length, drop, append-nil, map, filter, flat_map, Option, Some, None, option_map, ltb-true, refl, ap, sym, ◌∙◌, arith}
 use Rattle.std.proofs.lemmas.Int.{ints}
 use Rattle.std.proofs.lemmas.List.{drop_all, map-append}
-use Rattle.dwc_base.specs.BuiltExpressions.{BuiltExpressions, copied}
-use Rattle.dwc_base.specs.Functions.{Function, function_at}
-use Rattle.dwc_base.specs.Placed.{scope_intervals}
-use Rattle.dwc_base.specs.Runs.{is_range, meets, start_in, end_in, runs, native_ranges, native_in_function, interval_of, as_intervals, native}
-use Rattle.dwc_base.specs.Trees.{Interval, Location}
+use Rattle.dwc_native.specs.BuiltExpressions.{BuiltExpressions, copied}
+use Rattle.dwc_native.specs.Functions.{Function, function_at}
+use Rattle.dwc_native.specs.Placed.{scope_intervals}
+use Rattle.dwc_native.specs.Runs.{is_range, meets, start_in, end_in, runs, native_ranges, native_in_function, interval_of, as_intervals, native}
+use Rattle.dwc_dwarf.specs.Trees.{Interval, Location}
 use Rattle.dwc_base.specs.declared.records.Address.{Address}
 use Rattle.dwc_base.specs.declared.records.Address.TheVariants.{Symbol}
 use Rattle.dwc_addr.specs.Translations.{with_length, with_lengths}

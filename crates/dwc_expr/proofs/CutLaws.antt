@@ -6,10 +6,10 @@ use Rattle.std.proofs.lemmas.Bool.{ltb-true, lt-ltb, le-ltb, or_cases, or_left, 
 use Rattle.std.proofs.lemmas.List.{take-append-drop, map-append, at_drop_more}
 use Rattle.std.proofs.lemmas.List.Elements.{filter_map-append}
 use Rattle.std.proofs.lemmas.List.Folds.{list_any-append}
-use Rattle.dwc_base.specs.Compiled.{LabelRange}
-use Rattle.dwc_base.specs.Placed.{NativeRange, is_number, is_byte_of}
+use Rattle.dwc_native.specs.Compiled.{LabelRange}
+use Rattle.dwc_native.specs.Placed.{NativeRange, is_number, is_byte_of}
 use Rattle.dwc_base.proofs.InLists.{IsIn, at-in, in-append, in-filter_map, filter_map-in, map-in, in-any}
-use Rattle.dwc_base.proofs.LabelRangeCoverage.{holds, hold, Held, held}
+use Rattle.dwc_native.proofs.LabelRangeCoverage.{holds, hold, Held, held}
 use Rattle.dwc_clif.specs.FlatRanges.{IsFlat}
 use Rattle.dwc_expr.specs.PlacedParts.{PlacedPart, cut_by, cuts_of, cuts_from, EndBy}
 use Rattle.dwc_expr.proofs.PairLaws.{Pairs, pairs-append, pairs-filter_map, filter-none, all-in}

@@ -3,9 +3,9 @@ use Rattle.std.proofs.Common.{◌≡◌, ℕ, suc, ◌<◌, ◌≤◌, ◌+◌, 
 use Rattle.std.specs.Prelude.{Option, All, AllPairs, option_to_list}
 use Rattle.std.specs.List.{filter_map}
 use Rattle.std.proofs.lemmas.List.{get_or-map, length-map, at_drop_more, drop_all, get_or_default}
-use Rattle.dwc_base.specs.Compiled.{LabelRange}
-use Rattle.dwc_base.specs.Placed.{NativeRange, is_number}
-use Rattle.dwc_base.specs.LabelRanges.{IsBefore}
+use Rattle.dwc_native.specs.Compiled.{LabelRange}
+use Rattle.dwc_native.specs.Placed.{NativeRange, is_number}
+use Rattle.dwc_native.specs.LabelRanges.{IsBefore}
 use Rattle.dwc_clif.specs.declared.value_label.ValueLocRange.{ValueLocRange}
 use Rattle.dwc_clif.specs.declared.value_label.LabelValueLoc.TheVariants.{Reg}
 use Rattle.dwc_clif.specs.ValueLabels.{range_view}

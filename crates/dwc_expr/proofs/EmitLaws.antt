@@ -1,8 +1,8 @@
 -- Parts that are put one after another.
 use Rattle.std.proofs.Common.{◌≡◌, ℕ, ◌+◌, ◌<◌, List, [], ◌∷◌, ◌++◌, map, length, get_or, drop, Bool, Option, Some, sym, refl, ap, ◌∙◌}
 use Rattle.std.proofs.lemmas.List.{drop_more}
-use Rattle.dwc_base.specs.Operations.{Operation}
-use Rattle.dwc_base.specs.Parts.{Part, code, dereference, CompiledParts, as_value, joined, moved_up, reads_memory, shifts_right, rule_of, parts_by, parts_of}
+use Rattle.dwc_dwarf.specs.Operations.{Operation}
+use Rattle.dwc_native.specs.Parts.{Part, code, dereference, CompiledParts, as_value, joined, moved_up, reads_memory, shifts_right, rule_of, parts_by, parts_of}
 use Rattle.dwc_expr.specs.PartViews.{part_view}
 use Rattle.dwc_expr.specs.Landings.{marked_pad, parts_behind_marks}
 use Rattle.dwc_expr.specs.declared.part.CompiledExpressionPart.{CompiledExpressionPart}

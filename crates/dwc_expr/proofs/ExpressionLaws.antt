@@ -2,11 +2,11 @@
 use Rattle.std.proofs.Common.{◌≡◌, ℕ, ◌+◌, ◌<◌, List, [], ◌∷◌, ◌++◌, length, map, drop, get_or, ap, sym, ◌∙◌, append_assoc}
 use Rattle.std.proofs.lemmas.List.{at_drop_more, map-append}
 use Rattle.dwc_base.specs.declared.records.Address.{Address}
-use Rattle.dwc_base.specs.Built.{built_bytes}
-use Rattle.dwc_base.specs.Compiled.{Memory}
-use Rattle.dwc_base.specs.Parts.{Part}
-use Rattle.dwc_base.specs.Runs.{interval_of}
-use Rattle.dwc_base.specs.Trees.{Location}
+use Rattle.dwc_native.specs.Built.{built_bytes}
+use Rattle.dwc_native.specs.Compiled.{Memory}
+use Rattle.dwc_native.specs.Parts.{Part}
+use Rattle.dwc_native.specs.Runs.{interval_of}
+use Rattle.dwc_dwarf.specs.Trees.{Location}
 use Rattle.dwc_clif.specs.Registers.{Registers}
 use Rattle.dwc_addr.specs.Translations.{with_length}
 use Rattle.dwc_write.specs.declared.expressions.Expression.{Expression}

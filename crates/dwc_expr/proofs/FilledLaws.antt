@@ -4,9 +4,9 @@ use Rattle.std.specs.Prelude.{Bool, Option, ◌&&◌, is_some, if◌then◌else�
 use Rattle.std.specs.List.{list_all}
 use Rattle.std.proofs.lemmas.Bool.{cases_lt, false_from_ne_true}
 use Rattle.std.proofs.lemmas.List.{at_drop_more, length-map}
-use Rattle.dwc_base.specs.Compiled.{LabelRange}
-use Rattle.dwc_base.specs.Placed.{NativeRange, is_number, last_place}
-use Rattle.dwc_base.specs.LabelRanges.{bytes_of}
+use Rattle.dwc_native.specs.Compiled.{LabelRange}
+use Rattle.dwc_native.specs.Placed.{NativeRange, is_number, last_place}
+use Rattle.dwc_native.specs.LabelRanges.{bytes_of}
 use Rattle.dwc_base.proofs.InLists.{IsIn, at-in}
 use Rattle.dwc_clif.specs.declared.value_label.ValueLocRange.{ValueLocRange}
 use Rattle.dwc_clif.specs.ValueLabels.{range_view}

@@ -4,8 +4,8 @@ use Rattle.std.specs.Prelude.{nat_le, nat_lt, All, if◌then◌else◌}
 use Rattle.std.specs.Option.{option_or}
 use Rattle.std.proofs.lemmas.Bool.{cases_lt, and_parts, leb-true, ltb-true}
 use Rattle.std.proofs.lemmas.List.Elements.{All-contains}
-use Rattle.dwc_base.specs.Compiled.{Place, in_register, at_frame_offset, LabelRange}
-use Rattle.dwc_base.specs.Placed.{is_between, last_place, same_place}
+use Rattle.dwc_native.specs.Compiled.{Place, in_register, at_frame_offset, LabelRange}
+use Rattle.dwc_native.specs.Placed.{is_between, last_place, same_place}
 use Rattle.dwc_base.proofs.InLists.{IsIn, in-contains}
 use Rattle.dwc_clif.specs.FlatRanges.{IsFlat}
 use Rattle.dwc_clif.proofs.PlaceLaws.{alone-inside, alone-below, alone-behind, first-answers, others-answer, none-below}

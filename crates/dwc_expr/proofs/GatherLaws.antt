@@ -8,13 +8,13 @@ use Rattle.std.specs.Ordering.{nat_cmp}
 use Rattle.std.proofs.lemmas.Bool.{eqb-true, eq-eqb}
 use Rattle.std.proofs.lemmas.List.{get_or-map, length-map}
 use Rattle.std.proofs.lemmas.List.Folds.{list_any-append}
-use Rattle.dwc_base.specs.Values.{is_one_of}
-use Rattle.dwc_base.specs.Compiled.{LabelRange}
-use Rattle.dwc_base.specs.Placed.{Frame, NativeRange, placed, all_placed}
-use Rattle.dwc_base.specs.LabelRanges.{AreLabelRanges, AreMaximal, AtEachByte, label_ranges, all_bytes_placed, bytes_of}
-use Rattle.dwc_base.specs.BuiltExpressions.{has_bad_range}
+use Rattle.dwc_dwarf.specs.Values.{is_one_of}
+use Rattle.dwc_native.specs.Compiled.{LabelRange}
+use Rattle.dwc_native.specs.Placed.{Frame, NativeRange, placed, all_placed}
+use Rattle.dwc_native.specs.LabelRanges.{AreLabelRanges, AreMaximal, AtEachByte, label_ranges, all_bytes_placed, bytes_of}
+use Rattle.dwc_native.specs.BuiltExpressions.{has_bad_range}
 use Rattle.dwc_base.proofs.InLists.{IsIn, in-any}
-use Rattle.dwc_base.proofs.LabelRangeMaximal.{label-ranges-maximal}
+use Rattle.dwc_native.proofs.LabelRangeMaximal.{label-ranges-maximal}
 use Rattle.dwc_clif.specs.ValueLabels.{place_view}
 use Rattle.dwc_expr.specs.declared.cached_range.CachedValueLabelRange.{CachedValueLabelRange}
 use Rattle.dwc_expr.specs.Frames.{ToldFrame, frame_of}

@@ -1,7 +1,7 @@
 -- Parts with neighbouring bytes joined, and one more behind them.
 use Rattle.std.proofs.Common.{◌≡◌, ℕ, zero, suc, ◌-◌, ◌<◌, List, [], ◌∷◌, ◌++◌, map, length, get_or, set, true, false, refl, sym, ap, ◌∙◌, append_assoc, append-nil, arith}
 use Rattle.std.proofs.lemmas.List.{map-set, get_or-map, length-map}
-use Rattle.dwc_base.specs.Parts.{Part, code, local, dereference, jump, landing_pad, with_code, joined}
+use Rattle.dwc_native.specs.Parts.{Part, code, local, dereference, jump, landing_pad, with_code, joined}
 use Rattle.dwc_expr.specs.JoinedParts.{is_code, ends_in_code, beside, behind}
 
 -- ---- one more part behind joined ones

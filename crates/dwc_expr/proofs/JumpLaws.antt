@@ -1,7 +1,7 @@
 -- Distances of jumps, and walks over parts that have jumps.
 use Rattle.std.proofs.Common.{◌≡◌, ℕ, ◌+◌, Bool, true, false, ◌&&◌, if◌then◌else◌, ℤ, pos, List, [], ◌∷◌, ◌++◌, length, append-nil, append_assoc, Option, Some, None, Result, ok_or, refl, ap, sym, subst, ◌∙◌}
-use Rattle.dwc_base.specs.Built.{Setting, part_bytes, part_length, distance_of, bytes_from, built_bytes, is_16_bit, jumps_fit_from, jumps_fit}
-use Rattle.dwc_base.specs.Parts.{Part, dereference}
+use Rattle.dwc_native.specs.Built.{Setting, part_bytes, part_length, distance_of, bytes_from, built_bytes, is_16_bit, jumps_fit_from, jumps_fit}
+use Rattle.dwc_native.specs.Parts.{Part, dereference}
 use Rattle.dwc_expr.specs.declared.error.ExprError.{ExprError}
 use Rattle.dwc_expr.specs.declared.error.ExprError.TheVariants.{TooLarge}
 use Rattle.dwc_expr.specs.Jumps.{fitting, GivesDistance}

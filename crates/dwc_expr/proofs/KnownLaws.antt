@@ -3,9 +3,9 @@ use Rattle.std.proofs.Common.{◌≡◌, ℕ, ◌==◌, List, [], ◌∷◌, map
 use Rattle.std.specs.List.{list_any}
 use Rattle.std.proofs.lemmas.Bool.{eqb-true, eq-eqb}
 use Rattle.std.proofs.lemmas.List.Elements.{All-nil, All-weaker}
-use Rattle.dwc_base.specs.Built.{Setting, distance_of, jump_length}
-use Rattle.dwc_base.specs.Parts.{Part, code, local, dereference, jump, landing_pad, is_jump}
-use Rattle.dwc_base.specs.Placed.{label_needed}
+use Rattle.dwc_native.specs.Built.{Setting, distance_of, jump_length}
+use Rattle.dwc_native.specs.Parts.{Part, code, local, dereference, jump, landing_pad, is_jump}
+use Rattle.dwc_native.specs.Placed.{label_needed}
 use Rattle.dwc_base.proofs.InLists.{IsIn, any-in, in-any, append-left, append-right, map-in, filter_map-in}
 use Rattle.dwc_expr.specs.declared.cached_range.CachedValueLabelRange.{CachedValueLabelRange}
 use Rattle.dwc_expr.specs.declared.pads.Pads.{Pads}

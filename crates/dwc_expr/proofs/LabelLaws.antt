@@ -3,10 +3,10 @@ use Rattle.std.proofs.Common.{◌≡◌, ℕ, ◌+◌, ◌<◌, Bool, true, fals
 use Rattle.std.specs.List.{cons_option}
 use Rattle.std.proofs.lemmas.List.{at_drop_more, drop_more}
 use Rattle.std.proofs.lemmas.List.Elements.{filter_map-append}
-use Rattle.dwc_base.specs.Parts.{dereference, context_label}
-use Rattle.dwc_base.specs.BuiltExpressions.{bad_label_range, has_bad_range, label_refusal}
-use Rattle.dwc_base.specs.Placed.{Frame, label_needed}
-use Rattle.dwc_base.specs.Refusals.{first_of}
+use Rattle.dwc_native.specs.Parts.{dereference, context_label}
+use Rattle.dwc_native.specs.BuiltExpressions.{bad_label_range, has_bad_range, label_refusal}
+use Rattle.dwc_native.specs.Placed.{Frame, label_needed}
+use Rattle.dwc_base.specs.Listing.{first_of}
 use Rattle.dwc_clif.specs.declared.value_label.ValueLabel.{ValueLabel}
 use Rattle.dwc_expr.specs.declared.part.CompiledExpressionPart.{CompiledExpressionPart}
 use Rattle.dwc_expr.specs.NeededLabels.{HaveSameFirsts, numbers}

@@ -5,9 +5,9 @@ use Rattle.std.proofs.lemmas.List.{drop_more, get_or-replicate, length-replicate
 use Rattle.std.proofs.lemmas.List.Elements.{All-head, All-tail, All-weaker}
 use Rattle.std.proofs.lemmas.Bool.{cases_lt, ne_eqb, or_from}
 use Rattle.std.proofs.lemmas.Bool.Decides.{eqb_tells}
-use Rattle.dwc_base.specs.Values.{is_one_of}
-use Rattle.dwc_base.specs.Operations.{Operation}
-use Rattle.dwc_base.specs.Parts.{landing_pad, CompiledParts, parts_of, jump_target, targets, has_whole_jumps, pad_at, parts_behind_pads}
+use Rattle.dwc_dwarf.specs.Values.{is_one_of}
+use Rattle.dwc_dwarf.specs.Operations.{Operation}
+use Rattle.dwc_native.specs.Parts.{landing_pad, CompiledParts, parts_of, jump_target, targets, has_whole_jumps, pad_at, parts_behind_pads}
 use Rattle.dwc_expr.specs.Landings.{with_mark, marked_too, Mark, marked_pad, parts_behind_marks}
 
 -- ---- what is marked

@@ -4,12 +4,12 @@ use Rattle.std.specs.Prelude.{nat_lt}
 use Rattle.std.specs.List.{list_any}
 use Rattle.std.proofs.lemmas.Bool.{eqb-true}
 use Rattle.dwc_base.specs.declared.records.Address.{Address}
-use Rattle.dwc_base.specs.BuiltExpressions.{BuildRefusal, BuiltExpressions, Surroundings, built_on_ranges, built_over, has_bad_range}
-use Rattle.dwc_base.specs.Compiled.{LabelRange}
-use Rattle.dwc_base.specs.Functions.{Function}
-use Rattle.dwc_base.specs.Parts.{CompiledParts, label_alone}
-use Rattle.dwc_base.specs.Placed.{Frame, scope_ranges}
-use Rattle.dwc_base.specs.Trees.{Location}
+use Rattle.dwc_native.specs.BuiltExpressions.{BuildRefusal, BuiltExpressions, Surroundings, built_on_ranges, built_over, has_bad_range}
+use Rattle.dwc_native.specs.Compiled.{LabelRange}
+use Rattle.dwc_native.specs.Functions.{Function}
+use Rattle.dwc_native.specs.Parts.{CompiledParts, label_alone}
+use Rattle.dwc_native.specs.Placed.{Frame, scope_ranges}
+use Rattle.dwc_dwarf.specs.Trees.{Location}
 use Rattle.dwc_clif.specs.FlatRanges.{Flattens}
 use Rattle.dwc_clif.specs.Registers.{Registers}
 use Rattle.dwc_clif.specs.ValueLabels.{range_view}

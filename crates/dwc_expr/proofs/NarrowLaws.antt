@@ -3,13 +3,13 @@ use Rattle.std.proofs.Common.{◌≡◌, ℕ, ◌<◌, ◌≤◌, List, [], ◌�
 use Rattle.std.specs.Prelude.{Bool, Option, ◌&&◌, is_some, AllPairs, map, if◌then◌else◌}
 use Rattle.std.specs.List.{list_all}
 use Rattle.std.proofs.lemmas.Bool.{and_parts, and_from, and_left, and_right}
-use Rattle.dwc_base.specs.Compiled.{LabelRange}
-use Rattle.dwc_base.specs.Placed.{Frame, NativeRange, is_number, is_byte_of, last_place, placed, all_placed, same_place, all_stay}
-use Rattle.dwc_base.specs.LabelRanges.{IsBefore, AtEachByte, AreMaximal, is_wanted, label_ranges, bytes_of, all_bytes_placed}
+use Rattle.dwc_native.specs.Compiled.{LabelRange}
+use Rattle.dwc_native.specs.Placed.{Frame, NativeRange, is_number, is_byte_of, last_place, placed, all_placed, same_place, all_stay}
+use Rattle.dwc_native.specs.LabelRanges.{IsBefore, AtEachByte, AreMaximal, is_wanted, label_ranges, bytes_of, all_bytes_placed}
 use Rattle.dwc_base.proofs.InLists.{IsIn, any-in, in-any, in-map}
-use Rattle.dwc_base.proofs.LabelRangeCoverage.{holds, hold, held}
-use Rattle.dwc_base.proofs.LabelRangeMaximal.{Differs}
-use Rattle.dwc_base.proofs.LabelRangeUnique.{maximal-ranges-are}
+use Rattle.dwc_native.proofs.LabelRangeCoverage.{holds, hold, held}
+use Rattle.dwc_native.proofs.LabelRangeMaximal.{Differs}
+use Rattle.dwc_native.proofs.LabelRangeUnique.{maximal-ranges-are}
 use Rattle.dwc_expr.specs.NarrowedRanges.{Tells}
 use Rattle.dwc_expr.specs.OwnPlaces.{place_in, is_filled, are_filled}
 use Rattle.dwc_expr.specs.PlacedParts.{PlacedPart, cuts_from}

@@ -6,8 +6,8 @@ use Rattle.std.proofs.lemmas.Bool.{cases_lt, and_parts, and_from}
 use Rattle.std.proofs.lemmas.List.{get_or-map, length-map}
 use Rattle.std.proofs.lemmas.List.Kept.{AllPairs-cons}
 use Rattle.dwc_base.proofs.InLists.{IsIn, at-in, in-at, in-append, in-map, in-filter_map}
-use Rattle.dwc_base.specs.Placed.{NativeRange}
-use Rattle.dwc_base.specs.LabelRanges.{bytes_of, AtEachByte}
+use Rattle.dwc_native.specs.Placed.{NativeRange}
+use Rattle.dwc_native.specs.LabelRanges.{bytes_of, AtEachByte}
 
 -- ---- what holds of all items
 

@@ -1,8 +1,8 @@
 -- A walk over parts that puts their bytes, one part more.
 use Rattle.std.proofs.Common.{◌≡◌, ℕ, ◌+◌, ◌<◌, Bool, true, false, ◌&&◌, ℤ, List, ◌∷◌, ◌++◌, length, map, drop, get_or, append_assoc, IfSome, IsSome, Ok, Err, refl, ap, sym, subst, ◌∙◌}
 use Rattle.std.proofs.lemmas.List.{at_drop_more, length-append}
-use Rattle.dwc_base.specs.Built.{Setting, part_bytes, part_length, distance_of, bytes_from, is_16_bit, jumps_fit_from}
-use Rattle.dwc_base.specs.Parts.{Part, code, local, dereference, jump, landing_pad}
+use Rattle.dwc_native.specs.Built.{Setting, part_bytes, part_length, distance_of, bytes_from, is_16_bit, jumps_fit_from}
+use Rattle.dwc_native.specs.Parts.{Part, code, local, dereference, jump, landing_pad}
 use Rattle.dwc_base.proofs.InLists.{IsIn, at-in, map-in}
 use Rattle.dwc_expr.specs.declared.error.ExprError.{ExprError}
 use Rattle.dwc_expr.specs.declared.pads.Pads.{Pads}

@@ -4,9 +4,9 @@ use Rattle.std.specs.Prelude.{Option, All, AllPairs, nat_le}
 use Rattle.std.specs.List.Sorted.{IsNonDecreasingBy, IsPartitionPoint}
 use Rattle.std.proofs.lemmas.Bool.{cases_lt, leb-true}
 use Rattle.std.proofs.lemmas.List.{get_or_default, get_or-map, get_or-take, length-map, length-take-le}
-use Rattle.dwc_base.specs.Compiled.{LabelRange}
-use Rattle.dwc_base.specs.Placed.{NativeRange, is_number}
-use Rattle.dwc_base.specs.LabelRanges.{IsBefore}
+use Rattle.dwc_native.specs.Compiled.{LabelRange}
+use Rattle.dwc_native.specs.Placed.{NativeRange, is_number}
+use Rattle.dwc_native.specs.LabelRanges.{IsBefore}
 use Rattle.dwc_clif.specs.declared.value_label.ValueLocRange.{ValueLocRange}
 use Rattle.dwc_clif.specs.FlatRanges.{IsFlat}
 use Rattle.dwc_clif.specs.ValueLabels.{range_view}

@@ -5,8 +5,8 @@ use Rattle.std.specs.Option.{option_or}
 use Rattle.std.proofs.lemmas.Bool.{cases_lt, and_parts, and_from, and_left, and_right, le-leb, lt-leb, leb-true, lt-ltb, le-ltb, ltb-true}
 use Rattle.std.proofs.lemmas.List.{take-append-drop, length-drop, get_or-drop, get_or_default, drop_more, drop_all}
 use Rattle.std.proofs.lemmas.List.Elements.{All-weaker, All-more}
-use Rattle.dwc_base.specs.Compiled.{Place, LabelRange}
-use Rattle.dwc_base.specs.Placed.{is_between, last_place}
+use Rattle.dwc_native.specs.Compiled.{Place, LabelRange}
+use Rattle.dwc_native.specs.Placed.{is_between, last_place}
 use Rattle.dwc_base.proofs.InLists.{IsIn, in-append}
 use Rattle.dwc_clif.specs.FlatRanges.{IsFlat}
 use Rattle.dwc_expr.specs.PlacedParts.{EndBy}

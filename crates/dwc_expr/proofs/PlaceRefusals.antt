@@ -2,9 +2,9 @@
 use Rattle.std.proofs.Common.{◌≡◌, ℕ, ◌+◌, ◌<◌, List, ◌++◌, length, drop, get_or, Option, option_to_list, filter_map, flat_map, ap, sym, ◌∙◌}
 use Rattle.std.specs.FinMap as finite
 use Rattle.std.proofs.lemmas.List.{at_drop_more}
-use Rattle.dwc_base.specs.Compiled.{Place, no_memory}
-use Rattle.dwc_base.specs.BuiltExpressions.{BuildRefusal, register_refusal, register_refusal_at}
-use Rattle.dwc_base.specs.Refusals.{first_of}
+use Rattle.dwc_native.specs.Compiled.{Place, no_memory}
+use Rattle.dwc_native.specs.BuiltExpressions.{BuildRefusal, register_refusal, register_refusal_at}
+use Rattle.dwc_base.specs.Listing.{first_of}
 use Rattle.dwc_clif.specs.Registers.{Registers}
 use Rattle.dwc_clif.specs.declared.value_label.ValueLabel.{ValueLabel}
 use Rattle.dwc_expr.specs.declared.cached_range.CachedValueLabelRange.{CachedValueLabelRange}

@@ -6,16 +6,16 @@ use Rattle.std.specs.Option.{option_or}
 use Rattle.std.specs.FinMap as finite
 use Rattle.std.proofs.lemmas.List.{get_or-map, length-map}
 use Rattle.std.proofs.lemmas.List.Elements.{All-head, All-tail}
-use Rattle.dwc_base.specs.Compiled.{Memory, no_memory}
-use Rattle.dwc_base.specs.Functions.{Function}
-use Rattle.dwc_base.specs.Parts.{Part, CompiledParts}
-use Rattle.dwc_base.specs.Placed.{Frame, placed, same_place, label_needed, is_byte_of, NativeRange, built_parts, reads_memory}
-use Rattle.dwc_base.specs.LabelRanges.{greatest, bytes_of, ranges_among, label_ranges, all_bytes_placed}
-use Rattle.dwc_base.specs.BuiltExpressions.{Surroundings, setting_at, memory_of, memory_refusals, register_refusal, place_refusals, jump_refusals, built_on, without_memory}
-use Rattle.dwc_base.specs.Refusals.{first_of}
-use Rattle.dwc_base.specs.Runs.{interval_of}
-use Rattle.dwc_base.specs.Trees.{Location}
-use Rattle.dwc_base.proofs.LabelRangeLaws.{label-ranges}
+use Rattle.dwc_native.specs.Compiled.{Memory, no_memory}
+use Rattle.dwc_native.specs.Functions.{Function}
+use Rattle.dwc_native.specs.Parts.{Part, CompiledParts}
+use Rattle.dwc_native.specs.Placed.{Frame, placed, same_place, label_needed, is_byte_of, NativeRange, built_parts, reads_memory}
+use Rattle.dwc_native.specs.LabelRanges.{greatest, bytes_of, ranges_among, label_ranges, all_bytes_placed}
+use Rattle.dwc_native.specs.BuiltExpressions.{Surroundings, setting_at, memory_of, memory_refusals, register_refusal, place_refusals, jump_refusals, built_on, without_memory}
+use Rattle.dwc_base.specs.Listing.{first_of}
+use Rattle.dwc_native.specs.Runs.{interval_of}
+use Rattle.dwc_dwarf.specs.Trees.{Location}
+use Rattle.dwc_native.proofs.LabelRangeLaws.{label-ranges}
 use Rattle.dwc_clif.specs.Registers.{Registers}
 use Rattle.dwc_expr.specs.declared.cached_range.CachedValueLabelRange.{CachedValueLabelRange}
 use Rattle.dwc_expr.specs.LabelRanges.{bounds_of, location_in, SaysPlaces}

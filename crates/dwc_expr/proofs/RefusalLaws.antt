@@ -2,8 +2,8 @@
 use Rattle.std.proofs.Common.{◌≡◌, List, [], ◌∷◌, ◌++◌, Option, Some, None, option_to_list, refl, ap, sym, ◌∙◌}
 use Rattle.std.specs.List.{cons_option}
 use Rattle.std.specs.Option.{option_or}
-use Rattle.dwc_base.specs.BuiltExpressions.{BuildRefusal}
-use Rattle.dwc_base.specs.Refusals.{first_of}
+use Rattle.dwc_native.specs.BuiltExpressions.{BuildRefusal}
+use Rattle.dwc_base.specs.Listing.{first_of}
 use Rattle.dwc_expr.specs.declared.error.ExprError.{ExprError}
 use Rattle.dwc_expr.specs.Errors.{refusal_told}
 use Rattle.dwc_expr.specs.Refusals.{IsFirst, TellsFirst}

@@ -9,10 +9,10 @@ use Rattle.std.proofs.lemmas.List.{take_more}
 use Rattle.std.proofs.lemmas.List.Elements.{All-nil, All-cons, All-head, All-tail, All-weaker, All-push, All-map}
 use Rattle.std.proofs.lemmas.List.Kept.{AllPairs-cons}
 use Rattle.std.proofs.lemmas.List.Folds.{list_any-append}
-use Rattle.dwc_base.specs.Placed.{NativeRange, is_between, is_byte_of}
-use Rattle.dwc_base.specs.LabelRanges.{label_ranges, IsBefore, AtEachByte, AreMaximal}
-use Rattle.dwc_base.proofs.LabelRangeCoverage.{holds, hold}
-use Rattle.dwc_base.proofs.LabelRangeUnique.{maximal-ranges-are}
+use Rattle.dwc_native.specs.Placed.{NativeRange, is_between, is_byte_of}
+use Rattle.dwc_native.specs.LabelRanges.{label_ranges, IsBefore, AtEachByte, AreMaximal}
+use Rattle.dwc_native.proofs.LabelRangeCoverage.{holds, hold}
+use Rattle.dwc_native.proofs.LabelRangeUnique.{maximal-ranges-are}
 use Rattle.dwc_expr.specs.JoinedScopes.{IsInOrder, begins_in, begins_in_last, IsApart, AreApart, AreJoined, IsAdded, Adds}
 use Rattle.dwc_expr.proofs.CutWalkLaws.{IsAt, some-here}
 use Rattle.dwc_clif.proofs.ListEnds.{all-front, all-last, pairs-front, pairs-last, pairs-push, Ends, ends, last_of-end}

@@ -2,12 +2,12 @@
 use Rattle.std.proofs.Common.{◌≡◌, ℕ, ◌+◌, ◌==◌, ℤ, pos, ◌-ℤ◌, List, [], ◌∷◌, ◌++◌, Bool, true, false, ◌&&◌, ◌||◌, eqb, eq-eqb, Option, Some, None, filter_map, length, refl, ap, ◌∙◌}
 use Rattle.std.specs.Prelude.{if◌then◌else◌, ⊤}
 use Rattle.std.specs.List.{cons_option}
-use Rattle.dwc_base.specs.Compiled.{Place, Memory}
-use Rattle.dwc_base.specs.Parts.{Part, code, local, dereference, jump, landing_pad}
-use Rattle.dwc_base.specs.Placed.{label_needed}
-use Rattle.dwc_base.specs.Built.{Setting, location_bytes, value_bytes, base_place_bytes, base_added, part_bytes, part_length, pad_offset, distance_of, bytes_from, built_bytes, is_16_bit, jumps_fit_from, jumps_fit, jump_length}
-use Rattle.dwc_base.specs.BuiltExpressions.{register_refusal, register_refusal_at}
-use Rattle.dwc_base.specs.Values.{is_one_of}
+use Rattle.dwc_native.specs.Compiled.{Place, Memory}
+use Rattle.dwc_native.specs.Parts.{Part, code, local, dereference, jump, landing_pad}
+use Rattle.dwc_native.specs.Placed.{label_needed}
+use Rattle.dwc_native.specs.Built.{Setting, location_bytes, value_bytes, base_place_bytes, base_added, part_bytes, part_length, pad_offset, distance_of, bytes_from, built_bytes, is_16_bit, jumps_fit_from, jumps_fit, jump_length}
+use Rattle.dwc_native.specs.BuiltExpressions.{register_refusal, register_refusal_at}
+use Rattle.dwc_dwarf.specs.Values.{is_one_of}
 
 module _ (registers : ℕ → Option ℕ) (memory : Memory) where
   -- a setting with some places

@@ -5,10 +5,10 @@ use Rattle.std.proofs.lemmas.Bool.{lt-ltb}
 use Rattle.dwc_base.specs.declared.constants.TheConstants.{DW_OP_WASM_location, DW_OP_consts, DW_OP_lit0, DW_OP_stack_value}
 use Rattle.dwc_base.specs.declared.records.Endian.TheVariants.{Little}
 use Rattle.dwc_base.specs.Listing.{with_first, no_items}
-use Rattle.dwc_base.specs.Operations.{Operation, bytes_read, index_at, operand_at, operands_at, operation_at, operations, wasm_location_at}
-use Rattle.dwc_base.specs.Parts.{CompiledParts, compiled, compiled_behind, compiled_listing, context_label, holds_jump, is_supported, label_alone}
+use Rattle.dwc_dwarf.specs.Operations.{Operation, bytes_read, index_at, operand_at, operands_at, operation_at, operations, wasm_location_at}
+use Rattle.dwc_native.specs.Parts.{CompiledParts, compiled, compiled_behind, compiled_listing, context_label, holds_jump, is_supported, label_alone}
 use Rattle.dwc_base.specs.Reading.{Unread, ◌>>=◌, seen_as, bytes_at, number_at, sleb_at, uleb_at, uleb_value, uleb_with}
-use Rattle.dwc_base.specs.Values.{sized_number_at}
+use Rattle.dwc_dwarf.specs.Values.{sized_number_at}
 use Rattle.dwc_base.proofs.LebLaws.{uleb_at-fits}
 use Rattle.dwc_expr.specs.Located.{constant}
 use Rattle.dwc_tabs.proofs.OperationLaws.{operations-more, operations-end}

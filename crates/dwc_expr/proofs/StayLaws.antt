@@ -5,9 +5,9 @@ use Rattle.std.proofs.lemmas.Cmp.{nat_eq_equiv, int_eq_equiv}
 use Rattle.std.proofs.lemmas.Bool.{and_parts, eqb-true}
 use Rattle.std.proofs.lemmas.Bool.Decides.{Decides-int_eq}
 use Rattle.std.proofs.lemmas.List.Folds.{list_all-append}
-use Rattle.dwc_base.specs.Values.{is_one_of}
-use Rattle.dwc_base.specs.Compiled.{Place, in_register, at_frame_offset}
-use Rattle.dwc_base.specs.Placed.{Frame, placed, all_placed, same_place, all_stay}
+use Rattle.dwc_dwarf.specs.Values.{is_one_of}
+use Rattle.dwc_native.specs.Compiled.{Place, in_register, at_frame_offset}
+use Rattle.dwc_native.specs.Placed.{Frame, placed, all_placed, same_place, all_stay}
 use Rattle.dwc_base.proofs.InLists.{any-in}
 use Rattle.dwc_expr.proofs.PairLaws.{all-true}
 

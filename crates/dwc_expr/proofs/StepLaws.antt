@@ -4,8 +4,8 @@ use Rattle.std.specs.List.{list_all}
 use Rattle.std.proofs.lemmas.List.Folds.{list_all-append}
 use Rattle.dwc_base.specs.Listing.{Listing, no_items, only_fault, with_first}
 use Rattle.dwc_base.specs.Sections.{Fault}
-use Rattle.dwc_base.specs.Operations.{Operation, operations, operation_fault}
-use Rattle.dwc_base.specs.Parts.{is_supported, is_unsupported_early}
+use Rattle.dwc_dwarf.specs.Operations.{Operation, operations, operation_fault}
+use Rattle.dwc_native.specs.Parts.{is_supported, is_unsupported_early}
 use Rattle.dwc_tabs.specs.Operations.{RefusesOperation, offset_of}
 use Rattle.dwc_expr.specs.Steps.{supported_behind, supported_operations}
 

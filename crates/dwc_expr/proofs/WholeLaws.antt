@@ -4,9 +4,9 @@ use Rattle.std.specs.List.{list_any, cons_option}
 use Rattle.std.proofs.lemmas.Bool.{eqb-true, eq-eqb}
 use Rattle.std.proofs.lemmas.List.Elements.{All-nil}
 use Rattle.dwc_base.specs.NumberBytes.{uleb_bytes}
-use Rattle.dwc_base.specs.Values.{is_one_of}
-use Rattle.dwc_base.specs.Operations.{Operation, target}
-use Rattle.dwc_base.specs.Parts.{Part, code, local, dereference, jump, landing_pad, CompiledParts, Rule, loads_local, adds_to_frame_base, jumps, reads_memory, shifts_right, stays, rule_of, jump_by, jump_target, targets, has_whole_jumps, with_code, joined, as_value, base_values, parts_by, parts_of, moved_up, pad_at, parts_behind_pads, old_format, leaves_address, lone_local, label_alone, compiled_operations, is_jump, holds_jump, compiled}
+use Rattle.dwc_dwarf.specs.Values.{is_one_of}
+use Rattle.dwc_dwarf.specs.Operations.{Operation, target}
+use Rattle.dwc_native.specs.Parts.{Part, code, local, dereference, jump, landing_pad, CompiledParts, Rule, loads_local, adds_to_frame_base, jumps, reads_memory, shifts_right, stays, rule_of, jump_by, jump_target, targets, has_whole_jumps, with_code, joined, as_value, base_values, parts_by, parts_of, moved_up, pad_at, parts_behind_pads, old_format, leaves_address, lone_local, label_alone, compiled_operations, is_jump, holds_jump, compiled}
 use Rattle.dwc_base.specs.declared.constants.TheConstants.{DW_OP_plus_uconst}
 use Rattle.dwc_base.proofs.InLists.{IsIn, any-in, in-any, in-append, append-left, append-right, in-map, in-filter_map, filter_map-in, in-flat_map, flat_map-in}
 use Rattle.dwc_expr.specs.declared.error.ExprError.{ExprError}

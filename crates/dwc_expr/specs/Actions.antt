@@ -1,7 +1,7 @@
 -- What becomes of an operation that is supported, as the definitions have it.
 use Rattle.std.specs.Prelude.{◌≡◌, ◌≤◌, ℕ, ℤ, pos, int_lt, int_le, Bool, true, false, not, ◌&&◌, Option, Some, None}
-use Rattle.dwc_base.specs.Operations.{Operation, target}
-use Rattle.dwc_base.specs.Parts.{Rule, loads_local, adds_to_frame_base, jumps, reads_memory, shifts_right, stays, is_supported_by}
+use Rattle.dwc_dwarf.specs.Operations.{Operation, target}
+use Rattle.dwc_native.specs.Parts.{Rule, loads_local, adds_to_frame_base, jumps, reads_memory, shifts_right, stays, is_supported_by}
 use Rattle.dwc_expr.specs.declared.action.Action.{Action}
 use Rattle.dwc_expr.specs.declared.action.Action.TheVariants.{LoadLocal, AddToFrameBase, Jump, ReadMemory, ShiftRight, Stay}
 

@@ -4,14 +4,14 @@ use Rattle.std.specs.FinMap as finite
 use Rattle.std.specs.List.{flat_map}
 use Rattle.std.specs.Option.{option_to_list}
 use Rattle.dwc_base.specs.declared.records.Address.{Address}
-use Rattle.dwc_base.specs.Built.{location_bytes, value_bytes}
-use Rattle.dwc_base.specs.BuiltExpressions.{BuildRefusal, Surroundings, register_refusal_at}
-use Rattle.dwc_base.specs.Functions.{Function}
-use Rattle.dwc_base.specs.Parts.{Part, local}
-use Rattle.dwc_base.specs.Placed.{Frame}
-use Rattle.dwc_base.specs.Refusals.{first_of}
-use Rattle.dwc_base.specs.Runs.{interval_of}
-use Rattle.dwc_base.specs.Trees.{Location}
+use Rattle.dwc_native.specs.Built.{location_bytes, value_bytes}
+use Rattle.dwc_native.specs.BuiltExpressions.{BuildRefusal, Surroundings, register_refusal_at}
+use Rattle.dwc_native.specs.Functions.{Function}
+use Rattle.dwc_native.specs.Parts.{Part, local}
+use Rattle.dwc_native.specs.Placed.{Frame}
+use Rattle.dwc_base.specs.Listing.{first_of}
+use Rattle.dwc_native.specs.Runs.{interval_of}
+use Rattle.dwc_dwarf.specs.Trees.{Location}
 use Rattle.dwc_clif.specs.Registers.{Registers}
 use Rattle.dwc_clif.specs.ValueLabels.{place_view, range_view}
 use Rattle.dwc_clif.specs.declared.value_label.LabelValueLoc.{LabelValueLoc}

@@ -2,9 +2,9 @@
 use Rattle.std.specs.Prelude.{◌≡◌, ℕ, List, map, Option, Some, None, Result, Ok, Err}
 use Rattle.std.specs.FinMap as finite
 use Rattle.dwc_base.specs.declared.records.Address.{Address}
-use Rattle.dwc_base.specs.Functions.{Function}
-use Rattle.dwc_base.specs.Trees.{Location}
-use Rattle.dwc_base.specs.BuiltExpressions.{BuildRefusal, Surroundings, BuiltExpressions}
+use Rattle.dwc_native.specs.Functions.{Function}
+use Rattle.dwc_dwarf.specs.Trees.{Location}
+use Rattle.dwc_native.specs.BuiltExpressions.{BuildRefusal, Surroundings, BuiltExpressions}
 use Rattle.dwc_clif.specs.Registers.{Registers}
 use Rattle.dwc_write.specs.declared.expressions.Expression.{Expression}
 use Rattle.dwc_write.specs.RangeLists.{interval_of}

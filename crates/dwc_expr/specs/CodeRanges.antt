@@ -1,5 +1,5 @@
 -- Ranges of native code, as the definitions have them.
-use Rattle.dwc_base.specs.Placed.{NativeRange}
+use Rattle.dwc_native.specs.Placed.{NativeRange}
 use Rattle.dwc_expr.specs.declared.code_range.CodeRange.{CodeRange}
 
 abbrev pub code_range_view : CodeRange → NativeRange

@@ -2,7 +2,7 @@
 use Rattle.std.specs.Prelude.{◌≡◌, ℕ, ⊤, Option, Result, Ok, Err}
 use Rattle.dwc_base.specs.declared.faults.What.TheVariants.{Expression}
 use Rattle.dwc_base.specs.declared.section_name.SectionName.TheVariants.{Info}
-use Rattle.dwc_base.specs.Parts.{CompiledParts}
+use Rattle.dwc_native.specs.Parts.{CompiledParts}
 use Rattle.dwc_expr.specs.declared.error.ExprError.{ExprError}
 use Rattle.dwc_expr.specs.declared.error.ExprError.TheVariants.{Read, TooLarge, BadLabelRange, InvalidAttributeValue, UnmappedRegister, OutOfMemory}
 

@@ -1,7 +1,7 @@
 -- Copies of operations for native ranges.
 use Rattle.std.specs.Prelude.{ℕ, List}
 use Rattle.dwc_base.specs.declared.records.Address.{Address}
-use Rattle.dwc_base.specs.Trees.{Location}
+use Rattle.dwc_dwarf.specs.Trees.{Location}
 use Rattle.dwc_write.specs.RangeLists.{interval_of}
 
 -- operations at an address, for so many bytes

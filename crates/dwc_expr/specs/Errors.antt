@@ -1,6 +1,6 @@
 -- The errors of expressions, and what they tell.
 use Rattle.std.specs.Prelude.{Option, Some, None}
-use Rattle.dwc_base.specs.BuiltExpressions.{BuildRefusal, bad_label_range, without_memory, unmapped_register, jump_too_large}
+use Rattle.dwc_native.specs.BuiltExpressions.{BuildRefusal, bad_label_range, without_memory, unmapped_register, jump_too_large}
 use Rattle.dwc_expr.specs.declared.error.ExprError.{ExprError}
 use Rattle.dwc_expr.specs.declared.error.ExprError.TheVariants.{Read, TooLarge, BadLabelRange, InvalidAttributeValue, UnmappedRegister, OutOfMemory}
 

@@ -2,8 +2,8 @@
 use Rattle.std.specs.Prelude.{ℕ, [], Option, option_map}
 use Rattle.std.specs.Option.{unwrap_or}
 use Rattle.std.specs.FinMap as finite
-use Rattle.dwc_base.specs.Compiled.{Memory, no_memory, defined, imported}
-use Rattle.dwc_base.specs.Placed.{Frame}
+use Rattle.dwc_native.specs.Compiled.{Memory, no_memory, defined, imported}
+use Rattle.dwc_native.specs.Placed.{Frame}
 use Rattle.dwc_clif.specs.ValueLabels.{LabelledRanges}
 use Rattle.dwc_addr.specs.declared.memory_offset.ModuleMemoryOffset.{ModuleMemoryOffset}
 use Rattle.dwc_addr.specs.declared.memory_offset.ModuleMemoryOffset.TheVariants as offset

@@ -1,6 +1,6 @@
 -- Parts one behind another, with neighbouring bytes joined.
 use Rattle.std.specs.Prelude.{◌-◌, List, [], ◌∷◌, ◌++◌, length, slice_index_or, Bool, true, false}
-use Rattle.dwc_base.specs.Parts.{Part, code, dereference}
+use Rattle.dwc_native.specs.Parts.{Part, code, dereference}
 
 -- whether a part is bytes
 abbrev pub is_code : Part → Bool

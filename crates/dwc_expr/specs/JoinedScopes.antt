@@ -2,7 +2,7 @@
 use Rattle.std.specs.Prelude.{◌≡◌, ◌≤◌, ◌<◌, ◌⊎◌, ℕ, List, [], ◌∷◌, ◌++◌, Bool, false, ◌&&◌, ◌==◌, nat_le, All, AllPairs}
 use Rattle.std.specs.Option.{unwrap_or}
 use Rattle.dwc_base.specs.Wasm.{last_of}
-use Rattle.dwc_base.specs.Placed.{NativeRange, is_byte_of}
+use Rattle.dwc_native.specs.Placed.{NativeRange, is_byte_of}
 
 -- one range begins at or behind another's begin
 abbrev pub IsInOrder : NativeRange → NativeRange → Type 0

@@ -3,9 +3,9 @@ use Rattle.std.specs.Prelude.{◌≡◌, ℕ, ◌+◌, ◌==◌, ℤ, pos, ◌-�
 use Rattle.std.specs.BTreeMap.{get}
 use Rattle.std.specs.Option.{unwrap_or}
 use Rattle.std.specs.Ordering.{nat_cmp}
-use Rattle.dwc_base.specs.BuiltExpressions.{BuildRefusal, jump_too_large}
-use Rattle.dwc_base.specs.Built.{Setting, pad_offset, jump_length, is_16_bit, bytes_from, jumps_fit_from}
-use Rattle.dwc_base.specs.Parts.{Part, jump, landing_pad}
+use Rattle.dwc_native.specs.BuiltExpressions.{BuildRefusal, jump_too_large}
+use Rattle.dwc_native.specs.Built.{Setting, pad_offset, jump_length, is_16_bit, bytes_from, jumps_fit_from}
+use Rattle.dwc_native.specs.Parts.{Part, jump, landing_pad}
 use Rattle.dwc_expr.specs.declared.error.ExprError.{ExprError}
 use Rattle.dwc_expr.specs.declared.error.ExprError.TheVariants.{TooLarge}
 use Rattle.dwc_expr.specs.declared.pads.Pads.{Pads}

@@ -2,13 +2,13 @@
 use Rattle.std.specs.Prelude.{◌≡◌, ◌<◌, ◌^◌, ◌++◌, ℕ, List, [], ◌∷◌, map, Bool, true, false, ◌&&◌, if◌then◌else◌, Option, None, option_map, IsSome, IfSome, All, Result, Ok, Err}
 use Rattle.std.specs.BTreeMap.{get}
 use Rattle.std.specs.Ordering.{nat_cmp}
-use Rattle.dwc_base.specs.Functions.{Function}
-use Rattle.dwc_base.specs.Values.{is_one_of}
-use Rattle.dwc_base.specs.Compiled.{Place}
-use Rattle.dwc_base.specs.Parts.{Part}
-use Rattle.dwc_base.specs.Placed.{Frame, placed, label_needed, NativeRange, scope_ranges}
-use Rattle.dwc_base.specs.LabelRanges.{label_ranges, all_bytes_placed}
-use Rattle.dwc_base.specs.BuiltExpressions.{has_bad_range}
+use Rattle.dwc_native.specs.Functions.{Function}
+use Rattle.dwc_dwarf.specs.Values.{is_one_of}
+use Rattle.dwc_native.specs.Compiled.{Place}
+use Rattle.dwc_native.specs.Parts.{Part}
+use Rattle.dwc_native.specs.Placed.{Frame, placed, label_needed, NativeRange, scope_ranges}
+use Rattle.dwc_native.specs.LabelRanges.{label_ranges, all_bytes_placed}
+use Rattle.dwc_native.specs.BuiltExpressions.{has_bad_range}
 use Rattle.dwc_clif.specs.ValueLabels.{place_view}
 use Rattle.dwc_expr.specs.Frames.{ToldFrame, frame_of}
 use Rattle.dwc_expr.specs.declared.error.ExprError.{ExprError}

@@ -2,9 +2,9 @@
 use Rattle.std.specs.Prelude.{◌≡◌, ℕ, List, [], ◌∷◌, ◌++◌, Bool, true, false, if◌then◌else◌, Vec, Option, Some, None, slice_index_or, slice_set}
 use Rattle.std.specs.List.{flat_map}
 use Rattle.std.specs.Global.{Global}
-use Rattle.dwc_base.specs.Values.{is_one_of}
-use Rattle.dwc_base.specs.Operations.{Operation}
-use Rattle.dwc_base.specs.Parts.{Part, landing_pad, CompiledParts, parts_of, has_whole_jumps, targets}
+use Rattle.dwc_dwarf.specs.Values.{is_one_of}
+use Rattle.dwc_dwarf.specs.Operations.{Operation}
+use Rattle.dwc_native.specs.Parts.{Part, landing_pad, CompiledParts, parts_of, has_whole_jumps, targets}
 
 -- marks with a place marked, if there is a mark for it
 abbrev pub with_mark : ℕ → List Bool → List Bool

@@ -1,10 +1,10 @@
 -- What calls answer that put what an expression becomes behind other locations.
 use Rattle.std.specs.Prelude.{◌≡◌, ℕ, List, [], ◌∷◌, ◌++◌, map, Bool, true, false, Option, Some, None, Result, Ok, Err}
 use Rattle.dwc_base.specs.declared.records.Address.{Address}
-use Rattle.dwc_base.specs.BuiltExpressions.{BuildRefusal, BuiltExpressions, Surroundings, built_over}
-use Rattle.dwc_base.specs.Parts.{CompiledParts, code}
+use Rattle.dwc_native.specs.BuiltExpressions.{BuildRefusal, BuiltExpressions, Surroundings, built_over}
+use Rattle.dwc_native.specs.Parts.{CompiledParts, code}
 use Rattle.dwc_base.specs.Reading.{◌>>=◌}
-use Rattle.dwc_base.specs.Trees.{Location}
+use Rattle.dwc_dwarf.specs.Trees.{Location}
 use Rattle.dwc_write.specs.declared.expressions.Expression.{Expression}
 use Rattle.dwc_expr.specs.declared.error.ExprError.{ExprError}
 use Rattle.dwc_expr.specs.declared.error.ExprError.TheVariants.{OutOfMemory}

@@ -1,9 +1,9 @@
 -- What is gathered, narrowed to where one more label has a place.
 use Rattle.std.specs.Prelude.{◌≡◌, ℕ, ◌==◌, List, ◌++◌, true, false, if◌then◌else◌, slice_index_or, Option, Some, option_map, ⊤, Result, Ok, Err}
 use Rattle.std.specs.List.{AllZip}
-use Rattle.dwc_base.specs.BuiltExpressions.{has_bad_range}
-use Rattle.dwc_base.specs.Compiled.{LabelRange, Place}
-use Rattle.dwc_base.specs.Placed.{Frame, NativeRange, placed}
+use Rattle.dwc_native.specs.BuiltExpressions.{has_bad_range}
+use Rattle.dwc_native.specs.Compiled.{LabelRange, Place}
+use Rattle.dwc_native.specs.Placed.{Frame, NativeRange, placed}
 use Rattle.dwc_expr.specs.declared.cached_range.CachedValueLabelRange.{CachedValueLabelRange}
 use Rattle.dwc_expr.specs.declared.error.ExprError.{ExprError}
 use Rattle.dwc_expr.specs.declared.error.ExprError.TheVariants.{Read, TooLarge, BadLabelRange, InvalidAttributeValue, UnmappedRegister, OutOfMemory}

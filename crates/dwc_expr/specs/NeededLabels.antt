@@ -3,9 +3,9 @@ use Rattle.std.specs.Prelude.{◌≡◌, ℕ, List, ◌++◌, map, Bool, None, R
 use Rattle.std.specs.BTreeSet.{BTreeSet, contains}
 use Rattle.std.specs.List.{find, filter_map}
 use Rattle.std.specs.Ordering.{nat_cmp}
-use Rattle.dwc_base.specs.Values.{is_one_of}
-use Rattle.dwc_base.specs.BuiltExpressions.{label_refusal}
-use Rattle.dwc_base.specs.Refusals.{first_of}
+use Rattle.dwc_dwarf.specs.Values.{is_one_of}
+use Rattle.dwc_native.specs.BuiltExpressions.{label_refusal}
+use Rattle.dwc_base.specs.Listing.{first_of}
 use Rattle.dwc_clif.specs.declared.value_label.ValueLabel.{ValueLabel}
 use Rattle.dwc_expr.specs.declared.error.ExprError.{ExprError}
 use Rattle.dwc_expr.specs.declared.label_ranges.BuiltValueLabelRanges.{BuiltValueLabelRanges}

@@ -1,9 +1,9 @@
 -- The places that a frame tells of a label: of which function, and in which ranges of its code.
 use Rattle.std.specs.Prelude.{ℕ, List, [], Bool, is_some, if◌then◌else◌, Option, Some, None}
 use Rattle.std.specs.List.{list_all}
-use Rattle.dwc_base.specs.Compiled.{Place, LabelRange}
-use Rattle.dwc_base.specs.Placed.{last_place, is_number, NativeRange}
-use Rattle.dwc_base.specs.LabelRanges.{bytes_of}
+use Rattle.dwc_native.specs.Compiled.{Place, LabelRange}
+use Rattle.dwc_native.specs.Placed.{last_place, is_number, NativeRange}
+use Rattle.dwc_native.specs.LabelRanges.{bytes_of}
 use Rattle.dwc_expr.specs.Frames.{ToldFrame, frame_of}
 
 -- the number of the function in whose code values have places, if it has a symbol

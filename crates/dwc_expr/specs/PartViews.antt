@@ -1,6 +1,6 @@
 -- Compiled expressions, as the definitions have them.
 use Rattle.std.specs.Prelude.{}
-use Rattle.dwc_base.specs.Parts as definitions
+use Rattle.dwc_native.specs.Parts as definitions
 use Rattle.dwc_expr.specs.declared.part.CompiledExpressionPart.{CompiledExpressionPart}
 use Rattle.dwc_expr.specs.declared.part.CompiledExpressionPart.TheVariants.{Code, Local, Deref, Jump, LandingPad}
 

@@ -1,7 +1,7 @@
 -- Parts as they are built, as the definitions have them.
 use Rattle.std.specs.Prelude.{ℕ, List, [], ◌∷◌, ◌++◌, map, filter_map, if◌then◌else◌}
-use Rattle.dwc_base.specs.Parts.{Part, dereference}
-use Rattle.dwc_base.specs.Placed.{label_needed}
+use Rattle.dwc_native.specs.Parts.{Part, dereference}
+use Rattle.dwc_native.specs.Placed.{label_needed}
 use Rattle.dwc_expr.specs.declared.parts_to_build.PartsToBuild.{PartsToBuild}
 use Rattle.dwc_expr.specs.PartViews.{part_view}
 

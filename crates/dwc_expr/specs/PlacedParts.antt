@@ -1,8 +1,8 @@
 -- The parts of ranges of native code on which one more label has a place.
 use Rattle.std.specs.Prelude.{◌≡◌, ℕ, suc, ◌≤◌, ◌<◌, min, max, nat_lt, List, [], ◌∷◌, ◌++◌, take, length, slice_index_or, true, if◌then◌else◌, Option, Some, None, All}
 use Rattle.std.specs.List.{filter_map}
-use Rattle.dwc_base.specs.Compiled.{Place, LabelRange}
-use Rattle.dwc_base.specs.Placed.{is_number, NativeRange}
+use Rattle.dwc_native.specs.Compiled.{Place, LabelRange}
+use Rattle.dwc_native.specs.Placed.{is_number, NativeRange}
 
 -- a part of a range: the range's number among others, the part's bytes, and the place of a label there
 pub record PlacedPart : Type 0 where

@@ -3,13 +3,13 @@ use Rattle.std.specs.Prelude.{◌≡◌, ◌<◌, ◌^◌, ℕ, List, map, true,
 use Rattle.std.specs.Global.{Global}
 use Rattle.std.specs.List.{flat_map}
 use Rattle.dwc_base.specs.declared.records.Address.{Address}
-use Rattle.dwc_base.specs.Compiled.{Memory}
-use Rattle.dwc_base.specs.Built.{Setting, built_bytes, jumps_fit}
-use Rattle.dwc_base.specs.BuiltExpressions.{BuildRefusal}
-use Rattle.dwc_base.specs.Parts.{Part}
-use Rattle.dwc_base.specs.Refusals.{first_of}
-use Rattle.dwc_base.specs.Runs.{interval_of}
-use Rattle.dwc_base.specs.Trees.{Location}
+use Rattle.dwc_native.specs.Compiled.{Memory}
+use Rattle.dwc_native.specs.Built.{Setting, built_bytes, jumps_fit}
+use Rattle.dwc_native.specs.BuiltExpressions.{BuildRefusal}
+use Rattle.dwc_native.specs.Parts.{Part}
+use Rattle.dwc_base.specs.Listing.{first_of}
+use Rattle.dwc_native.specs.Runs.{interval_of}
+use Rattle.dwc_dwarf.specs.Trees.{Location}
 use Rattle.dwc_clif.specs.Registers.{Registers}
 use Rattle.dwc_write.specs.declared.expressions.Expression.{Expression}
 use Rattle.dwc_expr.specs.declared.cached_range.CachedValueLabelRange.{CachedValueLabelRange}

@@ -1,8 +1,8 @@
 -- Where parts are built on a range, as the definitions have it.
 use Rattle.std.specs.Prelude.{None}
 use Rattle.std.specs.FinMap as finite
-use Rattle.dwc_base.specs.Compiled.{Memory, no_memory}
-use Rattle.dwc_base.specs.Built.{Setting}
+use Rattle.dwc_native.specs.Compiled.{Memory, no_memory}
+use Rattle.dwc_native.specs.Built.{Setting}
 use Rattle.dwc_clif.specs.Registers.{Registers}
 use Rattle.dwc_expr.specs.declared.cached_range.CachedValueLabelRange.{CachedValueLabelRange}
 use Rattle.dwc_expr.specs.declared.setting.RangeSetting.{RangeSetting}

@@ -1,9 +1,9 @@
 -- The first of some refusals, as an error tells it.
 use Rattle.std.specs.Prelude.{◌≡◌, ℕ, List, [], ◌∷◌, ◌++◌, Bool, if◌then◌else◌, Option, Some, None, Result, Ok, Err}
 use Rattle.std.specs.List.{filter_map}
-use Rattle.dwc_base.specs.Refusals.{first_of}
-use Rattle.dwc_base.specs.Compiled.{no_memory}
-use Rattle.dwc_base.specs.BuiltExpressions.{BuildRefusal, register_refusal, without_memory}
+use Rattle.dwc_base.specs.Listing.{first_of}
+use Rattle.dwc_native.specs.Compiled.{no_memory}
+use Rattle.dwc_native.specs.BuiltExpressions.{BuildRefusal, register_refusal, without_memory}
 use Rattle.dwc_clif.specs.Registers.{Registers}
 use Rattle.dwc_expr.specs.declared.cached_range.CachedValueLabelRange.{CachedValueLabelRange}
 use Rattle.dwc_expr.specs.declared.error.ExprError.{ExprError}

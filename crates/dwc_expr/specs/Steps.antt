@@ -5,8 +5,8 @@ use Rattle.std.specs.Global.{Global}
 use Rattle.dwc_base.specs.declared.faults.What.TheVariants.{Expression}
 use Rattle.dwc_base.specs.declared.section_name.SectionName.TheVariants.{Info}
 use Rattle.dwc_base.specs.Listing.{Listing}
-use Rattle.dwc_base.specs.Operations.{Operation, operations}
-use Rattle.dwc_base.specs.Parts.{is_supported, is_unsupported_early}
+use Rattle.dwc_dwarf.specs.Operations.{Operation, operations}
+use Rattle.dwc_native.specs.Parts.{is_supported, is_unsupported_early}
 use Rattle.dwc_expr.specs.declared.error.ExprError.{ExprError}
 use Rattle.dwc_expr.specs.declared.error.ExprError.TheVariants.{Read}
 use Rattle.dwc_expr.specs.Compiles.{TellsPlace}

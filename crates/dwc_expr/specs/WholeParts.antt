@@ -1,7 +1,7 @@
 -- Parts whose jumps all arrive.
 use Rattle.std.specs.Prelude.{◌≡◌, ℕ, List, Bool, true, Option, Some, None, All, filter_map}
-use Rattle.dwc_base.specs.Values.{is_one_of}
-use Rattle.dwc_base.specs.Parts.{Part, jump, landing_pad}
+use Rattle.dwc_dwarf.specs.Values.{is_one_of}
+use Rattle.dwc_native.specs.Parts.{Part, jump, landing_pad}
 
 -- where a part jumps to, if it is a jump
 abbrev pub jump_place : Part → Option ℕ

@@ -1,8 +1,8 @@
 //! What becomes of an operation that is supported.
 ghost use Rattle.std.specs.Prelude.{◌≡◌, ◌==◌, ◌<◌, ◌^◌, ◌&&◌, nat_lt, pos, ◌+ℤ◌, if◌then◌else◌, Some, None, option_map};
 ghost use Rattle.std.specs.Int.{w64, cast_signed};
-ghost use Rattle.dwc_base.specs.Operations.{target};
-ghost use Rattle.dwc_base.specs.Parts.{context_label};
+ghost use Rattle.dwc_dwarf.specs.Operations.{target};
+ghost use Rattle.dwc_native.specs.Parts.{context_label};
 ghost use Rattle.dwc_tabs.specs.Operations.{operation_view};
 ghost use Rattle.dwc_expr.specs.Rules.{rule_view};
 ghost use Rattle.dwc_expr.specs.Actions.{GivesAction, IsReached, JumpsTo};

@@ -1,11 +1,11 @@
 //! What one local alone becomes over a scope whose native code is one range.
 ghost use Rattle.std.specs.Prelude.{◌≡◌, ◌∷◌, ◌++◌, ◌<◌, ◌^◌, [], List, Option, map, option_map, option_to_list, IfOk, IfSome, if◌then◌else◌, false, Some};
-ghost use Rattle.dwc_base.specs.Built.{location_bytes, value_bytes};
-ghost use Rattle.dwc_base.specs.BuiltExpressions.{built_on_ranges, has_bad_range};
-ghost use Rattle.dwc_base.specs.Functions.{Function};
-ghost use Rattle.dwc_base.specs.Parts.{CompiledParts};
-ghost use Rattle.dwc_base.specs.Placed.{Frame, built_parts, ranges_in_function, scope_ranges};
-ghost use Rattle.dwc_base.specs.Runs.{native_in_function};
+ghost use Rattle.dwc_native.specs.Built.{location_bytes, value_bytes};
+ghost use Rattle.dwc_native.specs.BuiltExpressions.{built_on_ranges, has_bad_range};
+ghost use Rattle.dwc_native.specs.Functions.{Function};
+ghost use Rattle.dwc_native.specs.Parts.{CompiledParts};
+ghost use Rattle.dwc_native.specs.Placed.{Frame, built_parts, ranges_in_function, scope_ranges};
+ghost use Rattle.dwc_native.specs.Runs.{native_in_function};
 ghost use Rattle.dwc_addr.specs.Translations.{with_length};
 ghost use Rattle.dwc_clif.specs.ValueLabels.{place_view, range_view};
 ghost use Rattle.dwc_expr.specs.Alone.{PutsAlone, framed, lone_part, part_at, parts_in};

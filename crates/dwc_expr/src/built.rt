@@ -1,8 +1,8 @@
 //! Builds expressions over scopes.
 ghost use Rattle.std.specs.Prelude.{◌≡◌, ◌∷◌, [], true, map, option_map};
-ghost use Rattle.dwc_base.specs.BuiltExpressions.{built_over, built_on_ranges};
-ghost use Rattle.dwc_base.specs.Parts.{CompiledParts, single_code as code_alone};
-ghost use Rattle.dwc_base.specs.Placed.{built_parts, scope_ranges};
+ghost use Rattle.dwc_native.specs.BuiltExpressions.{built_over, built_on_ranges};
+ghost use Rattle.dwc_native.specs.Parts.{CompiledParts, single_code as code_alone};
+ghost use Rattle.dwc_native.specs.Placed.{built_parts, scope_ranges};
 ghost use Rattle.dwc_expr.specs.Alone.{lone_part};
 ghost use Rattle.dwc_expr.specs.Builds.{surroundings, Builds};
 ghost use Rattle.dwc_expr.specs.LabelRanges.{has_interval};
@@ -46,7 +46,7 @@ impl CompiledExpression {
     /// some byte of the scope, and the frame's module has no memory; `UnmappedRegister` where on such a byte a value lies in a register
     /// for which the target has no number, the first in the order of bytes and then of parts. `TooLarge` where a jump would go further
     /// than 16 bits with a sign say. `OutOfMemory` for want of memory.
-    #[tactic(auto, unfolding(dwc_base::specs::BuiltExpressions::built_over))]
+    #[tactic(auto, unfolding(dwc_native::specs::BuiltExpressions::built_over))]
     pub fn build_with_locals(
         &self,
         alloc: Global,

@@ -2,9 +2,9 @@
 ghost use Rattle.std.specs.Prelude.{◌≡◌, ◌++◌, ◌∷◌, [], if◌then◌else◌, pos, true, OnOk, Some};
 ghost use Rattle.std.specs.FinMap as finite;
 ghost use Rattle.std.specs.Option.{unwrap_or};
-ghost use Rattle.dwc_base.specs.Built.{base_added, base_place_bytes, frame_address, jump_bytes, location_bytes, part_bytes, plus_offset, plus_some, register_location, register_value, value_bytes};
-ghost use Rattle.dwc_base.specs.Compiled.{in_register, at_frame_offset};
-ghost use Rattle.dwc_base.specs.Parts.{dereference};
+ghost use Rattle.dwc_native.specs.Built.{base_added, base_place_bytes, frame_address, jump_bytes, location_bytes, part_bytes, plus_offset, plus_some, register_location, register_value, value_bytes};
+ghost use Rattle.dwc_native.specs.Compiled.{in_register, at_frame_offset};
+ghost use Rattle.dwc_native.specs.Parts.{dereference};
 ghost use Rattle.dwc_clif.specs.ValueLabels.{place_view};
 ghost use Rattle.dwc_expr.specs.Frames.{memory_view};
 ghost use Rattle.dwc_expr.specs.LabelRanges.{IsPlacedOn};

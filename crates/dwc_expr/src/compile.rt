@@ -1,6 +1,6 @@
 //! Compiles expressions.
 ghost use Rattle.std.specs.Prelude.{◌≡◌, ◌<◌, ◌≤◌, ◌^◌, All, IfOk, IfSome, false, option_map};
-ghost use Rattle.dwc_base.specs.Parts.{compiled, holds_jump, leaves_address, lone_local, targets};
+ghost use Rattle.dwc_native.specs.Parts.{compiled, holds_jump, leaves_address, lone_local, targets};
 ghost use Rattle.dwc_expr.specs.Compiles.{Compiles};
 ghost use Rattle.dwc_expr.specs.Supported.{compiled_supported};
 ghost use Rattle.dwc_expr.specs.WholeParts.{JumpsLand};

@@ -1,8 +1,8 @@
 //! Operations that stay as they are, for each native range of a scope.
 ghost use Rattle.std.specs.Prelude.{◌≡◌, ◌++◌, map, IfOk, OnOk};
-ghost use Rattle.dwc_base.specs.BuiltExpressions.{copied as copied_over};
-ghost use Rattle.dwc_base.specs.Placed.{scope_intervals};
-ghost use Rattle.dwc_base.specs.Runs.{native_in_function};
+ghost use Rattle.dwc_native.specs.BuiltExpressions.{copied as copied_over};
+ghost use Rattle.dwc_native.specs.Placed.{scope_intervals};
+ghost use Rattle.dwc_native.specs.Runs.{native_in_function};
 ghost use Rattle.dwc_addr.specs.Translations.{with_lengths};
 ghost use Rattle.dwc_expr.specs.Builds.{location_view, built_view};
 ghost use Rattle.dwc_expr.specs.Copies.{copy_at};

@@ -1,8 +1,8 @@
 //! The parts of ranges of native code on which one more label has a place.
 ghost use Rattle.std.specs.Prelude.{◌≡◌, ◌≤◌, ℕ, AllPairs, IfOk, OnOk, drop, length, map, option_to_list, true};
 ghost use Rattle.std.specs.List.{AllZip};
-ghost use Rattle.dwc_base.specs.LabelRanges.{IsBefore};
-ghost use Rattle.dwc_base.specs.Placed.{is_number};
+ghost use Rattle.dwc_native.specs.LabelRanges.{IsBefore};
+ghost use Rattle.dwc_native.specs.Placed.{is_number};
 ghost use Rattle.dwc_clif.specs.ValueLabels.{place_view, range_view};
 ghost use Rattle.dwc_expr.specs.CodeRanges.{code_range_view};
 ghost use Rattle.dwc_clif.specs.FlatRanges.{IsFlat};

@@ -2,7 +2,7 @@
 ghost use Rattle.std.specs.Prelude.{◌≡◌, ◌++◌, ◌∷◌, [], OnOk, IfOk, map, option_map};
 ghost use Rattle.dwc_base.specs.NumberBytes.{uleb_bytes};
 ghost use Rattle.dwc_base.specs.declared.constants.TheConstants.{DW_OP_plus_uconst};
-ghost use Rattle.dwc_base.specs.Parts.{as_value, base_values, code, joined, old_format, parts_of};
+ghost use Rattle.dwc_native.specs.Parts.{as_value, base_values, code, joined, old_format, parts_of};
 ghost use Rattle.dwc_expr.specs.PartViews.{part_view};
 ghost use Rattle.dwc_expr.specs.Landings.{marked_pad, parts_behind_marks};
 

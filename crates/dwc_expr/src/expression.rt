@@ -1,7 +1,7 @@
 //! Compiled expressions.
 ghost use Rattle.std.specs.Prelude.{◌≡◌, IfOk, IfErr, map};
 ghost use Rattle.std.specs.List.{list_any};
-ghost use Rattle.dwc_base.specs.Parts.{context_label, is_jump, is_simple as is_simple_by, label_alone, single_code};
+ghost use Rattle.dwc_native.specs.Parts.{context_label, is_jump, is_simple as is_simple_by, label_alone, single_code};
 ghost use Rattle.dwc_expr.specs.PartViews.{part_view};
 ghost use Rattle.dwc_expr.specs.declared.error.ExprError.TheVariants.{OutOfMemory};
 
@@ -25,7 +25,7 @@ pub struct CompiledExpression {
 impl Model for CompiledExpression {
     ghost use Rattle.std.specs.Prelude.{◌≡◌, map};
     ghost use Rattle.std.specs.List.{list_any};
-    ghost use Rattle.dwc_base.specs.Parts.{CompiledParts, is_jump};
+    ghost use Rattle.dwc_native.specs.Parts.{CompiledParts, is_jump};
     ghost use Rattle.dwc_expr.specs.PartViews.{part_view};
     ghost use Rattle.dwc_expr.specs.WholeParts.{JumpsLand};
 

@@ -1,8 +1,8 @@
 //! Whether a label has a place at each byte of ranges of native code.
 ghost use Rattle.std.specs.Prelude.{◌≡◌, ◌≤◌, ◌<◌, All, AllPairs, IfSome, is_some, length, map};
 ghost use Rattle.std.specs.List.{list_all};
-ghost use Rattle.dwc_base.specs.LabelRanges.{IsBefore, bytes_of};
-ghost use Rattle.dwc_base.specs.Placed.{last_place};
+ghost use Rattle.dwc_native.specs.LabelRanges.{IsBefore, bytes_of};
+ghost use Rattle.dwc_native.specs.Placed.{last_place};
 ghost use Rattle.dwc_clif.specs.ValueLabels.{range_view};
 ghost use Rattle.dwc_expr.specs.CodeRanges.{code_range_view};
 ghost use Rattle.dwc_expr.specs.PlacedParts.{AllPassed, EndBy};

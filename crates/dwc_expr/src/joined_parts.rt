@@ -1,6 +1,6 @@
 //! Parts one behind another, with neighbouring bytes joined.
 ghost use Rattle.std.specs.Prelude.{◌≡◌, ◌++◌, ◌∷◌, [], OnOk, OnErr, map, true, false};
-ghost use Rattle.dwc_base.specs.Parts.{code, joined};
+ghost use Rattle.dwc_native.specs.Parts.{code, joined};
 ghost use Rattle.dwc_expr.specs.PartViews.{part_view};
 ghost use Rattle.dwc_expr.specs.JoinedParts.{is_code, ends_in_code, beside, behind};
 
@@ -74,7 +74,7 @@ pub(crate) struct JoinedParts {
 
 impl Model for JoinedParts {
     ghost use Rattle.std.specs.Prelude.{◌≡◌, List, map};
-    ghost use Rattle.dwc_base.specs.Parts.{Part, joined};
+    ghost use Rattle.dwc_native.specs.Parts.{Part, joined};
     ghost use Rattle.dwc_expr.specs.PartViews.{part_view};
 
     ghost Value = { List Part };

@@ -1,6 +1,6 @@
 //! On which ranges of the native code of a scope values lie at unchanged places. (DWARF 4 and 5, section 2.6.2, has lists of such.)
 ghost use Rattle.std.specs.Prelude.{◌≡◌, All, IfOk, IfErr, map, option_map};
-ghost use Rattle.dwc_base.specs.LabelRanges.{AreMaximal};
+ghost use Rattle.dwc_native.specs.LabelRanges.{AreMaximal};
 ghost use Rattle.dwc_expr.specs.declared.error.ExprError.TheVariants.{OutOfMemory};
 ghost use Rattle.dwc_expr.specs.Frames.{told_frame};
 ghost use Rattle.dwc_expr.specs.LabelRanges.{bounds_of, gathered_frame, gathered_of, has_interval, GivesRanges, HasPlaces, Processes};

@@ -2,7 +2,7 @@
 ghost use Rattle.std.specs.Prelude.{◌≡◌, ◌++◌, ◌∷◌, [], map, option_map, All, IfErr, IfOk, IfSome, OnOk, Option};
 ghost use Rattle.std.specs.List.{filter_map};
 ghost use Rattle.std.specs.Option.{option_to_list};
-ghost use Rattle.dwc_base.specs.Placed.{label_needed as label_of};
+ghost use Rattle.dwc_native.specs.Placed.{label_needed as label_of};
 ghost use Rattle.dwc_expr.specs.declared.error.ExprError.TheVariants.{OutOfMemory};
 ghost use Rattle.dwc_expr.specs.Frames.{told_frame, ToldFrame};
 ghost use Rattle.dwc_expr.specs.LabelRanges.{gathered_of, HasPlaces};

@@ -1,7 +1,7 @@
 //! Where the jumps of an expression arrive, as marks by place.
 ghost use Rattle.std.specs.Prelude.{◌≡◌, ◌+◌, ◌<◌, ◌≤◌, ◌^◌, All, replicate, IfOk, is_some, length, map, slice_index_or, false};
 ghost use Rattle.std.specs.List.{list_all, list_any};
-ghost use Rattle.dwc_base.specs.Parts.{has_whole_jumps, jump_target, targets};
+ghost use Rattle.dwc_native.specs.Parts.{has_whole_jumps, jump_target, targets};
 ghost use Rattle.dwc_expr.specs.Landings.{GivesLandings, marked_too, with_mark};
 
 use crate::step::Step;

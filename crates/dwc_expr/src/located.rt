@@ -1,10 +1,10 @@
 //! What expressions become over an interval, put behind other locations.
 ghost use Rattle.std.specs.Prelude.{◌≡◌, ◌∷◌, ◌<◌, ◌^◌, [], List, Option, map, nat_lt, option_map, false, IfErr, Ok, OnOk};
 ghost use Rattle.std.specs.List.{list_any};
-ghost use Rattle.dwc_base.specs.BuiltExpressions.{built_on_ranges, built_over, has_bad_range};
-ghost use Rattle.dwc_base.specs.Functions.{Function};
-ghost use Rattle.dwc_base.specs.Parts.{compiled, holds_jump, label_alone};
-ghost use Rattle.dwc_base.specs.Placed.{Frame};
+ghost use Rattle.dwc_native.specs.BuiltExpressions.{built_on_ranges, built_over, has_bad_range};
+ghost use Rattle.dwc_native.specs.Functions.{Function};
+ghost use Rattle.dwc_native.specs.Parts.{compiled, holds_jump, label_alone};
+ghost use Rattle.dwc_native.specs.Placed.{Frame};
 ghost use Rattle.dwc_clif.specs.FlatRanges.{Flattens, IsFlat};
 ghost use Rattle.dwc_clif.specs.Registers.{Registers};
 ghost use Rattle.dwc_clif.specs.ValueLabels.{range_view};

@@ -1,6 +1,6 @@
 //! Label ranges with the place of one more label.
 ghost use Rattle.std.specs.Prelude.{◌<◌, All, AllPairs, IfOk, map, option_map};
-ghost use Rattle.dwc_base.specs.LabelRanges.{IsBefore};
+ghost use Rattle.dwc_native.specs.LabelRanges.{IsBefore};
 ghost use Rattle.dwc_clif.specs.ValueLabels.{range_view};
 ghost use Rattle.dwc_clif.specs.FlatRanges.{IsFlat};
 ghost use Rattle.dwc_expr.specs.Frames.{told_frame};

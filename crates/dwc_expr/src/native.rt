@@ -1,7 +1,7 @@
 //! The native ranges of the intervals of a scope.
 ghost use Rattle.std.specs.Prelude.{◌≡◌, ◌++◌, ◌<◌, ◌^◌, [], All, IfOk, OnOk, map};
-ghost use Rattle.dwc_base.specs.Runs.{native_in_function};
-ghost use Rattle.dwc_base.specs.Placed.{ranges_in_function, scope_ranges};
+ghost use Rattle.dwc_native.specs.Runs.{native_in_function};
+ghost use Rattle.dwc_native.specs.Placed.{ranges_in_function, scope_ranges};
 ghost use Rattle.dwc_expr.specs.LabelRanges.{bounds_of};
 
 use crate::CachedValueLabelRange;

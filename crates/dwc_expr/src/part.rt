@@ -1,7 +1,7 @@
 //! The parts of a compiled expression.
 ghost use Rattle.std.specs.Prelude.{◌≡◌, map};
 ghost use Rattle.std.specs.List.{list_any};
-ghost use Rattle.dwc_base.specs.Parts.{is_jump};
+ghost use Rattle.dwc_native.specs.Parts.{is_jump};
 ghost use Rattle.dwc_expr.specs.PartViews.{part_view};
 
 use dwc_clif::ValueLabel;

@@ -1,8 +1,8 @@
 //! The parts of an expression as they are built.
 ghost use Rattle.std.specs.Prelude.{◌≡◌, map};
 ghost use Rattle.std.specs.List.{list_any};
-ghost use Rattle.dwc_base.specs.Parts.{is_jump};
-ghost use Rattle.dwc_base.specs.Placed.{is_dereference};
+ghost use Rattle.dwc_native.specs.Parts.{is_jump};
+ghost use Rattle.dwc_native.specs.Placed.{is_dereference};
 ghost use Rattle.dwc_expr.specs.PartViews.{part_view};
 ghost use Rattle.dwc_expr.specs.PartsToBuild.{all_parts};
 

@@ -1,6 +1,6 @@
 //! Where flat pieces begin to reach behind a byte.
 ghost use Rattle.std.specs.Prelude.{◌≤◌, ◌<◌, All, AllPairs, length, map};
-ghost use Rattle.dwc_base.specs.LabelRanges.{IsBefore};
+ghost use Rattle.dwc_native.specs.LabelRanges.{IsBefore};
 ghost use Rattle.dwc_clif.specs.FlatRanges.{IsFlat};
 ghost use Rattle.dwc_clif.specs.ValueLabels.{range_view};
 ghost use Rattle.dwc_expr.specs.LabelRanges.{bounds_of};

@@ -3,7 +3,7 @@ ghost use Rattle.std.specs.Prelude.{◌≡◌, ◌∷◌, [], All, Some, if◌th
 ghost use Rattle.std.specs.FinMap as finite;
 ghost use Rattle.std.specs.List.{flat_map};
 ghost use Rattle.std.specs.Option.{option_to_list};
-ghost use Rattle.dwc_base.specs.BuiltExpressions.{memory_refusals, register_refusal_at, without_memory};
+ghost use Rattle.dwc_native.specs.BuiltExpressions.{memory_refusals, register_refusal_at, without_memory};
 ghost use Rattle.dwc_clif.specs.ValueLabels.{place_view};
 ghost use Rattle.dwc_expr.specs.Frames.{memory_view};
 ghost use Rattle.dwc_expr.specs.LabelRanges.{HasPlaces};

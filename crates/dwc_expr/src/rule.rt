@@ -1,8 +1,8 @@
 //! What becomes of operations, by their codes.
 ghost use Rattle.std.specs.Prelude.{◌≡◌, ◌||◌, ◌&&◌, nat_le, option_map};
 ghost use Rattle.dwc_base.specs.declared.constants.TheConstants.{DW_OP_lit0, DW_OP_lit31};
-ghost use Rattle.dwc_base.specs.Values.{is_one_of};
-ghost use Rattle.dwc_base.specs.Parts.{codes_that_stay, rule_of as rule_by_code};
+ghost use Rattle.dwc_dwarf.specs.Values.{is_one_of};
+ghost use Rattle.dwc_native.specs.Parts.{codes_that_stay, rule_of as rule_by_code};
 ghost use Rattle.dwc_expr.specs.Rules.{rule_view};
 
 use dwc_base::constants::{

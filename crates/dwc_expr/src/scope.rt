@@ -1,6 +1,6 @@
 //! The native code of a scope, joined where it overlaps or touches.
 ghost use Rattle.std.specs.Prelude.{◌≡◌, ◌<◌, ◌^◌, [], None, All, AllPairs, map, IfOk, OnOk, true};
-ghost use Rattle.dwc_base.specs.LabelRanges.{label_ranges};
+ghost use Rattle.dwc_native.specs.LabelRanges.{label_ranges};
 ghost use Rattle.dwc_expr.specs.CodeRanges.{code_range_view};
 ghost use Rattle.dwc_expr.specs.LabelRanges.{bounds_of};
 ghost use Rattle.dwc_expr.specs.JoinedScopes.{IsInOrder, IsApart, AreApart, AreJoined, Adds, begins_in as range_begins_in, begins_in_last as range_begins_in_last};

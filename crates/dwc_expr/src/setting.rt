@@ -2,7 +2,7 @@
 ghost use Rattle.std.specs.Prelude.{◌≡◌, IsSome, Some, option_map};
 ghost use Rattle.dwc_clif.specs.ValueLabels.{place_view};
 ghost use Rattle.dwc_expr.specs.Frames.{frame_view, memory_view};
-ghost use Rattle.dwc_base.specs.BuiltExpressions.{memory_of as memory_in};
+ghost use Rattle.dwc_native.specs.BuiltExpressions.{memory_of as memory_in};
 ghost use Rattle.dwc_expr.specs.LabelRanges.{location_in};
 
 use crate::{CachedValueLabelRange, FunctionFrameInfo};

@@ -1,6 +1,6 @@
 //! Short expressions, by their bytes.
 ghost use Rattle.std.specs.Prelude.{◌≡◌, ◌∷◌, [], IfSome, None, Ok, Option, Some, false, true};
-ghost use Rattle.dwc_base.specs.Parts.{CompiledParts, compiled, holds_jump, label_alone};
+ghost use Rattle.dwc_native.specs.Parts.{CompiledParts, compiled, holds_jump, label_alone};
 ghost use Rattle.dwc_expr.specs.Located.{constant};
 
 use dwc_base::constants::{DW_OP_WASM_location, DW_OP_consts, DW_OP_lit0, DW_OP_stack_value};

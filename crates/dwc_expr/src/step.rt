@@ -1,7 +1,7 @@
 //! The operations of an expression that are supported.
 ghost use Rattle.std.specs.Prelude.{◌≡◌, ◌==◌, if◌then◌else◌, Some, None, option_map};
 ghost use Rattle.dwc_base.specs.declared.constants.TheConstants.{DW_OP_WASM_location};
-ghost use Rattle.dwc_base.specs.Parts.{rule_of as rule_by_code, is_supported, jump_target};
+ghost use Rattle.dwc_native.specs.Parts.{rule_of as rule_by_code, is_supported, jump_target};
 ghost use Rattle.dwc_tabs.specs.Operations.{operation_view};
 ghost use Rattle.dwc_expr.specs.Actions.{IsActionOf};
 
@@ -20,8 +20,8 @@ pub(crate) struct Step<'d> {
 }
 
 impl<'d> Model for Step<'d> {
-    ghost use Rattle.dwc_base.specs.Operations.{Operation};
-    ghost use Rattle.dwc_base.specs.Parts.{rule_of as rule_by_code};
+    ghost use Rattle.dwc_dwarf.specs.Operations.{Operation};
+    ghost use Rattle.dwc_native.specs.Parts.{rule_of as rule_by_code};
     ghost use Rattle.dwc_tabs.specs.Operations.{operation_view};
     ghost use Rattle.dwc_expr.specs.Actions.{IsActionOf};
 

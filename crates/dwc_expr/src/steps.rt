@@ -1,7 +1,7 @@
 //! Reads the operations of an expression, as far as they are supported.
 ghost use Rattle.std.specs.Prelude.{◌≡◌, ◌==◌, not, ◌&&◌, ℕ, Some, drop};
-ghost use Rattle.dwc_base.specs.Operations.{operation_fault};
-ghost use Rattle.dwc_base.specs.Parts.{is_unsupported_early};
+ghost use Rattle.dwc_dwarf.specs.Operations.{operation_fault};
+ghost use Rattle.dwc_native.specs.Parts.{is_unsupported_early};
 ghost use Rattle.dwc_read.specs.Faults.{fault_seen};
 ghost use Rattle.dwc_expr.specs.Steps.{Refuses, supported_operations, ReadsSteps};
 

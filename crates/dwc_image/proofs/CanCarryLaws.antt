@@ -12,10 +12,10 @@ use Rattle.dwc_base.specs.declared.faults.Flaw.TheVariants.{Malformed}
 use Rattle.dwc_base.specs.declared.faults.What.TheVariants.{LineTable as LineTableRead}
 use Rattle.dwc_base.specs.declared.section_name.SectionName.TheVariants.{Line}
 use Rattle.dwc_base.specs.Reading.{◌>>=◌}
-use Rattle.dwc_base.specs.LineHeaders.{LineFile, LineHeader, line_source, line_header_at, Instruction, instructions}
-use Rattle.dwc_base.specs.LineRows.{LineTable, LineStep, start, row, end, segments, line_table, line_table_at, checked_table, table_of, Effect, starts, appends, ends, effects, is_in_range, step_of, at_sequence_start, source_file, numbered, in_directory, SourceFile}
+use Rattle.dwc_dwarf.specs.LineHeaders.{LineFile, LineHeader, line_source, line_header_at, Instruction, instructions}
+use Rattle.dwc_dwarf.specs.LineRows.{LineTable, LineStep, start, row, end, segments, line_table, line_table_at, checked_table, table_of, Effect, starts, appends, ends, effects, is_in_range, step_of, at_sequence_start, source_file, numbered, in_directory, SourceFile}
 use Rattle.dwc_base.specs.Sections.{Sections, Fault, section_from, reported}
-use Rattle.dwc_base.specs.LineFiles.{names_file, has_names, is_named, has_all_files}
+use Rattle.dwc_dwarf.specs.LineFiles.{names_file, has_names, is_named, has_all_files}
 use Rattle.dwc_tabs.specs.OpenTables.{OpenLines}
 use Rattle.dwc_write.specs.SpelledLines.{FitsName}
 use Rattle.dwc_image.specs.ImageSequences.{FitsStep}

@@ -2,7 +2,7 @@
 use Rattle.std.proofs.Common.{◌≡◌, ℕ, refl, List, [], ◌∷◌, map, Bool, true, false}
 use Rattle.std.specs.Prelude.{nat_lt, suc, if◌then◌else◌, slice_get}
 use Rattle.dwc_base.specs.declared.records.LineRow.{LineRow}
-use Rattle.dwc_base.specs.LineRows.{LineTable, LineStep, start, row, end, numbered, file_numbered, named_row, rows_before, stop_behind, segments_among, segments}
+use Rattle.dwc_dwarf.specs.LineRows.{LineTable, LineStep, start, row, end, numbered, file_numbered, named_row, rows_before, stop_behind, segments_among, segments}
 use Rattle.dwc_image.specs.CarriedLines.{carried_number, carried_row, carried_step, carried_steps}
 
 -- a table as one of version 4

@@ -2,7 +2,7 @@
 -- as in version 4.
 use Rattle.std.proofs.Common.{◌≡◌, ℕ, zero, suc, List, [], ◌∷◌, map, refl}
 use Rattle.dwc_base.specs.declared.records.LineRow.{LineRow}
-use Rattle.dwc_base.specs.LineRows.{LineTable, named_row, source_file}
+use Rattle.dwc_dwarf.specs.LineRows.{LineTable, named_row, source_file}
 use Rattle.dwc_write.specs.SpelledLines.{WrittenSequence, read_segment}
 use Rattle.dwc_write.specs.GivenLines.{GivenLines}
 use Rattle.dwc_image.proofs.CarriedTables.{as_carried}

@@ -7,9 +7,9 @@ use Rattle.std.proofs.lemmas.Bool.{eq-eqb, ne_eqb, eqb-true, lt-leb, le-leb, leb
 use Rattle.std.proofs.lemmas.List.Elements.{All-cons, All-nil, All-weaker}
 use Rattle.dwc_base.specs.declared.records.Address.{Address}
 use Rattle.dwc_base.specs.declared.records.Address.TheVariants.{Constant, Symbol}
-use Rattle.dwc_base.specs.Functions.{Function, Recorded, recorded_sources}
-use Rattle.dwc_base.specs.Images.{row_of_source, row_of_last, row_of_first, StemsFrom, IsImage, IsImageOf, function_of_segment, start_of_segment, is_carried_segment}
-use Rattle.dwc_base.specs.LineRows.{Row, RowContents, Segment, row_in_force}
+use Rattle.dwc_native.specs.Functions.{Function, Recorded, recorded_sources}
+use Rattle.dwc_native.specs.Images.{row_of_source, row_of_last, row_of_first, StemsFrom, IsImage, IsImageOf, function_of_segment, start_of_segment, is_carried_segment}
+use Rattle.dwc_dwarf.specs.LineRows.{Row, RowContents, Segment, row_in_force}
 use Rattle.dwc_addr.proofs.OwnerLaws.{function_at-among}
 use Rattle.dwc_image.specs.ImageRows.{last_at, RisesFrom, found_at, moved_to, with_found, image_from, image_of, image_with_rows, image_if, IsOrdered}
 use Rattle.dwc_image.proofs.LookupLaws.{last_at-same, row_in_force-last_at}

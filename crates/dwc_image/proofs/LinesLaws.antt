@@ -5,8 +5,8 @@ use Rattle.std.proofs.lemmas.List.{append-nil, append_assoc, length-map, get_or-
 use Rattle.std.proofs.lemmas.List.Elements.{All-head, All-tail, All-push, All-nil}
 use Rattle.dwc_base.specs.declared.records.Address.{Address}
 use Rattle.dwc_base.specs.declared.records.LineRow.{LineRow}
-use Rattle.dwc_base.specs.LineRows.{LineStep, start as begin, row, end}
-use Rattle.dwc_base.specs.Functions.{Function}
+use Rattle.dwc_dwarf.specs.LineRows.{LineStep, start as begin, row, end}
+use Rattle.dwc_native.specs.Functions.{Function}
 use Rattle.dwc_write.specs.GivenLines.{GivenLines}
 use Rattle.dwc_image.specs.ImageSequences.{FitsStep, FitsFiles, AllRise, sequence_if, sequences_from, with_sequences}
 

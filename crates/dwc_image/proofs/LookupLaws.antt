@@ -6,7 +6,7 @@ use Rattle.std.specs.Option.{option_or}
 use Rattle.std.specs.Prelude.{nat_le, if◌then◌else◌, option_map, Bool, true, false}
 use Rattle.std.proofs.lemmas.Bool.{leb-true, leb-false}
 use Rattle.std.proofs.lemmas.Option.{slice_get-get_or}
-use Rattle.dwc_base.specs.LineRows.{Row, row_in_force}
+use Rattle.dwc_dwarf.specs.LineRows.{Row, row_in_force}
 use Rattle.dwc_image.specs.ImageRows.{last_at, RisesFrom}
 
 -- the thing before a place

@@ -10,11 +10,11 @@ use Rattle.dwc_base.specs.Sections.{Relocation, address_at, Sections, Fault, sec
 use Rattle.dwc_base.specs.declared.section_name.SectionName.TheVariants.{Line}
 use Rattle.dwc_base.specs.declared.faults.What.TheVariants.{LineTable as LineTableRead}
 use Rattle.dwc_base.specs.Listing.{Listing, Next, at_end, broken, passes, item, walk, walk_up_to, no_items, only_fault, with_first}
-use Rattle.dwc_base.specs.LineRows.{LineTable, line_table, line_table_at, checked_table, table_of, file_defined, effects, is_in_range, at_sequence_start}
+use Rattle.dwc_dwarf.specs.LineRows.{LineTable, line_table, line_table_at, checked_table, table_of, file_defined, effects, is_in_range, at_sequence_start}
 use Rattle.dwc_base.specs.declared.constants.TheConstants.{DW_LNE_end_sequence, DW_LNE_set_address, DW_LNE_define_file, DW_LNE_set_discriminator}
-use Rattle.dwc_base.specs.LineHeaders.{Instruction, special, end_sequence, set_address, define_file, set_discriminator, unknown, Operand, no_operand, one_uleb, one_sleb, two_bytes, standard_opcodes, operand_at, passed_operands_at, extended_at, extended_instruction_at, instruction_at, next_instruction, instructions, LineFile, LineHeader, directory_at, file_at, file_behind, LineSource, line_source, directories_of_5_at, files_of_5_at, line_names_at, line_fields_at, line_header_at}
+use Rattle.dwc_dwarf.specs.LineHeaders.{Instruction, special, end_sequence, set_address, define_file, set_discriminator, unknown, Operand, no_operand, one_uleb, one_sleb, two_bytes, standard_opcodes, operand_at, passed_operands_at, extended_at, extended_instruction_at, instruction_at, next_instruction, instructions, LineFile, LineHeader, directory_at, file_at, file_behind, LineSource, line_source, directories_of_5_at, files_of_5_at, line_names_at, line_fields_at, line_header_at}
 use Rattle.dwc_base.proofs.Items.{Leaves, LeavesFewer, items-more, items-end, items-flaw}
-use Rattle.dwc_base.proofs.Takes.{directory_at-leaves}
+use Rattle.dwc_dwarf.proofs.LineTakes.{directory_at-leaves}
 use Rattle.dwc_base.proofs.Takes.{Leaves-bind, Leaves-same, text_at-leaves}
 use Rattle.dwc_base.proofs.TakesMore.{Leaves-more, uleb_at-leaves}
 use Rattle.dwc_image.proofs.PlainNames.{Holds, holds-behind, holds-is, IsPlain, IsPlainFile, IsSome, text-plain, directory-plain, behind-name, file-plain, directories_of_5-plain, files_of_5-plain}

@@ -4,8 +4,8 @@ use Rattle.std.specs.Prelude.{All}
 use Rattle.std.proofs.lemmas.List.{append-nil, append_assoc, length-append, length-map}
 use Rattle.dwc_base.specs.declared.records.Address.{Address}
 use Rattle.dwc_base.specs.declared.records.LineRow.{LineRow}
-use Rattle.dwc_base.specs.LineRows.{LineStep, row, start as begin, end}
-use Rattle.dwc_base.specs.Functions.{Function}
+use Rattle.dwc_dwarf.specs.LineRows.{LineStep, row, start as begin, end}
+use Rattle.dwc_native.specs.Functions.{Function}
 use Rattle.dwc_tabs.specs.declared.step.LineStop.{LineStop}
 use Rattle.dwc_tabs.specs.declared.step.LineStop.TheVariants.{Start, End}
 use Rattle.dwc_tabs.specs.OpenTables.{OpenLines, step_from_one, stop_view, stopped, TakesRows}

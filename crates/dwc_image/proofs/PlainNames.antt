@@ -14,9 +14,9 @@ use Rattle.dwc_base.specs.declared.faults.Flaw.TheVariants.{EndsEarly, Malformed
 use Rattle.dwc_base.specs.Abbreviations.{AttributeSpec}
 use Rattle.dwc_base.specs.Reading.{Unread, Read, ◌>>=◌, passed, text_at, uleb_at, seen_as, counted_at}
 use Rattle.dwc_base.specs.Sections.{Relocation}
-use Rattle.dwc_base.specs.Values.{Value, constant, text, text_reference, line_reference, range_reference, location_reference, dropped, Form, addr, indexed_addr, blocks, exprloc, data_of, sdata, implicit, flag_byte, flag_present, string, string_elsewhere, reference, ref_addr, sec_offset, indexed_location, indexed_range, passed_over, supplementary, form_of, is_location_name, is_range_name, is_expression_name, section_offset, formed_value_at, form_code_at, encoded_value_at}
-use Rattle.dwc_base.specs.Texts.{TextSource, text_in, offset_of_text, texts_of_form, text_elsewhere, path_text}
-use Rattle.dwc_base.specs.LineHeaders.{LineFile, LineSource, directory_at, file_behind, file_at, EntryFormat, entry_formats_at, entry_count_at, directory_or, with_field, field_spec, entry_field_at, entry_fields_at, no_fields, file_entry_at, directory_entry_at, directories_of_5_at, files_of_5_at}
+use Rattle.dwc_dwarf.specs.Values.{Value, constant, text, text_reference, line_reference, range_reference, location_reference, dropped, Form, addr, indexed_addr, blocks, exprloc, data_of, sdata, implicit, flag_byte, flag_present, string, string_elsewhere, reference, ref_addr, sec_offset, indexed_location, indexed_range, passed_over, supplementary, form_of, is_location_name, is_range_name, is_expression_name, section_offset, formed_value_at, form_code_at, encoded_value_at}
+use Rattle.dwc_dwarf.specs.Texts.{TextSource, text_in, offset_of_text, texts_of_form, text_elsewhere, path_text}
+use Rattle.dwc_dwarf.specs.LineHeaders.{LineFile, LineSource, directory_at, file_behind, file_at, EntryFormat, entry_formats_at, entry_count_at, directory_or, with_field, field_spec, entry_field_at, entry_fields_at, no_fields, file_entry_at, directory_entry_at, directories_of_5_at, files_of_5_at}
 
 -- ---- what holds of what was read, if it was
 

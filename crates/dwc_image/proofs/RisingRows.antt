@@ -9,8 +9,8 @@ use Rattle.dwc_base.specs.declared.faults.Flaw.{Flaw}
 use Rattle.dwc_base.specs.declared.faults.Flaw.TheVariants.{Malformed}
 use Rattle.dwc_base.specs.declared.section_name.SectionName.TheVariants.{Line}
 use Rattle.dwc_base.specs.declared.faults.What.TheVariants.{LineTable as LineTableRead}
-use Rattle.dwc_base.specs.LineHeaders.{LineHeader, line_source, line_header_at, Instruction, special, copy, advance_pc, advance_line, set_file, set_column, negate_stmt, set_basic_block, const_add_pc, fixed_advance_pc, set_prologue_end, set_epilogue_begin, set_isa, end_sequence, set_address, define_file, set_discriminator, unknown, instructions}
-use Rattle.dwc_base.specs.LineRows.{Row, Segment, Registers, LineTable, at_sequence_start, after_row, by_special, after, effects, is_in_range, step_of, rows_before, segment_if, with_segment, segments_among, segments, table_of, checked_table, line_table_at, line_table}
+use Rattle.dwc_dwarf.specs.LineHeaders.{LineHeader, line_source, line_header_at, Instruction, special, copy, advance_pc, advance_line, set_file, set_column, negate_stmt, set_basic_block, const_add_pc, fixed_advance_pc, set_prologue_end, set_epilogue_begin, set_isa, end_sequence, set_address, define_file, set_discriminator, unknown, instructions}
+use Rattle.dwc_dwarf.specs.LineRows.{Row, Segment, Registers, LineTable, at_sequence_start, after_row, by_special, after, effects, is_in_range, step_of, rows_before, segment_if, with_segment, segments_among, segments, table_of, checked_table, line_table_at, line_table}
 use Rattle.dwc_base.specs.Listing.{Listing}
 use Rattle.dwc_base.specs.Reading.{Unread, ◌>>=◌}
 use Rattle.dwc_base.specs.Sections.{Sections, section_from, reported}

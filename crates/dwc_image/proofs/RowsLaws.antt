@@ -3,7 +3,7 @@ use Rattle.std.proofs.Common.{◌≡◌, ℕ, ◌-◌, ◌≤◌, refl, ◌∙�
 use Rattle.std.specs.Option.{option_or}
 use Rattle.std.specs.Prelude.{nat_le, ◌==◌, if◌then◌else◌, option_map, Bool, true, false, All}
 use Rattle.std.proofs.lemmas.List.Elements.{All-nil, All-cons, All-head, All-tail}
-use Rattle.dwc_base.specs.Functions.{Recorded}
+use Rattle.dwc_native.specs.Functions.{Recorded}
 use Rattle.dwc_image.specs.ImageRows.{last_at, RisesFrom, found_at, is_repeated, placed_at, with_found, rows_from}
 use Rattle.dwc_addr.proofs.RisingLaws.{RisesFrom-weaker}
 use Rattle.dwc_image.proofs.LookupLaws.{last_at-map}

@@ -6,7 +6,7 @@ use Rattle.std.proofs.lemmas.Bool.{ltb-true, ltb-false, le-leb, lt-leb, eq-eqb, 
 use Rattle.std.proofs.lemmas.List.{drop_more, length-drop, get_or_default, get_or-take, get_or-drop, length-take-le}
 use Rattle.std.proofs.lemmas.List.Sorted.{IsPartitionedBy-ltb}
 use Rattle.dwc_base.specs.declared.records.LineRow.{LineRow}
-use Rattle.dwc_base.specs.Functions.{Recorded}
+use Rattle.dwc_native.specs.Functions.{Recorded}
 use Rattle.dwc_addr.specs.declared.address_map.AddressMap.{AddressMap}
 use Rattle.dwc_addr.specs.Runs.{recorded_view, run_starts}
 use Rattle.dwc_image.specs.ImageRows.{last_at, found_at, with_found, move_row, image_rows}

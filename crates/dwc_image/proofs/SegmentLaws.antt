@@ -8,10 +8,10 @@ use Rattle.std.proofs.lemmas.List.Elements.{All-head, All-tail}
 use Rattle.dwc_base.specs.declared.records.Address.{Address}
 use Rattle.dwc_base.specs.declared.records.Address.TheVariants.{Constant, Symbol}
 use Rattle.dwc_base.specs.declared.records.LineRow.{LineRow}
-use Rattle.dwc_base.specs.LineRows.{LineStep, start as begin, row, end, LineTable, Row, Segment, named_row, rows_before, stop_behind, segment_if, with_segment, segments_among, segments}
-use Rattle.dwc_base.specs.Functions.{Function, function_at, recorded_sources}
-use Rattle.dwc_base.specs.Images.{is_carried_segment, IsImageOf}
-use Rattle.dwc_base.specs.Widest.{widest_image, most_rows}
+use Rattle.dwc_dwarf.specs.LineRows.{LineStep, start as begin, row, end, LineTable, Row, Segment, named_row, rows_before, stop_behind, segment_if, with_segment, segments_among, segments}
+use Rattle.dwc_native.specs.Functions.{Function, function_at, recorded_sources}
+use Rattle.dwc_native.specs.Images.{is_carried_segment, IsImageOf}
+use Rattle.dwc_output.specs.Widest.{widest_image, most_rows}
 use Rattle.dwc_write.specs.SpelledLines.{read_segment}
 use Rattle.dwc_write.specs.GivenLines.{GivenLines, no_lines}
 use Rattle.dwc_write.specs.ReadBack.{given_segments}

@@ -10,9 +10,9 @@ use Rattle.std.proofs.lemmas.List.Elements.{All-nil, All-cons, All-head, All-tai
 use Rattle.dwc_base.specs.declared.records.Address.{Address}
 use Rattle.dwc_base.specs.declared.records.Address.TheVariants.{Symbol}
 use Rattle.dwc_base.specs.declared.records.LineRow.{LineRow}
-use Rattle.dwc_base.specs.Functions.{Function, Recorded, recorded_sources}
-use Rattle.dwc_base.specs.SimulatedLines.{IsSimulated, row_of_recorded, simulated_rows, simulated_segment}
-use Rattle.dwc_base.proofs.SimulatedLineLaws.{rise_from_first, simulated_segment-is}
+use Rattle.dwc_native.specs.Functions.{Function, Recorded, recorded_sources}
+use Rattle.dwc_output.specs.SimulatedLines.{IsSimulated, row_of_recorded, simulated_rows, simulated_segment}
+use Rattle.dwc_output.proofs.SimulatedLineLaws.{rise_from_first, simulated_segment-is}
 use Rattle.dwc_addr.specs.declared.address_map.AddressMap.{AddressMap}
 use Rattle.dwc_addr.specs.declared.function_map.FunctionMap.{FunctionMap}
 use Rattle.dwc_addr.specs.Runs.{recorded_view}

@@ -1,15 +1,15 @@
 -- What the line program of a unit carries of a line table.
 use Rattle.std.specs.Prelude.{◌≡◌, ℕ, suc, ◌≤◌, List, map, ◌++◌, nat_lt, if◌then◌else◌, Some, None, Ok, true}
 use Rattle.std.specs.List.{filter, AllZip}
-use Rattle.dwc_base.specs.LineHeaders.{LineFile}
+use Rattle.dwc_dwarf.specs.LineHeaders.{LineFile}
 use Rattle.dwc_base.specs.declared.records.LineRow.{LineRow}
 use Rattle.dwc_base.specs.Sections.{Sections}
-use Rattle.dwc_base.specs.LineRows.{LineTable, LineStep, start, row, end, segments, line_table}
-use Rattle.dwc_base.specs.LineFiles.{has_all_files}
-use Rattle.dwc_base.specs.Functions.{Function, AddressMap, functions_of}
+use Rattle.dwc_dwarf.specs.LineRows.{LineTable, LineStep, start, row, end, segments, line_table}
+use Rattle.dwc_dwarf.specs.LineFiles.{has_all_files}
+use Rattle.dwc_native.specs.Functions.{Function, AddressMap, functions_of}
 use Rattle.dwc_addr.specs.Transforms.{first_bad_map}
-use Rattle.dwc_base.specs.Images.{is_carried_segment, IsImageOf}
-use Rattle.dwc_base.specs.Widest.{widest_table}
+use Rattle.dwc_native.specs.Images.{is_carried_segment, IsImageOf}
+use Rattle.dwc_output.specs.Widest.{widest_table}
 use Rattle.dwc_write.specs.WidestGiven.{widest_table_for}
 use Rattle.dwc_write.specs.SpelledLines.{FitsName}
 use Rattle.dwc_write.specs.ReadBack.{given_segments}

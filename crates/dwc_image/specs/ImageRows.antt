@@ -3,10 +3,10 @@ use Rattle.std.specs.Prelude.{ℕ, ◌-◌, ◌==◌, ◌≤◌, pos, nat_le, na
 use Rattle.std.specs.Option.{option_or}
 use Rattle.dwc_base.specs.declared.records.Address.TheVariants.{Symbol}
 use Rattle.dwc_base.specs.declared.records.LineRow.{LineRow}
-use Rattle.dwc_base.specs.LineRows.{Row, Segment}
-use Rattle.dwc_base.specs.Functions.{Function, Recorded, recorded_sources}
+use Rattle.dwc_dwarf.specs.LineRows.{Row, Segment}
+use Rattle.dwc_native.specs.Functions.{Function, Recorded, recorded_sources}
 pub use Rattle.dwc_addr.specs.Rising.{RisesFrom}
-use Rattle.dwc_base.specs.Images.{function_of_segment, start_of_segment}
+use Rattle.dwc_native.specs.Images.{function_of_segment, start_of_segment}
 
 -- The last thing of a list, in order, whose number is at most o.
 abbrev pub last_at : {X : Type 0} → (X → ℕ) → List X → ℕ → Option X

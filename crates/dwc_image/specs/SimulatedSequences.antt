@@ -4,7 +4,7 @@ use Rattle.std.specs.Borrow.{Bor}
 use Rattle.std.specs.Prelude.{ℕ, ◌+◌, ◌<◌, ◌^◌, pos, List, [], ◌∷◌, map, Bool, true, false, Some, None, All}
 use Rattle.dwc_base.specs.declared.records.Address.TheVariants.{Symbol}
 use Rattle.dwc_base.specs.declared.records.LineRow.{LineRow}
-use Rattle.dwc_base.specs.Functions.{Function, Recorded, recorded_sources}
+use Rattle.dwc_native.specs.Functions.{Function, Recorded, recorded_sources}
 use Rattle.dwc_addr.specs.declared.function_map.FunctionMap.{FunctionMap}
 use Rattle.dwc_addr.specs.Transforms.{function_view}
 use Rattle.dwc_write.specs.SpelledLines.{WrittenSequence}

@@ -1,7 +1,7 @@
 //! The line program of functions without debugging information.
 ghost use Rattle.std.specs.Prelude.{◌≡◌, ◌<◌, ◌+◌, ◌^◌, [], ◌∷◌, map, None, false, IsSome, OnOk, IfOk, IsOkUnless, length, All};
 ghost use Rattle.std.specs.List.{AllZip};
-ghost use Rattle.dwc_base.specs.SimulatedLines.{IsSimulated};
+ghost use Rattle.dwc_output.specs.SimulatedLines.{IsSimulated};
 ghost use Rattle.dwc_addr.specs.Runs.{recorded_view};
 ghost use Rattle.dwc_addr.specs.Transforms.{function_view};
 ghost use Rattle.dwc_write.specs.SpelledLines.{FitsName};

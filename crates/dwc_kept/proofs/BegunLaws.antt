@@ -9,14 +9,14 @@ use Rattle.dwc_base.specs.declared.constants.TheConstants.{DW_AT_ranges}
 use Rattle.dwc_base.specs.Reading.{◌>>=◌}
 use Rattle.dwc_base.specs.Sections.{Sections, Fault, reported}
 use Rattle.dwc_base.specs.Units.{UnitHeader}
-use Rattle.dwc_base.specs.Values.{Value, address, address_index, constant, flag, block, text, text_reference, unit_reference, info_reference, line_reference, dropped, expression, range_reference, range_index, location_reference, location_index}
-use Rattle.dwc_base.specs.Entries.{Entry, attribute}
-use Rattle.dwc_base.specs.Indexed.{address_indexed, address_named}
-use Rattle.dwc_base.specs.Refusals.{first_of}
-use Rattle.dwc_base.specs.Trees.{Interval}
-use Rattle.dwc_base.specs.RawLists.{ListSource, ListPlace, list_named, is_range_list}
-use Rattle.dwc_base.specs.Lists.{list_source, address_among, list_of_value, ranges_at, ranges_of_value}
-use Rattle.dwc_base.specs.RangeAttributes.{listed_intervals}
+use Rattle.dwc_dwarf.specs.Values.{Value, address, address_index, constant, flag, block, text, text_reference, unit_reference, info_reference, line_reference, dropped, expression, range_reference, range_index, location_reference, location_index}
+use Rattle.dwc_dwarf.specs.Entries.{Entry, attribute}
+use Rattle.dwc_dwarf.specs.Indexed.{address_indexed, address_named}
+use Rattle.dwc_base.specs.Listing.{first_of}
+use Rattle.dwc_dwarf.specs.Trees.{Interval}
+use Rattle.dwc_dwarf.specs.RawLists.{ListSource, ListPlace, list_named, is_range_list}
+use Rattle.dwc_dwarf.specs.Lists.{list_source, address_among, list_of_value, ranges_at, ranges_of_value}
+use Rattle.dwc_rules.specs.RangeAttributes.{listed_intervals}
 use Rattle.dwc_read.specs.declared.fault.ReadFault.{ReadFault}
 use Rattle.dwc_read.specs.declared.fault.ReadFault.TheVariants.{Read, Unsupported, OutOfMemory}
 use Rattle.dwc_read.specs.Bases.{address_of_value}

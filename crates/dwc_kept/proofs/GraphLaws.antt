@@ -5,14 +5,14 @@ use Rattle.std.specs.Option.{option_or}
 use Rattle.std.specs.List.{filter, flat_map, filter_map, list_any, take_while, cons_option, prefix_len}
 use Rattle.std.proofs.lemmas.Bool.{eqb-true, eq-eqb, ne_eqb, cases_Bool, cases_order, cases_eq, ltb-true, ltb-false, and_from, and_parts, and_left, and_right, not_from_false}
 use Rattle.std.proofs.lemmas.List.{length_push, length-map, get_or_append_left, get_or_push, append-nil, map-append, take-append-le, take-map, take_all, length-take, get_or-take, same_lists}
-use Rattle.dwc_base.specs.Values.{Value, address, address_index, constant, flag, block, expression, text, text_reference, line_reference, range_reference, range_index, location_reference, location_index, unit_reference, info_reference, dropped}
-use Rattle.dwc_base.specs.Entries.{Entry, entries}
+use Rattle.dwc_dwarf.specs.Values.{Value, address, address_index, constant, flag, block, expression, text, text_reference, line_reference, range_reference, range_index, location_reference, location_index, unit_reference, info_reference, dropped}
+use Rattle.dwc_dwarf.specs.Entries.{Entry, entries}
 use Rattle.dwc_base.specs.Sections.{Sections, Fault}
 use Rattle.dwc_base.specs.Units.{UnitHeader, unit_headers}
-use Rattle.dwc_base.specs.Functions.{Function}
+use Rattle.dwc_native.specs.Functions.{Function}
 use Rattle.dwc_base.specs.Wasm.{last_of}
-use Rattle.dwc_base.specs.Kept.{Placed, same_place, parent_of, is_parent, names_entry, refers_to, is_part_tag, is_part_of, keeps}
-use Rattle.dwc_base.specs.EntryRules.{is_required}
+use Rattle.dwc_rules.specs.Kept.{Placed, same_place, parent_of, is_parent, names_entry, refers_to, is_part_tag, is_part_of, keeps}
+use Rattle.dwc_rules.specs.EntryRules.{is_required}
 use Rattle.dwc_base.specs.declared.records.Endian.TheVariants.{Little}
 use Rattle.dwc_base.specs.Listing.{Listing}
 use Rattle.dwc_base.specs.declared.constants.TheConstants.{DW_AT_sibling, DW_TAG_constant, DW_TAG_namespace, DW_TAG_variable}
@@ -22,8 +22,9 @@ use Rattle.dwc_kept.specs.ReadEntries.{ReadSoFar, none_read, last_above, with_la
 use Rattle.dwc_kept.specs.ReadGraphs.{Standing, standing, placed, IsModuleGraph, units_of}
 use Rattle.dwc_kept.specs.ReadingSeen.{IsRead}
 use Rattle.dwc_kept.specs.ReadUnits.{unit_read}
-use Rattle.dwc_base.specs.Carried.{Unit, placed_entries, units_of_headers, units}
-use Rattle.dwc_base.specs.UnitOffsets.{StandFrom}
+use Rattle.dwc_rules.specs.Carried.{placed_entries}
+use Rattle.dwc_dwarf.specs.ReadUnits.{Unit, units_of_headers, units}
+use Rattle.dwc_dwarf.specs.UnitOffsets.{StandFrom}
 use Rattle.dwc_kept.proofs.LastLaws.{last-here, last-other}
 use Rattle.dwc_kept.proofs.ReadLaws.{first-unit, first-fault}
 use Rattle.dwc_kept.proofs.MarkLaws.{same-truth}

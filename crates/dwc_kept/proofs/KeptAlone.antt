@@ -4,14 +4,14 @@ use Rattle.std.specs.Prelude.{◌==◌}
 use Rattle.std.specs.List.{filter, All, AllZip}
 use Rattle.dwc_base.specs.Sections.{Sections}
 use Rattle.dwc_base.specs.Units.{UnitHeader, unit_headers}
-use Rattle.dwc_base.specs.Entries.{Entry, entries}
-use Rattle.dwc_base.specs.EntryRules.{is_required}
-use Rattle.dwc_base.specs.Carried.{Module}
-use Rattle.dwc_base.specs.Kept.{Placed}
-use Rattle.dwc_base.specs.Forests.{kept_of}
-use Rattle.dwc_base.proofs.ExpressionPlaceLaws.{EntryStands, entries-stand}
+use Rattle.dwc_dwarf.specs.Entries.{Entry, entries}
+use Rattle.dwc_rules.specs.EntryRules.{is_required}
+use Rattle.dwc_rules.specs.Carried.{Module}
+use Rattle.dwc_rules.specs.Kept.{Placed}
+use Rattle.dwc_rules.specs.CarriedUnits.{kept_of}
+use Rattle.dwc_dwarf.proofs.ExpressionPlaceLaws.{EntryStands, entries-stand}
 use Rattle.dwc_base.proofs.InLists.{IsIn, filter-in, in-map}
-use Rattle.dwc_base.proofs.UnitsMade.{all-in}
+use Rattle.dwc_rules.proofs.AllIn.{all-in}
 use Rattle.dwc_read.proofs.LoneLaws.{IsReadThere, lone_entry-read}
 use Rattle.dwc_kept.specs.declared.kept_units.KeptModule.{KeptModule}
 use Rattle.dwc_kept.specs.declared.read_unit.ReadUnit.{ReadUnit}

@@ -7,11 +7,11 @@ use Rattle.dwc_base.specs.Listing.{Listing, only_fault}
 use Rattle.dwc_base.specs.Sections.{Sections, Fault}
 use Rattle.dwc_base.specs.Abbreviations.{Declaration, declaration_of, abbreviation_table}
 use Rattle.dwc_base.specs.Units.{UnitHeader}
-use Rattle.dwc_base.specs.Values.{Value}
-use Rattle.dwc_base.specs.Entries.{Entry, Found, EntryPlace, entry_place, place_behind, root_place, attributes_at, declared_entry_at, entry_at, entries_from, entries}
+use Rattle.dwc_dwarf.specs.Values.{Value}
+use Rattle.dwc_dwarf.specs.Entries.{Entry, Found, EntryPlace, entry_place, place_behind, root_place, attributes_at, declared_entry_at, entry_at, entries_from, entries}
 use Rattle.dwc_base.proofs.Items.{LeavesFewer}
-use Rattle.dwc_base.proofs.TakesValues.{entry_at-leaves}
-use Rattle.dwc_base.proofs.EntryWalk.{entries_from-none, entries_from-end, entries_from-fault, entries_from-siblings, entries_from-entry}
+use Rattle.dwc_dwarf.proofs.TakesValues.{entry_at-leaves}
+use Rattle.dwc_dwarf.proofs.EntryWalk.{entries_from-none, entries_from-end, entries_from-fault, entries_from-siblings, entries_from-entry}
 use Rattle.dwc_kept.specs.KeptUnits.{AreBelow, IsTree}
 
 -- the depths of entries

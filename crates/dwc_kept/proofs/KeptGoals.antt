@@ -5,21 +5,22 @@ use Rattle.std.specs.Option.{option_or, is_some}
 use Rattle.std.specs.List.{filter, list_any, position_from}
 use Rattle.std.proofs.lemmas.Bool.{true≢false, eqb-true, leb-true, ltb-true, and_parts}
 use Rattle.std.proofs.lemmas.Iterator.Adapters.{position_from-zero}
-use Rattle.dwc_base.specs.Trees.{place_among}
-use Rattle.dwc_base.specs.Entries.{Entry}
-use Rattle.dwc_base.specs.Drafts.{Role, Draft, itself}
-use Rattle.dwc_base.specs.DraftForests.{role_number, is_made_of}
-use Rattle.dwc_base.specs.Carried.{Unit, Module}
-use Rattle.dwc_base.specs.Kept.{Placed}
-use Rattle.dwc_base.specs.KeptModules.{kept_in}
-use Rattle.dwc_base.specs.Scopes.{Rises}
-use Rattle.dwc_base.specs.LocationRules.{ExpressionSource}
-use Rattle.dwc_base.specs.EntryRules.{is_required}
-use Rattle.dwc_base.specs.Wrappers.{is_wrapped}
-use Rattle.dwc_base.specs.CarriedDrafts.{source_of, unit_drafts, carried_drafts}
-use Rattle.dwc_base.specs.Forests.{kept_of}
+use Rattle.dwc_dwarf.specs.Trees.{place_among}
+use Rattle.dwc_dwarf.specs.Entries.{Entry}
+use Rattle.dwc_rules.specs.Drafts.{Role, Draft, itself}
+use Rattle.dwc_rules.specs.DraftForests.{role_number, is_made_of}
+use Rattle.dwc_rules.specs.Carried.{Module}
+use Rattle.dwc_dwarf.specs.ReadUnits.{Unit}
+use Rattle.dwc_rules.specs.Kept.{Placed}
+use Rattle.dwc_rules.specs.KeptModules.{kept_in}
+use Rattle.dwc_rules.specs.Scopes.{Rises}
+use Rattle.dwc_rules.specs.LocationRules.{ExpressionSource}
+use Rattle.dwc_rules.specs.EntryRules.{is_required}
+use Rattle.dwc_rules.specs.Wrappers.{is_wrapped}
+use Rattle.dwc_rules.specs.CarriedDrafts.{source_of, unit_drafts, carried_drafts}
+use Rattle.dwc_rules.specs.CarriedUnits.{kept_of}
 use Rattle.dwc_base.proofs.InLists.{IsIn, any-in, append-right, in-filter, map-in}
-use Rattle.dwc_base.proofs.MadePlaces.{many, is_source, sources-once, made-many, made-place, made-nowhere}
+use Rattle.dwc_rules.proofs.MadePlaces.{many, is_source, sources-once, made-many, made-place, made-nowhere}
 use Rattle.dwc_kept.specs.declared.kept_units.KeptModule.{KeptModule}
 use Rattle.dwc_kept.specs.declared.read_unit.ReadUnit.{ReadUnit}
 use Rattle.dwc_kept.specs.KeptUnits.{kept_of_unit, is_in_unit}

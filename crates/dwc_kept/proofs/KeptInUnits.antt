@@ -5,12 +5,13 @@ use Rattle.std.specs.List.{filter, list_any}
 use Rattle.std.proofs.lemmas.Bool.{eq-eqb, ne_eqb, lt-ltb}
 use Rattle.std.proofs.lemmas.List.{length-map}
 use Rattle.std.proofs.lemmas.List.Elements.{filter-append, All-nil, All-cons}
-use Rattle.dwc_base.specs.Entries.{Entry}
-use Rattle.dwc_base.specs.Carried.{Unit, Module, placed_entries, units}
-use Rattle.dwc_base.specs.Kept.{Placed, keeps}
-use Rattle.dwc_base.specs.KeptEntries.{has_place}
-use Rattle.dwc_base.specs.KeptModules.{KeptModule, kept_module, kept_in, entries_passing}
-use Rattle.dwc_base.specs.UnitOffsets.{RiseIn}
+use Rattle.dwc_dwarf.specs.Entries.{Entry}
+use Rattle.dwc_rules.specs.Carried.{Module, placed_entries}
+use Rattle.dwc_dwarf.specs.ReadUnits.{Unit, units}
+use Rattle.dwc_rules.specs.Kept.{Placed, keeps}
+use Rattle.dwc_rules.specs.KeptEntries.{has_place}
+use Rattle.dwc_rules.specs.KeptModules.{KeptModule, kept_module, kept_in, entries_passing}
+use Rattle.dwc_dwarf.specs.UnitOffsets.{RiseIn}
 use Rattle.dwc_kept.specs.KeptUnits.{offsets_kept, stands_at, kept_of_unit, is_in_unit, AreEntryOffsets}
 use Rattle.dwc_base.proofs.InLists.{IsIn, in-at, in-append, append-left, append-right, in-filter}
 use Rattle.dwc_kept.proofs.KeptLaws.{in-place, kept-closed}

@@ -3,8 +3,8 @@ use Rattle.std.proofs.Common.{◌≡◌, ℕ, zero, suc, ◌+◌, ◌<◌, ◌�
 use Rattle.std.specs.Prelude.{◌==◌, ◌||◌, not, AllPairs}
 use Rattle.std.specs.List.{filter, list_any}
 use Rattle.std.proofs.lemmas.Bool.{eq-eqb, eqb-true, or_left, or_right, or_cases, not_from_false, false_from_ne_true, cases_Bool}
-use Rattle.dwc_base.specs.Kept.{Placed, same_place, is_among, keeps, kept_step, steps_of}
-use Rattle.dwc_base.specs.KeptEntries.{kept_with, has_place, KeptAreLeast}
+use Rattle.dwc_rules.specs.Kept.{Placed, same_place, is_among, keeps, kept_step, steps_of}
+use Rattle.dwc_rules.specs.KeptEntries.{kept_with, has_place, KeptAreLeast}
 use Rattle.dwc_base.proofs.InLists.{IsIn, contains-in, in-contains, any-in, in-any, in-filter, filter-in, filter-few, none-passes, fewer-or-same, distinct-same}
 
 -- an entry that is among some, by its place

@@ -6,15 +6,16 @@ use Rattle.std.proofs.lemmas.Bool.{eqb-true}
 use Rattle.std.proofs.lemmas.List.{length-map}
 use Rattle.dwc_base.specs.Sections.{Sections}
 use Rattle.dwc_base.specs.Units.{UnitHeader, unit_headers}
-use Rattle.dwc_base.specs.Entries.{Entry}
-use Rattle.dwc_base.specs.EntryRules.{is_required}
-use Rattle.dwc_base.specs.Carried.{Module, is_carried_unit, root}
-use Rattle.dwc_base.specs.Kept.{Placed}
-use Rattle.dwc_base.specs.Targets.{target_of}
-use Rattle.dwc_base.specs.Trees.{place_among}
-use Rattle.dwc_base.specs.Values.{Value}
-use Rattle.dwc_base.specs.KeptModules.{carried_in, kept_in}
-use Rattle.dwc_base.specs.Forests.{kept_of}
+use Rattle.dwc_dwarf.specs.Entries.{Entry}
+use Rattle.dwc_rules.specs.EntryRules.{is_required}
+use Rattle.dwc_rules.specs.Carried.{Module, is_carried_unit}
+use Rattle.dwc_dwarf.specs.ReadUnits.{root}
+use Rattle.dwc_rules.specs.Kept.{Placed}
+use Rattle.dwc_rules.specs.Targets.{target_of}
+use Rattle.dwc_dwarf.specs.Trees.{place_among}
+use Rattle.dwc_dwarf.specs.Values.{Value}
+use Rattle.dwc_rules.specs.KeptModules.{carried_in, kept_in}
+use Rattle.dwc_rules.specs.CarriedUnits.{kept_of}
 use Rattle.dwc_kept.specs.declared.kept_units.KeptModule.{KeptModule}
 use Rattle.dwc_kept.specs.declared.read_unit.ReadUnit.{ReadUnit}
 use Rattle.dwc_kept.specs.KeptUnits.{offsets_kept, kept_of_unit, is_in_unit, IsTree, AreEntryOffsets}

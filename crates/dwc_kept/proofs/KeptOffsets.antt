@@ -3,8 +3,8 @@ use Rattle.std.proofs.Common.{◌≡◌, ℕ, zero, suc, ◌<◌, ◌≢◌, Lis
 use Rattle.std.specs.Prelude.{◌||◌, AllPairs}
 use Rattle.std.specs.List.{filter, list_any}
 use Rattle.std.proofs.lemmas.List.{length-map}
-use Rattle.dwc_base.specs.Kept.{Placed, is_among, keeps, kept_step, steps_of}
-use Rattle.dwc_base.specs.KeptEntries.{kept_with, has_place}
+use Rattle.dwc_rules.specs.Kept.{Placed, is_among, keeps, kept_step, steps_of}
+use Rattle.dwc_rules.specs.KeptEntries.{kept_with, has_place}
 use Rattle.dwc_kept.specs.EntryGraphs.{Node, is_marked, OffsetsAreKept, marked_of}
 use Rattle.dwc_base.proofs.InLists.{IsIn, contains-in, in-contains, in-filter, filter-in, distinct-same}
 use Rattle.dwc_kept.proofs.KeptLaws.{place-in, in-place}

@@ -2,11 +2,11 @@
 use Rattle.std.proofs.Common.{◌≡◌, List, subst, Result, Ok, Err}
 use Rattle.dwc_base.specs.Sections.{Sections}
 use Rattle.dwc_base.specs.Units.{unit_headers}
-use Rattle.dwc_base.specs.EntryRules.{named_faults}
-use Rattle.dwc_base.specs.ReachedEntries.{info_faults}
-use Rattle.dwc_base.specs.Refusals.{first_of}
-use Rattle.dwc_base.specs.Functions.{Function}
-use Rattle.dwc_base.specs.Carried.{units}
+use Rattle.dwc_rules.specs.EntryRules.{named_faults}
+use Rattle.dwc_rules.specs.ReachedEntries.{info_faults}
+use Rattle.dwc_base.specs.Listing.{first_of}
+use Rattle.dwc_native.specs.Functions.{Function}
+use Rattle.dwc_dwarf.specs.ReadUnits.{units}
 use Rattle.dwc_read.specs.Views.{UnitsView}
 use Rattle.dwc_read.specs.declared.fault.ReadFault.{ReadFault}
 use Rattle.dwc_kept.specs.declared.kept_units.KeptModule.{KeptModule}

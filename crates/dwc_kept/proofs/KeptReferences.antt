@@ -5,13 +5,13 @@ use Rattle.std.specs.Option.{option_or}
 use Rattle.std.specs.List.{find, position, prefix_len}
 use Rattle.std.proofs.lemmas.Bool.{eq-eqb, ne_eqb, eqb-true, lt-ltb, le-ltb, le-leb, ltb-true, ltb-false, not_from_false, and_from, and_parts, false_from_ne_true}
 use Rattle.std.proofs.lemmas.List.Elements.{All-weaker}
-use Rattle.dwc_base.specs.Trees.{place_among}
-use Rattle.dwc_base.specs.Values.{Value, address, address_index, constant, flag, block, expression, text, text_reference, line_reference, range_reference, range_index, location_reference, location_index, unit_reference, info_reference, dropped}
-use Rattle.dwc_base.specs.Carried.{Unit}
-use Rattle.dwc_base.specs.Kept.{Placed, names_entry}
-use Rattle.dwc_base.specs.KeptEntries.{has_place}
-use Rattle.dwc_base.specs.KeptModules.{KeptModule}
-use Rattle.dwc_base.specs.Targets.{target_of}
+use Rattle.dwc_dwarf.specs.Trees.{place_among}
+use Rattle.dwc_dwarf.specs.Values.{Value, address, address_index, constant, flag, block, expression, text, text_reference, line_reference, range_reference, range_index, location_reference, location_index, unit_reference, info_reference, dropped}
+use Rattle.dwc_dwarf.specs.ReadUnits.{Unit}
+use Rattle.dwc_rules.specs.Kept.{Placed, names_entry}
+use Rattle.dwc_rules.specs.KeptEntries.{has_place}
+use Rattle.dwc_rules.specs.KeptModules.{KeptModule}
+use Rattle.dwc_rules.specs.Targets.{target_of}
 use Rattle.dwc_kept.specs.ReadEntries.{small_offset, named_offset}
 use Rattle.dwc_kept.specs.KeptUnits.{is_in_unit, AreEntryOffsets}
 use Rattle.dwc_base.proofs.InLists.{IsIn}

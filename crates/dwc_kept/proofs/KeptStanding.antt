@@ -5,15 +5,16 @@ use Rattle.std.proofs.lemmas.Bool.{eq-eqb, eqb-true, le-leb, lt-ltb, leb-true, l
 use Rattle.dwc_base.specs.Listing.{Listing}
 use Rattle.dwc_base.specs.Sections.{Sections, Fault}
 use Rattle.dwc_base.specs.Units.{UnitHeader, unit_headers}
-use Rattle.dwc_base.specs.Entries.{Entry, entries}
-use Rattle.dwc_base.specs.Carried.{Unit, placed_entries, units_of_headers, units}
-use Rattle.dwc_base.specs.Kept.{Placed}
-use Rattle.dwc_base.specs.UnitOffsets.{RiseIn, StandFrom}
+use Rattle.dwc_dwarf.specs.Entries.{Entry, entries}
+use Rattle.dwc_rules.specs.Carried.{placed_entries}
+use Rattle.dwc_dwarf.specs.ReadUnits.{Unit, units_of_headers, units}
+use Rattle.dwc_rules.specs.Kept.{Placed}
+use Rattle.dwc_dwarf.specs.UnitOffsets.{RiseIn, StandFrom}
 use Rattle.dwc_kept.specs.KeptUnits.{is_in_unit, IsTree}
 use Rattle.dwc_base.proofs.InLists.{IsIn, in-append}
 use Rattle.dwc_kept.proofs.MarkLaws.{same-truth}
 use Rattle.dwc_kept.proofs.ReadLaws.{first-unit, first-fault}
-use Rattle.dwc_base.proofs.UnitOffsets.{units-stand}
+use Rattle.dwc_dwarf.proofs.UnitOffsets.{units-stand}
 use Rattle.dwc_kept.proofs.KeptDepths.{depths_of, unit-tree}
 
 -- Units one behind another, from a place on, each with entries that stand in it at the depths of a tree.

@@ -6,11 +6,12 @@ use Rattle.std.specs.List.{filter, take_while, prefix_len}
 use Rattle.std.proofs.lemmas.Bool.{eq-eqb, ne_eqb, not_from_false, cases_eq}
 use Rattle.std.proofs.lemmas.List.Elements.{filter-append}
 use Rattle.dwc_base.specs.Wasm.{last_of}
-use Rattle.dwc_base.specs.Entries.{Entry}
-use Rattle.dwc_base.specs.Carried.{Unit, placed_entries, root}
-use Rattle.dwc_base.specs.Kept.{Placed, same_place, parent_of, is_parent, refers_to, is_part_of, keeps}
-use Rattle.dwc_base.specs.KeptEntries.{has_place}
-use Rattle.dwc_base.specs.KeptModules.{KeptModule}
+use Rattle.dwc_dwarf.specs.Entries.{Entry}
+use Rattle.dwc_rules.specs.Carried.{placed_entries}
+use Rattle.dwc_dwarf.specs.ReadUnits.{Unit, root}
+use Rattle.dwc_rules.specs.Kept.{Placed, same_place, parent_of, is_parent, refers_to, is_part_of, keeps}
+use Rattle.dwc_rules.specs.KeptEntries.{has_place}
+use Rattle.dwc_rules.specs.KeptModules.{KeptModule}
 use Rattle.dwc_kept.specs.KeptUnits.{offsets_kept, stands_at, kept_of_unit, AreBelow, IsTree}
 use Rattle.dwc_base.proofs.InLists.{IsIn, append-right}
 use Rattle.dwc_kept.proofs.KeptOffsets.{filter-same}

@@ -6,16 +6,16 @@ use Rattle.std.specs.Option.{is_some}
 use Rattle.std.proofs.lemmas.Bool.{true≢false, eqb-true, and_parts}
 use Rattle.std.proofs.lemmas.Iterator.Adapters.{position_from-zero}
 use Rattle.dwc_base.specs.declared.constants.TheConstants.{DW_AT_sibling, DW_AT_type}
-use Rattle.dwc_base.specs.Entries.{attribute}
-use Rattle.dwc_base.specs.Values.{Value, address, address_index, block, constant, dropped, expression, flag, info_reference, line_reference, location_index, location_reference, range_index, range_reference, text, text_reference, unit_reference}
-use Rattle.dwc_base.specs.Kept.{Placed, names_entry, is_parent, refers_to, is_part_of, keeps}
-use Rattle.dwc_base.specs.Targets.{target_of}
-use Rattle.dwc_base.specs.TypeNames.{target_in_unit, type_of}
-use Rattle.dwc_base.specs.EntryRules.{is_required}
-use Rattle.dwc_base.specs.Carried.{Module}
-use Rattle.dwc_base.specs.Forests.{kept_of}
-use Rattle.dwc_base.specs.Trees.{place_among}
-use Rattle.dwc_base.specs.KeptEntries.{has_place}
+use Rattle.dwc_dwarf.specs.Entries.{attribute}
+use Rattle.dwc_dwarf.specs.Values.{Value, address, address_index, block, constant, dropped, expression, flag, info_reference, line_reference, location_index, location_reference, range_index, range_reference, text, text_reference, unit_reference}
+use Rattle.dwc_rules.specs.Kept.{Placed, names_entry, is_parent, refers_to, is_part_of, keeps}
+use Rattle.dwc_rules.specs.Targets.{target_of}
+use Rattle.dwc_rules.specs.TypeNames.{target_in_unit, type_of}
+use Rattle.dwc_rules.specs.EntryRules.{is_required}
+use Rattle.dwc_rules.specs.Carried.{Module}
+use Rattle.dwc_rules.specs.CarriedUnits.{kept_of}
+use Rattle.dwc_dwarf.specs.Trees.{place_among}
+use Rattle.dwc_rules.specs.KeptEntries.{has_place}
 use Rattle.dwc_base.proofs.InLists.{IsIn, any-in, in-any, in-filter, filter-in}
 use Rattle.dwc_kept.specs.declared.kept_units.KeptModule.{KeptModule}
 use Rattle.dwc_kept.specs.declared.read_unit.ReadUnit.{ReadUnit}

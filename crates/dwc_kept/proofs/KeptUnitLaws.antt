@@ -2,14 +2,15 @@
 use Rattle.std.proofs.Common.{◌≡◌, ℕ, ◌^◌, ◌<◌, List, ◌∷◌, length, map, refl, Bool, Some, None, All}
 use Rattle.std.specs.Prelude.{◌==◌, nat_lt, AllPairs, option_and_then}
 use Rattle.std.specs.List.{filter, list_any}
-use Rattle.dwc_base.specs.Trees.{place_among}
-use Rattle.dwc_base.specs.Values.{Value}
-use Rattle.dwc_base.specs.Entries.{Entry}
-use Rattle.dwc_base.specs.Carried.{Unit, Module, placed_entries, units, root}
-use Rattle.dwc_base.specs.Kept.{Placed}
-use Rattle.dwc_base.specs.KeptModules.{kept_module, kept_in}
-use Rattle.dwc_base.specs.Forests.{kept_of}
-use Rattle.dwc_base.specs.Targets.{target_of}
+use Rattle.dwc_dwarf.specs.Trees.{place_among}
+use Rattle.dwc_dwarf.specs.Values.{Value}
+use Rattle.dwc_dwarf.specs.Entries.{Entry}
+use Rattle.dwc_rules.specs.Carried.{Module, placed_entries}
+use Rattle.dwc_dwarf.specs.ReadUnits.{Unit, units, root}
+use Rattle.dwc_rules.specs.Kept.{Placed}
+use Rattle.dwc_rules.specs.KeptModules.{kept_module, kept_in}
+use Rattle.dwc_rules.specs.CarriedUnits.{kept_of}
+use Rattle.dwc_rules.specs.Targets.{target_of}
 use Rattle.dwc_kept.specs.ReadEntries.{named_offset}
 use Rattle.dwc_kept.specs.ReadGraphs.{kept_offsets}
 use Rattle.dwc_kept.specs.KeptUnits.{offsets_kept, kept_of_unit, is_in_unit, IsTree, AreEntryOffsets}

@@ -6,17 +6,17 @@ use Rattle.dwc_base.specs.declared.constants.TheConstants.{DW_AT_low_pc, DW_AT_r
 use Rattle.dwc_base.specs.Listing.{Listing}
 use Rattle.dwc_base.specs.Sections.{Sections, Fault}
 use Rattle.dwc_base.specs.Units.{UnitHeader}
-use Rattle.dwc_base.specs.Values.{Value, address, address_index, constant, flag, block, expression, text, text_reference, line_reference, range_reference, range_index, location_reference, location_index, unit_reference, info_reference, dropped}
-use Rattle.dwc_base.specs.Entries.{Entry, attribute}
-use Rattle.dwc_base.specs.EntryRules.{is_required as is_needed, named_faults}
-use Rattle.dwc_base.specs.Functions.{Function}
-use Rattle.dwc_base.specs.Lists.{list_source}
-use Rattle.dwc_base.specs.RangeKept.{begins_in_code, is_required, list_shows_code}
-use Rattle.dwc_base.specs.RangeRefusals.{index_fault, list_faults}
-use Rattle.dwc_base.specs.ReachedEntries.{listing_faults}
-use Rattle.dwc_base.specs.Carried.{line_offset}
-use Rattle.dwc_base.specs.Refusals.{first_of}
-use Rattle.dwc_base.specs.UnitOffsets.{RiseIn}
+use Rattle.dwc_dwarf.specs.Values.{Value, address, address_index, constant, flag, block, expression, text, text_reference, line_reference, range_reference, range_index, location_reference, location_index, unit_reference, info_reference, dropped}
+use Rattle.dwc_dwarf.specs.Entries.{Entry, attribute}
+use Rattle.dwc_rules.specs.EntryRules.{is_required as is_needed, named_faults}
+use Rattle.dwc_native.specs.Functions.{Function}
+use Rattle.dwc_dwarf.specs.Lists.{list_source}
+use Rattle.dwc_rules.specs.RangeKept.{begins_in_code, is_required, list_shows_code}
+use Rattle.dwc_rules.specs.RangeRefusals.{index_fault, list_faults}
+use Rattle.dwc_rules.specs.ReachedEntries.{listing_faults}
+use Rattle.dwc_dwarf.specs.ReadUnits.{line_offset}
+use Rattle.dwc_base.specs.Listing.{first_of}
+use Rattle.dwc_dwarf.specs.UnitOffsets.{RiseIn}
 use Rattle.dwc_read.specs.declared.fault.ReadFault.{ReadFault}
 use Rattle.dwc_read.specs.EntriesSeen.{BeginsWith}
 use Rattle.dwc_read.specs.Links.{is_reference, is_link_name, is_link, with_links, linked}

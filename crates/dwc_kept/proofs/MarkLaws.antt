@@ -3,8 +3,8 @@ use Rattle.std.proofs.Common.{◌≡◌, ℕ, zero, suc, ◌<◌, ◌⊎◌, ◌
 use Rattle.std.specs.Prelude.{◌==◌, AllPairs, if◌then◌else◌}
 use Rattle.std.proofs.lemmas.Bool.{cases_order, eqb-true, eqb-false}
 use Rattle.std.proofs.lemmas.List.{get_or_default, length-map}
-use Rattle.dwc_base.specs.Kept.{Placed, keeps}
-use Rattle.dwc_base.specs.KeptEntries.{kept_with, has_place}
+use Rattle.dwc_rules.specs.Kept.{Placed, keeps}
+use Rattle.dwc_rules.specs.KeptEntries.{kept_with, has_place}
 use Rattle.dwc_kept.specs.EntryGraphs.{Node, is_marked, Holds, IsClosedIn, AreLeastMarks, IsGraphOf, SayWhich, MarksAreKept}
 use Rattle.dwc_base.proofs.InLists.{IsIn, at-in, in-at, contains-in, in-contains}
 use Rattle.dwc_kept.proofs.KeptLaws.{place-in, in-place, kept-closed, kept-required, kept-least}

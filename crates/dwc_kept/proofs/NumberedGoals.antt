@@ -5,20 +5,21 @@ use Rattle.std.specs.Option.{option_or, is_some}
 use Rattle.std.specs.List.{list_any, AllZip}
 use Rattle.std.proofs.lemmas.Bool.{true≢false, eqb-true, eq-eqb, lt-ltb, and_parts}
 use Rattle.std.proofs.lemmas.Iterator.Adapters.{position_from-zero}
-use Rattle.dwc_base.specs.Trees.{place_among}
-use Rattle.dwc_base.specs.Drafts.{Role, itself, pointer_to_wrapper, reference_to_target, pointer_to_target, Goal, made_of, own_entry, Draft}
-use Rattle.dwc_base.specs.DraftForests.{role_number, is_made_of, place_of_goal}
-use Rattle.dwc_base.specs.Carried.{Module}
-use Rattle.dwc_base.specs.Compiled.{Memory, no_memory, defined, imported}
-use Rattle.dwc_base.specs.OwnUnits.{own_unit, place_of_context_pointer, place_of_wasm_pointer}
-use Rattle.dwc_base.specs.Kept.{Placed}
-use Rattle.dwc_base.specs.KeptModules.{kept_in}
-use Rattle.dwc_base.specs.Wrappers.{is_wrapped}
-use Rattle.dwc_base.specs.CarriedDrafts.{source_of, carried_drafts}
-use Rattle.dwc_base.specs.Forests.{kept_of, expressions_of, module_drafts}
+use Rattle.dwc_dwarf.specs.Trees.{place_among}
+use Rattle.dwc_rules.specs.Drafts.{Role, itself, pointer_to_wrapper, reference_to_target, pointer_to_target, Goal, made_of, own_entry, Draft}
+use Rattle.dwc_rules.specs.DraftForests.{role_number, is_made_of, place_of_goal}
+use Rattle.dwc_rules.specs.Carried.{Module}
+use Rattle.dwc_native.specs.Compiled.{Memory, no_memory, defined, imported}
+use Rattle.dwc_rules.specs.OwnUnits.{own_unit, place_of_context_pointer, place_of_wasm_pointer}
+use Rattle.dwc_rules.specs.Kept.{Placed}
+use Rattle.dwc_rules.specs.KeptModules.{kept_in}
+use Rattle.dwc_rules.specs.Wrappers.{is_wrapped}
+use Rattle.dwc_rules.specs.CarriedDrafts.{source_of, carried_drafts}
+use Rattle.dwc_rules.specs.ModuleDrafts.{expressions_of, module_drafts}
+use Rattle.dwc_rules.specs.CarriedUnits.{kept_of}
 use Rattle.dwc_base.proofs.InLists.{IsIn, any-in, in-filter}
-use Rattle.dwc_base.proofs.ForestTargets.{GoalsHave}
-use Rattle.dwc_base.proofs.MadePlaces.{many, is_source, made-many}
+use Rattle.dwc_rules.proofs.GoalsHave.{GoalsHave}
+use Rattle.dwc_rules.proofs.MadePlaces.{many, is_source, made-many}
 use Rattle.dwc_kept.specs.declared.kept_units.KeptModule.{KeptModule}
 use Rattle.dwc_kept.specs.declared.read_unit.ReadUnit.{ReadUnit}
 use Rattle.dwc_kept.specs.ReadUnits.{unit_read, IsKeptModule, is_carried_read}

@@ -13,14 +13,14 @@ use Rattle.dwc_base.specs.declared.faults.Flaw.TheVariants.{EndsEarly, TooWide, 
 use Rattle.dwc_base.specs.Listing.{Listing, no_items, only_fault, with_first}
 use Rattle.dwc_base.specs.Sections.{Sections, Fault, fault_of, reported}
 use Rattle.dwc_base.specs.Units.{UnitHeader}
-use Rattle.dwc_base.specs.Values.{Value, address_index}
-use Rattle.dwc_base.specs.Indexed.{address_indexed, address_in_unit}
-use Rattle.dwc_base.specs.Functions.{Function}
-use Rattle.dwc_base.specs.Refusals.{first_of}
-use Rattle.dwc_base.specs.RawLists.{ListSource, ListPlace, list_named, list_fault, is_range_list, RawEntry, base_addressx, startx_endx, startx_length, offset_pair, default_location, base_address, start_end, start_length, pair, base_selection, raw_ranges}
-use Rattle.dwc_base.specs.Lists.{list_source}
-use Rattle.dwc_base.specs.RangeKept.{can_translate, base_known, shows_code, some_shows_code, base_beside, found_shows_code, list_shows_code, begins_in_code}
-use Rattle.dwc_base.specs.RangeRefusals.{flaw_in, index_fault, indexes_named, found_list_faults, list_faults}
+use Rattle.dwc_dwarf.specs.Values.{Value, address_index}
+use Rattle.dwc_dwarf.specs.Indexed.{address_indexed, address_in_unit}
+use Rattle.dwc_native.specs.Functions.{Function}
+use Rattle.dwc_base.specs.Listing.{first_of}
+use Rattle.dwc_dwarf.specs.RawLists.{ListSource, ListPlace, list_named, list_fault, is_range_list, RawEntry, base_addressx, startx_endx, startx_length, offset_pair, default_location, base_address, start_end, start_length, pair, base_selection, raw_ranges}
+use Rattle.dwc_dwarf.specs.Lists.{list_source}
+use Rattle.dwc_rules.specs.RangeKept.{can_translate, base_known, shows_code, some_shows_code, base_beside, found_shows_code, list_shows_code, begins_in_code}
+use Rattle.dwc_rules.specs.RangeRefusals.{flaw_in, index_fault, indexes_named, found_list_faults, list_faults}
 use Rattle.dwc_read.specs.declared.fault.ReadFault.{ReadFault}
 use Rattle.dwc_read.specs.Faults.{fault_seen, fault_at, Refuses}
 use Rattle.dwc_tabs.specs.RangeLists.{RangeEntriesView, range_list_named, Tells}

@@ -9,16 +9,18 @@ use Rattle.std.proofs.lemmas.List.Elements.{All-push, All-weaker, All-nil}
 use Rattle.dwc_base.specs.Listing.{Listing, no_items, only_fault, with_first}
 use Rattle.dwc_base.specs.Sections.{Sections, Fault}
 use Rattle.dwc_base.specs.Units.{UnitHeader}
-use Rattle.dwc_base.specs.Entries.{Entry, entries}
-use Rattle.dwc_base.specs.Refusals.{first_of, table_offset}
-use Rattle.dwc_base.specs.ReachedEntries.{listing_faults}
-use Rattle.dwc_base.specs.Carried.{Unit, units_of_headers, has_root_tag, root}
+use Rattle.dwc_dwarf.specs.Entries.{Entry, entries}
+use Rattle.dwc_rules.specs.Refusals.{table_offset}
+use Rattle.dwc_base.specs.Listing.{first_of}
+use Rattle.dwc_rules.specs.ReachedEntries.{listing_faults}
+use Rattle.dwc_rules.specs.Carried.{has_root_tag}
+use Rattle.dwc_dwarf.specs.ReadUnits.{Unit, units_of_headers, root}
 use Rattle.dwc_base.specs.declared.constants.TheConstants.{DW_TAG_compile_unit}
 use Rattle.dwc_read.specs.Views.{UnitView, UnitsView}
 use Rattle.dwc_kept.specs.EntryGraphs.{Node}
 use Rattle.dwc_kept.specs.declared.last_at.LastAt.{LastAt}
 use Rattle.dwc_kept.specs.declared.read_unit.ReadUnit.{ReadUnit}
-use Rattle.dwc_base.specs.UnitOffsets.{RiseIn, StandFrom}
+use Rattle.dwc_dwarf.specs.UnitOffsets.{RiseIn, StandFrom}
 use Rattle.dwc_kept.specs.declared.read_unit.RootEntry.{RootEntry}
 use Rattle.dwc_kept.specs.RootsSaid.{root_said, first_said, has_tag, table_named}
 use Rattle.dwc_kept.specs.ReadEntries.{ReadSoFar, none_read, with_entry_read, with_entries_read, with_units_read, AreAmong, StandBefore, TellsFirst, headers_faults}

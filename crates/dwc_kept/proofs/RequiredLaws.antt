@@ -6,13 +6,14 @@ use Rattle.std.proofs.lemmas.Bool.{cases_order}
 use Rattle.std.proofs.lemmas.List.{length-map, length-append, get_or_default}
 use Rattle.std.proofs.lemmas.List.Elements.{All-nil, All-cons, All-map}
 use Rattle.dwc_base.specs.Sections.{Sections}
-use Rattle.dwc_base.specs.Entries.{Entry}
-use Rattle.dwc_base.specs.EntryRules.{is_required}
-use Rattle.dwc_base.specs.Functions.{Function}
-use Rattle.dwc_base.specs.Carried.{Unit, placed_entries}
-use Rattle.dwc_base.specs.Kept.{Placed}
-use Rattle.dwc_base.specs.KeptEntries.{has_place, kept_with}
-use Rattle.dwc_base.specs.KeptModules.{entries_passing}
+use Rattle.dwc_dwarf.specs.Entries.{Entry}
+use Rattle.dwc_rules.specs.EntryRules.{is_required}
+use Rattle.dwc_native.specs.Functions.{Function}
+use Rattle.dwc_rules.specs.Carried.{placed_entries}
+use Rattle.dwc_dwarf.specs.ReadUnits.{Unit}
+use Rattle.dwc_rules.specs.Kept.{Placed}
+use Rattle.dwc_rules.specs.KeptEntries.{has_place, kept_with}
+use Rattle.dwc_rules.specs.KeptModules.{entries_passing}
 use Rattle.dwc_kept.specs.EntryGraphs.{Node, SayWhich, AreKeptOffsets, marked_of}
 use Rattle.dwc_kept.specs.ReadGraphs.{IsModuleGraph, offsets_kept_of, AreLeastOffsets}
 use Rattle.dwc_base.proofs.InLists.{IsIn, in-at, contains-in, in-contains}

@@ -5,10 +5,11 @@ use Rattle.std.proofs.lemmas.List.{map-append}
 use Rattle.dwc_base.specs.Listing.{Listing}
 use Rattle.dwc_base.specs.Sections.{Sections, Fault}
 use Rattle.dwc_base.specs.Units.{UnitHeader}
-use Rattle.dwc_base.specs.Entries.{Entry, entries}
-use Rattle.dwc_base.specs.Carried.{Unit, placed_entries, units_of_headers}
-use Rattle.dwc_base.specs.Kept.{Placed}
-use Rattle.dwc_base.specs.UnitOffsets.{RiseIn, StandFrom}
+use Rattle.dwc_dwarf.specs.Entries.{Entry, entries}
+use Rattle.dwc_rules.specs.Carried.{placed_entries}
+use Rattle.dwc_dwarf.specs.ReadUnits.{Unit, units_of_headers}
+use Rattle.dwc_rules.specs.Kept.{Placed}
+use Rattle.dwc_dwarf.specs.UnitOffsets.{RiseIn, StandFrom}
 use Rattle.dwc_kept.specs.ReadGraphs.{Standing, standing, placed}
 use Rattle.dwc_base.proofs.InLists.{IsIn, at-in, in-append}
 use Rattle.dwc_kept.proofs.ReadLaws.{first-unit, first-fault}

@@ -1,8 +1,8 @@
 -- What entries keep, by their numbers in file order. (This project's own rule, of `dwc_base/specs/Kept`.)
 use Rattle.std.specs.Prelude.{◌≡◌, ◌≢◌, AllPairs, Contains, ℕ, ◌<◌, ◌==◌, List, [], ◌∷◌, length, get_or, map, if◌then◌else◌, Bool, false, ◌&&◌, ◌||◌, IsTrue, Option, Some, None}
 use Rattle.std.specs.List.{list_any}
-use Rattle.dwc_base.specs.Kept.{Placed, keeps}
-use Rattle.dwc_base.specs.KeptEntries.{has_place, kept_with}
+use Rattle.dwc_rules.specs.Kept.{Placed, keeps}
+use Rattle.dwc_rules.specs.KeptEntries.{has_place, kept_with}
 
 -- An entry: its offset in `.debug_info`, the number of its parent, the offsets that its references name, and whether it is a part of
 -- its parent.

@@ -2,10 +2,10 @@
 use Rattle.std.specs.Prelude.{◌≡◌, ℕ, suc, ◌<◌, ◌≤◌, ◌^◌, ◌==◌, List, [], ◌∷◌, map, Bool, true, nat_lt, nat_le, ◌&&◌, All}
 use Rattle.std.specs.List.{filter, list_any}
 use Rattle.dwc_base.specs.Units.{UnitHeader}
-use Rattle.dwc_base.specs.Entries.{Entry}
-use Rattle.dwc_base.specs.Carried.{Unit}
-use Rattle.dwc_base.specs.KeptEntries.{has_place}
-use Rattle.dwc_base.specs.KeptModules.{KeptModule}
+use Rattle.dwc_dwarf.specs.Entries.{Entry}
+use Rattle.dwc_dwarf.specs.ReadUnits.{Unit}
+use Rattle.dwc_rules.specs.KeptEntries.{has_place}
+use Rattle.dwc_rules.specs.KeptModules.{KeptModule}
 
 -- the offsets of a module's kept entries, in file order
 abbrev pub offsets_kept : KeptModule → List ℕ

@@ -5,10 +5,10 @@ use Rattle.dwc_base.specs.declared.section_name.SectionName.{SectionName}
 use Rattle.dwc_base.specs.declared.faults.What.TheVariants.{RangeList}
 use Rattle.dwc_base.specs.Sections.{Fault, unreadable, unsupported}
 use Rattle.dwc_base.specs.Listing.{Listing}
-use Rattle.dwc_base.specs.Functions.{Function}
-use Rattle.dwc_base.specs.RawLists.{ListSource, ListPlace, list_fault, RawEntry, base_addressx, startx_endx, startx_length}
-use Rattle.dwc_base.specs.RangeKept.{base_known, shows_code}
-use Rattle.dwc_base.specs.RangeRefusals.{flaw_in, indexes_faults}
+use Rattle.dwc_native.specs.Functions.{Function}
+use Rattle.dwc_dwarf.specs.RawLists.{ListSource, ListPlace, list_fault, RawEntry, base_addressx, startx_endx, startx_length}
+use Rattle.dwc_rules.specs.RangeKept.{base_known, shows_code}
+use Rattle.dwc_rules.specs.RangeRefusals.{flaw_in, indexes_faults}
 use Rattle.dwc_kept.specs.declared.range_code.CodeSeen.{CodeSeen}
 
 -- a place in a section

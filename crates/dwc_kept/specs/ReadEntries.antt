@@ -3,11 +3,11 @@ use Rattle.std.specs.Prelude.{◌≡◌, ℕ, zero, suc, ◌+◌, ◌-◌, ◌<�
 use Rattle.std.specs.List.{filter_map, flat_map}
 use Rattle.dwc_base.specs.Sections.{Sections, Fault}
 use Rattle.dwc_base.specs.Listing.{Listing}
-use Rattle.dwc_base.specs.ReachedEntries.{listing_faults}
+use Rattle.dwc_rules.specs.ReachedEntries.{listing_faults}
 use Rattle.dwc_base.specs.Units.{UnitHeader}
-use Rattle.dwc_base.specs.Values.{Value, unit_reference, info_reference}
-use Rattle.dwc_base.specs.Entries.{Entry, entries}
-use Rattle.dwc_base.specs.Kept.{is_part_tag}
+use Rattle.dwc_dwarf.specs.Values.{Value, unit_reference, info_reference}
+use Rattle.dwc_dwarf.specs.Entries.{Entry, entries}
+use Rattle.dwc_rules.specs.Kept.{is_part_tag}
 use Rattle.dwc_base.specs.declared.constants.TheConstants.{DW_AT_sibling, DW_TAG_constant, DW_TAG_namespace, DW_TAG_variable}
 use Rattle.dwc_read.specs.declared.fault.ReadFault.{ReadFault}
 use Rattle.dwc_read.specs.Faults.{fault_seen}

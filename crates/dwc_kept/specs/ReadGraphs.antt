@@ -4,13 +4,14 @@ use Rattle.std.specs.List.{flat_map}
 use Rattle.dwc_base.specs.Sections.{Sections, Fault}
 use Rattle.dwc_base.specs.Listing.{Listing}
 use Rattle.dwc_base.specs.Units.{UnitHeader}
-use Rattle.dwc_base.specs.Entries.{Entry, entries}
-use Rattle.dwc_base.specs.Functions.{Function}
-use Rattle.dwc_base.specs.Carried.{Unit, placed_entries, units_of_headers, units}
-use Rattle.dwc_base.specs.Kept.{Placed}
-use Rattle.dwc_base.specs.KeptEntries.{kept_with, AreLeast}
-use Rattle.dwc_base.specs.KeptModules.{entries_passing}
-use Rattle.dwc_base.specs.EntryRules.{is_required}
+use Rattle.dwc_dwarf.specs.Entries.{Entry, entries}
+use Rattle.dwc_native.specs.Functions.{Function}
+use Rattle.dwc_rules.specs.Carried.{placed_entries}
+use Rattle.dwc_dwarf.specs.ReadUnits.{Unit, units_of_headers, units}
+use Rattle.dwc_rules.specs.Kept.{Placed}
+use Rattle.dwc_rules.specs.KeptEntries.{kept_with, AreLeast}
+use Rattle.dwc_rules.specs.KeptModules.{entries_passing}
+use Rattle.dwc_rules.specs.EntryRules.{is_required}
 use Rattle.dwc_kept.specs.EntryGraphs.{Node, IsGraphOf}
 
 -- an entry, and the header of its unit

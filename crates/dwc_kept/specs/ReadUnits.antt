@@ -4,10 +4,11 @@ use Rattle.std.specs.List.{AllZip, filter}
 use Rattle.dwc_base.specs.Sections.{Sections, Fault}
 use Rattle.dwc_base.specs.Listing.{Listing}
 use Rattle.dwc_base.specs.Units.{UnitHeader, unit_headers}
-use Rattle.dwc_base.specs.Entries.{entries}
-use Rattle.dwc_base.specs.Functions.{Function}
-use Rattle.dwc_base.specs.Carried.{Unit, units_of_headers, units, root, has_root_tag}
-use Rattle.dwc_base.specs.Refusals.{table_offset}
+use Rattle.dwc_dwarf.specs.Entries.{entries}
+use Rattle.dwc_native.specs.Functions.{Function}
+use Rattle.dwc_rules.specs.Carried.{has_root_tag}
+use Rattle.dwc_dwarf.specs.ReadUnits.{Unit, units_of_headers, units, root}
+use Rattle.dwc_rules.specs.Refusals.{table_offset}
 use Rattle.dwc_base.specs.declared.constants.TheConstants.{DW_TAG_compile_unit}
 use Rattle.dwc_kept.specs.declared.read_unit.ReadUnit.{ReadUnit}
 use Rattle.dwc_kept.specs.declared.kept_units.KeptModule.{KeptModule}

@@ -1,7 +1,7 @@
 -- What the root of a unit says. (DWARF 4 and 5, section 3.1.1.)
 use Rattle.std.specs.Prelude.{ℕ, ◌==◌, List, [], ◌∷◌, Bool, false, Option, Some, None}
-use Rattle.dwc_base.specs.Entries.{Entry}
-use Rattle.dwc_base.specs.Refusals.{table_offset}
+use Rattle.dwc_dwarf.specs.Entries.{Entry}
+use Rattle.dwc_rules.specs.Refusals.{table_offset}
 use Rattle.dwc_kept.specs.declared.read_unit.RootEntry.{RootEntry}
 
 abbrev pub root_said : Entry → RootEntry

@@ -1,8 +1,8 @@
 //! The functions that subprograms begin in. (DWARF 4 and 5, section 2.17.)
 ghost use Rattle.std.specs.Prelude.{◌≡◌, ℕ, option_map, option_and_then, IfSome, IsSome};
-ghost use Rattle.dwc_base.specs.Lists.{list_source};
-ghost use Rattle.dwc_base.specs.RangeAttributes.{address_said, begin_of, begun_function, listed_intervals};
-ghost use Rattle.dwc_base.specs.Refusals.{first_of};
+ghost use Rattle.dwc_dwarf.specs.Lists.{list_source};
+ghost use Rattle.dwc_rules.specs.RangeAttributes.{address_said, begin_of, begun_function, listed_intervals};
+ghost use Rattle.dwc_base.specs.Listing.{first_of};
 ghost use Rattle.dwc_addr.specs.Transforms.{function_view};
 ghost use Rattle.dwc_read.specs.EntriesSeen.{entry_view};
 
@@ -67,7 +67,7 @@ fn begin_of(unit: &Unit<'_>, entry: &Entry<'_>) -> Option<Address>
 
 /// The function with a symbol that a subprogram begins in, by its first `low_pc`, in place or by an index; without such an address, by the
 /// first interval of its range list. None for other entries. What cannot be read is in no function.
-#[tactic(auto, unfolding(dwc_base::specs::RangeAttributes::begun_function))]
+#[tactic(auto, unfolding(dwc_rules::specs::RangeAttributes::begun_function))]
 pub fn function_begun<'t>(
     unit: &Unit<'_>,
     entry: &Entry<'_>,

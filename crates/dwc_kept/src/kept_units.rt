@@ -1,8 +1,8 @@
 //! The units of a module, and the offsets of its entries that are kept.
 ghost use Rattle.std.specs.Prelude.{◌≡◌, IfOk};
-ghost use Rattle.dwc_base.specs.EntryRules.{named_faults};
-ghost use Rattle.dwc_base.specs.ReachedEntries.{info_faults};
-ghost use Rattle.dwc_base.specs.Refusals.{first_of};
+ghost use Rattle.dwc_rules.specs.EntryRules.{named_faults};
+ghost use Rattle.dwc_rules.specs.ReachedEntries.{info_faults};
+ghost use Rattle.dwc_base.specs.Listing.{first_of};
 ghost use Rattle.dwc_kept.specs.ReadEntries.{ReadsOrTells, headers_faults};
 ghost use Rattle.dwc_kept.specs.ReadGraphs.{offsets_kept_of, units_of, AreLeastOffsets};
 ghost use Rattle.dwc_kept.specs.ReadUnits.{IsKeptAmong, IsKeptModule};

@@ -1,7 +1,7 @@
 //! What the definition of the kept entries means.
 ghost use Rattle.std.specs.Prelude.{ℕ, List, Bool};
-ghost use Rattle.dwc_base.specs.Kept.{Placed};
-ghost use Rattle.dwc_base.specs.KeptEntries.{KeptAreLeast};
+ghost use Rattle.dwc_rules.specs.Kept.{Placed};
+ghost use Rattle.dwc_rules.specs.KeptEntries.{KeptAreLeast};
 ghost use Rattle.dwc_kept.specs.EntryGraphs.{Node, MarksAreKept, OffsetsAreKept};
 
 /// Says, and does nothing: of entries at offsets of their own, those that are kept from some of them on are the least set that holds

@@ -1,6 +1,6 @@
 //! Which entries are parts of their parents.
 ghost use Rattle.std.specs.Prelude.{◌≡◌};
-ghost use Rattle.dwc_base.specs.Kept.{is_part_tag};
+ghost use Rattle.dwc_rules.specs.Kept.{is_part_tag};
 ghost use Rattle.dwc_kept.specs.ReadEntries.{is_part_below};
 
 use crate::last_at::LastAt;

@@ -2,12 +2,12 @@
 //! sections 2.17.3 and 7.25.)
 ghost use Rattle.std.specs.Prelude.{◌≡◌, ◌||◌, IsTrue, Some, option_map, option_to_list};
 ghost use Rattle.std.specs.List.{filter_map, flat_map};
-ghost use Rattle.dwc_base.specs.Entries.{attribute};
-ghost use Rattle.dwc_base.specs.Lists.{list_source};
-ghost use Rattle.dwc_base.specs.RangeKept.{base_beside, begins_in_code, can_translate, list_shows_code, some_shows_code};
-ghost use Rattle.dwc_base.specs.RangeRefusals.{index_fault, list_faults};
-ghost use Rattle.dwc_base.specs.Refusals.{first_of};
-ghost use Rattle.dwc_base.specs.Values.{address_index};
+ghost use Rattle.dwc_dwarf.specs.Entries.{attribute};
+ghost use Rattle.dwc_dwarf.specs.Lists.{list_source};
+ghost use Rattle.dwc_rules.specs.RangeKept.{base_beside, begins_in_code, can_translate, list_shows_code, some_shows_code};
+ghost use Rattle.dwc_rules.specs.RangeRefusals.{index_fault, list_faults};
+ghost use Rattle.dwc_base.specs.Listing.{first_of};
+ghost use Rattle.dwc_dwarf.specs.Values.{address_index};
 ghost use Rattle.dwc_read.specs.EntriesSeen.{entry_view};
 ghost use Rattle.dwc_read.specs.Faults.{fault_seen};
 ghost use Rattle.dwc_read.specs.ValuesSeen.{value_view};

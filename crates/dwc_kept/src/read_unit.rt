@@ -2,7 +2,7 @@
 ghost use Rattle.std.specs.Prelude.{◌≡◌, Some};
 ghost use Rattle.std.specs.Option.{option_or};
 ghost use Rattle.dwc_base.specs.declared.constants.TheConstants.{DW_TAG_compile_unit};
-ghost use Rattle.dwc_base.specs.Refusals.{table_offset};
+ghost use Rattle.dwc_rules.specs.Refusals.{table_offset};
 ghost use Rattle.dwc_read.specs.EntriesSeen.{entry_view};
 ghost use Rattle.dwc_kept.specs.RootsSaid.{root_said, has_tag, table_named};
 

@@ -1,8 +1,8 @@
 //! What is kept of the entries of a module as they are read, one after another.
 ghost use Rattle.std.specs.Prelude.{◌≡◌, ◌^◌, ◌<◌, ◌≤◌, ◌||◌, ◌==◌, ◌++◌, ◌∷◌, [], length, map, option_map, OnOk, IfSome, All};
 ghost use Rattle.dwc_base.specs.declared.constants.TheConstants.{DW_TAG_namespace};
-ghost use Rattle.dwc_base.specs.EntryRules.{is_required, named_faults};
-ghost use Rattle.dwc_base.specs.Refusals.{first_of};
+ghost use Rattle.dwc_rules.specs.EntryRules.{is_required, named_faults};
+ghost use Rattle.dwc_base.specs.Listing.{first_of};
 ghost use Rattle.dwc_read.specs.EntriesSeen.{entry_view};
 ghost use Rattle.dwc_kept.specs.ReadEntries.{ReadSoFar, none_read, last_above, with_last_at, with_entry_read, AreAmong, StandBefore, MeetsOrTells};
 ghost use Rattle.dwc_kept.specs.ReadingSeen.{reading_view};

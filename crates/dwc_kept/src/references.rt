@@ -1,7 +1,7 @@
 //! The offsets that the references of an entry name.
 ghost use Rattle.std.specs.Prelude.{◌≡◌, ◌+◌, ◌≤◌, ◌++◌, length, map, filter_map, vec_capacity, vec_len};
 ghost use Rattle.dwc_read.specs.ValuesSeen.{value_view, attribute_view};
-ghost use Rattle.dwc_base.specs.Values.{unit_reference};
+ghost use Rattle.dwc_dwarf.specs.Values.{unit_reference};
 ghost use Rattle.dwc_kept.specs.ReadEntries.{small_offset, named_offset, attribute_offset};
 
 use dwc_base::constants::DW_AT_sibling;

@@ -1,7 +1,7 @@
 //! Which entries are required, and what cannot be read to know it.
 ghost use Rattle.std.specs.Prelude.{◌≡◌};
-ghost use Rattle.dwc_base.specs.EntryRules.{is_required, named_faults};
-ghost use Rattle.dwc_base.specs.Refusals.{first_of};
+ghost use Rattle.dwc_rules.specs.EntryRules.{is_required, named_faults};
+ghost use Rattle.dwc_base.specs.Listing.{first_of};
 ghost use Rattle.dwc_read.specs.EntriesSeen.{entry_view};
 ghost use Rattle.dwc_kept.specs.ReadEntries.{ReadsOrTells};
 
@@ -17,7 +17,7 @@ use dwc_read::{Entry, ReadFault, Unit};
 /// # Errors
 /// `Read` and `Unsupported` for the first that cannot be read of a subprogram: its range list whole, as [`ranges_show_code`] tells it, and
 /// then the address by an index that it begins at.
-#[tactic(auto, unfolding(dwc_base::specs::EntryRules::named_faults, dwc_base::specs::RangeKept::is_required))]
+#[tactic(auto, unfolding(dwc_rules::specs::EntryRules::named_faults, dwc_rules::specs::RangeKept::is_required))]
 pub(crate) fn is_required(
     unit: &Unit<'_>,
     entry: &Entry<'_>,

@@ -1,11 +1,11 @@
 //! Reads the entries of a module once, and keeps what each of them keeps.
 ghost use Rattle.std.specs.Prelude.{◌≡◌, ◌<◌, ◌^◌};
 ghost use Rattle.std.specs.List.{AllZip};
-ghost use Rattle.dwc_base.specs.Entries.{entries as entries_of};
-ghost use Rattle.dwc_base.specs.EntryRules.{is_required, named_faults};
-ghost use Rattle.dwc_base.specs.ReachedEntries.{listing_faults};
-ghost use Rattle.dwc_base.specs.Refusals.{first_of};
-ghost use Rattle.dwc_base.specs.UnitOffsets.{RiseIn, StandFrom};
+ghost use Rattle.dwc_dwarf.specs.Entries.{entries as entries_of};
+ghost use Rattle.dwc_rules.specs.EntryRules.{is_required, named_faults};
+ghost use Rattle.dwc_rules.specs.ReachedEntries.{listing_faults};
+ghost use Rattle.dwc_base.specs.Listing.{first_of};
+ghost use Rattle.dwc_dwarf.specs.UnitOffsets.{RiseIn, StandFrom};
 ghost use Rattle.dwc_kept.specs.ReadEntries.{with_entries_read, with_units_read, none_read, AreAmong, StandBefore, ReadsOrTells, headers_faults};
 ghost use Rattle.dwc_kept.specs.ReadGraphs.{IsModuleGraph, units_of};
 ghost use Rattle.dwc_kept.specs.ReadingSeen.{reading_view, HasRead, IsRead};

@@ -5,7 +5,7 @@ use Rattle.serde_json.specs.Data.{Data, null, boolean, number, string, array, ob
 use Rattle.serde_json.specs.Find.{as_array}
 use Rattle.serde_json.specs.View.{items_view}
 use Rattle.serde_json.specs.declared.value.Value.{Value}
-use Rattle.dwc_base.specs.CallFrames.{FrameInstruction}
+use Rattle.dwc_native.specs.CallFrames.{FrameInstruction}
 use Rattle.dwc_map.specs.MapValues.{◌>>=◌, text_of, named_in}
 use Rattle.dwc_map.specs.MapFrames.{of_register, of_offset, of_both, instruction_kinds, instruction_of}
 use Rattle.dwc_map.proofs.MapKinds.{bytes_eq-false}

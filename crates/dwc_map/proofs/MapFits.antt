@@ -7,7 +7,7 @@ use Rattle.std.specs.Str.{is_utf8}
 use Rattle.serde_json.specs.Data.{Data, null, boolean, number, string, array, object, Members}
 use Rattle.serde_json.specs.Read.{read}
 use Rattle.serde_json.specs.Find.{get_member}
-use Rattle.dwc_base.specs.CallFrames.{CommonEntry, is_sound, is_sound_if}
+use Rattle.dwc_native.specs.CallFrames.{CommonEntry, is_sound, is_sound_if}
 use Rattle.dwc_base.specs.Reading.{coded}
 use Rattle.dwc_map.specs.declared.map_file.MapFile.{MapFile as DeclaredMap}
 use Rattle.dwc_map.specs.MapFile.{Target, MapFile, architecture_of, pointer_bytes_of, register_numbers_of, target_of, MapModule, have_counts, is_countable, map_for, map_in, map_in_bytes, map_of_bytes, map_with, modules_of, IsMap, IsMapFor}

@@ -2,7 +2,7 @@
 use Rattle.std.proofs.Common.{◌≡◌, ℕ, pos, negsuc, List, [], ◌∷◌, Some, None, refl}
 use Rattle.std.specs.Prelude.{codes, Option}
 use Rattle.serde_json.specs.Read.{read}
-use Rattle.dwc_base.specs.CallFrames.{def_cfa, def_cfa_register, def_cfa_offset, restore, undefined, same_value, saved_at, remember_state, restore_state, CommonEntry, FrameDescription}
+use Rattle.dwc_native.specs.CallFrames.{def_cfa, def_cfa_register, def_cfa_offset, restore, undefined, same_value, saved_at, remember_state, restore_state, CommonEntry, FrameDescription}
 use Rattle.dwc_map.specs.MapValues.{◌>>=◌, members_of}
 use Rattle.dwc_map.specs.MapFrames.{cie_in, frame_in}
 use Rattle.dwc_map.proofs.OnLiterals.{map_on_literals}

@@ -3,7 +3,7 @@ use Rattle.std.proofs.Common.{◌≡◌, ℕ, pos, negsuc, List, [], ◌∷◌, 
 use Rattle.std.specs.Prelude.{codes, Option}
 use Rattle.std.specs.FinMap as finite
 use Rattle.serde_json.specs.Read.{read}
-use Rattle.dwc_base.specs.Compiled.{in_register, at_frame_offset, Memory, no_memory, defined, imported}
+use Rattle.dwc_native.specs.Compiled.{in_register, at_frame_offset, Memory, no_memory, defined, imported}
 use Rattle.dwc_clif.specs.Registers.{Registers}
 use Rattle.dwc_clif.specs.ValueLabels.{LabelledRanges}
 use Rattle.dwc_map.specs.MapFile.{Target, MapFunction, MapModule, target_of, map_function_of, map_module_of}

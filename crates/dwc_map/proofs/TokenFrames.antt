@@ -10,7 +10,7 @@ use Rattle.json.specs.Json.{read_key, value}
 use Rattle.json.proofs.Grammar.{value_is}
 use Rattle.serde_json.specs.Data.{null, string, array, object, Items, item, no_members, put}
 use Rattle.serde_json.specs.Read.{of_json, converted}
-use Rattle.dwc_base.specs.CallFrames.{FrameInstruction, FrameDescription}
+use Rattle.dwc_native.specs.CallFrames.{FrameInstruction, FrameDescription}
 use Rattle.dwc_map.specs.ByTokens.{Tells, TellsDescription}
 use Rattle.dwc_map.specs.MapFrames.{instruction_kinds, instruction_of, frame_of}
 use Rattle.dwc_map.specs.MapValues.{◌>>=◌, only_if, u32_of, pair_of, list_of, nullable, named_in}

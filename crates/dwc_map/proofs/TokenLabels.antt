@@ -12,7 +12,7 @@ use Rattle.json.specs.Json.{value}
 use Rattle.json.proofs.Grammar.{value_is}
 use Rattle.serde_json.specs.Data.{Data, null, boolean, number, string, array, object, item, no_items}
 use Rattle.serde_json.specs.Read.{of_json, converted}
-use Rattle.dwc_base.specs.Compiled.{Place, in_register, at_frame_offset, LabelRange}
+use Rattle.dwc_native.specs.Compiled.{Place, in_register, at_frame_offset, LabelRange}
 use Rattle.dwc_map.specs.ByTokens.{Tells, TellsPlace, TellsTable}
 use Rattle.dwc_map.specs.MapFile.{label_range_of, labels_of, place_of}
 use Rattle.dwc_map.specs.MapValues.{◌>>=◌, only_if, u32_of, i64_of, pair_of, list_of, table_of, table_by, has_key, have_distinct_keys}

@@ -7,10 +7,10 @@ use Rattle.serde_json.specs.Data.{Data, null, Members}
 use Rattle.serde_json.specs.Find.{get_member}
 use Rattle.serde_json.specs.Read.{read}
 use Rattle.dwc_base.specs.Reading.{coded}
-use Rattle.dwc_base.specs.CallFrames.{CommonEntry, FrameDescription, is_sound_if}
-use Rattle.dwc_base.specs.Functions.{AddressMap}
-use Rattle.dwc_base.specs.Compiled as told
-use Rattle.dwc_base.specs.Compiled.{Place, in_register, at_frame_offset, LabelRange, Memory, no_memory}
+use Rattle.dwc_native.specs.CallFrames.{CommonEntry, FrameDescription, is_sound_if}
+use Rattle.dwc_native.specs.Functions.{AddressMap}
+use Rattle.dwc_native.specs.Compiled as told
+use Rattle.dwc_native.specs.Compiled.{Place, in_register, at_frame_offset, LabelRange, Memory, no_memory}
 use Rattle.dwc_clif.specs.declared.architecture.Architecture.{Architecture}
 use Rattle.dwc_clif.specs.declared.architecture.Architecture.TheVariants.{X86_64, Aarch64, S390x, Riscv64, Pulley}
 use Rattle.dwc_clif.specs.Registers.{Registers}

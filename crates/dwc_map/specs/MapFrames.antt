@@ -2,7 +2,7 @@
 -- value where a number is out of its range, or anything is of the wrong kind.
 use Rattle.std.specs.Prelude.{ℕ, ℤ, List, [], ◌∷◌, Option, Some, None, option_map, codes}
 use Rattle.serde_json.specs.Data.{Data, array, Items, no_items, item, Members}
-use Rattle.dwc_base.specs.CallFrames.{FrameInstruction, def_cfa, def_cfa_register, def_cfa_offset, restore, undefined, same_value, saved_at, remember_state, restore_state, CommonEntry, FrameDescription, is_sound}
+use Rattle.dwc_native.specs.CallFrames.{FrameInstruction, def_cfa, def_cfa_register, def_cfa_offset, restore, undefined, same_value, saved_at, remember_state, restore_state, CommonEntry, FrameDescription, is_sound}
 use Rattle.dwc_map.specs.MapValues.{◌>>=◌, only_if, u8_of, u16_of, u32_of, i8_of, i32_of, nullable, text_of, list_of, pair_of, members_of, required, with_default, named_in}
 
 -- ---- instructions

@@ -5,8 +5,8 @@ use Rattle.std.specs.FinMap as finite
 use Rattle.serde_json.specs.Data.{Items}
 use Rattle.serde_json.specs.View.{view, items_view}
 use Rattle.dwc_base.specs.declared.records.SymbolId.{SymbolId}
-use Rattle.dwc_base.specs.CallFrames.{CommonEntry, FrameDescription}
-use Rattle.dwc_base.specs.Compiled.{LabelRange, LinkageNames}
+use Rattle.dwc_native.specs.CallFrames.{CommonEntry, FrameDescription}
+use Rattle.dwc_native.specs.Compiled.{LabelRange, LinkageNames}
 use Rattle.dwc_clif.specs.declared.metadata.CompiledFunctionMetadata.{CompiledFunctionMetadata}
 use Rattle.dwc_clif.specs.declared.value_label.ValueLabel.{ValueLabel}
 use Rattle.dwc_clif.specs.declared.value_label.ValueLocRange.{ValueLocRange}

@@ -2,7 +2,7 @@
 ghost use Rattle.std.specs.Prelude.{◌≡◌, ◌≢◌, ℕ, ℤ, nat_abs, map, option_map, option_and_then, IfOk, Some, None};
 ghost use Rattle.std.specs.List.{list_all};
 ghost use Rattle.serde_json.specs.View.{view, items_view};
-ghost use Rattle.dwc_base.specs.CallFrames.{FrameInstruction, has_factored_offset, is_sound};
+ghost use Rattle.dwc_native.specs.CallFrames.{FrameInstruction, has_factored_offset, is_sound};
 ghost use Rattle.dwc_clif.specs.CallFrames.{instruction_view, cie_view, description_view};
 ghost use Rattle.dwc_map.specs.MapValues.{u32_of, nullable, all_items, pair_of, value_or, named_in};
 ghost use Rattle.dwc_map.specs.MapFrames.{alone, of_register, of_offset, of_both, instruction_kinds, instruction_of, frame_of, cie_of};

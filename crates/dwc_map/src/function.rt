@@ -1,7 +1,7 @@
 //! The functions of a map file: each with its symbol, address map, labels and frame.
 ghost use Rattle.std.specs.Prelude.{ℕ, List, Option, ◌≡◌, map, option_map, option_and_then, IfOk, IfSome};
 ghost use Rattle.serde_json.specs.View.{view, items_view, members_view};
-ghost use Rattle.dwc_base.specs.CallFrames.{FrameDescription};
+ghost use Rattle.dwc_native.specs.CallFrames.{FrameDescription};
 ghost use Rattle.dwc_clif.specs.Gaps.{entry_view};
 ghost use Rattle.dwc_clif.specs.CallFrames.{description_view};
 ghost use Rattle.dwc_clif.specs.ValueLabels.{LabelledRanges};

@@ -1,7 +1,7 @@
 //! The linear memory of a module, as a map file tells it.
 ghost use Rattle.std.specs.Prelude.{◌≡◌, option_map};
 ghost use Rattle.serde_json.specs.View.{view};
-ghost use Rattle.dwc_base.specs.Compiled.{no_memory};
+ghost use Rattle.dwc_native.specs.Compiled.{no_memory};
 ghost use Rattle.dwc_expr.specs.Frames.{memory_view};
 ghost use Rattle.dwc_map.specs.MapFile.{imported_of, memory_of};
 ghost use Rattle.dwc_map.specs.MapValues.{value_or};

@@ -6,7 +6,7 @@ use Rattle.std.proofs.lemmas.List.{drop_more}
 use Rattle.dwc_plain.specs.declared.entries.PlainEntry.{PlainEntry}
 use Rattle.std.specs.Prelude.{Option, ◌==◌, not}
 use Rattle.std.specs.Option.{option_or, unwrap_or}
-use Rattle.dwc_base.specs.Kept.{Placed, same_place}
+use Rattle.dwc_rules.specs.Kept.{Placed, same_place}
 use Rattle.dwc_plain.specs.PlainEntries.{last_above, entry_view}
 
 -- the last of some things behind one, or else another

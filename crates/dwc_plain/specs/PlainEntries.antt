@@ -2,11 +2,11 @@
 use Rattle.std.specs.Prelude.{ℕ, suc, ◌==◌, List, [], map, Bool, false, not, ◌&&◌, ◌||◌, if◌then◌else◌, Option, Some, None, option_map, is_some, is_none}
 use Rattle.std.specs.List.{filter, find, list_any, take_while}
 use Rattle.dwc_base.specs.declared.records.Address.TheVariants.{Constant}
-use Rattle.dwc_base.specs.Values.{Value, address, unit_reference, info_reference, dropped}
-use Rattle.dwc_base.specs.Entries.{Entry, attribute}
-use Rattle.dwc_base.specs.Functions.{Function, function_at}
-use Rattle.dwc_base.specs.Kept.{Placed, is_among, keeps, names_entry, same_place}
-use Rattle.dwc_base.specs.KeptEntries.{kept_with}
+use Rattle.dwc_dwarf.specs.Values.{Value, address, unit_reference, info_reference, dropped}
+use Rattle.dwc_dwarf.specs.Entries.{Entry, attribute}
+use Rattle.dwc_native.specs.Functions.{Function, function_at}
+use Rattle.dwc_rules.specs.Kept.{Placed, is_among, keeps, names_entry, same_place}
+use Rattle.dwc_rules.specs.KeptEntries.{kept_with}
 use Rattle.dwc_base.specs.Wasm.{last_of}
 use Rattle.dwc_base.specs.declared.constants.TheConstants.{DW_AT_low_pc, DW_AT_ranges, DW_AT_sibling, DW_TAG_subprogram}
 use Rattle.dwc_plain.specs.declared.entries.PlainFunction.{PlainFunction}

@@ -2,8 +2,8 @@
 use Rattle.std.specs.Prelude.{ℕ, ◌-◌, List, [], ◌∷◌, nat_le, if◌then◌else◌, Option, Some, None}
 use Rattle.std.specs.Option.{option_or}
 use Rattle.dwc_base.specs.declared.records.LineRow.{LineRow}
-use Rattle.dwc_base.specs.LineRows.{LineTable, RowContents, named_row}
-use Rattle.dwc_base.specs.Functions.{Recorded}
+use Rattle.dwc_dwarf.specs.LineRows.{LineTable, RowContents, named_row}
+use Rattle.dwc_native.specs.Functions.{Recorded}
 
 -- what a row says of the code from its offset on, its file named by a table
 abbrev pub contents_in : LineTable → LineRow → RowContents

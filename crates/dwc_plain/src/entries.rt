@@ -1,8 +1,8 @@
 //! Entries and functions as plain records, and what one of them says.
 ghost use Rattle.std.specs.Prelude.{◌≡◌, ◌==◌, map, option_map, is_some, suc};
-ghost use Rattle.dwc_base.specs.Functions.{owner_with, owner, function_at};
-ghost use Rattle.dwc_base.specs.Entries.{attribute};
-ghost use Rattle.dwc_base.specs.Kept.{names_entry, refers_to, is_part_tag, is_part_of};
+ghost use Rattle.dwc_native.specs.Functions.{owner_with, owner, function_at};
+ghost use Rattle.dwc_dwarf.specs.Entries.{attribute};
+ghost use Rattle.dwc_rules.specs.Kept.{names_entry, refers_to, is_part_tag, is_part_of};
 ghost use Rattle.dwc_plain.specs.PlainEntries.{function_view, value_view, entry_view, is_required};
 
 use dwc_base::constants::*;

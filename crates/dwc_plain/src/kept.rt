@@ -1,6 +1,6 @@
 //! The kept entries, step by step.
 ghost use Rattle.std.specs.Prelude.{◌≡◌, ◌==◌, suc, map, option_map, IfOk};
-ghost use Rattle.dwc_base.specs.Kept.{is_among, parent_of, is_parent, keeps, kept_step};
+ghost use Rattle.dwc_rules.specs.Kept.{is_among, parent_of, is_parent, keeps, kept_step};
 ghost use Rattle.dwc_plain.specs.PlainEntries.{function_view, entry_view, kept_by, kept_entries, required_entries};
 
 use crate::entries::{PlainEntry, PlainFunction, is_part_of, is_required, refers_to};
@@ -9,7 +9,7 @@ use std::alloc::{AllocError, Global};
 /// The kept entries of a module, in order: the required ones, and what they keep, and what that keeps, in as many steps as
 /// there are entries. An entry keeps its parent, what it refers to, and those of its children that are parts of it. It
 /// fails only for want of memory.
-#[tactic(auto, unfolding(dwc_base::specs::KeptEntries::kept_with))]
+#[tactic(auto, unfolding(dwc_rules::specs::KeptEntries::kept_with))]
 pub fn kept_entries<'d>(
     alloc: Global,
     functions: &[PlainFunction],

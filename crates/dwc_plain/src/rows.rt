@@ -1,9 +1,9 @@
 //! The row of a line table for a native byte of a function, by scans.
 ghost use Rattle.std.specs.Prelude.{◌≡◌, List, map, option_map};
 ghost use Rattle.std.specs.Option.{option_or};
-ghost use Rattle.dwc_base.specs.LineRows.{LineTable, named_row, row_in_force};
-ghost use Rattle.dwc_base.specs.Functions.{Function, recorded_sources};
-ghost use Rattle.dwc_base.specs.Images.{row_of_source, row_of_last, row_of_first, row_for_byte};
+ghost use Rattle.dwc_dwarf.specs.LineRows.{LineTable, named_row, row_in_force};
+ghost use Rattle.dwc_native.specs.Functions.{Function, recorded_sources};
+ghost use Rattle.dwc_native.specs.Images.{row_of_source, row_of_last, row_of_first, row_for_byte};
 ghost use Rattle.dwc_plain.specs.PlainRows.{contents_in, source_view, last_at, at_source, at_last, at_first};
 
 use dwc_base::LineRow;

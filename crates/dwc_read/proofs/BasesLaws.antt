@@ -10,11 +10,11 @@ use Rattle.dwc_base.specs.declared.section_name.SectionName.{SectionName}
 use Rattle.dwc_base.specs.declared.faults.What.TheVariants.{Text}
 use Rattle.dwc_base.specs.Abbreviations.{Declaration, abbreviation_table}
 use Rattle.dwc_base.specs.Sections.{Sections, Fault, reported}
-use Rattle.dwc_base.specs.Texts.{text_named}
+use Rattle.dwc_dwarf.specs.Texts.{text_named}
 use Rattle.dwc_base.specs.Units.{UnitHeader}
-use Rattle.dwc_base.specs.Values as value
-use Rattle.dwc_base.specs.Values.{Value}
-use Rattle.dwc_base.specs.Indexed.{number_said, offset_among, offset_of_root, root_offsets, index_base, usual_base, is_split, texts_of_unit, text_in_unit}
+use Rattle.dwc_dwarf.specs.Values as value
+use Rattle.dwc_dwarf.specs.Values.{Value}
+use Rattle.dwc_dwarf.specs.Indexed.{number_said, offset_among, offset_of_root, root_offsets, index_base, usual_base, is_split, texts_of_unit, text_in_unit}
 use Rattle.dwc_read.specs.Elsewhere.{texts_from}
 use Rattle.dwc_read.specs.RootValues.{said, said_number, first_among, said_by_root}
 

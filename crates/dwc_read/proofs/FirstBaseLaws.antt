@@ -14,12 +14,12 @@ use Rattle.dwc_base.specs.Reading.{Unread, Read, ◌>>=◌, forbid, number_at, u
 use Rattle.dwc_base.specs.Sections.{Sections, Fault, section_from, reported}
 use Rattle.dwc_base.specs.Abbreviations.{Declaration, declaration_of, attribute_spec_at, declaration_behind, declaration_at, abbreviation_table}
 use Rattle.dwc_base.specs.Units.{UnitHeader}
-use Rattle.dwc_base.specs.Values.{Value}
-use Rattle.dwc_base.specs.Entries.{Entry, Found, entry_at, declared_entry_at, attributes_at, entries, entries_from, root_place, attribute}
-use Rattle.dwc_base.specs.Refusals.{first_of}
-use Rattle.dwc_base.specs.Indexed.{address_indexed, root_offsets}
-use Rattle.dwc_base.proofs.EntryWalk.{entries_from-none, entries_from-end, entries_from-fault, entries_from-siblings, entries_from-entry}
-use Rattle.dwc_base.specs.Lists.{first_base_of}
+use Rattle.dwc_dwarf.specs.Values.{Value}
+use Rattle.dwc_dwarf.specs.Entries.{Entry, Found, entry_at, declared_entry_at, attributes_at, entries, entries_from, root_place, attribute}
+use Rattle.dwc_base.specs.Listing.{first_of}
+use Rattle.dwc_dwarf.specs.Indexed.{address_indexed, root_offsets}
+use Rattle.dwc_dwarf.proofs.EntryWalk.{entries_from-none, entries_from-end, entries_from-fault, entries_from-siblings, entries_from-entry}
+use Rattle.dwc_dwarf.specs.Lists.{first_base_of}
 use Rattle.dwc_read.specs.ValuesSeen.{first_value}
 use Rattle.dwc_read.specs.RootValues.{said, said_address, first_among, named_offsets, said_by_root}
 use Rattle.dwc_read.proofs.EntriesLaws.{entries-table, entries-fault}

@@ -2,7 +2,7 @@
 use Rattle.std.proofs.Common.{◌≡◌, ℕ, suc, ◌<◌, Ok, ◌≤◌, refl, arith, List, [], ◌∷◌, None, Bool, true, false, cond, eqb, leb}
 use Rattle.std.proofs.lemmas.Bool.{ne_eqb, leb-true}
 use Rattle.dwc_base.specs.Reading.{Unread, coded, uleb_at}
-use Rattle.dwc_base.specs.Values.{form_of, forms, form_behind}
+use Rattle.dwc_dwarf.specs.Values.{form_of, forms, form_behind}
 use Rattle.dwc_base.specs.declared.constants.TheConstants.{DW_FORM_indirect}
 
 -- whether the codes of a table are at most n

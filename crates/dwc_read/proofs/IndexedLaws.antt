@@ -6,9 +6,9 @@ use Rattle.dwc_base.specs.declared.section_name.SectionName.TheVariants.{Addr}
 use Rattle.dwc_base.specs.Reading.{Unread, ◌>>=◌, number_at, text_at}
 use Rattle.dwc_base.specs.Sections.{Sections, address_at}
 use Rattle.dwc_base.specs.Units.{UnitHeader}
-use Rattle.dwc_base.specs.LineHeaders.{text_in}
-use Rattle.dwc_base.specs.Texts.{TextSource, offset_of_text}
-use Rattle.dwc_base.specs.Indexed.{address_from}
+use Rattle.dwc_dwarf.specs.LineHeaders.{text_in}
+use Rattle.dwc_dwarf.specs.Texts.{TextSource, offset_of_text}
+use Rattle.dwc_dwarf.specs.Indexed.{address_from}
 use Rattle.dwc_base.proofs.Steps.{bytes_at-short, number_at-no_bytes}
 use Rattle.dwc_read.proofs.AttributeLaws.{drop-past}
 

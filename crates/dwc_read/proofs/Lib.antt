@@ -16,7 +16,6 @@ pub mod RootLaws
 pub mod BasesLaws
 pub mod LowPcLaws
 pub mod FirstBaseLaws
-pub mod IndexCases
 pub mod ReadValueLaws
 pub mod TextPlaceLaws
 pub mod ValueEndLaws

@@ -11,9 +11,9 @@ use Rattle.dwc_base.specs.Listing.{Listing, no_items, only_fault, with_first}
 use Rattle.dwc_base.specs.Sections.{Sections, Fault, fault_of}
 use Rattle.dwc_base.specs.Abbreviations.{Declaration, declaration_of}
 use Rattle.dwc_base.specs.Units.{UnitHeader}
-use Rattle.dwc_base.specs.Values.{Value}
-use Rattle.dwc_base.specs.Entries.{Entry, Found, EntryPlace, attributes_at, declared_entry_at, entry_at, place_behind}
-use Rattle.dwc_base.proofs.EntryWalk.{entries_from-none, entries_from-end, entries_from-fault, entries_from-siblings, entries_from-entry}
+use Rattle.dwc_dwarf.specs.Values.{Value}
+use Rattle.dwc_dwarf.specs.Entries.{Entry, Found, EntryPlace, attributes_at, declared_entry_at, entry_at, place_behind}
+use Rattle.dwc_dwarf.proofs.EntryWalk.{entries_from-none, entries_from-end, entries_from-fault, entries_from-siblings, entries_from-entry}
 use Rattle.dwc_read.specs.Links.{is_link, linked, links_at, declared_links_at, linked_entry_at, found_links, linked_from}
 use Rattle.dwc_read.specs.EntriesSeen.{BeginsWith}
 use Rattle.dwc_read.proofs.StepLaws.{entry_at-shrinks}

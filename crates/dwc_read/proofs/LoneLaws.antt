@@ -10,8 +10,8 @@ use Rattle.dwc_base.specs.Listing.{Listing, only_fault}
 use Rattle.dwc_base.specs.Sections.{Sections, Fault, fault_of, unreadable}
 use Rattle.dwc_base.specs.Abbreviations.{Declaration, abbreviation_table}
 use Rattle.dwc_base.specs.Units.{UnitHeader}
-use Rattle.dwc_base.specs.Entries.{Entry, Found, entry_at, entries_from, root_place, entries}
-use Rattle.dwc_base.proofs.ExpressionPlaceLaws.{IsThere, EntryStands}
+use Rattle.dwc_dwarf.specs.Entries.{Entry, Found, entry_at, entries_from, root_place, entries}
+use Rattle.dwc_dwarf.proofs.ExpressionPlaceLaws.{IsThere, EntryStands}
 use Rattle.dwc_base.proofs.InLists.{IsIn}
 use Rattle.dwc_read.specs.Views.{UnitView}
 use Rattle.dwc_read.specs.Lone.{unread_from, entry_with, lone_entry}

@@ -12,12 +12,12 @@ use Rattle.dwc_base.specs.Reading.{Unread, Read, ◌>>=◌, seen_as}
 use Rattle.dwc_base.specs.Abbreviations.{AttributeSpec}
 use Rattle.dwc_base.specs.Sections.{Sections, Relocation}
 use Rattle.dwc_base.specs.Units.{UnitHeader}
-use Rattle.dwc_base.specs.Values as value
-use Rattle.dwc_base.specs.Values.{Value, Form, encoding_of, form_behind, is_location_name, is_range_name, is_expression_name, section_offset, block_value, constant_value, formed_value_at, form_code_at, form_of, encoded_value_at, value_at}
-use Rattle.dwc_base.specs.Entries.{attributes_at}
-use Rattle.dwc_base.specs.Indexed.{as_section_offset}
+use Rattle.dwc_dwarf.specs.Values as value
+use Rattle.dwc_dwarf.specs.Values.{Value, Form, encoding_of, form_behind, is_location_name, is_range_name, is_expression_name, section_offset, block_value, constant_value, formed_value_at, form_code_at, form_of, encoded_value_at, value_at}
+use Rattle.dwc_dwarf.specs.Entries.{attributes_at}
+use Rattle.dwc_dwarf.specs.Indexed.{as_section_offset}
 use Rattle.dwc_read.specs.ValuesSeen.{first_value}
-use Rattle.dwc_base.specs.Lists.{address_among}
+use Rattle.dwc_dwarf.specs.Lists.{address_among}
 use Rattle.dwc_read.specs.RootValues.{said, said_address, named_offsets}
 use Rattle.dwc_read.proofs.RootLaws.{named_offsets-first, named_offsets-flaw}
 

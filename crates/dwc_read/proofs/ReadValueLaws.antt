@@ -8,11 +8,11 @@ use Rattle.dwc_base.specs.declared.section_name.SectionName.TheVariants.{Info}
 use Rattle.dwc_base.specs.Reading.{Unread, Read, ◌>>=◌}
 use Rattle.dwc_base.specs.Sections.{reported}
 use Rattle.dwc_base.specs.Abbreviations.{Declaration, abbreviation_table}
-use Rattle.dwc_base.specs.Entries.{Entry, Found, entry_at}
-use Rattle.dwc_base.specs.ReadValues.{IsReadValue, IsReadEntry}
+use Rattle.dwc_dwarf.specs.Entries.{Entry, Found, entry_at}
+use Rattle.dwc_dwarf.specs.ReadValues.{IsReadValue, IsReadEntry}
 use Rattle.dwc_base.proofs.ReadValuesParts.{Holds, Holds-bind, Holds-at, AreBytes, InBytes}
 use Rattle.dwc_base.proofs.ReadValuesTables.{IsReadDeclaration, abbreviation_table-read}
-use Rattle.dwc_base.proofs.ReadValuesEntries.{IfFound, entry_at-read}
+use Rattle.dwc_dwarf.proofs.ReadValuesEntries.{IfFound, entry_at-read}
 use Rattle.dwc_read.specs.declared.value.AttributeValue.{AttributeValue}
 use Rattle.dwc_read.specs.Lone.{unread_from, entry_found, entry_with, lone_entry}
 use Rattle.dwc_read.specs.Views.{UnitView}

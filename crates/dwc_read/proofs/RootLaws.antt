@@ -9,9 +9,9 @@ use Rattle.dwc_base.specs.declared.constants.TheConstants.{DW_AT_stmt_list}
 use Rattle.dwc_base.specs.Abbreviations as table
 use Rattle.dwc_base.specs.Sections.{Sections}
 use Rattle.dwc_base.specs.Units.{UnitHeader}
-use Rattle.dwc_base.specs.Values.{Value, value_at}
-use Rattle.dwc_base.specs.Entries.{attributes_at}
-use Rattle.dwc_base.specs.Indexed.{as_section_offset}
+use Rattle.dwc_dwarf.specs.Values.{Value, value_at}
+use Rattle.dwc_dwarf.specs.Entries.{attributes_at}
+use Rattle.dwc_dwarf.specs.Indexed.{as_section_offset}
 use Rattle.dwc_read.specs.declared.attribute_spec.AttributeSpec.{AttributeSpec}
 use Rattle.dwc_read.specs.AttributeSpecs.{spec_view}
 use Rattle.dwc_read.specs.ValuesSeen.{first_value}

@@ -8,7 +8,7 @@ use Rattle.dwc_base.specs.Reading.{Unread, Read, ◌>>=◌, passed, bytes_at, se
 use Rattle.dwc_base.specs.Abbreviations as table
 use Rattle.dwc_base.specs.Sections.{Sections}
 use Rattle.dwc_base.specs.Units.{UnitHeader}
-use Rattle.dwc_base.specs.Values.{Value}
+use Rattle.dwc_dwarf.specs.Values.{Value}
 use Rattle.dwc_base.proofs.Steps.{bytes_at-short, bytes_at-whole}
 use Rattle.dwc_read.specs.declared.attribute_spec.AttributeSpec.{AttributeSpec}
 use Rattle.dwc_read.specs.AttributeSpecs.{spec_view}

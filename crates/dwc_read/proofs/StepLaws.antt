@@ -5,9 +5,9 @@ use Rattle.dwc_base.specs.Reading.{Unread, Read}
 use Rattle.dwc_base.specs.Sections.{Sections, Fault, fault_of}
 use Rattle.dwc_base.specs.Abbreviations.{Declaration}
 use Rattle.dwc_base.specs.Units.{UnitHeader}
-use Rattle.dwc_base.specs.Entries.{Entry, Found, entry_at, entry_place, entry_places_left}
+use Rattle.dwc_dwarf.specs.Entries.{Entry, Found, entry_at, entry_place, entry_places_left}
 use Rattle.dwc_base.proofs.Takes.{Leaves-at}
-use Rattle.dwc_base.proofs.TakesValues.{entry_at-leaves}
+use Rattle.dwc_dwarf.proofs.TakesValues.{entry_at-leaves}
 use Rattle.dwc_base.specs.declared.faults.Flaw.{Flaw}
 use Rattle.dwc_base.specs.declared.faults.NotRead.{NotRead}
 use Rattle.dwc_base.specs.declared.faults.NotRead.TheVariants.{OutOfMemory, Flawed}

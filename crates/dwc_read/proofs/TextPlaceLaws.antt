@@ -8,10 +8,10 @@ use Rattle.dwc_base.specs.declared.section_name.SectionName.TheVariants.{Info, L
 use Rattle.dwc_base.specs.Reading.{◌>>=◌}
 use Rattle.dwc_base.specs.Sections.{Sections, reported}
 use Rattle.dwc_base.specs.Units.{UnitHeader}
-use Rattle.dwc_base.specs.Values as value
-use Rattle.dwc_base.specs.Values.{Value}
-use Rattle.dwc_base.specs.Texts.{offset_of_text, text_elsewhere, text_in, text_named}
-use Rattle.dwc_base.specs.Indexed.{index_base, text_base, texts_of_unit}
+use Rattle.dwc_dwarf.specs.Values as value
+use Rattle.dwc_dwarf.specs.Values.{Value}
+use Rattle.dwc_dwarf.specs.Texts.{offset_of_text, text_elsewhere, text_in, text_named}
+use Rattle.dwc_dwarf.specs.Indexed.{index_base, text_base, texts_of_unit}
 use Rattle.dwc_read.specs.declared.text_place.TextPlace.{TextPlace}
 use Rattle.dwc_read.specs.Elsewhere.{texts_from}
 use Rattle.dwc_read.specs.TextPlaces.{place_elsewhere, text_at_place, text_place_in_unit, text_place_named}

@@ -8,12 +8,12 @@ use Rattle.dwc_base.specs.Reading.{Unread, Read, ◌>>=◌, uleb_value}
 use Rattle.dwc_base.specs.Sections.{Sections, Fault, reported}
 use Rattle.dwc_base.specs.Abbreviations.{Declaration, abbreviation_table}
 use Rattle.dwc_base.specs.Units.{UnitHeader}
-use Rattle.dwc_base.specs.Values.{Value, value_at}
-use Rattle.dwc_base.specs.Entries.{Entry, Found, entry_at}
-use Rattle.dwc_base.specs.ExpressionPlaces.{unit_from, attribute_ends, entry_ends, value_ends}
+use Rattle.dwc_dwarf.specs.Values.{Value, value_at}
+use Rattle.dwc_dwarf.specs.Entries.{Entry, Found, entry_at}
+use Rattle.dwc_dwarf.specs.ExpressionPlaces.{unit_from, attribute_ends, entry_ends, value_ends}
 use Rattle.dwc_base.proofs.LebLaws.{uleb_at-none}
 use Rattle.dwc_base.proofs.ReadValuesParts.{Holds}
-use Rattle.dwc_base.proofs.ExpressionPlaceLaws.{ExpressionsStand, FoundStands, entry_at-stands}
+use Rattle.dwc_dwarf.proofs.ExpressionPlaceLaws.{ExpressionsStand, FoundStands, entry_at-stands}
 use Rattle.dwc_read.specs.declared.attribute_spec.AttributeSpec.{AttributeSpec}
 use Rattle.dwc_read.specs.Lone.{unread_from, entry_found, entry_with, lone_entry}
 use Rattle.dwc_read.specs.AttributeSpecs.{spec_view}

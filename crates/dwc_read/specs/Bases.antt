@@ -5,9 +5,9 @@ use Rattle.dwc_base.specs.declared.section_name.SectionName.TheVariants.{Addr, I
 use Rattle.dwc_base.specs.declared.faults.What.TheVariants.{AddressValue}
 use Rattle.dwc_base.specs.Sections.{Sections, Fault, reported}
 use Rattle.dwc_base.specs.Units.{UnitHeader}
-use Rattle.dwc_base.specs.Values.{Value}
-use Rattle.dwc_base.specs.Indexed.{index_base, address_named}
-use Rattle.dwc_base.specs.Lists.{first_base_of}
+use Rattle.dwc_dwarf.specs.Values.{Value}
+use Rattle.dwc_dwarf.specs.Indexed.{index_base, address_named}
+use Rattle.dwc_dwarf.specs.Lists.{first_base_of}
 use Rattle.dwc_read.specs.declared.bases.Bases.{Bases}
 
 -- What was found is where the lists and the indexed values of a unit begin.

@@ -4,7 +4,7 @@ use Rattle.dwc_base.specs.declared.records.Endian.{Endian}
 use Rattle.dwc_base.specs.declared.section_name.SectionName.TheVariants.{LineStr, Str, StrOffsets}
 use Rattle.dwc_base.specs.Reading.{Unread}
 use Rattle.dwc_base.specs.Sections.{Sections}
-use Rattle.dwc_base.specs.Texts.{TextSource}
+use Rattle.dwc_dwarf.specs.Texts.{TextSource}
 
 -- what is unread of some bytes from a place on; none past their end
 abbrev pub UnreadFrom : Endian → List ℕ → ℕ → Option Unread → Type 0

@@ -4,7 +4,7 @@ use Rattle.std.specs.Coded.{Coded, codes}
 use Rattle.dwc_base.specs.Listing.{Listing, only_fault}
 use Rattle.dwc_base.specs.Sections.{Fault}
 use Rattle.dwc_base.specs.Abbreviations.{Declaration}
-use Rattle.dwc_base.specs.Entries as spec
+use Rattle.dwc_dwarf.specs.Entries as spec
 use Rattle.dwc_read.specs.ValuesSeen.{attribute_view}
 use Rattle.dwc_read.specs.Faults.{fault_seen}
 use Rattle.dwc_read.specs.declared.entry.Entry.{Entry}

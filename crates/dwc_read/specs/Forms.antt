@@ -1,5 +1,5 @@
 -- What contracts see of forms.
-use Rattle.dwc_base.specs.Values as value
+use Rattle.dwc_dwarf.specs.Values as value
 use Rattle.dwc_read.specs.Sizes.{size_view}
 use Rattle.dwc_read.specs.declared.form.Form.{Form}
 use Rattle.dwc_read.specs.declared.form.Form.TheVariants.{Addr, IndexedAddr, Blocks, Exprloc, DataOf, Sdata, Implicit, FlagByte, FlagPresent, Text, TextElsewhere, Reference, RefAddr, SecOffset, IndexedLocation, IndexedRange, PassedOver, Supplementary}

@@ -5,7 +5,7 @@ use mathlib.Core.Option.{none}
 use mir.Syntax.{named}
 use Rattle.dwc_base.specs.Listing.{Listing, no_items, with_first}
 use Rattle.dwc_base.specs.Sections.{Fault}
-use Rattle.dwc_base.specs.Entries as spec
+use Rattle.dwc_dwarf.specs.Entries as spec
 use Rattle.dwc_read.specs.declared.entry.Entry.{Entry}
 use Rattle.dwc_read.specs.declared.entries.Entries.{Entries}
 use Rattle.dwc_read.specs.declared.fault.ReadFault.{ReadFault}

@@ -9,8 +9,8 @@ use Rattle.dwc_base.specs.Listing.{Listing}
 use Rattle.dwc_base.specs.Sections.{Sections, Fault}
 use Rattle.dwc_base.specs.Abbreviations.{AttributeSpec, Declaration, declaration_of}
 use Rattle.dwc_base.specs.Units.{UnitHeader}
-use Rattle.dwc_base.specs.Values.{Value, unit_reference, info_reference, Size, fixed, variable, Form, indexed_addr, data_of, string_elsewhere, passed_over, implicit, flag_byte, flag_present, sec_offset, form_of, value_at}
-use Rattle.dwc_base.specs.Entries.{Entry, Found, EntryPlace, attributes_at, entries_from}
+use Rattle.dwc_dwarf.specs.Values.{Value, unit_reference, info_reference, Size, fixed, variable, Form, indexed_addr, data_of, string_elsewhere, passed_over, implicit, flag_byte, flag_present, sec_offset, form_of, value_at}
+use Rattle.dwc_dwarf.specs.Entries.{Entry, Found, EntryPlace, attributes_at, entries_from}
 
 -- whether a value names an entry, of its unit or of any
 abbrev pub is_reference : Value → Bool

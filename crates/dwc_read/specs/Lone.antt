@@ -5,8 +5,8 @@ use Rattle.dwc_base.specs.declared.faults.What.TheVariants.{Entry as EntryRead}
 use Rattle.dwc_base.specs.Reading.{Unread, ◌>>=◌}
 use Rattle.dwc_base.specs.Sections.{Fault, unreadable, reported}
 use Rattle.dwc_base.specs.Abbreviations.{Declaration, abbreviation_table}
-use Rattle.dwc_base.specs.Entries.{Entry, Found, entry_at}
-use Rattle.dwc_base.specs.ExpressionPlaces.{unit_from}
+use Rattle.dwc_dwarf.specs.Entries.{Entry, Found, entry_at}
+use Rattle.dwc_dwarf.specs.ExpressionPlaces.{unit_from}
 use Rattle.dwc_read.specs.Views.{UnitView}
 
 -- what is unread of a unit from an offset of .debug_info on

@@ -2,7 +2,7 @@
 use Rattle.std.specs.Prelude.{◌≡◌, ◌+◌, ◌<◌, ◌^◌, length, Bool, true, false, Option, Some, None, Result, Ok, Err}
 use Rattle.dwc_base.specs.Listing.{Listing, no_items, only_fault, with_first}
 use Rattle.dwc_base.specs.Sections.{Fault}
-use Rattle.dwc_base.specs.Entries as spec
+use Rattle.dwc_dwarf.specs.Entries as spec
 use Rattle.dwc_read.specs.declared.fault.ReadFault.{ReadFault}
 use Rattle.dwc_read.specs.declared.place.Place.{Place}
 use Rattle.dwc_read.specs.declared.steps.Step.{Step}

@@ -8,9 +8,9 @@ use Rattle.dwc_base.specs.Reading.{Unread, Read, ◌>>=◌}
 use Rattle.dwc_base.specs.Abbreviations.{AttributeSpec, abbreviation_table}
 use Rattle.dwc_base.specs.Sections.{Sections}
 use Rattle.dwc_base.specs.Units.{UnitHeader}
-use Rattle.dwc_base.specs.Values.{Value, address, address_index, constant, line_reference}
-use Rattle.dwc_base.specs.Indexed.{root_offsets, as_section_offset}
-use Rattle.dwc_base.specs.Entries.{attributes_at}
+use Rattle.dwc_dwarf.specs.Values.{Value, address, address_index, constant, line_reference}
+use Rattle.dwc_dwarf.specs.Indexed.{root_offsets, as_section_offset}
+use Rattle.dwc_dwarf.specs.Entries.{attributes_at}
 use Rattle.dwc_read.specs.ValuesSeen.{first_value}
 use Rattle.dwc_read.specs.declared.root_values.Said.{Said}
 use Rattle.dwc_read.specs.declared.root_values.Said.TheVariants.{Number, Address as OfAddress, Index, Nothing}

@@ -1,5 +1,5 @@
 -- How long the numbers in values are.
-use Rattle.dwc_base.specs.Values as value
+use Rattle.dwc_dwarf.specs.Values as value
 use Rattle.dwc_read.specs.declared.number.Size.{Size}
 use Rattle.dwc_read.specs.declared.number.Size.TheVariants.{One, Two, Three, Four, Eight, Variable}
 

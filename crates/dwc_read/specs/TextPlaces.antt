@@ -8,9 +8,9 @@ use Rattle.dwc_base.specs.declared.section_name.SectionName.TheVariants.{Info, L
 use Rattle.dwc_base.specs.Reading.{◌>>=◌, coded}
 use Rattle.dwc_base.specs.Sections.{Sections, Fault, reported}
 use Rattle.dwc_base.specs.Units.{UnitHeader}
-use Rattle.dwc_base.specs.Values.{Value, text_reference}
-use Rattle.dwc_base.specs.Texts.{TextSource, offset_of_text, text_in}
-use Rattle.dwc_base.specs.Indexed.{texts_of_unit}
+use Rattle.dwc_dwarf.specs.Values.{Value, text_reference}
+use Rattle.dwc_dwarf.specs.Texts.{TextSource, offset_of_text, text_in}
+use Rattle.dwc_dwarf.specs.Indexed.{texts_of_unit}
 use Rattle.dwc_read.specs.declared.text_place.TextPlace.{TextPlace}
 
 -- the section that a form gives an offset in; the other forms of a text elsewhere give an index

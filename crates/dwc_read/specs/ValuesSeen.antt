@@ -2,7 +2,7 @@
 use Rattle.std.specs.Prelude.{◌≡◌, ℕ, ◌==◌, List, Option, Some, None, Ok, option_map}
 use Rattle.std.specs.List.{find}
 use Rattle.dwc_base.specs.Reading.{Unread, Read}
-use Rattle.dwc_base.specs.Values as value
+use Rattle.dwc_dwarf.specs.Values as value
 use Rattle.dwc_read.specs.declared.value.AttributeValue.{AttributeValue}
 use Rattle.dwc_read.specs.declared.value.AttributeValue.TheVariants.{Addr, AddrIndex, Constant, Flag, Block, Exprloc, Text, TextRef, LineRef, RangeRef, RangeIndex, LocRef, LocIndex, UnitRef, InfoRef, Dropped}
 

@@ -2,8 +2,8 @@
 ghost use Rattle.std.specs.Prelude.{◌≡◌, map, option_map, length, IsTrue};
 ghost use Rattle.dwc_base.specs.declared.constants.TheConstants.{DW_FORM_exprloc};
 ghost use Rattle.dwc_base.specs.Cursors.{Gives, GivesOrMemory};
-ghost use Rattle.dwc_base.specs.Entries.{attributes_at};
-ghost use Rattle.dwc_base.specs.Values.{form_behind as code_behind, form_code_at, encoded_value_at, value_at};
+ghost use Rattle.dwc_dwarf.specs.Entries.{attributes_at};
+ghost use Rattle.dwc_dwarf.specs.Values.{form_behind as code_behind, form_code_at, encoded_value_at, value_at};
 ghost use Rattle.dwc_base.specs.FieldSizes.{is_field_size};
 ghost use Rattle.dwc_read.specs.AttributeSpecs.{spec_view};
 ghost use Rattle.dwc_read.specs.ValuesSeen.{value_view, attribute_view, first_value};
@@ -17,7 +17,7 @@ use dwc_base::constants::{DW_FORM_exprloc, DW_FORM_implicit_const, DW_FORM_indir
 use dwc_base::{Cursor, Encoding, Flaw, NotRead, Relocations};
 
 // The code of the form behind `indirect`, which may stand there again.
-#[tactic(auto, unfolding(dwc_base::specs::Values::form_behind))]
+#[tactic(auto, unfolding(dwc_dwarf::specs::Values::form_behind))]
 fn form_behind(cursor: &mut Cursor<'_>) -> Result<u64, Flaw>
     ensures { Gives (λ x. x) (code_behind (length cursor.old.left) cursor.old) cursor.new result }
 {
@@ -35,7 +35,7 @@ fn form_behind(cursor: &mut Cursor<'_>) -> Result<u64, Flaw>
 }
 
 // The code of an attribute's form.
-#[tactic(auto, unfolding(dwc_base::specs::Values::form_code_at))]
+#[tactic(auto, unfolding(dwc_dwarf::specs::Values::form_code_at))]
 fn form_code(spec: AttributeSpec, cursor: &mut Cursor<'_>) -> Result<u64, Flaw>
     ensures { Gives (λ x. x) (form_code_at (spec_view spec) cursor.old) cursor.new result }
 {
@@ -48,7 +48,7 @@ fn form_code(spec: AttributeSpec, cursor: &mut Cursor<'_>) -> Result<u64, Flaw>
 
 /// The value at the front, by its form, in a section with some relocations. It is `Malformed` where the form's code names no
 /// form, and `Refused` for a form of a supplementary file. (DWARF 5, section 7.5.6.)
-#[tactic(auto, unfolding(dwc_base::specs::Values::encoded_value_at), using(crate::proofs::FormLaws::form_of_large))]
+#[tactic(auto, unfolding(dwc_dwarf::specs::Values::encoded_value_at), using(crate::proofs::FormLaws::form_of_large))]
 pub fn encoded_value<'d>(
     relocations: &Relocations<'_>,
     encoding: Encoding,
@@ -70,7 +70,7 @@ pub fn encoded_value<'d>(
 }
 
 // The value of an attribute of an entry of a unit.
-#[tactic(auto, unfolding(dwc_base::specs::Values::value_at))]
+#[tactic(auto, unfolding(dwc_dwarf::specs::Values::value_at))]
 pub fn value<'d>(
     unit: &Unit<'d>,
     spec: AttributeSpec,
@@ -87,7 +87,7 @@ pub fn value<'d>(
 
 // The same of an expression.
 #[inline(always)]
-#[tactic(auto, unfolding(dwc_base::specs::Values::value_at, dwc_base::specs::Values::encoded_value_at, dwc_base::specs::Values::form_code_at, dwc_base::specs::Values::formed_value_at, dwc_base::specs::Values::block_at, dwc_base::specs::Values::sized_number_at))]
+#[tactic(auto, unfolding(dwc_dwarf::specs::Values::value_at, dwc_dwarf::specs::Values::encoded_value_at, dwc_dwarf::specs::Values::form_code_at, dwc_dwarf::specs::Values::formed_value_at, dwc_dwarf::specs::Values::block_at, dwc_dwarf::specs::Values::sized_number_at))]
 fn expression<'d>(
     unit: &Unit<'d>,
     spec: AttributeSpec,

@@ -3,7 +3,7 @@ ghost use Rattle.std.specs.Prelude.{◌≡◌, option_and_then};
 ghost use Rattle.std.specs.Option.{option_or, unwrap_or};
 ghost use Rattle.dwc_base.specs.declared.section_name.SectionName.TheVariants.{Addr};
 ghost use Rattle.dwc_base.specs.declared.records.Address.TheVariants.{Constant};
-ghost use Rattle.dwc_base.specs.Indexed.{usual_base, is_split, address_from};
+ghost use Rattle.dwc_dwarf.specs.Indexed.{usual_base, is_split, address_from};
 ghost use Rattle.dwc_read.specs.Bases.{HasBases};
 ghost use Rattle.dwc_read.specs.Headers.{header_view};
 ghost use Rattle.dwc_read.specs.UnitTables.{IsTable};

@@ -1,6 +1,6 @@
 //! The values of the forms that compilers mostly use, read in place.
 ghost use Rattle.std.specs.Prelude.{◌≡◌};
-ghost use Rattle.dwc_base.specs.Values.{value_at};
+ghost use Rattle.dwc_dwarf.specs.Values.{value_at};
 ghost use Rattle.dwc_read.specs.AttributeSpecs.{spec_view};
 ghost use Rattle.dwc_read.specs.ValuesSeen.{value_view, GivesOrStays};
 
@@ -19,7 +19,7 @@ const ADDRESS_SIZE: u8 = 4;
 
 // The value of an attribute, where its form is one of these and it stands in full.
 #[inline(always)]
-#[tactic(auto, unfolding(dwc_base::specs::Values::value_at, dwc_base::specs::Values::encoded_value_at, dwc_base::specs::Values::form_code_at, dwc_base::specs::Values::formed_value_at, dwc_base::specs::Values::sized_number_at, dwc_base::specs::Sections::address_at))]
+#[tactic(auto, unfolding(dwc_dwarf::specs::Values::value_at, dwc_dwarf::specs::Values::encoded_value_at, dwc_dwarf::specs::Values::form_code_at, dwc_dwarf::specs::Values::formed_value_at, dwc_dwarf::specs::Values::sized_number_at, dwc_base::specs::Sections::address_at))]
 pub fn common_value<'d>(
     unit: &Unit<'d>,
     spec: AttributeSpec,
@@ -56,7 +56,7 @@ pub fn common_value<'d>(
 
 // The same of texts elsewhere.
 #[inline(always)]
-#[tactic(auto, unfolding(dwc_base::specs::Values::value_at, dwc_base::specs::Values::encoded_value_at, dwc_base::specs::Values::form_code_at, dwc_base::specs::Values::formed_value_at, dwc_base::specs::Values::sized_number_at))]
+#[tactic(auto, unfolding(dwc_dwarf::specs::Values::value_at, dwc_dwarf::specs::Values::encoded_value_at, dwc_dwarf::specs::Values::form_code_at, dwc_dwarf::specs::Values::formed_value_at, dwc_dwarf::specs::Values::sized_number_at))]
 fn common_text<'d>(
     unit: &Unit<'d>,
     spec: AttributeSpec,
@@ -85,7 +85,7 @@ fn common_text<'d>(
 
 // The same of constants. Below version 4 some of four bytes are offsets.
 #[inline(always)]
-#[tactic(auto, unfolding(dwc_base::specs::Values::value_at, dwc_base::specs::Values::encoded_value_at, dwc_base::specs::Values::form_code_at, dwc_base::specs::Values::formed_value_at, dwc_base::specs::Values::sized_number_at))]
+#[tactic(auto, unfolding(dwc_dwarf::specs::Values::value_at, dwc_dwarf::specs::Values::encoded_value_at, dwc_dwarf::specs::Values::form_code_at, dwc_dwarf::specs::Values::formed_value_at, dwc_dwarf::specs::Values::sized_number_at))]
 fn common_constant<'d>(
     unit: &Unit<'d>,
     spec: AttributeSpec,
@@ -107,7 +107,7 @@ fn common_constant<'d>(
 
 // The same of location lists by their indexes.
 #[inline(always)]
-#[tactic(auto, unfolding(dwc_base::specs::Values::value_at, dwc_base::specs::Values::encoded_value_at, dwc_base::specs::Values::form_code_at, dwc_base::specs::Values::formed_value_at))]
+#[tactic(auto, unfolding(dwc_dwarf::specs::Values::value_at, dwc_dwarf::specs::Values::encoded_value_at, dwc_dwarf::specs::Values::form_code_at, dwc_dwarf::specs::Values::formed_value_at))]
 fn common_list<'d>(
     unit: &Unit<'d>,
     spec: AttributeSpec,

@@ -1,6 +1,6 @@
 //! The entries of a unit, one after another.
 ghost use Rattle.std.specs.Prelude.{◌≡◌};
-ghost use Rattle.dwc_base.specs.Entries.{entries as entries_of};
+ghost use Rattle.dwc_dwarf.specs.Entries.{entries as entries_of};
 ghost use Rattle.dwc_read.specs.Places.{GoesOn};
 
 use crate::place::Place;
@@ -22,7 +22,7 @@ pub struct Entries<'d> {
 
 impl<'d> Model for Entries<'d> {
     ghost use Rattle.std.specs.Prelude.{option_map};
-    ghost use Rattle.dwc_base.specs.Entries.{entries_from};
+    ghost use Rattle.dwc_dwarf.specs.Entries.{entries_from};
     ghost use Rattle.dwc_read.specs.Places.{place_view, IsShallow};
     ghost use Rattle.dwc_read.specs.EntriesSeen.{EntriesView, entries_code, entry_view};
 

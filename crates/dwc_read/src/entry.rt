@@ -24,7 +24,7 @@ pub struct Entry<'d> {
 impl<'d> Entry<'d> {
     ghost use Rattle.std.specs.Prelude.{option_map, map};
     ghost use Rattle.dwc_base.specs.Cursors.{GivesOrMemory};
-    ghost use Rattle.dwc_base.specs.Entries.{attribute, entry_at};
+    ghost use Rattle.dwc_dwarf.specs.Entries.{attribute, entry_at};
     ghost use Rattle.dwc_read.specs.EntriesSeen.{entry_view, found_view};
     ghost use Rattle.dwc_read.specs.Links.{linked_entry_at};
     ghost use Rattle.dwc_read.specs.ValuesSeen.{value_view, attribute_view};
@@ -58,7 +58,7 @@ impl<'d> Entry<'d> {
     // Reads the entry at the front in place of this one, and answers whether children follow; None at the end of a list of
     // siblings.
     #[inline(always)]
-    #[tactic(auto, unfolding(dwc_base::specs::Entries::entry_at, dwc_base::specs::Entries::declared_entry_at))]
+    #[tactic(auto, unfolding(dwc_dwarf::specs::Entries::entry_at, dwc_dwarf::specs::Entries::declared_entry_at))]
     pub fn read(
         &mut self,
         unit: &Unit<'d>,

@@ -1,6 +1,6 @@
 //! The entries of a unit with their links alone, one after another.
 ghost use Rattle.std.specs.Prelude.{◌≡◌};
-ghost use Rattle.dwc_base.specs.Entries.{entries as entries_of};
+ghost use Rattle.dwc_dwarf.specs.Entries.{entries as entries_of};
 ghost use Rattle.dwc_read.specs.Links.{linked};
 ghost use Rattle.dwc_read.specs.Places.{GoesOn};
 

@@ -1,7 +1,7 @@
 //! The forms by their codes. (DWARF 5, table 7.6.)
 ghost use Rattle.std.specs.Prelude.{◌≡◌, option_map};
-ghost use Rattle.dwc_base.specs.Values.{form_of};
-ghost use Rattle.dwc_base.specs.LineHeaders.{is_text_form as is_of_text};
+ghost use Rattle.dwc_dwarf.specs.Values.{form_of};
+ghost use Rattle.dwc_dwarf.specs.LineHeaders.{is_text_form as is_of_text};
 ghost use Rattle.dwc_read.specs.Forms.{form_view};
 
 use crate::number::Size;

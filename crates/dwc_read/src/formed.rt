@@ -1,7 +1,7 @@
 //! The values of the forms. (DWARF 4, section 7.5.4; DWARF 5, sections 7.5.4 to 7.5.6.)
 ghost use Rattle.std.specs.Prelude.{◌≡◌, IsTrue};
 ghost use Rattle.dwc_base.specs.Cursors.{Gives, slice_bytes};
-ghost use Rattle.dwc_base.specs.Values.{block_at, formed_value_at};
+ghost use Rattle.dwc_dwarf.specs.Values.{block_at, formed_value_at};
 ghost use Rattle.dwc_base.specs.FieldSizes.{is_field_size};
 ghost use Rattle.dwc_read.specs.Sizes.{size_view};
 ghost use Rattle.dwc_read.specs.Forms.{form_view};
@@ -17,7 +17,7 @@ use dwc_base::fields::{address, number};
 use dwc_base::{Cursor, Encoding, Flaw, Kind, Relocations};
 
 // A length, and that many bytes.
-#[tactic(auto, unfolding(dwc_base::specs::Values::block_at))]
+#[tactic(auto, unfolding(dwc_dwarf::specs::Values::block_at))]
 fn block<'d>(size: Size, cursor: &mut Cursor<'d>) -> Result<&'d [u8], Flaw>
     ensures { Gives slice_bytes (block_at (size_view size) cursor.old) cursor.new result }
 {
@@ -26,7 +26,7 @@ fn block<'d>(size: Size, cursor: &mut Cursor<'d>) -> Result<&'d [u8], Flaw>
 }
 
 // The value of a form, in a section with some relocations.
-#[tactic(auto, unfolding(dwc_base::specs::Values::formed_value_at))]
+#[tactic(auto, unfolding(dwc_dwarf::specs::Values::formed_value_at))]
 pub fn formed_value<'d>(
     relocations: &Relocations<'_>,
     encoding: Encoding,

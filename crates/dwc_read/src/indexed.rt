@@ -1,9 +1,9 @@
 //! Addresses and texts that stand elsewhere, by an offset or by an index. (DWARF 5, sections 7.26 and 7.27.)
 ghost use Rattle.std.specs.Prelude.{◌≡◌, ◌+◌, ◌*◌, ◌<◌, ◌^◌, length, option_map, SomeIff};
 ghost use Rattle.dwc_base.specs.Cursors.{GivesLast, slice_bytes};
-ghost use Rattle.dwc_base.specs.Indexed.{address_from};
-ghost use Rattle.dwc_base.specs.LineHeaders.{text_in as found_text};
-ghost use Rattle.dwc_base.specs.Texts.{offset_of_text as text_offset, text_elsewhere as text_of_form, text_named as named_text};
+ghost use Rattle.dwc_dwarf.specs.Indexed.{address_from};
+ghost use Rattle.dwc_dwarf.specs.LineHeaders.{text_in as found_text};
+ghost use Rattle.dwc_dwarf.specs.Texts.{offset_of_text as text_offset, text_elsewhere as text_of_form, text_named as named_text};
 ghost use Rattle.dwc_read.specs.Elsewhere.{UnreadFrom, texts_from};
 ghost use Rattle.dwc_read.specs.Headers.{header_view};
 ghost use Rattle.dwc_read.specs.TextPlaces.{place_elsewhere, text_place_named};
@@ -50,7 +50,7 @@ fn item_from<'d>(
 }
 
 // The address at an index, those of a unit beginning at a base.
-#[tactic(auto, unfolding(dwc_base::specs::Indexed::address_from))]
+#[tactic(auto, unfolding(dwc_dwarf::specs::Indexed::address_from))]
 pub fn address_indexed(
     sections: &Sections<'_>,
     header: &Header<'_>,
@@ -93,7 +93,7 @@ fn offset_of_text(sections: &Sections<'_>, base: u64, index: u64) -> Result<u32,
 }
 
 // The text that a number of a form names.
-#[tactic(auto, unfolding(dwc_base::specs::Texts::text_elsewhere))]
+#[tactic(auto, unfolding(dwc_dwarf::specs::Texts::text_elsewhere))]
 fn text_elsewhere<'d>(
     sections: &Sections<'d>,
     base: u64,
@@ -113,7 +113,7 @@ fn text_elsewhere<'d>(
 }
 
 // The text that a value names, the offsets of a unit's texts beginning at a base; None for a value that is no text.
-#[tactic(auto, unfolding(dwc_base::specs::Texts::text_named))]
+#[tactic(auto, unfolding(dwc_dwarf::specs::Texts::text_named))]
 pub fn text_named<'d>(
     sections: &Sections<'d>,
     base: u64,

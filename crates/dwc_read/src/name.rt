@@ -1,6 +1,6 @@
 //! What a section offset, a block and a constant mean under the name of their attribute. (DWARF 4 and 5, table 7.5.)
 ghost use Rattle.std.specs.Prelude.{◌≡◌};
-ghost use Rattle.dwc_base.specs.Values.{is_location_name as location_named, is_range_name as range_named, is_expression_name as expression_named, section_offset as meant_offset, block_value as meant_block, constant_value as meant_constant};
+ghost use Rattle.dwc_dwarf.specs.Values.{is_location_name as location_named, is_range_name as range_named, is_expression_name as expression_named, section_offset as meant_offset, block_value as meant_block, constant_value as meant_constant};
 ghost use Rattle.dwc_read.specs.ValuesSeen.{value_view};
 
 use crate::AttributeValue;

@@ -2,7 +2,7 @@
 ghost use Rattle.std.specs.Prelude.{◌≡◌, ◌∷◌, []};
 ghost use Rattle.dwc_base.specs.Cursors.{Gives};
 ghost use Rattle.dwc_base.specs.Reading.{number_at, number as spelled};
-ghost use Rattle.dwc_base.specs.Values.{sized_number_at};
+ghost use Rattle.dwc_dwarf.specs.Values.{sized_number_at};
 ghost use Rattle.dwc_read.specs.Sizes.{size_view};
 
 use dwc_base::fields::number;
@@ -39,7 +39,7 @@ fn three_bytes(order: Endian, first: u8, second: u8, third: u8) -> u32
 }
 
 // A number in a value.
-#[tactic(auto, unfolding(dwc_base::specs::Values::sized_number_at))]
+#[tactic(auto, unfolding(dwc_dwarf::specs::Values::sized_number_at))]
 pub fn sized_number(size: Size, cursor: &mut Cursor<'_>) -> Result<u64, Flaw>
     ensures { Gives (λ x. x) (sized_number_at (size_view size) cursor.old) cursor.new result }
 {

@@ -1,6 +1,6 @@
 //! Where the next entry of a unit stands. (DWARF 4 and 5, section 2.3.)
 ghost use Rattle.std.specs.Prelude.{◌≡◌, ◌+◌, ◌<◌, ◌^◌, suc, pred, length, option_map, if◌then◌else◌};
-ghost use Rattle.dwc_base.specs.Entries.{entry_place};
+ghost use Rattle.dwc_dwarf.specs.Entries.{entry_place};
 ghost use Rattle.dwc_read.specs.Places.{place_view};
 
 use dwc_base::Cursor;

@@ -1,8 +1,8 @@
 //! What the root of a unit says of where its lists and indexed values begin. (DWARF 5, section 3.1.1.)
 ghost use Rattle.std.specs.Prelude.{◌≡◌, None, map};
 ghost use Rattle.dwc_base.specs.declared.section_name.SectionName.TheVariants.{Info};
-ghost use Rattle.dwc_base.specs.Indexed.{root_offsets, as_section_offset as read_as_offset};
-ghost use Rattle.dwc_base.specs.Values.{value_at};
+ghost use Rattle.dwc_dwarf.specs.Indexed.{root_offsets, as_section_offset as read_as_offset};
+ghost use Rattle.dwc_dwarf.specs.Values.{value_at};
 ghost use Rattle.dwc_read.specs.Headers.{header_view};
 ghost use Rattle.dwc_read.specs.AttributeSpecs.{spec_view};
 ghost use Rattle.dwc_read.specs.UnitTables.{IsTable};
@@ -85,7 +85,7 @@ fn as_section_offset(spec: AttributeSpec) -> AttributeSpec
 }
 
 // What an attribute of a root says.
-#[tactic(auto, unfolding(dwc_base::specs::Values::value_at))]
+#[tactic(auto, unfolding(dwc_dwarf::specs::Values::value_at))]
 fn root_value(
     sections: &Sections<'_>,
     header: &Header<'_>,
@@ -132,7 +132,7 @@ fn first_values(
 }
 
 // What a root says by its abbreviation table; nothing where it cannot be read.
-#[tactic(auto, unfolding(dwc_base::specs::Indexed::root_offsets))]
+#[tactic(auto, unfolding(dwc_dwarf::specs::Indexed::root_offsets))]
 fn declared_values(sections: &Sections<'_>, header: &Header<'_>, table: &Table) -> RootValues
     ensures { AreAmong (root_offsets sections.now (header_view header.now) table.now) result }
 {

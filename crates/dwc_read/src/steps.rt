@@ -1,6 +1,6 @@
 //! Goes from entry to entry. (DWARF 4 and 5, sections 2.3 and 7.5.2.)
 ghost use Rattle.std.specs.Prelude.{◌≡◌, option_map};
-ghost use Rattle.dwc_base.specs.Entries.{entries_from};
+ghost use Rattle.dwc_dwarf.specs.Entries.{entries_from};
 ghost use Rattle.dwc_read.specs.Places.{place_view, IsShallow, Steps, GoesOn};
 ghost use Rattle.dwc_read.specs.EntriesSeen.{entry_view};
 

@@ -55,19 +55,19 @@ impl<'d> Unit<'d> {
     ghost use Rattle.dwc_read.specs.Headers.{header_view};
     ghost use Rattle.dwc_read.specs.UnitTables.{IsTable};
     ghost use Rattle.dwc_read.specs.Views.{field_at};
-    ghost use Rattle.dwc_base.specs.Entries.{entries as entries_of};
+    ghost use Rattle.dwc_dwarf.specs.Entries.{entries as entries_of};
     ghost use Rattle.dwc_read.specs.Faults.{GivesOrFault};
     ghost use Rattle.dwc_read.specs.EntriesSeen.{StartsAt, entry_view};
     ghost use Rattle.dwc_read.specs.Links.{linked};
     ghost use Rattle.dwc_read.specs.Lone.{lone_entry, unread_from, IsUnread};
-    ghost use Rattle.dwc_base.specs.ExpressionPlaces.{value_ends, expression_place};
+    ghost use Rattle.dwc_dwarf.specs.ExpressionPlaces.{value_ends, expression_place};
     ghost use Rattle.std.specs.Prelude.{◌≢◌, Some, Err, option_map, slice_get};
     ghost use Rattle.std.specs.Option.{unwrap_or};
     ghost use Rattle.dwc_base.specs.declared.section_name.SectionName.TheVariants.{Info};
     ghost use Rattle.dwc_base.specs.Cursors.{slice_bytes};
-    ghost use Rattle.dwc_base.specs.Indexed.{index_base as base_of_indexes, address_in_unit, text_in_unit};
+    ghost use Rattle.dwc_dwarf.specs.Indexed.{index_base as base_of_indexes, address_in_unit, text_in_unit};
     ghost use Rattle.dwc_base.specs.Sections.{fault_of};
-    ghost use Rattle.dwc_base.specs.Lists.{first_base_of};
+    ghost use Rattle.dwc_dwarf.specs.Lists.{first_base_of};
     ghost use Rattle.dwc_read.specs.Faults.{fault_seen};
     ghost use Rattle.dwc_read.specs.Bases.{address_of_value};
     ghost use Rattle.dwc_read.specs.TextPlaces.{text_place_in_unit};
@@ -246,7 +246,7 @@ impl<'d> Unit<'d> {
     /// The address that a value is, in place or by its index among the unit's; None for a value that is no address.
     ///
     /// Answers `Read` with the unit's offset where the address at the index cannot be read, as [`Unit::address`] does.
-    #[tactic(auto, unfolding(dwc_base::specs::Indexed::address_named))]
+    #[tactic(auto, unfolding(dwc_dwarf::specs::Indexed::address_named))]
     pub fn address_of(&self, value: &AttributeValue<'d>) -> Result<Option<Address>, ReadFault>
         ensures address { GivesOrFault (λ a. a) (address_of_value self.now.sections self.now.header (value_view value.now)) result }
         ensures memory { result ≢ Err ReadFault.OutOfMemory }

@@ -1,6 +1,6 @@
 //! The units of `.debug_info`, one after another.
 ghost use Rattle.std.specs.Prelude.{◌≡◌, IfOk, IfSome};
-ghost use Rattle.dwc_base.specs.UnitOffsets.{StandFrom};
+ghost use Rattle.dwc_dwarf.specs.UnitOffsets.{StandFrom};
 ghost use Rattle.dwc_base.specs.Units.{unit_headers};
 ghost use Rattle.dwc_read.specs.Faults.{GivesNextOrMemory};
 

@@ -1,6 +1,6 @@
 //! Where the values of an entry's attributes end. (DWARF 4 and 5, section 7.5.)
 ghost use Rattle.std.specs.Prelude.{◌≡◌, map, slice_get};
-ghost use Rattle.dwc_base.specs.ExpressionPlaces.{attribute_ends, entry_ends};
+ghost use Rattle.dwc_dwarf.specs.ExpressionPlaces.{attribute_ends, entry_ends};
 ghost use Rattle.dwc_read.specs.AttributeSpecs.{spec_view};
 
 use crate::Unit;
@@ -32,7 +32,7 @@ fn attribute_end<'d>(
 }
 
 // The same of the entry at the front, whose code names its declaration.
-#[tactic(auto, unfolding(dwc_base::specs::ExpressionPlaces::entry_ends))]
+#[tactic(auto, unfolding(dwc_dwarf::specs::ExpressionPlaces::entry_ends))]
 pub fn entry_end<'d>(
     unit: &Unit<'d>,
     table: &Table,

@@ -8,8 +8,8 @@ use Rattle.std.proofs.lemmas.List.Sorted.{IsNonDecreasingBy-push, IsNonDecreasin
 use Rattle.dwc_base.specs.declared.records.LineRow.{LineRow}
 use Rattle.dwc_base.specs.Reading.{Unread}
 use Rattle.dwc_base.specs.Sections.{Relocation}
-use Rattle.dwc_base.specs.LineHeaders.{Instruction, instruction_at}
-use Rattle.dwc_base.specs.LineRows.{Registers, row, after, effect, file_defined}
+use Rattle.dwc_dwarf.specs.LineHeaders.{Instruction, instruction_at}
+use Rattle.dwc_dwarf.specs.LineRows.{Registers, row, after, effect, file_defined}
 use Rattle.dwc_tabs.specs.declared.parameters.Parameters.{Parameters}
 use Rattle.dwc_tabs.specs.declared.step.LineStop.{LineStop}
 use Rattle.dwc_tabs.specs.declared.step.LineStop.TheVariants.{Start, End}

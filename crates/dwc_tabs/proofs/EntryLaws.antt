@@ -5,9 +5,9 @@ use Rattle.dwc_base.specs.declared.records.Endian.{Endian}
 use Rattle.dwc_base.specs.declared.faults.Flaw.{Flaw}
 use Rattle.dwc_base.specs.declared.faults.Flaw.TheVariants.{EndsEarly}
 use Rattle.dwc_base.specs.Reading.{Unread, Read, ◌>>=◌, seen_as, counted_at, text_at}
-use Rattle.dwc_base.specs.LineHeaders as spec
-use Rattle.dwc_base.specs.Texts.{TextSource, text_in, offset_of_text}
-use Rattle.dwc_base.specs.LineHeaders.{LineFile, LineSource, entry_field_at, entry_fields_at}
+use Rattle.dwc_dwarf.specs.LineHeaders as spec
+use Rattle.dwc_dwarf.specs.Texts.{TextSource, text_in, offset_of_text}
+use Rattle.dwc_dwarf.specs.LineHeaders.{LineFile, LineSource, entry_field_at, entry_fields_at}
 use Rattle.dwc_base.proofs.Steps.{bytes_at-short, number_at-no_bytes}
 use Rattle.dwc_tabs.specs.declared.entries.EntryFormat.{EntryFormat}
 use Rattle.dwc_tabs.specs.Headers.{format_view}

@@ -5,9 +5,9 @@ use Rattle.std.specs.List.{list_all}
 use Rattle.std.proofs.Math.Bool.{and-false}
 use Rattle.std.proofs.Math.Dec.{leb-zero}
 use Rattle.std.proofs.lemmas.Bool.Decides.{nat_tests}
-use Rattle.dwc_base.specs.LineHeaders.{LineFile}
-use Rattle.dwc_base.specs.LineRows.{LineTable, LineStep, start, row, end, in_directory, numbered, source_file}
-use Rattle.dwc_base.specs.LineFiles.{names_file, has_names, is_named, has_all_files}
+use Rattle.dwc_dwarf.specs.LineHeaders.{LineFile}
+use Rattle.dwc_dwarf.specs.LineRows.{LineTable, LineStep, start, row, end, in_directory, numbered, source_file}
+use Rattle.dwc_dwarf.specs.LineFiles.{names_file, has_names, is_named, has_all_files}
 use Rattle.dwc_tabs.specs.declared.program.ProgramCheck.{ProgramCheck}
 use Rattle.dwc_tabs.specs.Programs.{is_number, are_within}
 use Rattle.dwc_tabs.specs.Tables.{names_within, Bounds, is_named_within}

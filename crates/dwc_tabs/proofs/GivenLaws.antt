@@ -11,12 +11,12 @@ use Rattle.dwc_base.specs.declared.faults.Flaw.{Flaw}
 use Rattle.dwc_base.specs.declared.faults.Flaw.TheVariants.{EndsEarly, TooWide, Malformed, Refused}
 use Rattle.dwc_base.specs.Sections.{Sections, Fault, unreadable, unsupported, reported}
 use Rattle.dwc_base.specs.Units.{UnitHeader}
-use Rattle.dwc_base.specs.Indexed.{address_indexed}
+use Rattle.dwc_dwarf.specs.Indexed.{address_indexed}
 use Rattle.dwc_base.specs.Reading.{◌>>=◌}
 use Rattle.dwc_base.specs.Listing.{Listing, no_items, only_fault, with_first}
-use Rattle.dwc_base.specs.Trees.{Interval}
-use Rattle.dwc_base.specs.RawLists.{ListSource, RawEntry}
-use Rattle.dwc_base.specs.Lists.{ListRefusal, of_place, list_source, indexed_at, interval_given, base_behind, intervals_given}
+use Rattle.dwc_dwarf.specs.Trees.{Interval}
+use Rattle.dwc_dwarf.specs.RawLists.{ListSource, RawEntry}
+use Rattle.dwc_dwarf.specs.Lists.{ListRefusal, of_place, list_source, indexed_at, interval_given, base_behind, intervals_given}
 use Rattle.dwc_read.specs.declared.fault.ReadFault.{ReadFault}
 use Rattle.dwc_read.specs.Faults.{fault_seen}
 use Rattle.dwc_tabs.specs.declared.list_start.ListStart.{ListStart}

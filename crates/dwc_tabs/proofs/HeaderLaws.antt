@@ -5,7 +5,7 @@ use Rattle.dwc_base.specs.declared.records.Endian.{Endian}
 use Rattle.dwc_base.specs.declared.records.Endian.TheVariants.{Little, Big}
 use Rattle.dwc_base.specs.declared.faults.Flaw.TheVariants.{EndsEarly}
 use Rattle.dwc_base.specs.Reading.{Unread, ◌>>=◌, bytes_at, number_at, counted_at, number, text_at}
-use Rattle.dwc_base.specs.LineHeaders.{LineFile, file_behind, file_at}
+use Rattle.dwc_dwarf.specs.LineHeaders.{LineFile, file_behind, file_at}
 use Rattle.dwc_base.proofs.Items.{Leaves}
 use Rattle.dwc_base.proofs.Takes.{Leaves-bind, Leaves-same, text_at-leaves}
 use Rattle.dwc_base.proofs.TakesMore.{Leaves-more, uleb_at-leaves}

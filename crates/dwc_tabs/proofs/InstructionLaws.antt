@@ -5,7 +5,7 @@ use Rattle.std.specs.Prelude.{nat_le, slice_index, ◌&&◌, nat_lt, true, false
 use Rattle.dwc_base.specs.declared.faults.Flaw.{Flaw}
 use Rattle.dwc_base.specs.Reading.{Unread, Read, ◌>>=◌, coded, number_at, uleb_at, text_at, seen_as, counted_at}
 use Rattle.dwc_base.specs.Sections.{Relocation, address_at}
-use Rattle.dwc_base.specs.LineHeaders.{LineHeader, standard_opcodes, passed_operands_at, special, set_address, define_file, unknown, file_behind, extended_at, extended_instruction_at, instruction_at}
+use Rattle.dwc_dwarf.specs.LineHeaders.{LineHeader, standard_opcodes, passed_operands_at, special, set_address, define_file, unknown, file_behind, extended_at, extended_instruction_at, instruction_at}
 use Rattle.dwc_tabs.specs.Instructions.{standard_at}
 
 -- a choice by a test that holds

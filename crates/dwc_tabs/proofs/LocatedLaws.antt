@@ -9,10 +9,10 @@ use Rattle.dwc_base.specs.declared.faults.Flaw.{Flaw}
 use Rattle.dwc_base.specs.Sections.{Sections, Fault, reported}
 use Rattle.dwc_base.specs.Units.{UnitHeader}
 use Rattle.dwc_base.specs.Listing.{Listing, no_items, only_fault, with_first}
-use Rattle.dwc_base.specs.Trees.{Interval}
-use Rattle.dwc_base.specs.Values.{Value}
-use Rattle.dwc_base.specs.RawLists.{ListPlace, RawLocation, list_named, list_fault, raw_locations}
-use Rattle.dwc_base.specs.Lists.{ListRefusal, of_place, ListedLocation, list_source, located, locations_at, locations_of_value, list_of_value, first_base_of}
+use Rattle.dwc_dwarf.specs.Trees.{Interval}
+use Rattle.dwc_dwarf.specs.Values.{Value}
+use Rattle.dwc_dwarf.specs.RawLists.{ListPlace, RawLocation, list_named, list_fault, raw_locations}
+use Rattle.dwc_dwarf.specs.Lists.{ListRefusal, of_place, ListedLocation, list_source, located, locations_at, locations_of_value, list_of_value, first_base_of}
 use Rattle.dwc_read.specs.declared.fault.ReadFault.{ReadFault}
 use Rattle.dwc_read.specs.Faults.{fault_seen}
 use Rattle.dwc_tabs.specs.RangeLists.{RefusesWith}

@@ -9,13 +9,13 @@ use Rattle.dwc_base.specs.declared.faults.Flaw.TheVariants.{EndsEarly}
 use Rattle.dwc_base.specs.declared.faults.What.TheVariants.{LocationList}
 use Rattle.dwc_base.specs.declared.section_name.SectionName.TheVariants.{Info, Loc, Loclists}
 use Rattle.dwc_base.specs.Units.{UnitHeader}
-use Rattle.dwc_base.specs.Values.{location_reference, location_index, sized_number_at}
-use Rattle.dwc_base.specs.Lists.{list_source}
-use Rattle.dwc_base.specs.Indexed.{index_base}
+use Rattle.dwc_dwarf.specs.Values.{location_reference, location_index, sized_number_at}
+use Rattle.dwc_dwarf.specs.Lists.{list_source}
+use Rattle.dwc_dwarf.specs.Indexed.{index_base}
 use Rattle.dwc_base.specs.Reading.{Unread, ◌>>=◌, passed, bytes_at}
 use Rattle.dwc_base.specs.Listing.{no_items, only_fault, with_first}
 use Rattle.dwc_base.specs.Sections.{Sections, Relocation, Fault, section_from, reported}
-use Rattle.dwc_base.specs.RawLists.{ListSource, ListPlace, list_named, place_indexed, RawEntry, RawLocation, location_kinds, list_fault, selects_base, placed_expression_at, location_behind, raw_entry_at, raw_location_at, raw_locations}
+use Rattle.dwc_dwarf.specs.RawLists.{ListSource, ListPlace, list_named, place_indexed, RawEntry, RawLocation, location_kinds, list_fault, selects_base, placed_expression_at, location_behind, raw_entry_at, raw_location_at, raw_locations}
 use Rattle.dwc_base.proofs.Items.{Leaves, LeavesFewer}
 use Rattle.dwc_base.proofs.Takes.{Leaves-bind, Leaves-same, number_at-leaves}
 use Rattle.dwc_base.proofs.TakesMore.{Leaves-more, uleb_at-leaves}

@@ -8,8 +8,8 @@ use Rattle.std.proofs.lemmas.Bool.Decides.{nat_tests}
 use Rattle.dwc_base.specs.declared.records.LineRow.{LineRow}
 use Rattle.dwc_base.specs.Reading.{Unread}
 use Rattle.dwc_base.specs.Sections.{Relocation}
-use Rattle.dwc_base.specs.LineHeaders.{LineFile, LineHeader, Instruction, instruction_at, special, copy, advance_pc, advance_line, set_file, set_column, negate_stmt, set_basic_block, const_add_pc, fixed_advance_pc, set_prologue_end, set_epilogue_begin, set_isa, end_sequence, set_address, define_file, set_discriminator, unknown}
-use Rattle.dwc_base.specs.LineRows.{Registers, LineStep, row, after, effect, appends, is_in_range, row_of, step_of, by_special, file_defined}
+use Rattle.dwc_dwarf.specs.LineHeaders.{LineFile, LineHeader, Instruction, instruction_at, special, copy, advance_pc, advance_line, set_file, set_column, negate_stmt, set_basic_block, const_add_pc, fixed_advance_pc, set_prologue_end, set_epilogue_begin, set_isa, end_sequence, set_address, define_file, set_discriminator, unknown}
+use Rattle.dwc_dwarf.specs.LineRows.{Registers, LineStep, row, after, effect, appends, is_in_range, row_of, step_of, by_special, file_defined}
 use Rattle.dwc_tabs.specs.declared.parameters.Parameters.{Parameters}
 use Rattle.dwc_tabs.specs.Headers.{program_header}
 use Rattle.dwc_tabs.specs.Steps.{capped, shown_step}

@@ -11,7 +11,7 @@ use Rattle.dwc_base.specs.declared.section_name.SectionName.{SectionName}
 use Rattle.dwc_base.specs.Reading.{Unread, Read, ◌>>=◌, coded, number_at, bytes_at}
 use Rattle.dwc_base.specs.Listing.{at_end, broken, item, no_items, only_fault, with_first}
 use Rattle.dwc_base.specs.Sections.{Sections, Relocation, Fault, section_from, address_at}
-use Rattle.dwc_base.specs.RawLists.{ListPlace, place_indexed, RawEntry, EntryKind, pair_at, kind_and_entry_at, entry_of_kind_at, next_item, unread_length, end_of_list, a_base_addressx, a_startx_endx, a_startx_length, an_offset_pair, a_default_location, a_base_address, a_start_end, a_start_length}
+use Rattle.dwc_dwarf.specs.RawLists.{ListPlace, place_indexed, RawEntry, EntryKind, pair_at, kind_and_entry_at, entry_of_kind_at, next_item, unread_length, end_of_list, a_base_addressx, a_startx_endx, a_startx_length, an_offset_pair, a_default_location, a_base_address, a_start_end, a_start_length}
 use Rattle.dwc_base.proofs.Items.{Leaves, LeavesFewer}
 use Rattle.dwc_base.proofs.Takes.{Leaves-bind, Leaves-same, number_at-leaves}
 use Rattle.dwc_base.proofs.TakesMore.{Leaves-more, Leaves-seen, uleb_at-leaves}

@@ -9,9 +9,9 @@ use Rattle.dwc_base.specs.declared.faults.NotRead.{NotRead}
 use Rattle.dwc_base.specs.declared.faults.What.TheVariants.{LineTable as LineTableRead}
 use Rattle.dwc_base.specs.declared.section_name.SectionName.TheVariants.{Line}
 use Rattle.dwc_base.specs.Sections.{Sections, Relocation, section_from, reported}
-use Rattle.dwc_base.specs.LineFiles.{is_named, has_all_files}
-use Rattle.dwc_base.specs.LineHeaders.{LineFile, LineSource, line_source, Instruction, line_header_at, instructions}
-use Rattle.dwc_base.specs.LineRows.{LineStep, at_sequence_start, file_defined, checked_table}
+use Rattle.dwc_dwarf.specs.LineFiles.{is_named, has_all_files}
+use Rattle.dwc_dwarf.specs.LineHeaders.{LineFile, LineSource, line_source, Instruction, line_header_at, instructions}
+use Rattle.dwc_dwarf.specs.LineRows.{LineStep, at_sequence_start, file_defined, checked_table}
 use Rattle.dwc_tabs.specs.declared.parameters.Parameters.{Parameters}
 use Rattle.dwc_tabs.specs.declared.program.ProgramCheck.{ProgramCheck}
 use Rattle.dwc_tabs.specs.Headers.{header_of, program_header}

@@ -6,8 +6,8 @@ use Rattle.dwc_base.specs.declared.faults.Flaw.{Flaw}
 use Rattle.dwc_base.specs.declared.faults.Flaw.TheVariants.{EndsEarly}
 use Rattle.dwc_base.specs.Reading.{Unread, Read, coded, number_at, bytes_at, seen_as, number, passed}
 use Rattle.dwc_base.specs.Listing.{at_end, no_items, only_fault, with_first}
-use Rattle.dwc_base.specs.Values.{fixed, variable, sized_number_at}
-use Rattle.dwc_base.specs.Operations.{Operand, unsigned, signed, Operands, one, two, wasm_location, operands_of, index_table, operand_at, index_at, wasm_location_at, operands_at, Operation, operation_at, met_operation, next_operation, operations_from}
+use Rattle.dwc_dwarf.specs.Values.{fixed, variable, sized_number_at}
+use Rattle.dwc_dwarf.specs.Operations.{Operand, unsigned, signed, Operands, one, two, wasm_location, operands_of, index_table, operand_at, index_at, wasm_location_at, operands_at, Operation, operation_at, met_operation, next_operation, operations_from}
 use Rattle.dwc_base.proofs.Items.{Leaves, LeavesFewer}
 use Rattle.dwc_base.proofs.Takes.{Leaves-bind, Leaves-same, number_at-leaves}
 use Rattle.dwc_base.proofs.TakesMore.{Leaves-more, Leaves-seen, uleb_at-leaves, sleb_at-leaves}

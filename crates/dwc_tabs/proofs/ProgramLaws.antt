@@ -7,11 +7,11 @@ use Rattle.dwc_base.specs.declared.faults.Flaw.{Flaw}
 use Rattle.dwc_base.specs.Reading.{Unread}
 use Rattle.dwc_base.specs.Sections.{Relocation}
 use Rattle.dwc_base.specs.Listing.{with_first, no_items}
-use Rattle.dwc_base.specs.LineHeaders.{Instruction, instruction_at}
-use Rattle.dwc_base.specs.LineRows.{Registers, LineStep, after, effect, file_defined}
+use Rattle.dwc_dwarf.specs.LineHeaders.{Instruction, instruction_at}
+use Rattle.dwc_dwarf.specs.LineRows.{Registers, LineStep, after, effect, file_defined}
 use Rattle.dwc_base.proofs.Takes.{Leaves-at}
-use Rattle.dwc_base.proofs.TakesValues.{instruction_at-leaves}
-use Rattle.dwc_base.proofs.EntryWalk.{instructions-end, instructions-flaw, instructions-more}
+use Rattle.dwc_dwarf.proofs.TakesValues.{instruction_at-leaves}
+use Rattle.dwc_dwarf.proofs.EntryWalk.{instructions-end, instructions-flaw, instructions-more}
 use Rattle.dwc_tabs.specs.declared.parameters.Parameters.{Parameters}
 use Rattle.dwc_tabs.specs.declared.program.ProgramCheck.{ProgramCheck}
 use Rattle.dwc_tabs.specs.Headers.{program_header}

@@ -12,10 +12,10 @@ use Rattle.dwc_base.specs.declared.faults.Flaw.{Flaw}
 use Rattle.dwc_base.specs.Sections.{Sections, Fault, reported}
 use Rattle.dwc_base.specs.Units.{UnitHeader}
 use Rattle.dwc_base.specs.Listing.{Listing, no_items, only_fault, with_first}
-use Rattle.dwc_base.specs.Trees.{Interval}
-use Rattle.dwc_base.specs.Values.{Value}
-use Rattle.dwc_base.specs.RawLists.{ListPlace, RawEntry, list_named, list_fault, raw_ranges}
-use Rattle.dwc_base.specs.Lists.{ListRefusal, of_place, list_source, ranges_at, ranges_of_value, list_of_value, first_base_of}
+use Rattle.dwc_dwarf.specs.Trees.{Interval}
+use Rattle.dwc_dwarf.specs.Values.{Value}
+use Rattle.dwc_dwarf.specs.RawLists.{ListPlace, RawEntry, list_named, list_fault, raw_ranges}
+use Rattle.dwc_dwarf.specs.Lists.{ListRefusal, of_place, list_source, ranges_at, ranges_of_value, list_of_value, first_base_of}
 use Rattle.dwc_read.specs.declared.fault.ReadFault.{ReadFault}
 use Rattle.dwc_read.specs.Faults.{fault_seen}
 use Rattle.dwc_tabs.specs.RangeLists.{RangeEntriesView, RefusesWith, range_list_named}

@@ -7,13 +7,13 @@ use Rattle.dwc_base.specs.declared.faults.Flaw.{Flaw}
 use Rattle.dwc_base.specs.declared.faults.What.TheVariants.{RangeList}
 use Rattle.dwc_base.specs.declared.section_name.SectionName.TheVariants.{Info, Ranges, Rnglists}
 use Rattle.dwc_base.specs.Units.{UnitHeader}
-use Rattle.dwc_base.specs.Values.{range_reference, range_index}
-use Rattle.dwc_base.specs.Lists.{list_source}
-use Rattle.dwc_base.specs.Indexed.{index_base}
+use Rattle.dwc_dwarf.specs.Values.{range_reference, range_index}
+use Rattle.dwc_dwarf.specs.Lists.{list_source}
+use Rattle.dwc_dwarf.specs.Indexed.{index_base}
 use Rattle.dwc_base.specs.Reading.{Unread}
 use Rattle.dwc_base.specs.Listing.{no_items, only_fault, with_first}
 use Rattle.dwc_base.specs.Sections.{Sections, Fault, section_from, reported}
-use Rattle.dwc_base.specs.RawLists.{ListSource, ListPlace, list_named, place_indexed, RawEntry, range_kinds, list_fault, raw_entry_at, raw_ranges}
+use Rattle.dwc_dwarf.specs.RawLists.{ListSource, ListPlace, list_named, place_indexed, RawEntry, range_kinds, list_fault, raw_entry_at, raw_ranges}
 use Rattle.dwc_tabs.specs.declared.open_list.OpenList.{OpenList}
 use Rattle.dwc_tabs.specs.OpenLists.{list_entry_at, left_of_list, opened_at}
 use Rattle.dwc_tabs.specs.RangeLists.{entries_left, place_of_list, section_of_lists, range_list_named}

@@ -3,7 +3,7 @@
 use Rattle.std.proofs.Common.{◌≡◌, ℕ, refl, ap, ◌∙◌, List, [], ◌∷◌}
 use Rattle.std.specs.Prelude.{nat_lt, if◌then◌else◌, option_and_then, slice_get}
 use Rattle.dwc_base.specs.declared.records.LineRow.{LineRow}
-use Rattle.dwc_base.specs.LineRows.{LineTable, LineStep, start, row, end, in_directory, numbered, source_file, named_row, rows_before, stop_behind, segment_if, with_segment, segments_among, segments}
+use Rattle.dwc_dwarf.specs.LineRows.{LineTable, LineStep, start, row, end, in_directory, numbered, source_file, named_row, rows_before, stop_behind, segment_if, with_segment, segments_among, segments}
 
 module _ (t u : LineTable) (version : t.header.version ≡ u.header.version) (directories : t.header.directories ≡ u.header.directories) (files : t.files ≡ u.files) where
   -- they name the same files

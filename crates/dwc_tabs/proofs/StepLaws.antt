@@ -2,8 +2,8 @@
 use Rattle.std.proofs.Common.{◌≡◌, ℕ, ◌+◌, ◌-◌, ◌*◌, ◌^◌, ◌<◌, ◌≤◌, min, refl, sym, ap, ◌∙◌, arith, List, [], ◌∷◌, map, Option, Some, None, Bool, true, false, leb, ltb}
 use Rattle.std.specs.Prelude.{option_map}
 use Rattle.std.proofs.lemmas.Bool.{leb-true, leb-false, le-ltb}
-use Rattle.dwc_base.specs.LineHeaders.{LineHeader, Instruction, special, copy, advance_pc, advance_line, set_file, set_column, negate_stmt, set_basic_block, const_add_pc, fixed_advance_pc, set_prologue_end, set_epilogue_begin, set_isa, end_sequence, set_address, define_file, set_discriminator, unknown}
-use Rattle.dwc_base.specs.LineRows.{Registers, by_special, special_advance, end, after, effect, effects, with_effect, Effect, appends, LineStep}
+use Rattle.dwc_dwarf.specs.LineHeaders.{LineHeader, Instruction, special, copy, advance_pc, advance_line, set_file, set_column, negate_stmt, set_basic_block, const_add_pc, fixed_advance_pc, set_prologue_end, set_epilogue_begin, set_isa, end_sequence, set_address, define_file, set_discriminator, unknown}
+use Rattle.dwc_dwarf.specs.LineRows.{Registers, by_special, special_advance, end, after, effect, effects, with_effect, Effect, appends, LineStep}
 use Rattle.dwc_tabs.specs.Steps.{capped, end_view, shown_step, shown_steps}
 
 -- a row is shown alike where its offset stays at 2 ^ 64 - 1

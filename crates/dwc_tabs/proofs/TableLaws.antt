@@ -18,8 +18,8 @@ use Rattle.dwc_base.specs.Reading.{Unread, Read as ReadOf, bytes_at, number_at}
 use Rattle.dwc_base.specs.Units.{sized_part_at}
 use Rattle.dwc_base.specs.Sections.{Sections, Relocation, reported, fault_of, unreadable, unsupported}
 use Rattle.dwc_base.specs.Listing.{Listing}
-use Rattle.dwc_base.specs.LineHeaders.{LineFile, LineHeader, LineSource, line_source, line_header_at, Instruction, special, copy, advance_pc, advance_line, set_file, set_column, negate_stmt, set_basic_block, const_add_pc, fixed_advance_pc, set_prologue_end, set_epilogue_begin, set_isa, end_sequence, set_address, define_file, set_discriminator, unknown, extended_at, extended_instruction_at, instruction_at, next_instruction, instructions}
-use Rattle.dwc_base.specs.LineRows.{Registers, LineStep, start, row, end, after, effect, effects, with_effect, Effect, is_in_range, step_of, at_sequence_start, file_defined, table_of, checked_table, line_table_at, line_table}
+use Rattle.dwc_dwarf.specs.LineHeaders.{LineFile, LineHeader, LineSource, line_source, line_header_at, Instruction, special, copy, advance_pc, advance_line, set_file, set_column, negate_stmt, set_basic_block, const_add_pc, fixed_advance_pc, set_prologue_end, set_epilogue_begin, set_isa, end_sequence, set_address, define_file, set_discriminator, unknown, extended_at, extended_instruction_at, instruction_at, next_instruction, instructions}
+use Rattle.dwc_dwarf.specs.LineRows.{Registers, LineStep, start, row, end, after, effect, effects, with_effect, Effect, is_in_range, step_of, at_sequence_start, file_defined, table_of, checked_table, line_table_at, line_table}
 use Rattle.dwc_tabs.specs.declared.parameters.Parameters.{Parameters}
 use Rattle.dwc_tabs.specs.declared.program.FileNumbers.{FileNumbers}
 use Rattle.dwc_tabs.specs.declared.program.ProgramCheck.{ProgramCheck}

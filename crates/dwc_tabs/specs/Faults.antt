@@ -1,8 +1,8 @@
 -- What a refusal of a line table says.
 use Rattle.std.specs.Prelude.{◌≡◌, ℕ, false, true, Option, Some, None, Result, Ok, Err}
 use Rattle.dwc_base.specs.Sections.{Fault, unreadable, unsupported}
-use Rattle.dwc_base.specs.LineRows.{LineTable}
-use Rattle.dwc_base.specs.LineFiles.{has_all_files}
+use Rattle.dwc_dwarf.specs.LineRows.{LineTable}
+use Rattle.dwc_dwarf.specs.LineFiles.{has_all_files}
 use Rattle.dwc_tabs.specs.declared.fault.TabFault.{TabFault}
 use Rattle.dwc_tabs.specs.declared.fault.TabFault.TheVariants.{Read, Unsupported, InvalidFileIndex, OutOfMemory}
 

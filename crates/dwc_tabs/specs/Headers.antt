@@ -2,8 +2,8 @@
 use Rattle.std.specs.Prelude.{ℕ, List, [], map}
 use Rattle.dwc_base.specs.declared.records.Endian.TheVariants.{Little}
 use Rattle.dwc_base.specs.Reading.{Unread}
-use Rattle.dwc_base.specs.Texts.{TextSource}
-use Rattle.dwc_base.specs.LineHeaders as spec
+use Rattle.dwc_dwarf.specs.Texts.{TextSource}
+use Rattle.dwc_dwarf.specs.LineHeaders as spec
 use Rattle.dwc_base.specs.Cursors.{slice_bytes}
 use Rattle.dwc_tabs.specs.declared.header.LineFile.{LineFile}
 use Rattle.dwc_tabs.specs.declared.parameters.Parameters.{Parameters}

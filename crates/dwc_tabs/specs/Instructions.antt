@@ -1,7 +1,7 @@
 -- The program's own instructions, seen as those of the definitions.
 use Rattle.std.specs.Prelude.{ℕ, ◌-◌, slice_index, Some, None}
 use Rattle.dwc_base.specs.Reading.{Unread, Read, coded}
-use Rattle.dwc_base.specs.LineHeaders as spec
+use Rattle.dwc_dwarf.specs.LineHeaders as spec
 use Rattle.dwc_tabs.specs.Headers.{file_view}
 use Rattle.dwc_tabs.specs.declared.instruction.Instruction.{Instruction}
 use Rattle.dwc_tabs.specs.declared.instruction.Instruction.TheVariants.{Special, Copy, AdvancePc, AdvanceLine, SetFile, SetColumn, NegateStmt, SetBasicBlock, ConstAddPc, FixedAdvancePc, SetPrologueEnd, SetEpilogueBegin, SetIsa, EndSequence, SetAddress, DefineFile, SetDiscriminator, Unknown}

@@ -7,10 +7,10 @@ use Rattle.dwc_base.specs.Reading.{Unread, Read, ◌>>=◌}
 use Rattle.dwc_base.specs.Listing.{Listing}
 use Rattle.dwc_base.specs.Sections.{Sections, Relocation, Fault, reported}
 use Rattle.dwc_base.specs.Units.{UnitHeader}
-use Rattle.dwc_base.specs.Values.{Value}
-use Rattle.dwc_base.specs.RawLists as Definitions
-use Rattle.dwc_base.specs.RawLists.{ListPlace, list_named, RawEntry, RawLocation, default_location, location_kinds, location_behind, list_fault, raw_locations}
-use Rattle.dwc_base.specs.Lists.{list_source}
+use Rattle.dwc_dwarf.specs.Values.{Value}
+use Rattle.dwc_dwarf.specs.RawLists as Definitions
+use Rattle.dwc_dwarf.specs.RawLists.{ListPlace, list_named, RawEntry, RawLocation, default_location, location_kinds, location_behind, list_fault, raw_locations}
+use Rattle.dwc_dwarf.specs.Lists.{list_source}
 use Rattle.dwc_read.specs.declared.fault.ReadFault.{ReadFault}
 use Rattle.dwc_read.specs.Faults.{fault_seen}
 use Rattle.dwc_tabs.specs.declared.open_list.OpenList.{OpenList}

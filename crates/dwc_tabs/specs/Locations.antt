@@ -8,11 +8,11 @@ use Rattle.dwc_base.specs.Cursors.{slice_bytes}
 use Rattle.dwc_base.specs.Listing.{Listing, no_items, only_fault, with_first}
 use Rattle.dwc_base.specs.Sections.{Sections, Fault}
 use Rattle.dwc_base.specs.Units.{UnitHeader}
-use Rattle.dwc_base.specs.Values.{Value}
-use Rattle.dwc_base.specs.Trees.{Interval}
-use Rattle.dwc_base.specs.RawLists.{RawEntry, RawLocation, list_fault}
-use Rattle.dwc_base.specs.Lists as Definitions
-use Rattle.dwc_base.specs.Lists.{ListRefusal, list_source, located, locations_of_value}
+use Rattle.dwc_dwarf.specs.Values.{Value}
+use Rattle.dwc_dwarf.specs.Trees.{Interval}
+use Rattle.dwc_dwarf.specs.RawLists.{RawEntry, RawLocation, list_fault}
+use Rattle.dwc_dwarf.specs.Lists as Definitions
+use Rattle.dwc_dwarf.specs.Lists.{ListRefusal, list_source, located, locations_of_value}
 use Rattle.dwc_read.specs.declared.fault.ReadFault.{ReadFault}
 use Rattle.dwc_read.specs.Faults.{fault_seen}
 use Rattle.dwc_tabs.specs.declared.list_fault.ListFault.{ListFault}

@@ -8,8 +8,8 @@ use Rattle.dwc_base.specs.Reading.{Unread, Read, ◌>>=◌, number_at}
 use Rattle.dwc_base.specs.Listing.{Listing, walk}
 use Rattle.dwc_base.specs.Sections.{Sections, Relocation, Fault, fault_of}
 use Rattle.dwc_base.specs.Units.{UnitHeader}
-use Rattle.dwc_base.specs.RawLists.{ListPlace, RawEntry, pair_at, kind_and_entry_at, next_item, unread_length, end_of_list, a_base_addressx, a_startx_endx, a_startx_length, an_offset_pair, a_base_address, a_start_end, a_start_length}
-use Rattle.dwc_base.specs.RawLists as Definitions
+use Rattle.dwc_dwarf.specs.RawLists.{ListPlace, RawEntry, pair_at, kind_and_entry_at, next_item, unread_length, end_of_list, a_base_addressx, a_startx_endx, a_startx_length, an_offset_pair, a_base_address, a_start_end, a_start_length}
+use Rattle.dwc_dwarf.specs.RawLists as Definitions
 use Rattle.dwc_tabs.specs.declared.entry_kind.EntryKind.{EntryKind}
 use Rattle.dwc_tabs.specs.declared.entry_kind.EntryKind.TheVariants.{EndOfList, BaseAddressx, StartxEndx, StartxLength, OffsetPair, BaseAddress, StartEnd, StartLength}
 use Rattle.dwc_tabs.specs.declared.list_start.ListStart.{ListStart}

@@ -5,9 +5,9 @@ use Rattle.std.specs.List.Sorted.{IsNonDecreasingBy}
 use Rattle.dwc_base.specs.declared.faults.Flaw.{Flaw}
 use Rattle.dwc_base.specs.declared.records.LineRow.{LineRow}
 use Rattle.dwc_base.specs.Cursors.{slice_bytes}
-use Rattle.dwc_base.specs.LineFiles.{has_names, is_named, has_all_files}
-use Rattle.dwc_base.specs.LineHeaders.{LineSource, line_source, line_header_at}
-use Rattle.dwc_base.specs.LineRows.{Registers, LineTable, LineStep, start, row, end, file_defined, line_table}
+use Rattle.dwc_dwarf.specs.LineFiles.{has_names, is_named, has_all_files}
+use Rattle.dwc_dwarf.specs.LineHeaders.{LineSource, line_source, line_header_at}
+use Rattle.dwc_dwarf.specs.LineRows.{Registers, LineTable, LineStep, start, row, end, file_defined, line_table}
 use Rattle.dwc_base.specs.Reading.{Unread}
 use Rattle.dwc_base.specs.Sections.{Sections, Relocation, section_from}
 use Rattle.dwc_base.specs.declared.section_name.SectionName.TheVariants.{Line}

@@ -2,9 +2,9 @@
 use Rattle.std.specs.Prelude.{◌≡◌, ℕ, Option, Some, None, Result, Ok, Err}
 use Rattle.dwc_base.specs.Listing.{Listing, no_items, only_fault, with_first}
 use Rattle.dwc_base.specs.Sections.{Fault, unreadable, unsupported}
-use Rattle.dwc_base.specs.Values.{fixed, variable}
-use Rattle.dwc_base.specs.Operations.{unsigned, signed, one, two, wasm_location, operation_fault}
-use Rattle.dwc_base.specs.Operations as Definitions
+use Rattle.dwc_dwarf.specs.Values.{fixed, variable}
+use Rattle.dwc_dwarf.specs.Operations.{unsigned, signed, one, two, wasm_location, operation_fault}
+use Rattle.dwc_dwarf.specs.Operations as Definitions
 use Rattle.dwc_read.specs.declared.fault.ReadFault.{ReadFault}
 use Rattle.dwc_read.specs.Faults.{fault_seen}
 use Rattle.dwc_tabs.specs.declared.operation.Operand.{Operand}

@@ -7,8 +7,8 @@ use Rattle.dwc_base.specs.declared.faults.Flaw.{Flaw}
 use Rattle.dwc_base.specs.Reading.{Unread}
 use Rattle.dwc_base.specs.Listing.{Listing}
 use Rattle.dwc_base.specs.Sections.{Relocation}
-use Rattle.dwc_base.specs.LineHeaders as spec
-use Rattle.dwc_base.specs.LineRows.{Registers, LineStep, start, row, end, at_sequence_start, file_defined}
+use Rattle.dwc_dwarf.specs.LineHeaders as spec
+use Rattle.dwc_dwarf.specs.LineRows.{Registers, LineStep, start, row, end, at_sequence_start, file_defined}
 use Rattle.dwc_tabs.specs.declared.parameters.Parameters.{Parameters}
 use Rattle.dwc_tabs.specs.declared.instruction.Instruction.{Instruction}
 use Rattle.dwc_tabs.specs.declared.program.FileNumbers.{FileNumbers}

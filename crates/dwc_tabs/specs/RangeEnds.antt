@@ -8,13 +8,13 @@ use Rattle.dwc_base.specs.declared.faults.Flaw.{Flaw}
 use Rattle.dwc_base.specs.Listing.{Listing, no_items, only_fault, with_first}
 use Rattle.dwc_base.specs.Sections.{Sections, Fault, unreadable, unsupported}
 use Rattle.dwc_base.specs.Reading.{◌>>=◌}
-use Rattle.dwc_base.specs.RawLists.{ListSource, RawEntry, list_fault}
+use Rattle.dwc_dwarf.specs.RawLists.{ListSource, RawEntry, list_fault}
 use Rattle.dwc_base.specs.Units.{UnitHeader}
-use Rattle.dwc_base.specs.Trees.{Interval}
-use Rattle.dwc_base.specs.Lists.{ListRefusal, of_place, long_range, list_source, interval_given, base_behind, intervals_given, ranges_of_value}
+use Rattle.dwc_dwarf.specs.Trees.{Interval}
+use Rattle.dwc_dwarf.specs.Lists.{ListRefusal, of_place, long_range, list_source, interval_given, base_behind, intervals_given, ranges_of_value}
 use Rattle.dwc_tabs.specs.declared.list_fault.ListFault.{ListFault}
 use Rattle.dwc_tabs.specs.declared.list_fault.ListFault.TheVariants.{Read, Unsupported, TooLarge}
-use Rattle.dwc_base.specs.Values.{Value}
+use Rattle.dwc_dwarf.specs.Values.{Value}
 use Rattle.dwc_read.specs.declared.fault.ReadFault.{ReadFault}
 use Rattle.dwc_read.specs.Faults.{fault_seen}
 use Rattle.dwc_tabs.specs.RangeLists.{RangeEntriesView, Tells, range_list_named}

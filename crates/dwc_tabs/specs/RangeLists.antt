@@ -6,9 +6,9 @@ use Rattle.dwc_base.specs.declared.faults.What.TheVariants.{RangeList}
 use Rattle.dwc_base.specs.Listing.{Listing, no_items, only_fault, with_first}
 use Rattle.dwc_base.specs.Sections.{Sections, Fault, reported}
 use Rattle.dwc_base.specs.Units.{UnitHeader}
-use Rattle.dwc_base.specs.Values.{Value}
-use Rattle.dwc_base.specs.RawLists.{ListPlace, list_named, RawEntry, base_addressx, startx_endx, startx_length, offset_pair, base_address, start_end, start_length, pair, base_selection, range_kinds, list_fault, raw_ranges}
-use Rattle.dwc_base.specs.Lists.{list_source}
+use Rattle.dwc_dwarf.specs.Values.{Value}
+use Rattle.dwc_dwarf.specs.RawLists.{ListPlace, list_named, RawEntry, base_addressx, startx_endx, startx_length, offset_pair, base_address, start_end, start_length, pair, base_selection, range_kinds, list_fault, raw_ranges}
+use Rattle.dwc_dwarf.specs.Lists.{list_source}
 use Rattle.dwc_read.specs.declared.fault.ReadFault.{ReadFault}
 use Rattle.dwc_read.specs.Faults.{fault_seen}
 use Rattle.dwc_tabs.specs.declared.open_list.OpenList.{OpenList}

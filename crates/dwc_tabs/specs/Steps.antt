@@ -1,8 +1,8 @@
 -- What the instructions show, one by one, and the program's own registers and steps seen as those of the definitions.
 use Rattle.std.specs.Prelude.{ℕ, ◌-◌, ◌^◌, min, Option, Some, None, nat_lt, if◌then◌else◌, List, map}
 use Rattle.dwc_base.specs.declared.records.LineRow.{LineRow}
-use Rattle.dwc_base.specs.LineHeaders as spec
-use Rattle.dwc_base.specs.LineRows as rows
+use Rattle.dwc_dwarf.specs.LineHeaders as spec
+use Rattle.dwc_dwarf.specs.LineRows as rows
 use Rattle.dwc_tabs.specs.declared.registers.Registers.{Registers}
 use Rattle.dwc_tabs.specs.declared.step.LineStep.{LineStep}
 use Rattle.dwc_tabs.specs.declared.step.LineStep.TheVariants.{Start, Row, End}

@@ -9,8 +9,8 @@ use Rattle.dwc_base.specs.Reading.{Unread, ◌>>=◌}
 use Rattle.dwc_base.specs.declared.faults.What.TheVariants.{LineTable as LineTableRead}
 use Rattle.dwc_base.specs.declared.section_name.SectionName.TheVariants.{Line}
 use Rattle.dwc_base.specs.Sections.{Relocation, Fault, reported}
-use Rattle.dwc_base.specs.LineHeaders.{LineFile, LineSource, line_header_at, instructions}
-use Rattle.dwc_base.specs.LineRows.{LineTable, LineStep, start, row, end, checked_table, at_sequence_start}
+use Rattle.dwc_dwarf.specs.LineHeaders.{LineFile, LineSource, line_header_at, instructions}
+use Rattle.dwc_dwarf.specs.LineRows.{LineTable, LineStep, start, row, end, checked_table, at_sequence_start}
 use Rattle.dwc_base.specs.Cursors.{slice_bytes}
 use Rattle.dwc_tabs.specs.declared.parameters.Parameters.{Parameters}
 use Rattle.dwc_tabs.specs.declared.program.ProgramCheck.{ProgramCheck}

@@ -2,7 +2,7 @@
 ghost use Rattle.std.specs.Prelude.{◌≡◌, ◌<◌, IsTrue, map, length, ℕ};
 ghost use Rattle.std.specs.List.{list_any};
 ghost use Rattle.dwc_base.specs.Reading.{counted_at};
-ghost use Rattle.dwc_base.specs.LineHeaders.{entry_format_at, entry_formats_at, is_path as says_path, has_one_path as have_one_path, entry_count_at, directory_or as directory_read, with_field as field_added, entry_field_at, entry_fields_at, no_fields, file_entry_at, directory_entry_at, directories_of_5_at, files_of_5_at};
+ghost use Rattle.dwc_dwarf.specs.LineHeaders.{entry_format_at, entry_formats_at, is_path as says_path, has_one_path as have_one_path, entry_count_at, directory_or as directory_read, with_field as field_added, entry_field_at, entry_fields_at, no_fields, file_entry_at, directory_entry_at, directories_of_5_at, files_of_5_at};
 ghost use Rattle.dwc_base.specs.Cursors.{Gives, GivesLast, GivesOrMemory, slice_bytes};
 ghost use Rattle.dwc_base.specs.FieldSizes.{is_field_size};
 ghost use Rattle.dwc_read.specs.ValuesSeen.{value_view};
@@ -24,7 +24,7 @@ struct EntryFormat {
 }
 
 // The format of a field.
-#[tactic(auto, unfolding(dwc_base::specs::LineHeaders::entry_format_at))]
+#[tactic(auto, unfolding(dwc_dwarf::specs::LineHeaders::entry_format_at))]
 fn entry_format(cursor: &mut Cursor<'_>) -> Result<EntryFormat, Flaw>
     ensures { Gives format_view (entry_format_at cursor.old) cursor.new result }
 {
@@ -53,7 +53,7 @@ fn some_formats(
 }
 
 // The formats of the fields of an entry.
-#[tactic(auto, unfolding(dwc_base::specs::LineHeaders::entry_formats_at))]
+#[tactic(auto, unfolding(dwc_dwarf::specs::LineHeaders::entry_formats_at))]
 fn entry_formats(alloc: Global, cursor: &mut Cursor<'_>) -> Result<Vec<EntryFormat>, NotRead>
     ensures { GivesOrMemory (λ v. map format_view v.items) (entry_formats_at cursor.old) cursor.new result }
 {
@@ -94,7 +94,7 @@ fn has_one_path(formats: &[EntryFormat]) -> bool
 }
 
 // How many entries there are; where there are some, they have a path.
-#[tactic(auto, unfolding(dwc_base::specs::LineHeaders::entry_count_at))]
+#[tactic(auto, unfolding(dwc_dwarf::specs::LineHeaders::entry_count_at))]
 fn entry_count(formats: &[EntryFormat], cursor: &mut Cursor<'_>) -> Result<u64, Flaw>
     ensures { Gives (λ x. x) (entry_count_at (map format_view formats.now) cursor.old) cursor.new result }
 {
@@ -142,7 +142,7 @@ fn with_field<'d>(
 }
 
 // A field of an entry.
-#[tactic(auto, unfolding(dwc_base::specs::LineHeaders::entry_field_at))]
+#[tactic(auto, unfolding(dwc_dwarf::specs::LineHeaders::entry_field_at))]
 fn entry_field<'d>(
     source: &Source<'d>,
     address_size: u8,
@@ -225,7 +225,7 @@ fn some_files<'d>(
 }
 
 /// The directories from number 1 on. Number 0 is the compilation directory, whose text elsewhere is not looked up.
-#[tactic(auto, unfolding(dwc_base::specs::LineHeaders::directories_of_5_at))]
+#[tactic(auto, unfolding(dwc_dwarf::specs::LineHeaders::directories_of_5_at))]
 pub fn directories_of_5<'d>(
     alloc: Global,
     source: &Source<'d>,
@@ -245,7 +245,7 @@ pub fn directories_of_5<'d>(
 }
 
 /// The files, from number 0 on.
-#[tactic(auto, unfolding(dwc_base::specs::LineHeaders::files_of_5_at))]
+#[tactic(auto, unfolding(dwc_dwarf::specs::LineHeaders::files_of_5_at))]
 pub fn files_of_5<'d>(
     alloc: Global,
     source: &Source<'d>,

@@ -1,7 +1,7 @@
 //! What an entry of a list of ranges or of locations gives: an interval, and the base of what comes next. (DWARF 4, sections
 //! 2.6.2 and 2.17.3; DWARF 5, sections 2.6.2 and 2.17.3.)
 ghost use Rattle.std.specs.Prelude.{option_map};
-ghost use Rattle.dwc_base.specs.Lists.{list_source, interval_given as given_by_entry, base_behind as base_by_entry, indexed_at};
+ghost use Rattle.dwc_dwarf.specs.Lists.{list_source, interval_given as given_by_entry, base_behind as base_by_entry, indexed_at};
 ghost use Rattle.dwc_tabs.specs.OpenLists.{told_at_start};
 ghost use Rattle.dwc_tabs.specs.RangeLists.{entry_view};
 ghost use Rattle.dwc_tabs.specs.RangeEnds.{GivesOrRefusal, interval_view, given_view, given_at as given_with_base};
@@ -30,7 +30,7 @@ fn address_at(unit: &Unit<'_>, start: ListStart, index: u64) -> Result<Address, 
 
 // The interval that an entry gives at a base, if it gives one.
 #[inline(always)]
-#[tactic(auto, unfolding(dwc_base::specs::Lists::interval_given))]
+#[tactic(auto, unfolding(dwc_dwarf::specs::Lists::interval_given))]
 fn interval_given(
     unit: &Unit<'_>,
     start: ListStart,
@@ -67,7 +67,7 @@ fn interval_given(
 
 // The base behind an entry: the one that it selects, else the one before.
 #[inline(always)]
-#[tactic(auto, unfolding(dwc_base::specs::Lists::base_behind))]
+#[tactic(auto, unfolding(dwc_dwarf::specs::Lists::base_behind))]
 fn base_behind(
     unit: &Unit<'_>,
     start: ListStart,

@@ -1,7 +1,7 @@
 //! The kinds of entries of range lists and location lists from version 5 on. (DWARF 5, section 7.25.)
 ghost use Rattle.std.specs.Prelude.{◌≡◌, option_map};
 ghost use Rattle.dwc_base.specs.Reading.{coded};
-ghost use Rattle.dwc_base.specs.RawLists.{range_kinds};
+ghost use Rattle.dwc_dwarf.specs.RawLists.{range_kinds};
 ghost use Rattle.dwc_tabs.specs.OpenLists.{kind_view};
 
 use dwc_base::constants::{

@@ -1,7 +1,7 @@
 //! The header of a line table. (DWARF 4 and 5, section 6.2.4.)
 ghost use Rattle.std.specs.Prelude.{◌≡◌, ◌+◌, ◌-◌, ◌<◌, IsTrue, IfOk, map, option_map, length, ℕ};
 ghost use Rattle.dwc_base.specs.Reading.{counted_at, items_at, number_at};
-ghost use Rattle.dwc_base.specs.LineHeaders.{signed_byte, directory_at, file_behind, file_at, operations_at, line_names_at, line_fields_at, line_address_size_at, line_header_at};
+ghost use Rattle.dwc_dwarf.specs.LineHeaders.{signed_byte, directory_at, file_behind, file_at, operations_at, line_names_at, line_fields_at, line_address_size_at, line_header_at};
 ghost use Rattle.dwc_base.specs.Cursors.{Gives, GivesLast, GivesOrMemory, GivesLastOrMemory, slice_bytes};
 ghost use Rattle.dwc_base.specs.FieldSizes.{is_field_size};
 ghost use Rattle.dwc_tabs.specs.Headers.{file_view, names_view, header_view, source_view};
@@ -40,7 +40,7 @@ pub struct Header<'d> {
 }
 
 // A directory; an empty name ends the list.
-#[tactic(auto, unfolding(dwc_base::specs::LineHeaders::directory_at))]
+#[tactic(auto, unfolding(dwc_dwarf::specs::LineHeaders::directory_at))]
 fn directory<'d>(cursor: &mut Cursor<'d>) -> Result<Option<&'d [u8]>, Flaw>
     ensures { Gives (option_map slice_bytes) (directory_at cursor.old) cursor.new result }
 {
@@ -64,7 +64,7 @@ fn directories<'d>(alloc: Global, cursor: &mut Cursor<'d>) -> Result<Vec<&'d [u8
 }
 
 /// The directory of a file behind its name; its time and its length are passed.
-#[tactic(auto, unfolding(dwc_base::specs::LineHeaders::file_behind))]
+#[tactic(auto, unfolding(dwc_dwarf::specs::LineHeaders::file_behind))]
 pub fn file_of_name<'d>(name: &'d [u8], cursor: &mut Cursor<'d>) -> Result<LineFile<'d>, Flaw>
     ensures { Gives file_view (file_behind name.now cursor.old) cursor.new result }
 {
@@ -75,7 +75,7 @@ pub fn file_of_name<'d>(name: &'d [u8], cursor: &mut Cursor<'d>) -> Result<LineF
 }
 
 // A file; an empty name ends the list.
-#[tactic(auto, unfolding(dwc_base::specs::LineHeaders::file_at))]
+#[tactic(auto, unfolding(dwc_dwarf::specs::LineHeaders::file_at))]
 fn file<'d>(cursor: &mut Cursor<'d>) -> Result<Option<LineFile<'d>>, Flaw>
     ensures { Gives (option_map file_view) (file_at cursor.old) cursor.new result }
 {
@@ -99,7 +99,7 @@ fn files<'d>(alloc: Global, cursor: &mut Cursor<'d>) -> Result<Vec<LineFile<'d>>
 }
 
 // The operations in one instruction, from version 4 on: one.
-#[tactic(auto, unfolding(dwc_base::specs::LineHeaders::operations_at))]
+#[tactic(auto, unfolding(dwc_dwarf::specs::LineHeaders::operations_at))]
 fn operations(version: u16, cursor: &mut Cursor<'_>) -> Result<u8, Flaw>
     ensures { Gives (λ x. x) (operations_at version cursor.old) cursor.new result }
 {
@@ -133,7 +133,7 @@ fn opcode_lengths<'d>(opcode_base: u8, cursor: &mut Cursor<'d>) -> Result<&'d [u
 }
 
 // The directories and the files of a version.
-#[tactic(auto, unfolding(dwc_base::specs::LineHeaders::line_names_at))]
+#[tactic(auto, unfolding(dwc_dwarf::specs::LineHeaders::line_names_at))]
 fn directories_and_files<'d>(
     alloc: Global,
     source: &Source<'d>,
@@ -158,7 +158,7 @@ fn directories_and_files<'d>(
 }
 
 // The fields behind the header's length.
-#[tactic(auto, unfolding(dwc_base::specs::LineHeaders::line_fields_at))]
+#[tactic(auto, unfolding(dwc_dwarf::specs::LineHeaders::line_fields_at))]
 fn fields<'d>(
     alloc: Global,
     source: &Source<'d>,
@@ -202,7 +202,7 @@ fn fields<'d>(
 }
 
 // The size of an address: that of the unit, from version 5 on the table's own, with no segment selectors.
-#[tactic(auto, unfolding(dwc_base::specs::LineHeaders::line_address_size_at))]
+#[tactic(auto, unfolding(dwc_dwarf::specs::LineHeaders::line_address_size_at))]
 fn address_size(version: u16, unit_size: u8, cursor: &mut Cursor<'_>) -> Result<u8, Flaw>
     requires { IsTrue (is_field_size unit_size) }
     ensures read { Gives (λ x. x) (line_address_size_at version unit_size cursor.old) cursor.new result }
@@ -223,7 +223,7 @@ fn address_size(version: u16, unit_size: u8, cursor: &mut Cursor<'_>) -> Result<
 }
 
 /// The header of the table at the front, for a unit of an address size.
-#[tactic(auto, unfolding(dwc_base::specs::LineHeaders::line_header_at))]
+#[tactic(auto, unfolding(dwc_dwarf::specs::LineHeaders::line_header_at))]
 pub fn line_header<'d>(
     alloc: Global,
     source: &Source<'d>,

@@ -1,6 +1,6 @@
 //! The instructions of a line program. (DWARF 4, section 6.2.5.)
 ghost use Rattle.std.specs.Prelude.{◌≡◌, ◌<◌, ◌-◌};
-ghost use Rattle.dwc_base.specs.LineHeaders.{passed_operands_at, extended_at, extended_instruction_at, instruction_at};
+ghost use Rattle.dwc_dwarf.specs.LineHeaders.{passed_operands_at, extended_at, extended_instruction_at, instruction_at};
 ghost use Rattle.dwc_base.specs.Cursors.{Gives};
 ghost use Rattle.dwc_tabs.specs.Headers.{program_header};
 ghost use Rattle.dwc_tabs.specs.Instructions.{instruction_view, standard_at};
@@ -46,7 +46,7 @@ const EXTENDED: u8 = 0;
 
 /// The instruction at the front. Opcodes from `opcode_base` on are special.
 #[inline(always)]
-#[tactic(auto, unfolding(dwc_base::specs::LineHeaders::instruction_at))]
+#[tactic(auto, unfolding(dwc_dwarf::specs::LineHeaders::instruction_at))]
 pub fn read_instruction<'d>(
     parameters: &Parameters<'d>,
     relocations: &Relocations<'d>,
@@ -110,7 +110,7 @@ fn pass_operands<'d>(count: u8, cursor: &mut Cursor<'d>) -> Result<Instruction<'
 
 // An extended instruction behind its 0: a length, and in it an opcode and operands. The rest of the length is passed.
 #[inline(always)]
-#[tactic(auto, unfolding(dwc_base::specs::LineHeaders::extended_instruction_at))]
+#[tactic(auto, unfolding(dwc_dwarf::specs::LineHeaders::extended_instruction_at))]
 fn extended_instruction<'d>(
     parameters: &Parameters<'d>,
     relocations: &Relocations<'d>,
@@ -127,7 +127,7 @@ fn extended_instruction<'d>(
 // The operands of an extended opcode; those of one without a meaning are left. Calls have a cursor of their own, so that a loop keeps
 // its cursor in registers.
 #[inline(always)]
-#[tactic(auto, unfolding(dwc_base::specs::LineHeaders::extended_at))]
+#[tactic(auto, unfolding(dwc_dwarf::specs::LineHeaders::extended_at))]
 fn extended_operands<'d>(
     parameters: &Parameters<'d>,
     relocations: &Relocations<'d>,

@@ -1,6 +1,6 @@
 //! Where a list of ranges or of locations begins, and the faults of what cannot be read there.
 ghost use Rattle.std.specs.Prelude.{◌≡◌, Some};
-ghost use Rattle.dwc_base.specs.Lists.{of_place};
+ghost use Rattle.dwc_dwarf.specs.Lists.{of_place};
 ghost use Rattle.dwc_base.specs.Sections.{Fault, fault_of};
 ghost use Rattle.dwc_read.specs.Faults.{fault_seen};
 ghost use Rattle.dwc_tabs.specs.RangeEnds.{refusal_view};

@@ -1,6 +1,6 @@
 //! An interval of a location list, with its expression. (DWARF 4, section 2.6.2; DWARF 5, section 2.6.2.)
 ghost use Rattle.std.specs.Prelude.{◌≡◌, option_map};
-ghost use Rattle.dwc_base.specs.Lists.{located as located_by};
+ghost use Rattle.dwc_dwarf.specs.Lists.{located as located_by};
 ghost use Rattle.dwc_tabs.specs.RangeEnds.{interval_view};
 ghost use Rattle.dwc_tabs.specs.LocationLists.{placed_view};
 ghost use Rattle.dwc_tabs.specs.Locations.{listed_view};

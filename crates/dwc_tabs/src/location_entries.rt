@@ -1,7 +1,7 @@
 //! The entries of location lists, as they stand. (DWARF 4, section 2.6.2; DWARF 5, sections 2.6.2, 7.7.3 and 7.29.)
 ghost use Rattle.std.specs.Prelude.{◌≡◌};
-ghost use Rattle.dwc_base.specs.Lists.{list_source};
-ghost use Rattle.dwc_base.specs.RawLists.{is_location_list as names_location_list, raw_locations};
+ghost use Rattle.dwc_dwarf.specs.Lists.{list_source};
+ghost use Rattle.dwc_dwarf.specs.RawLists.{is_location_list as names_location_list, raw_locations};
 ghost use Rattle.dwc_read.specs.ValuesSeen.{value_view};
 
 use crate::list_start::{ListStart, list_fault};
@@ -42,7 +42,7 @@ pub fn is_location_list(value: &AttributeValue<'_>) -> bool
 
 impl<'d> LocationEntries<'d> {
     ghost use Rattle.std.specs.Prelude.{IsTrue};
-    ghost use Rattle.dwc_base.specs.RawLists.{is_location_list};
+    ghost use Rattle.dwc_dwarf.specs.RawLists.{is_location_list};
     ghost use Rattle.dwc_base.specs.declared.faults.What.TheVariants.{LocationList as LocationListRead};
     ghost use Rattle.dwc_read.specs.ValuesSeen.{value_view};
     ghost use Rattle.dwc_tabs.specs.RangeLists.{GivesNextRead};

@@ -3,8 +3,8 @@ ghost use Rattle.std.specs.Prelude.{◌≡◌, IsTrue, Some, option_map};
 ghost use Rattle.dwc_base.specs.Cursors.{Gives};
 ghost use Rattle.dwc_base.specs.FieldSizes.{is_field_size};
 ghost use Rattle.dwc_base.specs.Reading.{coded};
-ghost use Rattle.dwc_base.specs.RawLists.{entry_of_kind_at, kind_and_entry_at, length_size, location_behind as location_found_behind, location_kinds, placed_expression_at, selects_base as is_selection};
-ghost use Rattle.dwc_base.specs.Values.{sized_number_at};
+ghost use Rattle.dwc_dwarf.specs.RawLists.{entry_of_kind_at, kind_and_entry_at, length_size, location_behind as location_found_behind, location_kinds, placed_expression_at, selects_base as is_selection};
+ghost use Rattle.dwc_dwarf.specs.Values.{sized_number_at};
 ghost use Rattle.dwc_tabs.specs.OpenLists.{list_entry_at};
 ghost use Rattle.dwc_tabs.specs.RangeLists.{entry_view};
 ghost use Rattle.dwc_tabs.specs.LocationLists.{location_kind_view, range_view, placed_view, location_view, section_of_locations as section_of, location_entry_at};
@@ -92,7 +92,7 @@ fn listed(entry: Option<RangeEntry>) -> Option<LocationRange>
 }
 
 // What an entry of a kind says of addresses; None at the end of the list.
-#[tactic(auto, unfolding(dwc_base::specs::RawLists::entry_of_kind_at))]
+#[tactic(auto, unfolding(dwc_dwarf::specs::RawLists::entry_of_kind_at))]
 fn range_of_kind(
     relocations: &Relocations<'_>,
     size: u8,
@@ -112,7 +112,7 @@ fn range_of_kind(
 }
 
 // What an entry from version 5 on says of addresses; None at the end of the list.
-#[tactic(auto, unfolding(dwc_base::specs::RawLists::kind_and_entry_at))]
+#[tactic(auto, unfolding(dwc_dwarf::specs::RawLists::kind_and_entry_at))]
 fn kind_and_range(
     relocations: &Relocations<'_>,
     size: u8,
@@ -152,7 +152,7 @@ fn location_range(
 
 // How many bytes an expression has, which two bytes say up to version 4.
 #[inline(always)]
-#[tactic(auto, unfolding(dwc_base::specs::Values::sized_number_at))]
+#[tactic(auto, unfolding(dwc_dwarf::specs::Values::sized_number_at))]
 fn expression_length(in_pairs: bool, cursor: &mut Cursor<'_>) -> Result<u64, Flaw>
     ensures { Gives (λ n. n) (sized_number_at (length_size (section_of in_pairs)) cursor.old) cursor.new result }
 {
@@ -165,7 +165,7 @@ fn expression_length(in_pairs: bool, cursor: &mut Cursor<'_>) -> Result<u64, Fla
 
 // An expression behind its length.
 #[inline(always)]
-#[tactic(auto, unfolding(dwc_base::specs::RawLists::placed_expression_at))]
+#[tactic(auto, unfolding(dwc_dwarf::specs::RawLists::placed_expression_at))]
 fn placed_expression<'d>(
     in_pairs: bool,
     cursor: &mut Cursor<'d>,
@@ -205,7 +205,7 @@ fn selects_base(says: LocationRange) -> bool
 
 // An entry behind what it says of addresses.
 #[inline(always)]
-#[tactic(auto, unfolding(dwc_base::specs::RawLists::location_behind))]
+#[tactic(auto, unfolding(dwc_dwarf::specs::RawLists::location_behind))]
 fn location_behind<'d>(
     in_pairs: bool,
     says: LocationRange,

@@ -1,6 +1,6 @@
 //! The intervals of location lists, with their expressions. (DWARF 4, section 2.6.2; DWARF 5, section 2.6.2.)
 ghost use Rattle.std.specs.Prelude.{option_map};
-ghost use Rattle.dwc_base.specs.Lists.{list_source};
+ghost use Rattle.dwc_dwarf.specs.Lists.{list_source};
 ghost use Rattle.dwc_tabs.specs.OpenLists.{told_at_start};
 ghost use Rattle.dwc_tabs.specs.RangeEnds.{GivesNextOf, GivesOrRefusal, among_given, given_at as given_with_base, given_view};
 ghost use Rattle.dwc_tabs.specs.LocationLists.{range_view};
@@ -27,7 +27,7 @@ pub struct Locations<'u, 'd> {
 
 impl<'u, 'd> Model for Locations<'u, 'd> {
     ghost use Rattle.dwc_base.specs.Listing.{Listing};
-    ghost use Rattle.dwc_base.specs.Lists.{ListRefusal, ListedLocation};
+    ghost use Rattle.dwc_dwarf.specs.Lists.{ListRefusal, ListedLocation};
     ghost use Rattle.dwc_tabs.specs.RangeEnds.{among_given};
     ghost use Rattle.dwc_tabs.specs.Locations.{locations_given};
 
@@ -38,7 +38,7 @@ impl<'u, 'd> Model for Locations<'u, 'd> {
 
 impl<'u, 'd> Locations<'u, 'd> {
     ghost use Rattle.std.specs.Prelude.{IsTrue};
-    ghost use Rattle.dwc_base.specs.RawLists.{is_location_list};
+    ghost use Rattle.dwc_dwarf.specs.RawLists.{is_location_list};
     ghost use Rattle.dwc_read.specs.ValuesSeen.{value_view};
     ghost use Rattle.dwc_tabs.specs.RangeEnds.{GivesNextOf};
     ghost use Rattle.dwc_tabs.specs.Locations.{BeginsLocations, GivesNextLocation, listed_view};
@@ -90,7 +90,7 @@ impl<'u, 'd> Locations<'u, 'd> {
 
 // What an entry gives at a base: its interval, if it gives one, and the base behind it. A default location gives none.
 #[inline(always)]
-#[tactic(auto, unfolding(crate::specs::RangeEnds::given_at, dwc_base::specs::Lists::interval_given, dwc_base::specs::Lists::base_behind))]
+#[tactic(auto, unfolding(crate::specs::RangeEnds::given_at, dwc_dwarf::specs::Lists::interval_given, dwc_dwarf::specs::Lists::base_behind))]
 fn range_given(
     unit: &Unit<'_>,
     start: ListStart,

@@ -2,8 +2,8 @@
 ghost use Rattle.std.specs.Prelude.{◌≡◌, ◌+◌, ◌*◌, ◌<◌, ◌^◌, length, SomeIff};
 ghost use Rattle.std.specs.Option.{unwrap_or};
 ghost use Rattle.dwc_base.specs.Cursors.{GivesLast};
-ghost use Rattle.dwc_base.specs.Indexed.{index_base};
-ghost use Rattle.dwc_base.specs.RawLists.{place_indexed};
+ghost use Rattle.dwc_dwarf.specs.Indexed.{index_base};
+ghost use Rattle.dwc_dwarf.specs.RawLists.{place_indexed};
 ghost use Rattle.dwc_tabs.specs.OpenLists.{unread_at as found_at, distance_at as distance_found, list_at};
 
 use dwc_base::{Cursor, Endian, Flaw, Relocations, SectionName};

@@ -3,9 +3,9 @@ ghost use Rattle.std.specs.Prelude.{◌≡◌, ◌<◌, ◌^◌, ◌&&◌, None,
 ghost use Rattle.std.specs.List.{list_all};
 ghost use Rattle.dwc_base.specs.Cursors.{slice_bytes};
 ghost use Rattle.dwc_base.specs.FieldSizes.{is_field_size};
-ghost use Rattle.dwc_base.specs.Indexed.{text_base};
-ghost use Rattle.dwc_base.specs.LineFiles.{is_named};
-ghost use Rattle.dwc_base.specs.LineRows.{file_defined};
+ghost use Rattle.dwc_dwarf.specs.Indexed.{text_base};
+ghost use Rattle.dwc_dwarf.specs.LineFiles.{is_named};
+ghost use Rattle.dwc_dwarf.specs.LineRows.{file_defined};
 ghost use Rattle.dwc_tabs.specs.Headers.{file_view, source_view};
 ghost use Rattle.dwc_tabs.specs.Instructions.{instruction_view};
 ghost use Rattle.dwc_tabs.specs.Steps.{registers_view};

@@ -2,7 +2,7 @@
 ghost use Rattle.std.specs.Prelude.{◌≡◌, option_map};
 ghost use Rattle.dwc_base.specs.Cursors.{Gives};
 ghost use Rattle.dwc_base.specs.Reading.{coded};
-ghost use Rattle.dwc_base.specs.Operations.{sign_extended, operands_of as operands_by_code, index_table, operand_at, wasm_location_at, operands_at, operation_at};
+ghost use Rattle.dwc_dwarf.specs.Operations.{sign_extended, operands_of as operands_by_code, index_table, operand_at, wasm_location_at, operands_at, operation_at};
 ghost use Rattle.dwc_tabs.specs.Operations.{operand_view, operands_view, operation_view};
 
 use dwc_base::constants::{
@@ -110,7 +110,7 @@ fn signed_32(n: u32) -> u64
 }
 
 // An operand, a signed one modulo 2^64.
-#[tactic(auto, unfolding(dwc_base::specs::Operations::operand_at, dwc_base::specs::Values::sized_number_at))]
+#[tactic(auto, unfolding(dwc_dwarf::specs::Operations::operand_at, dwc_dwarf::specs::Values::sized_number_at))]
 fn read_operand(kind: Operand, cursor: &mut Cursor<'_>) -> Result<u64, Flaw>
     ensures { Gives (λ n. n) (operand_at (operand_view kind) cursor.old) cursor.new result }
 {
@@ -143,7 +143,7 @@ fn index_of(kind: u8) -> Option<Operand>
 }
 
 // A location in WebAssembly: its kind, and the index behind it, 0 without one.
-#[tactic(auto, unfolding(dwc_base::specs::Operations::wasm_location_at, dwc_base::specs::Operations::index_at))]
+#[tactic(auto, unfolding(dwc_dwarf::specs::Operations::wasm_location_at, dwc_dwarf::specs::Operations::index_at))]
 fn wasm_location(cursor: &mut Cursor<'_>) -> Result<(u64, u64), Flaw>
     ensures { Gives (λ p. p) (wasm_location_at cursor.old) cursor.new result }
 {
@@ -155,7 +155,7 @@ fn wasm_location(cursor: &mut Cursor<'_>) -> Result<(u64, u64), Flaw>
 }
 
 // The operands in order, 0 for one that is not there.
-#[tactic(auto, unfolding(dwc_base::specs::Operations::operands_at))]
+#[tactic(auto, unfolding(dwc_dwarf::specs::Operations::operands_at))]
 fn read_operands(kinds: Option<Operands>, cursor: &mut Cursor<'_>) -> Result<(u64, u64), Flaw>
     ensures { Gives (λ p. p) (operands_at (option_map operands_view kinds) cursor.old) cursor.new result }
 {
@@ -171,7 +171,7 @@ fn read_operands(kinds: Option<Operands>, cursor: &mut Cursor<'_>) -> Result<(u6
 }
 
 // The operation at the front.
-#[tactic(auto, unfolding(dwc_base::specs::Operations::operation_at))]
+#[tactic(auto, unfolding(dwc_dwarf::specs::Operations::operation_at))]
 pub(crate) fn read_operation<'d>(cursor: &mut Cursor<'d>) -> Result<Operation<'d>, Flaw>
     ensures { Gives (operation_view cursor.old.place) (operation_at cursor.old) cursor.new result }
 {

@@ -1,6 +1,6 @@
 //! The operations of an expression. (DWARF 4 and 5, sections 2.5 and 7.7.1.)
 ghost use Rattle.std.specs.Prelude.{◌≡◌};
-ghost use Rattle.dwc_base.specs.Operations.{operations as operations_of};
+ghost use Rattle.dwc_dwarf.specs.Operations.{operations as operations_of};
 ghost use Rattle.dwc_tabs.specs.Operations.{GivesNextOperation};
 
 use crate::operation::{Operation, read_operation};
@@ -17,7 +17,7 @@ pub struct Operations<'d> {
 impl<'d> Model for Operations<'d> {
     ghost use Rattle.std.specs.Prelude.{ℕ};
     ghost use Rattle.dwc_base.specs.Listing.{Listing};
-    ghost use Rattle.dwc_base.specs.Operations.{Operation, operations_from};
+    ghost use Rattle.dwc_dwarf.specs.Operations.{Operation, operations_from};
 
     ghost Value = { Listing ℕ Operation };
 

@@ -1,6 +1,6 @@
 //! The texts of paths. (DWARF 5, sections 6.2.4.1 and 7.26.)
 ghost use Rattle.std.specs.Prelude.{◌≡◌, ◌+◌, ◌*◌};
-ghost use Rattle.dwc_base.specs.Texts.{text_in as found_text, offset_of_text as text_offset, text_elsewhere as text_of_form, path_text as text_of_path};
+ghost use Rattle.dwc_dwarf.specs.Texts.{text_in as found_text, offset_of_text as text_offset, text_elsewhere as text_of_form, path_text as text_of_path};
 ghost use Rattle.dwc_base.specs.Cursors.{GivesLast, slice_bytes};
 ghost use Rattle.dwc_read.specs.ValuesSeen.{value_view};
 ghost use Rattle.dwc_tabs.specs.Headers.{texts_view};
@@ -42,7 +42,7 @@ fn offset_of_text(source: &Source<'_>, index: u64) -> Result<u32, Flaw>
 }
 
 // The text that a number of a form names.
-#[tactic(auto, unfolding(dwc_base::specs::Texts::text_elsewhere))]
+#[tactic(auto, unfolding(dwc_dwarf::specs::Texts::text_elsewhere))]
 fn text_elsewhere<'d>(source: &Source<'d>, form: u16, number: u64) -> Result<&'d [u8], Flaw>
     ensures { GivesLast slice_bytes (text_of_form (texts_view source.now) form number) result }
 {
@@ -57,7 +57,7 @@ fn text_elsewhere<'d>(source: &Source<'d>, form: u16, number: u64) -> Result<&'d
 }
 
 /// The text of a path. A text elsewhere is empty where it is not looked up.
-#[tactic(auto, unfolding(dwc_base::specs::Texts::path_text))]
+#[tactic(auto, unfolding(dwc_dwarf::specs::Texts::path_text))]
 pub fn path_text<'d>(
     source: &Source<'d>,
     looked_up: bool,

@@ -1,7 +1,7 @@
 //! The two ends of an interval of a range list. (DWARF 4, section 2.17.3; DWARF 5, section 2.17.3.)
 ghost use Rattle.std.specs.Prelude.{◌≡◌, pos, ◌+ℤ◌, option_map};
 ghost use Rattle.std.specs.Int.{w64, int_wrap};
-ghost use Rattle.dwc_base.specs.Lists.{from_base as counted_from_base, end_from_base as end_counted, plus_length as start_plus_length, is_below as is_address_below, interval_between as interval_of_ends, interval_of_length as interval_by_length};
+ghost use Rattle.dwc_dwarf.specs.Lists.{from_base as counted_from_base, end_from_base as end_counted, plus_length as start_plus_length, is_below as is_address_below, interval_between as interval_of_ends, interval_of_length as interval_by_length};
 ghost use Rattle.dwc_tabs.specs.RangeEnds.{interval_view, GivesOrRefusal};
 
 use crate::list_fault::ListFault;

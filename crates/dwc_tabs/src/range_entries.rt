@@ -1,7 +1,7 @@
 //! The entries of range lists, as they stand. (DWARF 4, section 2.17.3; DWARF 5, sections 2.17.3, 7.25 and 7.28.)
 ghost use Rattle.std.specs.Prelude.{◌≡◌};
-ghost use Rattle.dwc_base.specs.RawLists.{is_range_list as names_range_list, raw_ranges};
-ghost use Rattle.dwc_base.specs.Lists.{list_source};
+ghost use Rattle.dwc_dwarf.specs.RawLists.{is_range_list as names_range_list, raw_ranges};
+ghost use Rattle.dwc_dwarf.specs.Lists.{list_source};
 ghost use Rattle.dwc_read.specs.ValuesSeen.{value_view};
 ghost use Rattle.dwc_tabs.specs.RangeLists.{section_of_lists as section_of};
 
@@ -54,7 +54,7 @@ fn section_of_lists(in_pairs: bool) -> SectionName
 
 impl<'d> RangeEntries<'d> {
     ghost use Rattle.std.specs.Prelude.{IsTrue};
-    ghost use Rattle.dwc_base.specs.RawLists.{is_range_list};
+    ghost use Rattle.dwc_dwarf.specs.RawLists.{is_range_list};
     ghost use Rattle.dwc_base.specs.declared.faults.What.TheVariants.{RangeList as RangeListRead};
     ghost use Rattle.dwc_read.specs.ValuesSeen.{value_view};
     ghost use Rattle.dwc_tabs.specs.RangeLists.{BeginsEntries, GivesNextRead, entry_view, place_of_list};

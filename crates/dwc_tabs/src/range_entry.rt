@@ -3,7 +3,7 @@ ghost use Rattle.std.specs.Prelude.{◌≡◌, ◌-◌, ◌*◌, ◌^◌, IsTrue
 ghost use Rattle.dwc_base.specs.Cursors.{Gives};
 ghost use Rattle.dwc_base.specs.FieldSizes.{is_field_size};
 ghost use Rattle.dwc_base.specs.Sections.{address_at};
-ghost use Rattle.dwc_base.specs.RawLists.{is_number as is_the_number, entry_of_pair, pair_at as raw_pair_at, entry_of_kind_at, kind_and_entry_at, range_kinds};
+ghost use Rattle.dwc_dwarf.specs.RawLists.{is_number as is_the_number, entry_of_pair, pair_at as raw_pair_at, entry_of_kind_at, kind_and_entry_at, range_kinds};
 ghost use Rattle.dwc_tabs.specs.OpenLists.{kind_view, list_entry_at};
 ghost use Rattle.dwc_tabs.specs.RangeLists.{entry_view};
 
@@ -99,7 +99,7 @@ fn next_address(
 
 // An entry of a list up to version 4; None at its end.
 #[inline(always)]
-#[tactic(auto, unfolding(dwc_base::specs::RawLists::pair_at))]
+#[tactic(auto, unfolding(dwc_dwarf::specs::RawLists::pair_at))]
 pub(crate) fn pair(
     relocations: &Relocations<'_>,
     size: u8,
@@ -115,7 +115,7 @@ pub(crate) fn pair(
 
 // The operands of an entry from version 5 on, by its kind; None at the end of the list.
 #[inline(always)]
-#[tactic(auto, unfolding(dwc_base::specs::RawLists::entry_of_kind_at))]
+#[tactic(auto, unfolding(dwc_dwarf::specs::RawLists::entry_of_kind_at))]
 pub(crate) fn entry_of_kind(
     relocations: &Relocations<'_>,
     size: u8,
@@ -157,7 +157,7 @@ pub(crate) fn entry_of_kind(
 }
 
 // An entry from version 5 on; None at the end of the list.
-#[tactic(auto, unfolding(dwc_base::specs::RawLists::kind_and_entry_at))]
+#[tactic(auto, unfolding(dwc_dwarf::specs::RawLists::kind_and_entry_at))]
 fn kind_and_entry(
     relocations: &Relocations<'_>,
     size: u8,

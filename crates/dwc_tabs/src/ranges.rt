@@ -21,8 +21,8 @@ pub struct Ranges<'u, 'd> {
 
 impl<'u, 'd> Model for Ranges<'u, 'd> {
     ghost use Rattle.dwc_base.specs.Listing.{Listing};
-    ghost use Rattle.dwc_base.specs.Lists.{ListRefusal};
-    ghost use Rattle.dwc_base.specs.Trees.{Interval};
+    ghost use Rattle.dwc_dwarf.specs.Lists.{ListRefusal};
+    ghost use Rattle.dwc_dwarf.specs.Trees.{Interval};
     ghost use Rattle.dwc_tabs.specs.RangeEnds.{ranges_given, among_given};
 
     ghost Value = { Listing ListRefusal Interval };
@@ -32,7 +32,7 @@ impl<'u, 'd> Model for Ranges<'u, 'd> {
 
 impl<'u, 'd> Ranges<'u, 'd> {
     ghost use Rattle.std.specs.Prelude.{IsTrue};
-    ghost use Rattle.dwc_base.specs.RawLists.{is_range_list};
+    ghost use Rattle.dwc_dwarf.specs.RawLists.{is_range_list};
     ghost use Rattle.dwc_read.specs.ValuesSeen.{value_view};
     ghost use Rattle.dwc_tabs.specs.RangeEnds.{BeginsRanges, GivesNextOf, interval_view};
 

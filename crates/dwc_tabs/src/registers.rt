@@ -1,6 +1,6 @@
 //! The registers of a line program, and what each instruction does to them. (DWARF 4, sections 6.2.2 and 6.2.5.)
 ghost use Rattle.std.specs.Prelude.{◌≡◌, ◌+◌, ◌-◌, ◌*◌, ◌%◌, ◌^◌, ◌<◌, ◌≤◌, ℤ, nat_abs, pos, ◌+ℤ◌, min, option_map, Some};
-ghost use Rattle.dwc_base.specs.LineRows.{at_sequence_start, special_advance, after_row, after, effect, appends, ends};
+ghost use Rattle.dwc_dwarf.specs.LineRows.{at_sequence_start, special_advance, after_row, after, effect, appends, ends};
 ghost use Rattle.dwc_tabs.specs.Headers.{program_header};
 ghost use Rattle.dwc_tabs.specs.Instructions.{instruction_view};
 ghost use Rattle.dwc_tabs.specs.Steps.{capped, registers_view, shown_step, shown_row, shown_view, end_view};

@@ -1,7 +1,7 @@
 //! What a line table is read from beside its own section.
 ghost use Rattle.std.specs.Prelude.{◌≡◌};
-ghost use Rattle.dwc_base.specs.Indexed.{text_base};
-ghost use Rattle.dwc_base.specs.LineHeaders.{line_source};
+ghost use Rattle.dwc_dwarf.specs.Indexed.{text_base};
+ghost use Rattle.dwc_dwarf.specs.LineHeaders.{line_source};
 ghost use Rattle.dwc_tabs.specs.Headers.{source_view};
 
 use dwc_base::{Endian, Relocations, SectionName};

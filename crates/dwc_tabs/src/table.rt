@@ -2,9 +2,9 @@
 ghost use Rattle.std.specs.Prelude.{◌≡◌, ◌&&◌, IsTrue, length, map, option_map, slice_get};
 ghost use Rattle.std.specs.List.{list_all};
 ghost use Rattle.dwc_base.specs.Cursors.{slice_bytes};
-ghost use Rattle.dwc_base.specs.LineFiles.{has_all_files, is_named as is_named_directory};
-ghost use Rattle.dwc_base.specs.Indexed.{text_base};
-ghost use Rattle.dwc_base.specs.LineRows.{line_table, numbered, file_numbered};
+ghost use Rattle.dwc_dwarf.specs.LineFiles.{has_all_files, is_named as is_named_directory};
+ghost use Rattle.dwc_dwarf.specs.Indexed.{text_base};
+ghost use Rattle.dwc_dwarf.specs.LineRows.{line_table, numbered, file_numbered};
 ghost use Rattle.dwc_base.specs.FieldSizes.{is_field_size};
 ghost use Rattle.dwc_tabs.specs.Headers.{file_view, source_view};
 ghost use Rattle.dwc_tabs.specs.Programs.{GivesStep, are_within};
@@ -39,7 +39,7 @@ pub struct LineTable<'d> {
 }
 
 impl<'d> Model for LineTable<'d> {
-    ghost use Rattle.dwc_base.specs.LineRows as spec;
+    ghost use Rattle.dwc_dwarf.specs.LineRows as spec;
 
     ghost Value = { spec.LineTable };
 
@@ -61,7 +61,7 @@ pub struct Rows<'d> {
 
 impl<'d> Model for Rows<'d> {
     ghost use Rattle.std.specs.Prelude.{List};
-    ghost use Rattle.dwc_base.specs.LineRows as spec;
+    ghost use Rattle.dwc_dwarf.specs.LineRows as spec;
 
     ghost Value = { List spec.LineStep };
 

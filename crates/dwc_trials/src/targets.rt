@@ -1,6 +1,6 @@
 //! The common information entry of a target, through the trait as a caller has it.
 ghost use Rattle.std.specs.Prelude.{◌≡◌, IfOk, true};
-ghost use Rattle.dwc_base.specs.CallFrames.{is_sound};
+ghost use Rattle.dwc_native.specs.CallFrames.{is_sound};
 ghost use Rattle.dwc_clif.specs.CallFrames.{cie_view};
 
 use dwc_base::Endian;

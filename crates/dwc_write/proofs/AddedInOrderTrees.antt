@@ -5,9 +5,9 @@ use Rattle.std.specs.Prelude.{◌==◌, nat_lt, position, slice_get, option_map,
 use Rattle.std.specs.List.{All, AllZip, position_or_len}
 use Rattle.std.proofs.lemmas.Bool.{eq-eqb, le-ltb, lt-ltb, ltb-false, ltb-true, ne_eqb}
 use Rattle.std.proofs.lemmas.List.Elements.{All-head, All-tail, All-weaker}
-use Rattle.dwc_base.specs.Trees.{TreeValue, TreeEntry}
-use Rattle.dwc_base.specs.TreeLaws.{HasAllTargets, size_of_unit}
-use Rattle.dwc_base.specs.TreeReading.{entry_or_nothing}
+use Rattle.dwc_dwarf.specs.Trees.{TreeValue, TreeEntry}
+use Rattle.dwc_dwarf.specs.TreeLaws.{HasAllTargets, size_of_unit}
+use Rattle.dwc_output.specs.TreeReading.{entry_or_nothing}
 use Rattle.dwc_write.specs.declared.attributes.Attribute.{Attribute}
 use Rattle.dwc_write.specs.declared.attributes.AttributeValue.{AttributeValue}
 use Rattle.dwc_write.specs.declared.attributes.AttributeValue.TheVariants.{Address, Constant, Flag, Block, Exprloc, StringRef, LineProgramRef, RangeListRef, LocationListRef, UnitRef, DebugInfoRef}

@@ -6,8 +6,8 @@ use Rattle.std.specs.List.{All, AllZip, flat_map}
 use Rattle.std.proofs.lemmas.Bool.{eq-eqb, eqb-true, eqb-false, ne_eqb}
 use Rattle.std.proofs.lemmas.List.{get_or_append_left}
 use Rattle.std.proofs.lemmas.List.Elements.{All-head}
-use Rattle.dwc_base.specs.Trees as Trees
-use Rattle.dwc_base.specs.Trees.{TreeEntry, TreeValue, text}
+use Rattle.dwc_dwarf.specs.Trees as Trees
+use Rattle.dwc_dwarf.specs.Trees.{TreeEntry, TreeValue, text}
 use Rattle.dwc_write.specs.declared.attributes.Attribute.{Attribute}
 use Rattle.dwc_write.specs.declared.attributes.AttributeValue.{AttributeValue}
 use Rattle.dwc_write.specs.declared.attributes.AttributeValue.TheVariants.{Address, Constant, Flag, Block, Exprloc, StringRef, LineProgramRef, RangeListRef, LocationListRef, UnitRef, DebugInfoRef}

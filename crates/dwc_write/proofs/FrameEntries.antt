@@ -4,8 +4,8 @@ use Rattle.std.proofs.lemmas.List.{length-replicate}
 use Rattle.std.specs.Prelude.{replicate}
 use Rattle.dwc_base.specs.declared.records.Endian.{Endian}
 use Rattle.dwc_base.specs.declared.constants.TheConstants.{DW_CFA_nop}
-use Rattle.dwc_base.specs.CallFrames.{CommonEntry, FrameDescription}
-use Rattle.dwc_base.specs.FrameSections.{FrameNumber, advancing_numbers, address_sized, description_bytes, filling, frame_entry_bytes}
+use Rattle.dwc_native.specs.CallFrames.{CommonEntry, FrameDescription}
+use Rattle.dwc_output.specs.FrameSections.{FrameNumber, advancing_numbers, address_sized, description_bytes, filling, frame_entry_bytes}
 use Rattle.dwc_base.specs.NumberBytes.{number_bytes}
 use Rattle.dwc_write.specs.Frames.{entry_bytes, numbers_bytes}
 use Rattle.dwc_write.specs.Spelled.{sized_bytes}

@@ -3,9 +3,9 @@ use Rattle.std.proofs.Common.{arith, ◌-◌, ◌/◌, ◌≡◌, ℕ, ap, refl,
 use Rattle.std.proofs.lemmas.Bool.{ltb-true}
 use Rattle.std.specs.List.{flat_map}
 use Rattle.dwc_base.specs.declared.records.Endian.{Endian}
-use Rattle.dwc_base.specs.FrameSections.{FrameNumber, advance_numbers, advancing_numbers, instruction_numbers, sleb, uleb, by_sign, frame_number_bytes, one_byte, saved_numbers, with_register}
+use Rattle.dwc_output.specs.FrameSections.{FrameNumber, advance_numbers, advancing_numbers, instruction_numbers, sleb, uleb, by_sign, frame_number_bytes, one_byte, saved_numbers, with_register}
 use Rattle.dwc_base.specs.declared.constants.TheConstants.{DW_CFA_offset, DW_CFA_offset_extended, DW_CFA_offset_extended_sf}
-use Rattle.dwc_base.specs.CallFrames.{CommonEntry, FrameInstruction}
+use Rattle.dwc_native.specs.CallFrames.{CommonEntry, FrameInstruction}
 use Rattle.dwc_write.specs.Frames.{numbers_bytes}
 
 pub numbers-both : (order : Endian) (size : ℕ) (ns ms : List FrameNumber) → numbers_bytes order size (ns ++ ms) ≡ numbers_bytes order size ns ++ numbers_bytes order size ms

@@ -5,12 +5,12 @@ use Rattle.dwc_base.specs.declared.records.Endian.{Endian}
 use Rattle.dwc_base.specs.declared.section_name.SectionName.TheVariants.{Frame}
 use Rattle.dwc_base.specs.Sections.{section_text}
 use Rattle.dwc_base.specs.Outputs.{OutputRelocation, OutputSection, function}
-use Rattle.dwc_base.specs.CallFrames.{CommonEntry, FrameDescription}
-use Rattle.dwc_base.specs.FrameSections.{common_bytes, description_bytes, descriptions_relocations, description_relocations, frame_section}
+use Rattle.dwc_native.specs.CallFrames.{CommonEntry, FrameDescription}
+use Rattle.dwc_output.specs.FrameSections.{common_bytes, description_bytes, descriptions_relocations, description_relocations, frame_section}
 use Rattle.dwc_write.specs.declared.error.WriteError.{WriteError}
 use Rattle.dwc_write.specs.declared.error.WriteError.TheVariants.{TooLarge, InvalidFrameCodeOffset, InvalidFrameDataOffset, OutOfMemory}
 use Rattle.dwc_write.specs.Frames.{IsFrameRefusal, description_at}
-use Rattle.dwc_base.proofs.FrameSizes.{relocations-inside}
+use Rattle.dwc_output.proofs.FrameSizes.{relocations-inside}
 use Rattle.dwc_write.specs.Spelled.{at_places}
 use Rattle.dwc_write.specs.SpelledRelocations.{DoRelocationsRise, RelocationsRise}
 use Rattle.dwc_write.specs.Writers.{IsPast, IsSizeRefusal, Refuses, Writing, appended, section_of}

@@ -8,11 +8,11 @@ use Rattle.std.proofs.lemmas.Int.{ints}
 use Rattle.std.proofs.lemmas.List.Elements.{All-head, All-tail}
 use Rattle.dwc_base.specs.declared.constants.TheConstants.{DW_CFA_advance_loc, DW_CFA_advance_loc1, DW_CFA_advance_loc2, DW_CFA_advance_loc4, DW_CFA_offset, DW_CFA_offset_extended}
 use Rattle.dwc_base.specs.declared.records.Endian.{Endian}
-use Rattle.dwc_base.specs.CallFrames.{FrameInstruction, def_cfa, def_cfa_register, def_cfa_offset, restore, undefined, same_value, saved_at, remember_state, restore_state, CommonEntry}
-use Rattle.dwc_base.specs.FrameSections.{FrameNumber, fixed, uleb, one_byte, with_register, saved_numbers, instruction_numbers, advance_numbers, advancing_numbers, common_numbers, frame_section}
-use Rattle.dwc_base.specs.FramesCarried.{widest_frames}
+use Rattle.dwc_native.specs.CallFrames.{FrameInstruction, def_cfa, def_cfa_register, def_cfa_offset, restore, undefined, same_value, saved_at, remember_state, restore_state, CommonEntry}
+use Rattle.dwc_output.specs.FrameSections.{FrameNumber, fixed, uleb, one_byte, with_register, saved_numbers, instruction_numbers, advance_numbers, advancing_numbers, common_numbers, frame_section}
+use Rattle.dwc_output.specs.FramesCarried.{widest_frames}
 use Rattle.dwc_base.specs.NumberBytes.{sleb_bytes}
-use Rattle.dwc_base.proofs.FrameSizes.{AreNarrow, HaveNarrow, frame_section-fits}
+use Rattle.dwc_output.proofs.FrameSizes.{AreNarrow, HaveNarrow, frame_section-fits}
 use Rattle.dwc_clif.specs.CallFrames.{instruction_view}
 use Rattle.dwc_clif.specs.declared.frame_op.FrameOp.{FrameOp}
 use Rattle.dwc_clif.specs.declared.unwind_info.CfaUnwindInfo.{CfaUnwindInfo}

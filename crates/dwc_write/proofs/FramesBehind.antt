@@ -8,17 +8,17 @@ use Rattle.std.proofs.lemmas.List.Elements.{All-append, All-cons, All-head, All-
 use Rattle.std.proofs.lemmas.List.Kept.{AllPairs-cons}
 use Rattle.dwc_base.specs.declared.records.Endian.{Endian}
 use Rattle.dwc_base.specs.declared.section_name.SectionName.TheVariants.{Frame}
-use Rattle.dwc_base.specs.CallFrames.{CommonEntry, FrameDescription}
-use Rattle.dwc_base.specs.Carried.{units}
-use Rattle.dwc_base.specs.Fields.{AreRelocated, IsRelocated}
-use Rattle.dwc_base.specs.FramesCarried.{FramesCarried, others_in}
-use Rattle.dwc_base.specs.FrameSections.{frame_section, frame_section_if}
-use Rattle.dwc_base.specs.OutputForm.{HasDistinctNames, HaveTargetForm}
+use Rattle.dwc_native.specs.CallFrames.{CommonEntry, FrameDescription}
+use Rattle.dwc_dwarf.specs.ReadUnits.{units}
+use Rattle.dwc_output.specs.Fields.{AreRelocated, IsRelocated}
+use Rattle.dwc_output.specs.FramesCarried.{FramesCarried, others_in}
+use Rattle.dwc_output.specs.FrameSections.{frame_section, frame_section_if}
+use Rattle.dwc_output.specs.OutputForm.{HasDistinctNames, HaveTargetForm}
 use Rattle.dwc_base.specs.Outputs.{OutputSection, output_sections}
 use Rattle.dwc_base.specs.Sections.{Sections, section_text}
-use Rattle.dwc_base.specs.TreeLaws.{HasTextsOnce}
-use Rattle.dwc_base.specs.TreeReading.{CarriesTrees, output_lists, trees}
-use Rattle.dwc_base.specs.Trees.{Tree}
+use Rattle.dwc_dwarf.specs.TreeLaws.{HasTextsOnce}
+use Rattle.dwc_output.specs.TreeReading.{CarriesTrees, output_lists, trees}
+use Rattle.dwc_dwarf.specs.Trees.{Tree}
 use Rattle.dwc_base.proofs.FramesApart.{frames-apart}
 use Rattle.dwc_write.specs.GivenUnits.{OrderedUnit}
 use Rattle.dwc_write.specs.ReadBack.{IsReadUnit, ReadsBack}

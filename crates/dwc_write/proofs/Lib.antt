@@ -12,7 +12,6 @@ pub mod ReadRows
 pub mod ReadLines
 pub mod ReadWritten
 pub mod ReadSections
-pub mod ReadSmall
 pub mod Appended
 pub mod FrameNumbers
 pub mod FrameEntries
@@ -67,7 +66,6 @@ pub mod WideLaws
 pub mod ReferenceSmall
 pub mod AddedInOrder
 pub mod RenumberedLaws
-pub mod SettledLaws
 pub mod AddedInOrderUnits
 pub mod NumberLaws
 pub mod AddedInOrderTrees

@@ -4,7 +4,7 @@ use Rattle.std.proofs.lemmas.List.Elements.{All-append, All-cons, All-nil}
 use Rattle.dwc_base.specs.declared.records.Address.{Address}
 use Rattle.dwc_base.specs.declared.records.Address.TheVariants.{Constant, Symbol}
 use Rattle.dwc_base.specs.declared.records.LineRow.{LineRow}
-use Rattle.dwc_base.specs.LineHeaders.{LineFile}
+use Rattle.dwc_dwarf.specs.LineHeaders.{LineFile}
 use Rattle.dwc_write.specs.SpelledAddresses.{FitsAddress}
 use Rattle.dwc_write.specs.SpelledLines.{WrittenSequence, FitsRow, RowsRise}
 use Rattle.dwc_write.specs.Writers.{FitsField}

@@ -3,7 +3,7 @@ use Rattle.std.proofs.Common.{◌≡◌, ℕ, zero, suc, ◌+◌, ◌-◌, ◌<�
 use Rattle.std.specs.Prelude.{slice_index_or}
 use Rattle.std.specs.List.{flat_map, slice_range}
 use Rattle.std.proofs.lemmas.List.{at_drop_more}
-use Rattle.dwc_base.specs.LineHeaders.{LineFile}
+use Rattle.dwc_dwarf.specs.LineHeaders.{LineFile}
 use Rattle.dwc_write.specs.SpelledLines.{file_bytes}
 use Rattle.dwc_write.specs.NameViews.{cut, AreEnds, start_at, files_of}
 

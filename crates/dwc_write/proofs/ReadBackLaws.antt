@@ -14,11 +14,11 @@ use Rattle.dwc_base.specs.declared.section_name.SectionName.TheVariants.{Abbrev,
 use Rattle.dwc_base.specs.declared.constants.TheConstants.{DW_AT_stmt_list, DW_FORM_data1, DW_FORM_data2, DW_FORM_data4, DW_FORM_data8, DW_FORM_sdata}
 use Rattle.dwc_base.specs.Abbreviations.{Declaration, declaration_of}
 use Rattle.dwc_base.specs.declared.records.LineRow.{LineRow}
-use Rattle.dwc_base.specs.LineRows.{source_file, in_directory, named_row}
+use Rattle.dwc_dwarf.specs.LineRows.{source_file, in_directory, named_row}
 use Rattle.dwc_base.specs.Sections.{Sections}
-use Rattle.dwc_base.specs.Values.{Value}
-use Rattle.dwc_base.specs.Entries.{Entry, attribute}
-use Rattle.dwc_base.specs.Carried.{Unit, units, root, line_offset, table_of_root, table_of_unit}
+use Rattle.dwc_dwarf.specs.Values.{Value}
+use Rattle.dwc_dwarf.specs.Entries.{Entry, attribute}
+use Rattle.dwc_dwarf.specs.ReadUnits.{Unit, units, root, line_offset, table_of_root, table_of_unit}
 use Rattle.dwc_base.specs.Outputs.{OutputRelocation, OutputSection, output_sections}
 use Rattle.dwc_base.specs.NumberBytes.{number_bytes}
 use Rattle.dwc_write.specs.Spelled.{at_places}

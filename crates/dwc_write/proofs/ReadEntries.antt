@@ -15,7 +15,7 @@ use Rattle.dwc_base.specs.Listing.{with_first}
 use Rattle.dwc_base.specs.Sections.{Sections}
 use Rattle.dwc_base.specs.Abbreviations.{Declaration, declaration_of, abbreviation_table}
 use Rattle.dwc_base.specs.Units.{UnitHeader, sized_part_at, header_to_4, unit_header_at}
-use Rattle.dwc_base.specs.Entries.{Found, entry_place, place_behind, declared_entry_at, entry_at, entries_from, entries}
+use Rattle.dwc_dwarf.specs.Entries.{Found, entry_place, place_behind, declared_entry_at, entry_at, entries_from, entries}
 use Rattle.dwc_base.specs.Spelling.{unread_at}
 use Rattle.dwc_base.specs.NumberBytes.{number_bytes, uleb_bytes}
 use Rattle.dwc_write.specs.Spelled.{SpellsAt, sized_bytes}
@@ -25,8 +25,8 @@ use Rattle.dwc_write.proofs.ReadNumbers.{number_bytes-length}
 use Rattle.dwc_write.proofs.ReadParts.{here, behind, last, tested, part-reads, Spells-number_bytes, Spells-uleb_bytes, Spells-byte, Spells-zero}
 use Rattle.dwc_write.proofs.ReadValues.{attributes-read, All-front, All-back}
 use Rattle.dwc_base.proofs.Takes.{Leaves-at}
-use Rattle.dwc_base.proofs.TakesValues.{entry_at-leaves}
-use Rattle.dwc_base.proofs.EntryWalk.{entries_from-none, entries_from-end, entries_from-siblings, entries_from-entry}
+use Rattle.dwc_dwarf.proofs.TakesValues.{entry_at-leaves}
+use Rattle.dwc_dwarf.proofs.EntryWalk.{entries_from-none, entries_from-end, entries_from-siblings, entries_from-entry}
 
 -- ---- the header
 

@@ -12,9 +12,9 @@ use Rattle.dwc_base.specs.Reading.{Unread, ◌>>=◌}
 use Rattle.dwc_base.specs.Sections.{Sections}
 use Rattle.dwc_base.specs.Abbreviations.{Declaration, abbreviation_table}
 use Rattle.dwc_base.specs.Units.{UnitHeader}
-use Rattle.dwc_base.specs.Values.{form_code_at}
+use Rattle.dwc_dwarf.specs.Values.{form_code_at}
 use Rattle.dwc_base.specs.Outputs.{OutputRelocation}
-use Rattle.dwc_base.specs.Fields.{Field, fields_read, field_of_value, fields_at, fields_of_entry, field_of_table, fields_of_entries, fields_of_unit, relocation_of, relocations_of_fields}
+use Rattle.dwc_output.specs.Fields.{Field, fields_read, field_of_value, fields_at, fields_of_entry, field_of_table, fields_of_entries, fields_of_unit, relocation_of, relocations_of_fields}
 use Rattle.dwc_base.specs.Spelling.{unread_at}
 use Rattle.dwc_base.specs.NumberBytes.{number_bytes, uleb_bytes}
 use Rattle.dwc_write.specs.Spelled.{at_places}

@@ -13,11 +13,11 @@ use Rattle.dwc_base.specs.declared.constants.TheConstants.{DW_AT_stmt_list}
 use Rattle.dwc_base.specs.Reading.{◌>>=◌}
 use Rattle.dwc_base.specs.Sections.{Sections, Relocation}
 use Rattle.dwc_base.specs.Units.{UnitHeader}
-use Rattle.dwc_base.specs.Entries.{Entry, attribute}
-use Rattle.dwc_base.specs.LineHeaders.{LineHeader, line_source, Instruction, special, copy, advance_pc, advance_line, set_file, set_column, negate_stmt, set_basic_block, const_add_pc, fixed_advance_pc, set_prologue_end, set_epilogue_begin, set_isa, end_sequence, set_address, define_file, set_discriminator, unknown}
-use Rattle.dwc_base.specs.Indexed.{text_base}
-use Rattle.dwc_base.specs.Carried.{root, line_offset}
-use Rattle.dwc_base.specs.Fields.{Field, an_address, field_of_instruction, fields_of_instructions, fields_of_line_table, fields_of_lines, relocation_of, relocations_of_fields}
+use Rattle.dwc_dwarf.specs.Entries.{Entry, attribute}
+use Rattle.dwc_dwarf.specs.LineHeaders.{LineHeader, line_source, Instruction, special, copy, advance_pc, advance_line, set_file, set_column, negate_stmt, set_basic_block, const_add_pc, fixed_advance_pc, set_prologue_end, set_epilogue_begin, set_isa, end_sequence, set_address, define_file, set_discriminator, unknown}
+use Rattle.dwc_dwarf.specs.Indexed.{text_base}
+use Rattle.dwc_dwarf.specs.ReadUnits.{root, line_offset}
+use Rattle.dwc_output.specs.Fields.{Field, an_address, field_of_instruction, fields_of_instructions, fields_of_line_table, fields_of_lines, relocation_of, relocations_of_fields}
 use Rattle.dwc_base.specs.Spelling.{unread_at}
 use Rattle.dwc_base.specs.NumberBytes.{uleb_bytes}
 use Rattle.dwc_write.specs.Spelled.{at_places}

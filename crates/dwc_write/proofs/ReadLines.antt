@@ -14,15 +14,16 @@ use Rattle.dwc_base.specs.declared.records.LineRow.{LineRow}
 use Rattle.dwc_base.specs.declared.section_name.SectionName.TheVariants.{Line}
 use Rattle.dwc_base.specs.Reading.{Unread, ◌>>=◌, is_64_bit, text_at}
 use Rattle.dwc_base.specs.Sections.{Sections}
-use Rattle.dwc_base.specs.LineHeaders.{LineFile, LineHeader, directory_at, file_behind, file_at, operations_at, LineSource, line_source, line_names_at, line_fields_at, line_address_size_at, line_header_at, Instruction, copy, advance_pc, advance_line, set_file, set_column, negate_stmt, set_basic_block, set_prologue_end, set_epilogue_begin, set_isa, end_sequence, set_address, set_discriminator}
-use Rattle.dwc_base.specs.LineRows.{at_sequence_start, appends, ends, effects, is_in_range, LineStep, start, row, end, step_of, LineTable, file_defined, checked_table, table_of, line_table_at, line_table, named_row, rows_before, stop_behind, segment_if, segments_among, segments}
+use Rattle.dwc_dwarf.specs.LineHeaders.{LineFile, LineHeader, directory_at, file_behind, file_at, operations_at, LineSource, line_source, line_names_at, line_fields_at, line_address_size_at, line_header_at, Instruction, copy, advance_pc, advance_line, set_file, set_column, negate_stmt, set_basic_block, set_prologue_end, set_epilogue_begin, set_isa, end_sequence, set_address, set_discriminator}
+use Rattle.dwc_dwarf.specs.LineRows.{at_sequence_start, appends, ends, effects, is_in_range, LineStep, start, row, end, step_of, LineTable, file_defined, checked_table, table_of, line_table_at, line_table, named_row, rows_before, stop_behind, segment_if, segments_among, segments}
 use Rattle.dwc_base.specs.Spelling.{Spells, unread_at}
 use Rattle.dwc_base.specs.NumberBytes.{number_bytes}
 use Rattle.dwc_write.specs.Spelled.{SpellsAt, text_bytes}
 use Rattle.dwc_write.specs.SpelledAddresses.{IsHeld}
 use Rattle.dwc_write.specs.SpelledLines.{standard_counts, file_bytes, line_fields_bytes, FitsName, FitsFile, FitsInstruction, program_bytes, program_fields, line_body, line_table_bytes, program_place, read_line_header, WrittenSequence, first_row, registers_at, when, differs, row_instructions, rows_instructions, sequences_instructions, FitsRow, FitsSequence, sequence_steps, read_segment, read_line_table}
 use Rattle.dwc_base.proofs.Items.{Leaves}
-use Rattle.dwc_base.proofs.Takes.{Leaves-bind, Leaves-same, text_at-leaves, directory_at-leaves}
+use Rattle.dwc_base.proofs.Takes.{Leaves-bind, Leaves-same, text_at-leaves}
+use Rattle.dwc_dwarf.proofs.LineTakes.{directory_at-leaves}
 use Rattle.dwc_base.proofs.TakesMore.{Leaves-more, uleb_at-leaves}
 use Rattle.dwc_write.proofs.ReadNumbers.{number_bytes-length}
 use Rattle.dwc_write.proofs.ReadParts.{here, anywhere, behind, last, then_read, end_read, part-reads, Spells-number_bytes, Spells-byte, Spells-text_bytes, Spells-counted, Spells-items}

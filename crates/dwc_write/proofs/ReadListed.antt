@@ -13,9 +13,9 @@ use Rattle.dwc_base.specs.NumberBytes.{number_bytes}
 use Rattle.dwc_base.specs.Reading.{Unread, Read, ◌>>=◌, bytes_at, passed}
 use Rattle.dwc_base.specs.Listing.{Next, at_end, broken, item, with_first, walk}
 use Rattle.dwc_base.specs.Sections.{Fault, Relocation, address_at}
-use Rattle.dwc_base.specs.RawLists.{RawEntry, RawLocation, PlacedExpression, pair, entry_of_pair, pair_at, selects_base, placed_expression_at, location_behind, next_item, unread_length}
+use Rattle.dwc_dwarf.specs.RawLists.{RawEntry, RawLocation, PlacedExpression, pair, entry_of_pair, pair_at, selects_base, placed_expression_at, location_behind, next_item, unread_length}
 use Rattle.dwc_base.specs.Spelling.{unread_at}
-use Rattle.dwc_base.specs.Values.{sized_number_at}
+use Rattle.dwc_dwarf.specs.Values.{sized_number_at}
 use Rattle.dwc_base.proofs.Items.{Leaves, LeavesFewer}
 use Rattle.dwc_base.proofs.Spellings.{Spells-bytes}
 use Rattle.dwc_base.proofs.Takes.{Leaves-bind, Leaves-same, number_at-leaves}

@@ -16,13 +16,13 @@ use Rattle.dwc_base.specs.declared.section_name.SectionName.TheVariants.{Loc, Ra
 use Rattle.dwc_base.specs.Reading.{Unread}
 use Rattle.dwc_base.specs.Listing.{Listing, Next, with_first, walk}
 use Rattle.dwc_base.specs.Sections.{Sections, Fault}
-use Rattle.dwc_base.specs.Trees.{Interval}
-use Rattle.dwc_base.specs.RawLists.{ListSource, ListPlace, list_named, list_fault, raw_ranges, RawEntry, pair, pair_at, next_item, raw_entry_at, unread_length, RawLocation, raw_location_at, raw_locations}
+use Rattle.dwc_dwarf.specs.Trees.{Interval}
+use Rattle.dwc_dwarf.specs.RawLists.{ListSource, ListPlace, list_named, list_fault, raw_ranges, RawEntry, pair, pair_at, next_item, raw_entry_at, unread_length, RawLocation, raw_location_at, raw_locations}
 use Rattle.dwc_base.specs.Units.{UnitHeader}
-use Rattle.dwc_base.specs.Entries.{Entry}
-use Rattle.dwc_base.specs.Values.{is_location_name, is_range_name, location_reference, range_reference, line_reference, dropped, section_offset}
-use Rattle.dwc_base.specs.TreeReading.{list_read, unreadable_list, ranges_read, location_said, locations_read}
-use Rattle.dwc_base.specs.Lists.{list_source, list_of_value, ranges_at, ranges_of_value, ListRefusal, interval_given, base_behind, intervals_given, interval_between, ListedLocation, located, locations_at, locations_of_value}
+use Rattle.dwc_dwarf.specs.Entries.{Entry}
+use Rattle.dwc_dwarf.specs.Values.{is_location_name, is_range_name, location_reference, range_reference, line_reference, dropped, section_offset}
+use Rattle.dwc_output.specs.TreeReading.{list_read, unreadable_list, ranges_read, location_said, locations_read}
+use Rattle.dwc_dwarf.specs.Lists.{list_source, list_of_value, ranges_at, ranges_of_value, ListRefusal, interval_given, base_behind, intervals_given, interval_between, ListedLocation, located, locations_at, locations_of_value}
 use Rattle.dwc_base.specs.Spelling.{unread_at}
 use Rattle.dwc_write.specs.declared.expressions.Expression.{Expression}
 use Rattle.dwc_write.specs.Spelled.{at_places}

@@ -6,7 +6,7 @@ use Rattle.std.proofs.lemmas.List.Elements.{All-head, All-tail}
 use Rattle.dwc_base.specs.declared.records.Endian.{Endian}
 use Rattle.dwc_base.specs.Listing.{with_first}
 use Rattle.dwc_base.specs.Sections.{Relocation}
-use Rattle.dwc_base.specs.LineHeaders.{LineFile, LineHeader, Instruction, special, copy, advance_pc, advance_line, set_file, set_column, negate_stmt, set_basic_block, const_add_pc, fixed_advance_pc, set_prologue_end, set_epilogue_begin, set_isa, end_sequence, set_address, define_file, set_discriminator, unknown, operand_at, file_behind, extended_at, extended_instruction_at, instruction_at, instructions}
+use Rattle.dwc_dwarf.specs.LineHeaders.{LineFile, LineHeader, Instruction, special, copy, advance_pc, advance_line, set_file, set_column, negate_stmt, set_basic_block, const_add_pc, fixed_advance_pc, set_prologue_end, set_epilogue_begin, set_isa, end_sequence, set_address, define_file, set_discriminator, unknown, operand_at, file_behind, extended_at, extended_instruction_at, instruction_at, instructions}
 use Rattle.dwc_base.specs.Spelling.{unread_at}
 use Rattle.dwc_base.specs.NumberBytes.{uleb_bytes}
 use Rattle.dwc_write.specs.Spelled.{SpellsAt, block_bytes}
@@ -16,8 +16,8 @@ use Rattle.dwc_write.proofs.ReadNumbers.{number_bytes-length, uleb_bytes-length}
 use Rattle.dwc_write.proofs.ReadParts.{here, behind, last, nothing, seen, part-reads, Spells-number_bytes, Spells-uleb_bytes, Spells-sleb_bytes, Spells-byte, Spells-zero, Spells-text_bytes}
 use Rattle.dwc_write.proofs.ReadValues.{address-reads, All-front, All-back}
 use Rattle.dwc_base.proofs.Takes.{Leaves-at}
-use Rattle.dwc_base.proofs.TakesValues.{instruction_at-leaves}
-use Rattle.dwc_base.proofs.EntryWalk.{instructions-end, instructions-more}
+use Rattle.dwc_dwarf.proofs.TakesValues.{instruction_at-leaves}
+use Rattle.dwc_dwarf.proofs.EntryWalk.{instructions-end, instructions-more}
 
 -- a file, behind its name
 pub file-rest : (order : Endian) (place : ℕ) (f : LineFile) → f.directory < 2 ^ 64 → SpellsAt order place (file_behind f.name) (uleb_bytes f.directory ++ 0 ∷ 0 ∷ []) f

@@ -7,7 +7,7 @@ use Rattle.dwc_base.specs.declared.records.Endian.{Endian}
 use Rattle.dwc_base.specs.declared.records.Address.{Address}
 use Rattle.dwc_base.specs.declared.records.Address.TheVariants.{Constant, Symbol}
 use Rattle.dwc_base.specs.declared.records.LineRow.{LineRow}
-use Rattle.dwc_base.specs.LineHeaders.{Instruction, set_address, copy, advance_pc, advance_line, set_file, set_column, negate_stmt, set_basic_block, set_prologue_end, set_epilogue_begin, set_isa, end_sequence, set_discriminator}
+use Rattle.dwc_dwarf.specs.LineHeaders.{Instruction, set_address, copy, advance_pc, advance_line, set_file, set_column, negate_stmt, set_basic_block, set_prologue_end, set_epilogue_begin, set_isa, end_sequence, set_discriminator}
 use Rattle.dwc_base.specs.Outputs.{OutputRelocation, function_relocation}
 use Rattle.dwc_base.specs.NumberBytes.{number_bytes, uleb_bytes}
 use Rattle.dwc_write.specs.Spelled.{at_places}

@@ -7,8 +7,8 @@ use Rattle.std.proofs.lemmas.Bool.{eqb-true}
 use Rattle.std.proofs.lemmas.Int.{ints}
 use Rattle.std.proofs.lemmas.List.Elements.{All-head, All-tail}
 use Rattle.dwc_base.specs.declared.records.LineRow.{LineRow}
-use Rattle.dwc_base.specs.LineHeaders.{LineHeader, Instruction, copy, advance_pc, advance_line, set_file, set_column, negate_stmt, set_basic_block, set_prologue_end, set_epilogue_begin, set_isa, end_sequence, set_discriminator}
-use Rattle.dwc_base.specs.LineRows.{Registers, at_sequence_start, Effect, starts, appends, ends, after, effect, effects}
+use Rattle.dwc_dwarf.specs.LineHeaders.{LineHeader, Instruction, copy, advance_pc, advance_line, set_file, set_column, negate_stmt, set_basic_block, set_prologue_end, set_epilogue_begin, set_isa, end_sequence, set_discriminator}
+use Rattle.dwc_dwarf.specs.LineRows.{Registers, at_sequence_start, Effect, starts, appends, ends, after, effect, effects}
 use Rattle.dwc_write.specs.SpelledLines.{WrittenSequence, first_row, registers_at, registers_behind, when, differs, row_instructions, rows_instructions, sequence_instructions, sequences_instructions, RowsRise, FitsSequence}
 
 -- instructions that show nothing, and lead from some registers to others

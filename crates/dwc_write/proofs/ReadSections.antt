@@ -12,11 +12,11 @@ use Rattle.dwc_base.specs.Listing.{with_first}
 use Rattle.dwc_base.specs.Sections.{Sections}
 use Rattle.dwc_base.specs.Abbreviations.{abbreviation_table}
 use Rattle.dwc_base.specs.Units.{UnitHeader, unit_headers_from, unit_headers}
-use Rattle.dwc_base.specs.Entries.{Entry, attribute}
-use Rattle.dwc_base.specs.LineHeaders.{Instruction, set_address}
-use Rattle.dwc_base.specs.LineRows.{line_table}
-use Rattle.dwc_base.specs.Indexed.{text_base}
-use Rattle.dwc_base.specs.Carried.{Unit as ReadUnit, units, units_of_headers, root, line_offset, table_of_root, table_of_unit}
+use Rattle.dwc_dwarf.specs.Entries.{Entry, attribute}
+use Rattle.dwc_dwarf.specs.LineHeaders.{Instruction, set_address}
+use Rattle.dwc_dwarf.specs.LineRows.{line_table}
+use Rattle.dwc_dwarf.specs.Indexed.{text_base}
+use Rattle.dwc_dwarf.specs.ReadUnits.{Unit as ReadUnit, units, units_of_headers, root, line_offset, table_of_root, table_of_unit}
 use Rattle.dwc_base.specs.Spelling.{unread_at}
 use Rattle.dwc_base.specs.NumberBytes.{number_bytes, uleb_bytes}
 use Rattle.dwc_write.specs.SpelledTables.{table_bytes}

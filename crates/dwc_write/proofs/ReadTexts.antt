@@ -10,7 +10,7 @@ use Rattle.std.proofs.lemmas.List.FromFn.{get_or-map-range_with_len, length-map-
 use Rattle.dwc_base.specs.declared.records.Endian.{Endian}
 use Rattle.dwc_base.specs.Reading as reading
 use Rattle.dwc_base.specs.Reading.{◌>>=◌}
-use Rattle.dwc_base.specs.LineHeaders.{text_in}
+use Rattle.dwc_dwarf.specs.LineHeaders.{text_in}
 use Rattle.dwc_base.specs.Spelling.{unread_at}
 use Rattle.dwc_write.specs.declared.text_layout.TextLayout.{TextLayout}
 use Rattle.dwc_write.specs.TextTables.{IsText}

@@ -9,12 +9,12 @@ use Rattle.std.proofs.lemmas.List.Elements.{All-head, All-tail, All-cons, All-ni
 use Rattle.dwc_base.specs.declared.records.Endian.{Endian}
 use Rattle.dwc_base.specs.declared.constants.TheConstants.{DW_FORM_data1, DW_FORM_data2, DW_FORM_data4, DW_FORM_data8, DW_FORM_sdata, DW_FORM_udata}
 use Rattle.dwc_base.specs.Sections.{Sections, reported}
-use Rattle.dwc_base.specs.Values as Values
-use Rattle.dwc_base.specs.Entries.{Entry}
-use Rattle.dwc_base.specs.Carried.{Unit as ReadUnit, units}
+use Rattle.dwc_dwarf.specs.Values as Values
+use Rattle.dwc_dwarf.specs.Entries.{Entry}
+use Rattle.dwc_dwarf.specs.ReadUnits.{Unit as ReadUnit, units}
 use Rattle.dwc_base.specs.Outputs.{OutputSection, output_sections}
-use Rattle.dwc_base.specs.OutputForm.{HaveTargetForm}
-use Rattle.dwc_base.specs.Trees as trees
+use Rattle.dwc_output.specs.OutputForm.{HaveTargetForm}
+use Rattle.dwc_dwarf.specs.Trees as trees
 use Rattle.dwc_base.specs.declared.section_name.SectionName.{SectionName}
 use Rattle.dwc_base.specs.Units.{UnitHeader}
 use Rattle.dwc_write.specs.declared.list_places.ListPlaces.{ListPlaces}
@@ -23,11 +23,11 @@ use Rattle.dwc_write.proofs.ListPlaces.{IsPlaceOf, locations-place, ranges-place
 use Rattle.dwc_write.proofs.ReadLists.{location-offset, range-offset}
 use Rattle.dwc_write.proofs.ListsGiven.{IsLocationRead, IsRangeRead, AreAllRead, AreListsRead, AreAllListsRead, StandThere, locations-listed, ranges-listed, stand-front, stand-back}
 use Rattle.dwc_write.proofs.ListsStand.{locations-stand, ranges-stand}
-use Rattle.dwc_base.specs.TreeReading.{ListReading, ReadingUnit, each_read, read_as, entry_or_nothing, text_or_nothing, entry_in_unit, entry_in_section, value_said, entry_said, unit_said, units_said, trees, output_lists, CarriesTrees}
-use Rattle.dwc_base.specs.Indexed.{texts_of_unit}
-use Rattle.dwc_base.specs.LineHeaders.{text_in}
+use Rattle.dwc_output.specs.TreeReading.{ListReading, ReadingUnit, each_read, read_as, entry_or_nothing, text_or_nothing, entry_in_unit, entry_in_section, value_said, entry_said, unit_said, units_said, trees, output_lists, CarriesTrees}
+use Rattle.dwc_dwarf.specs.Indexed.{texts_of_unit}
+use Rattle.dwc_dwarf.specs.LineHeaders.{text_in}
 use Rattle.dwc_base.specs.Reading.{◌>>=◌}
-use Rattle.dwc_base.specs.Texts.{text_elsewhere, text_named}
+use Rattle.dwc_dwarf.specs.Texts.{text_elsewhere, text_named}
 use Rattle.dwc_base.specs.declared.faults.What.TheVariants.{Text}
 use Rattle.dwc_base.specs.declared.section_name.SectionName.TheVariants.{Info, Loc, Ranges, Str}
 use Rattle.dwc_write.specs.declared.attributes.Attribute.{Attribute}

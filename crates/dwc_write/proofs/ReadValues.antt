@@ -9,8 +9,8 @@ use Rattle.dwc_base.specs.declared.section_name.SectionName.TheVariants.{Info}
 use Rattle.dwc_base.specs.Reading.{number, number_at}
 use Rattle.dwc_base.specs.Sections.{Sections, Relocation, address_at, field_value}
 use Rattle.dwc_base.specs.Units.{UnitHeader}
-use Rattle.dwc_base.specs.Values.{variable, address, sized_number_at, block_at, formed_value_at, form_code_at, encoded_value_at, value_at}
-use Rattle.dwc_base.specs.Entries.{attributes_at}
+use Rattle.dwc_dwarf.specs.Values.{variable, address, sized_number_at, block_at, formed_value_at, form_code_at, encoded_value_at, value_at}
+use Rattle.dwc_dwarf.specs.Entries.{attributes_at}
 use Rattle.dwc_base.specs.Spelling.{Spells, unread_at}
 use Rattle.dwc_base.specs.NumberBytes.{number_bytes}
 use Rattle.dwc_write.specs.Spelled.{SpellsAt, block_bytes, at_places}

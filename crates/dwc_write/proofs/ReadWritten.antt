@@ -5,7 +5,7 @@ use Rattle.std.specs.Prelude.{◌==◌, pos, ◌-ℤ◌, not}
 use Rattle.std.proofs.lemmas.Grind.{flat_map-append}
 use Rattle.dwc_base.specs.declared.records.Endian.{Endian}
 use Rattle.dwc_base.specs.declared.records.LineRow.{LineRow}
-use Rattle.dwc_base.specs.LineHeaders.{Instruction, copy, advance_pc, advance_line, set_file, set_column, negate_stmt, set_basic_block, set_prologue_end, set_epilogue_begin, set_isa, end_sequence, set_discriminator}
+use Rattle.dwc_dwarf.specs.LineHeaders.{Instruction, copy, advance_pc, advance_line, set_file, set_column, negate_stmt, set_basic_block, set_prologue_end, set_epilogue_begin, set_isa, end_sequence, set_discriminator}
 use Rattle.dwc_base.specs.NumberBytes.{uleb_bytes, uleb_bytes_within, sleb_bytes}
 use Rattle.dwc_write.specs.SpelledLines.{when, bytes_when, differs, instruction_bytes, extended_bytes, program_bytes, row_instructions, rows_instructions}
 

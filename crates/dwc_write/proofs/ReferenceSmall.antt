@@ -3,7 +3,7 @@
 use Rattle.std.proofs.Common.{◌≡◌, refl, List, [], ◌∷◌, Some, None, pos}
 use Rattle.std.specs.Prelude.{codes}
 use Rattle.dwc_base.specs.declared.records.Endian.TheVariants.{Little}
-use Rattle.dwc_base.specs.Trees.{entry, nothing, Tree}
+use Rattle.dwc_dwarf.specs.Trees.{entry, nothing, Tree}
 use Rattle.dwc_base.specs.Outputs.{OutputRelocation, section}
 use Rattle.dwc_base.specs.NumberBytes.{uleb_bytes, uleb_bytes_within}
 use Rattle.dwc_write.specs.SpelledRelocations.{info_relocations}

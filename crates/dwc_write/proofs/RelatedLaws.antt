@@ -12,12 +12,12 @@ use Rattle.dwc_base.specs.declared.section_name.SectionName.{SectionName}
 use Rattle.dwc_base.specs.declared.constants.TheConstants.{DW_FORM_data1, DW_FORM_data2, DW_FORM_data4, DW_FORM_data8, DW_FORM_sdata}
 use Rattle.dwc_base.specs.Sections.{Sections}
 use Rattle.dwc_base.specs.Units.{UnitHeader}
-use Rattle.dwc_base.specs.Values as Values
-use Rattle.dwc_base.specs.Values.{Value}
-use Rattle.dwc_base.specs.Carried.{Unit, units, root}
+use Rattle.dwc_dwarf.specs.Values as Values
+use Rattle.dwc_dwarf.specs.Values.{Value}
+use Rattle.dwc_dwarf.specs.ReadUnits.{Unit, units, root}
 use Rattle.dwc_base.specs.Outputs.{OutputRelocation, output_sections}
-use Rattle.dwc_base.specs.RawLists.{is_location_list, is_range_list}
-use Rattle.dwc_base.specs.Fields.{field_of_value, fields_of_unit, fields_of_lines, fields_of_section, lists_of_unit, relocations_of_fields, IsRelocated, AreRelocated}
+use Rattle.dwc_dwarf.specs.RawLists.{is_location_list, is_range_list}
+use Rattle.dwc_output.specs.Fields.{field_of_value, fields_of_unit, fields_of_lines, fields_of_section, lists_of_unit, relocations_of_fields, IsRelocated, AreRelocated}
 use Rattle.dwc_write.specs.declared.attributes.Attribute.{Attribute}
 use Rattle.dwc_write.specs.declared.attributes.AttributeValue.{AttributeValue}
 use Rattle.dwc_write.specs.declared.attributes.AttributeValue.TheVariants as given

@@ -6,9 +6,9 @@ use Rattle.std.proofs.lemmas.List.Elements.{filter_map-append}
 use Rattle.dwc_base.specs.declared.records.Address.{Address}
 use Rattle.dwc_base.specs.declared.records.Address.TheVariants.{Constant, Symbol}
 use Rattle.dwc_base.specs.declared.records.Endian.{Endian}
-use Rattle.dwc_base.specs.Fields.{Field, field_of_address, fields_of_listed, held_bytes as held_space, relocations_of_fields}
+use Rattle.dwc_output.specs.Fields.{Field, field_of_address, fields_of_listed, held_bytes as held_space, relocations_of_fields}
 use Rattle.dwc_base.specs.Outputs.{function_relocation}
-use Rattle.dwc_base.specs.RawLists.{RawLocation}
+use Rattle.dwc_dwarf.specs.RawLists.{RawLocation}
 use Rattle.dwc_write.specs.Spelled.{at_places}
 use Rattle.dwc_write.specs.SpelledAddresses.{address_bytes, stored, relocation_for, relocations_of, RiseWithin}
 use Rattle.dwc_write.specs.SpelledRelocations.{RelocationsRise}

@@ -9,14 +9,14 @@ use Rattle.dwc_base.specs.declared.section_name.SectionName.{SectionName}
 use Rattle.dwc_base.specs.declared.section_name.SectionName.TheVariants.{Loc, Ranges}
 use Rattle.dwc_base.specs.Sections.{Sections}
 use Rattle.dwc_base.specs.Units.{UnitHeader}
-use Rattle.dwc_base.specs.Entries.{Entry}
-use Rattle.dwc_base.specs.Values as Values
-use Rattle.dwc_base.specs.Values.{Value, is_expression_name, section_offset}
+use Rattle.dwc_dwarf.specs.Entries.{Entry}
+use Rattle.dwc_dwarf.specs.Values as Values
+use Rattle.dwc_dwarf.specs.Values.{Value, is_expression_name, section_offset}
 use Rattle.dwc_base.specs.declared.records.Address.{Address as RangeAddress}
-use Rattle.dwc_base.specs.Fields.{Field, fields_of_listed, fields_of_lists, fields_of_named, relocations_of_fields, relocation_of, without_expression}
-use Rattle.dwc_base.specs.Lists.{list_source}
+use Rattle.dwc_output.specs.Fields.{Field, fields_of_listed, fields_of_lists, fields_of_named, relocations_of_fields, relocation_of, without_expression}
+use Rattle.dwc_dwarf.specs.Lists.{list_source}
 use Rattle.dwc_base.specs.Outputs.{OutputRelocation}
-use Rattle.dwc_base.specs.RawLists.{is_location_list, is_range_list}
+use Rattle.dwc_dwarf.specs.RawLists.{is_location_list, is_range_list}
 use Rattle.dwc_write.specs.declared.attributes.Attribute.{Attribute}
 use Rattle.dwc_write.specs.declared.attributes.AttributeValue.{AttributeValue}
 use Rattle.dwc_write.specs.declared.attributes.AttributeValue.TheVariants.{Address, Constant, Flag, Block, Exprloc, StringRef, LineProgramRef, RangeListRef, LocationListRef, UnitRef, DebugInfoRef}

@@ -5,9 +5,9 @@ use Rattle.std.specs.Prelude.{◌==◌, nat_lt, if◌then◌else◌}
 use Rattle.std.specs.List.{list_all}
 use Rattle.std.proofs.lemmas.Bool.{and_parts}
 use Rattle.std.proofs.lemmas.List.Folds.{list_all-append}
-use Rattle.dwc_base.specs.Trees.{TreeValue, address, constant, flag, block, expression, text, line_table, ranges, locations, entry, nothing, TreeEntry, Tree, set_attribute}
-use Rattle.dwc_base.specs.TreeLaws.{HasAllTargets, goes_somewhere, size_of_unit, values_of}
-use Rattle.dwc_base.specs.TreeReading.{entry_or_nothing}
+use Rattle.dwc_dwarf.specs.Trees.{TreeValue, address, constant, flag, block, expression, text, line_table, ranges, locations, entry, nothing, TreeEntry, Tree, set_attribute}
+use Rattle.dwc_dwarf.specs.TreeLaws.{HasAllTargets, goes_somewhere, size_of_unit, values_of}
+use Rattle.dwc_output.specs.TreeReading.{entry_or_nothing}
 use Rattle.dwc_write.specs.Renumbered.{renumbered, renumbered_attribute, renumbered_entry, renumbered_trees}
 
 -- ---- numbers that are places

@@ -7,9 +7,9 @@ use Rattle.std.proofs.lemmas.Bool.{eq-eqb, eqb-true, ltb-false, ltb-true}
 use Rattle.std.proofs.lemmas.List.{map-append}
 use Rattle.std.proofs.lemmas.List.Elements.{All-head, All-nil, All-push, All-tail, filter_map-append}
 use Rattle.std.proofs.lemmas.Slice.Eq.{bytes_eq-Decides}
-use Rattle.dwc_base.specs.Trees.{TreeValue}
-use Rattle.dwc_base.specs.TreeLaws.{distinct_texts, text_said, texts_ended, values_of, with_new_text}
-use Rattle.dwc_base.specs.TreeReading.{entry_or_nothing}
+use Rattle.dwc_dwarf.specs.Trees.{TreeValue}
+use Rattle.dwc_dwarf.specs.TreeLaws.{distinct_texts, text_said, texts_ended, values_of, with_new_text}
+use Rattle.dwc_output.specs.TreeReading.{entry_or_nothing}
 use Rattle.dwc_write.specs.declared.attributes.Attribute.{Attribute}
 use Rattle.dwc_write.specs.declared.attributes.AttributeValue.{AttributeValue}
 use Rattle.dwc_write.specs.declared.attributes.AttributeValue.TheVariants.{Address, Constant, Flag, Block, Exprloc, StringRef, LineProgramRef, RangeListRef, LocationListRef, UnitRef, DebugInfoRef}

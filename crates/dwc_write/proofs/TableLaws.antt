@@ -5,7 +5,7 @@ use Rattle.std.specs.List.{All, flat_map}
 use Rattle.dwc_base.specs.declared.records.Endian.{Endian}
 use Rattle.dwc_base.specs.NumberBytes.{number_bytes}
 use Rattle.dwc_write.specs.Spelled.{sized_bytes}
-use Rattle.dwc_base.specs.LineHeaders.{LineFile}
+use Rattle.dwc_dwarf.specs.LineHeaders.{LineFile}
 use Rattle.dwc_write.specs.GivenLines.{GivenLines, BegunSequence}
 use Rattle.dwc_write.specs.Layouts.{written_lines}
 use Rattle.dwc_write.specs.SpelledLines.{WrittenSequence, line_fields_bytes, line_body, program_place, sequences_instructions}

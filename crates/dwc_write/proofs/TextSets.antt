@@ -9,7 +9,7 @@ use Rattle.std.proofs.lemmas.List.Elements.{All-push}
 use Rattle.std.proofs.lemmas.List.Folds.{list_any_at}
 use Rattle.std.proofs.lemmas.List.Quantifiers.{all_pairs_push}
 use Rattle.std.proofs.lemmas.List.Sums.{prefix_len-le-length}
-use Rattle.dwc_base.specs.TreeLaws.{with_new_text}
+use Rattle.dwc_dwarf.specs.TreeLaws.{with_new_text}
 use Rattle.indexmap.specs.IndexSet.{insert_key}
 use Rattle.dwc_write.specs.TextTables.{IsText, AreTexts}
 

@@ -12,16 +12,16 @@ use Rattle.std.proofs.lemmas.Slice.Eq.{bytes_eq-Decides}
 use Rattle.dwc_base.specs.declared.records.Endian.{Endian}
 use Rattle.dwc_base.specs.declared.constants.TheConstants.{DW_AT_stmt_list, DW_FORM_data1, DW_FORM_data2, DW_FORM_data4, DW_FORM_data8, DW_FORM_sdata, DW_FORM_strp}
 use Rattle.dwc_base.specs.declared.section_name.SectionName.TheVariants.{Line, Loc, Ranges, Str}
-use Rattle.dwc_base.specs.Carried.{Unit as ReadUnit}
-use Rattle.dwc_base.specs.Entries.{Entry}
-use Rattle.dwc_base.specs.Indexed.{texts_of_unit}
+use Rattle.dwc_dwarf.specs.ReadUnits.{Unit as ReadUnit}
+use Rattle.dwc_dwarf.specs.Entries.{Entry}
+use Rattle.dwc_dwarf.specs.Indexed.{texts_of_unit}
 use Rattle.dwc_base.specs.Outputs.{output_sections}
 use Rattle.dwc_base.specs.Sections.{Sections}
-use Rattle.dwc_base.specs.Texts.{TextSource, text_elsewhere, text_in, text_named}
-use Rattle.dwc_base.specs.TreeLaws.{HasTextsOnce, TextPlace, all_share, place_if_read, share_place, text_place, text_places as read_text_places}
+use Rattle.dwc_dwarf.specs.Texts.{TextSource, text_elsewhere, text_in, text_named}
+use Rattle.dwc_dwarf.specs.TreeLaws.{HasTextsOnce, TextPlace, all_share, place_if_read, share_place, text_place, text_places as read_text_places}
 use Rattle.dwc_base.specs.Reading.{◌>>=◌}
-use Rattle.dwc_base.specs.Values.{Value, is_expression_name, is_location_name, is_range_name}
-use Rattle.dwc_base.specs.Values as Values
+use Rattle.dwc_dwarf.specs.Values.{Value, is_expression_name, is_location_name, is_range_name}
+use Rattle.dwc_dwarf.specs.Values as Values
 use Rattle.dwc_write.specs.declared.list_places.ListPlaces.{ListPlaces}
 use Rattle.dwc_write.specs.declared.attributes.Attribute.{Attribute}
 use Rattle.dwc_write.specs.declared.attributes.AttributeValue.{AttributeValue}

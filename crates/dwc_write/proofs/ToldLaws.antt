@@ -8,8 +8,8 @@ use Rattle.dwc_base.specs.declared.records.Endian.TheVariants.{Little}
 use Rattle.dwc_base.specs.declared.faults.Flaw.{Flaw}
 use Rattle.dwc_base.specs.declared.records.LineRow.{LineRow}
 use Rattle.dwc_base.specs.Listing.{Listing}
-use Rattle.dwc_base.specs.LineHeaders.{Instruction}
-use Rattle.dwc_base.specs.LineRows.{Effect, appends, ends, at_sequence_start, effects}
+use Rattle.dwc_dwarf.specs.LineHeaders.{Instruction}
+use Rattle.dwc_dwarf.specs.LineRows.{Effect, appends, ends, at_sequence_start, effects}
 use Rattle.dwc_write.specs.GivenLines.{last_offset}
 use Rattle.dwc_write.specs.SpelledAddresses.{IsHeld}
 use Rattle.dwc_write.specs.SpelledLines.{FitsRow, RowsRise, first_row, instruction_bytes, instruction_fields, program_bytes, program_fields, registers_at, registers_behind, row_instructions, rows_instructions}

@@ -16,9 +16,9 @@ use Rattle.dwc_base.specs.declared.section_name.SectionName.{SectionName}
 use Rattle.dwc_base.specs.declared.section_name.SectionName.TheVariants.{Abbrev, Info, Line, Loc, Ranges}
 use Rattle.dwc_base.specs.declared.constants.TheConstants.{DW_FORM_implicit_const, DW_FORM_data1, DW_FORM_data2, DW_FORM_data4, DW_FORM_data8, DW_FORM_sdata, DW_FORM_udata}
 use Rattle.dwc_base.specs.Abbreviations.{Declaration}
-use Rattle.dwc_base.specs.LineHeaders.{LineFile}
-use Rattle.dwc_base.specs.Widest.{variable_bytes, widest_declaration, widest_header, widest_image, widest_row}
-use Rattle.dwc_base.specs.WidestTrees.{constant_bytes}
+use Rattle.dwc_dwarf.specs.LineHeaders.{LineFile}
+use Rattle.dwc_output.specs.Widest.{variable_bytes, widest_declaration, widest_header, widest_image, widest_row}
+use Rattle.dwc_output.specs.WidestTrees.{constant_bytes}
 use Rattle.dwc_base.specs.NumberBytes.{uleb_bytes, sleb_bytes, number_bytes}
 use Rattle.dwc_write.specs.Spelled.{block_bytes, text_bytes}
 use Rattle.dwc_write.specs.SpelledAddresses.{address_bytes, stored}

@@ -5,12 +5,12 @@ use Rattle.std.proofs.lemmas.List.{length-map}
 use Rattle.std.proofs.lemmas.List.Sums.{sum_by-append, sum_by-cons}
 use Rattle.dwc_base.specs.declared.section_name.SectionName.{SectionName}
 use Rattle.dwc_base.specs.declared.section_name.SectionName.TheVariants.{Abbrev, Addr, Info, Line, LineStr, Loc, Loclists, Ranges, Rnglists, Str, StrOffsets, CuIndex, Frame}
-use Rattle.dwc_base.specs.Widest.{variable_bytes, widest_declaration}
+use Rattle.dwc_output.specs.Widest.{variable_bytes, widest_declaration}
 use Rattle.dwc_base.specs.declared.records.Address.{Address as RangeAddress}
-use Rattle.dwc_base.specs.Trees.{Location, Tree, TreeValue}
-use Rattle.dwc_base.specs.TreeLaws.{values_of}
-use Rattle.dwc_base.specs.TreeReading.{entry_or_nothing}
-use Rattle.dwc_base.specs.WidestTrees as trees
+use Rattle.dwc_dwarf.specs.Trees.{Location, Tree, TreeValue}
+use Rattle.dwc_dwarf.specs.TreeLaws.{values_of}
+use Rattle.dwc_output.specs.TreeReading.{entry_or_nothing}
+use Rattle.dwc_output.specs.WidestTrees as trees
 use Rattle.dwc_write.specs.declared.expressions.Expression.{Expression}
 use Rattle.dwc_write.specs.RangeLists.{interval_of}
 use Rattle.dwc_write.specs.Lists.{ListEntry, ended, location_entry, location_of, locations_in, range_entry, ranges_in}

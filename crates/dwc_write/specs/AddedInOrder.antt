@@ -1,6 +1,6 @@
 -- Units whose entries were added in file order: what they are to be, and what they say. (DWARF 4, section 2.3)
 use Rattle.std.specs.Prelude.{◌≡◌, ℕ, suc, ◌<◌, ◌≤◌, List, [], ◌∷◌, ◌++◌, map, length, get_or}
-use Rattle.dwc_base.specs.Trees.{TreeValue, address, constant, flag, block, expression, text, line_table, ranges, locations, entry, TreeEntry, Tree}
+use Rattle.dwc_dwarf.specs.Trees.{TreeValue, address, constant, flag, block, expression, text, line_table, ranges, locations, entry, TreeEntry, Tree}
 use Rattle.dwc_write.specs.declared.attributes.Attribute.{Attribute}
 use Rattle.dwc_write.specs.declared.attributes.AttributeValue.{AttributeValue}
 use Rattle.dwc_write.specs.declared.attributes.AttributeValue.TheVariants.{Address, Constant, Flag, Block, Exprloc, StringRef, LineProgramRef, RangeListRef, LocationListRef, UnitRef, DebugInfoRef}

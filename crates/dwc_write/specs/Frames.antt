@@ -3,14 +3,14 @@ use Rattle.std.specs.Prelude.{◌≡◌, ◌+◌, ◌<◌, ◌^◌, ℕ, length,
 use Rattle.std.specs.Int.{w8, w32}
 use Rattle.std.specs.List.{All, flat_map}
 use Rattle.dwc_base.specs.declared.records.Endian.{Endian}
-use Rattle.dwc_base.specs.CallFrames.{FrameInstruction, def_cfa, def_cfa_register, def_cfa_offset, restore, undefined, same_value, saved_at, remember_state, restore_state, CommonEntry, FrameDescription}
-use Rattle.dwc_base.specs.FrameSections.{FrameNumber, frame_number_bytes, description_relocations, frame_section_if}
-use Rattle.dwc_base.specs.FramesCarried.{widest_frames}
+use Rattle.dwc_native.specs.CallFrames.{FrameInstruction, def_cfa, def_cfa_register, def_cfa_offset, restore, undefined, same_value, saved_at, remember_state, restore_state, CommonEntry, FrameDescription}
+use Rattle.dwc_output.specs.FrameSections.{FrameNumber, frame_number_bytes, description_relocations, frame_section_if}
+use Rattle.dwc_output.specs.FramesCarried.{widest_frames}
 use Rattle.dwc_base.specs.NumberBytes.{number_bytes}
 use Rattle.dwc_base.specs.Outputs.{OutputRelocation, OutputSection, section_view}
 use Rattle.dwc_base.specs.declared.output.DwarfSection.{DwarfSection}
 use Rattle.dwc_base.specs.declared.section_name.SectionName.TheVariants.{Frame}
-use Rattle.dwc_base.specs.FrameRefusals.{FrameRefusal, bad_code_offset, bad_data_offset, frame_refusals}
+use Rattle.dwc_native.specs.FrameRefusals.{FrameRefusal, bad_code_offset, bad_data_offset, frame_refusals}
 use Rattle.dwc_clif.specs.CallFrames.{instruction_view, description_view, cie_view}
 use Rattle.dwc_clif.specs.declared.frame_op.FrameOp.{FrameOp}
 use Rattle.dwc_clif.specs.declared.unwind_info.CfaUnwindInfo.{CfaUnwindInfo}

@@ -1,7 +1,7 @@
 -- Given units as trees: what their entries say with the texts of a table, without the spelling of a section.
 use Rattle.std.specs.Prelude.{ℕ, suc, ◌==◌, List, [], ◌∷◌, map, position, slice_get, Option, option_map, option_and_then}
-use Rattle.dwc_base.specs.Trees.{TreeValue, address, constant, flag, block, expression, text, line_table, ranges, locations, TreeEntry, Tree}
-use Rattle.dwc_base.specs.TreeReading.{entry_or_nothing}
+use Rattle.dwc_dwarf.specs.Trees.{TreeValue, address, constant, flag, block, expression, text, line_table, ranges, locations, TreeEntry, Tree}
+use Rattle.dwc_output.specs.TreeReading.{entry_or_nothing}
 use Rattle.dwc_write.specs.declared.attributes.Attribute.{Attribute}
 use Rattle.dwc_write.specs.declared.attributes.AttributeValue.{AttributeValue}
 use Rattle.dwc_write.specs.declared.attributes.AttributeValue.TheVariants.{Address, Constant, Flag, Block, Exprloc, StringRef, LineProgramRef, RangeListRef, LocationListRef, UnitRef, DebugInfoRef}

@@ -5,7 +5,7 @@ use Rattle.std.specs.Int.{w64, cast_signed}
 use Rattle.dwc_base.specs.declared.constants.TheConstants.{DW_TAG_compile_unit, DW_AT_stmt_list, DW_FORM_data1, DW_FORM_data2, DW_FORM_data4, DW_FORM_data8, DW_FORM_sdata, DW_FORM_udata, DW_FORM_implicit_const}
 use Rattle.dwc_base.specs.declared.section_name.SectionName.TheVariants.{Line, Loc, Ranges}
 use Rattle.dwc_base.specs.Abbreviations.{AttributeSpec, Declaration}
-use Rattle.dwc_base.specs.Values.{is_expression_name, is_location_name, is_range_name}
+use Rattle.dwc_dwarf.specs.Values.{is_expression_name, is_location_name, is_range_name}
 use Rattle.dwc_write.specs.declared.attributes.Attribute.{Attribute}
 use Rattle.dwc_write.specs.declared.abbreviations.AttributeForm.{AttributeForm}
 use Rattle.dwc_write.specs.declared.attributes.AttributeValue.{AttributeValue}

@@ -7,7 +7,7 @@ use Rattle.dwc_base.specs.declared.records.Address.{Address}
 use Rattle.dwc_base.specs.declared.records.Address.TheVariants.{Constant}
 use Rattle.dwc_base.specs.NumberBytes.{number_bytes}
 use Rattle.dwc_base.specs.Outputs.{OutputRelocation}
-use Rattle.dwc_base.specs.Trees.{Location}
+use Rattle.dwc_dwarf.specs.Trees.{Location}
 use Rattle.dwc_write.specs.declared.attributes.Attribute.{Attribute}
 use Rattle.dwc_write.specs.declared.attributes.AttributeValue.{AttributeValue}
 use Rattle.dwc_write.specs.declared.attributes.AttributeValue.TheVariants.{RangeListRef, LocationListRef}

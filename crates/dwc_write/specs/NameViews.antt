@@ -1,7 +1,7 @@
 -- Names of directories and files, as a line program keeps them: one behind another in one list of bytes.
 use Rattle.std.specs.Prelude.{◌≡◌, ℕ, zero, suc, ◌≤◌, List, [], ◌∷◌}
 use Rattle.std.specs.List.{slice_range}
-use Rattle.dwc_base.specs.LineHeaders.{LineFile}
+use Rattle.dwc_dwarf.specs.LineHeaders.{LineFile}
 
 -- the names that end at some places, the first of them from a place on
 abbrev pub cut : ℕ → List ℕ → List ℕ → List (List ℕ)

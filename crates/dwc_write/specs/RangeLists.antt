@@ -2,7 +2,7 @@
 use Rattle.std.specs.Prelude.{◌≡◌, ℕ, ◌+◌, ◌<◌, pos, ◌+ℤ◌, Bool, true, false}
 use Rattle.dwc_base.specs.declared.records.Address.{Address}
 use Rattle.dwc_base.specs.declared.records.Address.TheVariants.{Constant, Symbol}
-use Rattle.dwc_base.specs.Trees.{Interval}
+use Rattle.dwc_dwarf.specs.Trees.{Interval}
 use Rattle.dwc_write.specs.Writers.{FitsField}
 
 -- the address that lies so many bytes behind another

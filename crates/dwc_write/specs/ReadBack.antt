@@ -3,11 +3,11 @@ use Rattle.std.specs.Prelude.{◌≡◌, ℕ, zero, suc, List, [], ◌∷◌, ma
 use Rattle.std.specs.List.{AllZip}
 use Rattle.dwc_base.specs.declared.records.Endian.{Endian}
 use Rattle.dwc_base.specs.declared.records.LineRow.{LineRow}
-use Rattle.dwc_base.specs.LineRows.{LineTable, SourceFile, in_directory, Row, Segment, segments}
+use Rattle.dwc_dwarf.specs.LineRows.{LineTable, SourceFile, in_directory, Row, Segment, segments}
 use Rattle.dwc_base.specs.Sections.{Sections}
-use Rattle.dwc_base.specs.Values.{Value}
-use Rattle.dwc_base.specs.Entries.{Entry}
-use Rattle.dwc_base.specs.Carried.{Unit, units, table_of_unit}
+use Rattle.dwc_dwarf.specs.Values.{Value}
+use Rattle.dwc_dwarf.specs.Entries.{Entry}
+use Rattle.dwc_dwarf.specs.ReadUnits.{Unit, units, table_of_unit}
 use Rattle.dwc_base.specs.Outputs.{OutputSection, output_sections}
 use Rattle.dwc_write.specs.declared.attributes.Attribute.{Attribute}
 use Rattle.dwc_write.specs.SpelledUnits.{written_value}

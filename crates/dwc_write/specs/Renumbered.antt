@@ -1,8 +1,8 @@
 -- Trees that tell entries by their numbers, where these are told by their places instead.
 use Rattle.std.specs.Prelude.{ℕ, List, map, length, Option, option_map, option_and_then, slice_get}
 use Rattle.std.specs.List.{All}
-use Rattle.dwc_base.specs.Trees.{TreeValue, entry, TreeEntry, Tree}
-use Rattle.dwc_base.specs.TreeReading.{entry_or_nothing}
+use Rattle.dwc_dwarf.specs.Trees.{TreeValue, entry, TreeEntry, Tree}
+use Rattle.dwc_output.specs.TreeReading.{entry_or_nothing}
 use Rattle.dwc_write.specs.GivenUnits.{GivenUnit, IsPlaceBelow, place_of}
 
 -- a value with the entry of a unit and a number told by its unit and place: nothing where none has that number

@@ -7,8 +7,8 @@ use Rattle.dwc_base.specs.declared.records.Endian.{Endian}
 use Rattle.dwc_base.specs.declared.records.Address.{Address}
 use Rattle.dwc_base.specs.declared.records.LineRow.{LineRow}
 use Rattle.dwc_base.specs.Reading.{is_64_bit}
-use Rattle.dwc_base.specs.LineHeaders.{LineFile, LineHeader, Instruction, special, copy, advance_pc, advance_line, set_file, set_column, negate_stmt, set_basic_block, const_add_pc, fixed_advance_pc, set_prologue_end, set_epilogue_begin, set_isa, end_sequence, set_address, define_file, set_discriminator, unknown}
-use Rattle.dwc_base.specs.LineRows.{Registers, LineStep, start, row, end, LineTable, Segment, named_row}
+use Rattle.dwc_dwarf.specs.LineHeaders.{LineFile, LineHeader, Instruction, special, copy, advance_pc, advance_line, set_file, set_column, negate_stmt, set_basic_block, const_add_pc, fixed_advance_pc, set_prologue_end, set_epilogue_begin, set_isa, end_sequence, set_address, define_file, set_discriminator, unknown}
+use Rattle.dwc_dwarf.specs.LineRows.{Registers, LineStep, start, row, end, LineTable, Segment, named_row}
 use Rattle.dwc_base.specs.Spelling.{unread_at}
 use Rattle.dwc_base.specs.NumberBytes.{number_bytes, uleb_bytes, sleb_bytes}
 use Rattle.dwc_write.specs.Spelled.{text_bytes, block_bytes, sized_bytes, at_places}

@@ -16,8 +16,8 @@ use Rattle.dwc_write.specs.declared.list_places.ListPlaces.{ListPlaces}
 use Rattle.dwc_write.specs.Lists.{ListEntry, behind_attributes, list_bytes, list_relocations, locations_in, no_lists, ranges_in}
 use Rattle.dwc_write.specs.UsedTexts.{strings_bytes, text_places}
 use Rattle.dwc_write.specs.Layouts.{AllPlaces, offsets_by_number, places_of_units, places_in, written_lines, written_unit, written_units, written_tables}
-use Rattle.dwc_base.specs.FramesCarried.{others_in}
-use Rattle.dwc_base.specs.TreeLaws.{have_short_expressions}
+use Rattle.dwc_output.specs.FramesCarried.{others_in}
+use Rattle.dwc_dwarf.specs.TreeLaws.{have_short_expressions}
 use Rattle.dwc_write.specs.GivenTrees.{given_trees}
 use Rattle.dwc_write.specs.Writers.{IsRefusalFor, IsSizeRefusal, Writing, Refuses, appended, most_bytes}
 

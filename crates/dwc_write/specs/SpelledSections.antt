@@ -3,9 +3,9 @@ use Rattle.std.specs.Prelude.{◌≡◌, ℕ, ◌+◌, ◌^◌, ◌<◌, List, [
 use Rattle.std.specs.List.{All, flat_map}
 use Rattle.dwc_base.specs.declared.records.Endian.{Endian}
 use Rattle.dwc_base.specs.Abbreviations.{Declaration}
-use Rattle.dwc_base.specs.LineHeaders.{LineFile}
-use Rattle.dwc_base.specs.LineRows.{LineTable}
-use Rattle.dwc_base.specs.Carried.{Unit as ReadUnit}
+use Rattle.dwc_dwarf.specs.LineHeaders.{LineFile}
+use Rattle.dwc_dwarf.specs.LineRows.{LineTable}
+use Rattle.dwc_dwarf.specs.ReadUnits.{Unit as ReadUnit}
 use Rattle.dwc_write.specs.Spelled.{at_places}
 use Rattle.dwc_write.specs.SpelledTables.{table_bytes, FitsDeclaration}
 use Rattle.dwc_write.specs.SpelledAddresses.{AddressField}

@@ -9,8 +9,8 @@ use Rattle.dwc_base.specs.declared.section_name.SectionName.{SectionName}
 use Rattle.dwc_base.specs.Reading.{is_64_bit}
 use Rattle.dwc_base.specs.Abbreviations.{AttributeSpec, Declaration, declaration_of}
 use Rattle.dwc_base.specs.Units.{UnitHeader}
-use Rattle.dwc_base.specs.Values.{Value, address, constant, flag, expression, text_reference, unit_reference, info_reference, section_offset, block_value}
-use Rattle.dwc_base.specs.Entries.{Entry}
+use Rattle.dwc_dwarf.specs.Values.{Value, address, constant, flag, expression, text_reference, unit_reference, info_reference, section_offset, block_value}
+use Rattle.dwc_dwarf.specs.Entries.{Entry}
 use Rattle.dwc_base.specs.Spelling.{unread_at}
 use Rattle.dwc_base.specs.NumberBytes.{number_bytes, uleb_bytes, sleb_bytes}
 use Rattle.dwc_write.specs.Spelled.{block_bytes, sized_bytes, at_places}

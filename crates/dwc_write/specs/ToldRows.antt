@@ -5,8 +5,8 @@ use Rattle.std.specs.List.{All, filter_map}
 use Rattle.dwc_base.specs.declared.records.Endian.TheVariants.{Little}
 use Rattle.dwc_base.specs.declared.records.LineRow.{LineRow}
 use Rattle.dwc_base.specs.Spelling.{unread_at}
-use Rattle.dwc_base.specs.LineHeaders.{LineHeader, Instruction, instructions}
-use Rattle.dwc_base.specs.LineRows.{Effect, starts, appends, ends, at_sequence_start, effects, row_of}
+use Rattle.dwc_dwarf.specs.LineHeaders.{LineHeader, Instruction, instructions}
+use Rattle.dwc_dwarf.specs.LineRows.{Effect, starts, appends, ends, at_sequence_start, effects, row_of}
 use Rattle.dwc_write.specs.SpelledLines.{FitsRow, RowsRise, first_row, program_bytes, read_line_header, row_instructions, rows_instructions}
 
 -- ---- what bytes tell

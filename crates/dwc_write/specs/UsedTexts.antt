@@ -2,7 +2,7 @@
 -- section 7.5.4.)
 use Rattle.std.specs.Prelude.{ℕ, suc, ◌+◌, ◌<◌, ◌==◌, List, [], ◌∷◌, ◌++◌, map, length, fold, get_or, if◌then◌else◌, Option, Some, None}
 use Rattle.std.specs.List.{All, flat_map, list_any, range_with_len}
-use Rattle.dwc_base.specs.TreeLaws.{texts_ended}
+use Rattle.dwc_dwarf.specs.TreeLaws.{texts_ended}
 use Rattle.dwc_write.specs.declared.attributes.Attribute.{Attribute}
 use Rattle.dwc_write.specs.declared.attributes.AttributeValue.{AttributeValue}
 use Rattle.dwc_write.specs.declared.attributes.AttributeValue.TheVariants.{StringRef}

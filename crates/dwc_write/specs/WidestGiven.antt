@@ -3,12 +3,12 @@
 use Rattle.std.specs.Prelude.{◌≡◌, ℕ, ◌+◌, ◌*◌, ◌<◌, List, [], ◌∷◌, length, sum_by, false, nat_lt, if◌then◌else◌, Option, Some, None}
 use Rattle.dwc_base.specs.declared.section_name.SectionName.{SectionName}
 use Rattle.dwc_base.specs.declared.section_name.SectionName.TheVariants.{Abbrev, Info, Line, Loc, Ranges}
-use Rattle.dwc_base.specs.Widest.{variable_bytes, address_bytes, widest_declaration, widest_header, widest_image}
-use Rattle.dwc_base.specs.WidestTrees.{constant_bytes, pair_bytes, widest_of_trees}
+use Rattle.dwc_output.specs.Widest.{variable_bytes, address_bytes, widest_declaration, widest_header, widest_image}
+use Rattle.dwc_output.specs.WidestTrees.{constant_bytes, pair_bytes, widest_of_trees}
 use Rattle.dwc_write.specs.declared.attributes.AttributeValue.{AttributeValue}
 use Rattle.dwc_write.specs.declared.attributes.AttributeValue.TheVariants.{Address, Constant, Flag, Block, Exprloc, StringRef, LineProgramRef, RangeListRef, LocationListRef, UnitRef, DebugInfoRef}
 use Rattle.dwc_write.specs.declared.error.WriteError.{WriteError}
-use Rattle.dwc_base.specs.TreeLaws.{have_short_expressions}
+use Rattle.dwc_dwarf.specs.TreeLaws.{have_short_expressions}
 use Rattle.dwc_write.specs.Lists.{ListEntry, held_length, locations_in, ranges_in}
 use Rattle.dwc_write.specs.Writers.{IsRefusalFor, most_bytes}
 use Rattle.dwc_write.specs.GivenLines.{GivenLines}

@@ -2,8 +2,8 @@
 ghost use Rattle.std.specs.Prelude.{◌≡◌, ◌<◌, ◌^◌, FitsSigned, Some, map, nat_abs};
 ghost use Rattle.std.specs.Int.{w8};
 ghost use Rattle.std.specs.List.{All, list_all};
-ghost use Rattle.dwc_base.specs.CallFrames.{has_factored_offset};
-ghost use Rattle.dwc_base.specs.FrameRefusals.{description_refusals, frame_refusals, has_code_offsets as are_code_offsets, has_data_offsets as are_data_offsets};
+ghost use Rattle.dwc_native.specs.CallFrames.{has_factored_offset};
+ghost use Rattle.dwc_native.specs.FrameRefusals.{description_refusals, frame_refusals, has_code_offsets as are_code_offsets, has_data_offsets as are_data_offsets};
 ghost use Rattle.dwc_clif.specs.CallFrames.{cie_view, description_view, instruction_view};
 ghost use Rattle.dwc_write.specs.Frames.{FitsCommon, FitsInstruction, advancing_view, checked, function_view};
 

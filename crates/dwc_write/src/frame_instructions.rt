@@ -1,7 +1,7 @@
 //! Instructions of call frames, as they are written. (DWARF 4 and 5, section 6.4.2; DWARF 4, section 7.23.)
 ghost use Rattle.std.specs.Prelude.{◌≡◌, ◌∷◌, [], ◌+◌, ◌<◌, map, nat_abs, int_div};
 ghost use Rattle.std.specs.List.{flat_map};
-ghost use Rattle.dwc_base.specs.FrameSections.{advance_numbers, advancing_numbers, by_sign, fixed, instruction_numbers, one_byte, saved_numbers, sleb, uleb, with_register};
+ghost use Rattle.dwc_output.specs.FrameSections.{advance_numbers, advancing_numbers, by_sign, fixed, instruction_numbers, one_byte, saved_numbers, sleb, uleb, with_register};
 ghost use Rattle.dwc_clif.specs.CallFrames.{cie_view, instruction_view};
 ghost use Rattle.dwc_write.specs.Writers.{IsSize};
 ghost use Rattle.dwc_write.specs.Frames.{Puts, PutsIn, advancing_view};

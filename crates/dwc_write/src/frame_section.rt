@@ -3,7 +3,7 @@ ghost use Rattle.std.specs.Prelude.{◌≡◌, ◌++◌, ◌∷◌, [], ◌+◌,
 ghost use Rattle.std.specs.List.{flat_map};
 ghost use Rattle.dwc_base.specs.declared.constants.TheConstants.{DW_CFA_nop};
 ghost use Rattle.dwc_base.specs.declared.section_name.SectionName.TheVariants.{Frame};
-ghost use Rattle.dwc_base.specs.FrameSections.{address_sized, advancing_numbers, common_bytes, common_numbers, description_bytes, description_relocations, filling as nops, fixed, frame_section, one_byte, sleb, uleb};
+ghost use Rattle.dwc_output.specs.FrameSections.{address_sized, advancing_numbers, common_bytes, common_numbers, description_bytes, description_relocations, filling as nops, fixed, frame_section, one_byte, sleb, uleb};
 ghost use Rattle.dwc_base.specs.NumberBytes.{number_bytes};
 ghost use Rattle.dwc_base.specs.Outputs.{section_view};
 ghost use Rattle.dwc_clif.specs.CallFrames.{cie_view};

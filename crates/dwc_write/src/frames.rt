@@ -1,10 +1,10 @@
 //! The frame table of an output. (DWARF 4 and 5, section 6.4.)
 ghost use Rattle.std.specs.Prelude.{◌≡◌, ◌++◌, ◌∷◌, [], ◌⊎◌, IfOk, IfErr, IsOkUnless, OnErr, OnOk, Some, true};
 ghost use Rattle.std.specs.List.{All};
-ghost use Rattle.dwc_base.specs.CallFrames.{is_sound, is_sound_if};
-ghost use Rattle.dwc_base.specs.FrameRefusals.{frame_refusals};
-ghost use Rattle.dwc_base.specs.FramesCarried.{widest_frames};
-ghost use Rattle.dwc_base.specs.FrameSections.{frame_section_if};
+ghost use Rattle.dwc_native.specs.CallFrames.{is_sound, is_sound_if};
+ghost use Rattle.dwc_native.specs.FrameRefusals.{frame_refusals};
+ghost use Rattle.dwc_output.specs.FramesCarried.{widest_frames};
+ghost use Rattle.dwc_output.specs.FrameSections.{frame_section_if};
 ghost use Rattle.dwc_clif.specs.CallFrames.{cie_view, description_view};
 ghost use Rattle.dwc_write.specs.Frames.{IsFrameRefusal, checked, common_given, descriptions_given, first_refusal, optional_section, refused_frames, table_view, told_refusal, widest_given_frames};
 ghost use Rattle.dwc_write.specs.SpelledRelocations.{DoRelocationsRise};

@@ -1,6 +1,6 @@
 //! Names of directories and files, as they are given: one behind another in one piece of memory. (DWARF 4, section 6.2.4.)
 ghost use Rattle.std.specs.Prelude.{◌≡◌, ◌++◌, ◌∷◌, [], ◌<◌, OnOk, OnErr, length, slice_index_or};
-ghost use Rattle.dwc_base.specs.LineHeaders.{LineFile};
+ghost use Rattle.dwc_dwarf.specs.LineHeaders.{LineFile};
 ghost use Rattle.dwc_write.specs.NameViews.{start_at};
 
 use std::alloc::{AllocError, Global};
@@ -81,7 +81,7 @@ pub(crate) struct Files {
 
 impl Model for Files {
     ghost use Rattle.std.specs.Prelude.{◌≡◌, ℕ, List, length};
-    ghost use Rattle.dwc_base.specs.LineHeaders.{LineFile};
+    ghost use Rattle.dwc_dwarf.specs.LineHeaders.{LineFile};
     ghost use Rattle.dwc_write.specs.NameViews.{files_of};
 
     ghost Value = { List LineFile };

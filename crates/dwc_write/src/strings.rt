@@ -2,7 +2,7 @@
 ghost use Rattle.std.specs.Prelude.{◌≡◌, [], OnOk, OnErr, IfOk, IsOkUnless};
 ghost use Rattle.std.specs.List.{position_or_len};
 ghost use Rattle.std.specs.Str.{bytes_eq};
-ghost use Rattle.dwc_base.specs.TreeLaws.{with_new_text};
+ghost use Rattle.dwc_dwarf.specs.TreeLaws.{with_new_text};
 ghost use Rattle.dwc_write.specs.TextTables.{AreTexts, IsText};
 ghost use Rattle.dwc_write.specs.declared.error.WriteError.TheVariants.{OutOfMemory};
 

@@ -1,5 +1,5 @@
 use Rattle.std.proofs.Common.{◌≡◌}
-use Rattle.dwc_base.specs.Functions.{entry_fault}
+use Rattle.dwc_native.specs.Functions.{entry_fault}
 use Rattle.dwc_addr.proofs.maps.entries_fault.Given as goal
 
 -- the entries that are left have the fault of all

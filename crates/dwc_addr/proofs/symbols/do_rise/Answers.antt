@@ -1,5 +1,5 @@
 use Rattle.std.proofs.Common.{sym, ap, subst, ◌∙◌, [], ◌∷◌, ◌++◌, map, take, Some}
-use Rattle.dwc_base.specs.SharedSymbols.{holder_of}
+use Rattle.dwc_native.specs.SharedSymbols.{holder_of}
 use Rattle.dwc_addr.specs.Numbers.{symbol_view}
 use Rattle.dwc_addr.proofs.SymbolLaws.{EndBelow, more, new-at, end-behind, end-pass}
 use Rattle.dwc_addr.proofs.symbols.do_rise.Goals as goal

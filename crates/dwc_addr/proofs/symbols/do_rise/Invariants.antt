@@ -1,5 +1,5 @@
 use Rattle.std.proofs.Common.{◌≡◌, map, take, drop}
-use Rattle.dwc_base.specs.SharedSymbols.{shared_behind, shared_symbol}
+use Rattle.dwc_native.specs.SharedSymbols.{shared_behind, shared_symbol}
 use Rattle.dwc_addr.specs.Numbers.{symbol_view}
 use Rattle.dwc_addr.proofs.SymbolLaws.{EndBelow}
 use Rattle.dwc_addr.proofs.symbols.do_rise.Given as goal

@@ -1,6 +1,6 @@
 use Rattle.std.proofs.Common.{◌≡◌, drop}
 use Rattle.std.specs.List.{find}
-use Rattle.dwc_base.specs.Runs.{runs, has_offset}
+use Rattle.dwc_native.specs.Runs.{runs, has_offset}
 use Rattle.dwc_addr.specs.Transforms.{function_view}
 use Rattle.dwc_addr.proofs.translate.run_with.Given as goal
 

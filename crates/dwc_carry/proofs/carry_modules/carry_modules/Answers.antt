@@ -2,15 +2,15 @@ use Rattle.std.proofs.Common.{◌+◌, ◌∷◌, ◌<◌, ◌≤◌, drop, leng
 use Rattle.std.proofs.lemmas.List.{drop_all}
 use Rattle.std.proofs.lemmas.List.Elements.{All-get_or}
 use Rattle.std.proofs.lemmas.Result.{err_from_is_err_and}
-use Rattle.dwc_base.specs.Addends.{HaveAddends}
+use Rattle.dwc_native.specs.Addends.{HaveAddends}
 use Rattle.dwc_image.specs.CarriedLines.{AreKept}
 use Rattle.dwc_clone.specs.CompiledModules.{told_by}
 use Rattle.dwc_carry.specs.CarriedModules.{transformed_module}
 use Rattle.dwc_carry.specs.Inputs.{names_of, modules_of, told_from}
 use Rattle.dwc_carry.proofs.CompiledLaws.{module-next, modules-length, transforms-inside}
 use Rattle.dwc_write.specs.declared.units.Dwarf.{Dwarf}
-use Rattle.dwc_base.specs.Forests.{own_refusals}
-use Rattle.dwc_base.specs.Refusals.{first_of}
+use Rattle.dwc_carried.specs.Forests.{own_refusals}
+use Rattle.dwc_base.specs.Listing.{first_of}
 use Rattle.dwc_carry.specs.Refusals.{RefusesReading}
 use Rattle.dwc_carry.specs.OwnUnits.{memory_at}
 use Rattle.dwc_carry.proofs.OwnModules.{carried-refused, module-both, none-refused, own-counted, own-refused, own-told}

@@ -1,8 +1,8 @@
 use Rattle.std.proofs.Common.{◌≡◌, ℕ, suc, ◌<◌, ◌≤◌, ◌+◌, ◌-◌, ◌∷◌, arith, drop, length, sym, subst, refl}
 use Rattle.std.proofs.lemmas.List.{drop_all}
 use Rattle.std.proofs.lemmas.Result.{err_from_is_err_and}
-use Rattle.dwc_base.specs.Carried.{Module}
-use Rattle.dwc_base.specs.ListedFunctions.{begun_in_module}
+use Rattle.dwc_rules.specs.Carried.{Module}
+use Rattle.dwc_carried.specs.ListedFunctions.{begun_in_module}
 use Rattle.dwc_kept.proofs.KeptModuleLaws.{read-unit}
 use Rattle.dwc_clone.specs.CompiledModules.{told_by}
 use Rattle.dwc_clone.specs.KnownTexts.{KnowsTexts}

@@ -1,6 +1,6 @@
 use Rattle.std.proofs.Common.{◌≡◌, ℕ, suc, drop, length}
-use Rattle.dwc_base.specs.Carried.{Module}
-use Rattle.dwc_base.specs.ListedFunctions.{begun_in_module}
+use Rattle.dwc_rules.specs.Carried.{Module}
+use Rattle.dwc_carried.specs.ListedFunctions.{begun_in_module}
 use Rattle.dwc_clone.specs.CompiledModules.{told_by}
 use Rattle.dwc_clone.specs.KnownTexts.{KnowsTexts}
 use Rattle.dwc_carry.specs.LastLines.{IsLast}

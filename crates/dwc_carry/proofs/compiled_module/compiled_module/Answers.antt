@@ -1,6 +1,6 @@
 use Rattle.std.proofs.Common.{arith, length, sym, ap, ap₂, ◌∙◌, subst, Some, map}
 use Rattle.std.proofs.lemmas.List.{length-map}
-use Rattle.dwc_base.specs.Functions.{functions_of}
+use Rattle.dwc_native.specs.Functions.{functions_of}
 use Rattle.dwc_clif.specs.AddressMaps.{address_map_view}
 use Rattle.dwc_addr.specs.Numbers.{first_number}
 use Rattle.dwc_addr.specs.Compilations.{functions_at}

@@ -1,6 +1,6 @@
 use Rattle.std.proofs.Common.{◌∙◌, ap, sym, subst, option_map}
 use Rattle.std.proofs.lemmas.Result.{err_from_is_err_and}
-use Rattle.dwc_base.specs.Targets.{entry_listed}
+use Rattle.dwc_rules.specs.Targets.{entry_listed}
 use Rattle.dwc_read.specs.Faults.{GivesOrFault, fault_seen}
 use Rattle.dwc_read.specs.EntriesSeen.{entry_view}
 use Rattle.dwc_carry.proofs.ResolvedLaws.{begun-listed, table-refuses}

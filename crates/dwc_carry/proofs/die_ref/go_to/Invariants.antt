@@ -1,5 +1,5 @@
 use Rattle.std.proofs.Common.{◌≡◌, length}
-use Rattle.dwc_base.specs.Targets.{entry_listed}
+use Rattle.dwc_rules.specs.Targets.{entry_listed}
 use Rattle.dwc_carry.proofs.die_ref.go_to.Given as goal
 
 -- what is left answers what all answer

@@ -1,5 +1,5 @@
 use Rattle.std.proofs.Common.{ap, sym, ◌∙◌, ℕ, List, ◌++◌}
-use Rattle.dwc_base.specs.CallFrames.{CommonEntry, FrameDescription}
+use Rattle.dwc_native.specs.CallFrames.{CommonEntry, FrameDescription}
 use Rattle.dwc_carry.specs.CompiledFrames.{all_frames}
 use Rattle.dwc_carry.proofs.FrameLaws.{compilation-frames}
 use Rattle.dwc_carry.proofs.frames.frame_table.Goals as goal

@@ -1,6 +1,6 @@
 use Rattle.std.proofs.Common.{◌≡◌, drop, map}
 use Rattle.std.specs.List.{list_any}
-use Rattle.dwc_base.specs.Addends.{is_long}
+use Rattle.dwc_native.specs.Addends.{is_long}
 use Rattle.dwc_addr.specs.Transforms.{function_view}
 use Rattle.dwc_carry.proofs.lengths.has_long.Given as goal
 

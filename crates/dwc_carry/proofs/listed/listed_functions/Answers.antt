@@ -1,6 +1,6 @@
 use Rattle.std.proofs.Common.{◌<◌, ◌≤◌, ◌++◌, get_or, length, map, ap, sym, ◌∙◌, subst, All}
 use Rattle.dwc_base.specs.declared.wasm.ModuleTranslation.{ModuleTranslation}
-use Rattle.dwc_base.specs.Addends.{HaveAddends}
+use Rattle.dwc_native.specs.Addends.{HaveAddends}
 use Rattle.dwc_addr.specs.Transforms.{function_view}
 use Rattle.dwc_image.specs.SimulatedSequences.{listed_view}
 use Rattle.dwc_clone.specs.BegunNumbers.{is_noted}

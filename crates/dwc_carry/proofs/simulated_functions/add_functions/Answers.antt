@@ -1,8 +1,8 @@
 use Rattle.std.proofs.lemmas.Result.{err_from_is_err_and}
 use Rattle.std.specs.List.{flat_map}
-use Rattle.dwc_base.specs.ListedFunctions.{listed_functions}
-use Rattle.dwc_base.specs.Refusals.{first_of}
-use Rattle.dwc_base.specs.SimulatedUnit.{variable_refusals}
+use Rattle.dwc_carried.specs.ListedFunctions.{listed_functions}
+use Rattle.dwc_base.specs.Listing.{first_of}
+use Rattle.dwc_carried.specs.SimulatedUnit.{variable_refusals}
 use Rattle.dwc_clone.specs.BegunNumbers.{is_noted}
 use Rattle.dwc_carry.specs.OwnUnits.{reference_meant}
 use Rattle.dwc_carry.proofs.FunctionSteps.{functions-left, functions-past, past-kept}

@@ -2,7 +2,7 @@ use Rattle.std.proofs.Common.{◌<◌, ◌≤◌, length, get_or, arith, ap, ref
 use Rattle.std.proofs.lemmas.List.{get_or_default}
 use Rattle.std.proofs.lemmas.List.Elements.{All-get_or}
 use Rattle.std.proofs.lemmas.Result.{err_from_is_err_and}
-use Rattle.dwc_base.specs.Addends.{HaveAddends}
+use Rattle.dwc_native.specs.Addends.{HaveAddends}
 use Rattle.dwc_base.specs.TranslationNames.{HasSortedNames}
 use Rattle.dwc_image.specs.CarriedLines.{AreKept}
 use Rattle.dwc_clone.specs.BegunNumbers.{is_noted}

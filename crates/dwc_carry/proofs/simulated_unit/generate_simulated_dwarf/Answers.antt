@@ -1,11 +1,11 @@
 use Rattle.std.proofs.Common.{length, ap, sym, subst, ◌∙◌, Ok}
 use Rattle.std.proofs.lemmas.Bool.{eqb-true}
 use Rattle.std.proofs.lemmas.Result.{err_from_is_err_and}
-use Rattle.dwc_base.specs.Carried.{Module}
+use Rattle.dwc_rules.specs.Carried.{Module}
 use Rattle.std.specs.Prelude.{List, ℕ, ◌<◌}
-use Rattle.dwc_base.specs.Refusals.{first_of}
-use Rattle.dwc_base.specs.SimulatedUnit.{simulated_refusals}
-use Rattle.dwc_base.specs.UnitPaths.{is_file_name, path_name}
+use Rattle.dwc_base.specs.Listing.{first_of}
+use Rattle.dwc_carried.specs.SimulatedUnit.{simulated_refusals}
+use Rattle.dwc_carried.specs.UnitPaths.{is_file_name, path_name}
 use Rattle.dwc_addr.specs.Compilations.{CompilationValue}
 use Rattle.dwc_write.specs.TextTables.{IsText}
 use Rattle.dwc_clone.specs.BegunNumbers.{is_noted}

@@ -1,6 +1,6 @@
 use Rattle.std.proofs.Common.{ℕ, ap, map, sym, subst, ◌∙◌, All}
 use Rattle.std.proofs.lemmas.Result.{err_from_is_err_and}
-use Rattle.dwc_base.specs.SimulatedUnit.{simulated_unit}
+use Rattle.dwc_carried.specs.SimulatedUnit.{simulated_unit}
 use Rattle.dwc_image.specs.SimulatedSequences.{listed_view}
 use Rattle.dwc_clone.specs.BegunNumbers.{is_noted}
 use Rattle.dwc_carry.specs.Inputs.{modules_of}

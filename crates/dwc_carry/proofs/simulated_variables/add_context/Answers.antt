@@ -1,6 +1,6 @@
 use Rattle.std.proofs.Common.{◌∷◌, [], Some}
-use Rattle.dwc_base.specs.BuiltExpressions.{label_over}
-use Rattle.dwc_base.specs.Parts.{context_label}
+use Rattle.dwc_native.specs.BuiltExpressions.{label_over}
+use Rattle.dwc_native.specs.Parts.{context_label}
 use Rattle.dwc_expr.specs.Builds.{surroundings}
 use Rattle.dwc_carry.proofs.MadeAdditions.{parent-known}
 use Rattle.dwc_carry.proofs.VariableLaws.{extends-context}

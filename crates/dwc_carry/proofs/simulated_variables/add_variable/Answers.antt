@@ -1,7 +1,7 @@
 use Rattle.std.proofs.Common.{◌≡◌, true, false, sym, ◌∙◌}
 use Rattle.std.proofs.lemmas.Bool.{eq-eqb, ne_eqb}
 use Rattle.std.specs.Prelude.{◌==◌}
-use Rattle.dwc_base.specs.Parts.{context_label}
+use Rattle.dwc_native.specs.Parts.{context_label}
 use Rattle.dwc_carry.proofs.VariableLaws.{typed-there}
 use Rattle.dwc_carry.proofs.VariableSteps.{context-gives}
 use Rattle.dwc_carry.proofs.simulated_variables.add_variable.Goals as goal

@@ -1,7 +1,7 @@
 use Rattle.std.proofs.Common.{sym, ◌∙◌, subst, inl, All}
 use Rattle.std.proofs.lemmas.Result.{err_from_is_err_and}
 use Rattle.dwc_image.specs.CarriedLines.{AreKept}
-use Rattle.dwc_base.specs.Addends.{HaveAddends}
+use Rattle.dwc_native.specs.Addends.{HaveAddends}
 use Rattle.dwc_carry.proofs.LengthLaws.{all-addends}
 use Rattle.dwc_carry.proofs.TransformLaws.{all-kept, early-lengths, early-maps, early-modules, input-transformed, input-refused, last-refused, late-memory, maps-good, maps-refused, lengths-refused, lengths-short, never-early, refers-each}
 use Rattle.dwc_carry.proofs.transform.transform_dwarf.Goals as goal

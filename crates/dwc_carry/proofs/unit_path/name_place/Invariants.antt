@@ -1,6 +1,6 @@
 use Rattle.std.proofs.Common.{◌≡◌, ◌+◌, ◌≤◌, length, take, not}
 use Rattle.std.specs.List.{suffix_len}
-use Rattle.dwc_base.specs.UnitPaths.{is_slash}
+use Rattle.dwc_carried.specs.UnitPaths.{is_slash}
 use Rattle.dwc_carry.proofs.unit_path.name_place.Given as goal
 
 abbrev pub invariant-loop-place : goal.invariant-loop-place

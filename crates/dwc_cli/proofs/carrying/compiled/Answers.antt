@@ -1,6 +1,6 @@
 use Rattle.std.proofs.Common.{◌≡◌, map, sym, subst, None}
 use Rattle.std.proofs.lemmas.Result.{err_from_is_err_and}
-use Rattle.dwc_base.specs.SharedSymbols.{shared_symbol}
+use Rattle.dwc_native.specs.SharedSymbols.{shared_symbol}
 use Rattle.dwc_addr.specs.Numbers.{all_symbols, symbol_view}
 use Rattle.dwc_addr.specs.Compilations.{CompilationValue, lists}
 use Rattle.dwc_carry.specs.Inputs.{names_of}

@@ -1,7 +1,7 @@
 use Rattle.std.proofs.Common.{◌≡◌, ◌++◌, ◌/◌, length, map, subst, sym, ap, ap₂, ◌∙◌}
 use Rattle.std.proofs.lemmas.List.{map-append, take-append-drop}
 use Rattle.std.proofs.lemmas.Result.{IfOk-weaker}
-use Rattle.dwc_base.specs.Placed.{last_place}
+use Rattle.dwc_native.specs.Placed.{last_place}
 use Rattle.dwc_clif.specs.ValueLabels.{range_view}
 use Rattle.dwc_clif.specs.FlatRanges.{Flattens}
 use Rattle.dwc_clif.proofs.OverlayLaws.{halves-flat}

@@ -2,9 +2,9 @@ use Rattle.std.proofs.Common.{ℕ, IfSome, ap, sym, subst, ◌∙◌, Ok}
 use Rattle.std.proofs.lemmas.Bool.{eq-eqb, ne_eqb}
 use Rattle.std.proofs.lemmas.Result.{err_from_is_err_and}
 use Rattle.dwc_base.specs.declared.constants.TheConstants.{DW_AT_stmt_list}
-use Rattle.dwc_base.specs.Lists.{list_source}
-use Rattle.dwc_base.specs.RangeRefusals.{begins_by_low_pc}
-use Rattle.dwc_base.specs.Clones.{table_becomes}
+use Rattle.dwc_dwarf.specs.Lists.{list_source}
+use Rattle.dwc_rules.specs.RangeRefusals.{begins_by_low_pc}
+use Rattle.dwc_rules.specs.Clones.{table_becomes}
 use Rattle.dwc_read.specs.EntriesSeen.{entry_view}
 use Rattle.dwc_read.specs.ValuesSeen.{attribute_view}
 use Rattle.dwc_write.specs.GivenUnits.{FitsValue}

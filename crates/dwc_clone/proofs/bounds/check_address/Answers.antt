@@ -1,7 +1,7 @@
 use Rattle.std.proofs.Common.{ap, sym, subst, ◌∙◌, option_map}
-use Rattle.dwc_base.specs.Lists.{list_source}
-use Rattle.dwc_base.specs.Refusals.{of_place}
-use Rattle.dwc_base.specs.RangeRefusals.{index_fault}
+use Rattle.dwc_dwarf.specs.Lists.{list_source}
+use Rattle.dwc_rules.specs.Refusals.{of_place}
+use Rattle.dwc_rules.specs.RangeRefusals.{index_fault}
 use Rattle.dwc_read.specs.Faults.{fault_seen}
 use Rattle.dwc_read.specs.ValuesSeen.{value_view}
 use Rattle.dwc_clone.specs.Errors.{refusal_told}

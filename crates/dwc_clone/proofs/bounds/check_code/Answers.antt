@@ -1,6 +1,6 @@
 use Rattle.std.proofs.Common.{sym, ◌∙◌}
 use Rattle.std.proofs.lemmas.Result.{err_from_is_err_and}
-use Rattle.dwc_base.specs.Lists.{list_source}
+use Rattle.dwc_dwarf.specs.Lists.{list_source}
 use Rattle.dwc_read.specs.EntriesSeen.{entry_view}
 use Rattle.dwc_read.specs.ValuesSeen.{value_view}
 use Rattle.dwc_clone.specs.Errors.{refusal_told}

@@ -1,8 +1,8 @@
 use Rattle.std.proofs.Common.{ap, sym, subst, ◌∙◌, None, option_map}
 use Rattle.std.specs.Prelude.{if◌then◌else◌}
-use Rattle.dwc_base.specs.EntryRules.{of_list}
-use Rattle.dwc_base.specs.Lists.{list_source}
-use Rattle.dwc_base.specs.RangeRefusals.{bounds_refusal}
+use Rattle.dwc_rules.specs.EntryRules.{of_list}
+use Rattle.dwc_dwarf.specs.Lists.{list_source}
+use Rattle.dwc_rules.specs.RangeRefusals.{bounds_refusal}
 use Rattle.dwc_read.specs.EntriesSeen.{entry_view}
 use Rattle.dwc_clone.specs.NativeExtents.{TellsRefusal}
 use Rattle.dwc_clone.proofs.bounds.check_interval.Goals as goal

@@ -1,11 +1,11 @@
 use Rattle.std.proofs.Common.{◌≡◌, ℕ, List, Bor, refl, ap, sym, subst, ◌∙◌, option_map}
-use Rattle.dwc_base.specs.Entries.{Entry}
-use Rattle.dwc_base.specs.EntryRules.{bound_value_refused, of_list}
-use Rattle.dwc_base.specs.Kept.{Placed}
-use Rattle.dwc_base.specs.Lists.{list_source}
-use Rattle.dwc_base.specs.LocationRules.{ExpressionSource, lists_of}
-use Rattle.dwc_base.specs.RangeRefusals.{begins_by_low_pc, bound_refusal}
-use Rattle.dwc_base.specs.Values.{Value}
+use Rattle.dwc_dwarf.specs.Entries.{Entry}
+use Rattle.dwc_rules.specs.EntryRules.{bound_value_refused, of_list}
+use Rattle.dwc_rules.specs.Kept.{Placed}
+use Rattle.dwc_dwarf.specs.Lists.{list_source}
+use Rattle.dwc_rules.specs.LocationRules.{ExpressionSource, lists_of}
+use Rattle.dwc_rules.specs.RangeRefusals.{begins_by_low_pc, bound_refusal}
+use Rattle.dwc_dwarf.specs.Values.{Value}
 use Rattle.dwc_read.specs.EntriesSeen.{entry_view}
 use Rattle.dwc_read.specs.ValuesSeen.{value_view}
 use Rattle.dwc_read.specs.declared.value.AttributeValue.{AttributeValue}

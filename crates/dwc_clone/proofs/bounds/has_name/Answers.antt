@@ -1,5 +1,5 @@
 use Rattle.std.proofs.Common.{◌≡◌, ◌<◌, ◌+◌, ◌-◌, arith, drop, false, length, map, subst, sym}
-use Rattle.dwc_base.specs.RangeRefusals.{has_name}
+use Rattle.dwc_rules.specs.RangeRefusals.{has_name}
 use Rattle.dwc_read.specs.ValuesSeen.{attribute_view}
 use Rattle.dwc_clone.proofs.BoundLaws.{name-here, name-not}
 use Rattle.dwc_clone.proofs.bounds.has_name.Goals as goal

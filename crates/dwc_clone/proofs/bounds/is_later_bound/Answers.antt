@@ -2,7 +2,7 @@ use Rattle.std.proofs.Common.{ap, sym, ◌∙◌}
 use Rattle.std.specs.Prelude.{not, ◌&&◌}
 use Rattle.std.proofs.lemmas.Bool.{ne_eqb}
 use Rattle.dwc_base.specs.declared.constants.TheConstants.{DW_AT_high_pc, DW_AT_low_pc}
-use Rattle.dwc_base.specs.RangeRefusals.{has_name}
+use Rattle.dwc_rules.specs.RangeRefusals.{has_name}
 use Rattle.dwc_clone.proofs.BoundLaws.{before-front, later-high, later-low, later-not}
 use Rattle.dwc_clone.proofs.bounds.is_later_bound.Goals as goal
 

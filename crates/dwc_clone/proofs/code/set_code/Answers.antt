@@ -2,8 +2,8 @@ use Rattle.std.proofs.Common.{sym, ap, subst, ◌∙◌, option_map, OnOk}
 use Rattle.std.specs.Option.{unwrap_or}
 use Rattle.std.specs.Prelude.{pos}
 use Rattle.dwc_base.specs.declared.records.Address.TheVariants.{Symbol}
-use Rattle.dwc_base.specs.Lists.{list_source}
-use Rattle.dwc_base.specs.RangeAttributes.{bounds}
+use Rattle.dwc_dwarf.specs.Lists.{list_source}
+use Rattle.dwc_rules.specs.RangeAttributes.{bounds}
 use Rattle.dwc_read.specs.EntriesSeen.{entry_view}
 use Rattle.dwc_addr.specs.Transforms.{function_view}
 use Rattle.dwc_clone.specs.ClonedEntries.{IsGiven}

@@ -3,8 +3,8 @@ use Rattle.std.specs.Prelude.{All, ◌⊎◌}
 use Rattle.std.proofs.lemmas.List.Elements.{All-nil}
 use Rattle.dwc_base.specs.declared.constants.TheConstants.{DW_AT_ranges, DW_TAG_compile_unit}
 use Rattle.dwc_base.specs.declared.records.Address.{Address}
-use Rattle.dwc_base.specs.RangeAttributes.{bounds}
-use Rattle.dwc_base.specs.Trees.{ranges}
+use Rattle.dwc_rules.specs.RangeAttributes.{bounds}
+use Rattle.dwc_dwarf.specs.Trees.{ranges}
 use Rattle.dwc_write.specs.declared.attributes.AttributeValue.TheVariants.{RangeListRef}
 use Rattle.dwc_write.specs.declared.lists.RangeList.{RangeList}
 use Rattle.dwc_write.specs.RangeLists.{FitsRange, interval_of}

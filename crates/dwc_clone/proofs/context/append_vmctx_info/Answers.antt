@@ -1,6 +1,6 @@
 use Rattle.std.specs.Prelude.{option_map}
-use Rattle.dwc_base.specs.BuiltExpressions.{label_over}
-use Rattle.dwc_base.specs.Parts.{context_label}
+use Rattle.dwc_native.specs.BuiltExpressions.{label_over}
+use Rattle.dwc_native.specs.Parts.{context_label}
 use Rattle.dwc_expr.specs.Builds.{surroundings}
 use Rattle.dwc_clone.proofs.ContextLaws.{context-added}
 use Rattle.dwc_clone.proofs.context.append_vmctx_info.Goals as goal

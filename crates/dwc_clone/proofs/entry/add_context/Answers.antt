@@ -1,9 +1,9 @@
 use Rattle.std.proofs.Common.{refl, map, ap, sym, subst, ◌∙◌}
 use Rattle.std.specs.Prelude.{option_map}
-use Rattle.dwc_base.specs.BuiltExpressions.{label_over}
-use Rattle.dwc_base.specs.ContextVariable.{location_refusals}
-use Rattle.dwc_base.specs.EntryRules.{of_build}
-use Rattle.dwc_base.specs.Parts.{context_label}
+use Rattle.dwc_native.specs.BuiltExpressions.{label_over}
+use Rattle.dwc_rules.specs.ContextVariable.{location_refusals}
+use Rattle.dwc_rules.specs.EntryRules.{of_build}
+use Rattle.dwc_native.specs.Parts.{context_label}
 use Rattle.dwc_expr.specs.Frames.{frame_view}
 use Rattle.dwc_read.specs.EntriesSeen.{entry_view}
 use Rattle.dwc_clone.specs.ClonedEntries.{placed_entry}

@@ -1,6 +1,6 @@
 use Rattle.std.proofs.Common.{◌≡◌, ℕ, ◌+◌, ◌∷◌, ◌++◌, length, refl, sym, ap, subst, ◌∙◌, Some}
 use Rattle.std.specs.Prelude.{reverse}
-use Rattle.dwc_base.specs.Lists.{list_source}
+use Rattle.dwc_dwarf.specs.Lists.{list_source}
 use Rattle.dwc_read.specs.EntriesSeen.{entry_view}
 use Rattle.dwc_write.specs.GivenUnits.{IsReserved}
 use Rattle.dwc_clone.specs.BuiltUnits.{TakesRoles, numbers_taken}

@@ -1,11 +1,11 @@
 use Rattle.std.proofs.Common.{◌≡◌, ℕ, [], ◌∷◌, ◌++◌, take, refl, sym, subst}
 use Rattle.std.specs.Prelude.{IfOk, filter_map}
 use Rattle.std.proofs.lemmas.Result.{err_from_is_err_and}
-use Rattle.dwc_base.specs.Clones.{endianity}
-use Rattle.dwc_base.specs.ContextVariable.{context_over}
-use Rattle.dwc_base.specs.DraftForests.{settled}
-use Rattle.dwc_base.specs.Lists.{list_source}
-use Rattle.dwc_base.specs.RangeAttributes.{range_attributes}
+use Rattle.dwc_rules.specs.Clones.{endianity}
+use Rattle.dwc_rules.specs.ContextVariable.{context_over}
+use Rattle.dwc_rules.specs.DraftForests.{settled}
+use Rattle.dwc_dwarf.specs.Lists.{list_source}
+use Rattle.dwc_rules.specs.RangeAttributes.{range_attributes}
 use Rattle.dwc_clone.specs.ClonedUnits.{source_with}
 use Rattle.dwc_read.specs.EntriesSeen.{entry_view}
 use Rattle.dwc_clone.specs.declared.entry.PlacedEntry.{PlacedEntry}

@@ -1,7 +1,7 @@
 use Rattle.std.proofs.Common.{◌≡◌, ℕ, drop, map}
 use Rattle.std.specs.Prelude.{Option}
-use Rattle.dwc_base.specs.Drafts.{Goal}
-use Rattle.dwc_base.specs.Clones.{UnitSource}
+use Rattle.dwc_rules.specs.Drafts.{Goal}
+use Rattle.dwc_rules.specs.Clones.{UnitSource}
 use Rattle.dwc_read.specs.ValuesSeen.{attribute_view}
 use Rattle.dwc_read.specs.EntriesSeen.{entry_view}
 use Rattle.dwc_write.specs.GivenUnits.{Addition, GivenUnit}

@@ -1,6 +1,6 @@
 use Rattle.std.proofs.Common.{sym, subst}
 use Rattle.std.specs.Prelude.{option_map}
-use Rattle.dwc_base.specs.LocationAttributes.{compiled_at}
+use Rattle.dwc_rules.specs.LocationAttributes.{compiled_at}
 use Rattle.dwc_clone.specs.LocatedValues.{RefusesTold, expression_at, told}
 use Rattle.dwc_clone.proofs.LocatedLaws.{compiled-is, compiled-told}
 use Rattle.dwc_clone.proofs.expressions.compile_at.Goals as goal

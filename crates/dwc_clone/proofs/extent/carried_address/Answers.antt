@@ -1,6 +1,6 @@
 use Rattle.std.proofs.Common.{sym, subst}
 use Rattle.std.specs.Prelude.{IfSome}
-use Rattle.dwc_base.specs.Addends.{IsSaid}
+use Rattle.dwc_native.specs.Addends.{IsSaid}
 use Rattle.dwc_clone.proofs.NativeRangeLaws.{said-fits, zero-fits}
 use Rattle.dwc_clone.proofs.extent.carried_address.Goals as goal
 

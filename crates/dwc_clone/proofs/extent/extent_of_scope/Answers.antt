@@ -1,6 +1,6 @@
 use Rattle.std.proofs.Common.{◌∷◌, [], sym, subst}
 use Rattle.std.specs.List.{flat_map}
-use Rattle.dwc_base.specs.Runs.{native}
+use Rattle.dwc_native.specs.Runs.{native}
 use Rattle.dwc_clone.specs.NativeExtents.{AreRanges}
 use Rattle.dwc_clone.proofs.NativeExtentLaws.{scope-said}
 use Rattle.dwc_clone.proofs.NativeRangeLaws.{offsets-said}

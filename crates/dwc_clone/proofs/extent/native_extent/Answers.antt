@@ -1,6 +1,6 @@
 use Rattle.std.proofs.Common.{ap, sym, ◌∙◌}
-use Rattle.dwc_base.specs.Lists.{list_source}
-use Rattle.dwc_base.specs.RangeAttributes.{said_extent}
+use Rattle.dwc_dwarf.specs.Lists.{list_source}
+use Rattle.dwc_rules.specs.RangeAttributes.{said_extent}
 use Rattle.dwc_read.specs.EntriesSeen.{entry_view}
 use Rattle.dwc_clone.proofs.CodeNameLaws.{nowhere-is}
 use Rattle.dwc_clone.proofs.extent.native_extent.Goals as goal

@@ -1,6 +1,6 @@
 use Rattle.std.proofs.Common.{◌≡◌, suc, ◌-◌, ap, arith, subst, sym, to_z, of_z, w64, ◌∙◌, take, int_le}
 use Rattle.std.proofs.lemmas.Int.{to_z-of_z}
-use Rattle.dwc_base.specs.Scopes.{left_for}
+use Rattle.dwc_rules.specs.Scopes.{left_for}
 use Rattle.dwc_clone.proofs.StackPlaces.{Counts, counts-all, counts-less}
 use Rattle.dwc_clone.proofs.inherited_attr.count_left.Goals as goal
 

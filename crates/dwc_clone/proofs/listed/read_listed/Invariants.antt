@@ -1,6 +1,6 @@
 use Rattle.std.proofs.Common.{◌≡◌, ◌++◌, length, map}
 use Rattle.std.specs.List.{filter_map}
-use Rattle.dwc_base.specs.LocationRules.{listed}
+use Rattle.dwc_rules.specs.LocationRules.{listed}
 use Rattle.dwc_clone.specs.LocatedLists.{listed_view}
 use Rattle.dwc_clone.proofs.listed.read_listed.Given as goal
 

@@ -1,5 +1,5 @@
 use Rattle.std.proofs.Common.{◌≡◌, drop, map}
-use Rattle.dwc_base.specs.LocationAttributes.{are_equal_to as are_equal}
+use Rattle.dwc_rules.specs.LocationAttributes.{are_equal_to as are_equal}
 use Rattle.dwc_expr.specs.Builds.{location_view}
 use Rattle.dwc_clone.proofs.located.are_equal_to.Given as goal
 

@@ -1,8 +1,8 @@
 use Rattle.std.proofs.Common.{◌∙◌, Ok, Some, ap, sym, subst}
 use Rattle.std.specs.Prelude.{option_map, Option, Result}
 use Rattle.std.proofs.lemmas.Result.{err_from_is_err_and}
-use Rattle.dwc_base.specs.LocationAttributes.{LocationRefusal, value_of_parts}
-use Rattle.dwc_base.specs.Trees.{TreeValue, expression}
+use Rattle.dwc_rules.specs.LocationAttributes.{LocationRefusal, value_of_parts}
+use Rattle.dwc_dwarf.specs.Trees.{TreeValue, expression}
 use Rattle.dwc_clone.specs.InForceSeen.{in_force_view}
 use Rattle.dwc_clone.specs.LocatedValues.{GivesLocated, expression_at, told}
 use Rattle.dwc_clone.proofs.LocatedLaws.{value-of-base, value-of-other, value-told}

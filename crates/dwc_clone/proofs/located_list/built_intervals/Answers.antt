@@ -1,6 +1,6 @@
 use Rattle.std.proofs.Common.{◌≡◌, ◌+◌, ◌∙◌, Bool, Ok, ap, drop, map, subst, sym}
 use Rattle.std.proofs.lemmas.Result.{err_from_is_err_and}
-use Rattle.dwc_base.specs.LocationAttributes.{InForce, built_for_each}
+use Rattle.dwc_rules.specs.LocationAttributes.{InForce, built_for_each}
 use Rattle.dwc_clone.specs.InForceSeen.{in_force_view}
 use Rattle.dwc_clone.specs.LocatedLists.{listed_view, some_where}
 use Rattle.dwc_clone.specs.LocatedValues.{locations_view, told}

@@ -1,5 +1,5 @@
 use Rattle.std.proofs.Common.{◌≡◌, [], drop, false, map}
-use Rattle.dwc_base.specs.LocationAttributes.{InForce, built_for_each}
+use Rattle.dwc_rules.specs.LocationAttributes.{InForce, built_for_each}
 use Rattle.dwc_clone.specs.InForceSeen.{in_force_view}
 use Rattle.dwc_clone.specs.LocatedLists.{listed_view, some_where}
 use Rattle.dwc_clone.specs.LocatedValues.{locations_view}

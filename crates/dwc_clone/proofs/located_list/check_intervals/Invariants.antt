@@ -1,6 +1,6 @@
 use Rattle.std.proofs.Common.{◌≡◌, List, drop, map}
-use Rattle.dwc_base.specs.Functions.{Function}
-use Rattle.dwc_base.specs.LocationAttributes.{read_locations}
+use Rattle.dwc_native.specs.Functions.{Function}
+use Rattle.dwc_rules.specs.LocationAttributes.{read_locations}
 use Rattle.dwc_clif.specs.Registers.{Registers}
 use Rattle.dwc_clone.specs.InForceSeen.{in_force_view}
 use Rattle.dwc_clone.specs.LocatedLists.{listed_view}

@@ -1,5 +1,5 @@
 use Rattle.std.proofs.Common.{refl, subst, sym}
-use Rattle.dwc_base.specs.LocationAttributes.{built_for}
+use Rattle.dwc_rules.specs.LocationAttributes.{built_for}
 use Rattle.dwc_clone.specs.InForceSeen.{in_force_view}
 use Rattle.dwc_clone.specs.LocatedLists.{listed_view}
 use Rattle.dwc_clone.specs.LocatedValues.{RefusesTold, told}

@@ -1,5 +1,5 @@
 use Rattle.std.proofs.Common.{None, subst, sym}
-use Rattle.dwc_base.specs.EntryRules.{code_value_becomes}
+use Rattle.dwc_rules.specs.EntryRules.{code_value_becomes}
 use Rattle.dwc_read.specs.ValuesSeen.{value_view}
 use Rattle.dwc_clone.specs.ClonedUnits.{source_with}
 use Rattle.dwc_clone.specs.Errors.{refusal_told}

@@ -1,8 +1,8 @@
 use Rattle.std.proofs.lemmas.Result.{err_from_is_err_and}
 use Rattle.std.proofs.Common.{◌∙◌, Some, None, refl, ap, sym, subst}
 use Rattle.dwc_base.specs.declared.section_name.SectionName.TheVariants.{Info}
-use Rattle.dwc_base.specs.Entries.{Entry}
-use Rattle.dwc_base.specs.LocationAttributes.{LocationRefusal, drafted, value_of_expression}
+use Rattle.dwc_dwarf.specs.Entries.{Entry}
+use Rattle.dwc_rules.specs.LocationAttributes.{LocationRefusal, drafted, value_of_expression}
 use Rattle.dwc_expr.specs.Frames.{frame_view}
 use Rattle.dwc_clone.specs.ClonedUnits.{source_with}
 use Rattle.dwc_clone.specs.Errors.{refusal_told}

@@ -1,9 +1,9 @@
 use Rattle.std.proofs.Common.{◌∙◌, Ok, Some, None, refl, ap, sym, subst}
 use Rattle.std.proofs.lemmas.Result.{err_from_is_err_and}
-use Rattle.dwc_base.specs.Entries.{Entry}
-use Rattle.dwc_base.specs.EntryRules.{code_value_becomes}
-use Rattle.dwc_base.specs.Lists.{list_source}
-use Rattle.dwc_base.specs.LocationAttributes.{drafted}
+use Rattle.dwc_dwarf.specs.Entries.{Entry}
+use Rattle.dwc_rules.specs.EntryRules.{code_value_becomes}
+use Rattle.dwc_dwarf.specs.Lists.{list_source}
+use Rattle.dwc_rules.specs.LocationAttributes.{drafted}
 use Rattle.dwc_read.specs.ValuesSeen.{value_view}
 use Rattle.dwc_expr.specs.Frames.{frame_view}
 use Rattle.dwc_clone.specs.ClonedUnits.{source_with}

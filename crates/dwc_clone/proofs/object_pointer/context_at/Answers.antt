@@ -1,5 +1,5 @@
 use Rattle.std.proofs.Common.{◌≡◌, pos, to_z, of_z, w64, rules, ◌-ℤ◌, ap, ◌∙◌}
-use Rattle.dwc_base.specs.Scopes.{top_at}
+use Rattle.dwc_rules.specs.Scopes.{top_at}
 use Rattle.dwc_read.specs.EntriesSeen.{natural}
 use Rattle.dwc_clone.specs.ParameterContexts.{next_number}
 use Rattle.dwc_clone.specs.StacksByDepth.{with_top}

@@ -2,7 +2,7 @@ use Rattle.std.proofs.Common.{◌≡◌, true, false, pos, to_z, of_z, w64, rule
 use Rattle.std.specs.Prelude.{◌-ℤ◌}
 use Rattle.std.proofs.lemmas.Bool.{eq-eqb, ne_eqb}
 use Rattle.dwc_base.specs.declared.constants.TheConstants.{DW_TAG_formal_parameter}
-use Rattle.dwc_base.specs.Scopes.{left_for, top_at}
+use Rattle.dwc_rules.specs.Scopes.{left_for, top_at}
 use Rattle.dwc_read.specs.EntriesSeen.{entry_view, natural}
 use Rattle.dwc_clone.specs.ClonedEntries.{placed_entry}
 use Rattle.dwc_clone.specs.ParameterContexts.{GivesTelling, told_behind}

@@ -1,6 +1,6 @@
 use Rattle.std.proofs.Common.{ap, sym, ◌∙◌, option_map}
 use Rattle.std.proofs.lemmas.Result.{err_from_is_err_and}
-use Rattle.dwc_base.specs.Refusals.{of_place}
+use Rattle.dwc_rules.specs.Refusals.{of_place}
 use Rattle.dwc_read.specs.EntriesSeen.{entry_view}
 use Rattle.dwc_read.specs.Faults.{fault_seen}
 use Rattle.dwc_clone.specs.ClonedEntries.{placed_entry}

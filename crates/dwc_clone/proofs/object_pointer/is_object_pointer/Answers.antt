@@ -1,7 +1,7 @@
 use Rattle.std.proofs.Common.{◌≡◌, true, ap, sym, ◌∙◌, subst}
 use Rattle.std.specs.Prelude.{◌&&◌, ◌||◌}
 use Rattle.std.proofs.lemmas.Bool.{ne_eqb}
-use Rattle.dwc_base.specs.ObjectPointers.{looks_like_this}
+use Rattle.dwc_rules.specs.ObjectPointers.{looks_like_this}
 use Rattle.dwc_read.specs.EntriesSeen.{entry_view}
 use Rattle.dwc_clone.specs.ClonedEntries.{placed_entry}
 use Rattle.dwc_clone.specs.ParameterContexts.{GivesOnly, is_first}

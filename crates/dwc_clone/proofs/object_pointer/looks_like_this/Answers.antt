@@ -1,9 +1,9 @@
 use Rattle.std.proofs.Common.{◌≡◌, true, Some, ap, sym, ◌∙◌, option_map, subst}
 use Rattle.std.specs.Prelude.{◌&&◌}
 use Rattle.dwc_base.specs.declared.constants.TheConstants.{DW_AT_artificial, DW_AT_name}
-use Rattle.dwc_base.specs.Entries.{attribute}
-use Rattle.dwc_base.specs.ObjectPointers.{is_pointer, is_set_flag, is_this_name}
-use Rattle.dwc_base.specs.TypeNames.{type_of}
+use Rattle.dwc_dwarf.specs.Entries.{attribute}
+use Rattle.dwc_rules.specs.ObjectPointers.{is_pointer, is_set_flag, is_this_name}
+use Rattle.dwc_rules.specs.TypeNames.{type_of}
 use Rattle.dwc_read.specs.EntriesSeen.{entry_view}
 use Rattle.dwc_read.specs.ValuesSeen.{value_view}
 use Rattle.dwc_clone.specs.ClonedEntries.{placed_entry}

@@ -1,7 +1,7 @@
 use Rattle.std.proofs.Common.{ap, sym, ◌∙◌}
 use Rattle.std.specs.Prelude.{pos, ◌-ℤ◌, if◌then◌else◌}
 use Rattle.std.proofs.lemmas.Result.{err_from_is_err_and}
-use Rattle.dwc_base.specs.Scopes.{top_at}
+use Rattle.dwc_rules.specs.Scopes.{top_at}
 use Rattle.dwc_read.specs.EntriesSeen.{entry_view}
 use Rattle.dwc_clone.specs.declared.object_pointer.Telling.TheVariants.{Plain, ObjectPointer}
 use Rattle.dwc_clone.specs.ClonedEntries.{placed_entry}

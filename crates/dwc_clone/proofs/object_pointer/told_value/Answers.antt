@@ -2,8 +2,8 @@ use Rattle.std.proofs.Common.{◌≡◌, ℕ, sym, ap, subst, ◌∙◌, None, O
 use Rattle.std.specs.Prelude.{IfOk, IfSome}
 use Rattle.std.proofs.lemmas.Bool.{ne_eqb}
 use Rattle.dwc_base.specs.declared.constants.TheConstants.{DW_AT_artificial, DW_AT_name}
-use Rattle.dwc_base.specs.Clones.{attribute_becomes}
-use Rattle.dwc_base.specs.ObjectPointers.{names_no_pointer, unlike_this}
+use Rattle.dwc_rules.specs.Clones.{attribute_becomes}
+use Rattle.dwc_rules.specs.ObjectPointers.{names_no_pointer, unlike_this}
 use Rattle.dwc_read.specs.ValuesSeen.{value_view}
 use Rattle.dwc_write.specs.GivenUnits.{FitsValue}
 use Rattle.dwc_clone.specs.ClonedUnits.{clone_rules}

@@ -1,6 +1,6 @@
 use Rattle.std.proofs.Common.{◌++◌, ap, subst, ◌∙◌, Some}
-use Rattle.dwc_base.specs.Drafts.{done}
-use Rattle.dwc_base.specs.Trees.{text}
+use Rattle.dwc_rules.specs.Drafts.{done}
+use Rattle.dwc_dwarf.specs.Trees.{text}
 use Rattle.dwc_write.specs.declared.attributes.AttributeValue.TheVariants.{StringRef}
 use Rattle.dwc_clone.specs.MadeValues.{SaysMore}
 use Rattle.dwc_clone.proofs.TextLaws.{text-says}

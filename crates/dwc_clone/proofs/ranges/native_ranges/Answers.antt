@@ -1,5 +1,5 @@
 use Rattle.std.proofs.Common.{refl}
-use Rattle.dwc_base.specs.Lists.{list_source, ranges_of_value}
+use Rattle.dwc_dwarf.specs.Lists.{list_source, ranges_of_value}
 use Rattle.dwc_read.specs.ValuesSeen.{value_view}
 use Rattle.dwc_clone.proofs.NativeRangeLaws.{native-refused}
 use Rattle.dwc_clone.proofs.ranges.native_ranges.Goals as goal

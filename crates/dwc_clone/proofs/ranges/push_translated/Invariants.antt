@@ -1,5 +1,5 @@
 use Rattle.std.proofs.Common.{◌≡◌, ◌++◌}
-use Rattle.dwc_base.specs.Runs.{native_in_function}
+use Rattle.dwc_native.specs.Runs.{native_in_function}
 use Rattle.dwc_addr.specs.Translations.{with_lengths}
 use Rattle.dwc_clone.proofs.ranges.push_translated.Given as goal
 

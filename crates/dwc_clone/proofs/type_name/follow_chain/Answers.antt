@@ -2,8 +2,8 @@ use Rattle.std.proofs.Common.{◌≡◌, ◌∙◌, ◌<◌, ◌≤◌, ℕ, Ok,
 use Rattle.std.specs.Prelude.{◌==◌, ◌||◌, ◌≢◌}
 use Rattle.std.proofs.lemmas.Bool.{eqb-true}
 use Rattle.std.proofs.lemmas.Result.{err_from_is_err_and}
-use Rattle.dwc_base.specs.Clones.{UnitSource}
-use Rattle.dwc_base.specs.TypeNames.{type_name, unknown}
+use Rattle.dwc_rules.specs.Clones.{UnitSource}
+use Rattle.dwc_rules.specs.TypeNames.{type_name, unknown}
 use Rattle.dwc_clone.specs.declared.type_name.ChainName.{ChainName}
 use Rattle.dwc_clone.specs.DerivedTypes.{end_of, is_at, is_found, met_in, room}
 use Rattle.dwc_clone.specs.KnownNames.{EndsSo, IfAway, IfEnds, IsAway, IsRead, KnowsTypes}

@@ -1,6 +1,6 @@
 use Rattle.std.proofs.Common.{◌≡◌}
-use Rattle.dwc_base.specs.Clones.{UnitSource}
-use Rattle.dwc_base.specs.Kept.{Placed}
+use Rattle.dwc_rules.specs.Clones.{UnitSource}
+use Rattle.dwc_rules.specs.Kept.{Placed}
 use Rattle.dwc_clone.specs.DerivedTypes.{room}
 use Rattle.dwc_clone.specs.KnownNames.{IsFresh, KnowsTypes}
 use Rattle.dwc_clone.specs.TypeSteps.{HaveTexts, IsOfType}

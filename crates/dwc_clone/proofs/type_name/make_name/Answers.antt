@@ -1,7 +1,7 @@
 use Rattle.std.proofs.Common.{refl, subst}
 use Rattle.std.proofs.lemmas.Result.{err_from_is_err_and}
-use Rattle.dwc_base.specs.TypeNames.{type_name}
-use Rattle.dwc_base.specs.Wrappers.{wrapper_name}
+use Rattle.dwc_rules.specs.TypeNames.{type_name}
+use Rattle.dwc_rules.specs.Wrappers.{wrapper_name}
 use Rattle.dwc_read.specs.EntriesSeen.{entry_view}
 use Rattle.dwc_clone.specs.declared.type_name.ChainName.{ChainName}
 use Rattle.dwc_clone.specs.ClonedEntries.{placed_entry}

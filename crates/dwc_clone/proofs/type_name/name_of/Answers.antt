@@ -3,12 +3,12 @@ use Rattle.dwc_base.specs.declared.constants.TheConstants.{DW_AT_name}
 use Rattle.dwc_base.specs.declared.section_name.SectionName.TheVariants.{Info}
 use Rattle.dwc_base.specs.declared.faults.What.TheVariants.{Text}
 use Rattle.dwc_base.specs.Cursors.{slice_bytes}
-use Rattle.dwc_base.specs.Entries.{Entry, attribute}
-use Rattle.dwc_base.specs.Indexed.{texts_of_unit}
+use Rattle.dwc_dwarf.specs.Entries.{Entry, attribute}
+use Rattle.dwc_dwarf.specs.Indexed.{texts_of_unit}
 use Rattle.dwc_base.specs.Sections.{reported}
-use Rattle.dwc_base.specs.Texts.{text_named}
-use Rattle.dwc_base.specs.TypeNames.{name_of}
-use Rattle.dwc_base.proofs.ReadValuesEntries.{attribute-read}
+use Rattle.dwc_dwarf.specs.Texts.{text_named}
+use Rattle.dwc_rules.specs.TypeNames.{name_of}
+use Rattle.dwc_dwarf.proofs.ReadValuesEntries.{attribute-read}
 use Rattle.dwc_read.specs.EntriesSeen.{entry_view}
 use Rattle.dwc_read.specs.ValuesSeen.{value_view}
 use Rattle.dwc_clone.proofs.ChainNameLaws.{name-is, name-refused}

@@ -1,5 +1,5 @@
 use Rattle.std.proofs.Common.{◌∙◌, ap, option_map, sym}
-use Rattle.dwc_base.specs.TypeNames.{unknown}
+use Rattle.dwc_rules.specs.TypeNames.{unknown}
 use Rattle.dwc_read.specs.EntriesSeen.{entry_view}
 use Rattle.dwc_clone.specs.ClonedEntries.{placed_entry}
 use Rattle.dwc_clone.specs.TypeChains.{type_view}

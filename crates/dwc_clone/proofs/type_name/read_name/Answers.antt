@@ -1,7 +1,7 @@
 use Rattle.std.proofs.Common.{◌≡◌, ◌∙◌, ◌+◌, ℕ, Ok, ap, refl, rules, sym, subst}
 use Rattle.std.specs.Prelude.{◌≢◌}
 use Rattle.std.proofs.lemmas.Result.{err_from_is_err_and}
-use Rattle.dwc_base.specs.TypeNames.{type_name}
+use Rattle.dwc_rules.specs.TypeNames.{type_name}
 use Rattle.dwc_write.specs.TextTables.{IsText}
 use Rattle.dwc_clone.specs.declared.type_name.ChainName.{ChainName}
 use Rattle.dwc_clone.specs.declared.type_name.KnownTypes.{KnownTypes}

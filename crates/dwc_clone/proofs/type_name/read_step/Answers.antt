@@ -1,7 +1,7 @@
 use Rattle.std.proofs.Common.{◌∙◌, Ok, ap, option_map, refl, sym}
 use Rattle.std.proofs.lemmas.Result.{err_from_is_err_and}
 use Rattle.dwc_base.specs.Cursors.{slice_bytes}
-use Rattle.dwc_base.specs.TypeNames.{name_of}
+use Rattle.dwc_rules.specs.TypeNames.{name_of}
 use Rattle.dwc_read.specs.EntriesSeen.{entry_view}
 use Rattle.dwc_clone.specs.ClonedEntries.{placed_entry}
 use Rattle.dwc_clone.proofs.TypeStepLaws.{derived-given, gives-none, last-given, name-given, name-refusal}

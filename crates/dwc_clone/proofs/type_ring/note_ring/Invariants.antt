@@ -1,5 +1,5 @@
 use Rattle.std.proofs.Common.{ℕ, List, ◌≤◌}
-use Rattle.dwc_base.specs.Clones.{UnitSource}
+use Rattle.dwc_rules.specs.Clones.{UnitSource}
 use Rattle.dwc_clone.specs.declared.source.CloneSource.{CloneSource}
 use Rattle.dwc_clone.specs.KnownNames.{AreOwnNames, NamesRing}
 use Rattle.dwc_clone.proofs.RingWalkLaws.{IsTurning}

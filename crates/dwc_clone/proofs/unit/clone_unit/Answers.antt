@@ -3,13 +3,13 @@ use Rattle.std.specs.Prelude.{reverse}
 use Rattle.std.specs.List.{All}
 use Rattle.std.proofs.lemmas.List.Elements.{All-head, All-nil, All-tail}
 use Rattle.std.proofs.lemmas.Result.{err_from_is_err_and}
-use Rattle.dwc_base.specs.Lists.{list_source}
-use Rattle.dwc_base.specs.RangeAttributes.{begun_function}
-use Rattle.dwc_base.specs.Clones.{UnitSource}
-use Rattle.dwc_base.specs.Drafts.{Role}
-use Rattle.dwc_base.specs.Entries.{Entry, entries as entries_of}
+use Rattle.dwc_dwarf.specs.Lists.{list_source}
+use Rattle.dwc_rules.specs.RangeAttributes.{begun_function}
+use Rattle.dwc_rules.specs.Clones.{UnitSource}
+use Rattle.dwc_rules.specs.Drafts.{Role}
+use Rattle.dwc_dwarf.specs.Entries.{Entry, entries as entries_of}
 use Rattle.dwc_base.specs.Listing.{Listing}
-use Rattle.dwc_base.specs.ReadValues.{IsReadEntry}
+use Rattle.dwc_dwarf.specs.ReadValues.{IsReadEntry}
 use Rattle.dwc_base.specs.Sections.{Fault}
 use Rattle.dwc_read.specs.EntriesSeen.{entry_view}
 use Rattle.dwc_write.specs.GivenUnits.{IsAdded, IsReserved}

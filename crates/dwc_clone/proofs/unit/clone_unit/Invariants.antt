@@ -1,12 +1,12 @@
 use Rattle.std.proofs.Common.{◌≡◌, ℕ, ◌-◌, ◌<◌, ◌≤◌, [], Option, drop, length, filter_map}
 use Rattle.std.specs.Prelude.{reverse}
 use Rattle.std.specs.List.{All}
-use Rattle.dwc_base.specs.Entries.{entries as entries_of}
-use Rattle.dwc_base.specs.Lists.{list_source}
-use Rattle.dwc_base.specs.RangeAttributes.{begun_function}
-use Rattle.dwc_base.specs.Clones.{UnitSource}
-use Rattle.dwc_base.specs.Drafts.{Role}
-use Rattle.dwc_base.specs.ReadValues.{IsReadEntry}
+use Rattle.dwc_dwarf.specs.Entries.{entries as entries_of}
+use Rattle.dwc_dwarf.specs.Lists.{list_source}
+use Rattle.dwc_rules.specs.RangeAttributes.{begun_function}
+use Rattle.dwc_rules.specs.Clones.{UnitSource}
+use Rattle.dwc_rules.specs.Drafts.{Role}
+use Rattle.dwc_dwarf.specs.ReadValues.{IsReadEntry}
 use Rattle.dwc_write.specs.GivenUnits.{IsReserved}
 use Rattle.dwc_clone.specs.BuiltUnits.{AreRoles}
 use Rattle.dwc_clone.specs.Sources.{AreEmitted, IsSource}

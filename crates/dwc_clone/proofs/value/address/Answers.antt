@@ -1,9 +1,9 @@
 use Rattle.std.proofs.Common.{Ok, ap, sym, subst, ◌∙◌}
 use Rattle.std.specs.Prelude.{option_map}
-use Rattle.dwc_base.specs.EntryRules.{of_list}
-use Rattle.dwc_base.specs.Lists.{list_source}
-use Rattle.dwc_base.specs.RangeRules.{code_becomes, told_as}
-use Rattle.dwc_base.specs.Refusals.{of_place}
+use Rattle.dwc_rules.specs.EntryRules.{of_list}
+use Rattle.dwc_dwarf.specs.Lists.{list_source}
+use Rattle.dwc_rules.specs.RangeRules.{code_becomes, told_as}
+use Rattle.dwc_rules.specs.Refusals.{of_place}
 use Rattle.dwc_read.specs.Faults.{fault_seen}
 use Rattle.dwc_read.specs.ValuesSeen.{value_view}
 use Rattle.dwc_clone.specs.Errors.{refusal_told}

@@ -2,13 +2,13 @@ use Rattle.std.proofs.Common.{ℕ, ◌<◌, ap, sym, subst, ◌∙◌, length, S
 use Rattle.std.specs.Prelude.{IfOk, IfSome}
 use Rattle.std.proofs.lemmas.List.Elements.{All-nil}
 use Rattle.std.proofs.lemmas.Result.{err_from_is_err_and}
-use Rattle.dwc_base.specs.Trees as Trees
-use Rattle.dwc_base.specs.Entries.{Entry}
-use Rattle.dwc_base.specs.Values as Values
-use Rattle.dwc_base.specs.Indexed.{texts_of_unit}
-use Rattle.dwc_base.specs.Drafts.{done}
-use Rattle.dwc_base.specs.Clones.{constant_becomes, reference_becomes, value_becomes}
-use Rattle.dwc_base.specs.ReadValues.{IsReadValue}
+use Rattle.dwc_dwarf.specs.Trees as Trees
+use Rattle.dwc_dwarf.specs.Entries.{Entry}
+use Rattle.dwc_dwarf.specs.Values as Values
+use Rattle.dwc_dwarf.specs.Indexed.{texts_of_unit}
+use Rattle.dwc_rules.specs.Drafts.{done}
+use Rattle.dwc_rules.specs.Clones.{constant_becomes, reference_becomes, value_becomes}
+use Rattle.dwc_dwarf.specs.ReadValues.{IsReadValue}
 use Rattle.dwc_read.specs.ValuesSeen.{value_view}
 use Rattle.dwc_write.specs.declared.attributes.AttributeValue.{AttributeValue}
 use Rattle.dwc_write.specs.GivenUnits.{FitsValue}

@@ -1,10 +1,10 @@
 use Rattle.std.proofs.Common.{◌<◌, ap, sym, subst, ◌∙◌, length, Some, option_map, refl}
 use Rattle.std.proofs.lemmas.List.Elements.{All-nil}
 use Rattle.std.proofs.lemmas.Result.{err_from_is_err_and}
-use Rattle.dwc_base.specs.Trees as Trees
-use Rattle.dwc_base.specs.Values as Values
-use Rattle.dwc_base.specs.Drafts.{done}
-use Rattle.dwc_base.specs.Clones.{constant_becomes, reference_becomes, value_becomes}
+use Rattle.dwc_dwarf.specs.Trees as Trees
+use Rattle.dwc_dwarf.specs.Values as Values
+use Rattle.dwc_rules.specs.Drafts.{done}
+use Rattle.dwc_rules.specs.Clones.{constant_becomes, reference_becomes, value_becomes}
 use Rattle.dwc_read.specs.ValuesSeen.{value_view}
 use Rattle.dwc_clone.specs.ClonedUnits.{clone_rules}
 use Rattle.dwc_clone.specs.MadeValues.{Says, own_reference, target_place}

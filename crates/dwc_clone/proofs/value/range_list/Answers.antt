@@ -1,8 +1,8 @@
 use Rattle.std.proofs.Common.{Some, sym, subst}
 use Rattle.std.specs.List.{All}
-use Rattle.dwc_base.specs.EntryRules.{of_list}
-use Rattle.dwc_base.specs.Lists.{list_source}
-use Rattle.dwc_base.specs.RangeRules.{code_becomes, told_as}
+use Rattle.dwc_rules.specs.EntryRules.{of_list}
+use Rattle.dwc_dwarf.specs.Lists.{list_source}
+use Rattle.dwc_rules.specs.RangeRules.{code_becomes, told_as}
 use Rattle.dwc_read.specs.ValuesSeen.{value_view}
 use Rattle.dwc_clone.specs.Errors.{refusal_told}
 use Rattle.dwc_write.specs.declared.attributes.AttributeValue.TheVariants.{RangeListRef}

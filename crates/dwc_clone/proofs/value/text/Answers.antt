@@ -1,11 +1,11 @@
 use Rattle.std.proofs.Common.{ap, subst, sym, ◌∙◌, Some, Ok, option_map}
 use Rattle.std.proofs.lemmas.Result.{err_from_is_err_and}
 use Rattle.dwc_base.specs.Cursors.{slice_bytes}
-use Rattle.dwc_base.specs.Indexed.{texts_of_unit}
-use Rattle.dwc_base.specs.Refusals.{of_place}
-use Rattle.dwc_base.specs.Drafts.{done}
-use Rattle.dwc_base.specs.Trees as Trees
-use Rattle.dwc_base.specs.Clones.{text_drafted}
+use Rattle.dwc_dwarf.specs.Indexed.{texts_of_unit}
+use Rattle.dwc_rules.specs.Refusals.{of_place}
+use Rattle.dwc_rules.specs.Drafts.{done}
+use Rattle.dwc_dwarf.specs.Trees as Trees
+use Rattle.dwc_rules.specs.Clones.{text_drafted}
 use Rattle.dwc_read.specs.Faults.{fault_seen}
 use Rattle.dwc_read.specs.ValuesSeen.{value_view}
 use Rattle.dwc_clone.specs.MadeValues.{Grows}

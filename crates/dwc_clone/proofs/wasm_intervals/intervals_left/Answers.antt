@@ -1,7 +1,7 @@
 use Rattle.std.proofs.Common.{Ok, refl, ap, subst}
 use Rattle.dwc_base.specs.Listing.{Listing}
-use Rattle.dwc_base.specs.Lists.{ListRefusal}
-use Rattle.dwc_base.specs.Trees.{Interval}
+use Rattle.dwc_dwarf.specs.Lists.{ListRefusal}
+use Rattle.dwc_dwarf.specs.Trees.{Interval}
 use Rattle.dwc_tabs.specs.RangeEnds.{GivesNextOf, interval_view}
 use Rattle.dwc_clone.proofs.ReadExtentLaws.{read-begin, read-cut, read-more, read-whole}
 use Rattle.dwc_clone.proofs.wasm_intervals.intervals_left.Goals as goal

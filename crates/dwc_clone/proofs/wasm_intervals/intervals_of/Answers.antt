@@ -1,5 +1,5 @@
 use Rattle.std.proofs.Common.{is_some}
-use Rattle.dwc_base.specs.Lists.{list_source}
+use Rattle.dwc_dwarf.specs.Lists.{list_source}
 use Rattle.dwc_read.specs.EntriesSeen.{entry_view}
 use Rattle.dwc_read.specs.ValuesSeen.{value_view}
 use Rattle.dwc_clone.proofs.ReadExtentLaws.{bounded-known, listed-known, listed-scope}

@@ -1,4 +1,4 @@
-use Rattle.dwc_base.specs.Lists.{list_source, ranges_of_value}
+use Rattle.dwc_dwarf.specs.Lists.{list_source, ranges_of_value}
 use Rattle.dwc_read.specs.ValuesSeen.{value_view}
 use Rattle.dwc_clone.proofs.ReadExtentLaws.{read-none}
 use Rattle.dwc_clone.proofs.wasm_intervals.listed_intervals.Goals as goal

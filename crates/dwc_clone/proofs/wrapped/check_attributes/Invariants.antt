@@ -1,5 +1,5 @@
 use Rattle.std.proofs.Common.{◌≡◌, ℕ, drop, map}
-use Rattle.dwc_base.specs.Clones.{UnitSource}
+use Rattle.dwc_rules.specs.Clones.{UnitSource}
 use Rattle.dwc_read.specs.ValuesSeen.{attribute_view}
 use Rattle.dwc_read.specs.EntriesSeen.{entry_view}
 use Rattle.dwc_clone.specs.Sources.{IsSource}

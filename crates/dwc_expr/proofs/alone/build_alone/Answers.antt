@@ -1,6 +1,6 @@
 use Rattle.std.proofs.Common.{Bor, map, option_map, nat_lt, refl}
 use Rattle.std.specs.List.{list_any}
-use Rattle.dwc_base.specs.Compiled.{LabelRange}
+use Rattle.dwc_native.specs.Compiled.{LabelRange}
 use Rattle.dwc_clif.specs.ValueLabels.{range_view}
 use Rattle.dwc_expr.specs.declared.frame.FunctionFrameInfo.{FunctionFrameInfo}
 use Rattle.dwc_expr.specs.Frames.{frame_view, told_frame}

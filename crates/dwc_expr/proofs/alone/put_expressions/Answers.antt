@@ -1,6 +1,6 @@
 use Rattle.std.proofs.Common.{◌+◌, drop, filter_map, get_or, map, option_to_list}
 use Rattle.std.proofs.lemmas.Result.{err_from_is_err_and}
-use Rattle.dwc_base.specs.Placed.{NativeRange}
+use Rattle.dwc_native.specs.Placed.{NativeRange}
 use Rattle.dwc_clif.specs.Registers.{Registers}
 use Rattle.dwc_clif.specs.ValueLabels.{range_view}
 use Rattle.dwc_expr.specs.Alone.{parts_in}

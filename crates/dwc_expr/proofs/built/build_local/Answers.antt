@@ -1,5 +1,5 @@
 use Rattle.std.proofs.Common.{◌∙◌, Bor, option_map, subst, sym}
-use Rattle.dwc_base.specs.BuiltExpressions.{Surroundings, built_on_ranges}
+use Rattle.dwc_native.specs.BuiltExpressions.{Surroundings, built_on_ranges}
 use Rattle.dwc_clif.specs.Registers.{Registers}
 use Rattle.dwc_expr.specs.declared.frame.FunctionFrameInfo.{FunctionFrameInfo}
 use Rattle.dwc_expr.specs.Builds.{Builds, surroundings}

@@ -1,6 +1,6 @@
 use Rattle.std.proofs.Common.{◌≡◌, All, None, flat_map, map, sym, subst}
 use Rattle.std.proofs.lemmas.Result.{err_from_is_err_and}
-use Rattle.dwc_base.specs.Refusals.{first_of}
+use Rattle.dwc_base.specs.Listing.{first_of}
 use Rattle.dwc_clif.specs.Registers.{Registers}
 use Rattle.dwc_expr.specs.Builds.{location_view}
 use Rattle.dwc_expr.specs.Frames.{memory_view}

@@ -1,8 +1,8 @@
 use Rattle.std.proofs.Common.{◌≡◌, ◌∙◌, All, List, Ok, Some, ap, is_some, length, option_map, subst, sym, ◌≤◌}
 use Rattle.std.specs.Prelude.{false}
 use Rattle.std.proofs.lemmas.Result.{err_from_is_err_and}
-use Rattle.dwc_base.specs.Operations.{Operation}
-use Rattle.dwc_base.specs.Parts.{compiled, holds_jump, targets}
+use Rattle.dwc_dwarf.specs.Operations.{Operation}
+use Rattle.dwc_native.specs.Parts.{compiled, holds_jump, targets}
 use Rattle.dwc_expr.specs.Compiles.{Compiles}
 use Rattle.dwc_expr.specs.Steps.{held, supported_operations}
 use Rattle.dwc_expr.specs.Supported.{compiled_supported}

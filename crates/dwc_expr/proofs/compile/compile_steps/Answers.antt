@@ -1,6 +1,6 @@
 use Rattle.std.proofs.Common.{◌≡◌, ◌++◌, ◌∙◌, List, Bool, None, ap, map, option_map, subst, sym}
 use Rattle.std.specs.List.{list_any}
-use Rattle.dwc_base.specs.Parts.{is_jump, joined, lone_local, old_format}
+use Rattle.dwc_native.specs.Parts.{is_jump, joined, lone_local, old_format}
 use Rattle.dwc_expr.specs.PartViews.{part_view}
 use Rattle.dwc_expr.specs.Landings.{GivesLandings, marked_pad, parts_behind_marks}
 use Rattle.dwc_expr.proofs.CompileLaws.{supported-parts}

@@ -1,5 +1,5 @@
 use Rattle.std.proofs.Common.{◌≡◌, ◌+◌, drop, filter_map, get_or, if◌then◌else◌, length, map, option_to_list, subst, sym, arith, [], ◌∙◌, List}
-use Rattle.dwc_base.specs.Placed.{NativeRange}
+use Rattle.dwc_native.specs.Placed.{NativeRange}
 use Rattle.dwc_clif.specs.ValueLabels.{range_view}
 use Rattle.dwc_expr.specs.LabelRanges.{bounds_of}
 use Rattle.dwc_expr.specs.NarrowedRanges.{Appends, IsMadeBy}

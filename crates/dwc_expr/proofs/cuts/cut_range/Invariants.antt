@@ -1,6 +1,6 @@
 use Rattle.std.proofs.Common.{◌≡◌, ℕ, ◌≤◌, map, drop, true}
 use Rattle.std.specs.List.{filter_map}
-use Rattle.dwc_base.specs.Placed.{is_number}
+use Rattle.dwc_native.specs.Placed.{is_number}
 use Rattle.dwc_clif.specs.ValueLabels.{range_view}
 use Rattle.dwc_expr.specs.LabelRanges.{bounds_of}
 use Rattle.dwc_expr.specs.NarrowedRanges.{IsMadeBy}

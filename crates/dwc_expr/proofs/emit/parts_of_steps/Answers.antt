@@ -1,5 +1,5 @@
 use Rattle.std.proofs.Common.{[], ◌++◌, ◌∙◌, ap, option_map}
-use Rattle.dwc_base.specs.Parts.{joined, old_format}
+use Rattle.dwc_native.specs.Parts.{joined, old_format}
 use Rattle.dwc_expr.specs.Landings.{marked_pad, parts_behind_marks}
 use Rattle.dwc_expr.proofs.JoinedLaws.{joined-both}
 use Rattle.dwc_expr.proofs.emit.parts_of_steps.Goals as goal

@@ -2,7 +2,7 @@ use Rattle.std.proofs.Common.{◌≡◌, ℕ, List, [], ◌∷◌, ◌++◌, ◌
 use Rattle.std.proofs.lemmas.Result.{on_ok_weaker}
 use Rattle.dwc_base.specs.NumberBytes.{uleb_bytes}
 use Rattle.dwc_base.specs.declared.constants.TheConstants.{DW_OP_plus_uconst}
-use Rattle.dwc_base.specs.Parts.{base_values, code, joined}
+use Rattle.dwc_native.specs.Parts.{base_values, code, joined}
 use Rattle.dwc_expr.proofs.JoinedLaws.{joined-both}
 use Rattle.dwc_expr.proofs.emit.push_offset.Goals as goal
 

@@ -1,6 +1,6 @@
 use Rattle.std.proofs.Common.{[], ◌∷◌, ◌++◌, ◌∙◌, ap, option_map}
 use Rattle.std.proofs.lemmas.Result.{on_ok_weaker}
-use Rattle.dwc_base.specs.Parts.{code, joined}
+use Rattle.dwc_native.specs.Parts.{code, joined}
 use Rattle.dwc_expr.proofs.EmitLaws.{memory-put, shift-put}
 use Rattle.dwc_expr.proofs.emit.push_step.Goals as goal
 

@@ -1,5 +1,5 @@
 use Rattle.std.proofs.Common.{◌++◌, ◌∙◌, ap, option_map}
-use Rattle.dwc_base.specs.Parts.{joined}
+use Rattle.dwc_native.specs.Parts.{joined}
 use Rattle.dwc_expr.specs.Landings.{marked_pad}
 use Rattle.dwc_expr.proofs.EmitLaws.{steps-more}
 use Rattle.dwc_expr.proofs.emit.push_steps.Goals as goal

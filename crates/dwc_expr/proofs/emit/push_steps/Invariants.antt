@@ -1,5 +1,5 @@
 use Rattle.std.proofs.Common.{◌≡◌, ◌++◌, drop, option_map}
-use Rattle.dwc_base.specs.Parts.{joined}
+use Rattle.dwc_native.specs.Parts.{joined}
 use Rattle.dwc_expr.specs.Landings.{parts_behind_marks}
 use Rattle.dwc_expr.proofs.emit.push_steps.Given as goal
 

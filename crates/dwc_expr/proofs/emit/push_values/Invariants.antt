@@ -1,5 +1,5 @@
 use Rattle.std.proofs.Common.{◌≡◌, ◌++◌, drop, map}
-use Rattle.dwc_base.specs.Parts.{as_value, joined}
+use Rattle.dwc_native.specs.Parts.{as_value, joined}
 use Rattle.dwc_expr.specs.PartViews.{part_view}
 use Rattle.dwc_expr.proofs.emit.push_values.Given as goal
 

@@ -1,5 +1,5 @@
 use Rattle.std.proofs.Common.{◌≡◌, ◌∙◌, map, sym, true}
-use Rattle.dwc_base.specs.Placed.{NativeRange, is_number}
+use Rattle.dwc_native.specs.Placed.{NativeRange, is_number}
 use Rattle.dwc_clif.specs.ValueLabels.{range_view}
 use Rattle.dwc_expr.specs.CodeRanges.{code_range_view}
 use Rattle.dwc_expr.specs.LabelRanges.{bounds_of}

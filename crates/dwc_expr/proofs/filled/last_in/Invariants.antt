@@ -1,6 +1,6 @@
 use Rattle.std.proofs.Common.{◌≡◌, ℕ, ◌<◌, ◌≤◌, map, true}
 use Rattle.std.specs.Prelude.{is_some}
-use Rattle.dwc_base.specs.Placed.{last_place}
+use Rattle.dwc_native.specs.Placed.{last_place}
 use Rattle.dwc_clif.specs.ValueLabels.{range_view}
 use Rattle.dwc_expr.specs.PlacedParts.{EndBy}
 use Rattle.dwc_expr.proofs.filled.last_in.Given as goal

@@ -2,7 +2,7 @@ use Rattle.std.proofs.Common.{◌≡◌, ◌-◌, ◌∙◌, ap, sym, map, arith
 use Rattle.std.proofs.Math.Seq.{map-set_same}
 use Rattle.std.proofs.lemmas.Result.{on_ok_weaker, on_err_weaker}
 use Rattle.std.proofs.lemmas.List.{map-append}
-use Rattle.dwc_base.specs.Parts.{code}
+use Rattle.dwc_native.specs.Parts.{code}
 use Rattle.dwc_expr.specs.PartViews.{part_view}
 use Rattle.dwc_expr.specs.JoinedParts.{ends_in_code}
 use Rattle.dwc_expr.proofs.JoinedLaws.{behind-no_code, set-extended}

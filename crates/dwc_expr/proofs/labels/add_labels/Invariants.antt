@@ -1,5 +1,5 @@
 use Rattle.std.proofs.Common.{◌++◌, drop, filter_map, map}
-use Rattle.dwc_base.specs.Placed.{label_needed}
+use Rattle.dwc_native.specs.Placed.{label_needed}
 use Rattle.dwc_expr.specs.NeededLabels.{HaveSameFirsts, IsSetOf, numbers}
 use Rattle.dwc_expr.specs.PartViews.{part_view}
 use Rattle.dwc_expr.proofs.labels.add_labels.Given as goal

@@ -1,6 +1,6 @@
 use Rattle.std.proofs.Common.{◌≡◌, drop, filter_map, option_map, take}
-use Rattle.dwc_base.specs.Refusals.{first_of}
-use Rattle.dwc_base.specs.BuiltExpressions.{label_refusal}
+use Rattle.dwc_base.specs.Listing.{first_of}
+use Rattle.dwc_native.specs.BuiltExpressions.{label_refusal}
 use Rattle.dwc_expr.specs.Frames.{told_frame}
 use Rattle.dwc_expr.specs.LabelRanges.{Gathered, gathered_of, gathered_frame}
 use Rattle.dwc_expr.specs.NarrowedRanges.{Gives}

@@ -1,5 +1,5 @@
 use Rattle.std.proofs.Common.{[], map, subst}
-use Rattle.dwc_base.specs.Placed.{scope_ranges}
+use Rattle.dwc_native.specs.Placed.{scope_ranges}
 use Rattle.dwc_expr.specs.LabelRanges.{bounds_of, GivesRanges}
 use Rattle.dwc_expr.proofs.GatherLaws.{begins-given}
 use Rattle.dwc_expr.proofs.labels.ranges_of_scope.Goals as goal

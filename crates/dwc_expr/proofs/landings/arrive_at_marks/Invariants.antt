@@ -1,6 +1,6 @@
 use Rattle.std.proofs.Common.{◌≡◌, drop, slice_index_or, false}
 use Rattle.std.specs.List.{list_all}
-use Rattle.dwc_base.specs.Parts.{targets}
+use Rattle.dwc_native.specs.Parts.{targets}
 use Rattle.dwc_expr.proofs.landings.arrive_at_marks.Given as goal
 
 -- the targets that are left decide

@@ -1,6 +1,6 @@
 use Rattle.std.proofs.Common.{◌≡◌, drop, is_some}
 use Rattle.std.specs.List.{list_any}
-use Rattle.dwc_base.specs.Parts.{jump_target}
+use Rattle.dwc_native.specs.Parts.{jump_target}
 use Rattle.dwc_expr.proofs.landings.has_jump.Given as goal
 
 -- the operations that are left decide

@@ -1,6 +1,6 @@
 use Rattle.std.proofs.Common.{Bool, List, false, get_or, ◌∙◌, ap}
 use Rattle.std.specs.List.{list_all}
-use Rattle.dwc_base.specs.Parts.{targets}
+use Rattle.dwc_native.specs.Parts.{targets}
 use Rattle.dwc_expr.proofs.LandingLaws.{whole-by-marks}
 use Rattle.dwc_expr.proofs.landings.has_whole_jumps.Goals as goal
 

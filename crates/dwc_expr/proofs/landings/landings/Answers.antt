@@ -1,5 +1,5 @@
 use Rattle.std.proofs.Common.{ℕ, ◌∙◌, ap, false, get_or, sym}
-use Rattle.dwc_base.specs.Parts.{targets}
+use Rattle.dwc_native.specs.Parts.{targets}
 use Rattle.dwc_expr.proofs.LandingLaws.{marks-stand, no-landings}
 use Rattle.dwc_expr.proofs.landings.landings.Goals as goal
 

@@ -1,5 +1,5 @@
 use Rattle.std.proofs.Common.{◌≡◌, drop}
-use Rattle.dwc_base.specs.Parts.{targets}
+use Rattle.dwc_native.specs.Parts.{targets}
 use Rattle.dwc_expr.specs.Landings.{marked_too}
 use Rattle.dwc_expr.proofs.landings.mark_targets.Given as goal
 

@@ -1,6 +1,6 @@
 use Rattle.std.proofs.Common.{◌∙◌, Bor, map, option_map, subst, sym}
-use Rattle.dwc_base.specs.BuiltExpressions.{Surroundings, built_on_ranges}
-use Rattle.dwc_base.specs.Parts.{label_alone}
+use Rattle.dwc_native.specs.BuiltExpressions.{Surroundings, built_on_ranges}
+use Rattle.dwc_native.specs.Parts.{label_alone}
 use Rattle.dwc_clif.specs.Registers.{Registers}
 use Rattle.dwc_clif.specs.ValueLabels.{range_view}
 use Rattle.dwc_expr.specs.declared.frame.FunctionFrameInfo.{FunctionFrameInfo}

@@ -1,7 +1,7 @@
 use Rattle.std.proofs.Common.{◌∙◌, ◌∷◌, [], Bor, option_map, sym}
 use Rattle.std.proofs.lemmas.Result.{err_from_is_err_and}
-use Rattle.dwc_base.specs.BuiltExpressions.{Surroundings}
-use Rattle.dwc_base.specs.Parts.{compiled, label_alone}
+use Rattle.dwc_native.specs.BuiltExpressions.{Surroundings}
+use Rattle.dwc_native.specs.Parts.{compiled, label_alone}
 use Rattle.dwc_clif.specs.Registers.{Registers}
 use Rattle.dwc_expr.specs.declared.frame.FunctionFrameInfo.{FunctionFrameInfo}
 use Rattle.dwc_expr.specs.Builds.{surroundings}

@@ -1,7 +1,7 @@
 use Rattle.std.proofs.Common.{◌∷◌, [], Bor, Err, option_map, refl, subst, sym}
 use Rattle.std.proofs.lemmas.Result.{err_from_is_err_and}
-use Rattle.dwc_base.specs.BuiltExpressions.{Surroundings}
-use Rattle.dwc_base.specs.Parts.{compiled}
+use Rattle.dwc_native.specs.BuiltExpressions.{Surroundings}
+use Rattle.dwc_native.specs.Parts.{compiled}
 use Rattle.dwc_clif.specs.Registers.{Registers}
 use Rattle.dwc_expr.specs.declared.error.ExprError.TheVariants.{OutOfMemory}
 use Rattle.dwc_expr.specs.declared.frame.FunctionFrameInfo.{FunctionFrameInfo}

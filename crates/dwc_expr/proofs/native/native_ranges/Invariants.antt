@@ -1,5 +1,5 @@
 use Rattle.std.proofs.Common.{◌≡◌, ◌++◌, ◌<◌, ◌^◌, [], All, map, drop}
-use Rattle.dwc_base.specs.Placed.{scope_ranges}
+use Rattle.dwc_native.specs.Placed.{scope_ranges}
 use Rattle.dwc_expr.specs.LabelRanges.{bounds_of}
 use Rattle.dwc_expr.proofs.native.native_ranges.Given as goal
 

@@ -1,6 +1,6 @@
 use Rattle.std.proofs.Common.{◌≡◌, ◌++◌, ◌<◌, ◌^◌, [], All, map, length, Some}
-use Rattle.dwc_base.specs.Placed.{ranges_in_function}
-use Rattle.dwc_base.specs.Runs.{native_in_function}
+use Rattle.dwc_native.specs.Placed.{ranges_in_function}
+use Rattle.dwc_native.specs.Runs.{native_in_function}
 use Rattle.dwc_expr.specs.LabelRanges.{bounds_of}
 use Rattle.dwc_expr.proofs.native.push_native.Given as goal
 

@@ -1,6 +1,6 @@
 use Rattle.std.proofs.Common.{◌∙◌, map, sym, subst}
 use Rattle.std.proofs.lemmas.Result.{err_from_is_err_and}
-use Rattle.dwc_base.specs.Built.{Setting}
+use Rattle.dwc_native.specs.Built.{Setting}
 use Rattle.dwc_expr.specs.Jumps.{unless_fit}
 use Rattle.dwc_expr.specs.PartViews.{part_view}
 use Rattle.dwc_expr.specs.RangeSettings.{setting_on}

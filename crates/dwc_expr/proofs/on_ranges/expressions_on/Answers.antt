@@ -1,5 +1,5 @@
 use Rattle.std.proofs.Common.{◌∙◌, ◌<◌, ap, subst, sym}
-use Rattle.dwc_base.specs.Refusals.{first_of}
+use Rattle.dwc_base.specs.Listing.{first_of}
 use Rattle.dwc_clif.specs.Registers.{Registers}
 use Rattle.dwc_expr.specs.declared.cached_range.CachedValueLabelRange.{CachedValueLabelRange}
 use Rattle.dwc_expr.specs.Frames.{memory_view}

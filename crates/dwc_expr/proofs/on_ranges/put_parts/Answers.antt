@@ -1,6 +1,6 @@
 use Rattle.std.proofs.Common.{rules, subst, sym}
 use Rattle.std.proofs.lemmas.Result.{err_from_is_err_and}
-use Rattle.dwc_base.specs.Built.{Setting}
+use Rattle.dwc_native.specs.Built.{Setting}
 use Rattle.dwc_expr.specs.declared.part.CompiledExpressionPart.{CompiledExpressionPart}
 use Rattle.dwc_expr.specs.LabelRanges.{IsPlacedOn}
 use Rattle.dwc_expr.specs.PartViews.{part_view}

@@ -1,6 +1,6 @@
 use Rattle.std.proofs.Common.{◌≡◌, ◌++◌, List, drop, length, map}
-use Rattle.dwc_base.specs.Built.{Setting, bytes_from, jumps_fit_from}
-use Rattle.dwc_base.specs.Parts.{Part}
+use Rattle.dwc_native.specs.Built.{Setting, bytes_from, jumps_fit_from}
+use Rattle.dwc_native.specs.Parts.{Part}
 use Rattle.dwc_expr.specs.PartViews.{part_view}
 use Rattle.dwc_expr.specs.PartsToBuild.{all_parts}
 use Rattle.dwc_expr.specs.RangeSettings.{setting_on}

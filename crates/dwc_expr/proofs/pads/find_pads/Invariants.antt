@@ -1,7 +1,7 @@
 use Rattle.std.proofs.Common.{◌≡◌, ◌+◌, ◌++◌, ◌∷◌, [], ◌||◌, ℕ, List, drop, if◌then◌else◌, is_some, length, map, nat_cmp, unwrap_or}
 use Rattle.std.specs.BTreeMap.{get}
-use Rattle.dwc_base.specs.Built.{Setting, pad_offset}
-use Rattle.dwc_base.specs.Parts.{Part, dereference}
+use Rattle.dwc_native.specs.Built.{Setting, pad_offset}
+use Rattle.dwc_native.specs.Parts.{Part, dereference}
 use Rattle.dwc_expr.specs.PartViews.{part_view}
 use Rattle.dwc_expr.specs.PartsToBuild.{all_parts}
 use Rattle.dwc_expr.specs.RangeSettings.{setting_on}

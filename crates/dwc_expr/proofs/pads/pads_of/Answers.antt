@@ -1,7 +1,7 @@
 use Rattle.std.proofs.Common.{◌∙◌, List, map, sym}
 use Rattle.std.proofs.lemmas.Result.{IfOk-weaker}
-use Rattle.dwc_base.specs.Built.{Setting}
-use Rattle.dwc_base.specs.Parts.{Part}
+use Rattle.dwc_native.specs.Built.{Setting}
+use Rattle.dwc_native.specs.Parts.{Part}
 use Rattle.dwc_expr.specs.Jumps.{FindsPads, KnowsPads}
 use Rattle.dwc_expr.specs.PartViews.{part_view}
 use Rattle.dwc_expr.specs.PartsToBuild.{all_parts}

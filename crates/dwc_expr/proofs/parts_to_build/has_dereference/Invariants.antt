@@ -1,6 +1,6 @@
 use Rattle.std.proofs.Common.{◌≡◌, drop, map}
 use Rattle.std.specs.List.{list_any}
-use Rattle.dwc_base.specs.Placed.{is_dereference}
+use Rattle.dwc_native.specs.Placed.{is_dereference}
 use Rattle.dwc_expr.specs.PartViews.{part_view}
 use Rattle.dwc_expr.proofs.parts_to_build.has_dereference.Given as goal
 

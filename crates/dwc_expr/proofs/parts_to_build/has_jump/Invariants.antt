@@ -1,6 +1,6 @@
 use Rattle.std.proofs.Common.{◌≡◌, drop, map}
 use Rattle.std.specs.List.{list_any}
-use Rattle.dwc_base.specs.Parts.{is_jump}
+use Rattle.dwc_native.specs.Parts.{is_jump}
 use Rattle.dwc_expr.specs.PartViews.{part_view}
 use Rattle.dwc_expr.proofs.parts_to_build.has_jump.Given as goal
 

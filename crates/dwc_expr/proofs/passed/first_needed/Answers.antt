@@ -1,5 +1,5 @@
 use Rattle.std.proofs.Common.{◌∙◌, map, refl, sym, arith}
-use Rattle.dwc_base.specs.Placed.{NativeRange}
+use Rattle.dwc_native.specs.Placed.{NativeRange}
 use Rattle.dwc_clif.specs.ValueLabels.{range_view}
 use Rattle.dwc_expr.specs.LabelRanges.{bounds_of}
 use Rattle.dwc_expr.proofs.CutWalkLaws.{IsAt, seen-at}

@@ -1,5 +1,5 @@
 use Rattle.std.proofs.Common.{◌≡◌, drop, flat_map}
-use Rattle.dwc_base.specs.Refusals.{first_of}
+use Rattle.dwc_base.specs.Listing.{first_of}
 use Rattle.dwc_clif.specs.Registers.{Registers}
 use Rattle.dwc_expr.specs.NeededLabels.{numbers}
 use Rattle.dwc_expr.specs.Refusals.{refusals_on}

@@ -1,8 +1,8 @@
 use Rattle.std.proofs.Common.{◌≡◌, drop, filter_map}
-use Rattle.dwc_base.specs.Compiled.{no_memory}
-use Rattle.dwc_base.specs.BuiltExpressions.{register_refusal}
-use Rattle.dwc_base.specs.Built.{Setting}
-use Rattle.dwc_base.specs.Refusals.{first_of}
+use Rattle.dwc_native.specs.Compiled.{no_memory}
+use Rattle.dwc_native.specs.BuiltExpressions.{register_refusal}
+use Rattle.dwc_native.specs.Built.{Setting}
+use Rattle.dwc_base.specs.Listing.{first_of}
 use Rattle.dwc_expr.specs.NeededLabels.{numbers}
 use Rattle.dwc_expr.specs.RangeSettings.{setting_in}
 use Rattle.dwc_expr.proofs.places.check_places_on.Given as goal

@@ -1,6 +1,6 @@
 use Rattle.std.proofs.Common.{◌<◌, ◌-◌, arith, map}
 use Rattle.std.proofs.lemmas.List.Elements.{All-map}
-use Rattle.dwc_base.specs.Placed.{NativeRange}
+use Rattle.dwc_native.specs.Placed.{NativeRange}
 use Rattle.dwc_expr.specs.CodeRanges.{code_range_view}
 use Rattle.dwc_expr.specs.LabelRanges.{bounds_of}
 use Rattle.dwc_expr.proofs.CutWalkLaws.{seen-at}

@@ -2,7 +2,7 @@ use Rattle.std.proofs.Common.{◌≡◌, ◌<◌, [], None, map, All, AllPairs, 
 use Rattle.std.proofs.lemmas.List.Sorted.{All-permutation, answers_always}
 use Rattle.std.proofs.lemmas.Result.{IfOk-weaker}
 use Rattle.std.specs.List.Sorted.{IsPermutation}
-use Rattle.dwc_base.specs.LabelRanges.{label_ranges}
+use Rattle.dwc_native.specs.LabelRanges.{label_ranges}
 use Rattle.dwc_expr.specs.declared.code_range.CodeRange.{CodeRange}
 use Rattle.dwc_expr.specs.CodeRanges.{code_range_view}
 use Rattle.dwc_expr.specs.JoinedScopes.{IsInOrder, AreJoined}

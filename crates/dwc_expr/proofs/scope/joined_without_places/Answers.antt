@@ -1,7 +1,7 @@
 use Rattle.std.proofs.Common.{◌≡◌, ◌∙◌, ◌<◌, [], None, All, List, ap, map, subst, sym}
 use Rattle.std.proofs.lemmas.Result.{IfOk-weaker}
-use Rattle.dwc_base.specs.LabelRanges.{label_ranges}
-use Rattle.dwc_base.specs.Placed.{NativeRange}
+use Rattle.dwc_native.specs.LabelRanges.{label_ranges}
+use Rattle.dwc_native.specs.Placed.{NativeRange}
 use Rattle.dwc_expr.specs.declared.cached_range.CachedValueLabelRange.{CachedValueLabelRange}
 use Rattle.dwc_expr.specs.declared.code_range.CodeRange.{CodeRange}
 use Rattle.dwc_expr.specs.CodeRanges.{code_range_view}

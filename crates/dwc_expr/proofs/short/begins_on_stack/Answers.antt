@@ -1,5 +1,5 @@
 use Rattle.std.proofs.Common.{◌∷◌, ◌∙◌, [], ap}
-use Rattle.dwc_base.specs.Parts.{compiled}
+use Rattle.dwc_native.specs.Parts.{compiled}
 use Rattle.dwc_base.specs.declared.constants.TheConstants.{DW_OP_WASM_location}
 use Rattle.dwc_expr.proofs.ShortLaws.{stack-compiled}
 use Rattle.dwc_expr.proofs.short.begins_on_stack.Goals as goal

@@ -1,5 +1,5 @@
 use Rattle.std.proofs.Common.{◌≡◌, ◌∷◌, [], Ok, Some, subst, sym}
-use Rattle.dwc_base.specs.Parts.{compiled}
+use Rattle.dwc_native.specs.Parts.{compiled}
 use Rattle.dwc_base.specs.declared.constants.TheConstants.{DW_OP_consts}
 use Rattle.dwc_expr.specs.Located.{constant}
 use Rattle.dwc_expr.proofs.ShortLaws.{spelled-compiled}

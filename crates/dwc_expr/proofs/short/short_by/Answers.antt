@@ -1,5 +1,5 @@
 use Rattle.std.proofs.Common.{◌∷◌, ◌∙◌, [], Ok, Some, ap, sym}
-use Rattle.dwc_base.specs.Parts.{compiled, label_alone}
+use Rattle.dwc_native.specs.Parts.{compiled, label_alone}
 use Rattle.dwc_base.specs.declared.constants.TheConstants.{DW_OP_WASM_location}
 use Rattle.dwc_expr.proofs.ShortLaws.{short-compiled}
 use Rattle.dwc_expr.proofs.short.short_by.Goals as goal

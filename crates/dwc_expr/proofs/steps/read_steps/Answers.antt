@@ -1,6 +1,6 @@
 use Rattle.std.proofs.Common.{Ok, refl, sym, subst, length}
 use Rattle.std.proofs.lemmas.Result.{err_from_is_err_and}
-use Rattle.dwc_base.specs.Parts.{is_supported}
+use Rattle.dwc_native.specs.Parts.{is_supported}
 use Rattle.dwc_read.specs.Faults.{fault_seen}
 use Rattle.dwc_tabs.specs.Operations.{operation_view, GivesNextOperation}
 use Rattle.dwc_expr.specs.Compiles.{TellsPlace}

@@ -1,5 +1,5 @@
 use Rattle.std.proofs.Common.{length}
-use Rattle.dwc_base.specs.Operations.{operations}
+use Rattle.dwc_dwarf.specs.Operations.{operations}
 use Rattle.dwc_expr.proofs.StepLaws.{ReadSoFar}
 use Rattle.dwc_expr.proofs.steps.read_steps.Given as goal
 

@@ -1,7 +1,7 @@
 use Rattle.std.proofs.Common.{◌≡◌, Some, Err, ap, sym, ◌∙◌}
 use Rattle.std.specs.Prelude.{option_map}
-use Rattle.dwc_base.specs.Entries.{attribute}
-use Rattle.dwc_base.specs.Lists.{list_source, address_among}
+use Rattle.dwc_dwarf.specs.Entries.{attribute}
+use Rattle.dwc_dwarf.specs.Lists.{list_source, address_among}
 use Rattle.dwc_read.specs.EntriesSeen.{entry_view}
 use Rattle.dwc_read.specs.ValuesSeen.{value_view}
 use Rattle.dwc_kept.proofs.BegunLaws.{said-read, said-refused}

@@ -1,8 +1,8 @@
 use Rattle.std.proofs.Common.{◌≡◌, Some, ap, sym, ◌∙◌, true}
 use Rattle.std.specs.Prelude.{option_map}
 use Rattle.dwc_base.specs.declared.constants.TheConstants.{DW_AT_ranges}
-use Rattle.dwc_base.specs.Entries.{attribute}
-use Rattle.dwc_base.specs.RawLists.{is_range_list}
+use Rattle.dwc_dwarf.specs.Entries.{attribute}
+use Rattle.dwc_dwarf.specs.RawLists.{is_range_list}
 use Rattle.dwc_read.specs.EntriesSeen.{entry_view}
 use Rattle.dwc_read.specs.Faults.{fault_seen}
 use Rattle.dwc_read.specs.ValuesSeen.{value_view}

@@ -1,5 +1,5 @@
 use Rattle.std.proofs.Common.{◌∙◌, ap, subst, length, List, Bool}
-use Rattle.dwc_base.specs.EntryRules.{named_faults}
+use Rattle.dwc_rules.specs.EntryRules.{named_faults}
 use Rattle.dwc_kept.specs.EntryGraphs.{AreKeptOffsets}
 use Rattle.dwc_kept.specs.ReadGraphs.{units_of}
 use Rattle.dwc_kept.proofs.ReadLaws.{headers-no-fault}

@@ -1,5 +1,5 @@
 use Rattle.std.proofs.Common.{length}
-use Rattle.dwc_base.specs.Lists.{list_source}
+use Rattle.dwc_dwarf.specs.Lists.{list_source}
 use Rattle.dwc_kept.specs.RangeCode.{list_place}
 use Rattle.dwc_kept.proofs.RangeCodeLaws.{SeenSoFar}
 use Rattle.dwc_kept.proofs.range_code.entries_show_code.Given as goal

@@ -1,7 +1,7 @@
 use Rattle.std.proofs.Common.{ap, sym, ◌∙◌}
 use Rattle.dwc_base.specs.declared.constants.TheConstants.{DW_AT_low_pc}
-use Rattle.dwc_base.specs.Entries.{attribute}
-use Rattle.dwc_base.specs.RangeKept.{base_beside}
+use Rattle.dwc_dwarf.specs.Entries.{attribute}
+use Rattle.dwc_rules.specs.RangeKept.{base_beside}
 use Rattle.dwc_read.specs.EntriesSeen.{entry_view}
 use Rattle.dwc_read.specs.ValuesSeen.{value_view}
 use Rattle.dwc_kept.proofs.RangeCodeLaws.{list-none, list-answers}

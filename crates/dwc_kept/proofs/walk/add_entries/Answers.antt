@@ -1,8 +1,8 @@
 use Rattle.std.proofs.Common.{◌≡◌, ◌∙◌, ◌<◌, ◌^◌, ap, subst, Some, None}
 use Rattle.std.specs.Option.{option_or}
-use Rattle.dwc_base.specs.Entries.{Entry}
-use Rattle.dwc_base.specs.EntryRules.{is_required, named_faults}
-use Rattle.dwc_base.specs.Refusals.{first_of}
+use Rattle.dwc_dwarf.specs.Entries.{Entry}
+use Rattle.dwc_rules.specs.EntryRules.{is_required, named_faults}
+use Rattle.dwc_base.specs.Listing.{first_of}
 use Rattle.dwc_kept.specs.ReadEntries.{with_entry_read}
 use Rattle.dwc_kept.specs.RootsSaid.{root_said}
 use Rattle.dwc_kept.specs.ReadingSeen.{reading_view}

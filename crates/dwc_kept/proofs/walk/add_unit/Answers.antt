@@ -2,11 +2,11 @@ use Rattle.std.proofs.Common.{◌≡◌, sym, subst}
 use Rattle.std.proofs.lemmas.Result.{err_from_is_err_and}
 use Rattle.dwc_base.specs.Listing.{Listing}
 use Rattle.dwc_base.specs.Sections.{Fault}
-use Rattle.dwc_base.specs.Entries.{Entry, entries}
-use Rattle.dwc_base.specs.EntryRules.{is_required, named_faults}
-use Rattle.dwc_base.specs.ReachedEntries.{listing_faults}
-use Rattle.dwc_base.specs.Refusals.{first_of}
-use Rattle.dwc_base.specs.UnitOffsets.{RiseIn}
+use Rattle.dwc_dwarf.specs.Entries.{Entry, entries}
+use Rattle.dwc_rules.specs.EntryRules.{is_required, named_faults}
+use Rattle.dwc_rules.specs.ReachedEntries.{listing_faults}
+use Rattle.dwc_base.specs.Listing.{first_of}
+use Rattle.dwc_dwarf.specs.UnitOffsets.{RiseIn}
 use Rattle.dwc_read.specs.Faults.{fault_seen}
 use Rattle.dwc_kept.specs.ReadEntries.{with_entries_read, ReadsOrTells}
 use Rattle.dwc_kept.specs.ReadingSeen.{reading_view, HasRead}

@@ -1,4 +1,4 @@
-use Rattle.dwc_base.specs.EntryRules.{named_faults}
+use Rattle.dwc_rules.specs.EntryRules.{named_faults}
 use Rattle.dwc_kept.specs.ReadingSeen.{reading_view}
 use Rattle.dwc_kept.proofs.ReadLaws.{headers-no-fault}
 use Rattle.dwc_kept.proofs.GraphLaws.{module-graph}

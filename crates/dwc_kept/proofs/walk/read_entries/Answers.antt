@@ -1,10 +1,10 @@
 use Rattle.std.proofs.Common.{◌≡◌, ◌∙◌, refl, subst, None}
 use Rattle.std.proofs.lemmas.Result.{err_from_is_err_and}
 use Rattle.dwc_base.specs.Sections.{Sections}
-use Rattle.dwc_base.specs.Entries.{entries}
-use Rattle.dwc_base.specs.EntryRules.{is_required, named_faults}
-use Rattle.dwc_base.specs.ReachedEntries.{listing_faults}
-use Rattle.dwc_base.specs.Refusals.{first_of}
+use Rattle.dwc_dwarf.specs.Entries.{entries}
+use Rattle.dwc_rules.specs.EntryRules.{is_required, named_faults}
+use Rattle.dwc_rules.specs.ReachedEntries.{listing_faults}
+use Rattle.dwc_base.specs.Listing.{first_of}
 use Rattle.dwc_read.specs.Faults.{fault_seen}
 use Rattle.dwc_kept.specs.RootsSaid.{first_said}
 use Rattle.dwc_kept.specs.ReadEntries.{with_entries_read, TellsFirst}

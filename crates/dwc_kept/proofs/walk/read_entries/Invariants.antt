@@ -1,5 +1,5 @@
 use Rattle.std.proofs.Common.{length}
-use Rattle.dwc_base.specs.EntryRules.{is_required, named_faults}
+use Rattle.dwc_rules.specs.EntryRules.{is_required, named_faults}
 use Rattle.dwc_kept.specs.ReadingSeen.{reading_view}
 use Rattle.dwc_kept.proofs.ReadLaws.{UnitsSoFar}
 use Rattle.dwc_kept.proofs.walk.read_entries.Given as goal

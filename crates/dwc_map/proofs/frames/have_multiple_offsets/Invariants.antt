@@ -1,6 +1,6 @@
 use Rattle.std.proofs.Common.{◌≡◌, map, drop}
 use Rattle.std.specs.List.{list_all}
-use Rattle.dwc_base.specs.CallFrames.{has_factored_offset}
+use Rattle.dwc_native.specs.CallFrames.{has_factored_offset}
 use Rattle.dwc_clif.specs.CallFrames.{instruction_view}
 use Rattle.dwc_map.proofs.frames.have_multiple_offsets.Given as goal
 

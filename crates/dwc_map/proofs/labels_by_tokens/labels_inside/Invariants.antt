@@ -1,5 +1,5 @@
 use Rattle.std.proofs.Common.{◌≡◌, ℕ, List, length, Some}
-use Rattle.dwc_base.specs.Compiled.{LabelRange}
+use Rattle.dwc_native.specs.Compiled.{LabelRange}
 use Rattle.dwc_map.specs.MapFile.{label_range_of}
 use Rattle.dwc_map.specs.MapValues.{list_of, pair_of, table_by, u32_of}
 use Rattle.dwc_map.proofs.TokenLists.{ItemsAlong}

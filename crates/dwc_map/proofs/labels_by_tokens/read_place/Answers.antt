@@ -1,7 +1,7 @@
 use Rattle.std.proofs.Common.{◌≡◌, ◌∷◌, codes, w64, to_z, of_z, sym, subst, arith, rules}
 use Rattle.std.proofs.lemmas.Int.{to_z-of_z}
 use Rattle.json.specs.Token as token
-use Rattle.dwc_base.specs.Compiled.{at_frame_offset}
+use Rattle.dwc_native.specs.Compiled.{at_frame_offset}
 use Rattle.dwc_map.specs.ByTokens.{TellsPlace}
 use Rattle.dwc_map.proofs.TokenLabels.{cfa-told, reg-told}
 use Rattle.dwc_map.proofs.TokenShapes.{number-told}

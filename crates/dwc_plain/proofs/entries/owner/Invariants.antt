@@ -1,5 +1,5 @@
 use Rattle.std.proofs.Common.{◌≡◌, ◌≤◌, map, option_map, length, drop}
-use Rattle.dwc_base.specs.Functions.{owner}
+use Rattle.dwc_native.specs.Functions.{owner}
 use Rattle.dwc_plain.specs.PlainEntries.{function_view}
 use Rattle.dwc_plain.proofs.entries.owner.Given as goal
 

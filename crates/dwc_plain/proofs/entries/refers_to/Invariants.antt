@@ -1,5 +1,5 @@
 use Rattle.std.proofs.Common.{◌≡◌, map, drop}
-use Rattle.dwc_base.specs.Kept.{refers_to}
+use Rattle.dwc_rules.specs.Kept.{refers_to}
 use Rattle.dwc_plain.specs.PlainEntries.{attribute_view, entry_view, any_names}
 use Rattle.dwc_plain.proofs.entries.refers_to.Given as goal
 

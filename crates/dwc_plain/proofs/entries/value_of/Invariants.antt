@@ -1,5 +1,5 @@
 use Rattle.std.proofs.Common.{◌≡◌, map, drop}
-use Rattle.dwc_base.specs.Entries.{attribute}
+use Rattle.dwc_dwarf.specs.Entries.{attribute}
 use Rattle.dwc_plain.specs.PlainEntries.{attribute_view, entry_view, first_value}
 use Rattle.dwc_plain.proofs.entries.value_of.Given as goal
 

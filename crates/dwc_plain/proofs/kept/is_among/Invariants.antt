@@ -1,5 +1,5 @@
 use Rattle.std.proofs.Common.{◌≡◌, map, drop}
-use Rattle.dwc_base.specs.Kept.{is_among}
+use Rattle.dwc_rules.specs.Kept.{is_among}
 use Rattle.dwc_plain.specs.PlainEntries.{entry_view}
 use Rattle.dwc_plain.proofs.kept.is_among.Given as goal
 

@@ -1,5 +1,5 @@
 use Rattle.std.proofs.Common.{◌≡◌, map}
-use Rattle.dwc_base.specs.Kept.{steps_of}
+use Rattle.dwc_rules.specs.Kept.{steps_of}
 use Rattle.dwc_plain.specs.PlainEntries.{function_view, entry_view, required_entries}
 use Rattle.dwc_plain.proofs.kept.kept_entries.Given as goal
 

@@ -1,5 +1,5 @@
 use Rattle.std.proofs.Common.{◌≡◌, ◌++◌, map, drop}
-use Rattle.dwc_base.specs.Kept.{kept_step}
+use Rattle.dwc_rules.specs.Kept.{kept_step}
 use Rattle.dwc_plain.specs.PlainEntries.{entry_view, kept_among}
 use Rattle.dwc_plain.proofs.kept.kept_step.Given as goal
 

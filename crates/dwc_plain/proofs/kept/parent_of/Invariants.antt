@@ -1,6 +1,6 @@
 use Rattle.std.proofs.Common.{◌≡◌, map, option_map, drop}
 use Rattle.std.specs.Option.{option_or}
-use Rattle.dwc_base.specs.Kept.{parent_of}
+use Rattle.dwc_rules.specs.Kept.{parent_of}
 use Rattle.dwc_plain.specs.PlainEntries.{entry_view, last_above}
 use Rattle.dwc_plain.proofs.kept.parent_of.Given as goal
 

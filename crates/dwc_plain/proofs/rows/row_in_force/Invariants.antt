@@ -1,6 +1,6 @@
 use Rattle.std.proofs.Common.{◌≡◌, map, option_map, drop}
 use Rattle.std.specs.Option.{option_or}
-use Rattle.dwc_base.specs.LineRows.{LineTable, named_row, row_in_force}
+use Rattle.dwc_dwarf.specs.LineRows.{LineTable, named_row, row_in_force}
 use Rattle.dwc_plain.specs.PlainRows.{contents_in, last_at}
 use Rattle.dwc_plain.proofs.rows.row_in_force.Given as goal
 

@@ -1,6 +1,6 @@
 use Rattle.std.proofs.Common.{◌≡◌, map, drop}
-use Rattle.dwc_base.specs.LineRows.{LineTable, named_row}
-use Rattle.dwc_base.specs.Images.{row_of_first}
+use Rattle.dwc_dwarf.specs.LineRows.{LineTable, named_row}
+use Rattle.dwc_native.specs.Images.{row_of_first}
 use Rattle.dwc_plain.specs.PlainRows.{source_view, at_first}
 use Rattle.dwc_plain.proofs.rows.row_of_first.Given as goal
 

@@ -1,7 +1,7 @@
 use Rattle.std.proofs.Common.{◌≡◌, map, option_map, drop}
 use Rattle.std.specs.Option.{option_or}
-use Rattle.dwc_base.specs.LineRows.{LineTable, named_row}
-use Rattle.dwc_base.specs.Images.{row_of_last}
+use Rattle.dwc_dwarf.specs.LineRows.{LineTable, named_row}
+use Rattle.dwc_native.specs.Images.{row_of_last}
 use Rattle.dwc_plain.specs.PlainRows.{contents_in, source_view, at_last}
 use Rattle.dwc_plain.proofs.rows.row_of_last.Given as goal
 

@@ -1,6 +1,6 @@
 use Rattle.std.proofs.Common.{◌≡◌, ◌++◌, drop, map}
 use Rattle.dwc_base.specs.Reading.{seen_as}
-use Rattle.dwc_base.specs.Entries.{attributes_at}
+use Rattle.dwc_dwarf.specs.Entries.{attributes_at}
 use Rattle.dwc_read.specs.AttributeSpecs.{spec_view}
 use Rattle.dwc_read.specs.ValuesSeen.{attribute_view}
 use Rattle.dwc_read.proofs.attribute.attributes.Given as goal

@@ -1,6 +1,6 @@
 use Rattle.std.proofs.Common.{◌≡◌, suc, ◌+◌, ◌-◌, sym, ap, ◌∙◌, arith, Ok}
 use Rattle.dwc_base.specs.Reading.{uleb_at}
-use Rattle.dwc_base.specs.Values.{form_behind}
+use Rattle.dwc_dwarf.specs.Values.{form_behind}
 use Rattle.dwc_base.specs.declared.constants.TheConstants.{DW_FORM_indirect}
 use Rattle.dwc_read.proofs.FormLaws.{form_behind-again}
 use Rattle.dwc_read.proofs.attribute.form_behind.Goals as goal

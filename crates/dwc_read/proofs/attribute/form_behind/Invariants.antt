@@ -1,5 +1,5 @@
 use Rattle.std.proofs.Common.{◌≡◌, ◌-◌}
-use Rattle.dwc_base.specs.Values.{form_behind}
+use Rattle.dwc_dwarf.specs.Values.{form_behind}
 use Rattle.dwc_read.proofs.attribute.form_behind.Given as goal
 
 -- what is still to be read gives what all gives

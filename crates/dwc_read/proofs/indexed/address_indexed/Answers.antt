@@ -1,5 +1,5 @@
 use Rattle.std.proofs.Common.{ap, ◌∙◌}
-use Rattle.dwc_base.specs.Indexed.{address_from}
+use Rattle.dwc_dwarf.specs.Indexed.{address_from}
 use Rattle.dwc_read.specs.Headers.{header_view}
 use Rattle.dwc_read.proofs.NumberLaws.{field_size-some}
 use Rattle.dwc_read.proofs.IndexedLaws.{address_from-past}

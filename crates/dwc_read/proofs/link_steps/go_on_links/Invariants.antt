@@ -1,6 +1,6 @@
 use Rattle.std.proofs.Common.{◌≡◌}
 use Rattle.std.specs.Prelude.{option_map}
-use Rattle.dwc_base.specs.Entries.{entry_places_left}
+use Rattle.dwc_dwarf.specs.Entries.{entry_places_left}
 use Rattle.dwc_read.specs.Links.{linked_from}
 use Rattle.dwc_read.specs.Places.{place_view, IsShallow}
 use Rattle.dwc_read.proofs.link_steps.go_on_links.Given as goal

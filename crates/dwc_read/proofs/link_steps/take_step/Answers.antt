@@ -1,6 +1,6 @@
 use Rattle.std.proofs.Common.{◌≡◌, ◌+◌, ◌<◌, ◌^◌, length, sym, ap, ◌∙◌, refl, arith, Ok, Some, None}
 use Rattle.std.specs.Prelude.{option_map, pred}
-use Rattle.dwc_base.specs.Entries.{entry_place, entry_places_left}
+use Rattle.dwc_dwarf.specs.Entries.{entry_place, entry_places_left}
 use Rattle.dwc_read.specs.EntriesSeen.{found_view}
 use Rattle.dwc_read.specs.Links.{linked_entry_at, linked_from}
 use Rattle.dwc_read.specs.Places.{place_view}

@@ -2,7 +2,7 @@ use Rattle.std.proofs.Common.{◌≡◌, ℕ, ◌+◌, ◌++◌, map, get_or, sy
 use Rattle.std.specs.Prelude.{option_map}
 use Rattle.std.proofs.lemmas.Result.{err_from_is_err_and}
 use Rattle.dwc_base.specs.Reading.{◌>>=◌, seen_as}
-use Rattle.dwc_base.specs.Values.{Value}
+use Rattle.dwc_dwarf.specs.Values.{Value}
 use Rattle.dwc_read.specs.declared.attribute_spec.AttributeSpec.{AttributeSpec}
 use Rattle.dwc_read.specs.Links.{links_at}
 use Rattle.dwc_read.specs.Runs.{passed_bytes}

@@ -1,7 +1,7 @@
 use Rattle.std.proofs.Common.{◌≡◌, Ok, Some, None}
 use Rattle.dwc_base.specs.declared.faults.What.TheVariants.{Entry as EntryRead}
 use Rattle.dwc_base.specs.declared.section_name.SectionName.TheVariants.{Info}
-use Rattle.dwc_base.specs.Entries.{entry_at}
+use Rattle.dwc_dwarf.specs.Entries.{entry_at}
 use Rattle.dwc_read.specs.EntriesSeen.{found_view}
 use Rattle.dwc_read.proofs.FailsLaws.{Refuses-whole}
 use Rattle.dwc_read.proofs.LoneLaws.{entry_with-found, entry_with-end, entry_with-flaw}

@@ -1,6 +1,6 @@
 use Rattle.std.proofs.Common.{◌≡◌}
 use Rattle.std.specs.Prelude.{option_map}
-use Rattle.dwc_base.specs.Entries.{entries_from, entry_places_left}
+use Rattle.dwc_dwarf.specs.Entries.{entries_from, entry_places_left}
 use Rattle.dwc_read.specs.Places.{place_view, IsShallow}
 use Rattle.dwc_read.proofs.steps.go_on.Given as goal
 

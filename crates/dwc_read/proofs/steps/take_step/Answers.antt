@@ -1,7 +1,7 @@
 use Rattle.std.proofs.Common.{◌≡◌, ◌+◌, ◌<◌, ◌^◌, length, sym, ap, ◌∙◌, refl, arith, Ok, Some, None}
 use Rattle.std.specs.Prelude.{option_map, pred}
-use Rattle.dwc_base.specs.Entries.{entry_at, entries_from, entry_place, entry_places_left}
-use Rattle.dwc_base.proofs.EntryWalk.{entries_from-none, entries_from-end, entries_from-fault, entries_from-siblings, entries_from-entry}
+use Rattle.dwc_dwarf.specs.Entries.{entry_at, entries_from, entry_place, entry_places_left}
+use Rattle.dwc_dwarf.proofs.EntryWalk.{entries_from-none, entries_from-end, entries_from-fault, entries_from-siblings, entries_from-entry}
 use Rattle.dwc_read.specs.EntriesSeen.{found_view}
 use Rattle.dwc_read.specs.Places.{place_view}
 use Rattle.dwc_read.proofs.StepLaws.{entry_at-shrinks, entry_places_left-place, IsShallow-behind, IsShallow-siblings, Stays-at}

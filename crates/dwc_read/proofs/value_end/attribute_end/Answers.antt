@@ -1,6 +1,6 @@
 use Rattle.std.proofs.Common.{◌≡◌, ℕ, suc, ◌+◌, ◌-◌, List, sym, ap, ◌∙◌, arith, pos}
 use Rattle.std.specs.Prelude.{slice_get}
-use Rattle.dwc_base.specs.ExpressionPlaces.{attribute_ends}
+use Rattle.dwc_dwarf.specs.ExpressionPlaces.{attribute_ends}
 use Rattle.dwc_read.specs.declared.attribute_spec.AttributeSpec.{AttributeSpec}
 use Rattle.dwc_read.specs.ValuesSeen.{value_view}
 use Rattle.dwc_read.proofs.AttributeLaws.{specs_from}

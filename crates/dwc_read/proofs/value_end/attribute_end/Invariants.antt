@@ -1,6 +1,6 @@
 use Rattle.std.proofs.Common.{◌≡◌, drop, map}
 use Rattle.std.specs.Prelude.{slice_get}
-use Rattle.dwc_base.specs.ExpressionPlaces.{attribute_ends}
+use Rattle.dwc_dwarf.specs.ExpressionPlaces.{attribute_ends}
 use Rattle.dwc_read.specs.AttributeSpecs.{spec_view}
 use Rattle.dwc_read.proofs.value_end.attribute_end.Given as goal
 

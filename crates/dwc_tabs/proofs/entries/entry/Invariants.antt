@@ -1,5 +1,5 @@
 use Rattle.std.proofs.Common.{◌≡◌, drop, map}
-use Rattle.dwc_base.specs.LineHeaders.{entry_fields_at, no_fields}
+use Rattle.dwc_dwarf.specs.LineHeaders.{entry_fields_at, no_fields}
 use Rattle.dwc_tabs.specs.Headers.{file_view, format_view, source_view}
 use Rattle.dwc_tabs.proofs.entries.entry.Given as goal
 

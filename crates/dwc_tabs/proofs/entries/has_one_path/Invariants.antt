@@ -1,5 +1,5 @@
 use Rattle.std.proofs.Common.{◌≡◌, drop, map}
-use Rattle.dwc_base.specs.LineHeaders.{has_one_path}
+use Rattle.dwc_dwarf.specs.LineHeaders.{has_one_path}
 use Rattle.dwc_tabs.specs.Headers.{format_view}
 use Rattle.dwc_tabs.proofs.entries.has_one_path.Given as goal
 

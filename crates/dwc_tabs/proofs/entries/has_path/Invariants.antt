@@ -1,6 +1,6 @@
 use Rattle.std.proofs.Common.{◌≡◌, drop, map}
 use Rattle.std.specs.List.{list_any}
-use Rattle.dwc_base.specs.LineHeaders.{is_path}
+use Rattle.dwc_dwarf.specs.LineHeaders.{is_path}
 use Rattle.dwc_tabs.specs.Headers.{format_view}
 use Rattle.dwc_tabs.proofs.entries.has_path.Given as goal
 

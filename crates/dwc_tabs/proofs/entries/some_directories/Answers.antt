@@ -2,7 +2,7 @@ use Rattle.std.proofs.Common.{◌≡◌, suc, ◌+◌, ◌-◌, ◌++◌, map, s
 use Rattle.std.proofs.lemmas.Result.{err_from_is_err_and}
 use Rattle.std.proofs.lemmas.List.{map_push, append-nil}
 use Rattle.dwc_base.specs.Reading.{seen_as, counted_at}
-use Rattle.dwc_base.specs.LineHeaders.{directory_entry_at}
+use Rattle.dwc_dwarf.specs.LineHeaders.{directory_entry_at}
 use Rattle.dwc_base.proofs.Items.{seen-in_front}
 use Rattle.dwc_base.specs.Cursors.{slice_bytes}
 use Rattle.dwc_tabs.specs.Headers.{format_view, source_view}

@@ -1,6 +1,6 @@
 use Rattle.std.proofs.Common.{◌≡◌, ◌-◌, ◌++◌, map}
 use Rattle.dwc_base.specs.Reading.{seen_as, counted_at}
-use Rattle.dwc_base.specs.LineHeaders.{directory_entry_at}
+use Rattle.dwc_dwarf.specs.LineHeaders.{directory_entry_at}
 use Rattle.dwc_base.specs.Cursors.{slice_bytes}
 use Rattle.dwc_tabs.specs.Headers.{format_view, source_view}
 use Rattle.dwc_tabs.proofs.entries.some_directories.Given as goal

@@ -1,6 +1,6 @@
 use Rattle.std.proofs.Common.{◌≡◌, ◌-◌, ◌++◌, map}
 use Rattle.dwc_base.specs.Reading.{seen_as, counted_at}
-use Rattle.dwc_base.specs.LineHeaders.{file_entry_at}
+use Rattle.dwc_dwarf.specs.LineHeaders.{file_entry_at}
 use Rattle.dwc_tabs.specs.Headers.{file_view, format_view, source_view}
 use Rattle.dwc_tabs.proofs.entries.some_files.Given as goal
 

@@ -1,6 +1,6 @@
 use Rattle.std.proofs.Common.{◌≡◌, ◌-◌, ◌++◌, map}
 use Rattle.dwc_base.specs.Reading.{seen_as, counted_at}
-use Rattle.dwc_base.specs.LineHeaders.{entry_format_at}
+use Rattle.dwc_dwarf.specs.LineHeaders.{entry_format_at}
 use Rattle.dwc_tabs.specs.Headers.{format_view}
 use Rattle.dwc_tabs.proofs.entries.some_formats.Given as goal
 

@@ -1,5 +1,5 @@
 use Rattle.std.proofs.Common.{subst}
-use Rattle.dwc_base.specs.Indexed.{address_in_unit}
+use Rattle.dwc_dwarf.specs.Indexed.{address_in_unit}
 use Rattle.dwc_read.specs.Faults.{fault_seen, Refuses}
 use Rattle.dwc_tabs.proofs.GivenLaws.{indexed-ok, indexed-unsupported, indexed-unreadable}
 use Rattle.dwc_tabs.proofs.entry_given.address_at.Goals as goal

@@ -1,6 +1,6 @@
 use Rattle.std.proofs.Common.{◌≡◌, ◌++◌, map, length}
 use Rattle.dwc_base.specs.Reading.{seen_as, items_at}
-use Rattle.dwc_base.specs.LineHeaders.{directory_at}
+use Rattle.dwc_dwarf.specs.LineHeaders.{directory_at}
 use Rattle.dwc_base.specs.Cursors.{slice_bytes}
 use Rattle.dwc_tabs.proofs.header.directories.Given as goal
 

@@ -2,7 +2,7 @@ use Rattle.std.proofs.Common.{◌≡◌, ◌++◌, map, sym, ap, ◌∙◌, Ok, 
 use Rattle.std.proofs.lemmas.Result.{err_from_is_err_and}
 use Rattle.std.proofs.lemmas.List.{map_push, append-nil}
 use Rattle.dwc_base.specs.Reading.{seen_as, items_at}
-use Rattle.dwc_base.specs.LineHeaders.{file_at}
+use Rattle.dwc_dwarf.specs.LineHeaders.{file_at}
 use Rattle.dwc_base.proofs.Items.{items-more, items-end, items-flaw, seen-in_front}
 use Rattle.dwc_base.proofs.Takes.{Leaves-at}
 use Rattle.dwc_tabs.proofs.HeaderLaws.{file_at-leaves}

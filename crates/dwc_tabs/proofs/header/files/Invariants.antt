@@ -1,6 +1,6 @@
 use Rattle.std.proofs.Common.{◌≡◌, ◌++◌, map, length}
 use Rattle.dwc_base.specs.Reading.{seen_as, items_at}
-use Rattle.dwc_base.specs.LineHeaders.{file_at}
+use Rattle.dwc_dwarf.specs.LineHeaders.{file_at}
 use Rattle.dwc_tabs.specs.Headers.{file_view}
 use Rattle.dwc_tabs.proofs.header.files.Given as goal
 

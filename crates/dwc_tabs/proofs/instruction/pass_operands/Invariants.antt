@@ -1,5 +1,5 @@
 use Rattle.std.proofs.Common.{◌≡◌, ◌-◌}
-use Rattle.dwc_base.specs.LineHeaders.{passed_operands_at}
+use Rattle.dwc_dwarf.specs.LineHeaders.{passed_operands_at}
 use Rattle.dwc_tabs.proofs.instruction.pass_operands.Given as goal
 
 -- those that are left to pass give what all give

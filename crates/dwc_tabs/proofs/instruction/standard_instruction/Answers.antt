@@ -2,7 +2,7 @@ use Rattle.std.proofs.Common.{◌<◌, refl, sym, ap, arith, rules, w64, Ok}
 use Rattle.std.proofs.lemmas.Result.{err_from_is_err_and}
 use Rattle.std.proofs.lemmas.Int.{to_z-of_z}
 use mir.Val.{SFits}
-use Rattle.dwc_base.specs.LineHeaders.{advance_line, operand_at}
+use Rattle.dwc_dwarf.specs.LineHeaders.{advance_line, operand_at}
 use Rattle.dwc_tabs.proofs.InstructionLaws.{standard-unknown, coded-none}
 use Rattle.dwc_tabs.specs.Headers.{program_header}
 use Rattle.dwc_tabs.specs.Instructions.{standard_at}

@@ -1,5 +1,5 @@
 use Rattle.std.proofs.Common.{Some, Ok, option_map, ap, sym, ◌∙◌, subst}
-use Rattle.dwc_base.specs.Lists.{list_source}
+use Rattle.dwc_dwarf.specs.Lists.{list_source}
 use Rattle.dwc_tabs.specs.OpenLists.{told_at_start}
 use Rattle.dwc_tabs.specs.RangeLists.{GivesNextRead}
 use Rattle.dwc_tabs.specs.RangeEnds.{given_at, interval_view, refusal_view}

@@ -3,7 +3,7 @@ use Rattle.std.specs.Prelude.{◌&&◌}
 use Rattle.std.specs.List.{list_all}
 use Rattle.std.proofs.lemmas.List.{length-map}
 use Rattle.dwc_base.specs.Cursors.{slice_bytes}
-use Rattle.dwc_base.specs.LineFiles.{is_named}
+use Rattle.dwc_dwarf.specs.LineFiles.{is_named}
 use Rattle.dwc_tabs.specs.Headers.{file_view, source_view}
 use Rattle.dwc_tabs.specs.Tables.{is_named_within}
 use Rattle.dwc_tabs.proofs.OpenedLaws.{opened-at}

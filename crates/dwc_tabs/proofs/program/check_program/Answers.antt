@@ -2,7 +2,7 @@ use Rattle.std.proofs.Common.{◌≡◌, ◌<◌, ◌++◌, [], ◌∷◌, map, 
 use Rattle.std.specs.Prelude.{option_map}
 use Rattle.std.specs.List.{filter_map}
 use Rattle.std.proofs.lemmas.Result.{err_from_is_err_and}
-use Rattle.dwc_base.specs.LineRows.{effect, file_defined}
+use Rattle.dwc_dwarf.specs.LineRows.{effect, file_defined}
 use Rattle.dwc_tabs.specs.Headers.{file_view, program_header}
 use Rattle.dwc_tabs.specs.Instructions.{instruction_view}
 use Rattle.dwc_tabs.specs.Steps.{registers_view, shown_step}

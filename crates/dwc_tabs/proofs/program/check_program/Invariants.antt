@@ -1,6 +1,6 @@
 use Rattle.std.proofs.Common.{◌≡◌, ◌+◌, ◌*◌, ◌^◌, ◌<◌, ◌++◌, map, length, nat_abs}
 use Rattle.std.specs.List.{filter_map}
-use Rattle.dwc_base.specs.LineRows.{at_sequence_start, file_defined}
+use Rattle.dwc_dwarf.specs.LineRows.{at_sequence_start, file_defined}
 use Rattle.dwc_tabs.specs.Headers.{file_view, program_header}
 use Rattle.dwc_tabs.specs.Steps.{registers_view}
 use Rattle.dwc_tabs.specs.Programs.{instructions_from, shown_from, noted_all, nothing_noted}

@@ -1,6 +1,6 @@
 use Rattle.std.proofs.Common.{◌≡◌, Some, None, length, sym, ◌∙◌, arith}
 use Rattle.std.specs.Prelude.{option_map}
-use Rattle.dwc_base.specs.LineRows.{effect}
+use Rattle.dwc_dwarf.specs.LineRows.{effect}
 use Rattle.dwc_tabs.specs.Headers.{program_header}
 use Rattle.dwc_tabs.specs.Instructions.{instruction_view}
 use Rattle.dwc_tabs.specs.Steps.{registers_view, shown_step, step_view}

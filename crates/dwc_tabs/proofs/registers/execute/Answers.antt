@@ -2,7 +2,7 @@ use Rattle.std.proofs.Common.{◌≡◌, min, ◌-◌, ◌^◌, ap, ◌∙◌, r
 use mir.Syntax.{w128}
 use mir.Val.{SFits}
 use Rattle.std.proofs.lemmas.Int.{to_z-of_z}
-use Rattle.dwc_base.specs.LineRows.{by_special}
+use Rattle.dwc_dwarf.specs.LineRows.{by_special}
 use Rattle.dwc_tabs.specs.Headers.{program_header}
 use Rattle.dwc_tabs.specs.Steps.{registers_view}
 use Rattle.dwc_tabs.proofs.StepLaws.{shown-capped}

@@ -3,7 +3,7 @@ use Rattle.std.proofs.lemmas.Iterator.{YieldsList-from_slice}
 use Rattle.std.proofs.lemmas.Iterator.Search.{all_from_yields_List}
 use Rattle.std.proofs.lemmas.List.Folds.{list_all-map}
 use Rattle.dwc_base.specs.Cursors.{slice_bytes}
-use Rattle.dwc_base.specs.LineFiles.{is_named}
+use Rattle.dwc_dwarf.specs.LineFiles.{is_named}
 use Rattle.dwc_tabs.proofs.table.have_names.Goals as goal
 
 pub returns : goal.returns

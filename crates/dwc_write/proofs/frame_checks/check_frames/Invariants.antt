@@ -1,5 +1,5 @@
 use Rattle.std.proofs.Common.{◌≡◌, drop, map, flat_map}
-use Rattle.dwc_base.specs.FrameRefusals.{description_refusals}
+use Rattle.dwc_native.specs.FrameRefusals.{description_refusals}
 use Rattle.dwc_clif.specs.CallFrames.{cie_view}
 use Rattle.dwc_write.specs.Frames.{function_view}
 use Rattle.dwc_write.proofs.frame_checks.check_frames.Given as goal

@@ -1,5 +1,5 @@
 use Rattle.std.proofs.Common.{◌≡◌, drop, map}
-use Rattle.dwc_base.specs.FrameRefusals.{has_code_offsets}
+use Rattle.dwc_native.specs.FrameRefusals.{has_code_offsets}
 use Rattle.dwc_write.specs.Frames.{advancing_view}
 use Rattle.dwc_write.proofs.frame_checks.has_code_offsets.Given as goal
 

@@ -1,6 +1,6 @@
 use Rattle.std.proofs.Common.{◌≡◌, drop, map}
 use Rattle.std.specs.List.{list_all}
-use Rattle.dwc_base.specs.CallFrames.{has_factored_offset}
+use Rattle.dwc_native.specs.CallFrames.{has_factored_offset}
 use Rattle.dwc_write.specs.Frames.{advancing_view}
 use Rattle.dwc_write.proofs.frame_checks.has_data_offsets.Given as goal
 

@@ -1,6 +1,6 @@
 use Rattle.std.proofs.Common.{◌≡◌, [], ◌∷◌, rules}
 use Rattle.dwc_base.specs.declared.constants.TheConstants.{DW_CFA_advance_loc1, DW_CFA_advance_loc2, DW_CFA_advance_loc4}
-use Rattle.dwc_base.specs.FrameSections.{advance_numbers, fixed, one_byte}
+use Rattle.dwc_output.specs.FrameSections.{advance_numbers, fixed, one_byte}
 use Rattle.dwc_write.proofs.FrameNumbers.{put-then}
 use Rattle.dwc_write.proofs.frame_instructions.put_advance.Goals as goal
 

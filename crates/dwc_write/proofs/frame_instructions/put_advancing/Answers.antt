@@ -1,6 +1,6 @@
 use Rattle.std.proofs.Common.{◌≡◌, ◌-◌, ◌/◌, ◌+◌, ◌++◌, ℕ, List, ap, subst, rules, drop, map, slice_index_or, pos, to_z, of_z, w8}
 use Rattle.std.proofs.lemmas.List.{drop_all, drop_more}
-use Rattle.dwc_base.specs.FrameSections.{advancing_numbers}
+use Rattle.dwc_output.specs.FrameSections.{advancing_numbers}
 use Rattle.dwc_clif.specs.CallFrames.{cie_view}
 use Rattle.dwc_clif.specs.declared.frame_op.FrameOp.{FrameOp}
 use Rattle.dwc_clif.specs.declared.frame_op.FrameOp.TheVariants.{Cfa}

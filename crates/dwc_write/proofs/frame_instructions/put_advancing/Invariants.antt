@@ -1,5 +1,5 @@
 use Rattle.std.proofs.Common.{◌≡◌, ℕ, ◌++◌, drop, map}
-use Rattle.dwc_base.specs.FrameSections.{advancing_numbers}
+use Rattle.dwc_output.specs.FrameSections.{advancing_numbers}
 use Rattle.dwc_clif.specs.CallFrames.{cie_view}
 use Rattle.dwc_write.specs.Frames.{advancing_view, numbers_bytes}
 use Rattle.dwc_write.proofs.frame_instructions.put_advancing.Given as goal

@@ -1,7 +1,7 @@
 use Rattle.std.proofs.Common.{◌≡◌, [], ◌∷◌, ap, sym, ◌∙◌, rules, arith, pos, true, false, int_div, nat_abs, int_lt, to_z, of_z, w64}
 use Rattle.std.proofs.lemmas.Int.{ints}
 use Rattle.dwc_base.specs.declared.constants.TheConstants.{DW_CFA_def_cfa, DW_CFA_def_cfa_sf}
-use Rattle.dwc_base.specs.FrameSections.{one_byte, uleb, sleb}
+use Rattle.dwc_output.specs.FrameSections.{one_byte, uleb, sleb}
 use Rattle.dwc_write.proofs.FrameNumbers.{above-by_sign, below-by_sign, put-then}
 use Rattle.dwc_write.proofs.frame_instructions.put_cfa.Goals as goal
 

@@ -1,6 +1,6 @@
 use Rattle.std.proofs.Common.{◌≡◌, ℕ, ◌++◌, drop, map, flat_map}
 use Rattle.dwc_base.specs.declared.records.Endian.{Endian}
-use Rattle.dwc_base.specs.FrameSections.{instruction_numbers}
+use Rattle.dwc_output.specs.FrameSections.{instruction_numbers}
 use Rattle.dwc_clif.specs.CallFrames.{instruction_view}
 use Rattle.dwc_write.specs.Frames.{numbers_bytes}
 use Rattle.dwc_write.proofs.frame_instructions.put_instructions.Given as goal

@@ -1,5 +1,5 @@
 use Rattle.std.proofs.Common.{[], ◌∷◌, ap}
-use Rattle.dwc_base.specs.FrameSections.{one_byte, uleb}
+use Rattle.dwc_output.specs.FrameSections.{one_byte, uleb}
 use Rattle.dwc_write.proofs.FrameNumbers.{put-then}
 use Rattle.dwc_write.proofs.frame_instructions.put_of_register.Goals as goal
 

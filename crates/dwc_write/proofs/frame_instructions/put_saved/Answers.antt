@@ -1,7 +1,7 @@
 use Rattle.std.proofs.Common.{◌≡◌, [], ◌∷◌, ◌++◌, ap, sym, ◌∙◌, rules, pos, true, false, nat_abs, int_lt, to_z, of_z, w64}
 use Rattle.std.proofs.lemmas.Int.{to_z-of_z}
 use Rattle.dwc_base.specs.declared.constants.TheConstants.{DW_CFA_offset, DW_CFA_offset_extended, DW_CFA_offset_extended_sf}
-use Rattle.dwc_base.specs.FrameSections.{one_byte, uleb, sleb, with_register}
+use Rattle.dwc_output.specs.FrameSections.{one_byte, uleb, sleb, with_register}
 use Rattle.dwc_write.proofs.FrameNumbers.{above-saved, below-saved, put-then}
 use Rattle.dwc_write.proofs.frame_instructions.put_saved.Goals as goal
 

@@ -1,5 +1,5 @@
 use Rattle.std.proofs.Common.{[], ◌∷◌, ◌++◌, ap, map, flat_map}
-use Rattle.dwc_base.specs.FrameSections.{fixed, one_byte, sleb, uleb, instruction_numbers}
+use Rattle.dwc_output.specs.FrameSections.{fixed, one_byte, sleb, uleb, instruction_numbers}
 use Rattle.dwc_clif.specs.CallFrames.{instruction_view}
 use Rattle.dwc_write.proofs.FrameNumbers.{put-joined, put-then}
 use Rattle.dwc_write.proofs.frame_section.put_common.Goals as goal

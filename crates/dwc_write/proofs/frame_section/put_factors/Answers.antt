@@ -1,5 +1,5 @@
 use Rattle.std.proofs.Common.{◌≡◌, [], ◌∷◌, ap, ◌∙◌, rules, to_z, of_z, w64}
-use Rattle.dwc_base.specs.FrameSections.{one_byte, sleb, uleb}
+use Rattle.dwc_output.specs.FrameSections.{one_byte, sleb, uleb}
 use Rattle.dwc_write.proofs.FrameNumbers.{put-joined, put-then}
 use Rattle.dwc_write.proofs.frame_section.put_factors.Goals as goal
 

@@ -1,5 +1,5 @@
 use Rattle.std.proofs.Common.{[], ◌∷◌, refl}
-use Rattle.dwc_base.specs.FrameSections.{fixed, one_byte}
+use Rattle.dwc_output.specs.FrameSections.{fixed, one_byte}
 use Rattle.dwc_write.proofs.FrameNumbers.{put-joined, put-then}
 use Rattle.dwc_write.proofs.frame_section.put_mark.Goals as goal
 

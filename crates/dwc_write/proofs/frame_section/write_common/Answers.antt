@@ -1,6 +1,6 @@
 use Rattle.std.proofs.Common.{◌≡◌, ◌++◌, List, ℕ, [], ap, subst, ◌∙◌, rules, replicate, length}
 use Rattle.dwc_base.specs.declared.constants.TheConstants.{DW_CFA_nop}
-use Rattle.dwc_base.specs.FrameSections.{common_numbers, filling}
+use Rattle.dwc_output.specs.FrameSections.{common_numbers, filling}
 use Rattle.dwc_clif.specs.CallFrames.{cie_view}
 use Rattle.dwc_write.specs.Frames.{numbers_bytes}
 use Rattle.dwc_write.specs.Writers.{Writes}

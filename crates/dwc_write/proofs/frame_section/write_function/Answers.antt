@@ -1,5 +1,5 @@
 use Rattle.std.proofs.Common.{◌≡◌, ◌+◌, ◌++◌, ◌∷◌, List, ℕ, ap, subst, ◌∙◌, rules, length}
-use Rattle.dwc_base.specs.FrameSections.{address_sized, advancing_numbers}
+use Rattle.dwc_output.specs.FrameSections.{address_sized, advancing_numbers}
 use Rattle.dwc_clif.specs.CallFrames.{cie_view}
 use Rattle.dwc_write.specs.Frames.{description_at, function_view, numbers_bytes}
 use Rattle.dwc_write.specs.Writers.{Writes}

@@ -1,7 +1,7 @@
 use Rattle.std.proofs.Common.{◌≡◌, add-one, ap, subst, ◌∙◌, ℕ, length}
 use Rattle.std.proofs.lemmas.Result.{err_from_is_err_and}
-use Rattle.dwc_base.specs.CallFrames.{FrameDescription}
-use Rattle.dwc_base.specs.FrameSections.{description_bytes}
+use Rattle.dwc_native.specs.CallFrames.{FrameDescription}
+use Rattle.dwc_output.specs.FrameSections.{description_bytes}
 use Rattle.dwc_clif.specs.CallFrames.{cie_view}
 use Rattle.dwc_write.specs.Frames.{description_at, function_view}
 use Rattle.dwc_write.specs.Writers.{Refuses, Writing, appended}

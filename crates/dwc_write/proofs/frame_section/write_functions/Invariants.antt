@@ -1,5 +1,5 @@
 use Rattle.std.proofs.Common.{◌≡◌, drop, map}
-use Rattle.dwc_base.specs.FrameSections.{description_bytes}
+use Rattle.dwc_output.specs.FrameSections.{description_bytes}
 use Rattle.dwc_clif.specs.CallFrames.{cie_view}
 use Rattle.dwc_write.specs.Frames.{description_at, function_view}
 use Rattle.dwc_write.proofs.WritesLaws.{whole}

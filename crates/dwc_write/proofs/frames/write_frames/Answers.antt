@@ -1,7 +1,7 @@
 use Rattle.std.proofs.Common.{◌≡◌, ◌<◌, ◌≤◌, ℕ, List, Err, Some, ap, subst, ◌∙◌, length, map, rules}
 use Rattle.std.proofs.lemmas.Result.{err_from_is_err_and}
-use Rattle.dwc_base.specs.FrameSections.{frame_section}
-use Rattle.dwc_base.specs.FramesCarried.{widest_frames}
+use Rattle.dwc_output.specs.FrameSections.{frame_section}
+use Rattle.dwc_output.specs.FramesCarried.{widest_frames}
 use Rattle.dwc_clif.specs.CallFrames.{cie_view}
 use Rattle.dwc_clif.specs.declared.unwind_info.CfaUnwindInfo.{CfaUnwindInfo}
 use Rattle.dwc_write.specs.Frames.{function_view}

@@ -1,10 +1,10 @@
 use Rattle.std.proofs.Common.{◌≡◌, ℕ, ap, sym, subst, ◌∙◌, List, ◌++◌, map}
 use Rattle.std.specs.List.{All}
 use Rattle.std.proofs.lemmas.List.Elements.{All-append}
-use Rattle.dwc_base.specs.Fields.{IsRelocated}
-use Rattle.dwc_base.specs.FramesCarried.{FramesCarried, others_in}
-use Rattle.dwc_base.specs.FrameSections.{frame_section_if}
-use Rattle.dwc_base.specs.OutputForm.{HasDistinctNames}
+use Rattle.dwc_output.specs.Fields.{IsRelocated}
+use Rattle.dwc_output.specs.FramesCarried.{FramesCarried, others_in}
+use Rattle.dwc_output.specs.FrameSections.{frame_section_if}
+use Rattle.dwc_output.specs.OutputForm.{HasDistinctNames}
 use Rattle.dwc_base.specs.Outputs.{OutputSection, output_sections, section_view}
 use Rattle.dwc_write.specs.Frames.{common_given, descriptions_given, optional_section}
 use Rattle.dwc_write.specs.GivenTrees.{given_trees}

@@ -2,11 +2,11 @@ use Rattle.std.proofs.Common.{◌≡◌, ◌<◌, Global, Vec, ℕ, refl, ap, sy
 use Rattle.std.specs.List.{All, AllZip}
 use Rattle.std.proofs.lemmas.List.Elements.{All-map}
 use Rattle.std.proofs.lemmas.Result.{IfErr-at_err, IfErr-weaker, IfOk-at_ok, err_from_is_err_and}
-use Rattle.dwc_base.specs.Fields.{AreRelocated}
-use Rattle.dwc_base.specs.OutputForm.{HasDistinctNames}
+use Rattle.dwc_output.specs.Fields.{AreRelocated}
+use Rattle.dwc_output.specs.OutputForm.{HasDistinctNames}
 use Rattle.dwc_base.specs.Outputs.{OutputSection, output_sections, section_view}
-use Rattle.dwc_base.specs.TreeLaws.{HasTextsOnce, have_short_expressions}
-use Rattle.dwc_base.specs.TreeReading.{CarriesTrees}
+use Rattle.dwc_dwarf.specs.TreeLaws.{HasTextsOnce, have_short_expressions}
+use Rattle.dwc_output.specs.TreeReading.{CarriesTrees}
 use Rattle.dwc_write.specs.declared.error.WriteError.TheVariants.{OutOfMemory}
 use Rattle.dwc_write.specs.GivenTrees.{given_trees}
 use Rattle.dwc_write.specs.ReadBack.{ReadsBack}

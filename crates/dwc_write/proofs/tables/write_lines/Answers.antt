@@ -1,6 +1,6 @@
 use Rattle.std.proofs.Common.{◌≡◌, ℕ, ap, sym, ◌∙◌, arith, List, [], map, length}
 use Rattle.std.proofs.lemmas.Result.{err_from_is_err_and}
-use Rattle.dwc_base.specs.LineHeaders.{LineFile}
+use Rattle.dwc_dwarf.specs.LineHeaders.{LineFile}
 use Rattle.dwc_write.specs.declared.lines.Sequence.{Sequence}
 use Rattle.dwc_write.specs.SpelledLines.{line_fields_bytes}
 use Rattle.dwc_write.specs.SpelledSections.{WrittenTable, lines_bytes}

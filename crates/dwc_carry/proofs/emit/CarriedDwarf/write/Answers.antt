@@ -1,7 +1,7 @@
 use Rattle.std.proofs.Common.{ap, ◌∙◌}
 use Rattle.std.proofs.lemmas.Result.{err_from_is_err_and}
 use Rattle.dwc_base.specs.declared.records.Endian.TheVariants.{Little}
-use Rattle.dwc_base.specs.OutputForm.{are_of_output}
+use Rattle.dwc_output.specs.OutputForm.{are_of_output}
 use Rattle.dwc_carry.proofs.FramesRefused.{table-is}
 use Rattle.dwc_carry.proofs.OutputNameLaws.{written-of_output}
 use Rattle.dwc_carry.proofs.EmitLaws.{emits-sections, emits-large}

@@ -1,9 +1,9 @@
 use Rattle.std.proofs.Common.{◌≡◌, ◌∙◌, ap, length, subst, sym, [], ◌∷◌}
 use Rattle.std.specs.Prelude.{option_map}
 use Rattle.std.specs.Option.{unwrap_or}
-use Rattle.dwc_base.specs.Carried.{own_unit}
-use Rattle.dwc_base.specs.Compiled.{no_memory}
-use Rattle.dwc_base.specs.OwnUnits as Own
+use Rattle.dwc_rules.specs.Carried.{own_unit}
+use Rattle.dwc_native.specs.Compiled.{no_memory}
+use Rattle.dwc_rules.specs.OwnUnits as Own
 use Rattle.dwc_expr.specs.Frames.{memory_view}
 use Rattle.dwc_carry.specs.MadeUnits.{LeadsTo, IsMadeOf}
 use Rattle.dwc_write.specs.AddedInOrder.{IsNumberedByPlaces}

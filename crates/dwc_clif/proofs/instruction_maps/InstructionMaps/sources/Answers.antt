@@ -1,6 +1,6 @@
 use Rattle.std.proofs.Common.{◌∙◌, sym, ap, map}
 use Rattle.std.specs.List.{filter_map}
-use Rattle.dwc_base.specs.Functions.{recorded_entry}
+use Rattle.dwc_native.specs.Functions.{recorded_entry}
 use Rattle.dwc_clif.specs.Gaps.{source_view}
 use Rattle.dwc_clif.proofs.GapLaws.{recorded-merged}
 use Rattle.dwc_clif.proofs.instruction_maps.InstructionMaps.sources.Goals as goal

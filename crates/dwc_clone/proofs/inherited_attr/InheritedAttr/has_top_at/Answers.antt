@@ -1,6 +1,6 @@
 use Rattle.std.proofs.Common.{ap, sym, ◌∙◌, ◌&&◌, is_some, int_le, w64}
 use Rattle.std.proofs.lemmas.Int.{to_z-of_z}
-use Rattle.dwc_base.specs.Scopes.{top_at}
+use Rattle.dwc_rules.specs.Scopes.{top_at}
 use Rattle.dwc_clone.proofs.StackPlaces.{last-is, top_at-is}
 use Rattle.dwc_clone.proofs.inherited_attr.InheritedAttr.has_top_at.Goals as goal
 

@@ -1,6 +1,6 @@
 use Rattle.std.proofs.Common.{ap, int_le, sym, ◌∙◌, w64}
 use Rattle.std.proofs.lemmas.Int.{to_z-of_z}
-use Rattle.dwc_base.specs.Scopes.{left_for}
+use Rattle.dwc_rules.specs.Scopes.{left_for}
 use Rattle.dwc_clone.proofs.StackPlaces.{last-is, left-whole, left-none}
 use Rattle.dwc_clone.proofs.inherited_attr.InheritedAttr.has_top_from.Goals as goal
 

@@ -1,5 +1,5 @@
 use Rattle.std.proofs.Common.{ap, sym, ◌∙◌, option_map}
-use Rattle.dwc_base.specs.Scopes.{top_of}
+use Rattle.dwc_rules.specs.Scopes.{top_of}
 use Rattle.dwc_clone.proofs.StackPlaces.{last-is}
 use Rattle.dwc_clone.proofs.inherited_attr.InheritedAttr.top.Goals as goal
 

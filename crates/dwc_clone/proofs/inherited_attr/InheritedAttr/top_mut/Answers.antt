@@ -1,5 +1,5 @@
 use Rattle.std.proofs.Common.{◌≡◌, suc, ◌-◌, length, Some, refl, ap, sym, arith, ◌∙◌, slice_set, option_map}
-use Rattle.dwc_base.specs.Scopes.{top_of}
+use Rattle.dwc_rules.specs.Scopes.{top_of}
 use Rattle.dwc_clone.specs.StacksByDepth.{with_top}
 use Rattle.dwc_clone.proofs.StackPlaces.{last-at, with_top-at}
 use Rattle.dwc_clone.proofs.inherited_attr.InheritedAttr.top_mut.Goals as goal

@@ -1,6 +1,6 @@
 use Rattle.std.proofs.Common.{ap, is_some, sym, ◌∙◌, w64}
 use Rattle.std.proofs.lemmas.Int.{to_z-of_z}
-use Rattle.dwc_base.specs.Scopes.{top_at}
+use Rattle.dwc_rules.specs.Scopes.{top_at}
 use Rattle.dwc_clone.proofs.StackPlaces.{top_at-top}
 use Rattle.dwc_clone.proofs.inherited_attr.InheritedAttr.top_with_depth.Goals as goal
 

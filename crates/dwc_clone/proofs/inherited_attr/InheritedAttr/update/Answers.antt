@@ -1,7 +1,7 @@
 use Rattle.std.proofs.Common.{◌≡◌, ap, subst, sym, ◌∙◌, w64}
 use Rattle.std.proofs.lemmas.Int.{to_z-of_z}
-use Rattle.dwc_base.specs.Scopes.{left_for}
-use Rattle.dwc_base.proofs.StackLaws.{IsBelow, left-below}
+use Rattle.dwc_rules.specs.Scopes.{left_for}
+use Rattle.dwc_rules.proofs.StackLaws.{IsBelow, left-below}
 use Rattle.dwc_clone.proofs.inherited_attr.InheritedAttr.update.Goals as goal
 
 pub returns-then-not-has_top_from-clause-below : goal.returns-then-not-has_top_from-clause-below

@@ -1,7 +1,7 @@
 use Rattle.std.proofs.Common.{ap, pos, sym, ◌∙◌, Some, None, option_map}
 use Rattle.std.specs.Prelude.{if◌then◌else◌}
 use Rattle.std.proofs.lemmas.Bool.{ne_eqb}
-use Rattle.dwc_base.specs.Scopes.{top_at}
+use Rattle.dwc_rules.specs.Scopes.{top_at}
 use Rattle.dwc_base.specs.declared.constants.TheConstants.{DW_TAG_subprogram}
 use Rattle.dwc_read.specs.EntriesSeen.{entry_view}
 use Rattle.dwc_clone.specs.Lineages.{Stacks}

@@ -1,5 +1,5 @@
 use Rattle.std.proofs.Common.{ap, sym, ◌∙◌, Some, option_map}
-use Rattle.dwc_base.specs.Scopes.{top_of}
+use Rattle.dwc_rules.specs.Scopes.{top_of}
 use Rattle.dwc_clone.specs.Lineages.{Stacks}
 use Rattle.dwc_clone.proofs.StackViews.{top-seen}
 use Rattle.dwc_clone.proofs.lineage.Lineage.scope.Goals as goal

@@ -1,6 +1,6 @@
 use Rattle.std.proofs.Common.{◌∙◌, Bor, ap, map, option_map}
-use Rattle.dwc_base.specs.BuiltExpressions.{Surroundings}
-use Rattle.dwc_base.specs.Parts.{CompiledParts}
+use Rattle.dwc_native.specs.BuiltExpressions.{Surroundings}
+use Rattle.dwc_native.specs.Parts.{CompiledParts}
 use Rattle.dwc_clif.specs.Registers.{Registers}
 use Rattle.dwc_expr.specs.declared.frame.FunctionFrameInfo.{FunctionFrameInfo}
 use Rattle.dwc_expr.specs.Builds.{surroundings}

@@ -1,6 +1,6 @@
 use Rattle.std.proofs.Common.{◌≡◌, ◌∙◌, ap, sym, map, Result, Ok, Err, List, OnOk, OnErr, [], ◌∷◌, ◌++◌}
 use Rattle.std.proofs.lemmas.Result.{on_ok_weaker}
-use Rattle.dwc_base.specs.Parts.{Part, code, joined}
+use Rattle.dwc_native.specs.Parts.{Part, code, joined}
 use Rattle.dwc_expr.specs.PartViews.{part_view}
 use Rattle.dwc_expr.specs.JoinedParts.{behind}
 use Rattle.dwc_expr.proofs.JoinedLaws.{pushed-joined, pushed-same}

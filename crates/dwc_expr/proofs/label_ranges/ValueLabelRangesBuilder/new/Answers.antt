@@ -1,5 +1,5 @@
 use Rattle.std.proofs.Common.{◌∙◌, [], map, sym, ap, None}
-use Rattle.dwc_base.specs.LabelRanges.{label_ranges}
+use Rattle.dwc_native.specs.LabelRanges.{label_ranges}
 use Rattle.dwc_expr.specs.CodeRanges.{code_range_view}
 use Rattle.dwc_expr.specs.LabelRanges.{bounds_of}
 use Rattle.dwc_expr.proofs.GatherLaws.{begins-given, given-labels}

@@ -1,6 +1,6 @@
 use Rattle.std.proofs.Common.{◌-◌, length, ap}
 use Rattle.std.proofs.lemmas.Option.{unwrap_or-slice_get}
-use Rattle.dwc_base.specs.ExpressionPlaces.{value_ends}
+use Rattle.dwc_dwarf.specs.ExpressionPlaces.{value_ends}
 use Rattle.dwc_read.proofs.unit.Unit.expression_place.Goals as goal
 
 pub returns : goal.returns

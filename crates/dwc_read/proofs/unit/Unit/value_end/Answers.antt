@@ -1,6 +1,6 @@
 use Rattle.std.proofs.Common.{◌≡◌, refl, Ok}
 use Rattle.dwc_base.specs.Abbreviations.{abbreviation_table}
-use Rattle.dwc_base.specs.ExpressionPlaces.{unit_from}
+use Rattle.dwc_dwarf.specs.ExpressionPlaces.{unit_from}
 use Rattle.dwc_read.specs.Headers.{header_view}
 use Rattle.dwc_read.proofs.ValueEndLaws.{entry_ends-empty, value_ends-table, value_ends-fault}
 use Rattle.dwc_read.proofs.unit.Unit.value_end.Goals as goal

@@ -1,6 +1,6 @@
 use Rattle.std.proofs.Common.{subst}
-use Rattle.dwc_base.specs.UnitOffsets.{StandFrom}
-use Rattle.dwc_base.proofs.UnitOffsets.{units-from-stand}
+use Rattle.dwc_dwarf.specs.UnitOffsets.{StandFrom}
+use Rattle.dwc_dwarf.proofs.UnitOffsets.{units-from-stand}
 use Rattle.dwc_read.specs.Views.{UnitsView}
 use Rattle.dwc_read.proofs.units.Units.sections.Goals as goal
 

@@ -1,7 +1,7 @@
 use Rattle.std.proofs.Common.{Some, Ok, Err, ap, sym, ◌∙◌}
 use Rattle.std.specs.Prelude.{nat_lt, false}
-use Rattle.dwc_base.specs.Lists.{list_source}
-use Rattle.dwc_base.specs.RawLists.{raw_locations}
+use Rattle.dwc_dwarf.specs.Lists.{list_source}
+use Rattle.dwc_dwarf.specs.RawLists.{raw_locations}
 use Rattle.dwc_tabs.specs.LocationLists.{place_of_locations}
 use Rattle.dwc_tabs.proofs.LocationLaws.{named-offset, named-index}
 use Rattle.dwc_tabs.proofs.location_entries.LocationEntries.new.Goals as goal

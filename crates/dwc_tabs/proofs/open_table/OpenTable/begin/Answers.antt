@@ -1,5 +1,5 @@
 use Rattle.std.proofs.Common.{ap, ◌∙◌, drop}
-use Rattle.dwc_base.specs.Indexed.{text_base}
+use Rattle.dwc_dwarf.specs.Indexed.{text_base}
 use Rattle.dwc_base.specs.declared.records.Endian.{Endian}
 use Rattle.dwc_tabs.specs.Headers.{source_view}
 use Rattle.dwc_tabs.proofs.OpenedLaws.{answers-opened}

@@ -1,7 +1,7 @@
 use Rattle.std.proofs.Common.{Some, Ok, Err, ap, sym, ◌∙◌}
 use Rattle.std.specs.Prelude.{nat_lt, false}
-use Rattle.dwc_base.specs.Lists.{list_source}
-use Rattle.dwc_base.specs.RawLists.{raw_ranges}
+use Rattle.dwc_dwarf.specs.Lists.{list_source}
+use Rattle.dwc_dwarf.specs.RawLists.{raw_ranges}
 use Rattle.dwc_tabs.specs.RangeLists.{place_of_list}
 use Rattle.dwc_tabs.proofs.RangeLaws.{named-offset, named-index}
 use Rattle.dwc_tabs.proofs.range_entries.RangeEntries.new.Goals as goal

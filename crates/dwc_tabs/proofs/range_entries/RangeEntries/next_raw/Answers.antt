@@ -1,5 +1,5 @@
 use Rattle.std.proofs.Common.{Ok, Some, option_map, ap, sym, ◌∙◌}
-use Rattle.dwc_base.specs.RawLists.{range_kinds}
+use Rattle.dwc_dwarf.specs.RawLists.{range_kinds}
 use Rattle.dwc_tabs.specs.OpenLists.{list_entry_at}
 use Rattle.dwc_tabs.specs.RangeLists.{entry_view}
 use Rattle.dwc_tabs.proofs.RangeLaws.{entries_left-more, entries_left-end, entries_left-flaw}

@@ -2,8 +2,8 @@ use Rattle.std.proofs.Common.{◌≡◌, List, ℕ, map, length, sym, ap, ◌∙
 use Rattle.std.specs.Prelude.{◌&&◌}
 use Rattle.std.specs.List.{list_all}
 use Rattle.std.proofs.lemmas.List.{length-map}
-use Rattle.dwc_base.specs.LineHeaders.{LineFile}
-use Rattle.dwc_base.specs.LineFiles.{is_named}
+use Rattle.dwc_dwarf.specs.LineHeaders.{LineFile}
+use Rattle.dwc_dwarf.specs.LineFiles.{is_named}
 use Rattle.dwc_base.specs.Cursors.{slice_bytes}
 use Rattle.dwc_tabs.specs.Headers.{file_view}
 use Rattle.dwc_tabs.specs.Programs.{are_within}

@@ -1,7 +1,7 @@
 use Rattle.std.proofs.Common.{ap, ◌∙◌, subst}
 use Rattle.dwc_base.specs.declared.section_name.SectionName.TheVariants.{Line}
-use Rattle.dwc_base.specs.Indexed.{text_base}
-use Rattle.dwc_base.specs.LineHeaders.{line_source}
+use Rattle.dwc_dwarf.specs.Indexed.{text_base}
+use Rattle.dwc_dwarf.specs.LineHeaders.{line_source}
 use Rattle.dwc_tabs.specs.Faults.{AnswersTable}
 use Rattle.dwc_tabs.specs.Tables.{table_in}
 use Rattle.dwc_tabs.proofs.TableLaws.{line_table-in}

@@ -1,5 +1,5 @@
 use Rattle.std.proofs.Common.{ap, ◌∙◌, arith, length, []}
-use Rattle.dwc_base.specs.LineHeaders.{LineFile}
+use Rattle.dwc_dwarf.specs.LineHeaders.{LineFile}
 use Rattle.dwc_write.proofs.NameLaws.{files-at, files-length}
 use Rattle.dwc_write.proofs.names.Files.directory.Goals as goal
 

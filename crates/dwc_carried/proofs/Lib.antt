@@ -1,0 +1,10 @@
+pub mod LocationScopes
+pub mod LocationForest
+pub mod ForestTargets
+pub mod MadeDrafts
+pub mod UnitsMade
+pub mod ContextForest
+pub mod EntryOffsets
+pub mod ScopeForest
+pub mod SimulatedUnitLaws
+pub mod SimulatedLocationLaws

@@ -1,0 +1,12 @@
+pub mod PlacesSaid
+pub mod LocationsCarried
+pub mod ContextsCarried
+pub mod Forests
+pub mod LinesCarried
+pub mod OutputCarried
+pub mod DefinedFunctions
+pub mod UnitPaths
+pub mod ListedFunctions
+pub mod SimulatedUnit
+pub mod LastUnit
+pub mod SimulatedLocations

@@ -1,0 +1,10 @@
+pub mod TakesValues
+pub mod EntryWalk
+pub mod ReadValuesForms
+pub mod ReadValuesEntries
+pub mod ReadValuesTexts
+pub mod ValueEnds
+pub mod UnitBytes
+pub mod ExpressionPlaceLaws
+pub mod UnitOffsets
+pub mod LineTakes

@@ -1,0 +1,16 @@
+pub mod Values
+pub mod Texts
+pub mod Entries
+pub mod Indexed
+pub mod LineHeaders
+pub mod LineRows
+pub mod LineFiles
+pub mod Trees
+pub mod TreeLaws
+pub mod RawLists
+pub mod Lists
+pub mod ExpressionPlaces
+pub mod ReadValues
+pub mod UnitOffsets
+pub mod Operations
+pub mod ReadUnits

@@ -1,0 +1,4 @@
+pub mod LabelRangeLaws
+pub mod LabelRangeCoverage
+pub mod LabelRangeMaximal
+pub mod LabelRangeUnique

@@ -1,0 +1,15 @@
+pub mod Functions
+pub mod SharedSymbols
+pub mod Images
+pub mod Runs
+pub mod Addends
+pub mod Parts
+pub mod CallFrames
+pub mod Compiled
+pub mod Placed
+pub mod LabelRanges
+pub mod Built
+pub mod BuiltExpressions
+pub mod UnwindRecords
+pub mod FrameRefusals
+pub mod ScopesKept

@@ -1,0 +1,2 @@
+pub mod FrameSizes
+pub mod SimulatedLineLaws

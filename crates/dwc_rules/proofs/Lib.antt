@@ -1,0 +1,14 @@
+pub mod LastAttributes
+pub mod ForestLaws
+pub mod WrapperLaws
+pub mod MadePlaces
+pub mod PointerLaws
+pub mod NameLaws
+pub mod NameSteps
+pub mod DraftGroups
+pub mod LocationValues
+pub mod ScopeAttributes
+pub mod StackLaws
+pub mod StackWalks
+pub mod GoalsHave
+pub mod AllIn

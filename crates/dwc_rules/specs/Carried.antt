@@ -1,0 +1,65 @@
+-- Which units and segments of an input are carried, and what it means that an output carries the lines.
+use Rattle.std.specs.Prelude.{ℕ, ◌==◌, List, [], ◌∷◌, map, Bool, false, ◌&&◌, Option, Some, None, Result, Ok}
+use Rattle.std.specs.List.{list_any, flat_map}
+use Rattle.dwc_base.specs.declared.records.Endian.{Endian}
+use Rattle.dwc_base.specs.Reading.{◌>>=◌}
+use Rattle.dwc_base.specs.Listing.{Listing, only_fault, with_first}
+use Rattle.dwc_base.specs.Sections.{Sections, Fault}
+use Rattle.dwc_base.specs.Units.{UnitHeader, unit_headers}
+use Rattle.dwc_dwarf.specs.Values.{Value, line_reference}
+use Rattle.dwc_dwarf.specs.Indexed.{text_base}
+use Rattle.dwc_dwarf.specs.Entries.{Entry, entries, attribute}
+use Rattle.dwc_dwarf.specs.LineRows.{LineTable, line_table, Segment, segments}
+use Rattle.dwc_native.specs.Functions.{Function}
+use Rattle.dwc_native.specs.CallFrames.{CommonEntry}
+use Rattle.dwc_native.specs.Compiled.{ToldModule}
+use Rattle.dwc_base.specs.ToldFiles.{ToldFile}
+use Rattle.dwc_dwarf.specs.ReadUnits.{Unit, root}
+use Rattle.dwc_rules.specs.Kept.{Placed}
+use Rattle.dwc_base.specs.declared.constants.TheConstants.{DW_AT_stmt_list, DW_TAG_compile_unit}
+
+-- a module of an input: its sections, its defined functions, what its code generator and what its file tell of it beside them, and the
+-- place of its first compressed section
+pub record Module : Type 0 where
+  pub sections : Sections
+  pub functions : List Function
+  pub told : ToldModule
+  pub file : ToldFile
+  pub compressed : Option ℕ
+
+-- an input, the byte order and address size of the target, the number of the next generated name, and what the frames of all functions
+-- share, if the target has frames of this kind
+pub record Compilation : Type 0 where
+  pub order : Endian
+  pub pointer_bytes : ℕ
+  pub modules : List Module
+  pub next_id : ℕ
+  pub common_entry : Option CommonEntry
+
+-- the entries of some units, with the offset of their unit
+abbrev pub placed_entries : List Unit → List Placed
+placed_entries us = flat_map (λ u. map (λ e. record { unit = u.header.offset; entry = e }) u.entries) us
+
+-- whether a unit's root has a tag
+abbrev pub has_root_tag : ℕ → Unit → Bool
+has_root_tag tag u = go (root u)
+  where
+    go : Option Entry → Bool
+    go None = false
+    go (Some e) = e.tag == tag
+
+-- a unit is carried where its root is a compile_unit and an entry of it is kept
+abbrev pub is_carried_unit : List Placed → Unit → Bool
+is_carried_unit kept u = has_root_tag DW_TAG_compile_unit u && list_any (λ p. p.unit == u.header.offset) kept
+
+-- a carried unit with its module
+pub record CarriedUnit : Type 0 where
+  pub module_of : Module
+  pub unit : Unit
+
+-- What a unit of an output is to be: a module's own, one for a carried unit, or the last one, with a file of a name, for the functions of
+-- modules that are listed, since their numbers are none of those that are translated.
+pub data WantedUnit : Type 0 where
+  own_unit : WantedUnit
+  carried_unit : CarriedUnit → WantedUnit
+  listed_unit : List ℕ → (ℕ → Bool) → List Module → WantedUnit
